@@ -1,0 +1,16 @@
+use Rattle.std.proofs.Common.{◌≡◌, ◌≤◌, ◌∙◌, ap}
+use Rattle.std.specs.Prelude.{bit_and}
+use Rattle.std.specs.Int.Bits.{and_self}
+use Rattle.std.proofs.lemmas.Nat.{and_assoc}
+use Rattle.ospf_base.specs.Masks as spec
+use Rattle.ospf_base.proofs.prefix.Prefix.under.Goals as goal
+
+pub invariant_of-result : goal.invariant_of-result
+invariant_of-result c =
+    let m = spec.mask_of c.in_ok-length.length in
+    let mask : c.mask_of.result ≡ m = c.mask_of.ensures in
+    let short : c.in_ok-length.length ≤ 32 = c.in_ok-length.ensures.found.0 in
+    record {
+      short = short;
+      masked = rw mask (and_assoc m c.args.address.0 m ∙ ap (λ x. bit_and c.args.address.0 x) (and_self m));
+    }

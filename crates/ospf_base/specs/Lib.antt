@@ -1,0 +1,10 @@
+pub mod Bytes
+pub mod Numbers
+pub mod Sums
+pub mod Masks
+pub mod Instances
+pub mod Keys
+pub mod KeyOrder
+pub mod Prefixes
+pub mod PrefixLaws
+pub mod Text
