@@ -1,0 +1,183 @@
+//! LSAs that are made.
+
+ghost use Rattle.std.specs.Prelude.{◌≡◌, ◌≤◌, ◌⊎◌, ◌++◌, ◌↔◌, ◌<◌, ◌^◌, ◌*◌, ◌+◌, ℕ, IsTrue, IfOk, IfErr, OnOk, All, length};
+ghost use Rattle.std.specs.List.{flat_map, AllByRecursion};
+ghost use Rattle.ospf_base.specs.Sums.{IsChecksum, with_checksum};
+ghost use Rattle.ospf_lsa.specs.declared.fault.LsaFault.TheVariants as fault;
+ghost use Rattle.ospf_lsa.specs.Link.{link_bytes, LinkFits};
+ghost use Rattle.ospf_lsa.specs.Lsa.{IsLsa, IsFirst, HasMask, HasCost};
+ghost use Rattle.ospf_lsa.specs.Attached.{routers_bytes};
+ghost use Rattle.ospf_lsa.specs.Value.{router_value, network_value, lsa_bytes, IsMade, ValueFits, RouterNeeds, NetworkNeeds};
+
+use crate::fault::LsaFault;
+use crate::header::LsaHeader;
+use crate::link::{Link, LinkKind};
+use crate::lsa::Lsa;
+use ospf_base::{Age, RouterId, is_mask, lsa_sum};
+use std::alloc::{AllocError, Global};
+
+/// The largest LSA that fits an Update of 16,384 bytes.
+const LARGEST_LSA: usize = 16356;
+
+// Whether each type 3 link has a mask without a hole.
+fn have_masks(links: &[Link]) -> bool
+    ensures { IsTrue result ↔ All HasMask links.now }
+{
+    links.iter().all(|link| link.kind != LinkKind::Stub || is_mask(link.link_data))
+}
+
+// Whether each link to a router or a transit network costs something.
+fn have_costs(links: &[Link]) -> bool
+    ensures { IsTrue result ↔ All HasCost links.now }
+{
+    links.iter().all(|link| match link.kind {
+        LinkKind::PointToPoint | LinkKind::Transit => link.metric > 0,
+        LinkKind::Stub | LinkKind::Virtual => true,
+    })
+}
+
+// Puts the bytes of links at the end.
+fn push_links(out: &mut Vec<u8>, links: &[Link]) -> Result<(), AllocError>
+    ensures links { OnOk result (out.new.items ≡ out.old.items ++ flat_map link_bytes links.now) }
+    ensures fit { OnOk result (AllByRecursion LinkFits links.now) }
+{
+    for link in links {
+        out.extend_from_slice(&link.to_bytes())?;
+    }
+    Ok(())
+}
+
+// A router-LSA without its checksum.
+fn router_bytes(
+    alloc: Global,
+    id: RouterId,
+    number: i32,
+    links: &[Link],
+) -> Result<Vec<u8>, AllocError>
+    requires { 24 + 12 * length links.now ≤ 16356 }
+    ensures bytes { IfOk result (λ v. v.items ≡ lsa_bytes (router_value id number links.now)) }
+    ensures fits { OnOk result (ValueFits (router_value id number links.now)) }
+{
+    let count = links.len() as u16;
+    let header = LsaHeader {
+        age: Age::new(0),
+        options: 2,
+        kind: 1,
+        id: id.0,
+        router: id,
+        number,
+        sum: 0,
+        length: 24 + 12 * count,
+    };
+    let [high, low] = count.to_be_bytes();
+    let mut bytes = Vec::with_capacity(alloc, 24 + 12 * links.len())?;
+    bytes.extend_from_slice(&header.to_bytes())?;
+    bytes.extend_from_slice(&[0, 0, high, low])?;
+    push_links(&mut bytes, links)?;
+    Ok(bytes)
+}
+
+// Puts the bytes of Router IDs at the end.
+fn push_routers(out: &mut Vec<u8>, routers: &[RouterId]) -> Result<(), AllocError>
+    ensures routers { OnOk result (out.new.items ≡ out.old.items ++ routers_bytes routers.now) }
+    ensures fit { OnOk result (AllByRecursion (λ r. r.0 < 2 ^ 32) routers.now) }
+{
+    for router in routers {
+        let number = router.0;
+        out.extend_from_slice(&number.to_be_bytes())?;
+    }
+    Ok(())
+}
+
+// A network-LSA without its checksum.
+fn network_bytes(
+    alloc: Global,
+    id: u32,
+    router: RouterId,
+    number: i32,
+    mask: u32,
+    routers: &[RouterId],
+) -> Result<Vec<u8>, AllocError>
+    requires { 24 + 4 * length routers.now ≤ 16356 }
+    ensures bytes { IfOk result (λ v. v.items ≡ lsa_bytes (network_value id router number mask routers.now)) }
+    ensures fits { OnOk result (ValueFits (network_value id router number mask routers.now)) }
+{
+    let header = LsaHeader {
+        age: Age::new(0),
+        options: 2,
+        kind: 2,
+        id,
+        router,
+        number,
+        sum: 0,
+        length: 24 + 4 * routers.len() as u16,
+    };
+    let mut bytes = Vec::with_capacity(alloc, 24 + 4 * routers.len())?;
+    bytes.extend_from_slice(&header.to_bytes())?;
+    bytes.extend_from_slice(&mask.to_be_bytes())?;
+    push_routers(&mut bytes, routers)?;
+    Ok(bytes)
+}
+
+// Puts the checksum in.
+fn sealed(mut bytes: Vec<u8>) -> Vec<u8>
+    requires { 20 ≤ length bytes.items }
+    ensures { (x : ℕ) × (y : ℕ) × IsChecksum bytes.items x y × (result.items ≡ with_checksum bytes.items x y) }
+{
+    let sum = lsa_sum(&bytes);
+    bytes[16] = (sum / 256) as u8;
+    bytes[17] = (sum % 256) as u8;
+    bytes
+}
+
+impl Lsa {
+    /// A router-LSA of a router, at age 0.
+    pub fn router(alloc: Global, id: RouterId, number: i32, links: &[Link]) -> Result<Lsa, LsaFault>
+        ensures ok { IfOk result (λ lsa. IsMade (router_value id number links.now) lsa) }
+        ensures fault { IfErr result (λ f. (f ≡ fault.Memory) ⊎ IsFirst (RouterNeeds number links.now) f) }
+    {
+        if links.len() > (LARGEST_LSA - 24) / 12 {
+            return Err(LsaFault::Length);
+        }
+        if !have_masks(links) {
+            return Err(LsaFault::Mask);
+        }
+        if !have_costs(links) {
+            return Err(LsaFault::ZeroMetric);
+        }
+        if number == i32::MIN {
+            return Err(LsaFault::Number);
+        }
+        match router_bytes(alloc, id, number, links) {
+            Ok(bytes) => Ok(Lsa::of_bytes(sealed(bytes))),
+            Err(_) => Err(LsaFault::Memory),
+        }
+    }
+
+    /// A network-LSA of a router, at age 0.
+    pub fn network(
+        alloc: Global,
+        id: u32,
+        router: RouterId,
+        number: i32,
+        mask: u32,
+        routers: &[RouterId],
+    ) -> Result<Lsa, LsaFault>
+        ensures ok { IfOk result (λ lsa. IsMade (network_value id router number mask routers.now) lsa) }
+        ensures fault { IfErr result (λ f. (f ≡ fault.Memory) ⊎ IsFirst (NetworkNeeds number mask routers.now) f) }
+    {
+        if routers.len() > (LARGEST_LSA - 24) / 4 {
+            return Err(LsaFault::Length);
+        }
+        if !is_mask(mask) {
+            return Err(LsaFault::Mask);
+        }
+        if number == i32::MIN {
+            return Err(LsaFault::Number);
+        }
+        match network_bytes(alloc, id, router, number, mask, routers) {
+            Ok(bytes) => Ok(Lsa::of_bytes(sealed(bytes))),
+            Err(_) => Err(LsaFault::Memory),
+        }
+    }
+}

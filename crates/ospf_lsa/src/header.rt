@@ -1,0 +1,58 @@
+//! The header of an LSA.
+
+ghost use Rattle.std.specs.Prelude.{◌≡◌, ◌≤◌, ◌++◌, length};
+ghost use Rattle.ospf_base.specs.Bytes.{number_bytes};
+ghost use Rattle.ospf_lsa.specs.Header.{header_of, header_bytes, HeaderFits};
+
+use ospf_base::{Age, RouterId, i32_at, u16_at, u32_at};
+
+/// The header of an LSA.
+#[derive(Clone, Copy, Debug, PartialEq, Eq)]
+pub struct LsaHeader {
+    pub age: Age,
+    pub options: u8,
+    pub kind: u8,
+    pub id: u32,
+    pub router: RouterId,
+    pub number: i32,
+    pub sum: u16,
+    pub length: u16,
+}
+
+impl LsaHeader {
+    /// The header that the bytes begin with. An age field above `MAX_AGE` is read as that.
+    pub fn read(bytes: &[u8]) -> LsaHeader
+        requires { 20 ≤ length bytes.now }
+        ensures value { result ≡ header_of bytes.now }
+        ensures fits { HeaderFits (header_of bytes.now) }
+    {
+        LsaHeader {
+            age: Age::new(u16_at(bytes, 0)),
+            options: bytes[2],
+            kind: bytes[3],
+            id: u32_at(bytes, 4),
+            router: RouterId(u32_at(bytes, 8)),
+            number: i32_at(bytes, 12),
+            sum: u16_at(bytes, 16),
+            length: u16_at(bytes, 18),
+        }
+    }
+
+    /// The 20 bytes of the header.
+    pub fn to_bytes(&self) -> [u8; 20]
+        ensures bytes { result ≡ number_bytes 2 self.now.age ++ header_bytes self.now }
+        ensures fits { HeaderFits self.now }
+    {
+        let (options, kind, id, router) = (self.options, self.kind, self.id, self.router.0);
+        let (number, sum, length) = (self.number, self.sum, self.length);
+        let [a, b] = self.age.ticks().to_be_bytes();
+        let [c, d, e, f] = id.to_be_bytes();
+        let [g, h, i, j] = router.to_be_bytes();
+        let [k, l, m, n] = number.to_be_bytes();
+        let [o, p] = sum.to_be_bytes();
+        let [q, r] = length.to_be_bytes();
+        [
+            a, b, options, kind, c, d, e, f, g, h, i, j, k, l, m, n, o, p, q, r,
+        ]
+    }
+}

@@ -1,0 +1,186 @@
+//! The LSAs that a database lists.
+
+ghost use Rattle.std.specs.Prelude.{◌≡◌, ◌<◌, ◌↔◌, ℕ, List, [], IsTrue, OnOk, OnErr, Err, IfOk, IfErr, IfSome, IfNone, Contains, length, slice_index_or};
+ghost use Rattle.ospf_lsa.specs.Header.{header_of};
+ghost use Rattle.ospf_lsa.specs.Lsa.{key_of};
+ghost use Rattle.ospf_lsa.specs.Listing.{IsListing, IsRising, HasKey, IsPlace, IsInserted, IsCount, IsNetworkOf, IsOfNetwork};
+ghost use Rattle.ospf_lsa.specs.declared.listing.ListingFault.TheVariants as fault;
+
+use crate::lsa::Lsa;
+use ospf_base::{Kind, LsaKey, MAX_AGE, RouterId};
+use std::alloc::Global;
+use std::marker::Model;
+
+/// Why an LSA was not added to a listing.
+#[derive(Clone, Copy, Debug, PartialEq, Eq, thiserror::Error)]
+pub enum ListingFault {
+    /// An LSA of this key is listed.
+    #[error("K1 Twice")]
+    Twice,
+    /// The LSA has the age at which it leaves the routing domain.
+    #[error("K2 MaxAge")]
+    MaxAge,
+    /// Memory ran out.
+    #[error("K3 Memory")]
+    Memory,
+}
+
+/// LSAs below age `MAX_AGE`, at most one a key, in the order of their keys.
+#[derive(Drop)]
+pub struct Listing {
+    lsas: Vec<Lsa>,
+}
+
+impl Model for Listing {
+    ghost use Rattle.std.specs.Prelude.{ℕ, List};
+
+    ghost Value = { List (List ℕ) };
+
+    ghost use Rattle.ospf_lsa.specs.Listing.{IsListing};
+
+    ghost view = { λ l. l.lsas.items };
+
+    ghost invariant = { λ l. IsListing l.lsas.items };
+}
+
+impl Listing {
+    pub fn new(alloc: Global) -> Listing
+        ensures { result ≡ [] }
+    {
+        Listing {
+            lsas: Vec::new(alloc),
+        }
+    }
+
+    /// The LSAs, in the order of their keys.
+    pub fn lsas(&self) -> &[Lsa]
+        ensures lsas { result.now ≡ self.now }
+        ensures listing { IsListing self.now }
+    {
+        &self.lsas
+    }
+
+    /// The LSA of a key, if it is listed.
+    pub fn get(&self, key: &LsaKey) -> Option<&Lsa>
+        ensures found { IfSome result (λ lsa. Contains self.now lsa.now × (key_of lsa.now ≡ key.now)) }
+        ensures none { IfNone result (HasKey self.now key.now → ⊥) }
+        ensures listing { IsListing self.now }
+    {
+        match search(&self.lsas, key) {
+            Ok(at) => Some(&self.lsas[at]),
+            Err(_) => None,
+        }
+    }
+
+    /// The network-LSA of a Link State ID; of several the one of the largest Advertising Router.
+    pub fn network(&self, id: u32) -> Option<&Lsa>
+        ensures found { IfSome result (λ lsa. IsNetworkOf self.now id lsa.now) }
+        ensures none { IfNone result ((lsa : List ℕ) → Contains self.now lsa → IsOfNetwork id lsa → ⊥) }
+        ensures listing { IsListing self.now }
+    {
+        last_network(&self.lsas, id)
+    }
+
+    /// Puts an LSA in where its key belongs (RFC 2328, section 12.2).
+    ///
+    /// `Twice` where an LSA of its key is listed, else `MaxAge` where its age is `MAX_AGE`, else
+    /// `Memory` where memory runs out. The listing is unchanged by each.
+    pub fn add(&mut self, lsa: Lsa) -> Result<(), ListingFault>
+        ensures ok { OnOk result (IsInserted lsa self.old self.new) }
+        ensures err { OnErr result (self.new ≡ self.old) }
+        ensures twice { (result ≡ Err fault.Twice) ↔ HasKey self.old (key_of lsa) }
+        ensures max_age { (result ≡ Err fault.MaxAge) ↔ (((header_of lsa).age ≡ 3600) × (HasKey self.old (key_of lsa) → ⊥)) }
+    {
+        let key = lsa.view().key();
+        let Some(at) = place_of(&self.lsas, &key) else {
+            return Err(ListingFault::Twice);
+        };
+        if lsa.view().header().age.ticks() == MAX_AGE {
+            return Err(ListingFault::MaxAge);
+        }
+        if self.lsas.insert(at, lsa).is_err() {
+            return Err(ListingFault::Memory);
+        }
+        Ok(())
+    }
+}
+
+// How many LSAs have keys that do not stand after this one.
+fn count_through(lsas: &[Lsa], key: &LsaKey) -> usize
+    requires { IsRising lsas.now }
+    ensures { IsCount lsas.now key.now result }
+{
+    let mut low = 0;
+    let mut high = lsas.len();
+    while low < high {
+        let middle = low + (high - low) / 2;
+        if key.precedes(&lsas[middle].view().key()) {
+            high = middle;
+        } else {
+            low = middle + 1;
+        }
+    }
+    low
+}
+
+// The place of the LSA of a key, or else where one belongs.
+fn search(lsas: &[Lsa], key: &LsaKey) -> Result<usize, usize>
+    requires { IsRising lsas.now }
+    ensures found { IfOk result (λ at. (at < length lsas.now) × ((d : List ℕ) → key_of (slice_index_or lsas.now at d) ≡ key.now)) }
+    ensures place { IfErr result (λ at. IsPlace lsas.now key.now at) }
+{
+    let at = count_through(lsas, key);
+    if at == 0 {
+        return Err(0);
+    }
+    // What does not stand behind the key, nor before it, bears it.
+    if lsas[at - 1].view().key().precedes(key) {
+        return Err(at);
+    }
+    Ok(at - 1)
+}
+
+// Where an LSA of this key belongs, unless one is there.
+fn place_of(lsas: &[Lsa], key: &LsaKey) -> Option<usize>
+    requires { IsRising lsas.now }
+    ensures place { IfSome result (λ at. IsPlace lsas.now key.now at) }
+    ensures taken { IfNone result (HasKey lsas.now key.now) }
+{
+    match search(lsas, key) {
+        Ok(_) => None,
+        Err(at) => Some(at),
+    }
+}
+
+// Whether this is a network-LSA of a Link State ID.
+fn is_of_network(lsa: &Lsa, id: u32) -> bool
+    ensures { IsTrue result ↔ IsOfNetwork id lsa.now }
+{
+    match lsa.view().kind() {
+        Kind::Router => false,
+        Kind::Network => lsa.view().key().id == id,
+    }
+}
+
+// The last network-LSA of a Link State ID.
+fn last_network(lsas: &[Lsa], id: u32) -> Option<&Lsa>
+    requires { IsListing lsas.now }
+    ensures found { IfSome result (λ lsa. IsNetworkOf lsas.now id lsa.now) }
+    ensures none { IfNone result ((lsa : List ℕ) → Contains lsas.now lsa → IsOfNetwork id lsa → ⊥) }
+{
+    let greatest = LsaKey {
+        kind: Kind::Network,
+        id,
+        router: RouterId(u32::MAX),
+    };
+    let at = count_through(lsas, &greatest);
+    if at == 0 {
+        return None;
+    }
+    let last = &lsas[at - 1];
+    if is_of_network(last, id) {
+        Some(last)
+    } else {
+        None
+    }
+}
