@@ -1,0 +1,13 @@
+pub mod ListLemmas
+pub mod CandidateLemmas
+pub mod StartLemmas
+pub mod Search
+pub mod SearchState
+pub mod TreeLemmas
+pub mod GraphLemmas
+pub mod WalkSteps
+pub mod WalkLaw
+pub mod TableLemmas
+pub mod SortedInsert
+pub mod Searched
+pub mod HopOrder

@@ -1,0 +1,9 @@
+pub mod Advertisements
+pub mod Hops
+pub mod Graph
+pub mod Routes
+pub mod Walk
+pub mod SameGraph
+pub mod Tree
+pub mod Search
+pub mod Places

@@ -1,0 +1,78 @@
+-- The state of the search by candidates.
+use Rattle.std.specs.Prelude.{◌≡◌, ◌+◌, ◌<◌, ◌==◌, ◌⊎◌, ◌++◌, ◌≢◌, ◌^◌, ℕ, Bool, false, List, [], ◌∷◌, Contains, cond}
+use Rattle.ospf_graph.specs.declared.graph.Edge.{Edge}
+use Rattle.ospf_graph.specs.declared.graph.Vertex.{Vertex}
+use Rattle.ospf_graph.specs.declared.graph.Vertex.TheVariants.{Router, Network}
+use Rattle.ospf_graph.specs.declared.graph.Start.{Start}
+use Rattle.ospf_graph.specs.declared.paths.VertexStart.{VertexStart}
+use Rattle.ospf_graph.specs.declared.paths.Settled.{Settled}
+use Rattle.ospf_graph.specs.declared.paths.Candidate.{Candidate}
+use Rattle.ospf_graph.specs.Tree.{rank, extend, IsRising}
+
+abbrev pub candidate_rank : Candidate → ℕ
+candidate_rank c = rank c.edge.to c.distance
+
+abbrev pub vertex_eq : Vertex → Vertex → Bool
+vertex_eq (Router a) (Router b) = a.0 == b.0
+vertex_eq (Network a) (Network b) = a == b
+vertex_eq (Router _) (Network _) = false
+vertex_eq (Network _) (Router _) = false
+
+-- the candidates that a vertex at this distance brings
+abbrev pub candidates_from : Vertex → ℕ → List Edge → List Candidate
+candidates_from v d [] = []
+candidates_from v d (e ∷ rest) =
+    cond (vertex_eq e.from v) (record { edge = e; distance = d + e.cost } ∷ candidates_from v d rest) (candidates_from v d rest)
+
+-- the start is there, at the end where it was not there before
+abbrev pub AddsStart : VertexStart → List VertexStart → List VertexStart → Type 0
+AddsStart begun old new = (new ≡ old ++ begun ∷ []) ⊎ (Contains old begun × (new ≡ old))
+
+-- the starts at the edge's beginning, one edge further, are now at its end, and nothing else is new
+pub record BringsStarts (edge : Edge) (old new : List VertexStart) : Type 0 where
+  pub kept : (b : VertexStart) → Contains old b → Contains new b
+  pub brought : (x : Start) → Contains old (record { vertex = edge.from; start = x }) →
+      Contains new (record { vertex = edge.to; start = extend x edge.to edge.link_data })
+  pub only : (b : VertexStart) → Contains new b → Contains old b ⊎
+      ((b.vertex ≡ edge.to) × (y : Start) × Contains old (record { vertex = edge.from; start = y }) × (b.start ≡ extend y edge.to edge.link_data))
+
+-- the candidate's vertex is new: it is reached, its edges become candidates, and the edge brings its starts
+pub record Reaches (c : Candidate) (edges : List Edge) (settled settled' : List Settled) (starts starts' : List VertexStart)
+    (candidates candidates' : List Candidate) : Type 0 where
+  pub fresh : (d : ℕ) → Contains settled (record { vertex = c.edge.to; distance = d }) → ⊥
+  pub settled_is : settled' ≡ settled ++ record { vertex = c.edge.to; distance = c.distance } ∷ []
+  pub candidates_is : candidates' ≡ candidates ++ candidates_from c.edge.to c.distance edges
+  pub brings : BringsStarts c.edge starts starts'
+
+-- it was reached before: the edge brings its starts if it leads there as near
+pub record SeesAgain (c : Candidate) (settled settled' : List Settled) (starts starts' : List VertexStart)
+    (candidates candidates' : List Candidate) : Type 0 where
+  pub near : ℕ
+  pub at : Contains settled (record { vertex = c.edge.to; distance = near })
+  pub settled_is : settled' ≡ settled
+  pub candidates_is : candidates' ≡ candidates
+  pub brings : ((near ≡ c.distance) × BringsStarts c.edge starts starts') ⊎ ((near ≢ c.distance) × (starts' ≡ starts))
+
+abbrev pub Takes : Candidate → List Edge → (settled settled' : List Settled) (starts starts' : List VertexStart) (candidates candidates' : List Candidate) → Type 0
+Takes c edges settled settled' starts starts' candidates candidates' =
+    Reaches c edges settled settled' starts starts' candidates candidates' ⊎ SeesAgain c settled settled' starts starts' candidates candidates'
+
+-- the distance at which a vertex is reached, a start that it has, and an edge that waits at a distance
+abbrev pub AtIn : List Settled → Vertex → ℕ → Type 0
+AtIn settled v d = Contains settled (record { vertex = v; distance = d })
+
+abbrev pub StartsIn : List VertexStart → Vertex → Start → Type 0
+StartsIn starts v x = Contains starts (record { vertex = v; start = x })
+
+abbrev pub WaitsIn : List Candidate → Edge → ℕ → Type 0
+WaitsIn candidates e k = Contains candidates (record { edge = e; distance = k })
+
+abbrev pub vertex_id : Vertex → ℕ
+vertex_id (Router r) = r.0
+vertex_id (Network n) = n
+
+-- edges that raise the rank, with costs and names of their types' sizes
+pub record IsFit (edges : List Edge) : Type 0 where
+  pub rising : IsRising (Contains edges)
+  pub cost_fits : (e : Edge) → Contains edges e → e.cost < 2 ^ 16
+  pub id_fits : (e : Edge) → Contains edges e → vertex_id e.to < 2 ^ 32
