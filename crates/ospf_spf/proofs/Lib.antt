@@ -1,0 +1,11 @@
+pub mod ListedLemmas
+pub mod AddsLemmas
+pub mod GivenLemmas
+pub mod FitLemmas
+pub mod PrefixOrder
+pub mod RouteLemmas
+pub mod HopLemmas
+pub mod ReachLemmas
+pub mod TableOf
+pub mod PlaceLemmas
+pub mod LookupLemmas

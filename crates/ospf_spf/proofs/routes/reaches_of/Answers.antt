@@ -1,0 +1,23 @@
+use Rattle.std.proofs.Common.{arith, ◌≤◌, length}
+use Rattle.std.proofs.lemmas.List.{take_all}
+use Rattle.ospf_spf.proofs.ReachLemmas.{reach_kept, reach_more}
+use Rattle.ospf_spf.proofs.routes.reaches_of.Goals.{in-Some+in_ok-push, in_default}
+use Rattle.ospf_spf.proofs.routes.reaches_of.Goals as goal
+
+pub loop-end-preserved : goal.loop-end-preserved
+loop-end-preserved c =
+    elim c.match-distance_of.branch [
+      | in-Some+in_ok-push w ↦
+          rw w.reaches-is
+          (reach_more c.args.ends.now c.args.settled.now c.loop-end.end-index c.end-item.result c.loop-end-test.true c.loop-end.reaches.items c.loop-end.invariant
+          c.requires.one w.in-Some.distance (rw (← c.end-item.is) w.in-Some.ensures.found) w.push.new.self.items (rw (← c.end-item.is) w.in_ok-push.ensures.items))
+      | in_default w ↦
+          rw w.reaches-is
+          (reach_kept c.args.ends.now c.args.settled.now c.loop-end.end-index c.end-item.result c.loop-end-test.true c.loop-end.reaches.items c.loop-end.invariant
+          (rw (← c.end-item.is) w.in_default.ensures.none))
+    ]
+
+pub returns : goal.returns
+returns c =
+    let end : length c.args.ends.now ≤ c.loop-end.end-index = omega arith in
+    rw take_all at c.loop-end.invariant

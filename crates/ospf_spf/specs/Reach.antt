@@ -1,0 +1,95 @@
+-- What routes are made of: ends of prefixes that the shortest paths reach.
+use Rattle.std.specs.Prelude.{◌≡◌, ◌+◌, ◌<◌, ◌≤◌, ◌↔◌, ◌⊎◌, ℕ, List, [], AllPairs, Contains, Option, Some, None}
+use Rattle.ospf_base.specs.declared.prefix.Prefix.{Prefix}
+use Rattle.ospf_graph.specs.Advertisements.{Advertisement}
+use Rattle.ospf_graph.specs.Graph.{IsEdge}
+use Rattle.ospf_graph.specs.Hops.{IsHopBefore}
+use Rattle.ospf_graph.specs.Routes.{IsEnd}
+use Rattle.ospf_graph.specs.Search.{AtIn}
+use Rattle.ospf_graph.specs.Tree.{hop_of_start}
+use Rattle.ospf_graph.specs.declared.graph.Edge.{Edge}
+use Rattle.ospf_graph.specs.declared.graph.Start.{Start}
+use Rattle.ospf_graph.specs.declared.graph.Vertex.{Vertex}
+use Rattle.ospf_graph.specs.declared.graph.Vertex.TheVariants.{Router, Network}
+use Rattle.ospf_graph.specs.declared.hop.NextHop.{NextHop}
+use Rattle.ospf_graph.specs.declared.paths.Settled.{Settled}
+use Rattle.ospf_graph.specs.declared.paths.VertexStart.{VertexStart}
+use Rattle.ospf_graph.specs.declared.route.Route.{Route}
+use Rattle.ospf_spf.specs.declared.end.End.{End}
+use Rattle.ospf_spf.specs.declared.routes.Reach.{Reach}
+
+-- the least cost of the reaches of a prefix
+pub record IsBestCost (reaches : List Reach) (prefix : Prefix) (cost : ℕ) : Type 0 where
+  pub end : Vertex
+  pub attained : Contains reaches (record { prefix = prefix; vertex = end; cost = cost })
+  pub least : (v : Vertex) (k : ℕ) → Contains reaches (record { prefix = prefix; vertex = v; cost = k }) → cost ≤ k
+
+-- no reach of the prefix
+abbrev pub HasNoReach : List Reach → Prefix → Type 0
+HasNoReach reaches prefix = (v : Vertex) (k : ℕ) → Contains reaches (record { prefix = prefix; vertex = v; cost = k }) → ⊥
+
+-- what is known of a least cost: there is no reach, or this is it
+abbrev pub IsLeastOf : List Reach → Prefix → Option ℕ → Type 0
+IsLeastOf reaches prefix None = HasNoReach reaches prefix
+IsLeastOf reaches prefix (Some cost) = IsBestCost reaches prefix cost
+
+-- both are networks, and the first has the larger Link State ID
+abbrev pub IsLargerNetwork : Vertex → Vertex → Type 0
+IsLargerNetwork (Network m) (Network n) = n < m
+IsLargerNetwork (Network _) (Router _) = ⊥
+IsLargerNetwork (Router _) _ = ⊥
+
+-- a network of larger Link State ID at the same prefix and cost
+abbrev pub Excludes : Reach → Reach → Type 0
+Excludes a b = IsLargerNetwork a.vertex b.vertex × (a.prefix ≡ b.prefix) × (a.cost ≡ b.cost)
+
+-- no reach excludes this one
+abbrev pub IsChosenEnd : List Reach → Reach → Type 0
+IsChosenEnd reaches end = (other : Reach) → Contains reaches other → Excludes other end → ⊥
+
+-- exactly the hops of P are added, in order
+pub record AddsHops (P : NextHop → Type 0) (old new : List NextHop) : Type 0 where
+  pub in_order : AllPairs IsHopBefore new
+  pub members : (h : NextHop) → Contains new h ↔ (Contains old h ⊎ P h)
+
+-- the hop of a start that the vertex has
+abbrev pub HasHop : List VertexStart → Vertex → NextHop → Type 0
+HasHop starts v h = (x : Start) × Contains starts (record { vertex = v; start = x }) × (h ≡ hop_of_start x)
+
+-- the hop of a start of a chosen end of the prefix at this cost
+abbrev pub HasHopOf : List Reach → List VertexStart → Prefix → ℕ → NextHop → Type 0
+HasHopOf reaches starts prefix cost h =
+    (end : Reach) × Contains reaches end × (end.prefix ≡ prefix) × (end.cost ≡ cost) × IsChosenEnd reaches end × HasHop starts end.vertex h
+
+-- the reach of an end whose vertex is at this distance
+abbrev pub reach_of : End → ℕ → Reach
+reach_of e d = record { prefix = e.prefix; vertex = e.vertex; cost = d + e.cost }
+
+-- the reach of one of these ends
+abbrev pub IsReachOf : List End → List Settled → Reach → Type 0
+IsReachOf ends settled r = (e : End) × Contains ends e × (d : ℕ) × AtIn settled e.vertex d × (r ≡ reach_of e d)
+
+-- the least cost, and the hops of the chosen ends at it
+pub record IsRouteOf (reaches : List Reach) (starts : List VertexStart) (route : Route) : Type 0 where
+  pub cost : IsBestCost reaches route.prefix route.cost
+  pub hops : AddsHops (HasHopOf reaches starts route.prefix route.cost) [] route.hops
+
+-- all edges of a listing
+abbrev pub IsEdgesOf : List Advertisement → List Edge → Type 0
+IsEdgesOf adverts edges = (e : Edge) → Contains edges e ↔ IsEdge adverts e
+
+-- all ends of a listing
+abbrev pub IsEndsOf : List Advertisement → List End → Type 0
+IsEndsOf adverts ends = (e : End) → Contains ends e ↔ IsEnd adverts e.prefix e.vertex e.cost
+
+-- IsReach prefix v k: the shortest paths reach an end v of the prefix, at the cost k
+-- the route of least cost, with the hops of the routers at that cost and of the largest network at it
+pub record IsReachedRoute (IsReach : Prefix → Vertex → ℕ → Type 0) (Starts : Vertex → Start → Type 0) (route : Route) : Type 0 where
+  pub end : Vertex
+  pub reached : IsReach route.prefix end route.cost
+  pub least : (v : Vertex) (k : ℕ) → IsReach route.prefix v k → route.cost ≤ k
+  pub in_order : AllPairs IsHopBefore route.hops
+  pub hops : (hop : NextHop) → Contains route.hops hop ↔
+      ((v : Vertex) × IsReach route.prefix v route.cost
+      × ((m n : ℕ) → v ≡ Network n → IsReach route.prefix (Network m) route.cost → m ≤ n)
+      × (x : Start) × Starts v x × (hop ≡ hop_of_start x))
