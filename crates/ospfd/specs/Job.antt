@@ -1,0 +1,28 @@
+-- What the program's words ask for.
+use Rattle.std.specs.Prelude.{◌≡◌, ◌≢◌, ◌⊎◌, ℕ, List, ⊤, string_bytes}
+use Rattle.clap.specs.Words.{kind_of}
+use Rattle.clap.specs.declared.error.kind.ErrorKind.TheVariants.{DisplayHelp, DisplayVersion, OutOfMemory}
+use Rattle.clap.specs.declared.error.Error.{Error}
+use Rattle.ospfd.specs.declared.jobs.JobFault.{JobFault}
+use Rattle.ospfd.specs.declared.jobs.JobFault.TheVariants as fault
+use Rattle.ospfd.specs.declared.status.Status.{Status}
+use Rattle.ospfd.specs.declared.status.Status.TheVariants as status
+
+-- the status that a fault ends with: help and the version are what was asked for
+abbrev pub HasStatus : JobFault → Status → Type 0
+HasStatus (fault.Words e) s =
+    (((kind_of e ≡ DisplayHelp) ⊎ (kind_of e ≡ DisplayVersion)) × (s ≡ status.Done))
+    ⊎ ((kind_of e ≢ DisplayHelp) × (kind_of e ≢ DisplayVersion) × (s ≡ status.Words))
+HasStatus (fault.Address word) s = s ≡ status.Words
+HasStatus fault.Memory s = s ≡ status.Memory
+
+-- the fault of a word that is to be a value: it names the word, unless memory ran out
+abbrev pub IsFaultOf : List ℕ → JobFault → Type 0
+IsFaultOf word (fault.Words e) = ⊥
+IsFaultOf word (fault.Address w) = string_bytes w ≡ word
+IsFaultOf word fault.Memory = ⊤
+
+-- what becomes of an error of `clap`: want of memory is told as that
+abbrev pub IsFaultOfWords : Error → JobFault → Type 0
+IsFaultOfWords e f =
+    ((kind_of e ≡ OutOfMemory) × (f ≡ fault.Memory)) ⊎ ((kind_of e ≢ OutOfMemory) × (f ≡ fault.Words e))

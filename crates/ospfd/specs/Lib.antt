@@ -1,0 +1,4 @@
+pub mod Status
+pub mod Line
+pub mod Fault
+pub mod Job

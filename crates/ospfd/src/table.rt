@@ -1,0 +1,206 @@
+//! Routing tables of the LSAs of a text.
+
+ghost use Rattle.std.specs.Prelude.{◌≡◌, ◌≢◌, ◌⊎◌, ℕ, [], Err, IfOk, IfErr, IfSome, OnOk, OnErr};
+ghost use Rattle.ospfd.specs.Fault.{IsMemoryFault, IsRefusal};
+ghost use Rattle.ospfd.specs.declared.table.EntryFault.{EntryFault};
+ghost use Rattle.ospfd.specs.Line.{IsTaken, HasFault, Reads, Refuses, IsRefused, IsWhole};
+
+use crate::jobs::TableJob;
+use crate::line::{LineFault, is_blank, lsa_of_line, without_end};
+use crate::status::Status;
+use ospf_base::{Addr, MAX_AGE};
+use ospf_lsa::{Listing, ListingFault, LsaFault};
+use ospf_spf::RouteTable;
+use std::alloc::{AllocError, Global};
+use std::io::{self, BufRead, Write};
+use thiserror::Error;
+
+// Why the LSA of a line was not listed.
+#[derive(Clone, Copy, Debug, PartialEq, Eq, Error)]
+enum EntryFault {
+    #[error("{0}")]
+    Line(LineFault),
+    #[error("{0}")]
+    Listing(ListingFault),
+}
+
+// Why there is no table.
+#[derive(Debug, Drop, Error)]
+enum TableFault {
+    #[error("line {number}: {fault}")]
+    Entry { number: u64, fault: EntryFault },
+    #[error("out of memory")]
+    Memory,
+    #[error("{0}")]
+    Stream(io::Error),
+}
+
+impl TableFault {
+    ghost use Rattle.std.specs.Prelude.{◌≡◌, ◌≢◌, ◌↔◌};
+    ghost use Rattle.ospfd.specs.Fault.{IsMemoryFault, IsRefusal};
+
+    // The fault of a line, which is no fault of the line where memory ran out.
+    fn of_entry(number: u64, fault: EntryFault) -> TableFault
+        ensures memory { IsMemoryFault fault → result ≡ TableFault.Memory }
+        ensures entry { (IsMemoryFault fault → ⊥) → result ≡ TableFault.Entry number fault }
+    {
+        match fault {
+            EntryFault::Line(LineFault::Lsa(LsaFault::Memory))
+            | EntryFault::Listing(ListingFault::Memory) => TableFault::Memory,
+            _ => TableFault::Entry { number, fault },
+        }
+    }
+
+    // The status to end with.
+    fn status(&self) -> Status
+        ensures refused { (result ≡ Status.Refused) ↔ IsRefusal self.now }
+        ensures not_done { result ≢ Status.Done }
+    {
+        match self {
+            TableFault::Entry { .. } => Status::Refused,
+            TableFault::Memory => Status::Memory,
+            TableFault::Stream(error) => Status::of_error(error),
+        }
+    }
+}
+
+impl From<AllocError> for TableFault {
+    ghost use Rattle.std.specs.Prelude.{◌≡◌};
+    ghost use Rattle.ospfd.specs.declared.table.TableFault.TheVariants.{Memory};
+
+    ghost from_gives = { λ _ fault. fault ≡ Memory };
+
+    fn from(_error: AllocError) -> TableFault {
+        TableFault::Memory
+    }
+}
+
+impl From<io::Error> for TableFault {
+    ghost use Rattle.std.specs.Prelude.{◌≡◌};
+    ghost use Rattle.ospfd.specs.declared.table.TableFault.TheVariants.{Stream};
+
+    ghost from_gives = { λ error fault. fault ≡ Stream error };
+
+    fn from(error: io::Error) -> TableFault {
+        TableFault::Stream(error)
+    }
+}
+
+// Lists the LSA of a text, unless the text is blank or the LSA is at `MAX_AGE`.
+fn list_entry(alloc: Global, listing: &mut Listing, text: &[u8]) -> Result<(), EntryFault>
+    ensures ok { OnOk result (IsTaken text.now listing.old listing.new) }
+    ensures err { OnErr result (listing.new ≡ listing.old) }
+    ensures fault { IfErr result (λ e. IsMemoryFault e ⊎ HasFault text.now listing.old e) }
+{
+    if is_blank(text) {
+        return Ok(());
+    }
+    let lsa = match lsa_of_line(alloc, text) {
+        Ok(lsa) => lsa,
+        Err(fault) => return Err(EntryFault::Line(fault)),
+    };
+    if lsa.view().header().age.ticks() == MAX_AGE {
+        return Ok(());
+    }
+    match listing.add(lsa) {
+        Ok(()) => Ok(()),
+        Err(fault) => Err(EntryFault::Listing(fault)),
+    }
+}
+
+// The LSAs of the lines up to the end of the input.
+fn read_listing<R: BufRead + Drop>(alloc: Global, mut input: R) -> Result<Listing, TableFault>
+    ensures whole { IfOk result (λ listing. IfSome (R.remaining input) (λ bytes. Reads bytes [] listing)) }
+    ensures refused { (n : ℕ) (f : EntryFault) → result ≡ Err (TableFault.Entry n f) → IfSome (R.remaining input) (λ bytes. Refuses bytes [] n f) }
+{
+    let mut listing = Listing::new(alloc);
+    let mut line = Vec::new(alloc);
+    for number in 1..u64::MAX {
+        line.clear();
+        if input.read_until(b'\n', &mut line)? == 0 {
+            return Ok(listing);
+        }
+        if let Err(fault) = list_entry(alloc, &mut listing, without_end(&line)) {
+            return Err(TableFault::of_entry(number, fault));
+        }
+    }
+    Err(TableFault::from(io::Error::from(io::ErrorKind::FileTooLarge)))
+}
+
+// Writes where a table sends what is on its way to an address.
+fn write_lookup<O: Write>(out: &mut O, table: &RouteTable, address: Addr) -> io::Result<()> {
+    let Some(route) = table.lookup(address) else {
+        return writeln!(out, "lookup {address} none");
+    };
+    let (prefix, cost) = (route.prefix, route.cost);
+    match route.hops.as_slice().first() {
+        Some(hop) => writeln!(out, "lookup {address} {prefix} {cost} {hop}"),
+        None => writeln!(out, "lookup {address} none"),
+    }
+}
+
+// Writes the routes of a table.
+fn write_routes<O: Write>(out: &mut O, table: &RouteTable) -> io::Result<()> {
+    for route in table.routes() {
+        writeln!(out, "{route}")?;
+    }
+    Ok(())
+}
+
+// Writes the table of the LSAs that are read, and what it says of the addresses.
+fn answer<R: BufRead + Drop, O: Write>(
+    alloc: Global,
+    job: &TableJob,
+    input: R,
+    out: &mut O,
+) -> Result<(), TableFault>
+    ensures whole { OnOk result (IfSome (R.remaining input) IsWhole) }
+    ensures refused { (n : ℕ) (f : EntryFault) → result ≡ Err (TableFault.Entry n f) → IfSome (R.remaining input) IsRefused }
+    ensures unwritten { (n : ℕ) (f : EntryFault) → result ≡ Err (TableFault.Entry n f) → O.contents out.new ≡ O.contents out.old }
+{
+    let listing = read_listing(alloc, input)?;
+    let table = RouteTable::of(alloc, &listing, job.root)?;
+    write_routes(out, &table)?;
+    for address in &job.addresses {
+        write_lookup(out, &table, *address)?;
+    }
+    out.flush()?;
+    Ok(())
+}
+
+/// Reads LSAs, one a line in hexadecimal, and writes the routing table of a router over them, and for
+/// each address the route that it takes.
+///
+/// A line ends in a line feed, which a carriage return may precede, or at the end of the input. One of
+/// spaces alone is skipped. An LSA at `MAX_AGE` is checked, and left out of the table. The table is
+/// written once all is read. The first line that is refused is told on `err`, with status `Refused`.
+/// Status `Memory` says that memory ran out, and `Stream` that a read or a write failed.
+pub fn table_text<R: BufRead + Drop, O: Write, E: Write>(
+    alloc: Global,
+    job: &TableJob,
+    input: R,
+    out: &mut O,
+    err: &mut E,
+) -> Status
+    ensures done { result ≡ Status.Done → IfSome (R.remaining input) IsWhole }
+    ensures refused { result ≡ Status.Refused → IfSome (R.remaining input) IsRefused }
+    ensures unwritten { result ≡ Status.Refused → O.contents out.new ≡ O.contents out.old }
+{
+    match answer(alloc, job, input, out) {
+        Ok(()) => Status::Done,
+        Err(fault) => tell(&fault, err),
+    }
+}
+
+// Tells of a line that was refused. The answer is the status to end with.
+fn tell<E: Write>(fault: &TableFault, err: &mut E) -> Status
+    ensures refused { result ≡ Status.Refused → IsRefusal fault.now }
+    ensures not_done { result ≢ Status.Done }
+{
+    if fault.status() == Status::Refused {
+        if let Err(error) = writeln!(err, "{fault}").and_then(|()| err.flush()) {
+            return Status::of_error(&error);
+        }
+    }
+    fault.status()
+}

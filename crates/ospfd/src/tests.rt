@@ -1,0 +1,471 @@
+//! Whole answers to words and input.
+
+use crate::jobs::Job;
+use crate::table::table_text;
+use crate::words::job;
+use std::alloc::{AllocError, Global};
+use std::io::{self, BufReader, ErrorKind, Read, Write};
+use std::test::Fail;
+
+// Words, the input, and what is to come of them.
+struct Case {
+    name: &'static str,
+    words: &'static str,
+    input: &'static str,
+    out: &'static str,
+    err: &'static str,
+    status: u8,
+}
+
+// Input that has a table.
+static TABLES: [Case; 15] = [
+    Case {
+        name: "age above the greatest",
+        words: "table 1.1.1.1",
+        input: "ffff0201010101010101010180000001e22c003000000002020202020a0000010100000a0a000000fffffffc0300000a\n",
+        out: "",
+        err: "",
+        status: 0,
+    },
+    Case {
+        name: "blank lines and ends",
+        words: "table 1.1.1.1",
+        input: "   \r\n00000201010101010101010180000001E22C003000000002020202020A0000010100000A0A000000FFFFFFFC0300000A\r\n\n0000020102020202020202028000000197f1003c00000003010101010a0000020100000a0a000000fffffffc0300000ac0a80200ffffff0003000005",
+        out: "10.0.0.0/30 10 attached\n192.168.2.0/24 15 10.0.0.1>2.2.2.2\n",
+        err: "",
+        status: 0,
+    },
+    Case {
+        name: "cheaper stub",
+        words: "table 1.1.1.1",
+        input: "000002010101010101010101800000014879003c00000003020202020a0000010100000a030303030a0000050100000a040404040a0000090100000a\n00000201020202020202020280000001926a003000000002010101010a0000020100000a0a0100020a01000202000005\n00000201030303030303030380000001ae40003000000002010101010a0000060100000a0a0100030a01000302000005\n0000020104040404040404048000000108eb003000000002010101010a00000a0100000a0a010000ffffff0003000004\n000002020a0100020202020280000001de62001cffffff0002020202\n000002020a0100030303030380000001d85f001cffffff0003030303\n",
+        out: "10.1.0.0/24 14 10.0.0.9>4.4.4.4\n",
+        err: "",
+        status: 0,
+    },
+    Case {
+        name: "default route and longest match",
+        words: "table 1.1.1.1 10.1.2.3 10.1.9.9 172.16.0.1",
+        input: "00000201010101010101010180000001ffde0048000000040a010000ffff0000030000030a010200ffffff00030000070000000000000000030000090a010203ffffffff03000001\n",
+        out: "0.0.0.0/0 9 attached\n10.1.0.0/16 3 attached\n10.1.2.0/24 7 attached\n10.1.2.3/32 1 attached\nlookup 10.1.2.3 10.1.2.3/32 1 attached\nlookup 10.1.9.9 10.1.0.0/16 3 attached\nlookup 172.16.0.1 0.0.0.0/0 9 attached\n",
+        err: "",
+        status: 0,
+    },
+    Case {
+        name: "expired are left out",
+        words: "table 1.1.1.1",
+        input: "0e100201010101010101010180000001e22c003000000002020202020a0000010100000a0a000000fffffffc0300000a\n0e100201010101010101010180000001e22c003000000002020202020a0000010100000a0a000000fffffffc0300000a\n",
+        out: "",
+        err: "",
+        status: 0,
+    },
+    Case {
+        name: "greatest metric",
+        words: "table 2.2.2.2",
+        input: "00000201010101010101010180000001c00a004800000004020202020a0000010100ffff0a000000fffffffc0300000a030303030a0000050100ffff0a000004fffffffc0300000a\n000002010202020202020202800000018287003000000002010101010a0000020100000a0a000000fffffffc0300000a\n00000201030303030303030380000001dcf8003c00000003010101010a0000060100000a0a000004fffffffc0300000a0a090000ffff000003000001\n",
+        out: "10.0.0.0/30 10 attached\n10.0.0.4/30 20 10.0.0.2>1.1.1.1\n10.9.0.0/16 65546 10.0.0.2>1.1.1.1\n",
+        err: "",
+        status: 0,
+    },
+    Case {
+        name: "link and lan tie",
+        words: "table 1.1.1.1",
+        input: "000002010101010101010101800000013aa2003c00000003020202020a0000010100000a0a000000fffffffc0300000a0a0100020a0100010200000a\n000002010202020202020202800000012b87004800000004010101010a0000020100000a0a000000fffffffc0300000a0a0100020a0100020200000a0a090000ffff000003000001\n000002020a010002020202028000000129100020ffffff000101010102020202\n",
+        out: "10.0.0.0/30 10 attached\n10.1.0.0/24 10 attached\n10.9.0.0/16 11 10.0.0.1>2.2.2.2,10.1.0.1>2.2.2.2@10.1.0.2\n",
+        err: "",
+        status: 0,
+    },
+    Case {
+        name: "no link back",
+        words: "table 1.1.1.1",
+        input: "00000201010101010101010180000001e22c003000000002020202020a0000010100000a0a000000fffffffc0300000a\n0000020102020202020202028000000129a9002400000001c0a80200ffffff0003000005\n",
+        out: "10.0.0.0/30 10 attached\n",
+        err: "",
+        status: 0,
+    },
+    Case {
+        name: "nothing listed",
+        words: "table 1.1.1.1",
+        input: "",
+        out: "",
+        err: "",
+        status: 0,
+    },
+    Case {
+        name: "one prefix on two networks",
+        words: "table 1.1.1.1",
+        input: "000002010101010101010101800000014879003c00000003020202020a0000010100000a030303030a0000050100000a040404040a0000090100000a\n00000201020202020202020280000001926a003000000002010101010a0000020100000a0a0100020a01000202000005\n00000201030303030303030380000001ae40003000000002010101010a0000060100000a0a0100030a01000302000005\n0000020104040404040404048000000126cc003000000002010101010a00000a0100000a0a010000ffffff0003000005\n000002020a0100020202020280000001de62001cffffff0002020202\n000002020a0100030303030380000001d85f001cffffff0003030303\n",
+        out: "10.1.0.0/24 15 10.0.0.5>3.3.3.3,10.0.0.9>4.4.4.4\n",
+        err: "",
+        status: 0,
+    },
+    Case {
+        name: "root not listed",
+        words: "table 9.9.9.9 10.0.0.1",
+        input: "00000201010101010101010180000001e22c003000000002020202020a0000010100000a0a000000fffffffc0300000a\n0000020102020202020202028000000197f1003c00000003010101010a0000020100000a0a000000fffffffc0300000ac0a80200ffffff0003000005\n",
+        out: "lookup 10.0.0.1 none\n",
+        err: "",
+        status: 0,
+    },
+    Case {
+        name: "two links to one lan",
+        words: "table 1.1.1.1",
+        input: "000002010101010101010101800000013aa2003c00000003020202020a0000010100000a0a000000fffffffc0300000a0a0100020a0100010200000a\n0000020102020202020202028000000182f7005400000005010101010a0000020100000a0a000000fffffffc0300000a0a0100020a0100020200000a0a0100020a0100070200000a0a090000ffff000003000001\n000002020a010002020202028000000129100020ffffff000101010102020202\n",
+        out: "10.0.0.0/30 10 attached\n10.1.0.0/24 10 attached\n10.9.0.0/16 11 10.0.0.1>2.2.2.2,10.1.0.1>2.2.2.2@10.1.0.2\n",
+        err: "",
+        status: 0,
+    },
+    Case {
+        name: "two links to one lan other order",
+        words: "table 1.1.1.1",
+        input: "000002010101010101010101800000013aa2003c00000003020202020a0000010100000a0a000000fffffffc0300000a0a0100020a0100010200000a\n000002010202020202020202800000014634005400000005010101010a0000020100000a0a000000fffffffc0300000a0a0100020a0100070200000a0a0100020a0100020200000a0a090000ffff000003000001\n000002020a010002020202028000000129100020ffffff000101010102020202\n",
+        out: "10.0.0.0/30 10 attached\n10.1.0.0/24 10 attached\n10.9.0.0/16 11 10.0.0.1>2.2.2.2,10.1.0.1>2.2.2.2@10.1.0.7\n",
+        err: "",
+        status: 0,
+    },
+    Case {
+        name: "two routers",
+        words: "table 1.1.1.1 192.168.2.9 10.9.9.9",
+        input: "00000201010101010101010180000001e22c003000000002020202020a0000010100000a0a000000fffffffc0300000a\n0000020102020202020202028000000197f1003c00000003010101010a0000020100000a0a000000fffffffc0300000ac0a80200ffffff0003000005\n",
+        out: "10.0.0.0/30 10 attached\n192.168.2.0/24 15 10.0.0.1>2.2.2.2\nlookup 192.168.2.9 192.168.2.0/24 15 10.0.0.1>2.2.2.2\nlookup 10.9.9.9 none\n",
+        err: "",
+        status: 0,
+    },
+    Case {
+        name: "zero metric stub",
+        words: "table 1.1.1.1",
+        input: "00000201010101010101010180000001b563003000000002020202020a0000010100000a0a000000fffffffc03000000\n",
+        out: "10.0.0.0/30 0 attached\n",
+        err: "",
+        status: 0,
+    },
+];
+
+// Words or input that are refused.
+static REFUSED: [Case; 18] = [
+    Case {
+        name: "bad address",
+        words: "table 1.1.1.1 10.0.0.256 x",
+        input: "00000201010101010101010180000001e22c003000000002020202020a0000010100000a0a000000fffffffc0300000a\n",
+        out: "",
+        err: "10.0.0.256: not an address\n",
+        status: 2,
+    },
+    Case {
+        name: "bad root",
+        words: "table 1.1",
+        input: "",
+        out: "",
+        err: "1.1: not an address\n",
+        status: 2,
+    },
+    Case {
+        name: "cut short",
+        words: "table 1.1.1.1",
+        input: "00000201010101010101010180000001e22c003000000002020202020a0000010100000a0a000000fffffffc030000\n",
+        out: "",
+        err: "line 1: L1 Short\n",
+        status: 3,
+    },
+    Case {
+        name: "not hex carriage return twice",
+        words: "table 1.1.1.1",
+        input: "\n00000201010101010101010180000001e22c003000000002020202020a0000010100000a0a000000fffffffc0300000a\r\r\n",
+        out: "",
+        err: "line 2: not hex\n",
+        status: 3,
+    },
+    Case {
+        name: "not hex leading space",
+        words: "table 1.1.1.1",
+        input: "\n 00000201010101010101010180000001e22c003000000002020202020a0000010100000a0a000000fffffffc0300000a\n",
+        out: "",
+        err: "line 2: not hex\n",
+        status: 3,
+    },
+    Case {
+        name: "not hex no digits",
+        words: "table 1.1.1.1",
+        input: "\nzz\n",
+        out: "",
+        err: "line 2: not hex\n",
+        status: 3,
+    },
+    Case {
+        name: "not hex odd digits",
+        words: "table 1.1.1.1",
+        input: "\n0\n",
+        out: "",
+        err: "line 2: not hex\n",
+        status: 3,
+    },
+    Case {
+        name: "not hex tab",
+        words: "table 1.1.1.1",
+        input: "\n\t\n",
+        out: "",
+        err: "line 2: not hex\n",
+        status: 3,
+    },
+    Case {
+        name: "one key twice",
+        words: "table 1.1.1.1",
+        input: "00000201010101010101010180000001e22c003000000002020202020a0000010100000a0a000000fffffffc0300000a\n00000201010101010101010180000001e22c003000000002020202020a0000010100000a0a000000fffffffc0300000a\n",
+        out: "",
+        err: "line 2: K1 Twice\n",
+        status: 3,
+    },
+    Case {
+        name: "too long",
+        words: "table 1.1.1.1",
+        input: "00000201010101010101010180000001e22c003000000002020202020a0000010100000a0a000000fffffffc0300000a00\n",
+        out: "",
+        err: "line 1: L2 Length\n",
+        status: 3,
+    },
+    Case {
+        name: "wrong sum",
+        words: "table 1.1.1.1",
+        input: "00000201010101010101010180000001e22c003000000002020202020a0000010100000a0a000000fffffffc0300000b\n",
+        out: "",
+        err: "line 1: L3 Sum\n",
+        status: 3,
+    },
+    Case {
+        name: "zero metric refused",
+        words: "table 1.1.1.1",
+        input: "000002010101010101010101800000012eea003000000002020202020a000001010000000a000000fffffffc0300000a\n",
+        out: "",
+        err: "line 1: L7 ZeroMetric\n",
+        status: 3,
+    },
+    Case {
+        name: "zero sum",
+        words: "table 1.1.1.1",
+        input: "000002010101010101010101800000010000003000000002020202020a0000010100000a0a000000fffffffc0300000a\n",
+        out: "",
+        err: "line 1: L3 Sum\n",
+        status: 3,
+    },
+    Case {
+        name: "a line feed",
+        words: "table 1.1.1.1",
+        input: "00000201010101010101010180000001e22c003000000002020202020a0000010100000a0a000000fffffffc0300000a\n00000201010101010101010180000001e22c003000000002020202020a0000010100000a0a000000fffffffc0300000a\n",
+        out: "",
+        err: "line 2: K1 Twice\n",
+        status: 3,
+    },
+    Case {
+        name: "a carriage return and a line feed",
+        words: "table 1.1.1.1",
+        input: "00000201010101010101010180000001e22c003000000002020202020a0000010100000a0a000000fffffffc0300000a\r\n00000201010101010101010180000001e22c003000000002020202020a0000010100000a0a000000fffffffc0300000a\r\n",
+        out: "",
+        err: "line 2: K1 Twice\n",
+        status: 3,
+    },
+    Case {
+        name: "no end",
+        words: "table 1.1.1.1",
+        input: "00000201010101010101010180000001e22c003000000002020202020a0000010100000a0a000000fffffffc0300000a\n00000201010101010101010180000001e22c003000000002020202020a0000010100000a0a000000fffffffc0300000a",
+        out: "",
+        err: "line 2: K1 Twice\n",
+        status: 3,
+    },
+    Case {
+        name: "a carriage return and no line feed",
+        words: "table 1.1.1.1",
+        input: "00000201010101010101010180000001e22c003000000002020202020a0000010100000a0a000000fffffffc0300000a\n00000201010101010101010180000001e22c003000000002020202020a0000010100000a0a000000fffffffc0300000a\r",
+        out: "",
+        err: "line 2: not hex\n",
+        status: 3,
+    },
+    Case {
+        name: "a line feed first",
+        words: "table 1.1.1.1",
+        input: "\n\r\n  \n00000201010101010101010180000001e22c003000000002020202020a0000010100000a0a000000fffffffc0300000a\n00000201010101010101010180000001e22c003000000002020202020a0000010100000a0a000000fffffffc0300000a",
+        out: "",
+        err: "line 5: K1 Twice\n",
+        status: 3,
+    },
+];
+
+// What was written, and the exit status.
+#[derive(Drop)]
+struct Outcome {
+    out: Vec<u8>,
+    err: Vec<u8>,
+    status: u8,
+}
+
+fn outcome_of(alloc: Global, words: &str, input: &[u8]) -> Result<Outcome, AllocError> {
+    let words: Vec<&str> = words.split_whitespace().collect(alloc)?;
+    let mut out = Vec::new(alloc);
+    let mut err = Vec::new(alloc);
+    let status = match job(alloc, &words) {
+        Ok(Job::Table(table)) => table_text(alloc, &table, input, &mut out, &mut err),
+        Err(fault) => fault.tell(&mut out, &mut err),
+    };
+    Ok(Outcome {
+        out,
+        err,
+        status: status.code(),
+    })
+}
+
+#[test]
+fn prints_tables(rt: HostRuntime) -> Result<(), Fail> {
+    for case in &TABLES {
+        let name = case.name;
+        let outcome = outcome_of(rt.alloc(), case.words, case.input.as_bytes())?;
+        assert_eq!(rt; outcome.status, case.status, "{name}");
+        assert!(rt; outcome.err.is_empty(), "{name}");
+        assert_eq!(rt; outcome.out.as_slice(), case.out.as_bytes(), "{name}");
+    }
+    Ok(())
+}
+
+#[test]
+fn refuses(rt: HostRuntime) -> Result<(), Fail> {
+    for case in &REFUSED {
+        let name = case.name;
+        let outcome = outcome_of(rt.alloc(), case.words, case.input.as_bytes())?;
+        assert_eq!(rt; outcome.status, case.status, "{name}");
+        assert_eq!(rt; outcome.err.as_slice(), case.err.as_bytes(), "{name}");
+        assert!(rt; outcome.out.is_empty(), "{name}");
+    }
+    Ok(())
+}
+
+// Words, the exit status, and how standard output and standard error begin.
+static WORDS: [(&str, u8, &str, &str); 9] = [
+    ("--help", 0, "OSPF version 2 for one area\n", ""),
+    ("help", 0, "OSPF version 2 for one area\n", ""),
+    ("table --help", 0, "Computes a routing table", ""),
+    ("--version", 0, "ospfd 0.1.0\n", ""),
+    ("", 2, "", "error: "),
+    ("table", 2, "", "error: "),
+    ("tables 1.1.1.1", 2, "", "error: unrecognized subcommand"),
+    ("table 1.1.1.1 --all", 2, "", "error: unexpected argument"),
+    (
+        "table 1.1.1.1 10.0.0.01 x",
+        2,
+        "",
+        "10.0.0.01: not an address\n",
+    ),
+];
+
+#[test]
+fn tells_of_words(rt: HostRuntime) -> Result<(), Fail> {
+    for (words, status, out, err) in &WORDS {
+        let outcome = outcome_of(rt.alloc(), words, b"")?;
+        assert_eq!(rt; outcome.status, *status, "{words}");
+        assert!(rt; outcome.out.starts_with(out.as_bytes()), "{words}");
+        assert!(rt; outcome.err.starts_with(err.as_bytes()), "{words}");
+        assert_eq!(rt; outcome.out.is_empty(), out.is_empty(), "{words}");
+        assert_eq!(rt; outcome.err.is_empty(), err.is_empty(), "{words}");
+    }
+    Ok(())
+}
+
+#[test]
+fn takes_any_bytes(rt: HostRuntime) -> Result<(), Fail> {
+    let alloc = rt.alloc();
+    let no_text = outcome_of(alloc, "table 1.1.1.1", b"\n\xff\xfe\n")?;
+    assert_eq!(rt; no_text.status, 3);
+    assert_eq!(rt; no_text.err.as_slice(), b"line 2: not hex\n".as_slice());
+    let zeros = vec![in alloc; b'0'; 1 << 20]?;
+    let long = outcome_of(alloc, "table 1.1.1.1", &zeros)?;
+    assert_eq!(rt; long.status, 3);
+    assert_eq!(rt; long.err.as_slice(), b"line 1: L2 Length\n".as_slice());
+    assert!(rt; long.out.is_empty());
+    Ok(())
+}
+
+// A reader that fails.
+#[derive(Drop)]
+struct Broken;
+
+impl Read for Broken {
+    fn read(&mut self, _buf: &mut [u8]) -> io::Result<usize> {
+        Err(io::Error::from(ErrorKind::BrokenPipe))
+    }
+}
+
+// A writer that takes so many writes, or flushes, before it fails.
+#[derive(Drop)]
+struct Failing {
+    left: usize,
+}
+
+impl Failing {
+    fn step(&mut self) -> io::Result<()> {
+        if self.left == 0 {
+            return Err(io::Error::from(ErrorKind::BrokenPipe));
+        }
+        self.left -= 1;
+        Ok(())
+    }
+}
+
+impl Write for Failing {
+    fn write(&mut self, buf: &[u8]) -> io::Result<usize> {
+        self.step()?;
+        Ok(buf.len())
+    }
+
+    fn flush(&mut self) -> io::Result<()> {
+        self.step()
+    }
+}
+
+// The status where both writers take so many writes.
+fn status_after(alloc: Global, left: usize, words: &str, input: &[u8]) -> Result<u8, AllocError> {
+    let words: Vec<&str> = words.split_whitespace().collect(alloc)?;
+    let mut out = Failing { left };
+    let mut err = Failing { left };
+    let status = match job(alloc, &words) {
+        Ok(Job::Table(table)) => table_text(alloc, &table, input, &mut out, &mut err),
+        Err(fault) => fault.tell(&mut out, &mut err),
+    };
+    Ok(status.code())
+}
+
+#[test]
+fn tells_of_failed_reads(rt: HostRuntime) -> Result<(), Fail> {
+    let alloc = rt.alloc();
+    let words = ["table", "1.1.1.1", "10.0.0.1"];
+    for text in ["", "\n", "  \n ", "\n\n0"] {
+        let Ok(Job::Table(table)) = job(alloc, &words) else {
+            return Err(Fail::from("words"));
+        };
+        let input = BufReader::new(alloc, text.as_bytes().chain(Broken))?;
+        let mut out = Vec::new(alloc);
+        let mut err = Vec::new(alloc);
+        let status = table_text(alloc, &table, input, &mut out, &mut err);
+        assert_eq!(rt; status.code(), 5, "{text:?}");
+        assert!(rt; out.is_empty() && err.is_empty(), "{text:?}");
+    }
+    Ok(())
+}
+
+#[test]
+fn tells_of_failed_writes(rt: HostRuntime) -> Result<(), Fail> {
+    for (words, input, whole) in [
+        ("table 1.1.1.1 10.0.0.1 10.0.0.2", b"".as_slice(), 0),
+        ("table 1.1.1.1", b"zz".as_slice(), 3),
+        ("--version", b"".as_slice(), 0),
+        ("table x", b"".as_slice(), 2),
+    ] {
+        let mut needed = 100;
+        for left in 0..100 {
+            let status = status_after(rt.alloc(), left, words, input)?;
+            if status == whole {
+                needed = left;
+                break;
+            }
+            assert_eq!(rt; status, 5, "{words} {left}");
+        }
+        assert!(rt; 1 < needed && needed < 100, "{words} {needed}");
+    }
+    Ok(())
+}

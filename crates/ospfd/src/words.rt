@@ -1,0 +1,84 @@
+//! The words of the command line.
+
+ghost use Rattle.std.specs.Prelude.{Ok, IfOk, IfErr};
+ghost use Rattle.ospfd.specs.Job.{IsFaultOf};
+
+use crate::jobs::{Job, JobFault, TableJob};
+use clap::error::ErrorKind;
+use clap::{Arg, ArgAction, Command};
+use ospf_base::Addr;
+use std::alloc::{AllocError, Global};
+use std::str::FromStr;
+
+// The words that the program knows.
+fn command<'a>(alloc: Global) -> Result<Command<'a>, AllocError> {
+    let root = Arg::new(alloc, "root")
+        .value_name("ROOT")
+        .help("The Router ID of the router whose table is computed")
+        .required(true);
+    let addresses = Arg::new(alloc, "addresses")
+        .value_name("ADDRESS")
+        .help("Addresses to look up in the table")
+        .num_args(0..)
+        .action(ArgAction::Append);
+    let table = Command::new(alloc, "table")
+        .about("Computes a routing table from LSAs in hexadecimal, one a line, on standard input")
+        .arg(root)?
+        .arg(addresses)?;
+    Command::new(alloc, "ospfd")
+        .bin_name("ospfd")?
+        .version("0.1.0")
+        .about("OSPF version 2 for one area")
+        .no_binary_name(true)
+        .subcommand_required(true)
+        .subcommand(table)
+}
+
+// The value that a word spells.
+fn parsed<T: FromStr>(alloc: Global, word: &str) -> Result<T, JobFault>
+where
+    T::Err: Drop,
+    ensures value { IfOk result (λ value. T.from_str_gives word.now (Ok value)) }
+    ensures fault { IfErr result (IsFaultOf word.now) }
+{
+    match word.parse::<T>() {
+        Ok(value) => Ok(value),
+        Err(_) => Err(JobFault::Address(String::from_str(alloc, word)?)),
+    }
+}
+
+// The addresses that words spell.
+fn parsed_addresses(alloc: Global, words: &[&str]) -> Result<Vec<Addr>, JobFault> {
+    let mut addresses = Vec::with_capacity(alloc, words.len())?;
+    for word in words {
+        addresses
+            .push(parsed(alloc, word)?)
+            .map_err(AllocError::from)?;
+    }
+    Ok(addresses)
+}
+
+// The job of the matches of the command `table`, which has a root.
+fn table_job(alloc: Global, root: &str, addresses: &[&str]) -> Result<TableJob, JobFault> {
+    Ok(TableJob {
+        root: parsed(alloc, root)?,
+        addresses: parsed_addresses(alloc, addresses)?,
+    })
+}
+
+/// Reads the program's words, without its own name.
+///
+/// The error is `Words` where they fit no command, or ask for help or the version, `Address` with the
+/// first word that is to be an address and is none, and `Memory` where memory ran out.
+pub fn job(alloc: Global, words: &[&str]) -> Result<Job, JobFault> {
+    let mut command = command(alloc)?;
+    let matches = command.try_get_matches_from_mut(words)?;
+    if let Some(("table", values)) = matches.subcommand() {
+        if let Some(root) = values.get_str("root") {
+            let addresses = values.get_strs("addresses").unwrap_or(&[]);
+            return Ok(Job::Table(table_job(alloc, root, addresses)?));
+        }
+    }
+    let error = command.error(ErrorKind::MissingSubcommand, "a command is needed")?;
+    Err(JobFault::from(error))
+}
