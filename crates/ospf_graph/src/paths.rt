@@ -44,6 +44,7 @@ pub fn is_same(a: Vertex, b: Vertex) -> bool
     }
 }
 
+// Whether the first candidate is taken before the second: it is nearer, or as near and a network.
 fn comes_before(a: &Candidate, b: &Candidate) -> bool
     ensures { IsTrue result ↔ (candidate_rank a.now < candidate_rank b.now) }
 {
@@ -129,6 +130,7 @@ fn extended(start: Start, to: Vertex, link_data: u32) -> Start
     }
 }
 
+// Whether a vertex has a start.
 fn has_start(starts: &[VertexStart], begun: VertexStart) -> bool
     ensures { IsTrue result ↔ Contains starts.now begun }
 {

@@ -240,8 +240,7 @@ pub(crate) fn table_of(
     requires fit { IsFit edges.now }
     ensures { IfOk result (λ routes. (adverts : List Advertisement) → IsListed adverts root → IsEdgesOf adverts edges.now → IsEndsOf adverts ends.now → IsTable adverts root routes.items) }
 {
-    let id = root.0;
-    let paths = shortest_paths(alloc, edges, Vertex::Router(RouterId(id)))?;
+    let paths = shortest_paths(alloc, edges, Vertex::Router(root))?;
     let reaches = reaches_of(alloc, ends, &paths.settled)?;
     let routes = routes_of(alloc, &reaches, &paths.starts)?;
     Ok(routes)
