@@ -1,2 +1,3 @@
 pub mod HexText
 pub mod Lines
+pub mod WordLemmas

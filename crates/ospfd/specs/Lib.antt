@@ -2,3 +2,4 @@ pub mod Status
 pub mod Line
 pub mod Fault
 pub mod Job
+pub mod Words

@@ -1,7 +1,10 @@
 //! The words of the command line.
 
-ghost use Rattle.std.specs.Prelude.{Ok, IfOk, IfErr};
+ghost use Rattle.std.specs.Prelude.{◌≡◌, map, Ok, IfOk, IfErr};
+ghost use Rattle.ospf_base.specs.Text.{ReadsRouterId};
+ghost use Rattle.clap.specs.Words.{app_of};
 ghost use Rattle.ospfd.specs.Job.{IsFaultOf};
+ghost use Rattle.ospfd.specs.Words.{IsAsked, Spell, command_app};
 
 use crate::jobs::{Job, JobFault, TableJob};
 use clap::error::ErrorKind;
@@ -11,7 +14,9 @@ use std::alloc::{AllocError, Global};
 use std::str::FromStr;
 
 // The words that the program knows.
-fn command<'a>(alloc: Global) -> Result<Command<'a>, AllocError> {
+fn command<'a>(alloc: Global) -> Result<Command<'a>, AllocError>
+    ensures { IfOk result (λ c. app_of c ≡ command_app) }
+{
     let root = Arg::new(alloc, "root")
         .value_name("ROOT")
         .help("The Router ID of the router whose table is computed")
@@ -48,7 +53,9 @@ where
 }
 
 // The addresses that words spell.
-fn parsed_addresses(alloc: Global, words: &[&str]) -> Result<Vec<Addr>, JobFault> {
+fn parsed_addresses(alloc: Global, words: &[&str]) -> Result<Vec<Addr>, JobFault>
+    ensures { IfOk result (λ addresses. Spell (map (λ w. w.now) words.now) addresses.items) }
+{
     let mut addresses = Vec::with_capacity(alloc, words.len())?;
     for word in words {
         addresses
@@ -59,7 +66,10 @@ fn parsed_addresses(alloc: Global, words: &[&str]) -> Result<Vec<Addr>, JobFault
 }
 
 // The job of the matches of the command `table`, which has a root.
-fn table_job(alloc: Global, root: &str, addresses: &[&str]) -> Result<TableJob, JobFault> {
+fn table_job(alloc: Global, root: &str, addresses: &[&str]) -> Result<TableJob, JobFault>
+    ensures root { IfOk result (λ t. ReadsRouterId root.now (Ok t.root)) }
+    ensures addresses { IfOk result (λ t. Spell (map (λ w. w.now) addresses.now) t.addresses.items) }
+{
     Ok(TableJob {
         root: parsed(alloc, root)?,
         addresses: parsed_addresses(alloc, addresses)?,
@@ -70,7 +80,9 @@ fn table_job(alloc: Global, root: &str, addresses: &[&str]) -> Result<TableJob, 
 ///
 /// The error is `Words` where they fit no command, or ask for help or the version, `Address` with the
 /// first word that is to be an address and is none, and `Memory` where memory ran out.
-pub fn job(alloc: Global, words: &[&str]) -> Result<Job, JobFault> {
+pub fn job(alloc: Global, words: &[&str]) -> Result<Job, JobFault>
+    ensures ok { IfOk result (IsAsked (map (λ w. w.now) words.now)) }
+{
     let mut command = command(alloc)?;
     let matches = command.try_get_matches_from_mut(words)?;
     if let Some(("table", values)) = matches.subcommand() {

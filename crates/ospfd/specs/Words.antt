@@ -1,0 +1,53 @@
+-- What the program's words ask for, as `clap` reads them.
+use Rattle.std.specs.Prelude.{◌≡◌, true, List, [], ◌∷◌, Some, Ok, ⊤, codes, unwrap_or}
+use Rattle.ospf_base.specs.Text.{ReadsAddress, ReadsRouterId}
+use Rattle.ospf_base.specs.declared.ids.Addr.{Addr}
+use Rattle.clap.specs.Lexer.{usize_max}
+use Rattle.clap.specs.Words.{App, Row, Rule, Text, all_of, first_of, new_app, new_rule, subcommand_of, with_rule, with_subcommand}
+use Rattle.clap.specs.declared.builder.action.ArgAction.TheVariants.{Append}
+use Rattle.ospfd.specs.declared.jobs.Job.{Job}
+use Rattle.ospfd.specs.declared.jobs.Job.TheVariants as job
+use Rattle.ospfd.specs.declared.jobs.TableJob.{TableJob}
+
+-- one word has to be there
+abbrev pub root_rule : Rule
+root_rule = record (new_rule (codes "root")) { required = true; value_names = 1 }
+
+-- any number of words
+abbrev pub addresses_rule : Rule
+addresses_rule = record (new_rule (codes "addresses")) {
+  action = Some Append;
+  range = Some (record { start_inclusive = 0; end_inclusive = usize_max });
+  value_names = 1;
+}
+
+-- the command `table`: a root, then addresses
+abbrev pub table_app : App
+table_app = with_rule (with_rule (new_app (codes "table")) root_rule) addresses_rule
+
+-- the program, before its commands
+abbrev pub ospfd_app : App
+ospfd_app = record (new_app (codes "ospfd")) {
+  top = record (new_app (codes "ospfd")).top { no_binary_name = true; has_version = true; subcommand_required = true };
+}
+
+-- the program and its commands
+abbrev pub command_app : App
+command_app = with_subcommand ospfd_app table_app.top
+
+-- each text spells the address at its place
+abbrev pub Spell : List Text → List Addr → Type 0
+Spell [] [] = ⊤
+Spell (text ∷ texts) (address ∷ addresses) = ReadsAddress text (Ok address) × Spell texts addresses
+Spell _ _ = ⊥
+
+-- the root and the addresses that `clap` reads after `table`
+pub record IsTableJob (rows : List Row) (t : TableJob) : Type 0 where
+  pub text : Text
+  pub has_root : first_of (codes "root") rows ≡ Some text
+  pub root : ReadsRouterId text (Ok t.root)
+  pub addresses : Spell (unwrap_or (all_of (codes "addresses") rows) []) t.addresses.items
+
+-- the job is what `clap` reads in the words
+abbrev pub IsAsked : List Text → Job → Type 0
+IsAsked words (job.Table t) = (rows : List Row) × (subcommand_of command_app words ≡ Some (codes "table", rows)) × IsTableJob rows t
