@@ -7,3 +7,4 @@ pub mod SameGraph
 pub mod Tree
 pub mod Search
 pub mod Places
+pub mod Text
