@@ -19,7 +19,7 @@ abbrev pub ReadsRouterId : List ℕ → Result RouterId AddrParseError → Type 
 ReadsRouterId = Parses (λ text r. IsDottedNumber text r.0)
 
 -- a number as an address is written: its four bytes as decimal numbers, with dots between them
-abbrev pub number_text : ℕ → List ℕ
+unfoldable pub number_text : ℕ → List ℕ
 number_text n = ipv4_text (to_be_bytes w32 n)
 
 -- an address, a slash and the length

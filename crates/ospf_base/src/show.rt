@@ -8,6 +8,7 @@ use crate::prefix::Prefix;
 use std::fmt::{self, Display, Formatter, Write};
 
 // Four numbers with dots between them.
+#[tactic(auto, unfolding(crate::specs::Text::number_text))]
 fn write_dotted<W: Write>(f: &mut Formatter<W>, number: u32) -> fmt::Result
     ensures { WritesOnOk W.Write.write_str_gives f.old result (number_text number) f.new }
 {

@@ -1,3 +1,4 @@
 pub mod HexText
 pub mod Lines
 pub mod WordLemmas
+pub mod Written

@@ -3,3 +3,4 @@ pub mod Line
 pub mod Fault
 pub mod Job
 pub mod Words
+pub mod Output

@@ -1,17 +1,21 @@
 //! Routing tables of the LSAs of a text.
 
-ghost use Rattle.std.specs.Prelude.{◌≡◌, ◌≢◌, ◌⊎◌, ℕ, [], Err, IfOk, IfErr, IfSome, OnOk, OnErr};
+ghost use Rattle.std.specs.Prelude.{◌≡◌, ◌≢◌, ◌⊎◌, ℕ, List, [], Err, IfOk, IfErr, IfSome, OnOk, OnErr};
+ghost use Rattle.std.specs.Io.KnownBytes.{Appends};
 ghost use Rattle.ospfd.specs.Fault.{IsMemoryFault, IsRefusal};
 ghost use Rattle.ospfd.specs.declared.table.EntryFault.{EntryFault};
-ghost use Rattle.ospfd.specs.Line.{IsTaken, HasFault, Reads, Refuses, IsRefused, IsWhole};
+ghost use Rattle.ospfd.specs.Output.{AreLookups, IsAnswer, IsLookupLine, routes_text};
+ghost use Rattle.ospfd.specs.Line.{IsTaken, HasFault, Reads, Refuses, IsRefused};
 
 use crate::jobs::TableJob;
 use crate::line::{LineFault, is_blank, lsa_of_line, without_end};
 use crate::status::Status;
 use ospf_base::{Addr, MAX_AGE};
+use ospf_graph::{NextHop, Route};
 use ospf_lsa::{Listing, ListingFault, LsaFault};
 use ospf_spf::RouteTable;
 use std::alloc::{AllocError, Global};
+use std::fmt::{self, Display, Formatter};
 use std::io::{self, BufRead, Write};
 use thiserror::Error;
 
@@ -127,22 +131,63 @@ fn read_listing<R: BufRead + Drop>(alloc: Global, mut input: R) -> Result<Listin
     Err(TableFault::from(io::Error::from(io::ErrorKind::FileTooLarge)))
 }
 
+// An address with the route that it takes, and one of its hops.
+#[derive(Clone, Copy)]
+struct Taken<'a> {
+    address: Addr,
+    route: &'a Route,
+    hop: NextHop,
+}
+
+impl Display for Taken<'_> {
+    ghost use Rattle.std.specs.Prelude.{Some};
+    ghost use Rattle.ospfd.specs.Output.{best_text};
+
+    ghost output = { λ t. Some (best_text t.address.0 t.route.now t.hop) };
+
+    fn fmt<W: fmt::Write>(&self, f: &mut Formatter<W>) -> fmt::Result {
+        let Route { prefix, cost, .. } = self.route;
+        write!(f, "lookup {} {prefix} {cost} {}", self.address, self.hop)
+    }
+}
+
 // Writes where a table sends what is on its way to an address.
-fn write_lookup<O: Write>(out: &mut O, table: &RouteTable, address: Addr) -> io::Result<()> {
+fn write_lookup<O: Write>(out: &mut O, table: &RouteTable, address: Addr) -> io::Result<()>
+    ensures { OnOk result ((line : List ℕ) × IsLookupLine table.now address.0 line × Appends (O.contents out.old) (O.contents out.new) line) }
+{
     let Some(route) = table.lookup(address) else {
         return writeln!(out, "lookup {address} none");
     };
-    let (prefix, cost) = (route.prefix, route.cost);
-    match route.hops.as_slice().first() {
-        Some(hop) => writeln!(out, "lookup {address} {prefix} {cost} {hop}"),
-        None => writeln!(out, "lookup {address} none"),
+    match route.hops.as_slice() {
+        [hop, ..] => {
+            let hop = *hop;
+            let taken = Taken {
+                address,
+                route,
+                hop,
+            };
+            writeln!(out, "{taken}")
+        }
+        [] => unreachable!(),
     }
 }
 
 // Writes the routes of a table.
-fn write_routes<O: Write>(out: &mut O, table: &RouteTable) -> io::Result<()> {
-    for route in table.routes() {
+fn write_routes<O: Write>(out: &mut O, routes: &[Route]) -> io::Result<()>
+    ensures { OnOk result (Appends (O.contents out.old) (O.contents out.new) (routes_text routes.now)) }
+{
+    for route in routes {
         writeln!(out, "{route}")?;
+    }
+    Ok(())
+}
+
+// Writes where a table sends what is on its way to each address.
+fn write_lookups<O: Write>(out: &mut O, table: &RouteTable, addresses: &[Addr]) -> io::Result<()>
+    ensures { OnOk result ((lines : List ℕ) × AreLookups table.now addresses.now lines × Appends (O.contents out.old) (O.contents out.new) lines) }
+{
+    for address in addresses {
+        write_lookup(out, table, *address)?;
     }
     Ok(())
 }
@@ -154,16 +199,14 @@ fn answer<R: BufRead + Drop, O: Write>(
     input: R,
     out: &mut O,
 ) -> Result<(), TableFault>
-    ensures whole { OnOk result (IfSome (R.remaining input) IsWhole) }
+    ensures answer { OnOk result (IfSome (R.remaining input) (λ bytes. (text : List ℕ) × IsAnswer bytes job.now.root job.now.addresses.items text × Appends (O.contents out.old) (O.contents out.new) text)) }
     ensures refused { (n : ℕ) (f : EntryFault) → result ≡ Err (TableFault.Entry n f) → IfSome (R.remaining input) IsRefused }
     ensures unwritten { (n : ℕ) (f : EntryFault) → result ≡ Err (TableFault.Entry n f) → O.contents out.new ≡ O.contents out.old }
 {
     let listing = read_listing(alloc, input)?;
     let table = RouteTable::of(alloc, &listing, job.root)?;
-    write_routes(out, &table)?;
-    for address in &job.addresses {
-        write_lookup(out, &table, *address)?;
-    }
+    write_routes(out, table.routes())?;
+    write_lookups(out, &table, &job.addresses)?;
     out.flush()?;
     Ok(())
 }
@@ -182,7 +225,7 @@ pub fn table_text<R: BufRead + Drop, O: Write, E: Write>(
     out: &mut O,
     err: &mut E,
 ) -> Status
-    ensures done { result ≡ Status.Done → IfSome (R.remaining input) IsWhole }
+    ensures done { result ≡ Status.Done → IfSome (R.remaining input) (λ bytes. (text : List ℕ) × IsAnswer bytes job.now.root job.now.addresses.items text × Appends (O.contents out.old) (O.contents out.new) text) }
     ensures refused { result ≡ Status.Refused → IfSome (R.remaining input) IsRefused }
     ensures unwritten { result ≡ Status.Refused → O.contents out.new ≡ O.contents out.old }
 {

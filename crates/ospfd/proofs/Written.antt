@@ -1,0 +1,96 @@
+-- Texts that are written one after the other.
+use Rattle.std.proofs.Common.{◌≡◌, ◌∙◌, ap, sym, subst, ◌+◌, ◌<◌, ◌≤◌, ℕ, List, [], ◌∷◌, ◌++◌, length, take, get_or, Option, None, Some, append_assoc, append-nil, arith, inr, refl}
+use Rattle.std.proofs.lemmas.List.{take_more, flat_map_more}
+use Rattle.std.specs.Io.KnownBytes.{Appends, Keeps}
+use Rattle.ospf_base.specs.declared.ids.Addr.{Addr}
+use Rattle.ospf_base.specs.declared.ids.RouterId.{RouterId}
+use Rattle.ospf_graph.specs.Routes.{IsTable}
+use Rattle.ospf_graph.specs.Walk.{IsBest}
+use Rattle.ospf_graph.specs.declared.hop.NextHop.{NextHop}
+use Rattle.ospf_graph.specs.declared.route.Route.{Route}
+use Rattle.ospf_spf.specs.Listed.{advertisements_of}
+use Rattle.ospfd.specs.Line.{Reads}
+use Rattle.ospfd.specs.Output.{route_line, routes_text, best_text, IsLookupLine, AreLookups, IsOutput, IsAnswer, no_more, one_more}
+
+pub nothing_written : (o : Option (List ℕ)) → Appends o o []
+nothing_written None = tt
+nothing_written (Some xs) = sym (append-nil xs)
+
+pub both_written : (a b c : Option (List ℕ)) (xs ys : List ℕ) → Appends a b xs → Appends b c ys → Appends a c (xs ++ ys)
+both_written None b c xs ys h k = tt
+both_written (Some p) None c xs ys h k = absurd h
+both_written (Some p) (Some q) None xs ys h k = absurd k
+both_written (Some p) (Some q) (Some r) xs ys h k = k ∙ ap (λ l. l ++ ys) h ∙ append_assoc p xs ys
+
+-- the line of one route more
+pub route_written : (a b c : Option (List ℕ)) (routes : List Route) (i : ℕ) (r : Route) → i < length routes → r ≡ get_or routes i r
+    → Appends a b (routes_text (take i routes)) → Appends b c (route_line r) → Appends a c (routes_text (take (i + 1) routes))
+route_written a b c routes i r within is h k =
+    let more = flat_map_more route_line [] (take i routes) (get_or routes i r) ∙ ap routes_text (sym (take_more routes i r within)) in
+    subst (Appends a c) more (both_written a b c _ _ h (subst (λ q. Appends b c (route_line q)) is k))
+
+-- a list of some length has a first item
+first_of_some : (hops : List NextHop) (d : NextHop) → 1 ≤ length hops → (others : List NextHop) × (hops ≡ get_or hops 0 d ∷ others)
+first_of_some [] d some = absurd (omega (arith, some))
+first_of_some (first ∷ others) d some = (others, refl)
+
+-- the line of a route's first hop
+pub best_written : (a b : Option (List ℕ)) (table : List Route) (address : ℕ) (route : Route) (hops : List NextHop) (d : NextHop)
+    → IsBest table address route → hops ≡ route.hops → 1 ≤ length hops
+    → Appends a b (best_text address route (get_or hops 0 d) ++ 10 ∷ []) → (line : List ℕ) × IsLookupLine table address line × Appends a b line
+best_written a b table address route hops d best same some h =
+    let first = first_of_some hops d some in
+    let hop = get_or hops 0 d in
+    (
+      best_text address route hop ++ 10 ∷ [],
+      inr (record { route = route; best = best; hop = hop; others = first.0; hops = sym same ∙ first.1; line_is = refl }),
+      h,
+    )
+
+-- the line of one address more
+more_lookups : (table : List Route) (addresses : List Addr) (lines : List ℕ) (address : Addr) (line : List ℕ) → AreLookups table addresses lines
+    → IsLookupLine table address.0 line → AreLookups table (addresses ++ address ∷ []) (lines ++ line)
+more_lookups table _ _ address line no_more is = subst (AreLookups table (address ∷ [])) (append-nil line) (one_more is no_more)
+more_lookups table _ _ address line (one_more {address = first} {rest = rest} {line = first_line} {lines = lines} first_is are) is =
+    subst (AreLookups table (first ∷ (rest ++ address ∷ []))) (sym (append_assoc first_line lines line))
+    (one_more first_is (more_lookups table rest lines address line are is))
+
+-- the addresses so far are looked up
+pub record HasLookups (a b : Option (List ℕ)) (table : List Route) (addresses : List Addr) : Type 0 where
+  pub lines : List ℕ
+  pub are : AreLookups table addresses lines
+  pub written : Appends a b lines
+
+pub lookup_written : (a b c : Option (List ℕ)) (table : List Route) (addresses : List Addr) (i : ℕ) (d : Addr) → i < length addresses
+    → HasLookups a b table (take i addresses) → ((line : List ℕ) × IsLookupLine table (get_or addresses i d).0 line × Appends b c line)
+    → HasLookups a c table (take (i + 1) addresses)
+lookup_written a b c table addresses i d within so_far next =
+    record {
+      lines = so_far.lines ++ next.0;
+      are = subst (λ front. AreLookups table front (so_far.lines ++ next.0)) (sym (take_more addresses i d within))
+          (more_lookups table (take i addresses) so_far.lines (get_or addresses i d) next.0 so_far.are next.1);
+      written = both_written a b c so_far.lines next.0 so_far.written next.2;
+    }
+
+pub no_lookups : (a : Option (List ℕ)) (table : List Route) → HasLookups a a table []
+no_lookups a table = record { lines = []; are = no_more; written = nothing_written a }
+
+kept_written : (a b c : Option (List ℕ)) (xs : List ℕ) → Appends a b xs → Keeps b c → Appends a c xs
+kept_written None b c xs h k = tt
+kept_written (Some p) None c xs h k = absurd h
+kept_written (Some p) (Some q) None xs h k = absurd k
+kept_written (Some p) (Some q) (Some r) xs h k = k ∙ h
+
+-- the routes, the lookups and a flush
+pub answer_written : (a b c d : Option (List ℕ)) (input : List ℕ) (listing : List (List ℕ)) (root : RouterId) (table routes : List Route)
+    (addresses : List Addr) → Reads input [] listing → IsTable (advertisements_of listing) root table → routes ≡ table
+    → Appends a b (routes_text routes) → ((lines : List ℕ) × AreLookups table addresses lines × Appends b c lines) → Keeps c d
+    → (text : List ℕ) × IsAnswer input root addresses text × Appends a d text
+answer_written a b c d input listing root table routes addresses reads is_table same h lookups flushed =
+    let routes_written : Appends a b (routes_text table) = subst (λ rs. Appends a b (routes_text rs)) same h in
+    let output : IsOutput table addresses (routes_text table ++ lookups.0) = record { lookups = lookups.0; are_lookups = lookups.1; text_is = refl } in
+    (
+      routes_text table ++ lookups.0,
+      record { listing = listing; reads = reads; table = table; is_table = is_table; output = output },
+      kept_written a c d _ (both_written a b c _ _ routes_written lookups.2) flushed,
+    )
