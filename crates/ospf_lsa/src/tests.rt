@@ -5,7 +5,6 @@ use crate::{
 };
 use ospf_base::{Age, Kind, LsaKey, RouterId};
 use std::alloc::Global;
-use std::process::Abort;
 use std::test::Fail;
 
 // The router-LSA of 1.1.1.1: a link to 2.2.2.2 and the stub network 10.0.0.0/30.
@@ -247,11 +246,8 @@ fn compares_at_the_edges(rt: HostRuntime) {
 }
 
 // A network-LSA of 10.0.0.1/24 by a router.
-fn network_by(rt: &impl Abort, alloc: Global, id: u32, router: u32) -> Lsa {
-    Lsa::network(alloc, id, RouterId(router), FIRST_NUMBER, 0xffff_ff00, &[]).expect(
-        rt,
-        "a network-LSA",
-    )
+fn network_by(alloc: Global, id: u32, router: u32) -> Result<Lsa, LsaFault> {
+    Lsa::network(alloc, id, RouterId(router), FIRST_NUMBER, 0xffff_ff00, &[])
 }
 
 #[test]
@@ -259,7 +255,7 @@ fn lists_in_order(rt: HostRuntime) -> Result<(), Fail> {
     let alloc = rt.alloc();
     let mut listing = Listing::new(alloc);
     for (id, router) in [(5, 9), (5, 2), (7, 1), (5, 4)] {
-        listing.add(network_by(&rt, alloc, id, router))?;
+        listing.add(network_by(alloc, id, router)?)?;
     }
     listing.add(Lsa::copy(alloc, &LsaView::read(&SECOND)?)?)?;
     listing.add(Lsa::copy(alloc, &LsaView::read(&FIRST)?)?)?;
