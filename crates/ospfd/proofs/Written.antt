@@ -40,8 +40,7 @@ pub best_written : (a b : Option (List ℕ)) (table : List Route) (address : ℕ
     → Appends a b (best_text address route (get_or hops 0 d) ++ 10 ∷ []) → (line : List ℕ) × IsLookupLine table address line × Appends a b line
 best_written a b table address route hops d best same some h =
     let first = first_of_some hops d some in
-    let hop = get_or hops 0 d in
-    (
+    let hop = get_or hops 0 d in (
       best_text address route hop ++ 10 ∷ [],
       inr (record { route = route; best = best; hop = hop; others = first.0; hops = sym same ∙ first.1; line_is = refl }),
       h,
@@ -88,8 +87,7 @@ pub answer_written : (a b c d : Option (List ℕ)) (input : List ℕ) (listing :
     → (text : List ℕ) × IsAnswer input root addresses text × Appends a d text
 answer_written a b c d input listing root table routes addresses reads is_table same h lookups flushed =
     let routes_written : Appends a b (routes_text table) = subst (λ rs. Appends a b (routes_text rs)) same h in
-    let output : IsOutput table addresses (routes_text table ++ lookups.0) = record { lookups = lookups.0; are_lookups = lookups.1; text_is = refl } in
-    (
+    let output : IsOutput table addresses (routes_text table ++ lookups.0) = record { lookups = lookups.0; are_lookups = lookups.1; text_is = refl } in (
       routes_text table ++ lookups.0,
       record { listing = listing; reads = reads; table = table; is_table = is_table; output = output },
       kept_written a c d _ (both_written a b c _ _ routes_written lookups.2) flushed,
