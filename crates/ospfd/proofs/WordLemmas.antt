@@ -1,9 +1,18 @@
 -- Texts that spell addresses.
-use Rattle.std.proofs.Common.{◌≡◌, ◌+◌, ◌<◌, ◌++◌, ℕ, suc, zero, List, [], ◌∷◌, Ok, Bor, map, take, length, get_or, subst, refl, ap, ap₂, sym, Option, Some, None, option_map, unwrap_or, arith}
+use Rattle.std.proofs.Common.{◌≡◌, ◌∙◌, ◌+◌, ◌<◌, ◌++◌, ℕ, suc, zero, List, [], ◌∷◌, Ok, Err, Result, IsErrAnd, IfErr, Bor, map, take, length, drop, get_or, subst, refl, ap, ap₂, sym, Option, Some, None, option_map, unwrap_or, inl, inr, arith, string_bytes}
 use Rattle.std.proofs.lemmas.Option.{none-some}
-use Rattle.ospf_base.specs.Text.{ReadsAddress}
+use Rattle.std.specs.declared.net.parser.AddrParseError.{AddrParseError}
+use Rattle.clap.specs.Faults.{fault_of}
+use Rattle.clap.specs.Kinds.{HasKind}
+use Rattle.clap.specs.declared.error.Error.{Error}
+use Rattle.ospf_base.specs.Text.{IsDottedNumber, ReadsAddress, ReadsRouterId}
+use Rattle.ospf_base.specs.declared.ids.RouterId.{RouterId}
 use Rattle.ospf_base.specs.declared.ids.Addr.{Addr}
-use Rattle.ospfd.specs.Words.{Spell}
+use Rattle.ospfd.specs.Job.{IsFaultOfNoValue, IsFaultOfValue, IsFaultOfWords}
+use Rattle.ospfd.specs.Unasked.{HasNoTable, IsFirstWrong, IsNoAddress, IsUnasked, IsWrongValue}
+use Rattle.ospfd.specs.Words.{Spell, command_app}
+use Rattle.ospfd.specs.declared.jobs.JobFault.{JobFault}
+use Rattle.ospfd.specs.declared.jobs.JobFault.TheVariants as fault
 
 abbrev pub texts_of : List (Bor (List ℕ)) → List (List ℕ)
 texts_of = map (λ w. w.now)
@@ -32,8 +41,91 @@ pub both_halves : {S X Y : Type 0} (s : Option S) (f : S → X) (g : S → Y) (x
 both_halves (Some b) f g x y first second = ap₂ (λ v w. Some (v, w)) (sym (ap (λ o. unwrap_or o x) first)) (sym (ap (λ o. unwrap_or o y) second))
 both_halves None f g x y first second = absurd (none-some x (sym first))
 
+-- the first half of what there is
+pub first_half : {S X Y : Type 0} (s : Option S) (f : S → X) (g : S → Y) (x : X) (y : Y) → option_map {U = X × Y} (λ b. (f b, g b)) s ≡ Some (x, y)
+    → option_map f s ≡ Some x
+first_half {X = X} {Y = Y} (Some b) f g x y e = ap (option_map (λ (p : X × Y). p.0)) e
+first_half {X = X} {Y = Y} None f g x y e = ap (option_map (λ (p : X × Y). p.0)) e
+
+-- the second half is one
+pub second_half : {X Y : Type 0} (o : Option (X × Y)) (x : X) (y z : Y) → o ≡ Some (x, y) → option_map (λ (p : X × Y). p.1) o ≡ Some z → y ≡ z
+second_half {X} {Y} o x y z e h = ap (λ q. unwrap_or q z) (ap (option_map (λ (p : X × Y). p.1)) (sym e) ∙ h)
+
 -- the texts of the words, or none where there are no words
 pub texts_or_none : (words : Option (Bor (List (Bor (List ℕ))))) (none : Bor (List (Bor (List ℕ)))) → none.now ≡ []
     → texts_of (unwrap_or words none).now ≡ unwrap_or (option_map (λ w. texts_of w.now) words) []
 texts_or_none (Some words) none is_empty = refl
 texts_or_none None none is_empty = ap texts_of is_empty
+
+-- ---- words that ask for no job
+
+-- an error that is handed on, or turned into another
+pub err_kept : {T E : Type 0} (r : Result T E) (R Q : E → Type 0) → IsErrAnd r R → ((e : E) → R e → Q e) → IfErr r Q
+err_kept (Ok x) R Q is k = tt
+err_kept (Err e) R Q is k = k e is
+
+pub value_weaker : (P Q : List ℕ → Type 0) (f : JobFault) → ((w : List ℕ) → P w → Q w) → IsFaultOfValue P f → IsFaultOfValue Q f
+value_weaker P Q (fault.Words e) k h = absurd h
+value_weaker P Q (fault.Address w) k h = k (string_bytes w) h
+value_weaker P Q fault.Memory k h = tt
+
+pub value_unasked : (words : List (List ℕ)) (P : List ℕ → Type 0) (f : JobFault) → ((w : List ℕ) → P w → IsWrongValue words w)
+    → IsFaultOfValue P f → IsUnasked words f
+value_unasked words P (fault.Words e) k h = absurd h
+value_unasked words P (fault.Address w) k h = k (string_bytes w) h
+value_unasked words P fault.Memory k h = tt
+
+-- the texts before a place, the one there and those after it
+split_at : (words : List (Bor (List ℕ))) (i : ℕ) (d : Bor (List ℕ)) → i < length words
+    → texts_of words ≡ texts_of (take i words) ++ (get_or words i d).now ∷ texts_of (drop (suc i) words)
+split_at [] i d below = absurd (omega arith)
+split_at (w ∷ words) zero d below = refl
+split_at (w ∷ words) (suc i) d below = ap (λ ts. w.now ∷ ts) (split_at words i d (omega arith))
+
+-- a word is no address, and those before it were read
+pub first_wrong : (words : List (Bor (List ℕ))) (i : ℕ) (d : Bor (List ℕ)) (addresses : List Addr) → i < length words
+    → Spell (texts_of (take i words)) addresses → (w : List ℕ)
+    → ((w ≡ (get_or words i d).now) × (e : AddrParseError) × ReadsAddress (get_or words i d).now (Err e)) → IsFirstWrong (texts_of words) w
+first_wrong words i d addresses below spelled w h = record {
+  before = texts_of (take i words);
+  after = texts_of (drop (suc i) words);
+  texts_are = split_at words i d below ∙ ap (λ t. texts_of (take i words) ++ t ∷ texts_of (drop (suc i) words)) (sym h.0);
+  addresses = addresses;
+  spelled = spelled;
+  wrong = subst IsNoAddress (sym h.0) h.2;
+}
+
+pub root_wrong : (root : List ℕ) (texts : List (List ℕ)) (w : List ℕ)
+    → ((w ≡ root) × (e : AddrParseError) × ReadsRouterId root (Err e)) → IsFirstWrong (root ∷ texts) w
+root_wrong root texts w h = record {
+  before = [];
+  after = texts;
+  texts_are = ap (λ t. t ∷ texts) (sym h.0);
+  addresses = [];
+  spelled = tt;
+  wrong = λ a is. h.2 (record { 0 = a.0 }) (subst (λ t. IsDottedNumber t a.0) h.0 is);
+}
+
+pub address_wrong : (root : List ℕ) (r : RouterId) (texts : List (List ℕ)) (w : List ℕ) → ReadsRouterId root (Ok r) → IsFirstWrong texts w
+    → IsFirstWrong (root ∷ texts) w
+address_wrong root r texts w reads f = record {
+  before = root ∷ f.before;
+  after = f.after;
+  texts_are = ap (λ ts. root ∷ ts) f.texts_are;
+  addresses = record { 0 = r.0 } ∷ f.addresses;
+  spelled = (reads, f.spelled);
+  wrong = f.wrong;
+}
+
+-- what `clap` refuses
+pub words_refused : (words : List (List ℕ)) (e : Error) (f : JobFault) → HasKind (fault_of command_app words) e → IsFaultOfWords e f → IsUnasked words f
+words_refused words e f kinds is = elim is [
+  | inl h ↦ subst (IsUnasked words) (sym h.1) tt
+  | inr h ↦ subst (IsUnasked words) (sym h.1) (inl (elim kinds [ inl memory ↦ absurd (h.0 memory) | inr among ↦ among ]))
+]
+
+-- where `clap` refuses nothing and reads no table
+pub no_table_refused : (words : List (List ℕ)) (f : JobFault) → fault_of command_app words ≡ [] → HasNoTable words → IsFaultOfNoValue f → IsUnasked words f
+no_table_refused words (fault.Words e) none no_table is = inr (none, no_table)
+no_table_refused words (fault.Address w) none no_table is = absurd is
+no_table_refused words fault.Memory none no_table is = tt

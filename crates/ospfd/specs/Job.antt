@@ -16,11 +16,16 @@ HasStatus (fault.Words e) s =
 HasStatus (fault.Address word) s = s ≡ status.Words
 HasStatus fault.Memory s = s ≡ status.Memory
 
--- the fault of a word that is to be a value: it names the word, unless memory ran out
-abbrev pub IsFaultOf : List ℕ → JobFault → Type 0
-IsFaultOf word (fault.Words e) = ⊥
-IsFaultOf word (fault.Address w) = string_bytes w ≡ word
-IsFaultOf word fault.Memory = ⊤
+-- the fault of words that are to be values: this holds of the word that it names, unless memory ran out
+abbrev pub IsFaultOfValue : (List ℕ → Type 0) → JobFault → Type 0
+IsFaultOfValue P (fault.Words e) = ⊥
+IsFaultOfValue P (fault.Address word) = P (string_bytes word)
+IsFaultOfValue P fault.Memory = ⊤
+
+-- the fault names no value
+abbrev pub IsFaultOfNoValue : JobFault → Type 0
+IsFaultOfNoValue (fault.Address word) = ⊥
+IsFaultOfNoValue _ = ⊤
 
 -- what becomes of an error of `clap`: want of memory is told as that
 abbrev pub IsFaultOfWords : Error → JobFault → Type 0

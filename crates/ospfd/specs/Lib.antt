@@ -4,3 +4,4 @@ pub mod Fault
 pub mod Job
 pub mod Words
 pub mod Output
+pub mod Unasked

@@ -1,9 +1,10 @@
 //! The words of the command line.
 
-ghost use Rattle.std.specs.Prelude.{◌≡◌, map, Ok, IfOk, IfErr};
+ghost use Rattle.std.specs.Prelude.{◌≡◌, ◌∷◌, map, Ok, Err, IfOk, IfErr};
 ghost use Rattle.ospf_base.specs.Text.{ReadsRouterId};
 ghost use Rattle.clap.specs.Words.{app_of};
-ghost use Rattle.ospfd.specs.Job.{IsFaultOf};
+ghost use Rattle.ospfd.specs.Job.{IsFaultOfNoValue, IsFaultOfValue};
+ghost use Rattle.ospfd.specs.Unasked.{IsFirstWrong, IsUnasked};
 ghost use Rattle.ospfd.specs.Words.{IsAsked, Spell, command_app};
 
 use crate::jobs::{Job, JobFault, TableJob};
@@ -44,7 +45,7 @@ fn parsed<T: FromStr>(alloc: Global, word: &str) -> Result<T, JobFault>
 where
     T::Err: Drop,
     ensures value { IfOk result (λ value. T.from_str_gives word.now (Ok value)) }
-    ensures fault { IfErr result (IsFaultOf word.now) }
+    ensures fault { IfErr result (IsFaultOfValue (λ w. (w ≡ word.now) × (e : T.Err) × T.from_str_gives word.now (Err e))) }
 {
     match word.parse::<T>() {
         Ok(value) => Ok(value),
@@ -54,7 +55,8 @@ where
 
 // The addresses that words spell.
 fn parsed_addresses(alloc: Global, words: &[&str]) -> Result<Vec<Addr>, JobFault>
-    ensures { IfOk result (λ addresses. Spell (map (λ w. w.now) words.now) addresses.items) }
+    ensures spelled { IfOk result (λ addresses. Spell (map (λ w. w.now) words.now) addresses.items) }
+    ensures fault { IfErr result (IsFaultOfValue (IsFirstWrong (map (λ w. w.now) words.now))) }
 {
     let mut addresses = Vec::with_capacity(alloc, words.len())?;
     for word in words {
@@ -69,11 +71,22 @@ fn parsed_addresses(alloc: Global, words: &[&str]) -> Result<Vec<Addr>, JobFault
 fn table_job(alloc: Global, root: &str, addresses: &[&str]) -> Result<TableJob, JobFault>
     ensures root { IfOk result (λ t. ReadsRouterId root.now (Ok t.root)) }
     ensures addresses { IfOk result (λ t. Spell (map (λ w. w.now) addresses.now) t.addresses.items) }
+    ensures fault { IfErr result (IsFaultOfValue (IsFirstWrong (root.now ∷ map (λ w. w.now) addresses.now))) }
 {
     Ok(TableJob {
         root: parsed(alloc, root)?,
         addresses: parsed_addresses(alloc, addresses)?,
     })
+}
+
+// The fault of words in which `clap` reads no table.
+fn no_table(command: &mut Command<'_>) -> JobFault
+    ensures { IsFaultOfNoValue result }
+{
+    match command.error(ErrorKind::MissingSubcommand, "a command is needed") {
+        Ok(error) => JobFault::from(error),
+        Err(_) => JobFault::Memory,
+    }
 }
 
 /// Reads the program's words, without its own name.
@@ -82,15 +95,16 @@ fn table_job(alloc: Global, root: &str, addresses: &[&str]) -> Result<TableJob, 
 /// first word that is to be an address and is none, and `Memory` where memory ran out.
 pub fn job(alloc: Global, words: &[&str]) -> Result<Job, JobFault>
     ensures ok { IfOk result (IsAsked (map (λ w. w.now) words.now)) }
+    ensures fault { IfErr result (IsUnasked (map (λ w. w.now) words.now)) }
 {
     let mut command = command(alloc)?;
     let matches = command.try_get_matches_from_mut(words)?;
-    if let Some(("table", values)) = matches.subcommand() {
-        if let Some(root) = values.get_str("root") {
-            let addresses = values.get_strs("addresses").unwrap_or(&[]);
-            return Ok(Job::Table(table_job(alloc, root, addresses)?));
-        }
-    }
-    let error = command.error(ErrorKind::MissingSubcommand, "a command is needed")?;
-    Err(JobFault::from(error))
+    let Some(values) = matches.subcommand_matches("table") else {
+        return Err(no_table(&mut command));
+    };
+    let Some(root) = values.get_str("root") else {
+        return Err(no_table(&mut command));
+    };
+    let addresses = values.get_strs("addresses").unwrap_or(&[]);
+    Ok(Job::Table(table_job(alloc, root, addresses)?))
 }
