@@ -1,8 +1,12 @@
-//! Router IDs, addresses, and the keys and instances of LSAs.
+//! Router IDs, areas, addresses, and the keys and instances of LSAs.
 
 /// The ID of a router, unique in its area (RFC 2328, section 1.2).
 #[derive(Clone, Copy, Debug, PartialEq, Eq, PartialOrd, Ord, Hash)]
 pub struct RouterId(pub u32);
+
+/// The ID of an area (RFC 2328, section 3).
+#[derive(Clone, Copy, Debug, PartialEq, Eq, PartialOrd, Ord, Hash)]
+pub struct AreaId(pub u32);
 
 /// An IPv4 address.
 #[derive(Clone, Copy, Debug, PartialEq, Eq, PartialOrd, Ord, Hash)]

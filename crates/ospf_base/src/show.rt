@@ -3,7 +3,7 @@
 ghost use Rattle.std.specs.Fmt.{WritesOnOk};
 ghost use Rattle.ospf_base.specs.Text.{number_text};
 
-use crate::ids::{Addr, RouterId};
+use crate::ids::{Addr, AreaId, RouterId};
 use crate::prefix::Prefix;
 use std::fmt::{self, Display, Formatter, Write};
 
@@ -22,6 +22,18 @@ impl Display for RouterId {
     ghost use Rattle.ospf_base.specs.Text.{number_text};
 
     ghost output = { λ id. Some (number_text id.0) };
+
+    fn fmt<W: Write>(&self, f: &mut Formatter<W>) -> fmt::Result {
+        write_dotted(f, self.0)
+    }
+}
+
+/// Dotted, as `0.0.0.1`.
+impl Display for AreaId {
+    ghost use Rattle.std.specs.Prelude.{Some};
+    ghost use Rattle.ospf_base.specs.Text.{number_text};
+
+    ghost output = { λ area. Some (number_text area.0) };
 
     fn fmt<W: Write>(&self, f: &mut Formatter<W>) -> fmt::Result {
         write_dotted(f, self.0)
