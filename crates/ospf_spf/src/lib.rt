@@ -8,6 +8,8 @@ mod laws;
 mod listed;
 mod routes;
 mod table;
+#[cfg(test)]
+mod tests;
 
 pub use crate::laws::walk_law;
 pub use crate::table::RouteTable;
