@@ -1,0 +1,10 @@
+use Rattle.std.proofs.Common.{◌≡◌, ◌++◌, take}
+use Rattle.std.specs.List.{flat_map, AllByRecursion}
+use Rattle.ospf_packet.specs.Headers.{aged_bytes, AgedFits}
+use Rattle.ospf_packet.proofs.write.push_headers.Given as goal
+
+abbrev pub invariant-loop-header : goal.invariant-loop-header
+invariant-loop-header l = record {
+  bytes : l.out.items ≡ l.fn.out.items ++ flat_map aged_bytes (take l.header-index l.headers);
+  fit : AllByRecursion AgedFits (take l.header-index l.headers);
+}

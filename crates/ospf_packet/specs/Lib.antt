@@ -1,0 +1,13 @@
+pub mod Entries
+pub mod Neighbours
+pub mod Headers
+pub mod Requests
+pub mod Slices
+pub mod SliceLaws
+pub mod Fields
+pub mod Meaning
+pub mod Packet
+pub mod PacketOf
+pub mod Spelling
+pub mod Laws
+pub mod Said

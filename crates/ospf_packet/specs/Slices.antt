@@ -1,0 +1,40 @@
+-- The LSAs of a Link State Update, as slices of the packet (RFC 2328, appendix A.3.5).
+use Rattle.std.specs.Prelude.{◌≡◌, ℕ, zero, suc, ◌≤◌, List, [], ◌∷◌, length, take, drop}
+use Rattle.std.specs.List.{flat_map, AllByRecursion}
+use Rattle.ospf_base.specs.Bytes.{number_at}
+
+-- the length field of the LSA at the front (appendix A.4.1)
+abbrev pub lsa_length : List ℕ → ℕ
+lsa_length bytes = number_at 18 2 bytes
+
+-- bytes whose length is what the length field in them says, and not below that of a header
+pub record IsSlice (lsa : List ℕ) : Type 0 where
+  pub long : 20 ≤ length lsa
+  pub length_is : lsa_length lsa ≡ length lsa
+
+abbrev pub lsas_bytes : List (List ℕ) → List ℕ
+lsas_bytes lsas = flat_map (λ (lsa : List ℕ). lsa) lsas
+
+-- the bytes are so many slices, one after the other, and nothing else
+pub record AreSlices (count : ℕ) (bytes : List ℕ) : Type 0 where
+  pub slices : List (List ℕ)
+  pub counted : length slices ≡ count
+  pub each : AllByRecursion IsSlice slices
+  pub spelled : bytes ≡ lsas_bytes slices
+
+-- so many slices, one after the other
+abbrev pub slices_in : ℕ → List ℕ → List (List ℕ)
+slices_in zero bytes = []
+slices_in (suc n) bytes = take (lsa_length bytes) bytes ∷ slices_in n (drop (lsa_length bytes) bytes)
+
+-- a slice stands at the front
+pub record IsFirstSlice (bytes : List ℕ) : Type 0 where
+  pub header : 20 ≤ length bytes
+  pub long : 20 ≤ lsa_length bytes
+  pub whole : lsa_length bytes ≤ length bytes
+
+-- a slice stands at the front, it is this one, and these bytes stand behind it
+pub record IsSplit (bytes lsa rest : List ℕ) : Type 0 where
+  pub is : IsFirstSlice bytes
+  pub lsa_is : lsa ≡ take (lsa_length bytes) bytes
+  pub rest_is : rest ≡ drop (lsa_length bytes) bytes

@@ -1,0 +1,42 @@
+//! The entries of a Link State Request.
+
+ghost use Rattle.std.specs.Prelude.{◌≡◌, ◌≤◌, length};
+
+use ospf_base::{RouterId, u32_at};
+
+/// What a router asks for: an LSA by LS type, Link State ID and Advertising Router (RFC 2328, appendix A.3.4).
+///
+/// The LS type is as it stands in the packet, of any kind.
+#[derive(Clone, Copy, Debug, PartialEq, Eq)]
+pub struct RequestEntry {
+    pub kind: u32,
+    pub id: u32,
+    pub router: RouterId,
+}
+
+impl RequestEntry {
+    ghost use Rattle.ospf_packet.specs.Requests.{entry_at, entry_bytes, EntryFits};
+
+    // The entry in the first 12 bytes.
+    pub(crate) fn read(bytes: &[u8]) -> RequestEntry
+        requires { 12 ≤ length bytes.now }
+        ensures { result ≡ entry_at bytes.now }
+    {
+        RequestEntry {
+            kind: u32_at(bytes, 0),
+            id: u32_at(bytes, 4),
+            router: RouterId(u32_at(bytes, 8)),
+        }
+    }
+
+    // The 12 bytes of the entry.
+    pub(crate) fn to_bytes(self) -> [u8; 12]
+        ensures bytes { result ≡ entry_bytes self }
+        ensures fits { EntryFits self }
+    {
+        let [a, b, c, d] = self.kind.to_be_bytes();
+        let [e, f, g, h] = self.id.to_be_bytes();
+        let [i, j, k, l] = self.router.0.to_be_bytes();
+        [a, b, c, d, e, f, g, h, i, j, k, l]
+    }
+}

@@ -1,0 +1,117 @@
+//! Packets that are read where they lie.
+
+ghost use Rattle.std.specs.Prelude.{◌≡◌, ◌≤◌, ◌<◌, ◌↔◌, IsTrue, IfOk, IfErr, OnOk, OnErr, IfSome, IfNone, Some, None, length};
+ghost use Rattle.ospf_packet.specs.Packet.{IsBody, IsPacket, IsFirstFault, body_at, type_of, body_of, meaning_of};
+ghost use Rattle.ospf_packet.specs.PacketOf.{packet_of};
+ghost use Rattle.ospf_packet.specs.Said.{said, body_said};
+
+use crate::body::{Body, Description, Hello};
+use crate::fault::PacketFault;
+use crate::headers::Headers;
+use crate::lsas::Lsas;
+use crate::neighbours::Neighbours;
+use crate::requests::Requests;
+use ospf_base::{AreaId, RouterId, packet_sum, u16_at, u32_at};
+
+/// A packet that was read: what its header says, and its body, borrowed from the datagram (RFC 2328, appendix A.3).
+#[derive(Drop)]
+pub struct Packet<'a> {
+    /// The router that sent it.
+    pub router: RouterId,
+    pub area: AreaId,
+    pub body: Body<'a>,
+}
+
+/// The longest packet that is read or written, in bytes.
+pub const LARGEST_PACKET: usize = 16384;
+
+// Whether a body ends with its last entry.
+fn has_body(kind: u8, body: &[u8]) -> bool
+    ensures { IsTrue result ↔ IsBody kind body.now }
+{
+    match kind {
+        1 => body.len() >= 20 && (body.len() - 20) % 4 == 0,
+        2 => body.len() >= 8 && (body.len() - 8) % 20 == 0,
+        3 => body.len() % 12 == 0,
+        4 => body.len() >= 4 && Lsas::are_all(u32_at(body, 0), &body[4..]),
+        5 => body.len() % 20 == 0,
+        _ => true,
+    }
+}
+
+// The first fault of the bytes.
+fn first_fault(bytes: &[u8]) -> Option<PacketFault>
+    ensures fault { IfSome result (λ f. IsFirstFault bytes.now f) }
+    ensures none { IfNone result (IsPacket bytes.now) }
+{
+    if bytes.len() > LARGEST_PACKET {
+        return Some(PacketFault::TooLong);
+    }
+    if bytes.len() < 24 {
+        return Some(PacketFault::Short);
+    }
+    if bytes[0] != 2 {
+        return Some(PacketFault::Version);
+    }
+    if bytes[1] < 1 || bytes[1] > 5 {
+        return Some(PacketFault::Kind);
+    }
+    if usize::from(u16_at(bytes, 2)) != bytes.len() {
+        return Some(PacketFault::Length);
+    }
+    if u16_at(bytes, 12) != packet_sum(bytes) {
+        return Some(PacketFault::Sum);
+    }
+    if u16_at(bytes, 14) != 0 {
+        return Some(PacketFault::Auth);
+    }
+    if !has_body(bytes[1], &bytes[24..]) {
+        return Some(PacketFault::Body);
+    }
+    None
+}
+
+// What the body of a packet of this type says.
+fn body(kind: u8, bytes: &[u8]) -> Body<'_>
+    requires { IsBody kind bytes.now }
+    ensures { body_said result ≡ body_at kind bytes.now }
+{
+    match kind {
+        1 => Body::Hello(Hello::read(bytes), Neighbours::new(&bytes[20..])),
+        2 => Body::Description(Description::read(bytes), Headers::new(&bytes[8..])),
+        3 => Body::Request(Requests::new(bytes)),
+        4 => Body::Update(Lsas::new(u32_at(bytes, 0), &bytes[4..])),
+        _ => Body::Acknowledgment(Headers::new(bytes)),
+    }
+}
+
+// The packet that the bytes are.
+fn valid_packet(bytes: &[u8]) -> Packet<'_>
+    requires long { 24 ≤ length bytes.now }
+    requires body { IsBody (type_of bytes.now) (body_of bytes.now) }
+    ensures { said result ≡ meaning_of bytes.now }
+{
+    Packet {
+        router: RouterId(u32_at(bytes, 4)),
+        area: AreaId(u32_at(bytes, 8)),
+        body: body(bytes[1], &bytes[24..]),
+    }
+}
+
+impl<'a> Packet<'a> {
+    /// The packet that the bytes are, or their first fault (RFC 2328, section 8.2 and appendix A.3).
+    ///
+    /// `TooLong` is looked at first, then the other faults in the order of their numbers. The bytes of the
+    /// authentication are not looked at, and an age field above `MAX_AGE` is read as that. No memory is taken.
+    pub fn read(bytes: &'a [u8]) -> Result<Packet<'a>, PacketFault>
+        ensures ok { IfOk result (λ p. packet_of bytes.now ≡ Some (said p)) }
+        ensures valid { OnOk result (IsPacket bytes.now) }
+        ensures fault { IfErr result (λ f. IsFirstFault bytes.now f) }
+        ensures none { OnErr result (packet_of bytes.now ≡ None) }
+    {
+        match first_fault(bytes) {
+            Some(fault) => Err(fault),
+            None => Ok(valid_packet(bytes)),
+        }
+    }
+}
