@@ -1,0 +1,158 @@
+-- Conflicts among addresses, and among the tables that they stand in.
+use Rattle.std.proofs.Common.{◌≡◌, ◌↔◌, ℕ, zero, suc, ◌<◌, List, [], ◌∷◌, ◌++◌, length, get_or, Option, Some, None, Ok, Err, decimal, codes, inl, inr, refl, sym, ap, ◌∙◌, subst, arith}
+use Rattle.std.specs.Prelude.{Any, AllPairs, slice_get}
+use Rattle.ospf_config.specs.declared.address.InterfaceAddress.{InterfaceAddress}
+use Rattle.std.proofs.lemmas.Option.{same_Some}
+use Rattle.std.proofs.lemmas.Fmt.{decimal_injective}
+use Rattle.toml.specs.Data.{Data, Members, get_member, as_str}
+use Rattle.ospf_base.specs.Text.{IsDottedNumber}
+use Rattle.ospf_config.specs.declared.fault.ConfigFault.{ConfigFault}
+use Rattle.ospf_config.specs.declared.fault.ConfigFault.TheVariants as fault
+use Rattle.ospf_config.specs.declared.interface.Interface.{Interface}
+use Rattle.ospf_config.specs.Pairs.{EachPair}
+use Rattle.ospf_config.specs.Reading.{ReadsValue, Required}
+use Rattle.ospf_config.specs.Texts.{IsAddressText}
+use Rattle.ospf_config.specs.Keys.{ReadsAddress}
+use Rattle.ospf_config.specs.Tables.{HaveSamePrefix}
+use Rattle.ospf_config.specs.Interfaces.{IsInterfaceOf}
+use Rattle.ospf_config.specs.Conflicts.{Conflict, one_prefix, one_address, HasConflict, network_part}
+use Rattle.ospf_config.proofs.AddressTexts.{HasNoSlash, dotted_no_slash, dotted_one}
+use Rattle.ospf_config.proofs.PeerLists.{none_is_some}
+
+pub found_first : (all rest : List InterfaceAddress) (x : InterfaceAddress) (xs : List InterfaceAddress) → rest ≡ x ∷ xs → (HasConflict all ↔ HasConflict rest) → Any (Conflict x) xs → HasConflict all
+found_first all rest x xs parts same some = same.1 (rw parts (inl some))
+
+pub none_first : (all rest : List InterfaceAddress) (x : InterfaceAddress) (xs : List InterfaceAddress) → rest ≡ x ∷ xs → (HasConflict all ↔ HasConflict rest) → (Any (Conflict x) xs → ⊥)
+    → HasConflict all ↔ HasConflict xs
+none_first all rest x xs parts same none = (
+  (λ h. elim (let before : HasConflict rest = same.0 h in let split : HasConflict (x ∷ xs) = rw parts at before in split) [ inl some ↦ absurd (none some) | inr later ↦ later ]),
+  λ h. same.1 (rw parts (inr h)),
+)
+
+-- ---- the tables that addresses stand in
+
+abbrev Reads : Members → InterfaceAddress → Type 0
+Reads t a = ReadsAddress t (Ok a)
+
+pub pair_at : {B : Type 0} (R : Members → B → Type 0) (ts : List Members) (xs : List B) (k : ℕ) (d : B) → EachPair R ts xs → k < length xs
+    → (t : Members) × (slice_get ts k ≡ Some t) × R t (get_or xs k d)
+pair_at R [] [] k d h lt = absurd (omega arith)
+pair_at R [] (x ∷ xs) k d h lt = absurd h
+pair_at R (t ∷ ts) [] k d h lt = absurd h
+pair_at R (t ∷ ts) (x ∷ xs) zero d h lt = (t, refl, h.0)
+pair_at R (t ∷ ts) (x ∷ xs) (suc k) d h lt = pair_at R ts xs k d h.1 (omega arith)
+
+pair_get : (ts : List Members) (xs : List InterfaceAddress) (k : ℕ) (t : Members) → EachPair Reads ts xs → slice_get ts k ≡ Some t
+    → (a : InterfaceAddress) × (k < length xs) × (get_or xs k a ≡ a) × Reads t a
+pair_get [] xs k t h at = absurd (none_is_some t at)
+pair_get (u ∷ ts) [] k t h at = absurd h
+pair_get (u ∷ ts) (x ∷ xs) zero t h at = (x, omega arith, refl, subst (λ v. Reads v x) (same_Some u t at) h.0)
+pair_get (u ∷ ts) (x ∷ xs) (suc k) t h at = (let (a, lt, is, r) = pair_get ts xs k t h.1 at in (a, omega arith, is, r))
+
+-- as many as tables
+pub pairs_length : {B : Type 0} (R : Members → B → Type 0) (ts : List Members) (xs : List B) → EachPair R ts xs → length ts ≡ length xs
+pairs_length R [] [] h = refl
+pairs_length R [] (x ∷ xs) h = absurd h
+pairs_length R (t ∷ ts) [] h = absurd h
+pairs_length R (t ∷ ts) (x ∷ xs) h = ap suc (pairs_length R ts xs h.1)
+
+later : (t : Members) (ts : List Members) → HaveSamePrefix ts → HaveSamePrefix (t ∷ ts)
+later t ts h = record {
+  i = suc h.i;
+  j = suc h.j;
+  before = (let lt : h.i < h.j = h.before in omega arith);
+  first = h.first;
+  second = h.second;
+  at_first = h.at_first;
+  at_second = h.at_second;
+  a = h.a;
+  b = h.b;
+  first_address = h.first_address;
+  second_address = h.second_address;
+  conflict = h.conflict;
+}
+
+pub same_prefix : (ts : List Members) (xs : List InterfaceAddress) → EachPair Reads ts xs → HasConflict xs → HaveSamePrefix ts
+same_prefix [] [] h c = absurd c
+same_prefix [] (x ∷ xs) h c = absurd h
+same_prefix (t ∷ ts) [] h c = absurd h
+same_prefix (t ∷ ts) (x ∷ xs) h (inr c) = later t ts (same_prefix ts xs h.1 c)
+same_prefix (t ∷ ts) (x ∷ xs) h (inl (k, y, lt, at, c)) =
+    let (u, is, r) = pair_at Reads ts xs k y h.1 lt in
+    let here : Reads u y = subst (Reads u) at r in
+    record { i = 0; j = suc k; before = omega arith; first = t; second = u; at_first = refl; at_second = is; a = x; b = y; first_address = h.0; second_address = here; conflict = c }
+
+-- ---- a text has one address
+
+split_same : (xs ys us vs : List ℕ) → HasNoSlash xs → HasNoSlash us → xs ++ (47 ∷ ys) ≡ us ++ (47 ∷ vs) → (xs ≡ us) × (ys ≡ vs)
+split_same [] ys [] vs p q e = (refl, (let whole : 47 ∷ ys ≡ 47 ∷ vs = e in cc))
+split_same [] ys (u ∷ us) vs p q e = absurd (q.0 (let whole : 47 ∷ ys ≡ u ∷ (us ++ (47 ∷ vs)) = e in cc))
+split_same (x ∷ xs) ys [] vs p q e = absurd (p.0 (let whole : x ∷ (xs ++ (47 ∷ ys)) ≡ 47 ∷ vs = e in cc))
+split_same (x ∷ xs) ys (u ∷ us) vs p q e =
+    let whole : x ∷ (xs ++ (47 ∷ ys)) ≡ u ∷ (us ++ (47 ∷ vs)) = e in
+    let heads : x ≡ u = (cc) in
+    let tails : xs ++ (47 ∷ ys) ≡ us ++ (47 ∷ vs) = (cc) in
+    let (a, b) = split_same xs ys us vs p.1 q.1 tails in
+    ((let c : xs ≡ us = a in cc), b)
+
+text_one : (text : List ℕ) (a b : InterfaceAddress) → IsAddressText text a → IsAddressText text b → (a.address.0 ≡ b.address.0) × (a.length ≡ b.length)
+text_one text a b p q =
+    let (d, l) = split_same p.dotted (decimal a.length) q.dotted (decimal b.length) (dotted_no_slash p.dotted a.address.0 p.address_spelled) (dotted_no_slash q.dotted b.address.0 q.address_spelled)
+    (sym p.spelled ∙ q.spelled) in
+    let spelled : IsDottedNumber p.dotted b.address.0 = subst (λ s. IsDottedNumber s b.address.0) (sym d) q.address_spelled in (
+      dotted_one p.dotted a.address.0 b.address.0 (omega (arith, a.host.octet_high)) (omega (arith, b.host.octet_high)) p.address_spelled spelled,
+      decimal_injective a.length b.length (omega (arith, a.host.short)) (omega (arith, b.host.short)) l,
+    )
+
+ok_no_error : (a : InterfaceAddress) (f : ConfigFault) → Ok a ≡ Err f → ⊥
+ok_no_error a f e = cc
+
+value_one : (o : Option (List ℕ)) (a b : InterfaceAddress) → ReadsValue IsAddressText o (Ok a) → ReadsValue IsAddressText o (Ok b) → (a.address.0 ≡ b.address.0) × (a.length ≡ b.length)
+value_one None a b p q = absurd (ok_no_error a fault.Type p)
+value_one (Some text) a b p q = text_one text a b p q
+
+address_one : (o : Option Data) (a b : InterfaceAddress) → Required as_str IsAddressText o (Ok a) → Required as_str IsAddressText o (Ok b) → (a.address.0 ≡ b.address.0) × (a.length ≡ b.length)
+address_one None a b p q = absurd (ok_no_error a fault.Missing p)
+address_one (Some d) a b p q = value_one (as_str d) a b p q
+
+same_network : (a b : InterfaceAddress) → a.address.0 ≡ b.address.0 → a.length ≡ b.length → network_part a ≡ network_part b
+same_network a b e f = rw (e, f) refl
+
+conflict_same : (a b c d : InterfaceAddress) → (a.address.0 ≡ c.address.0) × (a.length ≡ c.length) → (b.address.0 ≡ d.address.0) × (b.length ≡ d.length) → Conflict a b → Conflict c d
+conflict_same a b c d p q (one_prefix l n) = one_prefix (sym p.1 ∙ l ∙ q.1) (sym (same_network a c p.0 p.1) ∙ n ∙ same_network b d q.0 q.1)
+conflict_same a b c d p q (one_address e) = one_address (sym p.0 ∙ e ∙ q.0)
+
+module _ (f s : Members) (a b : InterfaceAddress) (fa : Reads f a) (sb : Reads s b) (c : Conflict a b) where
+  conflict_at : (ts : List Members) (xs : List InterfaceAddress) → EachPair Reads ts xs → (i j : ℕ) → i < j → slice_get ts i ≡ Some f → slice_get ts j ≡ Some s → HasConflict xs
+  conflict_at [] xs h i j lt ai aj = absurd (none_is_some f ai)
+  conflict_at (t ∷ ts) [] h i j lt ai aj = absurd h
+  conflict_at (t ∷ ts) (x ∷ xs) h i zero lt ai aj = absurd (omega arith)
+  conflict_at (t ∷ ts) (x ∷ xs) h zero (suc j) lt ai aj =
+      let (y, within, at, r) = pair_get ts xs j s h.1 aj in
+      let x_reads : Reads f x = subst (λ u. Reads u x) (same_Some t f ai) h.0 in
+      inl (j, y, within, at, conflict_same a b x y (address_one (get_member (codes "address") f) a x fa x_reads) (address_one (get_member (codes "address") s) b y sb r) c)
+  conflict_at (t ∷ ts) (x ∷ xs) h (suc i) (suc j) lt ai aj = inr (conflict_at ts xs h.1 i j (omega arith) ai aj)
+
+pub has_conflict_of : (ts : List Members) (xs : List InterfaceAddress) → EachPair Reads ts xs → HaveSamePrefix ts → HasConflict xs
+has_conflict_of ts xs h p = conflict_at p.first p.second p.a p.b p.first_address p.second_address p.conflict ts xs h p.i p.j p.before p.at_first p.at_second
+
+-- ---- interfaces
+
+pub interfaces_apart : (ts : List Members) (xs : List Interface) → EachPair IsInterfaceOf ts xs → (HaveSamePrefix ts → ⊥) → AllPairs (λ x y. Conflict x.address y.address → ⊥) xs
+interfaces_apart ts xs h none i j d lt within c =
+    let (t, at, r) = pair_at IsInterfaceOf ts xs i d h (omega arith) in
+    let (u, bt, s) = pair_at IsInterfaceOf ts xs j d h within in
+    none (record {
+      i = i;
+      j = j;
+      before = lt;
+      first = t;
+      second = u;
+      at_first = at;
+      at_second = bt;
+      a = (get_or xs i d).address;
+      b = (get_or xs j d).address;
+      first_address = r.address;
+      second_address = s.address;
+      conflict = c;
+    })

@@ -1,0 +1,9 @@
+mod AddressTexts
+mod PeerLists
+mod Least
+mod Singles
+mod TableLists
+mod KeyLists
+mod ConflictLists
+mod FaultLemmas
+mod TextFaults

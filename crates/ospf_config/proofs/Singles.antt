@@ -1,0 +1,54 @@
+-- Each key has a value or one fault.
+use Rattle.std.proofs.Common.{◌≡◌, false, None, [], codes}
+use Rattle.toml.specs.Data.{Members, get_member, as_str, as_bool, as_integer}
+use Rattle.ospf_config.specs.Reading.{IsNumberIn, as_integers}
+use Rattle.ospf_config.specs.Texts.{IsRouterIdText, IsAreaText, IsKindText, IsAddressText}
+use Rattle.ospf_config.specs.Keys.{ReadsRouterId, ReadsArea, ReadsStubRouter, ReadsKind, ReadsAddress, ReadsCost, ReadsPriority, ReadsHello, ReadsDead, ReadsRetransmit, ReadsTransmitDelay, ReadsMtu, ReadsPort, ReadsPeers, IsPortNumber, ArePortNumbers}
+use Rattle.ospf_config.specs.Tables.{ReadsInterfaces, AreInterfaceTables, as_tables}
+use Rattle.ospf_config.proofs.Least.{IsSingle, required_single, optional_single, cost_single}
+
+module _ (t : Members) where
+  pub router_id_single : IsSingle (ReadsRouterId t)
+  router_id_single = required_single IsRouterIdText as_str (get_member (codes "router_id") t)
+
+  pub area_single : IsSingle (ReadsArea t)
+  area_single = required_single IsAreaText as_str (get_member (codes "area") t)
+
+  pub stub_router_single : IsSingle (ReadsStubRouter t)
+  stub_router_single = optional_single (λ b c. b ≡ c) as_bool false (get_member (codes "stub_router") t)
+
+  pub interface_single : IsSingle (ReadsInterfaces t)
+  interface_single = required_single AreInterfaceTables as_tables (get_member (codes "interface") t)
+
+  pub kind_single : IsSingle (ReadsKind t)
+  kind_single = required_single IsKindText as_str (get_member (codes "kind") t)
+
+  pub address_single : IsSingle (ReadsAddress t)
+  address_single = required_single IsAddressText as_str (get_member (codes "address") t)
+
+  pub priority_single : IsSingle (ReadsPriority t)
+  priority_single = optional_single (IsNumberIn 0 255) as_integer 1 (get_member (codes "priority") t)
+
+  pub hello_single : IsSingle (ReadsHello t)
+  hello_single = optional_single (IsNumberIn 1 65535) as_integer 10 (get_member (codes "hello") t)
+
+  pub dead_single : IsSingle (ReadsDead t)
+  dead_single = optional_single (IsNumberIn 1 65535) as_integer 40 (get_member (codes "dead") t)
+
+  pub retransmit_single : IsSingle (ReadsRetransmit t)
+  retransmit_single = optional_single (IsNumberIn 1 65535) as_integer 5 (get_member (codes "retransmit") t)
+
+  pub transmit_delay_single : IsSingle (ReadsTransmitDelay t)
+  transmit_delay_single = optional_single (IsNumberIn 1 3600) as_integer 1 (get_member (codes "transmit_delay") t)
+
+  pub mtu_single : IsSingle (ReadsMtu t)
+  mtu_single = optional_single (IsNumberIn 576 9000) as_integer 1500 (get_member (codes "mtu") t)
+
+  pub port_single : IsSingle (ReadsPort t)
+  port_single = optional_single IsPortNumber as_integer None (get_member (codes "port") t)
+
+  pub peers_single : IsSingle (ReadsPeers t)
+  peers_single = optional_single ArePortNumbers as_integers [] (get_member (codes "peers") t)
+
+  pub only_cost : IsSingle (ReadsCost t)
+  only_cost = cost_single (get_member (codes "cost") t)

@@ -1,0 +1,9 @@
+use Rattle.std.proofs.Common.{take}
+use Rattle.std.specs.Prelude.{Any}
+use Rattle.toml.specs.View.{view}
+use Rattle.ospf_config.specs.Fault.{IsLeastIfAny}
+use Rattle.ospf_config.specs.Tables.{HasInterfaceFault, IsTableWith}
+use Rattle.ospf_config.proofs.faults.interfaces_fault.Given as goal
+
+abbrev pub invariant-loop-value : goal.invariant-loop-value
+invariant-loop-value l = IsLeastIfAny (λ f. Any (λ v. IsTableWith (λ t. HasInterfaceFault t f) (view v)) (take l.value-index l.values)) l.least

@@ -1,0 +1,53 @@
+use Rattle.std.proofs.Common.{codes, inl, inr, arith}
+use Rattle.std.proofs.lemmas.Result.{err_from_is_err_and}
+use Rattle.toml.specs.View.{table_view}
+use Rattle.toml.specs.Data.{get_member}
+use Rattle.ospf_config.specs.declared.fault.ConfigFault.TheVariants as fault
+use Rattle.ospf_config.specs.Interfaces.{IsInterfaceOf}
+use Rattle.ospf_config.specs.Tables.{IsDeadNotOverHello, in_router_id, in_area, in_stub_router, in_interface}
+use Rattle.ospf_config.proofs.ConflictLists.{interfaces_apart, pairs_length}
+use Rattle.ospf_config.proofs.FaultLemmas.{key_has}
+use Rattle.ospf_config.proofs.TableLists.{any_table, in_number}
+use Rattle.ospf_config.proofs.read.config_at.Goals as goal
+
+pub returns-in_err-router_id-clause-fault : goal.returns-in_err-router_id-clause-fault
+returns-in_err-router_id-clause-fault c =
+    let p = err_from_is_err_and c.from_residual.result c.from_residual.ensures.1 in
+    rw (p.1, p.2) (absurd (c.requires.free _ (key_has (table_view c.args.table.now) _ (inl (in_router_id c.in_err-router_id.ensures.reads)))))
+
+pub returns-in_err-area-clause-fault : goal.returns-in_err-area-clause-fault
+returns-in_err-area-clause-fault c =
+    let p = err_from_is_err_and c.from_residual-in_err-area.result c.from_residual-in_err-area.ensures.1 in
+    rw (p.1, p.2) (absurd (c.requires.free _ (key_has (table_view c.args.table.now) _ (inl (in_area c.in_err-area.ensures)))))
+
+pub returns-in_err-stub_router-clause-fault : goal.returns-in_err-stub_router-clause-fault
+returns-in_err-stub_router-clause-fault c =
+    let p = err_from_is_err_and c.from_residual-in_err-stub_router.result c.from_residual-in_err-stub_router.ensures.1 in
+    rw (p.1, p.2) (absurd (c.requires.free _ (key_has (table_view c.args.table.now) _ (inl (in_stub_router c.in_err-stub_router.ensures)))))
+
+pub returns-in_err-interfaces-clause-fault : goal.returns-in_err-interfaces-clause-fault
+returns-in_err-interfaces-clause-fault c =
+    let p = err_from_is_err_and c.from_residual-in_err-interfaces.result c.from_residual-in_err-interfaces.ensures.1 in
+    rw (p.1, p.2)
+    (elim c.in_err-interfaces.ensures.fault [
+      | inl memory ↦ memory
+      | inr found ↦ absurd (c.requires.free _ (key_has (table_view c.args.table.now) _ (inr (rw c.requires.values at found))))
+    ])
+
+pub interfaces_of-requires-clause-hellos : goal.interfaces_of-requires-clause-hellos
+interfaces_of-requires-clause-hellos c dead =
+    let found = any_table IsDeadNotOverHello c.args.values.now dead in
+    c.requires.free fault.DeadNotOverHello (rw c.requires.values at found)
+
+pub invariant_of-result : goal.invariant_of-result
+invariant_of-result c =
+    let t = table_view c.args.table.now in
+    let pairs = rw c.requires.values at c.in_ok-interfaces.ensures.ok in
+    let number = in_number (get_member (codes "interface") t) (λ f h. c.requires.free f (key_has t f (inl (in_interface h)))) in
+    let long = pairs_length IsInterfaceOf _ _ pairs in
+    record {
+      router_id_not_zero = c.in_ok-router_id.ensures.range;
+      some_interface = omega (arith, number, long);
+      few_interfaces = omega (arith, number, long);
+      no_conflict = interfaces_apart _ _ pairs (c.requires.free fault.SamePrefix);
+    }

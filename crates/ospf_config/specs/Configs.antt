@@ -1,0 +1,29 @@
+-- What a text says of a configuration, and which faults it has.
+use Rattle.std.specs.Prelude.{◌≡◌, ℕ, List, Some, None, Ok}
+use Rattle.toml.specs.Data.{Members}
+use Rattle.toml.specs.Parse.{parse_document}
+use Rattle.ospf_config.specs.declared.config.Config.{Config}
+use Rattle.ospf_config.specs.declared.fault.ConfigFault.{ConfigFault}
+use Rattle.ospf_config.specs.declared.fault.ConfigFault.TheVariants as fault
+use Rattle.ospf_config.specs.Keys.{ReadsRouterId, ReadsArea, ReadsStubRouter}
+use Rattle.ospf_config.specs.Interfaces.{IsInterfaceOf}
+use Rattle.ospf_config.specs.Pairs.{EachPair}
+use Rattle.ospf_config.specs.Tables.{HasFault, interface_tables}
+
+-- the configuration is the reading of the table, its interfaces in order
+pub record IsConfigOf (t : Members) (c : Config) : Type 0 where
+  pub router_id : ReadsRouterId t (Ok c.router_id)
+  pub area : ReadsArea t (Ok c.area)
+  pub stub_router : ReadsStubRouter t (Ok c.stub_router)
+  pub interfaces : EachPair IsInterfaceOf (interface_tables t) c.interfaces.items
+
+-- the text has the fault: it is no TOML, or its table has the fault
+abbrev pub TextHasFault : List ℕ → ConfigFault → Type 0
+TextHasFault text fault.NotToml = parse_document text ≡ None
+TextHasFault text f = (t : Members) × (parse_document text ≡ Some t) × HasFault t f
+
+-- the text is TOML, and the configuration is the reading of its table
+pub record IsReading (text : List ℕ) (c : Config) : Type 0 where
+  pub table : Members
+  pub parsed : parse_document text ≡ Some table
+  pub reads : IsConfigOf table c

@@ -1,0 +1,34 @@
+-- The order of faults: the one of the least number is told.
+use Rattle.std.specs.Prelude.{ℕ, ◌≤◌, nat_lt, if◌then◌else◌, Option, Some, None, MatchOption, Result, Err}
+use Rattle.ospf_config.specs.declared.fault.ConfigFault.{ConfigFault}
+use Rattle.ospf_config.specs.declared.fault.ConfigFault.TheVariants as fault
+
+abbrev pub fault_number : ConfigFault → ℕ
+fault_number fault.NotToml = 1
+fault_number fault.Missing = 2
+fault_number fault.Type = 3
+fault_number fault.Range = 4
+fault_number fault.ZeroCost = 5
+fault_number fault.SamePrefix = 6
+fault_number fault.DeadNotOverHello = 7
+fault_number fault.Unknown = 8
+fault_number fault.Memory = 9
+
+-- the fault of the lesser number
+abbrev pub earlier_of : Option ConfigFault → Option ConfigFault → Option ConfigFault
+earlier_of (Some f) (Some g) = if nat_lt (fault_number g) (fault_number f) then Some g else Some f
+earlier_of (Some f) None = Some f
+earlier_of None b = b
+
+-- this fault holds, and none of a lower number
+pub record IsLeast (Holds : ConfigFault → Type 0) (f : ConfigFault) : Type 0 where
+  pub holds : Holds f
+  pub least : (g : ConfigFault) → Holds g → fault_number f ≤ fault_number g
+
+-- the least fault that holds, or none where none does
+abbrev pub IsLeastIfAny : (ConfigFault → Type 0) → Option ConfigFault → Type 0
+IsLeastIfAny Holds found = MatchOption found ((f : ConfigFault) → Holds f → ⊥) (IsLeast Holds)
+
+-- the fault that is read, or none where none is
+abbrev pub IsFaultIfAny : {T : Type 0} → (Result T ConfigFault → Type 0) → Option ConfigFault → Type 0
+IsFaultIfAny Reads found = MatchOption found ((f : ConfigFault) → Reads (Err f) → ⊥) (λ f. Reads (Err f))

@@ -1,0 +1,22 @@
+-- Addresses that an interface can have.
+use Rattle.std.specs.Prelude.{ℕ, ◌+◌, ◌-◌, ◌/◌, ◌%◌, ◌^◌, ◌<◌, ◌≤◌}
+
+-- how many addresses a prefix of this length has
+abbrev pub prefix_size : ℕ → ℕ
+prefix_size length = 2 ^ (32 - length)
+
+-- the bits behind the prefix
+abbrev pub host_part : ℕ → ℕ → ℕ
+host_part address length = address % prefix_size length
+
+abbrev pub first_octet : ℕ → ℕ
+first_octet address = address / 2 ^ 24
+
+-- a prefix of 1 to 30 bits, the bits behind it neither all zeros nor all ones, and a first octet of a unicast address
+pub record IsHostAddress (address prefix_length : ℕ) : Type 0 where
+  pub long : 1 ≤ prefix_length
+  pub short : prefix_length ≤ 30
+  pub not_zeros : 0 < host_part address prefix_length
+  pub not_ones : host_part address prefix_length + 1 < prefix_size prefix_length
+  pub octet_low : 1 ≤ first_octet address
+  pub octet_high : first_octet address ≤ 223

@@ -1,0 +1,81 @@
+-- The keys: name, type, meaning, and default where there is one.
+use Rattle.std.specs.Prelude.{◌≡◌, ℕ, zero, ℤ, pos, ◌≤◌, Bool, false, List, [], map, length, codes, Option, Some, None, Result, Err}
+use Rattle.toml.specs.Data.{Data, Members, get_member, as_str, as_integer, as_bool}
+use Rattle.ospf_base.specs.declared.ids.RouterId.{RouterId}
+use Rattle.ospf_base.specs.declared.ids.AreaId.{AreaId}
+use Rattle.ospf_config.specs.declared.address.InterfaceAddress.{InterfaceAddress}
+use Rattle.ospf_config.specs.declared.interface.InterfaceKind.{InterfaceKind}
+use Rattle.ospf_config.specs.declared.interface.Port.{Port}
+use Rattle.ospf_config.specs.declared.fault.ConfigFault.{ConfigFault}
+use Rattle.ospf_config.specs.declared.fault.ConfigFault.TheVariants as fault
+use Rattle.ospf_config.specs.Reading.{ReadsValue, Required, Optional, IsNumberIn, as_integers}
+use Rattle.ospf_config.specs.Texts.{IsRouterIdText, IsAreaText, IsKindText, IsAddressText}
+
+-- ---- at the top
+
+abbrev pub ReadsRouterId : Members → Result RouterId ConfigFault → Type 0
+ReadsRouterId t r = Required as_str IsRouterIdText (get_member (codes "router_id") t) r
+
+abbrev pub ReadsArea : Members → Result AreaId ConfigFault → Type 0
+ReadsArea t r = Required as_str IsAreaText (get_member (codes "area") t) r
+
+abbrev pub ReadsStubRouter : Members → Result Bool ConfigFault → Type 0
+ReadsStubRouter t r = Optional as_bool (λ b c. b ≡ c) false (get_member (codes "stub_router") t) r
+
+-- ---- of an interface (RFC 2328, appendix C.3)
+
+abbrev pub ReadsKind : Members → Result InterfaceKind ConfigFault → Type 0
+ReadsKind t r = Required as_str IsKindText (get_member (codes "kind") t) r
+
+abbrev pub ReadsAddress : Members → Result InterfaceAddress ConfigFault → Type 0
+ReadsAddress t r = Required as_str IsAddressText (get_member (codes "address") t) r
+
+-- a cost of zero has a fault of its own
+abbrev pub ReadsCostValue : Option ℤ → Result ℕ ConfigFault → Type 0
+ReadsCostValue (Some (pos zero)) r = r ≡ Err fault.ZeroCost
+ReadsCostValue z r = ReadsValue (IsNumberIn 1 65535) z r
+
+abbrev pub ReadsCostAt : Option Data → Result ℕ ConfigFault → Type 0
+ReadsCostAt None r = r ≡ Err fault.Missing
+ReadsCostAt (Some d) r = ReadsCostValue (as_integer d) r
+
+abbrev pub ReadsCost : Members → Result ℕ ConfigFault → Type 0
+ReadsCost t r = ReadsCostAt (get_member (codes "cost") t) r
+
+abbrev pub ReadsPriority : Members → Result ℕ ConfigFault → Type 0
+ReadsPriority t r = Optional as_integer (IsNumberIn 0 255) 1 (get_member (codes "priority") t) r
+
+abbrev pub ReadsHello : Members → Result ℕ ConfigFault → Type 0
+ReadsHello t r = Optional as_integer (IsNumberIn 1 65535) 10 (get_member (codes "hello") t) r
+
+abbrev pub ReadsDead : Members → Result ℕ ConfigFault → Type 0
+ReadsDead t r = Optional as_integer (IsNumberIn 1 65535) 40 (get_member (codes "dead") t) r
+
+abbrev pub ReadsRetransmit : Members → Result ℕ ConfigFault → Type 0
+ReadsRetransmit t r = Optional as_integer (IsNumberIn 1 65535) 5 (get_member (codes "retransmit") t) r
+
+abbrev pub ReadsTransmitDelay : Members → Result ℕ ConfigFault → Type 0
+ReadsTransmitDelay t r = Optional as_integer (IsNumberIn 1 3600) 1 (get_member (codes "transmit_delay") t) r
+
+abbrev pub ReadsMtu : Members → Result ℕ ConfigFault → Type 0
+ReadsMtu t r = Optional as_integer (IsNumberIn 576 9000) 1500 (get_member (codes "mtu") t) r
+
+-- a port, or 0 for none
+abbrev pub IsPortNumber : ℤ → Option Port → Type 0
+IsPortNumber z None = z ≡ pos 0
+IsPortNumber z (Some p) = z ≡ pos p.number
+
+abbrev pub ReadsPort : Members → Result (Option Port) ConfigFault → Type 0
+ReadsPort t r = Optional as_integer IsPortNumber None (get_member (codes "port") t) r
+
+-- the value is a port
+pub record IsPort (d : Data) : Type 0 where
+  pub port : Port
+  pub is : as_integer d ≡ Some (pos port.number)
+
+-- at most 32 ports, in order
+abbrev pub ArePortNumbers : List ℤ → List Port → Type 0
+ArePortNumbers zs ports = (zs ≡ map (λ (p : Port). pos p.number) ports) × (length ports ≤ 32)
+
+abbrev pub ReadsPeers : Members → Result (List Port) ConfigFault → Type 0
+ReadsPeers t r = Optional as_integers ArePortNumbers [] (get_member (codes "peers") t) r

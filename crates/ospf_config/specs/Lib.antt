@@ -1,0 +1,10 @@
+pub mod Fault
+pub mod Host
+pub mod Pairs
+pub mod Reading
+pub mod Texts
+pub mod Keys
+pub mod Conflicts
+pub mod Tables
+pub mod Interfaces
+pub mod Configs

@@ -1,0 +1,34 @@
+-- The texts that stand for Router IDs, areas, kinds and addresses of interfaces.
+use Rattle.std.specs.Prelude.{◌≡◌, ℕ, ◌^◌, ◌<◌, List, ◌++◌, codes, decimal}
+use Rattle.ospf_base.specs.Text.{IsDottedNumber}
+use Rattle.ospf_base.specs.declared.ids.RouterId.{RouterId}
+use Rattle.ospf_base.specs.declared.ids.AreaId.{AreaId}
+use Rattle.ospf_config.specs.declared.address.InterfaceAddress.{InterfaceAddress}
+use Rattle.ospf_config.specs.declared.interface.InterfaceKind.{InterfaceKind}
+use Rattle.ospf_config.specs.declared.interface.InterfaceKind.TheVariants.{PointToPoint, Broadcast}
+
+-- a dotted number other than 0.0.0.0
+pub record IsRouterIdText (text : List ℕ) (id : RouterId) : Type 0 where
+  pub spelled : IsDottedNumber text id.0
+  pub not_zero : 0 < id.0
+  pub fits : id.0 < 2 ^ 32
+
+pub record IsAreaText (text : List ℕ) (area : AreaId) : Type 0 where
+  pub spelled : IsDottedNumber text area.0
+  pub fits : area.0 < 2 ^ 32
+
+abbrev pub kind_text : InterfaceKind → List ℕ
+kind_text PointToPoint = codes "point-to-point"
+kind_text Broadcast = codes "broadcast"
+
+abbrev pub IsKindText : List ℕ → InterfaceKind → Type 0
+IsKindText text kind = text ≡ kind_text kind
+
+-- a dotted number, a slash and a decimal number without leading zeros
+pub record IsPrefixText (text : List ℕ) (address prefix_length : ℕ) : Type 0 where
+  pub dotted : List ℕ
+  pub address_spelled : IsDottedNumber dotted address
+  pub spelled : text ≡ dotted ++ (codes "/" ++ decimal prefix_length)
+
+abbrev pub IsAddressText : List ℕ → InterfaceAddress → Type 0
+IsAddressText text a = IsPrefixText text a.address.0 a.length

@@ -1,0 +1,24 @@
+//! Configurations.
+
+ghost use Rattle.std.specs.Prelude.{◌<◌, ◌≤◌, AllPairs, vec_len};
+ghost use Rattle.ospf_config.specs.Conflicts.{Conflict};
+
+use crate::interface::Interface;
+use ospf_base::{AreaId, RouterId};
+
+/// The configuration of a router (RFC 2328, appendix C).
+#[derive(Debug, Drop)]
+pub struct Config {
+    /// The Router ID, not 0.0.0.0.
+    pub router_id: RouterId,
+    pub area: AreaId,
+    /// Whether the router is a stub router (RFC 6987).
+    pub stub_router: bool,
+    /// One to 32 interfaces, of which no two have one prefix or one address. A link's number is its
+    /// place here.
+    pub interfaces: Vec<Interface>,
+    ghost router_id_not_zero: { 0 < router_id.0 },
+    ghost some_interface: { 1 ≤ vec_len interfaces },
+    ghost few_interfaces: { vec_len interfaces ≤ 32 },
+    ghost no_conflict: { AllPairs (λ a b. Conflict a.address b.address → ⊥) interfaces.items },
+}

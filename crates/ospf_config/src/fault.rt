@@ -1,0 +1,99 @@
+//! Why a text is no configuration.
+
+ghost use Rattle.std.specs.Prelude.{◌≡◌};
+ghost use Rattle.ospf_config.specs.Fault.{earlier_of};
+
+use std::alloc::{AllocError, AllocFailed};
+
+/// The least fault of a text, or that memory ran out.
+#[derive(Clone, Copy, Debug, PartialEq, Eq, thiserror::Error)]
+pub enum ConfigFault {
+    /// The text is no TOML.
+    #[error("C1 NotToml")]
+    NotToml,
+    /// A key that has no default is not there.
+    #[error("C2 Missing")]
+    Missing,
+    /// The value of a key has another type.
+    #[error("C3 Type")]
+    Type,
+    /// A value of the right type is out of its range, or a text is none that can be read.
+    #[error("C4 Range")]
+    Range,
+    /// The cost of an interface is zero.
+    #[error("C5 ZeroCost")]
+    ZeroCost,
+    /// Two interfaces have one prefix or one address.
+    #[error("C6 SamePrefix")]
+    SamePrefix,
+    /// RouterDeadInterval is not greater than HelloInterval.
+    #[error("C7 DeadNotOverHello")]
+    DeadNotOverHello,
+    /// A key that the configuration does not know.
+    #[error("C8 Unknown")]
+    Unknown,
+    /// Memory ran out.
+    #[error("C9 Memory")]
+    Memory,
+}
+
+impl ConfigFault {
+    ghost use Rattle.std.specs.Prelude.{◌≡◌};
+    ghost use Rattle.ospf_config.specs.Fault.{fault_number};
+
+    // The number by which the least fault is told.
+    fn number(self) -> u8
+        ensures { result ≡ fault_number self }
+    {
+        match self {
+            ConfigFault::NotToml => 1,
+            ConfigFault::Missing => 2,
+            ConfigFault::Type => 3,
+            ConfigFault::Range => 4,
+            ConfigFault::ZeroCost => 5,
+            ConfigFault::SamePrefix => 6,
+            ConfigFault::DeadNotOverHello => 7,
+            ConfigFault::Unknown => 8,
+            ConfigFault::Memory => 9,
+        }
+    }
+}
+
+// The fault of the lesser number, where there is one.
+pub(crate) fn earlier(a: Option<ConfigFault>, b: Option<ConfigFault>) -> Option<ConfigFault>
+    ensures { result ≡ earlier_of a b }
+{
+    match (a, b) {
+        (Some(first), Some(second)) => {
+            if second.number() < first.number() {
+                Some(second)
+            } else {
+                Some(first)
+            }
+        }
+        (first, None) => first,
+        (None, second) => second,
+    }
+}
+
+impl From<AllocError> for ConfigFault {
+    ghost use Rattle.std.specs.Prelude.{◌≡◌};
+    ghost use Rattle.ospf_config.specs.declared.fault.ConfigFault.TheVariants.{Memory};
+
+    ghost from_gives = { λ _ fault. fault ≡ Memory };
+
+    fn from(_error: AllocError) -> ConfigFault {
+        ConfigFault::Memory
+    }
+}
+
+impl<T: Drop> From<AllocFailed<T>> for ConfigFault {
+    ghost use Rattle.std.specs.Prelude.{◌≡◌};
+    ghost use Rattle.ospf_config.specs.declared.fault.ConfigFault.TheVariants.{Memory};
+
+    ghost from_gives = { λ _ fault. fault ≡ Memory };
+
+    fn from(_failed: AllocFailed<T>) -> ConfigFault {
+        ConfigFault::Memory
+    }
+}

@@ -1,0 +1,113 @@
+//! The least fault of keys.
+
+ghost use Rattle.std.specs.Prelude.{◌≡◌, ◌⊎◌, Any, All, IsSome, is_some};
+ghost use Rattle.std.specs.List.{list_all};
+ghost use Rattle.toml.specs.Data.{as_table};
+ghost use Rattle.toml.specs.View.{view, table_view, items_view};
+ghost use Rattle.ospf_config.specs.Fault.{IsLeastIfAny, IsFaultIfAny};
+ghost use Rattle.ospf_config.specs.Tables.{HasTopFault, HasInterfaceFault, HasKeyFault, ReadsInterfaces, IsTableWith, interface_tables, tables_of};
+
+use crate::fault::{ConfigFault, earlier};
+use crate::keys::{
+    address_at, cost_at, dead_at, hello_at, kind_at, mtu_at, port_at, priority_at, retransmit_at,
+    transmit_delay_at, value_at,
+};
+use crate::peers::peers_fault;
+use crate::top::{area_at, router_id_at, stub_router_at};
+use toml::{Table, Value};
+
+// The least fault of the keys of an interface.
+fn interface_fault(table: &Table) -> Option<ConfigFault>
+    ensures { IsLeastIfAny (HasInterfaceFault (table_view table.now)) result }
+{
+    let texts = earlier(kind_at(table).err(), address_at(table).err());
+    let hellos = earlier(hello_at(table).err(), dead_at(table).err());
+    let delays = earlier(retransmit_at(table).err(), transmit_delay_at(table).err());
+    let ranks = earlier(cost_at(table).err(), priority_at(table).err());
+    let ports = earlier(port_at(table).err(), peers_fault(table));
+    let times = earlier(hellos, delays);
+    let sizes = earlier(ranks, mtu_at(table).err());
+    earlier(earlier(texts, times), earlier(sizes, ports))
+}
+
+// The same of a value that may be no table.
+fn value_fault(value: &Value) -> Option<ConfigFault>
+    ensures { IsLeastIfAny (λ f. IsTableWith (λ t. HasInterfaceFault t f) (view value.now)) result }
+{
+    match value.as_table() {
+        None => None,
+        Some(table) => interface_fault(table),
+    }
+}
+
+// The least fault of the keys of interfaces.
+fn interfaces_fault(values: &[Value]) -> Option<ConfigFault>
+    ensures { IsLeastIfAny (λ f. Any (λ v. IsTableWith (λ t. HasInterfaceFault t f) (view v)) values.now) result }
+{
+    let mut least = None;
+    for value in values {
+        least = earlier(least, value_fault(value));
+    }
+    least
+}
+
+// Whether each value is a table.
+fn are_all_tables(values: &[Value]) -> bool
+    ensures { result ≡ list_all (λ v. is_some (as_table (view v))) values.now }
+{
+    values.iter().all(|value| value.is_table())
+}
+
+// The fault of the key `interface`.
+fn list_fault(table: &Table) -> Option<ConfigFault>
+    ensures { IsFaultIfAny (ReadsInterfaces (table_view table.now)) result }
+{
+    let Some(value) = value_at(table, "interface") else {
+        return Some(ConfigFault::Missing);
+    };
+    match value.as_array() {
+        None => Some(ConfigFault::Type),
+        Some(values) => {
+            if !are_all_tables(values) {
+                return Some(ConfigFault::Type);
+            }
+            if values.len() < 1 {
+                return Some(ConfigFault::Range);
+            }
+            if values.len() > 32 {
+                return Some(ConfigFault::Range);
+            }
+            None
+        }
+    }
+}
+
+// The tables of the interfaces, or none where the key `interface` is no list of tables.
+pub(crate) fn interface_values(table: &Table) -> &[Value]
+    ensures tables { tables_of (items_view result.now) ≡ interface_tables (table_view table.now) }
+    ensures all { All (λ v. IsSome (as_table (view v))) result.now }
+{
+    let Some(value) = value_at(table, "interface") else {
+        return &[];
+    };
+    match value.as_array() {
+        None => &[],
+        Some(values) => { if are_all_tables(values) { values } else { &[] } }
+    }
+}
+
+// The least fault of the keys at the top.
+fn top_fault(table: &Table) -> Option<ConfigFault>
+    ensures { IsLeastIfAny (HasTopFault (table_view table.now)) result }
+{
+    let ids = earlier(router_id_at(table).err(), area_at(table).err());
+    let others = earlier(stub_router_at(table).err(), list_fault(table));
+    earlier(ids, others)
+}
+
+// The least fault of any key.
+pub(crate) fn key_fault(table: &Table) -> Option<ConfigFault>
+    ensures { IsLeastIfAny (HasKeyFault (table_view table.now)) result }
+{
+    earlier(top_fault(table), interfaces_fault(interface_values(table)))
+}

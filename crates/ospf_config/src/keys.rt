@@ -1,0 +1,177 @@
+//! What stands at a key.
+
+ghost use Rattle.std.specs.Prelude.{◌≡◌, ◌≤◌, IfOk, option_map, option_copied, Ok};
+ghost use Rattle.toml.specs.Data.{get_member, as_integer, as_str};
+ghost use Rattle.toml.specs.View.{view, table_view};
+ghost use Rattle.ospf_config.specs.Reading.{ReadsValue, Optional, IsNumberIn};
+ghost use Rattle.ospf_config.specs.Texts.{IsKindText, IsAddressText};
+ghost use Rattle.ospf_config.specs.Keys.{ReadsKind, ReadsAddress, ReadsCostValue, ReadsCost, IsPortNumber, ReadsPriority, ReadsHello, ReadsDead, ReadsRetransmit, ReadsTransmitDelay, ReadsMtu, ReadsPort};
+
+use crate::address::InterfaceAddress;
+use crate::fault::ConfigFault;
+use crate::interface::{InterfaceKind, Port};
+use toml::{Table, Value};
+
+// What the table holds at a key.
+pub(crate) fn value_at<'a>(table: &'a Table, key: &str) -> Option<&'a Value>
+    ensures { option_map (λ v. view v.now) result ≡ get_member key.now (table_view table.now) }
+{
+    table.get(key)
+}
+
+// A number of a range.
+pub(crate) fn number_in(number: Option<i64>, low: u16, high: u16) -> Result<u16, ConfigFault>
+    ensures { ReadsValue (IsNumberIn low high) number result }
+{
+    match number {
+        None => Err(ConfigFault::Type),
+        Some(n) => match u16::try_from(n) {
+            Ok(n) if low <= n && n <= high => Ok(n),
+            _ => Err(ConfigFault::Range),
+        },
+    }
+}
+
+// The number of a range at a key, or the default.
+fn number_at(
+    table: &Table,
+    key: &str,
+    low: u16,
+    high: u16,
+    default: u16,
+) -> Result<u16, ConfigFault>
+    requires low { low ≤ default }
+    requires high { default ≤ high }
+    ensures reads { Optional as_integer (IsNumberIn low high) default (get_member key.now (table_view table.now)) result }
+    ensures range { IfOk result (λ n. (low ≤ n) × (n ≤ high)) }
+{
+    match value_at(table, key) {
+        None => Ok(default),
+        Some(value) => number_in(value.as_integer(), low, high),
+    }
+}
+
+// The kind of an interface that a text names.
+fn kind_of(text: Option<&str>) -> Result<InterfaceKind, ConfigFault>
+    ensures { ReadsValue IsKindText (option_copied text.entry) result }
+{
+    match text {
+        None => Err(ConfigFault::Type),
+        Some("point-to-point") => Ok(InterfaceKind::PointToPoint),
+        Some("broadcast") => Ok(InterfaceKind::Broadcast),
+        Some(_) => Err(ConfigFault::Range),
+    }
+}
+
+pub(crate) fn kind_at(table: &Table) -> Result<InterfaceKind, ConfigFault>
+    ensures { ReadsKind (table_view table.now) result }
+{
+    match value_at(table, "kind") {
+        None => Err(ConfigFault::Missing),
+        Some(value) => kind_of(value.as_str()),
+    }
+}
+
+// The address that a text spells, under its prefix.
+fn address_of(text: Option<&str>) -> Result<InterfaceAddress, ConfigFault>
+    ensures { ReadsValue IsAddressText (option_copied text.entry) result }
+{
+    match text {
+        None => Err(ConfigFault::Type),
+        Some(text) => InterfaceAddress::read(text).ok_or(ConfigFault::Range),
+    }
+}
+
+pub(crate) fn address_at(table: &Table) -> Result<InterfaceAddress, ConfigFault>
+    ensures { ReadsAddress (table_view table.now) result }
+{
+    match value_at(table, "address") {
+        None => Err(ConfigFault::Missing),
+        Some(value) => address_of(value.as_str()),
+    }
+}
+
+// A cost, which is not zero.
+fn cost_of(number: Option<i64>) -> Result<u16, ConfigFault>
+    ensures reads { ReadsCostValue number result }
+    ensures range { IfOk result (λ n. 1 ≤ n) }
+{
+    match number {
+        Some(0) => Err(ConfigFault::ZeroCost),
+        number => number_in(number, 1, 65535),
+    }
+}
+
+pub(crate) fn cost_at(table: &Table) -> Result<u16, ConfigFault>
+    ensures reads { ReadsCost (table_view table.now) result }
+    ensures range { IfOk result (λ n. 1 ≤ n) }
+{
+    match value_at(table, "cost") {
+        None => Err(ConfigFault::Missing),
+        Some(value) => cost_of(value.as_integer()),
+    }
+}
+
+pub(crate) fn priority_at(table: &Table) -> Result<u8, ConfigFault>
+    ensures { ReadsPriority (table_view table.now) result }
+{
+    let priority = number_at(table, "priority", 0, 255, 1)?;
+    Ok(priority as u8)
+}
+
+pub(crate) fn hello_at(table: &Table) -> Result<u16, ConfigFault>
+    ensures reads { ReadsHello (table_view table.now) result }
+    ensures range { IfOk result (λ n. 1 ≤ n) }
+{
+    number_at(table, "hello", 1, 65535, 10)
+}
+
+pub(crate) fn dead_at(table: &Table) -> Result<u16, ConfigFault>
+    ensures reads { ReadsDead (table_view table.now) result }
+    ensures range { IfOk result (λ n. 1 ≤ n) }
+{
+    number_at(table, "dead", 1, 65535, 40)
+}
+
+pub(crate) fn retransmit_at(table: &Table) -> Result<u16, ConfigFault>
+    ensures reads { ReadsRetransmit (table_view table.now) result }
+    ensures range { IfOk result (λ n. 1 ≤ n) }
+{
+    number_at(table, "retransmit", 1, 65535, 5)
+}
+
+pub(crate) fn transmit_delay_at(table: &Table) -> Result<u16, ConfigFault>
+    ensures reads { ReadsTransmitDelay (table_view table.now) result }
+    ensures range { IfOk result (λ n. (1 ≤ n) × (n ≤ 3600)) }
+{
+    number_at(table, "transmit_delay", 1, 3600, 1)
+}
+
+pub(crate) fn mtu_at(table: &Table) -> Result<u16, ConfigFault>
+    ensures reads { ReadsMtu (table_view table.now) result }
+    ensures range { IfOk result (λ n. (576 ≤ n) × (n ≤ 9000)) }
+{
+    number_at(table, "mtu", 576, 9000, 1500)
+}
+
+// A port, or 0 for none.
+fn port_of(number: Option<i64>) -> Result<Option<Port>, ConfigFault>
+    ensures { ReadsValue IsPortNumber number result }
+{
+    match number {
+        Some(0) => Ok(None),
+        number => {
+            let number = number_in(number, 1024, 65535)?;
+            Ok(Some(Port { number }))
+        }
+    }
+}
+
+pub(crate) fn port_at(table: &Table) -> Result<Option<Port>, ConfigFault>
+    ensures { ReadsPort (table_view table.now) result }
+{
+    match value_at(table, "port") {
+        None => Ok(None),
+        Some(value) => port_of(value.as_integer()),
+    }
+}

@@ -1,0 +1,20 @@
+//! The configuration of a router of OSPF version 2, read from TOML.
+#![tactic(auto)]
+
+mod address;
+mod config;
+mod fault;
+mod faults;
+mod interface;
+mod keys;
+mod peers;
+mod read;
+mod rules;
+#[cfg(test)]
+mod tests;
+mod top;
+
+pub use crate::address::InterfaceAddress;
+pub use crate::config::Config;
+pub use crate::fault::ConfigFault;
+pub use crate::interface::{Interface, InterfaceKind, Port};

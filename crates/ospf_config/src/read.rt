@@ -1,0 +1,146 @@
+//! Configurations from TOML.
+
+ghost use Rattle.std.specs.Prelude.{◌≡◌, ◌⊎◌, IsSome, IfOk, IfErr, OnOk, All, Any};
+ghost use Rattle.toml.specs.Data.{as_table};
+ghost use Rattle.toml.specs.View.{view, table_view, items_view};
+ghost use Rattle.ospf_config.specs.declared.fault.ConfigFault.{ConfigFault};
+ghost use Rattle.ospf_config.specs.declared.fault.ConfigFault.TheVariants as fault;
+ghost use Rattle.ospf_config.specs.Fault.{IsLeast};
+ghost use Rattle.ospf_config.specs.Pairs.{EachPair};
+ghost use Rattle.ospf_config.specs.Tables.{HasInterfaceFault, HasKeyFault, HasFault, IsDeadNotOverHello, IsTableWith, interface_tables, tables_of};
+ghost use Rattle.ospf_config.specs.Interfaces.{IsInterfaceOf};
+ghost use Rattle.ospf_config.specs.Configs.{IsConfigOf, IsReading, TextHasFault};
+
+use crate::config::Config;
+use crate::fault::ConfigFault;
+use crate::faults::{interface_values, key_fault};
+use crate::interface::Interface;
+use crate::keys::{
+    address_at, cost_at, dead_at, hello_at, kind_at, mtu_at, port_at, priority_at, retransmit_at,
+    transmit_delay_at,
+};
+use crate::peers::peers_at;
+use crate::rules::{addresses_of, has_conflict, is_any_dead, is_any_unknown, table_in};
+use crate::top::{area_at, router_id_at, stub_router_at};
+use std::alloc::Global;
+use toml::{Table, Value};
+
+// The interface that a table describes.
+fn interface_at(alloc: Global, table: &Table) -> Result<Interface, ConfigFault>
+    requires { IsDeadNotOverHello (table_view table.now) → ⊥ }
+    ensures ok { IfOk result (IsInterfaceOf (table_view table.now)) }
+    ensures fault { IfErr result (λ f. (f ≡ fault.Memory) ⊎ HasInterfaceFault (table_view table.now) f) }
+{
+    let kind = kind_at(table)?;
+    let address = address_at(table)?;
+    let cost = cost_at(table)?;
+    let priority = priority_at(table)?;
+    let hello = hello_at(table)?;
+    let dead = dead_at(table)?;
+    let retransmit = retransmit_at(table)?;
+    let transmit_delay = transmit_delay_at(table)?;
+    let mtu = mtu_at(table)?;
+    let port = port_at(table)?;
+    let peers = peers_at(alloc, table)?;
+    Ok(Interface {
+        kind,
+        address,
+        cost,
+        priority,
+        hello,
+        dead,
+        retransmit,
+        transmit_delay,
+        mtu,
+        port,
+        peers,
+    })
+}
+
+// The interfaces that tables describe, in order.
+fn interfaces_of(alloc: Global, values: &[Value]) -> Result<Vec<Interface>, ConfigFault>
+    requires tables { All (λ v. IsSome (as_table (view v))) values.now }
+    requires hellos { Any (λ v. IsTableWith IsDeadNotOverHello (view v)) values.now → ⊥ }
+    ensures ok { IfOk result (λ interfaces. EachPair IsInterfaceOf (tables_of (items_view values.now)) interfaces.items) }
+    ensures fault { IfErr result (λ f. (f ≡ fault.Memory) ⊎ Any (λ t. HasInterfaceFault t f) (tables_of (items_view values.now))) }
+{
+    let mut interfaces = Vec::with_capacity(alloc, values.len())?;
+    for value in values {
+        interfaces.push(interface_at(alloc, table_in(value))?)?;
+    }
+    Ok(interfaces)
+}
+
+// The configuration that a table without faults describes, whose interfaces' values these are.
+fn config_at(alloc: Global, table: &Table, values: &[Value]) -> Result<Config, ConfigFault>
+    requires free { (f : ConfigFault) → HasFault (table_view table.now) f → ⊥ }
+    requires values { tables_of (items_view values.now) ≡ interface_tables (table_view table.now) }
+    requires tables { All (λ v. IsSome (as_table (view v))) values.now }
+    ensures ok { IfOk result (IsConfigOf (table_view table.now)) }
+    ensures fault { IfErr result (λ f. f ≡ fault.Memory) }
+{
+    let router_id = router_id_at(table)?;
+    let area = area_at(table)?;
+    let stub_router = stub_router_at(table)?;
+    let interfaces = interfaces_of(alloc, values)?;
+    Ok(Config {
+        router_id,
+        area,
+        stub_router,
+        interfaces,
+    })
+}
+
+// The configuration of a table whose keys have no fault, or the least fault of the rules on several.
+fn config_by_rules(alloc: Global, table: &Table) -> Result<Config, ConfigFault>
+    requires { (f : ConfigFault) → HasKeyFault (table_view table.now) f → ⊥ }
+    ensures ok { IfOk result (IsConfigOf (table_view table.now)) }
+    ensures free { OnOk result ((f : ConfigFault) → HasFault (table_view table.now) f → ⊥) }
+    ensures fault { IfErr result (λ f. (f ≡ fault.Memory) ⊎ IsLeast (HasFault (table_view table.now)) f) }
+{
+    let values = interface_values(table);
+    let addresses = addresses_of(alloc, values)?;
+    if has_conflict(&addresses) {
+        return Err(ConfigFault::SamePrefix);
+    }
+    if is_any_dead(values) {
+        return Err(ConfigFault::DeadNotOverHello);
+    }
+    if is_any_unknown(table, values) {
+        return Err(ConfigFault::Unknown);
+    }
+    let config = config_at(alloc, table, values)?;
+    Ok(config)
+}
+
+// The configuration of a table, or its least fault.
+fn config_of(alloc: Global, table: &Table) -> Result<Config, ConfigFault>
+    ensures ok { IfOk result (IsConfigOf (table_view table.now)) }
+    ensures free { OnOk result ((f : ConfigFault) → HasFault (table_view table.now) f → ⊥) }
+    ensures fault { IfErr result (λ f. (f ≡ fault.Memory) ⊎ IsLeast (HasFault (table_view table.now)) f) }
+{
+    match key_fault(table) {
+        Some(fault) => Err(fault),
+        None => config_by_rules(alloc, table),
+    }
+}
+
+impl Config {
+    /// Reads a configuration from TOML.
+    ///
+    /// The error is the fault of least number that the text has, or `Memory` where memory ran out.
+    pub fn from_text(alloc: Global, text: &str) -> Result<Config, ConfigFault>
+        ensures ok { IfOk result (IsReading text.now) }
+        ensures free { OnOk result ((f : ConfigFault) → TextHasFault text.now f → ⊥) }
+        ensures fault { IfErr result (λ f. (f ≡ fault.Memory) ⊎ IsLeast (TextHasFault text.now) f) }
+    {
+        match toml::table_from_str(alloc, text) {
+            Ok(table) => {
+                let config = config_of(alloc, &table)?;
+                Ok(config)
+            }
+            Err(error) if error.is_memory() => Err(ConfigFault::Memory),
+            Err(_) => Err(ConfigFault::NotToml),
+        }
+    }
+}

@@ -1,0 +1,68 @@
+//! The keys at the top.
+
+ghost use Rattle.std.specs.Prelude.{◌≡◌, ◌<◌, IfOk, option_copied};
+ghost use Rattle.toml.specs.View.{table_view};
+ghost use Rattle.ospf_config.specs.Reading.{ReadsValue};
+ghost use Rattle.ospf_config.specs.Texts.{IsRouterIdText, IsAreaText};
+ghost use Rattle.ospf_config.specs.Keys.{ReadsRouterId, ReadsArea, ReadsStubRouter};
+
+use crate::address::dotted_number;
+use crate::fault::ConfigFault;
+use crate::keys::value_at;
+use ospf_base::{AreaId, RouterId};
+use toml::Table;
+
+// The Router ID that a text spells, which is not zero.
+fn router_id_of(text: Option<&str>) -> Result<RouterId, ConfigFault>
+    ensures reads { ReadsValue IsRouterIdText (option_copied text.entry) result }
+    ensures range { IfOk result (λ id. 0 < id.0) }
+{
+    let Some(text) = text else {
+        return Err(ConfigFault::Type);
+    };
+    match dotted_number(text) {
+        Some(number) if number > 0 => Ok(RouterId(number)),
+        _ => Err(ConfigFault::Range),
+    }
+}
+
+pub(crate) fn router_id_at(table: &Table) -> Result<RouterId, ConfigFault>
+    ensures reads { ReadsRouterId (table_view table.now) result }
+    ensures range { IfOk result (λ id. 0 < id.0) }
+{
+    match value_at(table, "router_id") {
+        None => Err(ConfigFault::Missing),
+        Some(value) => router_id_of(value.as_str()),
+    }
+}
+
+// The area that a text spells.
+fn area_of(text: Option<&str>) -> Result<AreaId, ConfigFault>
+    ensures { ReadsValue IsAreaText (option_copied text.entry) result }
+{
+    let Some(text) = text else {
+        return Err(ConfigFault::Type);
+    };
+    match dotted_number(text) {
+        Some(number) => Ok(AreaId(number)),
+        None => Err(ConfigFault::Range),
+    }
+}
+
+pub(crate) fn area_at(table: &Table) -> Result<AreaId, ConfigFault>
+    ensures { ReadsArea (table_view table.now) result }
+{
+    match value_at(table, "area") {
+        None => Err(ConfigFault::Missing),
+        Some(value) => area_of(value.as_str()),
+    }
+}
+
+pub(crate) fn stub_router_at(table: &Table) -> Result<bool, ConfigFault>
+    ensures { ReadsStubRouter (table_view table.now) result }
+{
+    match value_at(table, "stub_router") {
+        None => Ok(false),
+        Some(value) => value.as_bool().ok_or(ConfigFault::Type),
+    }
+}
