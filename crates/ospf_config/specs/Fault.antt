@@ -1,5 +1,5 @@
 -- The order of faults: the one of the least number is told.
-use Rattle.std.specs.Prelude.{ℕ, ◌≤◌, nat_lt, if◌then◌else◌, Option, Some, None, MatchOption, Result, Err}
+use Rattle.std.specs.Prelude.{ℕ, List, codes, ◌≤◌, nat_lt, if◌then◌else◌, Option, Some, None, MatchOption, Result, Err}
 use Rattle.ospf_config.specs.declared.fault.ConfigFault.{ConfigFault}
 use Rattle.ospf_config.specs.declared.fault.ConfigFault.TheVariants as fault
 
@@ -13,6 +13,18 @@ fault_number fault.SamePrefix = 6
 fault_number fault.DeadNotOverHello = 7
 fault_number fault.Unknown = 8
 fault_number fault.Memory = 9
+
+-- what is printed of a fault
+abbrev pub fault_text : ConfigFault → List ℕ
+fault_text fault.NotToml = codes "C1 NotToml"
+fault_text fault.Missing = codes "C2 Missing"
+fault_text fault.Type = codes "C3 Type"
+fault_text fault.Range = codes "C4 Range"
+fault_text fault.ZeroCost = codes "C5 ZeroCost"
+fault_text fault.SamePrefix = codes "C6 SamePrefix"
+fault_text fault.DeadNotOverHello = codes "C7 DeadNotOverHello"
+fault_text fault.Unknown = codes "C8 Unknown"
+fault_text fault.Memory = codes "C9 Memory"
 
 -- the fault of the lesser number
 abbrev pub earlier_of : Option ConfigFault → Option ConfigFault → Option ConfigFault

@@ -4,42 +4,52 @@ ghost use Rattle.std.specs.Prelude.{◌≡◌};
 ghost use Rattle.ospf_config.specs.Fault.{earlier_of};
 
 use std::alloc::{AllocError, AllocFailed};
+use thiserror::Error;
 
 /// The least fault of a text, or that memory ran out.
-#[derive(Clone, Copy, Debug, PartialEq, Eq, thiserror::Error)]
+#[derive(Clone, Copy, Debug, PartialEq, Eq, Error)]
+#[error("{text}", text = self.text())]
 pub enum ConfigFault {
     /// The text is no TOML.
-    #[error("C1 NotToml")]
     NotToml,
     /// A key that has no default is not there.
-    #[error("C2 Missing")]
     Missing,
     /// The value of a key has another type.
-    #[error("C3 Type")]
     Type,
     /// A value of the right type is out of its range, or a text is none that can be read.
-    #[error("C4 Range")]
     Range,
     /// The cost of an interface is zero.
-    #[error("C5 ZeroCost")]
     ZeroCost,
     /// Two interfaces have one prefix or one address.
-    #[error("C6 SamePrefix")]
     SamePrefix,
     /// RouterDeadInterval is not greater than HelloInterval.
-    #[error("C7 DeadNotOverHello")]
     DeadNotOverHello,
     /// A key that the configuration does not know.
-    #[error("C8 Unknown")]
     Unknown,
     /// Memory ran out.
-    #[error("C9 Memory")]
     Memory,
 }
 
 impl ConfigFault {
     ghost use Rattle.std.specs.Prelude.{◌≡◌};
-    ghost use Rattle.ospf_config.specs.Fault.{fault_number};
+    ghost use Rattle.ospf_config.specs.Fault.{fault_number, fault_text};
+
+    /// The fault's number and name, as it is printed.
+    pub fn text(self) -> &'static str
+        ensures { result.now ≡ fault_text self }
+    {
+        match self {
+            ConfigFault::NotToml => "C1 NotToml",
+            ConfigFault::Missing => "C2 Missing",
+            ConfigFault::Type => "C3 Type",
+            ConfigFault::Range => "C4 Range",
+            ConfigFault::ZeroCost => "C5 ZeroCost",
+            ConfigFault::SamePrefix => "C6 SamePrefix",
+            ConfigFault::DeadNotOverHello => "C7 DeadNotOverHello",
+            ConfigFault::Unknown => "C8 Unknown",
+            ConfigFault::Memory => "C9 Memory",
+        }
+    }
 
     // The number by which the least fault is told.
     fn number(self) -> u8

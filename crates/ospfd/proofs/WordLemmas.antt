@@ -1,15 +1,17 @@
 -- Texts that spell addresses.
-use Rattle.std.proofs.Common.{◌≡◌, ◌∙◌, ◌+◌, ◌<◌, ◌++◌, ℕ, suc, zero, List, [], ◌∷◌, Ok, Err, Result, IsErrAnd, IfErr, Bor, map, take, length, drop, get_or, subst, refl, ap, ap₂, sym, Option, Some, None, option_map, unwrap_or, inl, inr, arith, string_bytes}
+use Rattle.std.proofs.Common.{◌≡◌, ◌∙◌, ◌+◌, ◌<◌, ◌++◌, ℕ, suc, zero, List, [], ◌∷◌, Ok, Err, Result, IsErrAnd, IfErr, Bor, map, take, length, drop, get_or, subst, refl, ap, ap₂, sym, Option, Some, None, option_map, unwrap_or, inl, inr, arith, codes, slice_index, string_bytes}
+use Rattle.std.proofs.lemmas.List.{map-append, take_more}
 use Rattle.std.proofs.lemmas.Option.{none-some}
 use Rattle.std.specs.declared.net.parser.AddrParseError.{AddrParseError}
 use Rattle.clap.specs.Faults.{fault_of}
 use Rattle.clap.specs.Kinds.{HasKind}
+use Rattle.clap.specs.Words.{Row, all_of, first_of, subcommand_of}
 use Rattle.clap.specs.declared.error.Error.{Error}
 use Rattle.ospf_base.specs.Text.{IsDottedNumber, ReadsAddress, ReadsRouterId}
 use Rattle.ospf_base.specs.declared.ids.RouterId.{RouterId}
 use Rattle.ospf_base.specs.declared.ids.Addr.{Addr}
 use Rattle.ospfd.specs.Job.{IsFaultOfNoValue, IsFaultOfValue, IsFaultOfWords}
-use Rattle.ospfd.specs.Unasked.{HasNoTable, IsFirstWrong, IsNoAddress, IsUnasked, IsWrongValue}
+use Rattle.ospfd.specs.Unasked.{IsFirstWrong, IsNoAddress, IsNoJob, IsUnasked, IsWrongValue}
 use Rattle.ospfd.specs.Words.{Spell, command_app}
 use Rattle.ospfd.specs.declared.jobs.JobFault.{JobFault}
 use Rattle.ospfd.specs.declared.jobs.JobFault.TheVariants as fault
@@ -26,6 +28,13 @@ spell_suc (w ∷ words) zero d (b ∷ rest) a below spelled reads = absurd spell
 spell_suc (w ∷ words) (suc i) d [] a below spelled reads = absurd spelled
 spell_suc (w ∷ words) (suc i) d (b ∷ rest) a below spelled reads =
     (spelled.0, spell_suc words i d rest a (omega arith) spelled.1 reads)
+
+-- one more word, and its text
+pub more_texts : {S : Type 0} (text : S → List ℕ) (words : List (Bor (List ℕ))) (i : ℕ) (d : Bor (List ℕ)) (texts : List S) (t : S) → i < length words
+    → map text texts ≡ texts_of (take i words) → text t ≡ (get_or words i d).now → map text (texts ++ t ∷ []) ≡ texts_of (take (i + 1) words)
+more_texts text words i d texts t below so_far is = map-append text texts (t ∷ [])
+    ∙ ap₂ (λ front last. front ++ last ∷ []) so_far is
+    ∙ sym (map-append (λ w. w.now) (take i words) (get_or words i d ∷ [])) ∙ ap texts_of (sym (take_more words i d below))
 
 -- one more text, and the address that it spells
 pub spell_more : (words : List (Bor (List ℕ))) (i : ℕ) (d : Bor (List ℕ)) (addresses : List Addr) (a : Addr) → i < length words
@@ -69,11 +78,10 @@ value_weaker P Q (fault.Words e) k h = absurd h
 value_weaker P Q (fault.Address w) k h = k (string_bytes w) h
 value_weaker P Q fault.Memory k h = tt
 
-pub value_unasked : (words : List (List ℕ)) (P : List ℕ → Type 0) (f : JobFault) → ((w : List ℕ) → P w → IsWrongValue words w)
-    → IsFaultOfValue P f → IsUnasked words f
-value_unasked words P (fault.Words e) k h = absurd h
-value_unasked words P (fault.Address w) k h = k (string_bytes w) h
-value_unasked words P fault.Memory k h = tt
+pub value_unasked : (words : List (List ℕ)) (f : JobFault) → IsFaultOfValue (IsWrongValue (subcommand_of command_app words)) f → IsUnasked words f
+value_unasked words (fault.Words e) h = absurd h
+value_unasked words (fault.Address w) h = h
+value_unasked words fault.Memory h = tt
 
 -- the texts before a place, the one there and those after it
 split_at : (words : List (Bor (List ℕ))) (i : ℕ) (d : Bor (List ℕ)) → i < length words
@@ -117,6 +125,42 @@ address_wrong root r texts w reads f = record {
   wrong = f.wrong;
 }
 
+-- the first wrong word is the first wrong value of `table`
+pub wrong_value : (rows : List Row) (root w : List ℕ) → first_of (codes "root") rows ≡ Some root
+    → IsFirstWrong (root ∷ unwrap_or (all_of (codes "addresses") rows) []) w → IsWrongValue (Some (codes "table", rows)) w
+wrong_value rows root w is_root first = record { rows = rows; table = refl; root = root; has_root = is_root; first = first }
+
+-- ---- words that make no job
+
+-- what is entered has one name
+abbrev name_of : Option (List ℕ × List Row) → List ℕ
+name_of entered = unwrap_or (option_map (λ (p : List ℕ × List Row). p.0) entered) []
+
+abbrev entered_of : List ℕ → List Row → Option (List ℕ × List Row)
+entered_of name rows = Some (name, rows)
+
+one_name : (rows others : List Row) → entered_of (codes "table") rows ≡ entered_of (codes "check") others → ⊥
+one_name rows others same =
+    let first : 116 ≡ 99 = ap (λ entered. slice_index (name_of entered) 0) same in
+    omega (arith, first)
+
+same_rows : (name : List ℕ) (rows others : List Row) → entered_of name rows ≡ entered_of name others → rows ≡ others
+same_rows name rows others same = ap (λ entered. unwrap_or (option_map (λ (p : List ℕ × List Row). p.1) entered) rows) same
+
+-- `table` without a root
+pub no_root : (rows : List Row) → first_of (codes "root") rows ≡ None → IsNoJob (Some (codes "table", rows))
+no_root rows none = record {
+  no_table = λ others same. ap (first_of (codes "root")) (sym (same_rows (codes "table") rows others same)) ∙ none;
+  no_check = λ others same. absurd (one_name rows others same);
+}
+
+-- `check` without files
+pub no_files : (rows : List Row) → all_of (codes "files") rows ≡ None → IsNoJob (Some (codes "check", rows))
+no_files rows none = record {
+  no_table = λ others same. absurd (one_name others rows (sym same));
+  no_check = λ others same. ap (all_of (codes "files")) (sym (same_rows (codes "check") rows others same)) ∙ none;
+}
+
 -- what `clap` refuses
 pub words_refused : (words : List (List ℕ)) (e : Error) (f : JobFault) → HasKind (fault_of command_app words) e → IsFaultOfWords e f → IsUnasked words f
 words_refused words e f kinds is = elim is [
@@ -124,8 +168,9 @@ words_refused words e f kinds is = elim is [
   | inr h ↦ subst (IsUnasked words) (sym h.1) (inl (elim kinds [ inl memory ↦ absurd (h.0 memory) | inr among ↦ among ]))
 ]
 
--- where `clap` refuses nothing and reads no table
-pub no_table_refused : (words : List (List ℕ)) (f : JobFault) → fault_of command_app words ≡ [] → HasNoTable words → IsFaultOfNoValue f → IsUnasked words f
-no_table_refused words (fault.Words e) none no_table is = inr (none, no_table)
-no_table_refused words (fault.Address w) none no_table is = absurd is
-no_table_refused words fault.Memory none no_table is = tt
+-- where `clap` refuses nothing and reads no job
+pub no_job_refused : (words : List (List ℕ)) (f : JobFault) → fault_of command_app words ≡ [] → IsNoJob (subcommand_of command_app words)
+    → IsFaultOfNoValue f → IsUnasked words f
+no_job_refused words (fault.Words e) none no_job is = inr (none, no_job)
+no_job_refused words (fault.Address w) none no_job is = absurd is
+no_job_refused words fault.Memory none no_job is = tt

@@ -1,5 +1,5 @@
 -- Texts that are written one after the other.
-use Rattle.std.proofs.Common.{◌≡◌, ◌∙◌, ap, sym, subst, ◌+◌, ◌<◌, ◌≤◌, ℕ, List, [], ◌∷◌, ◌++◌, length, take, get_or, Option, None, Some, append_assoc, append-nil, arith, inr, refl}
+use Rattle.std.proofs.Common.{◌≡◌, ◌∙◌, ◌&&◌, Bool, true, false, ap, sym, subst, ◌+◌, ◌<◌, ◌≤◌, ℕ, List, [], ◌∷◌, ◌++◌, length, take, get_or, Option, None, Some, append_assoc, append-nil, arith, inr, refl}
 use Rattle.std.proofs.lemmas.List.{take_more, flat_map_more}
 use Rattle.std.specs.Io.KnownBytes.{Appends, Keeps}
 use Rattle.ospf_base.specs.declared.ids.Addr.{Addr}
@@ -10,6 +10,8 @@ use Rattle.ospf_graph.specs.declared.hop.NextHop.{NextHop}
 use Rattle.ospf_graph.specs.declared.route.Route.{Route}
 use Rattle.ospf_spf.specs.Listed.{advertisements_of}
 use Rattle.ospfd.specs.Line.{Reads}
+use Rattle.ospfd.specs.Checked.{AreTold, IsTold, IsWritten, IsWrittenOf, no_file, one_file}
+use Rattle.ospfd.specs.declared.check.NamedFile.{NamedFile}
 use Rattle.ospfd.specs.Output.{route_line, routes_text, best_text, IsLookupLine, AreLookups, IsOutput, IsAnswer, no_more, one_more}
 
 pub nothing_written : (o : Option (List ℕ)) → Appends o o []
@@ -74,7 +76,7 @@ lookup_written a b c table addresses i d within so_far next =
 pub no_lookups : (a : Option (List ℕ)) (table : List Route) → HasLookups a a table []
 no_lookups a table = record { lines = []; are = no_more; written = nothing_written a }
 
-kept_written : (a b c : Option (List ℕ)) (xs : List ℕ) → Appends a b xs → Keeps b c → Appends a c xs
+pub kept_written : (a b c : Option (List ℕ)) (xs : List ℕ) → Appends a b xs → Keeps b c → Appends a c xs
 kept_written None b c xs h k = tt
 kept_written (Some p) None c xs h k = absurd h
 kept_written (Some p) (Some q) None xs h k = absurd k
@@ -92,3 +94,37 @@ answer_written a b c d input listing root table routes addresses reads is_table 
       record { listing = listing; reads = reads; table = table; is_table = is_table; output = output },
       kept_written a c d _ (both_written a b c _ _ routes_written lookups.2) flushed,
     )
+
+-- ---- files that are checked
+
+and_assoc : (a b c : Bool) → ((a && b) && c) ≡ (a && (b && c))
+and_assoc true b c = refl
+and_assoc false b c = refl
+
+and_true : (a : Bool) → (a && true) ≡ a
+and_true true = refl
+and_true false = refl
+
+-- one more file
+more_told : (files : List NamedFile) (all : Bool) (outs errs : List ℕ) (file : NamedFile) (accepted : Bool) (out err : List ℕ) → AreTold files all outs errs
+    → IsTold file accepted out err → AreTold (files ++ file ∷ []) (all && accepted) (outs ++ out) (errs ++ err)
+more_told _ _ _ _ file accepted out err no_file is = rw (sym (append-nil out), sym (append-nil err), sym (and_true accepted)) (one_file is no_file)
+more_told _ _ _ _ file accepted out err (one_file {accepted = a} {all = all} {out = o} {outs = outs} {err = e} {errs = errs} first rest) is =
+    rw (and_assoc a all accepted, append_assoc o outs out, append_assoc e errs err) (one_file first (more_told _ all outs errs file accepted out err rest is))
+
+pub no_files : (out err : Option (List ℕ)) → IsWritten [] true out out err err
+no_files out err = record { out = []; err = []; told = no_file; out_written = nothing_written out; err_written = nothing_written err }
+
+pub file_written : (a b c x y z : Option (List ℕ)) (files : List NamedFile) (i : ℕ) (file : NamedFile) (all accepted : Bool) → i < length files
+    → file ≡ get_or files i file → IsWritten (take i files) all a b x y → IsWrittenOf file accepted b c y z
+    → IsWritten (take (i + 1) files) (all && accepted) a c x z
+file_written a b c x y z files i file all accepted within at so_far next =
+    let more = ap (λ last. take i files ++ last ∷ []) at ∙ sym (take_more files i file within) in
+    record {
+      out = so_far.out ++ next.out;
+      err = so_far.err ++ next.err;
+      told = subst (λ front. AreTold front (all && accepted) (so_far.out ++ next.out) (so_far.err ++ next.err)) more
+          (more_told (take i files) all so_far.out so_far.err file accepted next.out next.err so_far.told next.told);
+      out_written = both_written a b c so_far.out next.out so_far.out_written next.out_written;
+      err_written = both_written x y z so_far.err next.err so_far.err_written next.err_written;
+    }

@@ -4,4 +4,5 @@ pub mod Fault
 pub mod Job
 pub mod Words
 pub mod Output
+pub mod Checked
 pub mod Unasked

@@ -34,7 +34,7 @@ pub record IsNoRouteLine (table : List Route) (address : ℕ) (line : List ℕ) 
   pub none : (route : Route) → Contains table route → Holds route.prefix address → ⊥
   pub line_is : line ≡ no_route_line address
 
--- the line has the route of longest prefix that holds the address, and the first of its hops
+-- the line has the route of longest prefix that holds the address (RFC 2328, section 11.1), and the first of its hops
 pub record IsBestLine (table : List Route) (address : ℕ) (line : List ℕ) : Type 0 where
   pub route : Route
   pub best : IsBest table address route

@@ -1,10 +1,11 @@
 -- What the program's words ask for, as `clap` reads them.
-use Rattle.std.specs.Prelude.{◌≡◌, true, List, [], ◌∷◌, Some, Ok, ⊤, codes, unwrap_or}
+use Rattle.std.specs.Prelude.{◌≡◌, true, List, [], ◌∷◌, Option, Some, Ok, ⊤, codes, map, string_bytes, unwrap_or}
 use Rattle.ospf_base.specs.Text.{ReadsAddress, ReadsRouterId}
 use Rattle.ospf_base.specs.declared.ids.Addr.{Addr}
 use Rattle.clap.specs.Lexer.{usize_max}
 use Rattle.clap.specs.Words.{App, Row, Rule, Text, all_of, first_of, new_app, new_rule, subcommand_of, with_rule, with_subcommand}
 use Rattle.clap.specs.declared.builder.action.ArgAction.TheVariants.{Append}
+use Rattle.ospfd.specs.declared.jobs.CheckJob.{CheckJob}
 use Rattle.ospfd.specs.declared.jobs.Job.{Job}
 use Rattle.ospfd.specs.declared.jobs.Job.TheVariants as job
 use Rattle.ospfd.specs.declared.jobs.TableJob.{TableJob}
@@ -25,6 +26,19 @@ addresses_rule = record (new_rule (codes "addresses")) {
 abbrev pub table_app : App
 table_app = with_rule (with_rule (new_app (codes "table")) root_rule) addresses_rule
 
+-- one word or more
+abbrev pub files_rule : Rule
+files_rule = record (new_rule (codes "files")) {
+  required = true;
+  action = Some Append;
+  range = Some (record { start_inclusive = 1; end_inclusive = usize_max });
+  value_names = 1;
+}
+
+-- the command `check`: files
+abbrev pub check_app : App
+check_app = with_rule (new_app (codes "check")) files_rule
+
 -- the program, before its commands
 abbrev pub ospfd_app : App
 ospfd_app = record (new_app (codes "ospfd")) {
@@ -33,7 +47,7 @@ ospfd_app = record (new_app (codes "ospfd")) {
 
 -- the program and its commands
 abbrev pub command_app : App
-command_app = with_subcommand ospfd_app table_app.top
+command_app = with_subcommand (with_subcommand ospfd_app table_app.top) check_app.top
 
 -- each text spells the address at its place
 abbrev pub Spell : List Text → List Addr → Type 0
@@ -48,6 +62,17 @@ pub record IsTableJob (rows : List Row) (t : TableJob) : Type 0 where
   pub root : ReadsRouterId text (Ok t.root)
   pub addresses : Spell (unwrap_or (all_of (codes "addresses") rows) []) t.addresses.items
 
+-- the files that `clap` reads after `check`
+pub record IsCheckJob (rows : List Row) (c : CheckJob) : Type 0 where
+  pub texts : List Text
+  pub has_files : all_of (codes "files") rows ≡ Some texts
+  pub files : map string_bytes c.files.items ≡ texts
+
+-- the job is that of the command that the words enter, with the values that they give it
+abbrev pub IsJobOf : Option (Text × List Row) → Job → Type 0
+IsJobOf entered (job.Table t) = (rows : List Row) × (entered ≡ Some (codes "table", rows)) × IsTableJob rows t
+IsJobOf entered (job.Check c) = (rows : List Row) × (entered ≡ Some (codes "check", rows)) × IsCheckJob rows c
+
 -- the job is what `clap` reads in the words
 abbrev pub IsAsked : List Text → Job → Type 0
-IsAsked words (job.Table t) = (rows : List Row) × (subcommand_of command_app words ≡ Some (codes "table", rows)) × IsTableJob rows t
+IsAsked words = IsJobOf (subcommand_of command_app words)

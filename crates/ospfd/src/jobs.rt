@@ -12,6 +12,8 @@ use thiserror::Error;
 pub enum Job {
     /// Computes the routing table of a router over the LSAs on standard input.
     Table(TableJob),
+    /// Checks configurations.
+    Check(CheckJob),
 }
 
 /// A routing table that is asked for.
@@ -21,6 +23,13 @@ pub struct TableJob {
     pub root: RouterId,
     /// The addresses to look up in the table.
     pub addresses: Vec<Addr>,
+}
+
+/// Configurations that are to be checked.
+#[derive(Debug, Drop)]
+pub struct CheckJob {
+    /// The names of their files.
+    pub files: Vec<String>,
 }
 
 /// Why words ask for nothing that can be done.

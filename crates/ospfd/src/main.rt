@@ -1,6 +1,9 @@
 //! A routing daemon of OSPF version 2 (RFC 2328), and the tables that it computes.
 #![tactic(auto)]
 
+mod check;
+#[cfg(test)]
+mod check_tests;
 mod jobs;
 mod line;
 mod status;
@@ -9,14 +12,29 @@ mod table;
 mod tests;
 mod words;
 
+use crate::check::{NamedFile, check_text};
 use crate::jobs::Job;
 use crate::status::Status;
 use crate::table::table_text;
 use crate::words::job;
-use std::env;
-use std::io::{self, BufReader, BufWriter, Write};
+use std::io::{self, BufReader, BufWriter, ErrorKind, Write};
 use std::process::ExitCode;
 use std::rt::Runtime;
+use std::{env, fs};
+
+// The files of these names; what cannot be read is left out.
+fn read_files<R: Runtime + AllocGlobal>(rt: &R, names: Vec<String>) -> io::Result<Vec<NamedFile>> {
+    let mut files = Vec::with_capacity(rt.alloc(), names.len())?;
+    for name in names {
+        let bytes = match fs::read(rt, name.as_str()) {
+            Ok(bytes) => Some(bytes),
+            Err(error) if error.kind() == ErrorKind::OutOfMemory => return Err(error),
+            Err(_) => None,
+        };
+        files.push(NamedFile { name, bytes })?;
+    }
+    Ok(files)
+}
 
 // Does what the program's words say.
 fn run<R: Runtime + AllocGlobal, E: Write>(rt: &R, err: &mut E) -> io::Result<Status> {
@@ -28,6 +46,10 @@ fn run<R: Runtime + AllocGlobal, E: Write>(rt: &R, err: &mut E) -> io::Result<St
         Ok(Job::Table(table)) => {
             let input = BufReader::new(alloc, rt.reader())?;
             Ok(table_text(alloc, &table, input, &mut out, err))
+        }
+        Ok(Job::Check(check)) => {
+            let files = read_files(rt, check.files)?;
+            Ok(check_text(alloc, &files, &mut out, err))
         }
         Err(fault) => Ok(fault.tell(&mut out, err)),
     }

@@ -1,6 +1,8 @@
 //! Whole answers to words and input.
 
+use crate::check::{NamedFile, check_text};
 use crate::jobs::Job;
+use crate::status::Status;
 use crate::table::table_text;
 use crate::words::job;
 use std::alloc::{AllocError, Global};
@@ -297,14 +299,32 @@ struct Outcome {
     status: u8,
 }
 
-fn outcome_of(alloc: Global, words: &str, input: &[u8]) -> Result<Outcome, AllocError> {
+// Does what words say, where no file can be read.
+fn status_of<O: Write, E: Write>(
+    alloc: Global,
+    words: &str,
+    input: &[u8],
+    out: &mut O,
+    err: &mut E,
+) -> Result<Status, AllocError> {
     let words: Vec<&str> = words.split_whitespace().collect(alloc)?;
+    match job(alloc, &words) {
+        Ok(Job::Table(table)) => Ok(table_text(alloc, &table, input, out, err)),
+        Ok(Job::Check(check)) => {
+            let mut files = Vec::new(alloc);
+            for name in check.files {
+                files.push(NamedFile { name, bytes: None })?;
+            }
+            Ok(check_text(alloc, &files, out, err))
+        }
+        Err(fault) => Ok(fault.tell(out, err)),
+    }
+}
+
+fn outcome_of(alloc: Global, words: &str, input: &[u8]) -> Result<Outcome, AllocError> {
     let mut out = Vec::new(alloc);
     let mut err = Vec::new(alloc);
-    let status = match job(alloc, &words) {
-        Ok(Job::Table(table)) => table_text(alloc, &table, input, &mut out, &mut err),
-        Err(fault) => fault.tell(&mut out, &mut err),
-    };
+    let status = status_of(alloc, words, input, &mut out, &mut err)?;
     Ok(Outcome {
         out,
         err,
@@ -336,17 +356,46 @@ fn refuses(rt: HostRuntime) -> Result<(), Fail> {
     Ok(())
 }
 
-// Words, the exit status, and how standard output and standard error begin.
-static WORDS: [(&str, u8, &str, &str); 9] = [
-    ("--help", 0, "OSPF version 2 for one area\n", ""),
-    ("help", 0, "OSPF version 2 for one area\n", ""),
-    ("table --help", 0, "Computes a routing table", ""),
-    ("--version", 0, "ospfd 0.1.0\n", ""),
-    ("", 2, "", "error: "),
-    ("table", 2, "", "error: "),
-    ("tables 1.1.1.1", 2, "", "error: unrecognized subcommand"),
-    ("table 1.1.1.1 --all", 2, "", "error: unexpected argument"),
+// Words by name, the exit status, and how standard output and standard error begin.
+static WORDS: [(&str, &str, u8, &str, &str); 13] = [
+    ("help", "--help", 0, "OSPF version 2 for one area\n", ""),
+    ("help word", "help", 0, "OSPF version 2 for one area\n", ""),
+    ("help of table", "table --help", 0, "Computes a routing", ""),
     (
+        "help of check",
+        "check --help",
+        0,
+        "Checks configurations",
+        "",
+    ),
+    ("version", "--version", 0, "ospfd 0.1.0\n", ""),
+    ("no command", "", 2, "", "error: "),
+    ("no words", "table", 2, "", "error: "),
+    ("no file", "check", 2, "", "error: "),
+    ("unread", "check a.toml", 5, "", "a.toml: not read\n"),
+    (
+        "unknown command",
+        "tables 1.1.1.1",
+        2,
+        "",
+        "error: unrecognized subcommand",
+    ),
+    (
+        "unknown option",
+        "table 1.1.1.1 --all",
+        2,
+        "",
+        "error: unexpected argument",
+    ),
+    (
+        "unknown option of check",
+        "check --all",
+        2,
+        "",
+        "error: unexpected argument",
+    ),
+    (
+        "leading zero",
         "table 1.1.1.1 10.0.0.01 x",
         2,
         "",
@@ -356,23 +405,51 @@ static WORDS: [(&str, u8, &str, &str); 9] = [
 
 #[test]
 fn tells_of_words(rt: HostRuntime) -> Result<(), Fail> {
-    for (words, status, out, err) in &WORDS {
+    for (name, words, status, out, err) in &WORDS {
         let outcome = outcome_of(rt.alloc(), words, b"")?;
-        assert_eq!(rt; outcome.status, *status, "{words}");
-        assert!(rt; outcome.out.starts_with(out.as_bytes()), "{words}");
-        assert!(rt; outcome.err.starts_with(err.as_bytes()), "{words}");
-        assert_eq!(rt; outcome.out.is_empty(), out.is_empty(), "{words}");
-        assert_eq!(rt; outcome.err.is_empty(), err.is_empty(), "{words}");
+        assert_eq!(rt; outcome.status, *status, "{name}");
+        assert!(rt; outcome.out.starts_with(out.as_bytes()), "{name}");
+        assert!(rt; outcome.err.starts_with(err.as_bytes()), "{name}");
+        assert_eq!(rt; outcome.out.is_empty(), out.is_empty(), "{name}");
+        assert_eq!(rt; outcome.err.is_empty(), err.is_empty(), "{name}");
     }
     Ok(())
 }
 
 #[test]
-fn takes_any_bytes(rt: HostRuntime) -> Result<(), Fail> {
+fn help_tells_each_status(rt: HostRuntime) -> Result<(), Fail> {
+    let help = outcome_of(rt.alloc(), "--help", b"")?;
+    for line in [
+        "  table ",
+        "  check ",
+        "  0  done",
+        "  2  ",
+        "  3  ",
+        "  4  ",
+        "  5  ",
+        "  ospfd table 1.1.1.1 ",
+    ] {
+        let told = help
+            .out
+            .windows(line.len())
+            .any(|part| part == line.as_bytes());
+        assert!(rt; told, "{line}");
+    }
+    Ok(())
+}
+
+#[test]
+fn not_hex_no_text(rt: HostRuntime) -> Result<(), Fail> {
+    let outcome = outcome_of(rt.alloc(), "table 1.1.1.1", b"\n\xff\xff\n")?;
+    assert_eq!(rt; outcome.status, 3);
+    assert_eq!(rt; outcome.err.as_slice(), b"line 2: not hex\n".as_slice());
+    assert!(rt; outcome.out.is_empty());
+    Ok(())
+}
+
+#[test]
+fn takes_a_long_line(rt: HostRuntime) -> Result<(), Fail> {
     let alloc = rt.alloc();
-    let no_text = outcome_of(alloc, "table 1.1.1.1", b"\n\xff\xfe\n")?;
-    assert_eq!(rt; no_text.status, 3);
-    assert_eq!(rt; no_text.err.as_slice(), b"line 2: not hex\n".as_slice());
     let zeros = vec![in alloc; b'0'; 1 << 20]?;
     let long = outcome_of(alloc, "table 1.1.1.1", &zeros)?;
     assert_eq!(rt; long.status, 3);
@@ -393,8 +470,8 @@ impl Read for Broken {
 
 // A writer that takes so many writes, or flushes, before it fails.
 #[derive(Drop)]
-struct Failing {
-    left: usize,
+pub(crate) struct Failing {
+    pub(crate) left: usize,
 }
 
 impl Failing {
@@ -420,14 +497,9 @@ impl Write for Failing {
 
 // The status where both writers take so many writes.
 fn status_after(alloc: Global, left: usize, words: &str, input: &[u8]) -> Result<u8, AllocError> {
-    let words: Vec<&str> = words.split_whitespace().collect(alloc)?;
     let mut out = Failing { left };
     let mut err = Failing { left };
-    let status = match job(alloc, &words) {
-        Ok(Job::Table(table)) => table_text(alloc, &table, input, &mut out, &mut err),
-        Err(fault) => fault.tell(&mut out, &mut err),
-    };
-    Ok(status.code())
+    Ok(status_of(alloc, words, input, &mut out, &mut err)?.code())
 }
 
 #[test]

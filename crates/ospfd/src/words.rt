@@ -1,43 +1,93 @@
 //! The words of the command line.
 
-ghost use Rattle.std.specs.Prelude.{◌≡◌, ◌∷◌, map, Ok, Err, IfOk, IfErr};
-ghost use Rattle.ospf_base.specs.Text.{ReadsRouterId};
-ghost use Rattle.clap.specs.Words.{app_of};
+ghost use Rattle.std.specs.Prelude.{◌≡◌, ◌∷◌, false, map, codes, string_bytes, Ok, Err, Some, IfOk, IfErr};
+ghost use Rattle.clap.specs.Words.{app_of, found_of, rows_of, rule_of, subcommand_rows_of};
 ghost use Rattle.ospfd.specs.Job.{IsFaultOfNoValue, IsFaultOfValue};
-ghost use Rattle.ospfd.specs.Unasked.{IsFirstWrong, IsUnasked};
-ghost use Rattle.ospfd.specs.Words.{IsAsked, Spell, command_app};
+ghost use Rattle.ospfd.specs.Unasked.{IsFirstWrong, IsJobIfAny, IsUnasked, IsWrongValue};
+ghost use Rattle.ospfd.specs.Words.{IsAsked, Spell, addresses_rule, command_app, files_rule, ospfd_app, root_rule};
 
-use crate::jobs::{Job, JobFault, TableJob};
+use crate::jobs::{CheckJob, Job, JobFault, TableJob};
 use clap::error::ErrorKind;
-use clap::{Arg, ArgAction, Command};
+use clap::{Arg, ArgAction, ArgMatches, Command};
 use ospf_base::Addr;
 use std::alloc::{AllocError, Global};
 use std::str::FromStr;
+
+// What `--help` says below the commands.
+const STATUSES: &str = "Exit status:
+  0  done
+  2  the words ask for nothing that ospfd does
+  3  the input was refused
+  4  memory ran out
+  5  a file or a stream failed
+
+Examples:
+  ospfd table 1.1.1.1 192.168.2.9 < lsas.txt
+  ospfd check first.toml second.toml
+";
+
+// The router whose table is computed.
+fn root_arg<'a>(alloc: Global) -> Arg<'a>
+    ensures rule { rule_of result ≡ root_rule }
+    ensures local { result.global ≡ false }
+{
+    Arg::new(alloc, "root")
+        .value_name("ROOT")
+        .help("The Router ID of the router whose table is computed")
+        .required(true)
+}
+
+// The addresses that are looked up.
+fn addresses_arg<'a>(alloc: Global) -> Arg<'a>
+    ensures rule { rule_of result ≡ addresses_rule }
+    ensures local { result.global ≡ false }
+{
+    Arg::new(alloc, "addresses")
+        .value_name("ADDRESS")
+        .help("Addresses to look up in the table")
+        .num_args(0..)
+        .action(ArgAction::Append)
+}
+
+// The files of configurations.
+fn files_arg<'a>(alloc: Global) -> Arg<'a>
+    ensures rule { rule_of result ≡ files_rule }
+    ensures local { result.global ≡ false }
+{
+    Arg::new(alloc, "files")
+        .value_name("CONFIG")
+        .help("Files with the configuration of a router each")
+        .required(true)
+        .num_args(1..)
+        .action(ArgAction::Append)
+}
+
+// The program, before its commands.
+fn program<'a>(alloc: Global) -> Result<Command<'a>, AllocError>
+    ensures { IfOk result (λ c. app_of c ≡ ospfd_app) }
+{
+    let program = Command::new(alloc, "ospfd")
+        .bin_name("ospfd")?
+        .version("0.1.0")
+        .about("OSPF version 2 for one area")
+        .after_help(STATUSES)
+        .no_binary_name(true)
+        .subcommand_required(true);
+    Ok(program)
+}
 
 // The words that the program knows.
 fn command<'a>(alloc: Global) -> Result<Command<'a>, AllocError>
     ensures { IfOk result (λ c. app_of c ≡ command_app) }
 {
-    let root = Arg::new(alloc, "root")
-        .value_name("ROOT")
-        .help("The Router ID of the router whose table is computed")
-        .required(true);
-    let addresses = Arg::new(alloc, "addresses")
-        .value_name("ADDRESS")
-        .help("Addresses to look up in the table")
-        .num_args(0..)
-        .action(ArgAction::Append);
     let table = Command::new(alloc, "table")
         .about("Computes a routing table from LSAs in hexadecimal, one a line, on standard input")
-        .arg(root)?
-        .arg(addresses)?;
-    Command::new(alloc, "ospfd")
-        .bin_name("ospfd")?
-        .version("0.1.0")
-        .about("OSPF version 2 for one area")
-        .no_binary_name(true)
-        .subcommand_required(true)
-        .subcommand(table)
+        .arg(root_arg(alloc))?
+        .arg(addresses_arg(alloc))?;
+    let check = Command::new(alloc, "check")
+        .about("Checks configurations in TOML")
+        .arg(files_arg(alloc))?;
+    program(alloc)?.subcommand(table)?.subcommand(check)
 }
 
 // The value that a word spells.
@@ -67,20 +117,59 @@ fn parsed_addresses(alloc: Global, words: &[&str]) -> Result<Vec<Addr>, JobFault
     Ok(addresses)
 }
 
-// The job of the matches of the command `table`, which has a root.
-fn table_job(alloc: Global, root: &str, addresses: &[&str]) -> Result<TableJob, JobFault>
-    ensures root { IfOk result (λ t. ReadsRouterId root.now (Ok t.root)) }
-    ensures addresses { IfOk result (λ t. Spell (map (λ w. w.now) addresses.now) t.addresses.items) }
-    ensures fault { IfErr result (IsFaultOfValue (IsFirstWrong (root.now ∷ map (λ w. w.now) addresses.now))) }
+// The values of `table`: its job, if they have a root.
+fn table_job(alloc: Global, values: &ArgMatches<'_>) -> Result<Option<Job>, JobFault>
+    ensures ok { IfOk result (IsJobIfAny (Some (codes "table", rows_of (found_of values.now)))) }
+    ensures fault { IfErr result (IsFaultOfValue (IsWrongValue (Some (codes "table", rows_of (found_of values.now))))) }
 {
-    Ok(TableJob {
+    let Some(root) = values.get_str("root") else {
+        return Ok(None);
+    };
+    let addresses = values.get_strs("addresses").unwrap_or(&[]);
+    Ok(Some(Job::Table(TableJob {
         root: parsed(alloc, root)?,
         addresses: parsed_addresses(alloc, addresses)?,
-    })
+    })))
 }
 
-// The fault of words in which `clap` reads no table.
-fn no_table(command: &mut Command<'_>) -> JobFault
+// The texts of words.
+fn owned(alloc: Global, words: &[&str]) -> Result<Vec<String>, AllocError>
+    ensures { IfOk result (λ texts. map string_bytes texts.items ≡ map (λ w. w.now) words.now) }
+{
+    let mut texts = Vec::with_capacity(alloc, words.len())?;
+    for word in words {
+        texts.push(String::from_str(alloc, word)?)?;
+    }
+    Ok(texts)
+}
+
+// The values of `check`: its job, if they have files.
+fn check_job(alloc: Global, values: &ArgMatches<'_>) -> Result<Option<Job>, AllocError>
+    ensures { IfOk result (IsJobIfAny (Some (codes "check", rows_of (found_of values.now)))) }
+{
+    let Some(files) = values.get_strs("files") else {
+        return Ok(None);
+    };
+    let files = owned(alloc, files)?;
+    Ok(Some(Job::Check(CheckJob { files })))
+}
+
+// The job of the command that the words entered, if its values make one.
+fn entered_job(alloc: Global, matches: &ArgMatches<'_>) -> Result<Option<Job>, JobFault>
+    ensures ok { IfOk result (IsJobIfAny (subcommand_rows_of matches.now)) }
+    ensures fault { IfErr result (IsFaultOfValue (IsWrongValue (subcommand_rows_of matches.now))) }
+{
+    if let Some(values) = matches.subcommand_matches("table") {
+        return table_job(alloc, values);
+    }
+    if let Some(values) = matches.subcommand_matches("check") {
+        return Ok(check_job(alloc, values)?);
+    }
+    Ok(None)
+}
+
+// The fault of words in which `clap` reads no job.
+fn no_job(command: &mut Command<'_>) -> JobFault
     ensures { IsFaultOfNoValue result }
 {
     match command.error(ErrorKind::MissingSubcommand, "a command is needed") {
@@ -99,12 +188,8 @@ pub fn job(alloc: Global, words: &[&str]) -> Result<Job, JobFault>
 {
     let mut command = command(alloc)?;
     let matches = command.try_get_matches_from_mut(words)?;
-    let Some(values) = matches.subcommand_matches("table") else {
-        return Err(no_table(&mut command));
-    };
-    let Some(root) = values.get_str("root") else {
-        return Err(no_table(&mut command));
-    };
-    let addresses = values.get_strs("addresses").unwrap_or(&[]);
-    Ok(Job::Table(table_job(alloc, root, addresses)?))
+    match entered_job(alloc, &matches)? {
+        Some(job) => Ok(job),
+        None => Err(no_job(&mut command)),
+    }
 }

@@ -1,20 +1,58 @@
-use Rattle.std.proofs.Common.{◌≡◌, ◌∷◌, subst, sym}
+use Rattle.std.proofs.Common.{◌≡◌, ◌∙◌, ap, sym, refl, subst, codes, [], Some, unwrap_or}
+use Rattle.clap.specs.Words.{all_of, found_of, rows_of}
+use Rattle.clap.proofs.WalkLemmas.{first_value-rows, raw_values-rows}
 use Rattle.ospfd.specs.Job.{IsFaultOfValue}
-use Rattle.ospfd.specs.Unasked.{IsFirstWrong}
-use Rattle.ospfd.proofs.WordLemmas.{address_wrong, err_kept, root_wrong, texts_of, value_weaker}
+use Rattle.ospfd.specs.Unasked.{IsFirstWrong, IsWrongValue}
+use Rattle.ospfd.specs.Words.{Spell}
+use Rattle.ospfd.proofs.WordLemmas.{address_wrong, err_kept, no_root, root_wrong, texts_of, texts_or_none, value_weaker, wrong_value}
 use Rattle.ospfd.proofs.words.table_job.Goals as goal
+
+pub returns-in_default-clause-ok : goal.returns-in_default-clause-ok
+returns-in_default-clause-ok c =
+    let found = found_of c.args.values.now in
+    no_root (rows_of found) (sym (c.in_default.ensures ∙ first_value-rows found (codes "root")))
 
 pub returns-in_err-parsed-clause-fault : goal.returns-in_err-parsed-clause-fault
 returns-in_err-parsed-clause-fault c =
-    let wrong = IsFaultOfValue (IsFirstWrong (c.args.root.now ∷ texts_of c.args.addresses.now)) in
+    let found = found_of c.args.values.now in
+    let rows = rows_of found in
+    let texts = unwrap_or (all_of (codes "addresses") rows) [] in
+    let is_root = sym (c.in-Some.ensures ∙ first_value-rows found (codes "root")) in
+    let wrong = IsFaultOfValue (IsWrongValue (Some (codes "table", rows))) in
     err_kept c.from_residual.result (λ f. f ≡ c.in_err-parsed.field-0.0) wrong c.from_residual.ensures.1 (λ f is. subst wrong (sym is)
-    (value_weaker _ _ c.in_err-parsed.field-0.0 (root_wrong c.args.root.now (texts_of c.args.addresses.now)) c.in_err-parsed.ensures.fault))
+    (value_weaker _ _ c.in_err-parsed.field-0.0 (λ w h. wrong_value rows c.in-Some.root.now w is_root (root_wrong c.in-Some.root.now texts w h))
+    c.in_err-parsed.ensures.fault))
 
 pub returns-in_err-parsed_addresses-clause-fault : goal.returns-in_err-parsed_addresses-clause-fault
 returns-in_err-parsed_addresses-clause-fault c =
-    let wrong = IsFaultOfValue (IsFirstWrong (c.args.root.now ∷ texts_of c.args.addresses.now)) in
+    let found = found_of c.args.values.now in
+    let rows = rows_of found in
+    let is_root = sym (c.in-Some.ensures ∙ first_value-rows found (codes "root")) in
+    let addresses : texts_of c.unwrap_or-addresses.result.now ≡ unwrap_or (all_of (codes "addresses") rows) [] =
+    ap (λ a. texts_of a.now) c.unwrap_or-addresses.ensures ∙ texts_or_none c.get_strs.result _ refl
+    ∙ ap (λ o. unwrap_or o []) (c.get_strs.ensures ∙ raw_values-rows found (codes "addresses")) in
+    let wrong = IsFaultOfValue (IsWrongValue (Some (codes "table", rows))) in
     err_kept c.from_residual-in_err-parsed_addresses.result (λ f. f ≡ c.in_err-parsed_addresses.field-0.0) wrong
     c.from_residual-in_err-parsed_addresses.ensures.1 (λ f is. subst wrong (sym is)
     (value_weaker _ _ c.in_err-parsed_addresses.field-0.0
-    (λ w. address_wrong c.args.root.now c.in_ok-parsed.field-0 (texts_of c.args.addresses.now) w c.in_ok-parsed.ensures.value)
+    (λ w h. wrong_value rows c.in-Some.root.now w is_root
+    (address_wrong c.in-Some.root.now c.in_ok-parsed.field-0 _ w c.in_ok-parsed.ensures.value
+    (subst (λ texts. IsFirstWrong texts w) addresses h)))
     c.in_err-parsed_addresses.ensures.fault))
+
+pub returns-clause-ok : goal.returns-clause-ok
+returns-clause-ok c =
+    let found = found_of c.args.values.now in
+    let rows = rows_of found in
+    let addresses : texts_of c.unwrap_or-addresses.result.now ≡ unwrap_or (all_of (codes "addresses") rows) [] =
+    ap (λ a. texts_of a.now) c.unwrap_or-addresses.ensures ∙ texts_or_none c.get_strs.result _ refl
+    ∙ ap (λ o. unwrap_or o []) (c.get_strs.ensures ∙ raw_values-rows found (codes "addresses")) in (
+      rows,
+      refl,
+      record {
+        text = c.in-Some.root.now;
+        has_root = sym (c.in-Some.ensures ∙ first_value-rows found (codes "root"));
+        root = c.in_ok-parsed.ensures.value;
+        addresses = subst (λ texts. Spell texts c.in_ok-parsed_addresses.field-0.items) addresses c.in_ok-parsed_addresses.ensures.spelled;
+      },
+    )

@@ -1,0 +1,22 @@
+use Rattle.std.proofs.Common.{◌∙◌, sym, refl, codes}
+use Rattle.clap.specs.Words.{found_of, rows_of}
+use Rattle.clap.proofs.WalkLemmas.{raw_values-rows}
+use Rattle.ospfd.proofs.WordLemmas.{no_files, texts_of}
+use Rattle.ospfd.proofs.words.check_job.Goals as goal
+
+pub returns-in_default : goal.returns-in_default
+returns-in_default c =
+    let found = found_of c.args.values.now in
+    no_files (rows_of found) (sym (c.in_default.ensures ∙ raw_values-rows found (codes "files")))
+
+pub returns : goal.returns
+returns c =
+    let found = found_of c.args.values.now in (
+      rows_of found,
+      refl,
+      record {
+        texts = texts_of c.in-Some.files.now;
+        has_files = sym (c.in-Some.ensures ∙ raw_values-rows found (codes "files"));
+        files = c.in_ok-files.ensures;
+      },
+    )

@@ -1,0 +1,60 @@
+-- What the program says of configurations that it checks.
+use Rattle.std.specs.Prelude.{◌≡◌, ◌⊎◌, ◌&&◌, ℕ, Bool, true, false, List, [], ◌∷◌, ◌++◌, Option, Some, IsUtf8, codes, string_bytes, option_map}
+use Rattle.std.specs.Io.KnownBytes.{Appends}
+use Rattle.ospf_config.specs.Configs.{IsReading, TextHasFault}
+use Rattle.ospf_config.specs.Fault.{IsLeast, fault_text}
+use Rattle.ospf_config.specs.declared.config.Config.{Config}
+use Rattle.ospf_config.specs.declared.fault.ConfigFault.{ConfigFault}
+use Rattle.ospf_config.specs.declared.fault.ConfigFault.TheVariants.{NotToml}
+use Rattle.ospfd.specs.declared.check.NamedFile.{NamedFile}
+
+-- the bytes are UTF-8, and the text is a configuration that has no fault
+pub record IsAccepted (bytes : List ℕ) : Type 0 where
+  pub is_text : IsUtf8 bytes
+  pub config : Config
+  pub reads : IsReading bytes config
+  pub free : (fault : ConfigFault) → TextHasFault bytes fault → ⊥
+
+-- the bytes are not UTF-8, and so no TOML, or this is the least fault of the text
+abbrev pub IsRefusedFor : List ℕ → ConfigFault → Type 0
+IsRefusedFor bytes fault = ((IsUtf8 bytes → ⊥) × (fault ≡ NotToml)) ⊎ (IsUtf8 bytes × IsLeast (TextHasFault bytes) fault)
+
+-- what the file holds, where it could be read
+abbrev pub bytes_of : NamedFile → Option (List ℕ)
+bytes_of file = option_map (λ bytes. bytes.items) file.bytes
+
+-- the line of a file that is accepted
+abbrev pub accepted_line : NamedFile → List ℕ
+accepted_line file = string_bytes file.name ++ codes ": ok\n"
+
+-- the line of a file that is refused
+abbrev pub refused_line : NamedFile → ConfigFault → List ℕ
+refused_line file fault = string_bytes file.name ++ (codes ": " ++ (fault_text fault ++ codes "\n"))
+
+-- a file that was read, whether it is accepted, and what is told of it on standard output and on standard error
+pub data IsTold : NamedFile → Bool → List ℕ → List ℕ → Type 0 where
+  accepted_told : {file : NamedFile} (bytes : List ℕ) → bytes_of file ≡ Some bytes → IsAccepted bytes → IsTold file true (accepted_line file) []
+  refused_told : {file : NamedFile} (bytes : List ℕ) (fault : ConfigFault) → bytes_of file ≡ Some bytes → IsRefusedFor bytes fault
+      → IsTold file false [] (refused_line file fault)
+
+-- what is told of a file is what was written
+pub record IsWrittenOf (file : NamedFile) (accepted : Bool) (out_old out_new err_old err_new : Option (List ℕ)) : Type 0 where
+  pub out : List ℕ
+  pub err : List ℕ
+  pub told : IsTold file accepted out err
+  pub out_written : Appends out_old out_new out
+  pub err_written : Appends err_old err_new err
+
+-- the files in order, whether all are accepted, and what is told of them
+pub data AreTold : List NamedFile → Bool → List ℕ → List ℕ → Type 0 where
+  no_file : AreTold [] true [] []
+  one_file : {file : NamedFile} {files : List NamedFile} {accepted all : Bool} {out outs err errs : List ℕ} → IsTold file accepted out err
+      → AreTold files all outs errs → AreTold (file ∷ files) (accepted && all) (out ++ outs) (err ++ errs)
+
+-- what is told of the files is what was written
+pub record IsWritten (files : List NamedFile) (all : Bool) (out_old out_new err_old err_new : Option (List ℕ)) : Type 0 where
+  pub out : List ℕ
+  pub err : List ℕ
+  pub told : AreTold files all out err
+  pub out_written : Appends out_old out_new out
+  pub err_written : Appends err_old err_new err
