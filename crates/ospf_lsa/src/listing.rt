@@ -10,19 +10,34 @@ use crate::lsa::Lsa;
 use ospf_base::{Kind, LsaKey, MAX_AGE, RouterId};
 use std::alloc::Global;
 use std::marker::Model;
+use thiserror::Error;
 
 /// Why an LSA was not added to a listing.
-#[derive(Clone, Copy, Debug, PartialEq, Eq, thiserror::Error)]
+#[derive(Clone, Copy, Debug, PartialEq, Eq, Error)]
+#[error("{text}", text = self.text())]
 pub enum ListingFault {
     /// An LSA of this key is listed.
-    #[error("K1 Twice")]
     Twice,
     /// The LSA has the age at which it leaves the routing domain.
-    #[error("K2 MaxAge")]
     MaxAge,
     /// Memory ran out.
-    #[error("K3 Memory")]
     Memory,
+}
+
+impl ListingFault {
+    ghost use Rattle.std.specs.Prelude.{◌≡◌};
+    ghost use Rattle.ospf_lsa.specs.Text.{listing_fault_text};
+
+    /// The fault's number and name, as it is printed.
+    pub fn text(self) -> &'static str
+        ensures { result.now ≡ listing_fault_text self }
+    {
+        match self {
+            ListingFault::Twice => "K1 Twice",
+            ListingFault::MaxAge => "K2 MaxAge",
+            ListingFault::Memory => "K3 Memory",
+        }
+    }
 }
 
 /// LSAs below age `MAX_AGE`, at most one a key, in the order of their keys.

@@ -9,12 +9,14 @@ use Rattle.ospf_lsa.specs.declared.fault.LsaFault.{LsaFault}
 use Rattle.ospf_lsa.specs.declared.fault.LsaFault.TheVariants as lsa_fault
 use Rattle.ospf_lsa.specs.declared.listing.ListingFault.{ListingFault}
 use Rattle.ospf_lsa.specs.declared.listing.ListingFault.TheVariants as listing_fault
-use Rattle.ospfd.specs.Fault.{IsMemoryFault}
+use Rattle.ospfd.specs.Fault.{IsMemoryFault, IsRefusal}
 use Rattle.ospfd.specs.Line.{HasFault, HasFirstFault, IsTaken, Reads, at_end, at_line, Refuses, here, later, text_of, first_text}
 use Rattle.ospfd.specs.declared.line.LineFault.{LineFault}
 use Rattle.ospfd.specs.declared.line.LineFault.TheVariants.{NotHex, Lsa}
 use Rattle.ospfd.specs.declared.table.EntryFault.{EntryFault}
 use Rattle.ospfd.specs.declared.table.EntryFault.TheVariants.{Line, Listing}
+use Rattle.ospfd.specs.declared.table.TableFault.{TableFault}
+use Rattle.ospfd.specs.declared.table.TableFault.TheVariants.{Entry, Memory, Stream}
 
 pub line_fault : (text : List ℕ) (listing : List (List ℕ)) (fault : LineFault) → (fault ≡ NotHex → IsErr (decode_of text))
     → ((f : LsaFault) → fault ≡ Lsa f → (f ≡ lsa_fault.Memory) ⊎ HasFirstFault (decode_of text) f)
@@ -118,3 +120,9 @@ not_memory text listing (Line (Lsa lsa_fault.Memory)) h m = h.2.broken tt
 not_memory text listing (Listing listing_fault.Twice) h m = m
 not_memory text listing (Listing listing_fault.MaxAge) h m = m
 not_memory text listing (Listing listing_fault.Memory) h m = let e : listing_fault.Memory ≡ listing_fault.Twice = h.0 in cc
+
+-- a refusal is of a line, for a fault
+pub refusal_of : (fault : TableFault) → IsRefusal fault → (number : ℕ) × (entry : EntryFault) × (fault ≡ Entry number entry)
+refusal_of (Entry number entry) is = (number, entry, refl)
+refusal_of Memory is = absurd is
+refusal_of (Stream error) is = absurd is

@@ -66,10 +66,6 @@ pub data Refuses : List ℕ → List (List ℕ) → ℕ → EntryFault → Type 
       → IsTaken (first_text input) old next → Refuses (drop_through 10 input) next number fault
       → Refuses input old (suc number) fault
 
--- some line is refused
-abbrev pub IsRefused : List ℕ → Type 0
-IsRefused input = (number : ℕ) × (fault : EntryFault) × Refuses input [] number fault
-
 -- the lines make some listing
 abbrev pub IsWhole : List ℕ → Type 0
 IsWhole input = (listing : List (List ℕ)) × Reads input [] listing

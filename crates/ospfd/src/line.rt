@@ -14,13 +14,27 @@ use thiserror::Error;
 
 /// Why a line is no LSA.
 #[derive(Clone, Copy, Debug, PartialEq, Eq, Error)]
+#[error("{text}", text = self.text())]
 pub enum LineFault {
     /// The text is not hexadecimal digits, two by two.
-    #[error("not hex")]
     NotHex,
     /// The bytes are no LSA, or memory ran out.
-    #[error("{0}")]
     Lsa(LsaFault),
+}
+
+impl LineFault {
+    ghost use Rattle.std.specs.Prelude.{◌≡◌};
+    ghost use Rattle.ospfd.specs.Refusal.{line_fault_text};
+
+    /// The fault as it is printed.
+    pub fn text(self) -> &'static str
+        ensures { result.now ≡ line_fault_text self }
+    {
+        match self {
+            LineFault::NotHex => "not hex",
+            LineFault::Lsa(fault) => fault.text(),
+        }
+    }
 }
 
 /// The LSA whose bytes the text spells in hexadecimal digits of either case.

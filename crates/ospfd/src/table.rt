@@ -5,7 +5,8 @@ ghost use Rattle.std.specs.Io.KnownBytes.{Appends};
 ghost use Rattle.ospfd.specs.Fault.{IsMemoryFault, IsRefusal};
 ghost use Rattle.ospfd.specs.declared.table.EntryFault.{EntryFault};
 ghost use Rattle.ospfd.specs.Output.{AreLookups, IsAnswer, IsLookupLine, routes_text};
-ghost use Rattle.ospfd.specs.Line.{IsTaken, HasFault, Reads, Refuses, IsRefused};
+ghost use Rattle.ospfd.specs.Line.{IsTaken, HasFault, Reads, Refuses};
+ghost use Rattle.ospfd.specs.Refusal.{IsRefusalTold, refusal_line};
 
 use crate::jobs::TableJob;
 use crate::line::{LineFault, is_blank, lsa_of_line, without_end};
@@ -17,25 +18,34 @@ use ospf_spf::RouteTable;
 use std::alloc::{AllocError, Global};
 use std::fmt::{self, Display, Formatter};
 use std::io::{self, BufRead, Write};
-use thiserror::Error;
 
 // Why the LSA of a line was not listed.
-#[derive(Clone, Copy, Debug, PartialEq, Eq, Error)]
+#[derive(Clone, Copy, Debug, PartialEq, Eq)]
 enum EntryFault {
-    #[error("{0}")]
     Line(LineFault),
-    #[error("{0}")]
     Listing(ListingFault),
 }
 
+impl EntryFault {
+    ghost use Rattle.std.specs.Prelude.{◌≡◌};
+    ghost use Rattle.ospfd.specs.Refusal.{entry_fault_text};
+
+    // The fault as it is printed.
+    fn text(self) -> &'static str
+        ensures { result.now ≡ entry_fault_text self }
+    {
+        match self {
+            EntryFault::Line(fault) => fault.text(),
+            EntryFault::Listing(fault) => fault.text(),
+        }
+    }
+}
+
 // Why there is no table.
-#[derive(Debug, Drop, Error)]
+#[derive(Debug, Drop)]
 enum TableFault {
-    #[error("line {number}: {fault}")]
     Entry { number: u64, fault: EntryFault },
-    #[error("out of memory")]
     Memory,
-    #[error("{0}")]
     Stream(io::Error),
 }
 
@@ -200,7 +210,7 @@ fn answer<R: BufRead + Drop, O: Write>(
     out: &mut O,
 ) -> Result<(), TableFault>
     ensures answer { OnOk result (IfSome (R.remaining input) (λ bytes. (text : List ℕ) × IsAnswer bytes job.now.root job.now.addresses.items text × Appends (O.contents out.old) (O.contents out.new) text)) }
-    ensures refused { (n : ℕ) (f : EntryFault) → result ≡ Err (TableFault.Entry n f) → IfSome (R.remaining input) IsRefused }
+    ensures refused { (n : ℕ) (f : EntryFault) → result ≡ Err (TableFault.Entry n f) → IfSome (R.remaining input) (λ bytes. Refuses bytes [] n f) }
     ensures unwritten { (n : ℕ) (f : EntryFault) → result ≡ Err (TableFault.Entry n f) → O.contents out.new ≡ O.contents out.old }
 {
     let listing = read_listing(alloc, input)?;
@@ -226,7 +236,7 @@ pub fn table_text<R: BufRead + Drop, O: Write, E: Write>(
     err: &mut E,
 ) -> Status
     ensures done { result ≡ Status.Done → IfSome (R.remaining input) (λ bytes. (text : List ℕ) × IsAnswer bytes job.now.root job.now.addresses.items text × Appends (O.contents out.old) (O.contents out.new) text) }
-    ensures refused { result ≡ Status.Refused → IfSome (R.remaining input) IsRefused }
+    ensures refused { result ≡ Status.Refused → IfSome (R.remaining input) (λ bytes. IsRefusalTold bytes (E.contents err.old) (E.contents err.new)) }
     ensures unwritten { result ≡ Status.Refused → O.contents out.new ≡ O.contents out.old }
 {
     match answer(alloc, job, input, out) {
@@ -235,15 +245,30 @@ pub fn table_text<R: BufRead + Drop, O: Write, E: Write>(
     }
 }
 
-// Tells of a line that was refused. The answer is the status to end with.
+// Writes the number of a line that was refused, and its fault.
+fn write_refusal<E: Write>(err: &mut E, number: u64, fault: EntryFault) -> io::Result<()>
+    ensures { OnOk result (Appends (E.contents err.old) (E.contents err.new) (refusal_line number fault)) }
+{
+    writeln!(err, "line {number}: {}", fault.text())?;
+    err.flush()?;
+    Ok(())
+}
+
+// Tells why there is no table. The answer is the status to end with.
 fn tell<E: Write>(fault: &TableFault, err: &mut E) -> Status
     ensures refused { result ≡ Status.Refused → IsRefusal fault.now }
+    ensures told { (n : ℕ) (f : EntryFault) → fault.now ≡ TableFault.Entry n f → result ≡ Status.Refused → Appends (E.contents err.old) (E.contents err.new) (refusal_line n f) }
     ensures not_done { result ≢ Status.Done }
 {
-    if fault.status() == Status::Refused {
-        if let Err(error) = writeln!(err, "{fault}").and_then(|()| err.flush()) {
-            return Status::of_error(&error);
-        }
+    let TableFault::Entry {
+        number,
+        fault: refused,
+    } = fault
+    else {
+        return fault.status();
+    };
+    match write_refusal(err, *number, *refused) {
+        Ok(()) => Status::Refused,
+        Err(error) => Status::of_error(&error),
     }
-    fault.status()
 }

@@ -1,5 +1,4 @@
-use Rattle.std.proofs.Common.{◌≡◌, ℕ, List, [], rules, subst}
-use Rattle.ospfd.specs.Line.{Refuses, IsRefused}
+use Rattle.std.proofs.Common.{◌≡◌, ℕ, List, rules, subst}
 use Rattle.ospfd.specs.declared.table.TableFault.TheVariants.{Entry}
 use Rattle.std.specs.Io.KnownBytes.{Appends}
 use Rattle.ospfd.specs.Output.{AreLookups}
@@ -10,8 +9,7 @@ use Rattle.ospfd.proofs.table.answer.Goals as goal
 pub returns-in_err-listing-clause-refused : goal.returns-in_err-listing-clause-refused
 returns-in_err-listing-clause-refused g c = λ n f e.
     let same : c.in_err-listing.field-0.0 ≡ Entry n f = search rules in
-    map_some (g.R.Read.remaining c.args.input) (λ (bytes : List ℕ). Refuses bytes [] n f) IsRefused
-    (λ (bytes : List ℕ) h. (n, f, h)) (c.in_err-listing.ensures.refused n f (cc))
+    c.in_err-listing.ensures.refused n f (cc)
 
 pub returns-clause-answer : goal.returns-clause-answer
 returns-clause-answer g c =
