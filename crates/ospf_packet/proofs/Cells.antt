@@ -35,7 +35,7 @@ twelve_cells P bytes long F =
     eight_cells P bytes (omega arith) (λ a b c d e f g h t m. four_cells (λ (x : List ℕ). P (a ∷ b ∷ c ∷ d ∷ e ∷ f ∷ g ∷ h ∷ x)) t (omega arith)
     (λ i j k l u n. F a b c d e f g h i j k l u (omega arith)))
 
-sixteen_cells : (P : List ℕ → Type 0) (bytes : List ℕ) → 16 ≤ length bytes
+pub sixteen_cells : (P : List ℕ → Type 0) (bytes : List ℕ) → 16 ≤ length bytes
     → ((a b c d e f g h i j k l m n o p : ℕ) (rest : List ℕ) → P (a ∷ b ∷ c ∷ d ∷ e ∷ f ∷ g ∷ h ∷ i ∷ j ∷ k ∷ l ∷ m ∷ n ∷ o ∷ p ∷ rest)) → P bytes
 sixteen_cells P bytes long F =
     twelve_cells P bytes (omega arith) (λ a b c d e f g h i j k l t q. four_cells (λ (x : List ℕ). P (a ∷ b ∷ c ∷ d ∷ e ∷ f ∷ g ∷ h ∷ i ∷ j ∷ k ∷ l ∷ x)) t (omega arith)

@@ -2,6 +2,7 @@
 use Rattle.std.proofs.Common.{◌≡◌, ℕ, zero, suc, ◌+◌, ◌*◌, ◌-◌, ◌<◌, ◌≤◌, List, [], ◌∷◌, ◌++◌, length, get_or, take, drop, refl, sym, ap, ◌∙◌, arith}
 use Rattle.std.specs.List.{flat_map, AllByRecursion}
 use Rattle.std.proofs.lemmas.List.{drop_at, take_more, flat_map_more, length-append, length-drop, take-append-drop, get_or-drop}
+use Rattle.std.proofs.lemmas.List.Folds.{length-flat_map-take}
 use Rattle.ospf_base.specs.Bytes.{AreBytes}
 use Rattle.ospf_packet.specs.Entries.{entries_in}
 
@@ -50,6 +51,12 @@ bytes_more {X = X} spell xs i d start now lt before =
     ap (λ (bs : List ℕ). bs ++ spell (get_or xs i d)) before
     ∙ flat_map_more spell start (take i xs) (get_or xs i d)
     ∙ ap (λ (ls : List X). start ++ flat_map spell ls) (sym (take_more xs i d lt))
+
+-- where there was room for all, there is room for one more
+pub room_more : {X : Type 0} (spell : X → List ℕ) (xs : List X) (i : ℕ) (d : X) (start now : List ℕ) → i < length xs
+    → now ≡ start ++ flat_map spell (take i xs) → length now + length (spell (get_or xs i d)) ≤ length start + length (flat_map spell xs)
+room_more spell xs i d start now lt before =
+    omega (arith, ap length before, length-append start (flat_map spell (take i xs)), length-flat_map-take spell xs i d lt)
 
 -- ---- what was read is written as it stood
 

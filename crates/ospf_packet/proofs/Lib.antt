@@ -7,3 +7,4 @@ pub mod RoundTrip
 pub mod AgeLaw
 pub mod Cells
 pub mod Spelled
+mod Sealing

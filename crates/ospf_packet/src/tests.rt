@@ -86,7 +86,7 @@ fn owned(alloc: Global, packet: Packet) -> Result<PacketValue, Fail> {
 fn rewritten(alloc: Global, bytes: &[u8]) -> Result<Vec<u8>, Fail> {
     let value = owned(alloc, Packet::read(bytes)?)?;
     let mut out = Vec::new(alloc);
-    write_packet(alloc, &value, &mut out)?;
+    write_packet(&value, &mut out)?;
     Ok(out)
 }
 
@@ -125,20 +125,23 @@ fn acknowledgment_example(rt: HostRuntime) -> Result<(), Fail> {
         body: BodyValue::Acknowledgment(vec![in alloc; first_header()]?),
     };
     let mut out = Vec::new(alloc);
-    write_packet(alloc, &value, &mut out)?;
+    write_packet(&value, &mut out)?;
     assert_eq!(rt; out.as_slice(), bytes.as_slice());
-    for at in 16..24 {
-        turn(&mut bytes, at, 0xa5);
-    }
-    let packet = Packet::read(&bytes)?;
-    assert_eq!(rt; packet.router, SECOND);
-    assert_eq!(rt; packet.area, AreaId(0));
-    match packet.body {
-        Body::Acknowledgment(mut headers) => {
-            assert_eq!(rt; headers.next(), Some(first_header()));
-            assert_eq!(rt; headers.next(), None);
+    // As it stands, and with other authentication bytes.
+    for bits in [0, 0xa5] {
+        for at in 16..24 {
+            turn(&mut bytes, at, bits);
         }
-        _ => assert!(rt; false, "an Acknowledgment"),
+        let packet = Packet::read(&bytes)?;
+        assert_eq!(rt; packet.router, SECOND);
+        assert_eq!(rt; packet.area, AreaId(0));
+        match packet.body {
+            Body::Acknowledgment(mut headers) => {
+                assert_eq!(rt; headers.next(), Some(first_header()));
+                assert_eq!(rt; headers.next(), None);
+            }
+            _ => assert!(rt; false, "an Acknowledgment"),
+        }
     }
     Ok(())
 }
@@ -158,7 +161,7 @@ fn request_example(rt: HostRuntime) -> Result<(), Fail> {
         body: BodyValue::Request(vec![in alloc; entry]?),
     };
     let mut out = Vec::new(alloc);
-    write_packet(alloc, &value, &mut out)?;
+    write_packet(&value, &mut out)?;
     assert_eq!(rt; out.as_slice(), bytes.as_slice());
     match Packet::read(&bytes)?.body {
         Body::Request(mut entries) => {
@@ -189,7 +192,7 @@ fn hello_example(rt: HostRuntime) -> Result<(), Fail> {
         body: BodyValue::Hello(hello, Vec::new(alloc)),
     };
     let mut out = Vec::new(alloc);
-    write_packet(alloc, &value, &mut out)?;
+    write_packet(&value, &mut out)?;
     assert_eq!(rt; out.as_slice(), bytes.as_slice());
     match Packet::read(&bytes)?.body {
         Body::Hello(fields, mut neighbours) => {
@@ -217,7 +220,7 @@ fn description_example(rt: HostRuntime) -> Result<(), Fail> {
         body: BodyValue::Description(description, Vec::new(alloc)),
     };
     let mut out = Vec::new(alloc);
-    write_packet(alloc, &value, &mut out)?;
+    write_packet(&value, &mut out)?;
     assert_eq!(rt; out.as_slice(), bytes.as_slice());
     match Packet::read(&bytes)?.body {
         Body::Description(fields, mut headers) => {
@@ -364,16 +367,58 @@ fn writes_no_longer_packet(rt: HostRuntime) -> Result<(), Fail> {
         area: AreaId(0),
         body: BodyValue::Acknowledgment(vec![in alloc; first_header(); 818]?),
     };
-    write_packet(alloc, &value, &mut out)?;
+    write_packet(&value, &mut out)?;
     assert_eq!(rt; out.len(), LARGEST_PACKET + 3);
     assert!(rt;
         out.get(3..)
             .is_some_and(|bytes| Packet::read(bytes).is_ok())
     );
     value.body = BodyValue::Acknowledgment(vec![in alloc; first_header(); 819]?);
-    let fault = write_packet(alloc, &value, &mut out).err();
+    let fault = write_packet(&value, &mut out).err();
     assert_eq!(rt; fault, Some(WriteFault::TooLong));
     assert_eq!(rt; out.len(), LARGEST_PACKET + 3);
+    Ok(())
+}
+
+// A run that refuses an allocation sees `Memory` here.
+#[test]
+fn a_refusal_leaves_the_output(rt: HostRuntime) -> Result<(), Fail> {
+    let alloc = rt.alloc();
+    let mut out = vec![in alloc; 7u8; 3]?;
+    let value = PacketValue {
+        router: FIRST,
+        area: AreaId(0),
+        body: BodyValue::Request(Vec::new(alloc)),
+    };
+    match write_packet(&value, &mut out) {
+        Ok(()) => assert_eq!(rt; out.len(), 27),
+        Err(fault) => {
+            assert_eq!(rt; fault, WriteFault::Memory);
+            assert_eq!(rt; out.as_slice(), [7, 7, 7].as_slice());
+        }
+    }
+    Ok(())
+}
+
+#[test]
+fn faults_print_numbers_and_names(rt: HostRuntime) -> Result<(), Fail> {
+    let alloc = rt.alloc();
+    let cases = [
+        (PacketFault::Short, "P1 Short"),
+        (PacketFault::Version, "P2 Version"),
+        (PacketFault::Kind, "P3 Kind"),
+        (PacketFault::Length, "P4 Length"),
+        (PacketFault::Sum, "P5 Sum"),
+        (PacketFault::Auth, "P6 Auth"),
+        (PacketFault::Body, "P7 Body"),
+        (PacketFault::TooLong, "P8 TooLong"),
+    ];
+    for (fault, text) in cases {
+        assert_eq!(rt; format!(in alloc; "{fault}")?.as_str(), text);
+    }
+    let (long, memory) = (WriteFault::TooLong, WriteFault::Memory);
+    assert_eq!(rt; format!(in alloc; "{long}")?.as_str(), "P8 TooLong");
+    assert_eq!(rt; format!(in alloc; "{memory}")?.as_str(), "Memory");
     Ok(())
 }
 

@@ -1,6 +1,6 @@
 //! Packets that are written.
 
-ghost use Rattle.std.specs.Prelude.{◌≡◌, ◌+◌, ◌*◌, ◌^◌, ◌<◌, ◌≤◌, ◌∷◌, ◌++◌, ◌↔◌, IfSome, IfNone, OnSome, IfOk, OnOk, OnErr, Some, Err, length};
+ghost use Rattle.std.specs.Prelude.{◌≡◌, ◌+◌, ◌*◌, ◌^◌, ◌<◌, ◌≤◌, ◌∷◌, ◌++◌, ◌↔◌, IfSome, IfNone, OnSome, IfOk, OnOk, OnErr, Some, Err, length, take, drop, vec_len, vec_capacity};
 ghost use Rattle.std.specs.List.{flat_map, AllByRecursion};
 ghost use Rattle.ospf_base.specs.Sums.{packet_checksum};
 ghost use Rattle.ospf_packet.specs.Headers.{aged_bytes, AgedFits};
@@ -18,7 +18,6 @@ use crate::packet::LARGEST_PACKET;
 use crate::value::{BodyValue, PacketValue};
 use ospf_base::{AreaId, MAX_AGE, RouterId, packet_sum};
 use ospf_lsa::{Lsa, LsaHeader};
-use std::alloc::{AllocError, Global};
 
 // The number of bytes of the LSAs, unless they are more than an Update holds.
 fn lsas_length(lsas: &[Lsa]) -> Option<usize>
@@ -70,16 +69,26 @@ fn body_length(body: &BodyValue) -> Option<usize>
     }
 }
 
+// Puts bytes at the end, where there is room for them.
+fn push_bytes(out: &mut Vec<u8>, bytes: &[u8])
+    requires room { vec_len out.old + length bytes.now ≤ vec_capacity out.old }
+    ensures bytes { out.new.items ≡ out.old.items ++ bytes.now }
+    ensures capacity { vec_capacity out.old ≤ vec_capacity out.new }
+{
+    // Refused only where there is no room.
+    let _ = out.extend_from_slice(bytes);
+}
+
 // Puts the bytes of Router IDs at the end.
-fn push_neighbours(out: &mut Vec<u8>, routers: &[RouterId]) -> Result<(), AllocError>
-    ensures routers { OnOk result (out.new.items ≡ out.old.items ++ flat_map router_bytes routers.now) }
-    ensures fit { OnOk result (AllByRecursion RouterFits routers.now) }
+fn push_neighbours(out: &mut Vec<u8>, routers: &[RouterId])
+    requires room { vec_len out.old + length (flat_map router_bytes routers.now) ≤ vec_capacity out.old }
+    ensures routers { out.new.items ≡ out.old.items ++ flat_map router_bytes routers.now }
+    ensures fit { AllByRecursion RouterFits routers.now }
 {
     for router in routers {
         let number = router.0;
-        out.extend_from_slice(&number.to_be_bytes())?;
+        push_bytes(out, &number.to_be_bytes());
     }
-    Ok(())
 }
 
 // The bytes of a header. By its type the age is at most `MAX_AGE`, which the reader of the bytes needs.
@@ -93,62 +102,62 @@ fn header_bytes(header: &LsaHeader) -> [u8; 20]
 }
 
 // Puts the bytes of headers at the end.
-fn push_headers(out: &mut Vec<u8>, headers: &[LsaHeader]) -> Result<(), AllocError>
-    ensures headers { OnOk result (out.new.items ≡ out.old.items ++ flat_map aged_bytes headers.now) }
-    ensures fit { OnOk result (AllByRecursion AgedFits headers.now) }
+fn push_headers(out: &mut Vec<u8>, headers: &[LsaHeader])
+    requires room { vec_len out.old + length (flat_map aged_bytes headers.now) ≤ vec_capacity out.old }
+    ensures headers { out.new.items ≡ out.old.items ++ flat_map aged_bytes headers.now }
+    ensures fit { AllByRecursion AgedFits headers.now }
 {
     for header in headers {
-        out.extend_from_slice(&header_bytes(header))?;
+        push_bytes(out, &header_bytes(header));
     }
-    Ok(())
 }
 
 // Puts the bytes of the entries of a Request at the end.
-fn push_entries(out: &mut Vec<u8>, entries: &[RequestEntry]) -> Result<(), AllocError>
-    ensures entries { OnOk result (out.new.items ≡ out.old.items ++ flat_map entry_bytes entries.now) }
-    ensures fit { OnOk result (AllByRecursion EntryFits entries.now) }
+fn push_entries(out: &mut Vec<u8>, entries: &[RequestEntry])
+    requires room { vec_len out.old + length (flat_map entry_bytes entries.now) ≤ vec_capacity out.old }
+    ensures entries { out.new.items ≡ out.old.items ++ flat_map entry_bytes entries.now }
+    ensures fit { AllByRecursion EntryFits entries.now }
 {
     for entry in entries {
-        out.extend_from_slice(&entry.to_bytes())?;
+        push_bytes(out, &entry.to_bytes());
     }
-    Ok(())
 }
 
 // Puts the bytes of LSAs at the end.
-fn push_lsas(out: &mut Vec<u8>, lsas: &[Lsa]) -> Result<(), AllocError>
-    ensures lsas { OnOk result (out.new.items ≡ out.old.items ++ lsas_bytes lsas.now) }
-    ensures fit { OnOk result (AllByRecursion IsSlice lsas.now) }
+fn push_lsas(out: &mut Vec<u8>, lsas: &[Lsa])
+    requires room { vec_len out.old + length (lsas_bytes lsas.now) ≤ vec_capacity out.old }
+    ensures lsas { out.new.items ≡ out.old.items ++ lsas_bytes lsas.now }
+    ensures fit { AllByRecursion IsSlice lsas.now }
 {
     for lsa in lsas {
-        out.extend_from_slice(lsa.view().as_bytes())?;
+        push_bytes(out, lsa.view().as_bytes());
     }
-    Ok(())
 }
 
 // Puts the bytes of a body at the end.
-fn push_body(out: &mut Vec<u8>, body: &BodyValue) -> Result<(), AllocError>
-    requires { CountFits (body_meant body.now) }
-    ensures bytes { OnOk result (out.new.items ≡ out.old.items ++ body_bytes (body_meant body.now)) }
-    ensures fits { OnOk result (BodyFits (body_meant body.now)) }
+fn push_body(out: &mut Vec<u8>, body: &BodyValue)
+    requires count { CountFits (body_meant body.now) }
+    requires room { vec_len out.old + length (body_bytes (body_meant body.now)) ≤ vec_capacity out.old }
+    ensures bytes { out.new.items ≡ out.old.items ++ body_bytes (body_meant body.now) }
+    ensures fits { BodyFits (body_meant body.now) }
 {
     match body {
         BodyValue::Hello(fields, neighbours) => {
-            out.extend_from_slice(&fields.to_bytes())?;
-            push_neighbours(out, neighbours)?;
+            push_bytes(out, &fields.to_bytes());
+            push_neighbours(out, neighbours);
         }
         BodyValue::Description(fields, headers) => {
-            out.extend_from_slice(&fields.to_bytes())?;
-            push_headers(out, headers)?;
+            push_bytes(out, &fields.to_bytes());
+            push_headers(out, headers);
         }
-        BodyValue::Request(entries) => push_entries(out, entries)?,
+        BodyValue::Request(entries) => push_entries(out, entries),
         BodyValue::Update(lsas) => {
             let count = lsas.len() as u32;
-            out.extend_from_slice(&count.to_be_bytes())?;
-            push_lsas(out, lsas)?;
+            push_bytes(out, &count.to_be_bytes());
+            push_lsas(out, lsas);
         }
-        BodyValue::Acknowledgment(headers) => push_headers(out, headers)?,
+        BodyValue::Acknowledgment(headers) => push_headers(out, headers),
     }
-    Ok(())
 }
 
 // The type of a body.
@@ -178,51 +187,56 @@ fn head(kind: u8, size: u16, router: RouterId, area: AreaId) -> [u8; 24]
     ]
 }
 
-// Puts the checksum in.
-fn sealed(mut packet: Vec<u8>) -> Vec<u8>
-    requires { 24 ≤ length packet.items }
-    ensures { result.items ≡ with_packet_sum packet.items (packet_checksum packet.items) }
+// Puts the checksum into the packet that begins there.
+fn seal(out: &mut Vec<u8>, start: usize)
+    requires { start + 24 ≤ vec_len out.old }
+    ensures {
+        let packet = drop start out.old.items in
+        out.new.items ≡ take start out.old.items ++ with_packet_sum packet (packet_checksum packet)
+    }
 {
-    let [high, low] = packet_sum(&packet).to_be_bytes();
-    packet[12] = high;
-    packet[13] = low;
-    packet
+    let [high, low] = packet_sum(&out[start..]).to_be_bytes();
+    out[start + 12] = high;
+    out[start + 13] = low;
 }
 
-// The bytes of a packet of so many.
-fn bytes_of(alloc: Global, value: &PacketValue, size: u16) -> Result<Vec<u8>, AllocError>
+// Puts a packet of so many bytes at the end, where there is room for them.
+fn push_packet(out: &mut Vec<u8>, value: &PacketValue, size: u16)
     requires size { size ≡ 24 + length (body_bytes (body_meant value.now.body)) }
     requires short { size ≤ 16384 }
     requires count { CountFits (body_meant value.now.body) }
-    ensures bytes { IfOk result (λ v. v.items ≡ packet_bytes (meant value.now)) }
-    ensures fits { OnOk result (MeaningFits (meant value.now)) }
+    requires room { vec_len out.old + size ≤ vec_capacity out.old }
+    ensures bytes { out.new.items ≡ out.old.items ++ packet_bytes (meant value.now) }
+    ensures fits { MeaningFits (meant value.now) }
 {
-    let kind = kind_of(&value.body);
-    let mut bytes = Vec::with_capacity(alloc, usize::from(size))?;
-    bytes.extend_from_slice(&head(kind, size, value.router, value.area))?;
-    push_body(&mut bytes, &value.body)?;
-    Ok(sealed(bytes))
+    let start = out.len();
+    push_bytes(out, &head(kind_of(&value.body), size, value.router, value.area));
+    push_body(out, &value.body);
+    seal(out, start);
 }
 
 /// Writes a packet at the end: its checksum is right, and its authentication is zeros (RFC 2328, appendices
 /// A.3 and D.4).
 ///
-/// `TooLong` where the packet is longer than `LARGEST_PACKET`, else `Memory` where memory runs out. The output
-/// is unchanged by each.
-pub fn write_packet(alloc: Global, value: &PacketValue, out: &mut Vec<u8>) -> Result<(), WriteFault>
+/// `TooLong` where the packet is longer than `LARGEST_PACKET`, else `Memory` where the output had no room for it
+/// and could not grow. The output is unchanged by each.
+pub fn write_packet(value: &PacketValue, out: &mut Vec<u8>) -> Result<(), WriteFault>
     ensures ok { OnOk result (out.new.items ≡ out.old.items ++ packet_bytes (meant value.now)) }
     ensures again { OnOk result (packet_of (packet_bytes (meant value.now)) ≡ Some (meant value.now)) }
     ensures err { OnErr result (out.new.items ≡ out.old.items) }
     ensures too_long { (result ≡ Err fault.TooLong) ↔ (largest_packet < length (packet_bytes (meant value.now))) }
+    ensures memory {
+        (result ≡ Err fault.Memory)
+        → vec_capacity out.old < vec_len out.old + length (packet_bytes (meant value.now))
+    }
 {
     let Some(length) = body_length(&value.body) else {
         return Err(WriteFault::TooLong);
     };
-    let Ok(bytes) = bytes_of(alloc, value, 24 + length as u16) else {
+    let size = 24 + length;
+    if out.reserve(size).is_err() {
         return Err(WriteFault::Memory);
-    };
-    match out.extend_from_slice(&bytes) {
-        Ok(()) => Ok(()),
-        Err(_) => Err(WriteFault::Memory),
     }
+    push_packet(out, value, size as u16);
+    Ok(())
 }

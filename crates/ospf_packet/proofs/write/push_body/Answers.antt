@@ -9,14 +9,14 @@ use Rattle.ospf_packet.proofs.write.push_body.Goals as goal
 
 pub overflow_cast-count : goal.overflow_cast-count
 overflow_cast-count c =
-    let count = subst (λ (b : BodyValue). CountFits (body_meant b)) c.in-Update.is c.requires in
+    let count = subst (λ (b : BodyValue). CountFits (body_meant b)) c.in-Update.is c.requires.count in
     omega (arith, count, c.len-count.ensures, c.in-Update.lsas.ok)
 
-pub returns-in_ok-push_neighbours-in-Hello-clause-bytes : goal.returns-in_ok-push_neighbours-in-Hello-clause-bytes
-returns-in_ok-push_neighbours-in-Hello-clause-bytes c =
+pub returns-in-Hello-clause-bytes : goal.returns-in-Hello-clause-bytes
+returns-in-Hello-clause-bytes c =
     let old = c.args.out.now.items in
     let ns = c.in-Hello.neighbours.items in
-    let fields = c.in_ok-extend_from_slice-in-Hello.ensures.items ∙ ap (λ (t : List ℕ). old ++ t) c.to_bytes.ensures.bytes in
-    let routers = rw c.deref.ensures.value at c.in_ok-push_neighbours-in-Hello.ensures.routers in
+    let fields = c.push_bytes.ensures.bytes ∙ ap (λ (t : List ℕ). old ++ t) c.to_bytes.ensures.bytes in
+    let routers = rw c.deref.ensures.value at c.push_neighbours.ensures.routers in
     routers ∙ ap (λ (t : List ℕ). t ++ flat_map router_bytes ns) fields ∙ append_assoc old (hello_bytes c.in-Hello.fields) (flat_map router_bytes ns)
     ∙ sym (ap (λ (b : BodyValue). old ++ body_bytes (body_meant b)) c.in-Hello.is)
