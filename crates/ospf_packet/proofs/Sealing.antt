@@ -22,7 +22,7 @@ set_behind before packet start at byte len =
 -- two bytes are set in the packet that begins at `start`
 pub set_sum_behind : (bytes : List ℕ) (start high low : ℕ) → start + 24 ≤ length bytes
     → slice_set (slice_set bytes (start + 12) high) (start + 13) low
-      ≡ take start bytes ++ (take 12 (drop start bytes) ++ (high ∷ low ∷ []) ++ drop 14 (drop start bytes))
+    ≡ take start bytes ++ (take 12 (drop start bytes) ++ (high ∷ low ∷ []) ++ drop 14 (drop start bytes))
 set_sum_behind bytes start high low long =
     let before = take start bytes in
     let packet = drop start bytes in

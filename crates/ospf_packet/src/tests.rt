@@ -1,8 +1,8 @@
 //! Packets that were computed elsewhere, and packets of other routers.
 
 use crate::{
-    Body, BodyValue, Description, Hello, LARGEST_PACKET, Lsas, Packet, PacketFault,
-    PacketValue, RequestEntry, WriteFault, write_packet,
+    Body, BodyValue, Description, Hello, LARGEST_PACKET, Lsas, Packet, PacketFault, PacketValue,
+    RequestEntry, WriteFault, write_packet,
 };
 use ospf_base::{Addr, Age, AreaId, RouterId};
 use ospf_lsa::{Lsa, LsaHeader, LsaView};

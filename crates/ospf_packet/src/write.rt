@@ -190,10 +190,8 @@ fn head(kind: u8, size: u16, router: RouterId, area: AreaId) -> [u8; 24]
 // Puts the checksum into the packet that begins there.
 fn seal(out: &mut Vec<u8>, start: usize)
     requires { start + 24 ≤ vec_len out.old }
-    ensures {
-        let packet = drop start out.old.items in
-        out.new.items ≡ take start out.old.items ++ with_packet_sum packet (packet_checksum packet)
-    }
+    ensures { let packet = drop start out.old.items in
+        out.new.items ≡ take start out.old.items ++ with_packet_sum packet (packet_checksum packet) }
 {
     let [high, low] = packet_sum(&out[start..]).to_be_bytes();
     out[start + 12] = high;
@@ -210,7 +208,10 @@ fn push_packet(out: &mut Vec<u8>, value: &PacketValue, size: u16)
     ensures fits { MeaningFits (meant value.now) }
 {
     let start = out.len();
-    push_bytes(out, &head(kind_of(&value.body), size, value.router, value.area));
+    push_bytes(
+        out,
+        &head(kind_of(&value.body), size, value.router, value.area),
+    );
     push_body(out, &value.body);
     seal(out, start);
 }
@@ -225,10 +226,8 @@ pub fn write_packet(value: &PacketValue, out: &mut Vec<u8>) -> Result<(), WriteF
     ensures again { OnOk result (packet_of (packet_bytes (meant value.now)) ≡ Some (meant value.now)) }
     ensures err { OnErr result (out.new.items ≡ out.old.items) }
     ensures too_long { (result ≡ Err fault.TooLong) ↔ (largest_packet < length (packet_bytes (meant value.now))) }
-    ensures memory {
-        (result ≡ Err fault.Memory)
-        → vec_capacity out.old < vec_len out.old + length (packet_bytes (meant value.now))
-    }
+    ensures memory { (result ≡ Err fault.Memory)
+        → vec_capacity out.old < vec_len out.old + length (packet_bytes (meant value.now)) }
 {
     let Some(length) = body_length(&value.body) else {
         return Err(WriteFault::TooLong);

@@ -20,6 +20,12 @@ push_bytes-requires c =
     let one = room_more entry_bytes entries i none c.args.out.now.items c.loop-entry.out.items c.loop-entry-test.true c.loop-entry.invariant.bytes in
     record {
       room = omega (
-          arith, one, ap length c.to_bytes.ensures.bytes, c.requires.room, c.loop-entry.invariant.capacity, c.loop-entry.out.ok, c.args.out.now.ok
-        );
+        arith,
+        one,
+        ap length c.to_bytes.ensures.bytes,
+        c.requires.room,
+        c.loop-entry.invariant.capacity,
+        c.loop-entry.out.ok,
+        c.args.out.now.ok,
+      );
     }

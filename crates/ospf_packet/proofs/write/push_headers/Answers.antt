@@ -26,7 +26,12 @@ push_bytes-requires c =
     let one = ap length c.header_bytes.ensures.bytes ∙ ap (λ (x : LsaHeader). length (aged_bytes x)) c.header-item.is in
     record {
       room = omega (
-          arith, room_more aged_bytes headers i h c.args.out.now.items c.loop-header.out.items c.loop-header-test.true c.loop-header.invariant.bytes, one,
-          c.requires.room, c.loop-header.invariant.capacity, c.loop-header.out.ok, c.args.out.now.ok
-        );
+        arith,
+        room_more aged_bytes headers i h c.args.out.now.items c.loop-header.out.items c.loop-header-test.true c.loop-header.invariant.bytes,
+        one,
+        c.requires.room,
+        c.loop-header.invariant.capacity,
+        c.loop-header.out.ok,
+        c.args.out.now.ok,
+      );
     }

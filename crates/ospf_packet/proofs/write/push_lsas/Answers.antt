@@ -27,7 +27,12 @@ push_bytes-requires c =
     let one = ap length (c.as_bytes.ensures.bytes ∙ c.view.ensures.same ∙ c.lsa-item.is) in
     record {
       room = omega (
-          arith, room_more (λ (l : List ℕ). l) lsas i lsa c.args.out.now.items c.loop-lsa.out.items c.loop-lsa-test.true c.loop-lsa.invariant.bytes, one,
-          c.requires.room, c.loop-lsa.invariant.capacity, c.loop-lsa.out.ok, c.args.out.now.ok
-        );
+        arith,
+        room_more (λ (l : List ℕ). l) lsas i lsa c.args.out.now.items c.loop-lsa.out.items c.loop-lsa-test.true c.loop-lsa.invariant.bytes,
+        one,
+        c.requires.room,
+        c.loop-lsa.invariant.capacity,
+        c.loop-lsa.out.ok,
+        c.args.out.now.ok,
+      );
     }

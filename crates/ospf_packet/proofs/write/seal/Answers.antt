@@ -13,6 +13,6 @@ returns c =
     let packet = drop start bytes in
     let set = set_sum_behind bytes start (slice_index_or c.to_be_bytes.result 0 0) (slice_index_or c.to_be_bytes.result 1 0) (omega (arith, c.requires, c.args.out.now.ok)) in
     let summed = ap (λ (x : List ℕ). take (length x - start) (drop start x)) c.deref.ensures.value
-        ∙ take_all (length bytes - start) packet (omega (arith, length-drop start bytes)) in
+    ∙ take_all (length bytes - start) packet (omega (arith, length-drop start bytes)) in
     let sum = c.to_be_bytes.ensures ∙ ap (number_bytes 2) (c.packet_sum.ensures ∙ ap packet_checksum summed) in
     set ∙ ap (λ (s : List ℕ). take start bytes ++ (take 12 packet ++ (slice_index_or s 0 0 ∷ slice_index_or s 1 0 ∷ []) ++ drop 14 packet)) sum
