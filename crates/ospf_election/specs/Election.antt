@@ -1,0 +1,96 @@
+-- The election of the Designated Router and the Backup (RFC 2328, section 9.4).
+use Rattle.std.specs.Prelude.{◌≡◌, ◌≢◌, ◌<◌, ◌==◌, ◌||◌, ◌⊎◌, List, Contains, AllPairs, Bool, not, map, MatchBool, if◌then◌else◌}
+use Rattle.ospf_base.specs.declared.ids.RouterId.{RouterId}
+use Rattle.ospf_base.specs.declared.ids.Addr.{Addr}
+use Rattle.ospf_election.specs.declared.candidate.Candidate.{Candidate}
+use Rattle.ospf_election.specs.declared.candidate.Elected.{Elected}
+
+-- priority 0 makes a router ineligible to become DR (9.4)
+abbrev pub IsEligible : Candidate → Type 0
+IsEligible c = 0 < c.priority
+
+-- eligible, and declaring itself DR (9.4)
+abbrev pub DeclaresDr : Candidate → Type 0
+DeclaresDr c = IsEligible c × (c.dr ≡ c.address)
+
+-- eligible, and not declaring itself DR: only these may become Backup (9.4, step 2)
+abbrev pub MayBeBackup : Candidate → Type 0
+MayBeBackup c = IsEligible c × (c.dr ≢ c.address)
+
+-- one of these, and declaring itself Backup (9.4, step 2)
+abbrev pub DeclaresBackup : Candidate → Type 0
+DeclaresBackup c = IsEligible c × (c.dr ≢ c.address) × (c.backup ≡ c.address)
+
+-- the higher priority, and in case of a tie the higher Router ID (9.4, step 2)
+abbrev pub Outranks : Candidate → Candidate → Type 0
+Outranks a b = (b.priority < a.priority) ⊎ ((a.priority ≡ b.priority) × (b.id.0 < a.id.0))
+
+-- the best of the candidates in a set: no other of them outranks it
+pub record IsBest (Set : Candidate → Type 0) (candidates : List Candidate) (c : Candidate) : Type 0 where
+  pub member : Contains candidates c
+  pub belongs : Set c
+  pub greatest : (d : Candidate) → Contains candidates d → Set d → Outranks d c → ⊥
+
+-- no candidate is in the set
+pub record HasNone (Set : Candidate → Type 0) (candidates : List Candidate) : Type 0 where
+  pub none : (d : Candidate) → Contains candidates d → Set d → ⊥
+
+-- 0.0.0.0: there is none
+abbrev pub nobody : Addr
+nobody = record { 0 = 0 }
+
+-- the new Backup: the best that declares itself so; else the best that may be it; else none (9.4, step 2)
+pub data IsBackup (candidates : List Candidate) (address : Addr) : Type 0 where
+  Declared : (c : Candidate) → IsBest DeclaresBackup candidates c → c.address ≡ address → IsBackup candidates address
+  Ranked : (c : Candidate) → HasNone DeclaresBackup candidates → IsBest MayBeBackup candidates c → c.address ≡ address → IsBackup candidates address
+  Nobody : HasNone MayBeBackup candidates → address ≡ nobody → IsBackup candidates address
+
+-- the new DR: the best that declares itself so; else the new Backup (9.4, step 3)
+pub data IsDr (candidates : List Candidate) (backup address : Addr) : Type 0 where
+  Declared : (c : Candidate) → IsBest DeclaresDr candidates c → c.address ≡ address → IsDr candidates backup address
+  Promoted : HasNone DeclaresDr candidates → address ≡ backup → IsDr candidates backup address
+
+-- one round: steps 2 and 3 (9.4)
+pub record IsRound (candidates : List Candidate) (e : Elected) : Type 0 where
+  pub backup : IsBackup candidates e.backup
+  pub dr : IsDr candidates e.backup e.dr
+
+-- by this result the router is the DR; the Backup
+abbrev pub is_dr : Candidate → Elected → Bool
+is_dr c e = e.dr.0 == c.address.0
+
+abbrev pub is_backup : Candidate → Elected → Bool
+is_backup c e = e.backup.0 == c.address.0
+
+abbrev pub differs : Bool → Bool → Bool
+differs a b = if a then not b else b
+
+-- the DR and Backup that a router declares
+abbrev pub declared : Candidate → Elected
+declared c = record { dr = c.dr; backup = c.backup }
+
+-- the router is now newly DR or Backup, or is now no longer DR or Backup (9.4, step 4)
+abbrev pub changes_role : Candidate → Elected → Bool
+changes_role own e = differs (is_dr own (declared own)) (is_dr own e) || differs (is_backup own (declared own)) (is_backup own e)
+
+-- a candidate, where it is the router itself with this as its declaration
+abbrev pub declaring : RouterId → Elected → Candidate → Candidate
+declaring me e c = if c.id.0 == me.0 then record c { dr = e.dr; backup = e.backup } else c
+
+-- the election: one round, and where the router's own role changes by it, another with its result as the router's
+-- own declaration (9.4, step 4)
+pub record IsElected (candidates : List Candidate) (me : RouterId) (e : Elected) : Type 0 where
+  pub own : Candidate
+  pub member : Contains candidates own
+  pub is_me : own.id ≡ me
+  pub first : Elected
+  pub round : IsRound candidates first
+  pub again : MatchBool (changes_role own first) (IsRound (map (declaring me first) candidates) e) (e ≡ first)
+
+-- the candidates' Router IDs differ
+abbrev pub AreDistinct : List Candidate → Type 0
+AreDistinct candidates = AllPairs (λ a b. a.id ≢ b.id) candidates
+
+-- a candidate is the router itself
+abbrev pub HasMe : List Candidate → RouterId → Type 0
+HasMe candidates me = (c : Candidate) × Contains candidates c × (c.id ≡ me)

@@ -1,0 +1,16 @@
+-- What holds of every election (RFC 2328, section 9.4).
+use Rattle.std.specs.Prelude.{◌≡◌, ◌↔◌, List, Contains}
+use Rattle.ospf_base.specs.declared.ids.RouterId.{RouterId}
+use Rattle.ospf_election.specs.declared.candidate.Candidate.{Candidate}
+use Rattle.ospf_election.specs.declared.candidate.Elected.{Elected}
+use Rattle.ospf_election.specs.Election.{IsElected, AreDistinct}
+
+-- the order of the candidates does not matter, nor does one that stands twice
+abbrev pub OrderDoesNotMatter : Type 0
+OrderDoesNotMatter = (candidates others : List Candidate) (me : RouterId) (e : Elected)
+    → ((c : Candidate) → Contains candidates c ↔ Contains others c) → IsElected candidates me e → IsElected others me e
+
+-- no other result is the election's
+abbrev pub OneResult : Type 0
+OneResult = (candidates : List Candidate) (me : RouterId) (e f : Elected)
+    → AreDistinct candidates → IsElected candidates me e → IsElected candidates me f → e ≡ f
