@@ -74,6 +74,17 @@ fn best_place(routes: &[Route], address: Addr) -> Option<usize>
     None
 }
 
+// The same routes, in memory of their own.
+fn copy_routes(alloc: Global, routes: &[Route]) -> Result<Vec<Route>, AllocError>
+    ensures { IfOk result (λ copies. copies.items ≡ routes.now) }
+{
+    let mut copies = Vec::with_capacity(alloc, routes.len())?;
+    for route in routes {
+        copies.push(route.copy(alloc)?)?;
+    }
+    Ok(copies)
+}
+
 impl RouteTable {
     /// The routing table of a router over a listing: a route to each prefix that the router reaches, at the
     /// least cost, with the next hops of all paths of that cost (RFC 2328, sections 16.1 and 16.1.1). A
@@ -99,6 +110,16 @@ impl RouteTable {
         RouteTable {
             routes: Vec::new(alloc),
         }
+    }
+
+    /// The same table, in memory of its own.
+    ///
+    /// `AllocError` where memory runs out.
+    pub fn copy(&self, alloc: Global) -> Result<RouteTable, AllocError>
+        ensures { IfOk result (λ table. table ≡ self.now) }
+    {
+        let routes = copy_routes(alloc, &self.routes)?;
+        Ok(RouteTable { routes })
     }
 
     // A table of these routes.
