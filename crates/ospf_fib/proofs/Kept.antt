@@ -1,0 +1,51 @@
+-- The steps that keep the rule of the shared value.
+use Rattle.std.proofs.Common.{◌≡◌, ⊎_elim, ℕ, zero, suc, true, false, List, [], ◌∷◌, ◌++◌, set, refl, sym, ap, ◌∙◌, subst, IsTrue, fold}
+use mathlib.Core.Option.{some-injective, some-ne-none}
+use Rattle.crossbeam_utils.specs.Register.{Admits, Turns, TurnsAt, Forks, Merges}
+use Rattle.atomic_table.proofs.Lists.{at_set, at_snoc, set_again}
+use Rattle.ospf_published.specs.Rule.{counter_of}
+use Rattle.ospf_fib.specs.declared.shown.Shown.{Shown}
+use Rattle.ospf_fib.specs.declared.shown.Handed.{Handed}
+use Rattle.ospf_fib.specs.declared.shown.Common.{Common}
+use Rattle.ospf_fib.specs.declared.rule.Knows.{Knows}
+use Rattle.ospf_fib.specs.Rule.{IsOneList, FindsItsList, NamesTheList, knows, newcomer}
+
+quiet : (u : Knows) → newcomer ≡ u → IsTrue u.named → ⊥
+quiet u t p = let x : true ≡ false = sym p ∙ sym (ap (λ k. k.named) t) in cc
+
+pub admits : Admits IsOneList newcomer
+admits x views h j u e p = ⊎_elim (λ a. h j u a p) (λ t. absurd (quiet u t p)) (at_snoc views newcomer u j e)
+
+pub sees : (place : ℕ) (v : Knows) → Turns IsOneList place v (λ x. x) FindsItsList
+sees place v x views h at = (v, subst (IsOneList x) (sym (set_again views place v at)) h, (refl, h place v at))
+
+pub names : (place : ℕ) (v : Knows) (x y : Shown) → counter_of y.known.fib ≡ counter_of x.known.fib → TurnsAt IsOneList place v x y NamesTheList
+names place v x y same views h at = (
+  knows true y.known.fib,
+  (λ j u e p. ⊎_elim (λ t. sym (ap (λ k. k.counter) t.1)) (λ t. h j u t.1 p ∙ sym same) (at_set views place j (knows true y.known.fib) u e)),
+  refl,
+)
+
+pub forks : (place : ℕ) (v : Knows) → Forks IsOneList place v v v
+forks place v x views h at j u e p =
+    ⊎_elim (λ a. subst (IsOneList x) (sym (set_again views place v at)) h j u a p) (λ t. subst (λ k. IsTrue k.named → k.counter ≡ counter_of x.known.fib) t (h place v at) p) (at_snoc (set views place v) v u j e)
+
+pub merges : (place : ℕ) (v : Knows) (other : ℕ) (w : Knows) → Merges IsOneList place v other w w newcomer
+merges place v other w x views h at apart there j u e p =
+    let of_other = ⊎_elim (λ t. absurd (apart t.0)) (λ t. h other w t.1) (at_set views place other w w there) in
+    ⊎_elim (λ t. absurd (quiet u t.1 p))
+    (λ t. ⊎_elim (λ s. subst (λ k. IsTrue k.named → k.counter ≡ counter_of x.known.fib) s.1 of_other p) (λ s. h j u s.1 p) (at_set views place j w u t.1))
+    (at_set (set views place w) other j newcomer u e)
+
+abbrev pub common : Handed → Common
+common o = record { table = o.table; counter = counter_of o.known.fib }
+
+-- the last operation says what is shown
+pub last_wins : (first : Common) (xs : List Handed) (next : Handed) → fold (λ _ n. common n) first (xs ++ next ∷ []) ≡ common next
+last_wins first [] next = refl
+last_wins first (x ∷ xs) next = last_wins (common x) xs next
+
+-- the rule holds at the start
+pub starts : (x : Shown) → IsOneList x (newcomer ∷ [])
+starts x zero u e p = absurd (quiet u (some-injective newcomer u e) p)
+starts x (suc j) u e p = absurd (some-ne-none u (sym e))

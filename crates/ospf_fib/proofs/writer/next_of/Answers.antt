@@ -1,0 +1,16 @@
+use Rattle.std.proofs.Common.{◌≡◌, ◌+◌, ◌-◌, length, Some, slice_get, ap, ◌∙◌, subst, arith}
+use mathlib.Core.List.{IsPrefix}
+use Rattle.ospf_fib.specs.Versions.{found_of}
+use Rattle.ospf_fib.proofs.Lists.{one_more}
+use Rattle.ospf_fib.proofs.writer.next_of.Goals as goal
+
+pub returns-then-count : goal.returns-then-count
+returns-then-count c =
+    let x = c.args.shown.now in
+    let was = c.args.known.now.tables in
+    let tables = x.known.tables in
+    let last : slice_get tables (length tables - 1) ≡ Some x.table = subst (λ b. found_of b x.table tables ≡ Some x.table) c.if-shown.true x.ends in
+    let begins : IsPrefix was tables = c.begins.ensures.begins.0 c.if-begins.true in
+    let long : length tables ≡ length was + 1 = omega (arith, c.count.ensures, c.count-count.ensures, c.count-count.type_inv, c.if-count.true, c.if-count-gt0.true) in
+    let seen = c.copy.ensures in
+    (ap (λ k. k.fib) seen ∙ c.requires, ap (λ k. k.tables) seen ∙ one_more was tables x.table begins long last)

@@ -1,0 +1,126 @@
+//! The seats, from which addresses are looked up.
+
+ghost use Rattle.std.specs.Prelude.{◌≡◌, ◌⊎◌, IfOk, MatchResult, OnErr};
+ghost use mathlib.Core.List.{IsPrefix};
+ghost use Rattle.left_right.specs.Sides.{view};
+ghost use Rattle.ospf_fib.specs.Answers.{IsAnswerOfLast};
+ghost use Rattle.ospf_fib.specs.Rule.{IsNamed};
+
+use crate::answer::{Answer, answer_of_shown};
+use crate::rule::{Enters, Knows, OneList};
+use crate::shown::Shown;
+use core::mem::replace_with;
+use left_right::reader::Reader;
+use ospf_base::Addr;
+use ospf_published::Published;
+use std::marker::Model;
+
+/// The writer is gone.
+#[derive(Clone, Copy, Debug, PartialEq, Eq, thiserror::Error)]
+#[error("the forwarding table is closed")]
+pub struct Closed;
+
+/// What a publish tells: the tables that were published by then.
+#[derive(Drop)]
+pub struct Told {
+    pub(crate) known: Published,
+}
+
+impl Model for Told {
+    ghost use Rattle.ospf_published.specs.Known.{Known};
+
+    ghost Value = { Known };
+
+    ghost view = { λ t. t.known };
+}
+
+/// A thread's place at a forwarding table. Proofs see the tables that it knows to be published; it keeps
+/// no table and no answer.
+pub struct Seat {
+    pub(crate) reader: Reader<Shown, Knows, OneList>,
+    pub(crate) known: Published,
+}
+
+impl Model for Seat {
+    ghost use Rattle.left_right.specs.Sides.{view as view_of};
+    ghost use Rattle.ospf_published.specs.Known.{Known};
+    ghost use Rattle.ospf_fib.specs.Rule.{IsNamed};
+
+    ghost Value = { Known };
+
+    ghost view = { λ s. s.known };
+
+    ghost invariant = { λ s. IsNamed (view_of s.reader.place) s.known.fib };
+}
+
+impl Drop for Seat {
+    fn drop(self) {
+        let Self { reader, known: _ } = self;
+        drop(reader);
+    }
+}
+
+impl Seat {
+    /// The answer of the table that was published last: its route of longest prefix that holds the address
+    /// (RFC 2328, section 11.1), with the hop at `choice` modulo the number of hops; `None` where no route's
+    /// prefix holds it. It waits for nobody and takes no memory.
+    ///
+    /// `Closed` where the writer is gone.
+    pub fn lookup(&mut self, address: Addr, choice: u32) -> Result<Option<Answer>, Closed>
+        ensures fib { self.new.fib ≡ self.old.fib }
+        ensures known { IfOk result (λ _. IsPrefix self.old.tables self.new.tables) }
+        ensures answer { IfOk result (IsAnswerOfLast self.new.tables address choice) }
+        ensures closed { OnErr result (self.new.tables ≡ self.old.tables) }
+    {
+        let known = self.known.copy();
+        let (known, answer) = replace_with(
+            &mut self.reader,
+            (known, address, choice),
+            |reader, asked| look_up(reader, asked.0, asked.1, asked.2),
+        );
+        self.known = known;
+        answer
+    }
+
+    /// Takes in what a publish of the same forwarding table told: lookups from here on answer from that
+    /// table or a later one. It waits for nobody and takes no memory.
+    pub fn learn(&mut self, told: Told)
+        requires { told.fib ≡ self.old.fib }
+        ensures fib { self.new.fib ≡ self.old.fib }
+        ensures own { IsPrefix self.old.tables self.new.tables }
+        ensures told { IsPrefix told.tables self.new.tables }
+        ensures one { (self.new.tables ≡ self.old.tables) ⊎ (self.new.tables ≡ told.tables) }
+    {
+        self.known.take_later(&told.known);
+    }
+}
+
+// Enters, and looks the address up in what is shown, which is no earlier than what was known.
+fn look_up(
+    reader: Reader<Shown, Knows, OneList>,
+    known: Published,
+    address: Addr,
+    choice: u32,
+) -> (
+    Reader<Shown, Knows, OneList>,
+    (Published, Result<Option<Answer>, Closed>),
+)
+    requires { IsNamed (view reader.place) known.fib }
+    ensures named { IsNamed (view result.0.place) known.fib }
+    ensures fib { result.1.0.fib ≡ known.fib }
+    ensures answer { MatchResult result.1.1 (λ a. IsPrefix known.tables result.1.0.tables × IsAnswerOfLast result.1.0.tables address choice a) (λ _. result.1.0.tables ≡ known.tables) }
+{
+    match reader.enter_as::<Enters>() {
+        Ok(reading) => {
+            let shown = reading.get();
+            if shown.live && known.begins(&shown.known) {
+                let answer = answer_of_shown(shown, address, choice);
+                let later = shown.known.copy();
+                (reading.leave(), (later, Ok(answer)))
+            } else {
+                (reading.leave(), (known, Err(Closed)))
+            }
+        }
+        Err(reader) => (reader, (known, Err(Closed))),
+    }
+}

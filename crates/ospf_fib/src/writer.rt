@@ -1,0 +1,197 @@
+//! The writer, which publishes whole tables.
+
+ghost use Rattle.std.specs.Prelude.{◌≡◌, ◌≤◌, ◌∷◌, ◌++◌, [], IfOk, IfSome, MatchResult, OnErr};
+ghost use Rattle.std.specs.Arc.{arc_value};
+ghost use Rattle.left_right.specs.Sides.{view};
+ghost use Rattle.ospf_published.specs.Known.{opening};
+ghost use Rattle.ospf_published.specs.Rule.{counter_of};
+ghost use Rattle.ospf_fib.specs.Rule.{IsNamed};
+
+use crate::fib::MAX_SEATS;
+use crate::rule::{Knows, OneList, Swaps, Tells};
+use crate::seat::{Seat, Told};
+use crate::shown::{Handed, Shown, Tries};
+use core::mem::replace_with;
+use ospf_published::Published;
+use ospf_spf::RouteTable;
+use std::alloc::{AllocError, Global};
+use std::marker::Model;
+use std::sync::atomic::{AtomicU64, Ordering};
+use std::sync::{Arc, Wait};
+
+type Copies = left_right::writer::Writer<Shown, Handed, Knows, OneList>;
+
+/// The one that publishes tables. Proofs see the list of those that it has published. Its end closes the
+/// forwarding table, and waits for lookups that are under way.
+pub struct Writer<R: Wait + Drop> {
+    copies: Copies,
+    known: Published,
+    tries: Arc<Tries>,
+    alloc: Global,
+    rt: R,
+}
+
+impl<R: Wait + Drop> Model for Writer<R> {
+    ghost use Rattle.std.specs.Prelude.{◌≡◌};
+    ghost use Rattle.std.specs.Arc.{arc_value};
+    ghost use Rattle.left_right.specs.Sides.{view as view_of};
+    ghost use Rattle.ospf_published.specs.Known.{Known};
+    ghost use Rattle.ospf_published.specs.Rule.{counter_of};
+    ghost use Rattle.ospf_fib.specs.Rule.{IsNamed};
+
+    ghost Value = { Known };
+
+    ghost view = { λ w. w.known };
+
+    ghost invariant = { λ w. IsNamed (view_of w.copies.desk.place) w.known.fib × (counter_of w.copies.desk.shown.value.known.fib ≡ counter_of w.known.fib) × ((arc_value w.tries).counter ≡ counter_of w.known.fib) };
+}
+
+impl<R: Wait + Drop> Drop for Writer<R> {
+    fn drop(self) {
+        let Self {
+            copies,
+            known: _,
+            tries: _,
+            alloc: _,
+            rt,
+        } = self;
+        drop(copies.take(&rt));
+    }
+}
+
+impl<R: Wait + Drop> Writer<R> {
+    pub(crate) fn open(alloc: Global, rt: R, seats: usize) -> Result<Writer<R>, AllocError>
+        requires { (1 ≤ seats) × (seats ≤ MAX_SEATS) }
+        ensures { IfOk result (λ writer. writer.tables ≡ opening) }
+    {
+        let (counter, known) = Published::open();
+        let tries = Tries {
+            counter,
+            present: AtomicU64::new(0),
+        };
+        let tries = Arc::new(alloc, tries)?;
+        let next = opening_handed(alloc, &known, &tries)?;
+        let one = opening_shown(alloc, &known);
+        let other = opening_shown(alloc, &known);
+        let copies = Copies::new(alloc, one, other, seats)?;
+        let (copies, done) = show(copies, &rt, next);
+        match done {
+            Ok(()) => Ok(Writer {
+                copies,
+                known,
+                tries,
+                alloc,
+                rt,
+            }),
+            Err(error) => {
+                drop(copies.take(&rt));
+                Err(error)
+            }
+        }
+    }
+
+    pub(crate) fn seat(&mut self) -> Result<Seat, AllocError>
+        ensures same { self.new ≡ self.old }
+        ensures seat { IfOk result (λ seat. seat ≡ self.old) }
+    {
+        let mut reader = self.copies.factory().reader()?;
+        reader.learn::<Tells>(self.copies.tell::<Tells>());
+        Ok(Seat {
+            reader,
+            known: self.known.copy(),
+        })
+    }
+
+    /// Publishes the table as the next version: at once, lookups answer from all of it. It may wait for
+    /// lookups that are under way.
+    ///
+    /// `AllocError` where memory runs out; then lookups answer as before. It would also stand for a list of
+    /// 2^64 - 1 tables, which no program lives to see.
+    pub fn publish(&mut self, table: &RouteTable) -> Result<Told, AllocError>
+        ensures fib { self.new.fib ≡ self.old.fib }
+        ensures published { IfOk result (λ _. self.new.tables ≡ self.old.tables ++ table.now ∷ []) }
+        ensures told { IfOk result (λ told. told ≡ self.new) }
+        ensures refused { OnErr result (self.new.tables ≡ self.old.tables) }
+    {
+        let number = self.tries.present.load(Ordering::SeqCst).wrapping_add(1);
+        self.tries.present.store(number, Ordering::SeqCst);
+        let next = Handed {
+            is_opening: false,
+            number,
+            table: table.copy(self.alloc)?,
+            known: self.known.copy(),
+            tries: Arc::try_clone(&self.tries)?,
+            alloc: self.alloc,
+        };
+        replace_with(&mut self.copies, (&self.rt, next), |copies, asked| {
+            show(copies, asked.0, asked.1)
+        })?;
+        let known = next_of(&self.known, self.copies.published()).ok_or(AllocError)?;
+        self.known = known;
+        Ok(Told {
+            known: self.known.copy(),
+        })
+    }
+}
+
+fn opening_shown(alloc: Global, known: &Published) -> Shown
+    requires { known.now.tables ≡ opening }
+    ensures table { result.table ≡ [] }
+    ensures known { result.known ≡ known.now }
+{
+    Shown {
+        live: true,
+        table: RouteTable::empty(alloc),
+        known: known.copy(),
+    }
+}
+
+fn opening_handed(
+    alloc: Global,
+    known: &Published,
+    tries: &Arc<Tries>,
+) -> Result<Handed, AllocError>
+    requires known { known.now.tables ≡ opening }
+    requires counter { (arc_value tries.now).counter ≡ counter_of known.now.fib }
+    ensures table { IfOk result (λ handed. handed.table ≡ []) }
+    ensures known { IfOk result (λ handed. handed.known ≡ known.now) }
+{
+    Ok(Handed {
+        is_opening: true,
+        number: 0,
+        table: RouteTable::empty(alloc),
+        known: known.copy(),
+        tries: Arc::try_clone(tries)?,
+        alloc,
+    })
+}
+
+// What is published once this is shown: one table more than was known.
+fn next_of(known: &Published, shown: &Shown) -> Option<Published>
+    requires { shown.now.known.fib ≡ known.now.fib }
+    ensures { IfSome result (λ next. (next.fib ≡ known.now.fib) × (next.tables ≡ known.now.tables ++ shown.now.table ∷ [])) }
+{
+    let count = known.count().wrapping_add(1);
+    if shown.live && known.begins(&shown.known) && count > 0 && shown.known.count() == count {
+        Some(shown.known.copy())
+    } else {
+        None
+    }
+}
+
+// Readers find `next` from now on. At `Err` they find what they found.
+fn show<R: Wait>(copies: Copies, rt: &R, next: Handed) -> (Copies, Result<(), AllocError>)
+    requires { counter_of copies.desk.shown.value.known.fib ≡ counter_of next.known.fib }
+    ensures counter { counter_of result.0.desk.shown.value.known.fib ≡ counter_of next.known.fib }
+    ensures named { MatchResult result.1 (λ _. (IsNamed (view result.0.desk.place) next.known.fib) × (result.0.desk.shown.value.table ≡ next.table)) (λ _. view result.0.desk.place ≡ view copies.desk.place) }
+{
+    let mut copies = copies;
+    if let Err(_refused) = copies.append(next) {
+        return (copies, Err(AllocError));
+    }
+    let (copies, done) = copies.publish_as::<Swaps, R>(rt);
+    match done {
+        Ok(()) => (copies, Ok(())),
+        Err(error) => (copies, Err(error)),
+    }
+}
