@@ -37,8 +37,8 @@ impl Model for Told {
 /// A thread's place at a forwarding table. Proofs see the tables that it knows to be published; it keeps
 /// no table and no answer.
 pub struct Seat {
-    pub(crate) reader: Reader<Shown, Knows, OneList>,
-    pub(crate) known: Published,
+    reader: Reader<Shown, Knows, OneList>,
+    known: Published,
 }
 
 impl Model for Seat {
@@ -61,6 +61,13 @@ impl Drop for Seat {
 }
 
 impl Seat {
+    pub(crate) fn new(reader: Reader<Shown, Knows, OneList>, known: Published) -> Seat
+        requires { IsNamed (view reader.place) known.fib }
+        ensures { result ≡ known }
+    {
+        Seat { reader, known }
+    }
+
     /// The answer of the table that was published last: its route of longest prefix that holds the address
     /// (RFC 2328, section 11.1), with the hop at `choice` modulo the number of hops; `None` where no route's
     /// prefix holds it. It waits for nobody and takes no memory.

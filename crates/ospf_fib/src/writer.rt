@@ -1,25 +1,23 @@
 //! The writer, which publishes whole tables.
 
-ghost use Rattle.std.specs.Prelude.{◌≡◌, ◌≤◌, ◌∷◌, ◌++◌, [], IfOk, IfSome, MatchResult, OnErr};
+ghost use Rattle.std.specs.Prelude.{◌≡◌, ◌∷◌, ◌++◌, [], IfOk, IfSome, MatchResult, OnErr};
 ghost use Rattle.std.specs.Arc.{arc_value};
 ghost use Rattle.left_right.specs.Sides.{view};
-ghost use Rattle.ospf_published.specs.Known.{opening};
 ghost use Rattle.ospf_published.specs.Rule.{counter_of};
 ghost use Rattle.ospf_fib.specs.Rule.{IsNamed};
 
-use crate::fib::MAX_SEATS;
-use crate::rule::{Knows, OneList, Swaps, Tells};
-use crate::seat::{Seat, Told};
+use crate::rule::{Knows, OneList, Swaps};
+use crate::seat::Told;
 use crate::shown::{Handed, Shown, Tries};
 use core::mem::replace_with;
 use ospf_published::Published;
 use ospf_spf::RouteTable;
 use std::alloc::{AllocError, Global};
 use std::marker::Model;
-use std::sync::atomic::{AtomicU64, Ordering};
+use std::sync::atomic::Ordering;
 use std::sync::{Arc, Wait};
 
-type Copies = left_right::writer::Writer<Shown, Handed, Knows, OneList>;
+pub(crate) type Copies = left_right::writer::Writer<Shown, Handed, Knows, OneList>;
 
 /// The one that publishes tables. Proofs see the list of those that it has published. Its end closes the
 /// forwarding table, and waits for lookups that are under way.
@@ -60,46 +58,25 @@ impl<R: Wait + Drop> Drop for Writer<R> {
 }
 
 impl<R: Wait + Drop> Writer<R> {
-    pub(crate) fn open(alloc: Global, rt: R, seats: usize) -> Result<Writer<R>, AllocError>
-        requires { (1 ≤ seats) × (seats ≤ MAX_SEATS) }
-        ensures { IfOk result (λ writer. writer.tables ≡ opening) }
+    pub(crate) fn new(
+        copies: Copies,
+        known: Published,
+        tries: Arc<Tries>,
+        alloc: Global,
+        rt: R,
+    ) -> Writer<R>
+        requires named { IsNamed (view copies.desk.place) known.fib }
+        requires shown { counter_of copies.desk.shown.value.known.fib ≡ counter_of known.fib }
+        requires counter { (arc_value tries).counter ≡ counter_of known.fib }
+        ensures { result ≡ known }
     {
-        let (counter, known) = Published::open();
-        let tries = Tries {
-            counter,
-            present: AtomicU64::new(0),
-        };
-        let tries = Arc::new(alloc, tries)?;
-        let next = opening_handed(alloc, &known, &tries)?;
-        let one = opening_shown(alloc, &known);
-        let other = opening_shown(alloc, &known);
-        let copies = Copies::new(alloc, one, other, seats)?;
-        let (copies, done) = show(copies, &rt, next);
-        match done {
-            Ok(()) => Ok(Writer {
-                copies,
-                known,
-                tries,
-                alloc,
-                rt,
-            }),
-            Err(error) => {
-                drop(copies.take(&rt));
-                Err(error)
-            }
+        Writer {
+            copies,
+            known,
+            tries,
+            alloc,
+            rt,
         }
-    }
-
-    pub(crate) fn seat(&mut self) -> Result<Seat, AllocError>
-        ensures same { self.new ≡ self.old }
-        ensures seat { IfOk result (λ seat. seat ≡ self.old) }
-    {
-        let mut reader = self.copies.factory().reader()?;
-        reader.learn::<Tells>(self.copies.tell::<Tells>());
-        Ok(Seat {
-            reader,
-            known: self.known.copy(),
-        })
     }
 
     /// Publishes the table as the next version: at once, lookups answer from all of it. It may wait for
@@ -134,38 +111,6 @@ impl<R: Wait + Drop> Writer<R> {
     }
 }
 
-fn opening_shown(alloc: Global, known: &Published) -> Shown
-    requires { known.now.tables ≡ opening }
-    ensures table { result.table ≡ [] }
-    ensures known { result.known ≡ known.now }
-{
-    Shown {
-        live: true,
-        table: RouteTable::empty(alloc),
-        known: known.copy(),
-    }
-}
-
-fn opening_handed(
-    alloc: Global,
-    known: &Published,
-    tries: &Arc<Tries>,
-) -> Result<Handed, AllocError>
-    requires known { known.now.tables ≡ opening }
-    requires counter { (arc_value tries.now).counter ≡ counter_of known.now.fib }
-    ensures table { IfOk result (λ handed. handed.table ≡ []) }
-    ensures known { IfOk result (λ handed. handed.known ≡ known.now) }
-{
-    Ok(Handed {
-        is_opening: true,
-        number: 0,
-        table: RouteTable::empty(alloc),
-        known: known.copy(),
-        tries: Arc::try_clone(tries)?,
-        alloc,
-    })
-}
-
 // What is published once this is shown: one table more than was known.
 fn next_of(known: &Published, shown: &Shown) -> Option<Published>
     requires { shown.now.known.fib ≡ known.now.fib }
@@ -180,7 +125,11 @@ fn next_of(known: &Published, shown: &Shown) -> Option<Published>
 }
 
 // Readers find `next` from now on. At `Err` they find what they found.
-fn show<R: Wait>(copies: Copies, rt: &R, next: Handed) -> (Copies, Result<(), AllocError>)
+pub(crate) fn show<R: Wait>(
+    copies: Copies,
+    rt: &R,
+    next: Handed,
+) -> (Copies, Result<(), AllocError>)
     requires { counter_of copies.desk.shown.value.known.fib ≡ counter_of next.known.fib }
     ensures counter { counter_of result.0.desk.shown.value.known.fib ≡ counter_of next.known.fib }
     ensures named { MatchResult result.1 (λ _. (IsNamed (view result.0.desk.place) next.known.fib) × (result.0.desk.shown.value.table ≡ next.table)) (λ _. view result.0.desk.place ≡ view copies.desk.place) }

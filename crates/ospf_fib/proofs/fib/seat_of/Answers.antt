@@ -1,11 +1,11 @@
 use Rattle.ospf_fib.proofs.Kept.{admits, forks, merges}
-use Rattle.ospf_fib.proofs.writer.Writer.seat.Goals as goal
+use Rattle.ospf_fib.proofs.fib.seat_of.Goals as goal
 
 pub reader-requires : goal.reader-requires
-reader-requires g c = admits
+reader-requires c = admits
 
 pub tell-requires : goal.tell-requires
-tell-requires g c = forks _ _
+tell-requires c = forks _ _
 
 pub learn-requires-clause-rule : goal.learn-requires-clause-rule
-learn-requires-clause-rule g c = merges _ _ _ _
+learn-requires-clause-rule c = merges _ _ _ _

@@ -1,0 +1,13 @@
+use Rattle.std.proofs.Common.{◌≡◌, length}
+use Rattle.std.specs.List.{All}
+use Rattle.left_right.specs.Sides.{view}
+use Rattle.ospf_fib.specs.Rule.{IsNamed}
+use Rattle.ospf_fib.proofs.fib.seats_of.Given as goal
+
+-- so many seats are made, and the copies show what they showed
+abbrev pub invariant-loop : goal.invariant-loop
+invariant-loop l =
+    (length l.seats.items ≡ l.counter)
+    × IsNamed (view l.copies.desk.place) l.known.fib
+    × (l.copies.desk.shown ≡ l.initial.copies.desk.shown)
+    × All (λ seat. seat ≡ l.known) l.seats.items
