@@ -11,7 +11,7 @@ use ospf_spf::RouteTable;
 /// The route of longest prefix that holds an address (RFC 2328, section 11.1), with one of its hops.
 #[derive(Clone, Copy, Debug, PartialEq, Eq)]
 pub struct Answer {
-    /// That of the table that answers: how many were published before it, modulo 2^64.
+    /// The place of the table that answers in the list of published tables, modulo 2^64.
     pub version: u64,
     pub prefix: Prefix,
     pub cost: u64,

@@ -41,8 +41,8 @@ impl<T: Drop> From<AllocFailed<T>> for OpenRefused {
 }
 
 impl Fib {
-    /// A writer and so many seats. They know the opening table, which is empty and has version 0. It may
-    /// wait, as all that has the handle `rt` may.
+    /// A writer and so many seats. They know the opening table, which is empty and has version 0. The writer
+    /// waits by the handle `rt`.
     ///
     /// `OpenRefused` where memory runs out, or there is no place for a seat.
     pub fn open<R: Wait + Drop>(
@@ -62,13 +62,15 @@ impl Fib {
         };
         let tries = Arc::new(alloc, tries)?;
         let mut copies = opening_copies(alloc, &rt, &known, &tries, seats)?;
-        match seats_of(alloc, &mut copies, &known, seats) {
-            Ok(made) => Ok((Writer::new(copies, known, tries, alloc, rt), made)),
-            Err(refused) => {
-                drop(copies.take(&rt));
-                Err(refused)
-            }
-        }
+        let made = seats_of(alloc, &mut copies, &known, seats);
+        let writer = Writer {
+            copies,
+            known,
+            tries,
+            alloc,
+            rt,
+        };
+        Ok((writer, made?))
     }
 }
 

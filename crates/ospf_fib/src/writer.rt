@@ -22,11 +22,11 @@ pub(crate) type Copies = left_right::writer::Writer<Shown, Handed, Knows, OneLis
 /// The one that publishes tables. Proofs see the list of those that it has published. Its end closes the
 /// forwarding table, and waits for lookups that are under way.
 pub struct Writer<R: Wait + Drop> {
-    copies: Copies,
-    known: Published,
-    tries: Arc<Tries>,
-    alloc: Global,
-    rt: R,
+    pub(crate) copies: Copies,
+    pub(crate) known: Published,
+    pub(crate) tries: Arc<Tries>,
+    pub(crate) alloc: Global,
+    pub(crate) rt: R,
 }
 
 impl<R: Wait + Drop> Model for Writer<R> {
@@ -58,32 +58,11 @@ impl<R: Wait + Drop> Drop for Writer<R> {
 }
 
 impl<R: Wait + Drop> Writer<R> {
-    pub(crate) fn new(
-        copies: Copies,
-        known: Published,
-        tries: Arc<Tries>,
-        alloc: Global,
-        rt: R,
-    ) -> Writer<R>
-        requires named { IsNamed (view copies.desk.place) known.fib }
-        requires shown { counter_of copies.desk.shown.value.known.fib ≡ counter_of known.fib }
-        requires counter { (arc_value tries).counter ≡ counter_of known.fib }
-        ensures { result ≡ known }
-    {
-        Writer {
-            copies,
-            known,
-            tries,
-            alloc,
-            rt,
-        }
-    }
-
-    /// Publishes the table as the next version: at once, lookups answer from all of it. It may wait for
-    /// lookups that are under way.
+    /// Publishes the table as the next version, all of it at once: each lookup answers from it or from what
+    /// was published before. It may wait for lookups that are under way.
     ///
-    /// `AllocError` where memory runs out; then lookups answer as before. It would also stand for a list of
-    /// 2^64 - 1 tables, which no program lives to see.
+    /// `AllocError` where memory runs out; then what is published is unchanged. It stands also for a list that
+    /// has 2^64 - 1 tables.
     pub fn publish(&mut self, table: &RouteTable) -> Result<Told, AllocError>
         ensures fib { self.new.fib ≡ self.old.fib }
         ensures published { IfOk result (λ _. self.new.tables ≡ self.old.tables ++ table.now ∷ []) }
@@ -103,6 +82,7 @@ impl<R: Wait + Drop> Writer<R> {
         replace_with(&mut self.copies, (&self.rt, next), |copies, asked| {
             show(copies, asked.0, asked.1)
         })?;
+        // Only this writer adds to the list, so there is a next one. That is not proved.
         let known = next_of(&self.known, self.copies.published()).ok_or(AllocError)?;
         self.known = known;
         Ok(Told {
@@ -116,8 +96,8 @@ fn next_of(known: &Published, shown: &Shown) -> Option<Published>
     requires { shown.now.known.fib ≡ known.now.fib }
     ensures { IfSome result (λ next. (next.fib ≡ known.now.fib) × (next.tables ≡ known.now.tables ++ shown.now.table ∷ [])) }
 {
-    let count = known.count().wrapping_add(1);
-    if shown.live && known.begins(&shown.known) && count > 0 && shown.known.count() == count {
+    let count = shown.known.count();
+    if shown.live && known.begins(&shown.known) && count > 0 && count - 1 == known.count() {
         Some(shown.known.copy())
     } else {
         None

@@ -1,4 +1,4 @@
-use Rattle.std.proofs.Common.{◌<◌, ◌%◌, length, ap, subst, arith, refl, sym}
+use Rattle.std.proofs.Common.{◌<◌, ◌%◌, length, ap, arith, refl}
 use Rattle.std.proofs.lemmas.Option.{slice_get-get_or}
 use Rattle.ospf_graph.specs.declared.hop.NextHop.TheVariants.{Attached}
 use Rattle.ospf_fib.proofs.answer.answer_of.Goals as goal

@@ -6,11 +6,11 @@ use Rattle.ospf_fib.proofs.writer.next_of.Goals as goal
 
 pub returns-then-count : goal.returns-then-count
 returns-then-count c =
-    let x = c.args.shown.now in
+    let shown = c.args.shown.now in
     let was = c.args.known.now.tables in
-    let tables = x.known.tables in
-    let last : slice_get tables (length tables - 1) ≡ Some x.table = subst (λ b. found_of b x.table tables ≡ Some x.table) c.if-shown.true x.ends in
+    let tables = shown.known.tables in
+    let last : slice_get tables (length tables - 1) ≡ Some shown.table = subst (λ b. found_of b shown.table tables ≡ Some shown.table) c.if-shown.true shown.ends in
     let begins : IsPrefix was tables = c.begins.ensures.begins.0 c.if-begins.true in
-    let long : length tables ≡ length was + 1 = omega (arith, c.count.ensures, c.count-count.ensures, c.count-count.type_inv, c.if-count.true, c.if-count-gt0.true) in
-    let seen = c.copy.ensures in
-    (ap (λ k. k.fib) seen ∙ c.requires, ap (λ k. k.tables) seen ∙ one_more was tables x.table begins long last)
+    let long : length tables ≡ length was + 1 = omega (arith, c.count.ensures, c.count-count.ensures, c.if-count.true, c.if-count-gt0.true) in
+    let copy = c.copy.ensures in
+    (ap (λ k. k.fib) copy ∙ c.requires, ap (λ k. k.tables) copy ∙ one_more was tables shown.table begins long last)
