@@ -3,9 +3,11 @@ use Rattle.std.proofs.Common.{◌≡◌, ◌+◌, ◌-◌, List, [], ◌∷◌, 
 use mathlib.Core.List.{IsPrefix}
 use Rattle.ospf_published.specs.Known.{Table}
 
+-- the last place of a list that is not empty
 at_last : (y : Table) (ys : List Table) (t : Table) → slice_get (y ∷ ys) (length (y ∷ ys) - 1) ≡ Some t → slice_get (y ∷ ys) (length ys) ≡ Some t
 at_last y ys t e = let n : length (y ∷ ys) - 1 ≡ length ys = omega arith in sym (ap (slice_get (y ∷ ys)) n) ∙ e
 
+-- a list that has a table at that place ends with it
 ends_at : (y : Table) (ys : List Table) (t : Table) → slice_get (y ∷ ys) (length ys) ≡ Some t → (before : List Table) × (y ∷ ys ≡ before ++ t ∷ [])
 ends_at y [] t e = ([], cc)
 ends_at y (z ∷ ys) t e = let r = ends_at z ys t e in (y ∷ r.0, ap (λ l. y ∷ l) r.1)
@@ -27,12 +29,3 @@ one_more xs (y ∷ ys) t p n e = go xs y ys t p (omega (arith, n)) (at_last y ys
     go (x ∷ xs) y (z ∷ ys) t p n e =
         let r = go xs z ys t (p.0, cc (p.1)) (omega (arith, n)) e in
         let same : x ≡ y = cc (p.1) in cc (r, same)
-
-at_end : (y : Table) (ys : List Table) (t : Table) → slice_get (y ∷ ys ++ t ∷ []) (length (ys ++ t ∷ [])) ≡ Some t
-at_end y [] t = refl
-at_end y (z ∷ ys) t = at_end z ys t
-
--- the last place of a list of adding one
-pub last_of_more : (xs : List Table) (t : Table) → slice_get (xs ++ t ∷ []) (length (xs ++ t ∷ []) - 1) ≡ Some t
-last_of_more [] t = refl
-last_of_more (y ∷ ys) t = let n : length (y ∷ ys ++ t ∷ []) - 1 ≡ length (ys ++ t ∷ []) = omega arith in ap (slice_get (y ∷ ys ++ t ∷ [])) n ∙ at_end y ys t

@@ -63,6 +63,7 @@ impl Fib {
         let tries = Arc::new(alloc, tries)?;
         let mut copies = opening_copies(alloc, &rt, &known, &tries, seats)?;
         let made = seats_of(alloc, &mut copies, &known, seats);
+        // Where a seat was refused, the writer's end takes the copies.
         let writer = Writer {
             copies,
             known,

@@ -102,7 +102,8 @@ impl Seat {
     }
 }
 
-// Enters, and looks the address up in what is shown, which is no earlier than what was known.
+// Enters, and looks the address up in what is shown. That is live and no earlier than what was known, which
+// is not proved: else the answer is `Closed`.
 fn look_up(
     reader: Reader<Shown, Knows, OneList>,
     known: Published,

@@ -83,7 +83,7 @@ impl Absorb<Handed> for Shown {
 
 impl Handed {
     // The table as readers are to find it. It comes to stand in the list here, after all that may be
-    // refused, and in the present try alone.
+    // refused for memory, and in the present try alone: a try that was refused is absorbed by the next one.
     fn shown(&self) -> Result<Shown, AllocError>
         ensures table { IfOk result (λ shown. shown.table ≡ self.now.table) }
         ensures fib { IfOk result (λ shown. shown.known.fib ≡ self.now.known.fib) }

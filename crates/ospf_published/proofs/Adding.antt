@@ -9,30 +9,32 @@ use Rattle.ospf_published.specs.Known.{Table}
 use Rattle.ospf_published.specs.Rule.{IsCounted, AddsWhereCounted}
 use Rattle.ospf_published.proofs.Prefixes.{prefix_whole}
 
+-- clients see nothing of the list, and trade nothing
 abbrev pub shown : List Table → List Table
-shown log = []
+shown tables = []
 
 abbrev pub moved : List Table → List Table → ℕ → Type 0
-moved xs ys n = Unit {0}
+moved before after answer = Unit {0}
 
-pub adds_goes : (log v : List Table) (e : Table) (old : ℕ) → length v ≡ old → IsPrefix v log
-    → (b : Bool) → (length log == old) ≡ b
-    → Goes IsCounted shown moved 0 (v, (no_nib, None)) (λ n. either (n == old) (old + 1) n) (AddsWhereCounted (step 0 old (old + 1) e) (v, (no_nib, None))) ((length log, true) ∷ (0, true) ∷ []) log
-adds_goes log v e old len pre true is =
-    let here : length log ≡ old = grind (arith, nat_tests) in
-    let same : v ≡ log = prefix_whole v log pre (omega arith) in
-    let n : either (length log == old) (old + 1) (length log) ≡ length (log ++ e ∷ []) = rw is (omega (arith, length-append log (e ∷ []))) in (
+-- the exchange at a list that begins with what is known: it adds the table, or finds another count
+adds_goes : (tables known : List Table) (table : Table) (count : ℕ) → length known ≡ count → IsPrefix known tables
+    → (found : Bool) → (length tables == count) ≡ found
+    → Goes IsCounted shown moved 0 (known, (no_nib, None)) (λ n. either (n == count) (count + 1) n) (AddsWhereCounted (step 0 count (count + 1) table) (known, (no_nib, None))) ((length tables, true) ∷ (0, true) ∷ []) tables
+adds_goes tables known table count len pre true is =
+    let here : length tables ≡ count = grind (arith, nat_tests) in
+    let same : known ≡ tables = prefix_whole known tables pre (omega arith) in
+    let n : either (length tables == count) (count + 1) (length tables) ≡ length (tables ++ table ∷ []) = rw is (omega (arith, length-append tables (table ∷ []))) in (
       keeps,
-      e ∷ [],
+      table ∷ [],
       None,
       tt,
       record { words = ap (λ (k : ℕ). (k, true) ∷ (0, true) ∷ []) n },
       inl (refl, refl),
-      rw is (ap (λ w. w ++ e ∷ []) (sym same)),
+      rw is (ap (λ w. w ++ table ∷ []) (sym same)),
     )
-adds_goes log v e old len pre false is =
-    let all : log ++ [] ≡ log = append-nil log in
-    let n : either (length log == old) (old + 1) (length log) ≡ length (log ++ []) = rw is (ap length (sym all)) in (
+adds_goes tables known table count len pre false is =
+    let all : tables ++ [] ≡ tables = append-nil tables in
+    let n : either (length tables == count) (count + 1) (length tables) ≡ length (tables ++ []) = rw is (ap length (sym all)) in (
       keeps,
       [],
       None,
@@ -42,9 +44,9 @@ adds_goes log v e old len pre false is =
       rw is (ap length all),
     )
 
--- whatever the book is, the exchange adds the table to all that was seen, or finds another count
-pub adds_moves : (v : List Table) (e : Table) (old : ℕ) → length v ≡ old
-    → Moves IsCounted shown moved 0 (v, (no_nib, None)) (λ n. either (n == old) (old + 1) n) (AddsWhereCounted (step 0 old (old + 1) e) (v, (no_nib, None)))
-adds_moves v e old len cs log kept pre away =
-    let P : List Cell → Type 0 = λ c. (0 < length c) × ((cell c 0).1 ≡ true) × Goes IsCounted shown moved 0 (v, (no_nib, None)) (λ n. either (n == old) (old + 1) n) (AddsWhereCounted (step 0 old (old + 1) e) (v, (no_nib, None))) c log in
-    subst P (sym kept.words) (omega arith, refl, adds_goes log v e old len pre (length log == old) refl)
+-- whatever the list has become, the exchange adds the table to all that was known, or finds another count
+pub adds_moves : (known : List Table) (table : Table) (count : ℕ) → length known ≡ count
+    → Moves IsCounted shown moved 0 (known, (no_nib, None)) (λ n. either (n == count) (count + 1) n) (AddsWhereCounted (step 0 count (count + 1) table) (known, (no_nib, None)))
+adds_moves known table count len cells tables kept pre away =
+    let Goes_at : List Cell → Type 0 = λ c. (0 < length c) × ((cell c 0).1 ≡ true) × Goes IsCounted shown moved 0 (known, (no_nib, None)) (λ n. either (n == count) (count + 1) n) (AddsWhereCounted (step 0 count (count + 1) table) (known, (no_nib, None))) c tables in
+    subst Goes_at (sym kept.words) (omega arith, refl, adds_goes tables known table count len pre (length tables == count) refl)

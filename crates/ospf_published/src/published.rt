@@ -1,7 +1,7 @@
 //! What a thread knows to be published.
 
-ghost use Rattle.std.specs.Prelude.{◌≡◌, ◌⊎◌, ◌↔◌, ◌∷◌, ◌++◌, IsTrue, MatchBool, [], length};
-ghost use Rattle.std.specs.Bool.{OnFalse};
+ghost use Rattle.std.specs.Prelude.{◌≡◌, ◌<◌, ◌-◌, ◌^◌, ◌⊎◌, ◌↔◌, ◌∷◌, ◌++◌, IsTrue, [], length};
+ghost use Rattle.std.specs.Bool.{OnTrue, OnFalse};
 ghost use mathlib.Core.List.{IsPrefix};
 ghost use Rattle.ospf_published.specs.Known.{opening};
 ghost use Rattle.ospf_published.specs.Rule.{counter_of};
@@ -81,12 +81,14 @@ impl Published {
         }
     }
 
-    /// Publishes a table: in one step it stands at the end of the list. `false`, with the list as it was,
-    /// where more is published already than is known here, or where the list has 2^64 - 1 tables.
+    /// Publishes a table: in one step it stands at the end of the list. `false` where more is published
+    /// already, which is then known here, or where the list has 2^64 - 1 tables.
     pub fn add(&mut self, counter: &Counter, table: &RouteTable) -> bool
         requires { counter.now ≡ counter_of self.old.fib }
         ensures fib { self.new.fib ≡ self.old.fib }
-        ensures tables { MatchBool result (self.new.tables ≡ self.old.tables ++ table.now ∷ []) (self.new.tables ≡ self.old.tables) }
+        ensures added { OnTrue result (self.new.tables ≡ self.old.tables ++ table.now ∷ []) }
+        ensures known { OnFalse result (IsPrefix self.old.tables self.new.tables) }
+        ensures refused { OnFalse result ((length self.old.tables < length self.new.tables) ⊎ (length self.old.tables ≡ 2 ^ 64 - 1)) }
     {
         let count = self.count;
         if count == u64::MAX {
@@ -105,7 +107,10 @@ impl Published {
         );
         if found == count {
             *self = Published { count: next, seen };
+            true
+        } else {
+            *self = Published { count: found, seen };
+            false
         }
-        found == count
     }
 }

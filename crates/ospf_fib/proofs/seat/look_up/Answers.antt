@@ -1,5 +1,5 @@
-use Rattle.ospf_fib.proofs.Kept.{sees}
+use Rattle.ospf_fib.proofs.Kept.{enters}
 use Rattle.ospf_fib.proofs.seat.look_up.Goals as goal
 
 pub enter_as-requires : goal.enter_as-requires
-enter_as-requires c = sees _ _
+enter_as-requires c = enters _ _
