@@ -89,8 +89,8 @@ impl Seat {
         answer
     }
 
-    /// Takes in what a publish of the same forwarding table told: lookups from here on answer from that
-    /// table or a later one. It waits for nobody and takes no memory.
+    /// Takes in what a publish told: lookups from here on answer from its table or a later one. It waits for
+    /// nobody and takes no memory. The seat and what it is told are of one `Fib::open`.
     pub fn learn(&mut self, told: Told)
         requires { told.fib ≡ self.old.fib }
         ensures fib { self.new.fib ≡ self.old.fib }
