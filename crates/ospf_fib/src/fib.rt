@@ -87,7 +87,8 @@ fn opening_copies<R: Wait>(
     requires opening { known.now.tables ≡ opening }
     requires counter { (arc_value tries.now).counter ≡ counter_of known.now.fib }
     ensures named { IfOk result (λ copies. IsNamed (view copies.desk.place) known.now.fib) }
-    ensures counter { IfOk result (λ copies. counter_of copies.desk.shown.value.known.fib ≡ counter_of known.now.fib) }
+    ensures counter { IfOk result (λ copies.
+        counter_of copies.desk.shown.value.known.fib ≡ counter_of known.now.fib) }
 {
     let next = opening_handed(alloc, known, tries)?;
     let one = opening_shown(alloc, known);

@@ -1,6 +1,6 @@
 //! The seats, from which addresses are looked up.
 
-ghost use Rattle.std.specs.Prelude.{◌≡◌, ◌⊎◌, IfOk, MatchResult, OnErr};
+ghost use Rattle.std.specs.Prelude.{◌≡◌, ◌⊎◌, IfOk, OnErr};
 ghost use mathlib.Core.List.{IsPrefix};
 ghost use Rattle.left_right.specs.Sides.{view};
 ghost use Rattle.ospf_fib.specs.Answers.{IsAnswerOfLast};
@@ -116,7 +116,9 @@ fn look_up(
     requires { IsNamed (view reader.place) known.fib }
     ensures named { IsNamed (view result.0.place) known.fib }
     ensures fib { result.1.0.fib ≡ known.fib }
-    ensures answer { MatchResult result.1.1 (λ a. IsPrefix known.tables result.1.0.tables × IsAnswerOfLast result.1.0.tables address choice a) (λ _. result.1.0.tables ≡ known.tables) }
+    ensures known { IfOk result.1.1 (λ _. IsPrefix known.tables result.1.0.tables) }
+    ensures answer { IfOk result.1.1 (IsAnswerOfLast result.1.0.tables address choice) }
+    ensures closed { OnErr result.1.1 (result.1.0.tables ≡ known.tables) }
 {
     match reader.enter_as::<Enters>() {
         Ok(reading) => {

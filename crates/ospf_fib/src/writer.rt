@@ -1,6 +1,6 @@
 //! The writer, which publishes whole tables.
 
-ghost use Rattle.std.specs.Prelude.{◌≡◌, ◌∷◌, ◌++◌, [], IfOk, IfSome, MatchResult, OnErr};
+ghost use Rattle.std.specs.Prelude.{◌≡◌, ◌∷◌, ◌++◌, [], IfOk, IfSome, OnErr};
 ghost use Rattle.std.specs.Arc.{arc_value};
 ghost use Rattle.left_right.specs.Sides.{view};
 ghost use Rattle.ospf_published.specs.Rule.{counter_of};
@@ -41,7 +41,9 @@ impl<R: Wait + Drop> Model for Writer<R> {
 
     ghost view = { λ w. w.known };
 
-    ghost invariant = { λ w. IsNamed (view_of w.copies.desk.place) w.known.fib × (counter_of w.copies.desk.shown.value.known.fib ≡ counter_of w.known.fib) × ((arc_value w.tries).counter ≡ counter_of w.known.fib) };
+    ghost invariant = { λ w. IsNamed (view_of w.copies.desk.place) w.known.fib
+        × (counter_of w.copies.desk.shown.value.known.fib ≡ counter_of w.known.fib)
+        × ((arc_value w.tries).counter ≡ counter_of w.known.fib) };
 }
 
 impl<R: Wait + Drop> Drop for Writer<R> {
@@ -61,8 +63,8 @@ impl<R: Wait + Drop> Writer<R> {
     /// Publishes the table as the next version, all of it at once: each lookup answers from it or from what
     /// was published before. It may wait for lookups that are under way.
     ///
-    /// `AllocError` where memory runs out; then what is published is unchanged. It stands also for a list that
-    /// has 2^64 - 1 tables.
+    /// `AllocError` where memory runs out; then what is published is unchanged. It stands also for a list
+    /// that has 2^64 - 1 tables.
     pub fn publish(&mut self, table: &RouteTable) -> Result<Told, AllocError>
         ensures fib { self.new.fib ≡ self.old.fib }
         ensures published { IfOk result (λ _. self.new.tables ≡ self.old.tables ++ table.now ∷ []) }
@@ -94,7 +96,8 @@ impl<R: Wait + Drop> Writer<R> {
 // What is published once this is shown: one table more than was known.
 fn next_of(known: &Published, shown: &Shown) -> Option<Published>
     requires { shown.now.known.fib ≡ known.now.fib }
-    ensures { IfSome result (λ next. (next.fib ≡ known.now.fib) × (next.tables ≡ known.now.tables ++ shown.now.table ∷ [])) }
+    ensures fib { IfSome result (λ next. next.fib ≡ known.now.fib) }
+    ensures tables { IfSome result (λ next. next.tables ≡ known.now.tables ++ shown.now.table ∷ []) }
 {
     let count = shown.known.count();
     if shown.live && known.begins(&shown.known) && count > 0 && count - 1 == known.count() {
@@ -112,7 +115,9 @@ pub(crate) fn show<R: Wait>(
 ) -> (Copies, Result<(), AllocError>)
     requires { counter_of copies.desk.shown.value.known.fib ≡ counter_of next.known.fib }
     ensures counter { counter_of result.0.desk.shown.value.known.fib ≡ counter_of next.known.fib }
-    ensures named { MatchResult result.1 (λ _. (IsNamed (view result.0.desk.place) next.known.fib) × (result.0.desk.shown.value.table ≡ next.table)) (λ _. view result.0.desk.place ≡ view copies.desk.place) }
+    ensures named { IfOk result.1 (λ _. IsNamed (view result.0.desk.place) next.known.fib) }
+    ensures table { IfOk result.1 (λ _. result.0.desk.shown.value.table ≡ next.table) }
+    ensures refused { OnErr result.1 (view result.0.desk.place ≡ view copies.desk.place) }
 {
     let mut copies = copies;
     if let Err(_refused) = copies.append(next) {

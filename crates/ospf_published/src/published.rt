@@ -88,7 +88,8 @@ impl Published {
         ensures fib { self.new.fib ≡ self.old.fib }
         ensures added { OnTrue result (self.new.tables ≡ self.old.tables ++ table.now ∷ []) }
         ensures known { OnFalse result (IsPrefix self.old.tables self.new.tables) }
-        ensures refused { OnFalse result ((length self.old.tables < length self.new.tables) ⊎ (length self.old.tables ≡ 2 ^ 64 - 1)) }
+        ensures refused { OnFalse result ((length self.old.tables < length self.new.tables)
+            ⊎ (length self.old.tables ≡ 2 ^ 64 - 1)) }
     {
         let count = self.count;
         if count == u64::MAX {

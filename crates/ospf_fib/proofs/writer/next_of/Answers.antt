@@ -4,8 +4,8 @@ use Rattle.ospf_fib.specs.Versions.{found_of}
 use Rattle.ospf_fib.proofs.Lists.{one_more}
 use Rattle.ospf_fib.proofs.writer.next_of.Goals as goal
 
-pub returns-then-count : goal.returns-then-count
-returns-then-count c =
+pub returns-then-count-clause-tables : goal.returns-then-count-clause-tables
+returns-then-count-clause-tables c =
     let shown = c.args.shown.now in
     let was = c.args.known.now.tables in
     let tables = shown.known.tables in
@@ -13,4 +13,4 @@ returns-then-count c =
     let begins : IsPrefix was tables = c.begins.ensures.begins.0 c.if-begins.true in
     let long : length tables ≡ length was + 1 = omega (arith, c.count.ensures, c.count-count.ensures, c.if-count.true, c.if-count-gt0.true) in
     let copy = c.copy.ensures in
-    (ap (λ k. k.fib) copy ∙ c.requires, ap (λ k. k.tables) copy ∙ one_more was tables shown.table begins long last)
+    ap (λ k. k.tables) copy ∙ one_more was tables shown.table begins long last
