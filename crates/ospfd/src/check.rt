@@ -32,6 +32,7 @@ impl CheckFault {
     fn status(&self) -> Status
         ensures not_done { result ≢ Status.Done }
         ensures not_refused { result ≢ Status.Refused }
+        ensures not_words { result ≢ Status.Words }
     {
         match self {
             CheckFault::NotRead => Status::Stream,
@@ -120,6 +121,7 @@ pub fn check_text<O: Write, E: Write>(
 ) -> Status
     ensures done { result ≡ Status.Done → IsWritten files.now true (O.contents out.old) (O.contents out.new) (E.contents err.old) (E.contents err.new) }
     ensures refused { result ≡ Status.Refused → IsWritten files.now false (O.contents out.old) (O.contents out.new) (E.contents err.old) (E.contents err.new) }
+    ensures not_words { result ≢ Status.Words }
 {
     match check_files(alloc, files, out, err) {
         Ok(true) => Status::Done,

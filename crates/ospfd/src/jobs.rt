@@ -72,7 +72,7 @@ impl From<AllocError> for JobFault {
 }
 
 impl JobFault {
-    ghost use Rattle.std.specs.Prelude.{◌≡◌};
+    ghost use Rattle.std.specs.Prelude.{◌≡◌, ◌⊎◌};
     ghost use Rattle.ospfd.specs.Job.{HasStatus};
 
     /// The status to end with: `Done` where the words ask for help or for the version.
@@ -89,8 +89,7 @@ impl JobFault {
     /// Writes help and the version to `out`, and all else to `err`. The answer is the status to end
     /// with.
     pub fn tell<O: Write, E: Write>(&self, out: &mut O, err: &mut E) -> Status
-        ensures done { result ≡ Status.Done → HasStatus self.now Status.Done }
-        ensures words { result ≡ Status.Words → HasStatus self.now Status.Words }
+        ensures { HasStatus self.now result ⊎ (result ≡ Status.Memory) ⊎ (result ≡ Status.Stream) }
     {
         let written = match self.status() {
             Status::Done => self.write(out),

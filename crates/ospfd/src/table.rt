@@ -69,6 +69,7 @@ impl TableFault {
     fn status(&self) -> Status
         ensures refused { (result ≡ Status.Refused) ↔ IsRefusal self.now }
         ensures not_done { result ≢ Status.Done }
+        ensures not_words { result ≢ Status.Words }
     {
         match self {
             TableFault::Entry { .. } => Status::Refused,
@@ -238,6 +239,7 @@ pub fn table_text<R: BufRead + Drop, O: Write, E: Write>(
     ensures done { result ≡ Status.Done → IfSome (R.remaining input) (λ bytes. (text : List ℕ) × IsAnswer bytes job.now.root job.now.addresses.items text × Appends (O.contents out.old) (O.contents out.new) text) }
     ensures refused { result ≡ Status.Refused → IfSome (R.remaining input) (λ bytes. IsRefusalTold bytes (E.contents err.old) (E.contents err.new)) }
     ensures unwritten { result ≡ Status.Refused → O.contents out.new ≡ O.contents out.old }
+    ensures not_words { result ≢ Status.Words }
 {
     match answer(alloc, job, input, out) {
         Ok(()) => Status::Done,
@@ -259,6 +261,7 @@ fn tell<E: Write>(fault: &TableFault, err: &mut E) -> Status
     ensures refused { result ≡ Status.Refused → IsRefusal fault.now }
     ensures told { (n : ℕ) (f : EntryFault) → fault.now ≡ TableFault.Entry n f → result ≡ Status.Refused → Appends (E.contents err.old) (E.contents err.new) (refusal_line n f) }
     ensures not_done { result ≢ Status.Done }
+    ensures not_words { result ≢ Status.Words }
 {
     let TableFault::Entry {
         number,
