@@ -1,0 +1,4 @@
+pub mod Machine
+pub mod Neighbour
+pub mod Neighbours
+pub mod Text
