@@ -4,8 +4,8 @@ use Rattle.ospf_base.specs.Text.{IsDottedNumber}
 use Rattle.ospf_base.specs.declared.ids.RouterId.{RouterId}
 use Rattle.ospf_base.specs.declared.ids.AreaId.{AreaId}
 use Rattle.ospf_config.specs.declared.address.InterfaceAddress.{InterfaceAddress}
-use Rattle.ospf_config.specs.declared.interface.InterfaceKind.{InterfaceKind}
-use Rattle.ospf_config.specs.declared.interface.InterfaceKind.TheVariants.{PointToPoint, Broadcast}
+use Rattle.ospf_base.specs.declared.interface.InterfaceKind.{InterfaceKind}
+use Rattle.ospf_base.specs.declared.interface.InterfaceKind.TheVariants.{PointToPoint, Broadcast}
 
 -- a dotted number other than 0.0.0.0
 pub record IsRouterIdText (text : List ℕ) (id : RouterId) : Type 0 where

@@ -3,13 +3,7 @@
 ghost use Rattle.std.specs.Prelude.{◌<◌, ◌≤◌, vec_len};
 
 use crate::address::InterfaceAddress;
-
-/// The kinds of interfaces (RFC 2328, section 1.2).
-#[derive(Clone, Copy, Debug, PartialEq, Eq)]
-pub enum InterfaceKind {
-    PointToPoint,
-    Broadcast,
-}
+use ospf_base::InterfaceKind;
 
 /// A UDP port that stands for an interface: 1024 to 65535.
 #[derive(Clone, Copy, Debug, PartialEq, Eq)]

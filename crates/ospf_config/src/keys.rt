@@ -9,7 +9,8 @@ ghost use Rattle.ospf_config.specs.Keys.{ReadsKind, ReadsAddress, ReadsCostValue
 
 use crate::address::InterfaceAddress;
 use crate::fault::ConfigFault;
-use crate::interface::{InterfaceKind, Port};
+use crate::interface::Port;
+use ospf_base::InterfaceKind;
 use toml::{Table, Value};
 
 // What the table holds at a key.

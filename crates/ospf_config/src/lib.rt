@@ -17,4 +17,4 @@ mod top;
 pub use crate::address::InterfaceAddress;
 pub use crate::config::Config;
 pub use crate::fault::ConfigFault;
-pub use crate::interface::{Interface, InterfaceKind, Port};
+pub use crate::interface::{Interface, Port};

@@ -1,7 +1,7 @@
 //! Configurations that are accepted, and the least fault of others.
 
-use crate::{Config, ConfigFault, InterfaceKind};
-use ospf_base::{Addr, AreaId, RouterId};
+use crate::{Config, ConfigFault};
+use ospf_base::{Addr, AreaId, InterfaceKind, RouterId};
 use std::alloc::Global;
 use std::process::Abort;
 use std::test::Fail;

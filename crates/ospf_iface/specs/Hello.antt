@@ -1,0 +1,35 @@
+-- Hello packets (RFC 2328, sections 9.5 and 10.5).
+use Rattle.std.specs.Prelude.{◌≡◌, ◌⊎◌, List, bit_and}
+use Rattle.ospf_election.specs.Election.{nobody}
+use Rattle.ospf_base.specs.declared.ids.RouterId.{RouterId}
+use Rattle.ospf_packet.specs.Meaning.{hello}
+use Rattle.ospf_packet.specs.Said.{body_meant}
+use Rattle.ospf_packet.specs.declared.body.Hello.{Hello}
+use Rattle.ospf_packet.specs.declared.value.BodyValue.{BodyValue}
+use Rattle.ospf_iface.specs.declared.machine.Iface.{Iface}
+use Rattle.ospf_base.specs.declared.interface.InterfaceKind.TheVariants.{PointToPoint, Broadcast}
+
+-- a Hello agrees in HelloInterval, RouterDeadInterval and the E bit, and on broadcast links in the mask (10.5)
+pub record Agrees (i : Iface) (h : Hello) : Type 0 where
+  pub interval : h.hello_interval ≡ i.settings.hello
+  pub dead : h.dead_interval ≡ i.settings.dead
+  pub e_bit : bit_and h.options 2 ≡ 2
+  pub mask : (h.mask ≡ i.settings.mask) ⊎ (i.settings.kind ≡ PointToPoint)
+
+-- the fields of the Hello that an interface sends: it declares the DR and the Backup, and none where the link has two ends (9.5)
+pub record AreFieldsOf (i : Iface) (h : Hello) : Type 0 where
+  pub mask : h.mask ≡ i.settings.mask
+  pub interval : h.hello_interval ≡ i.settings.hello
+  pub options : h.options ≡ 2
+  pub priority : h.priority ≡ i.settings.priority
+  pub dead : h.dead_interval ≡ i.settings.dead
+  pub dr : i.settings.kind ≡ Broadcast → h.designated ≡ i.dr
+  pub backup : i.settings.kind ≡ Broadcast → h.backup ≡ i.backup
+  pub no_dr : i.settings.kind ≡ PointToPoint → h.designated ≡ nobody
+  pub no_backup : i.settings.kind ≡ PointToPoint → h.backup ≡ nobody
+
+-- the Hello that an interface sends, which lists these neighbours (9.5)
+pub record IsHelloOf (i : Iface) (neighbours : List RouterId) (body : BodyValue) : Type 0 where
+  pub fields : Hello
+  pub fields_are : AreFieldsOf i fields
+  pub body_is : body_meant body ≡ hello fields neighbours

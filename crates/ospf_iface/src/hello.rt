@@ -1,0 +1,55 @@
+//! The Hellos of an interface (RFC 2328, sections 9.5 and 10.5).
+
+use crate::machine::Iface;
+use ospf_base::{Addr, RouterId};
+use ospf_packet::{BodyValue, Hello};
+use std::alloc::{AllocError, Global};
+
+/// The Options that this router sends: the E bit.
+pub const OPTIONS: u8 = 0x02;
+
+impl Iface {
+    ghost use Rattle.std.specs.Prelude.{◌↔◌, IfOk, IsTrue};
+    ghost use Rattle.ospf_iface.specs.Hello.{Agrees, AreFieldsOf, IsHelloOf};
+
+    /// Whether a Hello agrees with the interface (section 10.5): in HelloInterval, RouterDeadInterval and the E bit,
+    /// and on a broadcast link in the mask. No memory is taken.
+    pub fn agrees(&self, hello: &Hello) -> bool
+        ensures { IsTrue result ↔ Agrees self.now hello.now }
+    {
+        hello.hello_interval == self.settings.hello
+            && hello.dead_interval == self.settings.dead
+            && hello.options & OPTIONS == OPTIONS
+            && (hello.mask == self.settings.mask || self.settings.is_point_to_point())
+    }
+
+    // The fields of the Hello that the interface sends.
+    fn hello_fields(&self) -> Hello
+        ensures { AreFieldsOf self.now result }
+    {
+        let (designated, backup) = if self.settings.is_point_to_point() {
+            (Addr(0), Addr(0))
+        } else {
+            (self.dr, self.backup)
+        };
+        Hello {
+            mask: self.settings.mask,
+            hello_interval: self.settings.hello,
+            options: OPTIONS,
+            priority: self.settings.priority,
+            dead_interval: self.settings.dead,
+            designated,
+            backup,
+        }
+    }
+
+    /// The Hello that the interface sends (section 9.5), where it has heard of these neighbours, in rising Router ID.
+    ///
+    /// `AllocError` where memory runs out.
+    pub fn hello(&self, alloc: Global, neighbours: &[RouterId]) -> Result<BodyValue, AllocError>
+        ensures { IfOk result (IsHelloOf self.now neighbours.now) }
+    {
+        let neighbours = Vec::from_slice(alloc, neighbours)?;
+        Ok(BodyValue::Hello(self.hello_fields(), neighbours))
+    }
+}

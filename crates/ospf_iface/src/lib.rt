@@ -1,0 +1,12 @@
+//! An interface: its state machine, and the Hellos that it sends and agrees with (RFC 2328, section 9).
+#![tactic(auto)]
+
+mod hello;
+mod machine;
+mod settings;
+#[cfg(test)]
+mod tests;
+
+pub use crate::hello::OPTIONS;
+pub use crate::machine::{Iface, IfaceChange, IfaceEvent, IfaceState};
+pub use crate::settings::IfaceSettings;

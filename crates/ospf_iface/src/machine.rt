@@ -1,0 +1,155 @@
+//! The interface state machine (RFC 2328, sections 9.1 to 9.4).
+
+use crate::settings::IfaceSettings;
+use ospf_base::Addr;
+use ospf_election::{Candidate, Elected, elect};
+
+/// The states of an interface (section 9.1).
+#[derive(Clone, Copy, Debug, PartialEq, Eq)]
+pub enum IfaceState {
+    Down,
+    Waiting,
+    PointToPoint,
+    DrOther,
+    Backup,
+    Dr,
+}
+
+/// An interface (section 9).
+#[derive(Clone, Copy, Debug, PartialEq, Eq)]
+pub struct Iface {
+    pub settings: IfaceSettings,
+    pub state: IfaceState,
+    /// The Designated Router's address, 0.0.0.0 where there is none.
+    pub dr: Addr,
+    /// The Backup's address, 0.0.0.0 where there is none.
+    pub backup: Addr,
+    /// The ticks that are left of Waiting.
+    pub wait: u32,
+    /// The ticks to the next Hello.
+    pub hello_in: u16,
+}
+
+/// What happens to an interface (section 9.2). An event that elects brings the candidates, the router itself among
+/// them.
+#[derive(Clone, Copy, Debug)]
+pub enum IfaceEvent<'a> {
+    InterfaceUp,
+    BackupSeen(&'a [Candidate]),
+    WaitTimer(&'a [Candidate]),
+    NeighborChange(&'a [Candidate]),
+    InterfaceDown,
+}
+
+/// What an event does.
+#[derive(Clone, Copy, Debug, PartialEq, Eq)]
+pub struct IfaceChange {
+    pub state: IfaceState,
+    pub dr: Addr,
+    pub backup: Addr,
+    /// AdjOK? is due for the neighbours in 2-Way or above.
+    pub adj_ok: bool,
+    /// The neighbours get KillNbr.
+    pub kills: bool,
+    /// A Hello is sent.
+    pub hello: bool,
+}
+
+impl Iface {
+    ghost use Rattle.std.specs.Prelude.{◌≡◌, ◌-◌, ◌↔◌, IsTrue, Contains, true, false};
+    ghost use Rattle.ospf_election.specs.Election.{AreDistinct};
+    ghost use Rattle.ospf_iface.specs.Machine.{action, is_changed, started, stopped, own_candidate, CanTake, Does, Elects, told};
+
+    // What is told of the interface as it is.
+    fn change(&self, adj_ok: bool, kills: bool, hello: bool) -> IfaceChange
+        ensures { result ≡ told self.now adj_ok kills hello }
+    {
+        IfaceChange {
+            state: self.state,
+            dr: self.dr,
+            backup: self.backup,
+            adj_ok,
+            kills,
+            hello,
+        }
+    }
+
+    // Whether the elected Designated Router or Backup is another one.
+    fn differs(&self, e: Elected) -> bool
+        ensures { result ≡ is_changed self.now e }
+    {
+        e.dr.0 != self.dr.0 || e.backup.0 != self.backup.0
+    }
+
+    // The interface becomes operational.
+    fn start(&mut self) -> IfaceChange
+        ensures state { self.new ≡ started self.old }
+        ensures told { result ≡ told self.new false false true }
+    {
+        let state = self.settings.first_state();
+        self.state = state;
+        self.dr = Addr(0);
+        self.backup = Addr(0);
+        self.wait = match state {
+            IfaceState::Waiting => self.settings.dead,
+            _ => 0,
+        };
+        self.hello_in = self.settings.hello;
+        self.change(false, false, true)
+    }
+
+    // The Designated Router and the Backup are elected (section 9.4).
+    fn elect(&mut self, candidates: &[Candidate]) -> IfaceChange
+        requires distinct { AreDistinct candidates.now }
+        requires own { Contains candidates.now (own_candidate self.old) }
+        ensures { Elects candidates.now self.old self.new result }
+    {
+        let e = elect(candidates, self.settings.router);
+        let adj_ok = self.differs(e);
+        self.state = self.settings.elected_state(e);
+        self.dr = e.dr;
+        self.backup = e.backup;
+        self.wait = 0;
+        self.change(adj_ok, false, false)
+    }
+
+    // The interface is reset.
+    fn stop(&mut self) -> IfaceChange
+        ensures state { self.new ≡ stopped self.old }
+        ensures told { result ≡ told self.new false true false }
+    {
+        self.state = IfaceState::Down;
+        self.dr = Addr(0);
+        self.backup = Addr(0);
+        self.wait = 0;
+        self.hello_in = 0;
+        self.change(false, true, false)
+    }
+
+    /// Takes an event (section 9.3). An election is that of `ospf_election`. No memory is taken.
+    pub fn event(&mut self, event: IfaceEvent) -> IfaceChange
+        requires { CanTake (action self.old.state event) self.old }
+        ensures { Does (action self.old.state event.entry) self.old self.new result }
+    {
+        match (self.state, event) {
+            (IfaceState::Down, IfaceEvent::InterfaceUp) => self.start(),
+            (IfaceState::Waiting, IfaceEvent::BackupSeen(candidates)) => self.elect(candidates),
+            (IfaceState::Waiting, IfaceEvent::WaitTimer(candidates)) => self.elect(candidates),
+            (IfaceState::DrOther, IfaceEvent::NeighborChange(candidates)) => self.elect(candidates),
+            (IfaceState::Backup, IfaceEvent::NeighborChange(candidates)) => self.elect(candidates),
+            (IfaceState::Dr, IfaceEvent::NeighborChange(candidates)) => self.elect(candidates),
+            (_, IfaceEvent::InterfaceDown) => self.stop(),
+            (_, _) => self.change(false, false, false),
+        }
+    }
+
+    /// One tick of the wait timer; whether it fires.
+    pub fn wait_tick(&mut self) -> bool
+        ensures state { self.new ≡ record self.old { wait = self.old.wait - 1 } }
+        ensures fires { IsTrue result ↔ (self.old.wait ≡ 1) }
+    {
+        let fires = self.wait == 1;
+        self.wait = self.wait.saturating_sub(1);
+        fires
+    }
+}
