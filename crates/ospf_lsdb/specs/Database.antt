@@ -1,0 +1,126 @@
+-- The link state database (RFC 2328, sections 12.2 and 14): a map from keys to entries.
+use Rattle.std.specs.Prelude.{◌≡◌, ◌==◌, ◌&&◌, ◌||◌, ℕ, ◌+◌, ◌≤◌, Bool, false, List, [], ◌∷◌, ◌++◌, map, filter, find, Option, None, Some, option_map, if◌then◌else◌, nat_lt}
+use Rattle.std.specs.List.{AllByRecursion}
+use Rattle.ospf_base.specs.Bytes.{number_bytes}
+use Rattle.ospf_base.specs.Keys.{ls_type, Precedes}
+use Rattle.ospf_base.specs.Sums as sums
+use Rattle.ospf_base.specs.declared.ids.LsaKey.{LsaKey}
+use Rattle.ospf_lsa.specs.Header.{header_of}
+use Rattle.ospf_lsa.specs.Lsa.{key_of}
+
+-- ---- entries
+
+-- an entry: the LSA as its age and the bytes behind it, the tick in which it was installed, and whether it came by
+-- flooding
+pub record Entry : Type 0 where
+  pub age : ℕ
+  pub contents : List ℕ
+  pub tick : ℕ
+  pub by_flooding : Bool
+
+-- an entry of a database, and whether the last tick brought its age to LSRefreshTime or MaxAge
+pub record Held : Type 0 where
+  pub entry : Entry
+  pub reached : Bool
+
+-- the LSA of an entry, at its present age
+abbrev pub lsa_of : Entry → List ℕ
+lsa_of e = number_bytes 2 e.age ++ e.contents
+
+-- what names an LSA of these contents, at any age (section 12.1)
+unfoldable pub key_in : List ℕ → LsaKey
+key_in contents = key_of (0 ∷ 0 ∷ contents)
+
+-- the key of an entry
+abbrev pub key_at : Held → LsaKey
+key_at h = key_in h.entry.contents
+
+-- the entry that an LSA begins as. An age field above MaxAge means MaxAge
+unfoldable pub entry_from : List ℕ → ℕ → Bool → Entry
+entry_from lsa tick by_flooding = record { age = (header_of lsa).age; contents = sums.contents lsa; tick = tick; by_flooding = by_flooding }
+
+-- ---- the map
+
+-- two keys are one
+unfoldable pub same_key : LsaKey → LsaKey → Bool
+same_key a b = (ls_type a.kind == ls_type b.kind) && (a.id == b.id) && (a.router.0 == b.router.0)
+
+-- the database as a map: what it has at a key
+abbrev pub held_of : List Held → LsaKey → Option Held
+held_of db key = find (λ h. same_key (key_at h) key) db
+
+-- the entry of a key
+abbrev pub entry_of : List Held → LsaKey → Option Entry
+entry_of db key = option_map (λ h. h.entry) (held_of db key)
+
+-- the keys rise, so no two are the same
+abbrev pub IsRising : List Held → Type 0
+IsRising [] = Unit {0}
+IsRising (h ∷ hs) = AllByRecursion (λ o. Precedes (key_at h) (key_at o)) hs × IsRising hs
+
+-- a database: its entries in the order of their keys, at most one a key, none older than MaxAge
+pub record IsDatabase (db : List Held) : Type 0 where
+  pub rising : IsRising db
+  pub ages : AllByRecursion (λ h. h.entry.age ≤ 3600) db
+
+-- the entry of one key is another, which may be none, and all else is as it was
+abbrev pub Puts : LsaKey → Option Held → List Held → List Held → Type 0
+Puts key held before after = (k : LsaKey) → held_of after k ≡ (if same_key key k then held else held_of before k)
+
+-- ---- what the calls do
+
+-- an entry takes the place of its key's (section 13.2)
+abbrev pub Installs : Entry → List Held → List Held → Type 0
+Installs e before after = Puts (key_in e.contents) (Some (record { entry = e; reached = false })) before after
+
+-- the ages that a tick tells of: LSRefreshTime and MaxAge (appendix B)
+abbrev pub is_told : ℕ → Bool
+is_told age = (age == 1800) || (age == 3600)
+
+-- an entry a tick later, without what the tick tells
+unfoldable pub aged : Entry → Entry
+aged e = if nat_lt e.age 3600 then record e { age = e.age + 1 } else e
+
+-- an entry a tick later: an age below MaxAge is one more (section 14)
+unfoldable pub older : Held → Held
+older h = if nat_lt h.entry.age 3600
+    then record { entry = record h.entry { age = h.entry.age + 1 }; reached = is_told (h.entry.age + 1) }
+    else record h { reached = false }
+
+-- all entries a tick later
+abbrev pub Ages : List Held → List Held → Type 0
+Ages before after = (k : LsaKey) → held_of after k ≡ option_map older (held_of before k)
+
+-- an entry below MaxAge
+abbrev pub is_fresh : Held → Bool
+is_fresh h = nat_lt h.entry.age 3600
+
+-- an entry brought to MaxAge before its time: the contents, the tick and the origin stay (section 14.1)
+unfoldable pub expired : Held → Held
+expired h = if is_fresh h then record { entry = record h.entry { age = 3600 }; reached = false } else h
+
+-- whether there is an entry, and it passes the test
+abbrev pub is_some_and : (Held → Bool) → Option Held → Bool
+is_some_and test None = false
+is_some_and test (Some h) = test h
+
+-- an entry that has come to MaxAge
+abbrev pub is_expired : Held → Bool
+is_expired h = h.entry.age == 3600
+
+-- an entry of MaxAge is taken out, a younger one is not
+unfoldable pub removed : Option Held → Option Held
+removed None = None
+removed (Some h) = if is_expired h then None else Some h
+
+-- the LSAs below MaxAge, in the order of their keys (section 14)
+abbrev pub listed : List Held → List (List ℕ)
+listed db = map (λ h. lsa_of h.entry) (filter is_fresh db)
+
+-- what is listed of one entry
+unfoldable pub listed_of : Entry → List (List ℕ)
+listed_of e = if nat_lt e.age 3600 then lsa_of e ∷ [] else []
+
+-- the keys whose age became this one at the last tick, in order
+unfoldable pub reached_at : ℕ → List Held → List LsaKey
+reached_at age db = map key_at (filter (λ h. h.reached && (h.entry.age == age)) db)

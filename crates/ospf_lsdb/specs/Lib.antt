@@ -1,0 +1,3 @@
+pub mod Database
+pub mod Places
+pub mod Laws

@@ -1,0 +1,160 @@
+//! Ages that come to LSRefreshTime and MaxAge, and what a database lists.
+
+ghost use Rattle.std.specs.Prelude.{◌≡◌, ◌⊎◌};
+
+use crate::{LS_REFRESH_TIME, PlainLsdb};
+use ospf_base::{Age, Kind, LsaKey, MAX_AGE, RouterId};
+use ospf_lsa::Lsa;
+use std::alloc::Global;
+use std::test::Fail;
+
+// The number that a router uses first.
+const FIRST_NUMBER: i32 = -0x7fff_ffff;
+
+// The router-LSA of a router without links, at an age.
+fn lsa_of(alloc: Global, router: u32, age: u16) -> Result<Lsa, Fail> {
+    let mut lsa = Lsa::router(alloc, RouterId(router), FIRST_NUMBER, &[])?;
+    lsa.set_age(Age::new(age));
+    Ok(lsa)
+}
+
+fn key_of(router: u32) -> LsaKey {
+    LsaKey {
+        kind: Kind::Router,
+        id: router,
+        router: RouterId(router),
+    }
+}
+
+// A database with the LSAs of so many routers, at age 0.
+fn filled(alloc: Global, count: u32) -> Result<PlainLsdb, Fail> {
+    let mut lsdb = PlainLsdb::new(alloc);
+    for router in 0..count {
+        lsdb.install(lsa_of(alloc, router, 0)?, 0, false)?;
+    }
+    Ok(lsdb)
+}
+
+// How many keys came to an age at the last tick.
+fn count_reached(lsdb: &PlainLsdb, age: u16) -> usize
+    requires { (age ≡ 1800) ⊎ (age ≡ 3600) }
+{
+    let mut count = 0usize;
+    for _ in lsdb.reached(age) {
+        count = count.saturating_add(1);
+    }
+    count
+}
+
+#[test]
+fn a_thousand_come_of_age_together(rt: HostRuntime) -> Result<(), Fail> {
+    let alloc = rt.alloc();
+    let mut lsdb = filled(alloc, 1000)?;
+    for _ in 1..LS_REFRESH_TIME {
+        lsdb.tick();
+        assert_eq!(rt; count_reached(&lsdb, LS_REFRESH_TIME), 0);
+    }
+    lsdb.tick();
+    assert_eq!(rt; count_reached(&lsdb, LS_REFRESH_TIME), 1000);
+    for _ in LS_REFRESH_TIME + 1..MAX_AGE {
+        lsdb.tick();
+        assert_eq!(rt; count_reached(&lsdb, LS_REFRESH_TIME), 0);
+        assert_eq!(rt; count_reached(&lsdb, MAX_AGE), 0);
+    }
+    assert_eq!(rt; lsdb.listing(alloc)?.lsas().len(), 1000);
+    lsdb.tick();
+    assert_eq!(rt; count_reached(&lsdb, MAX_AGE), 1000);
+    assert_eq!(rt; lsdb.listing(alloc)?.lsas().len(), 0);
+    assert_eq!(rt; lsdb.tick(), 1000);
+    assert_eq!(rt; count_reached(&lsdb, MAX_AGE), 0);
+    Ok(())
+}
+
+#[test]
+fn only_a_tick_brings_to_an_age(rt: HostRuntime) -> Result<(), Fail> {
+    let alloc = rt.alloc();
+    let mut lsdb = PlainLsdb::new(alloc);
+    lsdb.install(lsa_of(alloc, 1, 1799)?, 7, true)?;
+    lsdb.install(lsa_of(alloc, 2, 1800)?, 7, false)?;
+    lsdb.install(lsa_of(alloc, 3, 3600)?, 7, false)?;
+    assert_eq!(rt; count_reached(&lsdb, LS_REFRESH_TIME), 0);
+    assert_eq!(rt; count_reached(&lsdb, MAX_AGE), 0);
+    lsdb.tick();
+    let mut reached = lsdb.reached(LS_REFRESH_TIME);
+    assert_eq!(rt; reached.next(), Some(key_of(1)));
+    assert_eq!(rt; reached.next(), None);
+    for _ in 1801..MAX_AGE {
+        assert_eq!(rt; count_reached(&lsdb, MAX_AGE), 0);
+        lsdb.tick();
+        assert_eq!(rt; count_reached(&lsdb, LS_REFRESH_TIME), 0);
+    }
+    assert_eq!(rt; count_reached(&lsdb, MAX_AGE), 1);
+    Ok(())
+}
+
+#[test]
+fn a_newer_one_starts_anew(rt: HostRuntime) -> Result<(), Fail> {
+    let alloc = rt.alloc();
+    let mut lsdb = filled(alloc, 1)?;
+    for tick in 1..=1810 {
+        lsdb.tick();
+        if tick == 10 {
+            lsdb.install(lsa_of(alloc, 0, 0)?, 10, true)?;
+        }
+        if tick == 1800 {
+            assert_eq!(rt; count_reached(&lsdb, LS_REFRESH_TIME), 0);
+        }
+    }
+    assert_eq!(rt; lsdb.reached(LS_REFRESH_TIME).next(), Some(key_of(0)));
+    lsdb.install(lsa_of(alloc, 0, 1800)?, 1810, true)?;
+    assert_eq!(rt;
+        count_reached(&lsdb, LS_REFRESH_TIME),
+        0,
+        "one reached and replaced"
+    );
+    Ok(())
+}
+
+#[test]
+fn one_expires_alone(rt: HostRuntime) -> Result<(), Fail> {
+    let alloc = rt.alloc();
+    let mut lsdb = PlainLsdb::new(alloc);
+    lsdb.install(lsa_of(alloc, 1, 3599)?, 0, false)?;
+    assert_eq!(rt; lsdb.listing(alloc)?.lsas().len(), 1);
+    assert!(rt; !lsdb.remove_expired(&key_of(1)));
+    lsdb.tick();
+    assert_eq!(rt; lsdb.listing(alloc)?.lsas().len(), 0);
+    assert!(rt; !lsdb.remove_expired(&key_of(2)));
+    assert!(rt; lsdb.remove_expired(&key_of(1)));
+    assert!(rt; lsdb.get(&key_of(1)).is_none());
+    assert!(rt; !lsdb.remove_expired(&key_of(1)));
+    Ok(())
+}
+
+#[test]
+fn a_flush_keeps_all_but_the_age(rt: HostRuntime) -> Result<(), Fail> {
+    let alloc = rt.alloc();
+    let mut lsdb = PlainLsdb::new(alloc);
+    lsdb.install(lsa_of(alloc, 5, 100)?, 41, true)?;
+    lsdb.tick();
+    let Some(entry) = lsdb.get(&key_of(5)) else {
+        assert!(rt; false, "no entry");
+        return Ok(());
+    };
+    assert_eq!(rt; entry.age(), Age::new(101));
+    assert_eq!(rt; entry.header().age, Age::new(101));
+    assert_eq!(rt; entry.copy(alloc)?.view().header(), entry.header());
+    assert!(rt; lsdb.expire(&key_of(5)));
+    assert!(rt; !lsdb.expire(&key_of(5)));
+    assert!(rt; !lsdb.expire(&key_of(6)));
+    let Some(entry) = lsdb.get(&key_of(5)) else {
+        assert!(rt; false, "no entry");
+        return Ok(());
+    };
+    assert_eq!(rt; entry.age(), Age::new(MAX_AGE));
+    assert_eq!(rt; entry.lsa().key(), key_of(5));
+    assert_eq!(rt; entry.tick(), 41);
+    assert!(rt; entry.by_flooding());
+    assert_eq!(rt; count_reached(&lsdb, MAX_AGE), 0);
+    Ok(())
+}
