@@ -2,5 +2,14 @@ pub mod EntryLemmas
 pub mod MapLemmas
 pub mod RisingLemmas
 pub mod PlaceLemmas
+pub mod OrderLemmas
+pub mod MomentLemmas
+pub mod RingLemmas
+pub mod TimerLemmas
+pub mod ExpireLemmas
+pub mod ReachedKeys
 pub mod ReachedLemmas
+pub mod ListingLemmas
+pub mod InstallLemmas
+pub mod TickLemmas
 pub mod MapLaws

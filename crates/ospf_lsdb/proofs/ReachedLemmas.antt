@@ -71,7 +71,7 @@ listed_more db i d within = elim (bool_cases (is_fresh (get_or db i d))) [
 ]
 
 -- what is listed of entries before a key stands before it
-listed_before : (key : LsaKey) (db : List Held) → AllBefore key db → AllByRecursion (λ lsa. Precedes (key_of lsa) key) (listed db)
+pub listed_before : (key : LsaKey) (db : List Held) → AllBefore key db → AllByRecursion (λ lsa. Precedes (key_of lsa) key) (listed db)
 listed_before key [] below = tt
 listed_before key (h ∷ hs) below = elim (bool_cases (is_fresh h)) [
   | inl one ↦ rw one (subst (λ (k : LsaKey). Precedes k key) (sym (key_of-with_age h.entry.age h.entry.contents)) below.0, listed_before key hs below.1)

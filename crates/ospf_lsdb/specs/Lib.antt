@@ -1,3 +1,5 @@
 pub mod Database
 pub mod Places
+pub mod Moments
+pub mod Timers
 pub mod Laws

@@ -3,12 +3,16 @@
 
 mod entry;
 mod laws;
+mod lsdb;
+mod moments;
 mod plain;
 #[cfg(test)]
 mod tests;
 
 pub use crate::entry::EntryView;
 pub use crate::laws::{installs_one, one_database_of_a_map, same_keys_are_equal, tick_ages_all};
+pub use crate::lsdb::Lsdb;
+pub use crate::moments::Reached;
 pub use crate::plain::{PlainLsdb, PlainReached};
 
 /// The age at which a router issues its own LSA again (RFC 2328, appendix B).

@@ -1,0 +1,197 @@
+-- The orders of keys and of what is due.
+use Rattle.std.proofs.Common.{◌≡◌, ◌<◌, ◌==◌, ◌&&◌, ◌+◌, ◌⊎◌, inl, inr, ℕ, Bool, true, false, refl, ◌∙◌, arith}
+use Rattle.std.proofs.lemmas.Grind.{common_steps}
+use Rattle.std.specs.Ordering.{nat_cmp, is_eq, is_le, ordering_then}
+use Rattle.std.specs.declared.cmp.Ordering.{Ordering}
+use Rattle.std.specs.declared.cmp.Ordering.TheVariants.{Less, Equal, Greater}
+use Rattle.ospf_base.specs.declared.ids.LsaKey.{LsaKey}
+use Rattle.ospf_base.specs.declared.ids.Kind.{Kind}
+use Rattle.ospf_base.specs.declared.ids.Kind.TheVariants.{Router, Network}
+use Rattle.ospf_base.specs.Keys.{ls_type, Precedes}
+use Rattle.ospf_base.specs.contracts.ids.KindOrd.TheImpl as kind_ord
+use Rattle.ospf_lsdb.specs.Database.{same_key}
+use Rattle.ospf_lsdb.specs.declared.moments.Due.{Due}
+use Rattle.std.specs.BTreeMap.Range.{range_contains}
+use Rattle.std.specs.declared.ops.Bound.TheVariants.{Included, Excluded}
+use Rattle.ospf_lsdb.specs.Moments.{key_cmp, due_cmp, same_due, is_at}
+
+abbrev pub kind_cmp : Kind → Kind → Ordering
+kind_cmp = (kind_ord.ghosts).cmp
+
+is_eq-then : (a b : Ordering) → is_eq (ordering_then a b) ≡ is_eq a && is_eq b
+is_eq-then Less b = refl
+is_eq-then Equal b = refl
+is_eq-then Greater b = refl
+
+is_eq-nat_cmp : (a b : ℕ) → is_eq (nat_cmp a b) ≡ (a == b)
+is_eq-nat_cmp a b = grind (arith, common_steps)
+
+is_eq-kind_cmp : (a b : Kind) → is_eq (kind_cmp a b) ≡ (ls_type a == ls_type b)
+is_eq-kind_cmp Router Router = refl
+is_eq-kind_cmp Router Network = refl
+is_eq-kind_cmp Network Router = refl
+is_eq-kind_cmp Network Network = refl
+
+key_cmp-is : (a b : LsaKey) → key_cmp a b ≡ ordering_then (kind_cmp a.kind b.kind) (ordering_then (nat_cmp a.id b.id) (nat_cmp a.router.0 b.router.0))
+key_cmp-is a b = refl
+
+-- keys that the map takes for one are one
+pub is_eq-key_cmp : (a b : LsaKey) → is_eq (key_cmp a b) ≡ same_key a b
+unfolding same_key
+is_eq-key_cmp a b =
+    let k = is_eq-kind_cmp a.kind b.kind in
+    let i = is_eq-nat_cmp a.id b.id in
+    let r = is_eq-nat_cmp a.router.0 b.router.0 in
+    let x = is_eq-then (kind_cmp a.kind b.kind) (ordering_then (nat_cmp a.id b.id) (nat_cmp a.router.0 b.router.0)) in
+    let y = is_eq-then (nat_cmp a.id b.id) (nat_cmp a.router.0 b.router.0) in
+    x ∙ (rw (k, y, i, r) (assoc (ls_type a.kind == ls_type b.kind) (a.id == b.id) (a.router.0 == b.router.0)))
+  where
+    assoc : (p q s : Bool) → p && (q && s) ≡ (p && q) && s
+    assoc true q s = refl
+    assoc false q s = refl
+
+pub is_eq-due_cmp : (a b : Due) → is_eq (due_cmp a b) ≡ same_due a b
+unfolding same_due
+is_eq-due_cmp a b =
+    let x = is_eq-then (nat_cmp a.moment b.moment) (ordering_then (nat_cmp a.age b.age) (key_cmp a.key b.key)) in
+    let y = is_eq-then (nat_cmp a.age b.age) (key_cmp a.key b.key) in
+    let m = is_eq-nat_cmp a.moment b.moment in
+    let n = is_eq-nat_cmp a.age b.age in
+    let k = is_eq-key_cmp a.key b.key in
+    x ∙ (rw (y, m, n, k) refl)
+
+then-less : (a b : Ordering) → ordering_then a b ≡ Less → (a ≡ Less) ⊎ ((a ≡ Equal) × (b ≡ Less))
+then-less Less b is = inl refl
+then-less Equal b is = inr (refl, is)
+then-less Greater b is = absurd (cc)
+
+nat_cmp-less : (a b : ℕ) → nat_cmp a b ≡ Less → a < b
+nat_cmp-less a b is = grind (arith, common_steps)
+
+nat_cmp-equal : (a b : ℕ) → nat_cmp a b ≡ Equal → a ≡ b
+nat_cmp-equal a b is = grind (arith, common_steps)
+
+kind_cmp-less : (a b : Kind) → kind_cmp a b ≡ Less → ls_type a < ls_type b
+kind_cmp-less Router Router is = absurd (cc)
+kind_cmp-less Router Network is = omega arith
+kind_cmp-less Network Router is = absurd (cc)
+kind_cmp-less Network Network is = absurd (cc)
+
+kind_cmp-equal : (a b : Kind) → kind_cmp a b ≡ Equal → ls_type a ≡ ls_type b
+kind_cmp-equal Router Router is = refl
+kind_cmp-equal Router Network is = absurd (cc)
+kind_cmp-equal Network Router is = absurd (cc)
+kind_cmp-equal Network Network is = refl
+
+-- what the map puts first stands first
+pub key_cmp-less : (a b : LsaKey) → key_cmp a b ≡ Less → Precedes a b
+key_cmp-less a b is = elim (then-less (kind_cmp a.kind b.kind) (ordering_then (nat_cmp a.id b.id) (nat_cmp a.router.0 b.router.0)) is) [
+  | inl k ↦ inl (kind_cmp-less a.kind b.kind k)
+  | inr more ↦ elim (then-less (nat_cmp a.id b.id) (nat_cmp a.router.0 b.router.0) more.1) [
+    | inl i ↦ inr (kind_cmp-equal a.kind b.kind more.0, inl (nat_cmp-less a.id b.id i))
+    | inr last ↦ inr (kind_cmp-equal a.kind b.kind more.0, inr (nat_cmp-equal a.id b.id last.0, nat_cmp-less a.router.0 b.router.0 last.1))
+  ]
+]
+
+-- of one moment and one age, what stands first has the first key
+pub due_cmp-less : (a b : Due) → a.moment ≡ b.moment → a.age ≡ b.age → due_cmp a b ≡ Less → Precedes a.key b.key
+due_cmp-less a b m n is = elim (then-less (nat_cmp a.moment b.moment) (ordering_then (nat_cmp a.age b.age) (key_cmp a.key b.key)) is) [
+  | inl less ↦ let lt = nat_cmp-less a.moment b.moment less in absurd (omega arith)
+  | inr more ↦ elim (then-less (nat_cmp a.age b.age) (key_cmp a.key b.key) more.1) [
+    | inl less ↦ let lt = nat_cmp-less a.age b.age less in absurd (omega arith)
+    | inr last ↦ key_cmp-less a.key b.key last.1
+  ]
+]
+
+nat_cmp-lt : (a b : ℕ) → a < b → nat_cmp a b ≡ Less
+nat_cmp-lt a b is = grind (arith, common_steps)
+
+nat_cmp-eq : (a b : ℕ) → a ≡ b → nat_cmp a b ≡ Equal
+nat_cmp-eq a b is = grind (arith, common_steps)
+
+nat_cmp-gt : (a b : ℕ) → b < a → nat_cmp a b ≡ Greater
+nat_cmp-gt a b is = grind (arith, common_steps)
+
+differ : (a b : ℕ) → (a < b) ⊎ (b < a) → (b == a) ≡ false
+differ a b (inl lt) = grind arith
+differ a b (inr gt) = grind arith
+
+same : (a b : ℕ) → a ≡ b → (b == a) ≡ true
+same a b is = grind arith
+
+order : (a b : ℕ) → (a < b) ⊎ ((b < a) ⊎ (a ≡ b))
+order a b = grind arith
+
+-- the first of all keys
+abbrev pub first_key : LsaKey
+first_key = record { kind = Router; id = 0; router = record { 0 = 0 } }
+
+zero_le : (n : ℕ) → is_le (nat_cmp 0 n) ≡ true
+zero_le n = elim (order 0 n) [
+  | inl lt ↦ let e = nat_cmp-lt 0 n lt in rw e refl
+  | inr more ↦ elim more [ inl gt ↦ absurd (omega arith) | inr eq ↦ let e = nat_cmp-eq 0 n eq in rw e refl ]
+]
+
+is_le-then : (a b : Ordering) → is_le a ≡ true → is_le b ≡ true → is_le (ordering_then a b) ≡ true
+is_le-then Less b p q = refl
+is_le-then Equal b p q = q
+is_le-then Greater b p q = p
+
+kind_le : (k : Kind) → is_le (kind_cmp Router k) ≡ true
+kind_le Router = refl
+kind_le Network = refl
+
+first_le : (k : LsaKey) → is_le (key_cmp first_key k) ≡ true
+first_le k = is_le-then (kind_cmp Router k.kind) (ordering_then (nat_cmp 0 k.id) (nat_cmp 0 k.router.0)) (kind_le k.kind) (is_le-then (nat_cmp 0 k.id) (nat_cmp 0 k.router.0) (zero_le k.id) (zero_le k.router.0))
+
+-- the range of one moment and one age
+pub in_range : (m a : ℕ) (q : Due) → range_contains due_cmp (Included (record { moment = m; age = a; key = first_key })) (Excluded (record { moment = m; age = a + 1; key = first_key })) q ≡ is_at m a q
+in_range m a q = elim (order m q.moment) [
+  | inl lt ↦ let e = nat_cmp-lt m q.moment lt in let n = differ m q.moment (inl lt) in rw (e, n) refl
+  | inr more ↦ elim more [
+    | inl gt ↦ let e = nat_cmp-gt m q.moment gt in let n = differ m q.moment (inr gt) in rw (e, n) refl
+    | inr at ↦
+        let e = nat_cmp-eq m q.moment at in
+        let s = same m q.moment at in
+        let f = first_le q.key in
+        elim (order a q.age) [
+          | inl lt ↦
+              let x = nat_cmp-lt a q.age lt in
+              let n = differ a q.age (inl lt) in
+              elim (order (a + 1) q.age) [
+                | inl less ↦ let y = nat_cmp-lt (a + 1) q.age less in rw (e, s, x, n, y) refl
+                | inr other ↦ elim other [
+                  | inl greater ↦ absurd (omega arith)
+                  | inr equal ↦ let y = nat_cmp-eq (a + 1) q.age equal in rw (e, s, x, n, y, f) refl
+                ]
+              ]
+          | inr rest ↦ elim rest [
+            | inl gt ↦ let x = nat_cmp-gt a q.age gt in let n = differ a q.age (inr gt) in rw (e, s, x, n) refl
+            | inr eq ↦
+                let x = nat_cmp-eq a q.age eq in
+                let n = same a q.age eq in
+                let past : q.age < a + 1 = omega arith in
+                let y = nat_cmp-gt (a + 1) q.age past in
+                rw (e, s, x, n, y, f) refl
+          ]
+        ]
+  ]
+]
+
+kind_cmp-lt : (a b : Kind) → ls_type a < ls_type b → kind_cmp a b ≡ Less
+kind_cmp-lt Router Router lt = absurd (omega arith)
+kind_cmp-lt Router Network lt = refl
+kind_cmp-lt Network Router lt = absurd (omega arith)
+kind_cmp-lt Network Network lt = absurd (omega arith)
+
+kind_cmp-eq : (a b : Kind) → ls_type a ≡ ls_type b → kind_cmp a b ≡ Equal
+kind_cmp-eq Router Router is = refl
+kind_cmp-eq Router Network is = absurd (omega arith)
+kind_cmp-eq Network Router is = absurd (omega arith)
+kind_cmp-eq Network Network is = refl
+
+-- what stands first, the map puts first
+pub less-key_cmp : (a b : LsaKey) → Precedes a b → key_cmp a b ≡ Less
+less-key_cmp a b (inl k) = let e = kind_cmp-lt a.kind b.kind k in rw e refl
+less-key_cmp a b (inr (k, inl i)) = let e = kind_cmp-eq a.kind b.kind k in let f = nat_cmp-lt a.id b.id i in rw (e, f) refl
+less-key_cmp a b (inr (k, inr r)) = let e = kind_cmp-eq a.kind b.kind k in let f = nat_cmp-eq a.id b.id r.0 in let g = nat_cmp-lt a.router.0 b.router.0 r.1 in rw (e, f, g) refl

@@ -1,0 +1,192 @@
+-- The keys that are due now are those of the entries that came to an age at the last tick.
+use Rattle.std.proofs.Common.{eq-eqb, ◌≡◌, ◌<◌, ◌==◌, ◌&&◌, ◌||◌, inl, inr, ℕ, Bool, true, false, List, [], ◌∷◌, map, Option, Some, None, option_map, refl, ap, sym, ◌∙◌, subst, arith}
+use Rattle.std.proofs.lemmas.Bool.{eqb-true}
+use Rattle.std.specs.List.{AllByRecursion}
+use Rattle.std.specs.List.Sorted.{IsStrictlySortedBy}
+use Rattle.std.specs.declared.cmp.Ordering.TheVariants.{Less}
+use Rattle.ospf_base.specs.Keys.{Precedes}
+use Rattle.ospf_base.specs.KeyOrder.{Precedes-cases, Precedes-trans}
+use Rattle.ospf_base.specs.declared.ids.LsaKey.{LsaKey}
+use Rattle.ospf_lsdb.specs.Database.{Held, key_at, same_key, held_of, is_some_and, reached_at, IsRising}
+use Rattle.ospf_lsdb.specs.Places.{AllAfter}
+use Rattle.ospf_lsdb.specs.declared.moments.Due.{Due}
+use Rattle.ospf_lsdb.specs.declared.lsdb.Stored.{Stored}
+use Rattle.ospf_lsdb.specs.Moments.{due_cmp, has, same_due, is_at, keys_at, among}
+use Rattle.ospf_lsdb.specs.Timers.{age_at, held_at, stored_of, age_of, AreDue, KeysRise, IsKept}
+use Rattle.ospf_lsdb.proofs.MapLemmas.{same_key-eq, same_key-refl, same_key-apart_after, bool_cases}
+use Rattle.ospf_lsdb.proofs.MomentLemmas.{same_due-eq, same_due-refl, split_and, made_is, apart_at}
+use Rattle.ospf_lsdb.proofs.OrderLemmas.{due_cmp-less}
+use Rattle.ospf_lsdb.proofs.RingLemmas.{ahead-now}
+use Rattle.ospf_lsdb.proofs.TimerLemmas.{held_of-stored, rising_stored}
+
+abbrev pub KeysAfter : LsaKey → List LsaKey → Type 0
+KeysAfter k ks = AllByRecursion (λ o. Precedes k o) ks
+
+not_among : (k : LsaKey) (ks : List LsaKey) → KeysAfter k ks → among ks k ≡ false
+not_among k [] after = refl
+not_among k (x ∷ xs) after = let no = same_key-apart_after x k after.0 in rw no (not_among k xs after.1)
+
+after_trans : (j k : LsaKey) (ks : List LsaKey) → Precedes j k → KeysAfter k ks → KeysAfter j ks
+after_trans j k [] lt after = tt
+after_trans j k (x ∷ xs) lt after = (Precedes-trans j k x lt after.0, after_trans j k xs lt after.1)
+
+among_first : (k : LsaKey) (ks : List LsaKey) → among (k ∷ ks) k ≡ true
+among_first k ks = let is = same_key-refl k in rw is refl
+
+-- rising lists of the same keys are one
+pub same_keys_lists : (a b : List LsaKey) → KeysRise a → KeysRise b → ((k : LsaKey) → among a k ≡ among b k) → a ≡ b
+same_keys_lists [] [] ra rb same = refl
+same_keys_lists [] (y ∷ ys) ra rb same = absurd (let e = same y in let f = among_first y ys in cc)
+same_keys_lists (x ∷ xs) [] ra rb same = absurd (let e = same x in let f = among_first x xs in cc)
+same_keys_lists (x ∷ xs) (y ∷ ys) ra rb same = elim (Precedes-cases x y) [
+  | inl key ↦ ap (λ (k : LsaKey). k ∷ xs) key ∙ ap (λ (t : List LsaKey). y ∷ t) (same_keys_lists xs ys ra.1 rb.1 (rest key))
+  | inr far ↦ elim far [
+    | inl less ↦ absurd (let e = same x in let f = among_first x xs in let g = not_among x (y ∷ ys) (less, after_trans x y ys less rb.0) in cc)
+    | inr more ↦ absurd (let e = same y in let f = among_first y ys in let g = not_among y (x ∷ xs) (more, after_trans y x xs more ra.0) in cc)
+  ]
+]
+  where
+    rest : x ≡ y → (k : LsaKey) → among xs k ≡ among ys k
+    rest key k = elim (bool_cases (same_key x k)) [
+      | inl one ↦
+          let e = same_key-eq x k one in
+          let p : among xs k ≡ false = subst (λ (q : LsaKey). among xs q ≡ false) e (not_among x xs ra.0) in
+          let q : among ys k ≡ false = subst (λ (q : LsaKey). among ys q ≡ false) (sym key ∙ e) (not_among y ys rb.0) in
+          p ∙ sym q
+      | inr two ↦
+          let two_y : same_key y k ≡ false = subst (λ (q : LsaKey). same_key q k ≡ false) key two in
+          let left : among (x ∷ xs) k ≡ among xs k = rw two refl in
+          let right : among (y ∷ ys) k ≡ among ys k = rw two_y refl in
+          sym left ∙ same k ∙ right
+    ]
+
+-- what is due at a moment and an age rises
+due_after : (m a : ℕ) (d : Due) (ds : List Due) → is_at m a d ≡ true → AllByRecursion (λ y. due_cmp d y ≡ Less) ds → KeysAfter d.key (keys_at m a ds)
+unfolding keys_at
+due_after m a d [] at less = tt
+due_after m a d (x ∷ xs) at less = elim (bool_cases (is_at m a x)) [
+  | inl one ↦
+      let p = split_and (d.moment == m) (d.age == a) at in
+      let q = split_and (x.moment == m) (x.age == a) one in
+      let same_moment : d.moment ≡ x.moment = eqb-true d.moment m p.0 ∙ sym (eqb-true x.moment m q.0) in
+      let same_age : d.age ≡ x.age = eqb-true d.age a p.1 ∙ sym (eqb-true x.age a q.1) in
+      rw one (due_cmp-less d x same_moment same_age less.0, due_after m a d xs at less.1)
+  | inr two ↦ rw two (due_after m a d xs at less.1)
+]
+
+pub keys_at-rise : (m a : ℕ) (ds : List Due) → IsStrictlySortedBy due_cmp ds → KeysRise (keys_at m a ds)
+unfolding keys_at IsStrictlySortedBy
+keys_at-rise m a [] sorted = tt
+keys_at-rise m a (d ∷ ds) sorted = elim (bool_cases (is_at m a d)) [
+  | inl one ↦ rw one (due_after m a d ds one sorted.0, keys_at-rise m a ds sorted.1)
+  | inr two ↦ rw two (keys_at-rise m a ds sorted.1)
+]
+
+-- what is among them
+same_due_at : (m a : ℕ) (k : LsaKey) (d : Due) → is_at m a d ≡ true → same_due (record { moment = m; age = a; key = k }) d ≡ same_key d.key k
+same_due_at m a k d at = elim (bool_cases (same_key d.key k)) [
+  | inl one ↦
+      let p = split_and (d.moment == m) (d.age == a) at in
+      let is : d ≡ record { moment = m; age = a; key = k } = made_is d m a k (eqb-true d.moment m p.0) (eqb-true d.age a p.1) (same_key-eq d.key k one) in
+      subst (λ (x : Due). same_due x d ≡ true) is (same_due-refl d) ∙ sym one
+  | inr two ↦ elim (bool_cases (same_due (record { moment = m; age = a; key = k }) d)) [
+    | inl same ↦
+        let key : d.key ≡ k = sym (ap (λ (x : Due). x.key) (same_due-eq (record { moment = m; age = a; key = k }) d same)) in
+        let sure : same_key d.key k ≡ true = subst (λ (q : LsaKey). same_key d.key q ≡ true) key (same_key-refl d.key) in
+        absurd (cc)
+    | inr other ↦ other ∙ sym two
+  ]
+]
+
+pub keys_at-among : (m a : ℕ) (ds : List Due) (k : LsaKey) → among (keys_at m a ds) k ≡ has ds (record { moment = m; age = a; key = k })
+unfolding keys_at
+keys_at-among m a [] k = refl
+keys_at-among m a (d ∷ ds) k = elim (bool_cases (is_at m a d)) [
+  | inl one ↦ let e = same_due_at m a k d one in rw (one, e) (ap (λ (b : Bool). same_key d.key k || b) (keys_at-among m a ds k))
+  | inr two ↦ let e = apart_at m a k d two in rw (two, e) (keys_at-among m a ds k)
+]
+
+-- the entries that reached an age
+reached_after : (age : ℕ) (k : LsaKey) (hs : List Held) → AllAfter k hs → KeysAfter k (reached_at age hs)
+unfolding reached_at
+reached_after age k [] after = tt
+reached_after age k (h ∷ hs) after = elim (bool_cases (h.reached && (h.entry.age == age))) [
+  | inl one ↦ rw one (after.0, reached_after age k hs after.1)
+  | inr two ↦ rw two (reached_after age k hs after.1)
+]
+
+pub reached-rise : (age : ℕ) (hs : List Held) → IsRising hs → KeysRise (reached_at age hs)
+unfolding reached_at
+reached-rise age [] rises = tt
+reached-rise age (h ∷ hs) rises = elim (bool_cases (h.reached && (h.entry.age == age))) [
+  | inl one ↦ rw one (reached_after age (key_at h) hs rises.0, reached-rise age hs rises.1)
+  | inr two ↦ rw two (reached-rise age hs rises.1)
+]
+
+pub reached-among : (age : ℕ) (hs : List Held) → IsRising hs → (k : LsaKey) → among (reached_at age hs) k ≡ is_some_and (λ h. h.reached && (h.entry.age == age)) (held_of hs k)
+unfolding reached_at
+reached-among age [] rises k = refl
+reached-among age (h ∷ hs) rises k = elim (bool_cases (same_key (key_at h) k)) [
+  | inl one ↦
+      let key = same_key-eq (key_at h) k one in
+      let none : among (reached_at age hs) k ≡ false = subst (λ (q : LsaKey). among (reached_at age hs) q ≡ false) key (not_among (key_at h) (reached_at age hs) (reached_after age (key_at h) hs rises.0)) in
+      elim (bool_cases (h.reached && (h.entry.age == age))) [
+        | inl told ↦ rw (told, one, told) refl
+        | inr quiet ↦ rw (quiet, one, quiet) none
+      ]
+  | inr two ↦ elim (bool_cases (h.reached && (h.entry.age == age))) [
+    | inl told ↦ rw (told, two) (reached-among age hs rises.1 k)
+    | inr quiet ↦ rw (quiet, two) (reached-among age hs rises.1 k)
+  ]
+]
+
+-- what is due now is what came to its age at the last tick
+due_of : (clock a : ℕ) (es : List (LsaKey × Stored)) (due : List Due) (k : LsaKey) → clock < 65536 → AreDue clock es due → (o : Option Stored) → stored_of es k ≡ o
+    → has due (record { moment = clock; age = a; key = k }) ≡ is_some_and (λ h. h.reached && (h.entry.age == a)) (option_map (λ s. held_at clock due (k, s)) o)
+due_of clock a es due k c are None is = elim (bool_cases (has due (record { moment = clock; age = a; key = k }))) [
+  | inl one ↦
+      let comes = are.sound (record { moment = clock; age = a; key = k }) one in
+      let none : age_of clock es k ≡ None = ap (λ (o : Option Stored). option_map (λ s. age_at clock s.timer) o) is in
+      absurd (let e = comes.is in cc)
+  | inr two ↦ two
+]
+due_of clock a es due k c are (Some s) is = elim (bool_cases (age_at clock s.timer == a)) [
+  | inl one ↦
+      let e = eqb-true (age_at clock s.timer) a one in
+      rw one (ap (λ (n : ℕ). has due (record { moment = clock; age = n; key = k })) (sym e) ∙ and_one (has due (record { moment = clock; age = age_at clock s.timer; key = k })))
+  | inr two ↦
+      rw two (quiet two ∙ sym (and_none (has due (record { moment = clock; age = age_at clock s.timer; key = k }))))
+]
+  where
+    and_one : (b : Bool) → b ≡ b && true
+    and_one true = refl
+    and_one false = refl
+
+    and_none : (b : Bool) → b && false ≡ false
+    and_none true = refl
+    and_none false = refl
+
+    quiet : (age_at clock s.timer == a) ≡ false → has due (record { moment = clock; age = a; key = k }) ≡ false
+    quiet two = elim (bool_cases (has due (record { moment = clock; age = a; key = k }))) [
+      | inl there ↦
+          let comes = are.sound (record { moment = clock; age = a; key = k }) there in
+          let some : age_of clock es k ≡ Some (age_at clock s.timer) = ap (λ (o : Option Stored). option_map (λ s. age_at clock s.timer) o) is in
+          let same : age_at clock s.timer ≡ comes.age = some_is (age_at clock s.timer) comes.age (sym some ∙ comes.is) in
+          let now = ahead-now clock c in
+          let at : age_at clock s.timer ≡ a = omega (arith, comes.then_is) in
+          absurd (let e = eq-eqb (age_at clock s.timer) a at in cc)
+      | inr other ↦ other
+    ]
+      where
+        some_is : (x y : ℕ) → Some x ≡ Some y → x ≡ y
+        some_is x y e = cc
+
+-- so the walk over what is due now gives the keys that reached the age
+pub keys_at-reached : (clock a : ℕ) (es : List (LsaKey × Stored)) (due : List Due) → clock < 65536 → IsKept clock es due → IsStrictlySortedBy due_cmp due
+    → keys_at clock a due ≡ reached_at a (map (held_at clock due) es)
+keys_at-reached clock a es due c kept sorted =
+    let rises = rising_stored clock due es kept.stored kept.rising in
+    same_keys_lists (keys_at clock a due) (reached_at a (map (held_at clock due) es)) (keys_at-rise clock a due sorted) (reached-rise a (map (held_at clock due) es) rises)
+    (λ k. keys_at-among clock a due k ∙ due_of clock a es due k c kept.are_due (stored_of es k) refl
+    ∙ sym (ap (λ (o : Option Held). is_some_and (λ h. h.reached && (h.entry.age == a)) o) (held_of-stored clock due es kept.stored k))
+    ∙ sym (reached-among a (map (held_at clock due) es) rises k))

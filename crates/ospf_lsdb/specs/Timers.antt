@@ -1,0 +1,69 @@
+-- Entries as they are stored: how old each is follows from a moment on a ring (RFC 2328, section 14).
+use Rattle.std.specs.Prelude.{◌≡◌, ℕ, ◌+◌, ◌-◌, ◌%◌, ◌<◌, ◌≤◌, true, List, [], ◌∷◌, Option, Some, option_map}
+use Rattle.std.specs.List.{AllByRecursion}
+use Rattle.std.specs.Map.{lookup, keys_of}
+use Rattle.ospf_base.specs.Keys.{Precedes}
+use Rattle.ospf_base.specs.Sums as sums
+use Rattle.ospf_base.specs.declared.ids.LsaKey.{LsaKey}
+use Rattle.ospf_lsdb.specs.Database.{Held, key_in, same_key, is_told}
+use Rattle.ospf_lsdb.specs.Moments.{has}
+use Rattle.ospf_lsdb.specs.declared.moments.Due.{Due}
+use Rattle.ospf_lsdb.specs.declared.lsdb.Timer.{Timer}
+use Rattle.ospf_lsdb.specs.declared.lsdb.Timer.TheVariants.{Since, Expired}
+use Rattle.ospf_lsdb.specs.declared.lsdb.Stored.{Stored}
+
+-- how many moments a moment is ahead of another
+unfoldable pub ahead : ℕ → ℕ → ℕ
+ahead clock moment = (moment + (65536 - clock)) % 65536
+
+-- how old an entry is
+unfoldable pub age_at : ℕ → Timer → ℕ
+age_at clock (Since birth) = ahead birth clock
+age_at clock Expired = 3600
+
+-- a stored entry as it is at a moment
+abbrev pub held_at : ℕ → List Due → LsaKey × Stored → Held
+held_at clock due e = record {
+  entry = record { age = age_at clock e.1.timer; contents = sums.contents e.1.lsa; tick = e.1.tick; by_flooding = e.1.by_flooding };
+  reached = has due (record { moment = clock; age = age_at clock e.1.timer; key = e.0 });
+}
+
+-- the stored entry of a key
+abbrev pub stored_of : List (LsaKey × Stored) → LsaKey → Option Stored
+stored_of entries key = lookup (λ k. same_key key k) entries
+
+-- one brought to MaxAge
+abbrev pub stopped : Stored → Stored
+stopped s = record s { timer = Expired }
+
+-- the present age of the entry of a key
+abbrev pub age_of : ℕ → List (LsaKey × Stored) → LsaKey → Option ℕ
+age_of clock entries key = option_map (λ s. age_at clock s.timer) (stored_of entries key)
+
+-- this is the moment at which an entry of such an age comes to a told age
+pub record Comes (clock : ℕ) (present : Option ℕ) (d : Due) : Type 0 where
+  pub told : is_told d.age ≡ true
+  pub within : d.moment < 65536
+  pub age : ℕ
+  pub is : present ≡ Some age
+  pub then_is : age + ahead clock d.moment ≡ d.age
+
+-- what is due is what entries come to; what has come to pass may stay until the next tick, as long as it is so
+pub record AreDue (clock : ℕ) (entries : List (LsaKey × Stored)) (due : List Due) : Type 0 where
+  pub sound : (d : Due) → has due d ≡ true → Comes clock (age_of clock entries d.key) d
+  pub whole : (d : Due) → 0 < ahead clock d.moment → Comes clock (age_of clock entries d.key) d → has due d ≡ true
+
+-- each entry stands at its key, and its timer runs below MaxAge
+abbrev pub IsStored : ℕ → LsaKey × Stored → Type 0
+IsStored clock e = (key_in (sums.contents e.1.lsa) ≡ e.0) × (age_at clock e.1.timer ≤ 3600) × (age_at clock e.1.timer ≡ 3600 → e.1.timer ≡ Expired)
+
+-- the keys rise
+abbrev pub KeysRise : List LsaKey → Type 0
+KeysRise [] = Unit {0}
+KeysRise (k ∷ ks) = AllByRecursion (λ o. Precedes k o) ks × KeysRise ks
+
+pub record IsKept (clock : ℕ) (entries : List (LsaKey × Stored)) (due : List Due) : Type 0 where
+  pub on_ring : clock < 65536
+  pub stored : AllByRecursion (IsStored clock) entries
+  pub rising : KeysRise (keys_of entries)
+  pub are_due : AreDue clock entries due

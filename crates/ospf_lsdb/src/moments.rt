@@ -1,0 +1,194 @@
+//! Moments on a ring, and the entries that come to `LS_REFRESH_TIME` or `MAX_AGE` at each.
+
+ghost use Rattle.std.specs.Prelude.{◌≡◌, ◌==◌, ◌&&◌, ◌||◌, ◌+◌, ◌-◌, ◌%◌, ◌^◌, ◌<◌, ◌≤◌, not, length, ℕ, [], OnOk, OnErr, IfOk, IfSome, IfNone, true, false};
+ghost use Rattle.std.specs.List.Sorted.{IsStrictlySortedBy};
+ghost use Rattle.ospf_lsdb.specs.Database.{same_key, is_told};
+ghost use Rattle.ospf_lsdb.specs.Moments.{due_cmp, same_due, has, coming, is_coming, is_at, keys_at};
+ghost use Rattle.ospf_lsdb.specs.declared.moments.Due.{Due};
+
+use crate::LS_REFRESH_TIME;
+use ospf_base::{Kind, LsaKey, MAX_AGE, RouterId};
+use std::alloc::{AllocError, Global};
+use std::collections::BTreeSet;
+use std::collections::btree_set::Range;
+use std::marker::Model;
+
+// At this moment the entry of a key comes to an age.
+#[derive(Clone, Copy, PartialEq, Eq, PartialOrd, Ord, Drop)]
+pub(crate) struct Due {
+    moment: u16,
+    age: u16,
+    key: LsaKey,
+}
+
+// The first of all keys.
+const FIRST_KEY: LsaKey = LsaKey {
+    kind: Kind::Router,
+    id: 0,
+    router: RouterId(0),
+};
+
+impl Due {
+    // When an entry that is younger now comes to an age.
+    fn coming(clock: u16, age: u16, told: u16, key: LsaKey) -> Due
+        ensures { result ≡ coming clock age told key }
+    {
+        Due {
+            moment: clock.wrapping_add(told.saturating_sub(age)),
+            age: told,
+            key,
+        }
+    }
+}
+
+// What is due at each moment.
+#[derive(Drop)]
+pub(crate) struct Moments {
+    set: BTreeSet<Due>,
+}
+
+impl Model for Moments {
+    ghost use Rattle.std.specs.Prelude.{List};
+    ghost use Rattle.ospf_lsdb.specs.declared.moments.Due.{Due};
+
+    ghost Value = { List Due };
+
+    ghost view = { λ m. m.set.keys };
+}
+
+impl Moments {
+    pub(crate) fn new(alloc: Global) -> Moments
+        ensures { result ≡ [] }
+    {
+        Moments {
+            set: BTreeSet::new(alloc),
+        }
+    }
+
+    // Adds what is due, if it is, and answers whether that was new.
+    fn add_if(&mut self, is_due: bool, due: Due) -> Result<bool, AllocError>
+        ensures added { IfOk result (λ is_new. is_new ≡ (is_due && not (has self.old due))) }
+        ensures ok { OnOk result ((q : Due) → has self.new q ≡ ((is_due && same_due due q) || has self.old q)) }
+        ensures err { OnErr result (self.new ≡ self.old) }
+    {
+        if !is_due {
+            return Ok(false);
+        }
+        let is_new = self.set.insert(due)?;
+        Ok(is_new)
+    }
+
+    fn remove(&mut self, due: Due)
+        ensures gone { (q : Due) → has self.new q ≡ (not (same_due due q) && has self.old q) }
+        ensures fewer { has self.old due ≡ true → length self.new < length self.old }
+    {
+        self.set.remove(&due);
+    }
+
+    fn remove_if(&mut self, is_due: bool, due: Due)
+        ensures { (q : Due) → has self.new q ≡ (not (is_due && same_due due q) && has self.old q) }
+    {
+        if is_due {
+            self.remove(due);
+        }
+    }
+
+    // Adds what an entry of an age comes to.
+    pub(crate) fn add_coming(&mut self, clock: u16, age: u16, key: LsaKey) -> Result<(), AllocError>
+        ensures ok { OnOk result ((q : Due) → has self.new q ≡ (is_coming clock age key q || has self.old q)) }
+        ensures err { OnErr result ((q : Due) → has self.new q ≡ has self.old q) }
+    {
+        let refresh = Due::coming(clock, age, LS_REFRESH_TIME, key);
+        let expiry = Due::coming(clock, age, MAX_AGE, key);
+        let is_new = self.add_if(age < LS_REFRESH_TIME, refresh)?;
+        match self.add_if(age < MAX_AGE, expiry) {
+            Ok(_) => Ok(()),
+            Err(error) => {
+                self.remove_if(is_new, refresh);
+                Err(error)
+            }
+        }
+    }
+
+    // Removes what an entry of an age comes to.
+    pub(crate) fn remove_coming(&mut self, clock: u16, age: u16, key: LsaKey)
+        ensures { (q : Due) → has self.new q ≡ (not (is_coming clock age key q) && has self.old q) }
+    {
+        self.remove_if(
+            age < LS_REFRESH_TIME,
+            Due::coming(clock, age, LS_REFRESH_TIME, key),
+        );
+        self.remove_if(age < MAX_AGE, Due::coming(clock, age, MAX_AGE, key));
+    }
+
+    // Removes that an entry came to an age at this moment.
+    pub(crate) fn remove_reached(&mut self, moment: u16, age: u16, key: LsaKey)
+        ensures gone { (q : Due) → has self.new q ≡ (not (same_due (record { moment = moment; age = age; key = key }) q) && has self.old q) }
+        ensures fewer { has self.old (record { moment = moment; age = age; key = key }) ≡ true → length self.new < length self.old }
+    {
+        self.remove(Due { moment, age, key });
+    }
+
+    // Removes all that came to an age at a moment.
+    pub(crate) fn forget(&mut self, moment: u16, age: u16)
+        requires { age ≤ 3600 }
+        ensures { (q : Due) → has self.new q ≡ (not (is_at moment age q) && has self.old q) }
+    {
+        while let Some(key) = self.at(moment, age).next() {
+            self.remove_reached(moment, age, key);
+        }
+    }
+
+    // The keys whose entries came to this age at this moment.
+    pub(crate) fn at(&self, moment: u16, age: u16) -> Reached<'_>
+        requires { age ≤ 3600 }
+        ensures keys { result ≡ keys_at moment age self.now }
+        ensures fits { length result < 2 ^ 63 }
+        ensures ordered { IsStrictlySortedBy due_cmp self.now }
+    {
+        let first = Due {
+            moment,
+            age,
+            key: FIRST_KEY,
+        };
+        let past = Due {
+            moment,
+            age: age + 1,
+            key: FIRST_KEY,
+        };
+        Reached {
+            left: self.set.range(first..past),
+        }
+    }
+}
+
+/// The keys whose age became one of `LS_REFRESH_TIME` and `MAX_AGE` at the last tick, in order.
+#[derive(Drop)]
+pub struct Reached<'a> {
+    left: Range<'a, Due>,
+}
+
+impl<'a> Model for Reached<'a> {
+    ghost use Rattle.std.specs.Prelude.{List, map};
+    ghost use Rattle.ospf_base.specs.declared.ids.LsaKey.{LsaKey};
+    ghost use Rattle.ospf_lsdb.specs.declared.moments.Due.{Due};
+
+    ghost Value = { List LsaKey };
+
+    ghost view = { λ r. map (λ d. d.key) r.left };
+}
+
+impl<'a> Iterator for Reached<'a> {
+    type Item = LsaKey;
+
+    ghost use Rattle.std.specs.Iterator.{YieldsFirst, item_count};
+
+    ghost next_gives = { YieldsFirst (λ s. s) };
+
+    ghost remaining = { item_count (λ s. s) };
+
+    fn next(&mut self) -> Option<LsaKey> {
+        let due = self.left.next()?;
+        Some(due.key)
+    }
+}
