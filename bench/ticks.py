@@ -1,7 +1,7 @@
 #!/usr/bin/env python3
 """Counts the instructions of a tick of the database while no entry is due, by valgrind.
 
-It builds ticks.rt over the crates of this repository, in a folder that it removes again.
+It builds the program of ticks.txt over the crates of this repository, in a folder that it removes again.
 """
 import os
 import re
@@ -27,7 +27,7 @@ def build(place):
         shutil.copytree(os.path.join(CRATES, name), os.path.join(place, "crates", name))
     source = os.path.join(place, "crates", "ticks", "src")
     os.makedirs(source)
-    shutil.copy(os.path.join(HERE, "ticks.rt"), os.path.join(source, "main.rt"))
+    shutil.copy(os.path.join(HERE, "ticks.txt"), os.path.join(source, "main.rt"))
     with open(os.path.join(place, "crates.txt"), "w") as crates:
         crates.write(LINES)
     crate = os.path.join(place, "crates", "ticks")
