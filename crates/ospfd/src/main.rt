@@ -22,7 +22,7 @@ use std::process::ExitCode;
 use std::rt::Runtime;
 use std::{env, fs};
 
-// The files of these names; what cannot be read is left out.
+// The files of these names. One that cannot be read has no bytes.
 fn read_files<R: Runtime + AllocGlobal>(rt: &R, names: Vec<String>) -> io::Result<Vec<NamedFile>> {
     let mut files = Vec::with_capacity(rt.alloc(), names.len())?;
     for name in names {
