@@ -34,6 +34,27 @@ impl Model for Told {
     ghost view = { λ t. t.known };
 }
 
+impl Told {
+    ghost use Rattle.std.specs.Prelude.{◌↔◌, IsTrue};
+
+    /// The same, for another seat. It takes no memory.
+    pub fn copy(&self) -> Told
+        ensures { result ≡ self.now }
+    {
+        Told {
+            known: self.known.copy(),
+        }
+    }
+
+    /// Whether all that a seat knows was published by then. The seat is of the same `Fib::open`.
+    pub fn covers(&self, seat: &Seat) -> bool
+        requires { seat.now.fib ≡ self.now.fib }
+        ensures { IsTrue result ↔ IsPrefix seat.now.tables self.now.tables }
+    {
+        seat.known.begins(&self.known)
+    }
+}
+
 /// A thread's place at a forwarding table. Proofs see the tables that it knows to be published; it keeps
 /// no table and no answer.
 pub struct Seat {

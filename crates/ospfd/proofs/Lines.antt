@@ -16,7 +16,7 @@ use Rattle.ospfd.specs.declared.line.LineFault.TheVariants.{NotHex, Lsa}
 use Rattle.ospfd.specs.declared.table.EntryFault.{EntryFault}
 use Rattle.ospfd.specs.declared.table.EntryFault.TheVariants.{Line, Listing}
 use Rattle.ospfd.specs.declared.table.TableFault.{TableFault}
-use Rattle.ospfd.specs.declared.table.TableFault.TheVariants.{Entry, Memory, Stream}
+use Rattle.ospfd.specs.declared.table.TableFault.TheVariants.{Entry, Memory, Stream, Closed}
 
 pub line_fault : (text : List ℕ) (listing : List (List ℕ)) (fault : LineFault) → (fault ≡ NotHex → IsErr (decode_of text))
     → ((f : LsaFault) → fault ≡ Lsa f → (f ≡ lsa_fault.Memory) ⊎ HasFirstFault (decode_of text) f)
@@ -126,3 +126,4 @@ pub refusal_of : (fault : TableFault) → IsRefusal fault → (number : ℕ) × 
 refusal_of (Entry number entry) is = (number, entry, refl)
 refusal_of Memory is = absurd is
 refusal_of (Stream error) is = absurd is
+refusal_of Closed is = absurd is

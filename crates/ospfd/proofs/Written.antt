@@ -12,7 +12,7 @@ use Rattle.ospf_spf.specs.Listed.{advertisements_of}
 use Rattle.ospfd.specs.Line.{Reads}
 use Rattle.ospfd.specs.Checked.{AreTold, IsTold, IsWritten, IsWrittenOf, no_file, one_file}
 use Rattle.ospfd.specs.declared.check.NamedFile.{NamedFile}
-use Rattle.ospfd.specs.Output.{route_line, routes_text, best_text, IsLookupLine, AreLookups, IsOutput, IsAnswer, no_more, one_more}
+use Rattle.ospfd.specs.Output.{route_line, routes_text, IsLookupLine, AreLookups, IsOutput, IsAnswer, no_more, one_more}
 
 pub nothing_written : (o : Option (List ℕ)) → Appends o o []
 nothing_written None = tt
@@ -30,23 +30,6 @@ pub route_written : (a b c : Option (List ℕ)) (routes : List Route) (i : ℕ) 
 route_written a b c routes i r within is h k =
     let more = flat_map_more route_line [] (take i routes) (get_or routes i r) ∙ ap routes_text (sym (take_more routes i r within)) in
     subst (Appends a c) more (both_written a b c _ _ h (subst (λ q. Appends b c (route_line q)) is k))
-
--- a list of some length has a first item
-first_of_some : (hops : List NextHop) (d : NextHop) → 1 ≤ length hops → (others : List NextHop) × (hops ≡ get_or hops 0 d ∷ others)
-first_of_some [] d some = absurd (omega (arith, some))
-first_of_some (first ∷ others) d some = (others, refl)
-
--- the line of a route's first hop
-pub best_written : (a b : Option (List ℕ)) (table : List Route) (address : ℕ) (route : Route) (hops : List NextHop) (d : NextHop)
-    → IsBest table address route → hops ≡ route.hops → 1 ≤ length hops
-    → Appends a b (best_text address route (get_or hops 0 d) ++ 10 ∷ []) → (line : List ℕ) × IsLookupLine table address line × Appends a b line
-best_written a b table address route hops d best same some h =
-    let first = first_of_some hops d some in
-    let hop = get_or hops 0 d in (
-      best_text address route hop ++ 10 ∷ [],
-      inr (record { route = route; best = best; hop = hop; others = first.0; hops = sym same ∙ first.1; line_is = refl }),
-      h,
-    )
 
 -- the line of one address more
 more_lookups : (table : List Route) (addresses : List Addr) (lines : List ℕ) (address : Addr) (line : List ℕ) → AreLookups table addresses lines

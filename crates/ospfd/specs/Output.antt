@@ -1,14 +1,16 @@
 -- What the program prints of a routing table, and of the addresses that are looked up in it.
-use Rattle.std.specs.Prelude.{◌≡◌, ◌⊎◌, ℕ, List, [], ◌∷◌, ◌++◌, Contains, codes, decimal, flat_map}
+use Rattle.std.specs.Prelude.{◌≡◌, ◌⊎◌, ℕ, List, [], ◌∷◌, ◌++◌, Contains, Option, None, Some, codes, decimal, flat_map}
 use Rattle.ospf_base.specs.Prefixes.{Holds}
 use Rattle.ospf_base.specs.Text.{number_text, prefix_text}
 use Rattle.ospf_base.specs.declared.ids.Addr.{Addr}
 use Rattle.ospf_base.specs.declared.ids.RouterId.{RouterId}
+use Rattle.ospf_base.specs.declared.prefix.Prefix.{Prefix}
 use Rattle.ospf_graph.specs.Text.{hop_text, route_text}
 use Rattle.ospf_graph.specs.Routes.{IsTable}
 use Rattle.ospf_graph.specs.Walk.{IsBest}
 use Rattle.ospf_graph.specs.declared.hop.NextHop.{NextHop}
 use Rattle.ospf_graph.specs.declared.route.Route.{Route}
+use Rattle.ospf_fib.specs.declared.answer.Answer.{Answer}
 use Rattle.ospf_spf.specs.Listed.{advertisements_of}
 use Rattle.ospfd.specs.Line.{Reads}
 
@@ -24,10 +26,15 @@ routes_text = flat_map route_line
 abbrev pub no_route_line : ℕ → List ℕ
 no_route_line address = codes "lookup " ++ number_text address ++ codes " none\n"
 
--- an address with the route that it takes, by this hop
-abbrev pub best_text : ℕ → Route → NextHop → List ℕ
-best_text address route hop =
-    codes "lookup " ++ number_text address ++ codes " " ++ prefix_text route.prefix ++ codes " " ++ decimal route.cost ++ codes " " ++ hop_text hop
+-- an address with the prefix and the cost of the route that it takes, and one of its hops
+abbrev pub found_text : ℕ → Prefix → ℕ → NextHop → List ℕ
+found_text address prefix cost hop =
+    codes "lookup " ++ number_text address ++ codes " " ++ prefix_text prefix ++ codes " " ++ decimal cost ++ codes " " ++ hop_text hop
+
+-- the line of an address and what a lookup found for it
+abbrev pub lookup_line : ℕ → Option Answer → List ℕ
+lookup_line address None = no_route_line address
+lookup_line address (Some a) = found_text address a.prefix a.cost a.hop ++ codes "\n"
 
 -- no route's prefix holds the address, and the line says so
 pub record IsNoRouteLine (table : List Route) (address : ℕ) (line : List ℕ) : Type 0 where
@@ -41,7 +48,7 @@ pub record IsBestLine (table : List Route) (address : ℕ) (line : List ℕ) : T
   pub hop : NextHop
   pub others : List NextHop
   pub hops : route.hops ≡ hop ∷ others
-  pub line_is : line ≡ best_text address route hop ++ codes "\n"
+  pub line_is : line ≡ found_text address route.prefix route.cost hop ++ codes "\n"
 
 abbrev pub IsLookupLine : List Route → ℕ → List ℕ → Type 0
 IsLookupLine table address line = IsNoRouteLine table address line ⊎ IsBestLine table address line

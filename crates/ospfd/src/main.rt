@@ -6,6 +6,7 @@ mod check;
 mod check_tests;
 mod jobs;
 mod line;
+mod lookup;
 mod status;
 mod table;
 #[cfg(test)]
@@ -20,6 +21,7 @@ use crate::words::job;
 use std::io::{self, BufReader, BufWriter, ErrorKind, Write};
 use std::process::ExitCode;
 use std::rt::Runtime;
+use std::sync::Wait;
 use std::{env, fs};
 
 // The files of these names. One that cannot be read has no bytes.
@@ -37,7 +39,7 @@ fn read_files<R: Runtime + AllocGlobal>(rt: &R, names: Vec<String>) -> io::Resul
 }
 
 // Does what the program's words say.
-fn run<R: Runtime + AllocGlobal, E: Write>(rt: &R, err: &mut E) -> io::Result<Status> {
+fn run<R: Runtime + AllocGlobal + Wait, E: Write>(rt: &R, err: &mut E) -> io::Result<Status> {
     let alloc = rt.alloc();
     let words: Vec<String> = env::args(rt)?.skip(1).collect(alloc)?;
     let words: Vec<&str> = words.iter().map(|word| word.as_str()).collect(alloc)?;
@@ -45,7 +47,7 @@ fn run<R: Runtime + AllocGlobal, E: Write>(rt: &R, err: &mut E) -> io::Result<St
     match job(alloc, &words) {
         Ok(Job::Table(table)) => {
             let input = BufReader::new(alloc, rt.reader())?;
-            Ok(table_text(alloc, &table, input, &mut out, err))
+            Ok(table_text(alloc, rt, &table, input, &mut out, err))
         }
         Ok(Job::Check(check)) => {
             let files = read_files(rt, check.files)?;

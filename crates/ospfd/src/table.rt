@@ -4,24 +4,26 @@ ghost use Rattle.std.specs.Prelude.{◌≡◌, ◌≢◌, ◌⊎◌, ℕ, List, 
 ghost use Rattle.std.specs.Io.KnownBytes.{Appends};
 ghost use Rattle.ospfd.specs.Fault.{IsMemoryFault, IsRefusal};
 ghost use Rattle.ospfd.specs.declared.table.EntryFault.{EntryFault};
-ghost use Rattle.ospfd.specs.Output.{AreLookups, IsAnswer, IsLookupLine, routes_text};
+ghost use Rattle.ospfd.specs.Output.{IsAnswer, routes_text};
 ghost use Rattle.ospfd.specs.Line.{IsTaken, HasFault, Reads, Refuses};
 ghost use Rattle.ospfd.specs.Refusal.{IsRefusalTold, refusal_line};
 
 use crate::jobs::TableJob;
+use crate::lookup::{publish_once, write_lookups};
 use crate::line::{LineFault, is_blank, lsa_of_line, without_end};
 use crate::status::Status;
-use ospf_base::{Addr, MAX_AGE};
-use ospf_graph::{NextHop, Route};
+use ospf_base::MAX_AGE;
+use ospf_fib::{Closed, OpenRefused};
+use ospf_graph::Route;
 use ospf_lsa::{Listing, ListingFault, LsaFault};
 use ospf_spf::RouteTable;
 use std::alloc::{AllocError, Global};
-use std::fmt::{self, Display, Formatter};
 use std::io::{self, BufRead, Write};
+use std::sync::Wait;
 
 // Why the LSA of a line was not listed.
 #[derive(Clone, Copy, Debug, PartialEq, Eq)]
-enum EntryFault {
+pub(crate) enum EntryFault {
     Line(LineFault),
     Listing(ListingFault),
 }
@@ -43,10 +45,11 @@ impl EntryFault {
 
 // Why there is no table.
 #[derive(Debug, Drop)]
-enum TableFault {
+pub(crate) enum TableFault {
     Entry { number: u64, fault: EntryFault },
     Memory,
     Stream(io::Error),
+    Closed,
 }
 
 impl TableFault {
@@ -75,6 +78,7 @@ impl TableFault {
             TableFault::Entry { .. } => Status::Refused,
             TableFault::Memory => Status::Memory,
             TableFault::Stream(error) => Status::of_error(error),
+            TableFault::Closed => Status::Stream,
         }
     }
 }
@@ -98,6 +102,28 @@ impl From<io::Error> for TableFault {
 
     fn from(error: io::Error) -> TableFault {
         TableFault::Stream(error)
+    }
+}
+
+impl From<OpenRefused> for TableFault {
+    ghost use Rattle.std.specs.Prelude.{◌≡◌};
+    ghost use Rattle.ospfd.specs.declared.table.TableFault.TheVariants.{Memory};
+
+    ghost from_gives = { λ _ fault. fault ≡ Memory };
+
+    fn from(_refused: OpenRefused) -> TableFault {
+        TableFault::Memory
+    }
+}
+
+impl From<Closed> for TableFault {
+    ghost use Rattle.std.specs.Prelude.{◌≡◌};
+    ghost use Rattle.ospfd.specs.declared.table.TableFault.TheVariants as fault;
+
+    ghost from_gives = { λ _ closed. closed ≡ fault.Closed };
+
+    fn from(_closed: Closed) -> TableFault {
+        TableFault::Closed
     }
 }
 
@@ -142,47 +168,6 @@ fn read_listing<R: BufRead + Drop>(alloc: Global, mut input: R) -> Result<Listin
     Err(TableFault::from(io::Error::from(io::ErrorKind::FileTooLarge)))
 }
 
-// An address with the route that it takes, and one of its hops.
-#[derive(Clone, Copy)]
-struct Taken<'a> {
-    address: Addr,
-    route: &'a Route,
-    hop: NextHop,
-}
-
-impl Display for Taken<'_> {
-    ghost use Rattle.std.specs.Prelude.{Some};
-    ghost use Rattle.ospfd.specs.Output.{best_text};
-
-    ghost output = { λ t. Some (best_text t.address.0 t.route.now t.hop) };
-
-    fn fmt<W: fmt::Write>(&self, f: &mut Formatter<W>) -> fmt::Result {
-        let Route { prefix, cost, .. } = self.route;
-        write!(f, "lookup {} {prefix} {cost} {}", self.address, self.hop)
-    }
-}
-
-// Writes where a table sends what is on its way to an address.
-fn write_lookup<O: Write>(out: &mut O, table: &RouteTable, address: Addr) -> io::Result<()>
-    ensures { OnOk result ((line : List ℕ) × IsLookupLine table.now address.0 line × Appends (O.contents out.old) (O.contents out.new) line) }
-{
-    let Some(route) = table.lookup(address) else {
-        return writeln!(out, "lookup {address} none");
-    };
-    match route.hops.as_slice() {
-        [hop, ..] => {
-            let hop = *hop;
-            let taken = Taken {
-                address,
-                route,
-                hop,
-            };
-            writeln!(out, "{taken}")
-        }
-        [] => unreachable!(),
-    }
-}
-
 // Writes the routes of a table.
 fn write_routes<O: Write>(out: &mut O, routes: &[Route]) -> io::Result<()>
     ensures { OnOk result (Appends (O.contents out.old) (O.contents out.new) (routes_text routes.now)) }
@@ -193,19 +178,10 @@ fn write_routes<O: Write>(out: &mut O, routes: &[Route]) -> io::Result<()>
     Ok(())
 }
 
-// Writes where a table sends what is on its way to each address.
-fn write_lookups<O: Write>(out: &mut O, table: &RouteTable, addresses: &[Addr]) -> io::Result<()>
-    ensures { OnOk result ((lines : List ℕ) × AreLookups table.now addresses.now lines × Appends (O.contents out.old) (O.contents out.new) lines) }
-{
-    for address in addresses {
-        write_lookup(out, table, *address)?;
-    }
-    Ok(())
-}
-
 // Writes the table of the LSAs that are read, and what it says of the addresses.
-fn answer<R: BufRead + Drop, O: Write>(
+fn answer<W: Wait + Drop, R: BufRead + Drop, O: Write>(
     alloc: Global,
+    rt: W,
     job: &TableJob,
     input: R,
     out: &mut O,
@@ -216,8 +192,9 @@ fn answer<R: BufRead + Drop, O: Write>(
 {
     let listing = read_listing(alloc, input)?;
     let table = RouteTable::of(alloc, &listing, job.root)?;
+    let (_writer, mut seat, told) = publish_once(alloc, rt, &table)?;
     write_routes(out, table.routes())?;
-    write_lookups(out, &table, &job.addresses)?;
+    write_lookups(out, &told, &mut seat, &job.addresses)?;
     out.flush()?;
     Ok(())
 }
@@ -226,11 +203,14 @@ fn answer<R: BufRead + Drop, O: Write>(
 /// each address the route that it takes.
 ///
 /// A line ends in a line feed, which a carriage return may precede, or at the end of the input. One of
-/// spaces alone is skipped. An LSA at `MAX_AGE` is checked, and left out of the table. The table is
-/// written once all is read. The first line that is refused is told on `err`, with status `Refused`.
-/// Status `Memory` says that memory ran out, and `Stream` that a read or a write failed.
-pub fn table_text<R: BufRead + Drop, O: Write, E: Write>(
+/// spaces alone is skipped. An LSA at `MAX_AGE` is checked, and left out of the table. Once all is read the
+/// table is published, by `rt`, and written, and the addresses are looked up from a seat that learned it. The
+/// first line that is refused is told on `err`, with status `Refused`. Status `Memory` says that memory ran
+/// out, or there was no place for the seat, and `Stream` that a read or a write failed, or the published
+/// table was closed.
+pub fn table_text<W: Wait + Drop, R: BufRead + Drop, O: Write, E: Write>(
     alloc: Global,
+    rt: W,
     job: &TableJob,
     input: R,
     out: &mut O,
@@ -241,7 +221,7 @@ pub fn table_text<R: BufRead + Drop, O: Write, E: Write>(
     ensures unwritten { result ≡ Status.Refused → O.contents out.new ≡ O.contents out.old }
     ensures not_words { result ≢ Status.Words }
 {
-    match answer(alloc, job, input, out) {
+    match answer(alloc, rt, job, input, out) {
         Ok(()) => Status::Done,
         Err(fault) => tell(&fault, err),
     }

@@ -7,6 +7,7 @@ use crate::table::table_text;
 use crate::words::job;
 use std::alloc::{AllocError, Global};
 use std::io::{self, BufReader, ErrorKind, Read, Write};
+use std::sync::Wait;
 use std::test::Fail;
 
 // Words, the input, and what is to come of them.
@@ -300,7 +301,8 @@ struct Outcome {
 }
 
 // Does what words say, where no file can be read.
-fn status_of<O: Write, E: Write>(
+fn status_of<R: Wait, O: Write, E: Write>(
+    rt: &R,
     alloc: Global,
     words: &str,
     input: &[u8],
@@ -309,7 +311,7 @@ fn status_of<O: Write, E: Write>(
 ) -> Result<Status, AllocError> {
     let words: Vec<&str> = words.split_whitespace().collect(alloc)?;
     match job(alloc, &words) {
-        Ok(Job::Table(table)) => Ok(table_text(alloc, &table, input, out, err)),
+        Ok(Job::Table(table)) => Ok(table_text(alloc, rt, &table, input, out, err)),
         Ok(Job::Check(check)) => {
             let mut files = Vec::new(alloc);
             for name in check.files {
@@ -321,10 +323,15 @@ fn status_of<O: Write, E: Write>(
     }
 }
 
-fn outcome_of(alloc: Global, words: &str, input: &[u8]) -> Result<Outcome, AllocError> {
+fn outcome_of<R: Wait>(
+    rt: &R,
+    alloc: Global,
+    words: &str,
+    input: &[u8],
+) -> Result<Outcome, AllocError> {
     let mut out = Vec::new(alloc);
     let mut err = Vec::new(alloc);
-    let status = status_of(alloc, words, input, &mut out, &mut err)?;
+    let status = status_of(rt, alloc, words, input, &mut out, &mut err)?;
     Ok(Outcome {
         out,
         err,
@@ -336,7 +343,7 @@ fn outcome_of(alloc: Global, words: &str, input: &[u8]) -> Result<Outcome, Alloc
 fn prints_tables(rt: HostRuntime) -> Result<(), Fail> {
     for case in &TABLES {
         let name = case.name;
-        let outcome = outcome_of(rt.alloc(), case.words, case.input.as_bytes())?;
+        let outcome = outcome_of(&rt, rt.alloc(), case.words, case.input.as_bytes())?;
         assert_eq!(rt; outcome.status, case.status, "{name}");
         assert!(rt; outcome.err.is_empty(), "{name}");
         assert_eq!(rt; outcome.out.as_slice(), case.out.as_bytes(), "{name}");
@@ -348,7 +355,7 @@ fn prints_tables(rt: HostRuntime) -> Result<(), Fail> {
 fn refuses(rt: HostRuntime) -> Result<(), Fail> {
     for case in &REFUSED {
         let name = case.name;
-        let outcome = outcome_of(rt.alloc(), case.words, case.input.as_bytes())?;
+        let outcome = outcome_of(&rt, rt.alloc(), case.words, case.input.as_bytes())?;
         assert_eq!(rt; outcome.status, case.status, "{name}");
         assert_eq!(rt; outcome.err.as_slice(), case.err.as_bytes(), "{name}");
         assert!(rt; outcome.out.is_empty(), "{name}");
@@ -406,7 +413,7 @@ static WORDS: [(&str, &str, u8, &str, &str); 13] = [
 #[test]
 fn tells_of_words(rt: HostRuntime) -> Result<(), Fail> {
     for (name, words, status, out, err) in &WORDS {
-        let outcome = outcome_of(rt.alloc(), words, b"")?;
+        let outcome = outcome_of(&rt, rt.alloc(), words, b"")?;
         assert_eq!(rt; outcome.status, *status, "{name}");
         assert!(rt; outcome.out.starts_with(out.as_bytes()), "{name}");
         assert!(rt; outcome.err.starts_with(err.as_bytes()), "{name}");
@@ -418,7 +425,7 @@ fn tells_of_words(rt: HostRuntime) -> Result<(), Fail> {
 
 #[test]
 fn help_tells_each_status(rt: HostRuntime) -> Result<(), Fail> {
-    let help = outcome_of(rt.alloc(), "--help", b"")?;
+    let help = outcome_of(&rt, rt.alloc(), "--help", b"")?;
     for line in [
         "  table ",
         "  check ",
@@ -440,7 +447,7 @@ fn help_tells_each_status(rt: HostRuntime) -> Result<(), Fail> {
 
 #[test]
 fn not_hex_no_text(rt: HostRuntime) -> Result<(), Fail> {
-    let outcome = outcome_of(rt.alloc(), "table 1.1.1.1", b"\n\xff\xff\n")?;
+    let outcome = outcome_of(&rt, rt.alloc(), "table 1.1.1.1", b"\n\xff\xff\n")?;
     assert_eq!(rt; outcome.status, 3);
     assert_eq!(rt; outcome.err.as_slice(), b"line 2: not hex\n".as_slice());
     assert!(rt; outcome.out.is_empty());
@@ -451,7 +458,7 @@ fn not_hex_no_text(rt: HostRuntime) -> Result<(), Fail> {
 fn takes_a_long_line(rt: HostRuntime) -> Result<(), Fail> {
     let alloc = rt.alloc();
     let zeros = vec![in alloc; b'0'; 1 << 20]?;
-    let long = outcome_of(alloc, "table 1.1.1.1", &zeros)?;
+    let long = outcome_of(&rt, alloc, "table 1.1.1.1", &zeros)?;
     assert_eq!(rt; long.status, 3);
     assert_eq!(rt; long.err.as_slice(), b"line 1: L2 Length\n".as_slice());
     assert!(rt; long.out.is_empty());
@@ -496,10 +503,16 @@ impl Write for Failing {
 }
 
 // The status where both writers take so many writes.
-fn status_after(alloc: Global, left: usize, words: &str, input: &[u8]) -> Result<u8, AllocError> {
+fn status_after<R: Wait>(
+    rt: &R,
+    alloc: Global,
+    left: usize,
+    words: &str,
+    input: &[u8],
+) -> Result<u8, AllocError> {
     let mut out = Failing { left };
     let mut err = Failing { left };
-    Ok(status_of(alloc, words, input, &mut out, &mut err)?.code())
+    Ok(status_of(rt, alloc, words, input, &mut out, &mut err)?.code())
 }
 
 #[test]
@@ -513,7 +526,7 @@ fn tells_of_failed_reads(rt: HostRuntime) -> Result<(), Fail> {
         let input = BufReader::new(alloc, text.as_bytes().chain(Broken))?;
         let mut out = Vec::new(alloc);
         let mut err = Vec::new(alloc);
-        let status = table_text(alloc, &table, input, &mut out, &mut err);
+        let status = table_text(alloc, &rt, &table, input, &mut out, &mut err);
         assert_eq!(rt; status.code(), 5, "{text:?}");
         assert!(rt; out.is_empty() && err.is_empty(), "{text:?}");
     }
@@ -530,7 +543,7 @@ fn tells_of_failed_writes(rt: HostRuntime) -> Result<(), Fail> {
     ] {
         let mut needed = 100;
         for left in 0..100 {
-            let status = status_after(rt.alloc(), left, words, input)?;
+            let status = status_after(&rt, rt.alloc(), left, words, input)?;
             if status == whole {
                 needed = left;
                 break;

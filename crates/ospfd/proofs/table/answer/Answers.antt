@@ -13,10 +13,11 @@ returns-in_err-listing-clause-refused g c = λ n f e.
 
 pub returns-clause-answer : goal.returns-clause-answer
 returns-clause-answer g c =
+    let lookups = c.in_ok-write_lookups.ensures.lookups c.in_ok-table.table c.in_ok-_writer.ensures.told in
     map_some (g.R.Read.remaining c.args.input) _ _
     (λ input reads. answer_written _ _ _ _ input c.in_ok-listing.listing c.args.job.now.root c.in_ok-table.table c.routes.result.now
     c.args.job.now.addresses.items reads c.in_ok-table.ensures c.routes.ensures.routes c.in_ok-write_routes.ensures
     (subst (λ addresses. (lines : List ℕ) × AreLookups c.in_ok-table.table addresses lines × Appends (g.O.Write.contents c.write_routes.new.out) (g.O.Write.contents c.write_lookups.new.out) lines)
-    c.deref.ensures.value c.in_ok-write_lookups.ensures)
+    c.deref.ensures.value lookups)
     c.flush.ensures.bytes)
     c.in_ok-listing.ensures.whole
