@@ -1,6 +1,6 @@
 -- The ring of moments.
 use Rattle.std.proofs.Common.{◌≡◌, ◌<◌, ◌+◌, ◌%◌, ℕ, arith}
-use Rattle.ospf_lsdb.specs.Timers.{ahead}
+use Rattle.ospf_lsdb.specs.Moments.{ahead}
 
 -- a moment that is so far ahead
 pub ahead-is : (clock moment x : ℕ) → clock < 65536 → moment < 65536 → ahead clock moment ≡ x → moment ≡ (clock + x) % 65536

@@ -14,8 +14,8 @@ use Rattle.ospf_lsdb.specs.declared.moments.Due.{Due}
 use Rattle.ospf_lsdb.specs.declared.lsdb.Stored.{Stored}
 use Rattle.ospf_lsdb.specs.declared.lsdb.Timer.{Timer}
 use Rattle.ospf_lsdb.specs.declared.lsdb.Timer.TheVariants.{Since, Expired}
-use Rattle.ospf_lsdb.specs.Moments.{key_cmp, due_cmp, has, is_at, keys_at, among}
-use Rattle.ospf_lsdb.specs.Timers.{ahead, age_at, held_at, stored_of, age_of, stopped, Comes, AreDue, IsStored, KeysRise, IsKept}
+use Rattle.ospf_lsdb.specs.Moments.{ahead, key_cmp, due_cmp, has, is_at, keys_at, among}
+use Rattle.ospf_lsdb.specs.Timers.{age_at, held_at, stored_of, age_of, stopped, Comes, AreDue, IsStored, KeysRise, IsKept}
 use Rattle.ospf_lsdb.proofs.EntryLemmas.{older-young, older-old}
 use Rattle.ospf_lsdb.proofs.MapLemmas.{bool_cases}
 use Rattle.ospf_lsdb.proofs.MomentLemmas.{split_and}
