@@ -1,10 +1,6 @@
 -- What is due first, as the ring goes round.
-use Rattle.std.proofs.Common.{◌≡◌, ◌<◌, ◌≤◌, ◌⊎◌, inl, inr, ℕ, ◌+◌, Bool, true, false, List, [], ◌∷◌, refl, sym, ◌∙◌, arith, BTreeSet}
+use Rattle.std.proofs.Common.{◌≡◌, ◌<◌, ◌≤◌, ◌⊎◌, inl, inr, ℕ, true, List, [], ◌∷◌, refl, sym, ◌∙◌, arith, BTreeSet}
 use Rattle.std.specs.BTreeSet as sorted
-use Rattle.std.specs.BTreeMap.Range.{IsLeBy}
-use Rattle.std.specs.Option.{IfSome}
-use Rattle.std.specs.List.{slice_get}
-use Rattle.std.specs.Ordering.{is_gt}
 use Rattle.std.specs.declared.ops.Bound.TheVariants.{Included, Unbounded}
 use Rattle.ospf_lsdb.specs.declared.moments.Due.{Due}
 use Rattle.ospf_lsdb.specs.Moments.{ahead, due_cmp, has, IsIdle}
@@ -37,15 +33,17 @@ at_once clock = record { moment = clock; age = 0; key = first_key }
 pub first_later : (clock : ℕ) (s : BTreeSet Due) (f : Due) (rest : List Due) → f.moment < 65536 → sorted.IsKeyRangeOf due_cmp (Included (at_once clock)) Unbounded s (f ∷ rest)
     → (has s.keys f ≡ true) × IsIdle clock (ahead clock f.moment) s.keys
 first_later clock s f rest fits range =
-    let from = moment_le (at_once clock) f range.1.0.0 in
-    (sym (has-contains s f) ∙ range.1.1, record {
-      none_before = λ d within there. elim (side clock d.moment) [
-        | inl later_on ↦
-            let le = range.2 d (first_due_le clock d later_on, tt) (has-contains s d ∙ there) in
-            later clock f.moment d.moment from (moment_le f d le) within
-        | inr before ↦ around clock f.moment d.moment from fits before
-      ];
-    })
+    let from = moment_le (at_once clock) f range.1.0.0 in (
+      sym (has-contains s f) ∙ range.1.1,
+      record {
+        none_before = λ d within there. elim (side clock d.moment) [
+          | inl later_on ↦
+              let le = range.2 d (first_due_le clock d later_on, tt) (has-contains s d ∙ there) in
+              later clock f.moment d.moment from (moment_le f d le) within
+          | inr before ↦ around clock f.moment d.moment from fits before
+        ];
+      },
+    )
 
 -- where nothing is
 pub first_around : (clock : ℕ) (s : BTreeSet Due) (f : Due) → clock < 65536 → sorted.IsKeyRangeOf due_cmp (Included (at_once clock)) Unbounded s [] → sorted.IsLowerBound due_cmp s f
