@@ -44,12 +44,14 @@ impl Due {
 // How many moments a moment is ahead of the clock, as the ring goes round.
 fn moments_until(clock: u16, moment: u16) -> u16
     ensures count { result ≡ ahead clock moment }
-    ensures on_ring { (moment < 65536) × (clock < 65536) }
+    ensures moment_fits { moment < 65536 }
+    ensures clock_fits { clock < 65536 }
 {
     moment.wrapping_sub(clock)
 }
 
-// In how many moments an entry of an age comes to the next of the ages that are told.
+// In how many moments an entry of an age comes to the next of the ages that are told; `u16::MAX`
+// where it has come to the last.
 pub(crate) fn until_told(age: u16) -> u16
     ensures refresh { age < 1800 → age + result ≡ 1800 }
     ensures expiry { 1800 ≤ age → age < 3600 → age + result ≡ 3600 }

@@ -11,7 +11,7 @@ use Rattle.ospf_lsdb.proofs.moments.Moments.idle_from.Goals.{After-moments_until
 -- where something is due from this moment on
 later : (c : After-moments_until) → (has c.self.inside.set.keys c.in-Some.due.now ≡ true) × IsIdle c.args.clock (ahead c.args.clock c.in-Some.due.now.moment) c.self.inside.set.keys
 later c =
-    first_later c.args.clock c.self.inside.set c.in-Some.due.now c.next.new.self c.moments_until.ensures.on_ring.0
+    first_later c.args.clock c.self.inside.set c.in-Some.due.now c.next.new.self c.moments_until.ensures.moment_fits
     (subst (λ (dues : List Due). sorted.IsKeyRangeOf due_cmp (Included (at_once c.args.clock)) Unbounded c.self.inside.set dues) c.in-Some.ensures.steps (c.range.ensures.in_range (search rules)))
 
 pub returns-in-Some-clause-idle : goal.returns-in-Some-clause-idle
@@ -27,7 +27,7 @@ returns-in-Some-clause-until c = inr (
 -- where nothing is
 around : (c : After-moments_until-in-Some-first) → IsIdle c.args.clock (ahead c.args.clock c.in-Some-first.due.now.moment) c.self.inside.set.keys
 around c =
-    first_around c.args.clock c.self.inside.set c.in-Some-first.due.now c.moments_until-in-Some-first.ensures.on_ring.1
+    first_around c.args.clock c.self.inside.set c.in-Some-first.due.now c.moments_until-in-Some-first.ensures.clock_fits
     (subst (λ (dues : List Due). sorted.IsKeyRangeOf due_cmp (Included (at_once c.args.clock)) Unbounded c.self.inside.set dues) c.in_default.ensures.steps.0 (c.range.ensures.in_range (search rules)))
     c.in-Some-first.ensures.least
 
