@@ -1,5 +1,5 @@
 -- Moments in which nothing is due.
-use Rattle.std.proofs.Common.{◌≡◌, ◌<◌, ◌≤◌, ◌==◌, ◌&&◌, ◌||◌, not, ◌⊎◌, inl, inr, ◌+◌, ◌-◌, ℕ, Bool, true, false, List, [], ◌∷◌, length, map, Some, option_map, refl, ap, sym, ◌∙◌, arith, BTreeMap, if◌then◌else◌}
+use Rattle.std.proofs.Common.{◌≡◌, ◌<◌, ◌≤◌, ◌==◌, ◌&&◌, ◌||◌, not, ◌⊎◌, inl, inr, ◌+◌, ◌%◌, ℕ, Bool, true, false, List, [], ◌∷◌, length, map, Some, option_map, refl, ap, sym, ◌∙◌, arith, BTreeMap, if◌then◌else◌}
 use Rattle.std.proofs.lemmas.Bool.{eqb-true}
 use Rattle.std.specs.Map.{keys_of}
 use Rattle.ospf_base.specs.declared.ids.LsaKey.{LsaKey}
@@ -100,13 +100,18 @@ idle_kept clock idle m due kept quiet two =
     ticks_kept clock m m due due kept (ordered-KeysRise (keys_of m.entries) kept.rising) (idle_forgets clock idle m.entries due kept quiet two) (idle_untouched clock idle m.entries due kept quiet two)
 
 -- the next that is due is one moment nearer
-pub idle_less : (clock idle : ℕ) (due : List Due) → clock < 65536 → IsIdle clock idle due → 2 ≤ idle → IsIdle (then_at clock) (idle - 1) due
-idle_less clock idle due c quiet two = record {
+pub idle_less : (clock next : ℕ) (due : List Due) → clock < 65536 → IsIdle clock (ahead clock next) due → 2 ≤ ahead clock next → IsIdle (then_at clock) (ahead (then_at clock) next) due
+idle_less clock next due c quiet two = record {
   none_before = λ d within there.
       let far = quiet.none_before d within there in
-      let nearer = ahead-tick clock d.moment c within (omega arith) in
+      let nearer = ahead-tick clock d.moment c (omega arith) in
+      let next_nearer = ahead-tick clock next c (omega arith) in
       omega arith;
 }
+
+-- a count of moments, as the moment that is so far ahead
+pub idle_moment : (clock count : ℕ) (due : List Due) → clock < 65536 → count < 65536 → IsIdle clock count due → IsIdle clock (ahead clock ((clock + count) % 65536)) due
+idle_moment clock count due c fits quiet = rw (ahead-of clock count c fits) quiet
 
 -- each entry is older
 pub idle_ages : (clock idle : ℕ) (m : BTreeMap LsaKey Stored) (due : List Due) → IsKept clock m.entries due → IsIdle clock idle due → 2 ≤ idle → Ages (map (held_at clock due) m.entries) (map (held_at (then_at clock) due) m.entries)

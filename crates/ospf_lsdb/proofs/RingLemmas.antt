@@ -21,9 +21,9 @@ unfolding ahead
 ahead-now clock c = omega arith
 
 -- a tick brings each other moment nearer
-pub ahead-tick : (clock moment : ℕ) → clock < 65536 → moment < 65536 → 0 < ahead clock moment → ahead ((clock + 1) % 65536) moment + 1 ≡ ahead clock moment
+pub ahead-tick : (clock moment : ℕ) → clock < 65536 → 0 < ahead clock moment → ahead ((clock + 1) % 65536) moment + 1 ≡ ahead clock moment
 unfolding ahead
-ahead-tick clock moment c m far = omega arith
+ahead-tick clock moment c far = omega arith
 
 -- and the present one to the far end
 pub ahead-past : (clock : ℕ) → clock < 65536 → ahead ((clock + 1) % 65536) clock ≡ 65535

@@ -64,7 +64,7 @@ pub record IsKept (clock : ℕ) (entries : List (LsaKey × Stored)) (due : List 
   pub rising : KeysRise (keys_of entries)
   pub are_due : AreDue clock entries due
 
--- what is stored at a moment, and for how many moments from it nothing is due
-pub record IsRunning (clock idle : ℕ) (entries : List (LsaKey × Stored)) (due : List Due) : Type 0 where
+-- what is stored at a moment, and the moment before which nothing is due
+pub record IsRunning (clock next : ℕ) (entries : List (LsaKey × Stored)) (due : List Due) : Type 0 where
   pub kept : IsKept clock entries due
-  pub quiet : IsIdle clock idle due
+  pub quiet : IsIdle clock (ahead clock next) due

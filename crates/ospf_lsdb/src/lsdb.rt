@@ -10,7 +10,7 @@ ghost use Rattle.std.specs.BTreeMap.{IsOrdered};
 
 use crate::LS_REFRESH_TIME;
 use crate::entry::{EntryView, add_fresh};
-use crate::moments::{Moments, Reached, until_told};
+use crate::moments::{Moments, Reached, moments_until, sooner, until_told};
 use ospf_base::{LsaKey, MAX_AGE};
 use ospf_lsa::{Listing, Lsa};
 use std::alloc::{AllocError, Global};
@@ -65,8 +65,8 @@ impl Timer {
 #[derive(Drop)]
 pub struct Lsdb {
     clock: u16,
-    // Nothing is due before so many moments from the clock.
-    idle: u16,
+    // From the clock on, nothing is due before this moment.
+    next: u16,
     entries: BTreeMap<LsaKey, Stored>,
     due: Moments,
 }
@@ -81,7 +81,7 @@ impl Model for Lsdb {
 
     ghost view = { λ d. map (held_at d.clock d.due) d.entries.entries };
 
-    ghost invariant = { λ d. IsRunning d.clock d.idle d.entries.entries d.due };
+    ghost invariant = { λ d. IsRunning d.clock d.next d.entries.entries d.due };
 }
 
 // The age of the entry of a key.
@@ -135,7 +135,7 @@ impl Lsdb {
     {
         Lsdb {
             clock: 0,
-            idle: u16::MAX,
+            next: u16::MAX,
             entries: BTreeMap::new(alloc),
             due: Moments::new(alloc),
         }
@@ -169,7 +169,7 @@ impl Lsdb {
         };
         // All growths come first.
         self.due.add_coming(self.clock, age, key)?;
-        self.idle = self.idle.min(until_told(age));
+        self.next = sooner(self.clock, self.next, until_told(age));
         match self.entries.insert(key, stored) {
             Ok(Some(old)) => {
                 let old_age = old.timer.age(self.clock);
@@ -195,9 +195,8 @@ impl Lsdb {
         ensures looks { result ≡ length (reached_at 3600 self.new) }
     {
         // Nothing is due now, nor at the next moment.
-        if self.idle >= 2 {
+        if moments_until(self.clock, self.next) >= 2 {
             self.clock = self.clock.wrapping_add(1);
-            self.idle -= 1;
             return 0;
         }
         self.tick_due()
@@ -212,7 +211,7 @@ impl Lsdb {
         self.due.forget(self.clock, MAX_AGE);
         let now = self.clock.wrapping_add(1);
         self.clock = now;
-        self.idle = self.due.idle_from(now);
+        self.next = now.wrapping_add(self.due.idle_from(now));
         let keys = self.due.at(now, MAX_AGE);
         look_at_all(&mut self.entries, keys)
     }

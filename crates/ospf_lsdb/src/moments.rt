@@ -1,6 +1,6 @@
 //! Moments on a ring, and the entries that come to `LS_REFRESH_TIME` or `MAX_AGE` at each.
 
-ghost use Rattle.std.specs.Prelude.{◌≡◌, ◌==◌, ◌&&◌, ◌||◌, ◌⊎◌, ◌+◌, ◌-◌, ◌%◌, ◌^◌, ◌<◌, ◌≤◌, not, length, ℕ, [], OnOk, OnErr, IfOk, IfSome, IfNone, true, false};
+ghost use Rattle.std.specs.Prelude.{◌≡◌, ◌==◌, ◌&&◌, ◌||◌, ◌⊎◌, ◌+◌, ◌-◌, ◌%◌, ◌^◌, ◌<◌, ◌≤◌, min, not, length, ℕ, [], OnOk, OnErr, IfOk, IfSome, IfNone, true, false};
 ghost use Rattle.std.specs.List.Sorted.{IsStrictlySortedBy};
 ghost use Rattle.ospf_lsdb.specs.Database.{same_key, is_told};
 ghost use Rattle.ospf_lsdb.specs.Moments.{ahead, due_cmp, same_due, has, IsIdle, ComesIn, coming, is_coming, is_at, keys_at};
@@ -42,7 +42,7 @@ impl Due {
 }
 
 // How many moments a moment is ahead of the clock, as the ring goes round.
-fn moments_until(clock: u16, moment: u16) -> u16
+pub(crate) fn moments_until(clock: u16, moment: u16) -> u16
     ensures count { result ≡ ahead clock moment }
     ensures moment_fits { moment < 65536 }
     ensures clock_fits { clock < 65536 }
@@ -63,6 +63,17 @@ pub(crate) fn until_told(age: u16) -> u16
         MAX_AGE - age
     } else {
         u16::MAX
+    }
+}
+
+// This moment, or the one in so many moments, whichever is sooner.
+pub(crate) fn sooner(clock: u16, moment: u16, count: u16) -> u16
+    ensures { ahead clock result ≡ min (ahead clock moment) count }
+{
+    if moments_until(clock, moment) <= count {
+        moment
+    } else {
+        clock.wrapping_add(count)
     }
 }
 
@@ -190,6 +201,7 @@ impl Moments {
     pub(crate) fn idle_from(&self, clock: u16) -> u16
         ensures idle { IsIdle clock result self.now }
         ensures until { (result ≡ 65535) ⊎ ComesIn clock result self.now }
+        ensures fits { result < 65536 }
     {
         let now = Due {
             moment: clock,

@@ -1,7 +1,7 @@
 use Rattle.std.proofs.Common.{◌≡◌, ◌≤◌, ◌<◌, ◌&&◌, Bool, not, ℕ, ap, subst, sym, ◌∙◌, Option, None, Some, true, false, option_map, List, map, arith}
 use Rattle.ospf_lsdb.specs.declared.moments.Due.{Due}
 use Rattle.ospf_lsdb.specs.Database.{Held, held_of, expired, is_fresh, is_some_and}
-use Rattle.ospf_lsdb.specs.Moments.{has, same_due, is_coming}
+use Rattle.ospf_lsdb.specs.Moments.{ahead, has, same_due, is_coming}
 use Rattle.ospf_lsdb.specs.Timers.{IsKept, held_at}
 use Rattle.ospf_lsdb.proofs.MapLemmas.{Puts-words, Puts-same}
 use Rattle.ospf_lsdb.proofs.ExpireLemmas.{parted, expires_kept, expires_put, held_aged, held_none, fresh_not}
@@ -21,7 +21,7 @@ kept c = expires_kept c.self.inside.clock c.in-Some.age c.args.key.now c.self.in
 pub invariant_of-self : goal.invariant_of-self
 invariant_of-self c = record {
   kept = kept c;
-  quiet = idle_fewer c.self.inside.clock c.self.inside.idle c.self.inside.due c.remove_coming.new.self c.self.invariant.quiet
+  quiet = idle_fewer c.self.inside.clock (ahead c.self.inside.clock c.self.inside.next) c.self.inside.due c.remove_coming.new.self c.self.invariant.quiet
       (λ q there. (parted (is_coming c.self.inside.clock c.in-Some.age c.args.key.now q) (same_due (record { moment = c.self.inside.clock; age = c.in-Some.age; key = c.args.key.now }) q) (has c.self.inside.due q) (sym (ops c q) ∙ there)).2);
 }
 

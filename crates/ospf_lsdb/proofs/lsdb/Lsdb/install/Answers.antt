@@ -7,7 +7,7 @@ use Rattle.ospf_lsa.specs.declared.header.LsaHeader.{LsaHeader}
 use Rattle.ospf_lsdb.specs.Database.{Held, same_key, key_in, entry_from, Installs}
 use Rattle.ospf_lsdb.specs.declared.moments.Due.{Due}
 use Rattle.ospf_lsdb.specs.declared.lsdb.Stored.{Stored}
-use Rattle.ospf_lsdb.specs.Moments.{has, same_due, is_coming, IsIdle}
+use Rattle.ospf_lsdb.specs.Moments.{ahead, has, same_due, is_coming, IsIdle}
 use Rattle.ospf_lsdb.specs.Timers.{IsKept, held_at, stored_of, age_at, age_of}
 use Rattle.ospf_lsdb.proofs.EntryLemmas.{key_of-contents, key-entry_from}
 use Rattle.ospf_lsdb.proofs.MomentLemmas.{and_right}
@@ -27,9 +27,9 @@ age_is : (c : After-insert) → c.ticks-age.result ≡ (header_of c.args.lsa).ag
 age_is c = c.ticks-age.ensures.value ∙ ap (λ (h : LsaHeader). h.age) (c.header.ensures.value ∙ ap header_of c.view-2.ensures.same)
 
 -- what is left of what was due and of what the LSA comes to is no nearer than either
-quiet : (c : After-insert) (after : List Due) → ((q : Due) → has after q ≡ true → has c.add_coming.new.self q ≡ true) → IsIdle c.self.inside.clock c.min-self-inside.result after
+quiet : (c : After-insert) (after : List Due) → ((q : Due) → has after q ≡ true → has c.add_coming.new.self q ≡ true) → IsIdle c.self.inside.clock (ahead c.self.inside.clock c.sooner-self-inside.result) after
 quiet c after fewer =
-    idle_installed c.self.inside.clock c.self.inside.idle c.ticks-age.result c.until_told.result c.min-self-inside.result c.key-key.result c.self.inside.due after c.self.invariant.kept.on_ring c.self.invariant.quiet
+    idle_installed c.self.inside.clock (ahead c.self.inside.clock c.self.inside.next) c.ticks-age.result c.until_told.result (ahead c.self.inside.clock c.sooner-self-inside.result) c.key-key.result c.self.inside.due after c.self.invariant.kept.on_ring c.self.invariant.quiet
     c.until_told.ensures.refresh c.until_told.ensures.expiry (omega arith) (omega arith) (λ q there. sym (c.in_ok-add_coming.ensures.ok q) ∙ fewer q there)
 
 -- ---- where there was an entry

@@ -5,7 +5,7 @@ use Rattle.ospf_lsdb.specs.Database.{Held, same_key, held_of, removed, is_expire
 use Rattle.ospf_lsdb.specs.Timers.{IsKept, held_at, stored_of, age_of}
 use Rattle.ospf_lsdb.proofs.EntryLemmas.{removed-young, removed-old, is_expired-young, is_expired-old}
 use Rattle.ospf_lsdb.proofs.MapLemmas.{Puts-words, Puts-same}
-use Rattle.ospf_lsdb.specs.Moments.{has, same_due}
+use Rattle.ospf_lsdb.specs.Moments.{ahead, has, same_due}
 use Rattle.ospf_lsdb.proofs.IdleLemmas.{idle_fewer}
 use Rattle.ospf_lsdb.proofs.MomentLemmas.{and_right}
 use Rattle.ospf_lsdb.proofs.TimerLemmas.{stored_updated}
@@ -58,7 +58,7 @@ kept c = removes_kept c.self.inside.clock c.args.key.now c.self.inside.entries c
 pub invariant_of-self : goal.invariant_of-self
 invariant_of-self c = record {
   kept = kept (goal.at.invariant_of-self c).After-remove_reached;
-  quiet = idle_fewer c.self.inside.clock c.self.inside.idle c.self.inside.due c.remove_reached.new.self c.self.invariant.quiet
+  quiet = idle_fewer c.self.inside.clock (ahead c.self.inside.clock c.self.inside.next) c.self.inside.due c.remove_reached.new.self c.self.invariant.quiet
       (λ q there. and_right (not (same_due (record { moment = c.self.inside.clock; age = 3600; key = c.args.key.now }) q)) (has c.self.inside.due q) (sym (c.remove_reached.ensures.gone q) ∙ there));
 }
 

@@ -1,10 +1,11 @@
-use Rattle.std.proofs.Common.{◌&&◌, not, ap, subst, ◌∙◌, Bool, List, map, length, option_map, if◌then◌else◌}
+use Rattle.std.proofs.Common.{◌&&◌, not, ap, subst, ◌∙◌, Bool, List, map, length, option_map, arith, if◌then◌else◌}
 use Rattle.std.specs.Map.{keys_of}
 use Rattle.ospf_base.specs.declared.ids.LsaKey.{LsaKey}
 use Rattle.ospf_lsdb.specs.Database.{Held, Ages}
 use Rattle.ospf_lsdb.specs.Moments.{is_at, keys_at, among}
 use Rattle.ospf_lsdb.specs.Timers.{IsKept, held_at, stored_of, stopped}
 use Rattle.ospf_lsdb.proofs.TickLemmas.{then_at, Forgets, Looks, ordered-KeysRise, ticks_kept, ticks_ages, ticks_looks}
+use Rattle.ospf_lsdb.proofs.IdleLemmas.{idle_moment}
 use Rattle.ospf_lsdb.proofs.lsdb.Lsdb.tick_due.Goals as goal
 use Rattle.ospf_lsdb.proofs.lsdb.Lsdb.tick_due.Goals.{After-look_at_all}
 
@@ -19,7 +20,7 @@ kept : (c : After-look_at_all) → IsKept (then_at c.self.inside.clock) c.look_a
 kept c = ticks_kept c.self.inside.clock c.self.inside.entries c.look_at_all.new.entries c.self.inside.due c.forget-2.new.self c.self.invariant.kept c.look_at_all.ensures.ordered (ops c) (looks c)
 
 pub invariant_of-self : goal.invariant_of-self
-invariant_of-self c = record { kept = kept c; quiet = c.idle_from-self-inside.ensures.idle }
+invariant_of-self c = record { kept = kept c; quiet = idle_moment (then_at c.self.inside.clock) c.idle_from.result c.forget-2.new.self (omega arith) c.idle_from.ensures.fits c.idle_from.ensures.idle }
 
 pub look_at_all-requires-clause-ordered : goal.look_at_all-requires-clause-ordered
 look_at_all-requires-clause-ordered c = ordered-KeysRise (keys_of c.self.inside.entries.entries) c.self.invariant.kept.rising
