@@ -9,8 +9,8 @@ use Rattle.ospf_lsdb.specs.declared.moments.Due.{Due}
 use Rattle.ospf_lsdb.specs.declared.lsdb.Stored.{Stored}
 use Rattle.ospf_lsdb.specs.declared.lsdb.Timer.{Timer}
 use Rattle.ospf_lsdb.specs.declared.lsdb.Timer.TheVariants.{Expired}
-use Rattle.ospf_lsdb.specs.Moments.{key_cmp, has, same_due, is_coming}
-use Rattle.ospf_lsdb.specs.Timers.{ahead, age_at, held_at, stored_of, age_of, Comes, AreDue, IsStored, IsKept}
+use Rattle.ospf_lsdb.specs.Moments.{ahead, key_cmp, has, same_due, is_coming}
+use Rattle.ospf_lsdb.specs.Timers.{age_at, held_at, stored_of, age_of, Comes, AreDue, IsStored, IsKept}
 use Rattle.ospf_lsdb.proofs.MapLemmas.{bool_cases}
 use Rattle.ospf_lsdb.proofs.MomentLemmas.{same_due-eq, same_due-refl}
 use Rattle.ospf_lsdb.proofs.RingLemmas.{ahead-now}

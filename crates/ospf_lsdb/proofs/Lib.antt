@@ -4,6 +4,7 @@ pub mod RisingLemmas
 pub mod PlaceLemmas
 pub mod OrderLemmas
 pub mod MomentLemmas
+pub mod FirstLemmas
 pub mod RingLemmas
 pub mod TimerLemmas
 pub mod ExpireLemmas
@@ -12,4 +13,5 @@ pub mod ReachedLemmas
 pub mod ListingLemmas
 pub mod InstallLemmas
 pub mod TickLemmas
+pub mod IdleLemmas
 pub mod MapLaws

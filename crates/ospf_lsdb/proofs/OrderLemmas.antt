@@ -1,7 +1,7 @@
 -- The orders of keys and of what is due.
-use Rattle.std.proofs.Common.{◌≡◌, ◌<◌, ◌==◌, ◌&&◌, ◌+◌, ◌⊎◌, inl, inr, ℕ, Bool, true, false, refl, ◌∙◌, arith}
+use Rattle.std.proofs.Common.{◌≡◌, ◌<◌, ◌≤◌, ◌==◌, ◌&&◌, ◌+◌, ◌⊎◌, inl, inr, ℕ, Bool, true, false, refl, ◌∙◌, arith}
 use Rattle.std.proofs.lemmas.Grind.{common_steps}
-use Rattle.std.specs.Ordering.{nat_cmp, is_eq, is_le, ordering_then}
+use Rattle.std.specs.Ordering.{nat_cmp, is_eq, is_le, is_gt, ordering_then}
 use Rattle.std.specs.declared.cmp.Ordering.{Ordering}
 use Rattle.std.specs.declared.cmp.Ordering.TheVariants.{Less, Equal, Greater}
 use Rattle.ospf_base.specs.declared.ids.LsaKey.{LsaKey}
@@ -143,6 +143,36 @@ kind_le Network = refl
 
 first_le : (k : LsaKey) → is_le (key_cmp first_key k) ≡ true
 first_le k = is_le-then (kind_cmp Router k.kind) (ordering_then (nat_cmp 0 k.id) (nat_cmp 0 k.router.0)) (kind_le k.kind) (is_le-then (nat_cmp 0 k.id) (nat_cmp 0 k.router.0) (zero_le k.id) (zero_le k.router.0))
+
+-- what the set puts first is due no later in the count of the clock
+pub moment_le : (f d : Due) → is_gt (due_cmp f d) ≡ false → f.moment ≤ d.moment
+moment_le f d le = elim (order f.moment d.moment) [
+  | inl lt ↦ omega arith
+  | inr more ↦ elim more [
+    | inl gt ↦
+        let e = nat_cmp-gt f.moment d.moment gt in
+        let greater : is_gt (due_cmp f d) ≡ true = rw e refl in
+        absurd (cc)
+    | inr eq ↦ omega arith
+  ]
+]
+
+not_gt : (o : Ordering) → is_le o ≡ true → is_gt o ≡ false
+not_gt Less is = refl
+not_gt Equal is = refl
+not_gt Greater is = absurd (cc)
+
+-- and the first of all at a moment stands in front of what is due from then on
+pub first_due_le : (clock : ℕ) (d : Due) → clock ≤ d.moment → is_gt (due_cmp (record { moment = clock; age = 0; key = first_key }) d) ≡ false
+first_due_le clock d from = not_gt (due_cmp (record { moment = clock; age = 0; key = first_key }) d)
+    (is_le-then (nat_cmp clock d.moment) (ordering_then (nat_cmp 0 d.age) (key_cmp first_key d.key)) (not_past clock d.moment from)
+    (is_le-then (nat_cmp 0 d.age) (key_cmp first_key d.key) (zero_le d.age) (first_le d.key)))
+  where
+    not_past : (a b : ℕ) → a ≤ b → is_le (nat_cmp a b) ≡ true
+    not_past a b le = elim (order a b) [
+      | inl lt ↦ let e = nat_cmp-lt a b lt in rw e refl
+      | inr more ↦ elim more [ inl gt ↦ absurd (omega arith) | inr eq ↦ let e = nat_cmp-eq a b eq in rw e refl ]
+    ]
 
 -- the range of one moment and one age
 pub in_range : (m a : ℕ) (q : Due) → range_contains due_cmp (Included (record { moment = m; age = a; key = first_key })) (Excluded (record { moment = m; age = a + 1; key = first_key })) q ≡ is_at m a q

@@ -1,6 +1,6 @@
 -- The ring of moments.
 use Rattle.std.proofs.Common.{◌≡◌, ◌<◌, ◌+◌, ◌%◌, ℕ, arith}
-use Rattle.ospf_lsdb.specs.Timers.{ahead}
+use Rattle.ospf_lsdb.specs.Moments.{ahead}
 
 -- a moment that is so far ahead
 pub ahead-is : (clock moment x : ℕ) → clock < 65536 → moment < 65536 → ahead clock moment ≡ x → moment ≡ (clock + x) % 65536
@@ -21,9 +21,9 @@ unfolding ahead
 ahead-now clock c = omega arith
 
 -- a tick brings each other moment nearer
-pub ahead-tick : (clock moment : ℕ) → clock < 65536 → moment < 65536 → 0 < ahead clock moment → ahead ((clock + 1) % 65536) moment + 1 ≡ ahead clock moment
+pub ahead-tick : (clock moment : ℕ) → clock < 65536 → 0 < ahead clock moment → ahead ((clock + 1) % 65536) moment + 1 ≡ ahead clock moment
 unfolding ahead
-ahead-tick clock moment c m far = omega arith
+ahead-tick clock moment c far = omega arith
 
 -- and the present one to the far end
 pub ahead-past : (clock : ℕ) → clock < 65536 → ahead ((clock + 1) % 65536) clock ≡ 65535

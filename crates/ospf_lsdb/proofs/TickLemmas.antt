@@ -14,8 +14,8 @@ use Rattle.ospf_lsdb.specs.declared.moments.Due.{Due}
 use Rattle.ospf_lsdb.specs.declared.lsdb.Stored.{Stored}
 use Rattle.ospf_lsdb.specs.declared.lsdb.Timer.{Timer}
 use Rattle.ospf_lsdb.specs.declared.lsdb.Timer.TheVariants.{Since, Expired}
-use Rattle.ospf_lsdb.specs.Moments.{key_cmp, due_cmp, has, is_at, keys_at, among}
-use Rattle.ospf_lsdb.specs.Timers.{ahead, age_at, held_at, stored_of, age_of, stopped, Comes, AreDue, IsStored, KeysRise, IsKept}
+use Rattle.ospf_lsdb.specs.Moments.{ahead, key_cmp, due_cmp, has, is_at, keys_at, among}
+use Rattle.ospf_lsdb.specs.Timers.{age_at, held_at, stored_of, age_of, stopped, Comes, AreDue, IsStored, KeysRise, IsKept}
 use Rattle.ospf_lsdb.proofs.EntryLemmas.{older-young, older-old}
 use Rattle.ospf_lsdb.proofs.MapLemmas.{bool_cases}
 use Rattle.ospf_lsdb.proofs.MomentLemmas.{split_and}
@@ -264,7 +264,7 @@ due_sound clock es fs due after kept ops looks d there =
     let young : age_at clock s.timer < 3600 = omega (arith, found.2, comes.then_is, left.1) in
     let one = passes clock es due after d.key s kept.on_ring kept.are_due ops found.1 (stored_one clock es kept.stored d.key s found.1) b refl in
     let is : stored_of fs d.key ≡ Some (passed b s) = ticks_put clock es fs due after looks d.key ∙ ap (λ (o : Option Stored). option_map (passed b) o) found.1 in
-    let nearer = ahead-tick clock d.moment kept.on_ring comes.within left.1 in
+    let nearer = ahead-tick clock d.moment kept.on_ring left.1 in
     record {
       told = comes.told;
       within = comes.within;
@@ -291,7 +291,7 @@ due_whole clock es fs due after kept ops looks d far comes =
                 absurd (omega (arith, comes.then_is))
             | inr some ↦ some
           ] in
-          let nearer = ahead-tick clock d.moment kept.on_ring comes.within still in
+          let nearer = ahead-tick clock d.moment kept.on_ring still in
           left_whole clock due after kept.on_ring ops d (kept.are_due.whole d still (record {
             told = comes.told;
             within = comes.within;

@@ -1,5 +1,5 @@
 -- Moments on a ring, and the ages that entries come to at each (RFC 2328, section 14).
-use Rattle.std.specs.Prelude.{◌==◌, ◌&&◌, ◌||◌, ℕ, ◌+◌, ◌-◌, ◌%◌, Bool, List, map, filter, nat_lt}
+use Rattle.std.specs.Prelude.{◌≡◌, ◌==◌, ◌&&◌, ◌||◌, ℕ, ◌+◌, ◌-◌, ◌%◌, ◌<◌, ◌≤◌, Bool, true, List, map, filter, nat_lt}
 use Rattle.std.specs.List.{list_any}
 use Rattle.std.specs.declared.cmp.Ordering.{Ordering}
 use Rattle.ospf_base.specs.declared.ids.LsaKey.{LsaKey}
@@ -23,7 +23,19 @@ same_due d q = (d.moment == q.moment) && ((d.age == q.age) && same_key d.key q.k
 abbrev pub has : List Due → Due → Bool
 has dues d = list_any (λ q. same_due d q) dues
 
--- when an entry of this key, which now is of this age, comes to another. The clock goes round after 65536 moments
+-- how many moments a moment is ahead of another. The clock goes round after 65536 moments
+unfoldable pub ahead : ℕ → ℕ → ℕ
+ahead clock moment = (moment + (65536 - clock)) % 65536
+
+-- nothing is due before so many moments from now
+pub record IsIdle (clock count : ℕ) (dues : List Due) : Type 0 where
+  pub none_before : (d : Due) → d.moment < 65536 → has dues d ≡ true → count ≤ ahead clock d.moment
+
+-- something is due in so many moments from now
+abbrev pub ComesIn : ℕ → ℕ → List Due → Type 0
+ComesIn clock count dues = (d : Due) × (has dues d ≡ true) × (ahead clock d.moment ≡ count)
+
+-- when an entry of this key, which now is of this age, comes to another
 abbrev pub coming : ℕ → ℕ → ℕ → LsaKey → Due
 coming clock age told key = record { moment = (clock + (told - age)) % 65536; age = told; key = key }
 

@@ -1,20 +1,16 @@
 -- Entries as they are stored: how old each is follows from a moment on a ring (RFC 2328, section 14).
-use Rattle.std.specs.Prelude.{◌≡◌, ℕ, ◌+◌, ◌-◌, ◌%◌, ◌<◌, ◌≤◌, true, List, [], ◌∷◌, Option, Some, option_map}
+use Rattle.std.specs.Prelude.{◌≡◌, ℕ, ◌+◌, ◌<◌, ◌≤◌, true, List, [], ◌∷◌, Option, Some, option_map}
 use Rattle.std.specs.List.{AllByRecursion}
 use Rattle.std.specs.Map.{lookup, keys_of}
 use Rattle.ospf_base.specs.Keys.{Precedes}
 use Rattle.ospf_base.specs.Sums as sums
 use Rattle.ospf_base.specs.declared.ids.LsaKey.{LsaKey}
 use Rattle.ospf_lsdb.specs.Database.{Held, key_in, same_key, is_told}
-use Rattle.ospf_lsdb.specs.Moments.{has}
+use Rattle.ospf_lsdb.specs.Moments.{ahead, has, IsIdle}
 use Rattle.ospf_lsdb.specs.declared.moments.Due.{Due}
 use Rattle.ospf_lsdb.specs.declared.lsdb.Timer.{Timer}
 use Rattle.ospf_lsdb.specs.declared.lsdb.Timer.TheVariants.{Since, Expired}
 use Rattle.ospf_lsdb.specs.declared.lsdb.Stored.{Stored}
-
--- how many moments a moment is ahead of another
-unfoldable pub ahead : ℕ → ℕ → ℕ
-ahead clock moment = (moment + (65536 - clock)) % 65536
 
 -- how old an entry is
 unfoldable pub age_at : ℕ → Timer → ℕ
@@ -67,3 +63,8 @@ pub record IsKept (clock : ℕ) (entries : List (LsaKey × Stored)) (due : List 
   pub stored : AllByRecursion (IsStored clock) entries
   pub rising : KeysRise (keys_of entries)
   pub are_due : AreDue clock entries due
+
+-- what is stored at a moment, and the moment before which nothing is due
+pub record IsRunning (clock next : ℕ) (entries : List (LsaKey × Stored)) (due : List Due) : Type 0 where
+  pub kept : IsKept clock entries due
+  pub quiet : IsIdle clock (ahead clock next) due

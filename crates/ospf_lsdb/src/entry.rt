@@ -50,10 +50,11 @@ impl<'a> EntryView<'a> {
     }
 
     /// The LSA as it was installed. Its age field is of that time: `age` and `header` tell the
-    /// present one.
+    /// present one, and `copy` has it in its bytes.
     pub fn lsa(&self) -> LsaView<'a>
         ensures contents { contents result ≡ self.now.contents }
         ensures key { key_of result ≡ key_in self.now.contents }
+        ensures all_but_age { header_of (lsa_of self.now) ≡ record (header_of result) { age = self.now.age } }
     {
         self.lsa.view()
     }

@@ -10,7 +10,7 @@ ghost use Rattle.std.specs.BTreeMap.{IsOrdered};
 
 use crate::LS_REFRESH_TIME;
 use crate::entry::{EntryView, add_fresh};
-use crate::moments::{Moments, Reached};
+use crate::moments::{Moments, Reached, moments_until, sooner, until_told};
 use ospf_base::{LsaKey, MAX_AGE};
 use ospf_lsa::{Listing, Lsa};
 use std::alloc::{AllocError, Global};
@@ -65,6 +65,8 @@ impl Timer {
 #[derive(Drop)]
 pub struct Lsdb {
     clock: u16,
+    // From the clock on, nothing is due before this moment.
+    next: u16,
     entries: BTreeMap<LsaKey, Stored>,
     due: Moments,
 }
@@ -75,11 +77,11 @@ impl Model for Lsdb {
 
     ghost Value = { List Held };
 
-    ghost use Rattle.ospf_lsdb.specs.Timers.{held_at, IsKept};
+    ghost use Rattle.ospf_lsdb.specs.Timers.{held_at, IsRunning};
 
     ghost view = { λ d. map (held_at d.clock d.due) d.entries.entries };
 
-    ghost invariant = { λ d. IsKept d.clock d.entries.entries d.due };
+    ghost invariant = { λ d. IsRunning d.clock d.next d.entries.entries d.due };
 }
 
 // The age of the entry of a key.
@@ -133,6 +135,7 @@ impl Lsdb {
     {
         Lsdb {
             clock: 0,
+            next: u16::MAX,
             entries: BTreeMap::new(alloc),
             due: Moments::new(alloc),
         }
@@ -166,6 +169,7 @@ impl Lsdb {
         };
         // All growths come first.
         self.due.add_coming(self.clock, age, key)?;
+        self.next = sooner(self.clock, self.next, until_told(age));
         match self.entries.insert(key, stored) {
             Ok(Some(old)) => {
                 let old_age = old.timer.age(self.clock);
@@ -190,10 +194,25 @@ impl Lsdb {
         ensures ages { Ages self.old self.new }
         ensures looks { result ≡ length (reached_at 3600 self.new) }
     {
+        // Nothing is due now, nor at the next moment.
+        if moments_until(self.clock, self.next) >= 2 {
+            self.clock = self.clock.wrapping_add(1);
+            return 0;
+        }
+        self.tick_due()
+    }
+
+    // A tick in which something may be due.
+    fn tick_due(&mut self) -> u64
+        ensures ages { Ages self.old self.new }
+        ensures looks { result ≡ length (reached_at 3600 self.new) }
+    {
         self.due.forget(self.clock, LS_REFRESH_TIME);
         self.due.forget(self.clock, MAX_AGE);
-        self.clock = self.clock.wrapping_add(1);
-        let keys = self.due.at(self.clock, MAX_AGE);
+        let now = self.clock.wrapping_add(1);
+        self.clock = now;
+        self.next = now.wrapping_add(self.due.idle_from(now));
+        let keys = self.due.at(now, MAX_AGE);
         look_at_all(&mut self.entries, keys)
     }
 

@@ -1,9 +1,9 @@
 //! Moments on a ring, and the entries that come to `LS_REFRESH_TIME` or `MAX_AGE` at each.
 
-ghost use Rattle.std.specs.Prelude.{◌≡◌, ◌==◌, ◌&&◌, ◌||◌, ◌+◌, ◌-◌, ◌%◌, ◌^◌, ◌<◌, ◌≤◌, not, length, ℕ, [], OnOk, OnErr, IfOk, IfSome, IfNone, true, false};
+ghost use Rattle.std.specs.Prelude.{◌≡◌, ◌==◌, ◌&&◌, ◌||◌, ◌⊎◌, ◌+◌, ◌-◌, ◌%◌, ◌^◌, ◌<◌, ◌≤◌, min, not, length, ℕ, [], OnOk, OnErr, IfOk, IfSome, IfNone, true, false};
 ghost use Rattle.std.specs.List.Sorted.{IsStrictlySortedBy};
 ghost use Rattle.ospf_lsdb.specs.Database.{same_key, is_told};
-ghost use Rattle.ospf_lsdb.specs.Moments.{due_cmp, same_due, has, coming, is_coming, is_at, keys_at};
+ghost use Rattle.ospf_lsdb.specs.Moments.{ahead, due_cmp, same_due, has, IsIdle, ComesIn, coming, is_coming, is_at, keys_at};
 ghost use Rattle.ospf_lsdb.specs.declared.moments.Due.{Due};
 
 use crate::LS_REFRESH_TIME;
@@ -38,6 +38,42 @@ impl Due {
             age: told,
             key,
         }
+    }
+}
+
+// How many moments a moment is ahead of the clock, as the ring goes round.
+pub(crate) fn moments_until(clock: u16, moment: u16) -> u16
+    ensures count { result ≡ ahead clock moment }
+    ensures moment_fits { moment < 65536 }
+    ensures clock_fits { clock < 65536 }
+{
+    moment.wrapping_sub(clock)
+}
+
+// In how many moments an entry of an age comes to the next of the ages that are told; `u16::MAX`
+// where it has come to the last.
+pub(crate) fn until_told(age: u16) -> u16
+    ensures refresh { age < 1800 → age + result ≡ 1800 }
+    ensures expiry { 1800 ≤ age → age < 3600 → age + result ≡ 3600 }
+    ensures never { 3600 ≤ age → result ≡ 65535 }
+{
+    if age < LS_REFRESH_TIME {
+        LS_REFRESH_TIME - age
+    } else if age < MAX_AGE {
+        MAX_AGE - age
+    } else {
+        u16::MAX
+    }
+}
+
+// This moment, or the one in so many moments, whichever is sooner.
+pub(crate) fn sooner(clock: u16, moment: u16, count: u16) -> u16
+    ensures { ahead clock result ≡ min (ahead clock moment) count }
+{
+    if moments_until(clock, moment) <= count {
+        moment
+    } else {
+        clock.wrapping_add(count)
     }
 }
 
@@ -158,6 +194,27 @@ impl Moments {
         };
         Reached {
             left: self.set.range(first..past),
+        }
+    }
+
+    // In how many moments from this one something is due first; `u16::MAX` where nothing is.
+    pub(crate) fn idle_from(&self, clock: u16) -> u16
+        ensures idle { IsIdle clock result self.now }
+        ensures until { (result ≡ 65535) ⊎ ComesIn clock result self.now }
+        ensures fits { result < 65536 }
+    {
+        let now = Due {
+            moment: clock,
+            age: 0,
+            key: FIRST_KEY,
+        };
+        if let Some(due) = self.set.range(now..).next() {
+            return moments_until(clock, due.moment);
+        }
+        // The ring goes round: what stands in front of the clock comes last.
+        match self.set.first() {
+            Some(due) => moments_until(clock, due.moment),
+            None => u16::MAX,
         }
     }
 }

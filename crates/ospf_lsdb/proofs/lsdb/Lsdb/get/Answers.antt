@@ -9,29 +9,29 @@ use Rattle.ospf_lsdb.proofs.lsdb.Lsdb.get.Goals as goal
 pub returns-in_err-stored-clause-entry : goal.returns-in_err-stored-clause-entry
 returns-in_err-stored-clause-entry c =
     let none : stored_of c.self.inside.entries.entries c.args.key.now ≡ None = sym (stored_of-get c.self.inside.entries c.args.key.now) ∙ sym c.in_err-stored.ensures.value in
-    let held = held_of-stored c.self.inside.clock c.self.inside.due c.self.inside.entries.entries c.self.invariant.stored c.args.key.now in
+    let held = held_of-stored c.self.inside.clock c.self.inside.due c.self.inside.entries.entries c.self.invariant.kept.stored c.args.key.now in
     c.from_residual.ensures
     ∙ sym (ap (λ (o : Option Held). option_map (λ h. h.entry) o) (held ∙ ap (λ (o : Option Stored). option_map (λ s. held_at c.self.inside.clock c.self.inside.due (c.args.key.now, s)) o) none))
     ∙ ap (λ (db : List Held). entry_of db c.args.key.now) c.self.view_is
 
 pub returns-in_err-stored-clause-database : goal.returns-in_err-stored-clause-database
-returns-in_err-stored-clause-database c = subst (λ (d : List Held). IsDatabase d) c.self.view_is (IsDatabase-stored c.self.inside.clock c.self.inside.entries.entries c.self.inside.due c.self.invariant)
+returns-in_err-stored-clause-database c = subst (λ (d : List Held). IsDatabase d) c.self.view_is (IsDatabase-stored c.self.inside.clock c.self.inside.entries.entries c.self.inside.due c.self.invariant.kept)
 
 pub new-requires : goal.new-requires
 new-requires c =
     let some : stored_of c.self.inside.entries.entries c.args.key.now ≡ Some c.in_ok-stored.stored.now = sym (stored_of-get c.self.inside.entries c.args.key.now) ∙ sym c.in_ok-stored.ensures.value in
-    let young = (stored_one c.self.inside.clock c.self.inside.entries.entries c.self.invariant.stored c.args.key.now c.in_ok-stored.stored.now some).1 in
+    let young = (stored_one c.self.inside.clock c.self.inside.entries.entries c.self.invariant.kept.stored c.args.key.now c.in_ok-stored.stored.now some).1 in
     subst (λ (n : ℕ). n ≤ 3600) (sym c.age-age.ensures) young
 
 pub returns-clause-entry : goal.returns-clause-entry
 returns-clause-entry c =
     let s = c.in_ok-stored.stored.now in
     let some : stored_of c.self.inside.entries.entries c.args.key.now ≡ Some s = sym (stored_of-get c.self.inside.entries c.args.key.now) ∙ sym c.in_ok-stored.ensures.value in
-    let held = held_of-stored c.self.inside.clock c.self.inside.due c.self.inside.entries.entries c.self.invariant.stored c.args.key.now in
+    let held = held_of-stored c.self.inside.clock c.self.inside.due c.self.inside.entries.entries c.self.invariant.kept.stored c.args.key.now in
     ap (λ (e : Entry). Some e) c.new.ensures
     ∙ ap (λ (n : ℕ). Some (record { age = n; contents = contents s.lsa; tick = s.tick; by_flooding = s.by_flooding })) c.age-age.ensures
     ∙ sym (ap (λ (o : Option Held). option_map (λ h. h.entry) o) (held ∙ ap (λ (o : Option Stored). option_map (λ s. held_at c.self.inside.clock c.self.inside.due (c.args.key.now, s)) o) some))
     ∙ ap (λ (db : List Held). entry_of db c.args.key.now) c.self.view_is
 
 pub returns-clause-database : goal.returns-clause-database
-returns-clause-database c = subst (λ (d : List Held). IsDatabase d) c.self.view_is (IsDatabase-stored c.self.inside.clock c.self.inside.entries.entries c.self.inside.due c.self.invariant)
+returns-clause-database c = subst (λ (d : List Held). IsDatabase d) c.self.view_is (IsDatabase-stored c.self.inside.clock c.self.inside.entries.entries c.self.inside.due c.self.invariant.kept)

@@ -27,7 +27,7 @@ loop-stored-init c = record { done = []; walked = sym (c.into_iter-stored-iterat
 pub new-entry-requires : goal.new-entry-requires
 new-entry-requires c =
     subst (λ (n : ℕ). n ≤ 3600) (sym c.age-age.ensures)
-    (age_among c.self.inside.clock c.self.inside.entries.entries c.self.invariant.stored c.loop-stored.invariant.done c.in-Some.stored.now c.next.new.self (walked (goal.at.new-entry-requires c).In-Some))
+    (age_among c.self.inside.clock c.self.inside.entries.entries c.self.invariant.kept.stored c.loop-stored.invariant.done c.in-Some.stored.now c.next.new.self (walked (goal.at.new-entry-requires c).In-Some))
 
 pub add_fresh-requires : goal.add_fresh-requires
 add_fresh-requires c =
@@ -39,7 +39,7 @@ add_fresh-requires c =
     record {
       last = subst (λ (k : LsaKey). AllByRecursion (λ lsa. Precedes (key_of lsa) k) c.loop-stored.listing) key
           (subst (λ (ls : List (List ℕ)). AllByRecursion (λ lsa. Precedes (key_of lsa) (key_at (bare clock s))) ls) (sym c.loop-stored.invariant.listing)
-          (bare_last clock c.self.inside.due es (rising_stored clock c.self.inside.due es c.self.invariant.stored c.self.invariant.rising) done s c.next.new.self (walked (goal.at.add_fresh-requires c).In-Some)));
+          (bare_last clock c.self.inside.due es (rising_stored clock c.self.inside.due es c.self.invariant.kept.stored c.self.invariant.kept.rising) done s c.next.new.self (walked (goal.at.add_fresh-requires c).In-Some)));
     }
 
 pub loop-stored-preserved : goal.loop-stored-preserved

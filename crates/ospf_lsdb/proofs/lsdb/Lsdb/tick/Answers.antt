@@ -1,37 +1,26 @@
-use Rattle.std.proofs.Common.{◌&&◌, not, ap, subst, ◌∙◌, Bool, List, map, length, option_map, if◌then◌else◌}
-use Rattle.std.specs.Map.{keys_of}
-use Rattle.ospf_base.specs.declared.ids.LsaKey.{LsaKey}
+use Rattle.std.proofs.Common.{◌≤◌, subst, List, map, arith}
 use Rattle.ospf_lsdb.specs.Database.{Held, Ages}
-use Rattle.ospf_lsdb.specs.Moments.{is_at, keys_at, among}
-use Rattle.ospf_lsdb.specs.Timers.{IsKept, held_at, stored_of, stopped}
-use Rattle.ospf_lsdb.proofs.TickLemmas.{then_at, Forgets, Looks, ordered-KeysRise, ticks_kept, ticks_ages, ticks_looks}
+use Rattle.ospf_lsdb.specs.Moments.{ahead}
+use Rattle.ospf_lsdb.specs.Timers.{held_at}
+use Rattle.ospf_lsdb.proofs.TickLemmas.{then_at}
+use Rattle.ospf_lsdb.proofs.IdleLemmas.{idle_kept, idle_less, idle_ages, idle_looks}
 use Rattle.ospf_lsdb.proofs.lsdb.Lsdb.tick.Goals as goal
-use Rattle.ospf_lsdb.proofs.lsdb.Lsdb.tick.Goals.{After-look_at_all}
-
-ops : (c : After-look_at_all) → Forgets c.self.inside.clock c.self.inside.due c.forget-2.new.self
-ops c = λ q. c.forget-2.ensures q ∙ ap (λ (b : Bool). not (is_at c.self.inside.clock 3600 q) && b) (c.forget.ensures q)
-
-looks : (c : After-look_at_all) → Looks (keys_at (then_at c.self.inside.clock) 3600 c.forget-2.new.self) c.self.inside.entries.entries c.look_at_all.new.entries.entries
-looks c = λ q. c.look_at_all.ensures.entry q
-    ∙ ap (λ (ks : List LsaKey). if among ks q then option_map stopped (stored_of c.self.inside.entries.entries q) else stored_of c.self.inside.entries.entries q) c.at-keys.ensures.keys
-
-kept : (c : After-look_at_all) → IsKept (then_at c.self.inside.clock) c.look_at_all.new.entries.entries c.forget-2.new.self
-kept c = ticks_kept c.self.inside.clock c.self.inside.entries c.look_at_all.new.entries c.self.inside.due c.forget-2.new.self c.self.invariant c.look_at_all.ensures.ordered (ops c) (looks c)
 
 pub invariant_of-self : goal.invariant_of-self
-invariant_of-self c = kept c
+invariant_of-self c =
+    let two : 2 ≤ ahead c.self.inside.clock c.self.inside.next = omega arith in
+    record {
+      kept = idle_kept c.self.inside.clock (ahead c.self.inside.clock c.self.inside.next) c.self.inside.entries c.self.inside.due c.self.invariant.kept c.self.invariant.quiet two;
+      quiet = idle_less c.self.inside.clock c.self.inside.next c.self.inside.due c.self.invariant.kept.on_ring c.self.invariant.quiet two;
+    }
 
-pub look_at_all-requires-clause-ordered : goal.look_at_all-requires-clause-ordered
-look_at_all-requires-clause-ordered c = ordered-KeysRise (keys_of c.self.inside.entries.entries) c.self.invariant.rising
+pub returns-then-moments_until-ge2-clause-ages : goal.returns-then-moments_until-ge2-clause-ages
+returns-then-moments_until-ge2-clause-ages c = λ k.
+    let two : 2 ≤ ahead c.self.inside.clock c.self.inside.next = omega arith in
+    subst (λ (db : List Held). Ages db (map (held_at (then_at c.self.inside.clock) c.self.inside.due) c.self.inside.entries.entries)) c.self.view_is
+    (idle_ages c.self.inside.clock (ahead c.self.inside.clock c.self.inside.next) c.self.inside.entries c.self.inside.due c.self.invariant.kept c.self.invariant.quiet two) k
 
-pub returns-clause-ages : goal.returns-clause-ages
-returns-clause-ages c = λ k.
-    let d = (goal.at.returns-clause-ages c).After-look_at_all in
-    subst (λ (db : List Held). Ages db (map (held_at (then_at c.self.inside.clock) c.forget-2.new.self) c.look_at_all.new.entries.entries)) c.self.view_is
-    (ticks_ages c.self.inside.clock c.self.inside.entries.entries c.look_at_all.new.entries.entries c.self.inside.due c.forget-2.new.self c.self.invariant (kept d) (ops d) (looks d)) k
-
-pub returns-clause-looks : goal.returns-clause-looks
-returns-clause-looks c =
-    let d = (goal.at.returns-clause-looks c).After-look_at_all in
-    c.look_at_all.ensures.looks ∙ ap (λ (ks : List LsaKey). length ks) c.at-keys.ensures.keys
-    ∙ ticks_looks c.self.inside.clock c.look_at_all.new.entries.entries c.forget-2.new.self (kept d) c.at-keys.ensures.ordered
+pub returns-then-moments_until-ge2-clause-looks : goal.returns-then-moments_until-ge2-clause-looks
+returns-then-moments_until-ge2-clause-looks c =
+    let two : 2 ≤ ahead c.self.inside.clock c.self.inside.next = omega arith in
+    idle_looks c.self.inside.clock (ahead c.self.inside.clock c.self.inside.next) c.self.inside.entries.entries c.self.inside.due c.self.invariant.kept c.self.invariant.quiet two
