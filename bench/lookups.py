@@ -1,0 +1,32 @@
+#!/usr/bin/env python3
+"""Times lookups in the shared table: one to three readers, alone and beside a writer that publishes in a loop."""
+import subprocess
+import tempfile
+
+from program import build
+
+BELOW = ["ospf_base", "ospf_lsa", "ospf_graph", "ospf_spf", "ospf_published", "ospf_fib"]
+ROUTES = (1, 1000, 100000)
+READERS = (1, 2, 3)
+LOOKUPS = 1000000
+RUNS = 3
+
+
+def nanoseconds(program, routes, readers, publishes):
+    """Of each lookup of a reader, in the best of some runs. The table of 100,000 routes takes long to make: it is timed once."""
+    words = [program, str(routes), str(readers), str(LOOKUPS), "1" if publishes else "0"]
+    runs = RUNS if routes < 100000 else 1
+    return min(int(subprocess.run(words, check=True, capture_output=True).stdout) for _ in range(runs)) / LOOKUPS
+
+
+def main():
+    with tempfile.TemporaryDirectory() as place:
+        program = build(place, "lookups", BELOW, ["1", "1", "1", "0"])
+        for routes in ROUTES:
+            for readers in READERS:
+                alone = nanoseconds(program, routes, readers, False)
+                beside = nanoseconds(program, routes, readers, True)
+                print(f"| {routes:,} | {readers} | {readers * 1000 / alone:.1f} | {readers * 1000 / beside:.1f} |", flush=True)
+
+
+main()
