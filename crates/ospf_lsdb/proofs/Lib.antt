@@ -13,3 +13,4 @@ pub mod ListingLemmas
 pub mod InstallLemmas
 pub mod TickLemmas
 pub mod MapLaws
+pub mod WalkLemmas
