@@ -1,0 +1,6 @@
+pub mod Flags
+pub mod Rules
+pub mod Headers
+pub mod Faults
+pub mod Requests
+pub mod Timers
