@@ -4,3 +4,4 @@ pub mod Headers
 pub mod Faults
 pub mod Requests
 pub mod Timers
+pub mod Exchange

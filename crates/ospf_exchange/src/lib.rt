@@ -5,12 +5,14 @@
 //! `specs/Exchange`.
 #![tactic(auto)]
 
+mod description;
 mod fault;
 mod headers;
 mod request;
 mod rule;
 mod timers;
 
+pub use crate::description::DdAnswer;
 pub use crate::fault::ExchangeFault;
 pub use crate::request::{is_request_due, next_request, on_request};
 pub use crate::rule::Local;

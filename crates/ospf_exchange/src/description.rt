@@ -1,0 +1,154 @@
+//! Database Descriptions (RFC 2328, sections 10.6 and 10.8).
+
+ghost use Rattle.std.specs.Prelude.{◌≡◌, ◌++◌, true, IsTrue, IfOk, IfErr, OnOk, OnErr, take};
+ghost use Rattle.ospf_neighbour.specs.Machine.{is_exchanging};
+ghost use Rattle.ospf_exchange.specs.Exchange.{dd_room, begun, told, describes, ends, all_told, turn_of_master, turn_of_slave, taken, taken_answer, after_dd, dd_answer, grows};
+ghost use Rattle.ospf_exchange.specs.Faults.{Mismatches, Leaves, OnMemory, UnlessMemory};
+ghost use Rattle.ospf_exchange.specs.Headers.{wanted, described_headers, expired_listed};
+ghost use Rattle.ospf_exchange.specs.Rules.{all_known, dd_rule};
+
+use crate::fault::ExchangeFault;
+use crate::headers::{lists_of, wanted_headers};
+use crate::rule::{DdRule, Local, dd_flags, has_more, rule_by_fields};
+use ospf_base::RouterId;
+use ospf_lsa::LsaHeader;
+use ospf_lsdb::Lsdb;
+use ospf_neighbour::{Accepted, Exchanging, Listed, NbrEvent, Neighbour, NeighbourState};
+use ospf_packet::{Description, Headers};
+use std::alloc::{AllocError, Global};
+
+/// The bytes of an IP header, a packet header and the fields of a Database Description.
+const HEAD: u16 = 52;
+/// The bytes of a header.
+const HEADER: u16 = 20;
+
+/// What became of a Database Description. A packet that goes out has the number and the flags of the neighbour's
+/// `exchanging`, and the headers of its `last_dd`.
+#[derive(Clone, Copy, Debug, PartialEq, Eq)]
+pub enum DdAnswer {
+    /// There is no exchange, or it does not begin one.
+    NotTaken,
+    /// The router, which is the master, has it already.
+    PassedOver,
+    /// The router, which is the slave, has it already: its last packet goes out again.
+    Repeats,
+    /// It is taken, and a packet goes out.
+    Sends,
+    /// It is taken, and ends the exchange: no packet goes out.
+    Ends,
+}
+
+// ExchangeDone.
+fn end(neighbour: &mut Neighbour)
+    requires { neighbour.old.state ≡ NeighbourState.Exchange }
+    ensures { neighbour.new ≡ ends neighbour.old }
+{
+    neighbour.event(NbrEvent::ExchangeDone, 0);
+}
+
+// Whether neither the packet nor the last one sent has M set.
+fn all_told(exchanging: Exchanging, d: Description) -> bool
+    ensures { result ≡ all_told exchanging d }
+{
+    !has_more(exchanging.flags) && !has_more(d.flags)
+}
+
+// The next headers of the summary list that fit.
+fn next_headers(
+    neighbour: &Neighbour,
+    mtu: u16,
+    alloc: Global,
+) -> Result<Vec<LsaHeader>, AllocError>
+    ensures { IfOk result (λ next. next.items ≡ take (dd_room mtu) neighbour.now.summary) }
+{
+    let summary = neighbour.summary();
+    let room = usize::from(mtu.saturating_sub(HEAD) / HEADER);
+    Vec::from_slice(alloc, &summary[..room.min(summary.len())])
+}
+
+// Accepts the packet, and puts headers on the request list.
+fn tell(
+    neighbour: &mut Neighbour,
+    d: Description,
+    headers: &[LsaHeader],
+) -> Result<(), AllocError>
+    requires { IsTrue (is_exchanging neighbour.old.state) }
+    ensures ok { OnOk result (neighbour.new ≡ told d headers.now neighbour.old) }
+    ensures err { OnErr result (neighbour.new ≡ neighbour.old) }
+{
+    let exchanging = neighbour.exchanging();
+    neighbour.add_requests(headers)?;
+    neighbour.put_exchanging(Exchanging {
+        accepted: Some(Accepted {
+            flags: d.flags,
+            options: d.options,
+            number: d.number,
+        }),
+        ..exchanging
+    });
+    Ok(())
+}
+
+// Describes the next headers, in a packet of this number.
+fn describe(neighbour: &mut Neighbour, next: Vec<LsaHeader>, local: Local, number: u32)
+    requires state { IsTrue (is_exchanging neighbour.old.state) }
+    requires next { next.items ≡ take (dd_room local.mtu) neighbour.old.summary }
+    ensures { neighbour.new ≡ describes local number neighbour.old }
+{
+    let exchanging = neighbour.exchanging();
+    neighbour.describe(next);
+    let more = !neighbour.summary().is_empty();
+    neighbour.put_exchanging(Exchanging {
+        number,
+        flags: dd_flags(exchanging.is_master, more),
+        sent_at: local.tick,
+        ..exchanging
+    });
+}
+
+// The master's turn.
+fn take_as_master(
+    neighbour: &mut Neighbour,
+    d: Description,
+    headers: &[LsaHeader],
+    local: Local,
+    alloc: Global,
+) -> Result<DdAnswer, AllocError>
+    requires state { neighbour.old.state ≡ NeighbourState.Exchange }
+    requires master { neighbour.old.exchanging.is_master ≡ true }
+    ensures ok { OnOk result (neighbour.new ≡ turn_of_master local d (told d headers.now neighbour.old)) }
+    ensures answer { IfOk result (λ answer. answer ≡ taken_answer neighbour.old.exchanging d) }
+    ensures err { OnErr result (neighbour.new ≡ neighbour.old) }
+{
+    let exchanging = neighbour.exchanging();
+    if all_told(exchanging, d) {
+        tell(neighbour, d, headers)?;
+        end(neighbour);
+        return Ok(DdAnswer::Ends);
+    }
+    let next = next_headers(neighbour, local.mtu, alloc)?;
+    tell(neighbour, d, headers)?;
+    describe(neighbour, next, local, exchanging.number.wrapping_add(1));
+    Ok(DdAnswer::Sends)
+}
+
+// The slave's turn.
+fn take_as_slave(
+    neighbour: &mut Neighbour,
+    d: Description,
+    headers: &[LsaHeader],
+    local: Local,
+    alloc: Global,
+) -> Result<(), AllocError>
+    requires { neighbour.old.state ≡ NeighbourState.Exchange }
+    ensures ok { OnOk result (neighbour.new ≡ turn_of_slave local d (told d headers.now neighbour.old)) }
+    ensures err { OnErr result (neighbour.new ≡ neighbour.old) }
+{
+    let next = next_headers(neighbour, local.mtu, alloc)?;
+    tell(neighbour, d, headers)?;
+    describe(neighbour, next, local, d.number);
+    if all_told(neighbour.exchanging(), d) {
+        end(neighbour);
+    }
+    Ok(())
+}
