@@ -4,10 +4,10 @@ use Rattle.ospf_base.specs.declared.ids.RouterId.{RouterId}
 use Rattle.ospf_lsa.specs.declared.header.LsaHeader.{LsaHeader}
 use Rattle.ospf_lsdb.specs.Database.{Held}
 use Rattle.ospf_packet.specs.declared.body.Description.{Description}
-use Rattle.ospf_neighbour.specs.declared.machine.NeighbourState.TheVariants.{Exchange, Loading, Full}
+use Rattle.ospf_neighbour.specs.declared.machine.NeighbourState.TheVariants.{ExStart, Exchange, Loading, Full}
 use Rattle.ospf_neighbour.specs.declared.neighbour.Accepted.{Accepted}
 use Rattle.ospf_neighbour.specs.declared.neighbour.Exchanging.{Exchanging}
-use Rattle.ospf_neighbour.specs.Neighbour.{NeighbourValue, is_empty}
+use Rattle.ospf_neighbour.specs.Neighbour.{NeighbourValue, emptied, is_empty}
 use Rattle.ospf_exchange.specs.Flags.{has_more, dd_flags}
 use Rattle.ospf_exchange.specs.Headers.{wanted, described_headers, expired_listed}
 use Rattle.ospf_exchange.specs.Rules.{all_known, dd_rule}
@@ -32,6 +32,10 @@ begun is_master tick db n = record n {
   summary = described_headers db;
   retransmission = n.retransmission ++ expired_listed tick db;
 }
+
+-- ExStart again, with empty lists
+abbrev pub taken_back : Exchanging → NeighbourValue → NeighbourValue
+taken_back x n = record (emptied n) { state = ExStart; exchanging = x }
 
 -- the packet is accepted, and these headers are to be requested
 abbrev pub told : Description → List LsaHeader → NeighbourValue → NeighbourValue

@@ -1,8 +1,8 @@
 //! Database Descriptions (RFC 2328, sections 10.6 and 10.8).
 
-ghost use Rattle.std.specs.Prelude.{◌≡◌, ◌++◌, true, IsTrue, IfOk, IfErr, OnOk, OnErr, take};
+ghost use Rattle.std.specs.Prelude.{◌≡◌, ◌++◌, true, None, IsTrue, IfOk, IfErr, OnOk, OnErr, take};
 ghost use Rattle.ospf_neighbour.specs.Machine.{is_exchanging};
-ghost use Rattle.ospf_exchange.specs.Exchange.{dd_room, begun, told, describes, ends, all_told, turn_of_master, turn_of_slave, taken, taken_answer, after_dd, dd_answer, grows};
+ghost use Rattle.ospf_exchange.specs.Exchange.{dd_room, begun, told, describes, ends, all_told, turn_of_master, turn_of_slave, taken, taken_answer, taken_back, after_dd, dd_answer, grows};
 ghost use Rattle.ospf_exchange.specs.Faults.{Mismatches, Leaves, OnMemory, UnlessMemory};
 ghost use Rattle.ospf_exchange.specs.Headers.{wanted, described_headers, expired_listed};
 ghost use Rattle.ospf_exchange.specs.Rules.{all_known, dd_rule};
@@ -151,4 +151,98 @@ fn take_as_slave(
         end(neighbour);
     }
     Ok(())
+}
+
+// Takes a packet of the exchange.
+//
+// `Mismatch` where an LS type is not known, `Memory` where memory runs out; then the neighbour is as it was.
+fn take_next(
+    neighbour: &mut Neighbour,
+    d: Description,
+    headers: Headers<'_>,
+    database: &Lsdb,
+    local: Local,
+    alloc: Global,
+) -> Result<DdAnswer, ExchangeFault>
+    requires { neighbour.old.state ≡ NeighbourState.Exchange }
+    ensures ok { OnOk result (neighbour.new ≡ taken local d headers.entry database.now neighbour.old) }
+    ensures known { OnOk result (all_known headers.entry ≡ true) }
+    ensures answer { IfOk result (λ answer. answer ≡ taken_answer neighbour.old.exchanging d) }
+    ensures err { OnErr result (neighbour.new ≡ neighbour.old) }
+    ensures fault { IfErr result (λ f. Mismatches f (all_known headers.entry)) }
+{
+    let wanted = wanted_headers(headers, database, alloc)?;
+    if neighbour.exchanging().is_master {
+        let answer = take_as_master(neighbour, d, &wanted, local, alloc)?;
+        return Ok(answer);
+    }
+    take_as_slave(neighbour, d, &wanted, local, alloc)?;
+    Ok(DdAnswer::Sends)
+}
+
+// NegotiationDone.
+//
+// `AllocError` where memory runs out; then the neighbour is as it was.
+fn begin_exchange(
+    neighbour: &mut Neighbour,
+    is_master: bool,
+    database: &Lsdb,
+    tick: u64,
+    alloc: Global,
+) -> Result<(), AllocError>
+    requires { neighbour.old.state ≡ NeighbourState.ExStart }
+    ensures ok { OnOk result (neighbour.new ≡ begun is_master tick database.now neighbour.old) }
+    ensures err { OnErr result (neighbour.new ≡ neighbour.old) }
+{
+    let (summary, listed) = lists_of(database, tick, alloc)?;
+    let exchanging = neighbour.exchanging();
+    neighbour.begin_exchange(summary, listed);
+    neighbour.put_exchanging(Exchanging {
+        is_master,
+        accepted: None,
+        ..exchanging
+    });
+    Ok(())
+}
+
+// Takes NegotiationDone back: in ExStart the lists are empty.
+fn take_back(neighbour: &mut Neighbour, exchanging: Exchanging)
+    requires { neighbour.old.state ≡ NeighbourState.Exchange }
+    ensures { neighbour.new ≡ taken_back exchanging neighbour.old }
+{
+    neighbour.event(NbrEvent::SeqNumberMismatch, 0);
+    neighbour.put_exchanging(exchanging);
+}
+
+// Begins the exchange, and takes the packet that began it.
+//
+// `Mismatch` where an LS type is not known; then the exchange has begun. `Memory` where memory runs out; then the
+// neighbour is as it was.
+fn negotiate(
+    neighbour: &mut Neighbour,
+    is_master: bool,
+    d: Description,
+    headers: Headers<'_>,
+    database: &Lsdb,
+    local: Local,
+    alloc: Global,
+) -> Result<DdAnswer, ExchangeFault>
+    requires { neighbour.old.state ≡ NeighbourState.ExStart }
+    ensures ok { OnOk result (neighbour.new ≡ taken local d headers.entry database.now (begun is_master local.tick database.now neighbour.old)) }
+    ensures known { OnOk result (all_known headers.entry ≡ true) }
+    ensures answer { IfOk result (λ answer. answer ≡ taken_answer (record neighbour.old.exchanging { is_master = is_master; accepted = None }) d) }
+    ensures err { IfErr result (λ f. Leaves f neighbour.old (begun is_master local.tick database.now neighbour.old) neighbour.new) }
+    ensures fault { IfErr result (λ f. Mismatches f (all_known headers.entry)) }
+{
+    let _below = neighbour.is_exchanging();
+    let exchanging = neighbour.exchanging();
+    begin_exchange(neighbour, is_master, database, local.tick, alloc)?;
+    match take_next(neighbour, d, headers, database, local, alloc) {
+        Ok(answer) => Ok(answer),
+        Err(ExchangeFault::Memory) => {
+            take_back(neighbour, exchanging);
+            Err(ExchangeFault::Memory)
+        }
+        Err(_) => Err(ExchangeFault::Mismatch),
+    }
 }
