@@ -1,6 +1,5 @@
 -- The headers that a router wants of its neighbour, and those that it describes (RFC 2328, sections 10.3, 10.6).
 use Rattle.std.specs.Prelude.{◌==◌, ℕ, Bool, true, false, List, Option, None, Some, filter, map, nat_lt, not, if◌then◌else◌}
-use Rattle.ospf_base.specs.declared.ids.Instance.{Instance}
 use Rattle.ospf_base.specs.declared.ids.Kind.TheVariants.{Router, Network}
 use Rattle.ospf_base.specs.declared.ids.LsaKey.{LsaKey}
 use Rattle.ospf_base.specs.declared.ids.RouterId.{RouterId}

@@ -5,7 +5,7 @@ ghost use Rattle.ospf_neighbour.specs.Machine.{is_exchanging};
 ghost use Rattle.ospf_exchange.specs.Exchange.{dd_room, begun, told, describes, ends, all_told, turn_of_master, turn_of_slave, taken, taken_answer, taken_back, after_dd, dd_answer, grows};
 ghost use Rattle.ospf_exchange.specs.Faults.{Mismatches, Leaves, OnMemory, UnlessMemory};
 ghost use Rattle.ospf_exchange.specs.Headers.{wanted, described_headers, expired_listed};
-ghost use Rattle.ospf_exchange.specs.Rules.{all_known, dd_rule};
+ghost use Rattle.ospf_exchange.specs.Rules.{all_known, rule_by_fields};
 
 use crate::fault::ExchangeFault;
 use crate::headers::{lists_of, wanted_headers};
@@ -67,11 +67,7 @@ fn next_headers(
 }
 
 // Accepts the packet, and puts headers on the request list.
-fn tell(
-    neighbour: &mut Neighbour,
-    d: Description,
-    headers: &[LsaHeader],
-) -> Result<(), AllocError>
+fn tell(neighbour: &mut Neighbour, d: Description, headers: &[LsaHeader]) -> Result<(), AllocError>
     requires { IsTrue (is_exchanging neighbour.old.state) }
     ensures ok { OnOk result (neighbour.new ≡ told d headers.now neighbour.old) }
     ensures err { OnErr result (neighbour.new ≡ neighbour.old) }
@@ -244,5 +240,43 @@ fn negotiate(
             Err(ExchangeFault::Memory)
         }
         Err(_) => Err(ExchangeFault::Mismatch),
+    }
+}
+
+/// Takes a Database Description from a router (RFC 2328, sections 10.6 and 10.8): `sender` is its Router ID, `d` and
+/// `headers` are what it says.
+///
+/// `Mtu` where its MTU is over the interface's. `Mismatch` where it does not follow the last one: SeqNumberMismatch is
+/// to run. Both leave the neighbour as it was, but where the packet made the router master, the exchange has begun.
+/// `Memory` where memory runs out; then the neighbour is as it was.
+pub fn on_dd(
+    neighbour: &mut Neighbour,
+    sender: RouterId,
+    d: Description,
+    headers: Headers<'_>,
+    database: &Lsdb,
+    local: Local,
+    alloc: Global,
+) -> Result<DdAnswer, ExchangeFault>
+    ensures answer { UnlessMemory result (result ≡ dd_answer local sender d headers.entry neighbour.old) }
+    ensures after { UnlessMemory result (neighbour.new ≡ after_dd local sender d headers.entry database.now neighbour.old) }
+    ensures memory { OnMemory result (neighbour.new ≡ neighbour.old) }
+    ensures growth { OnMemory result (grows (rule_by_fields local sender d neighbour.old.state neighbour.old.exchanging) ≡ true) }
+{
+    let mut headers = headers;
+    match rule_by_fields(local, sender, d, neighbour) {
+        DdRule::TooLong => Err(ExchangeFault::Mtu),
+        DdRule::NotTaken => Ok(DdAnswer::NotTaken),
+        DdRule::PassedOver => Ok(DdAnswer::PassedOver),
+        DdRule::Repeats => Ok(DdAnswer::Repeats),
+        DdRule::Mismatch => Err(ExchangeFault::Mismatch),
+        DdRule::MakesSlave => {
+            if headers.next().is_some() {
+                return Ok(DdAnswer::NotTaken);
+            }
+            negotiate(neighbour, false, d, headers, database, local, alloc)
+        }
+        DdRule::MakesMaster => negotiate(neighbour, true, d, headers, database, local, alloc),
+        DdRule::Next => take_next(neighbour, d, headers, database, local, alloc),
     }
 }

@@ -12,7 +12,7 @@ mod request;
 mod rule;
 mod timers;
 
-pub use crate::description::DdAnswer;
+pub use crate::description::{DdAnswer, on_dd};
 pub use crate::fault::ExchangeFault;
 pub use crate::request::{is_request_due, next_request, on_request};
 pub use crate::rule::Local;

@@ -1,4 +1,4 @@
-use Rattle.std.proofs.Common.{◌≡◌, List, Bool, true, false, ap, sym, ◌∙◌}
+use Rattle.std.proofs.Common.{◌≡◌, List, true, false, ap, sym, ◌∙◌}
 use Rattle.ospf_lsa.specs.declared.header.LsaHeader.{LsaHeader}
 use Rattle.ospf_neighbour.specs.declared.neighbour.Exchanging.{Exchanging}
 use Rattle.ospf_exchange.specs.Exchange.{told, turn_of_master, turn_of_slave}
