@@ -5,3 +5,4 @@ pub mod Faults
 pub mod Requests
 pub mod Timers
 pub mod Exchange
+pub mod Laws

@@ -8,12 +8,17 @@
 mod description;
 mod fault;
 mod headers;
+mod laws;
 mod request;
 mod rule;
 mod timers;
 
 pub use crate::description::{DdAnswer, on_dd};
 pub use crate::fault::ExchangeFault;
+pub use crate::laws::{
+    headers_are_of_copies, instances_are_of_copies, listed_stay, lists_are_copies,
+    requests_are_told,
+};
 pub use crate::request::{is_request_due, next_request, on_request};
 pub use crate::rule::Local;
 pub use crate::timers::{begin, dd_sent, is_dd_due, is_request_repeat_due};
