@@ -11,6 +11,8 @@ mod headers;
 mod laws;
 mod request;
 mod rule;
+#[cfg(test)]
+mod tests;
 mod timers;
 
 pub use crate::description::{DdAnswer, on_dd};
