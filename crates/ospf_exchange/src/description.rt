@@ -47,10 +47,10 @@ fn end(neighbour: &mut Neighbour)
 }
 
 // Whether neither the packet nor the last one sent has M set.
-fn all_told(exchanging: Exchanging, d: Description) -> bool
-    ensures { result ≡ all_told exchanging d }
+fn all_told(exchanging: Exchanging, description: Description) -> bool
+    ensures { result ≡ all_told exchanging description }
 {
-    !has_more(exchanging.flags) && !has_more(d.flags)
+    !has_more(exchanging.flags) && !has_more(description.flags)
 }
 
 // The next headers of the summary list that fit.
@@ -67,18 +67,22 @@ fn next_headers(
 }
 
 // Accepts the packet, and puts headers on the request list.
-fn tell(neighbour: &mut Neighbour, d: Description, headers: &[LsaHeader]) -> Result<(), AllocError>
+fn tell(
+    neighbour: &mut Neighbour,
+    description: Description,
+    headers: &[LsaHeader],
+) -> Result<(), AllocError>
     requires { IsTrue (is_exchanging neighbour.old.state) }
-    ensures ok { OnOk result (neighbour.new ≡ told d headers.now neighbour.old) }
+    ensures ok { OnOk result (neighbour.new ≡ told description headers.now neighbour.old) }
     ensures err { OnErr result (neighbour.new ≡ neighbour.old) }
 {
     let exchanging = neighbour.exchanging();
     neighbour.add_requests(headers)?;
     neighbour.put_exchanging(Exchanging {
         accepted: Some(Accepted {
-            flags: d.flags,
-            options: d.options,
-            number: d.number,
+            flags: description.flags,
+            options: description.options,
+            number: description.number,
         }),
         ..exchanging
     });
@@ -105,25 +109,25 @@ fn describe(neighbour: &mut Neighbour, next: Vec<LsaHeader>, local: Local, numbe
 // The master's turn.
 fn take_as_master(
     neighbour: &mut Neighbour,
-    d: Description,
+    description: Description,
     headers: &[LsaHeader],
     local: Local,
     alloc: Global,
 ) -> Result<DdAnswer, AllocError>
     requires state { neighbour.old.state ≡ NeighbourState.Exchange }
     requires master { neighbour.old.exchanging.is_master ≡ true }
-    ensures ok { OnOk result (neighbour.new ≡ turn_of_master local d (told d headers.now neighbour.old)) }
-    ensures answer { IfOk result (λ answer. answer ≡ taken_answer neighbour.old.exchanging d) }
+    ensures ok { OnOk result (neighbour.new ≡ turn_of_master local description (told description headers.now neighbour.old)) }
+    ensures answer { IfOk result (λ answer. answer ≡ taken_answer neighbour.old.exchanging description) }
     ensures err { OnErr result (neighbour.new ≡ neighbour.old) }
 {
     let exchanging = neighbour.exchanging();
-    if all_told(exchanging, d) {
-        tell(neighbour, d, headers)?;
+    if all_told(exchanging, description) {
+        tell(neighbour, description, headers)?;
         end(neighbour);
         return Ok(DdAnswer::Ends);
     }
     let next = next_headers(neighbour, local.mtu, alloc)?;
-    tell(neighbour, d, headers)?;
+    tell(neighbour, description, headers)?;
     describe(neighbour, next, local, exchanging.number.wrapping_add(1));
     Ok(DdAnswer::Sends)
 }
@@ -131,19 +135,19 @@ fn take_as_master(
 // The slave's turn.
 fn take_as_slave(
     neighbour: &mut Neighbour,
-    d: Description,
+    description: Description,
     headers: &[LsaHeader],
     local: Local,
     alloc: Global,
 ) -> Result<(), AllocError>
     requires { neighbour.old.state ≡ NeighbourState.Exchange }
-    ensures ok { OnOk result (neighbour.new ≡ turn_of_slave local d (told d headers.now neighbour.old)) }
+    ensures ok { OnOk result (neighbour.new ≡ turn_of_slave local description (told description headers.now neighbour.old)) }
     ensures err { OnErr result (neighbour.new ≡ neighbour.old) }
 {
     let next = next_headers(neighbour, local.mtu, alloc)?;
-    tell(neighbour, d, headers)?;
-    describe(neighbour, next, local, d.number);
-    if all_told(neighbour.exchanging(), d) {
+    tell(neighbour, description, headers)?;
+    describe(neighbour, next, local, description.number);
+    if all_told(neighbour.exchanging(), description) {
         end(neighbour);
     }
     Ok(())
@@ -154,25 +158,25 @@ fn take_as_slave(
 // `Mismatch` where an LS type is not known, `Memory` where memory runs out; then the neighbour is as it was.
 fn take_next(
     neighbour: &mut Neighbour,
-    d: Description,
+    description: Description,
     headers: Headers<'_>,
     database: &Lsdb,
     local: Local,
     alloc: Global,
 ) -> Result<DdAnswer, ExchangeFault>
     requires { neighbour.old.state ≡ NeighbourState.Exchange }
-    ensures ok { OnOk result (neighbour.new ≡ taken local d headers.entry database.now neighbour.old) }
+    ensures ok { OnOk result (neighbour.new ≡ taken local description headers.entry database.now neighbour.old) }
     ensures known { OnOk result (all_known headers.entry ≡ true) }
-    ensures answer { IfOk result (λ answer. answer ≡ taken_answer neighbour.old.exchanging d) }
+    ensures answer { IfOk result (λ answer. answer ≡ taken_answer neighbour.old.exchanging description) }
     ensures err { OnErr result (neighbour.new ≡ neighbour.old) }
     ensures fault { IfErr result (λ f. Mismatches f (all_known headers.entry)) }
 {
     let wanted = wanted_headers(headers, database, alloc)?;
     if neighbour.exchanging().is_master {
-        let answer = take_as_master(neighbour, d, &wanted, local, alloc)?;
+        let answer = take_as_master(neighbour, description, &wanted, local, alloc)?;
         return Ok(answer);
     }
-    take_as_slave(neighbour, d, &wanted, local, alloc)?;
+    take_as_slave(neighbour, description, &wanted, local, alloc)?;
     Ok(DdAnswer::Sends)
 }
 
@@ -217,23 +221,23 @@ fn take_back(neighbour: &mut Neighbour, exchanging: Exchanging)
 fn negotiate(
     neighbour: &mut Neighbour,
     is_master: bool,
-    d: Description,
+    description: Description,
     headers: Headers<'_>,
     database: &Lsdb,
     local: Local,
     alloc: Global,
 ) -> Result<DdAnswer, ExchangeFault>
     requires { neighbour.old.state ≡ NeighbourState.ExStart }
-    ensures ok { OnOk result (neighbour.new ≡ taken local d headers.entry database.now (begun is_master local.tick database.now neighbour.old)) }
+    ensures ok { OnOk result (neighbour.new ≡ taken local description headers.entry database.now (begun is_master local.tick database.now neighbour.old)) }
     ensures known { OnOk result (all_known headers.entry ≡ true) }
-    ensures answer { IfOk result (λ answer. answer ≡ taken_answer (record neighbour.old.exchanging { is_master = is_master; accepted = None }) d) }
+    ensures answer { IfOk result (λ answer. answer ≡ taken_answer (record neighbour.old.exchanging { is_master = is_master; accepted = None }) description) }
     ensures err { IfErr result (λ f. Leaves f neighbour.old (begun is_master local.tick database.now neighbour.old) neighbour.new) }
     ensures fault { IfErr result (λ f. Mismatches f (all_known headers.entry)) }
 {
     let _below = neighbour.is_exchanging();
     let exchanging = neighbour.exchanging();
     begin_exchange(neighbour, is_master, database, local.tick, alloc)?;
-    match take_next(neighbour, d, headers, database, local, alloc) {
+    match take_next(neighbour, description, headers, database, local, alloc) {
         Ok(answer) => Ok(answer),
         Err(ExchangeFault::Memory) => {
             take_back(neighbour, exchanging);
@@ -243,28 +247,28 @@ fn negotiate(
     }
 }
 
-/// Takes a Database Description from a router (RFC 2328, sections 10.6 and 10.8): `sender` is its Router ID, `d` and
-/// `headers` are what it says.
+/// Takes a Database Description (RFC 2328, sections 10.6 and 10.8) of the router `sender`: its fields are
+/// `description`, and `headers` are the headers in it.
 ///
 /// `Mtu` where its MTU is over the interface's. `Mismatch` where it does not follow the last one: SeqNumberMismatch is
-/// to run. Both leave the neighbour as it was, but where the packet made the router master, the exchange has begun.
-/// `Memory` where memory runs out; then the neighbour is as it was.
+/// to run. Both leave the neighbour as it was, except that where the packet makes the router master and is itself no
+/// packet of the exchange, the exchange has begun. `Memory` where memory runs out; then the neighbour is as it was.
 pub fn on_dd(
     neighbour: &mut Neighbour,
     sender: RouterId,
-    d: Description,
+    description: Description,
     headers: Headers<'_>,
     database: &Lsdb,
     local: Local,
     alloc: Global,
 ) -> Result<DdAnswer, ExchangeFault>
-    ensures answer { UnlessMemory result (result ≡ dd_answer local sender d headers.entry neighbour.old) }
-    ensures after { UnlessMemory result (neighbour.new ≡ after_dd local sender d headers.entry database.now neighbour.old) }
+    ensures answer { UnlessMemory result (result ≡ dd_answer local sender description headers.entry neighbour.old) }
+    ensures after { UnlessMemory result (neighbour.new ≡ after_dd local sender description headers.entry database.now neighbour.old) }
     ensures memory { OnMemory result (neighbour.new ≡ neighbour.old) }
-    ensures growth { OnMemory result (grows (rule_by_fields local sender d neighbour.old.state neighbour.old.exchanging) ≡ true) }
+    ensures growth { OnMemory result (grows (rule_by_fields local sender description neighbour.old.state neighbour.old.exchanging) ≡ true) }
 {
     let mut headers = headers;
-    match rule_by_fields(local, sender, d, neighbour) {
+    match rule_by_fields(local, sender, description, neighbour) {
         DdRule::TooLong => Err(ExchangeFault::Mtu),
         DdRule::NotTaken => Ok(DdAnswer::NotTaken),
         DdRule::PassedOver => Ok(DdAnswer::PassedOver),
@@ -274,9 +278,25 @@ pub fn on_dd(
             if headers.next().is_some() {
                 return Ok(DdAnswer::NotTaken);
             }
-            negotiate(neighbour, false, d, headers, database, local, alloc)
+            negotiate(
+                neighbour,
+                false,
+                description,
+                headers,
+                database,
+                local,
+                alloc,
+            )
         }
-        DdRule::MakesMaster => negotiate(neighbour, true, d, headers, database, local, alloc),
-        DdRule::Next => take_next(neighbour, d, headers, database, local, alloc),
+        DdRule::MakesMaster => negotiate(
+            neighbour,
+            true,
+            description,
+            headers,
+            database,
+            local,
+            alloc,
+        ),
+        DdRule::Next => take_next(neighbour, description, headers, database, local, alloc),
     }
 }
