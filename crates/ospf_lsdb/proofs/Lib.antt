@@ -15,3 +15,4 @@ pub mod InstallLemmas
 pub mod TickLemmas
 pub mod IdleLemmas
 pub mod MapLaws
+pub mod WalkLemmas

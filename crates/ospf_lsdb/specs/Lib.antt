@@ -3,3 +3,4 @@ pub mod Places
 pub mod Moments
 pub mod Timers
 pub mod Laws
+pub mod Entries

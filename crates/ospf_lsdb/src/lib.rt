@@ -1,6 +1,7 @@
 //! The link state database of OSPF version 2 (RFC 2328, sections 12.2 and 14).
 #![tactic(auto)]
 
+mod entries;
 mod entry;
 mod laws;
 mod lsdb;
@@ -9,6 +10,7 @@ mod plain;
 #[cfg(test)]
 mod tests;
 
+pub use crate::entries::Entries;
 pub use crate::entry::EntryView;
 pub use crate::laws::{installs_one, one_database_of_a_map, same_keys_are_equal, tick_ages_all};
 pub use crate::lsdb::Lsdb;

@@ -1,6 +1,6 @@
 //! The database: a map of entries, whose ages follow from the moment that a ring has come to.
 
-ghost use Rattle.std.specs.Prelude.{◌≡◌, ◌≤◌, ◌<◌, ◌⊎◌, ◌+◌, ◌-◌, ℕ, List, [], length, ◌^◌, OnOk, OnErr, IfOk, option_map, if◌then◌else◌};
+ghost use Rattle.std.specs.Prelude.{◌≡◌, ◌≤◌, ◌<◌, ◌⊎◌, ◌+◌, ◌-◌, ℕ, List, [], length, map, ◌^◌, OnOk, OnErr, IfOk, option_map, if◌then◌else◌};
 ghost use Rattle.ospf_base.specs.declared.ids.LsaKey.{LsaKey};
 ghost use Rattle.ospf_lsdb.specs.Database.{Held, entry_from, same_key, held_of, entry_of, IsDatabase, Puts, Installs, Ages, expired, removed, is_fresh, is_expired, is_some_and, listed, reached_at};
 ghost use Rattle.ospf_lsdb.specs.Timers.{age_at, age_of, stored_of, stopped};
@@ -9,6 +9,7 @@ ghost use Rattle.ospf_lsdb.specs.declared.lsdb.Timer.TheVariants as timer;
 ghost use Rattle.std.specs.BTreeMap.{IsOrdered};
 
 use crate::LS_REFRESH_TIME;
+use crate::entries::Entries;
 use crate::entry::{EntryView, add_fresh};
 use crate::moments::{Moments, Reached, moments_until, sooner, until_told};
 use ospf_base::{LsaKey, MAX_AGE};
@@ -28,7 +29,7 @@ enum Timer {
 
 // The age field of the LSA is that of its installation.
 #[derive(Drop)]
-struct Stored {
+pub(crate) struct Stored {
     lsa: Lsa,
     timer: Timer,
     tick: u64,
@@ -55,6 +56,19 @@ impl Timer {
             Timer::Since(birth) => clock.wrapping_sub(birth),
             Timer::Expired => MAX_AGE,
         }
+    }
+}
+
+impl Stored {
+    ghost use Rattle.ospf_lsdb.specs.Entries.{entry_at, IsYoung};
+
+    // The entry as it is at a moment.
+    pub(crate) fn at(&self, clock: u16) -> EntryView<'_>
+        requires { IsYoung clock self.now }
+        ensures { result ≡ entry_at clock self.now }
+    {
+        let age = self.timer.age(clock);
+        EntryView::new(&self.lsa, age, self.tick, self.by_flooding)
     }
 }
 
@@ -149,6 +163,14 @@ impl Lsdb {
         let stored = self.entries.get(key)?;
         let age = stored.timer.age(self.clock);
         Some(EntryView::new(&stored.lsa, age, stored.tick, stored.by_flooding))
+    }
+
+    /// The entries in the order of their keys, each at its present age.
+    pub fn entries(&self) -> Entries<'_>
+        ensures entries { result ≡ map (λ h. h.entry) self.now }
+        ensures database { IsDatabase self.now }
+    {
+        Entries::new(self.clock, self.entries.values())
     }
 
     /// Puts an LSA in place of its key's (RFC 2328, section 13.2), with the number of the present

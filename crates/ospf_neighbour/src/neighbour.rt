@@ -70,9 +70,9 @@ impl Model for Neighbour {
 }
 
 impl Neighbour {
-    ghost use Rattle.std.specs.Prelude.{◌≡◌, ◌-◌, ◌∷◌, ◌++◌, ◌↔◌, [], IsTrue, OnOk, OnErr};
+    ghost use Rattle.std.specs.Prelude.{◌≡◌, ◌≤◌, ◌-◌, ◌∷◌, ◌++◌, ◌↔◌, [], IsTrue, OnOk, OnErr, drop, length, take};
     ghost use Rattle.ospf_neighbour.specs.Machine.{is_exchanging, transition, LeavesNone};
-    ghost use Rattle.ospf_neighbour.specs.Neighbour.{is_empty, new_neighbour, effected, emptied};
+    ghost use Rattle.ospf_neighbour.specs.Neighbour.{IsSound, is_empty, new_neighbour, effected, emptied};
 
     /// A neighbour in state Down.
     pub fn new(alloc: Global, router: RouterId, address: Addr) -> Neighbour
@@ -167,6 +167,22 @@ impl Neighbour {
         (self.asked, self.asked_at)
     }
 
+    /// The headers of these, which the last Request named.
+    pub fn asked_headers(&self) -> &[LsaHeader]
+        ensures { result.now ≡ take self.now.asked self.now.requests }
+    {
+        &self.requests[..self.asked]
+    }
+
+    /// Whether it is in Exchange or above. Below, its lists are empty.
+    pub fn is_exchanging(&self) -> bool
+        ensures value { result ≡ is_exchanging self.now.state }
+        ensures lists { IsSound self.now.state self.now.summary self.now.last_dd self.now.requests self.now.asked self.now.retransmission }
+    {
+        let _asked = self.asked;
+        self.state.is_exchanging()
+    }
+
     /// The instances that it has not acknowledged.
     pub fn retransmission(&self) -> &[Listed]
         ensures { result.now ≡ self.now.retransmission }
@@ -218,6 +234,60 @@ impl Neighbour {
             sent_at: tick,
         })?;
         Ok(())
+    }
+
+    /// Puts how the exchange of databases stands.
+    pub fn put_exchanging(&mut self, exchanging: Exchanging)
+        ensures { self.new ≡ record self.old { exchanging = exchanging } }
+    {
+        self.exchanging = exchanging;
+    }
+
+    /// NegotiationDone (section 10.3), with the headers that are to be described and the instances that go on the
+    /// retransmission list. No memory is taken.
+    pub fn begin_exchange(&mut self, summary: Vec<LsaHeader>, listed: Vec<Listed>)
+        requires { self.old.state ≡ NeighbourState.ExStart }
+        ensures { self.new ≡ record self.old { state = NeighbourState.Exchange; summary = summary.items; retransmission = self.old.retransmission ++ listed.items } }
+    {
+        let change = transition(
+            self.state,
+            NbrEvent::NegotiationDone,
+            self.requests.is_empty(),
+        );
+        self.state = change.state;
+        self.summary = summary;
+        self.retransmission = listed;
+    }
+
+    /// Puts headers on the request list (section 10.6).
+    ///
+    /// `AllocError` where memory runs out; then the neighbour is as it was.
+    pub fn add_requests(&mut self, headers: &[LsaHeader]) -> Result<(), AllocError>
+        requires { IsTrue (is_exchanging self.old.state) }
+        ensures ok { OnOk result (self.new ≡ record self.old { requests = self.old.requests ++ headers.now }) }
+        ensures err { OnErr result (self.new ≡ self.old) }
+    {
+        self.requests.extend_from_slice(headers)
+    }
+
+    /// The next headers of the summary list, `next`, are described in the last DD packet, and leave the list
+    /// (section 10.8). No memory is taken.
+    pub fn describe(&mut self, next: Vec<LsaHeader>)
+        requires state { IsTrue (is_exchanging self.old.state) }
+        requires few { length next.items ≤ length self.old.summary }
+        ensures { self.new ≡ record self.old { last_dd = next.items; summary = drop (length next.items) self.old.summary } }
+    {
+        drop(self.summary.drain(..next.len()));
+        self.last_dd = next;
+    }
+
+    /// The first `count` headers of the request list are named in a Request (section 10.9), sent at this tick.
+    pub fn ask(&mut self, count: usize, tick: u64)
+        requires { count ≤ length self.old.requests }
+        ensures { self.new ≡ record self.old { asked = count; asked_at = tick } }
+    {
+        self.asked = count;
+        self.asked_at = tick;
     }
 
     /// Stores what a Hello declares.

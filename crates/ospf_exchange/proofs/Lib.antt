@@ -1,0 +1,4 @@
+pub mod KeyLemmas
+pub mod TurnLemmas
+pub mod MetLemmas
+pub mod LawLemmas

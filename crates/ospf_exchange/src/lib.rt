@@ -1,0 +1,26 @@
+//! The exchange of databases with one neighbour (RFC 2328, sections 10.6 to 10.9).
+//!
+//! `begin` enters ExStart, `on_dd` takes a Database Description, `next_request` asks for LSAs and `on_request`
+//! answers what a neighbour asks. Which rule a Database Description meets stands in `specs/Rules`, what it does in
+//! `specs/Exchange`.
+#![tactic(auto)]
+
+mod description;
+mod fault;
+mod headers;
+mod laws;
+mod request;
+mod rule;
+#[cfg(test)]
+mod tests;
+mod timers;
+
+pub use crate::description::{DdAnswer, on_dd};
+pub use crate::fault::ExchangeFault;
+pub use crate::laws::{
+    headers_are_of_copies, instances_are_of_copies, listed_stay, lists_are_copies,
+    requests_are_told,
+};
+pub use crate::request::{is_request_due, next_request, on_request};
+pub use crate::rule::Local;
+pub use crate::timers::{begin, dd_sent, is_dd_due, is_request_repeat_due};
