@@ -10,7 +10,7 @@ use Rattle.ospf_lsdb.proofs.lsdb.Lsdb.entries.Goals as goal
 pub new-requires : goal.new-requires
 new-requires c =
     subst (λ (ss : List Stored). AllByRecursion (IsYoung c.self.inside.clock) ss) (sym c.values.ensures.rest)
-    (young_values c.self.inside.clock c.self.inside.entries.entries c.self.invariant.stored)
+    (young_values c.self.inside.clock c.self.inside.entries.entries c.self.invariant.kept.stored)
 
 pub returns-clause-entries : goal.returns-clause-entries
 returns-clause-entries c =
@@ -19,4 +19,4 @@ returns-clause-entries c =
     ∙ ap (λ (db : List Held). map (λ h. h.entry) db) c.self.view_is
 
 pub returns-clause-database : goal.returns-clause-database
-returns-clause-database c = subst (λ (d : List Held). IsDatabase d) c.self.view_is (IsDatabase-stored c.self.inside.clock c.self.inside.entries.entries c.self.inside.due c.self.invariant)
+returns-clause-database c = subst (λ (d : List Held). IsDatabase d) c.self.view_is (IsDatabase-stored c.self.inside.clock c.self.inside.entries.entries c.self.inside.due c.self.invariant.kept)
