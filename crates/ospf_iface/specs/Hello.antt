@@ -1,5 +1,5 @@
 -- Hello packets (RFC 2328, sections 9.5 and 10.5).
-use Rattle.std.specs.Prelude.{◌≡◌, ◌⊎◌, List, bit_and}
+use Rattle.std.specs.Prelude.{◌≡◌, ◌≢◌, ◌≤◌, ◌⊎◌, List, bit_and}
 use Rattle.ospf_election.specs.Election.{nobody}
 use Rattle.ospf_base.specs.declared.ids.RouterId.{RouterId}
 use Rattle.ospf_packet.specs.Meaning.{hello}
@@ -7,6 +7,7 @@ use Rattle.ospf_packet.specs.Said.{body_meant}
 use Rattle.ospf_packet.specs.declared.body.Hello.{Hello}
 use Rattle.ospf_packet.specs.declared.value.BodyValue.{BodyValue}
 use Rattle.ospf_iface.specs.declared.machine.Iface.{Iface}
+use Rattle.ospf_iface.specs.declared.machine.IfaceState.TheVariants.{Down}
 use Rattle.ospf_base.specs.declared.interface.InterfaceKind.TheVariants.{PointToPoint, Broadcast}
 
 -- a Hello agrees in HelloInterval, RouterDeadInterval and the E bit, and on broadcast links in the mask (10.5)
@@ -33,3 +34,8 @@ pub record IsHelloOf (i : Iface) (neighbours : List RouterId) (body : BodyValue)
   pub fields : Hello
   pub fields_are : AreFieldsOf i fields
   pub body_is : body_meant body ≡ hello fields neighbours
+
+-- the next tick brings a Hello: the interface is not Down, and no more than that tick is left of HelloInterval (9.5)
+pub record IsHelloDue (i : Iface) : Type 0 where
+  pub up : i.state ≢ Down
+  pub ends : i.hello_in ≤ 1

@@ -56,8 +56,11 @@ pub struct IfaceChange {
 }
 
 impl Iface {
-    ghost use Rattle.std.specs.Prelude.{◌≡◌, ◌-◌, ◌↔◌, IsTrue, Contains, true, false};
+    ghost use Rattle.std.specs.Prelude.{◌≡◌, ◌≢◌, ◌-◌, ◌↔◌, IsTrue, Contains, true, false};
+    ghost use Rattle.std.specs.Bool.{OnTrue, OnFalse};
     ghost use Rattle.ospf_election.specs.Election.{AreDistinct};
+    ghost use Rattle.ospf_iface.specs.declared.machine.IfaceState.TheVariants.{Down};
+    ghost use Rattle.ospf_iface.specs.Hello.{IsHelloDue};
     ghost use Rattle.ospf_iface.specs.Machine.{action, is_changed, started, stopped, own_candidate, CanTake, Does, Elects, told};
 
     // What is told of the interface as it is.
@@ -151,5 +154,24 @@ impl Iface {
         let fires = self.wait == 1;
         self.wait = self.wait.saturating_sub(1);
         fires
+    }
+
+    /// One tick of the Hello timer; whether a Hello is due (RFC 2328, section 9.5). As a Hello is due the timer starts
+    /// again at HelloInterval, and while the interface is Down it stands still.
+    pub fn hello_tick(&mut self) -> bool
+        ensures due { IsTrue result ↔ IsHelloDue self.old }
+        ensures again { OnTrue result (self.new ≡ record self.old { hello_in = self.old.settings.hello }) }
+        ensures counts { self.old.state ≢ Down → OnFalse result (self.new ≡ record self.old { hello_in = self.old.hello_in - 1 }) }
+        ensures down { self.old.state ≡ Down → self.new ≡ self.old }
+    {
+        if matches!(self.state, IfaceState::Down) {
+            return false;
+        }
+        let due = self.hello_in <= 1;
+        self.hello_in = self.hello_in.saturating_sub(1);
+        if due {
+            self.hello_in = self.settings.hello;
+        }
+        due
     }
 }

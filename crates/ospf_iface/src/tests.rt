@@ -145,6 +145,50 @@ fn the_wait_timer_fires_once(rt: HostRuntime) -> Result<(), Fail> {
 }
 
 #[test]
+fn a_hello_is_due_each_interval(rt: HostRuntime) -> Result<(), Fail> {
+    for (kind, priority) in [
+        (InterfaceKind::PointToPoint, 1),
+        (InterfaceKind::Broadcast, 0),
+        (InterfaceKind::Broadcast, 1),
+    ] {
+        let mut sender = iface(kind, priority, IfaceState::Down);
+        assert!(rt; take(&mut sender, b'U').hello);
+        for tick in 1..=20 {
+            let is_due = tick == 10 || tick == 20;
+            assert_eq!(rt; sender.hello_tick(), is_due, "{kind:?} {tick}");
+        }
+    }
+    Ok(())
+}
+
+#[test]
+fn no_hello_is_due_in_down(rt: HostRuntime) -> Result<(), Fail> {
+    let mut stopped = iface(InterfaceKind::PointToPoint, 1, IfaceState::Down);
+    take(&mut stopped, b'U');
+    assert!(rt; !stopped.hello_tick());
+    take(&mut stopped, b'D');
+    let before = stopped;
+    for tick in 1..=20 {
+        assert!(rt; !stopped.hello_tick(), "{tick}");
+    }
+    assert_eq!(rt; stopped, before);
+    Ok(())
+}
+
+#[test]
+fn an_election_lets_the_hello_timer_run(rt: HostRuntime) -> Result<(), Fail> {
+    let mut sender = iface(InterfaceKind::Broadcast, 1, IfaceState::Down);
+    take(&mut sender, b'U');
+    for _ in 1..=9 {
+        assert!(rt; !sender.hello_tick());
+    }
+    take(&mut sender, b'W');
+    assert_eq!(rt; sender.state, IfaceState::Dr);
+    assert!(rt; sender.hello_tick());
+    Ok(())
+}
+
+#[test]
 fn which_hellos_agree(rt: HostRuntime) -> Result<(), Fail> {
     let link = iface(InterfaceKind::PointToPoint, 1, IfaceState::PointToPoint);
     let lan = iface(InterfaceKind::Broadcast, 1, IfaceState::DrOther);

@@ -11,3 +11,4 @@ pub mod PacketOf
 pub mod Spelling
 pub mod Laws
 pub mod Said
+pub mod Text

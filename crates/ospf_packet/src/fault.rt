@@ -1,42 +1,72 @@
 //! Why bytes are no packet, or a packet was not written.
 
+use thiserror::Error;
+
 /// The first fault of the bytes: `TooLong` is looked at first, then the others in the order of their numbers
 /// (RFC 2328, section 8.2).
-#[derive(Clone, Copy, Debug, PartialEq, Eq, thiserror::Error)]
+#[derive(Clone, Copy, Debug, PartialEq, Eq, Error)]
+#[error("{text}", text = self.text())]
 pub enum PacketFault {
     /// Fewer than the 24 bytes of the header.
-    #[error("P1 Short")]
     Short,
     /// The version is not 2.
-    #[error("P2 Version")]
     Version,
     /// The type is not 1 to 5.
-    #[error("P3 Kind")]
     Kind,
     /// The length field is not the number of bytes.
-    #[error("P4 Length")]
     Length,
     /// The checksum is wrong.
-    #[error("P5 Sum")]
     Sum,
     /// The AuType is not 0.
-    #[error("P6 Auth")]
     Auth,
     /// A body that does not end with its last entry, or is shorter than its fields.
-    #[error("P7 Body")]
     Body,
     /// More than 16,384 bytes.
-    #[error("P8 TooLong")]
     TooLong,
 }
 
+impl PacketFault {
+    ghost use Rattle.std.specs.Prelude.{◌≡◌};
+    ghost use Rattle.ospf_packet.specs.Text.{packet_fault_text};
+
+    /// The fault's number and name, as it is printed.
+    pub fn text(self) -> &'static str
+        ensures { result.now ≡ packet_fault_text self }
+    {
+        match self {
+            PacketFault::Short => "P1 Short",
+            PacketFault::Version => "P2 Version",
+            PacketFault::Kind => "P3 Kind",
+            PacketFault::Length => "P4 Length",
+            PacketFault::Sum => "P5 Sum",
+            PacketFault::Auth => "P6 Auth",
+            PacketFault::Body => "P7 Body",
+            PacketFault::TooLong => "P8 TooLong",
+        }
+    }
+}
+
 /// Why a packet was not written.
-#[derive(Clone, Copy, Debug, PartialEq, Eq, thiserror::Error)]
+#[derive(Clone, Copy, Debug, PartialEq, Eq, Error)]
+#[error("{text}", text = self.text())]
 pub enum WriteFault {
     /// More than 16,384 bytes.
-    #[error("P8 TooLong")]
     TooLong,
     /// Memory ran out.
-    #[error("Memory")]
     Memory,
+}
+
+impl WriteFault {
+    ghost use Rattle.std.specs.Prelude.{◌≡◌};
+    ghost use Rattle.ospf_packet.specs.Text.{write_fault_text};
+
+    /// The fault as it is printed: a packet that is too long as by `PacketFault`, or that memory ran out.
+    pub fn text(self) -> &'static str
+        ensures { result.now ≡ write_fault_text self }
+    {
+        match self {
+            WriteFault::TooLong => "P8 TooLong",
+            WriteFault::Memory => "Memory",
+        }
+    }
 }

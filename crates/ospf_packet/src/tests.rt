@@ -415,10 +415,16 @@ fn faults_print_numbers_and_names(rt: HostRuntime) -> Result<(), Fail> {
     ];
     for (fault, text) in cases {
         assert_eq!(rt; format!(in alloc; "{fault}")?.as_str(), text);
+        assert_eq!(rt; fault.text(), text);
     }
-    let (long, memory) = (WriteFault::TooLong, WriteFault::Memory);
-    assert_eq!(rt; format!(in alloc; "{long}")?.as_str(), "P8 TooLong");
-    assert_eq!(rt; format!(in alloc; "{memory}")?.as_str(), "Memory");
+    let cases = [
+        (WriteFault::TooLong, "P8 TooLong"),
+        (WriteFault::Memory, "Memory"),
+    ];
+    for (fault, text) in cases {
+        assert_eq!(rt; format!(in alloc; "{fault}")?.as_str(), text);
+        assert_eq!(rt; fault.text(), text);
+    }
     Ok(())
 }
 
