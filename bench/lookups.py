@@ -9,14 +9,12 @@ BELOW = ["ospf_base", "ospf_lsa", "ospf_graph", "ospf_spf", "ospf_published", "o
 ROUTES = (1, 1000, 100000)
 READERS = (1, 2, 3)
 LOOKUPS = 1000000
-RUNS = 3
 
 
 def nanoseconds(program, routes, readers, publishes):
-    """Of each lookup of a reader, in the best of some runs. The table of 100,000 routes takes long to make: it is timed once."""
+    """Of each lookup of a reader, in the best round of the program."""
     words = [program, str(routes), str(readers), str(LOOKUPS), "1" if publishes else "0"]
-    runs = RUNS if routes < 100000 else 1
-    return min(int(subprocess.run(words, check=True, capture_output=True).stdout) for _ in range(runs)) / LOOKUPS
+    return int(subprocess.run(words, check=True, capture_output=True).stdout) / LOOKUPS
 
 
 def main():

@@ -8,19 +8,34 @@ use crate::neighbour::Neighbour;
 use ospf_base::RouterId;
 use std::alloc::Global;
 use std::marker::Model;
+use thiserror::Error;
 
 /// The most neighbours that an interface has.
 pub const MAX_NEIGHBOURS: usize = 255;
 
 /// Why a neighbour was not added.
-#[derive(Clone, Copy, Debug, PartialEq, Eq, thiserror::Error)]
+#[derive(Clone, Copy, Debug, PartialEq, Eq, Error)]
+#[error("{text}", text = self.text())]
 pub enum NeighbourFault {
     /// The interface has `MAX_NEIGHBOURS`.
-    #[error("N1 Full")]
     Full,
     /// Memory ran out.
-    #[error("N2 Memory")]
     Memory,
+}
+
+impl NeighbourFault {
+    ghost use Rattle.std.specs.Prelude.{◌≡◌};
+    ghost use Rattle.ospf_neighbour.specs.Text.{neighbour_fault_text};
+
+    /// The fault's number and name, as it is printed.
+    pub fn text(self) -> &'static str
+        ensures { result.now ≡ neighbour_fault_text self }
+    {
+        match self {
+            NeighbourFault::Full => "N1 Full",
+            NeighbourFault::Memory => "N2 Memory",
+        }
+    }
 }
 
 /// The neighbours of an interface, at most `MAX_NEIGHBOURS`, in rising Router ID.

@@ -32,7 +32,10 @@ impl Display for Found {
 
     fn fmt<W: fmt::Write>(&self, f: &mut Formatter<W>) -> fmt::Result {
         let Answer {
-            prefix, cost, hop, ..
+            prefix,
+            cost,
+            hop,
+            ..
         } = self.answer;
         write!(f, "lookup {} {prefix} {cost} {hop}", self.address)
     }

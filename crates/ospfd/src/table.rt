@@ -9,8 +9,8 @@ ghost use Rattle.ospfd.specs.Line.{IsTaken, HasFault, Reads, Refuses};
 ghost use Rattle.ospfd.specs.Refusal.{IsRefusalTold, refusal_line};
 
 use crate::jobs::TableJob;
-use crate::lookup::{publish_once, write_lookups};
 use crate::line::{LineFault, is_blank, lsa_of_line, without_end};
+use crate::lookup::{publish_once, write_lookups};
 use crate::status::Status;
 use ospf_base::MAX_AGE;
 use ospf_fib::{Closed, OpenRefused};

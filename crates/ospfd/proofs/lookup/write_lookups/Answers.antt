@@ -9,10 +9,12 @@ pub loop-address-init : goal.loop-address-init
 loop-address-init g c = (c.requires, λ table is. no_lookups _ table)
 
 pub loop-address-preserved : goal.loop-address-preserved
-loop-address-preserved g c =
-    (c.in_ok-answer.ensures.seat, λ table is.
-        lookup_written _ _ _ table _ c.loop-address.address-index _ c.loop-address-test.true (c.loop-address.invariant.1 table is)
-        (_, found_line _ table _ c.in_ok-answer.answer is c.in_ok-answer.ensures.answer, c.in_ok-write_lookup.ensures))
+loop-address-preserved g c = (
+  c.in_ok-answer.ensures.seat,
+  λ table is.
+      lookup_written _ _ _ table _ c.loop-address.address-index _ c.loop-address-test.true (c.loop-address.invariant.1 table is)
+      (_, found_line _ table _ c.in_ok-answer.answer is c.in_ok-answer.ensures.answer, c.in_ok-write_lookup.ensures),
+)
 
 pub returns-clause-lookups : goal.returns-clause-lookups
 returns-clause-lookups g c = λ table is.
