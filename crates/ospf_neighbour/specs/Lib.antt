@@ -2,3 +2,4 @@ pub mod Machine
 pub mod Neighbour
 pub mod Neighbours
 pub mod Text
+pub mod Lists

@@ -1,6 +1,7 @@
 //! The neighbours of an interface: their state machine and their lists (RFC 2328, section 10).
 #![tactic(auto)]
 
+mod lists;
 mod machine;
 mod neighbour;
 mod neighbours;
