@@ -1,0 +1,4 @@
+pub mod Rules
+pub mod Acknowledgements
+pub mod Links
+pub mod Due

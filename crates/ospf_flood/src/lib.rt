@@ -1,0 +1,18 @@
+//! Flooding (RFC 2328, section 13): what an LSA of an Update meets, and what it does to one neighbour or one link.
+//!
+//! `lsa_rule` tells which rule an LSA meets, `flood_to` offers it to a neighbour, `is_flooded_out` tells whether a link
+//! sends it, and `acknowledge` how it is acknowledged.
+#![tactic(auto)]
+
+mod acknowledgement;
+mod due;
+mod link;
+mod rule;
+
+pub use crate::acknowledgement::{Acknowledgement, AcknowledgementCase, Sender, acknowledge};
+pub use crate::due::{due_instances, is_due};
+pub use crate::link::{
+    ALL_D_ROUTERS, ALL_SPF_ROUTERS, case_of_newer, case_of_same, flooding_address, is_flooded_out,
+    sender_at,
+};
+pub use crate::rule::{LsaRule, is_sent_back, lsa_rule};
