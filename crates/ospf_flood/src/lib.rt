@@ -4,15 +4,21 @@
 //! sends it, and `acknowledge` how it is acknowledged.
 #![tactic(auto)]
 
+mod acknowledged;
 mod acknowledgement;
 mod due;
 mod link;
+mod offer;
 mod rule;
+#[cfg(test)]
+mod tests;
 
+pub use crate::acknowledged::{on_acknowledgement, on_duplicate};
 pub use crate::acknowledgement::{Acknowledgement, AcknowledgementCase, Sender, acknowledge};
 pub use crate::due::{due_instances, is_due};
 pub use crate::link::{
     ALL_D_ROUTERS, ALL_SPF_ROUTERS, case_of_newer, case_of_same, flooding_address, is_flooded_out,
     sender_at,
 };
+pub use crate::offer::flood_to;
 pub use crate::rule::{LsaRule, is_sent_back, lsa_rule};
