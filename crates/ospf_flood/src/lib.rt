@@ -7,6 +7,7 @@
 mod acknowledged;
 mod acknowledgement;
 mod due;
+mod laws;
 mod link;
 mod offer;
 mod rule;
@@ -16,6 +17,9 @@ mod tests;
 pub use crate::acknowledged::{on_acknowledgement, on_duplicate};
 pub use crate::acknowledgement::{Acknowledgement, AcknowledgementCase, Sender, acknowledge};
 pub use crate::due::{due_instances, is_due};
+pub use crate::laws::{
+    acknowledgement_takes_what_it_names, flood_takes_its_key, flooded_waits, named_is_taken,
+};
 pub use crate::link::{
     ALL_D_ROUTERS, ALL_SPF_ROUTERS, case_of_newer, case_of_same, flooding_address, is_flooded_out,
     sender_at,
