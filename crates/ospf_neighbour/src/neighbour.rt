@@ -1,7 +1,8 @@
 //! A neighbour: what its Hellos declare, and its lists.
 
+use crate::lists;
 use crate::machine::{Effect, NbrChange, NbrEvent, NeighbourState, transition};
-use ospf_base::{Addr, Instance, RouterId};
+use ospf_base::{Addr, Instance, LsaKey, RouterId};
 use ospf_lsa::LsaHeader;
 use std::alloc::{AllocError, Global};
 use std::marker::Model;
@@ -73,6 +74,7 @@ impl Neighbour {
     ghost use Rattle.std.specs.Prelude.{◌≡◌, ◌≤◌, ◌-◌, ◌∷◌, ◌++◌, ◌↔◌, [], IsTrue, OnOk, OnErr, drop, length, take};
     ghost use Rattle.ospf_neighbour.specs.Machine.{is_exchanging, transition, LeavesNone};
     ghost use Rattle.ospf_neighbour.specs.Neighbour.{IsSound, is_empty, new_neighbour, effected, emptied};
+    ghost use Rattle.ospf_neighbour.specs.Lists.{request_of, unrequested, is_listed, unlisted, key_unlisted, relisted, resent};
 
     /// A neighbour in state Down.
     pub fn new(alloc: Global, router: RouterId, address: Addr) -> Neighbour
@@ -234,6 +236,67 @@ impl Neighbour {
             sent_at: tick,
         })?;
         Ok(())
+    }
+
+    /// Whether an instance is on the retransmission list.
+    pub fn is_listed(&self, instance: &Instance) -> bool
+        ensures { result ≡ is_listed instance.now self.now.retransmission }
+    {
+        lists::is_listed(instance, &self.retransmission)
+    }
+
+    /// Puts an instance on the retransmission list (section 13.3), sent at this tick, in place of all others of its key.
+    ///
+    /// `AllocError` where memory runs out; then the neighbour is as it was.
+    pub fn relist(&mut self, instance: Instance, tick: u64) -> Result<(), AllocError>
+        requires { IsTrue (is_exchanging self.old.state) }
+        ensures ok { OnOk result (self.new ≡ relisted instance tick self.old) }
+        ensures err { OnErr result (self.new ≡ self.old) }
+    {
+        let entry = Listed {
+            instance,
+            sent_at: tick,
+        };
+        lists::put(entry, &mut self.retransmission)
+    }
+
+    /// Takes an instance off the retransmission list (section 13.7). No memory is taken.
+    pub fn unlist(&mut self, instance: &Instance)
+        ensures { self.new ≡ unlisted instance.now self.old }
+    {
+        lists::remove_instance(instance, &mut self.retransmission);
+    }
+
+    /// Takes all instances of a key off the retransmission list (section 13, step 5). No memory is taken.
+    pub fn unlist_key(&mut self, key: &LsaKey)
+        ensures { self.new ≡ key_unlisted key.now self.old }
+    {
+        lists::remove_key(key, &mut self.retransmission);
+    }
+
+    /// An instance was sent to the neighbour at this tick; it counts where the instance is on the retransmission list
+    /// (section 13.6). No memory is taken.
+    pub fn resend(&mut self, instance: &Instance, tick: u64)
+        ensures { self.new ≡ resent instance.now tick self.old }
+    {
+        lists::mark(instance, tick, &mut self.retransmission);
+    }
+
+    /// The header on the request list that is of a key's LSA.
+    pub fn request_of(&self, key: &LsaKey) -> Option<LsaHeader>
+        ensures { result ≡ request_of key.now self.now.requests }
+    {
+        lists::request_of(key, &self.requests)
+    }
+
+    /// Takes the entry of a key off the request list; of those that the last Request named, the others are still asked
+    /// for (section 13.3). No memory is taken.
+    pub fn remove_request(&mut self, key: &LsaKey)
+        ensures { self.new ≡ unrequested key.now self.old }
+    {
+        let asked = lists::others(key, &self.requests[..self.asked]);
+        lists::remove_requests(key, &mut self.requests);
+        self.asked = asked;
     }
 
     /// Puts how the exchange of databases stands.

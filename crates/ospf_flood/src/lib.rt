@@ -1,0 +1,28 @@
+//! Flooding (RFC 2328, section 13): what an LSA of an Update meets, and what it does to one neighbour or one link.
+//!
+//! `lsa_rule` tells which rule an LSA meets, `flood_to` offers it to a neighbour, `is_flooded_out` tells whether a link
+//! sends it, and `acknowledge` how it is acknowledged.
+#![tactic(auto)]
+
+mod acknowledged;
+mod acknowledgement;
+mod due;
+mod laws;
+mod link;
+mod offer;
+mod rule;
+#[cfg(test)]
+mod tests;
+
+pub use crate::acknowledged::{on_acknowledgement, on_duplicate};
+pub use crate::acknowledgement::{Acknowledgement, AcknowledgementCase, Sender, acknowledge};
+pub use crate::due::{due_instances, is_due};
+pub use crate::laws::{
+    acknowledgement_takes_what_it_names, flood_takes_its_key, flooded_waits, named_is_taken,
+};
+pub use crate::link::{
+    ALL_D_ROUTERS, ALL_SPF_ROUTERS, case_of_newer, case_of_same, flooding_address, is_flooded_out,
+    sender_at,
+};
+pub use crate::offer::flood_to;
+pub use crate::rule::{LsaRule, is_sent_back, lsa_rule};
