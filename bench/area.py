@@ -53,13 +53,14 @@ def network_lsa(address, router, members):
 
 
 class Area:
-    def __init__(self, count, seed):
+    def __init__(self, count, seed, root_links=2, greatest_metric=GREATEST_METRIC):
         self.random = random.Random(seed)
+        self.greatest_metric = greatest_metric
         self.links = {ROUTERS + k: [] for k in range(1, count + 1)}
         self.links[ROOT] = []
         self.networks = []
         self.pairs = set()
-        for place in range(min(2, count)):
+        for place in range(min(root_links, count)):
             self.join(ROOT, ROUTERS + place + 1, ROOT_LINKS + 4 * place, 10, 10)
         self.grow_tree(count)
         self.add_links(count)
@@ -73,7 +74,7 @@ class Area:
         self.links[b] += [(a, prefix + 2, POINT_TO_POINT, metric_of_b), (prefix, 0xFFFFFFFC, STUB, metric_of_b)]
 
     def link(self, a, b):
-        metric = lambda: self.random.randint(1, GREATEST_METRIC)
+        metric = lambda: self.random.randint(1, self.greatest_metric)
         self.join(ROUTERS + a, ROUTERS + b, LINKS + 4 * len(self.pairs), metric(), metric())
         self.pairs.add((min(a, b), max(a, b)))
 
@@ -96,7 +97,7 @@ class Area:
         address = {m: prefix + place + 1 for place, m in enumerate(members)}
         designated = self.random.choice(members)
         for m in members:
-            metric = self.random.randint(1, GREATEST_METRIC)
+            metric = self.random.randint(1, self.greatest_metric)
             self.links[ROUTERS + m].append((address[designated], address[m], TRANSIT, metric))
         self.networks.append((address[designated], ROUTERS + designated, [ROUTERS + m for m in members]))
 
@@ -105,8 +106,8 @@ class Area:
         return routers + [network_lsa(*network) for network in sorted(self.networks)]
 
 
-def text(count, seed):
-    return "".join(one.hex() + "\n" for one in Area(count, seed).lsas())
+def text(count, seed, **made):
+    return "".join(one.hex() + "\n" for one in Area(count, seed, **made).lsas())
 
 
 if __name__ == "__main__":

@@ -6,7 +6,7 @@ import tempfile
 
 from program import build
 
-BELOW = ["ospf_base", "ospf_lsa", "ospf_graph", "ospf_spf", "ospf_lsdb"]
+BELOW = ["ospf_base", "ospf_lsa", "ospf_lsdb"]
 ENTRIES = (100, 1000, 10000, 100000)
 TICKS = 1799
 

@@ -1,10 +1,12 @@
+pub mod Constants
+pub mod Addresses
+pub mod Ticks
+pub mod Faults
 pub mod Bytes
-pub mod Numbers
 pub mod Sums
 pub mod Masks
 pub mod Instances
 pub mod Keys
-pub mod KeyOrder
+pub mod Laws
 pub mod Prefixes
-pub mod PrefixLaws
 pub mod Text

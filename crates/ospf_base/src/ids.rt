@@ -39,14 +39,69 @@ pub struct Instance {
     pub sum: u16,
 }
 
+impl Addr {
+    /// 0.0.0.0: no router, and no address that is known.
+    pub const NOWHERE: Addr = Addr(0);
+}
+
+impl Kind {
+    ghost use Rattle.std.specs.Prelude.{◌≡◌};
+    ghost use Rattle.ospf_base.specs.Keys as spec;
+
+    /// The LS type (RFC 2328, appendix A.4.1).
+    pub fn ls_type(self) -> u8
+        ensures { result ≡ spec.ls_type self }
+    {
+        match self {
+            Kind::Router => 1,
+            Kind::Network => 2,
+        }
+    }
+}
+
 impl LsaKey {
-    ghost use Rattle.std.specs.Prelude.{◌↔◌, IsTrue};
-    ghost use Rattle.ospf_base.specs.Keys.{Precedes};
+    ghost use Rattle.std.specs.Prelude.{◌≡◌, ◌↔◌, IsTrue};
+    ghost use Rattle.ospf_base.specs.Keys.{Precedes, key_from, same_key};
+
+    /// The key of an LS type, a Link State ID and an Advertising Router; `None` of other LS types than 1 and 2.
+    pub fn from_type(ls_type: u32, id: u32, router: RouterId) -> Option<LsaKey>
+        ensures { result ≡ key_from ls_type id router }
+    {
+        let kind = match ls_type {
+            1 => Kind::Router,
+            2 => Kind::Network,
+            _ => return None,
+        };
+        Some(LsaKey { kind, id, router })
+    }
 
     /// Whether this key stands before another in a listing.
     pub fn precedes(&self, other: &LsaKey) -> bool
         ensures { IsTrue result ↔ Precedes self.now other.now }
     {
         self < other
+    }
+
+    /// Whether two keys are one, which is to say equal (`same_keys_are_equal`).
+    #[tactic(auto, unfolding(crate::specs::Keys::same_key))]
+    pub fn is_same(&self, other: &LsaKey) -> bool
+        ensures { result ≡ same_key self.now other.now }
+    {
+        self.kind.ls_type() == other.kind.ls_type()
+            && self.id == other.id
+            && self.router.0 == other.router.0
+    }
+}
+
+impl Instance {
+    ghost use Rattle.std.specs.Prelude.{◌≡◌};
+    ghost use Rattle.ospf_base.specs.Instances.{same_instance};
+
+    /// Whether two instances are one, which is to say equal (`same_instances_are_equal`).
+    #[tactic(auto, unfolding(crate::specs::Instances::same_instance))]
+    pub fn is_same(&self, other: &Instance) -> bool
+        ensures { result ≡ same_instance self.now other.now }
+    {
+        self.key.is_same(&other.key) && self.number == other.number && self.sum == other.sum
     }
 }

@@ -3,16 +3,25 @@
 
 mod age;
 mod bytes;
+mod constants;
 mod ids;
 mod interface;
+mod laws;
 mod parse;
 mod prefix;
 mod show;
 mod sums;
+mod ticks;
 
 pub use crate::age::{Age, MAX_AGE};
 pub use crate::bytes::{i32_at, u16_at, u32_at};
+pub use crate::constants::{
+    ALL_D_ROUTERS, ALL_SPF_ROUTERS, IP_HEADER, LARGEST_LSA, LARGEST_PACKET, LSA_HEADER, OPTIONS,
+    PACKET_HEADER,
+};
 pub use crate::ids::{Addr, AreaId, Instance, Kind, LsaKey, RouterId};
 pub use crate::interface::InterfaceKind;
+pub use crate::laws::{same_instances_are_equal, same_keys_are_equal};
 pub use crate::prefix::{Prefix, is_mask, mask_length, mask_of};
 pub use crate::sums::{lsa_sum, lsa_sum_holds, packet_sum};
+pub use crate::ticks::{have_passed, ticks_since};

@@ -5,6 +5,7 @@ use Rattle.toml.specs.Data.{Data, Members, get_member, as_str, as_bool, as_integ
 use Rattle.ospf_config.specs.declared.fault.ConfigFault.{ConfigFault}
 use Rattle.ospf_config.specs.declared.fault.ConfigFault.TheVariants as fault
 use Rattle.ospf_config.specs.Fault.{fault_number, IsLeast}
+use Rattle.ospf_config.proofs.Least.{least_number, least_of}
 use Rattle.ospf_config.specs.Reading.{ReadsValue, Required, Optional, IsNumberIn, as_integers}
 use Rattle.ospf_config.specs.Texts.{IsRouterIdText, IsAreaText, IsKindText, IsAddressText}
 use Rattle.ospf_config.specs.Keys.{ReadsCostValue, ReadsCostAt, IsPortNumber, ArePortNumbers}
@@ -156,19 +157,19 @@ module _ (t : Members) (n : ℕ) (keys : (g : ConfigFault) → HasKeyFault t g �
 
 pub least_key : (t : Members) (f : ConfigFault) → IsLeast (HasKeyFault t) f → IsLeast (HasFault t) f
 least_key t f h =
-    let few : fault_number f ≤ 5 = key_low t f h.holds in
-    record { holds = key_has t f h.holds; least = at_least t (fault_number f) h.least (λ _. omega arith) (λ _. omega arith) (λ _. omega arith) }
+    let few : fault_number f ≤ 5 = key_low t f h.broken in
+    least_of _ f (key_has t f h.broken) (at_least t (fault_number f) (least_number _ f h) (λ _. omega arith) (λ _. omega arith) (λ _. omega arith))
 
 module _ (t : Members) (keys : (g : ConfigFault) → HasKeyFault t g → ⊥) where
   pub least_prefix : HaveSamePrefix (interface_tables t) → IsLeast (HasFault t) fault.SamePrefix
-  least_prefix h = record { holds = h; least = at_least t 6 (λ g k. absurd (keys g k)) (λ _. omega arith) (λ _. omega arith) (λ _. omega arith) }
+  least_prefix h = least_of _ _ h (at_least t 6 (λ g k. absurd (keys g k)) (λ _. omega arith) (λ _. omega arith) (λ _. omega arith))
 
   pub least_dead : (HaveSamePrefix (interface_tables t) → ⊥) → Any IsDeadNotOverHello (interface_tables t) → IsLeast (HasFault t) fault.DeadNotOverHello
-  least_dead prefix h = record { holds = h; least = at_least t 7 (λ g k. absurd (keys g k)) (λ p. absurd (prefix p)) (λ _. omega arith) (λ _. omega arith) }
+  least_dead prefix h = least_of _ _ h (at_least t 7 (λ g k. absurd (keys g k)) (λ p. absurd (prefix p)) (λ _. omega arith) (λ _. omega arith))
 
   pub least_unknown : (HaveSamePrefix (interface_tables t) → ⊥) → (Any IsDeadNotOverHello (interface_tables t) → ⊥)
       → HasOtherKey top_keys t ⊎ Any (HasOtherKey interface_keys) (interface_tables t) → IsLeast (HasFault t) fault.Unknown
-  least_unknown prefix dead h = record { holds = h; least = at_least t 8 (λ g k. absurd (keys g k)) (λ p. absurd (prefix p)) (λ d. absurd (dead d)) (λ _. omega arith) }
+  least_unknown prefix dead h = least_of _ _ h (at_least t 8 (λ g k. absurd (keys g k)) (λ p. absurd (prefix p)) (λ d. absurd (dead d)) (λ _. omega arith))
 
   pub no_fault_at_all : (HaveSamePrefix (interface_tables t) → ⊥) → (Any IsDeadNotOverHello (interface_tables t) → ⊥)
       → (HasOtherKey top_keys t ⊎ Any (HasOtherKey interface_keys) (interface_tables t) → ⊥) → (g : ConfigFault) → HasFault t g → ⊥

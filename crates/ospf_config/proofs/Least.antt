@@ -1,12 +1,12 @@
 -- The least fault of several.
-use Rattle.std.proofs.Common.{◌≡◌, ◌⊎◌, zero, suc, ℤ, pos, negsuc, Option, Some, None, Result, Ok, Err, nat_lt, inl, inr, sym, ◌∙◌, arith}
-use Rattle.std.proofs.lemmas.Bool.{cases_Bool}
+use Rattle.std.proofs.Common.{◌≡◌, ◌≤◌, ◌⊎◌, zero, suc, ℤ, pos, negsuc, Option, Some, None, Result, Ok, Err, nat_lt, inl, inr, sym, ◌∙◌, arith}
+use Rattle.std.proofs.lemmas.Bool.{cases_Bool, cases_lt}
 use Rattle.std.proofs.lemmas.Bool.Decides.{nat_tests}
 use Rattle.std.specs.Result.{result_err}
 use Rattle.toml.specs.Data.{Data, as_integer}
 use Rattle.ospf_config.specs.declared.fault.ConfigFault.{ConfigFault}
 use Rattle.ospf_config.specs.declared.fault.ConfigFault.TheVariants as fault
-use Rattle.ospf_config.specs.Fault.{fault_number, earlier_of, IsLeastIfAny, IsFaultIfAny}
+use Rattle.ospf_config.specs.Fault.{fault_number, earlier_of, IsLeast, IsLeastIfAny, IsFaultIfAny}
 use Rattle.ospf_config.specs.Reading.{ReadsValue, Required, Optional, IsNumberIn}
 use Rattle.ospf_config.specs.Keys.{ReadsCostValue, ReadsCostAt}
 
@@ -68,29 +68,35 @@ cost_single (Some d) = at_value (as_integer d)
 
 -- ---- the least
 
+pub least_of : (Holds : ConfigFault → Type 0) (f : ConfigFault) → Holds f → ((g : ConfigFault) → Holds g → fault_number f ≤ fault_number g) → IsLeast Holds f
+least_of Holds f holds least = record { broken = holds; first = λ g lt here. (let le = least g here in omega arith) }
+
+pub least_number : (Holds : ConfigFault → Type 0) (f : ConfigFault) → IsLeast Holds f → (g : ConfigFault) → Holds g → fault_number f ≤ fault_number g
+least_number Holds f is g here = elim (cases_lt (fault_number g) (fault_number f)) [ inl lt ↦ absurd (is.first g lt here) | inr le ↦ le ]
+
 module _ {T : Type 0} (Reads : Result T ConfigFault → Type 0) (single : IsSingle Reads) where
   -- of one key
   pub least_error : (r : Result T ConfigFault) (o : Option ConfigFault) → Reads r → o ≡ result_err r → IsLeastIfAny (λ f. Reads (Err f)) o
   least_error (Ok x) o reads e = rw e (λ f h. single.none x f reads h)
-  least_error (Err f) o reads e = rw e (record { holds = reads; least = λ g h. (let same : f ≡ g = single.one f g reads h in rw same (omega arith)) })
+  least_error (Err f) o reads e = rw e (least_of _ f reads (λ g h. (let same : f ≡ g = single.one f g reads h in rw same (omega arith))))
 
   pub least_fault : (o : Option ConfigFault) → IsFaultIfAny Reads o → IsLeastIfAny (λ f. Reads (Err f)) o
   least_fault None h = h
-  least_fault (Some f) h = record { holds = h; least = λ g here. (let same : f ≡ g = single.one f g h here in rw same (omega arith)) }
+  least_fault (Some f) h = least_of _ f h (λ g here. (let same : f ≡ g = single.one f g h here in rw same (omega arith)))
 
 -- of two
 module _ (P Q : ConfigFault → Type 0) where
   pub least_both : (a b : Option ConfigFault) → IsLeastIfAny P a → IsLeastIfAny Q b → IsLeastIfAny (λ f. P f ⊎ Q f) (earlier_of a b)
   least_both None None p q = λ f h. elim h [ inl x ↦ p f x | inr y ↦ q f y ]
-  least_both None (Some g) p q = record { holds = inr q.holds; least = λ f h. elim h [ inl x ↦ absurd (p f x) | inr y ↦ q.least f y ] }
-  least_both (Some f) None p q = record { holds = inl p.holds; least = λ g h. elim h [ inl x ↦ p.least g x | inr y ↦ absurd (q g y) ] }
+  least_both None (Some g) p q = least_of _ g (inr q.broken) (λ f h. elim h [ inl x ↦ absurd (p f x) | inr y ↦ least_number _ g q f y ])
+  least_both (Some f) None p q = least_of _ f (inl p.broken) (λ g h. elim h [ inl x ↦ least_number _ f p g x | inr y ↦ absurd (q g y) ])
   least_both (Some f) (Some g) p q =
       elim (cases_Bool (nat_lt (fault_number g) (fault_number f))) [
-        | inl less ↦ rw less (record { holds = inr q.holds; least = λ h some. elim some [ inl x ↦ (let le = p.least h x in grind (arith, nat_tests, less, le)) | inr y ↦ q.least h y ] })
-        | inr other ↦ rw other (record { holds = inl p.holds; least = λ h some. elim some [ inl x ↦ p.least h x | inr y ↦ (let le = q.least h y in grind (arith, nat_tests, other, le)) ] })
+        | inl less ↦ rw less (least_of _ g (inr q.broken) (λ h some. elim some [ inl x ↦ (let le = least_number _ f p h x in grind (arith, nat_tests, less, le)) | inr y ↦ least_number _ g q h y ]))
+        | inr other ↦ rw other (least_of _ f (inl p.broken) (λ h some. elim some [ inl x ↦ least_number _ f p h x | inr y ↦ (let le = least_number _ g q h y in grind (arith, nat_tests, other, le)) ]))
       ]
 
   -- of the same
   pub least_same : (a : Option ConfigFault) → ((f : ConfigFault) → P f → Q f) → ((f : ConfigFault) → Q f → P f) → IsLeastIfAny P a → IsLeastIfAny Q a
   least_same None to from h = λ f q. h f (from f q)
-  least_same (Some f) to from h = record { holds = to f h.holds; least = λ g q. h.least g (from g q) }
+  least_same (Some f) to from h = least_of _ f (to f h.broken) (λ g q. least_number _ f h g (from g q))

@@ -6,6 +6,7 @@ use Rattle.toml.specs.Parse.{parse_document}
 use Rattle.ospf_config.specs.declared.fault.ConfigFault.{ConfigFault}
 use Rattle.ospf_config.specs.declared.fault.ConfigFault.TheVariants as fault
 use Rattle.ospf_config.specs.Fault.{IsLeast}
+use Rattle.ospf_config.proofs.Least.{least_number, least_of}
 use Rattle.ospf_config.specs.Tables.{HasFault}
 use Rattle.ospf_config.specs.Configs.{TextHasFault}
 use Rattle.ospf_config.proofs.FaultLemmas.{never_not_toml}
@@ -41,4 +42,4 @@ module _ (text : List ℕ) (t : Members) (parsed : parse_document text ≡ Some 
   text_free free f h = free f (table_has f h)
 
   pub text_least : (f : ConfigFault) → IsLeast (HasFault t) f → IsLeast (TextHasFault text) f
-  text_least f h = record { holds = text_has f h.holds; least = λ g has. h.least g (table_has g has) }
+  text_least f h = least_of _ f (text_has f h.broken) (λ g has. least_number _ f h g (table_has g has))

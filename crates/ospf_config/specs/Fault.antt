@@ -1,5 +1,6 @@
 -- The order of faults: the one of the least number is told.
-use Rattle.std.specs.Prelude.{ℕ, List, codes, ◌≤◌, nat_lt, if◌then◌else◌, Option, Some, None, MatchOption, Result, Err}
+use Rattle.std.specs.Prelude.{ℕ, List, codes, nat_lt, if◌then◌else◌, Option, Some, None, MatchOption, Result, Err}
+use Rattle.ospf_base.specs.Faults as faults
 use Rattle.ospf_config.specs.declared.fault.ConfigFault.{ConfigFault}
 use Rattle.ospf_config.specs.declared.fault.ConfigFault.TheVariants as fault
 
@@ -33,13 +34,12 @@ earlier_of (Some f) None = Some f
 earlier_of None b = b
 
 -- this fault holds, and none of a lower number
-pub record IsLeast (Holds : ConfigFault → Type 0) (f : ConfigFault) : Type 0 where
-  pub holds : Holds f
-  pub least : (g : ConfigFault) → Holds g → fault_number f ≤ fault_number g
+abbrev pub IsLeast : (ConfigFault → Type 0) → ConfigFault → Type 0
+IsLeast Holds f = faults.IsFirstHeld fault_number Holds f
 
 -- the least fault that holds, or none where none does
 abbrev pub IsLeastIfAny : (ConfigFault → Type 0) → Option ConfigFault → Type 0
-IsLeastIfAny Holds found = MatchOption found ((f : ConfigFault) → Holds f → ⊥) (IsLeast Holds)
+IsLeastIfAny Holds found = MatchOption found ((f : ConfigFault) → Holds f → ⊥) (λ f. IsLeast Holds f)
 
 -- the fault that is read, or none where none is
 abbrev pub IsFaultIfAny : {T : Type 0} → (Result T ConfigFault → Type 0) → Option ConfigFault → Type 0

@@ -1,5 +1,6 @@
 -- The keys: name, type, meaning, and default where there is one.
 use Rattle.std.specs.Prelude.{◌≡◌, ℕ, zero, ℤ, pos, ◌≤◌, Bool, false, List, [], map, length, codes, Option, Some, None, Result, Err}
+use Rattle.ospf_base.specs.Constants.{max_age}
 use Rattle.toml.specs.Data.{Data, Members, get_member, as_str, as_integer, as_bool}
 use Rattle.ospf_base.specs.declared.ids.RouterId.{RouterId}
 use Rattle.ospf_base.specs.declared.ids.AreaId.{AreaId}
@@ -55,7 +56,7 @@ abbrev pub ReadsRetransmit : Members → Result ℕ ConfigFault → Type 0
 ReadsRetransmit t r = Optional as_integer (IsNumberIn 1 65535) 5 (get_member (codes "retransmit") t) r
 
 abbrev pub ReadsTransmitDelay : Members → Result ℕ ConfigFault → Type 0
-ReadsTransmitDelay t r = Optional as_integer (IsNumberIn 1 3600) 1 (get_member (codes "transmit_delay") t) r
+ReadsTransmitDelay t r = Optional as_integer (IsNumberIn 1 max_age) 1 (get_member (codes "transmit_delay") t) r
 
 abbrev pub ReadsMtu : Members → Result ℕ ConfigFault → Type 0
 ReadsMtu t r = Optional as_integer (IsNumberIn 576 9000) 1500 (get_member (codes "mtu") t) r

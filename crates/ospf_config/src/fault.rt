@@ -4,11 +4,11 @@ ghost use Rattle.std.specs.Prelude.{◌≡◌};
 ghost use Rattle.ospf_config.specs.Fault.{earlier_of};
 
 use std::alloc::{AllocError, AllocFailed};
+use std::fmt::{self, Display, Formatter, Write};
 use thiserror::Error;
 
 /// The least fault of a text, or that memory ran out.
 #[derive(Clone, Copy, Debug, PartialEq, Eq, Error)]
-#[error("{text}", text = self.text())]
 pub enum ConfigFault {
     /// The text is no TOML.
     NotToml,
@@ -66,6 +66,18 @@ impl ConfigFault {
             ConfigFault::Unknown => 8,
             ConfigFault::Memory => 9,
         }
+    }
+}
+
+/// The number and the name, as `C4 Range`.
+impl Display for ConfigFault {
+    ghost use Rattle.std.specs.Prelude.{Some};
+    ghost use Rattle.ospf_config.specs.Fault.{fault_text};
+
+    ghost output = { λ fault. Some (fault_text fault) };
+
+    fn fmt<W: Write>(&self, f: &mut Formatter<W>) -> fmt::Result {
+        f.write_str(self.text())
     }
 }
 

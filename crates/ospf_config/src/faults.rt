@@ -59,7 +59,7 @@ fn are_all_tables(values: &[Value]) -> bool
 }
 
 // The fault of the key `interface`.
-fn list_fault(table: &Table) -> Option<ConfigFault>
+pub(crate) fn list_fault(table: &Table) -> Option<ConfigFault>
     ensures { IsFaultIfAny (ReadsInterfaces (table_view table.now)) result }
 {
     let Some(value) = value_at(table, "interface") else {

@@ -1,6 +1,7 @@
 //! Interfaces.
 
 ghost use Rattle.std.specs.Prelude.{◌<◌, ◌≤◌, vec_len};
+ghost use Rattle.ospf_base.specs.Constants.{max_age};
 
 use crate::address::InterfaceAddress;
 use ospf_base::InterfaceKind;
@@ -41,7 +42,7 @@ pub struct Interface {
     ghost dead_over_hello: { hello < dead },
     ghost retransmit_not_zero: { 0 < retransmit },
     ghost transmit_delay_not_zero: { 0 < transmit_delay },
-    ghost transmit_delay_at_most: { transmit_delay ≤ 3600 },
+    ghost transmit_delay_at_most: { transmit_delay ≤ max_age },
     ghost mtu_at_least: { 576 ≤ mtu },
     ghost mtu_at_most: { mtu ≤ 9000 },
     ghost few_peers: { vec_len peers ≤ 32 },

@@ -1,6 +1,7 @@
 //! What stands at a key.
 
 ghost use Rattle.std.specs.Prelude.{◌≡◌, ◌≤◌, IfOk, option_map, option_copied, Ok};
+ghost use Rattle.ospf_base.specs.Constants.{max_age};
 ghost use Rattle.toml.specs.Data.{get_member, as_integer, as_str};
 ghost use Rattle.toml.specs.View.{view, table_view};
 ghost use Rattle.ospf_config.specs.Reading.{ReadsValue, Optional, IsNumberIn};
@@ -10,7 +11,7 @@ ghost use Rattle.ospf_config.specs.Keys.{ReadsKind, ReadsAddress, ReadsCostValue
 use crate::address::InterfaceAddress;
 use crate::fault::ConfigFault;
 use crate::interface::Port;
-use ospf_base::InterfaceKind;
+use ospf_base::{InterfaceKind, MAX_AGE};
 use toml::{Table, Value};
 
 // What the table holds at a key.
@@ -143,9 +144,9 @@ pub(crate) fn retransmit_at(table: &Table) -> Result<u16, ConfigFault>
 
 pub(crate) fn transmit_delay_at(table: &Table) -> Result<u16, ConfigFault>
     ensures reads { ReadsTransmitDelay (table_view table.now) result }
-    ensures range { IfOk result (λ n. (1 ≤ n) × (n ≤ 3600)) }
+    ensures range { IfOk result (λ n. (1 ≤ n) × (n ≤ max_age)) }
 {
-    number_at(table, "transmit_delay", 1, 3600, 1)
+    number_at(table, "transmit_delay", 1, MAX_AGE, 1)
 }
 
 pub(crate) fn mtu_at(table: &Table) -> Result<u16, ConfigFault>

@@ -3,6 +3,7 @@
 
 mod address;
 mod config;
+mod explain;
 mod fault;
 mod faults;
 mod interface;
@@ -16,5 +17,6 @@ mod top;
 
 pub use crate::address::InterfaceAddress;
 pub use crate::config::Config;
+pub use crate::explain::{Explained, KeyExplained};
 pub use crate::fault::ConfigFault;
 pub use crate::interface::{Interface, Port};

@@ -70,7 +70,7 @@ pub(crate) fn has_conflict(addresses: &[InterfaceAddress]) -> bool
 }
 
 // Whether the interface would be dead no later than its next Hello.
-fn is_dead_not_over_hello(table: &Table) -> bool
+pub(crate) fn is_dead_not_over_hello(table: &Table) -> bool
     ensures { IsTrue result ↔ IsDeadNotOverHello (table_view table.now) }
 {
     match (hello_at(table), dead_at(table)) {

@@ -339,3 +339,100 @@ fn counts_of_interfaces(rt: HostRuntime) -> Result<(), Fail> {
     );
     Ok(())
 }
+
+// What is told of a text of three parts, one line a place.
+fn explained(alloc: Global, first: &str, second: &str, third: &str) -> Result<String, ConfigFault> {
+    let text = joined(alloc, first, second, third)?;
+    let mut lines = String::new(alloc);
+    for place in Config::explain(alloc, text.as_str())?.iter() {
+        let line = format!(in alloc; "{place}\n")?;
+        lines.push_str(line.as_str())?;
+    }
+    Ok(lines)
+}
+
+#[test]
+fn explains_keys(rt: HostRuntime) -> Result<(), Fail> {
+    let alloc = rt.alloc();
+    assert_eq!(rt; explained(alloc, TOP, INTERFACE, "")?.as_str(), "");
+    let rows = [
+        (
+            "mtu = 100\n",
+            "interface 0: mtu: 576 to 9000 wanted, 100 found\n",
+        ),
+        (
+            "mtu = \"big\"\n",
+            "interface 0: mtu: 576 to 9000 wanted, \"big\" found\n",
+        ),
+        (
+            "dead = 10\n",
+            "interface 0: dead: more than `hello` wanted, 10 found\n",
+        ),
+        (
+            "colour = \"red\"\n",
+            "interface 0: colour: a known key wanted, \"red\" found\n",
+        ),
+        (
+            "peers = [1]\n",
+            "interface 0: peers: a list of at most 32 numbers, each 1024 to 65535, wanted, a list of 1 found\n",
+        ),
+        (
+            "[[interface]]\nkind = \"broadcast\"\naddress = \"10.1.0.1/24\"\n",
+            "interface 1: cost: 1 to 65535 wanted, nothing found\n",
+        ),
+        (
+            "[[interface]]\nkind = \"broadcast\"\naddress = \"10.1.0.1/24\"\ncost = 0\n",
+            "interface 1: cost: 1 to 65535 wanted, 0 found\n",
+        ),
+        (
+            "[[interface]]\nkind = \"broadcast\"\naddress = \"10.0.0.2/30\"\ncost = 1\n",
+            "interface 1: address: a prefix and an address that no interface before has wanted, \"10.0.0.2/30\" found\n",
+        ),
+        ("hello = 1\nmtu 7\n", "line 9: no TOML\n"),
+    ];
+    for (third, told) in rows.iter() {
+        assert_eq!(rt; explained(alloc, TOP, INTERFACE, third)?.as_str(), *told);
+    }
+    Ok(())
+}
+
+#[test]
+fn explains_the_top(rt: HostRuntime) -> Result<(), Fail> {
+    let alloc = rt.alloc();
+    let told = explained(
+        alloc,
+        "router_id = 5\n",
+        "stub_router = true\n",
+        "area = \"0.0.0.0\"\ninterface = []\n",
+    )?;
+    let wanted =
+        "router_id: a dotted text, as \"10.0.0.1\", other than \"0.0.0.0\", wanted, 5 found\n";
+    assert_eq!(rt; told.as_str(), wanted);
+    let told = explained(alloc, "stub_router = 1\n", "", "")?;
+    let wanted =
+        "router_id: a dotted text, as \"10.0.0.1\", other than \"0.0.0.0\", wanted, nothing found\n\
+        area: a dotted text, as \"0.0.0.1\", wanted, nothing found\n\
+        interface: 1 to 32 tables [[interface]] wanted, nothing found\n";
+    assert_eq!(rt; told.as_str(), wanted);
+    Ok(())
+}
+
+#[test]
+fn prints_each_fault(rt: HostRuntime) -> Result<(), Fail> {
+    let alloc = rt.alloc();
+    let faults = [
+        (ConfigFault::NotToml, "C1 NotToml"),
+        (ConfigFault::Missing, "C2 Missing"),
+        (ConfigFault::Type, "C3 Type"),
+        (ConfigFault::Range, "C4 Range"),
+        (ConfigFault::ZeroCost, "C5 ZeroCost"),
+        (ConfigFault::SamePrefix, "C6 SamePrefix"),
+        (ConfigFault::DeadNotOverHello, "C7 DeadNotOverHello"),
+        (ConfigFault::Unknown, "C8 Unknown"),
+        (ConfigFault::Memory, "C9 Memory"),
+    ];
+    for (fault, text) in faults.iter() {
+        assert_eq!(rt; format!(in alloc; "{fault}")?.as_str(), *text);
+    }
+    Ok(())
+}

@@ -1,5 +1,7 @@
 -- The election of the Designated Router and the Backup (RFC 2328, section 9.4).
-use Rattle.std.specs.Prelude.{◌≡◌, ◌≢◌, ◌<◌, ◌==◌, ◌||◌, ◌⊎◌, List, Contains, AllPairs, Bool, not, map, MatchBool, if◌then◌else◌}
+use Rattle.std.specs.Prelude.{◌≡◌, ◌≢◌, ◌<◌, ◌==◌, ◌||◌, ◌⊎◌, List, Contains, [], ◌∷◌, AllPairs, Bool, not, map, MatchBool, if◌then◌else◌}
+use Rattle.std.specs.List.{AllByRecursion}
+use Rattle.ospf_base.specs.Addresses.{nowhere}
 use Rattle.ospf_base.specs.declared.ids.RouterId.{RouterId}
 use Rattle.ospf_base.specs.declared.ids.Addr.{Addr}
 use Rattle.ospf_election.specs.declared.candidate.Candidate.{Candidate}
@@ -35,15 +37,11 @@ pub record IsBest (Set : Candidate → Type 0) (candidates : List Candidate) (c 
 pub record HasNone (Set : Candidate → Type 0) (candidates : List Candidate) : Type 0 where
   pub none : (d : Candidate) → Contains candidates d → Set d → ⊥
 
--- 0.0.0.0: there is none
-abbrev pub nobody : Addr
-nobody = record { 0 = 0 }
-
 -- the new Backup: the best that declares itself so; else the best that may be it; else none (9.4, step 2)
 pub data IsBackup (candidates : List Candidate) (address : Addr) : Type 0 where
   Declared : (c : Candidate) → IsBest DeclaresBackup candidates c → c.address ≡ address → IsBackup candidates address
   Ranked : (c : Candidate) → HasNone DeclaresBackup candidates → IsBest MayBeBackup candidates c → c.address ≡ address → IsBackup candidates address
-  Nobody : HasNone MayBeBackup candidates → address ≡ nobody → IsBackup candidates address
+  Nobody : HasNone MayBeBackup candidates → address ≡ nowhere → IsBackup candidates address
 
 -- the new DR: the best that declares itself so; else the new Backup (9.4, step 3)
 pub data IsDr (candidates : List Candidate) (backup address : Addr) : Type 0 where
@@ -94,3 +92,12 @@ AreDistinct candidates = AllPairs (λ a b. a.id ≢ b.id) candidates
 -- a candidate is the router itself
 abbrev pub HasMe : List Candidate → RouterId → Type 0
 HasMe candidates me = (c : Candidate) × Contains candidates c × (c.id ≡ me)
+
+-- the candidates' Router IDs rise
+abbrev pub IsRising : List Candidate → Type 0
+IsRising [] = Unit {0}
+IsRising (c ∷ cs) = AllByRecursion (λ (d : Candidate). c.id.0 < d.id.0) cs × IsRising cs
+
+-- no candidate has this Router ID
+abbrev pub AreOthers : RouterId → List Candidate → Type 0
+AreOthers me candidates = AllByRecursion (λ (c : Candidate). c.id.0 ≢ me.0) candidates

@@ -1,9 +1,9 @@
 -- What holds of every election (RFC 2328, section 9.4).
-use Rattle.std.specs.Prelude.{◌≡◌, ◌↔◌, List, Contains}
+use Rattle.std.specs.Prelude.{◌≡◌, ◌↔◌, List, ◌∷◌, Contains}
 use Rattle.ospf_base.specs.declared.ids.RouterId.{RouterId}
 use Rattle.ospf_election.specs.declared.candidate.Candidate.{Candidate}
 use Rattle.ospf_election.specs.declared.candidate.Elected.{Elected}
-use Rattle.ospf_election.specs.Election.{IsElected, AreDistinct}
+use Rattle.ospf_election.specs.Election.{IsElected, AreDistinct, AreOthers, HasMe, IsRising}
 
 -- the order of the candidates does not matter, nor does one that stands twice
 abbrev pub OrderDoesNotMatter : Type 0
@@ -14,3 +14,8 @@ OrderDoesNotMatter = (candidates others : List Candidate) (me : RouterId) (e : E
 abbrev pub OneResult : Type 0
 OneResult = (candidates : List Candidate) (me : RouterId) (e f : Elected)
     → AreDistinct candidates → IsElected candidates me e → IsElected candidates me f → e ≡ f
+
+-- a router beside others, whose Router IDs rise, can be elected from among them, as itself
+abbrev pub OwnBesideOthers : Type 0
+OwnBesideOthers = (own : Candidate) (others : List Candidate)
+    → IsRising others → AreOthers own.id others → AreDistinct (own ∷ others) × HasMe (own ∷ others) own.id

@@ -89,7 +89,7 @@ fn backup(candidates: &[Candidate], me: RouterId, own: Elected) -> Addr
         Some(c) => c.address,
         None => match best(candidates, me, own, Standing::MayBeBackup) {
             Some(c) => c.address,
-            None => Addr(0),
+            None => Addr::NOWHERE,
         },
     }
 }

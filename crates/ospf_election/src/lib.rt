@@ -9,4 +9,4 @@ mod tests;
 
 pub use crate::candidate::{Candidate, Elected};
 pub use crate::election::elect;
-pub use crate::laws::{has_one_result, order_does_not_matter};
+pub use crate::laws::{has_one_result, order_does_not_matter, own_stands_beside_others};

@@ -1,14 +1,17 @@
 -- Laws of the exchange: what may come on a neighbour's lists, and what stays there.
-use Rattle.std.specs.Prelude.{◌≡◌, ◌⊎◌, List, Contains, Some, map}
+use Rattle.std.specs.Prelude.{◌≡◌, ◌⊎◌, Bool, true, false, List, Contains, Some, Result, Ok, Err, map}
 use Rattle.ospf_base.specs.declared.ids.Instance.{Instance}
 use Rattle.ospf_base.specs.declared.ids.RouterId.{RouterId}
 use Rattle.ospf_lsa.specs.declared.header.LsaHeader.{LsaHeader}
-use Rattle.ospf_lsdb.specs.Database.{Entry, Held, IsDatabase, entry_of, key_in}
+use Rattle.ospf_lsdb.specs.Database.{Entry, Held, IsDatabase, entry_of, key_in, entries, header_at, instance_at}
 use Rattle.ospf_packet.specs.declared.body.Description.{Description}
 use Rattle.ospf_neighbour.specs.Neighbour.{NeighbourValue}
 use Rattle.ospf_neighbour.specs.declared.neighbour.Listed.{Listed}
-use Rattle.ospf_exchange.specs.Exchange.{after_dd}
-use Rattle.ospf_exchange.specs.Headers.{entries, header_at, instance_at}
+use Rattle.ospf_exchange.specs.Exchange.{after_dd, dd_answer}
+use Rattle.ospf_exchange.specs.declared.description.DdAnswer.{DdAnswer}
+use Rattle.ospf_exchange.specs.declared.description.DdAnswer.TheVariants as answer
+use Rattle.ospf_exchange.specs.declared.fault.ExchangeFault.{ExchangeFault}
+use Rattle.ospf_exchange.specs.declared.fault.ExchangeFault.TheVariants as fault
 use Rattle.ospf_exchange.specs.declared.rule.Local.{Local}
 
 -- an entry of the database has this header
@@ -46,3 +49,22 @@ HeadersAreOfCopies = (db : List Held) (h : LsaHeader) → IsDatabase db → HasH
 -- and so is an instance
 abbrev pub InstancesAreOfCopies : Type 0
 InstancesAreOfCopies = (db : List Held) (i : Instance) → IsDatabase db → HasInstance db i → (e : Entry) × (entry_of db (key_in e.contents) ≡ Some e) × (instance_at e ≡ i)
+
+-- a Database Description is not taken: there is no exchange and it begins none, or its MTU is over the interface's (10.6)
+abbrev pub is_not_taken : Result DdAnswer ExchangeFault → Bool
+is_not_taken (Ok answer.NotTaken) = true
+is_not_taken (Err fault.Mtu) = true
+is_not_taken _ = false
+
+-- one that is not taken changes nothing
+abbrev pub NotTakenIsUnchanged : Type 0
+NotTakenIsUnchanged = (local : Local) (sender : RouterId) (d : Description) (headers : List LsaHeader) (db : List Held) (n : NeighbourValue)
+    → is_not_taken (dd_answer local sender d headers n) ≡ true → after_dd local sender d headers db n ≡ n
+
+-- it makes no other neighbour of one
+pub record KeepsRouter (n m : NeighbourValue) : Type 0 where
+  pub router : m.router ≡ n.router
+  pub address : m.address ≡ n.address
+
+abbrev pub DescriptionsKeepRouters : Type 0
+DescriptionsKeepRouters = (local : Local) (sender : RouterId) (d : Description) (headers : List LsaHeader) (db : List Held) (n : NeighbourValue) → KeepsRouter n (after_dd local sender d headers db n)

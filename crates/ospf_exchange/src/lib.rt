@@ -15,11 +15,11 @@ mod rule;
 mod tests;
 mod timers;
 
-pub use crate::description::{DdAnswer, on_dd};
+pub use crate::description::{DdAnswer, is_not_taken, on_dd};
 pub use crate::fault::ExchangeFault;
 pub use crate::laws::{
-    headers_are_of_copies, instances_are_of_copies, listed_stay, lists_are_copies,
-    requests_are_told,
+    descriptions_keep_routers, headers_are_of_copies, instances_are_of_copies, listed_stay,
+    lists_are_copies, not_taken_is_unchanged, requests_are_told,
 };
 pub use crate::request::{is_request_due, next_request, on_request};
 pub use crate::rule::Local;

@@ -7,6 +7,7 @@ use Rattle.ospf_fib.specs.declared.shown.Shown.{Shown}
 use Rattle.ospf_fib.specs.declared.shown.Handed.{Handed}
 use Rattle.ospf_fib.specs.declared.shown.Common.{Common}
 use Rattle.ospf_fib.specs.declared.rule.Knows.{Knows}
+use Rattle.ospf_fib.specs.Writing.{after}
 use Rattle.ospf_fib.specs.Rule.{IsOneList, FindsItsList, NamesTheList, knows, newcomer}
 
 -- a newcomer is not named
@@ -42,11 +43,7 @@ merges place v other w x views h at apart there j u e p =
     (λ t. ⊎_elim (λ s. subst (λ k. IsTrue k.named → k.counter ≡ counter_of x.known.fib) s.1 of_other p) (λ s. h j u s.1 p) (at_set views place j w u t.1))
     (at_set (set views place w) other j newcomer u e)
 
--- what both copies come to by an operation
-abbrev pub common : Handed → Common
-common o = record { table = o.table; counter = counter_of o.known.fib }
-
--- the last operation says what is shown
-pub last_wins : (first : Common) (xs : List Handed) (next : Handed) → fold (λ _ n. common n) first (xs ++ next ∷ []) ≡ common next
-last_wins first [] next = refl
-last_wins first (x ∷ xs) next = last_wins (common x) xs next
+-- what all that waits comes to, with one more
+pub end_snoc : (first : Common) (xs : List Handed) (next : Handed) → fold after first (xs ++ next ∷ []) ≡ after (fold after first xs) next
+end_snoc first [] next = refl
+end_snoc first (x ∷ xs) next = end_snoc (after first x) xs next

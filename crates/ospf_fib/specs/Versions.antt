@@ -1,6 +1,8 @@
 -- Versions: places in the list of published tables.
 use Rattle.std.specs.Prelude.{◌≡◌, ℕ, ◌-◌, ◌%◌, ◌^◌, Bool, true, false, List, [], ◌∷◌, ◌++◌, length, slice_get, Option, Some}
 use Rattle.ospf_published.specs.Known.{Table}
+use Rattle.ospf_spf.specs.Changes.{edited}
+use Rattle.ospf_spf.specs.declared.changes.Change.{Change}
 
 -- the table is the last one of the list, and its version is its place there, modulo 2^64
 pub record IsLast (tables : List Table) (version : ℕ) (table : Table) : Type 0 where
@@ -8,7 +10,31 @@ pub record IsLast (tables : List Table) (version : ℕ) (table : Table) : Type 0
   pub ends : tables ≡ before ++ table ∷ []
   pub version_is : version ≡ length before % 2 ^ 64
 
+-- the table is the last one of the list
+abbrev pub EndsWith : List Table → Table → Type 0
+EndsWith tables table = (before : List Table) × (tables ≡ before ++ table ∷ [])
+
 -- what a list ends with where it is live, and else the table itself
 abbrev pub found_of : Bool → Table → List Table → Option Table
 found_of true table tables = slice_get tables (length tables - 1)
 found_of false table tables = Some table
+
+-- the list that a table ends, which is live or comes after this list
+abbrev pub shown_tables : Bool → Table → List Table → List Table
+shown_tables true table tables = tables
+shown_tables false table tables = tables ++ table ∷ []
+
+-- the list with the table, where it was added
+abbrev pub added_of : Bool → Table → List Table → List Table
+added_of true table tables = tables ++ table ∷ []
+added_of false table tables = tables
+
+-- the list that what is handed over leads to: the opening adds no table
+abbrev pub after_of : Bool → Table → List Table → List Table
+after_of true table tables = tables
+after_of false table tables = tables ++ table ∷ []
+
+-- the table that what is handed over leads to: at the opening it has no route
+abbrev pub edited_by : Bool → Table → List Change → Table
+edited_by true table changes = []
+edited_by false table changes = edited table changes

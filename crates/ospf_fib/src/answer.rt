@@ -6,7 +6,7 @@ ghost use Rattle.ospf_fib.specs.Answers.{IsAnswer, IsAnswerOfLast};
 use crate::shown::Shown;
 use ospf_base::{Addr, Prefix};
 use ospf_graph::NextHop;
-use ospf_spf::RouteTable;
+use ospf_index::IndexedTable;
 
 /// The route of longest prefix that holds an address (RFC 2328, section 11.1), with one of its hops.
 #[derive(Clone, Copy, Debug, PartialEq, Eq)]
@@ -22,7 +22,7 @@ pub struct Answer {
 }
 
 // The answer of one table.
-fn answer_of(table: &RouteTable, version: u64, address: Addr, choice: u32) -> Option<Answer>
+fn answer_of(table: &IndexedTable, version: u64, address: Addr, choice: u32) -> Option<Answer>
     ensures { IsAnswer table.now version address choice result }
 {
     let route = table.lookup(address)?;

@@ -1,17 +1,21 @@
 //! Opening a forwarding table.
 
-ghost use Rattle.std.specs.Prelude.{◌≡◌, ◌≤◌, All, IfOk, [], length};
+ghost use Rattle.std.specs.Prelude.{◌≡◌, ◌≤◌, All, IfOk, [], drop, length, true};
 ghost use Rattle.std.specs.Arc.{arc_value};
 ghost use Rattle.left_right.specs.Sides.{view};
 ghost use Rattle.ospf_published.specs.Known.{opening};
 ghost use Rattle.ospf_published.specs.Rule.{counter_of};
 ghost use Rattle.ospf_fib.specs.Rule.{IsNamed};
+ghost use Rattle.ospf_fib.specs.Writing.{IsShown, end_of};
 
+use crate::changes::Changes;
+use crate::desk::{Copies, Desk, closed, show};
 use crate::rule::Tells;
 use crate::seat::Seat;
 use crate::shown::{Handed, Shown, Tries};
-use crate::writer::{Copies, Writer, show};
-use ospf_published::Published;
+use crate::writer::Writer;
+use ospf_index::IndexedTable;
+use ospf_published::{Opened, Published};
 use ospf_spf::RouteTable;
 use std::alloc::{AllocError, AllocFailed, Global};
 use std::sync::atomic::AtomicU64;
@@ -55,22 +59,25 @@ impl Fib {
         ensures count { IfOk result (λ opened. length opened.1.items ≡ seats) }
         ensures seats { IfOk result (λ opened. All (λ seat. seat ≡ opened.0) opened.1.items) }
     {
-        let (counter, known) = Published::open();
+        let (counter, opened) = Opened::new();
         let tries = Tries {
             counter,
             present: AtomicU64::new(0),
         };
         let tries = Arc::new(alloc, tries)?;
-        let mut copies = opening_copies(alloc, &rt, &known, &tries, seats)?;
+        let mut copies = opening_copies(alloc, &rt, &opened, &tries, seats)?;
+        let known = opened.known();
+        let sole = closed(&rt, &opened, &tries.counter);
         let made = seats_of(alloc, &mut copies, &known, seats);
         // Where a seat was refused, the writer's end takes the copies.
-        let writer = Writer {
+        let desk = Desk {
             copies,
-            known,
+            sole,
+            handed: RouteTable::empty(alloc),
             tries,
             alloc,
-            rt,
         };
+        let writer = Writer { desk, rt };
         Ok((writer, made?))
     }
 }
@@ -79,7 +86,7 @@ impl Fib {
 fn opening_copies<R: Wait>(
     alloc: Global,
     rt: &R,
-    known: &Published,
+    known: &Opened,
     tries: &Arc<Tries>,
     seats: usize,
 ) -> Result<Copies, AllocError>
@@ -87,49 +94,53 @@ fn opening_copies<R: Wait>(
     requires opening { known.now.tables ≡ opening }
     requires counter { (arc_value tries.now).counter ≡ counter_of known.now.fib }
     ensures named { IfOk result (λ copies. IsNamed (view copies.desk.place) known.now.fib) }
-    ensures counter { IfOk result (λ copies.
-        counter_of copies.desk.shown.value.known.fib ≡ counter_of known.now.fib) }
+    ensures shown { IfOk result (λ copies. IsShown copies.desk.shown.value known.now) }
+    ensures table { IfOk result (λ copies. (end_of copies.desk.shown.value (drop copies.behind copies.log.items)).table ≡ []) }
 {
     let next = opening_handed(alloc, known, tries)?;
-    let one = opening_shown(alloc, known);
-    let other = opening_shown(alloc, known);
-    let copies = Copies::new(alloc, one, other, seats)?;
-    let (copies, done) = show(copies, rt, next);
-    match done {
-        Ok(()) => Ok(copies),
-        Err(error) => {
-            drop(copies.take(rt));
-            Err(error)
+    let one = opening_shown(alloc, known)?;
+    let other = opening_shown(alloc, known)?;
+    let mut copies = Copies::new(alloc, one, other, seats)?;
+    let done = match copies.append(next) {
+        Ok(()) => {
+            let (later, done) = show(copies, rt);
+            copies = later;
+            done
         }
+        Err(_refused) => Err(AllocError),
+    };
+    // What is shown is live. That is not proved.
+    if done.is_ok() && copies.published().live {
+        return Ok(copies);
     }
+    drop(copies.take(rt));
+    Err(AllocError)
 }
 
-fn opening_shown(alloc: Global, known: &Published) -> Shown
+fn opening_shown(alloc: Global, known: &Opened) -> Result<Shown, AllocError>
     requires { known.now.tables ≡ opening }
-    ensures table { result.table ≡ [] }
-    ensures known { result.known ≡ known.now }
+    ensures table { IfOk result (λ shown. shown.table ≡ []) }
+    ensures known { IfOk result (λ shown. shown.known ≡ known.now) }
+    ensures live { IfOk result (λ shown. shown.live ≡ true) }
 {
-    Shown {
+    let table = IndexedTable::empty(alloc)?;
+    Ok(Shown {
         live: true,
-        table: RouteTable::empty(alloc),
+        table,
         known: known.copy(),
-    }
+    })
 }
 
-fn opening_handed(
-    alloc: Global,
-    known: &Published,
-    tries: &Arc<Tries>,
-) -> Result<Handed, AllocError>
+fn opening_handed(alloc: Global, known: &Opened, tries: &Arc<Tries>) -> Result<Handed, AllocError>
     requires known { known.now.tables ≡ opening }
     requires counter { (arc_value tries.now).counter ≡ counter_of known.now.fib }
-    ensures table { IfOk result (λ handed. handed.table ≡ []) }
+    ensures opens { IfOk result (λ handed. handed.is_opening ≡ true) }
     ensures known { IfOk result (λ handed. handed.known ≡ known.now) }
 {
     Ok(Handed {
         is_opening: true,
         number: 0,
-        table: RouteTable::empty(alloc),
+        changes: Changes::none(alloc),
         known: known.copy(),
         tries: Arc::try_clone(tries)?,
         alloc,
@@ -146,6 +157,7 @@ fn seats_of(
     requires { IsNamed (view copies.old.desk.place) known.now.fib }
     ensures named { IsNamed (view copies.new.desk.place) known.now.fib }
     ensures shown { copies.new.desk.shown ≡ copies.old.desk.shown }
+    ensures waiting { drop copies.new.behind copies.new.log.items ≡ drop copies.old.behind copies.old.log.items }
     ensures count { IfOk result (λ seats. length seats.items ≡ count) }
     ensures seats { IfOk result (λ seats. All (λ seat. seat ≡ known.now) seats.items) }
 {
@@ -161,6 +173,7 @@ fn seat_of(copies: &mut Copies, known: &Published) -> Result<Seat, AllocError>
     requires { IsNamed (view copies.old.desk.place) known.now.fib }
     ensures named { IsNamed (view copies.new.desk.place) known.now.fib }
     ensures shown { copies.new.desk.shown ≡ copies.old.desk.shown }
+    ensures waiting { drop copies.new.behind copies.new.log.items ≡ drop copies.old.behind copies.old.log.items }
     ensures seat { IfOk result (λ seat. seat ≡ known.now) }
 {
     let mut reader = copies.factory().reader()?;

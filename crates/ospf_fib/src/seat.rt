@@ -59,7 +59,7 @@ impl Told {
 /// no table and no answer.
 pub struct Seat {
     reader: Reader<Shown, Knows, OneList>,
-    known: Published,
+    pub(crate) known: Published,
 }
 
 impl Model for Seat {
@@ -144,10 +144,10 @@ fn look_up(
     match reader.enter_as::<Enters>() {
         Ok(reading) => {
             let shown = reading.get();
-            if shown.live && known.begins(&shown.known) {
+            let found = shown.known.known();
+            if shown.live && known.begins(&found) {
                 let answer = answer_of_shown(shown, address, choice);
-                let later = shown.known.copy();
-                (reading.leave(), (later, Ok(answer)))
+                (reading.leave(), (found, Ok(answer)))
             } else {
                 (reading.leave(), (known, Err(Closed)))
             }

@@ -1,18 +1,21 @@
 //! What readers find, and what the writer hands over to get there.
 
-ghost use Rattle.std.specs.Prelude.{◌≡◌, IfOk, Some};
+ghost use Rattle.std.specs.Prelude.{◌≡◌, [], true, false, OnOk, OnErr, Some};
 ghost use Rattle.std.specs.Arc.{arc_value};
+ghost use Rattle.ospf_published.specs.Known.{opening};
 ghost use Rattle.ospf_published.specs.Rule.{counter_of};
-ghost use Rattle.ospf_fib.specs.Versions.{found_of};
+ghost use Rattle.ospf_fib.specs.Versions.{added_of, edited_by, found_of};
 
+use crate::changes::Changes;
 use left_right::Absorb;
-use ospf_published::{Counter, Published};
+use ospf_index::IndexedTable;
+use ospf_published::{Counter, Opened, Published};
 use ospf_spf::RouteTable;
 use std::alloc::{AllocError, Global};
 use std::sync::Arc;
 use std::sync::atomic::{AtomicU64, Ordering};
 
-/// What the writer shares with the tables that it hands over: the counter of the list, and the number of
+/// What the writer shares with the changes that it hands over: the counter of the list, and the number of
 /// its present try to publish.
 #[derive(Drop)]
 pub(crate) struct Tries {
@@ -20,84 +23,80 @@ pub(crate) struct Tries {
     pub present: AtomicU64,
 }
 
-/// A table, and the published list that it ends. One that is not live was refused, and ends no list.
+/// A table, and the published list that it ends. Where it is not live, the list is what was published before.
 #[derive(Drop)]
 pub(crate) struct Shown {
     pub live: bool,
-    pub table: RouteTable,
-    pub known: Published,
+    pub table: IndexedTable,
+    pub known: Opened,
     pub ghost ends: { found_of live table known.tables ≡ Some table },
 }
 
-/// A table that is handed over in the try of this number, with all that was published before it. The
-/// opening table ends the list already.
+/// Changes that are handed over in the try of this number, with all that was published before it. The
+/// opening leaves the list as it is.
 #[derive(Drop)]
 pub(crate) struct Handed {
     pub is_opening: bool,
     pub number: u64,
-    pub table: RouteTable,
-    pub known: Published,
+    pub changes: Changes,
+    pub known: Opened,
     pub tries: Arc<Tries>,
     pub alloc: Global,
-    pub ghost ends: { found_of is_opening table known.tables ≡ Some table },
+    pub ghost opens: { is_opening ≡ true → known.tables ≡ opening },
     pub ghost counter_is: { (arc_value tries).counter ≡ counter_of known.fib },
 }
 
 /// What both copies have in common. No value of it is made.
 pub(crate) struct Common {
     pub table: RouteTable,
-    pub counter: Counter,
+    pub list: Published,
 }
 
 impl Absorb<Handed> for Shown {
-    ghost use Rattle.ospf_published.specs.Rule.{counter_of};
+    ghost use Rattle.ospf_fib.specs.Versions.{shown_tables, after_of, edited_by};
 
     type State = Common;
 
-    ghost state = { λ shown. record { table = shown.table; counter = counter_of shown.known.fib } };
+    ghost state = { λ shown. record { table = shown.table; list = record { fib = shown.known.fib; tables = shown_tables shown.live shown.table shown.known.tables } } };
 
-    ghost applied = { λ _ next. record { table = next.table; counter = counter_of next.known.fib } };
+    ghost applied = { λ was next. record { table = edited_by next.is_opening was.table next.changes; list = record { fib = next.known.fib; tables = after_of next.is_opening (edited_by next.is_opening was.table next.changes) next.known.tables } } };
 
     fn absorb_first(&mut self, operation: &Handed, _other: &Shown) -> Result<(), AllocError> {
-        *self = operation.shown()?;
-        Ok(())
-    }
-
-    fn absorb_second(&mut self, operation: Handed, _other: &Shown) -> Result<(), Handed> {
-        let Handed {
-            is_opening,
-            number: _,
-            table,
-            known,
-            tries: _,
-            alloc: _,
-        } = operation;
-        *self = Shown {
-            live: is_opening,
-            table,
-            known,
-        };
+        let Shown { live, table, known } = self;
+        operation.edit(table)?;
+        let (added, list) = operation.announced(table.table());
+        *live = operation.is_opening || added;
+        *known = list;
         Ok(())
     }
 }
 
 impl Handed {
-    // The table as readers are to find it. It comes to stand in the list here, after all that may be
-    // refused for memory, and in the present try alone: a try that was refused is absorbed by the next one.
-    fn shown(&self) -> Result<Shown, AllocError>
-        ensures table { IfOk result (λ shown. shown.table ≡ self.now.table) }
-        ensures fib { IfOk result (λ shown. shown.known.fib ≡ self.now.known.fib) }
+    // Makes the changes. The opening leaves no route.
+    fn edit(&self, table: &mut IndexedTable) -> Result<(), AllocError>
+        ensures done { OnOk result (table.new ≡ edited_by self.now.is_opening table.old self.now.changes) }
+        ensures refused { OnErr result (table.new ≡ table.old) }
     {
-        let table = self.table.copy(self.alloc)?;
-        let mut known = self.known.copy();
-        let is_present = self.tries.present.load(Ordering::SeqCst) == self.number;
-        if !self.is_opening && is_present && !known.add(&self.tries.counter, &table) {
-            return Err(AllocError);
+        if self.is_opening {
+            return table.clear(self.alloc);
         }
-        Ok(Shown {
-            live: self.is_opening || is_present,
-            table,
-            known,
-        })
+        table.edit(self.alloc, self.changes.as_slice())
+    }
+
+    // All that is published with this table. It comes to stand in the list here, after all that may be
+    // refused for memory, and in the present try alone: changes that were refused are absorbed by the next one.
+    fn announced(&self, table: &RouteTable) -> (bool, Opened)
+        ensures fib { result.1.fib ≡ self.now.known.fib }
+        ensures tables { result.1.tables ≡ added_of result.0 table.now self.now.known.tables }
+        ensures opening { self.now.is_opening ≡ true → result.0 ≡ false }
+    {
+        let is_present = self.tries.present.load(Ordering::SeqCst) == self.number;
+        if self.is_opening || !is_present {
+            return (false, self.known.copy());
+        }
+        match self.known.added(&self.tries.counter, table) {
+            Some(after) => (true, after),
+            None => (false, self.known.copy()),
+        }
     }
 }

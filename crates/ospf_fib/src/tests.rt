@@ -12,6 +12,7 @@ use std::fmt::Write;
 use std::sync::Wait;
 use std::test::Fail;
 
+mod many;
 mod race;
 
 const FIRST: RouterId = RouterId(0x0101_0101);
@@ -106,27 +107,37 @@ fn closed_by_the_writers_end(rt: HostRuntime) -> Result<(), Fail> {
     Ok(())
 }
 
-// With no allocation refused it is two publishes.
+// With no allocation refused it is six publishes. One that is refused changes nothing, and the next one succeeds.
 #[test]
 fn refused_publish_changes_nothing(rt: HostRuntime) -> Result<(), Fail> {
     let alloc = rt.alloc();
+    let costs = [Some(15u64), None, Some(15), Some(17), Some(17), None];
     let tables = [
         two_routers(alloc, 5)?,
+        RouteTable::empty(alloc),
+        two_routers(alloc, 5)?,
         two_routers(alloc, 7)?,
-        two_routers(alloc, 9)?,
+        two_routers(alloc, 7)?,
+        RouteTable::empty(alloc),
     ];
     let (mut writer, mut seat) = opened_one(alloc, &rt)?;
-    let told = writer.publish(&tables[0])?;
-    seat.learn(told);
-    let second = match writer.publish(&tables[1]) {
-        Ok(_) => far_answer(2, 17),
-        Err(_) => {
-            assert_eq!(rt; seat.lookup(FAR, 0), Ok(Some(far_answer(1, 15))));
-            let _told = writer.publish(&tables[2])?;
-            far_answer(2, 19)
+    let mut version = 0u64;
+    let mut refused = 0u64;
+    let mut shown = None;
+    for (table, cost) in tables.iter().zip(costs.iter()) {
+        match writer.publish(table) {
+            Ok(_told) => {
+                version = version.wrapping_add(1);
+                shown = *cost;
+            }
+            Err(_) => refused = refused.wrapping_add(1),
         }
-    };
-    assert_eq!(rt; seat.lookup(FAR, 0), Ok(Some(second)));
+        let expected = shown.map(|cost| far_answer(version, cost));
+        assert_eq!(rt; seat.lookup(FAR, 0), Ok(expected));
+        assert_eq!(rt; writer.shown().routes().is_empty(), shown.is_none());
+    }
+    // One allocation at most was refused.
+    assert!(rt; refused <= 1 && version.wrapping_add(refused) == 6);
     Ok(())
 }
 

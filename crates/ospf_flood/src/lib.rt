@@ -20,9 +20,6 @@ pub use crate::due::{due_instances, is_due};
 pub use crate::laws::{
     acknowledgement_takes_what_it_names, flood_takes_its_key, flooded_waits, named_is_taken,
 };
-pub use crate::link::{
-    ALL_D_ROUTERS, ALL_SPF_ROUTERS, case_of_newer, case_of_same, flooding_address, is_flooded_out,
-    sender_at,
-};
-pub use crate::offer::flood_to;
+pub use crate::link::{case_of_newer, case_of_same, flooding_address, is_flooded_out, sender_at};
+pub use crate::offer::{Offer, flood_to};
 pub use crate::rule::{LsaRule, is_sent_back, lsa_rule};

@@ -6,5 +6,8 @@ pub mod Walk
 pub mod SameGraph
 pub mod Tree
 pub mod Search
+pub mod Waiting
+pub mod Reached
 pub mod Places
+pub mod Pairs
 pub mod Text

@@ -1,12 +1,13 @@
 -- The state of the search by candidates.
-use Rattle.std.specs.Prelude.{◌≡◌, ◌+◌, ◌<◌, ◌==◌, ◌⊎◌, ◌++◌, ◌≢◌, ◌^◌, ℕ, Bool, false, List, [], ◌∷◌, Contains, cond}
+use Rattle.std.specs.Prelude.{◌≡◌, ◌+◌, ◌*◌, ◌<◌, ◌≤◌, ◌==◌, ◌⊎◌, ◌++◌, ◌≢◌, ◌^◌, ℕ, Bool, false, List, [], ◌∷◌, Contains, Option, Some, cond, length}
+use Rattle.std.specs.List.Sorted.{IsNonDecreasingBy}
 use Rattle.ospf_graph.specs.declared.graph.Edge.{Edge}
 use Rattle.ospf_graph.specs.declared.graph.Vertex.{Vertex}
 use Rattle.ospf_graph.specs.declared.graph.Vertex.TheVariants.{Router, Network}
 use Rattle.ospf_graph.specs.declared.graph.Start.{Start}
 use Rattle.ospf_graph.specs.declared.paths.VertexStart.{VertexStart}
 use Rattle.ospf_graph.specs.declared.paths.Settled.{Settled}
-use Rattle.ospf_graph.specs.declared.paths.Candidate.{Candidate}
+use Rattle.ospf_graph.specs.declared.candidates.Candidate.{Candidate}
 use Rattle.ospf_graph.specs.Tree.{rank, extend, IsRising}
 
 abbrev pub candidate_rank : Candidate → ℕ
@@ -24,39 +25,6 @@ candidates_from v d [] = []
 candidates_from v d (e ∷ rest) =
     cond (vertex_eq e.from v) (record { edge = e; distance = d + e.cost } ∷ candidates_from v d rest) (candidates_from v d rest)
 
--- the start is there, at the end where it was not there before
-abbrev pub AddsStart : VertexStart → List VertexStart → List VertexStart → Type 0
-AddsStart begun old new = (new ≡ old ++ begun ∷ []) ⊎ (Contains old begun × (new ≡ old))
-
--- the starts at the edge's beginning, one edge further, are now at its end, and nothing else is new
-pub record BringsStarts (edge : Edge) (old new : List VertexStart) : Type 0 where
-  pub kept : (b : VertexStart) → Contains old b → Contains new b
-  pub brought : (x : Start) → Contains old (record { vertex = edge.from; start = x }) →
-      Contains new (record { vertex = edge.to; start = extend x edge.to edge.link_data })
-  pub only : (b : VertexStart) → Contains new b → Contains old b ⊎
-      ((b.vertex ≡ edge.to) × (y : Start) × Contains old (record { vertex = edge.from; start = y }) × (b.start ≡ extend y edge.to edge.link_data))
-
--- the candidate's vertex is new: it is reached, its edges become candidates, and the edge brings its starts
-pub record Reaches (c : Candidate) (edges : List Edge) (settled settled' : List Settled) (starts starts' : List VertexStart)
-    (candidates candidates' : List Candidate) : Type 0 where
-  pub fresh : (d : ℕ) → Contains settled (record { vertex = c.edge.to; distance = d }) → ⊥
-  pub settled_is : settled' ≡ settled ++ record { vertex = c.edge.to; distance = c.distance } ∷ []
-  pub candidates_is : candidates' ≡ candidates ++ candidates_from c.edge.to c.distance edges
-  pub brings : BringsStarts c.edge starts starts'
-
--- it was reached before: the edge brings its starts if it leads there as near
-pub record SeesAgain (c : Candidate) (settled settled' : List Settled) (starts starts' : List VertexStart)
-    (candidates candidates' : List Candidate) : Type 0 where
-  pub near : ℕ
-  pub at : Contains settled (record { vertex = c.edge.to; distance = near })
-  pub settled_is : settled' ≡ settled
-  pub candidates_is : candidates' ≡ candidates
-  pub brings : ((near ≡ c.distance) × BringsStarts c.edge starts starts') ⊎ ((near ≢ c.distance) × (starts' ≡ starts))
-
-abbrev pub Takes : Candidate → List Edge → (settled settled' : List Settled) (starts starts' : List VertexStart) (candidates candidates' : List Candidate) → Type 0
-Takes c edges settled settled' starts starts' candidates candidates' =
-    Reaches c edges settled settled' starts starts' candidates candidates' ⊎ SeesAgain c settled settled' starts starts' candidates candidates'
-
 -- the distance at which a vertex is reached, a start that it has, and an edge that waits at a distance
 abbrev pub AtIn : List Settled → Vertex → ℕ → Type 0
 AtIn settled v d = Contains settled (record { vertex = v; distance = d })
@@ -70,6 +38,69 @@ WaitsIn candidates e k = Contains candidates (record { edge = e; distance = k })
 abbrev pub vertex_id : Vertex → ℕ
 vertex_id (Router r) = r.0
 vertex_id (Network n) = n
+
+-- the place of a vertex in the order of vertices
+abbrev pub vertex_code : Vertex → ℕ
+vertex_code (Router r) = 2 * r.0
+vertex_code (Network n) = 2 * n + 1
+
+-- a nearer way to its end is noted
+abbrev pub IsUndercut : (ℕ → Option ℕ) → Candidate → Type 0
+IsUndercut nearest c = (near : ℕ) × (nearest (vertex_code c.edge.to) ≡ Some near) × (near < c.distance)
+
+-- where a distance is noted for a vertex, it is reached as near, or a candidate leads there at that distance
+abbrev pub AreNoted : (ℕ → Option ℕ) → List Settled → List Candidate → Type 0
+AreNoted nearest settled candidates = (v : Vertex) (near : ℕ) → nearest (vertex_code v) ≡ Some near →
+    ((d : ℕ) × (d ≤ near) × AtIn settled v d) ⊎ ((e : Edge) × (e.to ≡ v) × WaitsIn candidates e near)
+
+-- these candidates wait too, but for those that a nearer one undercuts (RFC 2328, section 16.1, step 2d)
+pub record Joins (more : List Candidate) (nearest nearest' : ℕ → Option ℕ) (old new : List Candidate) : Type 0 where
+  pub kept : (c : Candidate) → Contains old c → Contains new c
+  pub only : (c : Candidate) → Contains new c → Contains old c ⊎ Contains more c
+  pub joined : (c : Candidate) → Contains more c → Contains new c ⊎ IsUndercut nearest' c
+  pub falls : (q near : ℕ) → nearest q ≡ Some near → (d : ℕ) × (d ≤ near) × (nearest' q ≡ Some d)
+  pub noted : (settled : List Settled) → AreNoted nearest settled old → AreNoted nearest' settled new
+  pub few : length new ≤ length old + length more
+
+-- the start is there, at the end where it was not there before
+abbrev pub AddsStart : VertexStart → List VertexStart → List VertexStart → Type 0
+AddsStart begun old new = (new ≡ old ++ begun ∷ []) ⊎ (Contains old begun × (new ≡ old))
+
+-- the starts at the edge's beginning, one edge further, are now at its end, and nothing else is new
+pub record BringsStarts (edge : Edge) (old new : List VertexStart) : Type 0 where
+  pub kept : (b : VertexStart) → Contains old b → Contains new b
+  pub brought : (x : Start) → Contains old (record { vertex = edge.from; start = x }) →
+      Contains new (record { vertex = edge.to; start = extend x edge.to edge.link_data })
+  pub only : (b : VertexStart) → Contains new b → Contains old b ⊎
+      ((b.vertex ≡ edge.to) × (y : Start) × Contains old (record { vertex = edge.from; start = y }) × (b.start ≡ extend y edge.to edge.link_data))
+
+-- the candidate's vertex is new: it is reached, its edges become candidates where they are not undercut, and the edge brings its starts
+pub record Reaches (c : Candidate) (edges : List Edge) (settled settled' : List Settled) (starts starts' : List VertexStart)
+    (nearest nearest' : ℕ → Option ℕ) (candidates candidates' : List Candidate) : Type 0 where
+  pub fresh : (d : ℕ) → Contains settled (record { vertex = c.edge.to; distance = d }) → ⊥
+  pub settled_is : settled' ≡ settled ++ record { vertex = c.edge.to; distance = c.distance } ∷ []
+  pub candidates_are : Joins (candidates_from c.edge.to c.distance edges) nearest nearest' candidates candidates'
+  pub brings : BringsStarts c.edge starts starts'
+
+-- it was reached before: the edge brings its starts if it leads there as near
+pub record SeesAgain (c : Candidate) (settled settled' : List Settled) (starts starts' : List VertexStart)
+    (nearest nearest' : ℕ → Option ℕ) (candidates candidates' : List Candidate) : Type 0 where
+  pub near : ℕ
+  pub at : Contains settled (record { vertex = c.edge.to; distance = near })
+  pub settled_is : settled' ≡ settled
+  pub candidates_is : candidates' ≡ candidates
+  pub nearest_is : nearest' ≡ nearest
+  pub brings : ((near ≡ c.distance) × BringsStarts c.edge starts starts') ⊎ ((near ≢ c.distance) × (starts' ≡ starts))
+
+abbrev pub Takes : Candidate → List Edge → (settled settled' : List Settled) (starts starts' : List VertexStart) (nearest nearest' : ℕ → Option ℕ)
+    (candidates candidates' : List Candidate) → Type 0
+Takes c edges settled settled' starts starts' nearest nearest' candidates candidates' =
+    Reaches c edges settled settled' starts starts' nearest nearest' candidates candidates'
+    ⊎ SeesAgain c settled settled' starts starts' nearest nearest' candidates candidates'
+
+-- in the order of the vertices that they leave
+abbrev pub AreEdgesInOrder : List Edge → Type 0
+AreEdgesInOrder edges = IsNonDecreasingBy (λ e. vertex_code e.from) edges
 
 -- edges that raise the rank, with costs and names of their types' sizes
 pub record IsFit (edges : List Edge) : Type 0 where

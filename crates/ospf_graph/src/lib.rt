@@ -2,15 +2,21 @@
 //! (RFC 2328, section 16.1).
 #![tactic(auto)]
 
+mod candidates;
 mod graph;
 mod hop;
 mod laws;
+mod lookups;
+mod pairs;
 mod paths;
+mod reached;
 mod route;
 mod show;
 
-pub use crate::graph::{Edge, Start, Vertex};
+pub use crate::graph::{Edge, Start, Vertex, vertex_order};
 pub use crate::hop::NextHop;
 pub use crate::laws::{one_table, walk_law};
-pub use crate::paths::{Settled, ShortestPaths, VertexStart, distance_of, is_same, shortest_paths};
+pub use crate::lookups::{distance_at, starts_at};
+pub use crate::pairs::{Pairs, pair_order};
+pub use crate::paths::{Settled, ShortestPaths, VertexStart, is_same, shortest_paths};
 pub use crate::route::{Hops, Route};

@@ -1,14 +1,21 @@
 //! The shortest paths from one vertex over a list of edges.
 
-ghost use Rattle.std.specs.Prelude.{◌≡◌, ◌+◌, ◌++◌, ◌<◌, ◌≤◌, ◌↔◌, ◌⊎◌, ◌^◌, ◌∷◌, [], ℕ, All, Contains, IsTrue, IfOk, IfSome, IfNone, OnOk, MatchOption, IsPermutation};
+ghost use Rattle.std.specs.Prelude.{◌≡◌, ◌+◌, ◌*◌, ◌++◌, ◌<◌, ◌≤◌, ◌↔◌, ◌⊎◌, ◌^◌, ◌∷◌, [], ℕ, All, Contains, IsTrue, IfOk, IfSome, IfNone, OnOk, MatchOption, IsPermutation, None, Some, nat_eq, length};
+ghost use Rattle.std.specs.List.Sorted.{IsNonDecreasingBy};
+ghost use Rattle.std.specs.HashMap.{get};
 ghost use Rattle.ospf_graph.specs.declared.paths.Settled.{Settled};
-ghost use Rattle.ospf_graph.specs.Tree.{extend, IsTree};
-ghost use Rattle.ospf_graph.specs.Search.{AddsStart, AtIn, BringsStarts, IsFit, StartsIn, Takes, vertex_id, candidate_rank, candidates_from, vertex_eq};
+ghost use Rattle.ospf_graph.specs.declared.graph.Start.TheVariants.{Here};
+ghost use Rattle.ospf_graph.specs.Reached.{ArePlaces, settled_of, starts_at, starts_of};
+ghost use Rattle.ospf_graph.specs.Tree.{extend, AreLeast, IsTree};
+ghost use Rattle.ospf_graph.specs.Search.{AddsStart, AtIn, BringsStarts, IsFit, Joins, StartsIn, Takes, vertex_code, vertex_id, AreEdgesInOrder, candidates_from, vertex_eq};
 
-use crate::graph::{Edge, Start, Vertex};
+use crate::candidates::{Candidate, Candidates};
+use crate::graph::{Edge, Start, Vertex, vertex_order};
 use crate::hop::NextHop;
+use crate::reached::{Reached, bring, place_of, reach};
 use ospf_base::Addr;
 use std::alloc::{AllocError, Global};
+use std::collections::HashMap;
 
 /// A vertex that is reached, with its distance from the root.
 #[derive(Clone, Copy, Debug, PartialEq, Eq)]
@@ -24,13 +31,6 @@ pub struct VertexStart {
     pub start: Start,
 }
 
-/// An edge from a vertex that is reached, with the distance of its end along it.
-#[derive(Clone, Copy, Debug, PartialEq, Eq)]
-pub struct Candidate {
-    pub edge: Edge,
-    pub distance: u64,
-}
-
 /// Whether two vertices are one.
 pub fn is_same(a: Vertex, b: Vertex) -> bool
     ensures value { result ≡ vertex_eq a b }
@@ -44,74 +44,89 @@ pub fn is_same(a: Vertex, b: Vertex) -> bool
     }
 }
 
-// Whether the first candidate is taken before the second: it is nearer, or as near and a network.
-fn comes_before(a: &Candidate, b: &Candidate) -> bool
-    ensures { IsTrue result ↔ (candidate_rank a.now < candidate_rank b.now) }
+// The edges from a vertex, of edges in the order of the vertices that they leave.
+fn edges_from(edges: &[Edge], vertex: Vertex) -> &[Edge]
+    requires { AreEdgesInOrder edges.now }
+    ensures { (d : ℕ) → candidates_from vertex d edges.now ≡ candidates_from vertex d result.now }
 {
-    if a.distance == b.distance {
-        match (a.edge.to, b.edge.to) {
-            (Vertex::Network(_), Vertex::Router(_)) => true,
-            _ => false,
-        }
-    } else {
-        a.distance < b.distance
+    let order = vertex_order(vertex);
+    let from = edges.partition_point(|e| vertex_order(e.from) < order);
+    let to = edges.partition_point(|e| vertex_order(e.from) <= order);
+    if from <= to { &edges[from..to] } else { &[] }
+}
+
+// Whether a nearer way to a vertex is noted.
+fn is_undercut(nearest: &HashMap<u64, u64>, end: u64, distance: u64) -> bool
+    ensures { IsTrue result ↔ ((near : ℕ) × (get nat_eq nearest.now end ≡ Some near) × (near < distance)) }
+{
+    match nearest.get(&end) {
+        Some(near) => *near < distance,
+        None => false,
     }
 }
 
-// Takes a candidate of least rank.
-fn take_least(candidates: &mut Vec<Candidate>) -> Option<Candidate>
-    ensures none { IfNone result (candidates.old.items ≡ []) }
-    ensures taken { IfSome result (λ c. IsPermutation candidates.old.items (c ∷ candidates.new.items)) }
-    ensures least { IfSome result (λ c. All (λ d. candidate_rank c ≤ candidate_rank d) candidates.new.items) }
+// Adds a candidate and notes its distance, unless a nearer way to its end is noted.
+fn offer(
+    candidate: Candidate,
+    nearest: &mut HashMap<u64, u64>,
+    candidates: &mut Candidates,
+) -> Result<(), AllocError>
+    ensures joins { OnOk result (Joins (candidate ∷ []) (get nat_eq nearest.old) (get nat_eq nearest.new) candidates.old.list candidates.new.list) }
+    ensures looks { OnOk result (candidates.new.looks + length candidates.old.list ≤ candidates.old.looks + length candidates.new.list) }
 {
-    if candidates.is_empty() {
-        return None;
+    let end = vertex_order(candidate.edge.to);
+    if is_undercut(nearest, end, candidate.distance) {
+        return Ok(());
     }
-    let mut best = 0;
-    for i in 1..candidates.len() {
-        if comes_before(&candidates[i], &candidates[best]) {
-            best = i;
-        }
-    }
-    Some(candidates.swap_remove(best))
+    nearest.insert(end, candidate.distance)?;
+    candidates.push(candidate)?;
+    Ok(())
 }
 
-/// The distance of a vertex, if it is reached.
-pub fn distance_of(settled: &[Settled], vertex: Vertex) -> Option<u64>
-    ensures found { IfSome result (λ d. Contains settled.now (record { vertex = vertex; distance = d })) }
-    ensures none { IfNone result ((d : ℕ) → Contains settled.now (record { vertex = vertex; distance = d }) → ⊥) }
-{
-    for s in settled {
-        if is_same(s.vertex, vertex) {
-            return Some(s.distance);
-        }
-    }
-    None
-}
-
-// Adds the edges from a vertex at this distance to the candidates.
-fn add_candidates(
-    edges: &[Edge],
+// Offers those of some edges that leave a vertex at this distance.
+fn add_each(
+    some: &[Edge],
     vertex: Vertex,
     distance: u64,
-    candidates: &mut Vec<Candidate>,
+    nearest: &mut HashMap<u64, u64>,
+    candidates: &mut Candidates,
 ) -> Result<(), AllocError>
     requires { distance < 2 ^ 63 }
-    ensures { OnOk result (candidates.new.items ≡ candidates.old.items ++ candidates_from vertex distance edges.now) }
+    ensures joins { OnOk result (Joins (candidates_from vertex distance some.now) (get nat_eq nearest.old) (get nat_eq nearest.new) candidates.old.list candidates.new.list) }
+    ensures looks { OnOk result (candidates.new.looks + length candidates.old.list ≤ candidates.old.looks + length candidates.new.list) }
 {
-    for edge in edges {
+    for edge in some {
         if is_same(edge.from, vertex) {
-            candidates.push(Candidate {
-                edge: *edge,
+            let candidate = Candidate {
                 distance: distance + edge.cost as u64,
-            })?;
+                edge: *edge,
+            };
+            offer(candidate, nearest, candidates)?;
         }
     }
     Ok(())
 }
 
+// Offers the edges from a vertex at this distance.
+fn add_candidates(
+    edges: &[Edge],
+    vertex: Vertex,
+    distance: u64,
+    nearest: &mut HashMap<u64, u64>,
+    candidates: &mut Candidates,
+) -> Result<(), AllocError>
+    requires near { distance < 2 ^ 63 }
+    requires in_order { AreEdgesInOrder edges.now }
+    ensures joins { OnOk result (Joins (candidates_from vertex distance edges.now) (get nat_eq nearest.old) (get nat_eq nearest.new) candidates.old.list candidates.new.list) }
+    ensures looks { OnOk result (candidates.new.looks + length candidates.old.list ≤ candidates.old.looks + length candidates.new.list) }
+{
+    let some = edges_from(edges, vertex);
+    add_each(some, vertex, distance, nearest, candidates)?;
+    Ok(())
+}
+
 // A path's start, one edge further.
-fn extended(start: Start, to: Vertex, link_data: u32) -> Start
+pub(crate) fn extended(start: Start, to: Vertex, link_data: u32) -> Start
     ensures { result ≡ extend start to link_data }
 {
     match (start, to) {
@@ -130,89 +145,180 @@ fn extended(start: Start, to: Vertex, link_data: u32) -> Start
     }
 }
 
-// Whether a vertex has a start.
-fn has_start(starts: &[VertexStart], begun: VertexStart) -> bool
-    ensures { IsTrue result ↔ Contains starts.now begun }
-{
-    for b in starts {
-        if *b == begun {
-            return true;
-        }
-    }
-    false
-}
-
-// Adds a start, if it is not there yet.
-fn add_start(starts: &mut Vec<VertexStart>, begun: VertexStart) -> Result<(), AllocError>
-    ensures { OnOk result (AddsStart begun starts.old.items starts.new.items) }
-{
-    if !has_start(starts.as_slice(), begun) {
-        starts.push(begun)?;
-    }
-    Ok(())
-}
-
-// Adds the starts that an edge brings to its end.
-fn add_starts(starts: &mut Vec<VertexStart>, edge: Edge) -> Result<(), AllocError>
-    ensures { OnOk result (BringsStarts edge starts.old.items starts.new.items) }
-{
-    for i in 0..starts.len() {
-        let begun = starts[i];
-        if is_same(begun.vertex, edge.from) {
-            let start = extended(begun.start, edge.to, edge.link_data);
-            add_start(
-                starts,
-                VertexStart {
-                    vertex: edge.to,
-                    start,
-                },
-            )?;
-        }
-    }
-    Ok(())
-}
-
 // Takes a candidate: its vertex is reached, if it is new, and gets the starts that come over the candidate's
 // edge, if no shorter path reached it.
 fn take(
+    alloc: Global,
     edges: &[Edge],
     candidate: Candidate,
-    settled: &mut Vec<Settled>,
-    starts: &mut Vec<VertexStart>,
-    candidates: &mut Vec<Candidate>,
+    reached: &mut Vec<Reached>,
+    places: &mut HashMap<u64, usize>,
+    nearest: &mut HashMap<u64, u64>,
+    candidates: &mut Candidates,
 ) -> Result<(), AllocError>
-    requires { candidate.distance < 2 ^ 63 }
-    ensures { OnOk result (Takes candidate edges.now settled.old.items settled.new.items starts.old.items starts.new.items candidates.old.items candidates.new.items) }
+    requires near { candidate.distance < 2 ^ 63 }
+    requires in_order { AreEdgesInOrder edges.now }
+    requires places { ArePlaces (get nat_eq places.old) reached.old.items }
+    ensures taken { OnOk result (Takes candidate edges.now (settled_of reached.old.items) (settled_of reached.new.items) (starts_of reached.old.items) (starts_of reached.new.items) (get nat_eq nearest.old) (get nat_eq nearest.new) candidates.old.list candidates.new.list) }
+    ensures places { OnOk result (ArePlaces (get nat_eq places.new) reached.new.items) }
+    ensures looks { OnOk result (candidates.new.looks + length candidates.old.list ≤ candidates.old.looks + length candidates.new.list) }
 {
     let edge = candidate.edge;
-    match distance_of(settled.as_slice(), edge.to) {
+    match place_of(places, edge.to) {
         None => {
-            settled.push(Settled {
-                vertex: edge.to,
-                distance: candidate.distance,
-            })?;
-            add_candidates(edges, edge.to, candidate.distance, candidates)?;
-            add_starts(starts, edge)?;
+            let to = reached.len();
+            reach(alloc, reached, places, edge.to, candidate.distance)?;
+            add_candidates(edges, edge.to, candidate.distance, nearest, candidates)?;
+            bring(alloc, reached, places, edge, to)?;
             Ok(())
         }
-        Some(distance) => {
-            if distance == candidate.distance {
-                add_starts(starts, edge)?;
+        Some(to) => {
+            if reached[to].distance == candidate.distance {
+                bring(alloc, reached, places, edge, to)?;
             }
             Ok(())
         }
     }
 }
 
-/// The vertices that a root reaches, each with its distance, and the starts of their least paths.
+// Reaches the root.
+fn reach_root(
+    alloc: Global,
+    reached: &mut Vec<Reached>,
+    places: &mut HashMap<u64, usize>,
+    root: Vertex,
+) -> Result<(), AllocError>
+    requires empty { reached.old.items ≡ [] }
+    requires no_places { (q : ℕ) → get nat_eq places.old q ≡ None }
+    ensures settled { OnOk result (settled_of reached.new.items ≡ record { vertex = root; distance = 0 } ∷ []) }
+    ensures starts { OnOk result (starts_of reached.new.items ≡ record { vertex = root; start = Here } ∷ []) }
+    ensures places { OnOk result (ArePlaces (get nat_eq places.new) reached.new.items) }
+{
+    places.insert(vertex_order(root), 0)?;
+    reached.push(Reached {
+        vertex: root,
+        distance: 0,
+        starts: vec![in alloc; Start::Here]?,
+    })?;
+    Ok(())
+}
+
+// What is reached, with the distances.
+fn settled_list(alloc: Global, reached: &[Reached]) -> Result<Vec<Settled>, AllocError>
+    ensures { IfOk result (λ settled. settled.items ≡ settled_of reached.now) }
+{
+    let mut settled = Vec::with_capacity(alloc, reached.len())?;
+    for one in reached {
+        settled.push(Settled {
+            vertex: one.vertex,
+            distance: one.distance,
+        })?;
+    }
+    Ok(settled)
+}
+
+// Adds the starts of a vertex.
+fn push_starts(
+    vertex: Vertex,
+    some: &[Start],
+    starts: &mut Vec<VertexStart>,
+) -> Result<(), AllocError>
+    ensures { OnOk result (starts.new.items ≡ starts.old.items ++ starts_at vertex some.now) }
+{
+    for start in some {
+        starts.push(VertexStart {
+            vertex,
+            start: *start,
+        })?;
+    }
+    Ok(())
+}
+
+// The starts of what is reached.
+fn starts_list(alloc: Global, reached: &[Reached]) -> Result<Vec<VertexStart>, AllocError>
+    ensures { IfOk result (λ starts. starts.items ≡ starts_of reached.now) }
+{
+    let mut starts = Vec::new(alloc);
+    for one in reached {
+        push_starts(one.vertex, &one.starts, &mut starts)?;
+    }
+    Ok(starts)
+}
+
+// Puts what is reached into the order of vertices.
+fn sort_settled(settled: &mut Vec<Settled>)
+    ensures same { IsPermutation settled.old.items settled.new.items }
+    ensures in_order { IsNonDecreasingBy (λ s. vertex_code s.vertex) settled.new.items }
+{
+    settled.sort_unstable_by_key(|s| vertex_order(s.vertex));
+}
+
+// Puts starts into the order of their vertices.
+fn sort_starts(starts: &mut Vec<VertexStart>)
+    ensures same { IsPermutation starts.old.items starts.new.items }
+    ensures in_order { IsNonDecreasingBy (λ b. vertex_code b.vertex) starts.new.items }
+{
+    starts.sort_unstable_by_key(|b| vertex_order(b.vertex));
+}
+
+// The edges in the order of the vertices that they leave, in memory of their own.
+fn sorted_edges(alloc: Global, edges: &[Edge]) -> Result<Vec<Edge>, AllocError>
+    ensures same { IfOk result (λ sorted. IsPermutation edges.now sorted.items) }
+    ensures in_order { IfOk result (λ sorted. AreEdgesInOrder sorted.items) }
+{
+    let mut sorted = Vec::from_slice(alloc, edges)?;
+    sorted.sort_unstable_by_key(|e| vertex_order(e.from));
+    Ok(sorted)
+}
+
+// What a search has reached, and how often it looked at the candidates.
+#[derive(Drop)]
+struct Searched {
+    reached: Vec<Reached>,
+    looks: u64,
+}
+
+// The search from a root over edges in the order of the vertices that they leave.
+fn search(alloc: Global, edges: &[Edge], root: Vertex) -> Result<Searched, AllocError>
+    requires fit { IsFit edges.now }
+    requires root_fits { vertex_id root < 2 ^ 32 }
+    requires in_order { AreEdgesInOrder edges.now }
+    ensures tree { IfOk result (λ s. IsTree (Contains edges.now) root (AtIn (settled_of s.reached.items)) (StartsIn (starts_of s.reached.items))) }
+    ensures near { IfOk result (λ s. All (λ x. x.distance < 2 ^ 63) (settled_of s.reached.items)) }
+    ensures looks { IfOk result (λ s. s.looks ≤ 2 * length edges.now + 1) }
+{
+    let mut reached = Vec::new(alloc);
+    let mut places = HashMap::new(alloc);
+    let mut nearest = HashMap::new(alloc);
+    let mut candidates = Candidates::new(alloc);
+    reach_root(alloc, &mut reached, &mut places, root)?;
+    add_candidates(edges, root, 0, &mut nearest, &mut candidates)?;
+    while let Some(candidate) = candidates.take_least() {
+        take(
+            alloc,
+            edges,
+            candidate,
+            &mut reached,
+            &mut places,
+            &mut nearest,
+            &mut candidates,
+        )?;
+    }
+    let looks = candidates.looks();
+    Ok(Searched { reached, looks })
+}
+
+/// The vertices that a root reaches, each with its distance, the starts of their least paths, and how often
+/// the search looked at a candidate: put one among those that wait, or asked for the next.
 #[derive(Debug, Drop)]
 pub struct ShortestPaths {
     pub settled: Vec<Settled>,
     pub starts: Vec<VertexStart>,
+    pub looks: u64,
 }
 
 /// The shortest paths from a root over a list of edges (RFC 2328, section 16.1): of each vertex that some
-/// path reaches the least distance, and the starts of all paths of that length.
+/// path reaches the least distance, and the starts of all paths of that length, in the order of vertices.
 ///
 /// `AllocError` where memory runs out.
 pub fn shortest_paths(
@@ -223,22 +329,21 @@ pub fn shortest_paths(
     requires fit { IsFit edges.now }
     requires root_fits { vertex_id root < 2 ^ 32 }
     ensures tree { IfOk result (λ t. IsTree (Contains edges.now) root (AtIn t.settled.items) (StartsIn t.starts.items)) }
+    ensures least { IfOk result (λ t. AreLeast (Contains edges.now) root (AtIn t.settled.items) (StartsIn t.starts.items)) }
     ensures near { IfOk result (λ t. All (λ s. s.distance < 2 ^ 63) t.settled.items) }
+    ensures settled_in_order { IfOk result (λ t. IsNonDecreasingBy (λ s. vertex_code s.vertex) t.settled.items) }
+    ensures starts_in_order { IfOk result (λ t. IsNonDecreasingBy (λ b. vertex_code b.vertex) t.starts.items) }
+    ensures looks { IfOk result (λ t. t.looks ≤ 2 * length edges.now + 1) }
 {
-    let mut settled = Vec::new(alloc);
-    let mut starts = Vec::new(alloc);
-    let mut candidates = Vec::new(alloc);
-    settled.push(Settled {
-        vertex: root,
-        distance: 0,
-    })?;
-    starts.push(VertexStart {
-        vertex: root,
-        start: Start::Here,
-    })?;
-    add_candidates(edges, root, 0, &mut candidates)?;
-    while let Some(candidate) = take_least(&mut candidates) {
-        take(edges, candidate, &mut settled, &mut starts, &mut candidates)?;
-    }
-    Ok(ShortestPaths { settled, starts })
+    let sorted = sorted_edges(alloc, edges)?;
+    let found = search(alloc, &sorted, root)?;
+    let mut settled = settled_list(alloc, &found.reached)?;
+    let mut starts = starts_list(alloc, &found.reached)?;
+    sort_settled(&mut settled);
+    sort_starts(&mut starts);
+    Ok(ShortestPaths {
+        settled,
+        starts,
+        looks: found.looks,
+    })
 }

@@ -1,6 +1,7 @@
 -- Hello packets (RFC 2328, sections 9.5 and 10.5).
 use Rattle.std.specs.Prelude.{◌≡◌, ◌≢◌, ◌≤◌, ◌⊎◌, List, bit_and}
-use Rattle.ospf_election.specs.Election.{nobody}
+use Rattle.ospf_base.specs.Addresses.{nowhere}
+use Rattle.ospf_base.specs.Constants.{router_options}
 use Rattle.ospf_base.specs.declared.ids.RouterId.{RouterId}
 use Rattle.ospf_packet.specs.Meaning.{hello}
 use Rattle.ospf_packet.specs.Said.{body_meant}
@@ -14,20 +15,20 @@ use Rattle.ospf_base.specs.declared.interface.InterfaceKind.TheVariants.{PointTo
 pub record Agrees (i : Iface) (h : Hello) : Type 0 where
   pub interval : h.hello_interval ≡ i.settings.hello
   pub dead : h.dead_interval ≡ i.settings.dead
-  pub e_bit : bit_and h.options 2 ≡ 2
+  pub e_bit : bit_and h.options router_options ≡ router_options
   pub mask : (h.mask ≡ i.settings.mask) ⊎ (i.settings.kind ≡ PointToPoint)
 
 -- the fields of the Hello that an interface sends: it declares the DR and the Backup, and none where the link has two ends (9.5)
 pub record AreFieldsOf (i : Iface) (h : Hello) : Type 0 where
   pub mask : h.mask ≡ i.settings.mask
   pub interval : h.hello_interval ≡ i.settings.hello
-  pub options : h.options ≡ 2
+  pub options : h.options ≡ router_options
   pub priority : h.priority ≡ i.settings.priority
   pub dead : h.dead_interval ≡ i.settings.dead
   pub dr : i.settings.kind ≡ Broadcast → h.designated ≡ i.dr
   pub backup : i.settings.kind ≡ Broadcast → h.backup ≡ i.backup
-  pub no_dr : i.settings.kind ≡ PointToPoint → h.designated ≡ nobody
-  pub no_backup : i.settings.kind ≡ PointToPoint → h.backup ≡ nobody
+  pub no_dr : i.settings.kind ≡ PointToPoint → h.designated ≡ nowhere
+  pub no_backup : i.settings.kind ≡ PointToPoint → h.backup ≡ nowhere
 
 -- the Hello that an interface sends, which lists these neighbours (9.5)
 pub record IsHelloOf (i : Iface) (neighbours : List RouterId) (body : BodyValue) : Type 0 where

@@ -1,9 +1,10 @@
 -- The interface state machine (RFC 2328, sections 9.1 to 9.4).
 use Rattle.std.specs.Prelude.{◌≡◌, ◌==◌, ◌&&◌, not, ℕ, ⊤, Bool, true, false, List, Contains, if◌then◌else◌}
+use Rattle.ospf_base.specs.Addresses.{nowhere}
 use Rattle.ospf_base.specs.declared.ids.Addr.{Addr}
 use Rattle.ospf_election.specs.declared.candidate.Candidate.{Candidate}
 use Rattle.ospf_election.specs.declared.candidate.Elected.{Elected}
-use Rattle.ospf_election.specs.Election.{IsElected, AreDistinct, nobody}
+use Rattle.ospf_election.specs.Election.{IsElected, AreDistinct}
 use Rattle.ospf_iface.specs.declared.machine.Iface.{Iface}
 use Rattle.ospf_iface.specs.declared.machine.IfaceChange.{IfaceChange}
 use Rattle.ospf_iface.specs.declared.settings.IfaceSettings.{IfaceSettings}
@@ -54,7 +55,7 @@ wait_in s _ = 0
 
 -- the interface becomes operational (9.3, InterfaceUp)
 abbrev pub started : Iface → Iface
-started i = record i { state = first_state i.settings; dr = nobody; backup = nobody; wait = wait_in i.settings (first_state i.settings); hello_in = i.settings.hello }
+started i = record i { state = first_state i.settings; dr = nowhere; backup = nowhere; wait = wait_in i.settings (first_state i.settings); hello_in = i.settings.hello }
 
 -- the interface after an election (9.4, steps 5 and 6)
 abbrev pub elected : Elected → Iface → Iface
@@ -62,7 +63,7 @@ elected e i = record i { state = elected_state i.settings.address e; dr = e.dr; 
 
 -- the interface is reset (9.3, InterfaceDown)
 abbrev pub stopped : Iface → Iface
-stopped i = record i { state = Down; dr = nobody; backup = nobody; wait = 0; hello_in = 0 }
+stopped i = record i { state = Down; dr = nowhere; backup = nowhere; wait = 0; hello_in = 0 }
 
 -- the interface's own router, as it takes part in an election (9.4, step 1)
 abbrev pub own_candidate : Iface → Candidate
@@ -82,7 +83,11 @@ Does (Action.Elect candidates) before after change = Elects candidates before af
 Does Action.Stop before after change = (after ≡ stopped before) × (change ≡ told after false true false)
 Does Action.Ignore before after change = (after ≡ before) × (change ≡ told after false false false)
 
--- where the action elects, the own router is among the candidates, whose Router IDs differ
+-- the own router is among the candidates, whose Router IDs differ
+abbrev pub CanElect : List Candidate → Iface → Type 0
+CanElect candidates i = AreDistinct candidates × Contains candidates (own_candidate i)
+
+-- where the action elects, it can
 abbrev pub CanTake : Action → Iface → Type 0
-CanTake (Action.Elect candidates) i = AreDistinct candidates × Contains candidates (own_candidate i)
+CanTake (Action.Elect candidates) i = CanElect candidates i
 CanTake _ i = ⊤

@@ -1,12 +1,9 @@
 //! The Hellos of an interface (RFC 2328, sections 9.5 and 10.5).
 
 use crate::machine::Iface;
-use ospf_base::{Addr, RouterId};
+use ospf_base::{Addr, OPTIONS, RouterId};
 use ospf_packet::{BodyValue, Hello};
 use std::alloc::{AllocError, Global};
-
-/// The Options that this router sends: the E bit.
-pub const OPTIONS: u8 = 0x02;
 
 impl Iface {
     ghost use Rattle.std.specs.Prelude.{◌↔◌, IfOk, IsTrue};
@@ -28,7 +25,7 @@ impl Iface {
         ensures { AreFieldsOf self.now result }
     {
         let (designated, backup) = if self.settings.is_point_to_point() {
-            (Addr(0), Addr(0))
+            (Addr::NOWHERE, Addr::NOWHERE)
         } else {
             (self.dr, self.backup)
         };

@@ -2,11 +2,13 @@
 #![tactic(auto)]
 
 mod hello;
+mod laws;
 mod machine;
 mod settings;
 #[cfg(test)]
 mod tests;
 
-pub use crate::hello::OPTIONS;
+pub use crate::laws::own_may_be_elected;
 pub use crate::machine::{Iface, IfaceChange, IfaceEvent, IfaceState};
 pub use crate::settings::IfaceSettings;
+pub use ospf_base::OPTIONS;

@@ -63,6 +63,19 @@ impl Iface {
     ghost use Rattle.ospf_iface.specs.Hello.{IsHelloDue};
     ghost use Rattle.ospf_iface.specs.Machine.{action, is_changed, started, stopped, own_candidate, CanTake, Does, Elects, told};
 
+    /// The router itself, as it takes part in the interface's election (section 9.4, step 1).
+    pub fn own_candidate(&self) -> Candidate
+        ensures { result ≡ own_candidate self.now }
+    {
+        Candidate {
+            id: self.settings.router,
+            address: self.settings.address,
+            priority: self.settings.priority,
+            dr: self.dr,
+            backup: self.backup,
+        }
+    }
+
     // What is told of the interface as it is.
     fn change(&self, adj_ok: bool, kills: bool, hello: bool) -> IfaceChange
         ensures { result ≡ told self.now adj_ok kills hello }
@@ -91,8 +104,8 @@ impl Iface {
     {
         let state = self.settings.first_state();
         self.state = state;
-        self.dr = Addr(0);
-        self.backup = Addr(0);
+        self.dr = Addr::NOWHERE;
+        self.backup = Addr::NOWHERE;
         self.wait = match state {
             IfaceState::Waiting => self.settings.dead,
             _ => 0,
@@ -122,8 +135,8 @@ impl Iface {
         ensures told { result ≡ told self.new false true false }
     {
         self.state = IfaceState::Down;
-        self.dr = Addr(0);
-        self.backup = Addr(0);
+        self.dr = Addr::NOWHERE;
+        self.backup = Addr::NOWHERE;
         self.wait = 0;
         self.hello_in = 0;
         self.change(false, true, false)

@@ -258,3 +258,18 @@ fn the_hello_that_is_sent(rt: HostRuntime) -> Result<(), Fail> {
     }
     Ok(())
 }
+
+#[test]
+fn takes_part_with_what_it_elected(rt: HostRuntime) {
+    let mut own = iface(InterfaceKind::Broadcast, 7, IfaceState::DrOther);
+    own.dr = Addr(0x0a01_0002);
+    own.backup = Addr(0x0a01_0003);
+    let candidate = Candidate {
+        id: RouterId(0x0101_0101),
+        address: OWN,
+        priority: 7,
+        dr: Addr(0x0a01_0002),
+        backup: Addr(0x0a01_0003),
+    };
+    assert_eq!(rt; own.own_candidate(), candidate);
+}

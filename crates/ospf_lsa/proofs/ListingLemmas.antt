@@ -10,7 +10,7 @@ use Rattle.ospf_base.specs.declared.ids.Kind.{Kind}
 use Rattle.ospf_base.specs.declared.ids.Kind.TheVariants.{Router, Network}
 use Rattle.ospf_lsa.specs.declared.fault.LsaFault.TheVariants as fault
 use Rattle.ospf_base.specs.Keys.{Precedes, ls_type}
-use Rattle.ospf_base.specs.KeyOrder.{Precedes-trans, Precedes-irrefl, Precedes-cases}
+use Rattle.ospf_base.proofs.KeyOrder.{Precedes-trans, Precedes-irrefl, Precedes-cases}
 use Rattle.ospf_lsa.specs.Lsa.{IsLsa, key_of, kind_of, type_of}
 use Rattle.ospf_lsa.specs.Listing.{IsRising, IsListed, IsListing, HasKey, IsPlace, IsInserted, IsCount, IsNetworkOf, IsOfNetwork}
 

@@ -2,6 +2,7 @@
 use Rattle.std.specs.Prelude.{◌≡◌, ◌≢◌, ℕ, ◌-◌, ◌%◌, ◌<◌, ◌≤◌, ◌⊎◌, ⊤, ◌==◌, if◌then◌else◌, List, ◌++◌, length, drop, slice_index}
 use Rattle.std.specs.List.{All}
 use Rattle.ospf_base.specs.Bytes.{number_at, number_bytes, signed_at}
+use Rattle.ospf_base.specs.Faults as faults
 use Rattle.ospf_base.specs.Sums.{HasRightSum}
 use Rattle.ospf_base.specs.Masks.{IsMask}
 use Rattle.ospf_base.specs.declared.ids.RouterId.{RouterId}
@@ -108,10 +109,9 @@ fault_number fault.Number = 9
 fault_number fault.Memory = 10
 
 -- the rule of this fault does not hold, and each of a lower number does
-pub record IsFirst (Rule : LsaFault → Type 0) (f : LsaFault) : Type 0 where
-  pub broken : Rule f → ⊥
-  pub first : (g : LsaFault) → fault_number g < fault_number f → Rule g
+abbrev pub IsFirst : (LsaFault → Type 0) → LsaFault → Type 0
+IsFirst Rule f = faults.IsFirstBroken fault_number Rule f
 
 -- the bytes have this fault, and none of a lower number
 abbrev pub IsFirstFault : List ℕ → LsaFault → Type 0
-IsFirstFault lsa = IsFirst (λ f. IsFreeOf f lsa)
+IsFirstFault lsa f = IsFirst (λ g. IsFreeOf g lsa) f

@@ -1,23 +1,26 @@
 //! LSAs that are made.
 
-ghost use Rattle.std.specs.Prelude.{◌≡◌, ◌≤◌, ◌⊎◌, ◌++◌, ◌↔◌, ◌<◌, ◌^◌, ◌*◌, ◌+◌, ℕ, IsTrue, IfOk, IfErr, OnOk, All, length};
+ghost use Rattle.std.specs.Prelude.{◌≡◌, ◌≤◌, ◌++◌, ◌↔◌, ◌<◌, ◌^◌, ◌*◌, ◌+◌, ℕ, IsTrue, IfOk, IfErr, OnOk, All, length};
 ghost use Rattle.std.specs.List.{flat_map, AllByRecursion};
+ghost use Rattle.ospf_base.specs.Constants.{largest_lsa};
 ghost use Rattle.ospf_base.specs.Sums.{IsChecksum, with_checksum};
-ghost use Rattle.ospf_lsa.specs.declared.fault.LsaFault.TheVariants as fault;
 ghost use Rattle.ospf_lsa.specs.Link.{link_bytes, LinkFits};
-ghost use Rattle.ospf_lsa.specs.Lsa.{IsLsa, IsFirst, HasMask, HasCost};
-ghost use Rattle.ospf_lsa.specs.Attached.{routers_bytes};
-ghost use Rattle.ospf_lsa.specs.Value.{router_value, network_value, lsa_bytes, IsMade, ValueFits, RouterNeeds, NetworkNeeds};
+ghost use Rattle.ospf_lsa.specs.Lsa.{IsLsa, HasMask, HasCost};
+ghost use Rattle.ospf_lsa.specs.Attached.{routers_bytes, RouterFits};
+ghost use Rattle.ospf_lsa.specs.Value.{router_value, network_value, lsa_bytes, IsMade, ValueFits, RouterNeeds, NetworkNeeds, HasAll, IsUnmade, network_lsa_length, router_lsa_length};
 
 use crate::fault::LsaFault;
 use crate::header::LsaHeader;
 use crate::link::{Link, LinkKind};
 use crate::lsa::Lsa;
-use ospf_base::{Age, RouterId, is_mask, lsa_sum};
+use crate::view::ENTRIES_AT;
+use ospf_base::{Age, LARGEST_LSA, OPTIONS, RouterId, is_mask, lsa_sum};
 use std::alloc::{AllocError, Global};
 
-/// The largest LSA that fits an Update of 16,384 bytes.
-const LARGEST_LSA: usize = 16356;
+/// The size of a link without TOS metrics, and of a Router ID.
+const LINK_SIZE: usize = 12;
+
+const ROUTER_SIZE: usize = 4;
 
 // Whether each type 3 link has a mask without a hole.
 fn have_masks(links: &[Link]) -> bool
@@ -54,23 +57,24 @@ fn router_bytes(
     number: i32,
     links: &[Link],
 ) -> Result<Vec<u8>, AllocError>
-    requires { 24 + 12 * length links.now ≤ 16356 }
+    requires { router_lsa_length links.now ≤ largest_lsa }
     ensures bytes { IfOk result (λ v. v.items ≡ lsa_bytes (router_value id number links.now)) }
     ensures fits { OnOk result (ValueFits (router_value id number links.now)) }
 {
+    let size = ENTRIES_AT + LINK_SIZE * links.len();
     let count = links.len() as u16;
     let header = LsaHeader {
         age: Age::new(0),
-        options: 2,
+        options: OPTIONS,
         kind: 1,
         id: id.0,
         router: id,
         number,
         sum: 0,
-        length: 24 + 12 * count,
+        length: size as u16,
     };
     let [high, low] = count.to_be_bytes();
-    let mut bytes = Vec::with_capacity(alloc, 24 + 12 * links.len())?;
+    let mut bytes = Vec::with_capacity(alloc, size)?;
     bytes.extend_from_slice(&header.to_bytes())?;
     bytes.extend_from_slice(&[0, 0, high, low])?;
     push_links(&mut bytes, links)?;
@@ -80,7 +84,7 @@ fn router_bytes(
 // Puts the bytes of Router IDs at the end.
 fn push_routers(out: &mut Vec<u8>, routers: &[RouterId]) -> Result<(), AllocError>
     ensures routers { OnOk result (out.new.items ≡ out.old.items ++ routers_bytes routers.now) }
-    ensures fit { OnOk result (AllByRecursion (λ r. r.0 < 2 ^ 32) routers.now) }
+    ensures fit { OnOk result (AllByRecursion RouterFits routers.now) }
 {
     for router in routers {
         let number = router.0;
@@ -98,21 +102,22 @@ fn network_bytes(
     mask: u32,
     routers: &[RouterId],
 ) -> Result<Vec<u8>, AllocError>
-    requires { 24 + 4 * length routers.now ≤ 16356 }
+    requires { network_lsa_length routers.now ≤ largest_lsa }
     ensures bytes { IfOk result (λ v. v.items ≡ lsa_bytes (network_value id router number mask routers.now)) }
     ensures fits { OnOk result (ValueFits (network_value id router number mask routers.now)) }
 {
+    let size = ENTRIES_AT + ROUTER_SIZE * routers.len();
     let header = LsaHeader {
         age: Age::new(0),
-        options: 2,
+        options: OPTIONS,
         kind: 2,
         id,
         router,
         number,
         sum: 0,
-        length: 24 + 4 * routers.len() as u16,
+        length: size as u16,
     };
-    let mut bytes = Vec::with_capacity(alloc, 24 + 4 * routers.len())?;
+    let mut bytes = Vec::with_capacity(alloc, size)?;
     bytes.extend_from_slice(&header.to_bytes())?;
     bytes.extend_from_slice(&mask.to_be_bytes())?;
     push_routers(&mut bytes, routers)?;
@@ -134,9 +139,10 @@ impl Lsa {
     /// A router-LSA of a router, at age 0.
     pub fn router(alloc: Global, id: RouterId, number: i32, links: &[Link]) -> Result<Lsa, LsaFault>
         ensures ok { IfOk result (λ lsa. IsMade (router_value id number links.now) lsa) }
-        ensures fault { IfErr result (λ f. (f ≡ fault.Memory) ⊎ IsFirst (RouterNeeds number links.now) f) }
+        ensures needs { OnOk result (HasAll (RouterNeeds number links.now)) }
+        ensures fault { IfErr result (λ f. IsUnmade (RouterNeeds number links.now) f) }
     {
-        if links.len() > (LARGEST_LSA - 24) / 12 {
+        if links.len() > (LARGEST_LSA - ENTRIES_AT) / LINK_SIZE {
             return Err(LsaFault::Length);
         }
         if !have_masks(links) {
@@ -164,9 +170,10 @@ impl Lsa {
         routers: &[RouterId],
     ) -> Result<Lsa, LsaFault>
         ensures ok { IfOk result (λ lsa. IsMade (network_value id router number mask routers.now) lsa) }
-        ensures fault { IfErr result (λ f. (f ≡ fault.Memory) ⊎ IsFirst (NetworkNeeds number mask routers.now) f) }
+        ensures needs { OnOk result (HasAll (NetworkNeeds number mask routers.now)) }
+        ensures fault { IfErr result (λ f. IsUnmade (NetworkNeeds number mask routers.now) f) }
     {
-        if routers.len() > (LARGEST_LSA - 24) / 4 {
+        if routers.len() > (LARGEST_LSA - ENTRIES_AT) / ROUTER_SIZE {
             return Err(LsaFault::Length);
         }
         if !is_mask(mask) {

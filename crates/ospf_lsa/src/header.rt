@@ -2,9 +2,9 @@
 
 ghost use Rattle.std.specs.Prelude.{◌≡◌, ◌≤◌, ◌++◌, length};
 ghost use Rattle.ospf_base.specs.Bytes.{number_bytes};
-ghost use Rattle.ospf_lsa.specs.Header.{header_of, header_bytes, HeaderFits};
+ghost use Rattle.ospf_lsa.specs.Header.{header_of, header_bytes, key_of_header, HeaderFits};
 
-use ospf_base::{Age, RouterId, i32_at, u16_at, u32_at};
+use ospf_base::{Age, LsaKey, RouterId, i32_at, u16_at, u32_at};
 
 /// The header of an LSA.
 #[derive(Clone, Copy, Debug, PartialEq, Eq)]
@@ -36,6 +36,13 @@ impl LsaHeader {
             sum: u16_at(bytes, 16),
             length: u16_at(bytes, 18),
         }
+    }
+
+    /// What names the LSA (RFC 2328, section 12.1); `None` of other LS types than 1 and 2.
+    pub fn key(&self) -> Option<LsaKey>
+        ensures { result ≡ key_of_header self.now }
+    {
+        LsaKey::from_type(u32::from(self.kind), self.id, self.router)
     }
 
     /// The 20 bytes of the header.

@@ -9,12 +9,12 @@ ghost use Rattle.ospf_lsa.specs.declared.listing.ListingFault.TheVariants as fau
 use crate::lsa::Lsa;
 use ospf_base::{Kind, LsaKey, MAX_AGE, RouterId};
 use std::alloc::Global;
+use std::fmt::{self, Display, Formatter, Write};
 use std::marker::Model;
 use thiserror::Error;
 
 /// Why an LSA was not added to a listing.
 #[derive(Clone, Copy, Debug, PartialEq, Eq, Error)]
-#[error("{text}", text = self.text())]
 pub enum ListingFault {
     /// An LSA of this key is listed.
     Twice,
@@ -37,6 +37,18 @@ impl ListingFault {
             ListingFault::MaxAge => "K2 MaxAge",
             ListingFault::Memory => "K3 Memory",
         }
+    }
+}
+
+/// The number and the name, as `K1 Twice`.
+impl Display for ListingFault {
+    ghost use Rattle.std.specs.Prelude.{Some};
+    ghost use Rattle.ospf_lsa.specs.Text.{listing_fault_text};
+
+    ghost output = { λ fault. Some (listing_fault_text fault) };
+
+    fn fmt<W: Write>(&self, f: &mut Formatter<W>) -> fmt::Result {
+        f.write_str(self.text())
     }
 }
 

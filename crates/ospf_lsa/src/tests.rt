@@ -300,3 +300,41 @@ fn lists_no_other(rt: HostRuntime) -> Result<(), Fail> {
     assert_eq!(rt; listing.lsas().len(), 1);
     Ok(())
 }
+
+#[test]
+fn prints_each_fault(rt: HostRuntime) -> Result<(), Fail> {
+    let alloc = rt.alloc();
+    let faults = [
+        (LsaFault::Short, "L1 Short"),
+        (LsaFault::Length, "L2 Length"),
+        (LsaFault::Sum, "L3 Sum"),
+        (LsaFault::Kind, "L4 Kind"),
+        (LsaFault::Links, "L5 Links"),
+        (LsaFault::Mask, "L6 Mask"),
+        (LsaFault::ZeroMetric, "L7 ZeroMetric"),
+        (LsaFault::IdMismatch, "L8 IdMismatch"),
+        (LsaFault::Number, "L9 Number"),
+        (LsaFault::Memory, "L10 Memory"),
+    ];
+    for (fault, text) in faults.iter() {
+        assert_eq!(rt; format!(in alloc; "{fault}")?.as_str(), *text);
+    }
+    let twice = ListingFault::Twice;
+    assert_eq!(rt; format!(in alloc; "{twice}")?.as_str(), "K1 Twice");
+    Ok(())
+}
+
+#[test]
+fn names_what_a_header_names(rt: HostRuntime) -> Result<(), Fail> {
+    let header = LsaView::read(&NETWORK)?.header();
+    let key = LsaKey {
+        kind: Kind::Network,
+        id: 0x0a01_0002,
+        router: RouterId(0x0202_0202),
+    };
+    assert_eq!(rt; header.key(), Some(key));
+    let mut other = header;
+    other.kind = 5;
+    assert_eq!(rt; other.key(), None);
+    Ok(())
+}

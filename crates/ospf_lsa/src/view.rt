@@ -8,8 +8,13 @@ use crate::attached::Attached;
 use crate::fault::LsaFault;
 use crate::header::LsaHeader;
 use crate::link::{LinkKind, Links};
-use ospf_base::{Instance, Kind, LsaKey, RouterId, i32_at, is_mask, lsa_sum_holds, u16_at, u32_at};
+use ospf_base::{
+    Instance, Kind, LSA_HEADER, LsaKey, RouterId, i32_at, is_mask, lsa_sum_holds, u16_at, u32_at,
+};
 use std::marker::Model;
+
+/// Where the links of a router-LSA, or the Router IDs of a network-LSA, begin.
+pub(crate) const ENTRIES_AT: usize = 24;
 
 /// A slice that is an LSA.
 #[derive(Drop)]
@@ -50,14 +55,14 @@ fn have_costs(mut links: Links) -> bool
 fn has_links(bytes: &[u8]) -> bool
     ensures { IsTrue result ↔ HasLinks bytes.now }
 {
-    bytes.len() >= 24 && Links::are_all(u16_at(bytes, 22), &bytes[24..])
+    bytes.len() >= ENTRIES_AT && Links::are_all(u16_at(bytes, 22), &bytes[ENTRIES_AT..])
 }
 
 // Whether a network-LSA's body is a mask and Router IDs.
 fn has_routers(bytes: &[u8]) -> bool
     ensures { IsTrue result ↔ HasRouters bytes.now }
 {
-    bytes.len() >= 24 && (bytes.len() - 20) % 4 == 0
+    bytes.len() >= ENTRIES_AT && (bytes.len() - LSA_HEADER) % 4 == 0
 }
 
 // Whether the body of bytes with a known LS type is one of that type.
@@ -81,9 +86,9 @@ fn has_masks(bytes: &[u8]) -> bool
     ensures { IsTrue result ↔ IsFreeOf fault.Mask bytes.now }
 {
     if bytes[3] == 1 {
-        have_masks(Links::new(u16_at(bytes, 22), &bytes[24..]))
+        have_masks(Links::new(u16_at(bytes, 22), &bytes[ENTRIES_AT..]))
     } else {
-        is_mask(u32_at(bytes, 20))
+        is_mask(u32_at(bytes, LSA_HEADER))
     }
 }
 
@@ -94,7 +99,7 @@ fn has_costs(bytes: &[u8]) -> bool
     requires body { IsFreeOf fault.Links bytes.now }
     ensures { IsTrue result ↔ IsFreeOf fault.ZeroMetric bytes.now }
 {
-    bytes[3] != 1 || have_costs(Links::new(u16_at(bytes, 22), &bytes[24..]))
+    bytes[3] != 1 || have_costs(Links::new(u16_at(bytes, 22), &bytes[ENTRIES_AT..]))
 }
 
 // The first fault of the bytes.
@@ -102,7 +107,7 @@ fn first_fault(bytes: &[u8]) -> Option<LsaFault>
     ensures fault { IfSome result (λ f. IsFirstFault bytes.now f) }
     ensures none { IfNone result (IsLsa bytes.now) }
 {
-    if bytes.len() < 20 || bytes.len() < usize::from(u16_at(bytes, 18)) {
+    if bytes.len() < LSA_HEADER || bytes.len() < usize::from(u16_at(bytes, 18)) {
         return Some(LsaFault::Short);
     }
     if bytes.len() > usize::from(u16_at(bytes, 18)) {
@@ -211,7 +216,7 @@ impl<'a> LsaView<'a> {
         requires { IsRouterLsa self.now }
         ensures { result ≡ links_of self.now }
     {
-        Links::new(u16_at(self.as_bytes(), 22), &self.as_bytes()[24..])
+        Links::new(u16_at(self.as_bytes(), 22), &self.as_bytes()[ENTRIES_AT..])
     }
 
     /// The address mask of a network-LSA.
@@ -219,7 +224,7 @@ impl<'a> LsaView<'a> {
         requires { IsNetworkLsa self.now }
         ensures value { result ≡ network_mask_of self.now }
     {
-        u32_at(self.as_bytes(), 20)
+        u32_at(self.as_bytes(), LSA_HEADER)
     }
 
     /// The routers attached to the network of a network-LSA.
@@ -227,6 +232,6 @@ impl<'a> LsaView<'a> {
         requires { IsNetworkLsa self.now }
         ensures { result ≡ attached_of self.now }
     {
-        Attached::new(&self.as_bytes()[24..])
+        Attached::new(&self.as_bytes()[ENTRIES_AT..])
     }
 }

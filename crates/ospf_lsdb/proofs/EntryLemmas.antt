@@ -13,6 +13,10 @@ key_of-contents [] = refl
 key_of-contents (a ∷ []) = refl
 key_of-contents (a ∷ b ∷ rest) = refl
 
+pub key_of-bare : (contents : List ℕ) → key_of (0 ∷ 0 ∷ contents) ≡ key_in contents
+unfolding key_in
+key_of-bare contents = refl
+
 -- so it is at each age
 pub key_of-with_age : (age : ℕ) (contents : List ℕ) → key_of (with_age age (0 ∷ 0 ∷ contents)) ≡ key_in contents
 unfolding key_in

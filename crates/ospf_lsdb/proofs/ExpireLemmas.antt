@@ -3,15 +3,16 @@ use Rattle.std.proofs.Common.{◌≡◌, ◌<◌, ◌≤◌, ◌==◌, ◌&&◌,
 use Rattle.std.proofs.lemmas.Grind.{common_steps}
 use Rattle.std.specs.Map.{keys_of}
 use Rattle.std.specs.BTreeMap as tree
-use Rattle.ospf_base.specs.Sums as sums
 use Rattle.ospf_base.specs.declared.ids.LsaKey.{LsaKey}
-use Rattle.ospf_lsdb.specs.Database.{Held, same_key, held_of, is_told, expired, Puts}
+use Rattle.ospf_lsdb.specs.Database.{Held, held_of, is_told, expired, Puts}
+use Rattle.ospf_base.specs.Keys.{same_key}
 use Rattle.ospf_lsdb.specs.declared.moments.Due.{Due}
 use Rattle.ospf_lsdb.specs.declared.lsdb.Stored.{Stored}
 use Rattle.ospf_lsdb.specs.Moments.{ahead, key_cmp, has, same_due, is_coming}
 use Rattle.ospf_lsdb.specs.Timers.{age_at, held_at, stored_of, age_of, Comes, AreDue, IsStored, IsKept, stopped}
 use Rattle.ospf_lsdb.proofs.EntryLemmas.{expired-young}
-use Rattle.ospf_lsdb.proofs.MapLemmas.{same_key-eq, bool_cases, Puts-words}
+use Rattle.ospf_lsdb.proofs.MapLemmas.{bool_cases, Puts-words}
+use Rattle.ospf_base.proofs.SameKeys.{same_key-eq}
 use Rattle.ospf_lsdb.proofs.MomentLemmas.{same_due-refl}
 use Rattle.ospf_lsdb.proofs.TimerLemmas.{all_stored, stored_one, KeysRise-ordered, AreDue-put, Puts-stored, held_of-stored, comes_to}
 
@@ -182,7 +183,7 @@ expires_put clock age key m n due after kept kept_after young age_is put ops =
       | inr two ↦ two
     ] in
     let now : held_at clock after (key, stopped s) ≡ record { entry = record (held_at clock due (key, s)).entry { age = 3600 }; reached = false } =
-    held_same 3600 (age_at clock (stopped s).timer) (sums.contents s.lsa) s.tick s.by_flooding (has after (record { moment = clock; age = age_at clock (stopped s).timer; key = key })) three quiet in
+    held_same 3600 (age_at clock (stopped s).timer) s.lsa s.tick s.by_flooding (has after (record { moment = clock; age = age_at clock (stopped s).timer; key = key })) three quiet in
     let less : (held_at clock due (key, s)).entry.age < 3600 = subst (λ (n : ℕ). n < 3600) (sym found.2) young in
     let was : held_of (map (held_at clock due) m.entries) key ≡ Some (held_at clock due (key, s)) = held_of-stored clock due m.entries kept.stored key ∙ ap (λ (o : Option Stored). option_map (λ t. held_at clock due (key, t)) o) found.1 in
     let same : Some (held_at clock after (key, stopped s)) ≡ option_map expired (held_of (map (held_at clock due) m.entries) key) =

@@ -4,7 +4,8 @@ use Rattle.std.specs.BTreeMap as tree
 use Rattle.ospf_base.specs.Sums as sums
 use Rattle.ospf_base.specs.declared.ids.LsaKey.{LsaKey}
 use Rattle.ospf_lsa.specs.Header.{header_of}
-use Rattle.ospf_lsdb.specs.Database.{Held, key_in, entry_from, same_key, Puts, Installs}
+use Rattle.ospf_lsdb.specs.Database.{Held, key_in, entry_from, Puts, Installs}
+use Rattle.ospf_base.specs.Keys.{same_key}
 use Rattle.ospf_lsdb.specs.declared.moments.Due.{Due}
 use Rattle.ospf_lsdb.specs.declared.lsdb.Stored.{Stored}
 use Rattle.ospf_lsdb.specs.declared.lsdb.Timer.{Timer}
@@ -148,7 +149,7 @@ replaces_other clock old age key es due after c are is differ ops = record {
 -- what is kept of an install
 pub installs_kept : (clock age : ℕ) (key : LsaKey) (s : Stored) (m n : BTreeMap LsaKey Stored) (due after : List Due) → IsKept clock m.entries due → tree.IsOrdered key_cmp n
     → ((q : LsaKey) → stored_of n.entries q ≡ (if same_key key q then Some s else stored_of m.entries q))
-    → key_in (sums.contents s.lsa) ≡ key → age_at clock s.timer ≡ age → (age ≡ 3600 → s.timer ≡ Expired) → age ≤ 3600 → Replaces clock age key due after → IsKept clock n.entries after
+    → key_in s.lsa ≡ key → age_at clock s.timer ≡ age → (age ≡ 3600 → s.timer ≡ Expired) → age ≤ 3600 → Replaces clock age key due after → IsKept clock n.entries after
 installs_kept clock age key s m n due after kept ordered put named aged timed fits replaces =
     IsKept-put clock key (Some s) m n due after kept ordered put
     (λ t is. subst (λ (x : Stored). IsStored clock (key, x)) (stored_is s t is) (named, omega arith, λ e. timed (sym aged ∙ e)))
@@ -160,7 +161,7 @@ installs_kept clock age key s m n due after kept ordered put named aged timed fi
 
 -- an entry as it begins
 held_new : (clock age : ℕ) (key : LsaKey) (lsa : List ℕ) (timer : Timer) (tick : ℕ) (by_flooding : Bool) (after : List Due) → age_at clock timer ≡ age → age ≡ (header_of lsa).age → has after (record { moment = clock; age = age; key = key }) ≡ false
-    → held_at clock after (key, record { lsa = lsa; timer = timer; tick = tick; by_flooding = by_flooding }) ≡ record { entry = entry_from lsa tick by_flooding; reached = false }
+    → held_at clock after (key, record { lsa = sums.contents lsa; timer = timer; tick = tick; by_flooding = by_flooding }) ≡ record { entry = entry_from lsa tick by_flooding; reached = false }
 unfolding entry_from
 held_new clock age key lsa timer tick by_flooding after aged is quiet =
     ap (λ (n : ℕ). held_made n (sums.contents lsa) tick by_flooding (has after (record { moment = clock; age = n; key = key }))) aged
@@ -169,14 +170,14 @@ held_new clock age key lsa timer tick by_flooding after aged is quiet =
 
 -- what an install does
 pub installs_put : (clock age : ℕ) (key : LsaKey) (lsa : List ℕ) (timer : Timer) (tick : ℕ) (by_flooding : Bool) (m n : BTreeMap LsaKey Stored) (due after : List Due) → IsKept clock m.entries due → IsKept clock n.entries after
-    → ((q : LsaKey) → stored_of n.entries q ≡ (if same_key key q then Some (record { lsa = lsa; timer = timer; tick = tick; by_flooding = by_flooding }) else stored_of m.entries q))
+    → ((q : LsaKey) → stored_of n.entries q ≡ (if same_key key q then Some (record { lsa = sums.contents lsa; timer = timer; tick = tick; by_flooding = by_flooding }) else stored_of m.entries q))
     → key ≡ key_in (entry_from lsa tick by_flooding).contents → age_at clock timer ≡ age → age ≡ (header_of lsa).age → Replaces clock age key due after
     → Installs (entry_from lsa tick by_flooding) (map (held_at clock due) m.entries) (map (held_at clock after) n.entries)
 installs_put clock age key lsa timer tick by_flooding m n due after kept kept_after put named aged is replaces =
-    let s : Stored = record { lsa = lsa; timer = timer; tick = tick; by_flooding = by_flooding } in
+    let s : Stored = record { lsa = sums.contents lsa; timer = timer; tick = tick; by_flooding = by_flooding } in
     subst (λ (k : LsaKey). Puts k (Some (record { entry = entry_from lsa tick by_flooding; reached = false })) (map (held_at clock due) m.entries) (map (held_at clock after) n.entries)) named
     (subst (λ (h : Held). Puts key (Some h) (map (held_at clock due) m.entries) (map (held_at clock after) n.entries)) (held_new clock age key lsa timer tick by_flooding after aged is replaces.quiet)
-    (Puts-stored clock key (Some (record { lsa = lsa; timer = timer; tick = tick; by_flooding = by_flooding })) m.entries n.entries due after kept.stored kept_after.stored put replaces.others))
+    (Puts-stored clock key (Some (record { lsa = sums.contents lsa; timer = timer; tick = tick; by_flooding = by_flooding })) m.entries n.entries due after kept.stored kept_after.stored put replaces.others))
 
 -- ---- nothing changes where memory runs out
 
@@ -204,5 +205,5 @@ same_kept clock es due after kept same = record {
 pub same_view : (clock : ℕ) (es : List (LsaKey × Stored)) (due after : List Due) → ((q : Due) → has after q ≡ has due q) → map (held_at clock after) es ≡ map (held_at clock due) es
 same_view clock [] due after same = refl
 same_view clock (e ∷ es) due after same =
-    ap (λ (b : Bool). held_made (age_at clock e.1.timer) (sums.contents e.1.lsa) e.1.tick e.1.by_flooding b ∷ map (held_at clock after) es) (same (record { moment = clock; age = age_at clock e.1.timer; key = e.0 }))
+    ap (λ (b : Bool). held_made (age_at clock e.1.timer) e.1.lsa e.1.tick e.1.by_flooding b ∷ map (held_at clock after) es) (same (record { moment = clock; age = age_at clock e.1.timer; key = e.0 }))
     ∙ ap (λ (hs : List Held). held_at clock due e ∷ hs) (same_view clock es due after same)

@@ -5,7 +5,6 @@ use Rattle.std.proofs.lemmas.List.Elements.{filter-append}
 use Rattle.std.specs.List.{AllByRecursion}
 use Rattle.std.specs.Map.{values_of}
 use Rattle.ospf_base.specs.Keys.{Precedes}
-use Rattle.ospf_base.specs.Sums as sums
 use Rattle.ospf_base.specs.declared.ids.LsaKey.{LsaKey}
 use Rattle.ospf_lsa.specs.Lsa.{key_of}
 use Rattle.ospf_lsdb.specs.Database.{Held, key_at, key_in, lsa_of, is_fresh, listed, listed_of, IsRising}
@@ -19,11 +18,11 @@ use Rattle.ospf_lsdb.proofs.ReachedLemmas.{listed_before}
 
 -- a stored entry as it is at a moment, without what its key tells
 abbrev pub bare : ℕ → Stored → Held
-bare clock s = record { entry = record { age = age_at clock s.timer; contents = sums.contents s.lsa; tick = s.tick; by_flooding = s.by_flooding }; reached = false }
+bare clock s = record { entry = record { age = age_at clock s.timer; contents = s.lsa; tick = s.tick; by_flooding = s.by_flooding }; reached = false }
 
 bare_listed : (clock : ℕ) (due : List Due) (es : List (LsaKey × Stored)) → listed (map (held_at clock due) es) ≡ listed (map (bare clock) (values_of es))
 bare_listed clock due [] = refl
-bare_listed clock due (e ∷ es) = elim (bool_cases (is_fresh (bare clock e.1))) [
+bare_listed clock due (e ∷ es) = elim (bool_cases (is_fresh (bare clock e.1).entry)) [
   | inl one ↦ rw one (ap (λ (t : List (List ℕ)). lsa_of (bare clock e.1).entry ∷ t) (bare_listed clock due es))
   | inr two ↦ rw two (bare_listed clock due es)
 ]
@@ -34,7 +33,7 @@ bare_after clock due k (e ∷ es) after = (after.0, bare_after clock due k es af
 
 bare_rising : (clock : ℕ) (due : List Due) (es : List (LsaKey × Stored)) → IsRising (map (held_at clock due) es) → IsRising (map (bare clock) (values_of es))
 bare_rising clock due [] rises = tt
-bare_rising clock due (e ∷ es) rises = (bare_after clock due (key_in (sums.contents e.1.lsa)) es rises.0, bare_rising clock due es rises.1)
+bare_rising clock due (e ∷ es) rises = (bare_after clock due (key_in e.1.lsa) es rises.0, bare_rising clock due es rises.1)
 
 -- no stored entry is older than MaxAge
 pub age_among : (clock : ℕ) (es : List (LsaKey × Stored)) → AllByRecursion (IsStored clock) es → (done : List Stored) (s : Stored) (rest : List Stored) → values_of es ≡ done ++ s ∷ rest → age_at clock s.timer ≤ 3600
@@ -53,14 +52,14 @@ bare_last clock due es rises done s rest is =
 
 listed_one : (h : Held) → listed (h ∷ []) ≡ listed_of h.entry
 unfolding listed_of
-listed_one h = elim (bool_cases (is_fresh h)) [ inl one ↦ rw one refl | inr two ↦ rw two refl ]
+listed_one h = elim (bool_cases (is_fresh h.entry)) [ inl one ↦ rw one refl | inr two ↦ rw two refl ]
 
 -- one stored entry more
 pub bare_more : (clock : ℕ) (done : List Stored) (s : Stored) → listed (map (bare clock) (done ++ s ∷ [])) ≡ listed (map (bare clock) done) ++ listed_of (bare clock s).entry
 bare_more clock done s =
     ap listed (map-append (bare clock) done (s ∷ []))
-    ∙ ap (λ (hs : List Held). map (λ h. lsa_of h.entry) hs) (filter-append is_fresh (map (bare clock) done) (bare clock s ∷ []))
-    ∙ map-append (λ (h : Held). lsa_of h.entry) (filter is_fresh (map (bare clock) done)) (filter is_fresh (bare clock s ∷ []))
+    ∙ ap (λ (hs : List Held). map (λ h. lsa_of h.entry) hs) (filter-append (λ (h : Held). is_fresh h.entry) (map (bare clock) done) (bare clock s ∷ []))
+    ∙ map-append (λ (h : Held). lsa_of h.entry) (filter (λ (h : Held). is_fresh h.entry) (map (bare clock) done)) (filter (λ (h : Held). is_fresh h.entry) (bare clock s ∷ []))
     ∙ ap (λ (t : List (List ℕ)). listed (map (bare clock) done) ++ t) (listed_one (bare clock s))
 
 -- all of them

@@ -1,15 +1,13 @@
 -- The laws on databases.
-use Rattle.std.proofs.Common.{◌≡◌, inl, inr, nat_lt, true, false, List, [], ◌∷◌, refl, ap, sym, ◌∙◌, subst, Option, None, Some, option_map}
+use Rattle.std.proofs.Common.{◌≡◌, inl, inr, nat_lt, false, List, [], ◌∷◌, refl, ap, sym, ◌∙◌, subst, Option, None, Some, option_map}
 use Rattle.ospf_base.specs.declared.ids.LsaKey.{LsaKey}
-use Rattle.ospf_base.specs.Keys.{Precedes}
-use Rattle.ospf_base.specs.KeyOrder.{Precedes-cases}
-use Rattle.ospf_lsdb.specs.Database.{Entry, Held, key_at, key_in, same_key, held_of, aged, older, IsRising}
-use Rattle.ospf_lsdb.specs.Laws.{SameKeysAreEqual, InstallsOne, TickAgesAll, OneDatabaseOfAMap}
-use Rattle.ospf_lsdb.proofs.MapLemmas.{bool_cases, same_key-eq, same_key-refl, after-none}
+use Rattle.ospf_base.specs.Keys.{Precedes, same_key}
+use Rattle.ospf_base.proofs.KeyOrder.{Precedes-cases}
+use Rattle.ospf_lsdb.specs.Database.{Entry, Held, key_at, key_in, held_of, aged, older, IsRising}
+use Rattle.ospf_lsdb.specs.Laws.{InstallsOne, TickAgesAll, OneDatabaseOfAMap}
+use Rattle.ospf_lsdb.proofs.MapLemmas.{bool_cases, after-none}
+use Rattle.ospf_base.proofs.SameKeys.{same_key-eq, same_key-refl}
 use Rattle.ospf_lsdb.proofs.RisingLemmas.{all_after-trans}
-
-pub same_keys : SameKeysAreEqual
-same_keys a b = (same_key-eq a b, λ e. subst (λ (k : LsaKey). same_key a k ≡ true) e (same_key-refl a))
 
 pub installs : InstallsOne
 installs e before after puts key = ap (λ (o : Option Held). option_map (λ h. h.entry) o) (puts key) ∙ elim (bool_cases (same_key (key_in e.contents) key)) [

@@ -1,33 +1,10 @@
 -- Databases as maps.
-use Rattle.std.proofs.Common.{◌≡◌, ◌⊎◌, inl, inr, Bool, true, false, List, [], ◌∷◌, ◌++◌, refl, ap, sym, ◌∙◌, subst, arith, map, Option, None, Some, option_map, if◌then◌else◌}
+use Rattle.std.proofs.Common.{◌≡◌, ◌⊎◌, inl, inr, Bool, true, false, List, [], ◌∷◌, ◌++◌, refl, ap, sym, ◌∙◌, subst, map, Option, None, Some, option_map, if◌then◌else◌}
 use Rattle.ospf_base.specs.declared.ids.LsaKey.{LsaKey}
-use Rattle.ospf_base.specs.Keys.{Precedes}
-use Rattle.ospf_base.specs.KeyOrder.{Precedes-cases}
-use Rattle.ospf_lsdb.specs.Database.{Held, key_at, same_key, held_of, Puts}
+use Rattle.ospf_base.specs.Keys.{same_key}
+use Rattle.ospf_base.proofs.SameKeys.{same_key-refl, same_key-eq, same_key-apart, same_key-apart_after}
+use Rattle.ospf_lsdb.specs.Database.{Held, key_at, held_of, Puts}
 use Rattle.ospf_lsdb.specs.Places.{AllBefore, AllAfter}
-
--- a key is the same as itself, and as no other
-pub same_key-refl : (a : LsaKey) → same_key a a ≡ true
-unfolding same_key
-same_key-refl a = grind arith
-
-pub same_key-apart : (a b : LsaKey) → Precedes a b → same_key a b ≡ false
-unfolding same_key
-same_key-apart a b (inl p) = grind arith
-same_key-apart a b (inr (k, inl p)) = grind arith
-same_key-apart a b (inr (k, inr p)) = grind arith
-
-pub same_key-apart_after : (a b : LsaKey) → Precedes b a → same_key a b ≡ false
-unfolding same_key
-same_key-apart_after a b (inl p) = grind arith
-same_key-apart_after a b (inr (k, inl p)) = grind arith
-same_key-apart_after a b (inr (k, inr p)) = grind arith
-
-pub same_key-eq : (a b : LsaKey) → same_key a b ≡ true → a ≡ b
-same_key-eq a b is = elim (Precedes-cases a b) [
-  | inl e ↦ e
-  | inr s ↦ elim s [ inl lt ↦ absurd (let no = same_key-apart a b lt in cc) | inr gt ↦ absurd (let no = same_key-apart_after a b gt in cc) ]
-]
 
 -- what stands before a key is not of it
 before-none : (key : LsaKey) (xs : List Held) → AllBefore key xs → held_of xs key ≡ None

@@ -5,10 +5,11 @@ use Rattle.std.specs.List.{list_any}
 use Rattle.std.specs.Ordering.{is_eq}
 use Rattle.std.specs.BTreeSet as sorted
 use Rattle.ospf_base.specs.declared.ids.LsaKey.{LsaKey}
-use Rattle.ospf_lsdb.specs.Database.{same_key}
+use Rattle.ospf_base.specs.Keys.{same_key}
 use Rattle.ospf_lsdb.specs.declared.moments.Due.{Due}
 use Rattle.ospf_lsdb.specs.Moments.{due_cmp, same_due, has, is_at, keys_at}
-use Rattle.ospf_lsdb.proofs.MapLemmas.{same_key-eq, same_key-refl, bool_cases}
+use Rattle.ospf_lsdb.proofs.MapLemmas.{bool_cases}
+use Rattle.ospf_base.proofs.SameKeys.{same_key-eq, same_key-refl}
 use Rattle.ospf_lsdb.proofs.OrderLemmas.{is_eq-due_cmp, in_range, first_key}
 use Rattle.std.specs.declared.ops.Bound.TheVariants.{Included, Excluded}
 

@@ -7,9 +7,8 @@ use Rattle.std.specs.declared.cmp.Ordering.TheVariants.{Less, Equal, Greater}
 use Rattle.ospf_base.specs.declared.ids.LsaKey.{LsaKey}
 use Rattle.ospf_base.specs.declared.ids.Kind.{Kind}
 use Rattle.ospf_base.specs.declared.ids.Kind.TheVariants.{Router, Network}
-use Rattle.ospf_base.specs.Keys.{ls_type, Precedes}
+use Rattle.ospf_base.specs.Keys.{ls_type, Precedes, same_key}
 use Rattle.ospf_base.specs.contracts.ids.KindOrd.TheImpl as kind_ord
-use Rattle.ospf_lsdb.specs.Database.{same_key}
 use Rattle.ospf_lsdb.specs.declared.moments.Due.{Due}
 use Rattle.std.specs.BTreeMap.Range.{range_contains}
 use Rattle.std.specs.declared.ops.Bound.TheVariants.{Included, Excluded}

@@ -4,7 +4,7 @@ use Rattle.std.proofs.lemmas.List.{get_or_default, drop_more, take-append-drop}
 use Rattle.std.specs.List.{insert, remove}
 use Rattle.ospf_base.specs.declared.ids.LsaKey.{LsaKey}
 use Rattle.ospf_base.specs.Keys.{Precedes}
-use Rattle.ospf_base.specs.KeyOrder.{Precedes-cases}
+use Rattle.ospf_base.proofs.KeyOrder.{Precedes-cases}
 use Rattle.ospf_lsdb.specs.Database.{Held, key_at, held_of, IsRising, IsDatabase, Puts}
 use Rattle.ospf_lsdb.specs.Places.{AllBefore, AllAfter, IsFound, IsFree}
 use Rattle.ospf_lsdb.proofs.MapLemmas.{held_of-here, held_of-none, Puts-insert, Puts-set, Puts-remove}

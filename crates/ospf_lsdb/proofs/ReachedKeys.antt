@@ -4,16 +4,17 @@ use Rattle.std.proofs.lemmas.Bool.{eqb-true}
 use Rattle.std.specs.List.{AllByRecursion}
 use Rattle.std.specs.List.Sorted.{IsStrictlySortedBy}
 use Rattle.std.specs.declared.cmp.Ordering.TheVariants.{Less}
-use Rattle.ospf_base.specs.Keys.{Precedes}
-use Rattle.ospf_base.specs.KeyOrder.{Precedes-cases, Precedes-trans}
+use Rattle.ospf_base.specs.Keys.{Precedes, same_key}
+use Rattle.ospf_base.proofs.KeyOrder.{Precedes-cases, Precedes-trans}
 use Rattle.ospf_base.specs.declared.ids.LsaKey.{LsaKey}
-use Rattle.ospf_lsdb.specs.Database.{Held, key_at, same_key, held_of, is_some_and, reached_at, IsRising}
+use Rattle.ospf_lsdb.specs.Database.{Held, key_at, held_of, is_some_and, reached_at, IsRising}
 use Rattle.ospf_lsdb.specs.Places.{AllAfter}
 use Rattle.ospf_lsdb.specs.declared.moments.Due.{Due}
 use Rattle.ospf_lsdb.specs.declared.lsdb.Stored.{Stored}
 use Rattle.ospf_lsdb.specs.Moments.{due_cmp, has, same_due, is_at, keys_at, among}
 use Rattle.ospf_lsdb.specs.Timers.{age_at, held_at, stored_of, age_of, AreDue, KeysRise, IsKept}
-use Rattle.ospf_lsdb.proofs.MapLemmas.{same_key-eq, same_key-refl, same_key-apart_after, bool_cases}
+use Rattle.ospf_lsdb.proofs.MapLemmas.{bool_cases}
+use Rattle.ospf_base.proofs.SameKeys.{same_key-eq, same_key-refl, same_key-apart_after}
 use Rattle.ospf_lsdb.proofs.MomentLemmas.{same_due-eq, same_due-refl, split_and, made_is, apart_at}
 use Rattle.ospf_lsdb.proofs.OrderLemmas.{due_cmp-less}
 use Rattle.ospf_lsdb.proofs.RingLemmas.{ahead-now}

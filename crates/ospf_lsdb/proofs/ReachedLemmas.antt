@@ -7,7 +7,7 @@ use Rattle.std.proofs.lemmas.Grind.{common_steps}
 use Rattle.std.specs.List.{AllByRecursion}
 use Rattle.ospf_base.specs.declared.ids.LsaKey.{LsaKey}
 use Rattle.ospf_base.specs.Keys.{Precedes}
-use Rattle.ospf_base.specs.KeyOrder.{Precedes-trans, Precedes-irrefl}
+use Rattle.ospf_base.proofs.KeyOrder.{Precedes-trans, Precedes-irrefl}
 use Rattle.ospf_lsa.specs.Lsa.{key_of}
 use Rattle.ospf_lsa.specs.Listing as lsas
 use Rattle.ospf_lsdb.specs.Database.{Entry, Held, key_at, lsa_of, is_fresh, listed, listed_of, reached_at, IsRising}
@@ -31,16 +31,16 @@ unfolding reached_at
 reached_at-none age = refl
 
 -- entries in order, one more
-pub listed-yes : (db : List Held) (i : ℕ) (d : Held) → i < length db → is_fresh (get_or db i d) ≡ true → listed (take (i + 1) db) ≡ listed (take i db) ++ lsa_of (get_or db i d).entry ∷ []
+pub listed-yes : (db : List Held) (i : ℕ) (d : Held) → i < length db → is_fresh (get_or db i d).entry ≡ true → listed (take (i + 1) db) ≡ listed (take i db) ++ lsa_of (get_or db i d).entry ∷ []
 listed-yes db i d within fresh =
-    ap listed (take_more db i d within) ∙ ap (λ (hs : List Held). map (λ h. lsa_of h.entry) hs) (filter-append is_fresh (take i db) (get_or db i d ∷ []))
-    ∙ map-append (λ (h : Held). lsa_of h.entry) (filter is_fresh (take i db)) (filter is_fresh (get_or db i d ∷ []))
+    ap listed (take_more db i d within) ∙ ap (λ (hs : List Held). map (λ h. lsa_of h.entry) hs) (filter-append (λ (h : Held). is_fresh h.entry) (take i db) (get_or db i d ∷ []))
+    ∙ map-append (λ (h : Held). lsa_of h.entry) (filter (λ (h : Held). is_fresh h.entry) (take i db)) (filter (λ (h : Held). is_fresh h.entry) (get_or db i d ∷ []))
     ∙ (rw fresh refl)
 
-pub listed-no : (db : List Held) (i : ℕ) (d : Held) → i < length db → is_fresh (get_or db i d) ≡ false → listed (take (i + 1) db) ≡ listed (take i db)
+pub listed-no : (db : List Held) (i : ℕ) (d : Held) → i < length db → is_fresh (get_or db i d).entry ≡ false → listed (take (i + 1) db) ≡ listed (take i db)
 listed-no db i d within old =
-    ap listed (take_more db i d within) ∙ ap (λ (hs : List Held). map (λ h. lsa_of h.entry) hs) (filter-append is_fresh (take i db) (get_or db i d ∷ []))
-    ∙ map-append (λ (h : Held). lsa_of h.entry) (filter is_fresh (take i db)) (filter is_fresh (get_or db i d ∷ []))
+    ap listed (take_more db i d within) ∙ ap (λ (hs : List Held). map (λ h. lsa_of h.entry) hs) (filter-append (λ (h : Held). is_fresh h.entry) (take i db) (get_or db i d ∷ []))
+    ∙ map-append (λ (h : Held). lsa_of h.entry) (filter (λ (h : Held). is_fresh h.entry) (take i db)) (filter (λ (h : Held). is_fresh h.entry) (get_or db i d ∷ []))
     ∙ (rw old (append_nil (listed (take i db))))
   where
     append_nil : (xs : List (List ℕ)) → xs ++ [] ≡ xs
@@ -65,7 +65,7 @@ nothing_more xs e old = sym (ap (λ (t : List (List ℕ)). xs ++ t) (listed_of-n
 -- one entry more
 pub listed_more : (db : List Held) (i : ℕ) (d : Held) → i < length db → listed (take (i + 1) db) ≡ listed (take i db) ++ listed_of (get_or db i d).entry
 unfolding listed_of
-listed_more db i d within = elim (bool_cases (is_fresh (get_or db i d))) [
+listed_more db i d within = elim (bool_cases (is_fresh (get_or db i d).entry)) [
   | inl one ↦ rw one (listed-yes db i d within one)
   | inr two ↦ rw two (listed-no db i d within two ∙ sym (append_nil (listed (take i db))))
 ]
@@ -73,7 +73,7 @@ listed_more db i d within = elim (bool_cases (is_fresh (get_or db i d))) [
 -- what is listed of entries before a key stands before it
 pub listed_before : (key : LsaKey) (db : List Held) → AllBefore key db → AllByRecursion (λ lsa. Precedes (key_of lsa) key) (listed db)
 listed_before key [] below = tt
-listed_before key (h ∷ hs) below = elim (bool_cases (is_fresh h)) [
+listed_before key (h ∷ hs) below = elim (bool_cases (is_fresh h.entry)) [
   | inl one ↦ rw one (subst (λ (k : LsaKey). Precedes k key) (sym (key_of-with_age h.entry.age h.entry.contents)) below.0, listed_before key hs below.1)
   | inr two ↦ rw two (listed_before key hs below.1)
 ]

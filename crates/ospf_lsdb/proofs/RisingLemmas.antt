@@ -6,7 +6,7 @@ use Rattle.std.proofs.lemmas.List.Elements.{All-from_recursion}
 use Rattle.std.specs.List.{AllByRecursion}
 use Rattle.ospf_base.specs.declared.ids.LsaKey.{LsaKey}
 use Rattle.ospf_base.specs.Keys.{Precedes}
-use Rattle.ospf_base.specs.KeyOrder.{Precedes-trans}
+use Rattle.ospf_base.proofs.KeyOrder.{Precedes-trans}
 use Rattle.ospf_lsdb.specs.Database.{Held, key_at, IsRising, IsDatabase, older, expired, is_fresh}
 use Rattle.ospf_lsdb.specs.Places.{AllBefore, AllAfter}
 use Rattle.ospf_lsdb.proofs.MapLemmas.{bool_cases}
@@ -77,11 +77,11 @@ split_at db at d within = sym (take-append-drop at db) ∙ ap (λ (t : List Held
 -- what coming to MaxAge keeps
 pub key_at-expired : (h : Held) → key_at (expired h) ≡ key_at h
 unfolding expired
-key_at-expired h = elim (bool_cases (is_fresh h)) [ inl one ↦ rw one refl | inr two ↦ rw two refl ]
+key_at-expired h = elim (bool_cases (is_fresh h.entry)) [ inl one ↦ rw one refl | inr two ↦ rw two refl ]
 
 pub age-expired : (h : Held) → h.entry.age ≤ 3600 → (expired h).entry.age ≤ 3600
 unfolding expired
-age-expired h fits = elim (bool_cases (is_fresh h)) [ inl one ↦ rw one (omega arith) | inr two ↦ rw two fits ]
+age-expired h fits = elim (bool_cases (is_fresh h.entry)) [ inl one ↦ rw one (omega arith) | inr two ↦ rw two fits ]
 
 -- what growing older keeps
 pub key_at-older : (h : Held) → key_at (older h) ≡ key_at h

@@ -7,7 +7,6 @@ use Rattle.std.specs.List.Sorted.{IsStrictlySortedBy}
 use Rattle.std.specs.Map.{keys_of}
 use Rattle.std.specs.declared.cmp.Ordering.TheVariants.{Less}
 use Rattle.ospf_base.specs.Keys.{Precedes}
-use Rattle.ospf_base.specs.Sums as sums
 use Rattle.ospf_base.specs.declared.ids.LsaKey.{LsaKey}
 use Rattle.ospf_lsdb.specs.Database.{Held, is_told, older, reached_at, Ages}
 use Rattle.ospf_lsdb.specs.declared.moments.Due.{Due}
@@ -128,12 +127,12 @@ pub record Passes (clock : ℕ) (due after : List Due) (k : LsaKey) (s t : Store
   pub held : held_at (then_at clock) after (k, t) ≡ older (held_at clock due (k, s))
 
 held_young : (clock : ℕ) (es : List (LsaKey × Stored)) (due after : List Due) (k : LsaKey) (s t : Stored) → clock < 65536 → AreDue clock es due → Forgets clock due after → stored_of es k ≡ Some s
-    → age_at clock s.timer < 3600 → age_at (then_at clock) t.timer ≡ age_at clock s.timer + 1 → held_at (then_at clock) after (k, t) ≡ held_made (age_at (then_at clock) t.timer) (sums.contents s.lsa) s.tick s.by_flooding (has after (record { moment = then_at clock; age = age_at (then_at clock) t.timer; key = k }))
+    → age_at clock s.timer < 3600 → age_at (then_at clock) t.timer ≡ age_at clock s.timer + 1 → held_at (then_at clock) after (k, t) ≡ held_made (age_at (then_at clock) t.timer) s.lsa s.tick s.by_flooding (has after (record { moment = then_at clock; age = age_at (then_at clock) t.timer; key = k }))
     → held_at (then_at clock) after (k, t) ≡ older (held_at clock due (k, s))
 held_young clock es due after k s t c are ops is less aged same =
     same
-    ∙ ap (λ (n : ℕ). held_made n (sums.contents s.lsa) s.tick s.by_flooding (has after (record { moment = then_at clock; age = n; key = k }))) aged
-    ∙ ap (λ (b : Bool). held_made (age_at clock s.timer + 1) (sums.contents s.lsa) s.tick s.by_flooding b) (told (is_told (age_at clock s.timer + 1)) refl)
+    ∙ ap (λ (n : ℕ). held_made n s.lsa s.tick s.by_flooding (has after (record { moment = then_at clock; age = n; key = k }))) aged
+    ∙ ap (λ (b : Bool). held_made (age_at clock s.timer + 1) s.lsa s.tick s.by_flooding b) (told (is_told (age_at clock s.timer + 1)) refl)
     ∙ sym (older-young (held_at clock due (k, s)) less)
   where
     told : (b : Bool) → is_told (age_at clock s.timer + 1) ≡ b → has after (record { moment = then_at clock; age = age_at clock s.timer + 1; key = k }) ≡ b
@@ -144,13 +143,13 @@ held_young clock es due after k s t c are ops is less aged same =
     ]
 
 held_old : (clock : ℕ) (es : List (LsaKey × Stored)) (due after : List Due) (k : LsaKey) (s t : Stored) → clock < 65536 → AreDue clock es due → Forgets clock due after → stored_of es k ≡ Some s
-    → 3600 ≤ age_at clock s.timer → age_at clock s.timer ≤ 3600 → age_at (then_at clock) t.timer ≡ 3600 → held_at (then_at clock) after (k, t) ≡ held_made (age_at (then_at clock) t.timer) (sums.contents s.lsa) s.tick s.by_flooding (has after (record { moment = then_at clock; age = age_at (then_at clock) t.timer; key = k }))
+    → 3600 ≤ age_at clock s.timer → age_at clock s.timer ≤ 3600 → age_at (then_at clock) t.timer ≡ 3600 → held_at (then_at clock) after (k, t) ≡ held_made (age_at (then_at clock) t.timer) s.lsa s.tick s.by_flooding (has after (record { moment = then_at clock; age = age_at (then_at clock) t.timer; key = k }))
     → held_at (then_at clock) after (k, t) ≡ older (held_at clock due (k, s))
 held_old clock es due after k s t c are ops is more most aged same =
     same
-    ∙ ap (λ (n : ℕ). held_made n (sums.contents s.lsa) s.tick s.by_flooding (has after (record { moment = then_at clock; age = n; key = k }))) aged
-    ∙ ap (λ (b : Bool). held_made 3600 (sums.contents s.lsa) s.tick s.by_flooding b) quiet
-    ∙ ap (λ (n : ℕ). held_made n (sums.contents s.lsa) s.tick s.by_flooding false) full
+    ∙ ap (λ (n : ℕ). held_made n s.lsa s.tick s.by_flooding (has after (record { moment = then_at clock; age = n; key = k }))) aged
+    ∙ ap (λ (b : Bool). held_made 3600 s.lsa s.tick s.by_flooding b) quiet
+    ∙ ap (λ (n : ℕ). held_made n s.lsa s.tick s.by_flooding false) full
     ∙ sym (older-old (held_at clock due (k, s)) more)
   where
     full : 3600 ≡ age_at clock s.timer

@@ -10,10 +10,9 @@ use Rattle.std.proofs.lemmas.Map.Views.{All-found}
 use Rattle.std.proofs.lemmas.List.Elements.{recursion_from_All}
 use Rattle.std.specs.Cmp.{IsTotalOrder}
 use Rattle.ospf_base.specs.contracts.ids.LsaKeyOrd.TheImpl.Laws.{total-law}
-use Rattle.ospf_base.specs.Keys.{Precedes}
-use Rattle.ospf_base.specs.Sums as sums
+use Rattle.ospf_base.specs.Keys.{Precedes, same_key}
 use Rattle.ospf_base.specs.declared.ids.LsaKey.{LsaKey}
-use Rattle.ospf_lsdb.specs.Database.{key_at, same_key, held_of, is_told, IsRising, IsDatabase, Puts}
+use Rattle.ospf_lsdb.specs.Database.{key_at, held_of, is_told, IsRising, IsDatabase, Puts}
 use Rattle.ospf_lsdb.specs.Places.{AllAfter}
 use Rattle.ospf_lsdb.specs.declared.moments.Due.{Due}
 use Rattle.ospf_lsdb.specs.declared.lsdb.Stored.{Stored}
@@ -21,7 +20,8 @@ use Rattle.ospf_lsdb.specs.Moments.{ahead, key_cmp, has, same_due, coming, is_co
 use Rattle.std.proofs.lemmas.Bool.{eqb-true, lt-ltb, ltb-true}
 use Rattle.ospf_lsdb.specs.Timers.{age_at, held_at, stored_of, age_of, Comes, AreDue, IsStored, KeysRise, IsKept, stopped}
 use Rattle.ospf_lsdb.specs.declared.lsdb.Timer.TheVariants.{Expired}
-use Rattle.ospf_lsdb.proofs.MapLemmas.{same_key-eq, bool_cases}
+use Rattle.ospf_lsdb.proofs.MapLemmas.{bool_cases}
+use Rattle.ospf_base.proofs.SameKeys.{same_key-eq}
 use Rattle.ospf_lsdb.proofs.OrderLemmas.{is_eq-key_cmp, key_cmp-less}
 use Rattle.ospf_lsdb.proofs.MomentLemmas.{same_due-eq, same_due-refl, made_is, split_and}
 use Rattle.ospf_lsdb.proofs.RingLemmas.{ahead-is, ahead-of, ahead-none}
@@ -235,7 +235,7 @@ Puts-stored clock key o es fs due after all_es all_fs put others q = held_of-sto
   where
     same_held : (x : Option Stored) → same_key key q ≡ false → option_map (λ s. held_at clock after (q, s)) x ≡ option_map (λ s. held_at clock due (q, s)) x
     same_held None apart = refl
-    same_held (Some s) apart = ap (λ (b : Bool). Some (record { entry = record { age = age_at clock s.timer; contents = sums.contents s.lsa; tick = s.tick; by_flooding = s.by_flooding }; reached = b })) (others (record { moment = clock; age = age_at clock s.timer; key = q }) apart)
+    same_held (Some s) apart = ap (λ (b : Bool). Some (record { entry = record { age = age_at clock s.timer; contents = s.lsa; tick = s.tick; by_flooding = s.by_flooding }; reached = b })) (others (record { moment = clock; age = age_at clock s.timer; key = q }) apart)
 
 -- an entry brought to MaxAge, in the words of the map
 pub stopped_put : (key q : LsaKey) (s : Stored) (es : List (LsaKey × Stored)) (o : Option Stored) → stored_of es key ≡ Some s → o ≡ (if same_key key q then Some (record s { timer = Expired }) else stored_of es q)

@@ -4,13 +4,13 @@ use Rattle.std.specs.List.{AllByRecursion}
 use Rattle.std.specs.Map.{values_of}
 use Rattle.ospf_base.specs.declared.ids.LsaKey.{LsaKey}
 use Rattle.ospf_lsdb.specs.Database.{Entry}
-use Rattle.ospf_lsdb.specs.Entries.{entry_at, IsYoung}
+use Rattle.ospf_lsdb.specs.Entries.{entry_at, AgeFits}
 use Rattle.ospf_lsdb.specs.declared.moments.Due.{Due}
 use Rattle.ospf_lsdb.specs.declared.lsdb.Stored.{Stored}
 use Rattle.ospf_lsdb.specs.Timers.{held_at, IsStored}
 
 -- no stored entry is older than MaxAge
-pub young_values : (clock : ℕ) (es : List (LsaKey × Stored)) → AllByRecursion (IsStored clock) es → AllByRecursion (IsYoung clock) (values_of es)
+pub young_values : (clock : ℕ) (es : List (LsaKey × Stored)) → AllByRecursion (IsStored clock) es → AllByRecursion (AgeFits clock) (values_of es)
 young_values clock [] all = tt
 young_values clock (e ∷ es) all = (all.0.1, young_values clock es all.1)
 

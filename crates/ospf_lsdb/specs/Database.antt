@@ -2,11 +2,14 @@
 use Rattle.std.specs.Prelude.{◌≡◌, ◌==◌, ◌&&◌, ◌||◌, ℕ, ◌+◌, ◌≤◌, Bool, false, List, [], ◌∷◌, ◌++◌, map, filter, find, Option, None, Some, option_map, if◌then◌else◌, nat_lt}
 use Rattle.std.specs.List.{AllByRecursion}
 use Rattle.ospf_base.specs.Bytes.{number_bytes}
-use Rattle.ospf_base.specs.Keys.{ls_type, Precedes}
+use Rattle.ospf_base.specs.Constants.{max_age}
+use Rattle.ospf_base.specs.Keys.{same_key, Precedes}
 use Rattle.ospf_base.specs.Sums as sums
+use Rattle.ospf_base.specs.declared.ids.Instance.{Instance}
 use Rattle.ospf_base.specs.declared.ids.LsaKey.{LsaKey}
 use Rattle.ospf_lsa.specs.Header.{header_of}
-use Rattle.ospf_lsa.specs.Lsa.{key_of}
+use Rattle.ospf_lsa.specs.Lsa.{key_of, instance_of}
+use Rattle.ospf_lsa.specs.declared.header.LsaHeader.{LsaHeader}
 
 -- ---- entries
 
@@ -27,6 +30,18 @@ pub record Held : Type 0 where
 abbrev pub lsa_of : Entry → List ℕ
 lsa_of e = number_bytes 2 e.age ++ e.contents
 
+-- the header of an entry, at its present age
+abbrev pub header_at : Entry → LsaHeader
+header_at e = header_of (lsa_of e)
+
+-- the instance of an entry (section 12.1)
+abbrev pub instance_at : Entry → Instance
+instance_at e = instance_of (lsa_of e)
+
+-- the LSA is below MaxAge
+abbrev pub is_fresh : Entry → Bool
+is_fresh e = nat_lt e.age max_age
+
 -- what names an LSA of these contents, at any age (section 12.1)
 unfoldable pub key_in : List ℕ → LsaKey
 key_in contents = key_of (0 ∷ 0 ∷ contents)
@@ -41,9 +56,9 @@ entry_from lsa tick by_flooding = record { age = (header_of lsa).age; contents =
 
 -- ---- the map
 
--- two keys are one
-unfoldable pub same_key : LsaKey → LsaKey → Bool
-same_key a b = (ls_type a.kind == ls_type b.kind) && (a.id == b.id) && (a.router.0 == b.router.0)
+-- the entries in the order of their keys
+abbrev pub entries : List Held → List Entry
+entries db = map (λ h. h.entry) db
 
 -- the database as a map: what it has at a key
 abbrev pub held_of : List Held → LsaKey → Option Held
@@ -61,7 +76,7 @@ IsRising (h ∷ hs) = AllByRecursion (λ o. Precedes (key_at h) (key_at o)) hs �
 -- a database: its entries in the order of their keys, at most one a key, none older than MaxAge
 pub record IsDatabase (db : List Held) : Type 0 where
   pub rising : IsRising db
-  pub ages : AllByRecursion (λ h. h.entry.age ≤ 3600) db
+  pub ages : AllByRecursion (λ h. h.entry.age ≤ max_age) db
 
 -- the entry of one key is another, which may be none, and all else is as it was
 abbrev pub Puts : LsaKey → Option Held → List Held → List Held → Type 0
@@ -73,17 +88,21 @@ Puts key held before after = (k : LsaKey) → held_of after k ≡ (if same_key k
 abbrev pub Installs : Entry → List Held → List Held → Type 0
 Installs e before after = Puts (key_in e.contents) (Some (record { entry = e; reached = false })) before after
 
--- the ages that a tick tells of: LSRefreshTime and MaxAge (appendix B)
+-- LSRefreshTime: the age at which a router issues its own LSA again (appendix B)
+abbrev pub ls_refresh_time : ℕ
+ls_refresh_time = 1800
+
+-- the ages that a tick tells of
 abbrev pub is_told : ℕ → Bool
-is_told age = (age == 1800) || (age == 3600)
+is_told age = (age == ls_refresh_time) || (age == max_age)
 
 -- an entry a tick later, without what the tick tells
 unfoldable pub aged : Entry → Entry
-aged e = if nat_lt e.age 3600 then record e { age = e.age + 1 } else e
+aged e = if is_fresh e then record e { age = e.age + 1 } else e
 
 -- an entry a tick later: an age below MaxAge is one more (section 14)
 unfoldable pub older : Held → Held
-older h = if nat_lt h.entry.age 3600
+older h = if is_fresh h.entry
     then record { entry = record h.entry { age = h.entry.age + 1 }; reached = is_told (h.entry.age + 1) }
     else record h { reached = false }
 
@@ -91,13 +110,9 @@ older h = if nat_lt h.entry.age 3600
 abbrev pub Ages : List Held → List Held → Type 0
 Ages before after = (k : LsaKey) → held_of after k ≡ option_map older (held_of before k)
 
--- an entry below MaxAge
-abbrev pub is_fresh : Held → Bool
-is_fresh h = nat_lt h.entry.age 3600
-
 -- an entry brought to MaxAge before its time: the contents, the tick and the origin stay (section 14.1)
 unfoldable pub expired : Held → Held
-expired h = if is_fresh h then record { entry = record h.entry { age = 3600 }; reached = false } else h
+expired h = if is_fresh h.entry then record { entry = record h.entry { age = max_age }; reached = false } else h
 
 -- whether there is an entry, and it passes the test
 abbrev pub is_some_and : (Held → Bool) → Option Held → Bool
@@ -106,7 +121,7 @@ is_some_and test (Some h) = test h
 
 -- an entry that has come to MaxAge
 abbrev pub is_expired : Held → Bool
-is_expired h = h.entry.age == 3600
+is_expired h = h.entry.age == max_age
 
 -- an entry of MaxAge is taken out, a younger one is not
 unfoldable pub removed : Option Held → Option Held
@@ -115,11 +130,11 @@ removed (Some h) = if is_expired h then None else Some h
 
 -- the LSAs below MaxAge, in the order of their keys (section 14)
 abbrev pub listed : List Held → List (List ℕ)
-listed db = map (λ h. lsa_of h.entry) (filter is_fresh db)
+listed db = map (λ h. lsa_of h.entry) (filter (λ h. is_fresh h.entry) db)
 
 -- what is listed of one entry
 unfoldable pub listed_of : Entry → List (List ℕ)
-listed_of e = if nat_lt e.age 3600 then lsa_of e ∷ [] else []
+listed_of e = if is_fresh e then lsa_of e ∷ [] else []
 
 -- the keys whose age became this one at the last tick, in order
 unfoldable pub reached_at : ℕ → List Held → List LsaKey

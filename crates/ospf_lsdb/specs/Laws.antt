@@ -1,11 +1,8 @@
 -- Laws on databases: what the layers above read of them.
-use Rattle.std.specs.Prelude.{◌≡◌, ◌↔◌, true, List, Some, option_map, if◌then◌else◌}
+use Rattle.std.specs.Prelude.{◌≡◌, List, Some, option_map, if◌then◌else◌}
 use Rattle.ospf_base.specs.declared.ids.LsaKey.{LsaKey}
-use Rattle.ospf_lsdb.specs.Database.{Entry, Held, key_in, same_key, held_of, entry_of, aged, IsDatabase, Installs, Ages}
-
--- keys that the map takes for one are one
-abbrev pub SameKeysAreEqual : Type 0
-SameKeysAreEqual = (a b : LsaKey) → (same_key a b ≡ true) ↔ (a ≡ b)
+use Rattle.ospf_lsdb.specs.Database.{Entry, Held, key_in, held_of, entry_of, aged, IsDatabase, Installs, Ages}
+use Rattle.ospf_base.specs.Keys.{same_key}
 
 -- an install changes the entry of one key
 abbrev pub InstallsOne : Type 0

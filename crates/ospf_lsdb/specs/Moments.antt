@@ -3,7 +3,9 @@ use Rattle.std.specs.Prelude.{◌≡◌, ◌==◌, ◌&&◌, ◌||◌, ℕ, ◌+
 use Rattle.std.specs.List.{list_any}
 use Rattle.std.specs.declared.cmp.Ordering.{Ordering}
 use Rattle.ospf_base.specs.declared.ids.LsaKey.{LsaKey}
-use Rattle.ospf_lsdb.specs.Database.{same_key}
+use Rattle.ospf_base.specs.Keys.{same_key}
+use Rattle.ospf_base.specs.Constants.{max_age}
+use Rattle.ospf_lsdb.specs.Database.{ls_refresh_time}
 use Rattle.ospf_lsdb.specs.declared.moments.Due.{Due}
 use Rattle.ospf_base.specs.contracts.ids.LsaKeyOrd.TheImpl as key_ord
 use Rattle.ospf_lsdb.specs.contracts.moments.DueOrd.TheImpl as due_ord
@@ -23,13 +25,17 @@ same_due d q = (d.moment == q.moment) && ((d.age == q.age) && same_key d.key q.k
 abbrev pub has : List Due → Due → Bool
 has dues d = list_any (λ q. same_due d q) dues
 
--- how many moments a moment is ahead of another. The clock goes round after 65536 moments
+-- the clock goes round after so many moments
+abbrev pub ring : ℕ
+ring = 65536
+
+-- how many moments a moment is ahead of another
 unfoldable pub ahead : ℕ → ℕ → ℕ
-ahead clock moment = (moment + (65536 - clock)) % 65536
+ahead clock moment = (moment + (ring - clock)) % ring
 
 -- nothing is due before so many moments from now
 pub record IsIdle (clock count : ℕ) (dues : List Due) : Type 0 where
-  pub none_before : (d : Due) → d.moment < 65536 → has dues d ≡ true → count ≤ ahead clock d.moment
+  pub none_before : (d : Due) → d.moment < ring → has dues d ≡ true → count ≤ ahead clock d.moment
 
 -- something is due in so many moments from now
 abbrev pub ComesIn : ℕ → ℕ → List Due → Type 0
@@ -37,11 +43,15 @@ ComesIn clock count dues = (d : Due) × (has dues d ≡ true) × (ahead clock d.
 
 -- when an entry of this key, which now is of this age, comes to another
 abbrev pub coming : ℕ → ℕ → ℕ → LsaKey → Due
-coming clock age told key = record { moment = (clock + (told - age)) % 65536; age = told; key = key }
+coming clock age told key = record { moment = (clock + (told - age)) % ring; age = told; key = key }
 
 -- what an entry of this key, which now is of this age, comes to
 unfoldable pub is_coming : ℕ → ℕ → LsaKey → Due → Bool
-is_coming clock age key q = (nat_lt age 1800 && same_due (coming clock age 1800 key) q) || (nat_lt age 3600 && same_due (coming clock age 3600 key) q)
+is_coming clock age key q = (nat_lt age ls_refresh_time && same_due (coming clock age ls_refresh_time key) q) || (nat_lt age max_age && same_due (coming clock age max_age key) q)
+
+-- at this moment the entry of a key comes to an age
+abbrev pub due_at : ℕ → ℕ → LsaKey → Due
+due_at moment age key = record { moment = moment; age = age; key = key }
 
 -- it is due at this moment, and of this age
 abbrev pub is_at : ℕ → ℕ → Due → Bool

@@ -1,11 +1,11 @@
 -- Entries as they are stored: how old each is follows from a moment on a ring (RFC 2328, section 14).
-use Rattle.std.specs.Prelude.{◌≡◌, ℕ, ◌+◌, ◌<◌, ◌≤◌, true, List, [], ◌∷◌, Option, Some, option_map}
+use Rattle.std.specs.Prelude.{◌≡◌, ℕ, ◌+◌, ◌<◌, ◌≤◌, Bool, true, List, [], ◌∷◌, Option, Some, option_map, if◌then◌else◌}
 use Rattle.std.specs.List.{AllByRecursion}
 use Rattle.std.specs.Map.{lookup, keys_of}
-use Rattle.ospf_base.specs.Keys.{Precedes}
-use Rattle.ospf_base.specs.Sums as sums
+use Rattle.ospf_base.specs.Constants.{max_age}
+use Rattle.ospf_base.specs.Keys.{Precedes, same_key}
 use Rattle.ospf_base.specs.declared.ids.LsaKey.{LsaKey}
-use Rattle.ospf_lsdb.specs.Database.{Held, key_in, same_key, is_told}
+use Rattle.ospf_lsdb.specs.Database.{Held, key_in, is_told}
 use Rattle.ospf_lsdb.specs.Moments.{ahead, has, IsIdle}
 use Rattle.ospf_lsdb.specs.declared.moments.Due.{Due}
 use Rattle.ospf_lsdb.specs.declared.lsdb.Timer.{Timer}
@@ -15,12 +15,12 @@ use Rattle.ospf_lsdb.specs.declared.lsdb.Stored.{Stored}
 -- how old an entry is
 unfoldable pub age_at : ℕ → Timer → ℕ
 age_at clock (Since birth) = ahead birth clock
-age_at clock Expired = 3600
+age_at clock Expired = max_age
 
 -- a stored entry as it is at a moment
 abbrev pub held_at : ℕ → List Due → LsaKey × Stored → Held
 held_at clock due e = record {
-  entry = record { age = age_at clock e.1.timer; contents = sums.contents e.1.lsa; tick = e.1.tick; by_flooding = e.1.by_flooding };
+  entry = record { age = age_at clock e.1.timer; contents = e.1.lsa; tick = e.1.tick; by_flooding = e.1.by_flooding };
   reached = has due (record { moment = clock; age = age_at clock e.1.timer; key = e.0 });
 }
 
@@ -31,6 +31,10 @@ stored_of entries key = lookup (λ k. same_key key k) entries
 -- one brought to MaxAge
 abbrev pub stopped : Stored → Stored
 stopped s = record s { timer = Expired }
+
+-- the entries of these keys come to MaxAge, and all others stay
+abbrev pub Stops : (LsaKey → Bool) → List (LsaKey × Stored) → List (LsaKey × Stored) → Type 0
+Stops test before after = (q : LsaKey) → stored_of after q ≡ (if test q then option_map stopped (stored_of before q) else stored_of before q)
 
 -- the present age of the entry of a key
 abbrev pub age_of : ℕ → List (LsaKey × Stored) → LsaKey → Option ℕ
@@ -51,7 +55,7 @@ pub record AreDue (clock : ℕ) (entries : List (LsaKey × Stored)) (due : List 
 
 -- each entry stands at its key, and its timer runs below MaxAge
 abbrev pub IsStored : ℕ → LsaKey × Stored → Type 0
-IsStored clock e = (key_in (sums.contents e.1.lsa) ≡ e.0) × (age_at clock e.1.timer ≤ 3600) × (age_at clock e.1.timer ≡ 3600 → e.1.timer ≡ Expired)
+IsStored clock e = (key_in e.1.lsa ≡ e.0) × (age_at clock e.1.timer ≤ max_age) × (age_at clock e.1.timer ≡ max_age → e.1.timer ≡ Expired)
 
 -- the keys rise
 abbrev pub KeysRise : List LsaKey → Type 0

@@ -2,14 +2,16 @@
 
 ghost use Rattle.std.specs.Prelude.{◌≡◌, ◌≤◌, ◌++◌, ◌∷◌, [], IfOk, IfErr, OnOk};
 ghost use Rattle.std.specs.List.{AllByRecursion};
+ghost use Rattle.ospf_base.specs.Constants.{max_age};
 ghost use Rattle.ospf_base.specs.Keys.{Precedes};
 ghost use Rattle.ospf_base.specs.Sums.{contents};
 ghost use Rattle.ospf_lsa.specs.Header.{header_of};
 ghost use Rattle.ospf_lsa.specs.Lsa.{key_of};
 ghost use Rattle.ospf_lsa.specs.declared.fault.LsaFault.TheVariants as fault;
-ghost use Rattle.ospf_lsdb.specs.Database.{lsa_of, key_in, listed_of};
+ghost use Rattle.ospf_lsdb.specs.Database.{header_at, instance_at, lsa_of, key_in, listed_of};
 
-use ospf_base::{Age, MAX_AGE};
+use crate::ageless::Ageless;
+use ospf_base::{Age, Instance, LsaKey, MAX_AGE};
 use ospf_lsa::{Listing, Lsa, LsaFault, LsaHeader, LsaView};
 use std::alloc::{AllocError, Global};
 use std::marker::Model;
@@ -17,7 +19,7 @@ use std::marker::Model;
 /// An entry of a database, with its LSA at the present age.
 #[derive(Drop)]
 pub struct EntryView<'a> {
-    lsa: &'a Lsa,
+    lsa: &'a Ageless,
     age: u16,
     tick: u64,
     by_flooding: bool,
@@ -25,21 +27,21 @@ pub struct EntryView<'a> {
 
 impl<'a> Model for EntryView<'a> {
     ghost use Rattle.std.specs.Prelude.{◌≤◌};
-    ghost use Rattle.ospf_base.specs.Sums.{contents};
+    ghost use Rattle.ospf_base.specs.Constants.{max_age};
     ghost use Rattle.ospf_lsdb.specs.Database.{Entry};
 
     ghost Value = { Entry };
 
-    ghost view = { λ e. record { age = e.age; contents = contents e.lsa.now; tick = e.tick; by_flooding = e.by_flooding } };
+    ghost view = { λ e. record { age = e.age; contents = e.lsa.now; tick = e.tick; by_flooding = e.by_flooding } };
 
-    ghost invariant = { λ e. e.age ≤ 3600 };
+    ghost invariant = { λ e. e.age ≤ max_age };
 }
 
 impl<'a> EntryView<'a> {
-    // An entry whose LSA is stored with the age of another time.
-    pub(crate) fn new(lsa: &'a Lsa, age: u16, tick: u64, by_flooding: bool) -> EntryView<'a>
-        requires { age ≤ 3600 }
-        ensures { result ≡ record { age = age; contents = contents lsa.now; tick = tick; by_flooding = by_flooding } }
+    // An entry whose LSA is stored without its age.
+    pub(crate) fn new(lsa: &'a Ageless, age: u16, tick: u64, by_flooding: bool) -> EntryView<'a>
+        requires { age ≤ max_age }
+        ensures { result ≡ record { age = age; contents = lsa.now; tick = tick; by_flooding = by_flooding } }
     {
         EntryView {
             lsa,
@@ -49,14 +51,34 @@ impl<'a> EntryView<'a> {
         }
     }
 
-    /// The LSA as it was installed. Its age field is of that time: `age` and `header` tell the
-    /// present one, and `copy` has it in its bytes.
+    /// The LSA as it was installed, with an age field of 0: `age` and `header` tell the present
+    /// age, and `copy` has it in its bytes.
     pub fn lsa(&self) -> LsaView<'a>
+        ensures bytes { result ≡ 0 ∷ 0 ∷ self.now.contents }
         ensures contents { contents result ≡ self.now.contents }
         ensures key { key_of result ≡ key_in self.now.contents }
-        ensures all_but_age { header_of (lsa_of self.now) ≡ record (header_of result) { age = self.now.age } }
+        ensures all_but_age { header_at self.now ≡ record (header_of result) { age = self.now.age } }
     {
         self.lsa.view()
+    }
+
+    /// The key.
+    pub fn key(&self) -> LsaKey
+        ensures { result ≡ key_in self.now.contents }
+    {
+        self.lsa().key()
+    }
+
+    /// The instance (RFC 2328, section 12.1).
+    pub fn instance(&self) -> Instance
+        ensures { result ≡ instance_at self.now }
+    {
+        let header = self.header();
+        Instance {
+            key: self.lsa().key(),
+            number: header.number,
+            sum: header.sum,
+        }
     }
 
     /// The present age.
@@ -82,7 +104,7 @@ impl<'a> EntryView<'a> {
 
     /// The header, with the present age.
     pub fn header(&self) -> LsaHeader
-        ensures { result ≡ header_of (lsa_of self.now) }
+        ensures { result ≡ header_at self.now }
     {
         let mut header = self.lsa.view().header();
         header.age = self.age();

@@ -1,11 +1,6 @@
 //! Laws: each holds of all databases.
 
-ghost use Rattle.ospf_lsdb.specs.Laws.{SameKeysAreEqual, InstallsOne, TickAgesAll, OneDatabaseOfAMap};
-
-/// Two keys are one for a database exactly where they are equal.
-pub fn same_keys_are_equal()
-    ensures { SameKeysAreEqual }
-{}
+ghost use Rattle.ospf_lsdb.specs.Laws.{InstallsOne, TickAgesAll, OneDatabaseOfAMap};
 
 /// An install changes the entry of one key.
 pub fn installs_one()

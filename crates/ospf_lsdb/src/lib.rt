@@ -1,21 +1,22 @@
 //! The link state database of OSPF version 2 (RFC 2328, sections 12.2 and 14).
 #![tactic(auto)]
 
+mod ageless;
 mod entries;
 mod entry;
 mod laws;
 mod lsdb;
 mod moments;
+#[cfg(test)]
 mod plain;
 #[cfg(test)]
 mod tests;
 
 pub use crate::entries::Entries;
 pub use crate::entry::EntryView;
-pub use crate::laws::{installs_one, one_database_of_a_map, same_keys_are_equal, tick_ages_all};
+pub use crate::laws::{installs_one, one_database_of_a_map, tick_ages_all};
 pub use crate::lsdb::Lsdb;
 pub use crate::moments::Reached;
-pub use crate::plain::{PlainLsdb, PlainReached};
 
 /// The age at which a router issues its own LSA again (RFC 2328, appendix B).
 pub const LS_REFRESH_TIME: u16 = 1800;

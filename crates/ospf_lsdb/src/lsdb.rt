@@ -1,14 +1,17 @@
 //! The database: a map of entries, whose ages follow from the moment that a ring has come to.
 
 ghost use Rattle.std.specs.Prelude.{◌≡◌, ◌≤◌, ◌<◌, ◌⊎◌, ◌+◌, ◌-◌, ℕ, List, [], length, map, ◌^◌, OnOk, OnErr, IfOk, option_map, if◌then◌else◌};
+ghost use Rattle.ospf_base.specs.Constants.{max_age};
 ghost use Rattle.ospf_base.specs.declared.ids.LsaKey.{LsaKey};
-ghost use Rattle.ospf_lsdb.specs.Database.{Held, entry_from, same_key, held_of, entry_of, IsDatabase, Puts, Installs, Ages, expired, removed, is_fresh, is_expired, is_some_and, listed, reached_at};
-ghost use Rattle.ospf_lsdb.specs.Timers.{age_at, age_of, stored_of, stopped};
+ghost use Rattle.ospf_lsdb.specs.Database.{Held, entry_from, held_of, entry_of, IsDatabase, Puts, Installs, Ages, expired, removed, is_fresh, is_expired, is_some_and, listed, ls_refresh_time, reached_at};
+ghost use Rattle.ospf_base.specs.Keys.{same_key};
+ghost use Rattle.ospf_lsdb.specs.Timers.{age_at, age_of, Stops};
 ghost use Rattle.ospf_lsdb.specs.Moments.{key_cmp, among};
 ghost use Rattle.ospf_lsdb.specs.declared.lsdb.Timer.TheVariants as timer;
 ghost use Rattle.std.specs.BTreeMap.{IsOrdered};
 
 use crate::LS_REFRESH_TIME;
+use crate::ageless::Ageless;
 use crate::entries::Entries;
 use crate::entry::{EntryView, add_fresh};
 use crate::moments::{Moments, Reached, moments_until, sooner, until_told};
@@ -27,10 +30,9 @@ enum Timer {
     Expired,
 }
 
-// The age field of the LSA is that of its installation.
 #[derive(Drop)]
 pub(crate) struct Stored {
-    lsa: Lsa,
+    lsa: Ageless,
     timer: Timer,
     tick: u64,
     by_flooding: bool,
@@ -38,9 +40,9 @@ pub(crate) struct Stored {
 
 impl Timer {
     fn new(clock: u16, age: u16) -> Timer
-        requires { age ≤ 3600 }
+        requires { age ≤ max_age }
         ensures age { age_at clock result ≡ age }
-        ensures expired { age ≡ 3600 → result ≡ timer.Expired }
+        ensures expired { age ≡ max_age → result ≡ timer.Expired }
     {
         if age == MAX_AGE {
             Timer::Expired
@@ -60,11 +62,11 @@ impl Timer {
 }
 
 impl Stored {
-    ghost use Rattle.ospf_lsdb.specs.Entries.{entry_at, IsYoung};
+    ghost use Rattle.ospf_lsdb.specs.Entries.{entry_at, AgeFits};
 
     // The entry as it is at a moment.
     pub(crate) fn at(&self, clock: u16) -> EntryView<'_>
-        requires { IsYoung clock self.now }
+        requires { AgeFits clock self.now }
         ensures { result ≡ entry_at clock self.now }
     {
         let age = self.timer.age(clock);
@@ -108,7 +110,7 @@ fn age_in(entries: &BTreeMap<LsaKey, Stored>, clock: u16, key: &LsaKey) -> Optio
 
 // Brings the entry of a key to `MAX_AGE`.
 fn stop(entries: &mut BTreeMap<LsaKey, Stored>, key: &LsaKey)
-    ensures entry { (q : LsaKey) → stored_of entries.new.entries q ≡ (if same_key key.now q then option_map stopped (stored_of entries.old.entries q) else stored_of entries.old.entries q) }
+    ensures entry { Stops (same_key key.now) entries.old.entries entries.new.entries }
     ensures ordered { IsOrdered key_cmp entries.new }
 {
     if let Some(stored) = entries.get_mut(key) {
@@ -119,7 +121,7 @@ fn stop(entries: &mut BTreeMap<LsaKey, Stored>, key: &LsaKey)
 // The one look of a tick at an entry: it has come to `MAX_AGE`.
 fn look(entries: &mut BTreeMap<LsaKey, Stored>, key: LsaKey, looks: u64) -> u64
     requires { looks + 1 < 2 ^ 64 }
-    ensures entry { (q : LsaKey) → stored_of entries.new.entries q ≡ (if same_key key q then option_map stopped (stored_of entries.old.entries q) else stored_of entries.old.entries q) }
+    ensures entry { Stops (same_key key) entries.old.entries entries.new.entries }
     ensures ordered { IsOrdered key_cmp entries.new }
     ensures looks { result ≡ looks + 1 }
 {
@@ -131,7 +133,7 @@ fn look(entries: &mut BTreeMap<LsaKey, Stored>, key: LsaKey, looks: u64) -> u64
 fn look_at_all(entries: &mut BTreeMap<LsaKey, Stored>, keys: Reached<'_>) -> u64
     requires count { length keys < 2 ^ 64 }
     requires ordered { IsOrdered key_cmp entries.old }
-    ensures entry { (q : LsaKey) → stored_of entries.new.entries q ≡ (if among keys.entry q then option_map stopped (stored_of entries.old.entries q) else stored_of entries.old.entries q) }
+    ensures entry { Stops (among keys.entry) entries.old.entries entries.new.entries }
     ensures ordered { IsOrdered key_cmp entries.new }
     ensures looks { result ≡ length keys.entry }
 {
@@ -184,7 +186,7 @@ impl Lsdb {
         let key = lsa.view().key();
         let age = lsa.view().header().age.ticks();
         let stored = Stored {
-            lsa,
+            lsa: Ageless::new(lsa),
             timer: Timer::new(self.clock, age),
             tick,
             by_flooding,
@@ -211,10 +213,11 @@ impl Lsdb {
 
     /// A tick passes: each age below `MAX_AGE` is one more (RFC 2328, section 14).
     ///
-    /// Answers how many entries it looked at: those that came to `MAX_AGE`.
+    /// Answers how many entries it looked at: those that came to `MAX_AGE`. The moments that the last tick told of are
+    /// dropped as well, each once; that looks at no entry, and is not counted.
     pub fn tick(&mut self) -> u64
         ensures ages { Ages self.old self.new }
-        ensures looks { result ≡ length (reached_at 3600 self.new) }
+        ensures looks { result ≡ length (reached_at max_age self.new) }
     {
         // Nothing is due now, nor at the next moment.
         if moments_until(self.clock, self.next) >= 2 {
@@ -227,7 +230,7 @@ impl Lsdb {
     // A tick in which something may be due.
     fn tick_due(&mut self) -> u64
         ensures ages { Ages self.old self.new }
-        ensures looks { result ≡ length (reached_at 3600 self.new) }
+        ensures looks { result ≡ length (reached_at max_age self.new) }
     {
         self.due.forget(self.clock, LS_REFRESH_TIME);
         self.due.forget(self.clock, MAX_AGE);
@@ -242,7 +245,7 @@ impl Lsdb {
     /// be flushed (RFC 2328, section 14.1). Answers whether there was one below that age.
     pub fn expire(&mut self, key: &LsaKey) -> bool
         ensures entry { Puts key.now (option_map expired (held_of self.old key.now)) self.old self.new }
-        ensures was_fresh { result ≡ is_some_and is_fresh (held_of self.old key.now) }
+        ensures was_fresh { result ≡ is_some_and (λ h. is_fresh h.entry) (held_of self.old key.now) }
     {
         let Some(age) = age_in(&self.entries, self.clock, key) else {
             return false;
@@ -275,7 +278,7 @@ impl Lsdb {
     /// The keys whose age became this one, `LS_REFRESH_TIME` or `MAX_AGE`, at the last tick, in
     /// order. An entry that was installed since, or brought to `MAX_AGE`, is none of them.
     pub fn reached(&self, age: u16) -> Reached<'_>
-        requires told { (age ≡ 1800) ⊎ (age ≡ 3600) }
+        requires told { (age ≡ ls_refresh_time) ⊎ (age ≡ max_age) }
         ensures keys { result ≡ reached_at age self.now }
     {
         self.due.at(self.clock, age)

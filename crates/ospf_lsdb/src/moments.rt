@@ -2,8 +2,10 @@
 
 ghost use Rattle.std.specs.Prelude.{◌≡◌, ◌==◌, ◌&&◌, ◌||◌, ◌⊎◌, ◌+◌, ◌-◌, ◌%◌, ◌^◌, ◌<◌, ◌≤◌, min, not, length, ℕ, [], OnOk, OnErr, IfOk, IfSome, IfNone, true, false};
 ghost use Rattle.std.specs.List.Sorted.{IsStrictlySortedBy};
-ghost use Rattle.ospf_lsdb.specs.Database.{same_key, is_told};
-ghost use Rattle.ospf_lsdb.specs.Moments.{ahead, due_cmp, same_due, has, IsIdle, ComesIn, coming, is_coming, is_at, keys_at};
+ghost use Rattle.ospf_base.specs.Constants.{max_age};
+ghost use Rattle.ospf_lsdb.specs.Database.{is_told, ls_refresh_time};
+ghost use Rattle.ospf_base.specs.Keys.{same_key};
+ghost use Rattle.ospf_lsdb.specs.Moments.{ahead, due_at, due_cmp, ring, same_due, has, IsIdle, ComesIn, coming, is_coming, is_at, keys_at};
 ghost use Rattle.ospf_lsdb.specs.declared.moments.Due.{Due};
 
 use crate::LS_REFRESH_TIME;
@@ -44,8 +46,8 @@ impl Due {
 // How many moments a moment is ahead of the clock, as the ring goes round.
 pub(crate) fn moments_until(clock: u16, moment: u16) -> u16
     ensures count { result ≡ ahead clock moment }
-    ensures moment_fits { moment < 65536 }
-    ensures clock_fits { clock < 65536 }
+    ensures moment_fits { moment < ring }
+    ensures clock_fits { clock < ring }
 {
     moment.wrapping_sub(clock)
 }
@@ -53,9 +55,9 @@ pub(crate) fn moments_until(clock: u16, moment: u16) -> u16
 // In how many moments an entry of an age comes to the next of the ages that are told; `u16::MAX`
 // where it has come to the last.
 pub(crate) fn until_told(age: u16) -> u16
-    ensures refresh { age < 1800 → age + result ≡ 1800 }
-    ensures expiry { 1800 ≤ age → age < 3600 → age + result ≡ 3600 }
-    ensures never { 3600 ≤ age → result ≡ 65535 }
+    ensures refresh { age < ls_refresh_time → age + result ≡ ls_refresh_time }
+    ensures expiry { ls_refresh_time ≤ age → age < max_age → age + result ≡ max_age }
+    ensures never { max_age ≤ age → result ≡ 65535 }
 {
     if age < LS_REFRESH_TIME {
         LS_REFRESH_TIME - age
@@ -159,15 +161,15 @@ impl Moments {
 
     // Removes that an entry came to an age at this moment.
     pub(crate) fn remove_reached(&mut self, moment: u16, age: u16, key: LsaKey)
-        ensures gone { (q : Due) → has self.new q ≡ (not (same_due (record { moment = moment; age = age; key = key }) q) && has self.old q) }
-        ensures fewer { has self.old (record { moment = moment; age = age; key = key }) ≡ true → length self.new < length self.old }
+        ensures gone { (q : Due) → has self.new q ≡ (not (same_due (due_at moment age key) q) && has self.old q) }
+        ensures fewer { has self.old (due_at moment age key) ≡ true → length self.new < length self.old }
     {
         self.remove(Due { moment, age, key });
     }
 
     // Removes all that came to an age at a moment.
     pub(crate) fn forget(&mut self, moment: u16, age: u16)
-        requires { age ≤ 3600 }
+        requires { age ≤ max_age }
         ensures { (q : Due) → has self.new q ≡ (not (is_at moment age q) && has self.old q) }
     {
         while let Some(key) = self.at(moment, age).next() {
@@ -177,7 +179,7 @@ impl Moments {
 
     // The keys whose entries came to this age at this moment.
     pub(crate) fn at(&self, moment: u16, age: u16) -> Reached<'_>
-        requires { age ≤ 3600 }
+        requires { age ≤ max_age }
         ensures keys { result ≡ keys_at moment age self.now }
         ensures fits { length result < 2 ^ 63 }
         ensures ordered { IsStrictlySortedBy due_cmp self.now }
@@ -201,7 +203,7 @@ impl Moments {
     pub(crate) fn idle_from(&self, clock: u16) -> u16
         ensures idle { IsIdle clock result self.now }
         ensures until { (result ≡ 65535) ⊎ ComesIn clock result self.now }
-        ensures fits { result < 65536 }
+        ensures fits { result < ring }
     {
         let now = Due {
             moment: clock,

@@ -1,23 +1,26 @@
-//! A database that a reader sees through at once: entries in one vector, whose ages each tick raises.
+//! For tests: a database that a reader sees through at once, entries in one vector whose ages each tick raises. It is proved
+//! against the very clauses of `Lsdb`.
 
 ghost use Rattle.std.specs.Prelude.{◌≡◌, ◌≤◌, ◌<◌, ◌⊎◌, ◌&&◌, ◌==◌, ℕ, List, [], ◌∷◌, false, length, map, take, drop, IsTrue, ◌↔◌, OnOk, OnErr, IfOk, IfErr, IfSome, IfNone, option_map, if◌then◌else◌, slice_index_or};
 ghost use Rattle.std.specs.List.{AllByRecursion};
-ghost use Rattle.ospf_base.specs.Keys.{Precedes};
+ghost use Rattle.ospf_base.specs.Keys.{Precedes, same_key};
+ghost use Rattle.ospf_base.specs.Constants.{max_age};
 ghost use Rattle.ospf_base.specs.declared.ids.LsaKey.{LsaKey};
-ghost use Rattle.ospf_lsdb.specs.Database.{Entry, Held, key_at, key_in, entry_from, same_key, held_of, entry_of, IsRising, IsDatabase, Puts, Installs, Ages, older, expired, removed, is_fresh, is_expired, is_some_and, is_told, listed, reached_at};
+ghost use Rattle.ospf_lsdb.specs.Database.{Entry, Held, key_at, key_in, entry_from, held_of, entry_of, IsRising, IsDatabase, Puts, Installs, Ages, older, expired, removed, is_fresh, is_expired, is_some_and, is_told, listed, ls_refresh_time, reached_at};
 ghost use Rattle.ospf_lsdb.specs.Places.{IsFound, IsFree};
 
 use crate::LS_REFRESH_TIME;
+use crate::ageless::Ageless;
 use crate::entry::{EntryView, add_fresh};
 use ospf_base::{LsaKey, MAX_AGE};
 use ospf_lsa::{Listing, Lsa};
 use std::alloc::{AllocError, Global};
 use std::marker::Model;
 
-// An entry as it stands in the vector. The age field of the LSA is that of its installation.
+// An entry as it stands in the vector.
 #[derive(Drop)]
 struct PlainEntry {
-    lsa: Lsa,
+    lsa: Ageless,
     age: u16,
     tick: u64,
     by_flooding: bool,
@@ -26,14 +29,14 @@ struct PlainEntry {
 
 impl Model for PlainEntry {
     ghost use Rattle.std.specs.Prelude.{◌≤◌};
-    ghost use Rattle.ospf_base.specs.Sums.{contents};
+    ghost use Rattle.ospf_base.specs.Constants.{max_age};
     ghost use Rattle.ospf_lsdb.specs.Database.{Held};
 
     ghost Value = { Held };
 
-    ghost view = { λ e. record { entry = record { age = e.age; contents = contents e.lsa; tick = e.tick; by_flooding = e.by_flooding }; reached = e.reached } };
+    ghost view = { λ e. record { entry = record { age = e.age; contents = e.lsa; tick = e.tick; by_flooding = e.by_flooding }; reached = e.reached } };
 
-    ghost invariant = { λ e. e.age ≤ 3600 };
+    ghost invariant = { λ e. e.age ≤ max_age };
 }
 
 // Whether a tick tells that an entry has come to this age.
@@ -49,7 +52,7 @@ impl PlainEntry {
     {
         let age = lsa.view().header().age.ticks();
         PlainEntry {
-            lsa,
+            lsa: Ageless::new(lsa),
             age,
             tick,
             by_flooding,
@@ -65,7 +68,7 @@ impl PlainEntry {
 
     fn age(&self) -> u16
         ensures value { result ≡ self.now.entry.age }
-        ensures at_most { result ≤ 3600 }
+        ensures at_most { result ≤ max_age }
     {
         self.age
     }
@@ -205,7 +208,7 @@ impl PlainLsdb {
     /// be flushed (RFC 2328, section 14.1). Answers whether there was one below that age.
     pub fn expire(&mut self, key: &LsaKey) -> bool
         ensures entry { Puts key.now (option_map expired (held_of self.old key.now)) self.old self.new }
-        ensures was_fresh { result ≡ is_some_and is_fresh (held_of self.old key.now) }
+        ensures was_fresh { result ≡ is_some_and (λ h. is_fresh h.entry) (held_of self.old key.now) }
     {
         let Ok(at) = search(&self.entries, key) else {
             return false;
@@ -233,7 +236,7 @@ impl PlainLsdb {
     /// The keys whose age became this one, `LS_REFRESH_TIME` or `MAX_AGE`, at the last tick, in
     /// order. An entry that was installed since, or brought to `MAX_AGE`, is none of them.
     pub fn reached(&self, age: u16) -> PlainReached<'_>
-        requires told { (age ≡ 1800) ⊎ (age ≡ 3600) }
+        requires told { (age ≡ ls_refresh_time) ⊎ (age ≡ max_age) }
         ensures keys { result ≡ reached_at age self.now }
     {
         PlainReached {

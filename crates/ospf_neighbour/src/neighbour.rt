@@ -43,7 +43,8 @@ pub struct Exchanging {
     pub accepted: Option<Accepted>,
 }
 
-/// A neighbour (RFC 2328, section 10). Below Exchange its lists are empty.
+/// A neighbour (RFC 2328, section 10). Below Exchange its lists are empty, and neither its request list nor its
+/// retransmission list has two entries of one LSA.
 #[derive(Drop)]
 pub struct Neighbour {
     router: RouterId,
@@ -73,8 +74,9 @@ impl Model for Neighbour {
 impl Neighbour {
     ghost use Rattle.std.specs.Prelude.{◌≡◌, ◌≤◌, ◌-◌, ◌∷◌, ◌++◌, ◌↔◌, [], IsTrue, OnOk, OnErr, drop, length, take};
     ghost use Rattle.ospf_neighbour.specs.Machine.{is_exchanging, transition, LeavesNone};
-    ghost use Rattle.ospf_neighbour.specs.Neighbour.{IsSound, is_empty, new_neighbour, effected, emptied};
-    ghost use Rattle.ospf_neighbour.specs.Lists.{request_of, unrequested, is_listed, unlisted, key_unlisted, relisted, resent};
+    ghost use Rattle.ospf_neighbour.specs.Neighbour.{IsSound, is_empty, new_neighbour, effected, emptied, negotiated};
+    ghost use Rattle.ospf_neighbour.specs.Lists.{request_of, requesting, unrequested, is_listed, is_key_listed, unlisted, key_unlisted, relisted, resent};
+    ghost use Rattle.ospf_neighbour.specs.OneAKey.{IsAloneOfKeys};
 
     /// A neighbour in state Down.
     pub fn new(alloc: Global, router: RouterId, address: Addr) -> Neighbour
@@ -85,8 +87,8 @@ impl Neighbour {
             address,
             declared: Declared {
                 priority: 0,
-                dr: Addr(0),
-                backup: Addr(0),
+                dr: Addr::NOWHERE,
+                backup: Addr::NOWHERE,
             },
             state: NeighbourState::Down,
             inactivity: 0,
@@ -134,6 +136,13 @@ impl Neighbour {
         self.declared
     }
 
+    /// The ticks that are left of its inactivity timer.
+    pub fn inactivity(&self) -> u32
+        ensures { result ≡ self.now.inactivity }
+    {
+        self.inactivity
+    }
+
     /// How the exchange of databases stands.
     pub fn exchanging(&self) -> Exchanging
         ensures { result ≡ self.now.exchanging }
@@ -176,7 +185,7 @@ impl Neighbour {
         &self.requests[..self.asked]
     }
 
-    /// Whether it is in Exchange or above. Below, its lists are empty.
+    /// Whether it is in Exchange or above. Below, its lists are empty. No list has two entries of one LSA.
     pub fn is_exchanging(&self) -> bool
         ensures value { result ≡ is_exchanging self.now.state }
         ensures lists { IsSound self.now.state self.now.summary self.now.last_dd self.now.requests self.now.asked self.now.retransmission }
@@ -223,26 +232,18 @@ impl Neighbour {
         change
     }
 
-    /// Puts an instance on the retransmission list (section 13.3), sent at this tick.
-    ///
-    /// `AllocError` where memory runs out; then the neighbour is as it was.
-    pub fn list(&mut self, instance: Instance, tick: u64) -> Result<(), AllocError>
-        requires { IsTrue (is_exchanging self.old.state) }
-        ensures ok { OnOk result (self.new ≡ record self.old { retransmission = self.old.retransmission ++ record { instance = instance; sent_at = tick } ∷ [] }) }
-        ensures err { OnErr result (self.new ≡ self.old) }
-    {
-        self.retransmission.push(Listed {
-            instance,
-            sent_at: tick,
-        })?;
-        Ok(())
-    }
-
     /// Whether an instance is on the retransmission list.
     pub fn is_listed(&self, instance: &Instance) -> bool
         ensures { result ≡ is_listed instance.now self.now.retransmission }
     {
         lists::is_listed(instance, &self.retransmission)
+    }
+
+    /// Whether some instance of a key is on the retransmission list.
+    pub fn is_key_listed(&self, key: &LsaKey) -> bool
+        ensures { result ≡ is_key_listed key.now self.now.retransmission }
+    {
+        lists::is_key_listed(key, &self.retransmission)
     }
 
     /// Puts an instance on the retransmission list (section 13.3), sent at this tick, in place of all others of its key.
@@ -299,7 +300,7 @@ impl Neighbour {
         self.asked = asked;
     }
 
-    /// Puts how the exchange of databases stands.
+    /// Puts how the exchange of databases stands, which nothing else of the neighbour hangs on.
     pub fn put_exchanging(&mut self, exchanging: Exchanging)
         ensures { self.new ≡ record self.old { exchanging = exchanging } }
     {
@@ -307,10 +308,11 @@ impl Neighbour {
     }
 
     /// NegotiationDone (section 10.3), with the headers that are to be described and the instances that go on the
-    /// retransmission list. No memory is taken.
-    pub fn begin_exchange(&mut self, summary: Vec<LsaHeader>, listed: Vec<Listed>)
-        requires { self.old.state ≡ NeighbourState.ExStart }
-        ensures { self.new ≡ record self.old { state = NeighbourState.Exchange; summary = summary.items; retransmission = self.old.retransmission ++ listed.items } }
+    /// retransmission list, at most one a key. No memory is taken.
+    pub fn begin_exchange(&mut self, is_master: bool, summary: Vec<LsaHeader>, listed: Vec<Listed>)
+        requires state { self.old.state ≡ NeighbourState.ExStart }
+        requires alone { IsAloneOfKeys listed.items }
+        ensures { self.new ≡ negotiated is_master summary.items listed.items self.old }
     {
         let change = transition(
             self.state,
@@ -318,19 +320,22 @@ impl Neighbour {
             self.requests.is_empty(),
         );
         self.state = change.state;
+        self.exchanging.is_master = is_master;
+        self.exchanging.accepted = None;
         self.summary = summary;
         self.retransmission = listed;
     }
 
-    /// Puts headers on the request list (section 10.6).
+    /// Puts headers on the request list (section 10.6), in turn: each takes the place of the entry of its LSA, if there
+    /// is one, and else the last place.
     ///
     /// `AllocError` where memory runs out; then the neighbour is as it was.
     pub fn add_requests(&mut self, headers: &[LsaHeader]) -> Result<(), AllocError>
         requires { IsTrue (is_exchanging self.old.state) }
-        ensures ok { OnOk result (self.new ≡ record self.old { requests = self.old.requests ++ headers.now }) }
+        ensures ok { OnOk result (self.new ≡ requesting headers.now self.old) }
         ensures err { OnErr result (self.new ≡ self.old) }
     {
-        self.requests.extend_from_slice(headers)
+        lists::put_requests(headers, &mut self.requests)
     }
 
     /// The next headers of the summary list, `next`, are described in the last DD packet, and leave the list

@@ -1,11 +1,13 @@
 //! The neighbours of an interface.
 
-ghost use Rattle.std.specs.Prelude.{◌≡◌, ◌↔◌, [], OnOk, OnErr, Err, IfSome, IfNone, Contains, length};
-ghost use Rattle.ospf_neighbour.specs.Neighbours.{AreNeighbours, HasNeighbour, IsAdded, IsPlace, IsRising};
+ghost use Rattle.std.specs.Prelude.{◌≡◌, ◌↔◌, [], OnOk, OnErr, Err, IfSome, IfNone, Contains, length, map};
+ghost use Rattle.std.specs.Option.{option_copied};
+ghost use Rattle.ospf_neighbour.specs.Lists.{key_unlisted};
+ghost use Rattle.ospf_neighbour.specs.Neighbours.{AreNeighbours, HasNeighbour, IsAdded, IsPlace, IsRising, at_address, max_neighbours, place_of, some_lists, some_loading, without_router};
 ghost use Rattle.ospf_neighbour.specs.declared.neighbours.NeighbourFault.TheVariants as fault;
 
 use crate::neighbour::Neighbour;
-use ospf_base::RouterId;
+use ospf_base::{Addr, LsaKey, RouterId};
 use std::alloc::Global;
 use std::marker::Model;
 use thiserror::Error;
@@ -41,7 +43,8 @@ impl NeighbourFault {
 /// The neighbours of an interface, at most `MAX_NEIGHBOURS`, in rising Router ID.
 #[derive(Drop)]
 pub struct Neighbours {
-    all: Vec<Neighbour>,
+    /// All of them, to be changed in place: a function that leaves other Router IDs, or another order, is not proved.
+    pub all: Vec<Neighbour>,
 }
 
 impl Model for Neighbours {
@@ -74,6 +77,56 @@ impl Neighbours {
         &self.all
     }
 
+    /// The place of the neighbour of a Router ID among `all`.
+    pub fn position(&self, router: RouterId) -> Option<usize>
+        ensures { result ≡ place_of self.now router }
+    {
+        self.all.iter().position(|n| n.router().0 == router.0)
+    }
+
+    /// The first neighbour, by Router ID, of an address.
+    pub fn at_address(&self, address: Addr) -> Option<&Neighbour>
+        ensures { option_copied result ≡ at_address self.now address }
+    {
+        self.all.iter().find(|n| n.address().0 == address.0)
+    }
+
+    /// Whether some neighbour is in Exchange or Loading.
+    pub fn is_loading(&self) -> bool
+        ensures { result ≡ some_loading self.now }
+    {
+        self.all.iter().any(|n| n.state().is_loading())
+    }
+
+    /// Whether some instance of a key is on some neighbour's retransmission list.
+    pub fn is_key_listed(&self, key: &LsaKey) -> bool
+        ensures { result ≡ some_lists key.now self.now }
+    {
+        self.all.iter().any(|n| n.is_key_listed(key))
+    }
+
+    /// Takes all instances of a key off the retransmission lists of all neighbours (RFC 2328, section 13, step 5). No
+    /// memory is taken.
+    pub fn unlist_key(&mut self, key: &LsaKey)
+        ensures { self.new ≡ map (key_unlisted key.now) self.old }
+    {
+        unlist_key_of(key, &mut self.all);
+    }
+
+    /// Takes the neighbour of a Router ID out, if there is one. No memory is taken.
+    pub fn remove(&mut self, router: RouterId)
+        ensures { self.new ≡ without_router router self.old }
+    {
+        self.all.retain(|n| n.router().0 != router.0);
+    }
+
+    /// Takes all of them out. No memory is taken.
+    pub fn clear(&mut self)
+        ensures { self.new ≡ [] }
+    {
+        self.all.clear();
+    }
+
     /// The neighbour of a Router ID.
     pub fn get(&self, router: RouterId) -> Option<&Neighbour>
         ensures found { IfSome result (λ n. Contains self.now n.now × (n.now.router.0 ≡ router.0)) }
@@ -90,16 +143,25 @@ impl Neighbours {
         requires { HasNeighbour self.old neighbour.router → ⊥ }
         ensures ok { OnOk result (IsAdded neighbour self.old self.new) }
         ensures err { OnErr result (self.new ≡ self.old) }
-        ensures full { (result ≡ Err fault.Full) ↔ (length self.old ≡ 255) }
+        ensures full { (result ≡ Err fault.Full) ↔ (length self.old ≡ max_neighbours) }
     {
         if self.all.len() >= MAX_NEIGHBOURS {
             return Err(NeighbourFault::Full);
         }
-        let at = place_of(&self.all, neighbour.router());
+        let at = place_for(&self.all, neighbour.router());
         if self.all.insert(at, neighbour).is_err() {
             return Err(NeighbourFault::Memory);
         }
         Ok(())
+    }
+}
+
+// Takes all instances of a key off the retransmission lists of these neighbours.
+fn unlist_key_of(key: &LsaKey, all: &mut [Neighbour])
+    ensures { all.new ≡ map (key_unlisted key.now) all.old }
+{
+    for neighbour in all.iter_mut() {
+        neighbour.unlist_key(key);
     }
 }
 
@@ -117,7 +179,7 @@ fn find(all: &[Neighbour], router: RouterId) -> Option<&Neighbour>
 }
 
 // Where a neighbour of this Router ID belongs, which is not there.
-fn place_of(all: &[Neighbour], router: RouterId) -> usize
+fn place_for(all: &[Neighbour], router: RouterId) -> usize
     requires rising { IsRising all.now }
     requires new { HasNeighbour all.now router → ⊥ }
     ensures { IsPlace all.now router.0 result }

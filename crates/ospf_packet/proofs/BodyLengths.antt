@@ -7,7 +7,7 @@ use Rattle.ospf_packet.specs.declared.body.Description.{Description}
 use Rattle.ospf_packet.specs.declared.entry.RequestEntry.{RequestEntry}
 use Rattle.ospf_packet.specs.Headers.{aged_bytes}
 use Rattle.ospf_packet.specs.Meaning.{hello, description, request, acknowledgment, body_bytes}
-use Rattle.ospf_packet.specs.Neighbours.{router_bytes}
+use Rattle.ospf_lsa.specs.Attached.{router_bytes}
 use Rattle.ospf_packet.specs.Requests.{entry_bytes}
 use Rattle.ospf_packet.proofs.EntryLemmas.{length_entries}
 

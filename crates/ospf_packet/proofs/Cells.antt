@@ -4,12 +4,13 @@ use Rattle.std.specs.Int.{w32, cast_signed, cast_unsigned}
 use Rattle.std.proofs.lemmas.Int.{of_z-to_z}
 use borrow.Author.Gap.{read_sfits}
 use Rattle.ospf_base.specs.Bytes.{number_at, number_bytes, AreBytes}
-use Rattle.ospf_base.specs.Numbers.{four_bytes, two_bytes}
+use Rattle.ospf_base.proofs.Numbers.{four_bytes, two_bytes}
 use Rattle.ospf_lsa.specs.Header.{header_of, HeaderFits}
 use Rattle.ospf_packet.specs.Fields.{hello_at, hello_bytes, HelloFits, description_at, description_bytes, DescriptionFits}
 use Rattle.ospf_packet.specs.Headers.{AgedFits}
 use Rattle.ospf_packet.specs.Meaning.{head_bytes}
-use Rattle.ospf_packet.specs.Neighbours.{router_at, router_bytes, RouterFits}
+use Rattle.ospf_lsa.specs.Attached.{router_bytes, RouterFits}
+use Rattle.ospf_packet.proofs.Routers.{router_at}
 use Rattle.ospf_packet.specs.Requests.{entry_at, entry_bytes, EntryFits}
 use Rattle.ospf_packet.specs.Spelling.{HeaderEntry, header_entry_bytes, HeaderEntryFits}
 

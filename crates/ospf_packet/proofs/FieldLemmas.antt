@@ -10,7 +10,8 @@ use Rattle.ospf_lsa.specs.Header.{header_of}
 use Rattle.ospf_lsa.specs.declared.header.LsaHeader.{LsaHeader}
 use Rattle.ospf_packet.specs.Fields.{hello_at, hello_bytes, HelloFits, description_at, description_bytes, DescriptionFits}
 use Rattle.ospf_packet.specs.Spelling.{HeaderEntry, header_entry_bytes, HeaderEntryFits}
-use Rattle.ospf_packet.specs.Neighbours.{router_at, router_bytes, RouterFits}
+use Rattle.ospf_lsa.specs.Attached.{router_bytes, RouterFits}
+use Rattle.ospf_packet.proofs.Routers.{router_at}
 use Rattle.ospf_packet.specs.Requests.{entry_at, entry_bytes, EntryFits}
 use Rattle.ospf_packet.specs.declared.body.Hello.{Hello}
 use Rattle.ospf_packet.specs.declared.body.Description.{Description}

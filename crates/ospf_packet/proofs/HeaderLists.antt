@@ -1,7 +1,8 @@
 -- LSA headers that stand one after the other.
-use Rattle.std.proofs.Common.{◌≡◌, ℕ, ◌*◌, List, [], ◌∷◌, ◌++◌, length, map, refl, sym, ap, ◌∙◌, arith}
+use Rattle.std.proofs.Common.{◌≡◌, ◌==◌, ℕ, zero, suc, drop, ◌*◌, List, [], ◌∷◌, ◌++◌, length, map, refl, sym, ap, ◌∙◌, arith}
 use Rattle.std.specs.List.{flat_map, AllByRecursion}
 use Rattle.std.proofs.lemmas.List.{drop_at, length-map}
+use Rattle.ospf_base.specs.Constants.{lsa_header}
 use Rattle.ospf_lsa.specs.declared.header.LsaHeader.{LsaHeader}
 use Rattle.ospf_packet.specs.Headers.{aged_bytes, AgedFits, headers_in}
 use Rattle.ospf_packet.specs.Spelling.{HeaderEntry, header_entry_bytes, HeaderEntryFits, SpellHeaders}
@@ -44,3 +45,11 @@ aged_spelled (h ∷ hs) fits =
       fit = (record { age_fits = omega arith; age_is = omega arith; rest = fits.0.rest }, rest.fit);
       spelled = ap (λ (t : List ℕ). aged_bytes h ++ t) rest.spelled;
     }
+
+-- as many headers are left as are counted
+length-headers_in : (n : ℕ) (bytes : List ℕ) → length (headers_in n bytes) ≡ n
+length-headers_in zero bytes = refl
+length-headers_in (suc n) bytes = ap suc (length-headers_in n (drop lsa_header bytes))
+
+pub count_left : (n : ℕ) (bytes : List ℕ) → (n == 0) ≡ (length (headers_in n bytes) == 0)
+count_left n bytes = ap (λ (k : ℕ). k == 0) (sym (length-headers_in n bytes))

@@ -1,3 +1,6 @@
+pub mod Routers
+pub mod SliceLaws
+pub mod PacketLaws
 pub mod EntryLemmas
 pub mod SliceLemmas
 pub mod BodyLengths

@@ -9,18 +9,20 @@ use Rattle.ospf_lsa.specs.declared.header.LsaHeader.{LsaHeader}
 use Rattle.ospf_packet.specs.Fields.{description_bytes, DescriptionFits}
 use Rattle.ospf_packet.specs.Headers.{aged_bytes, headers_in}
 use Rattle.ospf_packet.specs.Meaning.{BodyMeaning, hello, description, request, update, acknowledgment, Meaning, body_type, body_bytes, head_bytes, bytes_with_sum, packet_bytes, BodyFits, MeaningFits}
-use Rattle.ospf_packet.specs.Neighbours.{router_at, router_bytes, RouterFits, neighbours_in}
+use Rattle.ospf_lsa.specs.Attached.{router_bytes, routers_in, RouterFits}
+use Rattle.ospf_packet.proofs.Routers.{router_at, routers_entries}
 use Rattle.ospf_packet.specs.Packet.{IsBody, IsPacket, body_at, meaning_of, type_of}
-use Rattle.ospf_packet.specs.PacketOf.{packet_of, packet_of-is}
+use Rattle.ospf_packet.specs.PacketOf.{packet_of}
+use Rattle.ospf_packet.proofs.PacketLaws.{packet_of-is}
 use Rattle.ospf_packet.specs.Requests.{entry_at, entry_bytes, EntryFits, requests_in}
 use Rattle.ospf_packet.specs.Slices.{IsSlice, lsas_bytes, AreSlices, slices_in}
-use Rattle.ospf_packet.specs.SliceLaws.{slices_back}
+use Rattle.ospf_packet.proofs.SliceLaws.{slices_back}
 use Rattle.ospf_packet.specs.Spelling.{SpellHeaders, SpellBody, Spells}
 use Rattle.ospf_packet.specs.declared.body.Hello.{Hello}
 use Rattle.ospf_packet.specs.declared.body.Description.{Description}
 use Rattle.ospf_packet.specs.declared.fault.PacketFault.TheVariants as fault
 use Rattle.ospf_packet.proofs.BodyLengths.{hello_length, description_length, request_length, acknowledgment_length}
-use Rattle.ospf_packet.proofs.EntryLemmas.{entries_back}
+use Rattle.ospf_packet.proofs.EntryLemmas.{entries_back, length_entries}
 use Rattle.ospf_packet.proofs.FieldLemmas.{hello_back, description_back, router_back, entry_back}
 use Rattle.ospf_packet.proofs.HeaderLists.{spelled_length, headers_back, aged_spelled}
 
@@ -112,8 +114,8 @@ description_reads f hs fields listed s =
 body_back : (b : BodyMeaning) (bytes : List ℕ) → BodyFits b → 24 + length (body_bytes b) ≤ 16384 → SpellBody b bytes → Reads b bytes
 body_back (hello f ns) bytes fits short s =
     let len = hello_length f ns in
-    let count : (length (body_bytes (hello f ns)) - 20) / 4 ≡ length ns = omega arith in
-    let listed = ap (λ (n : ℕ). neighbours_in n (drop 20 (body_bytes (hello f ns)))) count ∙ entries_back 4 router_at router_bytes RouterFits (λ r. refl) router_back ns fits.1 in
+    let four = length_entries 4 router_bytes (λ r. refl) ns in
+    let listed : routers_in (drop 20 (body_bytes (hello f ns))) ≡ ns = routers_entries (length ns) (flat_map router_bytes ns) four ∙ entries_back 4 router_at router_bytes RouterFits (λ r. refl) router_back ns fits.1 in
     subst (λ (b : List ℕ). Reads (hello f ns) b) (sym s) (record {
       is = only_hello (body_bytes (hello f ns)) (omega arith) (omega arith);
       means = hello_same _ _ _ _ (hello_back f (flat_map router_bytes ns) fits.0) listed;

@@ -6,7 +6,7 @@ use Rattle.std.proofs.lemmas.List.Concat.{flat_map-append}
 use Rattle.ospf_lsa.specs.Lsa.{IsLsa}
 use Rattle.ospf_lsa.specs.declared.fault.LsaFault.TheVariants as fault
 use Rattle.ospf_packet.specs.Slices.{lsa_length, IsSlice, lsas_bytes, AreSlices, IsFirstSlice, IsSplit}
-use Rattle.ospf_packet.specs.SliceLaws.{AreSlices-cons, AreSlices-first}
+use Rattle.ospf_packet.proofs.SliceLaws.{AreSlices-cons, AreSlices-first}
 use Rattle.ospf_packet.proofs.EntryLemmas.{bytes_more}
 
 -- the first slice of some, and the others, for a count that is not written as one more

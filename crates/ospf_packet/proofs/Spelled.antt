@@ -5,18 +5,21 @@ use Rattle.std.specs.List.{flat_map, AllByRecursion}
 use Rattle.std.proofs.lemmas.List.{take-append-drop, length-drop}
 use Rattle.ospf_base.specs.Bytes.{number_at, number_bytes, AreBytes}
 use Rattle.ospf_base.specs.Sums.{packet_checksum}
+use Rattle.ospf_base.specs.declared.ids.RouterId.{RouterId}
 use Rattle.ospf_lsa.specs.Header.{header_of}
 use Rattle.ospf_lsa.specs.declared.header.LsaHeader.{LsaHeader}
 use Rattle.ospf_packet.specs.Entries.{entries_in}
 use Rattle.ospf_packet.specs.Fields.{hello_at, hello_bytes, description_at, description_bytes}
 use Rattle.ospf_packet.specs.Headers.{headers_in, AgedFits}
 use Rattle.ospf_packet.specs.Meaning.{Meaning, body_type, head_bytes, BodyFits, MeaningFits}
-use Rattle.ospf_packet.specs.Neighbours.{router_at, router_bytes, RouterFits, neighbours_in}
+use Rattle.ospf_lsa.specs.Attached.{router_bytes, routers_in, RouterFits}
+use Rattle.ospf_packet.proofs.Routers.{router_at, routers_entries}
 use Rattle.ospf_packet.specs.Packet.{IsBody, IsPacket, body_at, meaning_of, type_of, body_of}
-use Rattle.ospf_packet.specs.PacketOf.{packet_of, packet_decided, packet_of-is, packet_of-not}
+use Rattle.ospf_packet.specs.PacketOf.{packet_of}
+use Rattle.ospf_packet.proofs.PacketLaws.{packet_decided, packet_of-is, packet_of-not}
 use Rattle.ospf_packet.specs.Requests.{entry_at, entry_bytes, EntryFits}
 use Rattle.ospf_packet.specs.Slices.{IsSlice, lsas_bytes, AreSlices, slices_in}
-use Rattle.ospf_packet.specs.SliceLaws.{slices_back}
+use Rattle.ospf_packet.proofs.SliceLaws.{slices_back}
 use Rattle.ospf_packet.specs.Spelling.{HeaderEntry, header_entry_bytes, HeaderEntryFits, SpellHeaders, SpellBody, Spells}
 use Rattle.ospf_packet.specs.declared.fault.PacketFault.TheVariants as fault
 use Rattle.ospf_packet.proofs.Cells.{hello_again, hello_fits, description_again, description_fits, router_again, router_fits, entry_again, entry_fits, header_entry_at, header_again, aged_fits, header_entry_fits, head_again}
@@ -56,11 +59,12 @@ body_again (suc zero) body fits low high is =
     let n = (length body - 20) / 4 in
     let rest = AreBytes-drop 20 body fits in
     let len : length (drop 20 body) ≡ n * 4 = omega (arith, h.0, h.1, length-drop 20 body) in
+    let same = routers_entries n (drop 20 body) len in
     record {
       type_is = refl;
-      spelled = in_two 20 body (hello_bytes (hello_at body)) (flat_map router_bytes (neighbours_in n (drop 20 body)))
-          (hello_again body fits h.0) (entries_again 4 router_at router_bytes router_again n (drop 20 body) rest len);
-      fits = (hello_fits body fits, fits_again 4 router_at RouterFits router_fits n (drop 20 body) rest len);
+      spelled = in_two 20 body (hello_bytes (hello_at body)) (flat_map router_bytes (routers_in (drop 20 body)))
+          (hello_again body fits h.0) (ap (flat_map router_bytes) same ∙ entries_again 4 router_at router_bytes router_again n (drop 20 body) rest len);
+      fits = (hello_fits body fits, subst (λ (rs : List RouterId). AllByRecursion RouterFits rs) (sym same) (fits_again 4 router_at RouterFits router_fits n (drop 20 body) rest len));
     }
 body_again (suc (suc zero)) body fits low high is =
     let d = is.description_is refl in

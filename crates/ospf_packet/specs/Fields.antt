@@ -4,6 +4,13 @@ use Rattle.ospf_base.specs.Bytes.{number_at, number_bytes}
 use Rattle.ospf_packet.specs.declared.body.Hello.{Hello}
 use Rattle.ospf_packet.specs.declared.body.Description.{Description}
 
+-- the size of the fields of a Hello, and of a Database Description
+abbrev pub hello_fields : ℕ
+hello_fields = 20
+
+abbrev pub description_fields : ℕ
+description_fields = 8
+
 -- the fields in the first 20 bytes of a body
 abbrev pub hello_at : List ℕ → Hello
 hello_at body = record {

@@ -1,9 +1,7 @@
 pub mod Entries
-pub mod Neighbours
 pub mod Headers
 pub mod Requests
 pub mod Slices
-pub mod SliceLaws
 pub mod Fields
 pub mod Meaning
 pub mod Packet

@@ -2,12 +2,13 @@
 use Rattle.std.specs.Prelude.{ℕ, ◌+◌, ◌^◌, ◌<◌, ◌≤◌, List, ◌∷◌, [], ◌++◌, length, take, drop}
 use Rattle.std.specs.List.{flat_map, AllByRecursion}
 use Rattle.ospf_base.specs.Bytes.{number_bytes}
+pub use Rattle.ospf_base.specs.Constants.{largest_packet, packet_header}
 use Rattle.ospf_base.specs.Sums.{packet_checksum}
 use Rattle.ospf_base.specs.declared.ids.RouterId.{RouterId}
+use Rattle.ospf_lsa.specs.Attached.{routers_bytes, RouterFits}
 use Rattle.ospf_lsa.specs.declared.header.LsaHeader.{LsaHeader}
 use Rattle.ospf_packet.specs.Fields.{hello_bytes, HelloFits, description_bytes, DescriptionFits}
 use Rattle.ospf_packet.specs.Headers.{aged_bytes, AgedFits}
-use Rattle.ospf_packet.specs.Neighbours.{router_bytes, RouterFits}
 use Rattle.ospf_packet.specs.Requests.{entry_bytes, EntryFits}
 use Rattle.ospf_packet.specs.Slices.{lsas_bytes, IsSlice}
 use Rattle.ospf_packet.specs.declared.body.Hello.{Hello}
@@ -37,7 +38,7 @@ body_type (update lsas) = 4
 body_type (acknowledgment headers) = 5
 
 abbrev pub body_bytes : BodyMeaning → List ℕ
-body_bytes (hello fields neighbours) = hello_bytes fields ++ flat_map router_bytes neighbours
+body_bytes (hello fields neighbours) = hello_bytes fields ++ routers_bytes neighbours
 body_bytes (description fields headers) = description_bytes fields ++ flat_map aged_bytes headers
 body_bytes (request entries) = flat_map entry_bytes entries
 body_bytes (update lsas) = number_bytes 4 (length lsas) ++ lsas_bytes lsas
@@ -54,7 +55,7 @@ no_authentication = 0 ∷ 0 ∷ 0 ∷ 0 ∷ 0 ∷ 0 ∷ 0 ∷ 0 ∷ 0 ∷ 0 ∷ 
 -- the packet with this checksum
 abbrev pub bytes_with_sum : Meaning → ℕ → List ℕ
 bytes_with_sum m sum =
-    head_bytes (body_type m.body) (24 + length (body_bytes m.body)) m.router m.area ++ number_bytes 2 sum ++ no_authentication
+    head_bytes (body_type m.body) (packet_header + length (body_bytes m.body)) m.router m.area ++ number_bytes 2 sum ++ no_authentication
     ++ body_bytes m.body
 
 -- the packet, its checksum right
@@ -64,10 +65,6 @@ packet_bytes m = bytes_with_sum m (packet_checksum (bytes_with_sum m 0))
 -- bytes with this checksum in its place
 abbrev pub with_packet_sum : List ℕ → ℕ → List ℕ
 with_packet_sum packet sum = take 12 packet ++ number_bytes 2 sum ++ drop 14 packet
-
--- the longest packet
-abbrev pub largest_packet : ℕ
-largest_packet = 16384
 
 abbrev pub BodyFits : BodyMeaning → Type 0
 BodyFits (hello fields neighbours) = HelloFits fields × AllByRecursion RouterFits neighbours
@@ -86,4 +83,4 @@ pub record MeaningFits (m : Meaning) : Type 0 where
   pub router : m.router.0 < 2 ^ 32
   pub area : m.area.0 < 2 ^ 32
   pub body : BodyFits m.body
-  pub short : 24 + length (body_bytes m.body) ≤ largest_packet
+  pub short : packet_header + length (body_bytes m.body) ≤ largest_packet

@@ -1,12 +1,14 @@
 -- What bytes are a packet, and what they say (RFC 2328, sections 8.2 and appendix A.3).
-use Rattle.std.specs.Prelude.{◌≡◌, ℕ, ◌-◌, ◌/◌, ◌%◌, ◌<◌, ◌≤◌, ◌==◌, if◌then◌else◌, List, length, drop, slice_index}
+use Rattle.std.specs.Prelude.{◌≡◌, ℕ, ◌-◌, ◌/◌, ◌%◌, ◌≤◌, ◌==◌, if◌then◌else◌, List, length, drop, slice_index}
 use Rattle.ospf_base.specs.Bytes.{number_at}
+use Rattle.ospf_base.specs.Constants.{lsa_header, packet_header}
+use Rattle.ospf_base.specs.Faults as faults
 use Rattle.ospf_base.specs.Sums.{packet_checksum}
-use Rattle.ospf_packet.specs.Fields.{hello_at, description_at}
+use Rattle.ospf_lsa.specs.Attached.{routers_in}
+use Rattle.ospf_packet.specs.Fields.{hello_at, hello_fields, description_at, description_fields}
 use Rattle.ospf_packet.specs.Headers.{headers_in}
 use Rattle.ospf_packet.specs.Meaning.{BodyMeaning, hello, description, request, update, acknowledgment, Meaning, largest_packet}
-use Rattle.ospf_packet.specs.Neighbours.{neighbours_in}
-use Rattle.ospf_packet.specs.Requests.{requests_in}
+use Rattle.ospf_packet.specs.Requests.{request_size, requests_in}
 use Rattle.ospf_packet.specs.Slices.{AreSlices, slices_in}
 use Rattle.ospf_packet.specs.declared.fault.PacketFault.{PacketFault}
 use Rattle.ospf_packet.specs.declared.fault.PacketFault.TheVariants as fault
@@ -16,20 +18,20 @@ abbrev pub type_of : List ℕ → ℕ
 type_of packet = slice_index packet 1
 
 abbrev pub body_of : List ℕ → List ℕ
-body_of packet = drop 24 packet
+body_of packet = drop packet_header packet
 
 -- the body ends with its last entry
 pub record IsBody (kind : ℕ) (body : List ℕ) : Type 0 where
-  pub hello_is : kind ≡ 1 → (20 ≤ length body) × ((length body - 20) % 4 ≡ 0)
-  pub description_is : kind ≡ 2 → (8 ≤ length body) × ((length body - 8) % 20 ≡ 0)
-  pub request_is : kind ≡ 3 → length body % 12 ≡ 0
+  pub hello_is : kind ≡ 1 → (hello_fields ≤ length body) × ((length body - hello_fields) % 4 ≡ 0)
+  pub description_is : kind ≡ 2 → (description_fields ≤ length body) × ((length body - description_fields) % lsa_header ≡ 0)
+  pub request_is : kind ≡ 3 → length body % request_size ≡ 0
   pub update_is : kind ≡ 4 → (4 ≤ length body) × AreSlices (number_at 0 4 body) (drop 4 body)
-  pub acknowledgment_is : kind ≡ 5 → length body % 20 ≡ 0
+  pub acknowledgment_is : kind ≡ 5 → length body % lsa_header ≡ 0
 
 -- bytes without one fault
 abbrev pub IsFreeOf : PacketFault → List ℕ → Type 0
 IsFreeOf fault.TooLong packet = length packet ≤ largest_packet
-IsFreeOf fault.Short packet = 24 ≤ length packet
+IsFreeOf fault.Short packet = packet_header ≤ length packet
 IsFreeOf fault.Version packet = slice_index packet 0 ≡ 2
 IsFreeOf fault.Kind packet = (1 ≤ type_of packet) × (type_of packet ≤ 5)
 IsFreeOf fault.Length packet = number_at 2 2 packet ≡ length packet
@@ -53,19 +55,18 @@ fault_order fault.Auth = 6
 fault_order fault.Body = 7
 
 -- the bytes have this fault, and none that is told before it
-pub record IsFirstFault (packet : List ℕ) (f : PacketFault) : Type 0 where
-  pub broken : IsFreeOf f packet → ⊥
-  pub first : (g : PacketFault) → fault_order g < fault_order f → IsFreeOf g packet
+abbrev pub IsFirstFault : List ℕ → PacketFault → Type 0
+IsFirstFault packet f = faults.IsFirstBroken fault_order (λ g. IsFreeOf g packet) f
 
 -- ---- what a packet says
 
 abbrev pub body_at : ℕ → List ℕ → BodyMeaning
 body_at kind body =
-    if kind == 1 then hello (hello_at body) (neighbours_in ((length body - 20) / 4) (drop 20 body))
-    else if kind == 2 then description (description_at body) (headers_in ((length body - 8) / 20) (drop 8 body))
-    else if kind == 3 then request (requests_in (length body / 12) body)
+    if kind == 1 then hello (hello_at body) (routers_in (drop hello_fields body))
+    else if kind == 2 then description (description_at body) (headers_in ((length body - description_fields) / lsa_header) (drop description_fields body))
+    else if kind == 3 then request (requests_in (length body / request_size) body)
     else if kind == 4 then update (slices_in (number_at 0 4 body) (drop 4 body))
-    else acknowledgment (headers_in (length body / 20) body)
+    else acknowledgment (headers_in (length body / lsa_header) body)
 
 -- what the bytes of a packet say: the authentication means nothing, and an age field above MaxAge means MaxAge
 abbrev pub meaning_of : List ℕ → Meaning

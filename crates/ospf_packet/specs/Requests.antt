@@ -4,6 +4,10 @@ use Rattle.ospf_base.specs.Bytes.{number_at, number_bytes}
 use Rattle.ospf_packet.specs.Entries.{entries_in}
 use Rattle.ospf_packet.specs.declared.entry.RequestEntry.{RequestEntry}
 
+-- the size of an entry
+abbrev pub request_size : ℕ
+request_size = 12
+
 -- the entry in the first 12 bytes
 abbrev pub entry_at : List ℕ → RequestEntry
 entry_at bytes = record { kind = number_at 0 4 bytes; id = number_at 4 4 bytes; router = record { 0 = number_at 8 4 bytes } }
@@ -19,4 +23,4 @@ pub record EntryFits (e : RequestEntry) : Type 0 where
 
 -- so many entries, one after the other
 abbrev pub requests_in : ℕ → List ℕ → List RequestEntry
-requests_in = entries_in 12 entry_at
+requests_in = entries_in request_size entry_at

@@ -2,6 +2,7 @@
 use Rattle.std.specs.Prelude.{◌≡◌, ℕ, zero, suc, ◌≤◌, List, [], ◌∷◌, length, take, drop}
 use Rattle.std.specs.List.{flat_map, AllByRecursion}
 use Rattle.ospf_base.specs.Bytes.{number_at}
+use Rattle.ospf_base.specs.Constants.{lsa_header}
 
 -- the length field of the LSA at the front (appendix A.4.1)
 abbrev pub lsa_length : List ℕ → ℕ
@@ -9,7 +10,7 @@ lsa_length bytes = number_at 18 2 bytes
 
 -- bytes whose length is what the length field in them says, and not below that of a header
 pub record IsSlice (lsa : List ℕ) : Type 0 where
-  pub long : 20 ≤ length lsa
+  pub long : lsa_header ≤ length lsa
   pub length_is : lsa_length lsa ≡ length lsa
 
 abbrev pub lsas_bytes : List (List ℕ) → List ℕ
@@ -29,8 +30,8 @@ slices_in (suc n) bytes = take (lsa_length bytes) bytes ∷ slices_in n (drop (l
 
 -- a slice stands at the front
 pub record IsFirstSlice (bytes : List ℕ) : Type 0 where
-  pub header : 20 ≤ length bytes
-  pub long : 20 ≤ lsa_length bytes
+  pub header : lsa_header ≤ length bytes
+  pub long : lsa_header ≤ lsa_length bytes
   pub whole : lsa_length bytes ≤ length bytes
 
 -- a slice stands at the front, it is this one, and these bytes stand behind it

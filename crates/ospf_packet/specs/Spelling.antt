@@ -2,6 +2,7 @@
 use Rattle.std.specs.Prelude.{◌≡◌, ℕ, ◌^◌, ◌<◌, ◌≤◌, List, [], ◌∷◌, ◌++◌, length, map, take, drop, min}
 use Rattle.std.specs.List.{flat_map, AllByRecursion}
 use Rattle.ospf_base.specs.Bytes.{number_bytes}
+use Rattle.ospf_base.specs.Constants.{max_age, packet_header}
 use Rattle.ospf_base.specs.Sums.{packet_checksum}
 use Rattle.ospf_lsa.specs.Header.{header_bytes, HeaderFits}
 use Rattle.ospf_lsa.specs.declared.header.LsaHeader.{LsaHeader}
@@ -19,7 +20,7 @@ header_entry_bytes e = number_bytes 2 e.age_field ++ header_bytes e.header
 -- what has a spelling: an age field above MaxAge means MaxAge
 pub record HeaderEntryFits (e : HeaderEntry) : Type 0 where
   pub age_fits : e.age_field < 2 ^ 16
-  pub age_is : e.header.age ≡ min e.age_field 3600
+  pub age_is : e.header.age ≡ min e.age_field max_age
   pub rest : HeaderFits e.header
 
 -- the bytes are these headers, one after the other, and nothing else
@@ -46,6 +47,6 @@ SpellBody (acknowledgment headers) bytes = SpellHeaders headers bytes
 -- the bytes are this packet: its header with the right length and checksum and AuType 0, then eight bytes of
 -- authentication, whatever they are, then its body
 pub record Spells (m : Meaning) (packet : List ℕ) : Type 0 where
-  pub long : 24 ≤ length packet
+  pub long : packet_header ≤ length packet
   pub head : take 16 packet ≡ head_bytes (body_type m.body) (length packet) m.router m.area ++ number_bytes 2 (packet_checksum packet) ++ (0 ∷ 0 ∷ [])
-  pub body : SpellBody m.body (drop 24 packet)
+  pub body : SpellBody m.body (drop packet_header packet)

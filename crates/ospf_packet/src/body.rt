@@ -4,9 +4,20 @@ ghost use Rattle.std.specs.Prelude.{◌≡◌, ◌≤◌, length};
 
 use crate::headers::Headers;
 use crate::lsas::Lsas;
-use crate::neighbours::Neighbours;
 use crate::requests::Requests;
 use ospf_base::{Addr, u16_at, u32_at};
+use ospf_lsa::Attached;
+
+/// The size of the fields of a Hello.
+pub const HELLO_FIELDS: usize = 20;
+
+/// The size of the fields of a Database Description.
+pub const DESCRIPTION_FIELDS: usize = 8;
+
+// The sizes of a Router ID, and of the count of an Update.
+pub(crate) const ROUTER_SIZE: usize = 4;
+
+pub(crate) const COUNT_SIZE: usize = 4;
 
 /// The fields of a Hello (RFC 2328, appendix A.3.2).
 #[derive(Clone, Copy, Debug, PartialEq, Eq)]
@@ -42,7 +53,7 @@ pub struct Description {
 #[derive(Drop)]
 pub enum Body<'a> {
     /// With the Router IDs of the neighbours that were heard.
-    Hello(Hello, Neighbours<'a>),
+    Hello(Hello, Attached<'a>),
     /// With the headers of LSAs in the sender's database.
     Description(Description, Headers<'a>),
     Request(Requests<'a>),
@@ -52,11 +63,11 @@ pub enum Body<'a> {
 }
 
 impl Hello {
-    ghost use Rattle.ospf_packet.specs.Fields.{hello_at, hello_bytes, HelloFits};
+    ghost use Rattle.ospf_packet.specs.Fields.{hello_at, hello_bytes, hello_fields, HelloFits};
 
     // The fields in the first 20 bytes of a body.
     pub(crate) fn read(body: &[u8]) -> Hello
-        requires { 20 ≤ length body.now }
+        requires { hello_fields ≤ length body.now }
         ensures { result ≡ hello_at body.now }
     {
         Hello {
@@ -88,11 +99,11 @@ impl Hello {
 }
 
 impl Description {
-    ghost use Rattle.ospf_packet.specs.Fields.{description_at, description_bytes, DescriptionFits};
+    ghost use Rattle.ospf_packet.specs.Fields.{description_at, description_bytes, description_fields, DescriptionFits};
 
     // The fields in the first 8 bytes of a body.
     pub(crate) fn read(body: &[u8]) -> Description
-        requires { 8 ≤ length body.now }
+        requires { description_fields ≤ length body.now }
         ensures { result ≡ description_at body.now }
     {
         Description {

@@ -4,6 +4,9 @@ ghost use Rattle.std.specs.Prelude.{◌≡◌, ◌≤◌, length};
 
 use ospf_base::{RouterId, u32_at};
 
+/// The size of an entry of a Link State Request.
+pub const REQUEST_SIZE: usize = 12;
+
 /// What a router asks for: an LSA by LS type, Link State ID and Advertising Router (RFC 2328, appendix A.3.4).
 ///
 /// The LS type is as it stands in the packet, of any kind.
@@ -15,11 +18,11 @@ pub struct RequestEntry {
 }
 
 impl RequestEntry {
-    ghost use Rattle.ospf_packet.specs.Requests.{entry_at, entry_bytes, EntryFits};
+    ghost use Rattle.ospf_packet.specs.Requests.{entry_at, entry_bytes, request_size, EntryFits};
 
     // The entry in the first 12 bytes.
     pub(crate) fn read(bytes: &[u8]) -> RequestEntry
-        requires { 12 ≤ length bytes.now }
+        requires { request_size ≤ length bytes.now }
         ensures { result ≡ entry_at bytes.now }
     {
         RequestEntry {

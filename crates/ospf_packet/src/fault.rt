@@ -1,11 +1,11 @@
 //! Why bytes are no packet, or a packet was not written.
 
+use std::fmt::{self, Display, Formatter, Write};
 use thiserror::Error;
 
 /// The first fault of the bytes: `TooLong` is looked at first, then the others in the order of their numbers
 /// (RFC 2328, section 8.2).
 #[derive(Clone, Copy, Debug, PartialEq, Eq, Error)]
-#[error("{text}", text = self.text())]
 pub enum PacketFault {
     /// Fewer than the 24 bytes of the header.
     Short,
@@ -48,7 +48,6 @@ impl PacketFault {
 
 /// Why a packet was not written.
 #[derive(Clone, Copy, Debug, PartialEq, Eq, Error)]
-#[error("{text}", text = self.text())]
 pub enum WriteFault {
     /// More than 16,384 bytes.
     TooLong,
@@ -68,5 +67,30 @@ impl WriteFault {
             WriteFault::TooLong => "P8 TooLong",
             WriteFault::Memory => "Memory",
         }
+    }
+}
+
+/// The number and the name, as `P5 Sum`.
+impl Display for PacketFault {
+    ghost use Rattle.std.specs.Prelude.{Some};
+    ghost use Rattle.ospf_packet.specs.Text.{packet_fault_text};
+
+    ghost output = { λ fault. Some (packet_fault_text fault) };
+
+    fn fmt<W: Write>(&self, f: &mut Formatter<W>) -> fmt::Result {
+        f.write_str(self.text())
+    }
+}
+
+/// As `PacketFault` prints it, or `Memory`.
+impl Display for WriteFault {
+    ghost use Rattle.std.specs.Prelude.{Some};
+    ghost use Rattle.ospf_packet.specs.Text.{write_fault_text};
+
+    ghost output = { λ fault. Some (write_fault_text fault) };
+
+    fn fmt<W: Write>(&self, f: &mut Formatter<W>) -> fmt::Result {
+        let text = self.text();
+        f.write_str(text)
     }
 }

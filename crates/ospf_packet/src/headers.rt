@@ -1,5 +1,6 @@
 //! The LSA headers of a packet.
 
+use ospf_base::LSA_HEADER;
 use ospf_lsa::LsaHeader;
 use std::marker::Model;
 
@@ -17,11 +18,12 @@ impl<'a> Model for Headers<'a> {
 
     ghost Value = { List LsaHeader };
 
+    ghost use Rattle.ospf_base.specs.Constants.{lsa_header};
     ghost use Rattle.ospf_packet.specs.Headers.{headers_in};
 
     ghost view = { λ w. headers_in w.left w.rest.now };
 
-    ghost invariant = { λ w. w.left * 20 ≤ length w.rest.now };
+    ghost invariant = { λ w. w.left * lsa_header ≤ length w.rest.now };
 }
 
 impl<'a> Iterator for Headers<'a> {
@@ -38,23 +40,32 @@ impl<'a> Iterator for Headers<'a> {
             return None;
         }
         let header = LsaHeader::read(self.rest);
-        self.rest = &self.rest[20..];
+        self.rest = &self.rest[LSA_HEADER..];
         self.left -= 1;
         Some(header)
     }
 }
 
 impl<'a> Headers<'a> {
-    ghost use Rattle.std.specs.Prelude.{◌≡◌, ◌/◌, length};
+    ghost use Rattle.std.specs.Prelude.{◌≡◌, ◌==◌, ◌/◌, length};
+    ghost use Rattle.ospf_base.specs.Constants.{lsa_header};
     ghost use Rattle.ospf_packet.specs.Headers.{headers_in};
 
     // The walk over the headers that fill the bytes.
     pub(crate) fn new(bytes: &'a [u8]) -> Headers<'a>
-        ensures { result ≡ headers_in (length bytes.now / 20) bytes.now }
+        ensures { result ≡ headers_in (length bytes.now / lsa_header) bytes.now }
     {
         Headers {
-            left: bytes.len() / 20,
+            left: bytes.len() / LSA_HEADER,
             rest: bytes,
         }
+    }
+
+    /// Whether no header is left. It goes no step.
+    #[tactic(auto, using(crate::proofs::HeaderLists::count_left))]
+    pub fn is_empty(&self) -> bool
+        ensures { result ≡ (length self.now == 0) }
+    {
+        self.left == 0
     }
 }

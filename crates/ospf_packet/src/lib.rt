@@ -10,7 +10,6 @@ mod fault;
 mod headers;
 mod laws;
 mod lsas;
-mod neighbours;
 mod packet;
 mod requests;
 #[cfg(test)]
@@ -18,14 +17,15 @@ mod tests;
 mod value;
 mod write;
 
-pub use crate::body::{Body, Description, Hello};
-pub use crate::entry::RequestEntry;
+pub use crate::body::{Body, DESCRIPTION_FIELDS, Description, HELLO_FIELDS, Hello};
+pub use crate::entry::{REQUEST_SIZE, RequestEntry};
 pub use crate::fault::{PacketFault, WriteFault};
 pub use crate::headers::Headers;
 pub use crate::laws::{age_changes_no_verdict, reads_what_is_spelled, reads_what_was_written};
 pub use crate::lsas::Lsas;
-pub use crate::neighbours::Neighbours;
-pub use crate::packet::{LARGEST_PACKET, Packet};
+pub use crate::packet::Packet;
 pub use crate::requests::Requests;
 pub use crate::value::{BodyValue, PacketValue};
 pub use crate::write::write_packet;
+pub use ospf_base::LARGEST_PACKET;
+pub use ospf_lsa::Attached as Neighbours;

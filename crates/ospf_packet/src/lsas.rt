@@ -3,7 +3,7 @@
 ghost use Rattle.std.specs.Prelude.{◌≡◌, ◌↔◌, IsTrue, IfSome, IfNone};
 ghost use Rattle.ospf_packet.specs.Slices.{IsFirstSlice, IsSplit};
 
-use ospf_base::u16_at;
+use ospf_base::{LSA_HEADER, u16_at};
 use std::marker::Model;
 
 /// A walk over the LSAs in a Link State Update (RFC 2328, appendix A.3.5), each the slice of the packet that
@@ -33,11 +33,11 @@ fn first(bytes: &[u8]) -> Option<(&[u8], &[u8])>
     ensures found { IfSome result (λ f. IsSplit bytes.now f.0.now f.1.now) }
     ensures none { IfNone result (IsFirstSlice bytes.now → ⊥) }
 {
-    if bytes.len() < 20 {
+    if bytes.len() < LSA_HEADER {
         return None;
     }
     let length = usize::from(u16_at(bytes, 18));
-    if length < 20 || length > bytes.len() {
+    if length < LSA_HEADER || length > bytes.len() {
         return None;
     }
     Some(bytes.split_at(length))

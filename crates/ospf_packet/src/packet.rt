@@ -1,17 +1,23 @@
 //! Packets that are read where they lie.
 
 ghost use Rattle.std.specs.Prelude.{◌≡◌, ◌≤◌, ◌<◌, ◌↔◌, IsTrue, IfOk, IfErr, OnOk, OnErr, IfSome, IfNone, Some, None, length};
+ghost use Rattle.ospf_base.specs.Constants.{packet_header};
 ghost use Rattle.ospf_packet.specs.Packet.{IsBody, IsPacket, IsFirstFault, body_at, type_of, body_of, meaning_of};
 ghost use Rattle.ospf_packet.specs.PacketOf.{packet_of};
 ghost use Rattle.ospf_packet.specs.Said.{said, body_said};
 
-use crate::body::{Body, Description, Hello};
+use crate::body::{
+    Body, COUNT_SIZE, DESCRIPTION_FIELDS, Description, HELLO_FIELDS, Hello, ROUTER_SIZE,
+};
+use crate::entry::REQUEST_SIZE;
 use crate::fault::PacketFault;
 use crate::headers::Headers;
 use crate::lsas::Lsas;
-use crate::neighbours::Neighbours;
 use crate::requests::Requests;
-use ospf_base::{AreaId, RouterId, packet_sum, u16_at, u32_at};
+use ospf_base::{
+    AreaId, LARGEST_PACKET, LSA_HEADER, PACKET_HEADER, RouterId, packet_sum, u16_at, u32_at,
+};
+use ospf_lsa::Attached;
 
 /// A packet that was read: what its header says, and its body, borrowed from the datagram (RFC 2328, appendix A.3).
 #[derive(Drop)]
@@ -22,19 +28,17 @@ pub struct Packet<'a> {
     pub body: Body<'a>,
 }
 
-/// The longest packet that is read or written, in bytes.
-pub const LARGEST_PACKET: usize = 16384;
-
 // Whether a body ends with its last entry.
 fn has_body(kind: u8, body: &[u8]) -> bool
     ensures { IsTrue result ↔ IsBody kind body.now }
 {
     match kind {
-        1 => body.len() >= 20 && (body.len() - 20) % 4 == 0,
-        2 => body.len() >= 8 && (body.len() - 8) % 20 == 0,
-        3 => body.len() % 12 == 0,
-        4 => body.len() >= 4 && Lsas::are_all(u32_at(body, 0), &body[4..]),
-        5 => body.len() % 20 == 0,
+        1 => body.len() >= HELLO_FIELDS && (body.len() - HELLO_FIELDS) % ROUTER_SIZE == 0,
+        2 => body.len() >= DESCRIPTION_FIELDS
+            && (body.len() - DESCRIPTION_FIELDS) % LSA_HEADER == 0,
+        3 => body.len() % REQUEST_SIZE == 0,
+        4 => body.len() >= COUNT_SIZE && Lsas::are_all(u32_at(body, 0), &body[COUNT_SIZE..]),
+        5 => body.len() % LSA_HEADER == 0,
         _ => true,
     }
 }
@@ -47,7 +51,7 @@ fn first_fault(bytes: &[u8]) -> Option<PacketFault>
     if bytes.len() > LARGEST_PACKET {
         return Some(PacketFault::TooLong);
     }
-    if bytes.len() < 24 {
+    if bytes.len() < PACKET_HEADER {
         return Some(PacketFault::Short);
     }
     if bytes[0] != 2 {
@@ -65,7 +69,7 @@ fn first_fault(bytes: &[u8]) -> Option<PacketFault>
     if u16_at(bytes, 14) != 0 {
         return Some(PacketFault::Auth);
     }
-    if !has_body(bytes[1], &bytes[24..]) {
+    if !has_body(bytes[1], &bytes[PACKET_HEADER..]) {
         return Some(PacketFault::Body);
     }
     None
@@ -77,24 +81,27 @@ fn body(kind: u8, bytes: &[u8]) -> Body<'_>
     ensures { body_said result ≡ body_at kind bytes.now }
 {
     match kind {
-        1 => Body::Hello(Hello::read(bytes), Neighbours::new(&bytes[20..])),
-        2 => Body::Description(Description::read(bytes), Headers::new(&bytes[8..])),
+        1 => Body::Hello(Hello::read(bytes), Attached::new(&bytes[HELLO_FIELDS..])),
+        2 => Body::Description(
+            Description::read(bytes),
+            Headers::new(&bytes[DESCRIPTION_FIELDS..]),
+        ),
         3 => Body::Request(Requests::new(bytes)),
-        4 => Body::Update(Lsas::new(u32_at(bytes, 0), &bytes[4..])),
+        4 => Body::Update(Lsas::new(u32_at(bytes, 0), &bytes[COUNT_SIZE..])),
         _ => Body::Acknowledgment(Headers::new(bytes)),
     }
 }
 
 // The packet that the bytes are.
 fn valid_packet(bytes: &[u8]) -> Packet<'_>
-    requires long { 24 ≤ length bytes.now }
+    requires long { packet_header ≤ length bytes.now }
     requires body { IsBody (type_of bytes.now) (body_of bytes.now) }
     ensures { said result ≡ meaning_of bytes.now }
 {
     Packet {
         router: RouterId(u32_at(bytes, 4)),
         area: AreaId(u32_at(bytes, 8)),
-        body: body(bytes[1], &bytes[24..]),
+        body: body(bytes[1], &bytes[PACKET_HEADER..]),
     }
 }
 

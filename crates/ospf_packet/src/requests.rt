@@ -1,6 +1,6 @@
 //! The entries of a Link State Request.
 
-use crate::entry::RequestEntry;
+use crate::entry::{REQUEST_SIZE, RequestEntry};
 use std::marker::Model;
 
 /// A walk over the entries of a Link State Request (RFC 2328, appendix A.3.4).
@@ -16,11 +16,11 @@ impl<'a> Model for Requests<'a> {
 
     ghost Value = { List RequestEntry };
 
-    ghost use Rattle.ospf_packet.specs.Requests.{requests_in};
+    ghost use Rattle.ospf_packet.specs.Requests.{request_size, requests_in};
 
     ghost view = { λ w. requests_in w.left w.rest.now };
 
-    ghost invariant = { λ w. w.left * 12 ≤ length w.rest.now };
+    ghost invariant = { λ w. w.left * request_size ≤ length w.rest.now };
 }
 
 impl<'a> Iterator for Requests<'a> {
@@ -37,7 +37,7 @@ impl<'a> Iterator for Requests<'a> {
             return None;
         }
         let entry = RequestEntry::read(self.rest);
-        self.rest = &self.rest[12..];
+        self.rest = &self.rest[REQUEST_SIZE..];
         self.left -= 1;
         Some(entry)
     }
@@ -45,14 +45,14 @@ impl<'a> Iterator for Requests<'a> {
 
 impl<'a> Requests<'a> {
     ghost use Rattle.std.specs.Prelude.{◌≡◌, ◌/◌, length};
-    ghost use Rattle.ospf_packet.specs.Requests.{requests_in};
+    ghost use Rattle.ospf_packet.specs.Requests.{request_size, requests_in};
 
     // The walk over the entries that fill the bytes.
     pub(crate) fn new(bytes: &'a [u8]) -> Requests<'a>
-        ensures { result ≡ requests_in (length bytes.now / 12) bytes.now }
+        ensures { result ≡ requests_in (length bytes.now / request_size) bytes.now }
     {
         Requests {
-            left: bytes.len() / 12,
+            left: bytes.len() / REQUEST_SIZE,
             rest: bytes,
         }
     }

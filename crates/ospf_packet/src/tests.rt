@@ -704,3 +704,24 @@ static ACKNOWLEDGMENTS_3: [&str; 7] = [
     "0205002c0101010100000000de8700000000000000000000000242010404040404040404800000054afc0030",
     "0205002c0202020200000000dc8500000000000000000000000242010404040404040404800000054afc0030",
 ];
+
+#[test]
+fn prints_each_fault(rt: HostRuntime) -> Result<(), Fail> {
+    let alloc = rt.alloc();
+    let faults = [
+        (PacketFault::Short, "P1 Short"),
+        (PacketFault::Version, "P2 Version"),
+        (PacketFault::Kind, "P3 Kind"),
+        (PacketFault::Length, "P4 Length"),
+        (PacketFault::Sum, "P5 Sum"),
+        (PacketFault::Auth, "P6 Auth"),
+        (PacketFault::Body, "P7 Body"),
+        (PacketFault::TooLong, "P8 TooLong"),
+    ];
+    for (fault, text) in faults.iter() {
+        assert_eq!(rt; format!(in alloc; "{fault}")?.as_str(), *text);
+    }
+    let memory = WriteFault::Memory;
+    assert_eq!(rt; format!(in alloc; "{memory}")?.as_str(), "Memory");
+    Ok(())
+}

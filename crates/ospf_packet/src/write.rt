@@ -2,33 +2,35 @@
 
 ghost use Rattle.std.specs.Prelude.{◌≡◌, ◌+◌, ◌*◌, ◌^◌, ◌<◌, ◌≤◌, ◌∷◌, ◌++◌, ◌↔◌, IfSome, IfNone, OnSome, IfOk, OnOk, OnErr, Some, Err, length, take, drop, vec_len, vec_capacity};
 ghost use Rattle.std.specs.List.{flat_map, AllByRecursion};
+ghost use Rattle.ospf_base.specs.Constants.{largest_packet, lsa_header, packet_header};
+ghost use Rattle.ospf_packet.specs.Fields.{hello_fields};
 ghost use Rattle.ospf_base.specs.Sums.{packet_checksum};
+ghost use Rattle.ospf_lsa.specs.Attached.{routers_bytes, RouterFits};
 ghost use Rattle.ospf_packet.specs.Headers.{aged_bytes, AgedFits};
-ghost use Rattle.ospf_packet.specs.Meaning.{body_type, body_bytes, bytes_with_sum, head_bytes, no_authentication, with_packet_sum, packet_bytes, largest_packet, BodyFits, CountFits, MeaningFits};
-ghost use Rattle.ospf_packet.specs.Neighbours.{router_bytes, RouterFits};
+ghost use Rattle.ospf_packet.specs.Meaning.{body_type, body_bytes, bytes_with_sum, head_bytes, no_authentication, with_packet_sum, packet_bytes, BodyFits, CountFits, MeaningFits};
 ghost use Rattle.ospf_packet.specs.PacketOf.{packet_of};
 ghost use Rattle.ospf_packet.specs.Requests.{entry_bytes, EntryFits};
 ghost use Rattle.ospf_packet.specs.Said.{body_meant, meant};
 ghost use Rattle.ospf_packet.specs.Slices.{lsas_bytes, IsSlice};
 ghost use Rattle.ospf_packet.specs.declared.fault.WriteFault.TheVariants as fault;
 
-use crate::entry::RequestEntry;
+use crate::body::{COUNT_SIZE, DESCRIPTION_FIELDS, HELLO_FIELDS, ROUTER_SIZE};
+use crate::entry::{REQUEST_SIZE, RequestEntry};
 use crate::fault::WriteFault;
-use crate::packet::LARGEST_PACKET;
 use crate::value::{BodyValue, PacketValue};
-use ospf_base::{AreaId, MAX_AGE, RouterId, packet_sum};
+use ospf_base::{AreaId, LARGEST_PACKET, LSA_HEADER, MAX_AGE, PACKET_HEADER, RouterId, packet_sum};
 use ospf_lsa::{Lsa, LsaHeader};
 
 // The number of bytes of the LSAs, unless they are more than an Update holds.
 fn lsas_length(lsas: &[Lsa]) -> Option<usize>
-    ensures found { IfSome result (λ n. (n ≡ length (lsas_bytes lsas.now)) × (28 + n ≤ 16384)) }
+    ensures found { IfSome result (λ n. (n ≡ length (lsas_bytes lsas.now)) × (packet_header + 4 + n ≤ largest_packet)) }
     ensures count { OnSome result (length lsas.now < 2 ^ 32) }
-    ensures none { IfNone result (16384 < 28 + length (lsas_bytes lsas.now)) }
+    ensures none { IfNone result (largest_packet < packet_header + 4 + length (lsas_bytes lsas.now)) }
 {
     let mut total = 0;
     for lsa in lsas {
         let length = lsa.view().as_bytes().len();
-        if length > LARGEST_PACKET - 28 - total {
+        if length > LARGEST_PACKET - PACKET_HEADER - COUNT_SIZE - total {
             return None;
         }
         total += length;
@@ -38,17 +40,17 @@ fn lsas_length(lsas: &[Lsa]) -> Option<usize>
 
 // The number of bytes of so many entries behind the fields of a body, unless a packet does not hold them.
 fn entries_length(fields: usize, count: usize, size: usize) -> Option<usize>
-    requires fields { fields ≤ 20 }
+    requires fields { fields ≤ hello_fields }
     requires positive { 0 < size }
-    requires small { size ≤ 20 }
-    ensures found { IfSome result (λ n. (n ≡ fields + count * size) × (24 + n ≤ 16384)) }
-    ensures none { IfNone result (16384 < 24 + (fields + count * size)) }
+    requires small { size ≤ lsa_header }
+    ensures found { IfSome result (λ n. (n ≡ fields + count * size) × (packet_header + n ≤ largest_packet)) }
+    ensures none { IfNone result (largest_packet < packet_header + (fields + count * size)) }
 {
     if count > LARGEST_PACKET {
         return None;
     }
     let length = fields + count * size;
-    if length > LARGEST_PACKET - 24 {
+    if length > LARGEST_PACKET - PACKET_HEADER {
         return None;
     }
     Some(length)
@@ -56,16 +58,24 @@ fn entries_length(fields: usize, count: usize, size: usize) -> Option<usize>
 
 // The number of bytes of a body, unless a packet does not hold it.
 fn body_length(body: &BodyValue) -> Option<usize>
-    ensures found { IfSome result (λ n. (n ≡ length (body_bytes (body_meant body.now))) × (24 + n ≤ 16384)) }
+    ensures found { IfSome result (λ n. (n ≡ length (body_bytes (body_meant body.now))) × (packet_header + n ≤ largest_packet)) }
     ensures count { OnSome result (CountFits (body_meant body.now)) }
-    ensures none { IfNone result (16384 < 24 + length (body_bytes (body_meant body.now))) }
+    ensures none { IfNone result (largest_packet < packet_header + length (body_bytes (body_meant body.now))) }
 {
     match body {
-        BodyValue::Hello(_, neighbours) => entries_length(20, neighbours.len(), 4),
-        BodyValue::Description(_, headers) => entries_length(8, headers.len(), 20),
-        BodyValue::Request(entries) => entries_length(0, entries.len(), 12),
-        BodyValue::Update(lsas) => Some(4 + lsas_length(lsas)?),
-        BodyValue::Acknowledgment(headers) => entries_length(0, headers.len(), 20),
+        BodyValue::Hello(_, neighbours) => entries_length(
+            HELLO_FIELDS,
+            neighbours.len(),
+            ROUTER_SIZE,
+        ),
+        BodyValue::Description(_, headers) => entries_length(
+            DESCRIPTION_FIELDS,
+            headers.len(),
+            LSA_HEADER,
+        ),
+        BodyValue::Request(entries) => entries_length(0, entries.len(), REQUEST_SIZE),
+        BodyValue::Update(lsas) => Some(COUNT_SIZE + lsas_length(lsas)?),
+        BodyValue::Acknowledgment(headers) => entries_length(0, headers.len(), LSA_HEADER),
     }
 }
 
@@ -81,8 +91,8 @@ fn push_bytes(out: &mut Vec<u8>, bytes: &[u8])
 
 // Puts the bytes of Router IDs at the end.
 fn push_neighbours(out: &mut Vec<u8>, routers: &[RouterId])
-    requires room { vec_len out.old + length (flat_map router_bytes routers.now) ≤ vec_capacity out.old }
-    ensures routers { out.new.items ≡ out.old.items ++ flat_map router_bytes routers.now }
+    requires room { vec_len out.old + length (routers_bytes routers.now) ≤ vec_capacity out.old }
+    ensures routers { out.new.items ≡ out.old.items ++ routers_bytes routers.now }
     ensures fit { AllByRecursion RouterFits routers.now }
 {
     for router in routers {
@@ -189,7 +199,7 @@ fn head(kind: u8, size: u16, router: RouterId, area: AreaId) -> [u8; 24]
 
 // Puts the checksum into the packet that begins there.
 fn seal(out: &mut Vec<u8>, start: usize)
-    requires { start + 24 ≤ vec_len out.old }
+    requires { start + packet_header ≤ vec_len out.old }
     ensures { let packet = drop start out.old.items in
         out.new.items ≡ take start out.old.items ++ with_packet_sum packet (packet_checksum packet) }
 {
@@ -200,8 +210,8 @@ fn seal(out: &mut Vec<u8>, start: usize)
 
 // Puts a packet of so many bytes at the end, where there is room for them.
 fn push_packet(out: &mut Vec<u8>, value: &PacketValue, size: u16)
-    requires size { size ≡ 24 + length (body_bytes (body_meant value.now.body)) }
-    requires short { size ≤ 16384 }
+    requires size { size ≡ packet_header + length (body_bytes (body_meant value.now.body)) }
+    requires short { size ≤ largest_packet }
     requires count { CountFits (body_meant value.now.body) }
     requires room { vec_len out.old + size ≤ vec_capacity out.old }
     ensures bytes { out.new.items ≡ out.old.items ++ packet_bytes (meant value.now) }
@@ -232,7 +242,7 @@ pub fn write_packet(value: &PacketValue, out: &mut Vec<u8>) -> Result<(), WriteF
     let Some(length) = body_length(&value.body) else {
         return Err(WriteFault::TooLong);
     };
-    let size = 24 + length;
+    let size = PACKET_HEADER + length;
     if out.reserve(size).is_err() {
         return Err(WriteFault::Memory);
     }

@@ -1,20 +1,26 @@
-//! The rule that ties the list of published tables to the word that counts them.
+//! The rule that ties the list of published tables to the word that counts them, and to the one that may add.
 
 use logbook::{Gain, Plain, Play, Rule, Word};
 use ospf_spf::RouteTable;
 
-/// The word is the length of the list, and tables are added at the end alone.
-pub struct CountsTables;
+/// What happened to the list: it was opened for one table, a table was added, or it was closed.
+pub enum Event {
+    Opened,
+    Added(RouteTable),
+    Closed,
+}
 
-impl Rule<RouteTable, u64> for CountsTables {
+/// The word is the number of events. While the list is closed, one pen is out.
+pub struct CountsEvents;
+
+impl Rule<Event, u64> for CountsEvents {
     ghost use Rattle.std.specs.Prelude.{[]};
     ghost use base.Fml.{ftrue};
-    ghost use Rattle.ospf_published.specs.Known.{opening};
-    ghost use Rattle.ospf_published.specs.Rule.{IsCounted};
+    ghost use Rattle.ospf_published.specs.Rule.{IsCounted, first_log};
 
     ghost holds = { λ cells log. IsCounted cells log };
 
-    ghost first = { opening };
+    ghost first = { first_log };
 
     ghost hinted = { λ n log. Unit {0} };
 
@@ -25,10 +31,10 @@ impl Rule<RouteTable, u64> for CountsTables {
     ghost moves = { λ ask before after answer. Unit {0} };
 }
 
-/// Whoever adds a table has nothing else of it.
+/// Whoever makes a step has nothing else of it.
 pub struct NoGain;
 
-impl Gain<RouteTable, u64> for NoGain {
+impl Gain<Event, u64> for NoGain {
     ghost use base.Fml.{ftrue};
 
     ghost after = { λ names about answer. ftrue };
@@ -37,19 +43,74 @@ impl Gain<RouteTable, u64> for NoGain {
 /// The step that adds a table.
 pub struct AddsTable;
 
-impl Play<RouteTable, u64> for AddsTable {
+impl Play<Event, u64> for AddsTable {
     ghost use Rattle.ospf_published.specs.Rule.{AddsWhereCounted};
 
     ghost then = { AddsWhereCounted };
 }
 
-impl Plain<RouteTable, RouteTable, u64> for AddsTable {
+impl Plain<RouteTable, Event, u64> for AddsTable {
     ghost use Rattle.std.specs.Prelude.{None};
+    ghost use Rattle.ospf_published.specs.declared.rule.Event.TheVariants.{Added};
 
-    ghost ask = { λ table. table };
+    ghost ask = { λ x. Added x };
 
-    ghost state = { λ table. None };
+    ghost state = { λ x. None };
 }
 
-/// The word that threads share: how many tables were published.
-pub type Counter = Word<RouteTable, u64, CountsTables>;
+/// The step that closes the list.
+pub struct Closes;
+
+impl Play<Event, u64> for Closes {
+    ghost use Rattle.ospf_published.specs.Rule.{ClosesWhereCounted};
+
+    ghost then = { ClosesWhereCounted };
+}
+
+impl Plain<u64, Event, u64> for Closes {
+    ghost use Rattle.std.specs.Prelude.{None};
+    ghost use Rattle.ospf_published.specs.declared.rule.Event.TheVariants.{Closed};
+
+    ghost ask = { λ x. Closed };
+
+    ghost state = { λ x. None };
+}
+
+/// The step that opens the list.
+pub struct Opens;
+
+impl Play<Event, u64> for Opens {
+    ghost use Rattle.ospf_published.specs.Rule.{OpensAlways};
+
+    ghost then = { OpensAlways };
+}
+
+impl Plain<u64, Event, u64> for Opens {
+    ghost use Rattle.std.specs.Prelude.{None};
+    ghost use Rattle.ospf_published.specs.declared.rule.Event.TheVariants.{Opened};
+
+    ghost ask = { λ x. Opened };
+
+    ghost state = { λ x. None };
+}
+
+/// The step that changes nothing, and shows that the pen's list is the whole.
+pub struct Proves;
+
+impl Play<Event, u64> for Proves {
+    ghost use Rattle.ospf_published.specs.Rule.{ProvesWhole};
+
+    ghost then = { ProvesWhole };
+}
+
+impl Plain<u64, Event, u64> for Proves {
+    ghost use Rattle.std.specs.Prelude.{None};
+    ghost use Rattle.ospf_published.specs.declared.rule.Event.TheVariants.{Closed};
+
+    ghost ask = { λ x. Closed };
+
+    ghost state = { λ x. None };
+}
+
+/// The word that threads share: how many events there were.
+pub type Counter = Word<Event, u64, CountsEvents>;

@@ -1,11 +1,13 @@
-pub mod ListedLemmas
-pub mod AddsLemmas
-pub mod GivenLemmas
-pub mod FitLemmas
+pub mod KeptLemmas
 pub mod PrefixOrder
 pub mod RouteLemmas
 pub mod HopLemmas
 pub mod ReachLemmas
+pub mod Groups
 pub mod TableOf
 pub mod PlaceLemmas
 pub mod LookupLemmas
+pub mod SameRoute
+pub mod EditLemmas
+pub mod ChangeLemmas
+pub mod OrderLemmas

@@ -2,15 +2,12 @@
 use Rattle.std.proofs.Common.{◌≡◌, ◌+◌, ◌<◌, ◌↔◌, ℕ, List, [], ◌∷◌, ◌++◌, length, take, get_or, refl, sym, ◌∙◌, ap, inl, inr}
 use Rattle.std.specs.List.{Contains}
 use Rattle.std.proofs.lemmas.List.Elements.{Contains-append_left, Contains-push, Contains-push_cases}
-use Rattle.ospf_base.specs.Prefixes.{IsPrefixBefore}
-use Rattle.ospf_base.specs.declared.prefix.Prefix.{Prefix}
 use Rattle.ospf_graph.proofs.ListLemmas.{more_members}
-use Rattle.ospf_graph.specs.Places.{InsertsInOrder}
 use Rattle.ospf_graph.specs.Search.{AtIn}
 use Rattle.ospf_graph.specs.declared.graph.Vertex.{Vertex}
 use Rattle.ospf_graph.specs.declared.paths.Settled.{Settled}
 use Rattle.ospf_spf.specs.Reach.{IsReachOf, reach_of}
-use Rattle.ospf_spf.specs.declared.end.End.{End}
+use Rattle.ospf_edges.specs.declared.end.End.{End}
 use Rattle.ospf_spf.specs.declared.routes.Reach.{Reach}
 
 module _ (ends : List End) (settled : List Settled) (i : ℕ) (d : End) (lt : i < length ends) (old : List Reach)
@@ -41,18 +38,3 @@ module _ (ends : List End) (settled : List Settled) (i : ℕ) (d : End) (lt : i 
               rw made (Contains-push old r))
         ],
       )
-
-module _ (reaches : List Reach) (i : ℕ) (d : Reach) (lt : i < length reaches) (old new : List Prefix)
-    (so_far : (p : Prefix) → Contains old p ↔ ((r : Reach) × Contains (take i reaches) r × (r.prefix ≡ p)))
-    (insert : InsertsInOrder IsPrefixBefore old (get_or reaches i d).prefix new) where
-  pub prefixes_more : (p : Prefix) → Contains new p ↔ ((r : Reach) × Contains (take (i + 1) reaches) r × (r.prefix ≡ p))
-  prefixes_more p = (
-    λ m. elim ((insert.members p).0 m) [
-      | inl before ↦ (let h = (so_far p).0 before in (h.0, (more_members reaches i d lt h.0).1 (inl h.1), h.2))
-      | inr here ↦ (get_or reaches i d, (more_members reaches i d lt _).1 (inr refl), here)
-    ],
-    λ m. elim ((more_members reaches i d lt m.0).0 m.1) [
-      | inl before ↦ (insert.members p).1 (inl ((so_far p).1 (m.0, before, m.2)))
-      | inr here ↦ (insert.members p).1 (inr (ap (λ r. r.prefix) here ∙ m.2))
-    ],
-  )

@@ -1,49 +1,24 @@
 -- From lists of edges, ends and reaches to the table.
-use Rattle.std.proofs.Common.{◌≡◌, ◌+◌, ◌<◌, ◌≤◌, ◌⊎◌, ◌↔◌, ℕ, List, [], ◌∷◌, ◌++◌, map, length, take, get_or, refl, sym, ◌∙◌, subst, inl, inr, arith}
+use Rattle.std.proofs.Common.{◌≡◌, ◌+◌, ◌<◌, ◌≤◌, ◌⊎◌, ◌↔◌, ℕ, List, get_or, refl, sym, subst, inl, inr, arith}
 use Rattle.std.specs.List.{All, AllPairs, Contains}
-use Rattle.std.proofs.lemmas.List.{map-append, take_more, take_all, get_or-map, length-map}
-use Rattle.std.proofs.lemmas.List.Elements.{All-push}
 use Rattle.ospf_base.specs.Prefixes.{IsPrefixBefore}
 use Rattle.ospf_base.specs.declared.prefix.Prefix.{Prefix}
 use Rattle.ospf_base.specs.declared.ids.RouterId.{RouterId}
-use Rattle.ospf_graph.proofs.ListLemmas.{member_of_map}
-use Rattle.ospf_graph.proofs.TreeLemmas.{IsTree-map}
 use Rattle.ospf_graph.specs.Advertisements.{Advertisement, IsListed}
 use Rattle.ospf_graph.specs.Graph.{IsEdge}
 use Rattle.ospf_graph.specs.Routes.{IsTable}
 use Rattle.ospf_graph.specs.Search.{AtIn, StartsIn}
 use Rattle.ospf_graph.specs.Tree.{IsTree}
-use Rattle.ospf_graph.specs.declared.graph.Edge.{Edge}
 use Rattle.ospf_graph.specs.declared.graph.Vertex.{Vertex}
 use Rattle.ospf_graph.specs.declared.graph.Vertex.TheVariants.{Router, Network}
 use Rattle.ospf_graph.specs.declared.paths.Settled.{Settled}
 use Rattle.ospf_graph.specs.declared.paths.VertexStart.{VertexStart}
 use Rattle.ospf_graph.specs.declared.route.Route.{Route}
 use Rattle.ospf_spf.proofs.RouteLemmas.{IsReach, table_exact}
-use Rattle.ospf_spf.specs.Reach.{IsReachOf, IsRouteOf, IsLargerNetwork, IsReachedRoute, IsEdgesOf, IsEndsOf}
-use Rattle.ospf_spf.specs.declared.end.End.{End}
+use Rattle.ospf_spf.specs.Reach.{IsReachOf, IsRouteOf, IsLargerNetwork, IsReachedRoute}
+use Rattle.ospf_edges.specs.Given.{IsEndsOf}
+use Rattle.ospf_edges.specs.declared.end.End.{End}
 use Rattle.ospf_spf.specs.declared.routes.Reach.{Reach}
-
--- lists under a map
-pub pairs_of_map : {X Y : Type 0} (f : X → Y) (R : Y → Y → Type 0) (xs : List X) → AllPairs R (map f xs) → AllPairs (λ x y. R (f x) (f y)) xs
-pairs_of_map f R xs pairs = λ i j d lt within.
-    let wi : i < length xs = omega arith in
-    subst (λ y. R (f (get_or xs i d)) y) (get_or-map f xs j d (f d) within)
-    (subst (λ x. R x (get_or (map f xs) j (f d))) (get_or-map f xs i d (f d) wi) (pairs i j (f d) lt (let long = length-map xs f in omega arith)))
-
--- the routes so far have the first prefixes
-pub record HasRoutes (reaches : List Reach) (starts : List VertexStart) (some : List Prefix) (routes : List Route) : Type 0 where
-  pub same : map (λ r. r.prefix) routes ≡ some
-  pub sound : All (IsRouteOf reaches starts) routes
-
-pub routes_more : (reaches : List Reach) (starts : List VertexStart) (prefixes : List Prefix) (i : ℕ) (d : Prefix) (old new : List Route) (route : Route)
-    → i < length prefixes → HasRoutes reaches starts (take i prefixes) old → route.prefix ≡ get_or prefixes i d → IsRouteOf reaches starts route
-    → new ≡ old ++ route ∷ [] → HasRoutes reaches starts (take (i + 1) prefixes) new
-routes_more reaches starts prefixes i d old new route lt h same is new_is =
-    record {
-      same = rw (new_is, map-append, h.same, same, take_more prefixes i d lt) refl;
-      sound = rw new_is (All-push (IsRouteOf reaches starts) old route h.sound is);
-    }
 
 larger_network : (a b : Vertex) → IsLargerNetwork a b → (m n : ℕ) × (a ≡ Network m) × (b ≡ Network n) × (n < m)
 larger_network (Network m) (Network n) h = (m, n, refl, refl, h)
@@ -53,13 +28,10 @@ larger_network (Router r) b h = absurd h
 cases_le : (m n : ℕ) → (m ≤ n) ⊎ (n < m)
 cases_le m n = grind arith
 
-module _ (A : List Advertisement) (root : RouterId) (edges : List Edge) (ends : List End) (settled : List Settled) (starts : List VertexStart) (reaches : List Reach)
-    (listed : IsListed A root) (edges_are : IsEdgesOf A edges) (ends_are : IsEndsOf A ends)
-    (tree : IsTree (Contains edges) (Router root) (AtIn settled) (StartsIn starts))
+module _ (A : List Advertisement) (root : RouterId) (ends : List End) (settled : List Settled) (starts : List VertexStart) (reaches : List Reach)
+    (listed : IsListed A root) (ends_are : IsEndsOf A ends)
+    (graph_tree : IsTree (IsEdge A) (Router root) (AtIn settled) (StartsIn starts))
     (reaches_are : (r : Reach) → Contains reaches r ↔ IsReachOf ends settled r) where
-  graph_tree : IsTree (IsEdge A) (Router root) (AtIn settled) (StartsIn starts)
-  graph_tree = IsTree-map (Contains edges) (IsEdge A) (λ e. (edges_are e).0) (λ e. (edges_are e).1) (Router root) (AtIn settled) (StartsIn starts) tree
-
   abbrev Reached : Prefix → Vertex → ℕ → Type 0
   Reached p v k = IsReach A root listed (AtIn settled) (StartsIn starts) graph_tree p v k
 
@@ -125,15 +97,3 @@ module _ (A : List Advertisement) (root : RouterId) (edges : List Edge) (ends : 
       table_exact A root listed (AtIn settled) (StartsIn starts) graph_tree routes order
       (λ p v k r. complete _ (to_reach p v k r))
       (λ k d lt. route_is (get_or routes k d) (sound k d lt))
-
--- at the end of the loop over the prefixes
-module _ (reaches : List Reach) (starts : List VertexStart) (prefixes : List Prefix) (n : ℕ) (routes : List Route) (all : length prefixes ≤ n)
-    (h : HasRoutes reaches starts (take n prefixes) routes) where
-  names_are : map (λ r. r.prefix) routes ≡ prefixes
-  names_are = h.same ∙ take_all n prefixes all
-
-  pub routes_ordered : AllPairs IsPrefixBefore prefixes → AllPairs (λ p q. IsPrefixBefore p.prefix q.prefix) routes
-  routes_ordered order = pairs_of_map (λ r. r.prefix) IsPrefixBefore routes (subst (λ l. AllPairs IsPrefixBefore l) (sym names_are) order)
-
-  pub routes_complete : (p : Prefix) → Contains prefixes p → (route : Route) × Contains routes route × (route.prefix ≡ p)
-  routes_complete p m = member_of_map (λ r. r.prefix) routes p (subst (λ l. Contains l p) (sym names_are) m)

@@ -1,13 +1,10 @@
 -- What routes are made of: ends of prefixes that the shortest paths reach.
-use Rattle.std.specs.Prelude.{◌≡◌, ◌+◌, ◌<◌, ◌≤◌, ◌↔◌, ◌⊎◌, ℕ, List, [], AllPairs, Contains, Option, Some, None}
+use Rattle.std.specs.Prelude.{◌≡◌, ◌+◌, ◌*◌, ◌<◌, ◌≤◌, ◌↔◌, ◌⊎◌, ℕ, List, [], AllPairs, Contains, Option, Some, None, length, slice_index_or}
+use Rattle.std.specs.List.Sorted.{IsNonDecreasingBy}
 use Rattle.ospf_base.specs.declared.prefix.Prefix.{Prefix}
-use Rattle.ospf_graph.specs.Advertisements.{Advertisement}
-use Rattle.ospf_graph.specs.Graph.{IsEdge}
 use Rattle.ospf_graph.specs.Hops.{IsHopBefore}
-use Rattle.ospf_graph.specs.Routes.{IsEnd}
-use Rattle.ospf_graph.specs.Search.{AtIn}
+use Rattle.ospf_graph.specs.Search.{AtIn, vertex_code}
 use Rattle.ospf_graph.specs.Tree.{hop_of_start}
-use Rattle.ospf_graph.specs.declared.graph.Edge.{Edge}
 use Rattle.ospf_graph.specs.declared.graph.Start.{Start}
 use Rattle.ospf_graph.specs.declared.graph.Vertex.{Vertex}
 use Rattle.ospf_graph.specs.declared.graph.Vertex.TheVariants.{Router, Network}
@@ -15,7 +12,7 @@ use Rattle.ospf_graph.specs.declared.hop.NextHop.{NextHop}
 use Rattle.ospf_graph.specs.declared.paths.Settled.{Settled}
 use Rattle.ospf_graph.specs.declared.paths.VertexStart.{VertexStart}
 use Rattle.ospf_graph.specs.declared.route.Route.{Route}
-use Rattle.ospf_spf.specs.declared.end.End.{End}
+use Rattle.ospf_edges.specs.declared.end.End.{End}
 use Rattle.ospf_spf.specs.declared.routes.Reach.{Reach}
 
 -- the least cost of the reaches of a prefix
@@ -74,13 +71,22 @@ pub record IsRouteOf (reaches : List Reach) (starts : List VertexStart) (route :
   pub cost : IsBestCost reaches route.prefix route.cost
   pub hops : AddsHops (HasHopOf reaches starts route.prefix route.cost) [] route.hops
 
--- all edges of a listing
-abbrev pub IsEdgesOf : List Advertisement → List Edge → Type 0
-IsEdgesOf adverts edges = (e : Edge) → Contains edges e ↔ IsEdge adverts e
+-- the place of a prefix in the order of prefixes
+abbrev pub prefix_code : Prefix → ℕ
+prefix_code p = p.address.0 * 64 + p.length
 
--- all ends of a listing
-abbrev pub IsEndsOf : List Advertisement → List End → Type 0
-IsEndsOf adverts ends = (e : End) → Contains ends e ↔ IsEnd adverts e.prefix e.vertex e.cost
+abbrev pub AreReachesInOrder : List Reach → Type 0
+AreReachesInOrder reaches = IsNonDecreasingBy (λ r. prefix_code r.prefix) reaches
+
+abbrev pub AreStartsInOrder : List VertexStart → Type 0
+AreStartsInOrder starts = IsNonDecreasingBy (λ b. vertex_code b.vertex) starts
+
+-- the reaches from place to end have the prefix that stands at place, and the next has another
+pub record IsGroup (reaches : List Reach) (place end : ℕ) : Type 0 where
+  pub more : place < end
+  pub within : end ≤ length reaches
+  pub same : (k : ℕ) (d : Reach) → place ≤ k → k < end → (slice_index_or reaches place d).prefix ≡ (slice_index_or reaches k d).prefix
+  pub other : (d : Reach) → end < length reaches → (slice_index_or reaches place d).prefix ≡ (slice_index_or reaches end d).prefix → ⊥
 
 -- IsReach prefix v k: the shortest paths reach an end v of the prefix, at the cost k
 -- the route of least cost, with the hops of the routers at that cost and of the largest network at it

@@ -1,24 +1,27 @@
 //! Routes, from what the shortest paths reach.
 
-ghost use Rattle.std.specs.Prelude.{◌≡◌, ◌≤◌, ◌<◌, ◌↔◌, ◌⊎◌, ◌^◌, [], ℕ, List, All, AllPairs, Contains, IsTrue, IfOk, OnOk, MatchOption};
+ghost use Rattle.std.specs.Prelude.{◌≡◌, ◌≤◌, ◌<◌, ◌↔◌, ◌⊎◌, ◌^◌, [], ℕ, List, All, AllPairs, Contains, IsTrue, IfOk, OnOk, MatchOption, IsPermutation, ◌-◌, false, length, slice_index_or};
 ghost use Rattle.ospf_base.specs.declared.prefix.Prefix.{Prefix};
 ghost use Rattle.ospf_base.specs.Prefixes.{IsPrefixBefore};
 ghost use Rattle.ospf_graph.specs.declared.graph.Vertex.{Vertex};
 ghost use Rattle.ospf_graph.specs.declared.route.Route.{Route};
 ghost use Rattle.ospf_graph.specs.Advertisements.{Advertisement, IsListed};
 ghost use Rattle.ospf_graph.specs.Hops.{IsHopBefore};
-ghost use Rattle.ospf_graph.specs.Places.{InsertsInOrder, IsPlace};
 ghost use Rattle.ospf_graph.specs.Routes.{IsTable};
-ghost use Rattle.ospf_graph.specs.Search.{AtIn, IsFit};
+ghost use Rattle.ospf_graph.specs.Search.{AtIn, vertex_code};
 ghost use Rattle.ospf_graph.specs.Tree.{hop_of_start};
+ghost use Rattle.ospf_spf.specs.Kept.{AreTold, IsTreeOf};
 ghost use Rattle.ospf_spf.specs.declared.routes.Reach.{Reach};
-ghost use Rattle.ospf_spf.specs.Reach.{AddsHops, Excludes, HasHop, HasHopOf, IsChosenEnd, IsEdgesOf, IsEndsOf, IsLargerNetwork, IsLeastOf, IsReachOf, IsRouteOf};
+ghost use Rattle.ospf_base.specs.declared.ids.RouterId.{RouterId};
+ghost use Rattle.ospf_spf.specs.Reach.{AddsHops, Excludes, HasHop, HasHopOf, IsChosenEnd, IsLargerNetwork, IsLeastOf, IsReachOf, IsRouteOf, IsGroup, AreReachesInOrder, AreStartsInOrder, prefix_code};
+ghost use Rattle.ospf_edges.specs.Given.{IsEndsOf};
+ghost use Rattle.std.specs.List.Sorted.{IsNonDecreasingBy};
 
-use crate::end::End;
-use ospf_base::{Prefix, RouterId};
+use ospf_base::Prefix;
+use ospf_edges::End;
 use ospf_graph::{
-    Edge, Hops, NextHop, Route, Settled, Start, Vertex, VertexStart, distance_of, is_same,
-    shortest_paths,
+    Hops, NextHop, Route, Settled, ShortestPaths, Start, Vertex, VertexStart, distance_at, is_same,
+    starts_at,
 };
 use std::alloc::{AllocError, Global};
 
@@ -37,23 +40,11 @@ fn is_same_prefix(a: Prefix, b: Prefix) -> bool
     a == b
 }
 
-// The place for a prefix in a list in order; none where it is there.
-fn prefix_place(prefixes: &[Prefix], prefix: Prefix) -> Option<usize>
-    requires { AllPairs IsPrefixBefore prefixes.now }
-    ensures { MatchOption result (Contains prefixes.now prefix) (λ i. IsPlace IsPrefixBefore prefixes.now prefix i) }
+// The place of a prefix in the order of prefixes.
+fn prefix_order(prefix: Prefix) -> u64
+    ensures { result ≡ prefix_code prefix }
 {
-    prefixes.binary_search(&prefix).err()
-}
-
-// Puts a prefix in its place, if it is not there yet.
-fn insert_prefix(prefixes: &mut Vec<Prefix>, prefix: Prefix) -> Result<(), AllocError>
-    requires { AllPairs IsPrefixBefore prefixes.old.items }
-    ensures { OnOk result (InsertsInOrder IsPrefixBefore prefixes.old.items prefix prefixes.new.items) }
-{
-    if let Some(place) = prefix_place(prefixes.as_slice(), prefix) {
-        prefixes.insert(place, prefix)?;
-    }
-    Ok(())
+    prefix.address.0 as u64 * 64 + prefix.length as u64
 }
 
 // The lesser of two costs, where there is one already.
@@ -101,6 +92,9 @@ fn excludes(a: Reach, b: Reach) -> bool
 fn is_chosen(reaches: &[Reach], end: Reach) -> bool
     ensures { IsTrue result ↔ IsChosenEnd reaches.now end }
 {
+    if matches!(end.vertex, Vertex::Router(_)) {
+        return true;
+    }
     for reach in reaches {
         if excludes(*reach, end) {
             return false;
@@ -133,6 +127,16 @@ fn add_hops(starts: &[VertexStart], vertex: Vertex, hops: &mut Hops) -> Result<(
     Ok(())
 }
 
+// Adds the hops of all starts of a vertex, of starts in the order of vertices.
+fn add_hops_at(starts: &[VertexStart], vertex: Vertex, hops: &mut Hops) -> Result<(), AllocError>
+    requires hops_in_order { AllPairs IsHopBefore hops.old }
+    requires starts_in_order { AreStartsInOrder starts.now }
+    ensures { OnOk result (AddsHops (HasHop starts.now vertex) hops.old hops.new) }
+{
+    add_hops(starts_at(starts, vertex), vertex, hops)?;
+    Ok(())
+}
+
 // Whether this is a chosen end of the prefix at this cost.
 fn counts(reaches: &[Reach], end: Reach, prefix: Prefix, cost: u64) -> bool
     ensures { IsTrue result ↔ ((end.prefix ≡ prefix) × (end.cost ≡ cost) × IsChosenEnd reaches.now end) }
@@ -148,12 +152,13 @@ fn hops_of(
     reaches: &[Reach],
     starts: &[VertexStart],
 ) -> Result<Hops, AllocError>
+    requires { AreStartsInOrder starts.now }
     ensures { IfOk result (λ hops. AddsHops (HasHopOf reaches.now starts.now prefix cost) [] hops) }
 {
     let mut hops = Hops::new(alloc);
     for reach in reaches {
         if counts(reaches, *reach, prefix, cost) {
-            add_hops(starts, reach.vertex, &mut hops)?;
+            add_hops_at(starts, reach.vertex, &mut hops)?;
         }
     }
     Ok(hops)
@@ -163,11 +168,12 @@ fn hops_of(
 fn reaches_of(alloc: Global, ends: &[End], settled: &[Settled]) -> Result<Vec<Reach>, AllocError>
     requires near { All (λ s. s.distance < 2 ^ 63) settled.now }
     requires one { (v : Vertex) (d k : ℕ) → AtIn settled.now v d → AtIn settled.now v k → d ≡ k }
+    requires in_order { IsNonDecreasingBy (λ s. vertex_code s.vertex) settled.now }
     ensures { IfOk result (λ reaches. (r : Reach) → Contains reaches.items r ↔ IsReachOf ends.now settled.now r) }
 {
     let mut reaches = Vec::new(alloc);
     for end in ends {
-        if let Some(distance) = distance_of(settled, end.vertex) {
+        if let Some(distance) = distance_at(settled, end.vertex) {
             reaches.push(Reach {
                 prefix: end.prefix,
                 vertex: end.vertex,
@@ -178,16 +184,12 @@ fn reaches_of(alloc: Global, ends: &[End], settled: &[Settled]) -> Result<Vec<Re
     Ok(reaches)
 }
 
-// The prefixes of the reaches, in order.
-fn prefixes_of(alloc: Global, reaches: &[Reach]) -> Result<Vec<Prefix>, AllocError>
-    ensures in_order { IfOk result (λ prefixes. AllPairs IsPrefixBefore prefixes.items) }
-    ensures members { IfOk result (λ prefixes. (p : Prefix) → Contains prefixes.items p ↔ ((r : Reach) × Contains reaches.now r × (r.prefix ≡ p))) }
+// Puts reaches into the order of their prefixes.
+fn sort_reaches(reaches: &mut Vec<Reach>)
+    ensures same { IsPermutation reaches.old.items reaches.new.items }
+    ensures in_order { AreReachesInOrder reaches.new.items }
 {
-    let mut prefixes = Vec::new(alloc);
-    for reach in reaches {
-        insert_prefix(&mut prefixes, reach.prefix)?;
-    }
-    Ok(prefixes)
+    reaches.sort_unstable_by_key(|r| prefix_order(r.prefix));
 }
 
 // The route to a prefix that is reached.
@@ -197,7 +199,8 @@ fn route_to(
     reaches: &[Reach],
     starts: &[VertexStart],
 ) -> Result<Route, AllocError>
-    requires { (r : Reach) × Contains reaches.now r × (r.prefix ≡ prefix) }
+    requires reached { (r : Reach) × Contains reaches.now r × (r.prefix ≡ prefix) }
+    requires in_order { AreStartsInOrder starts.now }
     ensures { IfOk result (λ route. (route.prefix ≡ prefix) × IsRouteOf reaches.now starts.now route) }
 {
     let cost = match least_cost(prefix, reaches) {
@@ -208,40 +211,82 @@ fn route_to(
     Ok(Route { prefix, cost, hops })
 }
 
+// Whether the reach at this place is the first of its prefix.
+fn is_first(reaches: &[Reach], place: usize) -> bool
+    requires { place < length reaches.now }
+    ensures first { IsTrue result → (d : Reach) → 0 < place → (slice_index_or reaches.now (place - 1) d).prefix ≡ (slice_index_or reaches.now place d).prefix → ⊥ }
+    ensures later { result ≡ false → (0 < place) × ((d : Reach) → (slice_index_or reaches.now (place - 1) d).prefix ≡ (slice_index_or reaches.now place d).prefix) }
+{
+    place == 0 || !is_same_prefix(reaches[place - 1].prefix, reaches[place].prefix)
+}
+
+// Where the reaches of the prefix that stands at this place end.
+fn group_end(reaches: &[Reach], place: usize) -> usize
+    requires { place < length reaches.now }
+    ensures { IsGroup reaches.now place result }
+{
+    for end in place + 1..reaches.len() {
+        if !is_same_prefix(reaches[place].prefix, reaches[end].prefix) {
+            return end;
+        }
+    }
+    reaches.len()
+}
+
+// The route to the prefix whose reaches begin at this place.
+fn route_at(
+    alloc: Global,
+    reaches: &[Reach],
+    place: usize,
+    starts: &[VertexStart],
+) -> Result<Route, AllocError>
+    requires within { place < length reaches.now }
+    requires first { (d : Reach) → 0 < place → (slice_index_or reaches.now (place - 1) d).prefix ≡ (slice_index_or reaches.now place d).prefix → ⊥ }
+    requires reaches_in_order { AreReachesInOrder reaches.now }
+    requires starts_in_order { AreStartsInOrder starts.now }
+    ensures prefix { IfOk result (λ route. (d : Reach) → route.prefix ≡ (slice_index_or reaches.now place d).prefix) }
+    ensures route { IfOk result (λ route. IsRouteOf reaches.now starts.now route) }
+{
+    let end = group_end(reaches, place);
+    let route = route_to(alloc, reaches[place].prefix, &reaches[place..end], starts)?;
+    Ok(route)
+}
+
 // The routes to all prefixes that are reached, in order.
 fn routes_of(
     alloc: Global,
     reaches: &[Reach],
     starts: &[VertexStart],
 ) -> Result<Vec<Route>, AllocError>
+    requires reaches_in_order { AreReachesInOrder reaches.now }
+    requires starts_in_order { AreStartsInOrder starts.now }
     ensures in_order { IfOk result (λ routes. AllPairs (λ p q. IsPrefixBefore p.prefix q.prefix) routes.items) }
     ensures complete { IfOk result (λ routes. (r : Reach) → Contains reaches.now r → (route : Route) × Contains routes.items route × (route.prefix ≡ r.prefix)) }
     ensures sound { IfOk result (λ routes. All (IsRouteOf reaches.now starts.now) routes.items) }
 {
-    let prefixes = prefixes_of(alloc, reaches)?;
     let mut routes = Vec::new(alloc);
-    for prefix in &prefixes {
-        let route = route_to(alloc, *prefix, reaches, starts)?;
-        routes.push(route)?;
+    for place in 0..reaches.len() {
+        if is_first(reaches, place) {
+            routes.push(route_at(alloc, reaches, place, starts)?)?;
+        }
     }
     Ok(routes)
 }
 
-/// The routes of a root, from all edges and all ends of a listing that has the root's LSA (RFC 2328,
-/// section 16.1): to each prefix that it has a way to, in the order of the prefixes.
+/// The routes over a tree, from all ends of a listing that has the root's LSA (RFC 2328, section 16.1): to
+/// each prefix that the root has a way to, in the order of the prefixes.
 ///
 /// `AllocError` where memory runs out.
 pub(crate) fn table_of(
     alloc: Global,
-    edges: &[Edge],
+    paths: &ShortestPaths,
     ends: &[End],
-    root: RouterId,
 ) -> Result<Vec<Route>, AllocError>
-    requires fit { IsFit edges.now }
-    ensures { IfOk result (λ routes. (adverts : List Advertisement) → IsListed adverts root → IsEdgesOf adverts edges.now → IsEndsOf adverts ends.now → IsTable adverts root routes.items) }
+    requires told { AreTold paths.now }
+    ensures { IfOk result (λ routes. (adverts : List Advertisement) (root : RouterId) → IsListed adverts root → IsTreeOf adverts root paths.now → IsEndsOf adverts ends.now → IsTable adverts root routes.items) }
 {
-    let paths = shortest_paths(alloc, edges, Vertex::Router(root))?;
-    let reaches = reaches_of(alloc, ends, &paths.settled)?;
+    let mut reaches = reaches_of(alloc, ends, &paths.settled)?;
+    sort_reaches(&mut reaches);
     let routes = routes_of(alloc, &reaches, &paths.starts)?;
     Ok(routes)
 }

@@ -16,25 +16,7 @@ use Rattle.ospfd.specs.declared.line.LineFault.TheVariants.{NotHex, Lsa}
 use Rattle.ospfd.specs.declared.table.EntryFault.{EntryFault}
 use Rattle.ospfd.specs.declared.table.EntryFault.TheVariants.{Line, Listing}
 use Rattle.ospfd.specs.declared.table.TableFault.{TableFault}
-use Rattle.ospfd.specs.declared.table.TableFault.TheVariants.{Entry, Memory, Stream, Closed}
-
-pub line_fault : (text : List ℕ) (listing : List (List ℕ)) (fault : LineFault) → (fault ≡ NotHex → IsErr (decode_of text))
-    → ((f : LsaFault) → fault ≡ Lsa f → (f ≡ lsa_fault.Memory) ⊎ HasFirstFault (decode_of text) f)
-    → IsMemoryFault (Line fault) ⊎ HasFault text listing (Line fault)
-line_fault text listing NotHex hex first = inr (hex refl)
-line_fault text listing (Lsa f) hex first =
-    elim (first f refl) [
-      | inl e ↦ inl (subst (λ (g : LsaFault). IsMemoryFault (Line (Lsa g))) (sym e) tt)
-      | inr h ↦ inr h
-    ]
-
-pub listing_fault_of : (text lsa : List ℕ) (listing : List (List ℕ)) (fault : ListingFault) → decode_of text ≡ Ok lsa
-    → (fault ≡ listing_fault.Twice → HasKey listing (key_of lsa)) → (fault ≡ listing_fault.MaxAge → ⊥)
-    → IsMemoryFault (Listing fault) ⊎ HasFault text listing (Listing fault)
-listing_fault_of text lsa listing listing_fault.Twice decoded twice max_age =
-    inr (refl, record { lsa = lsa; decoded = decoded; listed = twice refl })
-listing_fault_of text lsa listing listing_fault.MaxAge decoded twice max_age = absurd (max_age refl)
-listing_fault_of text lsa listing listing_fault.Memory decoded twice max_age = inl tt
+use Rattle.ospfd.specs.declared.table.TableFault.TheVariants.{Entry, Failure}
 
 -- what is left of the input and the listing so far lead to what the whole input leads to
 pub record LeadsTo (whole : List ℕ) (rest : Option (List ℕ)) (listing : List (List ℕ)) (number : ℕ) : Type 0 where
@@ -116,14 +98,12 @@ not_memory text listing (Line (Lsa lsa_fault.Mask)) h m = m
 not_memory text listing (Line (Lsa lsa_fault.ZeroMetric)) h m = m
 not_memory text listing (Line (Lsa lsa_fault.IdMismatch)) h m = m
 not_memory text listing (Line (Lsa lsa_fault.Number)) h m = m
-not_memory text listing (Line (Lsa lsa_fault.Memory)) h m = h.2.broken tt
+not_memory text listing (Line (Lsa lsa_fault.Memory)) h m = h.1.2.broken tt
 not_memory text listing (Listing listing_fault.Twice) h m = m
 not_memory text listing (Listing listing_fault.MaxAge) h m = m
-not_memory text listing (Listing listing_fault.Memory) h m = let e : listing_fault.Memory ≡ listing_fault.Twice = h.0 in cc
+not_memory text listing (Listing listing_fault.Memory) h m = let e : listing_fault.Memory ≡ listing_fault.Twice = h.1.0 in cc
 
 -- a refusal is of a line, for a fault
 pub refusal_of : (fault : TableFault) → IsRefusal fault → (number : ℕ) × (entry : EntryFault) × (fault ≡ Entry number entry)
 refusal_of (Entry number entry) is = (number, entry, refl)
-refusal_of Memory is = absurd is
-refusal_of (Stream error) is = absurd is
-refusal_of Closed is = absurd is
+refusal_of (Failure failure) is = absurd is

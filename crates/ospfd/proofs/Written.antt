@@ -12,7 +12,7 @@ use Rattle.ospf_spf.specs.Listed.{advertisements_of}
 use Rattle.ospfd.specs.Line.{Reads}
 use Rattle.ospfd.specs.Checked.{AreTold, IsTold, IsWritten, IsWrittenOf, no_file, one_file}
 use Rattle.ospfd.specs.declared.check.NamedFile.{NamedFile}
-use Rattle.ospfd.specs.Output.{route_line, routes_text, IsLookupLine, AreLookups, IsOutput, IsAnswer, no_more, one_more}
+use Rattle.ospfd.specs.Output.{route_line, routes_text, IsLookupLine, AreLookups, IsAnswered, IsOutput, IsWarning, no_more, one_more}
 
 pub nothing_written : (o : Option (List ℕ)) → Appends o o []
 nothing_written None = tt
@@ -66,17 +66,25 @@ kept_written (Some p) (Some q) None xs h k = absurd k
 kept_written (Some p) (Some q) (Some r) xs h k = k ∙ h
 
 -- the routes, the lookups and a flush
-pub answer_written : (a b c d : Option (List ℕ)) (input : List ℕ) (listing : List (List ℕ)) (root : RouterId) (table routes : List Route)
-    (addresses : List Addr) → Reads input [] listing → IsTable (advertisements_of listing) root table → routes ≡ table
-    → Appends a b (routes_text routes) → ((lines : List ℕ) × AreLookups table addresses lines × Appends b c lines) → Keeps c d
-    → (text : List ℕ) × IsAnswer input root addresses text × Appends a d text
-answer_written a b c d input listing root table routes addresses reads is_table same h lookups flushed =
+pub output_written : (a b c d : Option (List ℕ)) (table routes : List Route) (addresses : List Addr) → routes ≡ table → Appends a b (routes_text routes)
+    → ((lines : List ℕ) × AreLookups table addresses lines × Appends b c lines) → Keeps c d
+    → (text : List ℕ) × IsOutput table addresses text × Appends a d text
+output_written a b c d table routes addresses same h lookups flushed =
     let routes_written : Appends a b (routes_text table) = subst (λ rs. Appends a b (routes_text rs)) same h in
-    let output : IsOutput table addresses (routes_text table ++ lookups.0) = record { lookups = lookups.0; are_lookups = lookups.1; text_is = refl } in (
-      routes_text table ++ lookups.0,
-      record { listing = listing; reads = reads; table = table; is_table = is_table; output = output },
-      kept_written a c d _ (both_written a b c _ _ routes_written lookups.2) flushed,
-    )
+    let output : IsOutput table addresses (routes_text table ++ lookups.0) = record { lookups = lookups.0; are_lookups = lookups.1; text_is = refl } in
+    (routes_text table ++ lookups.0, output, kept_written a c d _ (both_written a b c _ _ routes_written lookups.2) flushed)
+
+-- the answer, and the warning of the root
+pub answered : (a b x y : Option (List ℕ)) (input : List ℕ) (listing : List (List ℕ)) (root : RouterId) (table : List Route) (addresses : List Addr)
+    → Reads input [] listing → ((warning : List ℕ) × IsWarning listing root warning × Appends x y warning) → IsTable (advertisements_of listing) root table
+    → ((text : List ℕ) × IsOutput table addresses text × Appends a b text) → IsAnswered input root addresses a b x y
+answered a b x y input listing root table addresses reads warned is_table written = record {
+  text = written.0;
+  warning = warned.0;
+  is = record { listing = listing; reads = reads; warned = warned.1; table = table; is_table = is_table; output = written.1 };
+  out = written.2;
+  err = warned.2;
+}
 
 -- ---- files that are checked
 
@@ -89,25 +97,25 @@ and_true true = refl
 and_true false = refl
 
 -- one more file
-more_told : (files : List NamedFile) (all : Bool) (outs errs : List ℕ) (file : NamedFile) (accepted : Bool) (out err : List ℕ) → AreTold files all outs errs
-    → IsTold file accepted out err → AreTold (files ++ file ∷ []) (all && accepted) (outs ++ out) (errs ++ err)
-more_told _ _ _ _ file accepted out err no_file is = rw (sym (append-nil out), sym (append-nil err), sym (and_true accepted)) (one_file is no_file)
-more_told _ _ _ _ file accepted out err (one_file {accepted = a} {all = all} {out = o} {outs = outs} {err = e} {errs = errs} first rest) is =
-    rw (and_assoc a all accepted, append_assoc o outs out, append_assoc e errs err) (one_file first (more_told _ all outs errs file accepted out err rest is))
+more_told : (explain : Bool) (files : List NamedFile) (all : Bool) (outs errs : List ℕ) (file : NamedFile) (accepted : Bool) (out err : List ℕ) → AreTold explain files all outs errs
+    → IsTold explain file accepted out err → AreTold explain (files ++ file ∷ []) (all && accepted) (outs ++ out) (errs ++ err)
+more_told explain _ _ _ _ file accepted out err no_file is = rw (sym (append-nil out), sym (append-nil err), sym (and_true accepted)) (one_file is no_file)
+more_told explain _ _ _ _ file accepted out err (one_file {accepted = a} {all = all} {out = o} {outs = outs} {err = e} {errs = errs} first rest) is =
+    rw (and_assoc a all accepted, append_assoc o outs out, append_assoc e errs err) (one_file first (more_told explain _ all outs errs file accepted out err rest is))
 
-pub no_files : (out err : Option (List ℕ)) → IsWritten [] true out out err err
-no_files out err = record { out = []; err = []; told = no_file; out_written = nothing_written out; err_written = nothing_written err }
+pub no_files : (explain : Bool) (out err : Option (List ℕ)) → IsWritten explain [] true out out err err
+no_files explain out err = record { out = []; err = []; told = no_file; out_written = nothing_written out; err_written = nothing_written err }
 
-pub file_written : (a b c x y z : Option (List ℕ)) (files : List NamedFile) (i : ℕ) (file : NamedFile) (all accepted : Bool) → i < length files
-    → file ≡ get_or files i file → IsWritten (take i files) all a b x y → IsWrittenOf file accepted b c y z
-    → IsWritten (take (i + 1) files) (all && accepted) a c x z
-file_written a b c x y z files i file all accepted within at so_far next =
+pub file_written : (explain : Bool) (a b c x y z : Option (List ℕ)) (files : List NamedFile) (i : ℕ) (file : NamedFile) (all accepted : Bool) → i < length files
+    → file ≡ get_or files i file → IsWritten explain (take i files) all a b x y → IsWrittenOf explain file accepted b c y z
+    → IsWritten explain (take (i + 1) files) (all && accepted) a c x z
+file_written explain a b c x y z files i file all accepted within at so_far next =
     let more = ap (λ last. take i files ++ last ∷ []) at ∙ sym (take_more files i file within) in
     record {
       out = so_far.out ++ next.out;
       err = so_far.err ++ next.err;
-      told = subst (λ front. AreTold front (all && accepted) (so_far.out ++ next.out) (so_far.err ++ next.err)) more
-          (more_told (take i files) all so_far.out so_far.err file accepted next.out next.err so_far.told next.told);
+      told = subst (λ front. AreTold explain front (all && accepted) (so_far.out ++ next.out) (so_far.err ++ next.err)) more
+          (more_told explain (take i files) all so_far.out so_far.err file accepted next.out next.err so_far.told next.told);
       out_written = both_written a b c so_far.out next.out so_far.out_written next.out_written;
       err_written = both_written x y z so_far.err next.err so_far.err_written next.err_written;
     }

@@ -1,5 +1,5 @@
 -- What the program says of configurations that it checks.
-use Rattle.std.specs.Prelude.{◌≡◌, ◌⊎◌, ◌&&◌, ℕ, Bool, true, false, List, [], ◌∷◌, ◌++◌, Option, Some, IsUtf8, codes, string_bytes, option_map}
+use Rattle.std.specs.Prelude.{◌≡◌, ◌⊎◌, ◌&&◌, ℕ, Bool, true, false, List, [], ◌∷◌, ◌++◌, Option, Some, IsUtf8, codes, string_bytes, option_map, ⊤}
 use Rattle.std.specs.Io.KnownBytes.{Appends}
 use Rattle.ospf_config.specs.Configs.{IsReading, TextHasFault}
 use Rattle.ospf_config.specs.Fault.{IsLeast, fault_text}
@@ -27,34 +27,43 @@ bytes_of file = option_map (λ bytes. bytes.items) file.bytes
 abbrev pub accepted_line : NamedFile → List ℕ
 accepted_line file = string_bytes file.name ++ codes ": ok\n"
 
+-- the line of a file that could not be read
+abbrev pub unread_line : NamedFile → List ℕ
+unread_line file = string_bytes file.name ++ codes ": not read\n"
+
 -- the line of a file that is refused
 abbrev pub refused_line : NamedFile → ConfigFault → List ℕ
 refused_line file fault = string_bytes file.name ++ (codes ": " ++ (fault_text fault ++ codes "\n"))
 
+-- what is said behind the line of a refused file: nothing, unless it is to be explained
+abbrev pub IsExplanation : Bool → List ℕ → Type 0
+IsExplanation false more = more ≡ []
+IsExplanation true more = ⊤
+
 -- a file that was read, whether it is accepted, and what is told of it on standard output and on standard error
-pub data IsTold : NamedFile → Bool → List ℕ → List ℕ → Type 0 where
-  accepted_told : {file : NamedFile} (bytes : List ℕ) → bytes_of file ≡ Some bytes → IsAccepted bytes → IsTold file true (accepted_line file) []
-  refused_told : {file : NamedFile} (bytes : List ℕ) (fault : ConfigFault) → bytes_of file ≡ Some bytes → IsRefusedFor bytes fault
-      → IsTold file false [] (refused_line file fault)
+pub data IsTold (explain : Bool) : NamedFile → Bool → List ℕ → List ℕ → Type 0 where
+  accepted_told : {file : NamedFile} (bytes : List ℕ) → bytes_of file ≡ Some bytes → IsAccepted bytes → IsTold explain file true (accepted_line file) []
+  refused_told : {file : NamedFile} (bytes : List ℕ) (fault : ConfigFault) (more : List ℕ) → bytes_of file ≡ Some bytes → IsRefusedFor bytes fault
+      → IsExplanation explain more → IsTold explain file false [] (refused_line file fault ++ more)
 
 -- what is told of a file is what was written
-pub record IsWrittenOf (file : NamedFile) (accepted : Bool) (out_old out_new err_old err_new : Option (List ℕ)) : Type 0 where
+pub record IsWrittenOf (explain : Bool) (file : NamedFile) (accepted : Bool) (out_old out_new err_old err_new : Option (List ℕ)) : Type 0 where
   pub out : List ℕ
   pub err : List ℕ
-  pub told : IsTold file accepted out err
+  pub told : IsTold explain file accepted out err
   pub out_written : Appends out_old out_new out
   pub err_written : Appends err_old err_new err
 
 -- the files in order, whether all are accepted, and what is told of them
-pub data AreTold : List NamedFile → Bool → List ℕ → List ℕ → Type 0 where
-  no_file : AreTold [] true [] []
-  one_file : {file : NamedFile} {files : List NamedFile} {accepted all : Bool} {out outs err errs : List ℕ} → IsTold file accepted out err
-      → AreTold files all outs errs → AreTold (file ∷ files) (accepted && all) (out ++ outs) (err ++ errs)
+pub data AreTold (explain : Bool) : List NamedFile → Bool → List ℕ → List ℕ → Type 0 where
+  no_file : AreTold explain [] true [] []
+  one_file : {file : NamedFile} {files : List NamedFile} {accepted all : Bool} {out outs err errs : List ℕ} → IsTold explain file accepted out err
+      → AreTold explain files all outs errs → AreTold explain (file ∷ files) (accepted && all) (out ++ outs) (err ++ errs)
 
 -- what is told of the files is what was written
-pub record IsWritten (files : List NamedFile) (all : Bool) (out_old out_new err_old err_new : Option (List ℕ)) : Type 0 where
+pub record IsWritten (explain : Bool) (files : List NamedFile) (all : Bool) (out_old out_new err_old err_new : Option (List ℕ)) : Type 0 where
   pub out : List ℕ
   pub err : List ℕ
-  pub told : AreTold files all out err
+  pub told : AreTold explain files all out err
   pub out_written : Appends out_old out_new out
   pub err_written : Appends err_old err_new err

@@ -1,5 +1,6 @@
 -- Why the program's words ask for nothing that can be done.
-use Rattle.std.specs.Prelude.{◌≡◌, ◌≢◌, ◌⊎◌, ℕ, List, ⊤, string_bytes}
+use Rattle.std.specs.Prelude.{◌≡◌, ◌≢◌, ◌⊎◌, ◌++◌, ℕ, List, Option, ⊤, codes, string_bytes}
+use Rattle.std.specs.Io.KnownBytes.{Appends}
 use Rattle.clap.specs.Words.{kind_of}
 use Rattle.clap.specs.declared.error.kind.ErrorKind.TheVariants.{DisplayHelp, DisplayVersion, OutOfMemory}
 use Rattle.clap.specs.declared.error.Error.{Error}
@@ -15,6 +16,20 @@ HasStatus (fault.Words e) s =
     ⊎ ((kind_of e ≢ DisplayHelp) × (kind_of e ≢ DisplayVersion) × (s ≡ status.Words))
 HasStatus (fault.Address word) s = s ≡ status.Words
 HasStatus fault.Memory s = s ≡ status.Memory
+
+-- help or the version is what was asked for
+abbrev pub IsHelp : JobFault → Type 0
+IsHelp (fault.Words e) = (kind_of e ≡ DisplayHelp) ⊎ (kind_of e ≡ DisplayVersion)
+IsHelp _ = ⊥
+
+-- what is told of a word that is no address
+abbrev pub address_line : List ℕ → List ℕ
+address_line word = word ++ codes ": not an address\n"
+
+-- what is told on standard error of words that are refused, but for the texts of `clap`
+abbrev pub IsToldOf : JobFault → Option (List ℕ) → Option (List ℕ) → Type 0
+IsToldOf (fault.Address word) old new = Appends old new (address_line (string_bytes word))
+IsToldOf _ old new = ⊤
 
 -- the fault of words that are to be values: this holds of the word that it names, unless memory ran out
 abbrev pub IsFaultOfValue : (List ℕ → Type 0) → JobFault → Type 0

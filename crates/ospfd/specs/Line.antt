@@ -36,17 +36,23 @@ pub record IsListed (text : List ℕ) (old new : List (List ℕ)) : Type 0 where
 abbrev pub IsTaken : List ℕ → List (List ℕ) → List (List ℕ) → Type 0
 IsTaken text old new = (IsBlank text × (new ≡ old)) ⊎ ((IsBlank text → ⊥) × IsListed text old new)
 
--- an LSA of the key of the one that the text spells is listed
+-- the text spells an LSA below age MaxAge, and one of its key is listed
 pub record IsSecond (text : List ℕ) (listing : List (List ℕ)) : Type 0 where
   pub lsa : List ℕ
   pub decoded : decode_of text ≡ Ok lsa
+  pub is_lsa : IsLsa lsa
+  pub young : (header_of lsa).age ≢ 3600
   pub listed : HasKey listing (key_of lsa)
+
+-- why a text that is not blank is refused
+abbrev pub HasEntryFault : List ℕ → List (List ℕ) → EntryFault → Type 0
+HasEntryFault text listing (Line NotHex) = IsErr (decode_of text)
+HasEntryFault text listing (Line (Lsa f)) = HasFirstFault (decode_of text) f
+HasEntryFault text listing (Listing f) = (f ≡ listing_fault.Twice) × IsSecond text listing
 
 -- why a text is refused
 abbrev pub HasFault : List ℕ → List (List ℕ) → EntryFault → Type 0
-HasFault text listing (Line NotHex) = IsErr (decode_of text)
-HasFault text listing (Line (Lsa f)) = HasFirstFault (decode_of text) f
-HasFault text listing (Listing f) = (f ≡ listing_fault.Twice) × IsSecond text listing
+HasFault text listing f = (IsBlank text → ⊥) × HasEntryFault text listing f
 
 -- the text of the first line
 abbrev pub first_text : List ℕ → List ℕ

@@ -1,5 +1,5 @@
 -- What the program prints of a routing table, and of the addresses that are looked up in it.
-use Rattle.std.specs.Prelude.{◌≡◌, ◌⊎◌, ℕ, List, [], ◌∷◌, ◌++◌, Contains, Option, None, Some, codes, decimal, flat_map}
+use Rattle.std.specs.Prelude.{◌≡◌, ◌≢◌, ◌⊎◌, ℕ, List, [], ◌∷◌, ◌++◌, Contains, Option, None, Some, codes, decimal, flat_map}
 use Rattle.ospf_base.specs.Prefixes.{Holds}
 use Rattle.ospf_base.specs.Text.{number_text, prefix_text}
 use Rattle.ospf_base.specs.declared.ids.Addr.{Addr}
@@ -13,6 +13,10 @@ use Rattle.ospf_graph.specs.declared.route.Route.{Route}
 use Rattle.ospf_fib.specs.declared.answer.Answer.{Answer}
 use Rattle.ospf_spf.specs.Listed.{advertisements_of}
 use Rattle.ospfd.specs.Line.{Reads}
+use Rattle.ospf_base.specs.declared.ids.Kind.TheVariants.{Router}
+use Rattle.ospf_base.specs.declared.ids.LsaKey.{LsaKey}
+use Rattle.ospf_lsa.specs.Listing.{HasKey}
+use Rattle.std.specs.Io.KnownBytes.{Appends}
 
 -- a route, a line
 abbrev pub route_line : Route → List ℕ
@@ -65,10 +69,36 @@ pub record IsOutput (table : List Route) (addresses : List Addr) (text : List �
   pub are_lookups : AreLookups table addresses lookups
   pub text_is : text ≡ routes_text table ++ lookups
 
--- what is printed for an input: the routing table of the root over its LSAs, and the lookups in it
-pub record IsAnswer (input : List ℕ) (root : RouterId) (addresses : List Addr) (text : List ℕ) : Type 0 where
+-- the key of a router's own router-LSA (RFC 2328, section 12.4.1)
+abbrev pub router_key : RouterId → LsaKey
+router_key router = record { kind = Router; id = router.0; router = router }
+
+-- what is said of a root without a router-LSA
+abbrev pub unlisted_line : RouterId → List ℕ
+unlisted_line root = number_text root.0 ++ codes ": no router-LSA of this router\n"
+
+-- LSAs are listed, and none is the root's router-LSA
+abbrev pub IsUnlisted : List (List ℕ) → RouterId → Type 0
+IsUnlisted listing root = (listing ≢ []) × (HasKey listing (router_key root) → ⊥)
+
+-- what is said on standard error of the root: that its router-LSA is not listed, where others are
+abbrev pub IsWarning : List (List ℕ) → RouterId → List ℕ → Type 0
+IsWarning listing root text =
+    (IsUnlisted listing root × (text ≡ unlisted_line root)) ⊎ ((IsUnlisted listing root → ⊥) × (text ≡ []))
+
+-- what is printed for an input: the routing table of the root over its LSAs, and the lookups in it; and the warning of the root
+pub record IsAnswer (input : List ℕ) (root : RouterId) (addresses : List Addr) (text warning : List ℕ) : Type 0 where
   pub listing : List (List ℕ)
   pub reads : Reads input [] listing
+  pub warned : IsWarning listing root warning
   pub table : List Route
   pub is_table : IsTable (advertisements_of listing) root table
   pub output : IsOutput table addresses text
+
+-- the answer for an input stands on standard output, and its warning on standard error
+pub record IsAnswered (input : List ℕ) (root : RouterId) (addresses : List Addr) (out_old out_new err_old err_new : Option (List ℕ)) : Type 0 where
+  pub text : List ℕ
+  pub warning : List ℕ
+  pub is : IsAnswer input root addresses text warning
+  pub out : Appends out_old out_new text
+  pub err : Appends err_old err_new warning

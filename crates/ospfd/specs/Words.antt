@@ -1,10 +1,10 @@
 -- What the program's words ask for, as `clap` reads them.
-use Rattle.std.specs.Prelude.{◌≡◌, true, List, [], ◌∷◌, Option, Some, Ok, ⊤, codes, map, string_bytes, unwrap_or}
+use Rattle.std.specs.Prelude.{◌≡◌, true, false, Bool, List, [], ◌∷◌, Option, Some, None, Ok, ⊤, codes, map, string_bytes, unwrap_or}
 use Rattle.ospf_base.specs.Text.{ReadsAddress, ReadsRouterId}
 use Rattle.ospf_base.specs.declared.ids.Addr.{Addr}
 use Rattle.clap.specs.Lexer.{usize_max}
-use Rattle.clap.specs.Words.{App, Row, Rule, Text, all_of, first_of, new_app, new_rule, subcommand_of, with_rule, with_subcommand}
-use Rattle.clap.specs.declared.builder.action.ArgAction.TheVariants.{Append}
+use Rattle.clap.specs.Words.{App, Row, Rule, Text, all_of, first_of, one_of, new_app, new_rule, subcommand_of, with_rule, with_subcommand}
+use Rattle.clap.specs.declared.builder.action.ArgAction.TheVariants.{Append, SetTrue}
 use Rattle.ospfd.specs.declared.jobs.CheckJob.{CheckJob}
 use Rattle.ospfd.specs.declared.jobs.Job.{Job}
 use Rattle.ospfd.specs.declared.jobs.Job.TheVariants as job
@@ -35,9 +35,13 @@ files_rule = record (new_rule (codes "files")) {
   value_names = 1;
 }
 
--- the command `check`: files
+-- a flag
+abbrev pub explain_rule : Rule
+explain_rule = record (new_rule (codes "explain")) { long = Some (codes "explain"); action = Some SetTrue }
+
+-- the command `check`: a flag, and files
 abbrev pub check_app : App
-check_app = with_rule (new_app (codes "check")) files_rule
+check_app = with_rule (with_rule (new_app (codes "check")) explain_rule) files_rule
 
 -- the program, before its commands
 abbrev pub ospfd_app : App
@@ -62,11 +66,18 @@ pub record IsTableJob (rows : List Row) (t : TableJob) : Type 0 where
   pub root : ReadsRouterId text (Ok t.root)
   pub addresses : Spell (unwrap_or (all_of (codes "addresses") rows) []) t.addresses.items
 
--- the files that `clap` reads after `check`
+-- whether a flag is given, by the text that `clap` keeps of it
+pub record IsFlag (text : Option Text) (given : Bool) : Type 0 where
+  pub none : text ≡ None → given ≡ false
+  pub set : text ≡ Some (codes "true") → given ≡ true
+  pub unset : text ≡ Some (codes "false") → given ≡ false
+
+-- the files that `clap` reads after `check`, and the flag
 pub record IsCheckJob (rows : List Row) (c : CheckJob) : Type 0 where
   pub texts : List Text
   pub has_files : all_of (codes "files") rows ≡ Some texts
   pub files : map string_bytes c.files.items ≡ texts
+  pub explain : IsFlag (one_of (codes "explain") rows) c.explain
 
 -- the job is that of the command that the words enter, with the values that they give it
 abbrev pub IsJobOf : Option (Text × List Row) → Job → Type 0

@@ -130,13 +130,21 @@ fn named(alloc: Global, name: &str, bytes: Option<&[u8]>) -> Result<NamedFile, A
 }
 
 fn outcome_of(alloc: Global, files: &[(&str, Option<&[u8]>)]) -> Result<Outcome, AllocError> {
+    told_of(alloc, files, false)
+}
+
+fn told_of(
+    alloc: Global,
+    files: &[(&str, Option<&[u8]>)],
+    explain: bool,
+) -> Result<Outcome, AllocError> {
     let mut named_files = Vec::new(alloc);
     for (name, bytes) in files {
         named_files.push(named(alloc, name, *bytes)?)?;
     }
     let mut out = Vec::new(alloc);
     let mut err = Vec::new(alloc);
-    let status = check_text(alloc, &named_files, &mut out, &mut err);
+    let status = check_text(alloc, &named_files, explain, &mut out, &mut err);
     Ok(Outcome { out, err, status })
 }
 
@@ -241,6 +249,30 @@ fn names_files(rt: HostRuntime) -> Result<(), Fail> {
     assert_eq!(rt; check.files.len(), 2);
     assert_eq!(rt; check.files[0].as_str(), "a.toml");
     assert_eq!(rt; check.files[1].as_str(), "b c.toml");
+    assert!(rt; !check.explain);
+    let Ok(Job::Check(explained)) = job(rt.alloc(), &["check", "--explain", "a.toml"]) else {
+        return Err(Fail::from("words"));
+    };
+    assert_eq!(rt; explained.files.len(), 1);
+    assert!(rt; explained.explain);
+    Ok(())
+}
+
+#[test]
+fn explains_refused_files(rt: HostRuntime) -> Result<(), Fail> {
+    let files = [
+        ("a.toml", Some(GOOD.as_bytes())),
+        ("b.toml", Some(BAD.as_bytes())),
+        ("c.toml", Some(b"\xff".as_slice())),
+        ("d.toml", Some(b"router_id = 1.1".as_slice())),
+    ];
+    let told = told_of(rt.alloc(), &files, true)?;
+    assert_eq!(rt; told.status, Status::Refused);
+    assert_eq!(rt; told.out.as_slice(), b"a.toml: ok\n".as_slice());
+    assert_eq!(rt;
+        told.err.as_slice(),
+        b"b.toml: C5 ZeroCost\n  interface 0: cost: 1 to 65535 wanted, 0 found\nc.toml: C1 NotToml\n  the file is not UTF-8\nd.toml: C2 Missing\n  area: a dotted text, as \"0.0.0.1\", wanted, nothing found\n  interface: 1 to 32 tables [[interface]] wanted, nothing found\n".as_slice()
+    );
     Ok(())
 }
 
@@ -252,12 +284,12 @@ fn tells_of_failed_writes(rt: HostRuntime) -> Result<(), Fail> {
         for left in 0..3 {
             let mut out = Failing { left };
             let mut err = Failing { left };
-            let failed = check_text(alloc, &files, &mut out, &mut err);
+            let failed = check_text(alloc, &files, false, &mut out, &mut err);
             assert_eq!(rt; failed, Status::Stream, "{left}");
         }
         let mut out = Failing { left: 20 };
         let mut err = Failing { left: 20 };
-        let written = check_text(alloc, &files, &mut out, &mut err);
+        let written = check_text(alloc, &files, false, &mut out, &mut err);
         assert_eq!(rt; written, status);
     }
     Ok(())

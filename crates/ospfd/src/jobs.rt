@@ -1,6 +1,10 @@
 //! What the program can be asked to do.
 
-use crate::status::Status;
+ghost use Rattle.std.specs.Prelude.{OnOk};
+ghost use Rattle.std.specs.Io.KnownBytes.{Appends};
+ghost use Rattle.ospfd.specs.Job.{address_line};
+
+use crate::status::{Failure, Status};
 use clap::error::ErrorKind;
 use ospf_base::{Addr, RouterId};
 use std::alloc::AllocError;
@@ -30,6 +34,8 @@ pub struct TableJob {
 pub struct CheckJob {
     /// The names of their files.
     pub files: Vec<String>,
+    /// Whether it is said what to do about those that are refused.
+    pub explain: bool,
 }
 
 /// Why words ask for nothing that can be done.
@@ -73,7 +79,7 @@ impl From<AllocError> for JobFault {
 
 impl JobFault {
     ghost use Rattle.std.specs.Prelude.{◌≡◌, ◌⊎◌};
-    ghost use Rattle.ospfd.specs.Job.{HasStatus};
+    ghost use Rattle.ospfd.specs.Job.{HasStatus, IsHelp, IsToldOf};
 
     /// The status to end with: `Done` where the words ask for help or for the version.
     pub fn status(&self) -> Status
@@ -87,26 +93,42 @@ impl JobFault {
     }
 
     /// Writes help and the version to `out`, and all else to `err`. The answer is the status to end
-    /// with.
+    /// with; where a write failed it is that of the failure.
     pub fn tell<O: Write, E: Write>(&self, out: &mut O, err: &mut E) -> Status
-        ensures { HasStatus self.now result ⊎ (result ≡ Status.Memory) ⊎ (result ≡ Status.Stream) }
+        ensures status { HasStatus self.now result ⊎ (result ≡ Status.Memory) ⊎ (result ≡ Status.Stream) }
+        ensures out { (result ≡ Status.Words) ⊎ (IsHelp self.now → ⊥) → O.contents out.new ≡ O.contents out.old }
+        ensures err { result ≡ Status.Done → E.contents err.new ≡ E.contents err.old }
+        ensures told { result ≡ Status.Words → IsToldOf self.now (E.contents err.old) (E.contents err.new) }
     {
-        let written = match self.status() {
-            Status::Done => self.write(out),
-            _ => self.write(err),
-        };
-        match written {
-            Ok(()) => self.status(),
-            Err(error) => Status::of_error(&error),
-        }
-    }
-
-    // clap's texts end their last line.
-    fn write<W: Write>(&self, writer: &mut W) -> io::Result<()> {
         match self {
-            JobFault::Words(error) => write!(writer, "{error}")?,
-            fault => writeln!(writer, "{fault}")?,
+            JobFault::Words(error) if error.use_stderr() => match write_text(err, error) {
+                Ok(()) => Status::Words,
+                Err(error) => Failure::of(&error, Failure::Error).status(),
+            },
+            JobFault::Words(error) => match write_text(out, error) {
+                Ok(()) => Status::Done,
+                Err(error) => Failure::of(&error, Failure::Output).tell(err),
+            },
+            JobFault::Address(word) => match write_no_address(err, word) {
+                Ok(()) => Status::Words,
+                Err(error) => Failure::of(&error, Failure::Error).status(),
+            },
+            JobFault::Memory => Failure::Memory.tell(err),
         }
-        writer.flush()
     }
+}
+
+// Writes a text of `clap`, which ends its last line itself.
+fn write_text<W: Write>(writer: &mut W, error: &clap::Error) -> io::Result<()> {
+    write!(writer, "{error}")?;
+    writer.flush()
+}
+
+// Writes that a word is no address.
+fn write_no_address<W: Write>(writer: &mut W, word: &str) -> io::Result<()>
+    ensures { OnOk result (Appends (W.contents writer.old) (W.contents writer.new) (address_line word.now)) }
+{
+    writeln!(writer, "{word}: not an address")?;
+    writer.flush()?;
+    Ok(())
 }

@@ -10,7 +10,7 @@ ghost use Rattle.ospfd.specs.Output.{AreLookups, lookup_line};
 
 use crate::table::TableFault;
 use ospf_base::Addr;
-use ospf_fib::{Answer, Closed, Fib, OpenRefused, Seat, Told, Writer};
+use ospf_fib::{Answer, Closed, Fib, OpenRefused, Seat, Writer};
 use ospf_spf::RouteTable;
 use std::alloc::Global;
 use std::fmt::{self, Display, Formatter};
@@ -46,30 +46,30 @@ pub(crate) fn publish_once<W: Wait + Drop>(
     alloc: Global,
     rt: W,
     table: &RouteTable,
-) -> Result<(Writer<W>, Seat, Told), OpenRefused>
-    ensures seat { IfOk result (λ opened. opened.1 ≡ opened.2) }
-    ensures told { IfOk result (λ opened. opened.2.tables ≡ opening ++ table.now ∷ []) }
+) -> Result<(Writer<W>, Seat), OpenRefused>
+    ensures seat { IfOk result (λ opened. opened.1 ≡ opened.0) }
+    ensures published { IfOk result (λ opened. opened.0.tables ≡ opening ++ table.now ∷ []) }
 {
     let (mut writer, mut seats) = Fib::open(alloc, rt, 1)?;
     let mut seat = seats.pop().ok_or(OpenRefused)?;
-    let told = writer.publish(table)?;
-    seat.learn(told.copy());
-    Ok((writer, seat, told))
+    seat.learn(writer.publish(table)?);
+    Ok((writer, seat))
 }
 
-// What the seat finds, which knows all that was told. Nothing is published after that, which is not proved:
-// else the answer is `Closed`.
-fn look_up(told: &Told, seat: &mut Seat, address: Addr) -> Result<Option<Answer>, Closed>
-    requires { seat.old ≡ told.now }
-    ensures seat { IfOk result (λ _. seat.new ≡ told.now) }
-    ensures answer { IfOk result (λ answer. IsAnswerOfLast told.now.tables address 0 answer) }
+// What the seat finds, which knows all that was published. Nothing is published meanwhile: the writer is here.
+fn look_up<W: Wait + Drop>(
+    writer: &mut Writer<W>,
+    seat: &mut Seat,
+    address: Addr,
+) -> Result<Option<Answer>, Closed>
+    requires { seat.old ≡ writer.old }
+    ensures writer { writer.new ≡ writer.old }
+    ensures seat { IfOk result (λ _. seat.new ≡ writer.old) }
+    ensures answer { IfOk result (λ answer. IsAnswerOfLast writer.old.tables address 0 answer) }
 {
     let answer = seat.lookup(address, 0)?;
-    if told.covers(seat) {
-        Ok(answer)
-    } else {
-        Err(Closed)
-    }
+    writer.covers(seat);
+    Ok(answer)
 }
 
 // Writes what was found for an address.
@@ -83,18 +83,18 @@ fn write_lookup<O: Write>(out: &mut O, address: Addr, answer: Option<Answer>) ->
 }
 
 // Writes where the published table sends what is on its way to each address.
-pub(crate) fn write_lookups<O: Write>(
+pub(crate) fn write_lookups<W: Wait + Drop, O: Write>(
     out: &mut O,
-    told: &Told,
+    writer: &mut Writer<W>,
     seat: &mut Seat,
     addresses: &[Addr],
 ) -> Result<(), TableFault>
-    requires { seat.old ≡ told.now }
-    ensures lookups { (table : List Route) → told.now.tables ≡ opening ++ table ∷ [] → OnOk result ((lines : List ℕ) × AreLookups table addresses.now lines × Appends (O.contents out.old) (O.contents out.new) lines) }
+    requires { seat.old ≡ writer.old }
+    ensures lookups { (table : List Route) → writer.old.tables ≡ opening ++ table ∷ [] → OnOk result ((lines : List ℕ) × AreLookups table addresses.now lines × Appends (O.contents out.old) (O.contents out.new) lines) }
     ensures fault { IfErr result (λ fault. IsRefusal fault → ⊥) }
 {
     for address in addresses {
-        let answer = look_up(told, seat, *address)?;
+        let answer = look_up(writer, seat, *address)?;
         write_lookup(out, *address, answer)?;
     }
     Ok(())

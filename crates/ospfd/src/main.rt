@@ -14,10 +14,10 @@ mod tests;
 mod words;
 
 use crate::check::{NamedFile, check_text};
-use crate::jobs::Job;
-use crate::status::Status;
+use crate::jobs::{CheckJob, Job, JobFault};
+use crate::status::{Failure, Status};
 use crate::table::table_text;
-use crate::words::job;
+use crate::words::{job, not_text};
 use std::io::{self, BufReader, BufWriter, ErrorKind, Write};
 use std::process::ExitCode;
 use std::rt::Runtime;
@@ -38,20 +38,38 @@ fn read_files<R: Runtime + AllocGlobal>(rt: &R, names: Vec<String>) -> io::Resul
     Ok(files)
 }
 
-// Does what the program's words say.
+// The program's words without its own name; `None` where one is not UTF-8.
+fn words_of<R: Runtime + AllocGlobal>(rt: &R) -> io::Result<Option<Vec<String>>> {
+    match env::args(rt) {
+        Ok(words) => Ok(Some(words.skip(1).collect(rt.alloc())?)),
+        Err(error) if error.kind() == ErrorKind::InvalidData => Ok(None),
+        Err(error) => Err(error),
+    }
+}
+
+// What the program's words ask for.
+fn job_of<R: Runtime + AllocGlobal>(rt: &R) -> io::Result<Result<Job, JobFault>> {
+    let alloc = rt.alloc();
+    let Some(words) = words_of(rt)? else {
+        return Ok(Err(not_text(alloc)));
+    };
+    let words: Vec<&str> = words.iter().map(|word| word.as_str()).collect(alloc)?;
+    Ok(job(alloc, &words))
+}
+
+// Does what the program's words say. Where it fails, memory ran out.
 fn run<R: Runtime + AllocGlobal + Wait, E: Write>(rt: &R, err: &mut E) -> io::Result<Status> {
     let alloc = rt.alloc();
-    let words: Vec<String> = env::args(rt)?.skip(1).collect(alloc)?;
-    let words: Vec<&str> = words.iter().map(|word| word.as_str()).collect(alloc)?;
     let mut out = BufWriter::new(alloc, io::writer(rt))?;
-    match job(alloc, &words) {
+    match job_of(rt)? {
         Ok(Job::Table(table)) => {
             let input = BufReader::new(alloc, rt.reader())?;
             Ok(table_text(alloc, rt, &table, input, &mut out, err))
         }
         Ok(Job::Check(check)) => {
-            let files = read_files(rt, check.files)?;
-            Ok(check_text(alloc, &files, &mut out, err))
+            let CheckJob { files, explain } = check;
+            let files = read_files(rt, files)?;
+            Ok(check_text(alloc, &files, explain, &mut out, err))
         }
         Err(fault) => Ok(fault.tell(&mut out, err)),
     }
@@ -60,6 +78,6 @@ fn run<R: Runtime + AllocGlobal + Wait, E: Write>(rt: &R, err: &mut E) -> io::Re
 fn main(rt: HostRuntime) -> ExitCode {
     match run(&rt, &mut rt.stderr()) {
         Ok(status) => ExitCode::from(status),
-        Err(error) => ExitCode::from(Status::of_error(&error)),
+        Err(_) => ExitCode::from(Failure::Memory.tell(&mut rt.stderr())),
     }
 }

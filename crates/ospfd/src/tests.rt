@@ -1,12 +1,12 @@
 //! Whole answers to words and input.
 
 use crate::check::{NamedFile, check_text};
-use crate::jobs::Job;
-use crate::status::Status;
+use crate::jobs::{CheckJob, Job};
+use crate::status::{Failure, Status};
 use crate::table::table_text;
-use crate::words::job;
+use crate::words::{job, not_text};
 use std::alloc::{AllocError, Global};
-use std::io::{self, BufReader, ErrorKind, Read, Write};
+use std::io::{self, BufReader, BufWriter, ErrorKind, Read, Write};
 use std::sync::Wait;
 use std::test::Fail;
 
@@ -107,7 +107,7 @@ static TABLES: [Case; 15] = [
         words: "table 9.9.9.9 10.0.0.1",
         input: "00000201010101010101010180000001e22c003000000002020202020a0000010100000a0a000000fffffffc0300000a\n0000020102020202020202028000000197f1003c00000003010101010a0000020100000a0a000000fffffffc0300000ac0a80200ffffff0003000005\n",
         out: "lookup 10.0.0.1 none\n",
-        err: "",
+        err: "9.9.9.9: no router-LSA of this router\n",
         status: 0,
     },
     Case {
@@ -314,10 +314,14 @@ fn status_of<R: Wait, O: Write, E: Write>(
         Ok(Job::Table(table)) => Ok(table_text(alloc, rt, &table, input, out, err)),
         Ok(Job::Check(check)) => {
             let mut files = Vec::new(alloc);
-            for name in check.files {
+            let CheckJob {
+                files: names,
+                explain,
+            } = check;
+            for name in names {
                 files.push(NamedFile { name, bytes: None })?;
             }
-            Ok(check_text(alloc, &files, out, err))
+            Ok(check_text(alloc, &files, explain, out, err))
         }
         Err(fault) => Ok(fault.tell(out, err)),
     }
@@ -345,7 +349,7 @@ fn prints_tables(rt: HostRuntime) -> Result<(), Fail> {
         let name = case.name;
         let outcome = outcome_of(&rt, rt.alloc(), case.words, case.input.as_bytes())?;
         assert_eq!(rt; outcome.status, case.status, "{name}");
-        assert!(rt; outcome.err.is_empty(), "{name}");
+        assert_eq!(rt; outcome.err.as_slice(), case.err.as_bytes(), "{name}");
         assert_eq!(rt; outcome.out.as_slice(), case.out.as_bytes(), "{name}");
     }
     Ok(())
@@ -423,25 +427,42 @@ fn tells_of_words(rt: HostRuntime) -> Result<(), Fail> {
     Ok(())
 }
 
-#[test]
-fn help_tells_each_status(rt: HostRuntime) -> Result<(), Fail> {
-    let help = outcome_of(&rt, rt.alloc(), "--help", b"")?;
-    for line in [
-        "  table ",
-        "  check ",
-        "  0  done",
-        "  2  ",
-        "  3  ",
-        "  4  ",
-        "  5  ",
-        "  ospfd table 1.1.1.1 ",
-    ] {
-        let told = help
-            .out
-            .windows(line.len())
-            .any(|part| part == line.as_bytes());
-        assert!(rt; told, "{line}");
+// Whether a help text says something.
+fn says(help: &[u8], text: &str) -> bool {
+    for start in 0..help.len() {
+        if help[start..].starts_with(text.as_bytes()) {
+            return true;
+        }
     }
+    false
+}
+
+#[test]
+fn help_tells_commands(rt: HostRuntime) -> Result<(), Fail> {
+    let help = outcome_of(&rt, rt.alloc(), "--help", b"")?;
+    for text in ["  table ", "  check "] {
+        assert!(rt; says(&help.out, text), "{text}");
+    }
+    Ok(())
+}
+
+#[test]
+fn help_tells_statuses_and_an_example(rt: HostRuntime) -> Result<(), Fail> {
+    for words in ["--help", "table --help", "check --help"] {
+        let help = outcome_of(&rt, rt.alloc(), words, b"")?;
+        for text in ["  0  ", "  2  ", "  3  ", "  4  ", "  5  ", "\n  ospfd "] {
+            assert!(rt; says(&help.out, text), "{words} {text}");
+        }
+    }
+    Ok(())
+}
+
+#[test]
+fn help_tells_output(rt: HostRuntime) -> Result<(), Fail> {
+    let table = outcome_of(&rt, rt.alloc(), "help table", b"")?;
+    assert!(rt; says(&table.out, "  LOCAL>ROUTER@ADDRESS "));
+    let check = outcome_of(&rt, rt.alloc(), "help check", b"")?;
+    assert!(rt; says(&check.out, "  FILE: ok "));
     Ok(())
 }
 
@@ -502,6 +523,66 @@ impl Write for Failing {
     }
 }
 
+// What is told of standard output that takes so many writes, and holds what it is given until it is flushed.
+fn told_of_output<R: Wait>(
+    rt: &R,
+    alloc: Global,
+    left: usize,
+    words: &str,
+) -> Result<Outcome, Fail> {
+    let mut out = BufWriter::new(alloc, Failing { left })?;
+    let mut err = Vec::new(alloc);
+    let status = status_of(rt, alloc, words, b"", &mut out, &mut err)?;
+    Ok(Outcome {
+        out: Vec::new(alloc),
+        err,
+        status: status.code(),
+    })
+}
+
+#[test]
+fn flushes_what_it_writes(rt: HostRuntime) -> Result<(), Fail> {
+    for words in ["table 1.1.1.1 10.0.0.1", "--version", "help"] {
+        let told = told_of_output(&rt, rt.alloc(), 0, words)?;
+        assert_eq!(rt; told.status, 5, "{words}");
+        assert_eq!(rt;
+            told.err.as_slice(),
+            b"standard output: not written\n".as_slice(),
+            "{words}"
+        );
+        assert_eq!(rt;
+            told_of_output(&rt, rt.alloc(), 100, words)?.status,
+            0,
+            "{words}"
+        );
+    }
+    Ok(())
+}
+
+#[test]
+fn tells_each_failure(rt: HostRuntime) -> Result<(), Fail> {
+    for (failure, status, text) in [
+        (Failure::Memory, 4, "out of memory\n"),
+        (Failure::Input, 5, "standard input: not read\n"),
+        (Failure::Output, 5, "standard output: not written\n"),
+        (Failure::Error, 5, "standard error: not written\n"),
+        (Failure::Closed, 5, "the published table is closed\n"),
+    ] {
+        let mut err = Vec::new(rt.alloc());
+        assert_eq!(rt; failure.tell(&mut err).code(), status, "{text}");
+        assert_eq!(rt; err.as_slice(), text.as_bytes());
+    }
+    let mut err = Vec::new(rt.alloc());
+    assert_eq!(rt;
+        not_text(rt.alloc())
+            .tell(&mut Failing { left: 0 }, &mut err)
+            .code(),
+        2
+    );
+    assert!(rt; err.starts_with(b"error: a word is not UTF-8\n"));
+    Ok(())
+}
+
 // The status where both writers take so many writes.
 fn status_after<R: Wait>(
     rt: &R,
@@ -528,7 +609,12 @@ fn tells_of_failed_reads(rt: HostRuntime) -> Result<(), Fail> {
         let mut err = Vec::new(alloc);
         let status = table_text(alloc, &rt, &table, input, &mut out, &mut err);
         assert_eq!(rt; status.code(), 5, "{text:?}");
-        assert!(rt; out.is_empty() && err.is_empty(), "{text:?}");
+        assert_eq!(rt;
+            err.as_slice(),
+            b"standard input: not read\n".as_slice(),
+            "{text:?}"
+        );
+        assert!(rt; out.is_empty(), "{text:?}");
     }
     Ok(())
 }

@@ -1,10 +1,11 @@
 //! The words of the command line.
 
-ghost use Rattle.std.specs.Prelude.{◌≡◌, ◌∷◌, false, map, codes, string_bytes, Ok, Err, Some, IfOk, IfErr};
+ghost use Rattle.clap.specs.Faults.{fault_of};
+ghost use Rattle.std.specs.Prelude.{OnOk, [], ◌≡◌, ◌∷◌, false, map, codes, string_bytes, Ok, Err, Some, IfOk, IfErr};
 ghost use Rattle.clap.specs.Words.{app_of, found_of, rows_of, rule_of, subcommand_rows_of};
-ghost use Rattle.ospfd.specs.Job.{IsFaultOfNoValue, IsFaultOfValue};
+ghost use Rattle.ospfd.specs.Job.{IsFaultOfNoValue, IsFaultOfValue, IsHelp};
 ghost use Rattle.ospfd.specs.Unasked.{IsFirstWrong, IsJobIfAny, IsUnasked, IsWrongValue};
-ghost use Rattle.ospfd.specs.Words.{IsAsked, Spell, addresses_rule, command_app, files_rule, ospfd_app, root_rule};
+ghost use Rattle.ospfd.specs.Words.{IsAsked, Spell, addresses_rule, command_app, explain_rule, files_rule, ospfd_app, root_rule};
 
 use crate::jobs::{CheckJob, Job, JobFault, TableJob};
 use clap::error::ErrorKind;
@@ -14,7 +15,7 @@ use std::alloc::{AllocError, Global};
 use std::str::FromStr;
 
 // What `--help` says below the commands.
-const STATUSES: &str = "Exit status:
+const HELP: &str = "Exit status:
   0  done
   2  the words ask for nothing that ospfd does
   3  the input was refused
@@ -24,6 +25,43 @@ const STATUSES: &str = "Exit status:
 Examples:
   ospfd table 1.1.1.1 192.168.2.9 < lsas.txt
   ospfd check first.toml second.toml
+";
+
+// What `table --help` says below its words.
+const TABLE_HELP: &str = "Output:
+  PREFIX COST HOPS            a line a route; a hop is one of
+      attached                the prefix is the router's own
+      LOCAL>ROUTER            over the point-to-point interface LOCAL
+      LOCAL>ROUTER@ADDRESS    over the broadcast interface LOCAL, to ADDRESS
+  lookup ADDRESS PREFIX COST HOP, or lookup ADDRESS none, for each ADDRESS
+
+Exit status:
+  0  done; where the root's router-LSA is not listed, standard error says so
+  2  the words fit no command, or one is no address
+  3  a line was refused: its number and fault are on standard error
+  4  memory ran out
+  5  standard input was not read, or standard output not written
+
+Example:
+  ospfd table 1.1.1.1 192.168.2.9 < lsas.txt
+";
+
+// What `check --help` says below its words.
+const CHECK_HELP: &str = "Output:
+  FILE: ok                    on standard output
+  FILE: C5 ZeroCost           on standard error: the fault of least number; with
+                              --explain, further lines say what to do about it
+  FILE: not read              on standard error, where the check ends
+
+Exit status:
+  0  each file is accepted
+  2  the words fit no command
+  3  a file was refused
+  4  memory ran out
+  5  a file was not read, or standard output not written
+
+Example:
+  ospfd check --explain first.toml second.toml
 ";
 
 // The router whose table is computed.
@@ -49,6 +87,17 @@ fn addresses_arg<'a>(alloc: Global) -> Arg<'a>
         .action(ArgAction::Append)
 }
 
+// Whether it is said what to do about files that are refused.
+fn explain_arg<'a>(alloc: Global) -> Arg<'a>
+    ensures rule { rule_of result ≡ explain_rule }
+    ensures local { result.global ≡ false }
+{
+    Arg::new(alloc, "explain")
+        .long("explain")
+        .action(ArgAction::SetTrue)
+        .help("Says of each refused file which key is wrong, and what belongs there")
+}
+
 // The files of configurations.
 fn files_arg<'a>(alloc: Global) -> Arg<'a>
     ensures rule { rule_of result ≡ files_rule }
@@ -70,7 +119,7 @@ fn program<'a>(alloc: Global) -> Result<Command<'a>, AllocError>
         .bin_name("ospfd")?
         .version("0.1.0")
         .about("OSPF version 2 for one area")
-        .after_help(STATUSES)
+        .after_help(HELP)
         .no_binary_name(true)
         .subcommand_required(true);
     Ok(program)
@@ -82,10 +131,13 @@ fn command<'a>(alloc: Global) -> Result<Command<'a>, AllocError>
 {
     let table = Command::new(alloc, "table")
         .about("Computes a routing table from LSAs in hexadecimal, one a line, on standard input")
+        .after_help(TABLE_HELP)
         .arg(root_arg(alloc))?
         .arg(addresses_arg(alloc))?;
     let check = Command::new(alloc, "check")
         .about("Checks configurations in TOML")
+        .after_help(CHECK_HELP)
+        .arg(explain_arg(alloc))?
         .arg(files_arg(alloc))?;
     program(alloc)?.subcommand(table)?.subcommand(check)
 }
@@ -151,7 +203,8 @@ fn check_job(alloc: Global, values: &ArgMatches<'_>) -> Result<Option<Job>, Allo
         return Ok(None);
     };
     let files = owned(alloc, files)?;
-    Ok(Some(Job::Check(CheckJob { files })))
+    let explain = values.get_flag("explain");
+    Ok(Some(Job::Check(CheckJob { files, explain })))
 }
 
 // The job of the command that the words entered, if its values make one.
@@ -178,12 +231,28 @@ fn no_job(command: &mut Command<'_>) -> JobFault
     }
 }
 
+/// The fault of words of which one is not UTF-8: `Words`, or `Memory` where memory ran out.
+pub fn not_text(alloc: Global) -> JobFault
+    ensures fault { IsFaultOfNoValue result }
+    ensures not_help { IsHelp result → ⊥ }
+{
+    let told = match command(alloc) {
+        Ok(mut command) => command.error(ErrorKind::InvalidValue, "a word is not UTF-8"),
+        Err(error) => Err(error),
+    };
+    match told {
+        Ok(error) => JobFault::from(error),
+        Err(_) => JobFault::Memory,
+    }
+}
+
 /// Reads the program's words, without its own name.
 ///
 /// The error is `Words` where they fit no command, or ask for help or the version, `Address` with the
 /// first word that is to be an address and is none, and `Memory` where memory ran out.
 pub fn job(alloc: Global, words: &[&str]) -> Result<Job, JobFault>
     ensures ok { IfOk result (IsAsked (map (λ w. w.now) words.now)) }
+    ensures accepted { OnOk result (fault_of command_app (map (λ w. w.now) words.now) ≡ []) }
     ensures fault { IfErr result (IsUnasked (map (λ w. w.now) words.now)) }
 {
     let mut command = command(alloc)?;

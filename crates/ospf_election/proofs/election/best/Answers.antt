@@ -1,7 +1,8 @@
 use Rattle.std.proofs.Common.{◌∷◌, [], map, take, get_or, sym, ap, ◌∙◌, subst}
 use Rattle.std.proofs.lemmas.List.{take_more, map-append}
+use Rattle.ospf_base.specs.Addresses.{nowhere}
 use Rattle.ospf_election.specs.declared.candidate.Candidate.{Candidate}
-use Rattle.ospf_election.specs.Election.{declaring, nobody}
+use Rattle.ospf_election.specs.Election.{declaring}
 use Rattle.ospf_election.specs.Choice.{BelongsTo, BestOr}
 use Rattle.ospf_election.proofs.Choosing.{best_more, IsBestOrNone}
 use Rattle.ospf_election.proofs.election.best.Goals as goal
@@ -10,7 +11,7 @@ pub loop-c-preserved : goal.loop-c-preserved
 loop-c-preserved c =
     let all = c.args.candidates.now in
     let i = c.loop-c.c-index in
-    let d : Candidate = record { id = record { 0 = 0 }; address = nobody; priority = 0; dr = nobody; backup = nobody } in
+    let d : Candidate = record { id = record { 0 = 0 }; address = nowhere; priority = 0; dr = nowhere; backup = nowhere } in
     let f = declaring c.args.me c.args.own in
     let one_more = ap (map f) (take_more all i d c.loop-c-test.true) ∙ map-append f (take i all) (get_or all i d ∷ []) in
     let chosen = subst (λ x. BestOr (BelongsTo c.args.standing) c.loop-c.best x c.better-best.result) c.declare.ensures c.better-best.ensures in

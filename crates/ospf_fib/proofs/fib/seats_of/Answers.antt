@@ -14,5 +14,6 @@ loop-preserved c =
       more,
       made.named,
       made.shown ∙ c.loop.invariant.2,
-      subst (All P) (sym items) (All-append P c.loop.seats.items (seat ∷ []) c.loop.invariant.3 (All-cons P seat [] made.seat (All-nil P))),
+      made.waiting ∙ c.loop.invariant.3,
+      subst (All P) (sym items) (All-append P c.loop.seats.items (seat ∷ []) c.loop.invariant.4 (All-cons P seat [] made.seat (All-nil P))),
     )

@@ -1,4 +1,4 @@
-use Rattle.std.proofs.Common.{◌≡◌, length}
+use Rattle.std.proofs.Common.{◌≡◌, drop, length}
 use Rattle.std.specs.List.{All}
 use Rattle.left_right.specs.Sides.{view}
 use Rattle.ospf_fib.specs.Rule.{IsNamed}
@@ -10,4 +10,5 @@ invariant-loop l =
     (length l.seats.items ≡ l.counter)
     × IsNamed (view l.copies.desk.place) l.known.fib
     × (l.copies.desk.shown ≡ l.initial.copies.desk.shown)
+    × (drop l.copies.behind l.copies.log.items ≡ drop l.initial.copies.behind l.initial.copies.log.items)
     × All (λ seat. seat ≡ l.known) l.seats.items

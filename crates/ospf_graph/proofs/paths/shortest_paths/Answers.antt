@@ -1,35 +1,35 @@
-use Rattle.std.proofs.Common.{◌∙◌, ◌++◌, ◌∷◌, [], ap}
-use Rattle.ospf_graph.specs.declared.graph.Start.TheVariants.{Here}
-use Rattle.ospf_graph.specs.Search.{candidates_from}
-use Rattle.ospf_graph.proofs.SearchState.{state_started, state_taken, state_tree, state_near, candidate_small, work_falls}
+use Rattle.std.proofs.Common.{◌<◌, ◌^◌, ◌≡◌, ◌≤◌, ◌+◌, ◌*◌, length, subst, arith}
+use Rattle.std.specs.List.{Contains}
+use Rattle.std.specs.List.Sorted.{IsPermutation}
+use Rattle.std.proofs.lemmas.List.Sorted.{All-permutation, length_permutation}
+use Rattle.ospf_graph.specs.Reached.{settled_of}
+use Rattle.ospf_graph.specs.Search.{AtIn, StartsIn}
+use Rattle.ospf_graph.proofs.SearchState.{fit_sorted, put_in_order}
+use Rattle.ospf_graph.proofs.TreeLemmas.{are_least}
 use Rattle.ospf_graph.proofs.paths.shortest_paths.Goals as goal
 
-pub loop-candidate-init : goal.loop-candidate-init
-loop-candidate-init c =
-    state_started c.args.edges.now c.requires.fit c.args.root c.requires.root_fits _ _ _
-    (c.in_ok-push.ensures.items ∙ ap (λ l. l ++ record { vertex = c.args.root; distance = 0 } ∷ []) c.new-settled.ensures.items)
-    (c.in_ok-push-2.ensures.items ∙ ap (λ l. l ++ record { vertex = c.args.root; start = Here } ∷ []) c.new-starts.ensures.items)
-    (c.in_ok-add_candidates.ensures ∙ ap (λ l. l ++ candidates_from c.args.root 0 c.args.edges.now) c.new-candidates.ensures.items)
-
-pub take-requires : goal.take-requires
-take-requires c =
-    candidate_small c.args.edges.now c.requires.fit c.args.root c.requires.root_fits _ c.loop-candidate.settled.items _ c.loop-candidate.starts.items
-    _ c.take_least.new.candidates.items c.take_least.new.candidates.items c.in-Some.candidate c.loop-candidate.invariant c.in-Some.ensures.taken
-
-pub loop-candidate-smaller : goal.loop-candidate-smaller
-loop-candidate-smaller c =
-    work_falls c.args.edges.now c.requires.fit c.args.root c.requires.root_fits _ _ _ _ _ _ _ c.in-Some.candidate c.loop-candidate.invariant c.in-Some.ensures.taken
-    c.in_ok-take.ensures
-
-pub loop-candidate-preserved : goal.loop-candidate-preserved
-loop-candidate-preserved c =
-    state_taken c.args.edges.now c.requires.fit c.args.root c.requires.root_fits _ _ _ _ _ _ _ c.in-Some.candidate c.loop-candidate.invariant c.in-Some.ensures.taken
-    c.in-Some.ensures.least c.in_ok-take.ensures
+pub search-requires-clause-fit : goal.search-requires-clause-fit
+search-requires-clause-fit c = rw c.deref.ensures.value (fit_sorted c.args.edges.now c.in_ok-sorted.sorted.items c.in_ok-sorted.ensures.same c.requires.fit)
 
 pub returns-clause-tree : goal.returns-clause-tree
 returns-clause-tree c =
-    state_tree c.args.edges.now c.requires.fit c.args.root _ _ _ c.loop-candidate.invariant c.in_default.ensures.none
+    put_in_order c.args.edges.now c.in_ok-sorted.sorted.items c.in_ok-sorted.ensures.same c.args.root c.in_ok-found.found.reached.items _ _ _ _
+    (rw c.deref-2.ensures.value at c.in_ok-settled.ensures) (rw c.deref-3.ensures.value at c.in_ok-starts.ensures) c.sort_settled.ensures.same c.sort_starts.ensures.same
+    (rw c.deref.ensures.value at c.in_ok-found.ensures.tree)
+
+pub returns-clause-least : goal.returns-clause-least
+returns-clause-least c =
+    are_least (Contains c.args.edges.now) c.args.root (AtIn c.sort_settled.new.settled.items) (StartsIn c.sort_starts.new.starts.items)
+    (put_in_order c.args.edges.now c.in_ok-sorted.sorted.items c.in_ok-sorted.ensures.same c.args.root c.in_ok-found.found.reached.items _ _ _ _
+    (rw c.deref-2.ensures.value at c.in_ok-settled.ensures) (rw c.deref-3.ensures.value at c.in_ok-starts.ensures) c.sort_settled.ensures.same c.sort_starts.ensures.same
+    (rw c.deref.ensures.value at c.in_ok-found.ensures.tree))
 
 pub returns-clause-near : goal.returns-clause-near
 returns-clause-near c =
-    state_near c.args.edges.now c.args.root _ _ _ c.loop-candidate.invariant
+    let s_is : c.in_ok-settled.settled.items ≡ settled_of c.in_ok-found.found.reached.items = rw c.deref-2.ensures.value at c.in_ok-settled.ensures in
+    All-permutation (λ s. s.distance < 2 ^ 63) _ _ (subst (λ l. IsPermutation l c.sort_settled.new.settled.items) s_is c.sort_settled.ensures.same) c.in_ok-found.ensures.near
+
+pub returns-clause-looks : goal.returns-clause-looks
+returns-clause-looks c =
+    let few : c.in_ok-found.found.looks ≤ 2 * length c.in_ok-sorted.sorted.items + 1 = rw c.deref.ensures.value at c.in_ok-found.ensures.looks in
+    omega (arith, length_permutation _ _ c.in_ok-sorted.ensures.same)

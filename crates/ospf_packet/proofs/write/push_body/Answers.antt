@@ -2,7 +2,7 @@ use Rattle.std.proofs.Common.{◌++◌, List, ℕ, ap, sym, ◌∙◌, subst, ap
 use Rattle.std.specs.List.{flat_map}
 use Rattle.ospf_packet.specs.Fields.{hello_bytes}
 use Rattle.ospf_packet.specs.Meaning.{body_bytes, CountFits}
-use Rattle.ospf_packet.specs.Neighbours.{router_bytes}
+use Rattle.ospf_lsa.specs.Attached.{router_bytes}
 use Rattle.ospf_packet.specs.Said.{body_meant}
 use Rattle.ospf_packet.specs.declared.value.BodyValue.{BodyValue}
 use Rattle.ospf_packet.proofs.write.push_body.Goals as goal

@@ -1,5 +1,5 @@
 use Rattle.std.proofs.Common.{arith}
-use Rattle.ospf_packet.specs.Neighbours.{router_bytes}
+use Rattle.ospf_lsa.specs.Attached.{router_bytes}
 use Rattle.ospf_packet.proofs.EntryLemmas.{room_more}
 use Rattle.ospf_packet.proofs.write.push_neighbours.Goals as goal
 

@@ -1,6 +1,6 @@
 use Rattle.std.proofs.Common.{◌≡◌, ◌≤◌, ◌++◌, take, vec_capacity}
 use Rattle.std.specs.List.{flat_map, AllByRecursion}
-use Rattle.ospf_packet.specs.Neighbours.{router_bytes, RouterFits}
+use Rattle.ospf_lsa.specs.Attached.{router_bytes, RouterFits}
 use Rattle.ospf_packet.proofs.write.push_neighbours.Given as goal
 
 abbrev pub invariant-loop-router : goal.invariant-loop-router

@@ -1,26 +1,20 @@
-use Rattle.std.proofs.Common.{refl, sym, subst}
-use Rattle.std.specs.List.{Contains, AllPairs}
-use Rattle.ospf_base.specs.Prefixes.{IsPrefixBefore}
-use Rattle.ospf_spf.proofs.TableOf.{routes_more, routes_ordered, routes_complete}
+use Rattle.ospf_spf.proofs.Groups.{routes_more, routes_kept, routes_complete}
+use Rattle.ospf_spf.proofs.routes.routes_of.Goals.{then-is_first+in_ok-route_at+in_ok-push, else-is_first}
 use Rattle.ospf_spf.proofs.routes.routes_of.Goals as goal
 
-pub route_to-requires : goal.route_to-requires
-route_to-requires c =
-    (c.in_ok-prefixes.ensures.members c.prefix-item.result).0
-    (rw (← c.deref-prefix-items.ensures.value) (c.loop-prefix.prefix-index, c.loop-prefix-test.true, sym c.prefix-item.is))
-
-pub loop-prefix-preserved : goal.loop-prefix-preserved
-loop-prefix-preserved c =
-    routes_more c.args.reaches.now c.args.starts.now c.deref-prefix-items.result.now c.loop-prefix.prefix-index c.prefix-item.result c.loop-prefix.routes.items c.push.new.self.items
-    c.in_ok-route.route c.loop-prefix-test.true c.loop-prefix.invariant (rw (← c.prefix-item.is) c.in_ok-route.ensures.0) c.in_ok-route.ensures.1 c.in_ok-push.ensures.items
-
-pub returns-clause-in_order : goal.returns-clause-in_order
-returns-clause-in_order c =
-    routes_ordered c.args.reaches.now c.args.starts.now c.deref-prefix-items.result.now c.loop-prefix.prefix-index c.loop-prefix.routes.items c.loop-prefix-test.false
-    c.loop-prefix.invariant (subst (λ l. AllPairs IsPrefixBefore l) (sym c.deref-prefix-items.ensures.value) c.in_ok-prefixes.ensures.in_order)
+pub loop-place-preserved : goal.loop-place-preserved
+loop-place-preserved c =
+    elim c.if-is_first.branch [
+      | then-is_first+in_ok-route_at+in_ok-push w ↦
+          rw w.routes-is
+          (routes_more c.args.reaches.now c.args.starts.now c.loop-place.place c.loop-place-test.true c.loop-place.routes.items c.loop-place.invariant c.requires.reaches_in_order
+          (c.is_first.ensures.first w.if-is_first.true) _ w.in_ok-route_at.ensures.prefix w.in_ok-route_at.ensures.route w.push.new.self.items w.in_ok-push.ensures.items)
+      | else-is_first w ↦
+          rw w.routes-is
+          (let same = c.is_first.ensures.later w.if-is_first.false in
+          routes_kept c.args.reaches.now c.args.starts.now c.loop-place.place c.loop-place-test.true c.loop-place.routes.items c.loop-place.invariant same.0 same.1)
+    ]
 
 pub returns-clause-complete : goal.returns-clause-complete
 returns-clause-complete c =
-    λ r h. routes_complete c.args.reaches.now c.args.starts.now c.deref-prefix-items.result.now c.loop-prefix.prefix-index c.loop-prefix.routes.items c.loop-prefix-test.false
-    c.loop-prefix.invariant r.prefix
-    (subst (λ l. Contains l r.prefix) (sym c.deref-prefix-items.ensures.value) ((c.in_ok-prefixes.ensures.members r.prefix).1 (r, h, refl)))
+    routes_complete c.args.reaches.now c.args.starts.now c.loop-place.place c.loop-place.routes.items c.loop-place-test.false c.loop-place.invariant

@@ -5,4 +5,4 @@ use Rattle.ospfd.proofs.check.check_files.Given as goal
 -- the files so far are told
 abbrev pub invariant-loop-file : goal.invariant-loop-file
 invariant-loop-file g l =
-    IsWritten (take l.file-index l.files) l.all (g.O.Write.contents l.fn.out) (g.O.Write.contents l.out) (g.E.Write.contents l.fn.err) (g.E.Write.contents l.err)
+    IsWritten l.explain (take l.file-index l.files) l.all (g.O.Write.contents l.fn.out) (g.O.Write.contents l.out) (g.E.Write.contents l.fn.err) (g.E.Write.contents l.err)

@@ -1,9 +1,9 @@
 use Rattle.std.proofs.Common.{◌≡◌, ℕ, List, rules, subst}
-use Rattle.ospfd.specs.declared.table.TableFault.TheVariants.{Entry}
 use Rattle.std.specs.Io.KnownBytes.{Appends}
-use Rattle.ospfd.specs.Output.{AreLookups}
+use Rattle.ospfd.specs.Output.{IsOutput}
+use Rattle.ospfd.specs.declared.table.TableFault.TheVariants.{Entry}
 use Rattle.ospfd.proofs.Lines.{map_some}
-use Rattle.ospfd.proofs.Written.{answer_written}
+use Rattle.ospfd.proofs.Written.{answered}
 use Rattle.ospfd.proofs.table.answer.Goals as goal
 
 pub returns-in_err-listing-clause-refused : goal.returns-in_err-listing-clause-refused
@@ -13,11 +13,9 @@ returns-in_err-listing-clause-refused g c = λ n f e.
 
 pub returns-clause-answer : goal.returns-clause-answer
 returns-clause-answer g c =
-    let lookups = c.in_ok-write_lookups.ensures.lookups c.in_ok-table.table c.in_ok-_writer.ensures.told in
     map_some (g.R.Read.remaining c.args.input) _ _
-    (λ input reads. answer_written _ _ _ _ input c.in_ok-listing.listing c.args.job.now.root c.in_ok-table.table c.routes.result.now
-    c.args.job.now.addresses.items reads c.in_ok-table.ensures c.routes.ensures.routes c.in_ok-write_routes.ensures
-    (subst (λ addresses. (lines : List ℕ) × AreLookups c.in_ok-table.table addresses lines × Appends (g.O.Write.contents c.write_routes.new.out) (g.O.Write.contents c.write_lookups.new.out) lines)
-    c.deref.ensures.value lookups)
-    c.flush.ensures.bytes)
+    (λ input reads. answered _ _ _ _ input c.in_ok-listing.listing c.args.job.now.root c.in_ok-table.table c.args.job.now.addresses.items reads
+    c.in-Ok.ensures c.in_ok-table.ensures
+    (subst (λ addresses. (text : List ℕ) × IsOutput c.in_ok-table.table addresses text × Appends (g.O.Write.contents c.args.out.now) (g.O.Write.contents c.write_answer.new.out) text)
+    c.deref.ensures.value c.in_ok-write_answer.ensures.output))
     c.in_ok-listing.ensures.whole

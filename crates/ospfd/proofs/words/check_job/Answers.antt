@@ -1,6 +1,6 @@
 use Rattle.std.proofs.Common.{◌∙◌, sym, refl, codes}
 use Rattle.clap.specs.Words.{found_of, rows_of}
-use Rattle.clap.proofs.WalkLemmas.{raw_values-rows}
+use Rattle.clap.proofs.WalkLemmas.{one_text-rows, raw_values-rows}
 use Rattle.ospfd.proofs.WordLemmas.{no_files, texts_of}
 use Rattle.ospfd.proofs.words.check_job.Goals as goal
 
@@ -18,5 +18,10 @@ returns c =
         texts = texts_of c.in-Some.files.now;
         has_files = sym (c.in-Some.ensures ∙ raw_values-rows found (codes "files"));
         files = c.in_ok-files.ensures;
+        explain = record {
+          none = λ e. c.get_flag-explain.ensures.none (one_text-rows found (codes "explain") ∙ e);
+          set = λ e. c.get_flag-explain.ensures.value (one_text-rows found (codes "explain") ∙ e);
+          unset = λ e. c.get_flag-explain.ensures.other (one_text-rows found (codes "explain") ∙ e);
+        };
       },
     )

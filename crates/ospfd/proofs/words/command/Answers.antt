@@ -6,14 +6,15 @@ use Rattle.ospfd.proofs.words.command.Goals as goal
 
 pub returns : goal.returns
 returns c =
-    let new_table : app_of c.about.result ≡ new_app (codes "table") = search (c.about.ensures, c.new.ensures.app) in
+    let new_table : app_of c.after_help.result ≡ new_app (codes "table") = search (c.after_help.ensures, c.about.ensures, c.new.ensures.app) in
     let table_is : app_of c.in_ok-table.table ≡ table_app = c.in_ok-table.ensures.shape c.addresses_arg.ensures.local
     ∙ ap₂ with_rule (c.in_ok-arg.ensures.shape c.root_arg.ensures.local ∙ ap₂ with_rule new_table c.root_arg.ensures.rule) c.addresses_arg.ensures.rule in
-    let new_check : app_of c.about-2.result ≡ new_app (codes "check") = search (c.about-2.ensures, c.new-2.ensures.app) in
+    let new_check : app_of c.after_help-2.result ≡ new_app (codes "check") = search (c.after_help-2.ensures, c.about-2.ensures, c.new-2.ensures.app) in
     let check_is : app_of c.in_ok-check.check ≡ check_app =
-    c.in_ok-check.ensures.shape c.files_arg.ensures.local ∙ ap₂ with_rule new_check c.files_arg.ensures.rule in
+    c.in_ok-check.ensures.shape c.files_arg.ensures.local
+    ∙ ap₂ with_rule (c.in_ok-arg-2.ensures.shape c.explain_arg.ensures.local ∙ ap₂ with_rule new_check c.explain_arg.ensures.rule) c.files_arg.ensures.rule in
     let with_table : app_of c.in_ok-subcommand.field-0 ≡ with_subcommand ospfd_app table_app.top =
     c.in_ok-subcommand.ensures.shape
-    (search (c.in_ok-table.ensures.globals, c.in_ok-arg.ensures.globals, c.about.ensures, c.new.ensures.local, c.root_arg.ensures.local, c.addresses_arg.ensures.local)) ∙ ap₂ with_subcommand c.in_ok-program.ensures (ap (λ (a : App). a.top) table_is) in
+    (search (c.in_ok-table.ensures.globals, c.in_ok-arg.ensures.globals, c.after_help.ensures, c.about.ensures, c.new.ensures.local, c.root_arg.ensures.local, c.addresses_arg.ensures.local)) ∙ ap₂ with_subcommand c.in_ok-program.ensures (ap (λ (a : App). a.top) table_is) in
     IfOk-weaker c.subcommand-2.result _ _
-    (λ r h. h.shape (search (c.in_ok-check.ensures.globals, c.about-2.ensures, c.new-2.ensures.local, c.files_arg.ensures.local)) ∙ ap₂ with_subcommand with_table (ap (λ (a : App). a.top) check_is)) c.subcommand-2.ensures
+    (λ r h. h.shape (search (c.in_ok-check.ensures.globals, c.in_ok-arg-2.ensures.globals, c.after_help-2.ensures, c.about-2.ensures, c.new-2.ensures.local, c.explain_arg.ensures.local, c.files_arg.ensures.local)) ∙ ap₂ with_subcommand with_table (ap (λ (a : App). a.top) check_is)) c.subcommand-2.ensures

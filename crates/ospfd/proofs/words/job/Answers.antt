@@ -17,6 +17,12 @@ returns-in_err-matches-clause-fault c =
     err_kept c.from_residual-in_err-matches.result (IsFaultOfWords e) (IsUnasked words) c.from_residual-in_err-matches.ensures.1
     (λ f is. words_refused words e f kinds is)
 
+pub returns-in-Some-clause-accepted : goal.returns-in-Some-clause-accepted
+returns-in-Some-clause-accepted c =
+    let words = texts_of c.args.words.now in
+    let command_is : app_of c.in_ok-command.command ≡ command_app = c.in_ok-command.ensures in
+    subst (λ a. fault_of a words ≡ []) command_is (c.in_ok-matches.ensures.kinds (ap is_simple_and_free command_is))
+
 pub returns-clause-fault : goal.returns-clause-fault
 returns-clause-fault c =
     let words = texts_of c.args.words.now in

@@ -1,7 +1,7 @@
 use Rattle.std.proofs.Common.{List, map, ap, subst, sym, ◌∙◌}
 use Rattle.std.specs.List.{AllByRecursion}
 use Rattle.ospf_lsdb.specs.Database.{Held, IsDatabase}
-use Rattle.ospf_lsdb.specs.Entries.{entry_at, IsYoung}
+use Rattle.ospf_lsdb.specs.Entries.{entry_at, AgeFits}
 use Rattle.ospf_lsdb.specs.declared.lsdb.Stored.{Stored}
 use Rattle.ospf_lsdb.proofs.TimerLemmas.{IsDatabase-stored}
 use Rattle.ospf_lsdb.proofs.WalkLemmas.{young_values, map_values}
@@ -9,7 +9,7 @@ use Rattle.ospf_lsdb.proofs.lsdb.Lsdb.entries.Goals as goal
 
 pub new-requires : goal.new-requires
 new-requires c =
-    subst (λ (ss : List Stored). AllByRecursion (IsYoung c.self.inside.clock) ss) (sym c.values.ensures.rest)
+    subst (λ (ss : List Stored). AllByRecursion (AgeFits c.self.inside.clock) ss) (sym c.values.ensures.rest)
     (young_values c.self.inside.clock c.self.inside.entries.entries c.self.invariant.kept.stored)
 
 pub returns-clause-entries : goal.returns-clause-entries

@@ -34,7 +34,7 @@ returns-in_default-clause-entry c =
     Puts-same c.args.key.now (option_map expired (held_of c.args.self.now c.args.key.now)) c.args.self.now (is ∙ sym (ap (λ (o : Option Held). option_map expired o) is))
 
 pub returns-in_default-clause-was_fresh : goal.returns-in_default-clause-was_fresh
-returns-in_default-clause-was_fresh c = sym (ap (λ (o : Option Held). is_some_and is_fresh o) (none (goal.at.returns-in_default-clause-was_fresh c).In_default))
+returns-in_default-clause-was_fresh c = sym (ap (λ (o : Option Held). is_some_and (λ h. is_fresh h.entry) o) (none (goal.at.returns-in_default-clause-was_fresh c).In_default))
 
 held : (c : In-Some) → (h : Held) × (held_of c.args.self.now c.args.key.now ≡ Some h) × (h.entry.age ≡ c.in-Some.age) × (c.in-Some.age ≤ 3600)
 held c =
@@ -51,8 +51,8 @@ returns-then-age-eq-MAX_AGE-clause-entry c =
 pub returns-then-age-eq-MAX_AGE-clause-was_fresh : goal.returns-then-age-eq-MAX_AGE-clause-was_fresh
 returns-then-age-eq-MAX_AGE-clause-was_fresh c =
     let f = held (goal.at.returns-then-age-eq-MAX_AGE-clause-was_fresh c).In-Some in
-    let old : is_fresh f.0 ≡ false = fresh_not f.0 (omega (arith, f.2, c.if-age-eq-MAX_AGE.true)) in
-    sym old ∙ sym (ap (λ (o : Option Held). is_some_and is_fresh o) f.1)
+    let old : is_fresh f.0.entry ≡ false = fresh_not f.0 (omega (arith, f.2, c.if-age-eq-MAX_AGE.true)) in
+    sym old ∙ sym (ap (λ (o : Option Held). is_some_and (λ h. is_fresh h.entry) o) f.1)
 
 young : (age : ℕ) → (age ≡ 3600 → ⊥) → age ≤ 3600 → age < 3600
 young age apart most = omega arith
@@ -70,5 +70,5 @@ pub returns-clause-was_fresh : goal.returns-clause-was_fresh
 returns-clause-was_fresh c =
     let f = held (goal.at.returns-clause-was_fresh c).In-Some in
     let less = young c.in-Some.age c.if-age-eq-MAX_AGE.false f.3 in
-    let fresh : is_fresh f.0 ≡ true = lt-ltb f.0.entry.age 3600 (omega (arith, f.2)) in
-    sym fresh ∙ sym (ap (λ (o : Option Held). is_some_and is_fresh o) f.1)
+    let fresh : is_fresh f.0.entry ≡ true = lt-ltb f.0.entry.age 3600 (omega (arith, f.2)) in
+    sym fresh ∙ sym (ap (λ (o : Option Held). is_some_and (λ h. is_fresh h.entry) o) f.1)

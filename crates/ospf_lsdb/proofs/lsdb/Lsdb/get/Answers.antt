@@ -1,6 +1,5 @@
 use Rattle.std.proofs.Common.{◌≡◌, ◌≤◌, ap, subst, sym, ◌∙◌, Option, None, Some, option_map, List, ℕ}
 use Rattle.ospf_lsdb.specs.Database.{Entry, Held, entry_of, IsDatabase}
-use Rattle.ospf_base.specs.Sums.{contents}
 use Rattle.ospf_lsdb.specs.declared.lsdb.Stored.{Stored}
 use Rattle.ospf_lsdb.specs.Timers.{held_at, stored_of}
 use Rattle.ospf_lsdb.proofs.TimerLemmas.{IsDatabase-stored, held_of-stored, stored_of-get, stored_one}
@@ -29,7 +28,7 @@ returns-clause-entry c =
     let some : stored_of c.self.inside.entries.entries c.args.key.now ≡ Some s = sym (stored_of-get c.self.inside.entries c.args.key.now) ∙ sym c.in_ok-stored.ensures.value in
     let held = held_of-stored c.self.inside.clock c.self.inside.due c.self.inside.entries.entries c.self.invariant.kept.stored c.args.key.now in
     ap (λ (e : Entry). Some e) c.new.ensures
-    ∙ ap (λ (n : ℕ). Some (record { age = n; contents = contents s.lsa; tick = s.tick; by_flooding = s.by_flooding })) c.age-age.ensures
+    ∙ ap (λ (n : ℕ). Some (record { age = n; contents = s.lsa; tick = s.tick; by_flooding = s.by_flooding })) c.age-age.ensures
     ∙ sym (ap (λ (o : Option Held). option_map (λ h. h.entry) o) (held ∙ ap (λ (o : Option Stored). option_map (λ s. held_at c.self.inside.clock c.self.inside.due (c.args.key.now, s)) o) some))
     ∙ ap (λ (db : List Held). entry_of db c.args.key.now) c.self.view_is
 

@@ -4,7 +4,8 @@ use Rattle.ospf_base.specs.Sums.{contents}
 use Rattle.ospf_lsa.specs.Header.{header_of}
 use Rattle.ospf_lsa.specs.Lsa.{key_of}
 use Rattle.ospf_lsa.specs.declared.header.LsaHeader.{LsaHeader}
-use Rattle.ospf_lsdb.specs.Database.{Held, same_key, key_in, entry_from, Installs}
+use Rattle.ospf_lsdb.specs.Database.{Held, key_in, entry_from, Installs}
+use Rattle.ospf_base.specs.Keys.{same_key}
 use Rattle.ospf_lsdb.specs.declared.moments.Due.{Due}
 use Rattle.ospf_lsdb.specs.declared.lsdb.Stored.{Stored}
 use Rattle.ospf_lsdb.specs.Moments.{ahead, has, same_due, is_coming, IsIdle}
@@ -34,8 +35,9 @@ quiet c after fewer =
 
 -- ---- where there was an entry
 
-put_some : (c : In-Ok-Some) (q : LsaKey) → stored_of c.insert.new.self.entries q ≡ (if same_key c.key-key.result q then Some (record { lsa = c.args.lsa; timer = c.new.result; tick = c.args.tick; by_flooding = c.args.by_flooding }) else stored_of c.self.inside.entries.entries q)
-put_some c q = stored_updated c.self.inside.entries c.insert.new.self c.key-key.result (Some (record { lsa = c.args.lsa; timer = c.new.result; tick = c.args.tick; by_flooding = c.args.by_flooding })) c.in-Ok-Some.ensures.updates q
+put_some : (c : In-Ok-Some) (q : LsaKey) → stored_of c.insert.new.self.entries q ≡ (if same_key c.key-key.result q then Some (record { lsa = contents c.args.lsa; timer = c.new-2.result; tick = c.args.tick; by_flooding = c.args.by_flooding }) else stored_of c.self.inside.entries.entries q)
+put_some c q = stored_updated c.self.inside.entries c.insert.new.self c.key-key.result (Some (record { lsa = c.new.result; timer = c.new-2.result; tick = c.args.tick; by_flooding = c.args.by_flooding })) c.in-Ok-Some.ensures.updates q
+    ∙ ap (λ (l : List ℕ). if same_key c.key-key.result q then Some (record { lsa = l; timer = c.new-2.result; tick = c.args.tick; by_flooding = c.args.by_flooding }) else stored_of c.self.inside.entries.entries q) c.new.ensures
 
 was : (c : After-remove_reached) → age_of c.self.inside.clock c.self.inside.entries.entries c.key-key.result ≡ Some c.age-old_age.result
 was c =
@@ -57,16 +59,16 @@ kept_some : (c : After-remove_reached) (after : List Due) → Replaces c.self.in
 kept_some c after replaces =
     let d = (goal.at.After-remove_reached c).In-Ok-Some in
     let e = (goal.at.After-remove_reached c).After-insert in
-    installs_kept c.self.inside.clock c.ticks-age.result c.key-key.result (record { lsa = c.args.lsa; timer = c.new.result; tick = c.args.tick; by_flooding = c.args.by_flooding }) c.self.inside.entries c.insert.new.self c.self.inside.due after c.self.invariant.kept c.in-Ok-Some.ensures.ordered
-    (put_some d) (sym (key_is e)) c.new.ensures.age c.new.ensures.expired c.ticks-age.ensures.at_most replaces
+    installs_kept c.self.inside.clock c.ticks-age.result c.key-key.result (record { lsa = contents c.args.lsa; timer = c.new-2.result; tick = c.args.tick; by_flooding = c.args.by_flooding }) c.self.inside.entries c.insert.new.self c.self.inside.due after c.self.invariant.kept c.in-Ok-Some.ensures.ordered
+    (put_some d) (sym (key_is e)) c.new-2.ensures.age c.new-2.ensures.expired c.ticks-age.ensures.at_most replaces
 
 installed_some : (c : After-remove_reached) (after : List Due) → Replaces c.self.inside.clock c.ticks-age.result c.key-key.result c.self.inside.due after → Installs (entry_from c.args.lsa c.args.tick c.args.by_flooding) c.args.self.now (map (held_at c.self.inside.clock after) c.insert.new.self.entries)
 installed_some c after replaces =
     let d = (goal.at.After-remove_reached c).In-Ok-Some in
     let e = (goal.at.After-remove_reached c).After-insert in
     subst (λ (db : List Held). Installs (entry_from c.args.lsa c.args.tick c.args.by_flooding) db (map (held_at c.self.inside.clock after) c.insert.new.self.entries)) c.self.view_is
-    (installs_put c.self.inside.clock c.ticks-age.result c.key-key.result c.args.lsa c.new.result c.args.tick c.args.by_flooding c.self.inside.entries c.insert.new.self c.self.inside.due after c.self.invariant.kept (kept_some c after replaces)
-    (put_some d) (key_from e) c.new.ensures.age (age_is e) replaces)
+    (installs_put c.self.inside.clock c.ticks-age.result c.key-key.result c.args.lsa c.new-2.result c.args.tick c.args.by_flooding c.self.inside.entries c.insert.new.self c.self.inside.due after c.self.invariant.kept (kept_some c after replaces)
+    (put_some d) (key_from e) c.new-2.ensures.age (age_is e) replaces)
 
 left : (c : After-remove_reached) (q : Due) → has c.remove_reached.new.self q ≡ true → has c.add_coming.new.self q ≡ true
 left c q there = and_right (not (same_due (record { moment = c.self.inside.clock; age = c.age-old_age.result; key = c.key-key.result }) q)) (has c.add_coming.new.self q) (sym (c.remove_reached.ensures.gone q) ∙ there)
@@ -103,8 +105,9 @@ returns-in-Ok-Some-clause-ok c = λ k.
 
 -- ---- where there was none
 
-put_none : (c : In-Ok-None) (q : LsaKey) → stored_of c.insert.new.self.entries q ≡ (if same_key c.key-key.result q then Some (record { lsa = c.args.lsa; timer = c.new.result; tick = c.args.tick; by_flooding = c.args.by_flooding }) else stored_of c.self.inside.entries.entries q)
-put_none c q = stored_updated c.self.inside.entries c.insert.new.self c.key-key.result (Some (record { lsa = c.args.lsa; timer = c.new.result; tick = c.args.tick; by_flooding = c.args.by_flooding })) c.in-Ok-None.ensures.updates q
+put_none : (c : In-Ok-None) (q : LsaKey) → stored_of c.insert.new.self.entries q ≡ (if same_key c.key-key.result q then Some (record { lsa = contents c.args.lsa; timer = c.new-2.result; tick = c.args.tick; by_flooding = c.args.by_flooding }) else stored_of c.self.inside.entries.entries q)
+put_none c q = stored_updated c.self.inside.entries c.insert.new.self c.key-key.result (Some (record { lsa = c.new.result; timer = c.new-2.result; tick = c.args.tick; by_flooding = c.args.by_flooding })) c.in-Ok-None.ensures.updates q
+    ∙ ap (λ (l : List ℕ). if same_key c.key-key.result q then Some (record { lsa = l; timer = c.new-2.result; tick = c.args.tick; by_flooding = c.args.by_flooding }) else stored_of c.self.inside.entries.entries q) c.new.ensures
 
 was_none : (c : In-Ok-None) → age_of c.self.inside.clock c.self.inside.entries.entries c.key-key.result ≡ None
 was_none c =
@@ -117,8 +120,8 @@ replaces c = replaces_none c.self.inside.clock c.ticks-age.result c.key-key.resu
 kept_none : (c : In-Ok-None) → IsKept c.self.inside.clock c.insert.new.self.entries c.add_coming.new.self
 kept_none c =
     let e = (goal.at.In-Ok-None c).After-insert in
-    installs_kept c.self.inside.clock c.ticks-age.result c.key-key.result (record { lsa = c.args.lsa; timer = c.new.result; tick = c.args.tick; by_flooding = c.args.by_flooding }) c.self.inside.entries c.insert.new.self c.self.inside.due c.add_coming.new.self c.self.invariant.kept c.in-Ok-None.ensures.ordered
-    (put_none c) (sym (key_is e)) c.new.ensures.age c.new.ensures.expired c.ticks-age.ensures.at_most (replaces c)
+    installs_kept c.self.inside.clock c.ticks-age.result c.key-key.result (record { lsa = contents c.args.lsa; timer = c.new-2.result; tick = c.args.tick; by_flooding = c.args.by_flooding }) c.self.inside.entries c.insert.new.self c.self.inside.due c.add_coming.new.self c.self.invariant.kept c.in-Ok-None.ensures.ordered
+    (put_none c) (sym (key_is e)) c.new-2.ensures.age c.new-2.ensures.expired c.ticks-age.ensures.at_most (replaces c)
 
 pub invariant_of-self-in-Ok-None : goal.invariant_of-self-in-Ok-None
 invariant_of-self-in-Ok-None c = record { kept = kept_none c; quiet = quiet (goal.at.invariant_of-self-in-Ok-None c).After-insert c.add_coming.new.self (λ q there. there) }
@@ -127,8 +130,8 @@ pub returns-in-Ok-None-clause-ok : goal.returns-in-Ok-None-clause-ok
 returns-in-Ok-None-clause-ok c = λ k.
     let e = (goal.at.returns-in-Ok-None-clause-ok c).After-insert in
     subst (λ (db : List Held). Installs (entry_from c.args.lsa c.args.tick c.args.by_flooding) db (map (held_at c.self.inside.clock c.add_coming.new.self) c.insert.new.self.entries)) c.self.view_is
-    (installs_put c.self.inside.clock c.ticks-age.result c.key-key.result c.args.lsa c.new.result c.args.tick c.args.by_flooding c.self.inside.entries c.insert.new.self c.self.inside.due c.add_coming.new.self c.self.invariant.kept (kept_none c)
-    (put_none c) (key_from e) c.new.ensures.age (age_is e) (replaces c)) k
+    (installs_put c.self.inside.clock c.ticks-age.result c.key-key.result c.args.lsa c.new-2.result c.args.tick c.args.by_flooding c.self.inside.entries c.insert.new.self c.self.inside.due c.add_coming.new.self c.self.invariant.kept (kept_none c)
+    (put_none c) (key_from e) c.new-2.ensures.age (age_is e) (replaces c)) k
 
 -- ---- where memory ran out
 

@@ -3,7 +3,6 @@ use Rattle.std.proofs.lemmas.List.{append-nil}
 use Rattle.std.specs.List.{AllByRecursion}
 use Rattle.std.specs.Map.{values_of}
 use Rattle.ospf_base.specs.Keys.{Precedes}
-use Rattle.ospf_base.specs.Sums.{contents}
 use Rattle.ospf_base.specs.declared.ids.LsaKey.{LsaKey}
 use Rattle.ospf_lsa.specs.Lsa.{key_of}
 use Rattle.ospf_lsdb.specs.Database.{Entry, key_at, key_in, listed, listed_of}
@@ -19,7 +18,7 @@ walked c = c.loop-stored.invariant.walked ∙ ap (λ (t : List Stored). c.loop-s
 entry : (c : After-new-entry) → c.new-entry.result ≡ (bare c.self.inside.clock c.in-Some.stored.now).entry
 entry c =
     let s = c.in-Some.stored.now in
-    c.new-entry.ensures ∙ ap (λ (n : ℕ). record { age = n; contents = contents s.lsa; tick = s.tick; by_flooding = s.by_flooding }) c.age-age.ensures
+    c.new-entry.ensures ∙ ap (λ (n : ℕ). record { age = n; contents = s.lsa; tick = s.tick; by_flooding = s.by_flooding }) c.age-age.ensures
 
 pub loop-stored-init : goal.loop-stored-init
 loop-stored-init c = record { done = []; walked = sym (c.into_iter-stored-iterator.ensures.into_iter_gives ∙ c.values-stored-items.ensures.rest); listing = c.new-listing.ensures }

@@ -1,7 +1,8 @@
 use Rattle.std.proofs.Common.{◌≡◌, ◌≤◌, not, ℕ, ap, subst, sym, ◌∙◌, Option, None, Some, List, map, arith, if◌then◌else◌}
 use Rattle.ospf_base.specs.declared.ids.LsaKey.{LsaKey}
 use Rattle.ospf_lsdb.specs.declared.lsdb.Stored.{Stored}
-use Rattle.ospf_lsdb.specs.Database.{Held, same_key, held_of, removed, is_expired, is_some_and}
+use Rattle.ospf_lsdb.specs.Database.{Held, held_of, removed, is_expired, is_some_and}
+use Rattle.ospf_base.specs.Keys.{same_key}
 use Rattle.ospf_lsdb.specs.Timers.{IsKept, held_at, stored_of, age_of}
 use Rattle.ospf_lsdb.proofs.EntryLemmas.{removed-young, removed-old, is_expired-young, is_expired-old}
 use Rattle.ospf_lsdb.proofs.MapLemmas.{Puts-words, Puts-same}

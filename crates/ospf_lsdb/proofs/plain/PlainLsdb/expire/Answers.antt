@@ -28,7 +28,7 @@ returns-in_default-clause-entry c =
     Puts-same c.args.key.now (option_map expired (held_of c.args.self.now c.args.key.now)) c.args.self.now (none ∙ sym (ap (λ (o : Option Held). option_map expired o) none))
 
 pub returns-in_default-clause-was_fresh : goal.returns-in_default-clause-was_fresh
-returns-in_default-clause-was_fresh c = sym (ap (λ (o : Option Held). is_some_and is_fresh o) (free (goal.at.returns-in_default-clause-was_fresh c).In_default))
+returns-in_default-clause-was_fresh c = sym (ap (λ (o : Option Held). is_some_and (λ h. is_fresh h.entry) o) (free (goal.at.returns-in_default-clause-was_fresh c).In_default))
 
 pub invariant_of-self : goal.invariant_of-self
 invariant_of-self c =
@@ -54,4 +54,4 @@ pub returns-clause-was_fresh : goal.returns-clause-was_fresh
 returns-clause-was_fresh c =
     let d = (goal.at.returns-clause-was_fresh c).In-Ok in
     ap (λ (n : ℕ). nat_lt n 3600) (c.age-is_fresh.ensures.value ∙ ap (λ (h : Held). h.entry.age) c.index.ensures)
-    ∙ sym (ap (λ (o : Option Held). is_some_and is_fresh o) (held d c.index.result.now))
+    ∙ sym (ap (λ (o : Option Held). is_some_and (λ h. is_fresh h.entry) o) (held d c.index.result.now))

@@ -1,5 +1,5 @@
 use Rattle.std.proofs.Common.{Some, sym, ap, ◌∙◌}
-use Rattle.ospf_packet.specs.PacketOf.{packet_of-is, packet_of-not}
+use Rattle.ospf_packet.proofs.PacketLaws.{packet_of-is, packet_of-not}
 use Rattle.ospf_packet.specs.declared.fault.PacketFault.TheVariants as fault
 use Rattle.ospf_packet.proofs.packet.Packet.read.Goals as goal
 

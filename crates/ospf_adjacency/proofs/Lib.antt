@@ -1,0 +1,6 @@
+pub mod ElectionLemmas
+pub mod TurnLemmas
+pub mod MemberLemmas
+pub mod LawLemmas
+pub mod SayLemmas
+pub mod SameLemmas

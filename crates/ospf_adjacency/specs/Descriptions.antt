@@ -1,0 +1,93 @@
+-- What a Database Description, and a request list that has changed, make of a neighbour (RFC 2328, sections 10.6, 10.8 and 10.9).
+use Rattle.std.specs.Prelude.{◌++◌, ◌∷◌, ◌&&◌, ◌||◌, not, nat_lt, [], ℕ, Bool, true, false, List, Result, Ok, Err, if◌then◌else◌}
+use Rattle.ospf_base.specs.declared.ids.RouterId.{RouterId}
+use Rattle.ospf_iface.specs.declared.machine.Iface.{Iface}
+use Rattle.ospf_lsa.specs.declared.header.LsaHeader.{LsaHeader}
+use Rattle.ospf_lsdb.specs.Database.{Held}
+use Rattle.ospf_neighbour.specs.Neighbour.{NeighbourValue}
+use Rattle.ospf_neighbour.specs.declared.machine.NbrEvent.{NbrEvent}
+use Rattle.ospf_neighbour.specs.declared.machine.NbrEvent.TheVariants.{TwoWayReceived, SeqNumberMismatch}
+use Rattle.ospf_neighbour.specs.declared.machine.NeighbourState.{NeighbourState}
+use Rattle.ospf_neighbour.specs.declared.machine.NeighbourState.TheVariants.{Init}
+use Rattle.ospf_packet.specs.declared.body.Description.{Description}
+use Rattle.ospf_exchange.specs.Exchange.{after_dd, dd_answer}
+use Rattle.ospf_exchange.specs.Laws.{is_not_taken}
+use Rattle.ospf_area.specs.Asking.{loaded, turned}
+use Rattle.ospf_exchange.specs.Requests.{asked_next, request_due}
+use Rattle.ospf_exchange.specs.declared.description.DdAnswer.{DdAnswer}
+use Rattle.ospf_exchange.specs.declared.description.DdAnswer.TheVariants as answer
+use Rattle.ospf_exchange.specs.declared.fault.ExchangeFault.{ExchangeFault}
+use Rattle.ospf_exchange.specs.declared.fault.ExchangeFault.TheVariants as fault
+use Rattle.ospf_exchange.specs.declared.rule.Local.{Local}
+use Rattle.ospf_adjacency.specs.Adjacency.{wants_adjacency, begins_by, event_taken, number_by}
+use Rattle.ospf_adjacency.specs.Packets.{Parcel, parcels, parcel_if, dd_parcel, request_parcel}
+use Rattle.ospf_adjacency.specs.declared.packets.Outgoing.{Outgoing}
+
+-- where a neighbour stands in a part of a step: the router's next DD number, and what goes out
+pub record Turn : Type 0 where
+  pub neighbour : NeighbourValue
+  pub next : ℕ
+  pub sent : List Parcel
+
+-- an event, and the first DD packet where an adjacency begins by it (10.3, 10.8)
+abbrev pub event_turn : Iface → Local → NbrEvent → Turn → Turn
+event_turn i local e t = record {
+  neighbour = event_taken e i.settings.dead t.next local.tick t.neighbour;
+  next = number_by e t.neighbour t.next;
+  sent = t.sent ++ parcel_if (begins_by e t.neighbour) (dd_parcel i local.mtu (event_taken e i.settings.dead t.next local.tick t.neighbour));
+}
+
+-- ---- requests
+
+-- LoadingDone where nothing is left to request, and the next Request where one is due (10.3, 10.9)
+abbrev pub request_turn : Iface → Local → Turn → Turn
+request_turn i local t = record t {
+  neighbour = turned local.mtu local.tick t.neighbour;
+  sent = t.sent ++ parcel_if (request_due (loaded t.neighbour)) (request_parcel i (asked_next local.mtu local.tick (loaded t.neighbour)));
+}
+
+-- ---- Database Descriptions
+
+abbrev pub is_init : NeighbourState → Bool
+is_init Init = true
+is_init _ = false
+
+-- in Init a Database Description is 2-WayReceived first (10.6)
+abbrev pub greeted_turn : Iface → Local → Turn → Turn
+greeted_turn i local t = if is_init t.neighbour.state then event_turn i local (TwoWayReceived (wants_adjacency i t.neighbour.address)) t else t
+
+-- the last DD packet goes out again (10.8)
+abbrev pub dd_turn : Iface → Local → Turn → Turn
+dd_turn i local t = record t { sent = t.sent ++ dd_parcel i local.mtu t.neighbour ∷ [] }
+
+abbrev pub touched : ℕ → NeighbourValue → NeighbourValue
+touched tick n = record n { exchanging = record n.exchanging { sent_at = tick } }
+
+-- what follows an answer (10.6, 10.8): the slave's last packet goes out again; or the next packet does, before a Request; or
+-- SeqNumberMismatch begins the adjacency anew
+abbrev pub answered_turn : Result DdAnswer ExchangeFault → Iface → Local → Turn → Turn
+answered_turn (Ok answer.NotTaken) i local t = t
+answered_turn (Ok answer.PassedOver) i local t = t
+answered_turn (Ok answer.Repeats) i local t = dd_turn i local (record t { neighbour = touched local.tick t.neighbour })
+answered_turn (Ok answer.Sends) i local t = request_turn i local (dd_turn i local t)
+answered_turn (Ok answer.Ends) i local t = request_turn i local t
+answered_turn (Err fault.Mismatch) i local t = event_turn i local SeqNumberMismatch t
+answered_turn (Err _) i local t = t
+
+-- a Database Description that is looked at in the neighbour's state (10.6)
+abbrev pub exchange_turn : Iface → Local → RouterId → Description → List LsaHeader → List Held → Turn → Turn
+exchange_turn i local sender d headers db t =
+    answered_turn (dd_answer local sender d headers t.neighbour) i local (record t { neighbour = after_dd local sender d headers db t.neighbour })
+
+-- a Database Description: nothing is done where its MTU is over the interface's (10.6)
+abbrev pub description_turn : Iface → Local → RouterId → Description → List LsaHeader → List Held → Turn → Turn
+description_turn i local sender d headers db t = if nat_lt local.mtu d.mtu then t else exchange_turn i local sender d headers db (greeted_turn i local t)
+
+-- it is dropped: its MTU is over the interface's, or there is no exchange and it begins none. In Init it is 2-WayReceived and
+-- so not dropped (10.6)
+abbrev pub dd_dropped : Local → RouterId → Description → List LsaHeader → NeighbourValue → Bool
+dd_dropped local sender d headers n = nat_lt local.mtu d.mtu || (not (is_init n.state) && is_not_taken (dd_answer local sender d headers n))
+
+-- a neighbour, the router's next DD number, and what goes out
+abbrev pub turn : NeighbourValue → ℕ → List Outgoing → Turn
+turn n next out = record { neighbour = n; next = next; sent = parcels out }

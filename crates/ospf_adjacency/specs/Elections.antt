@@ -1,0 +1,78 @@
+-- The election that ends a step on a link, with AdjOK? (RFC 2328, section 9.4).
+use Rattle.std.specs.Prelude.{◌≡◌, ◌≢◌, ◌++◌, ℕ, Bool, true, false, List, [], ◌∷◌, map, filter, if◌then◌else◌}
+use Rattle.std.specs.List.{AllByRecursion}
+use Rattle.ospf_election.specs.declared.candidate.Candidate.{Candidate}
+use Rattle.ospf_election.specs.declared.candidate.Elected.{Elected}
+use Rattle.ospf_election.specs.Election.{IsElected}
+use Rattle.ospf_iface.specs.declared.machine.Iface.{Iface}
+use Rattle.ospf_iface.specs.declared.machine.IfaceState.{IfaceState}
+use Rattle.ospf_iface.specs.declared.machine.IfaceState.TheVariants as iface
+use Rattle.ospf_iface.specs.Machine.{elected, is_changed, own_candidate}
+use Rattle.ospf_neighbour.specs.declared.machine.NbrEvent.{NbrEvent}
+use Rattle.ospf_neighbour.specs.declared.machine.NbrEvent.TheVariants.{AdjOk}
+use Rattle.ospf_neighbour.specs.Machine.{is_two_way}
+use Rattle.ospf_neighbour.specs.Neighbour.{NeighbourValue}
+use Rattle.ospf_neighbour.specs.Neighbours.{IsRising}
+use Rattle.ospf_adjacency.specs.Adjacency.{wants_adjacency, begins_by, event_taken, number_by}
+use Rattle.ospf_adjacency.specs.Packets.{Parcel, dd_parcel, parcel_if}
+
+-- ---- who takes part
+
+-- a neighbour as it takes part in an election (9.4, step 1)
+abbrev pub candidate_of : NeighbourValue → Candidate
+candidate_of n = record { id = n.router; address = n.address; priority = n.declared.priority; dr = n.declared.dr; backup = n.declared.backup }
+
+-- the neighbours in 2-Way or above (9.4, step 1)
+abbrev pub taking_part : List NeighbourValue → List Candidate
+taking_part ns = map candidate_of (filter (λ n. is_two_way n.state) ns)
+
+-- and the router itself
+abbrev pub candidates_of : Iface → List NeighbourValue → List Candidate
+candidates_of i ns = own_candidate i ∷ taking_part ns
+
+-- ---- AdjOK?
+
+-- AdjOK? (10.4)
+abbrev pub adj_ok_for : Iface → NeighbourValue → NbrEvent
+adj_ok_for i n = AdjOk (wants_adjacency i n.address)
+
+-- the neighbours after AdjOK?, which changes none below 2-Way. Those with which an adjacency begins take the router's DD
+-- numbers in rising Router ID (10.3, AdjOK?)
+abbrev pub adjusted : Iface → ℕ → ℕ → List NeighbourValue → List NeighbourValue
+adjusted i tick next [] = []
+adjusted i tick next (n ∷ ns) = event_taken (adj_ok_for i n) i.settings.dead next tick n ∷ adjusted i tick (number_by (adj_ok_for i n) n next) ns
+
+-- the router's next DD number then
+abbrev pub number_after : Iface → ℕ → List NeighbourValue → ℕ
+number_after i next [] = next
+number_after i next (n ∷ ns) = number_after i (number_by (adj_ok_for i n) n next) ns
+
+-- the first DD packets that go out (10.8)
+abbrev pub first_dds : Iface → ℕ → ℕ → ℕ → List NeighbourValue → List Parcel
+first_dds i mtu tick next [] = []
+first_dds i mtu tick next (n ∷ ns) =
+    parcel_if (begins_by (adj_ok_for i n) n) (dd_parcel i mtu (event_taken (adj_ok_for i n) i.settings.dead next tick n)) ++ first_dds i mtu tick (number_by (adj_ok_for i n) n next) ns
+
+-- ---- the election
+
+-- the states in which an election comes about (9.3)
+abbrev pub elects_in : IfaceState → Bool
+elects_in iface.Waiting = true
+elects_in iface.DrOther = true
+elects_in iface.Backup = true
+elects_in iface.Dr = true
+elects_in _ = false
+
+-- a link's neighbours are in rising Router ID, and none is the router itself (8.2)
+pub record AreOfLink (i : Iface) (ns : List NeighbourValue) : Type 0 where
+  pub rising : IsRising ns
+  pub others : AllByRecursion (λ n. n.router.0 ≢ i.settings.router.0) ns
+
+-- the interface has the result of the election, and AdjOK? comes to its neighbours where the DR or the Backup is another (9.4)
+pub record ElectsOn (mtu tick : ℕ) (i : Iface) (ns : List NeighbourValue) (next : ℕ) (sent : List Parcel) (i' : Iface) (ns' : List NeighbourValue) (next' : ℕ) : Type 0 where
+  pub result : Elected
+  pub is_elected : IsElected (candidates_of i ns) i.settings.router result
+  pub interface : i' ≡ elected result i
+  pub neighbours : ns' ≡ (if is_changed i result then adjusted i' tick next ns else ns)
+  pub number : next' ≡ (if is_changed i result then number_after i' next ns else next)
+  pub sends : sent ≡ (if is_changed i result then first_dds i' mtu tick next ns else [])

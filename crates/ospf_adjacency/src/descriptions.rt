@@ -1,0 +1,195 @@
+//! Database Descriptions and Requests of one neighbour, with what goes out.
+
+ghost use Rattle.std.specs.Prelude.{◌≡◌, ◌++◌, ℕ, not, IfOk, OnOk};
+ghost use Rattle.ospf_exchange.specs.Exchange.{dd_answer};
+ghost use Rattle.ospf_exchange.specs.Laws.{is_not_taken};
+ghost use Rattle.ospf_adjacency.specs.Descriptions.{Turn, turn, is_init, dd_dropped, touched, request_turn, dd_turn, event_turn, greeted_turn, answered_turn, exchange_turn, description_turn};
+
+use crate::adjacency::{take_event, wants_adjacency};
+use crate::packets::{Outgoing, send_dd, send_request};
+use ospf_area::turn_one;
+use ospf_base::RouterId;
+use ospf_exchange::{DdAnswer, ExchangeFault, Local, dd_sent, is_not_taken, on_dd};
+use ospf_iface::Iface;
+use ospf_lsdb::Lsdb;
+use ospf_neighbour::{NbrEvent, Neighbour, NeighbourState};
+use ospf_packet::{Description, Headers};
+use std::alloc::{AllocError, Global};
+
+/// A neighbour's request list may have changed: LoadingDone where it is empty, and the next Request goes out where one is
+/// due (RFC 2328, sections 10.3 and 10.9).
+///
+/// `AllocError` where memory runs out.
+pub fn request_turn(
+    neighbour: &mut Neighbour,
+    iface: &Iface,
+    local: Local,
+    out: &mut Vec<Outgoing>,
+    alloc: Global,
+) -> Result<(), AllocError>
+    ensures { OnOk result ((next : ℕ) → turn neighbour.new next out.new.items ≡ request_turn iface.now local (turn neighbour.old next out.old.items)) }
+{
+    if turn_one(neighbour, local.mtu, local.tick) {
+        send_request(neighbour, iface, out, alloc)?;
+    }
+    Ok(())
+}
+
+// Whether a neighbour is in Init.
+fn is_init(state: NeighbourState) -> bool
+    ensures { result ≡ is_init state }
+{
+    matches!(state, NeighbourState::Init)
+}
+
+// The slave's last packet goes out again.
+fn repeat(
+    neighbour: &mut Neighbour,
+    iface: &Iface,
+    local: Local,
+    out: &mut Vec<Outgoing>,
+    alloc: Global,
+) -> Result<(), AllocError>
+    ensures { OnOk result ((next : ℕ) → turn neighbour.new next out.new.items ≡ dd_turn iface.now local (record (turn neighbour.old next out.old.items) { neighbour = touched local.tick neighbour.old })) }
+{
+    dd_sent(neighbour, local.tick);
+    send_dd(neighbour, iface, local.mtu, out, alloc)
+}
+
+// The next packet goes out, and then a Request where one is due.
+fn go_on(
+    neighbour: &mut Neighbour,
+    iface: &Iface,
+    local: Local,
+    out: &mut Vec<Outgoing>,
+    alloc: Global,
+) -> Result<(), AllocError>
+    ensures { OnOk result ((next : ℕ) → turn neighbour.new next out.new.items ≡ request_turn iface.now local (dd_turn iface.now local (turn neighbour.old next out.old.items))) }
+{
+    send_dd(neighbour, iface, local.mtu, out, alloc)?;
+    request_turn(neighbour, iface, local, out, alloc)
+}
+
+// In Init a Database Description is 2-WayReceived first.
+fn greet(
+    neighbour: &mut Neighbour,
+    iface: &Iface,
+    local: Local,
+    numbers: &mut u32,
+    out: &mut Vec<Outgoing>,
+    alloc: Global,
+) -> Result<(), AllocError>
+    ensures { OnOk result (turn neighbour.new numbers.new out.new.items ≡ greeted_turn iface.now local (turn neighbour.old numbers.old out.old.items)) }
+{
+    if is_init(neighbour.state()) {
+        let event = NbrEvent::TwoWayReceived(wants_adjacency(iface, neighbour.address()));
+        take_event(neighbour, event, iface, local, numbers, out, alloc)?;
+    }
+    Ok(())
+}
+
+// Looks at a Database Description in the neighbour's state; whether there is an exchange, or it begins one.
+fn exchange(
+    neighbour: &mut Neighbour,
+    sender: RouterId,
+    description: Description,
+    headers: Headers<'_>,
+    database: &Lsdb,
+    iface: &Iface,
+    local: Local,
+    numbers: &mut u32,
+    out: &mut Vec<Outgoing>,
+    alloc: Global,
+) -> Result<bool, AllocError>
+    ensures turn { OnOk result (turn neighbour.new numbers.new out.new.items ≡ exchange_turn iface.now local sender description headers.entry database.now (turn neighbour.old numbers.old out.old.items)) }
+    ensures taken { IfOk result (λ taken. taken ≡ not (is_not_taken (dd_answer local sender description headers.entry neighbour.old))) }
+{
+    match on_dd(
+        neighbour,
+        sender,
+        description,
+        headers,
+        database,
+        local,
+        alloc,
+    ) {
+        Ok(DdAnswer::NotTaken) => Ok(false),
+        Ok(DdAnswer::PassedOver) => Ok(true),
+        Ok(DdAnswer::Repeats) => {
+            repeat(neighbour, iface, local, out, alloc)?;
+            Ok(true)
+        }
+        Ok(DdAnswer::Sends) => {
+            go_on(neighbour, iface, local, out, alloc)?;
+            Ok(true)
+        }
+        Ok(DdAnswer::Ends) => {
+            request_turn(neighbour, iface, local, out, alloc)?;
+            Ok(true)
+        }
+        Err(ExchangeFault::Mismatch) => {
+            let event = NbrEvent::SeqNumberMismatch;
+            take_event(neighbour, event, iface, local, numbers, out, alloc)?;
+            Ok(true)
+        }
+        Err(ExchangeFault::Mtu) => Ok(false),
+        Err(ExchangeFault::BadRequest) => Ok(true),
+        Err(ExchangeFault::Memory) => Err(AllocError),
+    }
+}
+
+/// Whether `take_description` drops a Database Description of the neighbour's router, `sender`, and so changes nothing: its
+/// MTU is over the interface's, or there is no exchange and it begins none. In Init it is 2-WayReceived, and so not dropped
+/// (RFC 2328, section 10.6). No memory is taken.
+pub fn is_dropped(
+    neighbour: &Neighbour,
+    sender: RouterId,
+    description: Description,
+    headers: &Headers<'_>,
+    local: Local,
+) -> bool
+    ensures { result ≡ dd_dropped local sender description headers.now neighbour.now }
+{
+    local.mtu < description.mtu
+        || (!is_init(neighbour.state())
+            && is_not_taken(neighbour, sender, description, headers, local))
+}
+
+/// Takes a Database Description (RFC 2328, section 10.6) of the neighbour's router, `sender`. Answers whether it was taken:
+/// where not, it is dropped, and nothing changes.
+///
+/// `AllocError` where memory runs out.
+pub fn take_description(
+    neighbour: &mut Neighbour,
+    sender: RouterId,
+    description: Description,
+    headers: Headers<'_>,
+    database: &Lsdb,
+    iface: &Iface,
+    local: Local,
+    numbers: &mut u32,
+    out: &mut Vec<Outgoing>,
+    alloc: Global,
+) -> Result<bool, AllocError>
+    ensures turn { OnOk result (turn neighbour.new numbers.new out.new.items ≡ description_turn iface.now local sender description headers.entry database.now (turn neighbour.old numbers.old out.old.items)) }
+    ensures taken { IfOk result (λ taken. taken ≡ not (dd_dropped local sender description headers.entry neighbour.old)) }
+{
+    if local.mtu < description.mtu {
+        return Ok(false);
+    }
+    let was_init = is_init(neighbour.state());
+    greet(neighbour, iface, local, numbers, out, alloc)?;
+    let taken = exchange(
+        neighbour,
+        sender,
+        description,
+        headers,
+        database,
+        iface,
+        local,
+        numbers,
+        out,
+        alloc,
+    )?;
+    Ok(was_init || taken)
+}

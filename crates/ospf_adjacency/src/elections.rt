@@ -1,0 +1,106 @@
+//! The election that ends a step on a link.
+
+ghost use Rattle.std.specs.Prelude.{◌≡◌, ◌++◌, List, Contains, true, map, IfOk, OnOk};
+ghost use Rattle.ospf_election.specs.Election.{AreDistinct};
+ghost use Rattle.ospf_election.specs.declared.candidate.Candidate.{Candidate};
+ghost use Rattle.ospf_iface.specs.declared.machine.IfaceChange.{IfaceChange};
+ghost use Rattle.ospf_iface.specs.Machine.{own_candidate, Elects};
+ghost use Rattle.ospf_adjacency.specs.Elections.{AreOfLink, ElectsOn, elects_in, candidate_of, candidates_of, taking_part, adjusted, number_after, first_dds};
+ghost use Rattle.ospf_adjacency.specs.Packets.{Parcel, parcels};
+
+use crate::adjacency::{take_event, wants_adjacency};
+use crate::packets::Outgoing;
+use ospf_election::Candidate;
+use ospf_exchange::Local;
+use ospf_iface::{Iface, IfaceEvent, IfaceState};
+use ospf_neighbour::{NbrEvent, Neighbour};
+use std::alloc::{AllocError, Global};
+
+// A neighbour as it takes part in an election.
+fn candidate_of(neighbour: &Neighbour) -> Candidate
+    ensures { result ≡ candidate_of neighbour.now }
+{
+    let declared = neighbour.declared();
+    Candidate {
+        id: neighbour.router(),
+        address: neighbour.address(),
+        priority: declared.priority,
+        dr: declared.dr,
+        backup: declared.backup,
+    }
+}
+
+// Who takes part in a link's election: the router itself, and the neighbours in 2-Way or above.
+fn candidates_of(
+    iface: &Iface,
+    neighbours: &[Neighbour],
+    alloc: Global,
+) -> Result<Vec<Candidate>, AllocError>
+    ensures { IfOk result (λ v. v.items ≡ candidates_of iface.now neighbours.now) }
+{
+    let mut all = Vec::new(alloc);
+    all.push(iface.own_candidate())?;
+    for neighbour in neighbours {
+        if neighbour.state().is_two_way() {
+            all.push(candidate_of(neighbour))?;
+        }
+    }
+    Ok(all)
+}
+
+// The election; whether AdjOK? is due.
+fn elect(iface: &mut Iface, candidates: &[Candidate]) -> bool
+    requires electing { elects_in iface.old.state ≡ true }
+    requires distinct { AreDistinct candidates.now }
+    requires own { Contains candidates.now (own_candidate iface.old) }
+    ensures { (change : IfaceChange) × Elects candidates.now iface.old iface.new change × (result ≡ change.adj_ok) }
+{
+    let change = match iface.state {
+        IfaceState::Waiting => iface.event(IfaceEvent::WaitTimer(candidates)),
+        _ => iface.event(IfaceEvent::NeighborChange(candidates)),
+    };
+    change.adj_ok
+}
+
+// AdjOK? comes to the neighbours of a link.
+fn adjust(
+    neighbours: &mut [Neighbour],
+    iface: &Iface,
+    local: Local,
+    numbers: &mut u32,
+    out: &mut Vec<Outgoing>,
+    alloc: Global,
+) -> Result<(), AllocError>
+    ensures neighbours { OnOk result (neighbours.new ≡ adjusted iface.now local.tick numbers.old neighbours.old) }
+    ensures number { OnOk result (numbers.new ≡ number_after iface.now numbers.old neighbours.old) }
+    ensures sent { OnOk result (parcels out.new.items ≡ parcels out.old.items ++ first_dds iface.now local.mtu local.tick numbers.old neighbours.old) }
+{
+    for neighbour in neighbours.iter_mut() {
+        let event = NbrEvent::AdjOk(wants_adjacency(iface, neighbour.address()));
+        take_event(neighbour, event, iface, local, numbers, out, alloc)?;
+    }
+    Ok(())
+}
+
+/// The election of a link on which one is due (RFC 2328, section 9.4), and AdjOK? where the Designated Router or the Backup
+/// is another.
+///
+/// `AllocError` where memory runs out.
+pub fn elect_on(
+    iface: &mut Iface,
+    neighbours: &mut [Neighbour],
+    local: Local,
+    numbers: &mut u32,
+    out: &mut Vec<Outgoing>,
+    alloc: Global,
+) -> Result<(), AllocError>
+    requires electing { elects_in iface.old.state ≡ true }
+    requires link { AreOfLink iface.old neighbours.old }
+    ensures { OnOk result ((sent : List Parcel) × ElectsOn local.mtu local.tick iface.old neighbours.old numbers.old sent iface.new neighbours.new numbers.new × (parcels out.new.items ≡ parcels out.old.items ++ sent)) }
+{
+    let candidates = candidates_of(iface, neighbours, alloc)?;
+    if elect(iface, &candidates) {
+        adjust(neighbours, iface, local, numbers, out, alloc)?;
+    }
+    Ok(())
+}

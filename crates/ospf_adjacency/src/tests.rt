@@ -1,0 +1,340 @@
+//! Adjacencies of one router: Database Descriptions that come, and an election.
+
+ghost use Rattle.std.specs.Prelude.{◌≡◌};
+
+use crate::{
+    Outgoing, elect_on, is_broadcast, is_dropped, request_turn, send_dd, send_request,
+    take_description, take_event, wants_adjacency,
+};
+use ospf_base::{ALL_SPF_ROUTERS, Addr, AreaId, InterfaceKind, RouterId};
+use ospf_exchange::Local;
+use ospf_iface::{Iface, IfaceSettings, IfaceState};
+use ospf_lsa::Lsa;
+use ospf_lsdb::Lsdb;
+use ospf_neighbour::{Declared, NbrEvent, Neighbour, NeighbourState};
+use ospf_packet::{Body, BodyValue, Description, Packet, PacketValue, write_packet};
+use std::alloc::Global;
+use std::test::Fail;
+
+// The router, which is the slave of a neighbour with a higher Router ID.
+const OWN: RouterId = RouterId(1);
+
+// The number that a router uses first.
+const FIRST_NUMBER: i32 = -0x7fff_ffff;
+
+fn iface(kind: InterfaceKind, state: IfaceState) -> Iface {
+    Iface {
+        settings: IfaceSettings {
+            router: OWN,
+            kind,
+            address: Addr(1),
+            mask: 0xffff_ff00,
+            priority: 1,
+            hello: 10,
+            dead: 40,
+        },
+        state,
+        dr: Addr::NOWHERE,
+        backup: Addr::NOWHERE,
+        wait: 0,
+        hello_in: 10,
+    }
+}
+
+fn local(mtu: u16) -> Local {
+    Local {
+        router: OWN,
+        mtu,
+        tick: 7,
+    }
+}
+
+fn require(holds: bool) -> Result<(), Fail> {
+    if holds { Ok(()) } else { Err("not so".into()) }
+}
+
+// A Database Description without headers, taken by a neighbour on a point-to-point link.
+fn hear(
+    neighbour: &mut Neighbour,
+    description: Description,
+    database: &Lsdb,
+    out: &mut Vec<Outgoing>,
+    alloc: Global,
+) -> Result<bool, Fail> {
+    let value = PacketValue {
+        router: neighbour.router(),
+        area: AreaId(0),
+        body: BodyValue::Description(description, Vec::new(alloc)),
+    };
+    let mut bytes = Vec::new(alloc);
+    write_packet(&value, &mut bytes)?;
+    let Body::Description(fields, headers) = Packet::read(&bytes)?.body else {
+        return Err("another packet".into());
+    };
+    let link = iface(InterfaceKind::PointToPoint, IfaceState::PointToPoint);
+    let mut number = 100;
+    let router = neighbour.router();
+    let dropped = is_dropped(neighbour, router, fields, &headers, local(576));
+    let taken = take_description(
+        neighbour,
+        router,
+        fields,
+        headers,
+        database,
+        &link,
+        local(576),
+        &mut number,
+        out,
+        alloc,
+    )?;
+    require(taken != dropped)?;
+    Ok(taken)
+}
+
+fn description(mtu: u16, flags: u8, number: u32) -> Description {
+    Description {
+        mtu,
+        options: 2,
+        flags,
+        number,
+    }
+}
+
+// The flags, the number and how many headers the last packet has.
+fn last_sent(out: &[Outgoing]) -> Option<(u8, u32, usize)> {
+    match &out.last()?.body {
+        BodyValue::Description(fields, headers) => Some((
+            fields.flags,
+            fields.number,
+            headers.len(),
+        )),
+        _ => None,
+    }
+}
+
+// A neighbour in ExStart on a point-to-point link, and the first packet to it.
+fn starting(alloc: Global, out: &mut Vec<Outgoing>) -> Result<Neighbour, Fail> {
+    let link = iface(InterfaceKind::PointToPoint, IfaceState::PointToPoint);
+    let mut number = 50;
+    let mut neighbour = Neighbour::new(alloc, RouterId(2), Addr(2));
+    for event in [NbrEvent::HelloReceived, NbrEvent::TwoWayReceived(true)] {
+        take_event(
+            &mut neighbour,
+            event,
+            &link,
+            local(576),
+            &mut number,
+            out,
+            alloc,
+        )?;
+    }
+    require(number == 51)?;
+    Ok(neighbour)
+}
+
+// A database with an LSA of each of so many routers.
+fn filled(alloc: Global, count: u32) -> Result<Lsdb, Fail> {
+    let mut database = Lsdb::new(alloc);
+    for router in 0..count {
+        let lsa = Lsa::router(alloc, RouterId(router), FIRST_NUMBER, &[])?;
+        database.install(lsa, 0, true)?;
+    }
+    Ok(database)
+}
+
+// One byte over the interface's MTU it is dropped, in Init too.
+#[test]
+fn a_larger_mtu_is_dropped(rt: HostRuntime) -> Result<(), Fail> {
+    let alloc = rt.alloc();
+    let database = Lsdb::new(alloc);
+    let mut out = Vec::new(alloc);
+    let mut neighbour = Neighbour::new(alloc, RouterId(2), Addr(2));
+    let _ = neighbour.event(NbrEvent::HelloReceived, 40);
+    let taken = hear(
+        &mut neighbour,
+        description(577, 7, 5),
+        &database,
+        &mut out,
+        alloc,
+    )?;
+    assert_eq!(rt; taken, false);
+    assert_eq!(rt; neighbour.state(), NeighbourState::Init);
+    assert!(rt; out.is_empty());
+    let taken = hear(
+        &mut neighbour,
+        description(576, 7, 5),
+        &database,
+        &mut out,
+        alloc,
+    )?;
+    assert_eq!(rt; taken, true);
+    assert_eq!(rt; neighbour.state(), NeighbourState::Exchange);
+    Ok(())
+}
+
+// At MTU 576 a slave with 27 LSAs sends 26 headers and says that there are more, and then one.
+#[test]
+fn a_slave_sends_what_fits(rt: HostRuntime) -> Result<(), Fail> {
+    let alloc = rt.alloc();
+    let database = filled(alloc, 27)?;
+    let mut out = Vec::new(alloc);
+    let mut neighbour = starting(alloc, &mut out)?;
+    assert_eq!(rt; last_sent(&out), Some((7, 50, 0)));
+    hear(
+        &mut neighbour,
+        description(576, 7, 900),
+        &database,
+        &mut out,
+        alloc,
+    )?;
+    assert_eq!(rt; last_sent(&out), Some((2, 900, 26)));
+    hear(
+        &mut neighbour,
+        description(576, 1, 901),
+        &database,
+        &mut out,
+        alloc,
+    )?;
+    assert_eq!(rt; last_sent(&out), Some((0, 901, 1)));
+    assert_eq!(rt; neighbour.state(), NeighbourState::Full);
+    Ok(())
+}
+
+// A slave that gets a packet again sends its own again, and nothing else comes of it.
+#[test]
+fn a_slave_repeats_its_last(rt: HostRuntime) -> Result<(), Fail> {
+    let alloc = rt.alloc();
+    let database = filled(alloc, 27)?;
+    let mut out = Vec::new(alloc);
+    let mut neighbour = starting(alloc, &mut out)?;
+    hear(
+        &mut neighbour,
+        description(576, 7, 900),
+        &database,
+        &mut out,
+        alloc,
+    )?;
+    let sent = out.len();
+    hear(
+        &mut neighbour,
+        description(576, 7, 900),
+        &database,
+        &mut out,
+        alloc,
+    )?;
+    assert_eq!(rt; out.len(), sent.wrapping_add(1));
+    assert_eq!(rt; last_sent(&out), Some((2, 900, 26)));
+    assert_eq!(rt; neighbour.summary().len(), 1);
+    Ok(())
+}
+
+// One that does not follow the last begins the adjacency anew, with the next number.
+#[test]
+fn a_mismatch_begins_anew(rt: HostRuntime) -> Result<(), Fail> {
+    let alloc = rt.alloc();
+    let database = filled(alloc, 27)?;
+    let mut out = Vec::new(alloc);
+    let mut neighbour = starting(alloc, &mut out)?;
+    hear(
+        &mut neighbour,
+        description(576, 7, 900),
+        &database,
+        &mut out,
+        alloc,
+    )?;
+    hear(
+        &mut neighbour,
+        description(576, 3, 903),
+        &database,
+        &mut out,
+        alloc,
+    )?;
+    assert_eq!(rt; neighbour.state(), NeighbourState::ExStart);
+    assert_eq!(rt; last_sent(&out), Some((7, 100, 0)));
+    assert!(rt; neighbour.summary().is_empty());
+    Ok(())
+}
+
+// A neighbour in 2-Way, which declares this Designated Router.
+fn two_way(alloc: Global, router: u32, priority: u8, dr: Addr) -> Neighbour
+    ensures { result.router.0 ≡ router }
+{
+    let mut neighbour = Neighbour::new(alloc, RouterId(router), Addr(router));
+    let _ = neighbour.event(NbrEvent::HelloReceived, 40);
+    let _ = neighbour.event(NbrEvent::TwoWayReceived(false), 40);
+    neighbour.declare(Declared {
+        priority,
+        dr,
+        backup: Addr::NOWHERE,
+    });
+    neighbour
+}
+
+// Of routers of priorities 1, 1 and 0 one declares itself Designated Router: the other of priority 1 becomes the Backup, and
+// begins adjacencies with both, in rising Router ID.
+#[test]
+fn three_routers_elect(rt: HostRuntime) -> Result<(), Fail> {
+    let alloc = rt.alloc();
+    let mut link = iface(InterfaceKind::Broadcast, IfaceState::Down);
+    link.settings.router = OWN;
+    link.state = IfaceState::Waiting;
+    let mut neighbours = [
+        two_way(alloc, 2, 1, Addr(2)),
+        two_way(alloc, 3, 0, Addr::NOWHERE),
+    ];
+    let mut number = u32::MAX;
+    let mut out = Vec::new(alloc);
+    elect_on(
+        &mut link,
+        &mut neighbours,
+        local(1500),
+        &mut number,
+        &mut out,
+        alloc,
+    )?;
+    assert_eq!(rt;
+        (link.state, link.dr, link.backup),
+        (IfaceState::Backup, Addr(2), Addr(1))
+    );
+    assert_eq!(rt; number, 1);
+    let mut begun = Vec::new(alloc);
+    for packet in &out {
+        begun.push(packet.destination)?;
+    }
+    assert_eq!(rt; begun.as_slice(), [Addr(2), Addr(3)].as_slice());
+    assert_eq!(rt; last_sent(&out), Some((7, 0, 0)));
+    Ok(())
+}
+
+#[test]
+fn adjacencies_with_the_designated_router(rt: HostRuntime) {
+    let mut link = iface(InterfaceKind::Broadcast, IfaceState::DrOther);
+    link.dr = Addr(2);
+    assert!(rt; is_broadcast(&link));
+    assert!(rt; wants_adjacency(&link, Addr(2)));
+    assert!(rt; !wants_adjacency(&link, Addr(3)));
+    link.backup = Addr(1);
+    assert!(rt; wants_adjacency(&link, Addr(3)));
+}
+
+// On a point-to-point link all goes to all OSPF routers, on another to the neighbour.
+#[test]
+fn where_packets_go(rt: HostRuntime) -> Result<(), Fail> {
+    let alloc = rt.alloc();
+    let mut out = Vec::new(alloc);
+    let mut neighbour = starting(alloc, &mut out)?;
+    let ends = iface(InterfaceKind::PointToPoint, IfaceState::PointToPoint);
+    let link = iface(InterfaceKind::Broadcast, IfaceState::DrOther);
+    send_dd(&neighbour, &ends, 576, &mut out, alloc)?;
+    send_request(&neighbour, &link, &mut out, alloc)?;
+    request_turn(&mut neighbour, &link, local(576), &mut out, alloc)?;
+    let mut ways = Vec::new(alloc);
+    for packet in &out {
+        ways.push(packet.destination)?;
+    }
+    assert_eq!(rt;
+        ways.as_slice(),
+        [ALL_SPF_ROUTERS, ALL_SPF_ROUTERS, Addr(2)].as_slice()
+    );
+    Ok(())
+}

@@ -1,0 +1,7 @@
+pub mod PlaceLemmas
+pub mod NeighbourLemmas
+pub mod SendingLemmas
+pub mod LawLemmas
+pub mod NumberLemmas
+pub mod WaitLemmas
+pub mod ShortLemmas

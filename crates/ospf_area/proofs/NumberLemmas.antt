@@ -1,0 +1,198 @@
+-- Kept numbers, and marks, key by key.
+use Rattle.std.proofs.Common.{◌≡◌, ◌==◌, ◌&&◌, ◌||◌, ℤ, Bool, true, false, if◌then◌else◌, Option, None, Some, List, [], ◌∷◌, ◌++◌, filter, map, not, refl, sym, ap, subst, ◌∙◌}
+use Rattle.std.specs.Int.{int_max}
+use Rattle.std.specs.List.{list_any}
+use Rattle.std.specs.Option.{option_map}
+use Rattle.ospf_base.proofs.SameKeys.{same_key-eq, same_key-refl}
+use Rattle.ospf_base.specs.Keys.{same_key}
+use Rattle.ospf_base.specs.declared.ids.LsaKey.{LsaKey}
+use Rattle.ospf_base.specs.declared.ids.RouterId.{RouterId}
+use Rattle.ospf_area.specs.Numbers.{counted, counted_one, is_numbering_of, marked, unmarked}
+use Rattle.ospf_area.specs.State.{kept_in, numbering_of, was_sent}
+use Rattle.ospf_area.specs.declared.state.Numbering.{Numbering}
+use Rattle.ospf_area.proofs.LawLemmas.{find-map}
+
+-- ---- kept numbers
+
+counted_key : (key : LsaKey) (number : ℤ) (n : Numbering) → (counted_one key number n).key ≡ n.key
+counted_key key number n = by_test (is_numbering_of key n)
+  where
+    by_test : (b : Bool) → (if b then record n { kept = int_max n.kept number } else n).key ≡ n.key
+    by_test true = refl
+    by_test false = refl
+
+-- the entries of the key, counted on
+all_counted : (key k : LsaKey) (number : ℤ) (ns : List Numbering) → numbering_of (map (counted_one key number) ns) k ≡ option_map (counted_one key number) (numbering_of ns k)
+all_counted key k number ns = find-map (λ (n : Numbering). same_key n.key k) (counted_one key number) (λ n. ap (λ (j : LsaKey). same_key j k) (counted_key key number n)) ns
+
+-- an entry that is found is of its key
+found_of : (k : LsaKey) (ns : List Numbering) (n : Numbering) → numbering_of ns k ≡ Some n → same_key n.key k ≡ true
+found_of k [] n e = absurd (cc)
+found_of k (x ∷ ns) n e = by_test (same_key x.key k) refl (found_of k ns n) e
+  where
+    by_test : (b : Bool) → same_key x.key k ≡ b → (numbering_of ns k ≡ Some n → same_key n.key k ≡ true) → (if b then Some x else numbering_of ns k) ≡ Some n → same_key n.key k ≡ true
+    by_test true t rest e' = let same : x ≡ n = cc in subst (λ (y : Numbering). same_key y.key k ≡ true) same t
+    by_test false t rest e' = rest e'
+
+-- the last entry is found where none is before it
+found_last : (k : LsaKey) (ns : List Numbering) (n : Numbering) → numbering_of ns k ≡ None → numbering_of (ns ++ n ∷ []) k ≡ (if same_key n.key k then Some n else None)
+found_last k [] n e = refl
+found_last k (x ∷ ns) n e = by_test (same_key x.key k) (found_last k ns n) e
+  where
+    by_test : (b : Bool) → (numbering_of ns k ≡ None → numbering_of (ns ++ n ∷ []) k ≡ (if same_key n.key k then Some n else None))
+        → (if b then Some x else numbering_of ns k) ≡ None → (if b then Some x else numbering_of (ns ++ n ∷ []) k) ≡ (if same_key n.key k then Some n else None)
+    by_test true rest e' = absurd (cc)
+    by_test false rest e' = rest e'
+
+-- one before it is found as before
+found_before : (k : LsaKey) (ns : List Numbering) (n x : Numbering) → numbering_of ns k ≡ Some x → numbering_of (ns ++ n ∷ []) k ≡ Some x
+found_before k [] n x e = absurd (cc)
+found_before k (y ∷ ns) n x e = by_test (same_key y.key k) (found_before k ns n x) e
+  where
+    by_test : (b : Bool) → (numbering_of ns k ≡ Some x → numbering_of (ns ++ n ∷ []) k ≡ Some x) → (if b then Some y else numbering_of ns k) ≡ Some x → (if b then Some y else numbering_of (ns ++ n ∷ []) k) ≡ Some x
+    by_test true rest e' = e'
+    by_test false rest e' = rest e'
+
+none_of : (key : LsaKey) (ns : List Numbering) → list_any (is_numbering_of key) ns ≡ false → numbering_of ns key ≡ None
+none_of key [] e = refl
+none_of key (x ∷ ns) e = by_test (same_key x.key key) (none_of key ns) e
+  where
+    by_test : (b : Bool) → (list_any (is_numbering_of key) ns ≡ false → numbering_of ns key ≡ None) → (b || list_any (is_numbering_of key) ns) ≡ false → (if b then Some x else numbering_of ns key) ≡ None
+    by_test true rest e' = absurd (cc)
+    by_test false rest e' = rest e'
+
+some_of : (key : LsaKey) (ns : List Numbering) → list_any (is_numbering_of key) ns ≡ true → (x : Numbering) × (numbering_of ns key ≡ Some x)
+some_of key [] e = absurd (cc)
+some_of key (x ∷ ns) e = by_test (same_key x.key key) (some_of key ns) e
+  where
+    by_test : (b : Bool) → (list_any (is_numbering_of key) ns ≡ true → (y : Numbering) × (numbering_of ns key ≡ Some y)) → (b || list_any (is_numbering_of key) ns) ≡ true → (y : Numbering) × ((if b then Some x else numbering_of ns key) ≡ Some y)
+    by_test true rest e' = (x, refl)
+    by_test false rest e' = rest e'
+
+-- of the key that is counted
+counted_here : (key : LsaKey) (number floor : ℤ) (ns : List Numbering) → kept_in floor (numbering_of (counted key number floor ns) key) ≡ int_max (kept_in floor (numbering_of ns key)) number
+counted_here key number floor ns = by_test (list_any (is_numbering_of key) ns) refl
+  where
+    new : Numbering
+    new = record { key = key; kept = int_max floor number; issued_at = None }
+
+    by_test : (b : Bool) → list_any (is_numbering_of key) ns ≡ b → kept_in floor (numbering_of (if b then map (counted_one key number) ns else ns ++ new ∷ []) key) ≡ int_max (kept_in floor (numbering_of ns key)) number
+    by_test true e =
+        let found = some_of key ns e in
+        let is_key = found_of key ns found.0 found.1 in
+        ap (kept_in floor) (all_counted key key number ns ∙ ap (option_map (counted_one key number)) found.1)
+        ∙ ap (λ (b : Bool). (if b then record found.0 { kept = int_max found.0.kept number } else found.0).kept) is_key
+        ∙ ap (λ (o : Option Numbering). int_max (kept_in floor o) number) (sym found.1)
+    by_test false e =
+        let none = none_of key ns e in
+        ap (kept_in floor) (found_last key ns new none ∙ ap (λ (b : Bool). if b then Some new else None) (same_key-refl key))
+        ∙ ap (λ (o : Option Numbering). int_max (kept_in floor o) number) (sym none)
+
+-- of another key
+counted_there : (key k : LsaKey) (number floor : ℤ) (ns : List Numbering) → same_key key k ≡ false → kept_in floor (numbering_of (counted key number floor ns) k) ≡ kept_in floor (numbering_of ns k)
+counted_there key k number floor ns apart = by_test (list_any (is_numbering_of key) ns)
+  where
+    new : Numbering
+    new = record { key = key; kept = int_max floor number; issued_at = None }
+
+    stays : (o : Option Numbering) → numbering_of ns k ≡ o → kept_in floor (option_map (counted_one key number) o) ≡ kept_in floor o
+    stays None e = refl
+    stays (Some n) e = other (same_key n.key key) refl
+      where
+        other : (b : Bool) → same_key n.key key ≡ b → (if b then record n { kept = int_max n.kept number } else n).kept ≡ n.kept
+        other false t = refl
+        other true t =
+            let same = same_key-eq n.key key t in
+            let is : same_key key k ≡ true = subst (λ (j : LsaKey). same_key j k ≡ true) same (found_of k ns n e) in
+            absurd (cc)
+
+    behind : (o : Option Numbering) → numbering_of ns k ≡ o → kept_in floor (numbering_of (ns ++ new ∷ []) k) ≡ kept_in floor (numbering_of ns k)
+    behind None e = ap (kept_in floor) (found_last k ns new e ∙ ap (λ (b : Bool). if b then Some new else None) apart ∙ sym e)
+    behind (Some x) e = ap (kept_in floor) (found_before k ns new x e ∙ sym e)
+
+    by_test : (b : Bool) → kept_in floor (numbering_of (if b then map (counted_one key number) ns else ns ++ new ∷ []) k) ≡ kept_in floor (numbering_of ns k)
+    by_test true = ap (kept_in floor) (all_counted key k number ns) ∙ stays (numbering_of ns k) refl
+    by_test false = behind (numbering_of ns k) refl
+
+pub counted_kept : (key k : LsaKey) (number floor : ℤ) (ns : List Numbering)
+    → kept_in floor (numbering_of (counted key number floor ns) k) ≡ (if same_key key k then int_max (kept_in floor (numbering_of ns k)) number else kept_in floor (numbering_of ns k))
+counted_kept key k number floor ns = by_test (same_key key k) refl
+  where
+    by_test : (b : Bool) → same_key key k ≡ b → kept_in floor (numbering_of (counted key number floor ns) k) ≡ (if b then int_max (kept_in floor (numbering_of ns k)) number else kept_in floor (numbering_of ns k))
+    by_test true e = subst (λ (j : LsaKey). kept_in floor (numbering_of (counted key number floor ns) j) ≡ int_max (kept_in floor (numbering_of ns j)) number) (same_key-eq key k e) (counted_here key number floor ns)
+    by_test false e = counted_there key k number floor ns e
+
+-- the router's own keys alone are counted
+pub own_counted : (own : RouterId) (key k : LsaKey) (number floor : ℤ) (ns : List Numbering)
+    → kept_in floor (numbering_of (if key.router.0 == own.0 then counted key number floor ns else ns) k)
+    ≡ (if same_key key k && (k.router.0 == own.0) then int_max (kept_in floor (numbering_of ns k)) number else kept_in floor (numbering_of ns k))
+own_counted own key k number floor ns = by_key (same_key key k) refl
+  where
+    then_own : (b : Bool) → same_key key k ≡ true → kept_in floor (numbering_of (if b then counted key number floor ns else ns) k) ≡ (if b then int_max (kept_in floor (numbering_of ns k)) number else kept_in floor (numbering_of ns k))
+    then_own true e = counted_kept key k number floor ns ∙ ap (λ (b : Bool). if b then int_max (kept_in floor (numbering_of ns k)) number else kept_in floor (numbering_of ns k)) e
+    then_own false e = refl
+
+    not_it : (b : Bool) → same_key key k ≡ false → kept_in floor (numbering_of (if b then counted key number floor ns else ns) k) ≡ kept_in floor (numbering_of ns k)
+    not_it true e = counted_there key k number floor ns e
+    not_it false e = refl
+
+    by_key : (b : Bool) → same_key key k ≡ b → kept_in floor (numbering_of (if key.router.0 == own.0 then counted key number floor ns else ns) k) ≡ (if b && (k.router.0 == own.0) then int_max (kept_in floor (numbering_of ns k)) number else kept_in floor (numbering_of ns k))
+    by_key true e =
+        then_own (key.router.0 == own.0) e
+        ∙ ap (λ (j : LsaKey). if j.router.0 == own.0 then int_max (kept_in floor (numbering_of ns k)) number else kept_in floor (numbering_of ns k)) (same_key-eq key k e)
+    by_key false e = not_it (key.router.0 == own.0) e
+
+-- ---- marks
+
+sent_behind : (sent : List LsaKey) (key k : LsaKey) → was_sent (sent ++ key ∷ []) k ≡ (was_sent sent k || same_key key k)
+sent_behind [] key k = by_test (same_key key k)
+  where
+    by_test : (b : Bool) → (b || false) ≡ b
+    by_test true = refl
+    by_test false = refl
+sent_behind (x ∷ xs) key k = ap (λ (b : Bool). same_key x k || b) (sent_behind xs key k) ∙ by_test (same_key x k)
+  where
+    by_test : (b : Bool) → (b || (was_sent xs k || same_key key k)) ≡ ((b || was_sent xs k) || same_key key k)
+    by_test true = refl
+    by_test false = refl
+
+-- the key's own marks are gone
+unmarked_here : (key : LsaKey) (sent : List LsaKey) → was_sent (unmarked key sent) key ≡ false
+unmarked_here key [] = refl
+unmarked_here key (x ∷ xs) = by_test (same_key x key) refl (unmarked_here key xs)
+  where
+    by_test : (b : Bool) → same_key x key ≡ b → was_sent (unmarked key xs) key ≡ false → was_sent (if not b then x ∷ unmarked key xs else unmarked key xs) key ≡ false
+    by_test true e rest = rest
+    by_test false e rest = ap (λ (b : Bool). b || was_sent (unmarked key xs) key) e ∙ rest
+
+-- those of others stay
+unmarked_there : (key k : LsaKey) (sent : List LsaKey) → same_key key k ≡ false → was_sent (unmarked key sent) k ≡ was_sent sent k
+unmarked_there key k [] apart = refl
+unmarked_there key k (x ∷ xs) apart = by_test (same_key x key) refl (unmarked_there key k xs apart)
+  where
+    by_test : (b : Bool) → same_key x key ≡ b → was_sent (unmarked key xs) k ≡ was_sent xs k
+        → was_sent (if not b then x ∷ unmarked key xs else unmarked key xs) k ≡ (same_key x k || was_sent xs k)
+    by_test true e rest =
+        rest
+        ∙ sym (ap (λ (b : Bool). b || was_sent xs k) (ap (λ (j : LsaKey). same_key j k) (same_key-eq x key e) ∙ apart))
+    by_test false e rest = ap (λ (b : Bool). same_key x k || b) rest
+
+unmarked_at : (key : LsaKey) (sent : List LsaKey) (k : LsaKey) → was_sent (unmarked key sent) k ≡ (if same_key key k then false else was_sent sent k)
+unmarked_at key sent k = by_test (same_key key k) refl
+  where
+    by_test : (b : Bool) → same_key key k ≡ b → was_sent (unmarked key sent) k ≡ (if b then false else was_sent sent k)
+    by_test true e = subst (λ (j : LsaKey). was_sent (unmarked key sent) j ≡ false) (same_key-eq key k e) (unmarked_here key sent)
+    by_test false e = unmarked_there key k sent e
+
+pub marks : (key : LsaKey) (went : Bool) (sent : List LsaKey) (k : LsaKey) → was_sent (marked key went sent) k ≡ (if same_key key k then went else was_sent sent k)
+marks key false sent k = unmarked_at key sent k
+marks key true sent k =
+    sent_behind (unmarked key sent) key k ∙ ap (λ (b : Bool). b || same_key key k) (unmarked_at key sent k) ∙ by_test (same_key key k)
+  where
+    by_test : (b : Bool) → ((if b then false else was_sent sent k) || b) ≡ (if b then true else was_sent sent k)
+    by_test true = refl
+    by_test false = or_nothing (was_sent sent k)
+      where
+        or_nothing : (a : Bool) → (a || false) ≡ a
+        or_nothing true = refl
+        or_nothing false = refl

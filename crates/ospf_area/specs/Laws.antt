@@ -1,0 +1,137 @@
+-- Laws: what is read of a router's neighbours after changes of all links, of its numbers, of its marks and of what it sends.
+use Rattle.std.specs.Prelude.{◌≡◌, ◌==◌, ◌+◌, ◌&&◌, ◌⊎◌, ◌↔◌, ◌≤◌, ℕ, ℤ, Bool, true, false, Option, None, Some, List, [], ◌∷◌, length, option_map, slice_get, if◌then◌else◌}
+use Rattle.std.specs.Int.{int_max}
+use Rattle.ospf_base.specs.Constants.{largest_lsa, largest_packet}
+use Rattle.ospf_base.specs.Keys.{same_key}
+use Rattle.ospf_base.specs.declared.ids.Instance.{Instance}
+use Rattle.ospf_base.specs.declared.ids.LsaKey.{LsaKey}
+use Rattle.ospf_base.specs.declared.ids.RouterId.{RouterId}
+use Rattle.ospf_flood.specs.Offers.{instance_with}
+use Rattle.ospf_lsa.specs.Recency.{recency}
+use Rattle.ospf_lsa.specs.declared.header.LsaHeader.{LsaHeader}
+use Rattle.ospf_lsa.specs.declared.recency.Recency.TheVariants.{Newer}
+use Rattle.ospf_lsdb.specs.Database as lsdb
+use Rattle.ospf_lsdb.specs.Database.{Ages, Entry, Held, Installs, Puts, held_of}
+use Rattle.ospf_neighbour.specs.Lists.{is_key_listed, key_unlisted, request_of}
+use Rattle.ospf_neighbour.specs.Machine.{is_exchanging}
+use Rattle.ospf_neighbour.specs.Neighbour.{NeighbourValue}
+use Rattle.ospf_packet.specs.Meaning as meaning
+use Rattle.ospf_packet.specs.Meaning.{Meaning, packet_bytes}
+use Rattle.ospf_area.specs.Asking.{turned, turned_links}
+use Rattle.ospf_area.specs.Changes.{changed_at, changed_if, delayed_at}
+use Rattle.ospf_area.specs.Flooding.{came_from, flooded_links, flooded_neighbour, on_link, released}
+use Rattle.ospf_area.specs.Numbers.{counts, is_own, marked}
+use Rattle.ospf_area.specs.Outputs.{SentValue}
+use Rattle.ospf_area.specs.Sending.{datagrams, packet_of, update_out}
+use Rattle.ospf_area.specs.State.{AreaValue, LinkValue, WaitsIn, kept_in, kept_number, neighbour_at, numbering_of, was_sent}
+use Rattle.ospf_area.specs.declared.changes.Change.{Change}
+use Rattle.ospf_area.specs.declared.flooding.Origin.{Origin}
+use Rattle.ospf_area.specs.declared.sending.Own.{Own}
+use Rattle.ospf_area.specs.declared.sending.Way.{Way}
+
+-- ---- each neighbour
+
+-- the old copy leaves the list of each neighbour (13, step 5c)
+abbrev pub ReleasedNeighbours : Type 0
+ReleasedNeighbours = (key : LsaKey) (links : List LinkValue) (l : ℕ) (q : RouterId)
+    → neighbour_at (released key links) l q ≡ option_map (key_unlisted key) (neighbour_at links l q)
+
+-- an LSA is flooded to each neighbour, or past it (13.3)
+abbrev pub FloodedNeighbours : Type 0
+FloodedNeighbours = (key : LsaKey) (h : LsaHeader) (from : Option Origin) (tick : ℕ) (links : List LinkValue) (l : ℕ) (q : RouterId)
+    → neighbour_at (flooded_links key h from tick links) l q ≡ option_map (flooded_neighbour key h (on_link from l) tick) (neighbour_at links l q)
+
+-- a change is one of the origin's neighbour alone
+abbrev pub changed_there : Origin → Change → ℕ → ℕ → NeighbourValue → NeighbourValue
+changed_there f change tick l n = if l == f.link then changed_if f.router change tick n else n
+
+abbrev pub ChangesOne : Type 0
+ChangesOne = (f : Origin) (change : Change) (tick : ℕ) (links : List LinkValue) (l : ℕ) (q : RouterId)
+    → neighbour_at (changed_at f change tick links) l q ≡ option_map (changed_there f change tick l) (neighbour_at links l q)
+
+-- each neighbour gets LoadingDone and its next Request, by the MTU of its link
+abbrev pub turned_there : Own → Option LinkValue → NeighbourValue → NeighbourValue
+turned_there own None n = n
+turned_there own (Some link) n = turned link.settings.mtu own.tick n
+
+abbrev pub TurnedNeighbours : Type 0
+TurnedNeighbours = (own : Own) (links : List LinkValue) (l : ℕ) (q : RouterId)
+    → neighbour_at (turned_links own links) l q ≡ option_map (turned_there own (slice_get links l)) (neighbour_at links l q)
+
+-- an acknowledgement that waits changes no neighbour
+abbrev pub DelayedNeighbours : Type 0
+DelayedNeighbours = (number : ℕ) (h : LsaHeader) (links : List LinkValue) (l : ℕ) (q : RouterId)
+    → neighbour_at (delayed_at number h links) l q ≡ neighbour_at links l q
+
+-- ---- what waits for an acknowledgement
+
+-- the old copy leaves all lists, and takes nothing of another key along (13, step 5c)
+pub record ReleaseTakesItsKey : Type 0 where
+  pub others : (key : LsaKey) (links : List LinkValue) (l : ℕ) (q : RouterId) (j : Instance)
+      → WaitsIn (neighbour_at links l q) j → WaitsIn (neighbour_at (released key links) l q) j ⊎ (j.key ≡ key)
+  pub gone : (key : LsaKey) (links : List LinkValue) (l : ℕ) (q : RouterId) (n : NeighbourValue)
+      → neighbour_at (released key links) l q ≡ Some n → is_key_listed key n.retransmission ≡ false
+
+-- a flood takes off instances of its own key alone (13.3)
+abbrev pub FloodTakesItsKey : Type 0
+FloodTakesItsKey = (key : LsaKey) (h : LsaHeader) (from : Option Origin) (tick : ℕ) (links : List LinkValue) (l : ℕ) (q : RouterId) (j : Instance)
+    → WaitsIn (neighbour_at links l q) j → WaitsIn (neighbour_at (flooded_links key h from tick links) l q) j ⊎ (j.key ≡ key)
+
+-- LoadingDone and Requests change nothing of what waits
+abbrev pub TurnsTakeNothing : Type 0
+TurnsTakeNothing = (own : Own) (links : List LinkValue) (l : ℕ) (q : RouterId) (j : Instance)
+    → WaitsIn (neighbour_at (turned_links own links) l q) j ↔ WaitsIn (neighbour_at links l q) j
+
+-- why a neighbour in Exchange or above need not acknowledge an LSA (13.3, step 1): it came from there, or it has
+-- described one that is not older
+pub data IsSpared (key : LsaKey) (h : LsaHeader) (here : Option Origin) (n : NeighbourValue) : Type 0 where
+  Came : came_from here n ≡ true → IsSpared key h here n
+  Described : (entry : LsaHeader) → request_of key n.requests ≡ Some entry → (recency h entry ≡ Newer → ⊥) → IsSpared key h here n
+
+-- each neighbour in Exchange or above waits for what is flooded, or is spared (13.3, step 1)
+abbrev pub FloodReaches : Type 0
+FloodReaches = (key : LsaKey) (h : LsaHeader) (from : Option Origin) (tick : ℕ) (links : List LinkValue) (l : ℕ) (q : RouterId) (n : NeighbourValue)
+    → neighbour_at links l q ≡ Some n → is_exchanging n.state ≡ true
+    → WaitsIn (neighbour_at (flooded_links key h from tick links) l q) (instance_with key h) ⊎ IsSpared key h (on_link from l) n
+
+-- ---- numbers and marks
+
+-- of the router's own keys the greatest number is kept, and no other number changes (12.1.6)
+abbrev pub KeepsGreatest : Type 0
+KeepsGreatest = (key : LsaKey) (number : ℤ) (s : AreaValue) (k : LsaKey)
+    → kept_in s.floor (numbering_of (counts key number s) k) ≡ (if same_key key k && is_own s.router k then int_max (kept_number s k) number else kept_number s k)
+
+-- a mark is one of its key (13, step 8)
+abbrev pub MarksOne : Type 0
+MarksOne = (key : LsaKey) (went : Bool) (sent : List LsaKey) (k : LsaKey) → was_sent (marked key went sent) k ≡ (if same_key key k then went else was_sent sent k)
+
+-- ---- what is sent
+
+-- a packet as it goes out
+abbrev pub sent_as : Way → Meaning → SentValue
+sent_as way m = record { link = way.link; source = way.source; destination = way.destination; bytes = packet_bytes m; packet = m }
+
+-- a packet that is not too long goes out
+abbrev pub ShortAreSent : Type 0
+ShortAreSent = (way : Way) (m : Meaning) → length (packet_bytes m) ≤ largest_packet → datagrams way m ≡ sent_as way m ∷ []
+
+-- and so does an LSA in an Update of its own
+abbrev pub LsasAreSent : Type 0
+LsasAreSent = (own : Own) (way : Way) (lsa : List ℕ) → length lsa ≤ largest_lsa
+    → update_out own way (lsa ∷ []) ≡ sent_as way (packet_of own (meaning.update (lsa ∷ []))) ∷ []
+
+-- ---- how long the LSAs of a database are
+
+-- an LSA that an Update has room for: two bytes of age, and the contents
+abbrev pub IsShort : Held → Type 0
+IsShort h = 2 + length h.entry.contents ≤ largest_lsa
+
+abbrev pub AreShort : List Held → Type 0
+AreShort db = (key : LsaKey) (h : Held) → held_of db key ≡ Some h → IsShort h
+
+-- whatever happens to a database, its LSAs stay short, if what is installed is short
+pub record StayShort : Type 0 where
+  pub installed : (e : Entry) (before after : List Held) → Installs e before after → 2 + length e.contents ≤ largest_lsa → AreShort before → AreShort after
+  pub aged : (before after : List Held) → Ages before after → AreShort before → AreShort after
+  pub expired : (key : LsaKey) (before after : List Held) → Puts key (option_map lsdb.expired (held_of before key)) before after → AreShort before → AreShort after
+  pub removed : (key : LsaKey) (before after : List Held) → Puts key (lsdb.removed (held_of before key)) before after → AreShort before → AreShort after

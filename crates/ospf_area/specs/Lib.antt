@@ -1,0 +1,10 @@
+pub mod State
+pub mod Outputs
+pub mod Places
+pub mod Sending
+pub mod Flooding
+pub mod Changes
+pub mod Asking
+pub mod Numbers
+pub mod Standing
+pub mod Laws

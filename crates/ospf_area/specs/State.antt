@@ -1,0 +1,118 @@
+-- A router's part of an area, as its laws read it (RFC 2328, sections 8 to 13).
+use Rattle.std.specs.Prelude.{ℕ, ℤ, Bool, List, [], Option, None, Some, find, slice_get}
+use Rattle.std.specs.List.{list_any}
+use Rattle.ospf_base.specs.Keys.{same_key}
+use Rattle.ospf_base.specs.declared.ids.AreaId.{AreaId}
+use Rattle.ospf_base.specs.declared.ids.Instance.{Instance}
+use Rattle.ospf_base.specs.declared.ids.LsaKey.{LsaKey}
+use Rattle.ospf_base.specs.declared.ids.RouterId.{RouterId}
+use Rattle.ospf_iface.specs.declared.machine.Iface.{Iface}
+use Rattle.ospf_lsa.specs.declared.header.LsaHeader.{LsaHeader}
+use Rattle.ospf_lsdb.specs.Database as lsdb
+use Rattle.ospf_lsdb.specs.Database.{Held, Entry, lsa_of}
+use Rattle.ospf_neighbour.specs.Laws.{Waits}
+use Rattle.ospf_neighbour.specs.Neighbour.{NeighbourValue}
+use Rattle.ospf_neighbour.specs.Neighbours.{neighbour_of, some_loading}
+use Rattle.ospf_neighbour.specs.declared.machine.NeighbourState.{NeighbourState}
+use Rattle.ospf_neighbour.specs.declared.machine.NeighbourState.TheVariants.{Down}
+use Rattle.ospf_area.specs.declared.state.LinkSettings.{LinkSettings}
+use Rattle.ospf_area.specs.declared.state.Numbering.{Numbering}
+
+-- ---- the state
+
+-- a link: its interface, what never changes of it, its neighbours in rising Router ID, the acknowledgements that go out
+-- at the next tick (13.5), and whether an election is due at the end of the step (9.4)
+pub record LinkValue : Type 0 where
+  pub iface : Iface
+  pub settings : LinkSettings
+  pub neighbours : List NeighbourValue
+  pub delayed : List LsaHeader
+  pub elects : Bool
+
+-- a router's part of an area: its links in configuration order, its database, the direct acknowledgements of the Update
+-- that is being taken (13.5), for each key of its own that it has numbered how far it came, and for the others the
+-- floor, the present tick, the next DD sequence number, the keys whose copy went out in an Update in this tick (13,
+-- step 8), the keys of self-originated LSAs that this step has installed from Updates, which are still to be answered
+-- (13.4), and the greatest of the floor and all numbers of keys of its own
+pub record AreaValue : Type 0 where
+  pub router : RouterId
+  pub area : AreaId
+  pub stub_router : Bool
+  pub links : List LinkValue
+  pub database : List Held
+  pub direct : List LsaHeader
+  pub numbering : List Numbering
+  pub floor : ℤ
+  pub tick : ℕ
+  pub next_dd : ℕ
+  pub sent : List LsaKey
+  pub heard : List LsaKey
+  pub greatest : ℤ
+
+-- ---- what is read of it
+
+-- the neighbours of a link that may not be there
+abbrev pub neighbours_in : Option LinkValue → List NeighbourValue
+neighbours_in None = []
+neighbours_in (Some link) = link.neighbours
+
+-- what router q is on link l
+abbrev pub neighbour_at : List LinkValue → ℕ → RouterId → Option NeighbourValue
+neighbour_at links l q = neighbour_of (neighbours_in (slice_get links l)) q
+
+-- what it is to this router
+abbrev pub neighbour : AreaValue → ℕ → RouterId → Option NeighbourValue
+neighbour s l q = neighbour_at s.links l q
+
+-- the state of a neighbour: one that is not there is Down (10.1)
+abbrev pub state_in : Option NeighbourValue → NeighbourState
+state_in None = Down
+state_in (Some n) = n.state
+
+abbrev pub state_of : AreaValue → ℕ → RouterId → NeighbourState
+state_of s l q = state_in (neighbour s l q)
+
+-- the instance waits for the acknowledgement of a neighbour that may not be there
+abbrev pub WaitsIn : Option NeighbourValue → Instance → Type 0
+WaitsIn None i = ⊥
+WaitsIn (Some n) i = Waits n i
+
+-- the router waits for q on link l to acknowledge the instance (13.6)
+abbrev pub Awaits : AreaValue → ℕ → RouterId → Instance → Type 0
+Awaits s l q i = WaitsIn (neighbour s l q) i
+
+-- the database's entry of a key (12.2)
+abbrev pub entry_of : AreaValue → LsaKey → Option Entry
+entry_of s key = lsdb.entry_of s.database key
+
+-- its bytes, at the present age
+abbrev pub copy_in : Option Entry → Option (List ℕ)
+copy_in None = None
+copy_in (Some e) = Some (lsa_of e)
+
+abbrev pub copy_of : AreaValue → LsaKey → Option (List ℕ)
+copy_of s key = copy_in (entry_of s key)
+
+-- some neighbour of the router is in Exchange or Loading (13, step 4; 14)
+abbrev pub some_link_loading : List LinkValue → Bool
+some_link_loading links = list_any (λ (link : LinkValue). some_loading link.neighbours) links
+
+-- ---- numbers
+
+-- how far the numbers of a key have come, if it was numbered
+abbrev pub numbering_of : List Numbering → LsaKey → Option Numbering
+numbering_of numbering key = find (λ n. same_key n.key key) numbering
+
+-- the number kept for a key: the next one issued is one more (12.1.6)
+abbrev pub kept_in : ℤ → Option Numbering → ℤ
+kept_in floor None = floor
+kept_in floor (Some n) = n.kept
+
+abbrev pub kept_number : AreaValue → LsaKey → ℤ
+kept_number s key = kept_in s.floor (numbering_of s.numbering key)
+
+-- ---- what went out in this tick
+
+-- the key's copy was sent in an Update in this tick (13, step 8)
+abbrev pub was_sent : List LsaKey → LsaKey → Bool
+was_sent sent key = list_any (λ k. same_key k key) sent

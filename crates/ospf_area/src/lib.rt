@@ -1,0 +1,33 @@
+//! A router's part of an area (RFC 2328, sections 8, 12 and 13): its links and their neighbours, its database, and what
+//! goes out: flooding over all links, acknowledgements that wait, and the Requests that come of it.
+#![tactic(auto)]
+
+mod asking;
+mod changes;
+mod flooding;
+mod laws;
+mod lists;
+mod numbers;
+mod outputs;
+mod sending;
+mod standing;
+mod state;
+#[cfg(test)]
+mod tests;
+
+pub use crate::asking::{request_body, send_request, turn_one, turn_requests};
+pub use crate::changes::{Change, change_at, delay_at};
+pub use crate::flooding::{Flooded, Origin, flood};
+pub use crate::laws::{
+    changes_one, delayed_neighbours, flood_reaches, flood_takes_its_key, flooded_neighbours,
+    keeps_greatest, lsas_are_sent, marks_one, release_takes_its_key, released_neighbours,
+    short_are_sent, stay_short, turned_neighbours, turns_take_nothing,
+};
+pub use crate::lists::release;
+pub use crate::numbers::{count_number, is_numbered, is_own, is_self_originated, mark, was_sent};
+pub use crate::outputs::{Outputs, Sent};
+pub use crate::sending::{Own, Way, own_of, send, send_lsa, sent_lsa, to_address, way_out};
+pub use crate::standing::{
+    acknowledge_by, answer_at, is_awaited, is_requested, is_taken, origin_of, some_link_loading,
+};
+pub use crate::state::{Area, Link, LinkSettings, Numbering};

@@ -1,0 +1,132 @@
+//! How far the numbers of the router's own keys have come.
+
+ghost use Rattle.std.specs.Prelude.{◌≡◌, OnOk, map};
+ghost use Rattle.std.specs.Int.{int_max};
+ghost use Rattle.std.specs.List.{list_any};
+ghost use Rattle.ospf_base.specs.Keys.{same_key};
+ghost use Rattle.ospf_area.specs.Numbers.{is_numbering_of, counted_one, counted, is_own, counts, greatest_after, is_network, has_that_address, is_self_originated, unmarked, marked};
+ghost use Rattle.ospf_area.specs.State.{was_sent};
+
+use crate::state::{Area, Link, Numbering};
+use ospf_base::{Kind, LsaKey, RouterId};
+use ospf_lsa::LsaHeader;
+use std::alloc::AllocError;
+
+fn larger(a: i32, b: i32) -> i32
+    ensures { result ≡ int_max a b }
+{
+    if b < a { a } else { b }
+}
+
+fn count_one(numbering: &mut Numbering, key: &LsaKey, number: i32)
+    ensures { numbering.new ≡ counted_one key.now number numbering.old }
+{
+    if numbering.key.is_same(key) {
+        numbering.kept = larger(numbering.kept, number);
+    }
+}
+
+fn count_all(all: &mut [Numbering], key: &LsaKey, number: i32)
+    ensures { all.new ≡ map (counted_one key.now number) all.old }
+{
+    for numbering in all.iter_mut() {
+        count_one(numbering, key, number);
+    }
+}
+
+/// Whether the router has numbered the key.
+pub fn is_numbered(all: &[Numbering], key: &LsaKey) -> bool
+    ensures { result ≡ list_any (is_numbering_of key.now) all.now }
+{
+    all.iter().any(|numbering| numbering.key.is_same(key))
+}
+
+// A number of a key was issued or installed.
+fn count(all: &mut Vec<Numbering>, key: LsaKey, number: i32, floor: i32) -> Result<(), AllocError>
+    ensures { OnOk result (all.new.items ≡ counted key number floor all.old.items) }
+{
+    if is_numbered(all, &key) {
+        count_all(all, &key, number);
+        return Ok(());
+    }
+    all.push(Numbering {
+        key,
+        kept: larger(floor, number),
+        issued_at: None,
+    })?;
+    Ok(())
+}
+
+/// Whether the router numbers the key.
+pub fn is_own(router: RouterId, key: &LsaKey) -> bool
+    ensures { result ≡ is_own router key.now }
+{
+    key.router.0 == router.0
+}
+
+/// An LSA of a key was installed with this header's number.
+///
+/// `AllocError` where memory runs out; then the router is to be stopped.
+pub fn count_number(area: &mut Area, key: LsaKey, header: &LsaHeader) -> Result<(), AllocError>
+    ensures { OnOk result (area.new ≡ record area.old { numbering = counts key header.now.number area.old; greatest = greatest_after key header.now.number area.old }) }
+{
+    let number = header.number;
+    if !is_own(area.router, &key) {
+        return Ok(());
+    }
+    let floor = area.floor;
+    count(&mut area.numbering, key, number, floor)?;
+    area.greatest = larger(area.greatest, number);
+    Ok(())
+}
+
+fn is_network(kind: Kind) -> bool
+    ensures { result ≡ is_network kind }
+{
+    matches!(kind, Kind::Network)
+}
+
+// Whether an interface has this address.
+fn has_address(links: &[Link], address: u32) -> bool
+    ensures { result ≡ list_any (has_that_address address) links.now }
+{
+    links
+        .iter()
+        .any(|link| link.iface.settings.address.0 == address)
+}
+
+/// Whether an LSA is self-originated (section 13.4).
+pub fn is_self_originated(router: RouterId, links: &[Link], key: &LsaKey) -> bool
+    ensures { result ≡ is_self_originated router links.now key.now }
+{
+    if is_own(router, key) {
+        return true;
+    }
+    is_network(key.kind) && has_address(links, key.id)
+}
+
+/// Whether the copy of a key was sent in an Update in this tick (section 13, step 8).
+pub fn was_sent(sent: &[LsaKey], key: &LsaKey) -> bool
+    ensures { result ≡ was_sent sent.now key.now }
+{
+    sent.iter().any(|k| k.is_same(key))
+}
+
+fn unmark(sent: &mut Vec<LsaKey>, key: &LsaKey)
+    ensures { sent.new.items ≡ unmarked key.now sent.old.items }
+{
+    sent.retain(|k| !k.is_same(key));
+}
+
+/// The copy of a key has just been installed, and was sent in an Update or was not.
+///
+/// `AllocError` where memory runs out; then the router is to be stopped.
+pub fn mark(sent: &mut Vec<LsaKey>, key: LsaKey, went: bool) -> Result<(), AllocError>
+    ensures { OnOk result (sent.new.items ≡ marked key went sent.old.items) }
+{
+    unmark(sent, &key);
+    if went {
+        sent.push(key)?;
+    }
+    Ok(())
+}

@@ -1,0 +1,100 @@
+//! How the neighbour stands that an Update or an Acknowledgment came from, and how what it sent is acknowledged.
+
+ghost use Rattle.std.specs.Prelude.{◌≡◌, OnOk};
+ghost use Rattle.std.specs.Option.{option_copied};
+ghost use Rattle.ospf_neighbour.specs.Neighbours.{neighbour_of};
+ghost use Rattle.ospf_area.specs.Standing.{origin_of, is_taken_in, is_requested_of, is_awaited_of, answer_at, acknowledging};
+ghost use Rattle.ospf_area.specs.State.{some_link_loading};
+
+use crate::changes::delay_at;
+use crate::flooding::Origin;
+use crate::state::{Area, Link};
+use ospf_base::{Instance, LsaKey, RouterId};
+use ospf_flood::{Acknowledgement, AcknowledgementCase, acknowledge, sender_at};
+use ospf_lsa::LsaHeader;
+use ospf_neighbour::Neighbour;
+use std::alloc::AllocError;
+
+// The neighbour of a Router ID.
+fn find(all: &[Neighbour], router: RouterId) -> Option<&Neighbour>
+    ensures { option_copied result ≡ neighbour_of all.now router }
+{
+    all.iter().find(|n| n.router().0 == router.0)
+}
+
+/// The neighbour of the origin.
+pub fn origin_of(links: &[Link], from: Origin) -> Option<&Neighbour>
+    ensures { option_copied result ≡ origin_of links.now from }
+{
+    match links.get(from.link) {
+        Some(link) => find(link.neighbours.all(), from.router),
+        None => None,
+    }
+}
+
+/// Whether the neighbour of the origin is in Exchange or above.
+pub fn is_taken(links: &[Link], from: Origin) -> bool
+    ensures { result ≡ is_taken_in (origin_of links.now from) }
+{
+    match origin_of(links, from) {
+        Some(neighbour) => neighbour.is_exchanging(),
+        None => false,
+    }
+}
+
+/// Whether the request list of the neighbour of the origin has an entry of the key.
+pub fn is_requested(links: &[Link], from: Origin, key: &LsaKey) -> bool
+    ensures { result ≡ is_requested_of key.now (origin_of links.now from) }
+{
+    match origin_of(links, from) {
+        Some(neighbour) => neighbour.request_of(key).is_some(),
+        None => false,
+    }
+}
+
+/// Whether the instance waits for an acknowledgement by the neighbour of the origin.
+pub fn is_awaited(links: &[Link], from: Origin, instance: &Instance) -> bool
+    ensures { result ≡ is_awaited_of instance.now (origin_of links.now from) }
+{
+    match origin_of(links, from) {
+        Some(neighbour) => neighbour.is_listed(instance),
+        None => false,
+    }
+}
+
+/// Whether some neighbour of the router is in Exchange or Loading. It looks at each; the rules ask where an LSA of
+/// `MAX_AGE` has no copy, and a step where LSAs are to leave.
+pub fn some_link_loading(links: &[Link]) -> bool
+    ensures { result ≡ some_link_loading links.now }
+{
+    links.iter().any(|link| link.neighbours.is_loading())
+}
+
+/// How an LSA that came from the origin is to be acknowledged (RFC 2328, section 13.5).
+pub fn answer_at(links: &[Link], case: AcknowledgementCase, from: Origin) -> Acknowledgement
+    ensures { result ≡ answer_at case from links.now }
+{
+    match links.get(from.link) {
+        Some(link) => acknowledge(case, link.iface.state, sender_at(&link.iface, from.address)),
+        None => Acknowledgement::None,
+    }
+}
+
+/// Acknowledges a header: directly, once the Update has been taken, or at the next tick, or not.
+///
+/// `AllocError` where memory runs out; then the router is to be stopped.
+pub fn acknowledge_by(
+    area: &mut Area,
+    answer: Acknowledgement,
+    from: Origin,
+    header: &LsaHeader,
+) -> Result<(), AllocError>
+    ensures { OnOk result (area.new ≡ acknowledging answer from header.now area.old) }
+{
+    match answer {
+        Acknowledgement::None => {}
+        Acknowledgement::Delayed => delay_at(&mut area.links, from.link, header)?,
+        Acknowledgement::Direct => area.direct.push(*header)?,
+    }
+    Ok(())
+}

@@ -1,0 +1,28 @@
+-- Constants of the protocol (RFC 2328, appendices A.2, A.3.1, A.4.1 and B), and sizes in bytes.
+use Rattle.std.specs.Prelude.{ℕ}
+
+-- MaxAge: the age at which an LSA leaves the routing domain
+abbrev pub max_age : ℕ
+max_age = 3600
+
+-- the Options that this router sends: ExternalRoutingCapability alone
+abbrev pub router_options : ℕ
+router_options = 2
+
+-- the headers of an IP packet, of an OSPF packet and of an LSA
+abbrev pub ip_header : ℕ
+ip_header = 20
+
+abbrev pub packet_header : ℕ
+packet_header = 24
+
+abbrev pub lsa_header : ℕ
+lsa_header = 20
+
+-- the longest packet that is read or written
+abbrev pub largest_packet : ℕ
+largest_packet = 16384
+
+-- the longest LSA that is made: the Update that carries it alone is a longest packet
+abbrev pub largest_lsa : ℕ
+largest_lsa = 16356

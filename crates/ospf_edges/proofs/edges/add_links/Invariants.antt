@@ -1,0 +1,11 @@
+use Rattle.std.proofs.Common.{◌≡◌, ◌+◌, ◌++◌, ◌≤◌, length}
+use Rattle.ospf_edges.specs.Given.{Adds, LinkGives}
+use Rattle.ospf_edges.proofs.AddsLemmas.{GivenBy}
+use Rattle.ospf_edges.proofs.edges.add_links.Given as goal
+
+abbrev pub invariant-loop-link : goal.invariant-loop-link
+invariant-loop-link l = record {
+  walked : l.fn.links ≡ l.yielded ++ l.link-iterator;
+  adds : Adds (GivenBy (LinkGives l.area l.router) l.yielded) l.initial.edges.items l.edges.items;
+  few : length l.edges.items ≤ length l.initial.edges.items + length l.yielded;
+}

@@ -1,0 +1,11 @@
+use Rattle.std.proofs.Common.{◌≡◌, ◌+◌, ◌++◌, ◌≤◌, length}
+use Rattle.ospf_edges.specs.Given.{Adds, AttachedGives}
+use Rattle.ospf_edges.proofs.AddsLemmas.{GivenBy}
+use Rattle.ospf_edges.proofs.edges.add_members.Given as goal
+
+abbrev pub invariant-loop-member : goal.invariant-loop-member
+invariant-loop-member l = record {
+  walked : l.fn.attached ≡ l.yielded ++ l.member-iterator;
+  adds : Adds (GivenBy (AttachedGives l.area l.id) l.yielded) l.initial.edges.items l.edges.items;
+  few : length l.edges.items ≤ length l.initial.edges.items + length l.yielded;
+}

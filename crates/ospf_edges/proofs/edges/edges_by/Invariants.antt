@@ -1,0 +1,11 @@
+use Rattle.std.proofs.Common.{◌≤◌, length, map, take}
+use Rattle.ospf_edges.specs.Listed.{advertisement_of, advertisements_of}
+use Rattle.ospf_edges.specs.Given.{Adds, EdgesOf, link_count}
+use Rattle.ospf_edges.proofs.AddsLemmas.{GivenBy}
+use Rattle.ospf_edges.proofs.edges.edges_by.Given as goal
+
+abbrev pub invariant-loop-lsa : goal.invariant-loop-lsa
+invariant-loop-lsa l = record {
+  adds : Adds (GivenBy (λ lsa. EdgesOf (advertisements_of l.listing) (advertisement_of lsa)) (take l.lsa-index l.lsa-items)) l.initial.edges.items l.edges.items;
+  few : length l.edges.items ≤ link_count (map advertisement_of (take l.lsa-index l.lsa-items));
+}

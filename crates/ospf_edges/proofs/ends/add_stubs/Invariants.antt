@@ -1,0 +1,10 @@
+use Rattle.std.proofs.Common.{◌≡◌, ◌++◌}
+use Rattle.ospf_edges.specs.Given.{Adds, StubGives}
+use Rattle.ospf_edges.proofs.AddsLemmas.{GivenBy}
+use Rattle.ospf_edges.proofs.ends.add_stubs.Given as goal
+
+abbrev pub invariant-loop-link : goal.invariant-loop-link
+invariant-loop-link l = record {
+  walked : l.fn.links ≡ l.yielded ++ l.link-iterator;
+  adds : Adds (GivenBy (StubGives l.router) l.yielded) l.initial.ends.items l.ends.items;
+}

@@ -1,0 +1,17 @@
+//! A listing as the graph of an area: its edges, where its prefixes stand, and what of it the graph depends on
+//! (RFC 2328, section 16.1).
+#![tactic(auto)]
+
+mod addresses;
+mod area;
+mod edges;
+mod end;
+mod ends;
+mod items;
+mod listed;
+
+pub use crate::edges::edges_of;
+pub use crate::end::End;
+pub use crate::ends::ends_of;
+pub use crate::items::{GraphItem, are_items_of, items_in};
+pub use crate::listed::is_listed;

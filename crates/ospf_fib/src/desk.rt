@@ -1,0 +1,345 @@
+//! What the writer writes with: the two copies, and the right to add to the list.
+
+ghost use Rattle.std.specs.Prelude.{◌≡◌, ◌≤◌, ◌+◌, ◌∷◌, ◌++◌, [], drop, length, true, IfOk, OnErr, OnOk};
+ghost use Rattle.std.specs.Arc.{arc_value};
+ghost use Rattle.left_right.specs.Sides.{view};
+ghost use Rattle.ospf_published.specs.Rule.{counter_of};
+ghost use Rattle.ospf_fib.specs.Rule.{IsNamed};
+ghost use Rattle.ospf_fib.specs.Versions.{EndsWith};
+ghost use Rattle.ospf_fib.specs.Writing.{common_of, end_of, with_table};
+ghost use Rattle.ospf_spf.specs.Changes.{edited};
+
+use crate::changes::Changes;
+use crate::rule::{Knows, OneList, Swaps};
+use crate::seat::Told;
+use crate::shown::{Handed, Shown, Tries};
+use ospf_index::IndexedTable;
+use ospf_published::{Counter, Opened, Sole};
+use ospf_spf::{Edit, RouteTable};
+use std::alloc::{AllocError, Global};
+use std::marker::Model;
+use std::sync::atomic::Ordering;
+use std::sync::{Arc, Wait};
+use std::thread;
+
+pub(crate) type Copies = left_right::writer::Writer<Shown, Handed, Knows, OneList>;
+
+pub(crate) struct Desk {
+    pub copies: Copies,
+    pub sole: Sole,
+    // What readers will find once all that was handed over is shown.
+    pub handed: RouteTable,
+    pub tries: Arc<Tries>,
+    pub alloc: Global,
+}
+
+impl Model for Desk {
+    ghost use Rattle.std.specs.Prelude.{◌≡◌, drop};
+    ghost use Rattle.std.specs.Arc.{arc_value};
+    ghost use Rattle.left_right.specs.Sides.{view as view_of};
+    ghost use Rattle.ospf_published.specs.Known.{Known};
+    ghost use Rattle.ospf_published.specs.Rule.{counter_of};
+    ghost use Rattle.ospf_fib.specs.Rule.{IsNamed};
+    ghost use Rattle.ospf_fib.specs.Writing.{IsShown, end_of};
+
+    ghost Value = { Known };
+
+    ghost view = { λ d. d.sole };
+
+    ghost invariant = { λ d. IsNamed (view_of d.copies.desk.place) d.sole.fib
+        × IsShown d.copies.desk.shown.value d.sole
+        × ((end_of d.copies.desk.shown.value (drop d.copies.behind d.copies.log.items)).table ≡ d.handed)
+        × ((arc_value d.tries).counter ≡ counter_of d.sole.fib) };
+}
+
+impl Desk {
+    // The table that readers find.
+    pub fn shown(&self) -> &IndexedTable
+        ensures { EndsWith self.now.tables result.now }
+    {
+        &self.copies.published().table
+    }
+
+    /// What is published.
+    fn told(&self) -> Told
+        ensures { result ≡ self.now }
+    {
+        Told {
+            known: self.sole.known(),
+        }
+    }
+
+    /// Publishes a table. At `Err` what readers find and the list are as they were.
+    pub fn publish<R: Wait>(self, rt: &R, table: &RouteTable) -> (Desk, Result<Told, AllocError>)
+        ensures fib { result.0.fib ≡ self.fib }
+        ensures published { IfOk result.1 (λ _. result.0.tables ≡ self.tables ++ table.now ∷ []) }
+        ensures told { IfOk result.1 (λ told. told ≡ result.0) }
+        ensures refused { OnErr result.1 (result.0.tables ≡ self.tables) }
+    {
+        let Ok(plan) = planned(self.alloc, &self.handed, &self.tries, table) else {
+            return (self, Err(AllocError));
+        };
+        let Desk {
+            copies,
+            sole,
+            handed,
+            tries,
+            alloc,
+        } = self;
+        match sole.open(&tries.counter) {
+            Ok(opened) => {
+                let open = OpenDesk {
+                    copies,
+                    opened,
+                    handed,
+                    tries,
+                    alloc,
+                };
+                open.publish(rt, plan)
+            }
+            Err(sole) => {
+                let desk = Desk {
+                    copies,
+                    sole,
+                    handed,
+                    tries,
+                    alloc,
+                };
+                (desk, Err(AllocError))
+            }
+        }
+    }
+}
+
+/// Changes that are to be handed over, with the memory to keep up with them.
+#[derive(Drop)]
+struct Plan {
+    changes: Changes,
+    edit: Edit,
+    tries: Arc<Tries>,
+    number: u64,
+}
+
+// The changes from what was handed over to the table, in a try of their own.
+fn planned(
+    alloc: Global,
+    handed: &RouteTable,
+    tries: &Arc<Tries>,
+    table: &RouteTable,
+) -> Result<Plan, AllocError>
+    ensures changes { IfOk result (λ plan. edited handed.now plan.changes ≡ table.now) }
+    ensures edit { IfOk result (λ plan. plan.edit.changes ≡ plan.changes) }
+    ensures room { IfOk result (λ plan. length handed.now + length plan.changes ≤ plan.edit.room) }
+    ensures tries { IfOk result (λ plan. arc_value plan.tries ≡ arc_value tries.now) }
+{
+    let changes = handed.changes(alloc, table)?;
+    let edit = Edit::new(alloc, handed, &changes)?;
+    let tries = Arc::try_clone(tries)?;
+    let number = tries.present.load(Ordering::SeqCst).wrapping_add(1);
+    tries.present.store(number, Ordering::SeqCst);
+    Ok(Plan {
+        changes: Changes::of(changes),
+        edit,
+        tries,
+        number,
+    })
+}
+
+/// The desk while the list is open, which is within a publish alone.
+struct OpenDesk {
+    copies: Copies,
+    opened: Opened,
+    handed: RouteTable,
+    tries: Arc<Tries>,
+    alloc: Global,
+}
+
+impl Model for OpenDesk {
+    ghost use Rattle.std.specs.Prelude.{◌≡◌, drop};
+    ghost use Rattle.std.specs.Arc.{arc_value};
+    ghost use Rattle.left_right.specs.Sides.{view as view_of};
+    ghost use Rattle.ospf_published.specs.Rule.{counter_of};
+    ghost use Rattle.ospf_fib.specs.Rule.{IsNamed};
+    ghost use Rattle.ospf_fib.specs.Writing.{IsShown, Offer, end_of};
+
+    ghost Value = { Offer };
+
+    ghost view = { λ d. record { list = d.opened; end = end_of d.copies.desk.shown.value (drop d.copies.behind d.copies.log.items) } };
+
+    ghost invariant = { λ d. IsNamed (view_of d.copies.desk.place) d.opened.fib
+        × IsShown d.copies.desk.shown.value d.opened
+        × ((end_of d.copies.desk.shown.value (drop d.copies.behind d.copies.log.items)).table ≡ d.handed)
+        × ((arc_value d.tries).counter ≡ counter_of d.opened.fib) };
+}
+
+impl OpenDesk {
+    // Closes the list, which is as it was.
+    fn close<R: Wait>(self, rt: &R) -> Desk
+        ensures { result ≡ self.list }
+    {
+        let OpenDesk {
+            copies,
+            opened,
+            handed,
+            tries,
+            alloc,
+        } = self;
+        let sole = closed(rt, &opened, &tries.counter);
+        Desk {
+            copies,
+            sole,
+            handed,
+            tries,
+            alloc,
+        }
+    }
+
+    // Hands changes over. At `Err` nothing was handed over.
+    fn hand_over(self, plan: Plan) -> (OpenDesk, Result<(), AllocError>)
+        requires edit { plan.edit.changes ≡ plan.changes }
+        requires room { length self.end.table + length plan.changes ≤ plan.edit.room }
+        requires counter { (arc_value plan.tries).counter ≡ counter_of self.list.fib }
+        ensures list { result.0.list ≡ self.list }
+        ensures handed { OnOk result.1 (result.0.end.list ≡ with_table self.list (edited self.end.table plan.changes)) }
+    {
+        let OpenDesk {
+            mut copies,
+            opened,
+            mut handed,
+            tries,
+            alloc,
+        } = self;
+        let Plan {
+            changes,
+            edit,
+            tries: shared,
+            number,
+        } = plan;
+        let next = Handed {
+            is_opening: false,
+            number,
+            changes,
+            known: opened.copy(),
+            tries: shared,
+            alloc,
+        };
+        if let Err(_refused) = copies.append(next) {
+            let open = OpenDesk {
+                copies,
+                opened,
+                handed,
+                tries,
+                alloc,
+            };
+            return (open, Err(AllocError));
+        }
+        handed.make(edit);
+        let open = OpenDesk {
+            copies,
+            opened,
+            handed,
+            tries,
+            alloc,
+        };
+        (open, Ok(()))
+    }
+
+    // Shows readers all that was handed over. At `Err` they find what they found, and it waits.
+    fn show<R: Wait>(self, rt: &R) -> (Desk, Result<(), AllocError>)
+        requires { self.end.list.fib ≡ self.list.fib }
+        ensures shown { OnOk result.1 (result.0 ≡ self.end.list) }
+        ensures refused { OnErr result.1 (result.0 ≡ self.list) }
+    {
+        let OpenDesk {
+            copies,
+            opened,
+            handed,
+            tries,
+            alloc,
+        } = self;
+        let (copies, done) = show(copies, rt);
+        let sole = match done {
+            Ok(()) => closed_shown(rt, copies.published(), &tries.counter),
+            Err(_) => closed(rt, &opened, &tries.counter),
+        };
+        let desk = Desk {
+            copies,
+            sole,
+            handed,
+            tries,
+            alloc,
+        };
+        (desk, done)
+    }
+
+    // Publishes the table that the changes lead to.
+    fn publish<R: Wait>(self, rt: &R, plan: Plan) -> (Desk, Result<Told, AllocError>)
+        requires edit { plan.edit.changes ≡ plan.changes }
+        requires room { length self.end.table + length plan.changes ≤ plan.edit.room }
+        requires counter { (arc_value plan.tries).counter ≡ counter_of self.list.fib }
+        ensures fib { result.0.fib ≡ self.list.fib }
+        ensures published { IfOk result.1 (λ _. result.0.tables ≡ self.list.tables ++ edited self.end.table plan.changes ∷ []) }
+        ensures told { IfOk result.1 (λ told. told ≡ result.0) }
+        ensures refused { OnErr result.1 (result.0.tables ≡ self.list.tables) }
+    {
+        let (open, handed) = self.hand_over(plan);
+        if let Err(error) = handed {
+            return (open.close(rt), Err(error));
+        }
+        let (desk, shown) = open.show(rt);
+        match shown {
+            Ok(()) => {
+                let told = desk.told();
+                (desk, Ok(told))
+            }
+            Err(error) => (desk, Err(error)),
+        }
+    }
+}
+
+// The list is closed again. Nobody adds a table beside this publish, which is not proved.
+pub(crate) fn closed<R: Wait>(rt: &R, opened: &Opened, counter: &Counter) -> Sole
+    requires { counter.now ≡ counter_of opened.now.fib }
+    ensures { result ≡ opened.now }
+{
+    if let Some(sole) = opened.close(counter) {
+        return sole;
+    }
+    wait_forever(rt);
+    unreachable!()
+}
+
+// The list that what is shown ends is closed again. The table was added to it before it was shown, which is
+// not proved.
+fn closed_shown<R: Wait>(rt: &R, shown: &Shown, counter: &Counter) -> Sole
+    requires { counter.now ≡ counter_of shown.now.known.fib }
+    ensures live { shown.now.live ≡ true }
+    ensures list { result ≡ shown.now.known }
+{
+    if !shown.live {
+        wait_forever(rt);
+    }
+    closed(rt, &shown.known, counter)
+}
+
+// It never returns.
+fn wait_forever<R: Wait>(rt: &R)
+    ensures { ⊥ }
+{
+    for _ in rt.forever() {
+        thread::yield_now();
+    }
+    unreachable!()
+}
+
+// Readers find all that was handed over from now on. At `Err` they find what they found.
+pub(crate) fn show<R: Wait>(copies: Copies, rt: &R) -> (Copies, Result<(), AllocError>)
+    requires { (end_of copies.desk.shown.value (drop copies.behind copies.log.items)).list.fib ≡ copies.desk.shown.value.known.fib }
+    ensures shown { IfOk result.1 (λ _. common_of result.0.desk.shown.value ≡ end_of copies.desk.shown.value (drop copies.behind copies.log.items)) }
+    ensures named { IfOk result.1 (λ _. IsNamed (view result.0.desk.place) result.0.desk.shown.value.known.fib) }
+    ensures done { IfOk result.1 (λ _. drop result.0.behind result.0.log.items ≡ []) }
+    ensures same { OnErr result.1 ((result.0.desk.shown.value ≡ copies.desk.shown.value) × (view result.0.desk.place ≡ view copies.desk.place)) }
+    ensures waiting { OnErr result.1 (drop result.0.behind result.0.log.items ≡ drop copies.behind copies.log.items) }
+{
+    copies.publish_as::<Swaps, R>(rt)
+}

@@ -1,0 +1,10 @@
+pub mod SameListing
+pub mod Facts
+pub mod FactsKept
+pub mod RunFacts
+pub mod Bases
+pub mod WalkFacts
+pub mod Pigeons
+pub mod ChosenWalks
+pub mod Witness
+pub mod RunLemmas

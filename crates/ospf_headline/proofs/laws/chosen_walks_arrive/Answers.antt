@@ -1,0 +1,10 @@
+use Rattle.ospf_headline.proofs.RunFacts.{Facts-new, Facts-run}
+use Rattle.ospf_headline.proofs.WalkFacts as walks
+use Rattle.ospf_headline.proofs.ChosenWalks.{arrives}
+use Rattle.ospf_headline.proofs.laws.chosen_walks_arrive.Goals as goal
+
+pub returns : goal.returns
+returns c is_dropped events start end a x new run none at agree =
+    let facts = Facts-run is_dropped events start end (Facts-new start new) run in
+    λ address first best choices routers paid ends walk.
+    arrives end a x facts at (walks.walks_arrive end a x c.walk_law.ensures facts none at agree) address first best choices routers paid ends walk

@@ -1,0 +1,7 @@
+use Rattle.ospf_headline.proofs.RunFacts.{Facts-new, Facts-run}
+use Rattle.ospf_headline.proofs.WalkFacts as walks
+use Rattle.ospf_headline.proofs.laws.walks_arrive.Goals as goal
+
+pub returns : goal.returns
+returns c is_dropped events start end a x new run none at agree =
+    walks.walks_arrive end a x c.walk_law.ensures (Facts-run is_dropped events start end (Facts-new start new) run) none at agree

@@ -1,0 +1,35 @@
+-- What holds of each world that some list of events leads to.
+use Rattle.std.specs.Prelude.{◌≡◌, ℕ, Bool, List, Some}
+use Rattle.ospf_base.specs.declared.ids.RouterId.{RouterId}
+use Rattle.ospf_base.specs.Sums.{contents}
+use Rattle.ospf_graph.specs.Routes.{IsTable}
+use Rattle.ospf_area.specs.State.{AreaValue}
+use Rattle.ospf_laws.specs.Step.{Event}
+use Rattle.ospf_headline.specs.World.{World, WorldEvent, Running, router_at, IsNew, Runs}
+use Rattle.ospf_headline.specs.Sound.{HeldAnywhere, WasIssued, AgreeUnlessIssuedAgain, BasesAreHigh, NoCollision}
+use Rattle.ospf_headline.specs.Walks.{adverts, AllListedAgree, WalksArrive, ChosenWalksArrive}
+
+-- these events led here from a world in which nothing ran and nothing had happened
+pub record IsReachedBy (is_dropped : Event → AreaValue → Bool) (events : List WorldEvent) (w : World) : Type 0 where
+  pub start : World
+  pub new : IsNew start
+  pub runs : Runs is_dropped events start w
+
+-- some events did
+abbrev pub IsReached : (Event → AreaValue → Bool) → World → Type 0
+IsReached is_dropped w = (events : List WorldEvent) × IsReachedBy is_dropped events w
+
+-- the headline, of a world at one moment and at a later one
+pub record Headline (before after : World) : Type 0 where
+  -- what is held anywhere was issued, at whatever age
+  pub were_issued : (lsa : List ℕ) → HeldAnywhere after lsa → WasIssued after.issued (contents lsa)
+  -- LSAs of one instance have equal contents, unless their originator issued both, the second in a low run
+  pub held_agree : (a b : List ℕ) → HeldAnywhere before a → HeldAnywhere after b → AgreeUnlessIssuedAgain after.issued a b
+  pub held_agree_now : (a b : List ℕ) → HeldAnywhere after a → HeldAnywhere after b → AgreeUnlessIssuedAgain after.issued a b
+  -- each running router has exactly the reachable prefixes of its own listing, at least cost
+  pub tables : (r : RouterId) (x : Running) → router_at after r ≡ Some x → IsTable (adverts x) r x.table
+  -- where nothing issued collides and all listed routers run and list the same, each walk arrives
+  pub walks : (r : RouterId) (x : Running) → NoCollision after.issued → router_at after r ≡ Some x → AllListedAgree after x → WalksArrive after r x
+  pub chosen : (r : RouterId) (x : Running) → NoCollision after.issued → router_at after r ≡ Some x → AllListedAgree after x → ChosenWalksArrive after r x
+  -- high floors exclude collisions
+  pub no_collision : BasesAreHigh after.issued → NoCollision after.issued

@@ -1,0 +1,109 @@
+-- What is held anywhere and what was issued, and sound acknowledgement.
+use Rattle.std.specs.Prelude.{◌≡◌, ◌≢◌, ◌⊎◌, ◌<◌, ◌<ℤ◌, ◌≤ℤ◌, ℕ, List, Some, Contains, slice_get, ℤ, true, false}
+use Rattle.ospf_base.specs.Instances.{Covers}
+use Rattle.ospf_base.specs.Sums.{contents}
+use Rattle.ospf_base.specs.declared.ids.Instance.{Instance}
+use Rattle.ospf_base.specs.declared.ids.RouterId.{RouterId}
+use Rattle.ospf_lsa.specs.Lsa.{key_of, instance_of}
+use Rattle.ospf_packet.specs.Meaning.{Meaning}
+use Rattle.ospf_packet.specs.PacketOf.{packet_of}
+use Rattle.ospf_neighbour.specs.Machine.{is_exchanging}
+use Rattle.ospf_area.specs.Outputs.{OutputsValue}
+use Rattle.ospf_area.specs.State.{AreaValue, Awaits, state_of}
+use Rattle.ospf_laws.specs.Packets.{lsas_in}
+use Rattle.ospf_laws.specs.Words.{Holds, HasCopy, Brings}
+use Rattle.ospf_flood.specs.Rules.{max_sequence_number}
+use Rattle.ospf_laws.specs.Accounts.{IsReplaced}
+use Rattle.ospf_headline.specs.declared.event.WorldEvent.TheVariants.{Start}
+use Rattle.ospf_headline.specs.World.{World, WorldEvent, Issued, Datagram, Running, router_at, LogsGrow}
+
+-- the number that it was issued with
+abbrev pub number_in : Issued → ℤ
+number_in e = (instance_of e.lsa).number
+
+-- the log at place k has this entry
+abbrev pub IssuedAt : List Issued → ℕ → Issued → Type 0
+IssuedAt issued k e = slice_get issued k ≡ Some e
+
+-- some LSA was issued with these contents
+pub record WasIssued (issued : List Issued) (content : List ℕ) : Type 0 where
+  pub place : ℕ
+  pub entry : Issued
+  pub at : IssuedAt issued place entry
+  pub is : contents entry.lsa ≡ content
+
+-- the LSA stands in the database of a running router, or in an Update ever sent
+pub data HeldAnywhere (w : World) (lsa : List ℕ) : Type 0 where
+  InDatabase : (r : RouterId) (x : Running) → router_at w r ≡ Some x → HasCopy x.state lsa → HeldAnywhere w lsa
+  InUpdate : (g : Datagram) (p : Meaning) → Contains w.datagrams g → packet_of g.sent.bytes ≡ Some p → Contains (lsas_in p) lsa → HeldAnywhere w lsa
+
+-- a run is low where its first number is at or below one that was issued for its key when it began
+pub record IsLow (issued : List Issued) (e : Issued) : Type 0 where
+  pub place : ℕ
+  pub earlier : Issued
+  pub was_issued : IssuedAt issued place earlier
+  pub before_run : place < e.run.name
+  pub same_key : key_of earlier.lsa ≡ key_of e.lsa
+  pub at_most : e.run.base <ℤ (instance_of earlier.lsa).number
+
+-- a's contents were issued, and b's later in another run, which is low
+pub record IssuedAgain (issued : List Issued) (a b : List ℕ) : Type 0 where
+  pub i : ℕ
+  pub j : ℕ
+  pub first : Issued
+  pub second : Issued
+  pub first_at : IssuedAt issued i first
+  pub second_at : IssuedAt issued j second
+  pub in_order : i < j
+  pub first_is : contents first.lsa ≡ contents a
+  pub second_is : contents second.lsa ≡ contents b
+  pub other_run : first.run ≢ second.run
+  pub low : IsLow issued second
+
+-- two LSAs of one instance have equal contents, unless their originator issued both, the second in a low run
+abbrev pub AgreeUnlessIssuedAgain : List Issued → List ℕ → List ℕ → Type 0
+AgreeUnlessIssuedAgain issued a b =
+    instance_of a ≡ instance_of b → (contents a ≡ contents b) ⊎ (IssuedAgain issued a b ⊎ IssuedAgain issued b a)
+
+-- no two LSAs of one instance were issued with different contents
+abbrev pub NoCollision : List Issued → Type 0
+NoCollision issued = (i j : ℕ) (e f : Issued) → IssuedAt issued i e → IssuedAt issued j f → instance_of e.lsa ≡ instance_of f.lsa → contents e.lsa ≡ contents f.lsa
+
+-- the base of each run is at least each number that its router had issued when the run began
+abbrev pub BasesAreHigh : List Issued → Type 0
+BasesAreHigh issued = (i j : ℕ) (e f : Issued) → IssuedAt issued i e → IssuedAt issued j f → i < f.run.name → (key_of e.lsa).router ≡ (key_of f.lsa).router → (instance_of e.lsa).number ≤ℤ f.run.base
+
+-- the router was started with this floor
+pub record HasStarted (events : List WorldEvent) (r : RouterId) (floor : ℤ) : Type 0 where
+  pub dd_start : ℕ
+  pub started : Contains events (Start r dd_start floor)
+
+-- MaxSequenceNumber was never issued
+abbrev pub NoneLargest : List Issued → Type 0
+NoneLargest issued = (k : ℕ) (e : Issued) → IssuedAt issued k e → number_in e ≢ max_sequence_number
+
+-- the base of each run is the floor of a start of its router
+abbrev pub BasesAreFloors : List WorldEvent → List Issued → Type 0
+BasesAreFloors events issued = (k : ℕ) (e : Issued) → IssuedAt issued k e → HasStarted events (key_of e.lsa).router e.run.base
+
+-- some router named q as holding an instance that covers i
+pub record HasToldOf (w : World) (q : RouterId) (i : Instance) : Type 0 where
+  pub held : Instance
+  pub told : Contains w.held (record { router = q; instance = held })
+  pub covers : Covers held i
+
+-- sound acknowledgement, for a router that went from s to s' with these outputs: what it no longer waits for, and
+-- what it never waited for, the neighbour told of
+pub record IsSoundFor (after : World) (s : AreaValue) (out : OutputsValue) (s' : AreaValue) : Type 0 where
+  pub left : (l : ℕ) (q : RouterId) (i : Instance) → Awaits s l q i → Awaits s' l q i ⊎ (HasToldOf after q i ⊎ (((j : Instance) × IsReplaced out i j) ⊎ (is_exchanging (state_of s' l q) ≡ false)))
+  pub listed : (l : ℕ) (q : RouterId) (i : Instance) → Brings out i → Holds s' i → is_exchanging (state_of s' l q) ≡ true → Awaits s' l q i ⊎ HasToldOf after q i
+
+-- router r, running as x before and as x' after, was not stepped, or its acknowledgements are sound for the outputs by
+-- which the logs grew
+pub data SoundFor (before after : World) (r : RouterId) (x x' : Running) : Type 0 where
+  NotStepped : x' ≡ x → SoundFor before after r x x'
+  SteppedWith : (out : OutputsValue) → LogsGrow before after r x out → IsSoundFor after x.state out x'.state → SoundFor before after r x x'
+
+-- sound acknowledgement, of each router that runs before and after
+abbrev pub IsSound : World → World → Type 0
+IsSound before after = (r : RouterId) (x x' : Running) → router_at before r ≡ Some x → router_at after r ≡ Some x' → SoundFor before after r x x'

@@ -1,0 +1,18 @@
+//! Many routers: what may happen in a world of them, what they hold and acknowledge, and where their next hops lead.
+#![tactic(auto)]
+
+mod event;
+mod laws;
+mod logs;
+#[cfg(test)]
+mod tests;
+mod walk;
+
+pub use crate::event::{WorldEvent, WorldFault};
+pub use crate::laws::{
+    acknowledgement_is_sound, bases_are_floors, chosen_walks_arrive, headline, held_lsas_agree,
+    held_lsas_were_issued, high_floors_exclude_collisions, runs_lead_on, some_world_ticks,
+    soundness, tables_are_exact, walks_arrive,
+};
+pub use crate::logs::{Datagram, Holding, Issued, Run};
+pub use crate::walk::WalkEnd;

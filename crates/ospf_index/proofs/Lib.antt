@@ -1,0 +1,3 @@
+pub mod SweepLemmas
+pub mod BlockLemmas
+pub mod RangeLemmas

@@ -1,0 +1,24 @@
+use Rattle.std.proofs.Common.{◌++◌, ◌∷◌, [], sym, ap, ◌∙◌, arith}
+use Rattle.ospf_index.specs.Sweep.{blocks_of}
+use Rattle.ospf_index.proofs.BlockLemmas.{first_is, table_nested}
+use Rattle.ospf_index.proofs.SweepLemmas.{begins_one}
+use Rattle.ospf_index.proofs.sweep.Sweep.open.Goals as goal
+
+pub close_to-requires-clause-ahead : goal.close_to-requires-clause-ahead
+close_to-requires-clause-ahead c = λ k le lt.
+    let routes = c.args.routes.now in
+    let up = (table_nested routes c.requires.order).in_order c.args.place k le lt in
+    omega (arith, up, first_is routes c.args.place c.index-routes-place.result c.requires.within)
+
+pub returns-clause-swept : goal.returns-clause-swept
+returns-clause-swept c =
+    let routes = c.args.routes.now in
+    let after = c.close_to.new.self in
+    let b = blocks_of routes in
+    let first = first_is routes c.args.place c.index-routes-place.result c.requires.within in
+    let next = begins_one b (table_nested routes c.requires.order) c.args.place after.opened.items after.ranges.starts.items after.ranges.best.items c.close_to.ensures.swept
+    c.requires.within (λ some. omega (arith, first, c.close_to.ensures.open some)) in
+    let starts = c.begin_range.ensures.starts ∙ ap (λ n. after.ranges.starts.items ++ n ∷ []) (sym first) in
+    let best = c.begin_range.ensures.best in
+    let opened = ap (λ v. v.items) c.begin_range.ensures.opened ∙ c.in-Ok.ensures.items in
+    rw (opened, starts, best) next

@@ -1,0 +1,45 @@
+-- Ranges of addresses: each begins at its start and ends before the next one's.
+use Rattle.std.specs.Prelude.{◌≡◌, ◌+◌, ◌-◌, ◌<◌, ◌≤◌, ◌^◌, ◌*◌, ℕ, List, Option, Some, None, get_or, length}
+use Rattle.ospf_base.specs.Prefixes.{Holds}
+use Rattle.ospf_base.specs.declared.prefix.Prefix.{Prefix}
+use Rattle.ospf_graph.specs.declared.route.Route.{Route}
+use Rattle.ospf_spf.specs.Table.{IsBestPlace}
+use Rattle.ospf_index.specs.declared.ranges.Ranges.{Ranges}
+use Rattle.ospf_index.specs.declared.index.Index.{Index}
+
+-- the first address behind those of a prefix
+abbrev pub end_of : Prefix → ℕ
+end_of prefix = prefix.address.0 + 2 ^ (32 - prefix.length)
+
+-- the place of the route of longest prefix that holds the address, or none does
+abbrev pub IsAnswerAt : List Route → ℕ → Option ℕ → Type 0
+IsAnswerAt routes address None = (k : ℕ) (d : Route) → k < length routes → Holds (get_or routes k d).prefix address → ⊥
+IsAnswerAt routes address (Some place) = IsBestPlace routes address place
+
+-- the address lies in this range
+abbrev pub IsInRange : List ℕ → ℕ → ℕ → Type 0
+IsInRange starts i address = (get_or starts i 0 ≤ address) × (i + 1 < length starts → address < get_or starts (i + 1) 0)
+
+-- the ranges begin at the first address, one after another, and each has the answer of all its addresses
+pub record HasRanges (routes : List Route) (ranges : Ranges) : Type 0 where
+  pub same_length : length ranges.best.items ≡ length ranges.starts.items
+  pub some : 0 < length ranges.starts.items
+  pub from_first : get_or ranges.starts.items 0 0 ≡ 0
+  pub in_order : (i j : ℕ) → i ≤ j → j < length ranges.starts.items → get_or ranges.starts.items i 0 ≤ get_or ranges.starts.items j 0
+  pub exact : (i address : ℕ) → i < length ranges.starts.items → address < 2 ^ 32 → IsInRange ranges.starts.items i address
+      → IsAnswerAt routes address (get_or ranges.best.items i None)
+
+-- the first addresses of the blocks of a directory, by the first 16 bits, and the one behind the last block
+abbrev pub block_start : ℕ → ℕ
+block_start block = block * 65536
+
+-- each block's first address lies in the range that the directory names
+pub record IsDirectory (starts directory : List ℕ) : Type 0 where
+  pub all : length directory ≡ 65537
+  pub within : (block : ℕ) → block ≤ 65536 → get_or directory block 0 < length starts
+  pub exact : (block : ℕ) → block ≤ 65536 → IsInRange starts (get_or directory block 0) (block_start block)
+
+-- the ranges of the routes, and the directory of these ranges
+pub record IsIndexOf (routes : List Route) (index : Index) : Type 0 where
+  pub ranges : HasRanges routes index.ranges
+  pub directory : IsDirectory index.ranges.starts.items index.directory.items

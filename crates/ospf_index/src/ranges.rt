@@ -1,0 +1,10 @@
+//! Ranges of addresses.
+
+use std::alloc::Global;
+
+/// Ranges of addresses: where each begins, and the place of the route that answers for it.
+#[derive(Debug, Drop)]
+pub(crate) struct Ranges {
+    pub starts: Vec<u32>,
+    pub best: Vec<Option<usize>>,
+}

@@ -1,0 +1,143 @@
+//! The sweep over the routes of a table, which finds the ranges of addresses that one route answers for.
+
+ghost use Rattle.std.specs.Prelude.{◌≡◌, ◌≤◌, ◌<◌, ◌+◌, ◌-◌, ◌*◌, ◌++◌, ◌∷◌, [], ℕ, AllPairs, IfOk, MatchOption, get_or, length, vec_len, vec_capacity};
+ghost use Rattle.ospf_graph.specs.Routes.{IsRouteBefore};
+ghost use Rattle.ospf_index.specs.Ranges.{HasRanges, end_of};
+ghost use Rattle.ospf_index.specs.Room.{HasRoom, IsRoomFor, IsSweptTo};
+ghost use Rattle.ospf_index.specs.Sweep.{blocks_of};
+
+use crate::ranges::Ranges;
+use ospf_base::Prefix;
+use ospf_graph::Route;
+use std::alloc::{AllocError, Global};
+
+/// How far a sweep has come: the ranges that have begun, and the places of the routes that have not ended.
+#[derive(Debug, Drop)]
+pub(crate) struct Sweep {
+    pub ranges: Ranges,
+    pub opened: Vec<usize>,
+}
+
+// The first address behind a prefix.
+fn end_address(prefix: Prefix) -> u64
+    ensures { result ≡ end_of prefix }
+{
+    prefix.address.0 as u64 + (1u64 << (32 - prefix.length))
+}
+
+impl Sweep {
+    ghost use Rattle.std.specs.Prelude.{◌≡◌, ◌≤◌, ◌<◌, ◌+◌, ◌-◌, ◌++◌, ◌∷◌, ℕ, AllPairs, IfOk, MatchOption, get_or, length, vec_len, vec_capacity};
+    ghost use Rattle.ospf_graph.specs.Routes.{IsRouteBefore};
+    ghost use Rattle.ospf_index.specs.Room.{HasRoom, IsRoomFor, IsSweptTo};
+    ghost use Rattle.ospf_index.specs.Sweep.{blocks_of};
+
+    /// All the memory for a sweep over so many routes.
+    ///
+    /// `AllocError` where memory runs out.
+    pub fn with_room(alloc: Global, count: usize) -> Result<Sweep, AllocError>
+        ensures { IfOk result (IsRoomFor count) }
+    {
+        let most = count
+            .checked_mul(2)
+            .ok_or(AllocError)?
+            .checked_add(1)
+            .ok_or(AllocError)?;
+        let starts = Vec::with_capacity(alloc, most)?;
+        let best = Vec::with_capacity(alloc, most)?;
+        let opened = Vec::with_capacity(alloc, count)?;
+        Ok(Sweep {
+            ranges: Ranges { starts, best },
+            opened,
+        })
+    }
+
+    // Begins a range.
+    fn begin_range(&mut self, start: u32, place: Option<usize>)
+        requires starts { vec_len self.old.ranges.starts < vec_capacity self.old.ranges.starts }
+        requires best { vec_len self.old.ranges.best < vec_capacity self.old.ranges.best }
+        ensures starts { self.new.ranges.starts.items ≡ self.old.ranges.starts.items ++ start ∷ [] }
+        ensures best { self.new.ranges.best.items ≡ self.old.ranges.best.items ++ place ∷ [] }
+        ensures opened { self.new.opened ≡ self.old.opened }
+        ensures starts_room { vec_capacity self.old.ranges.starts ≤ vec_capacity self.new.ranges.starts }
+        ensures best_room { vec_capacity self.old.ranges.best ≤ vec_capacity self.new.ranges.best }
+        ensures starts_len { vec_len self.new.ranges.starts ≡ vec_len self.old.ranges.starts + 1 }
+        ensures best_len { vec_len self.new.ranges.best ≡ vec_len self.old.ranges.best + 1 }
+    {
+        match (self.ranges.starts.push(start), self.ranges.best.push(place)) {
+            (Ok(()), Ok(())) => {}
+            _ => unreachable!(),
+        }
+    }
+
+    // The end of the route that was opened last, unless it is behind the limit.
+    fn ended(&self, routes: &[Route], begun: usize, limit: u32) -> Option<u32>
+        requires { IsSweptTo routes.now begun self.now }
+        ensures { MatchOption result
+            (0 < length self.now.opened.items → limit < (blocks_of routes.now).end (get_or self.now.opened.items (length self.now.opened.items - 1) 0))
+            (λ end. (0 < length self.now.opened.items) × (end ≤ limit)
+            × (end ≡ (blocks_of routes.now).end (get_or self.now.opened.items (length self.now.opened.items - 1) 0))) }
+    {
+        let count = self.opened.len();
+        if count == 0 {
+            return None;
+        }
+        let place = self.opened[count - 1];
+        let end = end_address(routes[place].prefix);
+        if end <= limit as u64 {
+            Some(end as u32)
+        } else {
+            None
+        }
+    }
+
+    // Ends the routes that end at the limit or before it. The next route does not begin before it.
+    fn close_to(&mut self, routes: &[Route], begun: usize, limit: u32)
+        requires order { AllPairs IsRouteBefore routes.now }
+        requires swept { IsSweptTo routes.now begun self.old }
+        requires ahead { (k : ℕ) → begun ≤ k → k < length routes.now → limit ≤ (blocks_of routes.now).first k }
+        requires room { HasRoom self.old (length routes.now - begun) }
+        ensures swept { IsSweptTo routes.now begun self.new }
+        ensures open { 0 < length self.new.opened.items → limit < (blocks_of routes.now).end (get_or self.new.opened.items (length self.new.opened.items - 1) 0) }
+        ensures room { HasRoom self.new (length routes.now - begun) }
+    {
+        while let Some(end) = self.ended(routes, begun, limit) {
+            let _place = self.opened.pop();
+            let place = self.opened.last().copied();
+            self.begin_range(end, place);
+        }
+    }
+
+    // Opens the route at this place, which is the next.
+    fn open(&mut self, routes: &[Route], place: usize)
+        requires order { AllPairs IsRouteBefore routes.now }
+        requires within { place < length routes.now }
+        requires swept { IsSweptTo routes.now place self.old }
+        requires room { HasRoom self.old (length routes.now - place) }
+        ensures swept { IsSweptTo routes.now (place + 1) self.new }
+        ensures room { HasRoom self.new (length routes.now - (place + 1)) }
+    {
+        let start = routes[place].prefix.address.0;
+        self.close_to(routes, place, start);
+        match self.opened.push(place) {
+            Ok(()) => {}
+            Err(_) => unreachable!(),
+        }
+        self.begin_range(start, Some(place));
+    }
+}
+
+/// The ranges of the routes of a table. There is room for them.
+pub(crate) fn ranges_of(sweep: Sweep, routes: &[Route]) -> Ranges
+    requires order { AllPairs IsRouteBefore routes.now }
+    requires room { IsRoomFor (length routes.now) sweep }
+    ensures { HasRanges routes.now result }
+{
+    let mut sweep = sweep;
+    sweep.begin_range(0, None);
+    for place in 0..routes.len() {
+        sweep.open(routes, place);
+    }
+    sweep.close_to(routes, routes.len(), u32::MAX);
+    let Sweep { ranges, opened: _ } = sweep;
+    ranges
+}

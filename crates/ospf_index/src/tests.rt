@@ -1,0 +1,163 @@
+//! Lookups in tables of each shape.
+
+use crate::IndexedTable;
+use ospf_base::{Addr, RouterId};
+use ospf_lsa::{Link, LinkKind, Listing, Lsa};
+use ospf_spf::RouteTable;
+use std::alloc::Global;
+use std::test::Fail;
+
+const ROOT: RouterId = RouterId(0x0101_0101);
+
+// The number that a router uses first.
+const FIRST_NUMBER: i32 = -0x7fff_ffff;
+
+// How many routers stand behind the root, and how many stubs each of them has.
+const ROUTERS: u32 = 80;
+
+const STUBS: u32 = 1250;
+
+fn stub(address: u32, mask: u32, metric: u16) -> Link {
+    Link {
+        id: address,
+        link_data: mask,
+        kind: LinkKind::Stub,
+        metric,
+    }
+}
+
+fn point_to_point(to: RouterId, local: u32) -> Link {
+    Link {
+        id: to.0,
+        link_data: local,
+        kind: LinkKind::PointToPoint,
+        metric: 10,
+    }
+}
+
+// The routing table of the root, with its index.
+fn indexed(alloc: Global, listing: &Listing) -> Result<IndexedTable, Fail> {
+    let table = RouteTable::of(alloc, listing, ROOT)?;
+    let mut indexed = IndexedTable::empty(alloc)?;
+    let changes = indexed.table().changes(alloc, &table)?;
+    indexed.edit(alloc, &changes)?;
+    Ok(indexed)
+}
+
+// The table of one router that has these stubs.
+fn table_of(alloc: Global, stubs: &[Link]) -> Result<IndexedTable, Fail> {
+    let mut listing = Listing::new(alloc);
+    listing.add(Lsa::router(alloc, ROOT, FIRST_NUMBER, stubs)?)?;
+    let table = indexed(alloc, &listing)?;
+    Ok(table)
+}
+
+#[test]
+fn no_route(rt: HostRuntime) -> Result<(), Fail> {
+    let table = IndexedTable::empty(rt.alloc())?;
+    assert!(rt; table.routes().is_empty());
+    for address in [0, 0x0a00_0001, 0xffff_ffff] {
+        assert!(rt; table.lookup(Addr(address)).is_none());
+    }
+    Ok(())
+}
+
+#[test]
+fn default_route_alone(rt: HostRuntime) -> Result<(), Fail> {
+    let table = table_of(rt.alloc(), &[stub(0, 0, 7)])?;
+    for address in [0, 1, 0x7fff_ffff, 0x8000_0000, 0xffff_ffff] {
+        let route = table.lookup(Addr(address)).ok_or("a route")?;
+        assert_eq!(rt; route.cost, 7);
+        assert_eq!(rt; route.prefix.length, 0);
+    }
+    Ok(())
+}
+
+// An address whose first k bits are ones, and the next one a zero, is held by prefixes of at most k bits.
+#[test]
+fn nested_from_the_default_to_a_host(rt: HostRuntime) -> Result<(), Fail> {
+    let alloc = rt.alloc();
+    let mut stubs = Vec::new(alloc);
+    let mut mask = 0;
+    stubs.push(stub(0, 0, 1))?;
+    for k in 0u16..32 {
+        mask = mask | 0x8000_0000u32 >> k;
+        stubs.push(stub(mask, mask, k.wrapping_add(2)))?;
+    }
+    let table = table_of(alloc, &stubs)?;
+    assert_eq!(rt; table.routes().len(), 33);
+    for k in 0u8..32 {
+        let address = 0xffff_ffff ^ 0x8000_0000u32 >> k;
+        let route = table.lookup(Addr(address)).ok_or("a route")?;
+        assert_eq!(rt; route.prefix.length, k);
+        assert_eq!(rt; route.cost, k as u64 + 1);
+    }
+    let host = table.lookup(Addr(0xffff_ffff)).ok_or("a route")?;
+    assert_eq!(rt; host.prefix.length, 32);
+    Ok(())
+}
+
+// Neighbours in one block, and a prefix that ends where the next one begins.
+#[test]
+fn ends_of_prefixes(rt: HostRuntime) -> Result<(), Fail> {
+    let stubs = [
+        stub(0x0a00_0000, 0xffff_ff00, 1),
+        stub(0x0a00_0080, 0xffff_ff80, 2),
+        stub(0x0a00_0100, 0xffff_ff00, 3),
+        stub(0xffff_fffe, 0xffff_fffe, 4),
+    ];
+    let mut table = table_of(rt.alloc(), &stubs)?;
+    let expected = [
+        (0x09ff_ffff, None),
+        (0x0a00_0000, Some(1)),
+        (0x0a00_007f, Some(1)),
+        (0x0a00_0080, Some(2)),
+        (0x0a00_00ff, Some(2)),
+        (0x0a00_0100, Some(3)),
+        (0x0a00_01ff, Some(3)),
+        (0x0a00_0200, None),
+        (0xffff_fffd, None),
+        (0xffff_ffff, Some(4)),
+    ];
+    for (address, cost) in expected {
+        assert_eq!(rt; table.lookup(Addr(address)).map(|route| route.cost), cost);
+    }
+    table.clear(rt.alloc())?;
+    assert!(rt; table.lookup(Addr(0x0a00_0080)).is_none());
+    Ok(())
+}
+
+#[test]
+fn a_hundred_thousand_routes(rt: HostRuntime) -> Result<(), Fail> {
+    let alloc = rt.alloc();
+    let mut listing = Listing::new(alloc);
+    let mut links = Vec::new(alloc);
+    for k in 0..ROUTERS {
+        let id = RouterId(0x0202_0000 | k);
+        links.push(point_to_point(id, 0x0a00_0000 | k))?;
+        let mut stubs = Vec::new(alloc);
+        stubs.push(point_to_point(ROOT, 0x0a01_0000 | k))?;
+        for s in 0..STUBS {
+            stubs.push(stub(0x1400_0000 | k << 16 | s << 2, 0xffff_fffc, k as u16))?;
+        }
+        listing.add(Lsa::router(alloc, id, FIRST_NUMBER, &stubs)?)?;
+    }
+    listing.add(Lsa::router(alloc, ROOT, FIRST_NUMBER, &links)?)?;
+    let table = indexed(alloc, &listing)?;
+    assert_eq!(rt; table.routes().len(), 100_000);
+    for k in 0..ROUTERS {
+        for s in 0..STUBS {
+            let route = table
+                .lookup(Addr(0x1400_0003 | k << 16 | s << 2))
+                .ok_or("a route")?;
+            assert_eq!(rt; route.prefix.address.0, 0x1400_0000 | k << 16 | s << 2);
+            assert_eq!(rt; route.cost, k as u64 + 10);
+        }
+        assert!(rt;
+            table
+                .lookup(Addr(0x1400_0000 | k << 16 | STUBS << 2))
+                .is_none()
+        );
+    }
+    Ok(())
+}

@@ -1,0 +1,106 @@
+-- Parts that touch neighbours alone.
+use Rattle.std.proofs.Common.{◌≡◌, ◌⊎◌, ◌==◌, ℕ, true, false, List, Option, None, Some, refl, sym, ap, subst, inl, inr, ◌∙◌}
+use Rattle.std.specs.List.{Contains}
+use Rattle.std.proofs.lemmas.Bool.{cases_Bool, cond-true, cond-false, eqb-true}
+use Rattle.ospf_base.specs.declared.ids.Instance.{Instance}
+use Rattle.ospf_base.specs.declared.ids.RouterId.{RouterId}
+use Rattle.ospf_lsa.specs.Lsa.{key_of}
+use Rattle.ospf_lsa.specs.declared.header.LsaHeader.{LsaHeader}
+use Rattle.ospf_packet.specs.Meaning.{BodyMeaning, hello, description, request, update, acknowledgment, Meaning}
+use Rattle.ospf_neighbour.specs.Laws.{instances}
+use Rattle.ospf_neighbour.specs.Machine.{is_exchanging}
+use Rattle.ospf_neighbour.specs.Neighbour.{NeighbourValue}
+use Rattle.ospf_area.specs.Outputs.{OutputsValue}
+use Rattle.ospf_area.specs.State.{AreaValue, neighbour, state_in, copy_in, WaitsIn}
+use Rattle.ospf_laws.specs.Headers.{IsOf, Lists}
+use Rattle.ospf_laws.specs.Packets.{headers_of, dd_headers_of}
+use Rattle.ospf_laws.specs.Words.{CanName, Holds, HasCopy, list_in}
+use Rattle.ospf_laws.specs.Accounts.{Adjusts, Hears}
+use Rattle.ospf_laws.specs.Neighbours.{Goes, NeighboursGo, told_by, IsOldOrHeld}
+use Rattle.ospf_laws.proofs.ListFacts.{Contains-nil}
+use Rattle.ospf_laws.proofs.QuietAccounts.{brings_none, none_ended}
+use Rattle.ospf_laws.proofs.StateFacts.{same_router}
+
+-- what is told in a DD packet is heard
+told-hears : (heard : Option Meaning) (q : RouterId) (h : LsaHeader) (i : Instance) → IsOf h i → Contains (told_by heard q) h → Hears heard q i
+told-hears None q h i is c = absurd (Contains-nil h c)
+told-hears (Some p) q h i is c = go (cases_Bool (p.router.0 == q.0))
+  where
+    in_headers : (b : BodyMeaning) → Contains (dd_headers_of b) h → Contains (headers_of b) h
+    in_headers (hello fields neighbours) c = absurd (Contains-nil h c)
+    in_headers (description fields headers) c = c
+    in_headers (request entries) c = absurd (Contains-nil h c)
+    in_headers (update lsas) c = absurd (Contains-nil h c)
+    in_headers (acknowledgment headers) c = absurd (Contains-nil h c)
+
+    go : ((p.router.0 == q.0) ≡ true) ⊎ ((p.router.0 == q.0) ≡ false) → Hears (Some p) q i
+    go (inl same) = record { packet = p; is_heard = refl; from = same_router p.router q (eqb-true p.router.0 q.0 same); named = (h, in_headers p.body (subst (λ hs. Contains hs h) (cond-true _ _ _ same) c), is) }
+    go (inr other) = absurd (Contains-nil h (subst (λ hs. Contains hs h) (cond-false _ _ _ other) c))
+
+module _ (heard : Option Meaning) (before : AreaValue) (out : OutputsValue) (after : AreaValue) (g : NeighboursGo heard before out after) where
+  copy_back : (lsa : List ℕ) → HasCopy after lsa → HasCopy before lsa
+  copy_back lsa c = ap copy_in (sym (g.database (key_of lsa))) ∙ c
+
+  copy_on : (lsa : List ℕ) → HasCopy before lsa → HasCopy after lsa
+  copy_on lsa c = ap copy_in (g.database (key_of lsa)) ∙ c
+
+  -- one neighbour, by what was there and what is
+  asks_go : (q : RouterId) (h : LsaHeader) (i : Instance) (o o' : Option NeighbourValue) → IsOf h i → Goes before (told_by heard q) o o' → Contains (list_in (λ n. n.requests) o') h → Contains (list_in (λ n. n.requests) o) h ⊎ Hears heard q i
+  asks_go q h i None None is goes c = inl c
+  asks_go q h i None (Some n') is goes c = absurd (Contains-nil h (subst (λ hs. Contains hs h) goes.requests c))
+  asks_go q h i (Some n) None is goes c = absurd (Contains-nil h c)
+  asks_go q h i (Some n) (Some n') is goes c = elim (goes.requests h c) [ inl there ↦ inl there | inr told ↦ inr (told-hears heard q h i is told) ]
+
+  awaits_go : (told : List LsaHeader) (i : Instance) (o o' : Option NeighbourValue) → Goes before told o o' → WaitsIn o' i → WaitsIn o i ⊎ Holds before i
+  awaits_go told i None None goes w = inl w
+  awaits_go told i None (Some n') goes w = absurd (Contains-nil i (subst (λ ls. Contains (instances ls) i) goes.retransmission w))
+  awaits_go told i (Some n) None goes w = absurd w
+  awaits_go told i (Some n) (Some n') goes w = goes.retransmission i w
+
+  summary_go : (told : List LsaHeader) (h : LsaHeader) (o o' : Option NeighbourValue) → Goes before told o o' → Contains (list_in (λ n. n.summary) o') h → IsOldOrHeld before (list_in (λ n. n.summary) o) h
+  summary_go told h None None goes c = inl c
+  summary_go told h None (Some n') goes c = absurd (Contains-nil h (subst (λ hs. Contains hs h) goes.summary c))
+  summary_go told h (Some n) None goes c = absurd (Contains-nil h c)
+  summary_go told h (Some n) (Some n') goes c = goes.summary h c
+
+  last_dd_go : (told : List LsaHeader) (h : LsaHeader) (o o' : Option NeighbourValue) → Goes before told o o' → Contains (list_in (λ n. n.last_dd) o') h → Contains (list_in (λ n. n.last_dd) o) h ⊎ IsOldOrHeld before (list_in (λ n. n.summary) o) h
+  last_dd_go told h None None goes c = inl c
+  last_dd_go told h None (Some n') goes c = absurd (Contains-nil h (subst (λ hs. Contains hs h) goes.last_dd c))
+  last_dd_go told h (Some n) None goes c = absurd (Contains-nil h c)
+  last_dd_go told h (Some n) (Some n') goes c = goes.last_dd h c
+
+  leaves_go : (told : List LsaHeader) (i : Instance) (o o' : Option NeighbourValue) → Goes before told o o' → WaitsIn o i → WaitsIn o' i ⊎ (is_exchanging (state_in o') ≡ false)
+  leaves_go told i None None goes w = absurd w
+  leaves_go told i None (Some n') goes w = absurd w
+  leaves_go told i (Some n) None goes w = inr refl
+  leaves_go told i (Some n) (Some n') goes w = goes.stays i w
+
+  names_go : (i : Instance) → CanName after i → CanName before i
+  names_go i (CanName.InDatabase (lsa, c, is)) = CanName.InDatabase (lsa, copy_back lsa c, is)
+  names_go i (CanName.OnRetransmissionList l q w) = elim (awaits_go (told_by heard q) i (neighbour before l q) (neighbour after l q) (g.goes l q) w) [ inl there ↦ CanName.OnRetransmissionList l q there | inr held ↦ CanName.InDatabase held ]
+  names_go i (CanName.OnSummaryList l q (h, c, is)) = elim (summary_go (told_by heard q) h (neighbour before l q) (neighbour after l q) (g.goes l q) c) [ inl there ↦ CanName.OnSummaryList l q (h, there, is) | inr held ↦ CanName.InDatabase (held i is) ]
+  names_go i (CanName.InLastDd l q (h, c, is)) = elim (last_dd_go (told_by heard q) h (neighbour before l q) (neighbour after l q) (g.goes l q) c) [ inl there ↦ CanName.InLastDd l q (h, there, is) | inr new ↦ elim new [ inl listed ↦ CanName.OnSummaryList l q (h, listed, is) | inr held ↦ CanName.InDatabase (held i is) ] ]
+  names_go i (CanName.ToAcknowledge l (h, c, is)) = CanName.ToAcknowledge l (h, g.waiting l h c, is)
+  names_go i (CanName.ToAcknowledgeNow lists) = CanName.ToAcknowledgeNow (subst (λ hs. Lists hs i) g.same_direct lists)
+
+  still_holds : (i : Instance) → Holds before i → Holds after i
+  still_holds i (lsa, c, is) = (lsa, copy_on lsa c, is)
+
+  pub NeighboursGo-adjusts : Adjusts heard before out after
+  NeighboursGo-adjusts = record {
+    same_router = g.same_router;
+    bears = g.bears;
+    copies = λ lsa c. record { lsa = lsa; copy = copy_back lsa c; same = refl };
+    updates = g.updates;
+    names = λ i n. inl (names_go i n);
+    named = g.named;
+    asks = λ l q i lists. let (h, c, is) = lists in elim (asks_go q h i (neighbour before l q) (neighbour after l q) is (g.goes l q) c) [ inl there ↦ inl (h, there, is) | inr told ↦ inr told ];
+    leaves = λ l q i c. elim (leaves_go (told_by heard q) i (neighbour before l q) (neighbour after l q) (g.goes l q) c) [ inl stays ↦ inl stays | inr fell ↦ inr (inr fell) ];
+    lists = λ held l q i w. elim (awaits_go (told_by heard q) i (neighbour before l q) (neighbour after l q) (g.goes l q) w) [ inl there ↦ still_holds i (held l q i there) | inr new ↦ still_holds i new ];
+    unheld = λ i b. absurd (brings_none out i g.taken g.issued b);
+    issues_none = g.issued;
+    kept = λ key goes_on. g.numbering key;
+    again = λ key ends. absurd (none_ended out key g.ended ends);
+    gone = λ key ends. absurd (none_ended out key g.ended ends);
+    ends = λ key ends. absurd (none_ended out key g.ended ends);
+  }

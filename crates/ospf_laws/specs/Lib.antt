@@ -1,0 +1,10 @@
+pub mod Headers
+pub mod Packets
+pub mod Words
+pub mod Accounts
+pub mod Neighbours
+pub mod Unchanged
+pub mod Parts
+pub mod Step
+pub mod Links
+pub mod Puts

@@ -1,0 +1,39 @@
+-- What a packet says of LSAs (RFC 2328, appendix A.3).
+use Rattle.std.specs.Prelude.{ℕ, List, [], map}
+use Rattle.ospf_lsa.specs.Header.{header_of}
+use Rattle.ospf_lsa.specs.declared.header.LsaHeader.{LsaHeader}
+use Rattle.ospf_packet.specs.Meaning.{BodyMeaning, hello, description, request, update, acknowledgment, Meaning}
+
+-- the LSAs of an Update, as bytes
+abbrev pub lsas_of : BodyMeaning → List (List ℕ)
+lsas_of (update lsas) = lsas
+lsas_of (hello fields neighbours) = []
+lsas_of (description fields headers) = []
+lsas_of (request entries) = []
+lsas_of (acknowledgment headers) = []
+
+-- the headers of a DD packet
+abbrev pub dd_headers_of : BodyMeaning → List LsaHeader
+dd_headers_of (description fields headers) = headers
+dd_headers_of (hello fields neighbours) = []
+dd_headers_of (request entries) = []
+dd_headers_of (update lsas) = []
+dd_headers_of (acknowledgment headers) = []
+
+-- the headers by which a packet names instances: of a DD packet, an Update and an Acknowledgment
+abbrev pub headers_of : BodyMeaning → List LsaHeader
+headers_of (description fields headers) = headers
+headers_of (update lsas) = map header_of lsas
+headers_of (acknowledgment headers) = headers
+headers_of (hello fields neighbours) = []
+headers_of (request entries) = []
+
+-- and so of a packet, by its body
+abbrev pub lsas_in : Meaning → List (List ℕ)
+lsas_in p = lsas_of p.body
+
+abbrev pub dd_headers_in : Meaning → List LsaHeader
+dd_headers_in p = dd_headers_of p.body
+
+abbrev pub headers_in : Meaning → List LsaHeader
+headers_in p = headers_of p.body

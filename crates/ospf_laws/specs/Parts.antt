@@ -1,0 +1,108 @@
+-- The parts of a step that touch the database, acknowledge or flood (RFC 2328, sections 12.4, 13 and 14).
+use Rattle.std.specs.Prelude.{◌≡◌, ◌&&◌, ◌+ℤ◌, ◌≤ℤ◌, ℕ, pos, not, Bool, false, List, [], ◌∷◌, Option, None, Some, if◌then◌else◌}
+use Rattle.ospf_base.specs.Constants.{max_age}
+use Rattle.ospf_base.specs.Keys.{same_key}
+use Rattle.ospf_base.specs.declared.ids.LsaKey.{LsaKey}
+use Rattle.ospf_lsa.specs.Header.{header_of}
+use Rattle.ospf_lsa.specs.Lsa.{IsLsa, key_of, instance_of}
+use Rattle.ospf_lsa.specs.declared.header.LsaHeader.{LsaHeader}
+use Rattle.ospf_lsdb.specs.Database.{Entry, entry_from, lsa_of, Installs}
+use Rattle.ospf_lsdb.specs.Moments.{among}
+use Rattle.ospf_area.specs.Flooding.{flooded_links, flooding_updates, released}
+use Rattle.ospf_area.specs.Numbers.{is_own}
+use Rattle.ospf_area.specs.Outputs.{OutputsValue, no_outputs, sends}
+use Rattle.ospf_area.specs.Sending.{own_of}
+use Rattle.ospf_area.specs.State.{AreaValue, entry_of, kept_number, some_link_loading}
+use Rattle.ospf_area.specs.declared.flooding.Origin.{Origin}
+use Rattle.ospf_update.specs.Acks.{direct_out}
+use Rattle.ospf_update.specs.Aging.{AgesRise}
+use Rattle.ospf_update.specs.Meets.{MeetsLsa, header_met}
+use Rattle.ospf_update.specs.Removal.{is_last, is_leaving, lowest_number}
+use Rattle.ospf_laws.specs.Unchanged.{DoesNothing}
+
+-- ---- Updates and Acknowledgments
+
+-- one LSA of an Update meets its rule (13). What is not an LSA is passed over
+pub data LsaPart (f : Origin) (lsa : List ℕ) (before : AreaValue) (out : OutputsValue) (after : AreaValue) : Type 0 where
+  Meets : IsLsa lsa → MeetsLsa f lsa before no_outputs out after → LsaPart f lsa before out after
+  PassedOver : (IsLsa lsa → ⊥) → DoesNothing before out after → LsaPart f lsa before out after
+
+-- one header of an Acknowledgment (13.7)
+pub record HeaderPart (f : Origin) (h : LsaHeader) (before : AreaValue) (out : OutputsValue) (after : AreaValue) : Type 0 where
+  pub state : after ≡ header_met f h before
+  pub outputs : out ≡ no_outputs
+
+-- the direct acknowledgements of an Update go to its sender, as many in a packet as fit (13.5)
+pub record DirectPart (f : Origin) (before : AreaValue) (out : OutputsValue) (after : AreaValue) : Type 0 where
+  pub state : after ≡ record before { direct = [] }
+  pub outputs : out ≡ sends (direct_out f before)
+
+-- ---- own LSAs, and those that come to MaxAge
+
+-- the LSA is stored in its key's place, its old copy is off all lists, and it is flooded to all
+pub record StoresOwn (lsa : List ℕ) (before after : AreaValue) : Type 0 where
+  pub database : Installs (entry_from lsa before.tick false) before.database after.database
+  pub links : after.links ≡ flooded_links (key_of lsa) (header_of lsa) None before.tick (released (key_of lsa) before.links)
+  pub same_router : after.router ≡ before.router
+  pub same_direct : after.direct ≡ before.direct
+
+-- an own LSA is issued (12.4): with the number after the kept one, in place of the old copy
+pub record IssuePart (lsa : List ℕ) (before : AreaValue) (out : OutputsValue) (after : AreaValue) : Type 0 where
+  pub is_lsa : IsLsa lsa
+  pub own : (key_of lsa).router ≡ before.router
+  pub number : (instance_of lsa).number ≡ kept_number before (key_of lsa) +ℤ pos 1
+  pub stores : StoresOwn lsa before after
+  pub kept : (key : LsaKey) → kept_number before key ≤ℤ kept_number after key
+  pub known : (instance_of lsa).number ≤ℤ kept_number after (key_of lsa)
+  pub sent : out.sent ≡ flooding_updates (own_of before) lsa None (released (key_of lsa) before.links)
+  pub taken : out.taken ≡ []
+  pub issued : out.issued ≡ lsa ∷ []
+  pub ended : out.ended ≡ []
+
+-- the copy at MaxAge
+abbrev pub at_max_age : Entry → Entry
+at_max_age copy = record copy { age = max_age }
+
+-- a copy is brought to MaxAge, or has come there, and is flooded to all (14, 14.1)
+pub record ExpiryPart (key : LsaKey) (copy : Entry) (before : AreaValue) (out : OutputsValue) (after : AreaValue) : Type 0 where
+  pub at : entry_of before key ≡ Some copy
+  pub database : (k : LsaKey) → entry_of after k ≡ (if same_key key k then Some (at_max_age copy) else entry_of before k)
+  pub links : after.links ≡ flooded_links key (header_of (lsa_of (at_max_age copy))) None before.tick before.links
+  pub same_router : after.router ≡ before.router
+  pub same_direct : after.direct ≡ before.direct
+  pub numbering : (k : LsaKey) → kept_number after k ≡ kept_number before k
+  pub outputs : out ≡ sends (flooding_updates (own_of before) (lsa_of (at_max_age copy)) None before.links)
+
+-- ---- ages, and what leaves the database
+
+-- a tick begins: all ages below MaxAge rise by one (14)
+pub record AgesPart (before : AreaValue) (out : OutputsValue) (after : AreaValue) : Type 0 where
+  pub rise : AgesRise before after
+  pub outputs : out ≡ no_outputs
+
+-- an LSA at MaxAge that nobody waits for leaves the database (14)
+abbrev pub leaves_if : AreaValue → Option Entry → Bool
+leaves_if s None = false
+leaves_if s (Some e) = not (some_link_loading s.links) && is_leaving s.links e
+
+-- and with it goes the numbering run of an own key that has used up its numbers (12.1.6)
+abbrev pub ends_if : AreaValue → LsaKey → Option Entry → Bool
+ends_if s key None = false
+ends_if s key (Some e) = leaves_if s (Some e) && (is_own s.router key && is_last (Some e))
+
+-- the own LSAs that were due are issued and flushed, and what was to be answered is answered (12.4, 13.4)
+pub record AnswersAll (before : AreaValue) (out : OutputsValue) (after : AreaValue) : Type 0 where
+  pub state : after ≡ record before { heard = [] }
+  pub outputs : out ≡ no_outputs
+
+-- the last of a step
+pub record RemovalPart (before : AreaValue) (out : OutputsValue) (after : AreaValue) : Type 0 where
+  pub database : (key : LsaKey) → entry_of after key ≡ (if leaves_if before (entry_of before key) then None else entry_of before key)
+  pub same_links : after.links ≡ before.links
+  pub same_router : after.router ≡ before.router
+  pub same_direct : after.direct ≡ before.direct
+  pub numbering : (key : LsaKey) → kept_number after key ≡ (if among out.ended key then lowest_number else kept_number before key)
+  pub sent : out.sent ≡ []
+  pub taken : out.taken ≡ []
+  pub issued : out.issued ≡ []
+  pub ended : (key : LsaKey) → among out.ended key ≡ ends_if before key (entry_of before key)

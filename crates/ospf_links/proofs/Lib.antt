@@ -1,0 +1,6 @@
+pub mod NeighbourLemmas
+pub mod WorkLemmas
+pub mod ElectionLemmas
+pub mod MarkLemmas
+pub mod RepeatLemmas
+pub mod RequestLemmas

@@ -1,0 +1,46 @@
+-- The neighbours of a link after a Request is answered.
+use Rattle.std.proofs.Common.{◌≡◌, ◌∙◌, ℕ, false, List, Option, None, Some, ap, refl, set, slice_get, sym}
+use Rattle.ospf_base.specs.declared.ids.RouterId.{RouterId}
+use Rattle.ospf_iface.specs.declared.machine.Iface.{Iface}
+use Rattle.ospf_lsdb.specs.Database.{Held}
+use Rattle.ospf_neighbour.specs.Neighbour.{NeighbourValue}
+use Rattle.ospf_neighbour.specs.Neighbours.{AreNeighbours, neighbour_of}
+use Rattle.ospf_packet.specs.declared.entry.RequestEntry.{RequestEntry}
+use Rattle.ospf_exchange.specs.declared.rule.Local.{Local}
+use Rattle.ospf_adjacency.specs.Descriptions.{Turn, turn}
+use Rattle.ospf_adjacency.specs.declared.packets.Outgoing.{Outgoing}
+use Rattle.ospf_hello.specs.Heard.{Neighbourhood, neighbourhood, place_for, put_back, turn_of}
+use Rattle.ospf_hello.proofs.StayLemmas.{put_rises}
+use Rattle.ospf_resend.specs.Answers.{answer_turn}
+use Rattle.ospf_resend.proofs.QuietLemmas.{answers_are_quiet}
+use Rattle.ospf_links.specs.Parts.{request_by, request_on}
+use Rattle.ospf_links.proofs.NeighbourLemmas.{few_by}
+use Rattle.ospf_links.proofs.WorkLemmas.{is_found, is_put, named_by}
+
+answered_router : (i : Iface) (local : Local) (delay : ℕ) (db : List Held) (es : List RequestEntry) (t : Turn) → (answer_turn i local delay db es t).neighbour.router ≡ t.neighbour.router
+answered_router i local delay db es t = (answers_are_quiet i local delay db es t).same.router
+
+pub requested_found : (i : Iface) (local : Local) (q : RouterId) (delay : ℕ) (db : List Held) (es : List RequestEntry) (ns : List NeighbourValue) (next next' k : ℕ) (sent sent' : List Outgoing) (e m : NeighbourValue)
+    → k ≡ place_for ns q.0 → slice_get ns k ≡ Some e → e.router ≡ q
+    → turn m next' sent' ≡ answer_turn i local delay db es (turn e next sent)
+    → neighbourhood (set ns k m) false next' sent' ≡ request_on i local q delay db es (neighbourhood ns false next sent)
+requested_found i local q delay db es ns next next' k sent sent' e m at there e_is is =
+    let x = neighbourhood ns false next sent in
+    let same : m.router ≡ e.router = ap (λ (u : Turn). u.neighbour.router) is ∙ answered_router i local delay db es (turn e next sent) in
+    ap (λ (l : List NeighbourValue). neighbourhood l false next' sent') (is_put ns k q e m at there e_is same)
+    ∙ ap (λ (u : Turn). put_back false u x) is
+    ∙ ap (λ o. request_by o i local delay db es x) (sym (is_found ns k q e at there e_is))
+
+requested_stays_by : (i : Iface) (local : Local) (q : RouterId) (delay : ℕ) (db : List Held) (es : List RequestEntry) (x : Neighbourhood) → AreNeighbours x.neighbours → (o : Option NeighbourValue) → neighbour_of x.neighbours q ≡ o
+    → ((n : NeighbourValue) → o ≡ Some n → n.router ≡ q) → AreNeighbours (request_by o i local delay db es x).neighbours
+requested_stays_by i local q delay db es x are None is named = are
+requested_stays_by i local q delay db es x are (Some n) is named =
+    let m = (answer_turn i local delay db es (turn_of n x)).neighbour in
+    let m_is : m.router ≡ q = answered_router i local delay db es (turn_of n x) ∙ named n refl in
+    record {
+      rising = put_rises m x.neighbours are.rising;
+      few = few_by m x.neighbours are.rising are.few (λ none. absurd (let no : Some n ≡ None = sym is ∙ ap (neighbour_of x.neighbours) (sym m_is) ∙ none in cc)) (slice_get x.neighbours (place_for x.neighbours m.router.0)) refl;
+    }
+
+pub requested_stays : (i : Iface) (local : Local) (q : RouterId) (delay : ℕ) (db : List Held) (es : List RequestEntry) (x : Neighbourhood) → AreNeighbours x.neighbours → AreNeighbours (request_on i local q delay db es x).neighbours
+requested_stays i local q delay db es x are = requested_stays_by i local q delay db es x are (neighbour_of x.neighbours q) refl (λ n is. named_by x.neighbours q n is)

@@ -1,0 +1,110 @@
+-- One neighbour of a link has its turn.
+use Rattle.std.proofs.Common.{◌≡◌, ◌≢◌, ◌∷◌, ℕ, Bool, false, List, [], None, Some, length, set, sym, ap, ◌∙◌, slice_get, arith, refl, append-nil}
+use Rattle.ospf_base.specs.declared.ids.RouterId.{RouterId}
+use Rattle.ospf_iface.specs.declared.machine.Iface.{Iface}
+use Rattle.ospf_lsa.specs.declared.header.LsaHeader.{LsaHeader}
+use Rattle.ospf_lsdb.specs.Database.{Held}
+use Rattle.ospf_neighbour.specs.Neighbour.{NeighbourValue}
+use Rattle.ospf_neighbour.specs.Neighbours.{IsRising, AreNeighbours, neighbour_of}
+use Rattle.ospf_packet.specs.declared.body.Description.{Description}
+use Rattle.ospf_exchange.specs.declared.rule.Local.{Local}
+use Rattle.ospf_adjacency.specs.Descriptions.{Turn, turn, description_turn}
+use Rattle.ospf_adjacency.specs.declared.packets.Outgoing.{Outgoing}
+use Rattle.ospf_adjacency.proofs.SameLemmas.{description_keeps_router}
+use Rattle.ospf_hello.specs.Heard.{Neighbourhood, neighbourhood, turn_of, put_back, elects_by_change, place_for, put}
+use Rattle.std.proofs.Common.{Option, inl, inr}
+use Rattle.std.proofs.lemmas.Option.{slice_get_past, slice_get_read}
+use Rattle.std.proofs.Common.{get_or}
+use Rattle.std.proofs.Common.{nat_lt, is_some, suc, true}
+use Rattle.std.proofs.lemmas.Bool.Decides.{leb_tells}
+use Rattle.std.proofs.lemmas.Bool.Decides.{eqb_tells}
+use Rattle.ospf_hello.proofs.StayLemmas.{put_rises}
+use Rattle.ospf_links.proofs.NeighbourLemmas.{few_by}
+use Rattle.ospf_hello.proofs.PutLemmas.{found, not_found, put_found}
+use Rattle.ospf_area.specs.Outputs.{OutputsValue, SentValue}
+use Rattle.ospf_area.specs.Sending.{and_sends}
+use Rattle.ospf_area.specs.State.{LinkValue}
+use Rattle.ospf_area.specs.declared.sending.Own.{Own}
+use Rattle.ospf_adjacency.specs.Laws.{IsSameRouter}
+use Rattle.ospf_links.specs.Parts.{description_by, description_on}
+use Rattle.ospf_links.specs.Works.{work_sent, work_sent_on, up_out_on}
+
+-- nothing is sent
+pub none_sent : (out : OutputsValue) → out ≡ and_sends out []
+none_sent out = ap (λ (ds : List SentValue). record out { sent = ds }) (sym (append-nil out.sent))
+
+-- there is no such place
+pub is_past : {X Y : Type 0} (xs ys : List X) (l : ℕ) (r : Option Y) → ys ≡ xs → r ≡ None → is_some r ≡ nat_lt l (length xs) → slice_get ys l ≡ None
+is_past xs ys l r same none e =
+    let f : false ≡ nat_lt l (length xs) = ap (λ (o : Option _). is_some o) (sym none) ∙ e in
+    ap (λ zs. slice_get zs l) same ∙ elim (leb_tells (suc l) (length xs)) [
+      | inl w ↦ absurd (let bad : false ≡ true = f ∙ w.0 in cc)
+      | inr w ↦ slice_get_past xs l (omega (arith, w.1))
+    ]
+
+pub work_unsent : (links : List LinkValue) (l : ℕ) (part : LinkValue → Neighbourhood) (own : Own) (out : OutputsValue) → slice_get links l ≡ None → out ≡ and_sends out (work_sent part own l links)
+work_unsent links l part own out none = none_sent out ∙ ap (λ o. and_sends out (work_sent_on o part own l)) (sym none)
+
+pub up_unsent : (links : List LinkValue) (l : ℕ) (own : Own) (out : OutputsValue) → slice_get links l ≡ None → out ≡ and_sends out (up_out_on (slice_get links l) own l)
+up_unsent links l own out none = none_sent out ∙ ap (λ o. and_sends out (up_out_on o own l)) (sym none)
+
+-- the neighbour of q, once it has changed, is put where it stood
+pub is_put : (ns : List NeighbourValue) (k : ℕ) (q : RouterId) (e m : NeighbourValue) → k ≡ place_for ns q.0 → slice_get ns k ≡ Some e → e.router ≡ q → m.router ≡ e.router → set ns k m ≡ put m ns
+is_put ns k q e m at there e_is same =
+    let place : k ≡ place_for ns m.router.0 = at ∙ ap (λ (r : RouterId). place_for ns r.0) (sym (same ∙ e_is)) in
+    let there_m : slice_get ns (place_for ns m.router.0) ≡ Some e = ap (slice_get ns) (sym place) ∙ there in
+    ap (λ (j : ℕ). set ns j m) place ∙ sym (put_found ns m e there_m (ap (λ (r : RouterId). r.0) (sym same)))
+
+pub is_found : (ns : List NeighbourValue) (k : ℕ) (q : RouterId) (e : NeighbourValue) → k ≡ place_for ns q.0 → slice_get ns k ≡ Some e → e.router ≡ q → neighbour_of ns q ≡ Some e
+is_found ns k q e at there e_is = found ns q e (ap (slice_get ns) (sym at) ∙ there) (ap (λ (r : RouterId). r.0) e_is)
+
+pub is_none : (ns : List NeighbourValue) (k : ℕ) (q : RouterId) → IsRising ns → k ≡ place_for ns q.0 → ((o : NeighbourValue) → slice_get ns k ≡ Some o → o.router ≢ q) → neighbour_of ns q ≡ None
+is_none ns k q rises at other =
+    not_found ns q rises (λ o there same. other o (ap (slice_get ns) at ∙ there) (λ j. record { 0 = same j }))
+
+pub described_found : (i : Iface) (local : Local) (q : RouterId) (d : Description) (hs : List LsaHeader) (db : List Held) (ns : List NeighbourValue) (next next' k : ℕ) (sent sent' : List Outgoing) (e m : NeighbourValue) (elects : Bool)
+    → k ≡ place_for ns q.0 → slice_get ns k ≡ Some e → e.router ≡ q → m.router ≡ e.router
+    → turn m next' sent' ≡ description_turn i local q d hs db (turn e next sent) → elects ≡ elects_by_change i.state e m
+    → neighbourhood (set ns k m) elects next' sent' ≡ description_on i local q d hs db (neighbourhood ns false next sent)
+described_found i local q d hs db ns next next' k sent sent' e m elects at there e_is same is due =
+    let x = neighbourhood ns false next sent in
+    ap (λ (l : List NeighbourValue). neighbourhood l elects next' sent') (is_put ns k q e m at there e_is same)
+    ∙ ap (λ b. put_back b (turn m next' sent') x) due
+    ∙ ap (λ (u : Turn). put_back (elects_by_change i.state e u.neighbour) u x) is
+    ∙ ap (λ o. description_by o i local q d hs db x) (sym (is_found ns k q e at there e_is))
+
+same_is : (n m : NeighbourValue) → IsSameRouter n m → n.router ≡ m.router
+same_is n m e = sym e.router
+
+-- a Database Description makes no other neighbour of one
+pub described_router : (i : Iface) (local : Local) (q : RouterId) (d : Description) (hs : List LsaHeader) (db : List Held) (t u : Turn) → u ≡ description_turn i local q d hs db t → u.neighbour.router ≡ t.neighbour.router
+described_router i local q d hs db t u is = ap (λ (v : Turn). v.neighbour.router) is ∙ sym (same_is _ _ (description_keeps_router i local q d hs db t))
+
+described_stays_by : (i : Iface) (local : Local) (q : RouterId) (d : Description) (hs : List LsaHeader) (db : List Held) (x : Neighbourhood) → AreNeighbours x.neighbours → (o : Option NeighbourValue) → neighbour_of x.neighbours q ≡ o
+    → ((n : NeighbourValue) → o ≡ Some n → n.router ≡ q) → AreNeighbours (description_by o i local q d hs db x).neighbours
+described_stays_by i local q d hs db x are None is named = are
+described_stays_by i local q d hs db x are (Some n) is named =
+    let m = (description_turn i local q d hs db (turn_of n x)).neighbour in
+    let m_is : m.router ≡ q = sym (same_is _ _ (description_keeps_router i local q d hs db (turn_of n x))) ∙ named n refl in
+    record {
+      rising = put_rises m x.neighbours are.rising;
+      few = few_by m x.neighbours are.rising are.few (λ none. absurd (let no : Some n ≡ None = sym is ∙ ap (neighbour_of x.neighbours) (sym m_is) ∙ none in cc)) (slice_get x.neighbours (place_for x.neighbours m.router.0)) refl;
+    }
+
+pub named_by : (ns : List NeighbourValue) (q : RouterId) (n : NeighbourValue) → neighbour_of ns q ≡ Some n → n.router ≡ q
+named_by [] q n is = absurd cc
+named_by (m ∷ ms) q n is = elim (eqb_tells m.router.0 q.0) [
+  | inl w ↦ (let here : Some m ≡ Some n = rw w.0 at is in let one : m ≡ n = cc in (λ j. record { 0 = (ap (λ (x : NeighbourValue). x.router.0) (sym one) ∙ w.1) j }))
+  | inr w ↦ named_by ms q n (rw w.0 at is)
+]
+
+-- a Database Description leaves the neighbours of a link in their order
+pub described_stays : (i : Iface) (local : Local) (q : RouterId) (d : Description) (hs : List LsaHeader) (db : List Held) (x : Neighbourhood) → AreNeighbours x.neighbours → AreNeighbours (description_on i local q d hs db x).neighbours
+described_stays i local q d hs db x are = described_stays_by i local q d hs db x are (neighbour_of x.neighbours q) refl (λ n is. named_by x.neighbours q n is)
+
+-- what stands at a place
+pub is_there : {X : Type 0} (xs ys : List X) (l : ℕ) (x : X) → ys ≡ xs → true ≡ nat_lt l (length xs) → x ≡ get_or xs l x → slice_get ys l ≡ Some x
+is_there xs ys l x same e is = ap (λ zs. slice_get zs l) same ∙ elim (leb_tells (suc l) (length xs)) [
+  | inl w ↦ slice_get_read xs (length xs) l x refl (omega (arith, w.1)) is
+  | inr w ↦ absurd (let bad : true ≡ false = e ∙ w.0 in cc)
+]

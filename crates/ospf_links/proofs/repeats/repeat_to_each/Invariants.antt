@@ -1,0 +1,12 @@
+use Rattle.std.proofs.Common.{◌≡◌, ◌++◌, map, take, drop}
+use Rattle.std.specs.List.{flat_map}
+use Rattle.ospf_area.specs.Sending.{and_sends}
+use Rattle.ospf_links.specs.Repeats.{keys_to, marked_all, repeated, repeats_to}
+use Rattle.ospf_links.proofs.repeats.repeat_to_each.Given as goal
+
+abbrev pub invariant-loop-neighbour : goal.invariant-loop-neighbour
+invariant-loop-neighbour l = record {
+  repeated : l.all ≡ map (repeated l.own l.iface l.settings l.database) (take l.neighbour-index l.initial.all) ++ drop l.neighbour-index l.initial.all;
+  sent : l.out ≡ and_sends l.initial.out (flat_map (repeats_to l.own l.number l.iface l.settings l.database) (take l.neighbour-index l.initial.all));
+  marks : l.sent.items ≡ marked_all (flat_map (keys_to l.own l.settings l.database) (take l.neighbour-index l.initial.all)) l.initial.sent.items;
+}

@@ -1,0 +1,52 @@
+-- The elections that end a step, with AdjOK? (RFC 2328, section 9.4).
+use Rattle.std.specs.Prelude.{◌≡◌, ℕ, zero, suc, Bool, true, false, List, [], Option, None, Some, set, length, slice_get}
+use Rattle.ospf_adjacency.specs.Elections.{AreOfLink, ElectsOn, elects_in}
+use Rattle.ospf_adjacency.specs.Packets.{Parcel}
+use Rattle.ospf_area.specs.Outputs.{OutputsValue}
+use Rattle.ospf_area.specs.Sending.{and_sends, own_of}
+use Rattle.ospf_area.specs.State.{AreaValue, LinkValue}
+use Rattle.ospf_area.specs.declared.sending.Own.{Own}
+use Rattle.ospf_links.specs.Posting.{posted_all}
+
+-- the election of a link on which one is due, and AdjOK? (9.4)
+pub record ElectsOnLink (mtu tick next : ℕ) (before after : LinkValue) (next' : ℕ) (sent : List Parcel) : Type 0 where
+  pub elects : ElectsOn mtu tick before.iface before.neighbours next sent after.iface after.neighbours next'
+  pub rest : after ≡ record before { iface = after.iface; neighbours = after.neighbours; elects = false }
+
+-- where an election is due, one comes about
+pub record IsReady (link : LinkValue) : Type 0 where
+  pub electing : link.elects ≡ true → elects_in link.iface.state ≡ true
+  pub others : link.elects ≡ true → AreOfLink link.iface link.neighbours
+
+-- all links are
+abbrev pub AreReady : List LinkValue → Type 0
+AreReady links = (l : ℕ) (link : LinkValue) → slice_get links l ≡ Some link → IsReady link
+
+-- the election of a link, if one is due
+abbrev pub ElectsIf : Bool → Own → ℕ → LinkValue → LinkValue → ℕ → List Parcel → Type 0
+ElectsIf false own next link link' next' sent = (link' ≡ link) × (next' ≡ next) × (sent ≡ [])
+ElectsIf true own next link link' next' sent = ElectsOnLink link.settings.mtu own.tick next link link' next' sent
+
+-- the election of a link that has its turn
+abbrev pub ElectsLink : Own → ℕ → LinkValue → LinkValue → ℕ → List Parcel → Type 0
+ElectsLink own next link link' next' sent = ElectsIf link.elects own next link link' next' sent
+
+-- that of link l, which may not be there
+abbrev pub ElectsThere : Option LinkValue → ℕ → AreaValue → OutputsValue → AreaValue → OutputsValue → Type 0
+ElectsThere None l before out after out' = (after ≡ before) × (out' ≡ out)
+ElectsThere (Some link) l before out after out' =
+    (link' : LinkValue) × (next' : ℕ) × (sent : List Parcel) × ElectsLink (own_of before) before.next_dd link link' next' sent
+    × (after ≡ record before { links = set before.links l link'; next_dd = next' }) × (out' ≡ and_sends out (posted_all (own_of before) l link.iface sent))
+
+-- that of link l
+abbrev pub ElectsAt : ℕ → AreaValue → OutputsValue → AreaValue → OutputsValue → Type 0
+ElectsAt l before out after out' = ElectsThere (slice_get before.links l) l before out after out'
+
+-- those of the first links, in their order
+abbrev pub ElectsFrom : ℕ → AreaValue → OutputsValue → AreaValue → OutputsValue → Type 0
+ElectsFrom zero before out after out' = (after ≡ before) × (out' ≡ out)
+ElectsFrom (suc l) before out after out' = (mid : AreaValue) × (mid_out : OutputsValue) × ElectsFrom l before out mid mid_out × ElectsAt l mid mid_out after out'
+
+-- the elections of all links
+abbrev pub Elects : AreaValue → OutputsValue → AreaValue → OutputsValue → Type 0
+Elects before out after out' = ElectsFrom (length before.links) before out after out'

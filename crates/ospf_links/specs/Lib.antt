@@ -1,0 +1,5 @@
+pub mod Posting
+pub mod Parts
+pub mod Works
+pub mod Repeats
+pub mod Elections

@@ -1,0 +1,126 @@
+-- What each part of a step makes of one link, and what goes out of it (RFC 2328, sections 9.3, 9.5, 10.2, 10.5 and 10.6).
+use Rattle.std.specs.Prelude.{◌≡◌, ◌||◌, ℕ, Bool, false, List, [], Option, None, Some, if◌then◌else◌}
+use Rattle.ospf_base.specs.declared.ids.Addr.{Addr}
+use Rattle.ospf_base.specs.declared.ids.LsaKey.{LsaKey}
+use Rattle.ospf_base.specs.declared.ids.RouterId.{RouterId}
+use Rattle.ospf_iface.specs.declared.machine.Iface.{Iface}
+use Rattle.ospf_lsa.specs.declared.header.LsaHeader.{LsaHeader}
+use Rattle.ospf_lsdb.specs.Database.{Held}
+use Rattle.ospf_neighbour.specs.Neighbour.{NeighbourValue}
+use Rattle.ospf_neighbour.specs.Neighbours.{neighbour_of}
+use Rattle.ospf_packet.specs.declared.body.Description.{Description}
+use Rattle.ospf_packet.specs.declared.body.Hello.{Hello}
+use Rattle.ospf_packet.specs.declared.entry.RequestEntry.{RequestEntry}
+use Rattle.ospf_exchange.specs.declared.rule.Local.{Local}
+use Rattle.ospf_area.specs.Outputs.{SentValue}
+use Rattle.ospf_area.specs.State.{LinkValue}
+use Rattle.ospf_area.specs.declared.flooding.Origin.{Origin}
+use Rattle.ospf_area.specs.declared.sending.Own.{Own}
+use Rattle.ospf_area.specs.declared.state.LinkSettings.{LinkSettings}
+use Rattle.ospf_adjacency.specs.Descriptions.{description_turn}
+use Rattle.ospf_adjacency.specs.Packets.{Parcel, parcel_if, parcels}
+use Rattle.ospf_adjacency.specs.declared.packets.Outgoing.{Outgoing}
+use Rattle.ospf_hello.specs.Heard.{Neighbourhood, elects_by_change, hello_on, put_back, turn_of}
+use Rattle.ospf_hello.specs.Links.{down, elects_by_timers, hello_parcel, hello_ticked, is_down, is_hello_due, timed, up, wait_ticked}
+use Rattle.ospf_resend.specs.Answers.{answer_turn, answered_keys}
+use Rattle.ospf_links.specs.Posting.{posted_all}
+
+-- what a part needs to know of the router and of a link
+abbrev pub local_by : Own → LinkSettings → Local
+local_by own settings = record { router = own.router; mtu = settings.mtu; tick = own.tick }
+
+abbrev pub local_of : Own → LinkValue → Local
+local_of own link = local_by own link.settings
+
+-- the link's neighbours as a part finds them: nothing has gone out yet
+abbrev pub neighbourhood_of : LinkValue → ℕ → Neighbourhood
+neighbourhood_of link next = record { neighbours = link.neighbours; elects = link.elects; next = next; sent = [] }
+
+-- the link as a part leaves it
+abbrev pub with_neighbourhood : Neighbourhood → LinkValue → LinkValue
+with_neighbourhood x link = record link { neighbours = x.neighbours; elects = x.elects }
+
+-- what a part has made of a link, of the router's next DD number, and what goes out
+pub record Becomes (x : Neighbourhood) (before after : LinkValue) (next : ℕ) (out : List Outgoing) : Type 0 where
+  pub link : after ≡ with_neighbourhood x before
+  pub number : next ≡ x.next
+  pub sent : parcels out ≡ x.sent
+
+-- ---- packets that come
+
+-- a Hello that comes on a link (10.5)
+abbrev pub hello_comes : Local → RouterId → Addr → Hello → Bool → ℕ → LinkValue → Neighbourhood
+hello_comes local q source h named next link = hello_on link.iface local q source h named (neighbourhood_of link next)
+
+-- a Hello of the router f, which names this router or does not
+abbrev pub hello_part : Own → Origin → Hello → Bool → ℕ → LinkValue → Neighbourhood
+hello_part own f h named next link = hello_comes (local_of own link) f.router f.address h named next link
+
+-- a Database Description of a neighbour that may not be there; in Init it may bring an election about (10.6)
+abbrev pub description_by : Option NeighbourValue → Iface → Local → RouterId → Description → List LsaHeader → List Held → Neighbourhood → Neighbourhood
+description_by None i local q d headers db x = x
+description_by (Some n) i local q d headers db x =
+    put_back (elects_by_change i.state n (description_turn i local q d headers db (turn_of n x)).neighbour) (description_turn i local q d headers db (turn_of n x)) x
+
+-- that of router q
+abbrev pub description_on : Iface → Local → RouterId → Description → List LsaHeader → List Held → Neighbourhood → Neighbourhood
+description_on i local q d headers db x = description_by (neighbour_of x.neighbours q) i local q d headers db x
+
+-- a Database Description that comes on a link
+abbrev pub description_part : Own → Origin → Description → List LsaHeader → List Held → ℕ → LinkValue → Neighbourhood
+description_part own f d headers db next link = description_on link.iface (local_of own link) f.router d headers db (neighbourhood_of link next)
+
+-- a Request of a neighbour that may not be there (10.7)
+abbrev pub request_by : Option NeighbourValue → Iface → Local → ℕ → List Held → List RequestEntry → Neighbourhood → Neighbourhood
+request_by None i local delay db entries x = x
+request_by (Some n) i local delay db entries x = put_back false (answer_turn i local delay db entries (turn_of n x)) x
+
+-- that of router q
+abbrev pub request_on : Iface → Local → RouterId → ℕ → List Held → List RequestEntry → Neighbourhood → Neighbourhood
+request_on i local q delay db entries x = request_by (neighbour_of x.neighbours q) i local delay db entries x
+
+-- a Request that comes on a link
+abbrev pub request_part : Own → Origin → List Held → List RequestEntry → ℕ → LinkValue → Neighbourhood
+request_part own f db entries next link = request_on link.iface (local_of own link) f.router link.settings.transmit_delay db entries (neighbourhood_of link next)
+
+-- the keys whose copies answer a Request of a neighbour that may not be there, and of router f on a link that may not be
+-- there (10.7)
+abbrev pub answered_by : Option NeighbourValue → List Held → List RequestEntry → List LsaKey
+answered_by None db entries = []
+answered_by (Some n) db entries = answered_keys db entries
+
+abbrev pub answered_on : Option LinkValue → RouterId → List Held → List RequestEntry → List LsaKey
+answered_on None q db entries = []
+answered_on (Some link) q db entries = answered_by (neighbour_of link.neighbours q) db entries
+
+-- ---- links that go up and down
+
+-- a link that goes up, where it is down (9.3)
+abbrev pub link_up : LinkValue → LinkValue
+link_up link = record link { iface = up link.iface }
+
+-- its first Hello (9.5)
+abbrev pub up_parcels : LinkValue → List Parcel
+up_parcels link = parcel_if (is_down link.iface.state) (hello_parcel (up link.iface) link.neighbours)
+
+-- a link that goes down, where it is up: its neighbours get KillNbr, and no acknowledgement and no election waits any more (9.3)
+abbrev pub link_down : LinkValue → LinkValue
+link_down link = if is_down link.iface.state then link else record link { iface = down link.iface; neighbours = []; delayed = []; elects = false }
+
+-- ---- ticks
+
+-- the timers of a link, a tick later (9.3, 10.3)
+abbrev pub link_timed : LinkValue → LinkValue
+link_timed link = record link {
+  iface = wait_ticked link.iface;
+  neighbours = timed link.neighbours;
+  elects = link.elects || elects_by_timers link.iface link.neighbours;
+}
+
+-- its Hello timer, a tick later (9.5)
+abbrev pub hello_sent : LinkValue → LinkValue
+hello_sent link = record link { iface = hello_ticked link.iface }
+
+-- the Hello that goes out of link l, if one is due (9.5)
+abbrev pub hello_out : Own → ℕ → LinkValue → List SentValue
+hello_out own l link = posted_all own l (hello_ticked link.iface) (parcel_if (is_hello_due link.iface) (hello_parcel link.iface link.neighbours))

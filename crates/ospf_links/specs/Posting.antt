@@ -1,0 +1,16 @@
+-- How what goes out of a link is sent (RFC 2328, section 8.1).
+use Rattle.std.specs.Prelude.{ℕ, List}
+use Rattle.std.specs.List.{flat_map}
+use Rattle.ospf_iface.specs.declared.machine.Iface.{Iface}
+use Rattle.ospf_adjacency.specs.Packets.{Parcel}
+use Rattle.ospf_area.specs.Outputs.{SentValue}
+use Rattle.ospf_area.specs.Sending.{datagrams, packet_of, way_out}
+use Rattle.ospf_area.specs.declared.sending.Own.{Own}
+
+-- a packet that goes out of link l, as it is sent
+abbrev pub posted : Own → ℕ → Iface → Parcel → List SentValue
+posted own l i p = datagrams (way_out l i p.destination) (packet_of own p.body)
+
+-- packets that go out of link l, in their order
+abbrev pub posted_all : Own → ℕ → Iface → List Parcel → List SentValue
+posted_all own l i ps = flat_map (posted own l i) ps

@@ -1,0 +1,61 @@
+-- What is sent again in a tick, and the marks of what was sent (RFC 2328, sections 10.8, 10.9, 13 and 13.6).
+use Rattle.std.specs.Prelude.{ℕ, List, [], ◌∷◌, map, true}
+use Rattle.std.specs.List.{flat_map}
+use Rattle.ospf_base.specs.declared.ids.LsaKey.{LsaKey}
+use Rattle.ospf_iface.specs.declared.machine.Iface.{Iface}
+use Rattle.ospf_lsdb.specs.Database.{Held}
+use Rattle.ospf_neighbour.specs.Neighbour.{NeighbourValue}
+use Rattle.ospf_adjacency.specs.Descriptions.{Turn}
+use Rattle.ospf_area.specs.Numbers.{marked}
+use Rattle.ospf_area.specs.Outputs.{SentValue}
+use Rattle.ospf_area.specs.Places.{flat_from}
+use Rattle.ospf_area.specs.State.{LinkValue}
+use Rattle.ospf_area.specs.declared.sending.Own.{Own}
+use Rattle.ospf_area.specs.declared.state.LinkSettings.{LinkSettings}
+use Rattle.ospf_resend.specs.Repeats.{due_keys, repeats_turn}
+use Rattle.ospf_links.specs.Parts.{local_by}
+use Rattle.ospf_links.specs.Posting.{posted_all}
+
+-- copies of these keys went out in Updates in this tick (13, step 8)
+abbrev pub marked_all : List LsaKey → List LsaKey → List LsaKey
+marked_all [] sent = sent
+marked_all (k ∷ ks) sent = marked_all ks (marked k true sent)
+
+-- ---- one neighbour
+
+abbrev pub repeats_for : Own → Iface → LinkSettings → List Held → NeighbourValue → Turn
+repeats_for own i settings db n = repeats_turn i (local_by own settings) settings.retransmit settings.transmit_delay db (record { neighbour = n; next = 0; sent = [] })
+
+-- the neighbour then
+abbrev pub repeated : Own → Iface → LinkSettings → List Held → NeighbourValue → NeighbourValue
+repeated own i settings db n = (repeats_for own i settings db n).neighbour
+
+-- what goes out of link l to it
+abbrev pub repeats_to : Own → ℕ → Iface → LinkSettings → List Held → NeighbourValue → List SentValue
+repeats_to own l i settings db n = posted_all own l i (repeats_for own i settings db n).sent
+
+-- the keys whose copies go out to it
+abbrev pub keys_to : Own → LinkSettings → List Held → NeighbourValue → List LsaKey
+keys_to own settings db n = due_keys settings.retransmit own.tick db n
+
+-- ---- one link
+
+abbrev pub link_repeated : Own → List Held → LinkValue → LinkValue
+link_repeated own db link = record link { neighbours = map (repeated own link.iface link.settings db) link.neighbours }
+
+abbrev pub repeats_out : Own → List Held → ℕ → LinkValue → List SentValue
+repeats_out own db l link = flat_map (repeats_to own l link.iface link.settings db) link.neighbours
+
+abbrev pub keys_out : Own → List Held → LinkValue → List LsaKey
+keys_out own db link = flat_map (keys_to own link.settings db) link.neighbours
+
+-- ---- all links
+
+abbrev pub repeated_links : Own → List Held → List LinkValue → List LinkValue
+repeated_links own db links = map (link_repeated own db) links
+
+abbrev pub all_repeats : Own → List Held → List LinkValue → List SentValue
+all_repeats own db links = flat_from (repeats_out own db) 0 links
+
+abbrev pub all_keys : Own → List Held → List LinkValue → List LsaKey
+all_keys own db links = flat_map (keys_out own db) links

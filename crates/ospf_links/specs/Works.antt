@@ -1,0 +1,54 @@
+-- What a part on one link makes of the router, and what goes out.
+use Rattle.std.specs.Prelude.{ℕ, List, [], Option, None, Some, set, slice_get}
+use Rattle.ospf_area.specs.Outputs.{SentValue}
+use Rattle.ospf_area.specs.State.{AreaValue, LinkValue}
+use Rattle.ospf_area.specs.declared.sending.Own.{Own}
+use Rattle.ospf_hello.specs.Heard.{Neighbourhood}
+use Rattle.ospf_hello.specs.Links.{up}
+use Rattle.ospf_links.specs.Parts.{up_parcels, with_neighbourhood}
+use Rattle.ospf_links.specs.Posting.{posted_all}
+
+-- ---- parts on the neighbours of a link
+
+abbrev pub worked_links_on : Option LinkValue → (LinkValue → Neighbourhood) → ℕ → List LinkValue → List LinkValue
+worked_links_on None part l links = links
+worked_links_on (Some link) part l links = set links l (with_neighbourhood (part link) link)
+
+-- the links after a part on link l
+abbrev pub worked_links : (LinkValue → Neighbourhood) → ℕ → List LinkValue → List LinkValue
+worked_links part l links = worked_links_on (slice_get links l) part l links
+
+abbrev pub work_next_on : Option LinkValue → (LinkValue → Neighbourhood) → ℕ → ℕ
+work_next_on None part next = next
+work_next_on (Some link) part next = (part link).next
+
+-- the router's next DD number then
+abbrev pub work_next : (LinkValue → Neighbourhood) → ℕ → ℕ → List LinkValue → ℕ
+work_next part l next links = work_next_on (slice_get links l) part next
+
+abbrev pub work_sent_on : Option LinkValue → (LinkValue → Neighbourhood) → Own → ℕ → List SentValue
+work_sent_on None part own l = []
+work_sent_on (Some link) part own l = posted_all own l link.iface (part link).sent
+
+-- what goes out by it
+abbrev pub work_sent : (LinkValue → Neighbourhood) → Own → ℕ → List LinkValue → List SentValue
+work_sent part own l links = work_sent_on (slice_get links l) part own l
+
+-- the router after it
+abbrev pub worked : (LinkValue → Neighbourhood) → ℕ → AreaValue → AreaValue
+worked part l s = record s { links = worked_links part l s.links; next_dd = work_next part l s.next_dd s.links }
+
+-- ---- changes of a link
+
+abbrev pub changed_on : Option LinkValue → (LinkValue → LinkValue) → ℕ → AreaValue → AreaValue
+changed_on None change l s = s
+changed_on (Some link) change l s = record s { links = set s.links l (change link) }
+
+-- the router after a change of link l
+abbrev pub changed : (LinkValue → LinkValue) → ℕ → AreaValue → AreaValue
+changed change l s = changed_on (slice_get s.links l) change l s
+
+-- the first Hello of a link that goes up, if it is there (9.5)
+abbrev pub up_out_on : Option LinkValue → Own → ℕ → List SentValue
+up_out_on None own l = []
+up_out_on (Some link) own l = posted_all own l (up link.iface) (up_parcels link)

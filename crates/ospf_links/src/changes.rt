@@ -1,0 +1,74 @@
+//! Links that go up and down.
+
+ghost use Rattle.std.specs.Prelude.{◌≡◌, OnOk, slice_get};
+ghost use Rattle.ospf_area.specs.Sending.{and_sends, own_of};
+ghost use Rattle.ospf_hello.specs.Links.{up};
+ghost use Rattle.ospf_links.specs.Parts.{link_down, link_up, up_parcels};
+ghost use Rattle.ospf_links.specs.Posting.{posted_all};
+ghost use Rattle.ospf_links.specs.Works.{changed, up_out_on};
+
+use crate::link::take_out;
+use crate::posting::post;
+use ospf_area::{Area, Link, Outputs, Own, own_of};
+use ospf_hello::{go_down, go_up, send_hello};
+use std::alloc::{AllocError, Global};
+
+// A link goes up; where it was down its first Hello goes out.
+fn link_goes_up(
+    link: &mut Link,
+    number: usize,
+    own: Own,
+    out: &mut Outputs,
+    alloc: Global,
+) -> Result<(), AllocError>
+    ensures after { OnOk result (link.new ≡ link_up link.old) }
+    ensures sent { OnOk result (out.new ≡ and_sends out.old (posted_all own number (up link.old.iface) (up_parcels link.old))) }
+{
+    if !go_up(&mut link.iface) {
+        return Ok(());
+    }
+    let mut packets = Vec::new(alloc);
+    send_hello(&link.iface, link.neighbours.all(), &mut packets, alloc)?;
+    post(packets, number, &link.iface, own, out, alloc)
+}
+
+/// A link of the router goes up (RFC 2328, section 9.3): where it was down its first Hello goes out.
+///
+/// `AllocError` where memory runs out.
+pub fn take_up(
+    area: &mut Area,
+    number: usize,
+    out: &mut Outputs,
+    alloc: Global,
+) -> Result<(), AllocError>
+    ensures after { OnOk result (area.new ≡ changed link_up number area.old) }
+    ensures sent { OnOk result (out.new ≡ and_sends out.old (up_out_on (slice_get area.old.links number) (own_of area.old) number)) }
+{
+    let own = own_of(area);
+    match area.links.get_mut(number) {
+        Some(link) => link_goes_up(link, number, own, out, alloc),
+        None => Ok(()),
+    }
+}
+
+// A link goes down.
+fn link_down(link: &mut Link, alloc: Global)
+    ensures { link.new ≡ link_down link.old }
+{
+    let mut all = take_out(link, alloc);
+    if go_down(&mut link.iface, &mut all) {
+        link.delayed.clear();
+        link.elects = false;
+    }
+    let neighbours = &mut link.neighbours;
+    neighbours.all = all;
+}
+
+/// A link of the router goes down (RFC 2328, section 9.3): its neighbours are gone. No memory is taken.
+pub fn take_down(area: &mut Area, number: usize, alloc: Global)
+    ensures { area.new ≡ changed link_down number area.old }
+{
+    if let Some(link) = area.links.get_mut(number) {
+        link_down(link, alloc);
+    }
+}

@@ -1,0 +1,104 @@
+//! The elections that end a step.
+
+ghost use Rattle.std.specs.Prelude.{◌≡◌, ◌++◌, true, List, OnOk};
+ghost use Rattle.ospf_adjacency.specs.Elections.{AreOfLink, ElectsOn, elects_in};
+ghost use Rattle.ospf_adjacency.specs.Packets.{Parcel, parcels};
+ghost use Rattle.ospf_area.specs.Sending.{and_sends};
+ghost use Rattle.ospf_links.specs.Elections.{AreReady, Elects, ElectsAt, ElectsLink, ElectsOnLink, IsReady};
+ghost use Rattle.ospf_links.specs.Posting.{posted_all};
+
+use crate::link::{iface_of, local_of, put_back, take_out};
+use crate::posting::post;
+use ospf_adjacency::{Outgoing, elect_on};
+use ospf_area::{Area, Link, Outputs, Own, own_of};
+use ospf_exchange::Local;
+use ospf_neighbour::Neighbour;
+use std::alloc::{AllocError, Global};
+
+// The election, over neighbours that were taken out.
+fn elect_over(
+    link: &mut Link,
+    all: &mut Vec<Neighbour>,
+    local: Local,
+    numbers: &mut u32,
+    out: &mut Vec<Outgoing>,
+    alloc: Global,
+) -> Result<(), AllocError>
+    requires electing { elects_in link.old.iface.state ≡ true }
+    requires link { AreOfLink link.old.iface all.old.items }
+    ensures elects { OnOk result ((sent : List Parcel) × ElectsOn local.mtu local.tick link.old.iface all.old.items numbers.old sent link.new.iface all.new.items numbers.new × (parcels out.new.items ≡ parcels out.old.items ++ sent)) }
+    ensures rest { link.new ≡ record link.old { iface = link.new.iface } }
+{
+    elect_on(&mut link.iface, all, local, numbers, out, alloc)
+}
+
+// The election of a link on which one is due, and AdjOK?.
+fn link_election(
+    link: &mut Link,
+    local: Local,
+    numbers: &mut u32,
+    out: &mut Vec<Outgoing>,
+    alloc: Global,
+) -> Result<(), AllocError>
+    requires electing { elects_in link.old.iface.state ≡ true }
+    requires others { AreOfLink link.old.iface link.old.neighbours }
+    ensures { OnOk result ((sent : List Parcel) × ElectsOnLink local.mtu local.tick numbers.old link.old link.new numbers.new sent × (parcels out.new.items ≡ parcels out.old.items ++ sent)) }
+{
+    let mut all = take_out(link, alloc);
+    elect_over(link, &mut all, local, numbers, out, alloc)?;
+    put_back(link, all, false);
+    Ok(())
+}
+
+// And what goes out by it is sent; nothing is done where none is due.
+fn elect_link(
+    link: &mut Link,
+    number: usize,
+    own: Own,
+    next: &mut u32,
+    out: &mut Outputs,
+    alloc: Global,
+) -> Result<(), AllocError>
+    requires { IsReady link.old }
+    ensures { OnOk result ((sent : List Parcel) × ElectsLink own next.old link.old link.new next.new sent × (out.new ≡ and_sends out.old (posted_all own number link.old.iface sent))) }
+{
+    if !link.elects {
+        return Ok(());
+    }
+    let mut packets = Vec::new(alloc);
+    let local = local_of(own, link);
+    let iface = iface_of(link);
+    link_election(link, local, next, &mut packets, alloc)?;
+    post(packets, number, &iface, own, out, alloc)
+}
+
+// That of one link.
+fn elect_at(
+    area: &mut Area,
+    number: usize,
+    out: &mut Outputs,
+    alloc: Global,
+) -> Result<(), AllocError>
+    requires { AreReady area.old.links }
+    ensures { OnOk result (ElectsAt number area.old out.old area.new out.new) }
+{
+    let own = own_of(area);
+    match area.links.get_mut(number) {
+        Some(link) => elect_link(link, number, own, &mut area.next_dd, out, alloc),
+        None => Ok(()),
+    }
+}
+
+/// The elections that are due, link by link, with AdjOK? (RFC 2328, section 9.4).
+///
+/// `AllocError` where memory runs out.
+pub fn elect(area: &mut Area, out: &mut Outputs, alloc: Global) -> Result<(), AllocError>
+    requires { AreReady area.old.links }
+    ensures { OnOk result (Elects area.old out.old area.new out.new) }
+{
+    let count = area.links.len();
+    for number in 0..count {
+        elect_at(area, number, out, alloc)?;
+    }
+    Ok(())
+}

@@ -1,0 +1,19 @@
+//! The marks of copies that were sent.
+
+ghost use Rattle.std.specs.Prelude.{◌≡◌, OnOk};
+ghost use Rattle.ospf_links.specs.Repeats.{marked_all};
+
+use ospf_area::mark;
+use ospf_base::LsaKey;
+use std::alloc::AllocError;
+use std::collections::BTreeSet;
+
+// Copies of these keys went out in Updates in this tick.
+pub(crate) fn mark_all(sent: &mut Vec<LsaKey>, keys: &BTreeSet<LsaKey>) -> Result<(), AllocError>
+    ensures { OnOk result (sent.new.items ≡ marked_all keys.now.keys sent.old.items) }
+{
+    for key in keys {
+        mark(sent, *key, true)?;
+    }
+    Ok(())
+}

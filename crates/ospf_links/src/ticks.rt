@@ -1,0 +1,76 @@
+//! The timers of links, and the Hellos that are due.
+
+ghost use Rattle.std.specs.Prelude.{◌≡◌, ◌||◌, OnOk, map};
+ghost use Rattle.ospf_area.specs.Places.{flat_from};
+ghost use Rattle.ospf_area.specs.Sending.{and_sends};
+ghost use Rattle.ospf_hello.specs.Links.{elects_by_timers, timed, wait_ticked};
+ghost use Rattle.ospf_links.specs.Parts.{hello_out, hello_sent, link_timed};
+
+use crate::link::{put_back, take_out};
+use crate::posting::post;
+use ospf_area::{Link, Outputs, Own};
+use ospf_hello::{send_due_hello, tick_timers};
+use ospf_neighbour::Neighbour;
+use std::alloc::{AllocError, Global};
+
+// The timers of an interface and of neighbours that were taken out.
+fn count(link: &mut Link, all: &mut Vec<Neighbour>) -> bool
+    ensures due { result ≡ link.old.elects || elects_by_timers link.old.iface all.old.items }
+    ensures link { link.new ≡ record link.old { iface = wait_ticked link.old.iface } }
+    ensures neighbours { all.new.items ≡ timed all.old.items }
+{
+    let elects = tick_timers(&mut link.iface, all);
+    link.elects || elects
+}
+
+// A tick of a link's timers.
+fn link_timers(link: &mut Link, alloc: Global)
+    ensures { link.new ≡ link_timed link.old }
+{
+    let mut all = take_out(link, alloc);
+    let due = count(link, &mut all);
+    put_back(link, all, due);
+}
+
+/// A tick of the wait timers and the inactivity timers of all links (RFC 2328, sections 9.3 and 10.3). No memory is taken.
+pub fn count_timers(links: &mut [Link], alloc: Global)
+    ensures { links.new ≡ map link_timed links.old }
+{
+    for link in links.iter_mut() {
+        link_timers(link, alloc);
+    }
+}
+
+// A tick of a link's Hello timer.
+fn send_hello_on(
+    link: &mut Link,
+    number: usize,
+    own: Own,
+    out: &mut Outputs,
+    alloc: Global,
+) -> Result<(), AllocError>
+    ensures after { OnOk result (link.new ≡ hello_sent link.old) }
+    ensures sent { OnOk result (out.new ≡ and_sends out.old (hello_out own number link.old)) }
+{
+    let mut packets = Vec::new(alloc);
+    send_due_hello(&mut link.iface, link.neighbours.all(), &mut packets, alloc)?;
+    post(packets, number, &link.iface, own, out, alloc)
+}
+
+/// A tick of the Hello timers of all links: the Hellos that are due go out (RFC 2328, section 9.5).
+///
+/// `AllocError` where memory runs out.
+pub fn send_hellos(
+    links: &mut [Link],
+    own: Own,
+    out: &mut Outputs,
+    alloc: Global,
+) -> Result<(), AllocError>
+    ensures after { OnOk result (links.new ≡ map hello_sent links.old) }
+    ensures sent { OnOk result (out.new ≡ and_sends out.old (flat_from (hello_out own) 0 links.old)) }
+{
+    for (number, link) in links.iter_mut().enumerate() {
+        send_hello_on(link, number, own, out, alloc)?;
+    }
+    Ok(())
+}

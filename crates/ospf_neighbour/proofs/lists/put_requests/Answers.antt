@@ -1,0 +1,13 @@
+use Rattle.std.proofs.Common.{◌∙◌, ◌∷◌, [], ◌++◌, List, ap, sym, arith}
+use Rattle.std.proofs.lemmas.List.{take_more}
+use Rattle.ospf_lsa.specs.declared.header.LsaHeader.{LsaHeader}
+use Rattle.ospf_neighbour.specs.Lists.{request_put, requests_put}
+use Rattle.ospf_neighbour.proofs.RequestLemmas.{put_more}
+use Rattle.ospf_neighbour.proofs.lists.put_requests.Goals as goal
+
+pub loop-header-preserved : goal.loop-header-preserved
+loop-header-preserved c = record {
+  put = c.in_ok-put_request.ensures.ok
+      ∙ put_more c.loop-header.header-index c.args.headers.now c.header-item.result c.reserve.new.self.items _ c.loop-header-test.true c.header-item.is c.loop-header.invariant.put;
+  room = omega arith;
+}

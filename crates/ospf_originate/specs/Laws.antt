@@ -1,0 +1,87 @@
+-- Laws of own LSAs: their numbers, what is wanted, that it can be made, and what is kept for it.
+use Rattle.std.specs.Prelude.{◌≡◌, ◌&&◌, ◌+ℤ◌, ◌≤ℤ◌, ℕ, ℤ, pos, Bool, true, List, [], Option, Some, if◌then◌else◌}
+use Rattle.std.specs.Int.{int_max}
+use Rattle.std.specs.List.{AllByRecursion}
+use Rattle.ospf_base.specs.Keys.{same_key}
+use Rattle.ospf_base.specs.declared.ids.LsaKey.{LsaKey}
+use Rattle.ospf_base.specs.declared.ids.RouterId.{RouterId}
+use Rattle.ospf_lsa.specs.Recency.{recency}
+use Rattle.ospf_lsa.specs.declared.header.LsaHeader.{LsaHeader}
+use Rattle.ospf_lsa.specs.declared.recency.Recency.TheVariants.{Newer}
+use Rattle.ospf_lsdb.specs.Database.{IsDatabase}
+use Rattle.ospf_area.specs.Numbers.{is_own}
+use Rattle.ospf_area.specs.Outputs.{OutputsValue, SentValue}
+use Rattle.ospf_area.specs.State.{AreaValue, LinkValue, kept_number, numbering_of}
+use Rattle.ospf_area.specs.declared.flooding.Origin.{Origin}
+use Rattle.ospf_update.specs.Aging.{Flushes, TickAges}
+use Rattle.ospf_update.specs.Meets.{header_met}
+use Rattle.ospf_update.specs.Removal.{Removes}
+use Rattle.ospf_update.specs.Updates.{TakesUpdate}
+use Rattle.ospf_originate.specs.Made.{CanBeMade}
+use Rattle.ospf_originate.specs.Numbers.{issued_at_in}
+use Rattle.ospf_originate.specs.Sound.{AreApart, AreSetUp, IsSound}
+use Rattle.ospf_originate.specs.Steps.{Issues, OwnLsas, wants, action_of}
+use Rattle.ospf_originate.specs.Wanted.{WantedValue, wanted, wanted_key, wanted_of}
+use Rattle.ospf_originate.specs.declared.action.OwnAction.TheVariants.{Issue}
+
+-- ---- numbers
+
+-- an issued LSA's number is kept, if it is the router's own, and no other number changes (12.1.6)
+abbrev pub IssuedIsKept : Type 0
+IssuedIsKept = (w : WantedValue) (number : ℤ) (s : AreaValue) (o o' : OutputsValue) (s' : AreaValue) → Issues w number s o o' s' → (key : LsaKey)
+    → kept_number s' key ≡ (if same_key (wanted_key w) key && is_own s.router key then int_max (kept_number s key) number else kept_number s key)
+
+-- and its key waits from the tick of the issue on, as no other key does (12.4)
+abbrev pub IssuedWaits : Type 0
+IssuedWaits = (w : WantedValue) (number : ℤ) (s : AreaValue) (o o' : OutputsValue) (s' : AreaValue) → Issues w number s o o' s' → is_own s.router (wanted_key w) ≡ true → (key : LsaKey)
+    → issued_at_in (numbering_of s'.numbering key) ≡ (if same_key (wanted_key w) key then Some s.tick else issued_at_in (numbering_of s.numbering key))
+
+-- ---- what is wanted
+
+-- no two wanted LSAs are of one key: each is the one of its key
+abbrev pub WantedAreOfTheirKeys : Type 0
+WantedAreOfTheirKeys = (stub_router : Bool) (router : RouterId) (links : List LinkValue) → AreApart links
+    → AllByRecursion (λ w. wanted_of (wanted stub_router router links) (wanted_key w) ≡ Some w) (wanted stub_router router links)
+
+-- all of them are the router's own
+abbrev pub WantedAreOwn : Type 0
+WantedAreOwn = (stub_router : Bool) (router : RouterId) (links : List LinkValue) → AllByRecursion (λ w. (wanted_key w).router ≡ router) (wanted stub_router router links)
+
+-- what a router of links that are set up wants can be made: only want of memory is in the way
+abbrev pub WantedCanBeMade : Type 0
+WantedCanBeMade = (stub_router : Bool) (router : RouterId) (links : List LinkValue) → AreSetUp links → AllByRecursion CanBeMade (wanted stub_router router links)
+
+-- ---- the own LSAs that end a step
+
+-- an issue is of what is wanted, with the number after the kept one (12.1.6)
+pub record IsNext (w : Option WantedValue) (kept number : ℤ) : Type 0 where
+  pub value : WantedValue
+  pub is_wanted : w ≡ Some value
+  pub next : number ≡ kept +ℤ pos 1
+
+abbrev pub IssueIsNext : Type 0
+IssueIsNext = (s : AreaValue) (key : LsaKey) (number : ℤ) → action_of s key ≡ Issue number → IsNext (wanted_of (wants s) key) (kept_number s key) number
+
+-- it is newer than a copy whose number is not above the kept one (13.1)
+abbrev pub NextIsNewer : Type 0
+NextIsNewer = (new copy : LsaHeader) (kept : ℤ) → copy.number ≤ℤ kept → new.number ≡ kept +ℤ pos 1 → recency new copy ≡ Newer
+
+-- ---- what the router keeps
+
+-- a router that starts has it, and keeps it where its links are others that are set up
+pub record StartsSound : Type 0 where
+  pub begun : (s : AreaValue) → AreSetUp s.links → s.database ≡ [] → s.numbering ≡ [] → s.greatest ≡ s.floor → IsSound s
+  pub relinked : (s : AreaValue) (links : List LinkValue) (tick : ℕ) → AreSetUp links → IsSound s → IsSound (record s { links = links; tick = tick })
+
+-- an issue, a flush, and what ends a step keep it
+pub record OwnStaySound : Type 0 where
+  pub issued : (w : WantedValue) (number : ℤ) (s : AreaValue) (o o' : OutputsValue) (s' : AreaValue) → Issues w number s o o' s' → IsSound s → IsSound s'
+  pub flushed : (key : LsaKey) (s : AreaValue) (sent : List SentValue) (s' : AreaValue) → Flushes key s sent s' → IsSound s → IsSound s'
+  pub ended : (s : AreaValue) (o o' : OutputsValue) (s' : AreaValue) → OwnLsas s o o' s' → IsSound s → IsSound s'
+
+-- an Update, a header that is acknowledged, the clock and LSAs that leave keep it
+pub record AreaStaysSound : Type 0 where
+  pub updated : (f : Origin) (slices : List (List ℕ)) (s : AreaValue) (o o' : OutputsValue) (s' : AreaValue) → TakesUpdate f slices s o o' s' → IsSound s → IsSound s'
+  pub acknowledged : (f : Origin) (h : LsaHeader) (s : AreaValue) → IsSound s → IsSound (header_met f h s)
+  pub aged : (s : AreaValue) (sent : List SentValue) (s' : AreaValue) → TickAges s sent s' → IsSound s → IsSound s'
+  pub removed : (s : AreaValue) (o o' : OutputsValue) (s' : AreaValue) → IsDatabase s.database → Removes s o o' s' → IsSound s → IsSound s'

@@ -1,0 +1,116 @@
+-- Own LSAs as they are issued and flushed (RFC 2328, sections 12.4, 13.4 and 14.1), over a router's part of an area.
+use Rattle.std.specs.Prelude.{◌≡◌, ◌++◌, ℕ, ℤ, Bool, false, List, [], ◌∷◌, Option, None, Some, map}
+use Rattle.std.specs.List.{list_any, flat_map}
+use Rattle.ospf_base.specs.Keys.{same_key}
+use Rattle.ospf_base.specs.declared.ids.LsaKey.{LsaKey}
+use Rattle.ospf_lsa.specs.Value.{IsMade}
+use Rattle.ospf_lsdb.specs.Moments.{among}
+use Rattle.ospf_lsdb.specs.Timers.{KeysRise}
+use Rattle.ospf_area.specs.Numbers.{is_own}
+use Rattle.ospf_area.specs.Outputs.{OutputsValue, SentValue}
+use Rattle.ospf_area.specs.Sending.{and_sends}
+use Rattle.ospf_area.specs.State.{AreaValue, entry_of, kept_number}
+use Rattle.ospf_area.specs.declared.state.Numbering.{Numbering}
+use Rattle.ospf_update.specs.Aging.{Flushes, turn_out, turned_area}
+use Rattle.ospf_update.specs.Meets.{Stores, Unchanged, store_updates}
+use Rattle.ospf_originate.specs.Actions.{IsUsed, own_action}
+use Rattle.ospf_originate.specs.Made.{lsa_value}
+use Rattle.ospf_originate.specs.Numbers.{waits, issued}
+use Rattle.ospf_originate.specs.Wanted.{WantedValue, wanted, wanted_of, wanted_key}
+use Rattle.ospf_originate.specs.declared.action.Due.{Due}
+use Rattle.ospf_originate.specs.declared.action.OwnAction.{OwnAction}
+use Rattle.ospf_originate.specs.declared.action.OwnAction.TheVariants.{Leave, Flush, Issue}
+
+-- ---- an issue
+
+abbrev pub and_issues : OutputsValue → List SentValue → List ℕ → OutputsValue
+and_issues out updates lsa = record out { sent = out.sent ++ updates; issued = out.issued ++ lsa ∷ [] }
+
+-- a wanted LSA is issued with a number (12.4): it is stored as any other, in place of the old copy, which is on no
+-- retransmission list, at age 0, flooded to all, and its number kept; and the tick of the issue is kept too
+pub record Issues (w : WantedValue) (number : ℤ) (before : AreaValue) (out out' : OutputsValue) (after : AreaValue) : Type 0 where
+  pub lsa : List ℕ
+  pub made : IsMade (lsa_value number w) lsa
+  pub stored : AreaValue
+  pub stores : Stores lsa None before stored
+  pub state : after ≡ record stored { numbering = issued (wanted_key w) before.tick stored.numbering }
+  pub outputs : out' ≡ and_issues out (store_updates lsa None before) lsa
+
+-- ---- the own LSAs that end a step
+
+-- what the router wants
+abbrev pub wants : AreaValue → List WantedValue
+wants s = wanted s.stub_router s.router s.links
+
+-- a self-originated one of the key was installed in this step
+abbrev pub is_heard : AreaValue → LsaKey → Bool
+is_heard s key = list_any (λ k. same_key k key) s.heard
+
+-- what becomes of a key (12.4, 13.4)
+unfoldable pub action_of : AreaValue → LsaKey → OwnAction
+action_of s key = own_action (wanted_of (wants s) key) (entry_of s key) (is_heard s key) (is_own s.router key) (waits s.tick s.numbering key) (kept_number s key)
+
+-- an issue, and LoadingDone and the next Requests that come of it (10.3, 10.9)
+pub record IssuesAndTurns (w : WantedValue) (number : ℤ) (before : AreaValue) (out out' : OutputsValue) (after : AreaValue) : Type 0 where
+  pub mid : AreaValue
+  pub mid_out : OutputsValue
+  pub issues : Issues w number before out mid_out mid
+  pub turned : after ≡ turned_area mid
+  pub outputs : out' ≡ and_sends mid_out (turn_out mid)
+
+-- the wanted LSA of a key is issued with a number, if one is wanted
+abbrev pub IssuesIf : Option WantedValue → ℤ → AreaValue → OutputsValue → OutputsValue → AreaValue → Type 0
+IssuesIf None number before out out' after = Unchanged before out out' after
+IssuesIf (Some w) number before out out' after = IssuesAndTurns w number before out out' after
+
+-- a copy's age becomes MaxAge, and nothing else of it changes; it is flooded to all, and LoadingDone and the next Requests
+-- come of it (14.1)
+pub record FlushesAndTurns (key : LsaKey) (before : AreaValue) (out out' : OutputsValue) (after : AreaValue) : Type 0 where
+  pub sent : List SentValue
+  pub flushes : Flushes key before sent after
+  pub outputs : out' ≡ and_sends out sent
+
+-- what an action does to the router, by what it wants
+abbrev pub Acts : OwnAction → List WantedValue → LsaKey → AreaValue → OutputsValue → OutputsValue → AreaValue → Type 0
+Acts Leave ws key before out out' after = Unchanged before out out' after
+Acts Flush ws key before out out' after = FlushesAndTurns key before out out' after
+Acts (Issue number) ws key before out out' after = IssuesIf (wanted_of ws key) number before out out' after
+
+-- what is due of a key
+abbrev pub due_as : OwnAction → LsaKey → List Due
+due_as Leave key = []
+due_as Flush key = record { key = key; action = Flush } ∷ []
+due_as (Issue number) key = record { key = key; action = Issue number } ∷ []
+
+-- what is due is no issue, or one with a number that is used
+abbrev pub HasUsedNumber : Due → Type 0
+HasUsedNumber d = IsUsed d.action
+
+-- what is due of keys, in their order
+abbrev pub due_of : (LsaKey → OwnAction) → List LsaKey → List Due
+due_of action keys = flat_map (λ key. due_as (action key) key) keys
+
+-- one after the other
+abbrev pub ActsInTurn : List WantedValue → List Due → AreaValue → OutputsValue → OutputsValue → AreaValue → Type 0
+ActsInTurn ws [] before out out' after = Unchanged before out out' after
+ActsInTurn ws (d ∷ ds) before out out' after =
+    (mid : AreaValue) × (mid_out : OutputsValue) × Acts d.action ws d.key before out mid_out mid × ActsInTurn ws ds mid mid_out out' after
+
+-- the keys of which something may be due: those that are wanted, those that are numbered, and those that were heard
+abbrev pub candidates : List WantedValue → List Numbering → List LsaKey → List LsaKey
+candidates ws ns heard = map wanted_key ws ++ map (λ n. n.key) ns ++ heard
+
+-- what is due in a state: of keys that rise, which leave out none of which something becomes
+pub record IsDue (s : AreaValue) (due : List Due) : Type 0 where
+  pub keys : List LsaKey
+  pub rising : KeysRise keys
+  pub whole : (key : LsaKey) → among keys key ≡ false → action_of s key ≡ Leave
+  pub is : due ≡ due_of (action_of s) keys
+
+-- the own LSAs that end a step: exactly those that are due in the state in which they begin, in order of key (12.4)
+pub record OwnLsas (before : AreaValue) (out out' : OutputsValue) (after : AreaValue) : Type 0 where
+  pub due : List Due
+  pub is_due : IsDue before due
+  pub mid : AreaValue
+  pub each : ActsInTurn (wants before) due before out out' mid
+  pub answered : after ≡ record mid { heard = [] }

@@ -1,0 +1,53 @@
+//! Laws: each holds of all numbers, links and routers.
+
+ghost use Rattle.ospf_originate.specs.Laws.{AreaStaysSound, StartsSound, IssueIsNext, IssuedIsKept, IssuedWaits, NextIsNewer, OwnStaySound, WantedAreOfTheirKeys, WantedAreOwn, WantedCanBeMade};
+
+/// An issued LSA's number is kept.
+pub fn issued_is_kept()
+    ensures { IssuedIsKept }
+{}
+
+/// The key of an issued LSA waits from its tick on.
+pub fn issued_waits()
+    ensures { IssuedWaits }
+{}
+
+/// An issue is of what is wanted, with the number after the kept one.
+pub fn issue_is_next()
+    ensures { IssueIsNext }
+{}
+
+/// What is issued is newer than a copy whose number was kept.
+pub fn next_is_newer()
+    ensures { NextIsNewer }
+{}
+
+/// No two wanted LSAs are of one key.
+pub fn wanted_are_of_their_keys()
+    ensures { WantedAreOfTheirKeys }
+{}
+
+/// All wanted LSAs are the router's own.
+pub fn wanted_are_own()
+    ensures { WantedAreOwn }
+{}
+
+/// What is wanted can be made, with any number that is used.
+pub fn wanted_can_be_made()
+    ensures { WantedCanBeMade }
+{}
+
+/// A router that starts has what it keeps for its own LSAs, and keeps it with other links.
+pub fn starts_sound()
+    ensures { StartsSound }
+{}
+
+/// What a router keeps for its own LSAs is kept where they are issued and flushed.
+pub fn own_stay_sound()
+    ensures { OwnStaySound }
+{}
+
+/// It is kept where Updates and acknowledgements are taken, where LSAs age, and where they leave.
+pub fn area_stays_sound()
+    ensures { AreaStaysSound }
+{}

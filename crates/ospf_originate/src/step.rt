@@ -1,0 +1,71 @@
+//! Own LSAs as they are issued.
+
+ghost use Rattle.std.specs.Prelude.{◌≡◌, ◌∷◌, ◌++◌, [], IfOk, OnOk};
+ghost use Rattle.ospf_lsa.specs.Value.{HasAll, IsMade};
+ghost use Rattle.ospf_originate.specs.Made.{Needs, lsa_value};
+ghost use Rattle.ospf_originate.specs.Numbers.{issued};
+ghost use Rattle.ospf_originate.specs.Own.{value_of};
+ghost use Rattle.ospf_originate.specs.Steps.{Issues};
+
+use crate::made::want_of_memory;
+use crate::numbers::note_issue;
+use crate::wants::OwnLsa;
+use ospf_area::{Area, Outputs};
+use ospf_base::LsaKey;
+use ospf_lsa::{Lsa, LsaView};
+use ospf_update::store;
+use std::alloc::{AllocError, Global};
+
+// The LSA of a wanted one, with a number.
+fn made(wanted: &OwnLsa, number: i32, alloc: Global) -> Result<Lsa, AllocError>
+    requires { HasAll (Needs number (value_of wanted.now)) }
+    ensures { IfOk result (λ lsa. IsMade (lsa_value number (value_of wanted.now)) lsa) }
+{
+    match wanted.make(number, alloc) {
+        Ok(lsa) => Ok(lsa),
+        Err(fault) => Err(want_of_memory(fault)),
+    }
+}
+
+// Tells of an LSA that is issued.
+fn tell_issued(out: &mut Outputs, lsa: &LsaView<'_>, alloc: Global) -> Result<(), AllocError>
+    ensures { OnOk result (out.new ≡ record out.old { issued = out.old.issued ++ lsa.now ∷ [] }) }
+{
+    match Lsa::copy(alloc, lsa) {
+        Ok(copy) => {
+            out.issued.push(copy)?;
+            Ok(())
+        }
+        Err(_) => Err(AllocError),
+    }
+}
+
+// The tick of an issue is kept.
+fn note_tick(area: &mut Area, key: &LsaKey)
+    ensures { area.new ≡ record area.old { numbering = issued key.now area.old.tick area.old.numbering } }
+{
+    let tick = area.tick;
+    note_issue(&mut area.numbering, key, tick);
+}
+
+/// Issues a wanted LSA with a number (RFC 2328, section 12.4): it is stored as an LSA of a neighbour's is, at age 0, and
+/// flooded to all.
+///
+/// `AllocError` where memory runs out; then the router is to be stopped.
+pub fn issue(
+    area: &mut Area,
+    wanted: &OwnLsa,
+    number: i32,
+    out: &mut Outputs,
+    alloc: Global,
+) -> Result<(), AllocError>
+    requires { HasAll (Needs number (value_of wanted.now)) }
+    ensures { OnOk result (Issues (value_of wanted.now) number area.old out.old out.new area.new) }
+{
+    let key = wanted.key();
+    let lsa = made(wanted, number, alloc)?;
+    tell_issued(out, &lsa.view(), alloc)?;
+    let _ = store(area, lsa, None, out, alloc)?;
+    note_tick(area, &key);
+    Ok(())
+}

@@ -1,0 +1,4 @@
+pub mod PackLemmas
+pub mod KeyLists
+pub mod DueLemmas
+pub mod QuietLemmas

@@ -1,0 +1,4 @@
+pub mod Packing
+pub mod Answers
+pub mod Repeats
+pub mod Laws

@@ -1,0 +1,59 @@
+-- How copies of the database are packed into Updates (RFC 2328, sections 10.7, 13.3 and 13.6).
+use Rattle.std.specs.Prelude.{◌+◌, ◌-◌, ◌++◌, ◌||◌, ℕ, Bool, true, false, List, [], ◌∷◌, Option, None, Some, length, map, nat_le, if◌then◌else◌}
+use Rattle.ospf_base.specs.Constants.{ip_header, packet_header}
+use Rattle.ospf_base.specs.declared.ids.Addr.{Addr}
+use Rattle.ospf_base.specs.declared.ids.LsaKey.{LsaKey}
+use Rattle.ospf_lsdb.specs.Database.{Entry, Held, entry_of, lsa_of}
+use Rattle.ospf_packet.specs.Meaning.{update}
+use Rattle.ospf_area.specs.Sending.{sent_lsa}
+use Rattle.ospf_adjacency.specs.Packets.{Parcel}
+
+-- ---- copies
+
+-- the copy of an entry, if there is one, as it is sent: InfTransDelay older (13.3)
+abbrev pub with_copy : ℕ → Option Entry → List (List ℕ) → List (List ℕ)
+with_copy delay None rest = rest
+with_copy delay (Some e) rest = sent_lsa delay (lsa_of e) ∷ rest
+
+-- the copies of these keys, as they are sent
+abbrev pub copies_of : List Held → ℕ → List LsaKey → List (List ℕ)
+copies_of db delay [] = []
+copies_of db delay (k ∷ ks) = with_copy delay (entry_of db k) (copies_of db delay ks)
+
+-- ---- Updates
+
+-- the bytes of the number of LSAs in an Update (A.3.5)
+abbrev pub update_count : ℕ
+update_count = 4
+
+-- how many bytes of LSAs an Update has room for, behind an IP header, a packet header and their number
+abbrev pub update_room : ℕ → ℕ
+update_room mtu = mtu - (ip_header + packet_header + update_count)
+
+abbrev pub bytes_in : List (List ℕ) → ℕ
+bytes_in [] = 0
+bytes_in (lsa ∷ lsas) = length lsa + bytes_in lsas
+
+abbrev pub has_none : List (List ℕ) → Bool
+has_none [] = true
+has_none (lsa ∷ lsas) = false
+
+-- an LSA goes into an Update behind these: a first one always does
+abbrev pub goes_in : ℕ → List (List ℕ) → List ℕ → Bool
+goes_in room batch lsa = has_none batch || nat_le (length lsa) (room - bytes_in batch)
+
+abbrev pub last_batch : List (List ℕ) → List (List (List ℕ))
+last_batch [] = []
+last_batch (lsa ∷ lsas) = (lsa ∷ lsas) ∷ []
+
+-- LSAs in their order, as many in an Update as fit, behind those that are in the first one already
+abbrev pub packed : ℕ → List (List ℕ) → List (List ℕ) → List (List (List ℕ))
+packed room batch [] = last_batch batch
+packed room batch (lsa ∷ lsas) = if goes_in room batch lsa then packed room (batch ++ lsa ∷ []) lsas else batch ∷ packed room (lsa ∷ []) lsas
+
+abbrev pub update_to : Addr → List (List ℕ) → Parcel
+update_to destination lsas = record { destination = destination; body = update lsas }
+
+-- the Updates with the copies of these keys (10.7, 13.6)
+abbrev pub updates_of : Addr → ℕ → ℕ → List Held → List LsaKey → List Parcel
+updates_of destination mtu delay db keys = map (update_to destination) (packed (update_room mtu) [] (copies_of db delay keys))

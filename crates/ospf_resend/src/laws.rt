@@ -1,0 +1,14 @@
+//! Laws: each holds of all neighbours and databases.
+
+ghost use Rattle.ospf_resend.specs.Laws.{AnswersAreQuiet, RepeatsAreQuiet};
+
+/// By a Request that is answered, or not, no list gains an entry, none loses one but below Exchange, the neighbour does
+/// not enter Exchange, and only copies of the database go out.
+pub fn answers_are_quiet()
+    ensures { AnswersAreQuiet }
+{}
+
+/// So it is with what is sent again.
+pub fn repeats_are_quiet()
+    ensures { RepeatsAreQuiet }
+{}

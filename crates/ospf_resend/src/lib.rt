@@ -1,0 +1,18 @@
+//! Copies of the database that are sent to one neighbour: as answers to its Requests, and again (RFC 2328, sections 10.7
+//! and 13.6), with the repeats of Database Descriptions and Requests.
+//!
+//! `take_request` answers a Request, and `repeat` sends again what is due in a tick. Both put what goes out behind a list of
+//! `Outgoing`, and answer the keys whose copies are among it.
+#![tactic(auto)]
+
+mod answering;
+mod laws;
+mod packing;
+mod repeating;
+#[cfg(test)]
+mod tests;
+
+pub use crate::answering::take_request;
+pub use crate::laws::{answers_are_quiet, repeats_are_quiet};
+pub use crate::packing::send_copies;
+pub use crate::repeating::repeat;

@@ -1,0 +1,419 @@
+//! Requests that are answered, repeats, and Database Descriptions over an MTU of 576.
+
+use crate::{repeat, take_request};
+use ospf_adjacency::{Outgoing, request_turn, take_description, take_event};
+use ospf_base::{Addr, Age, AreaId, Instance, InterfaceKind, Kind, LsaKey, RouterId};
+use ospf_exchange::Local;
+use ospf_iface::{Iface, IfaceSettings, IfaceState};
+use ospf_lsa::{Lsa, LsaHeader};
+use ospf_lsdb::Lsdb;
+use ospf_neighbour::{NbrEvent, Neighbour, NeighbourState};
+use ospf_packet::{Body, BodyValue, Description, Packet, PacketValue, RequestEntry, write_packet};
+use std::alloc::Global;
+use std::test::Fail;
+
+// 0x80000001, the number that a router uses first.
+const FIRST: i32 = -0x7fff_ffff;
+
+const MTU: u16 = 576;
+
+const RETRANSMIT: u16 = 5;
+
+const DELAY: u16 = 3;
+
+const LOCAL: Local = Local {
+    router: RouterId(9),
+    mtu: MTU,
+    tick: 7,
+};
+
+fn require(holds: bool) -> Result<(), Fail> {
+    if holds { Ok(()) } else { Err("not so".into()) }
+}
+
+fn at_tick(tick: u64) -> Local {
+    Local { tick, ..LOCAL }
+}
+
+// ---- a router with one neighbour
+
+fn iface() -> Iface {
+    Iface {
+        settings: IfaceSettings {
+            router: LOCAL.router,
+            kind: InterfaceKind::Broadcast,
+            address: Addr(9),
+            mask: 0xffff_ff00,
+            priority: 1,
+            hello: 10,
+            dead: 40,
+        },
+        state: IfaceState::Dr,
+        dr: Addr(9),
+        backup: Addr(2),
+        wait: 0,
+        hello_in: 0,
+    }
+}
+
+// The router-LSA of a router without links, ten ticks old.
+fn lsa_of(alloc: Global, router: u32) -> Result<Lsa, Fail> {
+    let mut lsa = Lsa::router(alloc, RouterId(router), FIRST, &[])?;
+    lsa.set_age(Age::new(10));
+    Ok(lsa)
+}
+
+fn key_of(router: u32) -> LsaKey {
+    LsaKey {
+        kind: Kind::Router,
+        id: router,
+        router: RouterId(router),
+    }
+}
+
+// A database with the router-LSAs of the routers up to this one.
+fn database_of(alloc: Global, count: u32) -> Result<Lsdb, Fail> {
+    let mut database = Lsdb::new(alloc);
+    for router in 0..count {
+        database.install(lsa_of(alloc, router)?, 5, true)?;
+    }
+    Ok(database)
+}
+
+fn headers_of(alloc: Global, count: u32) -> Result<Vec<LsaHeader>, Fail> {
+    let mut headers = Vec::new(alloc);
+    for router in 0..count {
+        headers.push(lsa_of(alloc, router)?.view().header())?;
+    }
+    Ok(headers)
+}
+
+// A neighbour in ExStart, to which the first Database Description has gone out with the number 300.
+fn starting(alloc: Global, router: u32) -> Result<Neighbour, Fail> {
+    let mut neighbour = Neighbour::new(alloc, RouterId(router), Addr(router));
+    let mut numbers = 300;
+    let mut out = Vec::new(alloc);
+    for event in [NbrEvent::HelloReceived, NbrEvent::TwoWayReceived(true)] {
+        take_event(
+            &mut neighbour,
+            event,
+            &iface(),
+            LOCAL,
+            &mut numbers,
+            &mut out,
+            alloc,
+        )?;
+    }
+    require(out.len() == 1)?;
+    Ok(neighbour)
+}
+
+// A neighbour in Loading that has described these, or in Full.
+fn loading(alloc: Global, described: &[LsaHeader]) -> Result<Neighbour, Fail> {
+    let mut neighbour = starting(alloc, 2)?;
+    neighbour.event(NbrEvent::NegotiationDone, 40);
+    if neighbour.is_exchanging() {
+        neighbour.add_requests(described)?;
+    }
+    neighbour.event(NbrEvent::ExchangeDone, 40);
+    Ok(neighbour)
+}
+
+// ---- what comes
+
+fn bytes_of(alloc: Global, body: BodyValue) -> Result<Vec<u8>, Fail> {
+    let packet = PacketValue {
+        router: RouterId(12),
+        area: AreaId(0),
+        body,
+    };
+    let mut bytes = Vec::new(alloc);
+    write_packet(&packet, &mut bytes)?;
+    Ok(bytes)
+}
+
+// Takes a Database Description with these flags and this number, and no headers. Answers whether it was taken.
+fn describes(
+    neighbour: &mut Neighbour,
+    flags: u8,
+    number: u32,
+    database: &Lsdb,
+    out: &mut Vec<Outgoing>,
+    alloc: Global,
+) -> Result<bool, Fail> {
+    let fields = Description {
+        mtu: MTU,
+        options: 2,
+        flags,
+        number,
+    };
+    let bytes = bytes_of(alloc, BodyValue::Description(fields, Vec::new(alloc)))?;
+    takes_description(neighbour, &bytes, database, out, alloc)
+}
+
+fn takes_description(
+    neighbour: &mut Neighbour,
+    bytes: &[u8],
+    database: &Lsdb,
+    out: &mut Vec<Outgoing>,
+    alloc: Global,
+) -> Result<bool, Fail> {
+    let packet = Packet::read(bytes)?;
+    let Body::Description(fields, headers) = packet.body else {
+        return Err("no Database Description".into());
+    };
+    let sender = neighbour.router();
+    let mut numbers = 301;
+    let taken = take_description(
+        neighbour,
+        sender,
+        fields,
+        headers,
+        database,
+        &iface(),
+        LOCAL,
+        &mut numbers,
+        out,
+        alloc,
+    )?;
+    Ok(taken)
+}
+
+// Takes a Request for the router-LSAs of these routers. Answers how many keys were answered.
+fn requests(
+    neighbour: &mut Neighbour,
+    routers: &[u32],
+    database: &Lsdb,
+    out: &mut Vec<Outgoing>,
+    alloc: Global,
+) -> Result<usize, Fail> {
+    let mut entries = Vec::new(alloc);
+    for router in routers {
+        entries.push(RequestEntry {
+            kind: 1,
+            id: *router,
+            router: RouterId(*router),
+        })?;
+    }
+    let bytes = bytes_of(alloc, BodyValue::Request(entries))?;
+    takes_request(neighbour, &bytes, database, out, alloc)
+}
+
+fn takes_request(
+    neighbour: &mut Neighbour,
+    bytes: &[u8],
+    database: &Lsdb,
+    out: &mut Vec<Outgoing>,
+    alloc: Global,
+) -> Result<usize, Fail> {
+    let packet = Packet::read(bytes)?;
+    let Body::Request(entries) = packet.body else {
+        return Err("no Request".into());
+    };
+    if !neighbour.is_exchanging() {
+        return Err("below Exchange".into());
+    }
+    let mut numbers = 301;
+    let keys = take_request(
+        neighbour,
+        entries,
+        database,
+        &iface(),
+        LOCAL,
+        DELAY,
+        &mut numbers,
+        out,
+        alloc,
+    )?;
+    Ok(keys.len())
+}
+
+// What is sent again at a tick, and how many keys are among it.
+fn repeats(
+    neighbour: &mut Neighbour,
+    tick: u64,
+    database: &Lsdb,
+    alloc: Global,
+) -> Result<(Vec<Outgoing>, usize), Fail> {
+    let mut out = Vec::new(alloc);
+    let keys = repeat(
+        neighbour,
+        database,
+        &iface(),
+        at_tick(tick),
+        RETRANSMIT,
+        DELAY,
+        &mut out,
+        alloc,
+    )?;
+    Ok((out, keys.len()))
+}
+
+// ---- what goes out
+
+// The flags, the number and how many headers the last packet has, a Database Description.
+fn last_description(out: &[Outgoing]) -> Result<(u8, u32, usize), Fail> {
+    let last = out.last().ok_or("nothing sent")?;
+    match &last.body {
+        BodyValue::Description(fields, headers) => {
+            Ok((fields.flags, fields.number, headers.len()))
+        }
+        _ => Err("another packet".into()),
+    }
+}
+
+// How many entries the last packet has, a Request.
+fn last_request(out: &[Outgoing]) -> Result<usize, Fail> {
+    let last = out.last().ok_or("nothing sent")?;
+    match &last.body {
+        BodyValue::Request(entries) => Ok(entries.len()),
+        _ => Err("another packet".into()),
+    }
+}
+
+// How many LSAs a packet has, the age of the last, and its Advertising Router.
+fn update_in(packet: &Outgoing) -> Result<(usize, u16, u32), Fail> {
+    match &packet.body {
+        BodyValue::Update(lsas) => {
+            let last = lsas.last().ok_or("no LSA")?.view().header();
+            Ok((lsas.len(), last.age.ticks(), last.router.0))
+        }
+        _ => Err("another packet".into()),
+    }
+}
+
+// ---- Database Descriptions
+
+// I, M and MS; M and MS; MS.
+const FIRST_OF_MASTER: u8 = 7;
+
+const LAST_OF_MASTER: u8 = 1;
+
+const MORE: u8 = 2;
+
+// 26 headers with M set, then one; and that last packet again where the master repeats its own.
+#[test]
+fn a_slave_with_27_lsas(rt: HostRuntime) -> Result<(), Fail> {
+    let alloc = rt.alloc();
+    let database = database_of(alloc, 27)?;
+    let mut slave = starting(alloc, 12)?;
+    let mut out = Vec::new(alloc);
+    assert!(rt; describes(&mut slave, FIRST_OF_MASTER, 700, &database, &mut out, alloc)?);
+    assert_eq!(rt; last_description(&out)?, (MORE, 700, 26));
+    for count in [2, 3] {
+        assert!(rt; describes(&mut slave, LAST_OF_MASTER, 701, &database, &mut out, alloc)?);
+        assert_eq!(rt; out.len(), count);
+        assert_eq!(rt; last_description(&out)?, (0, 701, 1));
+        assert_eq!(rt; slave.state(), NeighbourState::Full);
+    }
+    Ok(())
+}
+
+// The slave's packet again is passed over; the master sends its own again after RxmtInterval, and not a tick before.
+#[test]
+fn a_master_gets_one_again(rt: HostRuntime) -> Result<(), Fail> {
+    let alloc = rt.alloc();
+    let database = database_of(alloc, 1)?;
+    let mut master = starting(alloc, 3)?;
+    let mut out = Vec::new(alloc);
+    for _ in 0..2 {
+        assert!(rt; describes(&mut master, MORE, 300, &database, &mut out, alloc)?);
+        assert_eq!(rt; out.len(), 1);
+        assert_eq!(rt; last_description(&out)?, (LAST_OF_MASTER, 301, 1));
+    }
+    let (early, _) = repeats(&mut master, 11, &database, alloc)?;
+    assert_eq!(rt; early.len(), 0);
+    let (due, _) = repeats(&mut master, 12, &database, alloc)?;
+    assert_eq!(rt; due.len(), 1);
+    assert_eq!(rt; last_description(&due)?, (LAST_OF_MASTER, 301, 1));
+    let (again, _) = repeats(&mut master, 16, &database, alloc)?;
+    assert_eq!(rt; again.len(), 0);
+    Ok(())
+}
+
+// ---- Requests
+
+#[test]
+fn a_request_has_44_entries(rt: HostRuntime) -> Result<(), Fail> {
+    let alloc = rt.alloc();
+    let database = Lsdb::new(alloc);
+    let mut neighbour = loading(alloc, &headers_of(alloc, 50)?)?;
+    let mut out = Vec::new(alloc);
+    request_turn(&mut neighbour, &iface(), LOCAL, &mut out, alloc)?;
+    assert_eq!(rt; last_request(&out)?, 44);
+    let (early, _) = repeats(&mut neighbour, 11, &database, alloc)?;
+    assert_eq!(rt; early.len(), 0);
+    let (due, keys) = repeats(&mut neighbour, 12, &database, alloc)?;
+    assert_eq!(rt; (due.len(), keys), (1, 0));
+    assert_eq!(rt; last_request(&due)?, 44);
+    Ok(())
+}
+
+// Each key once, in order, as many in an Update as fit, three ticks older: 22 of 24 bytes in 528.
+#[test]
+fn a_request_is_answered(rt: HostRuntime) -> Result<(), Fail> {
+    let alloc = rt.alloc();
+    let database = database_of(alloc, 30)?;
+    let mut neighbour = loading(alloc, &[])?;
+    let mut out = Vec::new(alloc);
+    let routers = [
+        24, 23, 22, 21, 20, 19, 18, 17, 16, 15, 14, 13, 12, 11, 10, 9, 8, 7, 6, 5, 4, 3, 2, 1, 24,
+    ];
+    let keys = requests(&mut neighbour, &routers, &database, &mut out, alloc)?;
+    assert_eq!(rt; (out.len(), keys), (2, 24));
+    let first = out.first().ok_or("nothing sent")?;
+    assert_eq!(rt; first.destination, Addr(2));
+    assert_eq!(rt; update_in(first)?, (22, 13, 22));
+    let last = out.last().ok_or("nothing sent")?;
+    assert_eq!(rt; update_in(last)?, (2, 13, 24));
+    Ok(())
+}
+
+#[test]
+fn a_missing_copy_begins_anew(rt: HostRuntime) -> Result<(), Fail> {
+    let alloc = rt.alloc();
+    let database = database_of(alloc, 3)?;
+    let mut neighbour = loading(alloc, &[])?;
+    let mut out = Vec::new(alloc);
+    let keys = requests(&mut neighbour, &[1, 7], &database, &mut out, alloc)?;
+    assert_eq!(rt; (out.len(), keys), (1, 0));
+    assert_eq!(rt; last_description(&out)?, (FIRST_OF_MASTER, 301, 0));
+    assert_eq!(rt; neighbour.state(), NeighbourState::ExStart);
+    Ok(())
+}
+
+// ---- retransmission lists
+
+// What is due goes out in one Update, and what is not stays. A copy that has gone is not sent.
+#[test]
+fn what_is_due_goes_again(rt: HostRuntime) -> Result<(), Fail> {
+    let alloc = rt.alloc();
+    let database = database_of(alloc, 4)?;
+    let mut neighbour = loading(alloc, &[])?;
+    lists(&mut neighbour, alloc)?;
+    let (early, _) = repeats(&mut neighbour, 11, &database, alloc)?;
+    assert_eq!(rt; early.len(), 0);
+    let (out, keys) = repeats(&mut neighbour, 12, &database, alloc)?;
+    assert_eq!(rt; (out.len(), keys), (1, 2));
+    let first = out.first().ok_or("nothing sent")?;
+    assert_eq!(rt; update_in(first)?, (2, 13, 3));
+    let (again, _) = repeats(&mut neighbour, 13, &database, alloc)?;
+    assert_eq!(rt; again.len(), 1);
+    Ok(())
+}
+
+// Routers 3 and 1 wait since tick 7, router 2 since tick 8, and router 60 since tick 7.
+fn lists(neighbour: &mut Neighbour, alloc: Global) -> Result<(), Fail> {
+    for (router, tick) in [(3, 7), (2, 8), (1, 7), (60, 7)] {
+        let header = lsa_of(alloc, router)?.view().header();
+        let instance = Instance {
+            key: key_of(router),
+            number: header.number,
+            sum: header.sum,
+        };
+        if neighbour.is_exchanging() {
+            neighbour.relist(instance, tick)?;
+        }
+    }
+    Ok(())
+}

@@ -1,0 +1,4 @@
+pub mod StoreLemmas
+pub mod AckLemmas
+pub mod RemovalLemmas
+pub mod LawLemmas

@@ -1,0 +1,84 @@
+-- How acknowledgements are sent (RFC 2328, section 13.5): in order of key, as many in a packet as fit.
+use Rattle.std.specs.Prelude.{◌==◌, ◌&&◌, ◌||◌, ◌+◌, ◌-◌, ◌/◌, ℕ, zero, suc, min, Bool, Option, None, Some, List, [], ◌∷◌, drop, length, map, nat_lt, slice_get, take, if◌then◌else◌}
+use Rattle.std.specs.List.{flat_map}
+use Rattle.ospf_base.specs.Constants.{ip_header, lsa_header, packet_header}
+use Rattle.ospf_flood.specs.Links.{flooding_address}
+use Rattle.ospf_lsa.specs.declared.header.LsaHeader.{LsaHeader}
+use Rattle.ospf_packet.specs.Meaning as meaning
+use Rattle.ospf_area.specs.Outputs.{SentValue}
+use Rattle.ospf_area.specs.Places.{flat_from}
+use Rattle.ospf_area.specs.Sending.{datagrams, own_of, packet_of, to_address, way_out}
+use Rattle.ospf_area.specs.State.{AreaValue, LinkValue}
+use Rattle.ospf_area.specs.declared.flooding.Origin.{Origin}
+use Rattle.ospf_area.specs.declared.sending.Own.{Own}
+use Rattle.ospf_area.specs.declared.sending.Way.{Way}
+
+-- ---- in order of key
+
+-- by LS type, then by Link State ID, then by Advertising Router
+abbrev pub header_precedes : LsaHeader → LsaHeader → Bool
+header_precedes a b = nat_lt a.kind b.kind || ((a.kind == b.kind) && (nat_lt a.id b.id || ((a.id == b.id) && nat_lt a.router.0 b.router.0)))
+
+-- a header behind those that it does not precede
+abbrev pub put_in_order : LsaHeader → List LsaHeader → List LsaHeader
+put_in_order h [] = h ∷ []
+put_in_order h (x ∷ xs) = if header_precedes h x then h ∷ x ∷ xs else x ∷ put_in_order h xs
+
+-- headers among those that are in order
+abbrev pub put_all_in_order : List LsaHeader → List LsaHeader → List LsaHeader
+put_all_in_order [] sorted = sorted
+put_all_in_order (h ∷ hs) sorted = put_all_in_order hs (put_in_order h sorted)
+
+abbrev pub in_order : List LsaHeader → List LsaHeader
+in_order hs = put_all_in_order hs []
+
+-- ---- as many in a packet as fit
+
+-- how many headers an Acknowledgment has room for, behind an IP header and a packet header
+abbrev pub ack_room : ℕ → ℕ
+ack_room mtu = (mtu - (ip_header + packet_header)) / lsa_header
+
+-- so many at once, at most `n` times
+unfoldable pub cut : ℕ → ℕ → List LsaHeader → List (List LsaHeader)
+cut zero room hs = []
+cut (suc n) room [] = []
+cut (suc n) room (h ∷ hs) = take (min room (length (h ∷ hs))) (h ∷ hs) ∷ cut n room (drop (min room (length (h ∷ hs))) (h ∷ hs))
+
+abbrev pub packets : ℕ → List LsaHeader → List (List LsaHeader)
+packets room hs = cut (length hs) room hs
+
+-- an Acknowledgment
+abbrev pub ack_out : Own → Way → List LsaHeader → List SentValue
+ack_out own way hs = datagrams way (packet_of own (meaning.acknowledgment hs))
+
+-- Acknowledgments, as many headers in each as fit
+abbrev pub packed_out : Own → Way → ℕ → List LsaHeader → List SentValue
+packed_out own way room hs = flat_map (ack_out own way) (packets room hs)
+
+abbrev pub acks_out : Own → Way → ℕ → List LsaHeader → List SentValue
+acks_out own way mtu hs = packed_out own way (ack_room mtu) (in_order hs)
+
+-- ---- direct ones, at the end of an Update
+
+abbrev pub direct_out_on : Own → Origin → List LsaHeader → Option LinkValue → List SentValue
+direct_out_on own f hs None = []
+direct_out_on own f hs (Some link) = acks_out own (way_out f.link link.iface (to_address link.iface f.address)) link.settings.mtu hs
+
+-- to the neighbour that sent the Update
+abbrev pub direct_out : Origin → AreaValue → List SentValue
+direct_out f s = direct_out_on (own_of s) f s.direct (slice_get s.links f.link)
+
+-- ---- delayed ones, at the next tick
+
+-- to where flooded Updates go
+abbrev pub delayed_out_on : Own → ℕ → LinkValue → List SentValue
+delayed_out_on own l link = acks_out own (way_out l link.iface (flooding_address link.iface)) link.settings.mtu link.delayed
+
+abbrev pub delayed_out : Own → List LinkValue → List SentValue
+delayed_out own links = flat_from (delayed_out_on own) 0 links
+
+abbrev pub undelayed_link : LinkValue → LinkValue
+undelayed_link link = record link { delayed = [] }
+
+abbrev pub undelayed : List LinkValue → List LinkValue
+undelayed links = map undelayed_link links

@@ -1,0 +1,85 @@
+-- LSAs at MaxAge (RFC 2328, sections 14 and 14.1).
+use Rattle.std.specs.Prelude.{◌≡◌, ◌+◌, ◌%◌, ◌^◌, ◌++◌, Bool, true, Option, None, Some, List, [], ◌∷◌, option_map, if◌then◌else◌}
+use Rattle.ospf_base.specs.Constants.{max_age}
+use Rattle.ospf_base.specs.declared.ids.LsaKey.{LsaKey}
+use Rattle.ospf_lsdb.specs.Database as lsdb
+use Rattle.ospf_lsdb.specs.Database.{Ages, Entry, Puts, held_of, lsa_of, reached_at}
+use Rattle.ospf_lsa.specs.Header.{header_of}
+use Rattle.ospf_lsa.specs.Lsa.{key_of}
+use Rattle.ospf_area.specs.Asking.{turn_requests, turned_links}
+use Rattle.ospf_area.specs.Flooding.{flooding_updates, goes_anywhere}
+use Rattle.ospf_update.specs.Meets.{flooded_area}
+use Rattle.ospf_area.specs.Numbers.{marked}
+use Rattle.ospf_area.specs.Outputs.{SentValue}
+use Rattle.ospf_area.specs.Sending.{own_of}
+use Rattle.ospf_area.specs.State.{AreaValue, entry_of}
+
+-- ---- what comes of each flood
+
+-- LoadingDone and the next Requests of all neighbours
+abbrev pub turned_area : AreaValue → AreaValue
+turned_area s = record s { links = turned_links (own_of s) s.links }
+
+abbrev pub turn_out : AreaValue → List SentValue
+turn_out s = turn_requests (own_of s) s.links
+
+-- ---- a copy goes to all
+
+-- it was sent in an Update in this tick, if it was (13, step 8)
+abbrev pub noted : LsaKey → Bool → AreaValue → AreaValue
+noted key went s = if went then record s { sent = marked key true s.sent } else s
+
+-- the database's copy of a key is flooded to all neighbours, and stays where it is (14, 14.1)
+abbrev pub copy_flooded_by : Option Entry → LsaKey → AreaValue → AreaValue
+copy_flooded_by None key s = s
+copy_flooded_by (Some e) key s = noted key (goes_anywhere (key_of (lsa_of e)) (header_of (lsa_of e)) None s.links) (flooded_area (lsa_of e) None s)
+
+abbrev pub copy_flooded : LsaKey → AreaValue → AreaValue
+copy_flooded key s = copy_flooded_by (entry_of s key) key s
+
+abbrev pub copy_flood_out_by : Option Entry → AreaValue → List SentValue
+copy_flood_out_by None s = []
+copy_flood_out_by (Some e) s = flooding_updates (own_of s) (lsa_of e) None s.links
+
+abbrev pub copy_flood_out : LsaKey → AreaValue → List SentValue
+copy_flood_out key s = copy_flood_out_by (entry_of s key) s
+
+-- and the Requests that come of it
+abbrev pub copy_sent : LsaKey → AreaValue → AreaValue
+copy_sent key s = turned_area (copy_flooded key s)
+
+abbrev pub copy_out : LsaKey → AreaValue → List SentValue
+copy_out key s = copy_flood_out key s ++ turn_out (copy_flooded key s)
+
+-- the copies of these keys, one after the other
+abbrev pub copies_sent : List LsaKey → AreaValue → AreaValue
+copies_sent [] s = s
+copies_sent (key ∷ keys) s = copies_sent keys (copy_sent key s)
+
+abbrev pub copies_out : List LsaKey → AreaValue → List SentValue
+copies_out [] s = []
+copies_out (key ∷ keys) s = copy_out key s ++ copies_out keys (copy_sent key s)
+
+-- ---- a tick (14)
+
+-- all ages rise, and a tick begins in which nothing was sent
+pub record AgesRise (before after : AreaValue) : Type 0 where
+  pub database : Ages before.database after.database
+  pub rest : after ≡ record before { database = after.database; tick = (before.tick + 1) % 2 ^ 64; sent = [] }
+
+-- all ages rise, and the copies that come to MaxAge go to all, in order of key
+pub record TickAges (before : AreaValue) (sent : List SentValue) (after : AreaValue) : Type 0 where
+  pub mid : AreaValue
+  pub rise : AgesRise before mid
+  pub state : after ≡ copies_sent (reached_at max_age mid.database) mid
+  pub sends : sent ≡ copies_out (reached_at max_age mid.database) mid
+
+-- ---- a flush (14.1)
+
+-- the copy's age becomes MaxAge, and nothing else of it changes; then it goes to all
+pub record Flushes (key : LsaKey) (before : AreaValue) (sent : List SentValue) (after : AreaValue) : Type 0 where
+  pub mid : AreaValue
+  pub database : Puts key (option_map lsdb.expired (held_of before.database key)) before.database mid.database
+  pub rest : mid ≡ record before { database = mid.database }
+  pub state : after ≡ copy_sent key mid
+  pub sends : sent ≡ copy_out key mid

@@ -1,0 +1,6 @@
+pub mod Meets
+pub mod Acks
+pub mod Aging
+pub mod Removal
+pub mod Updates
+pub mod Laws

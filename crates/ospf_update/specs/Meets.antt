@@ -1,0 +1,194 @@
+-- What an LSA of an Update does, and a header of an Acknowledgment (RFC 2328, sections 13 and 13.7).
+use Rattle.std.specs.Prelude.{◌≡◌, ◌+◌, ◌%◌, ◌^◌, ◌++◌, ℕ, Bool, true, Option, None, Some, is_some, List, [], ◌∷◌, slice_get, if◌then◌else◌}
+use Rattle.ospf_base.specs.Constants.{router_options}
+use Rattle.ospf_base.specs.declared.ids.Instance.{Instance}
+use Rattle.ospf_base.specs.declared.ids.LsaKey.{LsaKey}
+use Rattle.ospf_exchange.specs.Headers.{copy_of}
+use Rattle.ospf_lsa.specs.Header.{key_of_header}
+use Rattle.ospf_exchange.specs.Flags.{first_flags}
+use Rattle.ospf_flood.specs.Links.{case_of_newer, case_of_same}
+use Rattle.ospf_flood.specs.Rules.{is_sent_back, lsa_rule}
+use Rattle.ospf_lsdb.specs.Database.{header_at, instance_at}
+use Rattle.ospf_flood.specs.declared.acknowledgement.AcknowledgementCase.TheVariants.{Expired}
+use Rattle.ospf_flood.specs.declared.rule.LsaRule.{LsaRule}
+use Rattle.ospf_flood.specs.declared.rule.LsaRule.TheVariants.{AcknowledgesExpired, TooSoon, Installs, BadRequest, Duplicate, Stale}
+use Rattle.ospf_lsa.specs.Header.{header_of}
+use Rattle.ospf_lsa.specs.Lsa.{key_of, instance_of}
+use Rattle.ospf_lsa.specs.Recency.{recency}
+use Rattle.ospf_lsa.specs.declared.header.LsaHeader.{LsaHeader}
+use Rattle.ospf_lsa.specs.declared.recency.Recency.{Recency}
+use Rattle.ospf_lsa.specs.declared.recency.Recency.TheVariants.{Newer, Older, Same}
+use Rattle.ospf_lsdb.specs.Database as lsdb
+use Rattle.ospf_lsdb.specs.Database.{Entry, entry_from, lsa_of}
+use Rattle.ospf_packet.specs.Meaning as meaning
+use Rattle.ospf_packet.specs.declared.body.Description.{Description}
+use Rattle.ospf_area.specs.Changes.{changed_at}
+use Rattle.ospf_area.specs.Flooding.{flooded_back, flooded_links, flooding_updates, goes_anywhere, released}
+use Rattle.ospf_area.specs.Numbers.{counts, greatest_after, is_self_originated, marked}
+use Rattle.ospf_area.specs.Outputs.{OutputsValue, SentValue, and_takes}
+use Rattle.ospf_area.specs.Sending.{and_sends, datagrams, own_of, packet_of, sent_lsa, to_address, update_out, way_out}
+use Rattle.ospf_area.specs.Standing.{acknowledging, answer_at, is_awaited_of, is_requested_of, is_taken_in, origin_of}
+use Rattle.ospf_area.specs.State.{AreaValue, LinkValue, entry_of, some_link_loading, was_sent}
+use Rattle.ospf_area.specs.declared.changes.Change.TheVariants.{Acknowledges, IsSent, Restarts}
+use Rattle.ospf_area.specs.declared.flooding.Origin.{Origin}
+use Rattle.ospf_area.specs.declared.sending.Own.{Own}
+
+-- ---- an LSA is stored and flooded
+
+-- it is flooded out of all links
+abbrev pub flooded_area : List ℕ → Option Origin → AreaValue → AreaValue
+flooded_area lsa from s = record s { links = flooded_links (key_of lsa) (header_of lsa) from s.tick s.links }
+
+-- it is put in its key's place (13.2)
+pub record InstallsIn (lsa : List ℕ) (by_flooding : Bool) (before after : AreaValue) : Type 0 where
+  pub database : lsdb.Installs (entry_from lsa before.tick by_flooding) before.database after.database
+  pub rest : after ≡ record before { database = after.database }
+
+-- the Updates by which it is
+abbrev pub store_updates : List ℕ → Option Origin → AreaValue → List SentValue
+store_updates lsa from s = flooding_updates (own_of s) lsa from (released (key_of lsa) s.links)
+
+-- its old copy leaves all retransmission lists, then it is flooded, then it takes the old copy's place (13, steps 5b to
+-- 5d). It came from a neighbour, or is the router's own
+pub record Stores (lsa : List ℕ) (from : Option Origin) (before after : AreaValue) : Type 0 where
+  pub database : lsdb.Installs (entry_from lsa before.tick (is_some from)) before.database after.database
+  pub rest : after ≡ record before {
+    database = after.database;
+    links = flooded_links (key_of lsa) (header_of lsa) from before.tick (released (key_of lsa) before.links);
+    sent = marked (key_of lsa) (goes_anywhere (key_of lsa) (header_of lsa) from (released (key_of lsa) before.links)) before.sent;
+    numbering = counts (key_of lsa) (header_of lsa).number before;
+    greatest = greatest_after (key_of lsa) (header_of lsa).number before;
+  }
+
+-- ---- the rules of an Update
+
+-- which rule an LSA meets, if its sender is in Exchange or above
+abbrev pub rule_met : AreaValue → Origin → List ℕ → Option LsaRule
+rule_met s f lsa =
+    if is_taken_in (origin_of s.links f)
+    then Some (lsa_rule (header_of lsa) (entry_of s (key_of lsa)) (some_link_loading s.links) (is_requested_of (key_of lsa) (origin_of s.links f)) s.tick)
+    else None
+
+-- nothing happens
+pub record Unchanged (before : AreaValue) (out out' : OutputsValue) (after : AreaValue) : Type 0 where
+  pub state : after ≡ before
+  pub outputs : out' ≡ out
+
+-- a self-originated LSA is to be answered at the end of the step (13.4)
+abbrev pub heard_by : LsaKey → AreaValue → AreaValue
+heard_by key s = if is_self_originated s.router s.links key then record s { heard = s.heard ++ key ∷ [] } else s
+
+-- it is newer: it is stored and flooded, and acknowledged by the table (13, step 5)
+pub record Admits (f : Origin) (lsa : List ℕ) (before : AreaValue) (out out' : OutputsValue) (after : AreaValue) : Type 0 where
+  pub mid : AreaValue
+  pub stores : Stores lsa (Some f) before mid
+  pub state : after ≡ heard_by (key_of lsa)
+      (acknowledging (answer_at (case_of_newer (flooded_back (key_of lsa) (header_of lsa) (Some f) (released (key_of lsa) before.links))) f mid.links) f (header_of lsa) mid)
+  pub outputs : out' ≡ and_takes (and_sends out (store_updates lsa (Some f) before)) (instance_of lsa)
+
+-- it is at MaxAge and not known: it is acknowledged, and nothing else (13, step 4)
+pub record AnswersExpired (f : Origin) (lsa : List ℕ) (before : AreaValue) (out out' : OutputsValue) (after : AreaValue) : Type 0 where
+  pub state : after ≡ acknowledging (answer_at Expired f before.links) f (header_of lsa) before
+  pub outputs : out' ≡ and_takes out (instance_of lsa)
+
+-- ---- the exchange of databases begins again
+
+-- the first packet of an exchange: I, M and MS, and no headers (10.8)
+abbrev pub first_description : ℕ → ℕ → Description
+first_description mtu number = record { mtu = mtu; options = router_options; flags = first_flags; number = number }
+
+abbrev pub first_dd_on : Own → Origin → ℕ → Option LinkValue → List SentValue
+first_dd_on own f number None = []
+first_dd_on own f number (Some link) =
+    datagrams (way_out f.link link.iface (to_address link.iface f.address)) (packet_of own (meaning.description (first_description link.settings.mtu number) []))
+
+abbrev pub first_dd : Origin → AreaValue → List SentValue
+first_dd f s = first_dd_on (own_of s) f s.next_dd (slice_get s.links f.link)
+
+-- the neighbour is back in ExStart, with the next DD sequence number
+abbrev pub restarted : Origin → AreaValue → AreaValue
+restarted f s = record s { links = changed_at f (Restarts s.next_dd) s.tick s.links; next_dd = (s.next_dd + 1) % 2 ^ 32 }
+
+-- it was asked for, and is no newer than the copy: BadLSReq (13, step 6)
+pub record RestartsExchange (f : Origin) (before : AreaValue) (out out' : OutputsValue) (after : AreaValue) : Type 0 where
+  pub state : after ≡ restarted f before
+  pub outputs : out' ≡ and_sends out (first_dd f before)
+
+-- ---- the same instance as the copy
+
+-- where it was waited for, that ends; it is acknowledged by the table (13, step 7)
+abbrev pub duplicated : Origin → List ℕ → AreaValue → AreaValue
+duplicated f lsa s =
+    acknowledging (answer_at (case_of_same (is_awaited_of (instance_of lsa) (origin_of s.links f))) f s.links) f (header_of lsa)
+    (record s { links = changed_at f (Acknowledges (instance_of lsa)) s.tick s.links })
+
+pub record AcknowledgesDuplicate (f : Origin) (lsa : List ℕ) (before : AreaValue) (out out' : OutputsValue) (after : AreaValue) : Type 0 where
+  pub state : after ≡ duplicated f lsa before
+  pub outputs : out' ≡ out
+
+-- ---- older than the copy
+
+-- the copy that goes back: there is none where it was sent in an Update in this tick, or is about to leave (13, step 8)
+abbrev pub reply_of : Option Entry → Bool → Option (List ℕ)
+reply_of None sent = None
+reply_of (Some copy) sent = if is_sent_back copy sent then Some (lsa_of copy) else None
+
+abbrev pub reply_to : AreaValue → LsaKey → Option (List ℕ)
+reply_to s key = reply_of (entry_of s key) (was_sent s.sent key)
+
+-- an LSA in an Update to the neighbour
+abbrev pub lsa_out_on : Own → Origin → List ℕ → Option LinkValue → List SentValue
+lsa_out_on own f lsa None = []
+lsa_out_on own f lsa (Some link) = update_out own (way_out f.link link.iface (to_address link.iface f.address)) (sent_lsa link.settings.transmit_delay lsa ∷ [])
+
+abbrev pub lsa_out : Origin → List ℕ → AreaValue → List SentValue
+lsa_out f lsa s = lsa_out_on (own_of s) f lsa (slice_get s.links f.link)
+
+-- it goes back
+abbrev pub reply_out : Option (List ℕ) → Origin → AreaValue → List SentValue
+reply_out None f s = []
+reply_out (Some lsa) f s = lsa_out f lsa s
+
+-- it was sent to the neighbour, and in an Update in this tick
+abbrev pub replied : Option (List ℕ) → Origin → LsaKey → AreaValue → AreaValue
+replied None f key s = s
+replied (Some lsa) f key s = record s { links = changed_at f (IsSent (instance_of lsa)) s.tick s.links; sent = marked key true s.sent }
+
+pub record Replies (f : Origin) (key : LsaKey) (before : AreaValue) (out out' : OutputsValue) (after : AreaValue) : Type 0 where
+  pub state : after ≡ replied (reply_to before key) f key before
+  pub outputs : out' ≡ and_sends out (reply_out (reply_to before key) f before)
+
+-- ---- the rules together
+
+abbrev pub MeetsRule : Option LsaRule → Origin → List ℕ → AreaValue → OutputsValue → OutputsValue → AreaValue → Type 0
+MeetsRule None f lsa before out out' after = Unchanged before out out' after
+MeetsRule (Some AcknowledgesExpired) f lsa before out out' after = AnswersExpired f lsa before out out' after
+MeetsRule (Some TooSoon) f lsa before out out' after = Unchanged before out out' after
+MeetsRule (Some Installs) f lsa before out out' after = Admits f lsa before out out' after
+MeetsRule (Some BadRequest) f lsa before out out' after = RestartsExchange f before out out' after
+MeetsRule (Some Duplicate) f lsa before out out' after = AcknowledgesDuplicate f lsa before out out' after
+MeetsRule (Some Stale) f lsa before out out' after = Replies f (key_of lsa) before out out' after
+
+-- one LSA of an Update, from the outputs so far to those after it (13)
+abbrev pub MeetsLsa : Origin → List ℕ → AreaValue → OutputsValue → OutputsValue → AreaValue → Type 0
+MeetsLsa f lsa before out out' after = MeetsRule (rule_met before f lsa) f lsa before out out' after
+
+-- ---- a header of an Acknowledgment
+
+-- the instance that it names: that of the copy, to which it is the same (13.7)
+abbrev pub named_as : Recency → Entry → Option Instance
+named_as Same copy = Some (instance_at copy)
+named_as Newer copy = None
+named_as Older copy = None
+
+abbrev pub named_by : LsaHeader → Option Entry → Option Instance
+named_by h None = None
+named_by h (Some copy) = named_as (recency h (header_at copy)) copy
+
+abbrev pub taken_off : Origin → Option Instance → AreaValue → AreaValue
+taken_off f None s = s
+taken_off f (Some i) s = record s { links = changed_at f (Acknowledges i) s.tick s.links }
+
+-- the router once the neighbour acknowledged it
+abbrev pub header_met : Origin → LsaHeader → AreaValue → AreaValue
+header_met f h s = taken_off f (named_by h (copy_of s.database (key_of_header h))) s

@@ -1,0 +1,207 @@
+//! How acknowledgements are sent.
+
+ghost use Rattle.std.specs.Prelude.{◌≡◌, ◌<◌, ◌≤◌, [], IfOk, OnOk, Some, slice_get, map, length};
+ghost use Rattle.std.specs.List.{insert};
+ghost use Rattle.ospf_update.specs.Acks.{header_precedes, put_in_order, put_all_in_order, in_order, ack_room, ack_out, packed_out, acks_out, direct_out_on, direct_out, delayed_out_on, delayed_out, undelayed_link, undelayed};
+ghost use Rattle.ospf_area.specs.Sending.{and_sends, own_of};
+
+use ospf_area::{
+    Area, Link, LinkSettings, Origin, Outputs, Own, Way, own_of, send, to_address, way_out,
+};
+use ospf_base::{IP_HEADER, LSA_HEADER, PACKET_HEADER};
+use ospf_flood::flooding_address;
+use ospf_lsa::LsaHeader;
+use ospf_packet::{BodyValue, PacketValue};
+use std::alloc::{AllocError, Global};
+
+// Whether the key of a header stands before that of another.
+fn header_precedes(a: &LsaHeader, b: &LsaHeader) -> bool
+    ensures { result ≡ header_precedes a.now b.now }
+{
+    a.kind < b.kind || a.kind == b.kind && (a.id < b.id || a.id == b.id && a.router.0 < b.router.0)
+}
+
+// Where a header belongs, behind those that it does not precede.
+fn place_of(header: &LsaHeader, sorted: &[LsaHeader]) -> usize
+    ensures within { result ≤ length sorted.now }
+    ensures place { insert sorted.now result header.now ≡ put_in_order header.now sorted.now }
+{
+    for (place, other) in sorted.iter().enumerate() {
+        if header_precedes(header, other) {
+            return place;
+        }
+    }
+    sorted.len()
+}
+
+fn put_in_order(header: &LsaHeader, sorted: &mut Vec<LsaHeader>) -> Result<(), AllocError>
+    ensures { OnOk result (sorted.new.items ≡ put_in_order header.now sorted.old.items) }
+{
+    let place = place_of(header, sorted);
+    sorted.insert(place, *header)?;
+    Ok(())
+}
+
+// The headers in order of key.
+fn in_order(headers: &[LsaHeader], alloc: Global) -> Result<Vec<LsaHeader>, AllocError>
+    ensures { IfOk result (λ v. v.items ≡ in_order headers.now) }
+{
+    let mut sorted = Vec::new(alloc);
+    for header in headers {
+        put_in_order(header, &mut sorted)?;
+    }
+    Ok(sorted)
+}
+
+fn ack_room(settings: LinkSettings) -> usize
+    ensures value { result ≡ ack_room settings.mtu }
+    ensures some { 0 < result }
+{
+    (usize::from(settings.mtu) - IP_HEADER - PACKET_HEADER) / LSA_HEADER
+}
+
+fn send_ack(
+    out: &mut Outputs,
+    own: Own,
+    way: Way,
+    headers: &[LsaHeader],
+    alloc: Global,
+) -> Result<(), AllocError>
+    ensures { OnOk result (out.new ≡ and_sends out.old (ack_out own way headers.now)) }
+{
+    let headers = Vec::from_slice(alloc, headers)?;
+    let packet = PacketValue {
+        router: own.router,
+        area: own.area,
+        body: BodyValue::Acknowledgment(headers),
+    };
+    send(out, way, &packet, alloc)
+}
+
+// Sends headers, so many in a packet.
+fn send_packed(
+    out: &mut Outputs,
+    own: Own,
+    way: Way,
+    room: usize,
+    headers: &[LsaHeader],
+    alloc: Global,
+) -> Result<(), AllocError>
+    requires { 0 < room }
+    ensures { OnOk result (out.new ≡ and_sends out.old (packed_out own way room headers.now)) }
+{
+    let mut rest = headers;
+    while rest.len() > 0 {
+        let (now, later) = rest.split_at(room.min(rest.len()));
+        send_ack(out, own, way, now, alloc)?;
+        rest = later;
+    }
+    Ok(())
+}
+
+/// Sends Acknowledgments of headers, in order of key, as many in each as fit.
+///
+/// `AllocError` where memory runs out.
+pub fn send_acks(
+    out: &mut Outputs,
+    own: Own,
+    way: Way,
+    settings: LinkSettings,
+    headers: &[LsaHeader],
+    alloc: Global,
+) -> Result<(), AllocError>
+    ensures { OnOk result (out.new ≡ and_sends out.old (acks_out own way settings.mtu headers.now)) }
+{
+    let sorted = in_order(headers, alloc)?;
+    send_packed(out, own, way, ack_room(settings), &sorted, alloc)
+}
+
+// ---- direct ones
+
+fn send_direct_on(
+    link: &Link,
+    own: Own,
+    from: Origin,
+    headers: &[LsaHeader],
+    out: &mut Outputs,
+    alloc: Global,
+) -> Result<(), AllocError>
+    ensures { OnOk result (out.new ≡ and_sends out.old (direct_out_on own from headers.now (Some link.now))) }
+{
+    let way = way_out(
+        from.link,
+        &link.iface,
+        to_address(&link.iface, from.address),
+    );
+    send_acks(out, own, way, link.settings, headers, alloc)
+}
+
+fn send_direct_from(
+    links: &[Link],
+    own: Own,
+    from: Origin,
+    headers: &[LsaHeader],
+    out: &mut Outputs,
+    alloc: Global,
+) -> Result<(), AllocError>
+    ensures { OnOk result (out.new ≡ and_sends out.old (direct_out_on own from headers.now (slice_get links.now from.link))) }
+{
+    match links.get(from.link) {
+        Some(link) => send_direct_on(link, own, from, headers, out, alloc),
+        None => Ok(()),
+    }
+}
+
+/// Sends the direct acknowledgements of an Update to its sender (RFC 2328, section 13.5).
+///
+/// `AllocError` where memory runs out; then the router is to be stopped.
+pub fn send_direct(
+    area: &mut Area,
+    from: Origin,
+    out: &mut Outputs,
+    alloc: Global,
+) -> Result<(), AllocError>
+    ensures after { OnOk result (area.new ≡ record area.old { direct = [] }) }
+    ensures sent { OnOk result (out.new ≡ and_sends out.old (direct_out from area.old)) }
+{
+    let own = own_of(area);
+    send_direct_from(&area.links, own, from, &area.direct, out, alloc)?;
+    area.direct.clear();
+    Ok(())
+}
+
+// ---- delayed ones
+
+fn send_delayed_on(
+    link: &mut Link,
+    number: usize,
+    own: Own,
+    out: &mut Outputs,
+    alloc: Global,
+) -> Result<(), AllocError>
+    ensures after { OnOk result (link.new ≡ undelayed_link link.old) }
+    ensures sent { OnOk result (out.new ≡ and_sends out.old (delayed_out_on own number link.old)) }
+{
+    let way = way_out(number, &link.iface, flooding_address(&link.iface));
+    send_acks(out, own, way, link.settings, &link.delayed, alloc)?;
+    link.delayed.clear();
+    Ok(())
+}
+
+/// Sends the delayed acknowledgements of all links (section 13.5).
+///
+/// `AllocError` where memory runs out; then the router is to be stopped.
+pub fn send_delayed(
+    links: &mut [Link],
+    own: Own,
+    out: &mut Outputs,
+    alloc: Global,
+) -> Result<(), AllocError>
+    ensures after { OnOk result (links.new ≡ undelayed links.old) }
+    ensures sent { OnOk result (out.new ≡ and_sends out.old (delayed_out own links.old)) }
+{
+    for (number, link) in links.iter_mut().enumerate() {
+        send_delayed_on(link, number, own, out, alloc)?;
+    }
+    Ok(())
+}

@@ -1,0 +1,143 @@
+//! LSAs at MaxAge: ages that rise, copies that are flooded to all, and flushes.
+
+ghost use Rattle.std.specs.Prelude.{◌≡◌, List, OnOk, IfOk, option_map};
+ghost use Rattle.ospf_base.specs.Constants.{max_age};
+ghost use Rattle.ospf_lsdb.specs.Database.{Puts, expired, held_of, reached_at};
+ghost use Rattle.ospf_area.specs.Outputs.{SentValue};
+ghost use Rattle.ospf_update.specs.Aging.{turned_area, turn_out, noted, copy_flooded_by, copy_flooded, copy_flood_out_by, copy_flood_out, copy_sent, copy_out, copies_sent, copies_out, AgesRise, TickAges, Flushes};
+ghost use Rattle.ospf_area.specs.Sending.{and_sends};
+ghost use Rattle.ospf_area.specs.State.{copy_of};
+
+use crate::meeting::flood_in;
+use ospf_area::{Area, Outputs, mark, own_of, turn_requests};
+use ospf_base::{LsaKey, MAX_AGE};
+use ospf_lsa::Lsa;
+use std::alloc::{AllocError, Global};
+
+/// LoadingDone and the next Requests of all neighbours, where they are due (RFC 2328, sections 10.3 and 10.9): after each
+/// flood.
+///
+/// `AllocError` where memory runs out; then the router is to be stopped.
+pub fn turn_in(area: &mut Area, out: &mut Outputs, alloc: Global) -> Result<(), AllocError>
+    ensures after { OnOk result (area.new ≡ turned_area area.old) }
+    ensures sent { OnOk result (out.new ≡ and_sends out.old (turn_out area.old)) }
+{
+    let own = own_of(area);
+    turn_requests(&mut area.links, own, out, alloc)
+}
+
+fn note(area: &mut Area, key: LsaKey, went: bool) -> Result<(), AllocError>
+    ensures { OnOk result (area.new ≡ noted key went area.old) }
+{
+    if went {
+        mark(&mut area.sent, key, true)?;
+    }
+    Ok(())
+}
+
+fn copy_of(area: &Area, key: &LsaKey, alloc: Global) -> Result<Option<Lsa>, AllocError>
+    ensures { IfOk result (λ copy. copy ≡ copy_of area.now key.now) }
+{
+    let Some(copy) = area.database.get(key) else {
+        return Ok(None);
+    };
+    match copy.copy(alloc) {
+        Ok(lsa) => Ok(Some(lsa)),
+        Err(_) => Err(AllocError),
+    }
+}
+
+// Floods the copy of a key to all.
+fn flood_copy(
+    area: &mut Area,
+    key: LsaKey,
+    out: &mut Outputs,
+    alloc: Global,
+) -> Result<(), AllocError>
+    ensures after { OnOk result (area.new ≡ copy_flooded key area.old) }
+    ensures sent { OnOk result (out.new ≡ and_sends out.old (copy_flood_out key area.old)) }
+{
+    let Some(copy) = copy_of(area, &key, alloc)? else {
+        return Ok(());
+    };
+    let flooded = flood_in(area, &copy.view(), None, out, alloc)?;
+    note(area, key, flooded.anywhere)
+}
+
+/// Floods the copy of a key to all, and sends the Requests that come of it.
+///
+/// `AllocError` where memory runs out; then the router is to be stopped.
+pub fn send_copy(
+    area: &mut Area,
+    key: LsaKey,
+    out: &mut Outputs,
+    alloc: Global,
+) -> Result<(), AllocError>
+    ensures after { OnOk result (area.new ≡ copy_sent key area.old) }
+    ensures sent { OnOk result (out.new ≡ and_sends out.old (copy_out key area.old)) }
+{
+    flood_copy(area, key, out, alloc)?;
+    turn_in(area, out, alloc)
+}
+
+fn send_copies(
+    area: &mut Area,
+    keys: &[LsaKey],
+    out: &mut Outputs,
+    alloc: Global,
+) -> Result<(), AllocError>
+    ensures after { OnOk result (area.new ≡ copies_sent keys.now area.old) }
+    ensures sent { OnOk result (out.new ≡ and_sends out.old (copies_out keys.now area.old)) }
+{
+    for key in keys {
+        send_copy(area, *key, out, alloc)?;
+    }
+    Ok(())
+}
+
+fn rise(area: &mut Area)
+    ensures { AgesRise area.old area.new }
+{
+    area.tick = area.tick.wrapping_add(1);
+    area.sent.clear();
+    let _ = area.database.tick();
+}
+
+fn expired_keys(area: &Area, alloc: Global) -> Result<Vec<LsaKey>, AllocError>
+    ensures { IfOk result (λ keys. keys.items ≡ reached_at max_age area.now.database) }
+{
+    area.database.reached(MAX_AGE).collect(alloc)
+}
+
+/// A tick passes (section 14): all ages rise, and the copies that come to `MAX_AGE` are flooded to all, in order of key.
+///
+/// `AllocError` where memory runs out; then the router is to be stopped.
+pub fn age(area: &mut Area, out: &mut Outputs, alloc: Global) -> Result<(), AllocError>
+    ensures { OnOk result ((sent : List SentValue) × TickAges area.old sent area.new × (out.new ≡ and_sends out.old sent)) }
+{
+    rise(area);
+    let keys = expired_keys(area, alloc)?;
+    send_copies(area, &keys, out, alloc)
+}
+
+fn expire(area: &mut Area, key: &LsaKey)
+    ensures database { Puts key.now (option_map expired (held_of area.old.database key.now)) area.old.database area.new.database }
+    ensures rest { area.new ≡ record area.old { database = area.new.database } }
+{
+    let _ = area.database.expire(key);
+}
+
+/// Flushes the copy of a key (section 14.1): its age becomes `MAX_AGE`, and it is flooded to all.
+///
+/// `AllocError` where memory runs out; then the router is to be stopped.
+pub fn flush(
+    area: &mut Area,
+    key: LsaKey,
+    out: &mut Outputs,
+    alloc: Global,
+) -> Result<(), AllocError>
+    ensures { OnOk result ((sent : List SentValue) × Flushes key area.old sent area.new × (out.new ≡ and_sends out.old sent)) }
+{
+    expire(area, &key);
+    send_copy(area, key, out, alloc)
+}

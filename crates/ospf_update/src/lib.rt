@@ -1,0 +1,21 @@
+//! What Updates and the clock do to one router's area (RFC 2328, sections 13 and 14): what each LSA of an Update meets, how
+//! LSAs are acknowledged, how they age, are flushed, and leave.
+#![tactic(auto)]
+
+mod acks;
+mod aging;
+mod laws;
+mod meeting;
+mod removal;
+#[cfg(test)]
+mod tests;
+mod updates;
+
+pub use crate::acks::{send_acks, send_delayed, send_direct};
+pub use crate::aging::{age, flush, send_copy, turn_in};
+pub use crate::laws::{
+    removed_entries, stored_entry, stored_neighbours, stored_numbers, stored_reaches, stored_stays,
+};
+pub use crate::meeting::{flood_in, on_header, on_lsa, restart, rule_met, store};
+pub use crate::removal::{remove, some_awaits};
+pub use crate::updates::on_update;

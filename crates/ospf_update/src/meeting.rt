@@ -1,0 +1,377 @@
+//! What an LSA of an Update does, and a header of an Acknowledgment.
+
+ghost use Rattle.std.specs.Prelude.{◌≡◌, ◌==◌, [], IfOk, None, OnOk, Some, slice_get};
+ghost use Rattle.ospf_base.specs.Constants.{max_age};
+ghost use Rattle.ospf_exchange.specs.Headers.{copy_of};
+ghost use Rattle.ospf_lsa.specs.Header.{key_of_header};
+ghost use Rattle.ospf_lsa.specs.Header.{header_of};
+ghost use Rattle.ospf_lsa.specs.Lsa.{key_of, instance_of};
+ghost use Rattle.ospf_area.specs.Flooding.{flooded_back, flooding_updates, goes_anywhere, released};
+ghost use Rattle.ospf_area.specs.Numbers.{marked};
+ghost use Rattle.ospf_update.specs.Meets.{flooded_area, InstallsIn, store_updates, Stores, rule_met, heard_by, Admits, AnswersExpired, RestartsExchange, first_description, first_dd_on, duplicated, reply_to, lsa_out_on, Replies, MeetsLsa, named_by, header_met};
+ghost use Rattle.ospf_area.specs.Outputs.{and_takes};
+ghost use Rattle.ospf_packet.specs.Meaning as meaning;
+ghost use Rattle.ospf_packet.specs.Said.{meant};
+ghost use Rattle.ospf_area.specs.Sending.{and_sends, own_of, packet_of};
+ghost use Rattle.ospf_area.specs.State.{entry_of};
+
+use ospf_area::{
+    Area, Change, Flooded, Link, Origin, Outputs, Own, acknowledge_by, answer_at, change_at,
+    count_number, flood, is_awaited, is_requested, is_self_originated, is_taken, mark, own_of,
+    release, send, send_lsa, sent_lsa, some_link_loading, to_address, was_sent, way_out,
+};
+use ospf_base::{Instance, LsaKey, MAX_AGE, OPTIONS};
+use ospf_flood::{
+    AcknowledgementCase, LsaRule, case_of_newer, case_of_same, is_sent_back, lsa_rule,
+};
+use ospf_lsa::{Lsa, LsaHeader, LsaView, Recency, newer};
+use ospf_lsdb::EntryView;
+use ospf_packet::{BodyValue, Description, PacketValue};
+use std::alloc::{AllocError, Global};
+
+/// I, M and MS.
+const FIRST_FLAGS: u8 = 7;
+
+// ---- a header of an Acknowledgment
+
+// The instance that an acknowledged header names.
+fn named_by(header: &LsaHeader, copy: Option<EntryView<'_>>) -> Option<Instance>
+    ensures { result ≡ named_by header.now copy.entry }
+{
+    let copy = copy?;
+    match newer(header, &copy.header()) {
+        Recency::Same => Some(copy.instance()),
+        Recency::Newer | Recency::Older => None,
+    }
+}
+
+fn named_in(area: &Area, header: &LsaHeader) -> Option<Instance>
+    ensures { result ≡ named_by header.now (copy_of area.now.database (key_of_header header.now)) }
+{
+    let key = header.key()?;
+    named_by(header, area.database.get(&key))
+}
+
+/// Takes a header of an Acknowledgment from the neighbour of the origin, which is in Exchange or above (RFC 2328, section
+/// 13.7). No memory is taken.
+pub fn on_header(area: &mut Area, from: Origin, header: &LsaHeader)
+    ensures { area.new ≡ header_met from header.now area.old }
+{
+    if let Some(instance) = named_in(area, header) {
+        let tick = area.tick;
+        change_at(&mut area.links, from, Change::Acknowledges(instance), tick);
+    }
+}
+
+// ---- an LSA is stored and flooded
+
+fn release_in(area: &mut Area, key: &LsaKey)
+    ensures { area.new ≡ record area.old { links = released key.now area.old.links } }
+{
+    release(&mut area.links, key);
+}
+
+/// Floods an LSA out of all links (RFC 2328, section 13.3).
+///
+/// `AllocError` where memory runs out; then the router is to be stopped.
+pub fn flood_in(
+    area: &mut Area,
+    lsa: &LsaView,
+    from: Option<Origin>,
+    out: &mut Outputs,
+    alloc: Global,
+) -> Result<Flooded, AllocError>
+    ensures after { OnOk result (area.new ≡ flooded_area lsa.now from area.old) }
+    ensures anywhere { IfOk result (λ f. f.anywhere ≡ goes_anywhere (key_of lsa.now) (header_of lsa.now) from area.old.links) }
+    ensures back { IfOk result (λ f. f.back ≡ flooded_back (key_of lsa.now) (header_of lsa.now) from area.old.links) }
+    ensures sent { OnOk result (out.new ≡ and_sends out.old (flooding_updates (own_of area.old) lsa.now from area.old.links)) }
+{
+    let own = own_of(area);
+    flood(&mut area.links, lsa, from, own, out, alloc)
+}
+
+fn install_in(area: &mut Area, lsa: Lsa, by_flooding: bool) -> Result<(), AllocError>
+    ensures { OnOk result (InstallsIn lsa by_flooding area.old area.new) }
+{
+    area.database.install(lsa, area.tick, by_flooding)
+}
+
+fn mark_in(area: &mut Area, key: LsaKey, went: bool) -> Result<(), AllocError>
+    ensures { OnOk result (area.new ≡ record area.old { sent = marked key went area.old.sent }) }
+{
+    mark(&mut area.sent, key, went)
+}
+
+/// Stores an LSA and floods it (section 13, step 5): its old copy leaves all retransmission lists, then it is flooded,
+/// then it takes the old copy's place. `from` tells where it came from; without it, it is the router's own.
+///
+/// `AllocError` where memory runs out; then the router is to be stopped.
+pub fn store(
+    area: &mut Area,
+    lsa: Lsa,
+    from: Option<Origin>,
+    out: &mut Outputs,
+    alloc: Global,
+) -> Result<Flooded, AllocError>
+    ensures after { OnOk result (Stores lsa from area.old area.new) }
+    ensures back { IfOk result (λ f. f.back ≡ flooded_back (key_of lsa) (header_of lsa) from (released (key_of lsa) area.old.links)) }
+    ensures sent { OnOk result (out.new ≡ and_sends out.old (store_updates lsa from area.old)) }
+{
+    let key = lsa.view().key();
+    let header = lsa.view().header();
+    release_in(area, &key);
+    let flooded = flood_in(area, &lsa.view(), from, out, alloc)?;
+    install_in(area, lsa, from.is_some())?;
+    mark_in(area, key, flooded.anywhere)?;
+    count_number(area, key, &header)?;
+    Ok(flooded)
+}
+
+// ---- the rules of an Update
+
+// Whether the rule of an LSA hangs on who loads: the neighbours are looked at for no other.
+fn asks_who_loads(header: &LsaHeader) -> bool
+    ensures { result ≡ (header.now.age == max_age) }
+{
+    header.age.ticks() == MAX_AGE
+}
+
+/// Which rule an LSA of an Update meets (section 13), if its sender is in Exchange or above. No memory is taken.
+pub fn rule_met(area: &Area, from: Origin, lsa: &LsaView) -> Option<LsaRule>
+    ensures { result ≡ rule_met area.now from lsa.now }
+{
+    if !is_taken(&area.links, from) {
+        return None;
+    }
+    let key = lsa.key();
+    let header = lsa.header();
+    let loading = asks_who_loads(&header) && some_link_loading(&area.links);
+    let requested = is_requested(&area.links, from, &key);
+    let copy = area.database.get(&key);
+    Some(lsa_rule(&header, copy, loading, requested, area.tick))
+}
+
+fn take(out: &mut Outputs, instance: Instance) -> Result<(), AllocError>
+    ensures { OnOk result (out.new ≡ and_takes out.old instance) }
+{
+    out.taken.push(instance)?;
+    Ok(())
+}
+
+fn on_expired(
+    area: &mut Area,
+    from: Origin,
+    lsa: &LsaView,
+    out: &mut Outputs,
+) -> Result<(), AllocError>
+    ensures { OnOk result (AnswersExpired from lsa.now area.old out.old out.new area.new) }
+{
+    let answer = answer_at(&area.links, AcknowledgementCase::Expired, from);
+    acknowledge_by(area, answer, from, &lsa.header())?;
+    take(out, lsa.instance())
+}
+
+fn hear(area: &mut Area, key: LsaKey) -> Result<(), AllocError>
+    ensures { OnOk result (area.new ≡ heard_by key area.old) }
+{
+    if is_self_originated(area.router, &area.links, &key) {
+        area.heard.push(key)?;
+    }
+    Ok(())
+}
+
+fn admit(
+    area: &mut Area,
+    from: Origin,
+    lsa: &LsaView,
+    out: &mut Outputs,
+    alloc: Global,
+) -> Result<(), AllocError>
+    ensures { OnOk result (Admits from lsa.now area.old out.old out.new area.new) }
+{
+    let Ok(copy) = Lsa::copy(alloc, lsa) else {
+        return Err(AllocError);
+    };
+    let flooded = store(area, copy, Some(from), out, alloc)?;
+    let answer = answer_at(&area.links, case_of_newer(flooded.back), from);
+    acknowledge_by(area, answer, from, &lsa.header())?;
+    hear(area, lsa.key())?;
+    take(out, lsa.instance())
+}
+
+// The first packet of an exchange.
+fn first_packet(link: &Link, own: Own, number: u32, alloc: Global) -> PacketValue
+    ensures { meant result ≡ packet_of own (meaning.description (first_description link.now.settings.mtu number) []) }
+{
+    let fields = Description {
+        mtu: link.settings.mtu,
+        options: OPTIONS,
+        flags: FIRST_FLAGS,
+        number,
+    };
+    PacketValue {
+        router: own.router,
+        area: own.area,
+        body: BodyValue::Description(fields, Vec::new(alloc)),
+    }
+}
+
+fn send_first_dd_on(
+    link: &Link,
+    own: Own,
+    from: Origin,
+    number: u32,
+    out: &mut Outputs,
+    alloc: Global,
+) -> Result<(), AllocError>
+    ensures { OnOk result (out.new ≡ and_sends out.old (first_dd_on own from number (Some link.now))) }
+{
+    let packet = first_packet(link, own, number, alloc);
+    let way = way_out(
+        from.link,
+        &link.iface,
+        to_address(&link.iface, from.address),
+    );
+    send(out, way, &packet, alloc)
+}
+
+// The first Database Description of an exchange, to the neighbour of the origin.
+fn send_first_dd(
+    links: &[Link],
+    own: Own,
+    from: Origin,
+    number: u32,
+    out: &mut Outputs,
+    alloc: Global,
+) -> Result<(), AllocError>
+    ensures { OnOk result (out.new ≡ and_sends out.old (first_dd_on own from number (slice_get links.now from.link))) }
+{
+    match links.get(from.link) {
+        Some(link) => send_first_dd_on(link, own, from, number, out, alloc),
+        None => Ok(()),
+    }
+}
+
+/// BadLSReq or SeqNumberMismatch of the neighbour of the origin, which is in Exchange or above: its exchange of databases
+/// begins again (section 10.3).
+///
+/// `AllocError` where memory runs out; then the router is to be stopped.
+pub fn restart(
+    area: &mut Area,
+    from: Origin,
+    out: &mut Outputs,
+    alloc: Global,
+) -> Result<(), AllocError>
+    ensures { OnOk result (RestartsExchange from area.old out.old out.new area.new) }
+{
+    let own = own_of(area);
+    let number = area.next_dd;
+    send_first_dd(&area.links, own, from, number, out, alloc)?;
+    change_at(&mut area.links, from, Change::Restarts(number), own.tick);
+    area.next_dd = number.wrapping_add(1);
+    Ok(())
+}
+
+fn on_same(area: &mut Area, from: Origin, lsa: &LsaView) -> Result<(), AllocError>
+    ensures { OnOk result (area.new ≡ duplicated from lsa.now area.old) }
+{
+    let instance = lsa.instance();
+    let implied = is_awaited(&area.links, from, &instance);
+    let answer = answer_at(&area.links, case_of_same(implied), from);
+    let tick = area.tick;
+    change_at(&mut area.links, from, Change::Acknowledges(instance), tick);
+    acknowledge_by(area, answer, from, &lsa.header())
+}
+
+// The copy that goes back to the sender of an older LSA.
+fn reply_to(area: &Area, key: &LsaKey, alloc: Global) -> Result<Option<Lsa>, AllocError>
+    ensures { IfOk result (λ copy. copy ≡ reply_to area.now key.now) }
+{
+    let Some(copy) = area.database.get(key) else {
+        return Ok(None);
+    };
+    if !is_sent_back(&copy, was_sent(&area.sent, key)) {
+        return Ok(None);
+    }
+    match copy.copy(alloc) {
+        Ok(lsa) => Ok(Some(lsa)),
+        Err(_) => Err(AllocError),
+    }
+}
+
+fn send_back_on(
+    link: &Link,
+    own: Own,
+    from: Origin,
+    lsa: &LsaView,
+    out: &mut Outputs,
+    alloc: Global,
+) -> Result<(), AllocError>
+    ensures { OnOk result (out.new ≡ and_sends out.old (lsa_out_on own from lsa.now (Some link.now))) }
+{
+    let copy = sent_lsa(link.settings, lsa, alloc)?;
+    let way = way_out(
+        from.link,
+        &link.iface,
+        to_address(&link.iface, from.address),
+    );
+    send_lsa(out, own, way, copy, alloc)
+}
+
+// Sends an LSA to the neighbour of the origin.
+fn send_back(
+    links: &[Link],
+    own: Own,
+    from: Origin,
+    lsa: &LsaView,
+    out: &mut Outputs,
+    alloc: Global,
+) -> Result<(), AllocError>
+    ensures { OnOk result (out.new ≡ and_sends out.old (lsa_out_on own from lsa.now (slice_get links.now from.link))) }
+{
+    match links.get(from.link) {
+        Some(link) => send_back_on(link, own, from, lsa, out, alloc),
+        None => Ok(()),
+    }
+}
+
+fn reply(
+    area: &mut Area,
+    from: Origin,
+    key: LsaKey,
+    out: &mut Outputs,
+    alloc: Global,
+) -> Result<(), AllocError>
+    ensures { OnOk result (Replies from key area.old out.old out.new area.new) }
+{
+    let Some(copy) = reply_to(area, &key, alloc)? else {
+        return Ok(());
+    };
+    let own = own_of(area);
+    send_back(&area.links, own, from, &copy.view(), out, alloc)?;
+    let instance = copy.view().instance();
+    change_at(&mut area.links, from, Change::IsSent(instance), own.tick);
+    mark(&mut area.sent, key, true)
+}
+
+/// Takes an LSA of an Update from the neighbour of the origin (section 13).
+///
+/// `AllocError` where memory runs out; then the router is to be stopped.
+pub fn on_lsa(
+    area: &mut Area,
+    from: Origin,
+    lsa: &LsaView,
+    out: &mut Outputs,
+    alloc: Global,
+) -> Result<(), AllocError>
+    ensures { OnOk result (MeetsLsa from lsa.now area.old out.old out.new area.new) }
+{
+    match rule_met(area, from, lsa) {
+        None | Some(LsaRule::TooSoon) => Ok(()),
+        Some(LsaRule::AcknowledgesExpired) => on_expired(area, from, lsa, out),
+        Some(LsaRule::Installs) => admit(area, from, lsa, out, alloc),
+        Some(LsaRule::BadRequest) => restart(area, from, out, alloc),
+        Some(LsaRule::Duplicate) => on_same(area, from, lsa),
+        Some(LsaRule::Stale) => reply(area, from, lsa.key(), out, alloc),
+    }
+}

@@ -1,0 +1,151 @@
+//! LSAs that leave the database.
+
+ghost use Rattle.std.specs.Prelude.{◌≡◌, IfOk, OnOk, map, filter, if◌then◌else◌};
+ghost use Rattle.ospf_lsdb.specs.Database.{Puts, entries, held_of, removed};
+ghost use Rattle.ospf_update.specs.Removal.{some_awaits_on, some_awaits, is_leaving, key_of_entry, leaving, is_last, ends_run, reset_one, reset, and_ends, RemovesOne, RemovesAll, Removes};
+ghost use Rattle.ospf_area.specs.State.{entry_of};
+
+use ospf_area::{Area, Link, Numbering, Outputs, is_numbered, is_own, some_link_loading};
+use ospf_base::{Instance, LsaKey, MAX_AGE};
+use ospf_lsdb::{EntryView, Lsdb};
+use std::alloc::{AllocError, Global};
+
+/// The number after which the numbers of a key begin again (RFC 2328, section 12.1.6).
+const MAX_SEQUENCE_NUMBER: i32 = 0x7fff_ffff;
+
+/// 0x80000000, below the first number.
+const LOWEST_NUMBER: i32 = i32::MIN;
+
+fn some_awaits_on(instance: &Instance, link: &Link) -> bool
+    ensures { result ≡ some_awaits_on instance.now link.now }
+{
+    let all = link.neighbours.all();
+    all.iter().any(|neighbour| neighbour.is_listed(instance))
+}
+
+/// Whether some neighbour has yet to acknowledge an instance.
+pub fn some_awaits(instance: &Instance, links: &[Link]) -> bool
+    ensures { result ≡ some_awaits instance.now links.now }
+{
+    links.iter().any(|link| some_awaits_on(instance, link))
+}
+
+fn is_leaving(links: &[Link], copy: &EntryView<'_>) -> bool
+    ensures { result ≡ is_leaving links.now copy.now }
+{
+    copy.age().ticks() == MAX_AGE && !some_awaits(&copy.instance(), links)
+}
+
+fn key_of_entry(copy: &EntryView<'_>) -> LsaKey
+    ensures { result ≡ key_of_entry copy.now }
+{
+    copy.key()
+}
+
+fn leaving_of(links: &[Link], database: &Lsdb, alloc: Global) -> Result<Vec<LsaKey>, AllocError>
+    ensures { IfOk result (λ keys. keys.items ≡ map key_of_entry (filter (is_leaving links.now) (entries database.now))) }
+{
+    let mut keys = Vec::new(alloc);
+    for copy in database.entries() {
+        if is_leaving(links, &copy) {
+            keys.push(key_of_entry(&copy))?;
+        }
+    }
+    Ok(keys)
+}
+
+// The keys of the LSAs that leave.
+fn leaving(area: &Area, alloc: Global) -> Result<Vec<LsaKey>, AllocError>
+    ensures { IfOk result (λ keys. keys.items ≡ leaving area.now) }
+{
+    if some_link_loading(&area.links) {
+        return Ok(Vec::new(alloc));
+    }
+    leaving_of(&area.links, &area.database, alloc)
+}
+
+fn is_last(copy: Option<EntryView<'_>>) -> bool
+    ensures { result ≡ is_last copy.entry }
+{
+    match copy {
+        Some(copy) => copy.header().number == MAX_SEQUENCE_NUMBER,
+        None => false,
+    }
+}
+
+fn ends_run(area: &Area, key: &LsaKey) -> bool
+    ensures { result ≡ ends_run area.now key.now }
+{
+    is_own(area.router, key) && is_last(area.database.get(key))
+}
+
+fn reset_one(numbering: &mut Numbering, key: &LsaKey)
+    ensures { numbering.new ≡ reset_one key.now numbering.old }
+{
+    if numbering.key.is_same(key) {
+        numbering.kept = LOWEST_NUMBER;
+    }
+}
+
+fn reset_all(all: &mut [Numbering], key: &LsaKey)
+    ensures { all.new ≡ map (reset_one key.now) all.old }
+{
+    for numbering in all.iter_mut() {
+        reset_one(numbering, key);
+    }
+}
+
+// The numbers of a key begin again.
+fn reset(all: &mut Vec<Numbering>, key: LsaKey) -> Result<(), AllocError>
+    ensures { OnOk result (all.new.items ≡ reset key all.old.items) }
+{
+    if is_numbered(all, &key) {
+        reset_all(all, &key);
+        return Ok(());
+    }
+    all.push(Numbering {
+        key,
+        kept: LOWEST_NUMBER,
+        issued_at: None,
+    })?;
+    Ok(())
+}
+
+fn end_run(out: &mut Outputs, key: LsaKey) -> Result<(), AllocError>
+    ensures { OnOk result (out.new ≡ and_ends out.old key) }
+{
+    out.ended.push(key)?;
+    Ok(())
+}
+
+fn remove_one(area: &mut Area, key: LsaKey, out: &mut Outputs) -> Result<(), AllocError>
+    ensures { OnOk result (RemovesOne key area.old out.old out.new area.new) }
+{
+    if ends_run(area, &key) {
+        reset(&mut area.numbering, key)?;
+        end_run(out, key)?;
+    }
+    let _ = area.database.remove_expired(&key);
+    Ok(())
+}
+
+fn remove_all(area: &mut Area, keys: &[LsaKey], out: &mut Outputs) -> Result<(), AllocError>
+    ensures { OnOk result (RemovesAll keys.now area.old out.old out.new area.new) }
+{
+    for key in keys {
+        remove_one(area, *key, out)?;
+    }
+    Ok(())
+}
+
+/// Takes the LSAs out of the database that are at `MAX_AGE` and on no retransmission list, while no neighbour is in
+/// Exchange or Loading (section 14): at the end of a step. With the last number of a key of the router's own its
+/// numbering run ends.
+///
+/// `AllocError` where memory runs out; then the router is to be stopped.
+pub fn remove(area: &mut Area, out: &mut Outputs, alloc: Global) -> Result<(), AllocError>
+    ensures { OnOk result (Removes area.old out.old out.new area.new) }
+{
+    let keys = leaving(area, alloc)?;
+    remove_all(area, &keys, out)
+}

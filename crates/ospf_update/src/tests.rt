@@ -1,0 +1,652 @@
+//! Updates and Acknowledgments over two links and three neighbours, LSAs that expire, and memory that runs out.
+
+use crate::{
+    age, flush, on_header, on_update, remove, rule_met, send_acks, send_delayed, some_awaits, store,
+};
+use ospf_area::{
+    Area, Link, LinkSettings, Numbering, Origin, Outputs, answer_at, origin_of, own_of, way_out,
+};
+use ospf_base::{
+    ALL_SPF_ROUTERS, Addr, Age, AreaId, Instance, InterfaceKind, Kind, LsaKey, MAX_AGE, RouterId,
+};
+use ospf_flood::{Acknowledgement, AcknowledgementCase, LsaRule};
+use ospf_iface::{Iface, IfaceSettings, IfaceState};
+use ospf_lsa::{Lsa, LsaHeader, LsaView};
+use ospf_lsdb::Lsdb;
+use ospf_neighbour::{NbrEvent, Neighbour, NeighbourState, Neighbours};
+use ospf_packet::{Body, BodyValue, Packet, PacketValue, write_packet};
+use std::alloc::Global;
+use std::test::Fail;
+
+// 0x80000001, the number that a router uses first, and the one that follows.
+const FIRST: i32 = -0x7fff_ffff;
+
+const SECOND: i32 = -0x7fff_fffe;
+
+// The number after which a router begins again.
+const LAST: i32 = 0x7fff_ffff;
+
+const OWN: RouterId = RouterId(9);
+
+const MTU: u16 = 576;
+
+const KEY: LsaKey = LsaKey {
+    kind: Kind::Router,
+    id: 7,
+    router: RouterId(7),
+};
+
+const FROM_FIRST: Origin = Origin {
+    link: 0,
+    router: RouterId(1),
+    address: Addr(1),
+};
+
+const FROM_SECOND: Origin = Origin {
+    link: 0,
+    router: RouterId(2),
+    address: Addr(2),
+};
+
+const FROM_THIRD: Origin = Origin {
+    link: 1,
+    router: RouterId(3),
+    address: Addr(3),
+};
+
+fn require(holds: bool) -> Result<(), Fail> {
+    if holds { Ok(()) } else { Err("not so".into()) }
+}
+
+// The router-LSA of a router without links, of this number and age.
+fn lsa_of(alloc: Global, router: u32, number: i32, age: u16) -> Result<Lsa, Fail> {
+    let mut lsa = Lsa::router(alloc, RouterId(router), number, &[])?;
+    lsa.set_age(Age::new(age));
+    Ok(lsa)
+}
+
+// ---- a router
+
+// A neighbour in Full, or one in Loading that has described these.
+fn neighbour(alloc: Global, router: u32, described: &[LsaHeader]) -> Result<Neighbour, Fail> {
+    let mut neighbour = Neighbour::new(alloc, RouterId(router), Addr(router));
+    for event in [
+        NbrEvent::HelloReceived,
+        NbrEvent::TwoWayReceived(true),
+        NbrEvent::NegotiationDone,
+    ] {
+        neighbour.event(event, 40);
+    }
+    if neighbour.is_exchanging() {
+        neighbour.add_requests(described)?;
+    }
+    neighbour.event(NbrEvent::ExchangeDone, 40);
+    Ok(neighbour)
+}
+
+fn neighbours(alloc: Global, others: &[u32], described: &[LsaHeader]) -> Result<Neighbours, Fail> {
+    let mut neighbours = Neighbours::new(alloc);
+    for router in others {
+        let other = neighbour(alloc, *router, described)?;
+        if neighbours.get(other.router()).is_none() {
+            neighbours.add(other)?;
+        }
+    }
+    Ok(neighbours)
+}
+
+// The Designated Router and its Backup of a link on which this router, at 0.0.0.101, is in a state.
+fn elected(state: IfaceState) -> (Addr, Addr) {
+    match state {
+        IfaceState::Dr => (Addr(101), Addr(1)),
+        IfaceState::Backup => (Addr(1), Addr(101)),
+        _ => (Addr(1), Addr(2)),
+    }
+}
+
+fn iface(address: Addr, kind: InterfaceKind, state: IfaceState) -> Iface {
+    let (dr, backup) = elected(state);
+    Iface {
+        settings: IfaceSettings {
+            router: OWN,
+            kind,
+            address,
+            mask: 0xffff_ff00,
+            priority: 1,
+            hello: 10,
+            dead: 40,
+        },
+        state,
+        dr,
+        backup,
+        wait: 0,
+        hello_in: 0,
+    }
+}
+
+fn link(alloc: Global, iface: Iface, neighbours: Neighbours) -> Link {
+    Link {
+        iface,
+        settings: LinkSettings {
+            cost: 10,
+            retransmit: 5,
+            transmit_delay: 3,
+            mtu: MTU,
+        },
+        neighbours,
+        delayed: Vec::new(alloc),
+        elects: false,
+    }
+}
+
+// A broadcast link to the neighbours 1 and 2, and a point-to-point link to neighbour 3.
+fn links(alloc: Global, state: IfaceState, described: &[LsaHeader]) -> Result<Vec<Link>, Fail> {
+    let broadcast = iface(Addr(101), InterfaceKind::Broadcast, state);
+    let other = iface(
+        Addr(102),
+        InterfaceKind::PointToPoint,
+        IfaceState::PointToPoint,
+    );
+    let mut links = Vec::new(alloc);
+    links.push(link(alloc, broadcast, neighbours(alloc, &[1, 2], &[])?))?;
+    links.push(link(alloc, other, neighbours(alloc, &[3], described)?))?;
+    Ok(links)
+}
+
+fn area_of(alloc: Global, links: Vec<Link>) -> Area {
+    Area {
+        router: OWN,
+        area: AreaId(0),
+        stub_router: false,
+        links,
+        database: Lsdb::new(alloc),
+        direct: Vec::new(alloc),
+        numbering: Vec::new(alloc),
+        floor: i32::MIN,
+        tick: 7,
+        next_dd: 300,
+        sent: Vec::new(alloc),
+        heard: Vec::new(alloc),
+        greatest: i32::MIN,
+    }
+}
+
+// A router in a state on the broadcast link; neighbour 1 is the Designated Router of it, if the router is not. All are
+// Full, but for neighbour 3 in Loading where it has described this.
+fn area(alloc: Global, state: IfaceState, described: &[LsaHeader]) -> Result<Area, Fail> {
+    Ok(area_of(alloc, links(alloc, state, described)?))
+}
+
+// Router 7's LSA is installed and flooded, as if it had come from neighbour 3.
+fn stores(area: &mut Area, number: i32, age: u16, alloc: Global) -> Result<(), Fail> {
+    let lsa = lsa_of(alloc, 7, number, age)?;
+    let mut out = Outputs::new(alloc);
+    store(area, lsa, Some(FROM_THIRD), &mut out, alloc)?;
+    Ok(())
+}
+
+// It is installed, and not flooded.
+fn installs(area: &mut Area, number: i32, age: u16, alloc: Global) -> Result<(), Fail> {
+    area.database
+        .install(lsa_of(alloc, 7, number, age)?, 5, true)?;
+    Ok(())
+}
+
+// ---- what comes
+
+// The bytes of an Update with the LSAs.
+fn update_of(alloc: Global, lsas: Vec<Lsa>) -> Result<Vec<u8>, Fail> {
+    let packet = PacketValue {
+        router: RouterId(1),
+        area: AreaId(0),
+        body: BodyValue::Update(lsas),
+    };
+    let mut bytes = Vec::new(alloc);
+    write_packet(&packet, &mut bytes)?;
+    Ok(bytes)
+}
+
+fn takes_bytes(
+    area: &mut Area,
+    from: Origin,
+    bytes: &[u8],
+    out: &mut Outputs,
+    alloc: Global,
+) -> Result<(), Fail> {
+    let packet = Packet::read(bytes)?;
+    match packet.body {
+        Body::Update(lsas) => on_update(area, from, lsas, out, alloc)?,
+        _ => return Err("no Update".into()),
+    }
+    Ok(())
+}
+
+// Takes an Update with one LSA.
+fn takes(
+    area: &mut Area,
+    from: Origin,
+    lsa: Lsa,
+    out: &mut Outputs,
+    alloc: Global,
+) -> Result<(), Fail> {
+    let mut lsas = Vec::new(alloc);
+    lsas.push(lsa)?;
+    let bytes = update_of(alloc, lsas)?;
+    takes_bytes(area, from, &bytes, out, alloc)
+}
+
+// ---- what is seen
+
+// How many headers an Acknowledgment has: none in another packet.
+fn headers_in(bytes: &[u8]) -> Result<usize, Fail> {
+    let packet = Packet::read(bytes)?;
+    let mut count: usize = 0;
+    if let Body::Acknowledgment(headers) = packet.body {
+        for _ in headers {
+            count = count.wrapping_add(1);
+        }
+    }
+    Ok(count)
+}
+
+// How many headers went out in Acknowledgments.
+fn acknowledged(out: &Outputs) -> Result<usize, Fail> {
+    let mut count: usize = 0;
+    for sent in out.sent() {
+        count = count.wrapping_add(headers_in(&sent.bytes)?);
+    }
+    Ok(count)
+}
+
+// How many acknowledgements wait for the next tick, on all links.
+fn delayed(area: &Area) -> usize {
+    let mut count: usize = 0;
+    for link in &area.links {
+        count = count.wrapping_add(link.delayed.len());
+    }
+    count
+}
+
+// How many instances wait for the acknowledgement of a neighbour.
+fn waiting(area: &Area, from: Origin) -> usize {
+    match origin_of(&area.links, from) {
+        Some(neighbour) => neighbour.retransmission().len(),
+        None => 99,
+    }
+}
+
+fn all_waiting(area: &Area) -> (usize, usize, usize) {
+    (
+        waiting(area, FROM_FIRST),
+        waiting(area, FROM_SECOND),
+        waiting(area, FROM_THIRD),
+    )
+}
+
+fn is_held(area: &Area) -> bool {
+    area.database.get(&KEY).is_some()
+}
+
+// The age and the number of the last LSA of an Update.
+fn lsa_in(bytes: &[u8]) -> Result<(u16, i32), Fail> {
+    let packet = Packet::read(bytes)?;
+    let Body::Update(lsas) = packet.body else {
+        return Err("no Update".into());
+    };
+    let mut found = (9999, 0);
+    for lsa in lsas {
+        let header = LsaView::read(lsa)?.header();
+        found = (header.age.ticks(), header.number);
+    }
+    Ok(found)
+}
+
+// The link and the destination of the last datagram, which is an Update, and the age and number of its LSA.
+fn last_update(out: &Outputs) -> Result<(usize, Addr, u16, i32), Fail> {
+    let sent = out.sent().last().ok_or("nothing sent")?;
+    let (age, number) = lsa_in(&sent.bytes)?;
+    Ok((sent.link, sent.destination, age, number))
+}
+
+// ---- the table of acknowledgements, over a link
+
+use AcknowledgementCase::{Expired, FloodedBack, Implied, NotFloodedBack, NotImplied};
+
+// What the router has of the LSA, so that an Update with it is this case.
+fn prepares(area: &mut Area, case: AcknowledgementCase, alloc: Global) -> Result<(), Fail> {
+    match case {
+        Implied => stores(area, FIRST, 10, alloc),
+        NotImplied => installs(area, FIRST, 10, alloc),
+        FloodedBack | NotFloodedBack | Expired => Ok(()),
+    }
+}
+
+fn age_in(case: AcknowledgementCase) -> u16 {
+    match case {
+        Expired => MAX_AGE,
+        _ => 10,
+    }
+}
+
+// How many acknowledgements go out directly, and how many wait, by an Update of this case.
+fn answered(
+    case: AcknowledgementCase,
+    state: IfaceState,
+    from: Origin,
+    alloc: Global,
+) -> Result<(usize, usize), Fail> {
+    let mut area = area(alloc, state, &[])?;
+    let mut out = Outputs::new(alloc);
+    prepares(&mut area, case, alloc)?;
+    let lsa = lsa_of(alloc, 7, FIRST, age_in(case))?;
+    takes(&mut area, from, lsa, &mut out, alloc)?;
+    Ok((acknowledged(&out)?, delayed(&area)))
+}
+
+#[test]
+fn cells_of_the_backup(rt: HostRuntime) -> Result<(), Fail> {
+    for (case, from_dr, from_other) in [
+        (NotFloodedBack, (0, 1), (0, 0)),
+        (Implied, (0, 1), (0, 0)),
+        (NotImplied, (1, 0), (1, 0)),
+        (Expired, (1, 0), (1, 0)),
+    ] {
+        let answer = answered(case, IfaceState::Backup, FROM_FIRST, rt.alloc())?;
+        assert_eq!(rt; answer, from_dr, "{case:?}");
+        let answer = answered(case, IfaceState::Backup, FROM_SECOND, rt.alloc())?;
+        assert_eq!(rt; answer, from_other, "{case:?}");
+    }
+    Ok(())
+}
+
+#[test]
+fn cells_of_other_states(rt: HostRuntime) -> Result<(), Fail> {
+    for (case, state, from, want) in [
+        (FloodedBack, IfaceState::Dr, FROM_SECOND, (0, 0)),
+        (NotFloodedBack, IfaceState::DrOther, FROM_FIRST, (0, 1)),
+        (NotFloodedBack, IfaceState::DrOther, FROM_SECOND, (0, 1)),
+        (NotFloodedBack, IfaceState::Dr, FROM_THIRD, (0, 1)),
+        (Implied, IfaceState::DrOther, FROM_FIRST, (0, 0)),
+        (Implied, IfaceState::Dr, FROM_SECOND, (0, 0)),
+        (NotImplied, IfaceState::DrOther, FROM_FIRST, (1, 0)),
+        (Expired, IfaceState::Dr, FROM_SECOND, (1, 0)),
+    ] {
+        let answer = answered(case, state, from, rt.alloc())?;
+        assert_eq!(rt; answer, want, "{case:?} {state:?}");
+    }
+    Ok(())
+}
+
+// The tenth cell, which no Update comes to: a Backup floods nothing back.
+#[test]
+fn the_backup_floods_nothing_back(rt: HostRuntime) -> Result<(), Fail> {
+    let links = links(rt.alloc(), IfaceState::Backup, &[])?;
+    for from in [FROM_FIRST, FROM_SECOND] {
+        assert_eq!(rt; answer_at(&links, FloodedBack, from), Acknowledgement::None);
+    }
+    Ok(())
+}
+
+// ---- two links and three neighbours
+
+// From the point-to-point link to all routers of the other, three ticks older; acknowledged at the next tick.
+#[test]
+fn floods_to_the_other_link(rt: HostRuntime) -> Result<(), Fail> {
+    let alloc = rt.alloc();
+    let mut area = area(alloc, IfaceState::Dr, &[])?;
+    let mut out = Outputs::new(alloc);
+    takes(
+        &mut area,
+        FROM_THIRD,
+        lsa_of(alloc, 7, FIRST, 10)?,
+        &mut out,
+        alloc,
+    )?;
+    assert_eq!(rt; (out.sent.len(), out.taken.len()), (1, 1));
+    assert_eq!(rt; last_update(&out)?, (0, ALL_SPF_ROUTERS, 13, FIRST));
+    assert_eq!(rt; all_waiting(&area), (1, 1, 0));
+    assert_eq!(rt; sends_delayed(&mut area, alloc)?, (1, ALL_SPF_ROUTERS, 1));
+    assert_eq!(rt; delayed(&area), 0);
+    Ok(())
+}
+
+// The link, the destination and the number of headers of the one Acknowledgment that goes out at a tick.
+fn sends_delayed(area: &mut Area, alloc: Global) -> Result<(usize, Addr, usize), Fail> {
+    let mut out = Outputs::new(alloc);
+    let own = own_of(area);
+    send_delayed(&mut area.links, own, &mut out, alloc)?;
+    require(out.sent.len() == 1)?;
+    let sent = out.sent().last().ok_or("nothing sent")?;
+    Ok((sent.link, sent.destination, headers_in(&sent.bytes)?))
+}
+
+// ---- older Updates
+
+#[test]
+fn older_ones_are_answered_once_a_tick(rt: HostRuntime) -> Result<(), Fail> {
+    let alloc = rt.alloc();
+    let mut area = area(alloc, IfaceState::Dr, &[])?;
+    let mut out = Outputs::new(alloc);
+    installs(&mut area, SECOND, 10, alloc)?;
+    for _ in 0..2 {
+        takes(
+            &mut area,
+            FROM_SECOND,
+            lsa_of(alloc, 7, FIRST, 10)?,
+            &mut out,
+            alloc,
+        )?;
+        assert_eq!(rt; out.sent.len(), 1);
+        assert_eq!(rt; last_update(&out)?, (0, Addr(2), 13, SECOND));
+    }
+    assert_eq!(rt; (delayed(&area), out.taken.len()), (0, 0));
+    assert_eq!(rt; all_waiting(&area), (0, 0, 0));
+    Ok(())
+}
+
+// ---- acknowledgements
+
+fn header_of(alloc: Global, number: i32) -> Result<LsaHeader, Fail> {
+    Ok(lsa_of(alloc, 7, number, 10)?.view().header())
+}
+
+// Which LSAs wait once neighbour 1 has sent an Acknowledgment with a header of this number and sum.
+fn waits_after(number: i32, change: u16, alloc: Global) -> Result<(usize, usize, usize), Fail> {
+    let mut area = area(alloc, IfaceState::Dr, &[])?;
+    stores(&mut area, SECOND, 10, alloc)?;
+    let mut header = header_of(alloc, number)?;
+    header.sum ^= change;
+    on_header(&mut area, FROM_FIRST, &header);
+    Ok(all_waiting(&area))
+}
+
+#[test]
+fn acknowledgements_name_an_instance(rt: HostRuntime) -> Result<(), Fail> {
+    for (number, change, want) in [
+        (SECOND, 0, (0, 1, 0)),
+        (SECOND, 1, (1, 1, 0)),
+        (FIRST, 0, (1, 1, 0)),
+    ] {
+        let waits = waits_after(number, change, rt.alloc())?;
+        assert_eq!(rt; waits, want, "{number} {change}");
+    }
+    Ok(())
+}
+
+// 26 headers fit an MTU of 576, and they go in order of key.
+#[test]
+fn acknowledgements_are_packed(rt: HostRuntime) -> Result<(), Fail> {
+    let alloc = rt.alloc();
+    let mut headers = Vec::new(alloc);
+    for router in 0..27 {
+        let router: u32 = router;
+        headers.push(lsa_of(alloc, 27 - router, FIRST, 10)?.view().header())?;
+    }
+    let out = packed(&headers, alloc)?;
+    assert_eq!(rt; out.sent.len(), 2);
+    let mut counts = [0, 0];
+    for (at, sent) in out.sent().iter().take(2).enumerate() {
+        counts[at] = headers_in(&sent.bytes)?;
+    }
+    assert_eq!(rt; counts, [26, 1]);
+    let last = out.sent().last().ok_or("nothing sent")?;
+    assert_eq!(rt; first_router(&last.bytes)?, RouterId(27));
+    Ok(())
+}
+
+fn packed(headers: &[LsaHeader], alloc: Global) -> Result<Outputs, Fail> {
+    let area = area(alloc, IfaceState::Dr, &[])?;
+    let mut out = Outputs::new(alloc);
+    let link = area.links.first().ok_or("no link")?;
+    let way = way_out(0, &link.iface, Addr(2));
+    send_acks(&mut out, own_of(&area), way, link.settings, headers, alloc)?;
+    Ok(out)
+}
+
+// The Advertising Router of the first header of an Acknowledgment.
+fn first_router(bytes: &[u8]) -> Result<RouterId, Fail> {
+    let packet = Packet::read(bytes)?;
+    let Body::Acknowledgment(mut headers) = packet.body else {
+        return Err("no Acknowledgment".into());
+    };
+    Ok(headers.next().ok_or("no header")?.router)
+}
+
+// ---- LSAs that expire
+
+// How many datagrams a tick sends.
+fn ages(area: &mut Area, alloc: Global) -> Result<usize, Fail> {
+    let mut out = Outputs::new(alloc);
+    age(area, &mut out, alloc)?;
+    Ok(out.sent.len())
+}
+
+// How many datagrams a flush of router 7's LSA sends.
+fn flushes(area: &mut Area, alloc: Global) -> Result<usize, Fail> {
+    let mut out = Outputs::new(alloc);
+    flush(area, KEY, &mut out, alloc)?;
+    Ok(out.sent.len())
+}
+
+// Whether router 7's LSA is still there after the end of a step.
+fn stays(area: &mut Area, alloc: Global) -> Result<bool, Fail> {
+    let mut out = Outputs::new(alloc);
+    remove(area, &mut out, alloc)?;
+    require(out.ended.is_empty())?;
+    Ok(is_held(area))
+}
+
+// All three neighbours acknowledge the LSA at MaxAge.
+fn all_acknowledge(area: &mut Area, alloc: Global) -> Result<(), Fail> {
+    let mut header = header_of(alloc, FIRST)?;
+    header.age = Age::new(MAX_AGE);
+    for from in [FROM_FIRST, FROM_SECOND, FROM_THIRD] {
+        on_header(area, from, &header);
+    }
+    Ok(())
+}
+
+#[test]
+fn expires_and_leaves(rt: HostRuntime) -> Result<(), Fail> {
+    let alloc = rt.alloc();
+    let mut area = area(alloc, IfaceState::Dr, &[])?;
+    installs(&mut area, FIRST, MAX_AGE - 2, alloc)?;
+    assert_eq!(rt; ages(&mut area, alloc)?, 0);
+    assert_eq!(rt; ages(&mut area, alloc)?, 2);
+    assert_eq!(rt; all_waiting(&area), (1, 1, 1));
+    assert!(rt; stays(&mut area, alloc)?);
+    all_acknowledge(&mut area, alloc)?;
+    assert_eq!(rt; all_waiting(&area), (0, 0, 0));
+    assert!(rt; !stays(&mut area, alloc)?);
+    Ok(())
+}
+
+#[test]
+fn flushed_to_all(rt: HostRuntime) -> Result<(), Fail> {
+    let alloc = rt.alloc();
+    let mut area = area(alloc, IfaceState::Dr, &[])?;
+    installs(&mut area, FIRST, 10, alloc)?;
+    assert_eq!(rt; flushes(&mut area, alloc)?, 2);
+    assert_eq!(rt; all_waiting(&area), (1, 1, 1));
+    assert!(rt; stays(&mut area, alloc)?);
+    Ok(())
+}
+
+// While a neighbour loads none leaves, and one at MaxAge without a copy is installed.
+#[test]
+fn none_leaves_while_a_neighbour_loads(rt: HostRuntime) -> Result<(), Fail> {
+    let alloc = rt.alloc();
+    let described = lsa_of(alloc, 8, FIRST, 10)?.view().header();
+    let mut area = area(alloc, IfaceState::Dr, &[described])?;
+    let expired = lsa_of(alloc, 6, FIRST, MAX_AGE)?;
+    let rule = rule_met(&area, FROM_FIRST, &expired.view());
+    assert_eq!(rt; rule, Some(LsaRule::Installs));
+    installs(&mut area, FIRST, MAX_AGE, alloc)?;
+    assert!(rt; stays(&mut area, alloc)?);
+    Ok(())
+}
+
+// With the last number of the router's own key its run ends, and numbers begin below the first.
+#[test]
+fn a_run_ends(rt: HostRuntime) -> Result<(), Fail> {
+    let alloc = rt.alloc();
+    let mut area = area(alloc, IfaceState::Dr, &[])?;
+    let lsa = lsa_of(alloc, 9, LAST, MAX_AGE)?;
+    let instance = lsa.view().instance();
+    area.database.install(lsa, 5, false)?;
+    assert!(rt; !some_awaits(&instance, &area.links));
+    let mut out = Outputs::new(alloc);
+    remove(&mut area, &mut out, alloc)?;
+    assert_eq!(rt; out.ended.as_slice(), [instance.key].as_slice());
+    let begun = Numbering {
+        key: instance.key,
+        kept: i32::MIN,
+        issued_at: None,
+    };
+    assert_eq!(rt; area.numbering.as_slice(), [begun].as_slice());
+    Ok(())
+}
+
+// ---- BadLSReq
+
+// An Update with an LSA older than what neighbour 3 has described, and another behind it.
+fn bad_update(alloc: Global) -> Result<Vec<u8>, Fail> {
+    let mut lsas = Vec::new(alloc);
+    lsas.push(lsa_of(alloc, 7, FIRST, 10)?)?;
+    lsas.push(lsa_of(alloc, 8, FIRST, 10)?)?;
+    update_of(alloc, lsas)
+}
+
+// The flags, the number and the MTU of the last datagram, a Database Description.
+fn last_description(out: &Outputs) -> Result<(u8, u32, u16), Fail> {
+    let sent = out.sent().last().ok_or("nothing sent")?;
+    let packet = Packet::read(&sent.bytes)?;
+    match packet.body {
+        Body::Description(fields, _) => Ok((fields.flags, fields.number, fields.mtu)),
+        _ => Err("another packet".into()),
+    }
+}
+
+fn state_of(area: &Area, from: Origin) -> Option<NeighbourState> {
+    match origin_of(&area.links, from) {
+        Some(neighbour) => Some(neighbour.state()),
+        None => None,
+    }
+}
+
+// The exchange begins again, and the rest of the Update is left.
+#[test]
+fn a_bad_request_begins_anew(rt: HostRuntime) -> Result<(), Fail> {
+    let alloc = rt.alloc();
+    let described = lsa_of(alloc, 7, SECOND, 10)?.view().header();
+    let mut area = area(alloc, IfaceState::Dr, &[described])?;
+    installs(&mut area, FIRST, 10, alloc)?;
+    let mut out = Outputs::new(alloc);
+    let bytes = bad_update(alloc)?;
+    takes_bytes(&mut area, FROM_THIRD, &bytes, &mut out, alloc)?;
+    assert_eq!(rt; (out.sent.len(), out.taken.len()), (1, 0));
+    assert_eq!(rt; last_description(&out)?, (7, 300, MTU));
+    assert_eq!(rt; area.next_dd, 301);
+    assert_eq!(rt; state_of(&area, FROM_THIRD), Some(NeighbourState::ExStart));
+    Ok(())
+}
