@@ -1,0 +1,5 @@
+pub mod Ip
+pub mod Pcap
+pub mod Datagram
+pub mod Laws
+pub mod Text
