@@ -1,12 +1,12 @@
 //! Capture files that are written.
 
-ghost use Rattle.std.specs.Prelude.{◌≡◌, ◌+◌, ◌<◌, ◌≤◌, ◌++◌, ◌↔◌, OnOk, OnErr, Err, length, sum, vec_len, vec_capacity};
+ghost use Rattle.std.specs.Prelude.{◌≡◌, ◌+◌, ◌<◌, ◌≤◌, ◌++◌, ◌↔◌, List, [], ◌∷◌, OnOk, OnErr, Err, length, sum, vec_len, vec_capacity};
 ghost use Rattle.ospf_base.specs.Bytes.{number_bytes};
 ghost use Rattle.ospf_base.specs.Constants.{ip_header};
 ghost use Rattle.ospf_base.specs.Sums.{words};
-ghost use Rattle.ospf_capture.specs.Datagram.{datagram_bytes};
+ghost use Rattle.ospf_capture.specs.Datagram.{captured, datagram_bytes};
 ghost use Rattle.ospf_capture.specs.Ip.{header_bytes, header_checksum, header_with_sum, largest_ip_packet};
-ghost use Rattle.ospf_capture.specs.Pcap.{file_header, record_header};
+ghost use Rattle.ospf_capture.specs.Pcap.{Captured, capture_bytes, file_header, record_header};
 ghost use Rattle.ospf_capture.specs.declared.fault.CaptureFault.TheVariants as fault;
 
 use crate::fault::CaptureFault;
@@ -82,6 +82,24 @@ fn record_header_of(at: Moment, size: u16) -> [u8; 16]
     [a, b, c, d, e, f, g, h, 0, 0, i, j, 0, 0, i, j]
 }
 
+// Puts the record of a packet at the end, where there is room for it. The IP packet has so many bytes.
+fn push_datagram(
+    out: &mut Vec<u8>,
+    at: Moment,
+    source: Addr,
+    destination: Addr,
+    ospf: &[u8],
+    size: u16,
+)
+    requires size { size ≡ ip_header + length ospf.now }
+    requires room { vec_len out.old + (RECORD_HEADER + size) ≤ vec_capacity out.old }
+    ensures { out.new.items ≡ out.old.items ++ datagram_bytes at source destination ospf.now }
+{
+    push_bytes(out, &record_header_of(at, size));
+    push_bytes(out, &ip_header_of(size, source, destination));
+    push_bytes(out, ospf);
+}
+
 /// Writes what a capture file begins with at the end of the output: libpcap's classic format, version 2.4, with
 /// microseconds, for IP packets with nothing before them (LINKTYPE_RAW).
 ///
@@ -90,6 +108,8 @@ pub fn write_header(out: &mut Vec<u8>) -> Result<(), AllocError>
     ensures ok { OnOk result (out.new.items ≡ out.old.items ++ file_header) }
     ensures err { OnErr result (out.new.items ≡ out.old.items) }
     ensures memory { OnErr result (vec_capacity out.old < vec_len out.old + length file_header) }
+    // What was empty is a capture of no packets then.
+    ensures capture { out.old.items ≡ [] → OnOk result (out.new.items ≡ capture_bytes []) }
 {
     out.reserve(FILE_HEADER)?;
     push_bytes(
@@ -119,6 +139,9 @@ pub fn write_datagram(
     ensures too_long { (result ≡ Err fault.TooLong) ↔ (largest_ip_packet < ip_header + length ospf.now) }
     ensures memory { (result ≡ Err fault.Memory)
         → vec_capacity out.old < vec_len out.old + length (datagram_bytes at source destination ospf.now) }
+    // A capture stays one, with this packet behind the others.
+    ensures capture { (packets : List Captured) → out.old.items ≡ capture_bytes packets
+        → OnOk result (out.new.items ≡ capture_bytes (packets ++ captured at source destination ospf.now ∷ [])) }
 {
     if ospf.len() > LARGEST_IP_PACKET - IP_HEADER {
         return Err(CaptureFault::TooLong);
@@ -127,8 +150,6 @@ pub fn write_datagram(
     if out.reserve(RECORD_HEADER + size).is_err() {
         return Err(CaptureFault::Memory);
     }
-    push_bytes(out, &record_header_of(at, size as u16));
-    push_bytes(out, &ip_header_of(size as u16, source, destination));
-    push_bytes(out, ospf);
+    push_datagram(out, at, source, destination, ospf, size as u16);
     Ok(())
 }
