@@ -1,0 +1,4 @@
+pub mod Parts
+pub mod Plain
+pub mod Choices
+pub mod Unspelled
