@@ -2,3 +2,5 @@ pub mod Parts
 pub mod Plain
 pub mod Choices
 pub mod Unspelled
+pub mod TextLines
+pub mod Zeros

@@ -1,5 +1,7 @@
 pub mod Words
 pub mod Values
+pub mod Lines
 pub mod Faults
 pub mod Names
 pub mod Commands
+pub mod Texts

@@ -6,11 +6,15 @@
 mod command;
 mod fault;
 mod name;
+mod places;
 mod read;
+mod script;
 mod shapes;
+mod show;
 mod values;
 mod walk;
 mod words;
 
 pub use crate::command::Command;
 pub use crate::fault::LineFault;
+pub use crate::script::{Line, first_line, lines};

@@ -1,8 +1,10 @@
 //! The words of a line.
 
 ghost use Rattle.std.specs.Prelude.{◌≡◌, ◌<◌, ◌∷◌, ℕ, [], length, IfSome, IfNone};
-ghost use Rattle.std.specs.List.{position_or_len, prefix_len};
+ghost use Rattle.std.specs.List.{prefix_len};
 ghost use Rattle.ospf_script.specs.Words.{IsBlank, Text, is_space, words};
+
+use crate::places::place_of;
 
 // How many spaces a text begins with.
 fn leading_spaces(text: &[u8]) -> usize
@@ -10,18 +12,6 @@ fn leading_spaces(text: &[u8]) -> usize
 {
     for place in 0..text.len() {
         if text[place] != b' ' {
-            return place;
-        }
-    }
-    text.len()
-}
-
-// How many bytes stand before the first space of a text.
-fn word_length(text: &[u8]) -> usize
-    ensures { result ≡ position_or_len is_space text.now }
-{
-    for place in 0..text.len() {
-        if text[place] == b' ' {
             return place;
         }
     }
@@ -36,7 +26,7 @@ pub(crate) fn first_word(text: &[u8]) -> Option<(&[u8], &[u8])>
     ensures none { IfNone result (words text.now ≡ []) }
 {
     let (_, from) = text.split_at(leading_spaces(text));
-    let length = word_length(from);
+    let length = place_of(from, b' ');
     if length == 0 {
         return None;
     }

@@ -9,17 +9,17 @@ split_at-requires c = omega (arith, c.leading_spaces.ensures, prefix_len-le-leng
 
 pub returns-then-length-eq0-clause-blank : goal.returns-then-length-eq0-clause-blank
 returns-then-length-eq0-clause-blank c =
-    blank_behind c.args.text.now c.split_at.result.1.now (c.split_at.ensures.back ∙ ap (λ n. drop n c.args.text.now) c.leading_spaces.ensures) (sym c.word_length-length.ensures ∙ c.if-length-eq0.true)
+    blank_behind c.args.text.now c.split_at.result.1.now (c.split_at.ensures.back ∙ ap (λ n. drop n c.args.text.now) c.leading_spaces.ensures) (sym c.place_of-length.ensures ∙ c.if-length-eq0.true)
 
 pub split_at-requires-2 : goal.split_at-requires-2
-split_at-requires-2 c = omega (arith, c.word_length-length.ensures, position-le c.split_at.result.1.now)
+split_at-requires-2 c = omega (arith, c.place_of-length.ensures, position-le c.split_at.result.1.now)
 
 pub returns-clause-word : goal.returns-clause-word
 returns-clause-word c =
     let from = c.split_at.result.1.now in
     let same : words from ≡ words c.args.text.now = ap words (c.split_at.ensures.back ∙ ap (λ n. drop n c.args.text.now) c.leading_spaces.ensures) ∙ words-after_spaces c.args.text.now in
-    rw (c.split_at-2.ensures.front, c.split_at-2.ensures.back, c.word_length-length.ensures)
-    (sym same ∙ words-first from (omega (arith, c.word_length-length.ensures, c.if-length-eq0.false)))
+    rw (c.split_at-2.ensures.front, c.split_at-2.ensures.back, c.place_of-length.ensures)
+    (sym same ∙ words-first from (omega (arith, c.place_of-length.ensures, c.if-length-eq0.false)))
 
 pub returns-then-length-eq0-clause-none : goal.returns-then-length-eq0-clause-none
 returns-then-length-eq0-clause-none c = words-blank c.args.text.now (returns-then-length-eq0-clause-blank c)
