@@ -11,6 +11,8 @@ mod read;
 mod script;
 mod shapes;
 mod show;
+#[cfg(test)]
+mod tests;
 mod values;
 mod walk;
 mod words;
