@@ -5,3 +5,4 @@ pub mod Faults
 pub mod Names
 pub mod Commands
 pub mod Texts
+pub mod Views

@@ -8,7 +8,7 @@ use Rattle.ospf_script.specs.declared.command.Command.{Command}
 use Rattle.ospf_script.specs.declared.command.Command.TheVariants as command
 
 -- hexadecimal digits in lower case, with zeros in front where they are fewer than this
-abbrev pub hexadecimal : ℕ → ℕ → Text
+unfoldable pub hexadecimal : ℕ → ℕ → Text
 hexadecimal width n = replicate (width - length (digits 16 false n)) 48 ++ digits 16 false n
 
 -- a floor: eight digits, in two's complement

@@ -14,9 +14,11 @@ mod show;
 #[cfg(test)]
 mod tests;
 mod values;
+mod views;
 mod walk;
 mod words;
 
 pub use crate::command::Command;
 pub use crate::fault::LineFault;
 pub use crate::script::{Line, first_line, lines};
+pub use crate::views::{FloorShown, ListedShown, NeighbourShown, RefusalShown, WalkShown};

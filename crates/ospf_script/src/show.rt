@@ -7,7 +7,7 @@ use crate::command::Command;
 use std::fmt::{self, Display, Formatter, Write};
 
 // A floor in eight hexadecimal digits.
-fn write_floor<W: Write>(f: &mut Formatter<W>, floor: i32) -> fmt::Result
+pub(crate) fn write_floor<W: Write>(f: &mut Formatter<W>, floor: i32) -> fmt::Result
     ensures { WritesOnOk W.Write.write_str_gives f.old result (floor_text floor) f.new }
 {
     let bits = floor.cast_unsigned();

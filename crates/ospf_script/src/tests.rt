@@ -1,7 +1,10 @@
 //! Lines that are read, lines that are not, and what is printed.
 
-use crate::{Command, LineFault, first_line, lines};
-use ospf_base::{Addr, RouterId};
+use crate::{
+    Command, FloorShown, LineFault, ListedShown, NeighbourShown, RefusalShown, WalkShown,
+    first_line, lines,
+};
+use ospf_base::{Addr, Instance, Kind, LsaKey, RouterId};
 use std::alloc::Global;
 use std::process::Abort;
 use std::test::Fail;
@@ -235,5 +238,64 @@ fn numbered(rt: HostRuntime) -> Result<(), Fail> {
     }
     assert_eq!(rt; lines(rt.alloc(), b"\n")?.len(), 1);
     assert_eq!(rt; first_line(b""), None);
+    Ok(())
+}
+
+#[test]
+fn printed(rt: HostRuntime) -> Result<(), Fail> {
+    let alloc = rt.alloc();
+    let floor = FloorShown(i32::MAX);
+    assert_eq!(rt; format!(in alloc; "{floor}")?.as_str(), "7fffffff");
+    let refusal = RefusalShown {
+        number: 7,
+        fault: "W8 Floor",
+    };
+    assert_eq!(rt;
+        format!(in alloc; "{refusal}")?.as_str(),
+        "line 7: W8 Floor"
+    );
+    let neighbour = NeighbourShown {
+        link: 0,
+        router: RouterId(0x0202_0202),
+        state: "Full",
+    };
+    assert_eq!(rt;
+        format!(in alloc; "{neighbour}")?.as_str(),
+        "0 2.2.2.2 Full"
+    );
+    let walk = WalkShown {
+        routers: &[ONE, RouterId(0x0404_0404), RouterId(0x0303_0303)],
+        cost: 23,
+        end: "arrived",
+    };
+    assert_eq!(rt;
+        format!(in alloc; "{walk}")?.as_str(),
+        "1.1.1.1 4.4.4.4 3.3.3.3 cost 23 arrived"
+    );
+    Ok(())
+}
+
+#[test]
+fn listed(rt: HostRuntime) -> Result<(), Fail> {
+    let alloc = rt.alloc();
+    let instance = |kind: Kind, id: u32, number: i32, sum: u16| Instance {
+        key: LsaKey {
+            kind,
+            id,
+            router: ONE,
+        },
+        number,
+        sum,
+    };
+    let own = ListedShown(instance(Kind::Router, 0x0101_0101, i32::MIN + 2, 0xe02d));
+    assert_eq!(rt;
+        format!(in alloc; "{own}")?.as_str(),
+        "router 1.1.1.1 1.1.1.1 80000002 e02d"
+    );
+    let network = ListedShown(instance(Kind::Network, 0x0a00_0001, 1, 0x2d));
+    assert_eq!(rt;
+        format!(in alloc; "{network}")?.as_str(),
+        "network 10.0.0.1 1.1.1.1 00000001 002d"
+    );
     Ok(())
 }

@@ -1,6 +1,5 @@
-use Rattle.std.proofs.Common.{rules, ◌≡◌, of_z, w32, false}
-use Rattle.std.specs.Fmt.{digits}
-use Rattle.ospf_script.proofs.Zeros.{padded_is}
+use Rattle.std.proofs.Common.{rules, ◌≡◌, of_z, w32}
+use Rattle.ospf_script.proofs.Zeros.{hexadecimal_is}
 use Rattle.ospf_script.proofs.show.write_floor.Goals as goal
 
 pub returns : goal.returns
@@ -8,4 +7,4 @@ returns g c =
     let same : c.cast_unsigned-bits.result ≡ of_z w32 c.args.floor = search rules in
     let laid = rw c.laid_out.ensures at c.write.ensures.writes in
     let digits_are = rw c.in_radix.ensures at laid in
-    rw (same, padded_is 8 (digits 16 false (of_z w32 c.args.floor))) at digits_are
+    rw (same, hexadecimal_is 8 (of_z w32 c.args.floor)) at digits_are
