@@ -4,3 +4,4 @@ pub mod Choices
 pub mod Unspelled
 pub mod TextLines
 pub mod Zeros
+pub mod OneCommand

@@ -6,3 +6,4 @@ pub mod Names
 pub mod Commands
 pub mod Texts
 pub mod Views
+pub mod Laws

@@ -5,6 +5,7 @@
 
 mod command;
 mod fault;
+mod laws;
 mod name;
 mod places;
 mod read;
@@ -20,5 +21,6 @@ mod words;
 
 pub use crate::command::Command;
 pub use crate::fault::LineFault;
+pub use crate::laws::words_spell_one_command;
 pub use crate::script::{Line, first_line, lines};
 pub use crate::views::{FloorShown, ListedShown, NeighbourShown, RefusalShown, WalkShown};

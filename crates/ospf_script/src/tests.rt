@@ -2,7 +2,7 @@
 
 use crate::{
     Command, FloorShown, LineFault, ListedShown, NeighbourShown, RefusalShown, WalkShown,
-    first_line, lines,
+    first_line, lines, words_spell_one_command,
 };
 use ospf_base::{Addr, Instance, Kind, LsaKey, RouterId};
 use std::alloc::Global;
@@ -209,6 +209,11 @@ fn unreadable(rt: HostRuntime) {
 fn blank(rt: HostRuntime) {
     assert_eq!(rt; Command::read(rt.alloc(), b""), Ok(None));
     assert_eq!(rt; Command::read(rt.alloc(), b"   "), Ok(None));
+}
+
+#[test]
+fn law() {
+    words_spell_one_command();
 }
 
 #[test]
