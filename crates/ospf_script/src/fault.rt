@@ -1,6 +1,6 @@
 //! Why a line was not read.
 
-use std::alloc::{AllocError, AllocFailed};
+use std::alloc::AllocError;
 use std::fmt::{self, Display, Formatter, Write};
 use thiserror::Error;
 
@@ -47,17 +47,6 @@ impl From<AllocError> for LineFault {
     ghost from_gives = { λ _ fault. fault ≡ Memory };
 
     fn from(_error: AllocError) -> LineFault {
-        LineFault::Memory
-    }
-}
-
-impl<T: Drop> From<AllocFailed<T>> for LineFault {
-    ghost use Rattle.std.specs.Prelude.{◌≡◌};
-    ghost use Rattle.ospf_script.specs.declared.fault.LineFault.TheVariants.{Memory};
-
-    ghost from_gives = { λ _ fault. fault ≡ Memory };
-
-    fn from(_failed: AllocFailed<T>) -> LineFault {
         LineFault::Memory
     }
 }
