@@ -1,0 +1,137 @@
+-- Words spell one value, and one command.
+use Rattle.std.proofs.Common.{◌≡◌, inl, inr, ℕ, ℤ, List, [], ◌∷◌, refl, sym, ap, ◌∙◌}
+use Rattle.std.specs.Int.{w32, cast_signed, from_be_bytes, to_be_bytes}
+use Rattle.std.specs.declared.net.ipv4_addr.Ipv4Addr.{Ipv4Addr}
+use Rattle.std.proofs.NetLemmas.Theorems.{IsIpv4Text_unique}
+use Rattle.std.proofs.lemmas.Nat.{from_be_bytes-to_be_bytes_4}
+use Rattle.ospf_base.specs.declared.ids.Addr.{Addr}
+use Rattle.ospf_base.specs.declared.ids.RouterId.{RouterId}
+use Rattle.ospf_script.specs.Commands.{AreChoices, AreNumbers, BeginsWalk, IsCountAlone, IsDelivery, IsRouterAlone, IsRouterAndLink, IsStart, IsWalk, Takes, name_of, no_floor}
+use Rattle.ospf_script.specs.Laws.{IsOneCommand, WordsSpellOneCommand}
+use Rattle.ospf_script.specs.Values.{IsAddress, IsDecimal, IsDotted32, IsFloor, IsRouter}
+use Rattle.ospf_script.specs.Words.{Text}
+use Rattle.ospf_script.specs.declared.command.Command.{Command}
+use Rattle.ospf_script.specs.declared.command.Command.TheVariants as command
+use Rattle.ospf_script.proofs.Unspelled.{name_text-injective}
+
+-- ---- values
+
+dotted_one : (word : Text) (m n : ℕ) → IsDotted32 word m → IsDotted32 word n → m ≡ n
+dotted_one word m n h k =
+    let a : Ipv4Addr = record { octets = to_be_bytes w32 m } in
+    let b : Ipv4Addr = record { octets = to_be_bytes w32 n } in
+    let same : to_be_bytes w32 m ≡ to_be_bytes w32 n = ap (λ (x : Ipv4Addr). x.octets) (IsIpv4Text_unique word a b h.0 k.0) in
+    sym (from_be_bytes-to_be_bytes_4 m h.1) ∙ ap (from_be_bytes w32) same ∙ from_be_bytes-to_be_bytes_4 n k.1
+
+router_with : ℕ → RouterId
+router_with n = record { 0 = n }
+
+router_one : (word : Text) (r s : RouterId) → IsRouter word r → IsRouter word s → r ≡ s
+unfolding router_with
+router_one word r s h k = ap router_with (dotted_one word r.0 s.0 h k)
+
+address_with : ℕ → Addr
+address_with n = record { 0 = n }
+
+address_one : (word : Text) (a b : Addr) → IsAddress word a → IsAddress word b → a ≡ b
+unfolding address_with
+address_one word a b h k = ap address_with (dotted_one word a.0 b.0 h k)
+
+decimal_one : (bits : ℕ) (word : Text) (m n : ℕ) → IsDecimal bits word m → IsDecimal bits word n → m ≡ n
+decimal_one bits word m n h k = sym h.0.1 ∙ k.0.1
+
+floor_one : (word : Text) (x y : ℤ) → IsFloor word x → IsFloor word y → x ≡ y
+floor_one word x y h k = h.floor_is ∙ ap (cast_signed w32) (sym h.spelled.1 ∙ k.spelled.1) ∙ sym k.floor_is
+
+-- ---- what commands take
+
+choices_one : (ws : List Text) (cs ds : List ℕ) → AreChoices ws cs → AreChoices ws ds → cs ≡ ds
+choices_one [] [] [] h k = refl
+choices_one (w ∷ ws) (c ∷ cs) (d ∷ ds) h k =
+    let first : c ≡ d = decimal_one 32 w c d h.0 k.0 in
+    let others : cs ≡ ds = choices_one ws cs ds h.1 k.1 in
+    cc
+choices_one [] (c ∷ cs) ds h k = absurd h
+choices_one [] [] (d ∷ ds) h k = absurd k
+choices_one (w ∷ ws) [] ds h k = absurd h
+choices_one (w ∷ ws) (c ∷ cs) [] h k = absurd k
+
+router_alone_one : (ws : List Text) (r s : RouterId) → IsRouterAlone ws r → IsRouterAlone ws s → r ≡ s
+router_alone_one (a ∷ []) r s h k = router_one a r s h k
+router_alone_one ws r s h k = absurd h
+
+count_one : (ws : List Text) (m n : ℕ) → IsCountAlone ws m → IsCountAlone ws n → m ≡ n
+count_one (a ∷ []) m n h k = decimal_one 64 a m n h k
+count_one ws m n h k = absurd h
+
+router_and_link_one : (ws : List Text) (r s : RouterId) (m n : ℕ) → IsRouterAndLink ws r m → IsRouterAndLink ws s n → (r ≡ s) × (m ≡ n)
+router_and_link_one (a ∷ b ∷ []) r s m n h k = (router_one a r s h.0 k.0, decimal_one 64 b m n h.1 k.1)
+router_and_link_one ws r s m n h k = absurd h
+
+numbers_one : (ws : List Text) (m n i j : ℕ) → AreNumbers ws m i → AreNumbers ws n j → (m ≡ n) × (i ≡ j)
+numbers_one (a ∷ b ∷ []) m n i j h k = (decimal_one 64 a m n h.0 k.0, decimal_one 64 b i j h.1 k.1)
+numbers_one ws m n i j h k = absurd h
+
+delivery_one : (ws : List Text) (m n : ℕ) (r s : RouterId) (i j : ℕ) → IsDelivery ws m r i → IsDelivery ws n s j → (m ≡ n) × (r ≡ s) × (i ≡ j)
+delivery_one (a ∷ b ∷ c ∷ []) m n r s i j h k = (decimal_one 64 a m n h.0 k.0, router_one b r s h.1 k.1, decimal_one 64 c i j h.2 k.2)
+delivery_one ws m n r s i j h k = absurd h
+
+-- a start by the number of its words
+StartOf : List Text → RouterId → ℕ → ℤ → Type 0
+StartOf (a ∷ b ∷ []) r n f = IsRouter a r × IsDecimal 32 b n × (f ≡ no_floor)
+StartOf (a ∷ b ∷ c ∷ []) r n f = IsRouter a r × IsDecimal 32 b n × IsFloor c f
+StartOf _ r n f = ⊥
+
+start_of : (ws : List Text) (r : RouterId) (n : ℕ) (f : ℤ) → IsStart ws r n f → StartOf ws r n f
+unfolding StartOf
+start_of (a ∷ b ∷ []) r n f h = elim h [ inl x ↦ x | inr x ↦ absurd x ]
+start_of (a ∷ b ∷ c ∷ []) r n f h = elim h [ inl x ↦ absurd x | inr x ↦ x ]
+start_of _ r n f h = elim h [ inl x ↦ absurd x | inr x ↦ absurd x ]
+
+start_one : (ws : List Text) (r s : RouterId) (m n : ℕ) (f g : ℤ) → StartOf ws r m f → StartOf ws s n g → (r ≡ s) × (m ≡ n) × (f ≡ g)
+unfolding StartOf
+start_one (a ∷ b ∷ []) r s m n f g h k = (router_one a r s h.0 k.0, decimal_one 32 b m n h.1 k.1, h.2 ∙ sym k.2)
+start_one (a ∷ b ∷ c ∷ []) r s m n f g h k = (router_one a r s h.0 k.0, decimal_one 32 b m n h.1 k.1, floor_one c f g h.2 k.2)
+start_one _ r s m n f g h k = absurd h
+
+ends_one : (ws : List Text) (r s : RouterId) (a b : Addr) (us vs : List Text) → BeginsWalk ws r a us → BeginsWalk ws s b vs → (r ≡ s) × (a ≡ b) × (us ≡ vs)
+ends_one (x ∷ y ∷ ws) r s a b us vs h k = (router_one x r s h.0 k.0, address_one y a b h.1 k.1, sym h.2 ∙ k.2)
+ends_one _ r s a b us vs h k = absurd h
+
+walk_one : (ws : List Text) (r s : RouterId) (a b : Addr) (cs ds : List ℕ) → IsWalk ws r a cs → IsWalk ws s b ds → (r ≡ s) × (a ≡ b) × (cs ≡ ds)
+walk_one ws r s a b cs ds h k =
+    let ends = ends_one ws r s a b h.0 k.0 h.1 k.1 in
+    let there : AreChoices k.0 cs = rw ends.2 at h.2 in
+    (ends.0, ends.1, choices_one k.0 cs ds there k.2)
+
+-- ---- commands
+
+takes_one : (ws : List Text) (c d : Command) → name_of c ≡ name_of d → Takes c ws → Takes d ws → IsOneCommand c d
+takes_one ws (command.Start r m f) (command.Start s n g) e h k =
+    let all = start_one ws r s m n f g (start_of ws r m f h) (start_of ws s n g k) in
+    let one = all.0 in let two = all.1 in let three = all.2 in cc
+takes_one ws (command.Stop r) (command.Stop s) e h k = ap command.Stop (router_alone_one ws r s h k)
+takes_one ws (command.Tick r) (command.Tick s) e h k = ap command.Tick (router_alone_one ws r s h k)
+takes_one ws (command.LinkUp r m) (command.LinkUp s n) e h k =
+    let all = router_and_link_one ws r s m n h k in
+    let one = all.0 in let two = all.1 in cc
+takes_one ws (command.LinkDown r m) (command.LinkDown s n) e h k =
+    let all = router_and_link_one ws r s m n h k in
+    let one = all.0 in let two = all.1 in cc
+takes_one ws (command.Deliver m r i) (command.Deliver n s j) e h k =
+    let all = delivery_one ws m n r s i j h k in
+    let one = all.0 in let two = all.1 in let three = all.2 in cc
+takes_one ws (command.Round m) (command.Round n) e h k = ap command.Round (count_one ws m n h k)
+takes_one ws (command.Random m i) (command.Random n j) e h k =
+    let all = numbers_one ws m n i j h k in
+    let one = all.0 in let two = all.1 in cc
+takes_one ws (command.Neighbours r) (command.Neighbours s) e h k = ap command.Neighbours (router_alone_one ws r s h k)
+takes_one ws (command.Listing r) (command.Listing s) e h k = ap command.Listing (router_alone_one ws r s h k)
+takes_one ws (command.Table r) (command.Table s) e h k = ap command.Table (router_alone_one ws r s h k)
+takes_one ws (command.Walk r a cs) (command.Walk s b ds) e h k = walk_one ws r s a b cs.items ds.items h k
+takes_one ws (command.Floor r) (command.Floor s) e h k = ap command.Floor (router_alone_one ws r s h k)
+takes_one ws c d e h k = let none : ⊥ = cc in absurd none
+
+pub one_command : WordsSpellOneCommand
+one_command [] c d h k = absurd h
+one_command (a ∷ ws) c d h k = takes_one ws c d (name_text-injective (name_of c) (name_of d) (sym h.0 ∙ k.0)) h.1 k.1

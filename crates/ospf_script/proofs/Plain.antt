@@ -1,0 +1,54 @@
+-- What spells a value is ASCII, and so is text.
+use Rattle.std.proofs.Common.{rules, ◌≡◌, ◌<◌, ◌≤◌, ◌^◌, ℕ, List, [], ◌∷◌, codes, length, Option, Some, None, IfNone, arith, subst, sym}
+use Rattle.std.specs.Char.{digit_value}
+use Rattle.std.specs.Str.{IsAscii, IsUtf8}
+use Rattle.std.specs.Str.Parse.{AllDigits, digits_value}
+use Rattle.std.proofs.lemmas.Bool.Decides.{nat_tests}
+use Rattle.std.proofs.lemmas.Int.Digits.{digits_value-lt}
+use Rattle.std.proofs.lemmas.Fmt.{IsAscii-decimal}
+use Rattle.std.proofs.lemmas.Str.{IsAscii-append, IsUtf8-from_ascii}
+use Rattle.std.proofs.lemmas.Str.Ascii.{IsAscii-nil, IsAscii-cons}
+use Rattle.ospf_base.specs.Text.{IsDottedNumber}
+use Rattle.ospf_script.specs.Names.{name_text}
+use Rattle.ospf_script.specs.declared.name.Name.{Name}
+use Rattle.ospf_script.specs.declared.name.Name.TheVariants as name
+
+pub if_none : {A : Type 0} (o : Option A) (P : Type 0) → P → IfNone o P
+if_none None P p = p
+if_none (Some x) P p = tt
+
+digit_is_ascii : (c : ℕ) → digit_value c < 36 → c < 128
+digit_is_ascii c h = grind (arith, nat_tests)
+
+digits_are_ascii : (radix : ℕ) (ds : List ℕ) → radix ≤ 36 → AllDigits radix ds → IsAscii ds
+digits_are_ascii radix [] small h = IsAscii-nil
+digits_are_ascii radix (d ∷ ds) small h =
+    IsAscii-cons d ds (digit_is_ascii d (omega (arith, h.0))) (digits_are_ascii radix ds small h.1)
+
+pub digits_are_text : (radix : ℕ) (ds : List ℕ) → radix ≤ 36 → AllDigits radix ds → IsUtf8 ds
+digits_are_text radix ds small h = IsUtf8-from_ascii ds (digits_are_ascii radix ds small h)
+
+dot_is_ascii : IsAscii (codes ".")
+dot_is_ascii = IsAscii-cons 46 [] (omega arith) IsAscii-nil
+
+pub dotted_is_text : (text : List ℕ) (n : ℕ) → IsDottedNumber text n → IsUtf8 text
+dotted_is_text text n h =
+    let f = h.fit in
+    let one = IsAscii-decimal h.a (omega (arith, f.0)) in
+    let two = IsAscii-decimal h.b (omega (arith, f.1)) in
+    let three = IsAscii-decimal h.c (omega (arith, f.2)) in
+    let four = IsAscii-decimal h.d (omega (arith, f.3)) in
+    let spelled = IsAscii-append _ _ (IsAscii-append _ _ (IsAscii-append _ _ (IsAscii-append _ _ (IsAscii-append _ _ (IsAscii-append _ _ one dot_is_ascii) two) dot_is_ascii) three) dot_is_ascii) four in
+    IsUtf8-from_ascii text (subst IsAscii (sym h.spelled) spelled)
+
+-- eight hexadecimal digits spell a number of 32 bits
+pub eight_digits_fit : (ds : List ℕ) → AllDigits 16 ds → length ds ≡ 8 → digits_value 16 ds < 2 ^ 32
+eight_digits_fit ds digits eight =
+    let below : digits_value 16 ds < 16 ^ length ds = digits_value-lt 16 ds digits in
+    let P : ℕ → Type 0 = λ n. digits_value 16 ds < 16 ^ n in
+    subst P eight below
+
+-- the names of commands are text
+pub names_are_text : (name : Name) → IsUtf8 (name_text name)
+names_are_text name.Start = search rules
+names_are_text _ = search rules

@@ -1,0 +1,117 @@
+-- Where words are not what a command takes, they spell no command of that name.
+use Rattle.std.proofs.Common.{◌≡◌, ◌==◌, if◌then◌else◌, ℕ, ℤ, ◌+◌, ◌*◌, List, [], ◌∷◌, length, get_or, refl, subst, sym, ap, ◌∙◌}
+use Rattle.ospf_base.specs.declared.ids.Addr.{Addr}
+use Rattle.ospf_base.specs.declared.ids.RouterId.{RouterId}
+use Rattle.ospf_script.specs.Commands.{AreNumbers, IsCountAlone, IsDelivery, IsRouterAlone, IsRouterAndLink, IsStart, IsUnreadable, IsWalk, Spells, Takes, name_of}
+use Rattle.ospf_script.specs.Names.{IsOfRouter, name_text}
+use Rattle.ospf_script.specs.Words.{IsBlank, Text, words}
+use Rattle.ospf_script.proofs.Parts.{words-blank}
+use Rattle.ospf_script.specs.declared.command.Command.{Command}
+use Rattle.ospf_script.specs.declared.command.Command.TheVariants as command
+use Rattle.ospf_script.specs.declared.name.Name.{Name}
+use Rattle.ospf_script.specs.declared.name.Name.TheVariants as names
+
+-- the words spell no command of this name
+abbrev pub IsNone : Name → List Text → Type 0
+IsNone name ws = (c : Command) → name_of c ≡ name → Takes c ws → ⊥
+
+pub no_router : (ws : List Text) → ((router : RouterId) → IsRouterAlone ws router → ⊥) → (name : Name) → IsOfRouter name → IsNone name ws
+no_router ws h name is (command.Stop router) e t = h router t
+no_router ws h name is (command.Tick router) e t = h router t
+no_router ws h name is (command.Neighbours router) e t = h router t
+no_router ws h name is (command.Listing router) e t = h router t
+no_router ws h name is (command.Table router) e t = h router t
+no_router ws h name is (command.Floor router) e t = h router t
+no_router ws h name is c e t = subst IsOfRouter (sym e) is
+
+pub no_start : (ws : List Text) → ((router : RouterId) (dd_start : ℕ) (floor : ℤ) → IsStart ws router dd_start floor → ⊥) → IsNone names.Start ws
+no_start ws h (command.Start router dd_start floor) e t = h router dd_start floor t
+no_start ws h c e t = cc
+
+pub no_up : (ws : List Text) → ((router : RouterId) (link : ℕ) → IsRouterAndLink ws router link → ⊥) → IsNone names.Up ws
+no_up ws h (command.LinkUp router link) e t = h router link t
+no_up ws h c e t = cc
+
+pub no_down : (ws : List Text) → ((router : RouterId) (link : ℕ) → IsRouterAndLink ws router link → ⊥) → IsNone names.Down ws
+no_down ws h (command.LinkDown router link) e t = h router link t
+no_down ws h c e t = cc
+
+pub no_delivery : (ws : List Text) → ((datagram : ℕ) (router : RouterId) (link : ℕ) → IsDelivery ws datagram router link → ⊥) → IsNone names.Deliver ws
+no_delivery ws h (command.Deliver datagram router link) e t = h datagram router link t
+no_delivery ws h c e t = cc
+
+pub no_round : (ws : List Text) → ((count : ℕ) → IsCountAlone ws count → ⊥) → IsNone names.Round ws
+no_round ws h (command.Round count) e t = h count t
+no_round ws h c e t = cc
+
+pub no_random : (ws : List Text) → ((number count : ℕ) → AreNumbers ws number count → ⊥) → IsNone names.Random ws
+no_random ws h (command.Random number count) e t = h number count t
+no_random ws h c e t = cc
+
+pub no_walk : (ws : List Text) → ((from : RouterId) (address : Addr) (choices : List ℕ) → IsWalk ws from address choices → ⊥) → IsNone names.Walk ws
+no_walk ws h (command.Walk from address choices) e t = h from address choices.items t
+no_walk ws h c e t = cc
+
+-- a name is known by its length and its first letter
+key : Text → ℕ
+key text = 256 * length text + get_or text 0 0
+
+by_key : ℕ → Name
+by_key n =
+    if n == 1395 then names.Start else
+    if n == 1139 then names.Stop else
+    if n == 1140 then names.Tick else
+    if n == 629 then names.Up else
+    if n == 1124 then names.Down else
+    if n == 1892 then names.Deliver else
+    if n == 1394 then names.Round else
+    if n == 1650 then names.Random else
+    if n == 2670 then names.Neighbours else
+    if n == 1900 then names.Listing else
+    if n == 1396 then names.Table else
+    if n == 1143 then names.Walk else
+    names.Floor
+
+found_by_key : (name : Name) → by_key (key (name_text name)) ≡ name
+unfolding key by_key
+found_by_key names.Start = refl
+found_by_key names.Stop = refl
+found_by_key names.Tick = refl
+found_by_key names.Up = refl
+found_by_key names.Down = refl
+found_by_key names.Deliver = refl
+found_by_key names.Round = refl
+found_by_key names.Random = refl
+found_by_key names.Neighbours = refl
+found_by_key names.Listing = refl
+found_by_key names.Table = refl
+found_by_key names.Walk = refl
+found_by_key names.Floor = refl
+
+-- each name has a word of its own
+pub name_text-injective : (a b : Name) → name_text a ≡ name_text b → a ≡ b
+name_text-injective a b e = sym (found_by_key a) ∙ ap (λ text. by_key (key text)) e ∙ found_by_key b
+
+-- ---- lines
+
+pub not_blank : (line word : Text) (ws : List Text) → words line ≡ word ∷ ws → IsBlank line → ⊥
+not_blank line word ws is blank =
+    let none : words line ≡ [] = words-blank line blank in
+    let both : [] ≡ word ∷ ws = sym none ∙ is in
+    cc
+
+-- the words behind the first spell no command of its name
+pub unreadable : (line word : Text) (ws : List Text) → words line ≡ word ∷ ws → ((c : Command) → word ≡ name_text (name_of c) → Takes c ws → ⊥) → IsUnreadable line
+unreadable line word ws is none = record {
+  some = not_blank line word ws is;
+  none = λ c spelled. let h : Spells (word ∷ ws) c = rw is at spelled in none c h.0 h.1;
+}
+
+pub unreadable_of : (line word : Text) (ws : List Text) (name : Name) → words line ≡ word ∷ ws → word ≡ name_text name → IsNone name ws → IsUnreadable line
+unreadable_of line word ws name is named none =
+    unreadable line word ws is (λ c own takes. none c (name_text-injective (name_of c) name (sym own ∙ named)) takes)
+
+pub spelled : (line word : Text) (ws : List Text) (name : Name) (c : Command) → words line ≡ word ∷ ws → word ≡ name_text name → name_of c ≡ name → Takes c ws → Spells (words line) c
+spelled line word ws name c is named own takes =
+    let here : Spells (word ∷ ws) c = (named ∙ ap name_text (sym own), takes) in
+    rw is here

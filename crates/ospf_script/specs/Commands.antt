@@ -1,0 +1,131 @@
+-- Which words spell which command.
+use Rattle.std.specs.Prelude.{◌≡◌, ◌⊎◌, ⊤, ℕ, ℤ, List, [], ◌∷◌, ◌<◌, length}
+use Rattle.std.specs.Int.{w32, cast_signed}
+use Rattle.ospf_base.specs.declared.ids.Addr.{Addr}
+use Rattle.ospf_base.specs.declared.ids.RouterId.{RouterId}
+use Rattle.ospf_script.specs.Names.{name_text}
+use Rattle.ospf_script.specs.Values.{IsAddress, IsDecimal, IsFloor, IsRouter}
+use Rattle.ospf_script.specs.Words.{IsBlank, Text, words}
+use Rattle.ospf_script.specs.declared.command.Command.{Command}
+use Rattle.ospf_script.specs.declared.command.Command.TheVariants as command
+use Rattle.ospf_script.specs.declared.name.Name.{Name}
+use Rattle.ospf_script.specs.declared.name.Name.TheVariants as name
+
+-- ---- words in a row
+
+-- one word, of which this holds
+abbrev pub IsOne : (Text → Type 0) → List Text → Type 0
+IsOne P (a ∷ []) = P a
+IsOne P _ = ⊥
+
+-- two words
+abbrev pub IsTwo : (Text → Text → Type 0) → List Text → Type 0
+IsTwo P (a ∷ b ∷ []) = P a b
+IsTwo P _ = ⊥
+
+-- three words
+abbrev pub IsThree : (Text → Text → Text → Type 0) → List Text → Type 0
+IsThree P (a ∷ b ∷ c ∷ []) = P a b c
+IsThree P _ = ⊥
+
+-- ---- the words behind a command's name
+
+abbrev pub IsRouterAlone : List Text → RouterId → Type 0
+IsRouterAlone ws router = IsOne (λ a. IsRouter a router) ws
+
+abbrev pub IsCountAlone : List Text → ℕ → Type 0
+IsCountAlone ws count = IsOne (λ a. IsDecimal 64 a count) ws
+
+abbrev pub IsRouterAndLink : List Text → RouterId → ℕ → Type 0
+IsRouterAndLink ws router link = IsTwo (λ a b. IsRouter a router × IsDecimal 64 b link) ws
+
+abbrev pub AreNumbers : List Text → ℕ → ℕ → Type 0
+AreNumbers ws number count = IsTwo (λ a b. IsDecimal 64 a number × IsDecimal 64 b count) ws
+
+abbrev pub IsDelivery : List Text → ℕ → RouterId → ℕ → Type 0
+IsDelivery ws datagram router link = IsThree (λ a b c. IsDecimal 64 a datagram × IsRouter b router × IsDecimal 64 c link) ws
+
+-- the floor that is none: each LS sequence number is above it (RFC 2328, section 12.1.6)
+abbrev pub no_floor : ℤ
+no_floor = cast_signed w32 0x80000000
+
+-- with no floor, or with one
+abbrev pub IsStart : List Text → RouterId → ℕ → ℤ → Type 0
+IsStart ws router dd_start floor =
+    IsTwo (λ a b. IsRouter a router × IsDecimal 32 b dd_start × (floor ≡ no_floor)) ws
+    ⊎ IsThree (λ a b c. IsRouter a router × IsDecimal 32 b dd_start × IsFloor c floor) ws
+
+-- each word spells the choice at its place
+abbrev pub AreChoices : List Text → List ℕ → Type 0
+AreChoices [] [] = ⊤
+AreChoices (a ∷ ws) (choice ∷ choices) = IsDecimal 32 a choice × AreChoices ws choices
+AreChoices _ _ = ⊥
+
+-- each word spells some choice
+abbrev pub AreSomeChoices : List Text → Type 0
+AreSomeChoices ws = (choices : List ℕ) × AreChoices ws choices
+
+-- the words spell choices, one or more
+abbrev pub AreManyChoices : List Text → Type 0
+AreManyChoices ws = (choices : List ℕ) × AreChoices ws choices × (0 < length choices)
+
+-- a Router ID and an address, and then other words
+abbrev pub BeginsWalk : List Text → RouterId → Addr → List Text → Type 0
+BeginsWalk (a ∷ b ∷ ws) from address rest = IsRouter a from × IsAddress b address × (ws ≡ rest)
+BeginsWalk _ from address rest = ⊥
+
+abbrev pub IsWalk : List Text → RouterId → Addr → List ℕ → Type 0
+IsWalk ws from address choices = (rest : List Text) × BeginsWalk ws from address rest × AreChoices rest choices
+
+-- a walk with a choice or more
+abbrev pub IsLongWalk : List Text → Type 0
+IsLongWalk ws = (from : RouterId) × (address : Addr) × (rest : List Text) × BeginsWalk ws from address rest × AreManyChoices rest
+
+-- ---- commands
+
+abbrev pub name_of : Command → Name
+name_of (command.Start router dd_start floor) = name.Start
+name_of (command.Stop router) = name.Stop
+name_of (command.Tick router) = name.Tick
+name_of (command.LinkUp router link) = name.Up
+name_of (command.LinkDown router link) = name.Down
+name_of (command.Deliver datagram router link) = name.Deliver
+name_of (command.Round count) = name.Round
+name_of (command.Random number count) = name.Random
+name_of (command.Neighbours router) = name.Neighbours
+name_of (command.Listing router) = name.Listing
+name_of (command.Table router) = name.Table
+name_of (command.Walk from address choices) = name.Walk
+name_of (command.Floor router) = name.Floor
+
+-- the words behind its name
+abbrev pub Takes : Command → List Text → Type 0
+Takes (command.Start router dd_start floor) ws = IsStart ws router dd_start floor
+Takes (command.Stop router) ws = IsRouterAlone ws router
+Takes (command.Tick router) ws = IsRouterAlone ws router
+Takes (command.LinkUp router link) ws = IsRouterAndLink ws router link
+Takes (command.LinkDown router link) ws = IsRouterAndLink ws router link
+Takes (command.Deliver datagram router link) ws = IsDelivery ws datagram router link
+Takes (command.Round count) ws = IsCountAlone ws count
+Takes (command.Random number count) ws = AreNumbers ws number count
+Takes (command.Neighbours router) ws = IsRouterAlone ws router
+Takes (command.Listing router) ws = IsRouterAlone ws router
+Takes (command.Table router) ws = IsRouterAlone ws router
+Takes (command.Walk from address choices) ws = IsWalk ws from address choices.items
+Takes (command.Floor router) ws = IsRouterAlone ws router
+
+-- the words spell the command: its name, and what it takes
+abbrev pub Spells : List Text → Command → Type 0
+Spells [] c = ⊥
+Spells (a ∷ ws) c = (a ≡ name_text (name_of c)) × Takes c ws
+
+-- ---- lines
+
+-- the line is not blank, and spells no command
+pub record IsUnreadable (line : Text) : Type 0 where
+  pub some : IsBlank line → ⊥
+  pub none : (c : Command) → Spells (words line) c → ⊥
+
+-- the words spell a walk with a choice or more
+abbrev pub SpellsLongWalk : List Text → Type 0
+SpellsLongWalk ws = (rest : List Text) × (ws ≡ name_text name.Walk ∷ rest) × IsLongWalk rest

@@ -1,0 +1,9 @@
+pub mod Words
+pub mod Values
+pub mod Lines
+pub mod Faults
+pub mod Names
+pub mod Commands
+pub mod Texts
+pub mod Views
+pub mod Laws

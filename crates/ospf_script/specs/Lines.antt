@@ -1,0 +1,18 @@
+-- Lines of a text, with their numbers: a line ends with a line feed, before which a carriage return may stand, or with the text.
+use Rattle.std.specs.Prelude.{ℕ, List}
+use Rattle.std.specs.List.{enumerate_from}
+use Rattle.std.specs.Str.Lines as std
+use Rattle.ospf_script.specs.Words.{Text}
+use Rattle.ospf_script.specs.declared.script.Line.{Line}
+
+-- the lines of a text without their ends
+abbrev pub lines_of : Text → List Text
+lines_of text = std.lines text
+
+-- the number and the text of a line
+abbrev pub entry_of : Line → ℕ × Text
+entry_of line = (line.number, line.text.now)
+
+-- the lines with their numbers, from this one on
+abbrev pub numbered_from : ℕ → Text → List (ℕ × Text)
+numbered_from number text = enumerate_from number (lines_of text)

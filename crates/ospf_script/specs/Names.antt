@@ -1,0 +1,30 @@
+-- The words that commands begin with.
+use Rattle.std.specs.Prelude.{⊤, codes}
+use Rattle.ospf_script.specs.Words.{Text}
+use Rattle.ospf_script.specs.declared.name.Name.{Name}
+use Rattle.ospf_script.specs.declared.name.Name.TheVariants as name
+
+abbrev pub name_text : Name → Text
+name_text name.Start = codes "start"
+name_text name.Stop = codes "stop"
+name_text name.Tick = codes "tick"
+name_text name.Up = codes "up"
+name_text name.Down = codes "down"
+name_text name.Deliver = codes "deliver"
+name_text name.Round = codes "round"
+name_text name.Random = codes "random"
+name_text name.Neighbours = codes "neighbours"
+name_text name.Listing = codes "listing"
+name_text name.Table = codes "table"
+name_text name.Walk = codes "walk"
+name_text name.Floor = codes "floor"
+
+-- the commands of a router alone
+abbrev pub IsOfRouter : Name → Type 0
+IsOfRouter name.Stop = ⊤
+IsOfRouter name.Tick = ⊤
+IsOfRouter name.Neighbours = ⊤
+IsOfRouter name.Listing = ⊤
+IsOfRouter name.Table = ⊤
+IsOfRouter name.Floor = ⊤
+IsOfRouter _ = ⊥

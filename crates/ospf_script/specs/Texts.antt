@@ -1,0 +1,38 @@
+-- Commands as they are printed.
+use Rattle.std.specs.Prelude.{ℕ, ℤ, ◌-◌, List, ◌++◌, codes, decimal, false, flat_map, length, replicate}
+use Rattle.std.specs.Fmt.{digits}
+use Rattle.std.specs.Int.{w32, cast_unsigned}
+use Rattle.ospf_base.specs.Text.{number_text}
+use Rattle.ospf_script.specs.Words.{Text}
+use Rattle.ospf_script.specs.declared.command.Command.{Command}
+use Rattle.ospf_script.specs.declared.command.Command.TheVariants as command
+
+-- hexadecimal digits in lower case, with zeros in front where they are fewer than this
+unfoldable pub hexadecimal : ℕ → ℕ → Text
+hexadecimal width n = replicate (width - length (digits 16 false n)) 48 ++ digits 16 false n
+
+-- a floor: eight digits, in two's complement
+abbrev pub floor_text : ℤ → Text
+floor_text floor = hexadecimal 8 (cast_unsigned w32 floor)
+
+-- each choice behind a space
+abbrev pub choices_text : List ℕ → Text
+choices_text choices = flat_map (λ choice. codes " " ++ decimal choice) choices
+
+abbrev pub command_text : Command → Text
+command_text (command.Start router dd_start floor) =
+    codes "start " ++ number_text router.0 ++ codes " " ++ decimal dd_start ++ codes " " ++ floor_text floor
+command_text (command.Stop router) = codes "stop " ++ number_text router.0
+command_text (command.Tick router) = codes "tick " ++ number_text router.0
+command_text (command.LinkUp router link) = codes "up " ++ number_text router.0 ++ codes " " ++ decimal link
+command_text (command.LinkDown router link) = codes "down " ++ number_text router.0 ++ codes " " ++ decimal link
+command_text (command.Deliver datagram router link) =
+    codes "deliver " ++ decimal datagram ++ codes " " ++ number_text router.0 ++ codes " " ++ decimal link
+command_text (command.Round count) = codes "round " ++ decimal count
+command_text (command.Random number count) = codes "random " ++ decimal number ++ codes " " ++ decimal count
+command_text (command.Neighbours router) = codes "neighbours " ++ number_text router.0
+command_text (command.Listing router) = codes "listing " ++ number_text router.0
+command_text (command.Table router) = codes "table " ++ number_text router.0
+command_text (command.Walk from address choices) =
+    codes "walk " ++ number_text from.0 ++ codes " " ++ number_text address.0 ++ choices_text choices.items
+command_text (command.Floor router) = codes "floor " ++ number_text router.0

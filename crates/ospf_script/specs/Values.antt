@@ -1,0 +1,29 @@
+-- What a word of a line spells: a number, a floor, a Router ID, an address.
+use Rattle.std.specs.Prelude.{◌≡◌, ℕ, ℤ, ◌^◌, ◌<◌, length}
+use Rattle.std.specs.Int.{w32, cast_signed}
+use Rattle.std.specs.Net.Grammar.{IsNumber}
+use Rattle.ospf_base.specs.Text.{IsDottedNumber}
+use Rattle.ospf_base.specs.declared.ids.Addr.{Addr}
+use Rattle.ospf_base.specs.declared.ids.RouterId.{RouterId}
+use Rattle.ospf_script.specs.Words.{Text}
+
+-- decimal digits, one or more, that spell a number of so many bits
+abbrev pub IsDecimal : ℕ → Text → ℕ → Type 0
+IsDecimal bits word n = IsNumber 10 word n × (n < 2 ^ bits)
+
+-- eight hexadecimal digits, and the signed number that they are in two's complement
+pub record IsFloor (word : Text) (floor : ℤ) : Type 0 where
+  pub bits : ℕ
+  pub spelled : IsNumber 16 word bits
+  pub eight : length word ≡ 8
+  pub floor_is : floor ≡ cast_signed w32 bits
+
+-- the number that a dotted text spells
+abbrev pub IsDotted32 : Text → ℕ → Type 0
+IsDotted32 word n = IsDottedNumber word n × (n < 2 ^ 32)
+
+abbrev pub IsRouter : Text → RouterId → Type 0
+IsRouter word router = IsDotted32 word router.0
+
+abbrev pub IsAddress : Text → Addr → Type 0
+IsAddress word address = IsDotted32 word address.0

@@ -1,0 +1,71 @@
+//! The commands of a script.
+
+use ospf_base::{Addr, RouterId};
+
+/// What a line of a script asks for: an event, several events, or a line to be printed.
+#[derive(Debug, PartialEq, Eq, Drop)]
+pub enum Command {
+    /// `start R DD [FLOOR]`: the router starts, with the first DD sequence number that it sends, and the floor of its
+    /// LS sequence numbers.
+    Start {
+        router: RouterId,
+        dd_start: u32,
+        floor: i32,
+    },
+    /// `stop R`: the router stops.
+    Stop {
+        router: RouterId,
+    },
+    /// `tick R`: a second passes at the router.
+    Tick {
+        router: RouterId,
+    },
+    /// `up R LINK`: a link of the router comes up.
+    LinkUp {
+        router: RouterId,
+        link: usize,
+    },
+    /// `down R LINK`: a link of the router goes down.
+    LinkDown {
+        router: RouterId,
+        link: usize,
+    },
+    /// `deliver N R LINK`: a datagram that was sent comes in on a link of the router.
+    Deliver {
+        datagram: usize,
+        router: RouterId,
+        link: usize,
+    },
+    /// `round COUNT`: so many rounds.
+    Round {
+        count: u64,
+    },
+    /// `random NUMBER COUNT`: so many events, drawn by the number.
+    Random {
+        number: u64,
+        count: u64,
+    },
+    /// `neighbours R`: the neighbours of the router are printed.
+    Neighbours {
+        router: RouterId,
+    },
+    /// `listing R`: the LSAs that the router lists are printed.
+    Listing {
+        router: RouterId,
+    },
+    /// `table R`: the routing table of the router is printed.
+    Table {
+        router: RouterId,
+    },
+    /// `walk R ADDRESS CHOICE..`: the walk from a router towards an address is printed, with the choice of a hop at each
+    /// router that it meets.
+    Walk {
+        from: RouterId,
+        address: Addr,
+        choices: Vec<u32>,
+    },
+    /// `floor R`: the floor of the router's LS sequence numbers is printed.
+    Floor {
+        router: RouterId,
+    },
+}

@@ -1,0 +1,26 @@
+//! The lines of a script of the simulator, read.
+//!
+//! `Command::read` reads a line, and which words spell which command stands in `specs/Commands`.
+#![tactic(auto)]
+
+mod command;
+mod fault;
+mod laws;
+mod name;
+mod places;
+mod read;
+mod script;
+mod shapes;
+mod show;
+#[cfg(test)]
+mod tests;
+mod values;
+mod views;
+mod walk;
+mod words;
+
+pub use crate::command::Command;
+pub use crate::fault::LineFault;
+pub use crate::laws::words_spell_one_command;
+pub use crate::script::{Line, first_line, lines};
+pub use crate::views::{FloorShown, ListedShown, NeighbourShown, RefusalShown, WalkShown};

@@ -1,0 +1,71 @@
+//! The words behind the names of commands.
+
+ghost use Rattle.std.specs.Prelude.{◌≡◌, ℕ, ℤ, IfSome, IfNone};
+ghost use Rattle.ospf_base.specs.declared.ids.RouterId.{RouterId};
+ghost use Rattle.ospf_script.specs.Commands.{AreNumbers, IsCountAlone, IsDelivery, IsRouterAlone, IsRouterAndLink, IsStart};
+ghost use Rattle.ospf_script.specs.Words.{words};
+
+use crate::values::{floor_of, number_of, router_of, short_number_of};
+use crate::words::{one_word, three_words, two_words};
+use ospf_base::RouterId;
+
+// The floor below all LS sequence numbers, which is none.
+const NO_FLOOR: i32 = i32::MIN;
+
+// A Router ID alone.
+pub(crate) fn router_in(text: &[u8]) -> Option<RouterId>
+    ensures some { IfSome result (IsRouterAlone (words text.now)) }
+    ensures none { IfNone result ((router : RouterId) → IsRouterAlone (words text.now) router → ⊥) }
+{
+    router_of(one_word(text)?)
+}
+
+// A count alone.
+pub(crate) fn count_in(text: &[u8]) -> Option<u64>
+    ensures some { IfSome result (IsCountAlone (words text.now)) }
+    ensures none { IfNone result ((count : ℕ) → IsCountAlone (words text.now) count → ⊥) }
+{
+    number_of(one_word(text)?)
+}
+
+// A Router ID and a link.
+pub(crate) fn router_and_link_in(text: &[u8]) -> Option<(RouterId, usize)>
+    ensures some { IfSome result (λ found. IsRouterAndLink (words text.now) found.0 found.1) }
+    ensures none { IfNone result ((router : RouterId) (link : ℕ) → IsRouterAndLink (words text.now) router link → ⊥) }
+{
+    let (router, link) = two_words(text)?;
+    Some((router_of(router)?, number_of(link)? as usize))
+}
+
+// Two numbers.
+pub(crate) fn numbers_in(text: &[u8]) -> Option<(u64, u64)>
+    ensures some { IfSome result (λ found. AreNumbers (words text.now) found.0 found.1) }
+    ensures none { IfNone result ((number count : ℕ) → AreNumbers (words text.now) number count → ⊥) }
+{
+    let (number, count) = two_words(text)?;
+    Some((number_of(number)?, number_of(count)?))
+}
+
+// A datagram, a Router ID and a link.
+pub(crate) fn delivery_in(text: &[u8]) -> Option<(usize, RouterId, usize)>
+    ensures some { IfSome result (λ found. IsDelivery (words text.now) found.0 found.1 found.2) }
+    ensures none { IfNone result ((datagram : ℕ) (router : RouterId) (link : ℕ) → IsDelivery (words text.now) datagram router link → ⊥) }
+{
+    let (datagram, router, link) = three_words(text)?;
+    let datagram = number_of(datagram)? as usize;
+    let router = router_of(router)?;
+    Some((datagram, router, number_of(link)? as usize))
+}
+
+// A Router ID, a first DD sequence number and a floor, or no floor.
+pub(crate) fn start_in(text: &[u8]) -> Option<(RouterId, u32, i32)>
+    ensures some { IfSome result (λ found. IsStart (words text.now) found.0 found.1 found.2) }
+    ensures none { IfNone result ((router : RouterId) (dd_start : ℕ) (floor : ℤ) → IsStart (words text.now) router dd_start floor → ⊥) }
+{
+    if let Some((router, dd_start)) = two_words(text) {
+        return Some((router_of(router)?, short_number_of(dd_start)?, NO_FLOOR));
+    }
+    let (router, dd_start, floor) = three_words(text)?;
+    let router = router_of(router)?;
+    Some((router, short_number_of(dd_start)?, floor_of(floor)?))
+}

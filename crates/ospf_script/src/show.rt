@@ -1,0 +1,69 @@
+//! Commands as text.
+
+ghost use Rattle.std.specs.Fmt.{WritesOnOk};
+ghost use Rattle.ospf_script.specs.Texts.{choices_text, floor_text};
+
+use crate::command::Command;
+use std::fmt::{self, Display, Formatter, Write};
+
+// A floor in eight hexadecimal digits.
+pub(crate) fn write_floor<W: Write>(f: &mut Formatter<W>, floor: i32) -> fmt::Result
+    ensures { WritesOnOk W.Write.write_str_gives f.old result (floor_text floor) f.new }
+{
+    let bits = floor.cast_unsigned();
+    write!(f, "{bits:08x}")
+}
+
+// Choices, each behind a space.
+fn write_choices<W: Write>(f: &mut Formatter<W>, choices: &[u32]) -> fmt::Result
+    ensures { WritesOnOk W.Write.write_str_gives f.old result (choices_text choices.now) f.new }
+{
+    for choice in choices {
+        write!(f, " {choice}")?;
+    }
+    Ok(())
+}
+
+/// As a line of a script, with the floor of a start, which is read as the same command.
+impl Display for Command {
+    ghost use Rattle.std.specs.Prelude.{Some};
+    ghost use Rattle.ospf_script.specs.Texts.{command_text};
+
+    ghost output = { λ command. Some (command_text command) };
+
+    fn fmt<W: Write>(&self, f: &mut Formatter<W>) -> fmt::Result {
+        match self {
+            Command::Start {
+                router,
+                dd_start,
+                floor,
+            } => {
+                write!(f, "start {router} {dd_start} ")?;
+                write_floor(f, *floor)
+            }
+            Command::Stop { router } => write!(f, "stop {router}"),
+            Command::Tick { router } => write!(f, "tick {router}"),
+            Command::LinkUp { router, link } => write!(f, "up {router} {link}"),
+            Command::LinkDown { router, link } => write!(f, "down {router} {link}"),
+            Command::Deliver {
+                datagram,
+                router,
+                link,
+            } => write!(f, "deliver {datagram} {router} {link}"),
+            Command::Round { count } => write!(f, "round {count}"),
+            Command::Random { number, count } => write!(f, "random {number} {count}"),
+            Command::Neighbours { router } => write!(f, "neighbours {router}"),
+            Command::Listing { router } => write!(f, "listing {router}"),
+            Command::Table { router } => write!(f, "table {router}"),
+            Command::Walk {
+                from,
+                address,
+                choices,
+            } => {
+                write!(f, "walk {from} {address}")?;
+                write_choices(f, choices)
+            }
+            Command::Floor { router } => write!(f, "floor {router}"),
+        }
+    }
+}

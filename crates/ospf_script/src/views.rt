@@ -1,0 +1,139 @@
+//! What the simulator prints.
+
+ghost use Rattle.std.specs.Fmt.{WritesOnOk};
+ghost use Rattle.ospf_script.specs.Texts.{hexadecimal};
+ghost use Rattle.ospf_script.specs.Views.{routers_text};
+
+use crate::show::write_floor;
+use ospf_base::{Instance, Kind, RouterId};
+use std::fmt::{self, Display, Formatter, Write};
+
+/// A number as a floor is printed: eight hexadecimal digits, in two's complement.
+#[derive(Clone, Copy, Debug, PartialEq, Eq)]
+pub struct FloorShown(pub i32);
+
+/// A line that was refused: its number, and the text of its fault.
+#[derive(Clone, Copy, Debug, PartialEq, Eq)]
+pub struct RefusalShown<'a> {
+    pub number: u64,
+    pub fault: &'a str,
+}
+
+/// A neighbour: the number of its link, its Router ID, and the name of its state.
+#[derive(Clone, Copy, Debug, PartialEq, Eq)]
+pub struct NeighbourShown<'a> {
+    pub link: usize,
+    pub router: RouterId,
+    pub state: &'a str,
+}
+
+/// An LSA of a listing: what names it and its instance.
+#[derive(Clone, Copy, Debug, PartialEq, Eq)]
+pub struct ListedShown(pub Instance);
+
+/// A walk: the routers that it met, what it cost, and the name of how it ended.
+#[derive(Clone, Copy, Debug, PartialEq, Eq)]
+pub struct WalkShown<'a> {
+    pub routers: &'a [RouterId],
+    pub cost: u64,
+    pub end: &'a str,
+}
+
+// Router IDs, each before a space.
+fn write_routers<W: Write>(f: &mut Formatter<W>, routers: &[RouterId]) -> fmt::Result
+    ensures { WritesOnOk W.Write.write_str_gives f.old result (routers_text routers.now) f.new }
+{
+    for router in routers {
+        write!(f, "{router} ")?;
+    }
+    Ok(())
+}
+
+// A checksum as it is printed: four hexadecimal digits.
+#[derive(Clone, Copy)]
+struct SumShown(u16);
+
+// A number in four hexadecimal digits.
+fn write_sum<W: Write>(f: &mut Formatter<W>, sum: u16) -> fmt::Result
+    ensures { WritesOnOk W.Write.write_str_gives f.old result (hexadecimal 4 sum) f.new }
+{
+    write!(f, "{sum:04x}")
+}
+
+impl Display for SumShown {
+    ghost use Rattle.std.specs.Prelude.{Some};
+    ghost use Rattle.ospf_script.specs.Texts.{hexadecimal};
+
+    ghost output = { λ sum. Some (hexadecimal 4 sum.0) };
+
+    fn fmt<W: Write>(&self, f: &mut Formatter<W>) -> fmt::Result {
+        write_sum(f, self.0)
+    }
+}
+
+/// As `7ffffffe`.
+impl Display for FloorShown {
+    ghost use Rattle.std.specs.Prelude.{Some};
+    ghost use Rattle.ospf_script.specs.Texts.{floor_text};
+
+    ghost output = { λ floor. Some (floor_text floor.0) };
+
+    fn fmt<W: Write>(&self, f: &mut Formatter<W>) -> fmt::Result {
+        write_floor(f, self.0)
+    }
+}
+
+/// As `line 3: W2 NoDatagram`.
+impl Display for RefusalShown<'_> {
+    ghost use Rattle.std.specs.Prelude.{Some};
+    ghost use Rattle.ospf_script.specs.Views.{refusal_text};
+
+    ghost output = { λ refusal. Some (refusal_text refusal) };
+
+    fn fmt<W: Write>(&self, f: &mut Formatter<W>) -> fmt::Result {
+        write!(f, "line {}: {}", self.number, self.fault)
+    }
+}
+
+/// As `0 2.2.2.2 Full`.
+impl Display for NeighbourShown<'_> {
+    ghost use Rattle.std.specs.Prelude.{Some};
+    ghost use Rattle.ospf_script.specs.Views.{neighbour_text};
+
+    ghost output = { λ neighbour. Some (neighbour_text neighbour) };
+
+    fn fmt<W: Write>(&self, f: &mut Formatter<W>) -> fmt::Result {
+        write!(f, "{} {} {}", self.link, self.router, self.state)
+    }
+}
+
+/// As `router 1.1.1.1 1.1.1.1 80000002 e02d`: kind, Link State ID, Advertising Router, sequence number and checksum.
+impl Display for ListedShown {
+    ghost use Rattle.std.specs.Prelude.{Some};
+    ghost use Rattle.ospf_script.specs.Views.{listed_text};
+
+    ghost output = { λ listed. Some (listed_text listed.0) };
+
+    fn fmt<W: Write>(&self, f: &mut Formatter<W>) -> fmt::Result {
+        let Instance { key, number, sum } = self.0;
+        let (id, router) = (RouterId(key.id), key.router);
+        let (number, sum) = (FloorShown(number), SumShown(sum));
+        match key.kind {
+            Kind::Router => write!(f, "router {id} {router} {number} {sum}"),
+            Kind::Network => write!(f, "network {id} {router} {number} {sum}"),
+        }
+    }
+}
+
+/// As `2.2.2.2 1.1.1.1 cost 20 arrived`.
+impl Display for WalkShown<'_> {
+    ghost use Rattle.std.specs.Prelude.{Some};
+    ghost use Rattle.ospf_script.specs.Views.{walk_text};
+
+    ghost output = { λ walk. Some (walk_text walk) };
+
+    fn fmt<W: Write>(&self, f: &mut Formatter<W>) -> fmt::Result {
+        write_routers(f, self.routers)?;
+        write!(f, "cost {} {}", self.cost, self.end)
+    }
+}

@@ -1,0 +1,66 @@
+//! The words of a line.
+
+ghost use Rattle.std.specs.Prelude.{◌≡◌, ◌<◌, ◌∷◌, ℕ, [], length, IfSome, IfNone};
+ghost use Rattle.std.specs.List.{prefix_len};
+ghost use Rattle.ospf_script.specs.Words.{IsBlank, Text, is_space, words};
+
+use crate::places::place_of;
+
+// How many spaces a text begins with.
+fn leading_spaces(text: &[u8]) -> usize
+    ensures { result ≡ prefix_len is_space text.now }
+{
+    for place in 0..text.len() {
+        if text[place] != b' ' {
+            return place;
+        }
+    }
+    text.len()
+}
+
+// The first word of a text, and what stands behind it; `None` of a blank text.
+pub(crate) fn first_word(text: &[u8]) -> Option<(&[u8], &[u8])>
+    ensures word { IfSome result (λ found. words text.now ≡ found.0.now ∷ words found.1.now) }
+    ensures shorter { IfSome result (λ found. length found.1.now < length text.now) }
+    ensures blank { IfNone result (IsBlank text.now) }
+    ensures none { IfNone result (words text.now ≡ []) }
+{
+    let (_, from) = text.split_at(leading_spaces(text));
+    let length = place_of(from, b' ');
+    if length == 0 {
+        return None;
+    }
+    Some(from.split_at(length))
+}
+
+// The word of a text that has one alone.
+pub(crate) fn one_word(text: &[u8]) -> Option<&[u8]>
+    ensures some { IfSome result (λ word. words text.now ≡ word.now ∷ []) }
+    ensures none { IfNone result ((word : Text) → words text.now ≡ word ∷ [] → ⊥) }
+{
+    let (word, rest) = first_word(text)?;
+    match first_word(rest) {
+        Some(_) => None,
+        None => Some(word),
+    }
+}
+
+// The words of a text that has two.
+pub(crate) fn two_words(text: &[u8]) -> Option<(&[u8], &[u8])>
+    ensures some { IfSome result (λ found. words text.now ≡ found.0.now ∷ found.1.now ∷ []) }
+    ensures none { IfNone result ((first second : Text) → words text.now ≡ first ∷ second ∷ [] → ⊥) }
+{
+    let (first, rest) = first_word(text)?;
+    let second = one_word(rest)?;
+    Some((first, second))
+}
+
+// The words of a text that has three.
+pub(crate) fn three_words(text: &[u8]) -> Option<(&[u8], &[u8], &[u8])>
+    ensures some { IfSome result (λ found. words text.now ≡ found.0.now ∷ found.1.now ∷ found.2.now ∷ []) }
+    ensures none { IfNone result ((first second third : Text) → words text.now ≡ first ∷ second ∷ third ∷ [] → ⊥) }
+{
+    let (first, rest) = first_word(text)?;
+    let (second, third) = two_words(rest)?;
+    Some((first, second, third))
+}
