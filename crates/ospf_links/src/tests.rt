@@ -673,17 +673,21 @@ fn descriptions_are_repeated(rt: HostRuntime) -> Result<(), Fail> {
     Ok(())
 }
 
-// So does an LSA that is not acknowledged, which is marked as sent.
+// So does an LSA that is not acknowledged: how many keys are marked as sent in the tick before, and in its own.
+fn flood_and_wait(pair: &mut Pair, alloc: Global) -> Result<[usize; 2], Fail> {
+    pass(pair, To::First(2), alloc)?;
+    floods(&mut pair.first, alloc)?;
+    wait_for(&mut pair.first, 4, alloc)?;
+    let before = count_marked(&pair.first);
+    wait_for(&mut pair.first, 1, alloc)?;
+    Ok([before, count_marked(&pair.first)])
+}
+
 #[test]
 fn updates_are_repeated(rt: HostRuntime) -> Result<(), Fail> {
     let alloc = rt.alloc();
     let mut pair = met(alloc)?;
-    pass(&mut pair, To::First(2), alloc)?;
-    floods(&mut pair.first, alloc)?;
-    for (count, marked) in [(4, 0), (1, 1)] {
-        wait_for(&mut pair.first, count, alloc)?;
-        assert_eq!(rt; count_marked(&pair.first), marked);
-    }
+    assert_eq!(rt; flood_and_wait(&mut pair, alloc)?, [0, 1]);
     assert!(rt; is_sent(&pair.first, 4, UPDATE, alloc)?);
     assert!(rt; are_same(&pair.first, 4, 5));
     Ok(())
