@@ -306,6 +306,66 @@ fn three_routers_elect(rt: HostRuntime) -> Result<(), Fail> {
     Ok(())
 }
 
+// A neighbour in Exchange, which declares nothing and may not be elected.
+fn exchanging(alloc: Global, router: u32) -> Neighbour
+    ensures { result.router.0 ≡ router }
+{
+    let mut neighbour = two_way(alloc, router, 0, Addr::NOWHERE);
+    let _ = neighbour.event(NbrEvent::AdjOk(true), 40);
+    let _ = neighbour.event(NbrEvent::NegotiationDone, 40);
+    neighbour
+}
+
+// Another Designated Router: the adjacency with the one before ends, and that with the new one begins.
+#[test]
+fn adjacencies_end(rt: HostRuntime) -> Result<(), Fail> {
+    let alloc = rt.alloc();
+    let mut link = iface(InterfaceKind::Broadcast, IfaceState::Down);
+    link.settings.router = OWN;
+    link.settings.priority = 0;
+    link.state = IfaceState::DrOther;
+    link.dr = Addr(2);
+    let mut neighbours = [exchanging(alloc, 2), two_way(alloc, 3, 1, Addr(3))];
+    let mut number = 50;
+    let mut out = Vec::new(alloc);
+    elect_on(
+        &mut link,
+        &mut neighbours,
+        local(1500),
+        &mut number,
+        &mut out,
+        alloc,
+    )?;
+    assert_eq!(rt;
+        (link.state, link.dr, link.backup),
+        (IfaceState::DrOther, Addr(3), Addr::NOWHERE)
+    );
+    assert_eq!(rt; neighbours[0].state(), NeighbourState::TwoWay);
+    assert_eq!(rt; neighbours[1].state(), NeighbourState::ExStart);
+    assert_eq!(rt; (out.len(), last_sent(&out)), (1, Some((7, 50, 0))));
+    Ok(())
+}
+
+// A neighbour in Loading is Full once all that was requested has come.
+#[test]
+fn loading_is_done(rt: HostRuntime) -> Result<(), Fail> {
+    let alloc = rt.alloc();
+    let link = iface(InterfaceKind::Broadcast, IfaceState::Dr);
+    let lsa = Lsa::router(alloc, RouterId(7), FIRST_NUMBER, &[])?;
+    let mut neighbour = exchanging(alloc, 2);
+    if neighbour.is_exchanging() {
+        neighbour.add_requests(&[lsa.view().header()])?;
+    }
+    let _ = neighbour.event(NbrEvent::ExchangeDone, 40);
+    let mut out = Vec::new(alloc);
+    for state in [NeighbourState::Loading, NeighbourState::Full] {
+        request_turn(&mut neighbour, &link, local(1500), &mut out, alloc)?;
+        assert_eq!(rt; (neighbour.state(), out.len()), (state, 1));
+        neighbour.remove_request(&lsa.view().key());
+    }
+    Ok(())
+}
+
 #[test]
 fn adjacencies_with_the_designated_router(rt: HostRuntime) {
     let mut link = iface(InterfaceKind::Broadcast, IfaceState::DrOther);

@@ -142,8 +142,13 @@ fn heard_both_ways(rt: HostRuntime) -> Result<(), Fail> {
     Ok(())
 }
 
-// Whether an election is due by a Hello of neighbour 2, which was in 2-Way.
-fn elects_by(alloc: Global, state: IfaceState, said: &Hello, named: bool) -> Result<bool, Fail> {
+// Whether an election is due by a Hello of neighbour 2, which was in 2-Way, and its state then.
+fn elects_by(
+    alloc: Global,
+    state: IfaceState,
+    said: &Hello,
+    named: bool,
+) -> Result<(bool, NeighbourState), Fail> {
     let link = iface(InterfaceKind::Broadcast, state);
     let mut neighbours = vec![in alloc; neighbour(alloc, 2, true, 40)]?;
     let mut number = 5;
@@ -160,10 +165,11 @@ fn elects_by(alloc: Global, state: IfaceState, said: &Hello, named: bool) -> Res
         &mut out,
         alloc,
     )?;
-    Ok(elects)
+    let heard = neighbours.first().ok_or("none")?;
+    Ok((elects, heard.state()))
 }
 
-// BackupSeen in Waiting, and NeighborChange above, each only where something is new.
+// BackupSeen in Waiting, and NeighborChange above, each only where something is new. Who no longer names the router falls to Init.
 #[test]
 fn elections_by_hellos(rt: HostRuntime) -> Result<(), Fail> {
     let alloc = rt.alloc();
@@ -181,7 +187,12 @@ fn elections_by_hellos(rt: HostRuntime) -> Result<(), Fail> {
         (IfaceState::Waiting, backup, true, true),
         (IfaceState::Waiting, backup, false, false),
     ] {
-        assert_eq!(rt; elects_by(alloc, state, &said, named)?, due);
+        let stays = if named {
+            NeighbourState::TwoWay
+        } else {
+            NeighbourState::Init
+        };
+        assert_eq!(rt; elects_by(alloc, state, &said, named)?, (due, stays));
     }
     Ok(())
 }

@@ -14,6 +14,8 @@ mod marks;
 mod posting;
 mod repeats;
 mod requests;
+#[cfg(test)]
+mod tests;
 mod ticks;
 
 pub use crate::changes::{take_down, take_up};

@@ -240,11 +240,53 @@ fn drops_are_printed(rt: HostRuntime) -> Result<(), Fail> {
     assert_eq!(rt; told, Some(Dropped::Packet));
     for (dropped, text) in [
         (Dropped::Packet, "R1 Packet"),
+        (Dropped::Area, "R2 Area"),
+        (Dropped::OwnPacket, "R3 OwnPacket"),
+        (Dropped::Destination, "R4 Destination"),
+        (Dropped::Subnet, "R5 Subnet"),
         (Dropped::HelloMismatch, "R6 HelloMismatch"),
+        (Dropped::NoNeighbour, "R7 NoNeighbour"),
+        (Dropped::WrongRouter, "R8 WrongRouter"),
         (Dropped::State, "R9 State"),
     ] {
         let printed = format!(in alloc; "{dropped}")?;
         assert_eq!(rt; printed.as_str(), text);
+    }
+    Ok(())
+}
+
+// So many neighbours, of the Router IDs from 2 on, at addresses from 10.0.1.2 on.
+fn neighbours(alloc: Global, count: u32) -> Result<Vec<Neighbour>, Fail> {
+    let mut neighbours = Vec::new(alloc);
+    for place in 0..count {
+        let router = place.wrapping_add(2);
+        let address = Addr(router.wrapping_add(0x0a00_0100));
+        neighbours.push(Neighbour::new(alloc, RouterId(router), address))?;
+    }
+    Ok(neighbours)
+}
+
+// The first Hello of 10.0.0.1.
+const HELLO: &[u8; 44] =
+    b"\x02\x01\x00\x2c\x01\x01\x01\x01\x00\x00\x00\x00\xf9\xa0\x00\x00\x00\x00\x00\x00\x00\x00\x00\x00\xff\xff\xff\xfc\x00\x0a\x02\x01\x00\x00\x00\x28\x00\x00\x00\x00\x00\x00\x00\x00";
+
+// It makes a neighbour where there are fewer than 255, is dropped where there are 255, and is the router's own where it comes
+// back.
+#[test]
+fn a_first_hello(rt: HostRuntime) -> Result<(), Fail> {
+    let alloc = rt.alloc();
+    let mut link = iface(InterfaceKind::Broadcast, IfaceState::DrOther);
+    link.settings.address = THERE;
+    link.settings.mask = 0xffff_fffc;
+    for (own, count, cause) in [
+        (OWN, 254, None),
+        (OWN, 255, Some(Dropped::State)),
+        (RouterId(0x0101_0101), 255, Some(Dropped::OwnPacket)),
+    ] {
+        link.settings.router = own;
+        let others = neighbours(alloc, count)?;
+        let told = receive(HELLO, HERE, ALL_SPF_ROUTERS, &link, &others, AREA, LOCAL).err();
+        assert_eq!(rt; told, cause);
     }
     Ok(())
 }

@@ -1,0 +1,1118 @@
+//! Two routers over one link, each call by hand; the elections of a LAN; links that go up and down; timers.
+
+ghost use Rattle.std.specs.Prelude.{◌≡◌, ◌<◌, true, Some, length, slice_get};
+ghost use Rattle.ospf_area.specs.State.{LinkValue};
+ghost use Rattle.ospf_neighbour.specs.Machine.{is_exchanging};
+ghost use Rattle.ospf_neighbour.specs.Neighbour.{NeighbourValue};
+ghost use Rattle.ospf_neighbour.specs.Neighbours.{neighbour_of};
+ghost use Rattle.ospf_links.specs.Elections.{AreReady, IsReady};
+
+use crate::{
+    count_timers, elect, post, repeat_all, send_hellos, take_description, take_down, take_hello,
+    take_request, take_up,
+};
+use ospf_adjacency::Outgoing;
+use ospf_area::{Area, Link, LinkSettings, Origin, Outputs, Sent, flood, origin_of, own_of};
+use ospf_base::{ALL_SPF_ROUTERS, Addr, AreaId, InterfaceKind, RouterId};
+use ospf_iface::{Iface, IfaceSettings, IfaceState};
+use ospf_lsa::{Link as LsaLink, LinkKind, Lsa};
+use ospf_lsdb::Lsdb;
+use ospf_neighbour::{NeighbourState, Neighbours};
+use ospf_packet::{
+    Body, BodyValue, Description, Headers, Hello, Lsas, Neighbours as Named, Packet, PacketValue,
+    Requests, write_packet,
+};
+use std::alloc::{AllocError, Global};
+use std::test::Fail;
+
+// The first Hello of 1.1.1.1.
+static HELLO: &str = "0201002c 01010101 00000000 f9a0 0000 0000000000000000
+    fffffffc 000a 02 01 00000028 00000000 00000000";
+
+// The first Database Description of 2.2.2.2.
+static DESCRIPTION: &str = "02020020 02020202 00000000 f12e 0000 0000000000000000
+    05dc 02 07 000000c8";
+
+// The Request of 1.1.1.1 for the router-LSA of 2.2.2.2.
+static REQUEST: &str = "02030024 01010101 00000000 f3cd 0000 0000000000000000
+    00000001 02020202 02020202";
+
+// The Update of 1.1.1.1 with its router-LSA at age 1.
+static UPDATE: &str = "0204004c 01010101 00000000 7730 0000 0000000000000000 00000001
+    0001 0201 01010101 01010101 80000001 e22c 0030 00000002
+    02020202 0a000001 0100000a 0a000000 fffffffc 0300000a";
+
+const FIRST: RouterId = RouterId(0x0101_0101);
+
+const SECOND: RouterId = RouterId(0x0202_0202);
+
+const THIRD: RouterId = RouterId(0x0303_0303);
+
+// 0x80000001, the number that a router uses first.
+const FIRST_NUMBER: i32 = -0x7fff_ffff;
+
+// ---- routers
+
+// A router with one link, and what it has sent.
+#[derive(Drop)]
+struct Router {
+    area: Area,
+    out: Outputs,
+}
+
+// A router whose only link is down. Its next DD number is a hundred times its place.
+fn router_of(
+    alloc: Global,
+    settings: IfaceSettings,
+    mtu: u16,
+    next_dd: u32,
+) -> Result<Router, Fail> {
+    let link = Link {
+        iface: Iface {
+            settings,
+            state: IfaceState::Down,
+            dr: Addr::NOWHERE,
+            backup: Addr::NOWHERE,
+            wait: 0,
+            hello_in: 0,
+        },
+        settings: LinkSettings {
+            cost: 10,
+            retransmit: 5,
+            transmit_delay: 1,
+            mtu: if mtu == 576 { 576 } else { 1500 },
+        },
+        neighbours: Neighbours::new(alloc),
+        delayed: Vec::new(alloc),
+        elects: false,
+    };
+    let mut links = Vec::new(alloc);
+    links.push(link)?;
+    let area = Area {
+        router: settings.router,
+        area: AreaId(0),
+        stub_router: false,
+        links,
+        database: Lsdb::new(alloc),
+        direct: Vec::new(alloc),
+        numbering: Vec::new(alloc),
+        floor: i32::MIN,
+        tick: 0,
+        next_dd,
+        sent: Vec::new(alloc),
+        heard: Vec::new(alloc),
+        greatest: i32::MIN,
+    };
+    Ok(Router {
+        area,
+        out: Outputs::new(alloc),
+    })
+}
+
+// 10.0.0.1 or 10.0.0.2, in 10.0.0.0/30.
+fn point_to_point(router: RouterId, address: u32) -> IfaceSettings {
+    IfaceSettings {
+        router,
+        kind: InterfaceKind::PointToPoint,
+        address: Addr(address),
+        mask: 0xffff_fffc,
+        priority: 1,
+        hello: 10,
+        dead: 40,
+    }
+}
+
+const FROM_FIRST: Origin = Origin {
+    link: 0,
+    router: FIRST,
+    address: Addr(0x0a00_0001),
+};
+
+const FROM_SECOND: Origin = Origin {
+    link: 0,
+    router: SECOND,
+    address: Addr(0x0a00_0002),
+};
+
+fn neighbour_state(router: &Router, from: Origin) -> Option<NeighbourState> {
+    match origin_of(&router.area.links, from) {
+        Some(neighbour) => Some(neighbour.state()),
+        None => None,
+    }
+}
+
+fn is_in(router: &Router, from: Origin, state: NeighbourState) -> bool {
+    neighbour_state(router, from) == Some(state)
+}
+
+// The state, the Designated Router and the Backup of its link.
+fn iface_state(router: &Router) -> Option<(IfaceState, Addr, Addr)> {
+    match router.area.links.first() {
+        Some(link) => Some((link.iface.state, link.iface.dr, link.iface.backup)),
+        None => None,
+    }
+}
+
+// ---- what comes
+
+// Whether a link has room for one neighbour more, if it is there.
+fn has_room(area: &Area, number: usize) -> bool
+    ensures { result ≡ true → (link : LinkValue) → slice_get area.now.links number ≡ Some link → length link.neighbours < 255 }
+{
+    match area.links.get(number) {
+        Some(link) => link.neighbours.all().len() < 255,
+        None => true,
+    }
+}
+
+// Whether a neighbour is in Exchange or above, if it is there.
+fn is_answered(area: &Area, from: Origin) -> bool
+    ensures { result ≡ true → (link : LinkValue) → slice_get area.now.links from.link ≡ Some link → (n : NeighbourValue) → neighbour_of link.neighbours from.router ≡ Some n → is_exchanging n.state ≡ true }
+{
+    match origin_of(&area.links, from) {
+        Some(neighbour) => neighbour.state().is_exchanging(),
+        None => true,
+    }
+}
+
+fn hears_hello(
+    router: &mut Router,
+    from: Origin,
+    hello: &Hello,
+    named: Named<'_>,
+    alloc: Global,
+) -> Result<(), Fail> {
+    if !has_room(&router.area, from.link) {
+        return Err("no room".into());
+    }
+    take_hello(&mut router.area, from, hello, named, &mut router.out, alloc)?;
+    Ok(())
+}
+
+fn hears_request(
+    router: &mut Router,
+    from: Origin,
+    requests: Requests<'_>,
+    alloc: Global,
+) -> Result<(), Fail> {
+    if !is_answered(&router.area, from) {
+        return Err("below Exchange".into());
+    }
+    take_request(&mut router.area, from, requests, &mut router.out, alloc)?;
+    Ok(())
+}
+
+// The router takes the bytes of a packet.
+fn hears(router: &mut Router, from: Origin, bytes: &[u8], alloc: Global) -> Result<(), Fail> {
+    match Packet::read(bytes)?.body {
+        Body::Hello(hello, named) => hears_hello(router, from, &hello, named, alloc),
+        Body::Description(fields, headers) => {
+            take_description(
+                &mut router.area,
+                from,
+                fields,
+                headers,
+                &mut router.out,
+                alloc,
+            )?;
+            Ok(())
+        }
+        Body::Request(requests) => hears_request(router, from, requests, alloc),
+        _ => Err("another packet".into()),
+    }
+}
+
+// The bytes of one of the datagrams that a router has sent.
+fn bytes_at(router: &Router, place: usize, alloc: Global) -> Result<Vec<u8>, Fail> {
+    let sent = router.out.sent().get(place).ok_or("nothing sent")?;
+    Ok(Vec::from_slice(alloc, &sent.bytes)?)
+}
+
+// A tick, but for the ages of the database and delayed acknowledgements.
+fn ticks(router: &mut Router, alloc: Global) -> Result<(), Fail> {
+    let area = &mut router.area;
+    area.tick = area.tick.wrapping_add(1);
+    let own = own_of(area);
+    count_timers(&mut area.links, alloc);
+    send_hellos(&mut area.links, own, &mut router.out, alloc)?;
+    repeat_all(
+        &mut area.links,
+        &area.database,
+        own,
+        &mut area.sent,
+        &mut router.out,
+        alloc,
+    )?;
+    Ok(())
+}
+
+fn goes_up(router: &mut Router, number: usize, alloc: Global) -> Result<(), Fail> {
+    take_up(&mut router.area, number, &mut router.out, alloc)?;
+    Ok(())
+}
+
+fn goes_down(router: &mut Router, number: usize, alloc: Global) {
+    take_down(&mut router.area, number, alloc);
+}
+
+// ---- what goes out
+
+fn count_sent(router: &Router) -> usize {
+    router.out.sent().len()
+}
+
+// How many keys are marked as sent in this tick.
+fn count_marked(router: &Router) -> usize {
+    router.area.sent.len()
+}
+
+fn next_dd(router: &Router) -> u32 {
+    router.area.next_dd
+}
+
+// The bytes of a hexadecimal text, whose spaces and ends of lines mean nothing.
+fn bytes_of(alloc: Global, text: &str) -> Result<Vec<u8>, AllocError> {
+    let mut bytes = Vec::new(alloc);
+    let mut high = None;
+    for digit in text.chars().filter_map(|c| c.to_digit(16)) {
+        let digit = (digit % 16) as u8;
+        match high {
+            None => high = Some(digit),
+            Some(first) => {
+                bytes.push(digit.wrapping_add(first.wrapping_mul(16)))?;
+                high = None;
+            }
+        }
+    }
+    Ok(bytes)
+}
+
+// Whether a datagram that a router has sent has these bytes.
+fn is_sent(router: &Router, place: usize, text: &str, alloc: Global) -> Result<bool, Fail> {
+    let sent = router.out.sent().get(place).ok_or("nothing sent")?;
+    let bytes = bytes_of(alloc, text)?;
+    Ok(sent.bytes.as_slice() == bytes.as_slice())
+}
+
+// Whether two datagrams that a router has sent have the same bytes.
+fn are_same(router: &Router, one: usize, other: usize) -> bool {
+    match (router.out.sent().get(one), router.out.sent().get(other)) {
+        (Some(one), Some(other)) => one.bytes.as_slice() == other.bytes.as_slice(),
+        _ => false,
+    }
+}
+
+// What a packet says: the routers that a Hello names; the flags, the number and how many headers a Database Description has;
+// how many LSAs a Request or an Update.
+#[derive(Clone, Copy, Debug, PartialEq, Eq)]
+enum Says {
+    Greets(usize),
+    Describes(u8, u32, usize),
+    Requests(usize),
+    Updates(usize),
+}
+
+fn count_names(all: Named<'_>) -> usize {
+    let mut count: usize = 0;
+    for _ in all {
+        count = count.wrapping_add(1);
+    }
+    count
+}
+
+fn count_headers(all: Headers<'_>) -> usize {
+    let mut count: usize = 0;
+    for _ in all {
+        count = count.wrapping_add(1);
+    }
+    count
+}
+
+fn count_requests(all: Requests<'_>) -> usize {
+    let mut count: usize = 0;
+    for _ in all {
+        count = count.wrapping_add(1);
+    }
+    count
+}
+
+fn count_lsas(all: Lsas<'_>) -> usize {
+    let mut count: usize = 0;
+    for _ in all {
+        count = count.wrapping_add(1);
+    }
+    count
+}
+
+fn said(bytes: &[u8]) -> Result<Says, Fail> {
+    match Packet::read(bytes)?.body {
+        Body::Hello(_, named) => Ok(Says::Greets(count_names(named))),
+        Body::Description(fields, headers) => Ok(Says::Describes(
+            fields.flags,
+            fields.number,
+            count_headers(headers),
+        )),
+        Body::Request(entries) => Ok(Says::Requests(count_requests(entries))),
+        Body::Update(lsas) => Ok(Says::Updates(count_lsas(lsas))),
+        Body::Acknowledgment(_) => Err("another packet".into()),
+    }
+}
+
+// What a router has sent from a place on.
+fn sent_from(router: &Router, place: usize, alloc: Global) -> Result<Vec<Says>, Fail> {
+    let mut all = Vec::new(alloc);
+    for sent in router.out.sent().iter().skip(place) {
+        all.push(said(&sent.bytes)?)?;
+    }
+    Ok(all)
+}
+
+fn sends(router: &Router, place: usize, wanted: &[Says], alloc: Global) -> Result<bool, Fail> {
+    Ok(sent_from(router, place, alloc)?.as_slice() == wanted)
+}
+
+// ---- two routers
+
+// The router-LSA of a router on the link between 1.1.1.1 and 2.2.2.2.
+fn lsa_of(alloc: Global, router: RouterId, other: RouterId, address: u32) -> Result<Lsa, Fail> {
+    let links = [
+        LsaLink {
+            id: other.0,
+            link_data: address,
+            kind: LinkKind::PointToPoint,
+            metric: 10,
+        },
+        LsaLink {
+            id: 0x0a00_0000,
+            link_data: 0xffff_fffc,
+            kind: LinkKind::Stub,
+            metric: 10,
+        },
+    ];
+    Ok(Lsa::router(alloc, router, FIRST_NUMBER, &links)?)
+}
+
+// 1.1.1.1 and 2.2.2.2.
+#[derive(Drop)]
+struct Pair {
+    first: Router,
+    second: Router,
+}
+
+// Whether each is in a state at the other.
+fn are_in(pair: &Pair, first: NeighbourState, second: NeighbourState) -> bool {
+    is_in(&pair.first, FROM_SECOND, second) && is_in(&pair.second, FROM_FIRST, first)
+}
+
+fn counts_sent(pair: &Pair) -> [usize; 2] {
+    [count_sent(&pair.first), count_sent(&pair.second)]
+}
+
+// To whom one of the datagrams comes that the other has sent.
+#[derive(Clone, Copy)]
+enum To {
+    First(usize),
+    Second(usize),
+}
+
+fn to_first(pair: &mut Pair, place: usize, from: Origin, alloc: Global) -> Result<(), Fail> {
+    let bytes = bytes_at(&pair.second, place, alloc)?;
+    hears(&mut pair.first, from, &bytes, alloc)
+}
+
+fn to_second(pair: &mut Pair, place: usize, alloc: Global) -> Result<(), Fail> {
+    let bytes = bytes_at(&pair.first, place, alloc)?;
+    hears(&mut pair.second, FROM_FIRST, &bytes, alloc)
+}
+
+fn pass(pair: &mut Pair, to: To, alloc: Global) -> Result<(), Fail> {
+    match to {
+        To::First(place) => to_first(pair, place, FROM_SECOND, alloc),
+        To::Second(place) => to_second(pair, place, alloc),
+    }
+}
+
+fn pass_all(pair: &mut Pair, all: &[To], alloc: Global) -> Result<(), Fail> {
+    for to in all {
+        pass(pair, *to, alloc)?;
+    }
+    Ok(())
+}
+
+// Their link comes up, and they hear each other's first Hello.
+fn linked(alloc: Global, mtu: u16) -> Result<Pair, Fail> {
+    let first = router_of(alloc, point_to_point(FIRST, 0x0a00_0001), mtu, 100)?;
+    let second = router_of(alloc, point_to_point(SECOND, 0x0a00_0002), mtu, 200)?;
+    let mut pair = Pair { first, second };
+    link_up(&mut pair, alloc)?;
+    Ok(pair)
+}
+
+fn link_up(pair: &mut Pair, alloc: Global) -> Result<(), Fail> {
+    goes_up(&mut pair.first, 0, alloc)?;
+    goes_up(&mut pair.second, 0, alloc)?;
+    pass_all(pair, &[To::First(0), To::Second(0)], alloc)
+}
+
+// So many ticks of a router.
+fn wait_for(router: &mut Router, count: usize, alloc: Global) -> Result<(), Fail> {
+    for _ in 0..count {
+        ticks(router, alloc)?;
+    }
+    Ok(())
+}
+
+// They hear the Hellos that follow a HelloInterval later.
+fn meet(pair: &mut Pair, alloc: Global) -> Result<(), Fail> {
+    wait_for(&mut pair.first, 10, alloc)?;
+    wait_for(&mut pair.second, 10, alloc)?;
+    pass_all(pair, &[To::Second(1), To::First(1)], alloc)
+}
+
+// What they have sent then.
+fn have_met(pair: &Pair, alloc: Global) -> Result<bool, Fail> {
+    let wanted = [Says::Greets(0), Says::Greets(1), Says::Describes(7, 100, 0)];
+    Ok(
+        sends(&pair.first, 0, &wanted, alloc)?
+            && is_sent(&pair.first, 0, HELLO, alloc)?
+            && is_sent(&pair.second, 2, DESCRIPTION, alloc)?,
+    )
+}
+
+#[test]
+fn two_routers_meet(rt: HostRuntime) -> Result<(), Fail> {
+    let alloc = rt.alloc();
+    let mut pair = linked(alloc, 1500)?;
+    assert!(rt; are_in(&pair, NeighbourState::Init, NeighbourState::Init));
+    meet(&mut pair, alloc)?;
+    assert!(rt; have_met(&pair, alloc)?);
+    assert_eq!(rt; [next_dd(&pair.first), next_dd(&pair.second)], [101, 201]);
+    assert!(rt; are_in(&pair, NeighbourState::ExStart, NeighbourState::ExStart));
+    Ok(())
+}
+
+// Each has its own LSA, and they are about to exchange them.
+fn met(alloc: Global) -> Result<Pair, Fail> {
+    let mut pair = linked(alloc, 1500)?;
+    prepare(&mut pair, alloc)?;
+    Ok(pair)
+}
+
+fn prepare(pair: &mut Pair, alloc: Global) -> Result<(), Fail> {
+    meet(pair, alloc)?;
+    let lsa = lsa_of(alloc, FIRST, SECOND, 0x0a00_0001)?;
+    pair.first.area.database.install(lsa, 0, false)?;
+    let lsa = lsa_of(alloc, SECOND, FIRST, 0x0a00_0002)?;
+    pair.second.area.database.install(lsa, 0, false)?;
+    Ok(())
+}
+
+// 1.1.1.1 becomes the slave, by the first packet of 2.2.2.2; its own is dropped there.
+const NEGOTIATION: [To; 3] = [To::Second(2), To::First(2), To::Second(3)];
+
+// Then the packets of both until both wait for an LSA.
+const EXCHANGE: [To; 3] = [To::First(3), To::First(4), To::Second(4)];
+
+fn exchange(pair: &mut Pair, alloc: Global) -> Result<(), Fail> {
+    pass_all(pair, &NEGOTIATION, alloc)?;
+    pass_all(pair, &EXCHANGE, alloc)
+}
+
+// The Descriptions, Requests and the first Update.
+fn have_exchanged(pair: &Pair, alloc: Global) -> Result<bool, Fail> {
+    let first = [
+        Says::Describes(0, 200, 1),
+        Says::Describes(0, 201, 0),
+        Says::Requests(1),
+        Says::Updates(1),
+    ];
+    let second = [Says::Describes(1, 201, 1), Says::Requests(1)];
+    Ok(
+        sends(&pair.first, 3, &first, alloc)?
+            && sends(&pair.second, 3, &second, alloc)?
+            && is_sent(&pair.first, 5, REQUEST, alloc)?
+            && is_sent(&pair.first, 6, UPDATE, alloc)?,
+    )
+}
+
+#[test]
+fn two_routers_exchange(rt: HostRuntime) -> Result<(), Fail> {
+    let alloc = rt.alloc();
+    let mut pair = met(alloc)?;
+    exchange(&mut pair, alloc)?;
+    assert!(rt; have_exchanged(&pair, alloc)?);
+    assert_eq!(rt; count_marked(&pair.first), 1);
+    assert!(rt; are_in(&pair, NeighbourState::Loading, NeighbourState::Loading));
+    Ok(())
+}
+
+// The bytes of a Database Description of 1.1.1.1.
+fn description(alloc: Global, flags: u8, number: u32) -> Result<Vec<u8>, Fail> {
+    let fields = Description {
+        mtu: 1500,
+        options: 2,
+        flags,
+        number,
+    };
+    let packet = PacketValue {
+        router: FIRST,
+        area: AreaId(0),
+        body: BodyValue::Description(fields, Vec::new(alloc)),
+    };
+    let mut bytes = Vec::new(alloc);
+    write_packet(&packet, &mut bytes)?;
+    Ok(bytes)
+}
+
+// It comes to a router, with a number of its own.
+fn describes(router: &mut Router, from: Origin, flags: u8, alloc: Global) -> Result<(), Fail> {
+    let bytes = description(alloc, flags, 900)?;
+    hears(router, from, &bytes, alloc)
+}
+
+// The last packet of each comes again.
+fn repeat_both(pair: &mut Pair, alloc: Global) -> Result<(), Fail> {
+    pass_all(pair, &NEGOTIATION, alloc)?;
+    pass_all(pair, &[To::First(2), To::Second(3)], alloc)
+}
+
+// The slave repeats its last, the master passes over one that comes again, and begins anew by one that does not follow.
+#[test]
+fn descriptions_come_again(rt: HostRuntime) -> Result<(), Fail> {
+    let alloc = rt.alloc();
+    let mut pair = met(alloc)?;
+    repeat_both(&mut pair, alloc)?;
+    assert_eq!(rt; counts_sent(&pair), [5, 5]);
+    assert!(rt; are_same(&pair.first, 3, 4));
+    describes(&mut pair.second, FROM_FIRST, 0, alloc)?;
+    assert!(rt; sends(&pair.second, 5, &[Says::Describes(7, 201, 0)], alloc)?);
+    assert!(rt; is_in(&pair.second, FROM_FIRST, NeighbourState::ExStart));
+    Ok(())
+}
+
+// So many LSAs in a database, of the routers from this one on.
+fn fill(router: &mut Router, from: u32, count: u32, alloc: Global) -> Result<(), Fail> {
+    for place in 0..count {
+        let id = RouterId(from.wrapping_add(place));
+        let lsa = Lsa::router(alloc, id, FIRST_NUMBER, &[])?;
+        router.area.database.install(lsa, 0, true)?;
+    }
+    Ok(())
+}
+
+// Then the packets until the slave has no header left.
+const SLAVE_ENDS: [To; 3] = [To::First(3), To::Second(4), To::First(5)];
+
+// They have more LSAs than a packet has room for.
+fn filled(alloc: Global) -> Result<Pair, Fail> {
+    let mut pair = linked(alloc, 576)?;
+    fill_both(&mut pair, alloc)?;
+    Ok(pair)
+}
+
+fn fill_both(pair: &mut Pair, alloc: Global) -> Result<(), Fail> {
+    meet(pair, alloc)?;
+    fill(&mut pair.first, 1, 27, alloc)?;
+    fill(&mut pair.second, 1000, 53, alloc)
+}
+
+fn exchange_many(pair: &mut Pair, alloc: Global) -> Result<(), Fail> {
+    pass_all(pair, &NEGOTIATION, alloc)?;
+    pass_all(pair, &SLAVE_ENDS, alloc)?;
+    wait_for(&mut pair.first, 5, alloc)
+}
+
+// At MTU 576: 26 headers and then one, and a Request of 44 entries of 52.
+#[test]
+fn what_fits_a_small_mtu(rt: HostRuntime) -> Result<(), Fail> {
+    let alloc = rt.alloc();
+    let mut pair = filled(alloc)?;
+    exchange_many(&mut pair, alloc)?;
+    let slave = [
+        Says::Describes(2, 200, 26),
+        Says::Describes(0, 201, 1),
+        Says::Requests(26),
+        Says::Describes(0, 202, 0),
+        Says::Requests(44),
+    ];
+    assert!(rt; sends(&pair.first, 3, &slave, alloc)?);
+    let master = [
+        Says::Describes(3, 201, 26),
+        Says::Requests(26),
+        Says::Describes(3, 202, 26),
+    ];
+    assert!(rt; sends(&pair.second, 3, &master, alloc)?);
+    Ok(())
+}
+
+// An LSA of 1.1.1.1 is flooded.
+fn floods(router: &mut Router, alloc: Global) -> Result<(), Fail> {
+    let lsa = lsa_of(alloc, FIRST, SECOND, 0x0a00_0001)?;
+    let own = own_of(&router.area);
+    flood(
+        &mut router.area.links,
+        &lsa.view(),
+        None,
+        own,
+        &mut router.out,
+        alloc,
+    )?;
+    Ok(())
+}
+
+// The first packet in ExStart goes out again after RxmtInterval and not a tick before.
+#[test]
+fn descriptions_are_repeated(rt: HostRuntime) -> Result<(), Fail> {
+    let alloc = rt.alloc();
+    let mut pair = met(alloc)?;
+    for (count, sent) in [(4, [3, 3]), (1, [3, 4]), (4, [3, 4])] {
+        wait_for(&mut pair.second, count, alloc)?;
+        assert_eq!(rt; counts_sent(&pair), sent);
+    }
+    assert!(rt; are_same(&pair.second, 2, 3));
+    Ok(())
+}
+
+// So does an LSA that is not acknowledged: how many keys are marked as sent in the tick before, and in its own.
+fn flood_and_wait(pair: &mut Pair, alloc: Global) -> Result<[usize; 2], Fail> {
+    pass(pair, To::First(2), alloc)?;
+    floods(&mut pair.first, alloc)?;
+    wait_for(&mut pair.first, 4, alloc)?;
+    let before = count_marked(&pair.first);
+    wait_for(&mut pair.first, 1, alloc)?;
+    Ok([before, count_marked(&pair.first)])
+}
+
+#[test]
+fn updates_are_repeated(rt: HostRuntime) -> Result<(), Fail> {
+    let alloc = rt.alloc();
+    let mut pair = met(alloc)?;
+    assert_eq!(rt; flood_and_wait(&mut pair, alloc)?, [0, 1]);
+    assert!(rt; is_sent(&pair.first, 4, UPDATE, alloc)?);
+    assert!(rt; are_same(&pair.first, 4, 5));
+    Ok(())
+}
+
+fn count_for(router: &mut Router, count: usize, alloc: Global) {
+    for _ in 0..count {
+        count_timers(&mut router.area.links, alloc);
+    }
+}
+
+// A neighbour is removed RouterDeadInterval after its last Hello.
+#[test]
+fn a_silent_neighbour_goes(rt: HostRuntime) -> Result<(), Fail> {
+    let alloc = rt.alloc();
+    let mut pair = met(alloc)?;
+    for (ticks, state) in [(39, Some(NeighbourState::ExStart)), (1, None)] {
+        count_for(&mut pair.first, ticks, alloc);
+        assert_eq!(rt; neighbour_state(&pair.first, FROM_SECOND), state);
+    }
+    Ok(())
+}
+
+// A link that goes down forgets its neighbours, and begins as it began when it comes up.
+#[test]
+fn a_link_goes_down(rt: HostRuntime) -> Result<(), Fail> {
+    let alloc = rt.alloc();
+    let mut pair = met(alloc)?;
+    for count in [3, 4] {
+        goes_down(&mut pair.first, 0, alloc);
+        assert_eq!(rt; neighbour_state(&pair.first, FROM_SECOND), None);
+        let down = (IfaceState::Down, Addr::NOWHERE, Addr::NOWHERE);
+        assert_eq!(rt; iface_state(&pair.first), Some(down));
+        assert_eq!(rt; count_sent(&pair.first), count);
+        goes_up(&mut pair.first, 0, alloc)?;
+    }
+    assert!(rt; are_same(&pair.first, 0, 4));
+    Ok(())
+}
+
+// All that may come of a link that is not there, and a link that is up and comes up again.
+fn does_nothing(pair: &mut Pair, alloc: Global) -> Result<(), Fail> {
+    let elsewhere = Origin {
+        link: 7,
+        router: SECOND,
+        address: FROM_SECOND.address,
+    };
+    to_first(pair, 1, elsewhere, alloc)?;
+    to_first(pair, 2, elsewhere, alloc)?;
+    goes_up(&mut pair.first, 7, alloc)?;
+    goes_down(&mut pair.first, 7, alloc);
+    goes_up(&mut pair.first, 0, alloc)
+}
+
+#[test]
+fn nothing_is_done(rt: HostRuntime) -> Result<(), Fail> {
+    let alloc = rt.alloc();
+    let mut pair = met(alloc)?;
+    does_nothing(&mut pair, alloc)?;
+    assert!(rt; are_in(&pair, NeighbourState::ExStart, NeighbourState::ExStart));
+    assert_eq!(rt; counts_sent(&pair), [3, 3]);
+    Ok(())
+}
+
+// ---- a LAN
+
+// An interface at 10.1.0.0/24.
+fn broadcast(router: RouterId, address: u32, priority: u8) -> IfaceSettings {
+    IfaceSettings {
+        router,
+        kind: InterfaceKind::Broadcast,
+        address: Addr(address),
+        mask: 0xffff_ff00,
+        priority,
+        hello: 10,
+        dead: 40,
+    }
+}
+
+const FIRST_THERE: Addr = Addr(0x0a01_0001);
+
+const SECOND_THERE: Addr = Addr(0x0a01_0002);
+
+const THIRD_THERE: Addr = Addr(0x0a01_0003);
+
+// Who sends from a place on the LAN.
+fn origin_at(place: usize) -> Origin {
+    let (router, address) = match place {
+        0 => (FIRST, FIRST_THERE),
+        1 => (SECOND, SECOND_THERE),
+        _ => (THIRD, THIRD_THERE),
+    };
+    Origin {
+        link: 0,
+        router,
+        address,
+    }
+}
+
+// Whether an election can come about on a link.
+fn is_ready(link: &Link) -> bool
+    ensures { result ≡ true → IsReady link.now }
+{
+    let own = link.iface.settings.router;
+    let others = link.neighbours.all().iter().all(|n| n.router().0 != own.0);
+    others
+        && matches!(
+            link.iface.state,
+            IfaceState::Waiting | IfaceState::DrOther | IfaceState::Backup | IfaceState::Dr
+        )
+}
+
+// Whether a router has one link, and an election can come about there.
+fn are_ready(links: &[Link]) -> bool
+    ensures { result ≡ true → AreReady links.now }
+{
+    match links {
+        [link] => is_ready(link),
+        _ => false,
+    }
+}
+
+// The election that is due at the end of a step.
+fn elects(router: &mut Router, alloc: Global) -> Result<(), Fail> {
+    if !are_ready(&router.area.links) {
+        return Err("no election comes about".into());
+    }
+    elect(&mut router.area, &mut router.out, alloc)?;
+    Ok(())
+}
+
+// The bytes of the last Hello that a router has sent.
+fn last_hello(router: &Router, alloc: Global) -> Result<Vec<u8>, Fail> {
+    let mut last = Vec::new(alloc);
+    for sent in router.out.sent() {
+        if let Body::Hello(_, _) = Packet::read(&sent.bytes)?.body {
+            last = Vec::from_slice(alloc, &sent.bytes)?;
+        }
+    }
+    Ok(last)
+}
+
+// A router takes the Hellos of the others, each in a step of its own.
+fn hears_others(
+    router: &mut Router,
+    own: usize,
+    hellos: &[Vec<u8>],
+    alloc: Global,
+) -> Result<(), Fail> {
+    for (place, hello) in hellos.iter().enumerate() {
+        if place != own {
+            hears(router, origin_at(place), hello, alloc)?;
+            elects(router, alloc)?;
+        }
+    }
+    Ok(())
+}
+
+// A tick, with the election that ends it.
+fn tick_all(routers: &mut [Router], alloc: Global) -> Result<(), Fail> {
+    for router in routers.iter_mut() {
+        ticks(router, alloc)?;
+        elects(router, alloc)?;
+    }
+    Ok(())
+}
+
+// The last Hellos come to all.
+fn greet(routers: &mut [Router], alloc: Global) -> Result<(), Fail> {
+    let mut hellos = Vec::new(alloc);
+    for router in routers.iter() {
+        hellos.push(last_hello(router, alloc)?)?;
+    }
+    for (own, router) in routers.iter_mut().enumerate() {
+        hears_others(router, own, &hellos, alloc)?;
+    }
+    Ok(())
+}
+
+// And a HelloInterval goes by.
+fn greet_and_wait(routers: &mut [Router], alloc: Global) -> Result<(), Fail> {
+    greet(routers, alloc)?;
+    for _ in 0..10 {
+        tick_all(routers, alloc)?;
+    }
+    Ok(())
+}
+
+fn greet_and_wait_for(routers: &mut [Router], count: usize, alloc: Global) -> Result<(), Fail> {
+    for _ in 0..count {
+        greet_and_wait(routers, alloc)?;
+    }
+    Ok(())
+}
+
+// A router on the LAN whose link has come up.
+fn on_lan(alloc: Global, settings: IfaceSettings, next_dd: u32) -> Result<Router, Fail> {
+    let mut router = router_of(alloc, settings, 1500, next_dd)?;
+    goes_up(&mut router, 0, alloc)?;
+    Ok(router)
+}
+
+// 1.1.1.1 and 2.2.2.2 of priority 1, and 3.3.3.3 of priority 0.
+fn lan(alloc: Global) -> Result<Vec<Router>, Fail> {
+    let mut routers = Vec::new(alloc);
+    for (router, address, priority, next_dd) in [
+        (FIRST, FIRST_THERE, 1, 100),
+        (SECOND, SECOND_THERE, 1, 200),
+        (THIRD, THIRD_THERE, 0, 300),
+    ] {
+        routers.push(on_lan(alloc, broadcast(router, address.0, priority), next_dd)?)?;
+    }
+    Ok(routers)
+}
+
+fn are_elected(routers: &[Router], wanted: &[(IfaceState, Addr, Addr)]) -> bool {
+    for (router, state) in routers.iter().zip(wanted) {
+        if iface_state(router) != Some(*state) {
+            return false;
+        }
+    }
+    true
+}
+
+// The destinations of what a router has sent from a place on.
+fn destinations(router: &Router, place: usize, alloc: Global) -> Result<Vec<Addr>, Fail> {
+    let mut all = Vec::new(alloc);
+    for sent in router.out.sent().iter().skip(place) {
+        all.push(sent.destination)?;
+    }
+    Ok(all)
+}
+
+// The Designated Router begins adjacencies in rising Router ID.
+fn begins(routers: &[Router], alloc: Global) -> Result<bool, Fail> {
+    let router = routers.get(1).ok_or("no router")?;
+    let wanted = [Says::Describes(7, 200, 0), Says::Describes(7, 201, 0)];
+    let to = destinations(router, 5, alloc)?;
+    let rises = to.as_slice() == [FIRST_THERE, THIRD_THERE].as_slice();
+    Ok(rises && sends(router, 5, &wanted, alloc)?)
+}
+
+// When the wait timers fire nobody declares anything; the Hellos that follow bring the routers to agree.
+#[test]
+fn three_routers_elect(rt: HostRuntime) -> Result<(), Fail> {
+    let alloc = rt.alloc();
+    let mut routers = lan(alloc)?;
+    greet_and_wait_for(&mut routers, 4, alloc)?;
+    let begun = [
+        (IfaceState::DrOther, SECOND_THERE, SECOND_THERE),
+        (IfaceState::Dr, SECOND_THERE, FIRST_THERE),
+        (IfaceState::DrOther, SECOND_THERE, SECOND_THERE),
+    ];
+    assert!(rt; are_elected(&routers, &begun));
+    assert!(rt; begins(&routers, alloc)?);
+    greet_and_wait_for(&mut routers, 2, alloc)?;
+    let agreed = [
+        (IfaceState::Backup, SECOND_THERE, FIRST_THERE),
+        (IfaceState::Dr, SECOND_THERE, FIRST_THERE),
+        (IfaceState::DrOther, SECOND_THERE, FIRST_THERE),
+    ];
+    assert!(rt; are_elected(&routers, &agreed));
+    Ok(())
+}
+
+// A Hello on the LAN, which names 2.2.2.2 or nobody.
+fn hello(
+    alloc: Global,
+    place: usize,
+    priority: u8,
+    elected: (Addr, Addr),
+    named: bool,
+) -> Result<Vec<u8>, Fail> {
+    let fields = Hello {
+        mask: 0xffff_ff00,
+        hello_interval: 10,
+        options: 2,
+        priority,
+        dead_interval: 40,
+        designated: elected.0,
+        backup: elected.1,
+    };
+    let mut names = Vec::new(alloc);
+    if named {
+        names.push(SECOND)?;
+    }
+    let packet = PacketValue {
+        router: origin_at(place).router,
+        area: AreaId(0),
+        body: BodyValue::Hello(fields, names),
+    };
+    let mut bytes = Vec::new(alloc);
+    write_packet(&packet, &mut bytes)?;
+    Ok(bytes)
+}
+
+// A router takes such a Hello, in a step.
+fn hears_of(
+    router: &mut Router,
+    place: usize,
+    priority: u8,
+    elected: (Addr, Addr),
+    named: bool,
+    alloc: Global,
+) -> Result<(), Fail> {
+    let bytes = hello(alloc, place, priority, elected, named)?;
+    hears(router, origin_at(place), &bytes, alloc)?;
+    elects(router, alloc)
+}
+
+// 2.2.2.2 waits, and hears a Designated Router without a Backup: it becomes the Backup, and stays it beside a router of
+// priority 5. Once the former no longer names it, it is the Designated Router, and the latter the Backup.
+#[test]
+fn a_backup_takes_over(rt: HostRuntime) -> Result<(), Fail> {
+    let alloc = rt.alloc();
+    let mut router = on_lan(alloc, broadcast(SECOND, SECOND_THERE.0, 1), 200)?;
+    let nobody = (Addr::NOWHERE, Addr::NOWHERE);
+    let alone = (FIRST_THERE, Addr::NOWHERE);
+    let both = (FIRST_THERE, SECOND_THERE);
+    let before = (IfaceState::Backup, FIRST_THERE, SECOND_THERE);
+    let after = (IfaceState::Dr, SECOND_THERE, THIRD_THERE);
+    for (place, priority, declared, named, elected, state) in [
+        (0, 1, alone, true, before, NeighbourState::ExStart),
+        (0, 1, both, true, before, NeighbourState::ExStart),
+        (2, 5, nobody, true, before, NeighbourState::ExStart),
+        (0, 1, both, false, after, NeighbourState::Init),
+    ] {
+        hears_of(&mut router, place, priority, declared, named, alloc)?;
+        assert_eq!(rt; iface_state(&router), Some(elected));
+        let heard = neighbour_state(&router, origin_at(place));
+        assert_eq!(rt; heard, Some(state));
+    }
+    Ok(())
+}
+
+// The interface, the neighbour 1.1.1.1, and how many datagrams have been sent.
+fn standing(
+    router: &Router,
+) -> (
+    Option<(IfaceState, Addr, Addr)>,
+    Option<NeighbourState>,
+    usize,
+) {
+    (
+        iface_state(router),
+        neighbour_state(router, origin_at(0)),
+        count_sent(router),
+    )
+}
+
+// A Database Description of a neighbour in Init is 2-WayReceived, by which an election is due, and no drop.
+#[test]
+fn a_description_elects(rt: HostRuntime) -> Result<(), Fail> {
+    let alloc = rt.alloc();
+    let mut router = on_lan(alloc, broadcast(THIRD, THIRD_THERE.0, 0), 300)?;
+    hears_of(
+        &mut router,
+        0,
+        1,
+        (FIRST_THERE, Addr::NOWHERE),
+        false,
+        alloc,
+    )?;
+    describes(&mut router, origin_at(0), 7, alloc)?;
+    let nobody = (IfaceState::DrOther, Addr::NOWHERE, Addr::NOWHERE);
+    let wanted = (Some(nobody), Some(NeighbourState::TwoWay), 1);
+    assert_eq!(rt; standing(&router), wanted);
+    let designated = (IfaceState::DrOther, FIRST_THERE, Addr::NOWHERE);
+    let wanted = (Some(designated), Some(NeighbourState::ExStart), 2);
+    for _ in 0..2 {
+        elects(&mut router, alloc)?;
+        assert_eq!(rt; standing(&router), wanted);
+    }
+    Ok(())
+}
+
+// ---- packets
+
+// The first Hello of 1.1.1.1.
+fn first_hello(alloc: Global, destination: Addr) -> Outgoing {
+    let fields = Hello {
+        mask: 0xffff_fffc,
+        hello_interval: 10,
+        options: 2,
+        priority: 1,
+        dead_interval: 40,
+        designated: Addr::NOWHERE,
+        backup: Addr::NOWHERE,
+    };
+    Outgoing {
+        destination,
+        body: BodyValue::Hello(fields, Vec::new(alloc)),
+    }
+}
+
+// To all, and to 10.0.0.2.
+fn two_hellos(alloc: Global) -> Result<Vec<Outgoing>, Fail> {
+    let mut packets = Vec::new(alloc);
+    packets.push(first_hello(alloc, ALL_SPF_ROUTERS))?;
+    packets.push(first_hello(alloc, FROM_SECOND.address))?;
+    Ok(packets)
+}
+
+fn posts(router: &mut Router, alloc: Global) -> Result<(), Fail> {
+    let packets = two_hellos(alloc)?;
+    let own = own_of(&router.area);
+    let iface = router.area.links.first().ok_or("no link")?.iface;
+    post(packets, 0, &iface, own, &mut router.out, alloc)?;
+    Ok(())
+}
+
+// In their order, from the interface's address.
+#[test]
+fn packets_are_posted(rt: HostRuntime) -> Result<(), Fail> {
+    let alloc = rt.alloc();
+    let mut router = router_of(alloc, point_to_point(FIRST, 0x0a00_0001), 1500, 100)?;
+    posts(&mut router, alloc)?;
+    let to = destinations(&router, 0, alloc)?;
+    assert_eq!(rt;
+        to.as_slice(),
+        [ALL_SPF_ROUTERS, FROM_SECOND.address].as_slice()
+    );
+    assert!(rt; is_sent(&router, 0, HELLO, alloc)?);
+    assert!(rt; are_same(&router, 0, 1));
+    let sent = router.out.sent().first().ok_or("nothing sent")?;
+    assert_eq!(rt; (sent.link, sent.source), (0, Addr(0x0a00_0001)));
+    Ok(())
+}
