@@ -6,3 +6,5 @@ mod PartFit
 mod LinkFit
 mod StepFit
 mod DropFacts
+mod AreaSame
+mod StepSame

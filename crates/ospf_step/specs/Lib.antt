@@ -5,3 +5,4 @@ pub mod Ends
 pub mod Steps
 pub mod Fit
 pub mod Ready
+pub mod Same

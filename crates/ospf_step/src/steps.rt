@@ -8,7 +8,8 @@ ghost use Rattle.ospf_links.specs.Works.{changed, up_out_on};
 ghost use Rattle.ospf_step.specs.Drops.{dropped_by};
 ghost use Rattle.ospf_step.specs.Events.{happening};
 ghost use Rattle.ospf_step.specs.Fit.{IsFit};
-ghost use Rattle.ospf_step.specs.Steps.{Takes};
+ghost use Rattle.ospf_step.specs.Same.{IsSameRouter};
+ghost use Rattle.ospf_step.specs.Steps.{StepsArea, Takes};
 ghost use Rattle.ospf_step.specs.Takes.{Becomes, TakesEvent};
 
 use crate::datagrams::take_datagram;
@@ -81,12 +82,8 @@ fn take(
     }
 }
 
-/// Takes an event. A datagram that is dropped, for the first cause that applies, changes nothing and puts nothing out; what
-/// any other event does is followed by the elections that are due, the router's own LSAs, and the LSAs that leave the
-/// database.
-///
-/// `AllocError` where memory runs out; then the router is to be stopped.
-pub fn step(area: &mut Area, event: Event<'_>, alloc: Global) -> Result<Taken, AllocError>
+// An event that is not dropped, and the end of its step.
+fn step_parts(area: &mut Area, event: Event<'_>, alloc: Global) -> Result<Taken, AllocError>
     requires { IsFit area.old }
     ensures dropped { IfOk result (λ t. t.dropped ≡ dropped_by (happening event.entry) area.old) }
     ensures takes { IfOk result (λ t. t.dropped ≡ None → Takes (happening event.entry) area.old t.out area.new) }
@@ -100,4 +97,18 @@ pub fn step(area: &mut Area, event: Event<'_>, alloc: Global) -> Result<Taken, A
         end(area, &mut out, alloc)?;
     }
     Ok(Taken { out, dropped })
+}
+
+/// Takes an event. A datagram that is dropped, for the first cause that applies, changes nothing and puts nothing out; what
+/// any other event does is followed by the elections that are due, the router's own LSAs, and the LSAs that leave the
+/// database.
+///
+/// `AllocError` where memory runs out; then the router is to be stopped.
+pub fn step(area: &mut Area, event: Event<'_>, alloc: Global) -> Result<Taken, AllocError>
+    requires { IsFit area.old }
+    ensures step { IfOk result (λ t. StepsArea (happening event.entry) area.old t.dropped t.out area.new) }
+    ensures same { OnOk result (IsSameRouter area.old area.new) }
+    ensures fit { OnOk result (IsFit area.new) }
+{
+    step_parts(area, event, alloc)
 }
