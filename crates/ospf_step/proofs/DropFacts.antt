@@ -1,0 +1,104 @@
+-- What is known of a packet that is not dropped, and of its sender.
+use Rattle.std.proofs.Common.{◌≡◌, ◌≢◌, ◌<◌, ◌==◌, ℕ, Bool, true, false, not, List, [], ◌∷◌, Option, None, Some, if◌then◌else◌, is_some, length, nat_lt, slice_get, refl, sym, ap, subst, ◌∙◌}
+use Rattle.std.proofs.lemmas.Bool.{true≢false}
+use Rattle.std.proofs.lemmas.Option.{none-some, same_Some}
+use Rattle.ospf_base.specs.declared.ids.AreaId.{AreaId}
+use Rattle.ospf_base.specs.declared.ids.Addr.{Addr}
+use Rattle.ospf_base.specs.declared.ids.RouterId.{RouterId}
+use Rattle.ospf_base.specs.declared.interface.InterfaceKind.{InterfaceKind}
+use Rattle.ospf_base.specs.declared.interface.InterfaceKind.TheVariants.{PointToPoint, Broadcast}
+use Rattle.ospf_exchange.specs.declared.rule.Local.{Local}
+use Rattle.ospf_iface.specs.declared.machine.Iface.{Iface}
+use Rattle.ospf_neighbour.specs.Machine.{is_exchanging}
+use Rattle.ospf_neighbour.specs.Neighbour.{NeighbourValue, is_empty}
+use Rattle.ospf_neighbour.specs.Neighbours.{at_address, max_neighbours, neighbour_of}
+use Rattle.ospf_packet.specs.Meaning.{BodyMeaning, Meaning, hello, description, request, update, acknowledgment}
+use Rattle.ospf_adjacency.specs.Adjacency.{is_broadcast, is_broadcast_kind}
+use Rattle.ospf_area.specs.Sending.{own_of}
+use Rattle.ospf_area.specs.State.{AreaValue, LinkValue}
+use Rattle.ospf_links.specs.Parts.{local_of}
+use Rattle.ospf_receipt.specs.Drops.{agrees, drop_by_body, drop_of_hello, drop_of_new, drop_of_packet, is_destination, is_elsewhere, is_foreign, sender_in}
+use Rattle.ospf_receipt.specs.Laws.{CanBeTaken, IsExchanging, NotDroppedIsTaken}
+use Rattle.ospf_receipt.specs.declared.dropped.Dropped.{Dropped}
+use Rattle.ospf_receipt.specs.declared.dropped.Dropped.TheVariants as dropped
+use Rattle.ospf_hello.specs.Links.{is_down}
+use Rattle.ospf_step.specs.Drops.{drop_on}
+use Rattle.ospf_step.specs.Fit.{IsFit, IsFitLink}
+use Rattle.ospf_step.specs.Ready.{CanTake, CanTakeOn}
+use Rattle.ospf_step.specs.Takes.{origin_of}
+use Rattle.ospf_step.proofs.PartFit.{CanGreet}
+use Rattle.ospf_step.proofs.PutLemmas.{eq_false}
+use Rattle.ospf_step.proofs.SetLemmas.{all_at}
+use Rattle.ospf_step.proofs.StepFit.{CanCome}
+
+-- a cause that does not apply
+peel : (b : Bool) (d : Dropped) (rest : Option Dropped) → (if b then Some d else rest) ≡ None → (b ≡ false) × (rest ≡ None)
+peel true d rest is = absurd (none-some d (sym is))
+peel false d rest is = (refl, is)
+
+holds : (b : Bool) (d : Dropped) (rest : Option Dropped) → (if b then rest else Some d) ≡ None → (b ≡ true) × (rest ≡ None)
+holds true d rest is = (refl, is)
+holds false d rest is = absurd (none-some d (sym is))
+
+-- it is no packet of the router's own, and what it says is taken
+pub record IsHeard (local : Local) (i : Iface) (ns : List NeighbourValue) (source : Addr) (m : Meaning) : Type 0 where
+  pub other : m.router.0 ≢ i.settings.router.0
+  pub body : drop_by_body local m.body i ns m.router (sender_in i ns m.router source) ≡ None
+
+pub heard : (local : Local) (i : Iface) (ns : List NeighbourValue) (area : AreaId) (source destination : Addr) (m : Meaning) → drop_of_packet local i ns area source destination m ≡ None → IsHeard local i ns source m
+heard local i ns area source destination m is =
+    let up = peel (is_down i.state) dropped.Packet _ is in
+    let same = peel (not (m.area.0 == area.0)) dropped.Area _ up.1 in
+    let own = peel (m.router.0 == i.settings.router.0) dropped.OwnPacket _ same.1 in
+    let here = peel (not (is_destination i destination)) dropped.Destination _ own.1 in
+    let near = peel (is_foreign i source) dropped.Subnet _ here.1 in
+    record { other = eq_false m.router.0 i.settings.router.0 own.0; body = near.1 }
+
+-- ---- Hellos
+
+-- on a link of two ends a new neighbour is the only one
+no_length : (ns : List NeighbourValue) → not (is_empty ns) ≡ false → length ns ≡ 0
+no_length [] is = refl
+no_length (n ∷ ns) is = absurd (true≢false is)
+
+pub alone : (i : Iface) (ns : List NeighbourValue) (q : RouterId) (source : Addr) → i.settings.kind ≡ PointToPoint → neighbour_of ns q ≡ None → drop_of_hello i ns q (sender_in i ns q source) ≡ None → length ns ≡ 0
+alone i ns q source kind none is =
+    let by_ends : is_broadcast i ≡ false = ap is_broadcast_kind kind in
+    let sender : sender_in i ns q source ≡ None = ap (λ (b : Bool). if b then at_address ns source else neighbour_of ns q) by_ends ∙ none in
+    let new : drop_of_new i ns q ≡ None = subst (λ (o : Option NeighbourValue). drop_of_hello i ns q o ≡ None) sender is in
+    let here = peel (is_elsewhere i ns q) dropped.WrongRouter _ new in
+    no_length ns (subst (λ (b : Bool). (if b then is_some (neighbour_of ns q) else not (is_empty ns)) ≡ false) by_ends here.0)
+
+-- ---- what it needs
+
+module _ (law : NotDroppedIsTaken) (s : AreaValue) (link : ℕ) (source destination : Addr) (m : Meaning) (fit : IsFit s) (is : drop_on (slice_get s.links link) s source destination (Some m) ≡ None) where
+  packet_is : (a : LinkValue) → slice_get s.links link ≡ Some a → drop_of_packet (local_of (own_of s) a) a.iface a.neighbours s.area source destination m ≡ None
+  packet_is a at = subst (λ (o : Option LinkValue). drop_on o s source destination (Some m) ≡ None) at is
+
+  taken : (a : LinkValue) → slice_get s.links link ≡ Some a → CanBeTaken (local_of (own_of s) a) a.neighbours m.router m.body
+  taken a at = law (local_of (own_of s) a) a.iface a.neighbours s.area source destination m (all_at (IsFitLink s.router) s.links link a fit.links at).neighbours.rising (packet_is a at)
+
+  pub can_take : CanTake (origin_of link source m) m.body s
+  can_take a at = by_body m.body (taken a at)
+    where
+      by_body : (b : BodyMeaning) → CanBeTaken (local_of (own_of s) a) a.neighbours m.router b → CanTakeOn b (origin_of link source m) a
+      by_body (hello fields names) can = can
+      by_body (description fields headers) can = tt
+      by_body (request entries) (n, found, exchanging) = λ other there. subst (λ (x : NeighbourValue). is_exchanging x.state ≡ true) (same_Some n other (sym found ∙ there)) exchanging
+      by_body (update lsas) can = tt
+      by_body (acknowledgment headers) can = tt
+
+  pub can_come : (a : LinkValue) → slice_get s.links link ≡ Some a → CanCome m.body (origin_of link source m) a
+  can_come a at = by_body m.body (heard (local_of (own_of s) a) a.iface a.neighbours s.area source destination m (packet_is a at)).body (taken a at)
+    where
+      by_body : (b : BodyMeaning) → drop_by_body (local_of (own_of s) a) b a.iface a.neighbours m.router (sender_in a.iface a.neighbours m.router source) ≡ None → CanBeTaken (local_of (own_of s) a) a.neighbours m.router b
+          → CanCome b (origin_of link source m) a
+      by_body (hello fields names) none can = record {
+        other = (heard (local_of (own_of s) a) a.iface a.neighbours s.area source destination m (packet_is a at)).other;
+        room = can;
+        alone = λ kind unknown. alone a.iface a.neighbours m.router source kind unknown (holds (agrees a.iface fields) dropped.HelloMismatch _ none).1;
+      }
+      by_body (description fields headers) none can = tt
+      by_body (request entries) none can = tt
+      by_body (update lsas) none can = tt
+      by_body (acknowledgment headers) none can = tt

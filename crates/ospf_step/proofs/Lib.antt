@@ -1,0 +1,10 @@
+mod FitLemmas
+mod AreaFit
+mod SetLemmas
+mod PutLemmas
+mod PartFit
+mod LinkFit
+mod StepFit
+mod DropFacts
+mod AreaSame
+mod StepSame

@@ -1,0 +1,119 @@
+-- No step changes the Router ID or the number of links.
+use Rattle.std.proofs.Common.{◌≡◌, ℕ, zero, suc, List, [], ◌∷◌, Option, None, Some, Result, Ok, Err, IfOk, OnOk, ◌≢◌, map, set, length, slice_get, refl, sym, ap, subst, ◌∙◌}
+use Rattle.std.proofs.lemmas.List.{length-map, length-set}
+use Rattle.ospf_base.specs.declared.ids.Addr.{Addr}
+use Rattle.ospf_base.specs.declared.ids.LsaKey.{LsaKey}
+use Rattle.ospf_hello.specs.Heard.{Neighbourhood, names}
+use Rattle.ospf_area.specs.Outputs.{OutputsValue, no_outputs}
+use Rattle.ospf_area.specs.Sending.{own_of}
+use Rattle.ospf_area.specs.State.{AreaValue, LinkValue}
+use Rattle.ospf_area.specs.declared.flooding.Origin.{Origin}
+use Rattle.ospf_laws.specs.Puts.{headers_met}
+use Rattle.ospf_laws.specs.Step.{Event}
+use Rattle.ospf_laws.specs.Step.Event.{Datagram, Tick, LinkUp, LinkDown}
+use Rattle.ospf_links.specs.Elections.{Elects, ElectsAt, ElectsFrom, ElectsThere}
+use Rattle.ospf_links.specs.Parts.{description_part, hello_part, hello_sent, link_down, link_timed, link_up, request_part, with_neighbourhood}
+use Rattle.ospf_links.specs.Repeats.{link_repeated}
+use Rattle.ospf_links.specs.Works.{changed, changed_on, worked, worked_links_on, work_next_on}
+use Rattle.ospf_packet.specs.Meaning.{BodyMeaning, Meaning, hello, description, request, update, acknowledgment}
+use Rattle.ospf_packet.specs.PacketOf.{packet_of}
+use Rattle.ospf_update.specs.Acks.{undelayed_link}
+use Rattle.ospf_step.specs.Ends.{Ends}
+use Rattle.ospf_step.specs.Same.{IsSameRouter}
+use Rattle.ospf_receipt.specs.declared.dropped.Dropped.{Dropped}
+use Rattle.ospf_step.specs.Drops.{dropped_by}
+use Rattle.ospf_step.specs.Steps.{StepsArea, Takes}
+use Rattle.ospf_step.specs.declared.steps.Taken.{Taken}
+use Rattle.std.specs.declared.alloc.AllocError.{AllocError}
+use Rattle.std.proofs.lemmas.Option.{none-some}
+use Rattle.ospf_step.specs.Takes.{TakesBody, TakesDatagram, TakesEvent, TakesTick, origin_of}
+use Rattle.ospf_step.proofs.AreaSame.{IsAs, age_as, headers_as, own_as, removes_as, update_as}
+
+abbrev IsStill : AreaValue → AreaValue → Type 0
+IsStill s t = IsAs s.router (length s.links) t
+
+itself : (s : AreaValue) → IsStill s s
+itself s = record { own = refl; many = refl }
+
+then : (s t u : AreaValue) → IsStill s t → IsStill t u → IsStill s u
+then s t u first next = record { own = next.own ∙ first.own; many = next.many ∙ first.many }
+
+moved : (s t u : AreaValue) → u ≡ t → IsStill s t → IsStill s u
+moved s t u is as_was = subst (λ (x : AreaValue). IsStill s x) (sym is) as_was
+
+worked_as : (part : LinkValue → Neighbourhood) (l : ℕ) (sent : List LsaKey) (s : AreaValue) → IsStill s (record (worked part l s) { sent = sent })
+worked_as part l sent s = by_link (slice_get s.links l)
+  where
+    by_link : (o : Option LinkValue) → IsStill s (record s { links = worked_links_on o part l s.links; next_dd = work_next_on o part s.next_dd; sent = sent })
+    by_link None = record { own = refl; many = refl }
+    by_link (Some a) = record { own = refl; many = length-set s.links l (with_neighbourhood (part a) a) }
+
+changed_as : (change : LinkValue → LinkValue) (l : ℕ) (s : AreaValue) → IsStill s (changed change l s)
+changed_as change l s = by_link (slice_get s.links l)
+  where
+    by_link : (o : Option LinkValue) → IsStill s (changed_on o change l s)
+    by_link None = itself s
+    by_link (Some a) = record { own = refl; many = length-set s.links l (change a) }
+
+body_as : (body : BodyMeaning) (f : Origin) (s : AreaValue) (out out' : OutputsValue) (s' : AreaValue) → TakesBody body f s out out' s' → IsStill s s'
+body_as (hello fields heard) f s out out' s' is = moved s _ s' is.state (worked_as (hello_part (own_of s) f fields (names heard s.router) s.next_dd) f.link s.sent s)
+body_as (description fields headers) f s out out' s' is = moved s _ s' is.state (worked_as (description_part (own_of s) f fields headers s.database s.next_dd) f.link s.sent s)
+body_as (request entries) f s out out' s' is = moved s _ s' is.state (worked_as (request_part (own_of s) f s.database entries s.next_dd) f.link _ s)
+body_as (update lsas) f s out out' s' is = update_as s.router (length s.links) f lsas s out out' s' is (itself s)
+body_as (acknowledgment headers) f s out out' s' is = moved s _ s' is.state (headers_as s.router (length s.links) f headers s (itself s))
+
+tick_as : (s : AreaValue) (out out' : OutputsValue) (s' : AreaValue) → TakesTick s out out' s' → IsStill s s'
+tick_as s out out' s' is =
+    let a = is.aged in
+    let aged : IsStill s a = age_as s.router (length s.links) s is.expired_out a is.ages (itself s) in
+    moved s _ s' is.state (record {
+      own = aged.own;
+      many = length-map _ (link_repeated (own_of a) a.database) ∙ (length-map (map hello_sent (map link_timed a.links)) undelayed_link ∙ (length-map (map link_timed a.links) hello_sent ∙ (length-map a.links link_timed ∙ aged.many)));
+    })
+
+datagram_as : (link : ℕ) (source : Addr) (o : Option Meaning) (s : AreaValue) (out out' : OutputsValue) (s' : AreaValue) → TakesDatagram link source o s out out' s' → IsStill s s'
+datagram_as link source None s out out' s' is = absurd is
+datagram_as link source (Some m) s out out' s' is = body_as m.body (origin_of link source m) s out out' s' is
+
+event_as : (e : Event) (s : AreaValue) (out out' : OutputsValue) (s' : AreaValue) → TakesEvent e s out out' s' → IsStill s s'
+event_as (Datagram link source destination bytes) s out out' s' is = datagram_as link source (packet_of bytes) s out out' s' is
+event_as Tick s out out' s' is = tick_as s out out' s' is
+event_as (LinkUp link) s out out' s' is = moved s _ s' is.state (changed_as link_up link s)
+event_as (LinkDown link) s out out' s' is = moved s _ s' is.state (changed_as link_down link s)
+
+elects_at_as : (l : ℕ) (s : AreaValue) (out : OutputsValue) (s' : AreaValue) (out' : OutputsValue) → ElectsAt l s out s' out' → IsStill s s'
+elects_at_as l s out s' out' is = by_link (slice_get s.links l) is
+  where
+    by_link : (o : Option LinkValue) → ElectsThere o l s out s' out' → IsStill s s'
+    by_link None is = moved s s s' is.0 (itself s)
+    by_link (Some a) (b, next, sent, elects, state, outputs) = moved s _ s' state (record { own = refl; many = length-set s.links l b })
+
+elects_as : (l : ℕ) (s : AreaValue) (out : OutputsValue) (s' : AreaValue) (out' : OutputsValue) → ElectsFrom l s out s' out' → IsStill s s'
+elects_as zero s out s' out' is = moved s s s' is.0 (itself s)
+elects_as (suc l) s out s' out' (mid, mid_out, first, last) = then s mid s' (elects_as l s out mid mid_out first) (elects_at_as l mid mid_out s' out' last)
+
+ends_as : (s : AreaValue) (out out' : OutputsValue) (s' : AreaValue) → Ends s out out' s' → IsStill s s'
+ends_as s out out' s' is =
+    let elected = elects_as (length s.links) s out is.elected is.elected_out is.elects in
+    let issued = own_as s.router (length s.links) is.elected is.elected_out is.issued_out is.issued is.own elected in
+    removes_as s.router (length s.links) is.issued is.issued_out out' s' is.removes issued
+
+pub takes_same : (e : Event) (s : AreaValue) (out : OutputsValue) (s' : AreaValue) → Takes e s out s' → IsSameRouter s s'
+takes_same e s out s' is =
+    let first = event_as e s no_outputs is.mid_out is.mid is.event in
+    let both = then s is.mid s' first (ends_as is.mid is.mid_out out s' is.end) in
+    record { router = both.own; links = both.many }
+
+-- the clauses of a step as one
+pub as_one : (r : Result Taken AllocError) (e : Event) (s s' : AreaValue) → IfOk r (λ t. t.dropped ≡ dropped_by e s) → IfOk r (λ t. t.dropped ≡ None → Takes e s t.out s') → IfOk r (λ t. t.dropped ≢ None → s' ≡ s)
+    → IfOk r (λ t. t.dropped ≢ None → t.out ≡ no_outputs) → IfOk r (λ t. StepsArea e s t.dropped t.out s')
+as_one (Ok t) e s s' cause takes unchanged silent = record { cause = cause; unchanged = unchanged; silent = silent; takes = takes }
+as_one (Err x) e s s' cause takes unchanged silent = tt
+
+pub step_same : (r : Result Taken AllocError) (e : Event) (s s' : AreaValue) → IfOk r (λ t. StepsArea e s t.dropped t.out s') → OnOk r (IsSameRouter s s')
+step_same (Err x) e s s' is = tt
+step_same (Ok t) e s s' is = by_cause t.dropped refl
+  where
+    by_cause : (o : Option Dropped) → t.dropped ≡ o → IsSameRouter s s'
+    by_cause None none = takes_same e s t.out s' (is.takes none)
+    by_cause (Some d) some = let still = is.unchanged (λ none. none-some d (sym none ∙ some)) in record { router = ap (λ (x : AreaValue). x.router) still; links = ap (λ (x : AreaValue). length x.links) still }

@@ -1,0 +1,11 @@
+use Rattle.ospf_step.specs.Events.{happening}
+use Rattle.ospf_step.proofs.StepSame.{as_one, step_same}
+use Rattle.ospf_step.proofs.steps.step.Goals as goal
+
+pub returns-clause-step : goal.returns-clause-step
+returns-clause-step c =
+    let e = c.step_parts.ensures in
+    as_one c.step_parts.result (happening c.args.event) c.args.area.now c.step_parts.new.area e.dropped e.takes e.unchanged e.silent
+
+pub returns-clause-same : goal.returns-clause-same
+returns-clause-same c = step_same c.step_parts.result (happening c.args.event) c.args.area.now c.step_parts.new.area (returns-clause-step c)

@@ -1,0 +1,10 @@
+-- What a router is stepped with, as the laws of a step read it (RFC 2328, sections 8.2, 9.2 and 14).
+use Rattle.ospf_laws.specs.Step as laws
+use Rattle.ospf_step.specs.declared.event.Event.{Event}
+use Rattle.ospf_step.specs.declared.event.Event.TheVariants as given
+
+abbrev pub happening : Event → laws.Event
+happening (given.Datagram link source destination bytes) = laws.Event.Datagram link source destination bytes.now
+happening given.Tick = laws.Event.Tick
+happening (given.LinkUp link) = laws.Event.LinkUp link
+happening (given.LinkDown link) = laws.Event.LinkDown link

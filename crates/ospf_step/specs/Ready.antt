@@ -1,0 +1,19 @@
+-- What a router has so that a packet can be taken (RFC 2328, sections 10.5 and 10.7).
+use Rattle.std.specs.Prelude.{⊤, ◌≡◌, ◌<◌, true, Some, None, length, slice_get}
+use Rattle.ospf_area.specs.State.{AreaValue, LinkValue}
+use Rattle.ospf_area.specs.declared.flooding.Origin.{Origin}
+use Rattle.ospf_neighbour.specs.Machine.{is_exchanging}
+use Rattle.ospf_neighbour.specs.Neighbour.{NeighbourValue}
+use Rattle.ospf_neighbour.specs.Neighbours.{max_neighbours, neighbour_of}
+use Rattle.ospf_packet.specs.Meaning.{BodyMeaning, hello, description, request, update, acknowledgment}
+
+-- room for a new neighbour, and for a Request a neighbour in Exchange or above
+abbrev pub CanTakeOn : BodyMeaning → Origin → LinkValue → Type 0
+CanTakeOn (hello fields heard) f link = neighbour_of link.neighbours f.router ≡ None → length link.neighbours < max_neighbours
+CanTakeOn (description fields headers) f link = ⊤
+CanTakeOn (request entries) f link = (n : NeighbourValue) → neighbour_of link.neighbours f.router ≡ Some n → is_exchanging n.state ≡ true
+CanTakeOn (update lsas) f link = ⊤
+CanTakeOn (acknowledgment headers) f link = ⊤
+
+abbrev pub CanTake : Origin → BodyMeaning → AreaValue → Type 0
+CanTake f body s = (link : LinkValue) → slice_get s.links f.link ≡ Some link → CanTakeOn body f link

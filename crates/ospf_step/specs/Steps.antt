@@ -1,0 +1,22 @@
+-- A step of a router's area: an event that is not dropped is taken, and then the step ends.
+use Rattle.std.specs.Prelude.{◌≡◌, ◌≢◌, Option, None}
+use Rattle.ospf_area.specs.Outputs.{OutputsValue, no_outputs}
+use Rattle.ospf_area.specs.State.{AreaValue}
+use Rattle.ospf_laws.specs.Step.{Event}
+use Rattle.ospf_receipt.specs.declared.dropped.Dropped.{Dropped}
+use Rattle.ospf_step.specs.Drops.{dropped_by}
+use Rattle.ospf_step.specs.Ends.{Ends}
+use Rattle.ospf_step.specs.Takes.{TakesEvent}
+
+pub record Takes (e : Event) (s : AreaValue) (out : OutputsValue) (after : AreaValue) : Type 0 where
+  pub mid : AreaValue
+  pub mid_out : OutputsValue
+  pub event : TakesEvent e s no_outputs mid_out mid
+  pub end : Ends mid mid_out out after
+
+-- an event that is dropped, for the first cause that applies, changes nothing and puts nothing out, and any other is taken
+pub record StepsArea (e : Event) (s : AreaValue) (dropped : Option Dropped) (out : OutputsValue) (after : AreaValue) : Type 0 where
+  pub cause : dropped ≡ dropped_by e s
+  pub unchanged : dropped ≢ None → after ≡ s
+  pub silent : dropped ≢ None → out ≡ no_outputs
+  pub takes : dropped ≡ None → Takes e s out after

@@ -1,0 +1,94 @@
+-- What an event does to the router before the step ends (RFC 2328, sections 9.3, 10.5 to 10.9, 13, 13.5 to 13.7 and 14).
+use Rattle.std.specs.Prelude.{◌≡◌, ℕ, List, [], Option, None, Some, map, slice_get}
+use Rattle.ospf_base.specs.declared.ids.Addr.{Addr}
+use Rattle.ospf_area.specs.Outputs.{OutputsValue, SentValue}
+use Rattle.ospf_area.specs.Places.{flat_from}
+use Rattle.ospf_area.specs.Sending.{and_sends, own_of}
+use Rattle.ospf_area.specs.State.{AreaValue}
+use Rattle.ospf_area.specs.declared.flooding.Origin.{Origin}
+use Rattle.ospf_hello.specs.Heard.{names}
+use Rattle.ospf_laws.specs.Puts.{headers_met}
+use Rattle.ospf_laws.specs.Step.{Event}
+use Rattle.ospf_laws.specs.Step.Event.{Datagram, Tick, LinkUp, LinkDown}
+use Rattle.ospf_links.specs.Parts.{answered_on, description_part, hello_out, hello_part, hello_sent, link_down, link_timed, link_up, request_part}
+use Rattle.ospf_links.specs.Repeats.{all_keys, all_repeats, marked_all, repeated_links}
+use Rattle.ospf_links.specs.Works.{changed, up_out_on, work_sent, worked}
+use Rattle.ospf_packet.specs.Meaning.{BodyMeaning, Meaning, hello, description, request, update, acknowledgment}
+use Rattle.ospf_packet.specs.PacketOf.{packet_of}
+use Rattle.ospf_update.specs.Acks.{delayed_out, undelayed}
+use Rattle.ospf_update.specs.Aging.{TickAges}
+use Rattle.ospf_update.specs.Updates.{TakesUpdate}
+
+-- the router becomes this, and these datagrams go out
+pub record Becomes (made : AreaValue) (datagrams : List SentValue) (out out' : OutputsValue) (after : AreaValue) : Type 0 where
+  pub state : after ≡ made
+  pub outputs : out' ≡ and_sends out datagrams
+
+-- ---- packets (8.2)
+
+-- what a packet of this origin says is taken
+abbrev pub TakesBody : BodyMeaning → Origin → AreaValue → OutputsValue → OutputsValue → AreaValue → Type 0
+TakesBody (hello fields heard) f s out out' after =
+    Becomes (worked (hello_part (own_of s) f fields (names heard s.router) s.next_dd) f.link s)
+    (work_sent (hello_part (own_of s) f fields (names heard s.router) s.next_dd) (own_of s) f.link s.links) out out' after
+TakesBody (description fields headers) f s out out' after =
+    Becomes (worked (description_part (own_of s) f fields headers s.database s.next_dd) f.link s)
+    (work_sent (description_part (own_of s) f fields headers s.database s.next_dd) (own_of s) f.link s.links) out out' after
+TakesBody (request entries) f s out out' after =
+    Becomes (record (worked (request_part (own_of s) f s.database entries s.next_dd) f.link s) { sent = marked_all (answered_on (slice_get s.links f.link) f.router s.database entries) s.sent })
+    (work_sent (request_part (own_of s) f s.database entries s.next_dd) (own_of s) f.link s.links) out out' after
+TakesBody (update lsas) f s out out' after = TakesUpdate f lsas s out out' after
+TakesBody (acknowledgment headers) f s out out' after = Becomes (headers_met f headers s) [] out out' after
+
+-- where a packet comes from
+abbrev pub origin_of : ℕ → Addr → Meaning → Origin
+origin_of link source m = record { link = link; router = m.router; address = source }
+
+-- a datagram that is not dropped is a packet
+abbrev pub TakesDatagram : ℕ → Addr → Option Meaning → AreaValue → OutputsValue → OutputsValue → AreaValue → Type 0
+TakesDatagram link source None s out out' after = ⊥
+TakesDatagram link source (Some m) s out out' after = TakesBody m.body (origin_of link source m) s out out' after
+
+-- ---- ticks (14)
+
+-- the timers of links and neighbours
+abbrev pub timers_counted : AreaValue → AreaValue
+timers_counted s = record s { links = map link_timed s.links }
+
+-- the Hellos that are due
+abbrev pub hellos_sent : AreaValue → AreaValue
+hellos_sent s = record s { links = map hello_sent s.links }
+
+abbrev pub hellos_out : AreaValue → List SentValue
+hellos_out s = flat_from (hello_out (own_of s)) 0 s.links
+
+-- the delayed acknowledgements
+abbrev pub acknowledged : AreaValue → AreaValue
+acknowledged s = record s { links = undelayed s.links }
+
+abbrev pub acknowledgements_out : AreaValue → List SentValue
+acknowledgements_out s = delayed_out (own_of s) s.links
+
+-- what is sent again
+abbrev pub repeated : AreaValue → AreaValue
+repeated s = record s { links = repeated_links (own_of s) s.database s.links; sent = marked_all (all_keys (own_of s) s.database s.links) s.sent }
+
+abbrev pub repeats_out : AreaValue → List SentValue
+repeats_out s = all_repeats (own_of s) s.database s.links
+
+-- a tick: ages, timers, Hellos, acknowledgements and repeats, in this order
+pub record TakesTick (s : AreaValue) (out out' : OutputsValue) (after : AreaValue) : Type 0 where
+  pub aged : AreaValue
+  pub expired_out : List SentValue
+  pub ages : TickAges s expired_out aged
+  pub state : after ≡ repeated (acknowledged (hellos_sent (timers_counted aged)))
+  pub outputs : out' ≡ and_sends (and_sends (and_sends (and_sends out expired_out) (hellos_out (timers_counted aged))) (acknowledgements_out (hellos_sent (timers_counted aged)))) (repeats_out (acknowledged (hellos_sent (timers_counted aged))))
+
+-- ---- events
+
+-- what an event that is not dropped does
+abbrev pub TakesEvent : Event → AreaValue → OutputsValue → OutputsValue → AreaValue → Type 0
+TakesEvent (Datagram link source destination bytes) s out out' after = TakesDatagram link source (packet_of bytes) s out out' after
+TakesEvent Tick s out out' after = TakesTick s out out' after
+TakesEvent (LinkUp link) s out out' after = Becomes (changed link_up link s) (up_out_on (slice_get s.links link) (own_of s) link) out out' after
+TakesEvent (LinkDown link) s out out' after = Becomes (changed link_down link s) [] out out' after

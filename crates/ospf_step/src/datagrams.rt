@@ -1,0 +1,151 @@
+//! Datagrams that come.
+
+ghost use Rattle.std.specs.Prelude.{◌≡◌, ◌≢◌, None, Some, IfErr, IfOk, OnOk, slice_get};
+ghost use Rattle.ospf_area.specs.Sending.{own_of};
+ghost use Rattle.ospf_laws.specs.Puts.{headers_met};
+ghost use Rattle.ospf_links.specs.Parts.{local_of};
+ghost use Rattle.ospf_packet.specs.PacketOf.{packet_of};
+ghost use Rattle.ospf_packet.specs.Said.{body_said, said};
+ghost use Rattle.ospf_step.specs.Drops.{drop_on};
+ghost use Rattle.ospf_step.specs.Fit.{IsFit};
+ghost use Rattle.ospf_step.specs.Ready.{CanTake};
+ghost use Rattle.ospf_step.specs.Takes.{TakesBody, TakesDatagram};
+
+use ospf_adjacency::description_keeps_router;
+use ospf_area::{Area, Link, Origin, Outputs};
+use ospf_base::Addr;
+use ospf_exchange::Local;
+use ospf_hello::{elections_come_about, neighbours_stay_of_link};
+use ospf_links::{take_description, take_hello, take_request};
+use ospf_originate::area_stays_sound;
+use ospf_packet::{Body, Headers, Packet};
+use ospf_receipt::{Dropped, not_dropped_is_taken, receive};
+use ospf_resend::answers_are_quiet;
+use ospf_update::{on_header, on_update};
+use std::alloc::{AllocError, Global};
+
+// What a part needs to know of the router and of a link.
+fn local_of(area: &Area, link: &Link) -> Local
+    ensures { result ≡ local_of (own_of area.now) link.now }
+{
+    Local {
+        router: area.router,
+        mtu: link.settings.mtu,
+        tick: area.tick,
+    }
+}
+
+// The headers of an Acknowledgment, one after the other.
+fn take_headers(area: &mut Area, from: Origin, headers: Headers<'_>)
+    ensures { area.new ≡ headers_met from headers.entry area.old }
+{
+    for header in headers {
+        on_header(area, from, &header);
+    }
+}
+
+// What a packet says is taken.
+fn take_body(
+    area: &mut Area,
+    from: Origin,
+    body: Body<'_>,
+    out: &mut Outputs,
+    alloc: Global,
+) -> Result<(), AllocError>
+    requires { CanTake from (body_said body) area.old }
+    ensures { OnOk result (TakesBody (body_said body.entry) from area.old out.old out.new area.new) }
+{
+    match body {
+        Body::Hello(hello, neighbours) => take_hello(area, from, &hello, neighbours, out, alloc),
+        Body::Description(fields, headers) => {
+            take_description(area, from, fields, headers, out, alloc)
+        }
+        Body::Request(requests) => take_request(area, from, requests, out, alloc),
+        Body::Update(lsas) => on_update(area, from, lsas, out, alloc),
+        Body::Acknowledgment(headers) => {
+            take_headers(area, from, headers);
+            Ok(())
+        }
+    }
+}
+
+// The packet that a datagram is, or why it is dropped.
+fn receive_on<'a>(
+    area: &Area,
+    link: usize,
+    source: Addr,
+    destination: Addr,
+    bytes: &'a [u8],
+) -> Result<Packet<'a>, Dropped>
+    ensures packet { IfOk result (λ p. packet_of bytes.now ≡ Some (said p)) }
+    ensures taken { OnOk result (drop_on (slice_get area.now.links link) area.now source destination (packet_of bytes.now) ≡ None) }
+    ensures dropped { IfErr result (λ d. drop_on (slice_get area.now.links link) area.now source destination (packet_of bytes.now) ≡ Some d) }
+{
+    let Some(there) = area.links.get(link) else {
+        return Err(Dropped::Packet);
+    };
+    let local = local_of(area, there);
+    receive(
+        bytes,
+        source,
+        destination,
+        &there.iface,
+        there.neighbours.all(),
+        area.area,
+        local,
+    )
+}
+
+// A packet that is not dropped is taken.
+fn take_packet(
+    area: &mut Area,
+    link: usize,
+    source: Addr,
+    packet: Packet<'_>,
+    out: &mut Outputs,
+    alloc: Global,
+) -> Result<(), AllocError>
+    requires fit { IsFit area.old }
+    requires taken { (destination : Addr) × (drop_on (slice_get area.old.links link) area.old source destination (Some (said packet)) ≡ None) }
+    ensures takes { OnOk result (TakesDatagram link source (Some (said packet.entry)) area.old out.old out.new area.new) }
+    ensures fit { OnOk result (IsFit area.new) }
+{
+    not_dropped_is_taken();
+    neighbours_stay_of_link();
+    elections_come_about();
+    description_keeps_router();
+    answers_are_quiet();
+    area_stays_sound();
+    let from = Origin {
+        link,
+        router: packet.router,
+        address: source,
+    };
+    take_body(area, from, packet.body, out, alloc)
+}
+
+/// Takes a datagram that comes on a link. Answers why it is dropped, if it is; then nothing has changed.
+pub(crate) fn take_datagram(
+    area: &mut Area,
+    link: usize,
+    source: Addr,
+    destination: Addr,
+    bytes: &[u8],
+    out: &mut Outputs,
+    alloc: Global,
+) -> Result<Option<Dropped>, AllocError>
+    requires { IsFit area.old }
+    ensures dropped { IfOk result (λ d. d ≡ drop_on (slice_get area.old.links link) area.old source destination (packet_of bytes.now)) }
+    ensures takes { IfOk result (λ d. d ≡ None → TakesDatagram link source (packet_of bytes.now) area.old out.old out.new area.new) }
+    ensures unchanged { IfOk result (λ d. d ≢ None → area.new ≡ area.old) }
+    ensures silent { IfOk result (λ d. d ≢ None → out.new ≡ out.old) }
+    ensures fit { OnOk result (IsFit area.new) }
+{
+    match receive_on(area, link, source, destination, bytes) {
+        Ok(packet) => {
+            take_packet(area, link, source, packet, out, alloc)?;
+            Ok(None)
+        }
+        Err(dropped) => Ok(Some(dropped)),
+    }
+}

@@ -1,0 +1,65 @@
+//! How every step ends.
+
+ghost use Rattle.std.specs.Prelude.{OnOk};
+ghost use Rattle.ospf_links.specs.Elections.{Elects};
+ghost use Rattle.ospf_lsdb.specs.Database.{IsDatabase};
+ghost use Rattle.ospf_originate.specs.Steps.{OwnLsas};
+ghost use Rattle.ospf_step.specs.Ends.{Ends};
+ghost use Rattle.ospf_step.specs.Fit.{IsFit};
+ghost use Rattle.ospf_update.specs.Removal.{Removes};
+
+use ospf_area::{Area, Outputs};
+use ospf_hello::neighbours_stay_of_link;
+use ospf_links::elect;
+use ospf_originate::{area_stays_sound, own_lsas, own_stay_sound};
+use ospf_update::remove;
+use std::alloc::{AllocError, Global};
+
+// The database is one: its entries rise.
+fn is_database(area: &Area)
+    ensures { IsDatabase area.now.database }
+{
+    let _ = area.database.entries();
+}
+
+// The elections that are due.
+fn elect_all(area: &mut Area, out: &mut Outputs, alloc: Global) -> Result<(), AllocError>
+    requires { IsFit area.old }
+    ensures elects { OnOk result (Elects area.old out.old area.new out.new) }
+    ensures fit { OnOk result (IsFit area.new) }
+{
+    neighbours_stay_of_link();
+    elect(area, out, alloc)
+}
+
+// The router's own LSAs.
+fn issue_own(area: &mut Area, out: &mut Outputs, alloc: Global) -> Result<(), AllocError>
+    requires { IsFit area.old }
+    ensures own { OnOk result (OwnLsas area.old out.old out.new area.new) }
+    ensures fit { OnOk result (IsFit area.new) }
+{
+    own_stay_sound();
+    own_lsas(area, out, alloc)
+}
+
+// The LSAs that leave the database.
+fn remove_all(area: &mut Area, out: &mut Outputs, alloc: Global) -> Result<(), AllocError>
+    requires { IsFit area.old }
+    ensures removes { OnOk result (Removes area.old out.old out.new area.new) }
+    ensures fit { OnOk result (IsFit area.new) }
+{
+    is_database(area);
+    area_stays_sound();
+    remove(area, out, alloc)
+}
+
+/// The elections that are due, the router's own LSAs, and the LSAs that leave the database.
+pub(crate) fn end(area: &mut Area, out: &mut Outputs, alloc: Global) -> Result<(), AllocError>
+    requires { IsFit area.old }
+    ensures ends { OnOk result (Ends area.old out.old out.new area.new) }
+    ensures fit { OnOk result (IsFit area.new) }
+{
+    elect_all(area, out, alloc)?;
+    issue_own(area, out, alloc)?;
+    remove_all(area, out, alloc)
+}

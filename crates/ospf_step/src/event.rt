@@ -1,0 +1,25 @@
+//! What a router is stepped with.
+
+use ospf_base::Addr;
+
+/// What a router is stepped with. Links are named by their numbers.
+#[derive(Clone, Copy, Debug)]
+pub enum Event<'a> {
+    /// A datagram comes on a link.
+    Datagram {
+        link: usize,
+        source: Addr,
+        destination: Addr,
+        bytes: &'a [u8],
+    },
+    /// A second passes.
+    Tick,
+    /// A link goes up (RFC 2328, section 9.2, InterfaceUp).
+    LinkUp {
+        link: usize,
+    },
+    /// A link goes down (section 9.2, InterfaceDown).
+    LinkDown {
+        link: usize,
+    },
+}

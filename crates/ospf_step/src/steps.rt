@@ -1,0 +1,114 @@
+//! A step.
+
+ghost use Rattle.std.specs.Prelude.{◌≡◌, ◌≢◌, None, IfOk, OnOk, slice_get};
+ghost use Rattle.ospf_area.specs.Outputs.{no_outputs};
+ghost use Rattle.ospf_area.specs.Sending.{own_of};
+ghost use Rattle.ospf_links.specs.Parts.{link_down, link_up};
+ghost use Rattle.ospf_links.specs.Works.{changed, up_out_on};
+ghost use Rattle.ospf_step.specs.Drops.{dropped_by};
+ghost use Rattle.ospf_step.specs.Events.{happening};
+ghost use Rattle.ospf_step.specs.Fit.{IsFit};
+ghost use Rattle.ospf_step.specs.Same.{IsSameRouter};
+ghost use Rattle.ospf_step.specs.Steps.{StepsArea, Takes};
+ghost use Rattle.ospf_step.specs.Takes.{Becomes, TakesEvent};
+
+use crate::datagrams::take_datagram;
+use crate::ends::end;
+use crate::event::Event;
+use crate::ticks::take_tick;
+use ospf_area::{Area, Outputs};
+use ospf_links::{take_down, take_up};
+use ospf_receipt::Dropped;
+use std::alloc::{AllocError, Global};
+
+/// What a step gives: what it puts out, and why its datagram is dropped, if it is.
+#[derive(Drop)]
+pub struct Taken {
+    pub out: Outputs,
+    pub dropped: Option<Dropped>,
+}
+
+// A link goes up.
+fn go_up(area: &mut Area, link: usize, out: &mut Outputs, alloc: Global) -> Result<(), AllocError>
+    requires { IsFit area.old }
+    ensures takes { OnOk result (Becomes (changed link_up link area.old) (up_out_on (slice_get area.old.links link) (own_of area.old) link) out.old out.new area.new) }
+    ensures fit { OnOk result (IsFit area.new) }
+{
+    take_up(area, link, out, alloc)
+}
+
+// A link goes down.
+fn go_down(area: &mut Area, link: usize, alloc: Global)
+    requires { IsFit area.old }
+    ensures after { area.new ≡ changed link_down link area.old }
+    ensures fit { IsFit area.new }
+{
+    take_down(area, link, alloc);
+}
+
+// What an event does before the step ends.
+fn take(
+    area: &mut Area,
+    event: Event<'_>,
+    out: &mut Outputs,
+    alloc: Global,
+) -> Result<Option<Dropped>, AllocError>
+    requires { IsFit area.old }
+    ensures dropped { IfOk result (λ d. d ≡ dropped_by (happening event.entry) area.old) }
+    ensures takes { IfOk result (λ d. d ≡ None → TakesEvent (happening event.entry) area.old out.old out.new area.new) }
+    ensures unchanged { IfOk result (λ d. d ≢ None → area.new ≡ area.old) }
+    ensures silent { IfOk result (λ d. d ≢ None → out.new ≡ out.old) }
+    ensures fit { OnOk result (IsFit area.new) }
+{
+    match event {
+        Event::Datagram {
+            link,
+            source,
+            destination,
+            bytes,
+        } => take_datagram(area, link, source, destination, bytes, out, alloc),
+        Event::Tick => {
+            take_tick(area, out, alloc)?;
+            Ok(None)
+        }
+        Event::LinkUp { link } => {
+            go_up(area, link, out, alloc)?;
+            Ok(None)
+        }
+        Event::LinkDown { link } => {
+            go_down(area, link, alloc);
+            Ok(None)
+        }
+    }
+}
+
+// An event that is not dropped, and the end of its step.
+fn step_parts(area: &mut Area, event: Event<'_>, alloc: Global) -> Result<Taken, AllocError>
+    requires { IsFit area.old }
+    ensures dropped { IfOk result (λ t. t.dropped ≡ dropped_by (happening event.entry) area.old) }
+    ensures takes { IfOk result (λ t. t.dropped ≡ None → Takes (happening event.entry) area.old t.out area.new) }
+    ensures unchanged { IfOk result (λ t. t.dropped ≢ None → area.new ≡ area.old) }
+    ensures silent { IfOk result (λ t. t.dropped ≢ None → t.out ≡ no_outputs) }
+    ensures fit { OnOk result (IsFit area.new) }
+{
+    let mut out = Outputs::new(alloc);
+    let dropped = take(area, event, &mut out, alloc)?;
+    if dropped.is_none() {
+        end(area, &mut out, alloc)?;
+    }
+    Ok(Taken { out, dropped })
+}
+
+/// Takes an event. A datagram that is dropped, for the first cause that applies, changes nothing and puts nothing out; what
+/// any other event does is followed by the elections that are due, the router's own LSAs, and the LSAs that leave the
+/// database.
+///
+/// `AllocError` where memory runs out; then the router is to be stopped.
+pub fn step(area: &mut Area, event: Event<'_>, alloc: Global) -> Result<Taken, AllocError>
+    requires { IsFit area.old }
+    ensures step { IfOk result (λ t. StepsArea (happening event.entry) area.old t.dropped t.out area.new) }
+    ensures same { OnOk result (IsSameRouter area.old area.new) }
+    ensures fit { OnOk result (IsFit area.new) }
+{
+    step_parts(area, event, alloc)
+}
