@@ -1,0 +1,12 @@
+mod Known
+mod Bare
+mod Going
+mod Works
+mod Parts
+mod Turns
+mod Elections
+mod OwnParts
+mod LastParts
+mod LinkOrder
+mod Keeping
+mod Staying

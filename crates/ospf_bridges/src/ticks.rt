@@ -1,0 +1,36 @@
+//! Laws: what a tick does on all links is a part put behind the outputs so far.
+
+ghost use Rattle.std.specs.Prelude.{◌≡◌, List, map};
+ghost use Rattle.ospf_base.specs.declared.ids.LsaKey.{LsaKey};
+ghost use Rattle.ospf_lsdb.specs.Database.{IsDatabase};
+ghost use Rattle.ospf_area.specs.Outputs.{AreRead, OutputsValue};
+ghost use Rattle.ospf_area.specs.Places.{flat_from};
+ghost use Rattle.ospf_area.specs.Sending.{and_sends, own_of};
+ghost use Rattle.ospf_area.specs.State.{AreaValue};
+ghost use Rattle.ospf_links.specs.Parts.{hello_out, hello_sent, link_timed};
+ghost use Rattle.ospf_links.specs.Repeats.{all_repeats, repeated_links};
+ghost use Rattle.ospf_laws.specs.Puts.{PutsOut};
+ghost use Rattle.ospf_laws.specs.Step.{IsPart, Part};
+ghost use Rattle.ospf_bridges.specs.Invariants.{AreRising};
+
+/// The wait timers and the inactivity timers.
+pub fn timers_put_out()
+    ensures { (s t : AreaValue) (out : OutputsValue) →
+        AreRising s.links → t ≡ record s { links = map link_timed s.links } → PutsOut (λ o. IsPart Part.Timers s o t) out out }
+{}
+
+/// The Hellos that are due.
+pub fn due_hellos_put_out()
+    ensures { (s t : AreaValue) (out out' : OutputsValue) →
+        AreRead out'.sent → t ≡ record s { links = map hello_sent s.links } → out' ≡ and_sends out (flat_from (hello_out (own_of s)) 0 s.links) →
+        PutsOut (λ o. IsPart Part.Hellos s o t) out out' }
+{}
+
+/// What is sent again. The keys whose copies go out are marked.
+pub fn repeats_put_out()
+    ensures { (marks : List LsaKey) (s t : AreaValue) (out out' : OutputsValue) →
+        IsDatabase s.database → AreRising s.links → AreRead out'.sent →
+        t ≡ record s { links = repeated_links (own_of s) s.database s.links; sent = marks } →
+        out' ≡ and_sends out (all_repeats (own_of s) s.database s.links) →
+        PutsOut (λ o. IsPart Part.Repeats s o t) out out' }
+{}
