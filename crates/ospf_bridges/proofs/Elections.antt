@@ -147,3 +147,7 @@ pub elects_put : (s t : AreaValue) (out out' : OutputsValue) → AreRead out'.se
 elects_put s t out out' read e =
     let d = done s t (length s.links) out out' e in
     puts_sent (λ o. Quiet s o t) out out' d.sent (part_quiet s t (sends d.sent) d.sent d.rest refl (read_sent out out' d.sent d.outputs read) d.each d.known) d.outputs
+
+-- they leave the database as it was
+pub elects_database : (s t : AreaValue) (out out' : OutputsValue) → Elects s out t out' → t.database ≡ s.database
+elects_database s t out out' e = ap (λ (a : AreaValue). a.database) (done s t (length s.links) out out' e).rest

@@ -10,3 +10,5 @@ mod LastParts
 mod LinkOrder
 mod Keeping
 mod Staying
+mod TickChain
+mod EventChains

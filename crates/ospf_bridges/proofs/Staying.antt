@@ -106,11 +106,11 @@ timers_order s t state ok = map_order link_timed timed_keeps s.sent s t state ok
 pub hellos_order : (s t : AreaValue) → t ≡ record s { links = map hello_sent s.links } → IsInOrder s → IsInOrder t
 hellos_order s t state ok = map_order hello_sent hello_sent_keeps s.sent s t state ok
 
+pub undelayed_keeps : (link : LinkValue) → Keeps link (undelayed_link link)
+undelayed_keeps link = record { settings = refl; fit = λ fit. record { of_link = fit.of_link; electing = fit.electing }; set_up = λ fit up. record { mask = up.mask; few = up.few; two_ends = up.two_ends } }
+
 pub acknowledgements_order : (s t : AreaValue) → t ≡ record s { links = undelayed s.links } → IsInOrder s → IsInOrder t
 acknowledgements_order s t state ok = map_order undelayed_link undelayed_keeps s.sent s t state ok
-  where
-    undelayed_keeps : (link : LinkValue) → Keeps link (undelayed_link link)
-    undelayed_keeps link = record { settings = refl; fit = λ fit. record { of_link = fit.of_link; electing = fit.electing }; set_up = λ fit up. record { mask = up.mask; few = up.few; two_ends = up.two_ends } }
 
 pub repeats_order : (keys : List LsaKey) (s t : AreaValue) → t ≡ record s { links = repeated_links (own_of s) s.database s.links; sent = keys } → IsInOrder s → IsInOrder t
 repeats_order keys s t state ok = map_order (link_repeated (own_of s) s.database) (repeated_keeps (own_of s) s.database) keys s t state ok
@@ -130,7 +130,7 @@ elects_order s t out out' e ok = from_order (length s.links) s t out out' e ok
 -- ---- links that stay fit where LSAs come and go
 
 -- each link has another state of its neighbours
-fit_map : (f : LinkValue → LinkValue) → ((b : LinkValue) → Keeps b (f b)) → (links : List LinkValue) → AreFit links → AreFit (map f links)
+pub fit_map : (f : LinkValue → LinkValue) → ((b : LinkValue) → Keeps b (f b)) → (links : List LinkValue) → AreFit links → AreFit (map f links)
 fit_map f keeps links fit = each_fit links (map f links) (map_each (λ b a. IsFit b → IsFit a) f links (λ l b at. (keeps b).fit)) fit
 
 fit_from : (f : ℕ → LinkValue → LinkValue) → ((l : ℕ) (b : LinkValue) → Keeps b (f l b)) → (links : List LinkValue) → AreFit links → AreFit (map_from f 0 links)

@@ -22,10 +22,10 @@ pub fn own_lsas_put_out()
         IsDatabase s.database → AreRead out'.sent → AreLsas out' → OwnLsas s out out' t → PutsOut (λ o. IsPart Part.OwnLsas s o t) out out' }
 {}
 
-/// The elections, then own LSAs, then removals.
+/// The elections, then own LSAs, then removals. Elections leave the database as it was.
 pub fn ends_are_chains()
     ensures { (s elected owned t : AreaValue) (out elected_out owned_out out' : OutputsValue) →
-        IsDatabase elected.database → IsDatabase owned.database → AreRead out'.sent → AreLsas out' →
+        IsDatabase s.database → IsDatabase owned.database → AreRead out'.sent → AreLsas out' →
         Elects s out elected elected_out → OwnLsas elected elected_out owned_out owned → Removes owned owned_out out' t →
         PutsOut (λ o. Chain last_parts s o t) out out' }
 {}
