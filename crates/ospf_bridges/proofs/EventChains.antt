@@ -23,7 +23,7 @@ use Rattle.ospf_laws.proofs.PutParts.{headers_put}
 use Rattle.ospf_links.specs.Parts.{description_part, hello_part, link_down, link_up, request_part}
 use Rattle.ospf_links.specs.Works.{changed, up_out_on, work_sent, worked}
 use Rattle.ospf_bridges.specs.Events.{origin_of}
-use Rattle.ospf_bridges.specs.Invariants.{BelowExchangeNoneWaits}
+use Rattle.ospf_bridges.specs.Invariants.{NoneWaitsBelow}
 use Rattle.ospf_bridges.proofs.Parts.{down_puts, hello_puts, up_puts}
 use Rattle.ospf_bridges.proofs.TickChain.{read_before}
 use Rattle.ospf_bridges.proofs.Turns.{description_told, request_puts}
@@ -45,7 +45,7 @@ module _ (link : ℕ) (source destination : Addr) (bytes : List ℕ) (p : Meanin
     hello_chain h heard named says state outputs =
         of_packet (hello h heard) says (puts_more (HelloComes (origin_of link source p) p) rest s t u out mid_out out' (hello_puts (origin_of link source p) h named s t out mid_out read_mid state outputs) next)
 
-    pub description_chain : (d : Description) (headers : List LsaHeader) → IsDatabase s.database → BelowExchangeNoneWaits s → p.body ≡ description d headers → t ≡ worked (description_part (own_of s) (origin_of link source p) d headers s.database s.next_dd) link s → mid_out ≡ and_sends out (work_sent (description_part (own_of s) (origin_of link source p) d headers s.database s.next_dd) (own_of s) link s.links) → PutsOut (λ o. Chain (first_parts (Event.Datagram link source destination bytes) ++ rest) s o u) out out'
+    pub description_chain : (d : Description) (headers : List LsaHeader) → IsDatabase s.database → NoneWaitsBelow s link p.router → p.body ≡ description d headers → t ≡ worked (description_part (own_of s) (origin_of link source p) d headers s.database s.next_dd) link s → mid_out ≡ and_sends out (work_sent (description_part (own_of s) (origin_of link source p) d headers s.database s.next_dd) (own_of s) link s.links) → PutsOut (λ o. Chain (first_parts (Event.Datagram link source destination bytes) ++ rest) s o u) out out'
     description_chain d headers is below says state outputs =
         of_packet (description d headers) says
         (puts_more (DdComes (origin_of link source p) p) rest s t u out mid_out out' (description_told (origin_of link source p) p d headers s t out mid_out is below refl (sym (ap dd_headers_of says)) read_mid state outputs) next)

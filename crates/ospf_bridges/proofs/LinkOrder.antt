@@ -1,8 +1,9 @@
 -- What each link keeps, and what the router keeps by it.
-use Rattle.std.proofs.Common.{◌≡◌, ◌≢◌, ◌<◌, ◌≤◌, ℕ, suc, List, [], ◌∷◌, length, map, Option, None, Some, slice_get, refl, sym, ap, subst, ◌∙◌}
+use Rattle.std.proofs.Common.{◌≡◌, ◌≢◌, ◌<◌, ◌≤◌, ℕ, zero, suc, List, [], ◌∷◌, length, map, Option, None, Some, slice_get, refl, sym, ap, subst, ◌∙◌}
 use Rattle.std.specs.List.{AllByRecursion}
 use Rattle.std.specs.Option.{option_map}
 use Rattle.std.proofs.lemmas.List.{length-map}
+use Rattle.std.proofs.lemmas.Option.{none-some, same_Some}
 use Rattle.ospf_base.specs.Masks.{IsMask}
 use Rattle.ospf_base.specs.declared.interface.InterfaceKind.TheVariants.{PointToPoint}
 use Rattle.ospf_iface.specs.declared.machine.Iface.{Iface}
@@ -17,9 +18,18 @@ use Rattle.ospf_laws.specs.Links.{AllEach, ChangesLinks, Each}
 use Rattle.ospf_links.specs.Elections.{AreReady}
 use Rattle.ospf_originate.specs.Sound.{AreApart, AreSetUp, IsSetUp, IsSound, max_links}
 use Rattle.ospf_bridges.specs.Fit.{AreFit, IsFit, IsInOrder}
+use Rattle.ospf_bridges.specs.Invariants.{AreRising}
 
 pub ready : (links : List LinkValue) → AreFit links → AreReady links
 ready links fit l link at = record { electing = (fit l link at).electing; others = λ due. (fit l link at).of_link }
+
+pub rising : (links : List LinkValue) → AreFit links → AreRising links
+rising links fit l link at = (fit l link at).of_link.rising
+
+pub all_fit : (links : List LinkValue) → AllByRecursion IsFit links → AreFit links
+all_fit [] all l link at = absurd (none-some link at)
+all_fit (x ∷ xs) all zero link at = subst IsFit (same_Some x link at) all.0
+all_fit (x ∷ xs) all (suc l) link at = all_fit xs all.1 l link at
 
 -- ---- lists of links
 

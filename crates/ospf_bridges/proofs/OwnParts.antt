@@ -6,14 +6,13 @@ use Rattle.std.specs.Ordering.{int_eq}
 use Rattle.std.specs.List.{AllByRecursion, Contains}
 use Rattle.std.proofs.lemmas.Bool.{cases_Bool, cond-true, cond-false, ltb-false}
 use Rattle.std.proofs.lemmas.Option.{none-some, same_Some}
-use Rattle.std.proofs.lemmas.List.Elements.{Contains-append_left, Contains-append_right}
 use Rattle.ospf_base.specs.Constants.{max_age}
 use Rattle.ospf_base.specs.Keys.{Precedes, same_key}
 use Rattle.ospf_base.specs.declared.ids.LsaKey.{LsaKey}
 use Rattle.ospf_base.proofs.SameKeys.{same_key-apart, same_key-eq, same_key-refl}
 use Rattle.ospf_flood.specs.Rules.{max_sequence_number}
 use Rattle.ospf_lsa.specs.Header.{header_of}
-use Rattle.ospf_lsa.specs.Lsa.{IsLsa, key_of}
+use Rattle.ospf_lsa.specs.Lsa.{key_of}
 use Rattle.ospf_lsdb.specs.Database.{Entry, Held, Installs, IsDatabase, entry_from, expired, held_of, key_at, lsa_of}
 use Rattle.ospf_lsdb.specs.Timers.{KeysRise}
 use Rattle.ospf_lsdb.proofs.EntryLemmas.{key-entry_from}
@@ -46,7 +45,6 @@ use Rattle.ospf_originate.specs.declared.action.OwnAction.TheVariants.{Leave, Fl
 use Rattle.ospf_originate.proofs.KeepLemmas.{issue_tells, made_key, made_number}
 use Rattle.ospf_originate.proofs.NumberLemmas.{issued_kept}
 use Rattle.ospf_originate.proofs.WantedLemmas.{wanted_own}
-use Rattle.ospf_bridges.specs.Invariants.{AreLsas}
 use Rattle.ospf_bridges.proofs.Works.{read_sent}
 
 -- ---- outputs
@@ -74,9 +72,9 @@ module _ (w : WantedValue) (number : ℤ) (s : AreaValue) (out out1 : OutputsVal
       ap (λ (a : AreaValue). kept_number a k) (x.state ∙ ap (λ (a : AreaValue). record a { numbering = issued (wanted_key w) s.tick a.numbering }) x.stores.rest)
       ∙ issued_kept s.floor (wanted_key w) s.tick (counts (key_of x.lsa) (header_of x.lsa).number s) k
 
-  issue_is : (wanted_key w).router ≡ s.router → number ≡ kept_number s (wanted_key w) +ℤ pos 1 → IsLsa x.lsa → IssuePart x.lsa s (issue_out (store_updates x.lsa None s) x.lsa) t
-  issue_is own next is = record {
-    is_lsa = is;
+  issue_is : (wanted_key w).router ≡ s.router → number ≡ kept_number s (wanted_key w) +ℤ pos 1 → IssuePart x.lsa s (issue_out (store_updates x.lsa None s) x.lsa) t
+  issue_is own next = record {
+    is_lsa = x.is_lsa;
     own = ap (λ (k : LsaKey). k.router) key_is ∙ own;
     number = number_is ∙ (next ∙ ap (λ k. kept_number s k +ℤ pos 1) (sym key_is));
     stores = record {
@@ -226,8 +224,8 @@ one_more : (s mid t : AreaValue) (out mid_out out' : OutputsValue) → PutsOut (
 one_more s mid t out mid_out out' first (n, rest) = (suc n, own_more n s mid t out mid_out out' first rest)
 
 -- an issue and the Requests that come of it
-issue_puts : (w : WantedValue) (number : ℤ) (s mid : AreaValue) (out mid_out : OutputsValue) → (x : IssuesAndTurns w number s out mid_out mid) → (wanted_key w).router ≡ s.router → number ≡ kept_number s (wanted_key w) +ℤ pos 1 → IsLsa x.issues.lsa → AreRead mid_out.sent → PutsOut (λ o. OwnStep s o mid) out mid_out
-issue_puts w number s mid out mid_out x own next is read =
+issue_puts : (w : WantedValue) (number : ℤ) (s mid : AreaValue) (out mid_out : OutputsValue) → (x : IssuesAndTurns w number s out mid_out mid) → (wanted_key w).router ≡ s.router → number ≡ kept_number s (wanted_key w) +ℤ pos 1 → AreRead mid_out.sent → PutsOut (λ o. OwnStep s o mid) out mid_out
+issue_puts w number s mid out mid_out x own next read =
     let lsa = x.issues.lsa in
     let ds = store_updates lsa None s in
     let first = issue_out ds lsa in
@@ -239,7 +237,7 @@ issue_puts w number s mid out mid_out x own next is read =
         mid = x.mid;
         first_out = first;
         next_out = turns;
-        first = issue_is w number s out x.mid_out x.mid x.issues own next is;
+        first = issue_is w number s out x.mid_out x.mid x.issues own next;
         next = subst (λ m. Quiet x.mid turns m) (sym x.turned) (turned-quiet x.mid (AreRead-right x.mid_out turns (subst (λ o. AreRead o.sent) whole read)));
         both = refl;
       });
@@ -252,7 +250,7 @@ flush_puts key copy s mid out mid_out x at ages read =
 
 -- those of these keys, from any state that is the same for them
 abbrev Steps : AreaValue → List LsaKey → Type 0
-Steps s0 keys = (s t : AreaValue) (out out' : OutputsValue) → s.router ≡ s0.router → ((k : LsaKey) → Contains keys k → IsSame s0 s k) → ActsInTurn (wants s0) (due_of (action_of s0) keys) s out out' t → AreRead out'.sent → AreLsas out' → SomeSteps s out t out'
+Steps s0 keys = (s t : AreaValue) (out out' : OutputsValue) → s.router ≡ s0.router → ((k : LsaKey) → Contains keys k → IsSame s0 s k) → ActsInTurn (wants s0) (due_of (action_of s0) keys) s out out' t → AreRead out'.sent → SomeSteps s out t out'
 
 all_of : {X : Type 0} (P : X → Type 0) (xs : List X) (x : X) → AllByRecursion P xs → Contains xs x → P x
 all_of P [] x all (k, within, e) = absurd (omega arith)
@@ -273,25 +271,22 @@ module _ (s0 : AreaValue) (is : IsDatabase s0.database) (key : LsaKey) (keys : L
   read_mid : (mid t : AreaValue) (mid_out out' : OutputsValue) → SomeSteps mid mid_out t out' → AreRead out'.sent → AreRead mid_out.sent
   read_mid mid t mid_out out' (n, rest) read = AreRead-left mid_out rest.own (subst (λ o. AreRead o.sent) rest.behind read)
 
-  lsas_mid : (mid t : AreaValue) (mid_out out' : OutputsValue) → SomeSteps mid mid_out t out' → AreLsas out' → AreLsas mid_out
-  lsas_mid mid t mid_out out' (n, rest) lsas lsa c = lsas lsa (subst (λ o. Contains o.issued lsa) (sym rest.behind) (Contains-append_left mid_out.issued rest.own.issued lsa c))
-
   wanted_is : (w : WantedValue) → wanted_of (wants s0) key ≡ Some w → (wanted_key w ≡ key) × ((wanted_key w).router ≡ s0.router)
   wanted_is w at =
       let (inside, same) = find-some (λ w. same_key (wanted_key w) key) (wants s0) w at in
       (same_key-eq (wanted_key w) key same, all_of (λ w. (wanted_key w).router ≡ s0.router) (wants s0) w (wanted_own s0.stub_router s0.router s0.links) inside)
 
   cons_steps : Steps s0 (key ∷ keys)
-  cons_steps s t out out' router same acts read lsas = by (action_of s0 key) refl acts
+  cons_steps s t out out' router same acts read = by (action_of s0 key) refl acts
     where
       by : (a : OwnAction) → action_of s0 key ≡ a → ActsInTurn (wants s0) (due_as a key ++ due_of (action_of s0) keys) s out out' t → SomeSteps s out t out'
-      by Leave at acts = rec s t out out' router (λ k c. same k (later key keys k c)) acts read lsas
+      by Leave at acts = rec s t out out' router (λ k c. same k (later key keys k c)) acts read
       by Flush at (mid, mid_out, x, rest) =
           let here = same key (0, omega arith, refl) in
           let (copy, there) = flush_tells s0 key at in
           let entry : entry_of s key ≡ Some copy = ap (option_map (λ (h : Held). h.entry)) here.held ∙ there in
           let ages : (h : Held) → held_of s.database key ≡ Some h → h.entry.age ≤ max_age = λ h found. age_of_held s0.database key h is (sym here.held ∙ found) in
-          let on = rec mid t mid_out out' (flush_router key copy s x.sent mid x.flushes entry ages ∙ router) (stay s mid (flush_others key copy s x.sent mid x.flushes entry ages) same) rest read lsas in
+          let on = rec mid t mid_out out' (flush_router key copy s x.sent mid x.flushes entry ages ∙ router) (stay s mid (flush_others key copy s x.sent mid x.flushes entry ages) same) rest read in
           one_more s mid t out mid_out out' (flush_puts key copy s mid out mid_out x entry ages (read_mid mid t mid_out out' on read)) on
       by (Issue number) at (mid, mid_out, acted, rest) =
           let here = same key (0, omega arith, refl) in
@@ -304,20 +299,19 @@ module _ (s0 : AreaValue) (is : IsDatabase s0.database) (key : LsaKey) (keys : L
           λ k other. let of = issue_others w number s out x.mid_out x.mid issue k other in (ap (λ (a : AreaValue). held_of a.database k) x.turned ∙ of.0, ap (λ (a : AreaValue). kept_number a k) x.turned ∙ of.1) in
           let others = subst (λ q. (k : LsaKey) → same_key q k ≡ false → (held_of mid.database k ≡ held_of s.database k) × (kept_number mid k ≡ kept_number s k)) is_key at_mid in
           let same_router : mid.router ≡ s.router = ap (λ (a : AreaValue). a.router) x.turned ∙ (ap (λ (a : AreaValue). a.router) issue.state ∙ ap (λ (a : AreaValue). a.router) issue.stores.rest) in
-          let on = rec mid t mid_out out' (same_router ∙ router) (stay s mid others same) rest read lsas in
+          let on = rec mid t mid_out out' (same_router ∙ router) (stay s mid others same) rest read in
           let next : number ≡ kept_number s (wanted_key w) +ℤ pos 1 = tells.next ∙ ap (λ n. n +ℤ pos 1) (sym here.kept ∙ ap (kept_number s) (sym is_key)) in
-          let is_lsa : IsLsa issue.lsa = lsas_mid mid t mid_out out' on lsas issue.lsa (subst (λ o. Contains o.issued issue.lsa) (sym x.outputs) (subst (λ o. Contains o.issued issue.lsa) (sym issue.outputs) (Contains-append_right out.issued (issue.lsa ∷ []) issue.lsa (0, omega arith, refl)))) in
-          one_more s mid t out mid_out out' (issue_puts w number s mid out mid_out x (own ∙ sym router) next is_lsa (read_mid mid t mid_out out' on read)) on
+          one_more s mid t out mid_out out' (issue_puts w number s mid out mid_out x (own ∙ sym router) next (read_mid mid t mid_out out' on read)) on
 
 steps : (s0 : AreaValue) → IsDatabase s0.database → (keys : List LsaKey) → KeysRise keys → Steps s0 keys
-steps s0 is [] rises = λ s t out out' router same acts read lsas. (
+steps s0 is [] rises = λ s t out out' router same acts read. (
   0,
   subst (λ t. PutsOut (λ o. Times 0 OwnStep s o t) out out') (sym acts.state) (subst (λ o. PutsOut (λ o. Times 0 OwnStep s o s) out o) (sym acts.outputs) (own_none s out)),
 )
 steps s0 is (key ∷ keys) rises = cons_steps s0 is key keys rises.0 (steps s0 is keys rises.1)
 
 -- all of them, and what was heard is forgotten
-pub own_put : (s t : AreaValue) (out out' : OutputsValue) → IsDatabase s.database → AreRead out'.sent → AreLsas out' → OwnLsas s out out' t → PutsOut (λ o. IsPart Part.OwnLsas s o t) out out'
-own_put s t out out' is read lsas o =
-    let (n, done) = steps s is o.is_due.keys o.is_due.rising s o.mid out out' refl (λ k c. record { held = refl; kept = refl }) (subst (λ ds. ActsInTurn (wants s) ds s out out' o.mid) o.is_due.is o.each) read lsas in
+pub own_put : (s t : AreaValue) (out out' : OutputsValue) → IsDatabase s.database → AreRead out'.sent → OwnLsas s out out' t → PutsOut (λ o. IsPart Part.OwnLsas s o t) out out'
+own_put s t out out' is read o =
+    let (n, done) = steps s is o.is_due.keys o.is_due.rising s o.mid out out' refl (λ k c. record { held = refl; kept = refl }) (subst (λ ds. ActsInTurn (wants s) ds s out out' o.mid) o.is_due.is o.each) read in
     own_end n s o.mid t out out' done o.answered

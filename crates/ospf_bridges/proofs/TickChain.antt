@@ -4,7 +4,7 @@ use Rattle.ospf_base.specs.declared.ids.LsaKey.{LsaKey}
 use Rattle.ospf_lsdb.specs.Database.{IsDatabase}
 use Rattle.ospf_area.specs.Outputs.{AreRead, OutputsValue, SentValue}
 use Rattle.ospf_area.specs.Sending.{and_sends, own_of}
-use Rattle.ospf_area.specs.State.{AreaValue, LinkValue}
+use Rattle.ospf_area.specs.State.{AreaValue}
 use Rattle.ospf_update.specs.Acks.{undelayed_link}
 use Rattle.ospf_update.specs.Aging.{TickAges}
 use Rattle.ospf_laws.specs.Puts.{PutsOut}
@@ -16,9 +16,9 @@ use Rattle.ospf_laws.proofs.PutParts.{acknowledgements_put, ages_put}
 use Rattle.ospf_links.specs.Parts.{hello_sent, link_timed}
 use Rattle.ospf_links.specs.Repeats.{repeated_links}
 use Rattle.ospf_bridges.specs.Fit.{AreFit}
-use Rattle.ospf_bridges.specs.Invariants.{AreRising}
 use Rattle.ospf_bridges.specs.Ticks.{acknowledgements_out, helloed_area, hellos_out, tick_out, ticked_area, timed_area}
 use Rattle.ospf_bridges.proofs.Keeping.{hello_sent_keeps, timed_keeps}
+use Rattle.ospf_bridges.proofs.LinkOrder.{rising}
 use Rattle.ospf_bridges.proofs.Parts.{due_hellos_put, timers_put}
 use Rattle.ospf_bridges.proofs.Staying.{age_fit, fit_map, undelayed_keeps}
 use Rattle.ospf_bridges.proofs.Turns.{repeats_put}
@@ -26,9 +26,6 @@ use Rattle.ospf_bridges.proofs.Turns.{repeats_put}
 -- what is read in the end was read before a part
 pub read_before : (R : OutputsValue → Type 0) (out out' : OutputsValue) → PutsOut R out out' → AreRead out'.sent → AreRead out.sent
 read_before R out out' p read = AreRead-left out p.own (subst (λ o. AreRead o.sent) p.behind read)
-
-rising : (links : List LinkValue) → AreFit links → AreRising links
-rising links fit l link at = (fit l link at).of_link.rising
 
 ticked_fit : (s : AreaValue) → AreFit s.links → AreFit (ticked_area s).links
 ticked_fit s fit =

@@ -45,7 +45,7 @@ use Rattle.ospf_links.specs.Parts.{description_by, description_part, local_by, l
 use Rattle.ospf_links.specs.Posting.{posted_all}
 use Rattle.ospf_links.specs.Repeats.{all_repeats, link_repeated, repeated, repeated_links, repeats_for, repeats_out, repeats_to}
 use Rattle.ospf_links.specs.Works.{work_sent, worked}
-use Rattle.ospf_bridges.specs.Invariants.{AreRising, BelowExchangeNoneWaits}
+use Rattle.ospf_bridges.specs.Invariants.{AreRising, NoneWaitsBelow}
 use Rattle.ospf_bridges.proofs.Going.{goes_on}
 use Rattle.ospf_bridges.proofs.Known.{SaysKnown, both_known, links_known, none_known, posted_known, says_known, says_nothing}
 use Rattle.ospf_bridges.proofs.Works.{all_links_put, marks_quiet, same_go, work_puts}
@@ -80,7 +80,7 @@ of_area s l link r n at found = ap (λ o. neighbour_of (neighbours_in o) r) at �
 
 -- ---- a Database Description
 
-module _ (f : Origin) (p : Meaning) (d : Description) (s t : AreaValue) (is : IsDatabase s.database) (below : BelowExchangeNoneWaits s) (sender : p.router ≡ f.router) where
+module _ (f : Origin) (p : Meaning) (d : Description) (s t : AreaValue) (is : IsDatabase s.database) (below : NoneWaitsBelow s f.link f.router) (sender : p.router ≡ f.router) where
   after : LinkValue → Option NeighbourValue → Neighbourhood
   after link o = description_by o link.iface (local_of (own_of s) link) f.router d (dd_headers_in p) s.database (neighbourhood_of link s.next_dd)
 
@@ -94,7 +94,7 @@ module _ (f : Origin) (p : Meaning) (d : Description) (s t : AreaValue) (is : Is
       let at : neighbour s f.link f.router ≡ Some n = of_area s f.link link f.router n one.at found in
       let same : u.neighbour.router ≡ f.router = (description_keeps_router link.iface local f.router d (dd_headers_in p) s.database turn).router ∙ neighbour-router s f.link f.router n at in
       let told : told_by (Some p) f.router ≡ dd_headers_in p = cond-true _ _ _ (ap (λ (r : RouterId). r.0 == f.router.0) sender ∙ same_id f.router.0) in
-      let goes = goes_on s (dd_headers_in p) n u.neighbour is (description_goes link.iface local f.router d (dd_headers_in p) s.database turn (below f.link f.router n at)) in
+      let goes = goes_on s (dd_headers_in p) n u.neighbour is (description_goes link.iface local f.router d (dd_headers_in p) s.database turn (below n at)) in
       one_goes (Some p) f.link link (with_neighbourhood (after link (Some n)) link) (posted_all (own_of s) f.link link.iface u.sent) s _ t one
       (record {
         goes = one_goes_on s (Some p) n u.neighbour f.router link.neighbours found same (subst (λ hs. GoesOn s hs n u.neighbour) (sym told) goes);
@@ -106,14 +106,14 @@ module _ (f : Origin) (p : Meaning) (d : Description) (s t : AreaValue) (is : Is
       says q (inl none) at = absurd (Contains-nil q none)
       says q (inr only) at = says_known s f.link f.router n at is q.body only
 
-pub description_puts : (f : Origin) (p : Meaning) (d : Description) (s t : AreaValue) (out out' : OutputsValue) → IsDatabase s.database → BelowExchangeNoneWaits s → p.router ≡ f.router → AreRead out'.sent → t ≡ worked (description_part (own_of s) f d (dd_headers_in p) s.database s.next_dd) f.link s → out' ≡ and_sends out (work_sent (description_part (own_of s) f d (dd_headers_in p) s.database s.next_dd) (own_of s) f.link s.links) → PutsOut (λ o. NeighboursGo (Some p) s o t) out out'
+pub description_puts : (f : Origin) (p : Meaning) (d : Description) (s t : AreaValue) (out out' : OutputsValue) → IsDatabase s.database → NoneWaitsBelow s f.link f.router → p.router ≡ f.router → AreRead out'.sent → t ≡ worked (description_part (own_of s) f d (dd_headers_in p) s.database s.next_dd) f.link s → out' ≡ and_sends out (work_sent (description_part (own_of s) f d (dd_headers_in p) s.database s.next_dd) (own_of s) f.link s.links) → PutsOut (λ o. NeighboursGo (Some p) s o t) out out'
 unfolding after
 description_puts f p d s t out out' is below sender read state outputs =
     work_puts (λ o. NeighboursGo (Some p) s o t) (description_part (own_of s) f d (dd_headers_in p) s.database s.next_dd) f.link s.sent s t out out' state outputs read (λ same. same_go (Some p) s t same)
     (λ link one. described f p d s t is below sender link (neighbour_of link.neighbours f.router) refl one)
 
 -- of these headers, which the packet tells
-pub description_told : (f : Origin) (p : Meaning) (d : Description) (headers : List LsaHeader) (s t : AreaValue) (out out' : OutputsValue) → IsDatabase s.database → BelowExchangeNoneWaits s → p.router ≡ f.router → headers ≡ dd_headers_in p → AreRead out'.sent → t ≡ worked (description_part (own_of s) f d headers s.database s.next_dd) f.link s → out' ≡ and_sends out (work_sent (description_part (own_of s) f d headers s.database s.next_dd) (own_of s) f.link s.links) → PutsOut (λ o. NeighboursGo (Some p) s o t) out out'
+pub description_told : (f : Origin) (p : Meaning) (d : Description) (headers : List LsaHeader) (s t : AreaValue) (out out' : OutputsValue) → IsDatabase s.database → NoneWaitsBelow s f.link f.router → p.router ≡ f.router → headers ≡ dd_headers_in p → AreRead out'.sent → t ≡ worked (description_part (own_of s) f d headers s.database s.next_dd) f.link s → out' ≡ and_sends out (work_sent (description_part (own_of s) f d headers s.database s.next_dd) (own_of s) f.link s.links) → PutsOut (λ o. NeighboursGo (Some p) s o t) out out'
 description_told f p d headers s t out out' is below sender told read state outputs =
     description_puts f p d s t out out' is below sender read (state ∙ ap (λ hs. worked (description_part (own_of s) f d hs s.database s.next_dd) f.link s) told)
     (outputs ∙ ap (λ hs. and_sends out (work_sent (description_part (own_of s) f d hs s.database s.next_dd) (own_of s) f.link s.links)) told)

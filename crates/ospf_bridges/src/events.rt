@@ -21,7 +21,7 @@ ghost use Rattle.ospf_links.specs.Works.{changed, up_out_on, work_sent, worked};
 ghost use Rattle.ospf_laws.specs.Puts.{PutsOut, headers_met};
 ghost use Rattle.ospf_laws.specs.Step.{Chain, Event, Part, first_parts};
 ghost use Rattle.ospf_bridges.specs.Events.{origin_of};
-ghost use Rattle.ospf_bridges.specs.Invariants.{BelowExchangeNoneWaits};
+ghost use Rattle.ospf_bridges.specs.Invariants.{NoneWaitsBelow};
 
 /// A datagram that is a packet, by what it says.
 pub fn datagrams_are_chains()
@@ -33,7 +33,7 @@ pub fn datagrams_are_chains()
         PutsOut (λ o. Chain (first_parts (Event.Datagram link source destination bytes) ++ rest) s o u) out out' }
     ensures description { (link : ℕ) (source destination : Addr) (bytes : List ℕ) (p : Meaning) → packet_of bytes ≡ Some p →
         (rest : List Part) (s t u : AreaValue) (out mid_out out' : OutputsValue) → AreRead out'.sent → PutsOut (λ o. Chain rest t o u) mid_out out' →
-        (d : Description) (headers : List LsaHeader) → IsDatabase s.database → BelowExchangeNoneWaits s → p.body ≡ description d headers →
+        (d : Description) (headers : List LsaHeader) → IsDatabase s.database → NoneWaitsBelow s link p.router → p.body ≡ description d headers →
         t ≡ worked (description_part (own_of s) (origin_of link source p) d headers s.database s.next_dd) link s →
         mid_out ≡ and_sends out (work_sent (description_part (own_of s) (origin_of link source p) d headers s.database s.next_dd) (own_of s) link s.links) →
         PutsOut (λ o. Chain (first_parts (Event.Datagram link source destination bytes) ++ rest) s o u) out out' }

@@ -17,7 +17,7 @@ ghost use Rattle.ospf_links.specs.Works.{changed, up_out_on, work_sent, worked};
 ghost use Rattle.ospf_laws.specs.Packets.{dd_headers_in};
 ghost use Rattle.ospf_laws.specs.Puts.{PutsOut};
 ghost use Rattle.ospf_laws.specs.Step.{IsPart, Part};
-ghost use Rattle.ospf_bridges.specs.Invariants.{BelowExchangeNoneWaits};
+ghost use Rattle.ospf_bridges.specs.Invariants.{NoneWaitsBelow};
 
 /// A Hello that comes, on a link that may not be there.
 pub fn hellos_put_out()
@@ -30,7 +30,7 @@ pub fn hellos_put_out()
 /// A Database Description that comes, of a neighbour that may not be there.
 pub fn descriptions_put_out()
     ensures { (f : Origin) (p : Meaning) (d : Description) (headers : List LsaHeader) (s t : AreaValue) (out out' : OutputsValue) →
-        IsDatabase s.database → BelowExchangeNoneWaits s → p.router ≡ f.router → headers ≡ dd_headers_in p → AreRead out'.sent →
+        IsDatabase s.database → NoneWaitsBelow s f.link f.router → p.router ≡ f.router → headers ≡ dd_headers_in p → AreRead out'.sent →
         t ≡ worked (description_part (own_of s) f d headers s.database s.next_dd) f.link s →
         out' ≡ and_sends out (work_sent (description_part (own_of s) f d headers s.database s.next_dd) (own_of s) f.link s.links) →
         PutsOut (λ o. IsPart (Part.DdComes f p) s o t) out out' }

@@ -1,6 +1,7 @@
 //! Laws: what a router keeps of its links and for its own LSAs, it keeps in each part of a step.
 
 ghost use Rattle.std.specs.Prelude.{◌≡◌, Bool, List, map, ℕ};
+ghost use Rattle.std.specs.List.{AllByRecursion};
 ghost use Rattle.ospf_base.specs.declared.ids.LsaKey.{LsaKey};
 ghost use Rattle.ospf_lsa.specs.declared.header.LsaHeader.{LsaHeader};
 ghost use Rattle.ospf_lsdb.specs.Database.{IsDatabase};
@@ -21,13 +22,16 @@ ghost use Rattle.ospf_links.specs.Parts.{description_part, hello_part, hello_sen
 ghost use Rattle.ospf_links.specs.Repeats.{repeated_links};
 ghost use Rattle.ospf_links.specs.Works.{changed, worked};
 ghost use Rattle.ospf_originate.specs.Steps.{OwnLsas};
-ghost use Rattle.ospf_bridges.specs.Fit.{AreFit, HasPlaceOn, IsInOrder};
+ghost use Rattle.ospf_bridges.specs.Fit.{AreFit, HasPlaceOn, IsFit, IsInOrder};
+ghost use Rattle.ospf_bridges.specs.Invariants.{AreRising};
 
 use ospf_originate::{area_stays_sound, own_stay_sound};
 
-/// Links that are fit are ready for their elections.
+/// Links each of which is fit are. They are ready for their elections, and their neighbours are in rising Router ID.
 pub fn fit_links_are_ready()
-    ensures { (links : List LinkValue) → AreFit links → AreReady links }
+    ensures each { (links : List LinkValue) → AllByRecursion IsFit links → AreFit links }
+    ensures ready { (links : List LinkValue) → AreFit links → AreReady links }
+    ensures rising { (links : List LinkValue) → AreFit links → AreRising links }
 {}
 
 /// By packets of neighbours, and by Hellos whose sender has a place.
