@@ -7,6 +7,7 @@ mod events;
 mod links;
 mod order;
 mod ticks;
+mod told;
 
 pub use crate::ends::{elections_put_out, ends_are_chains, own_lsas_put_out};
 pub use crate::events::{datagrams_are_chains, link_changes_are_chains};
@@ -20,3 +21,4 @@ pub use crate::order::{
 pub use crate::ticks::{
     due_hellos_put_out, outputs_before_are_read, repeats_put_out, ticks_are_chains, timers_put_out,
 };
+pub use crate::told::{database_is_one, none_waits_below};
