@@ -12,3 +12,4 @@ mod Keeping
 mod Staying
 mod TickChain
 mod EventChains
+mod Starting

@@ -1,5 +1,5 @@
 -- What a router keeps of its links from part to part of a step (RFC 2328, sections 8.2, 9.3 and 10.5).
-use Rattle.std.specs.Prelude.{◌≡◌, ◌≢◌, ◌<◌, ℕ, true, List, None, Some, length, slice_get}
+use Rattle.std.specs.Prelude.{◌≡◌, ◌≢◌, ◌<◌, ℕ, true, false, List, [], None, Some, length, slice_get}
 use Rattle.ospf_base.specs.declared.interface.InterfaceKind.TheVariants.{PointToPoint}
 use Rattle.ospf_neighbour.specs.Neighbours.{max_neighbours, neighbour_of}
 use Rattle.ospf_adjacency.specs.Elections.{AreOfLink, elects_in}
@@ -19,6 +19,14 @@ AreFit links = (l : ℕ) (link : LinkValue) → slice_get links l ≡ Some link 
 pub record IsInOrder (s : AreaValue) : Type 0 where
   pub fit : AreFit s.links
   pub sound : IsSound s
+
+-- a link has no neighbours yet, and no election is due
+pub record IsAlone (link : LinkValue) : Type 0 where
+  pub neighbours : link.neighbours ≡ []
+  pub elects : link.elects ≡ false
+
+abbrev pub AreAlone : List LinkValue → Type 0
+AreAlone links = (l : ℕ) (link : LinkValue) → slice_get links l ≡ Some link → IsAlone link
 
 -- the sender of a Hello is another router, and is a neighbour or has room: on a link with two ends there is no other (8.2,
 -- 10.5)

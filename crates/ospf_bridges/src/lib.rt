@@ -16,7 +16,7 @@ pub use crate::links::{
 };
 pub use crate::order::{
     elections_keep_order, fit_links_are_ready, links_keep_order, lsas_keep_order,
-    packets_keep_order, ticks_keep_order,
+    packets_keep_order, starts_are_in_order, ticks_keep_order,
 };
 pub use crate::ticks::{
     due_hellos_put_out, outputs_before_are_read, repeats_put_out, ticks_are_chains, timers_put_out,

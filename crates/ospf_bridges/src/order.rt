@@ -1,6 +1,6 @@
 //! Laws: what a router keeps of its links and for its own LSAs, it keeps in each part of a step.
 
-ghost use Rattle.std.specs.Prelude.{◌≡◌, Bool, List, map, ℕ};
+ghost use Rattle.std.specs.Prelude.{◌≡◌, [], Bool, List, map, ℕ};
 ghost use Rattle.std.specs.List.{AllByRecursion};
 ghost use Rattle.ospf_base.specs.declared.ids.LsaKey.{LsaKey};
 ghost use Rattle.ospf_lsa.specs.declared.header.LsaHeader.{LsaHeader};
@@ -21,11 +21,13 @@ ghost use Rattle.ospf_links.specs.Elections.{AreReady, Elects};
 ghost use Rattle.ospf_links.specs.Parts.{description_part, hello_part, hello_sent, link_down, link_timed, link_up, request_part};
 ghost use Rattle.ospf_links.specs.Repeats.{repeated_links};
 ghost use Rattle.ospf_links.specs.Works.{changed, worked};
+ghost use Rattle.ospf_originate.specs.Sound.{AreSetUp};
 ghost use Rattle.ospf_originate.specs.Steps.{OwnLsas};
-ghost use Rattle.ospf_bridges.specs.Fit.{AreFit, HasPlaceOn, IsFit, IsInOrder};
+ghost use Rattle.ospf_laws.specs.Words.{IsSoundState};
+ghost use Rattle.ospf_bridges.specs.Fit.{AreAlone, AreFit, HasPlaceOn, IsFit, IsInOrder};
 ghost use Rattle.ospf_bridges.specs.Invariants.{AreRising};
 
-use ospf_originate::{area_stays_sound, own_stay_sound};
+use ospf_originate::{area_stays_sound, own_stay_sound, starts_sound};
 
 /// Links each of which is fit are. They are ready for their elections, and their neighbours are in rising Router ID.
 pub fn fit_links_are_ready()
@@ -33,6 +35,14 @@ pub fn fit_links_are_ready()
     ensures ready { (links : List LinkValue) → AreFit links → AreReady links }
     ensures rising { (links : List LinkValue) → AreFit links → AreRising links }
 {}
+
+/// A router that starts keeps what each part keeps, and is in a sound state.
+pub fn starts_are_in_order()
+    ensures order { (s : AreaValue) → AreSetUp s.links → AreAlone s.links → s.database ≡ [] → s.numbering ≡ [] → s.greatest ≡ s.floor → IsInOrder s }
+    ensures sound { (s : AreaValue) → AreAlone s.links → s.database ≡ [] → IsSoundState s }
+{
+    starts_sound()
+}
 
 /// By packets of neighbours, and by Hellos whose sender has a place.
 pub fn packets_keep_order()
