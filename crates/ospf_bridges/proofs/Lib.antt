@@ -1,0 +1,15 @@
+mod Known
+mod Bare
+mod Going
+mod Works
+mod Parts
+mod Turns
+mod Elections
+mod OwnParts
+mod LastParts
+mod LinkOrder
+mod Keeping
+mod Staying
+mod TickChain
+mod EventChains
+mod Starting

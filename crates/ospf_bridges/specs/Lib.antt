@@ -1,0 +1,4 @@
+pub mod Invariants
+pub mod Fit
+pub mod Ticks
+pub mod Events
