@@ -6,10 +6,10 @@ mod Parts
 mod Turns
 mod Elections
 mod OwnParts
-mod LastParts
+pub mod LastParts
 mod LinkOrder
 mod Keeping
 mod Staying
-mod TickChain
-mod EventChains
+pub mod TickChain
+pub mod EventChains
 mod Starting
