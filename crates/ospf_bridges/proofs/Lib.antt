@@ -7,9 +7,5 @@ mod Turns
 mod Elections
 mod OwnParts
 pub mod LastParts
-mod LinkOrder
-mod Keeping
-mod Staying
 pub mod TickChain
 pub mod EventChains
-mod Starting

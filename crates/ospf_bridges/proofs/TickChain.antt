@@ -5,7 +5,6 @@ use Rattle.ospf_lsdb.specs.Database.{IsDatabase}
 use Rattle.ospf_area.specs.Outputs.{AreRead, OutputsValue, SentValue}
 use Rattle.ospf_area.specs.Sending.{and_sends, own_of}
 use Rattle.ospf_area.specs.State.{AreaValue}
-use Rattle.ospf_update.specs.Acks.{undelayed_link}
 use Rattle.ospf_update.specs.Aging.{TickAges}
 use Rattle.ospf_laws.specs.Puts.{PutsOut}
 use Rattle.ospf_laws.specs.Step.{Chain, Event, IsPart, Part, first_parts}
@@ -13,37 +12,28 @@ use Rattle.ospf_laws.specs.Step.Part.{Acknowledgements, Ages, Hellos, Repeats, T
 use Rattle.ospf_laws.proofs.Accountable.{AreRead-left}
 use Rattle.ospf_laws.proofs.Chains.{puts_more}
 use Rattle.ospf_laws.proofs.PutParts.{acknowledgements_put, ages_put}
-use Rattle.ospf_links.specs.Parts.{hello_sent, link_timed}
 use Rattle.ospf_links.specs.Repeats.{repeated_links}
-use Rattle.ospf_bridges.specs.Fit.{AreFit}
+use Rattle.ospf_bridges.specs.Invariants.{AreRising}
 use Rattle.ospf_bridges.specs.Ticks.{acknowledgements_out, helloed_area, hellos_out, tick_out, ticked_area, timed_area}
-use Rattle.ospf_bridges.proofs.Keeping.{hello_sent_keeps, timed_keeps}
-use Rattle.ospf_bridges.proofs.LinkOrder.{rising}
 use Rattle.ospf_bridges.proofs.Parts.{due_hellos_put, timers_put}
-use Rattle.ospf_bridges.proofs.Staying.{age_fit, fit_map, undelayed_keeps}
 use Rattle.ospf_bridges.proofs.Turns.{repeats_put}
 
 -- what is read in the end was read before a part
 pub read_before : (R : OutputsValue → Type 0) (out out' : OutputsValue) → PutsOut R out out' → AreRead out'.sent → AreRead out.sent
 read_before R out out' p read = AreRead-left out p.own (subst (λ o. AreRead o.sent) p.behind read)
 
-ticked_fit : (s : AreaValue) → AreFit s.links → AreFit (ticked_area s).links
-ticked_fit s fit =
-    fit_map undelayed_link undelayed_keeps (helloed_area (timed_area s)).links (fit_map hello_sent hello_sent_keeps (timed_area s).links (fit_map link_timed timed_keeps s.links fit))
-
-pub tick_puts : (rest : List Part) (marks : List LsaKey) (s aged t u : AreaValue) (expired : List SentValue) (out mid_out out' : OutputsValue) → AreFit s.links → IsDatabase aged.database → AreRead out'.sent → TickAges s expired aged
+pub tick_puts : (rest : List Part) (marks : List LsaKey) (s aged t u : AreaValue) (expired : List SentValue) (out mid_out out' : OutputsValue) → AreRising aged.links → AreRising (ticked_area aged).links → IsDatabase aged.database → AreRead out'.sent → TickAges s expired aged
     → t ≡ record (ticked_area aged) { links = repeated_links (own_of aged) aged.database (ticked_area aged).links; sent = marks } → mid_out ≡ tick_out aged (and_sends out expired)
     → PutsOut (λ o. Chain rest t o u) mid_out out' → PutsOut (λ o. Chain (first_parts Event.Tick ++ rest) s o u) out out'
-tick_puts rest marks s aged t u expired out mid_out out' fit is read ages state outputs next =
+tick_puts rest marks s aged t u expired out mid_out out' aged_rise ticked_rise is read ages state outputs next =
     let timed = timed_area aged in
     let helloed = helloed_area timed in
     let ticked = ticked_area aged in
     let aged_out = and_sends out expired in
     let helloed_out = and_sends aged_out (hellos_out timed) in
     let ticked_out = and_sends helloed_out (acknowledgements_out helloed) in
-    let fit_aged : AreFit aged.links = age_fit s expired aged ages fit in
     let repeats : PutsOut (λ o. IsPart Repeats ticked o t) ticked_out mid_out =
-    repeats_put ticked t marks ticked_out mid_out is (rising ticked.links (ticked_fit aged fit_aged)) (read_before (λ o. Chain rest t o u) mid_out out' next read) state outputs in
+    repeats_put ticked t marks ticked_out mid_out is ticked_rise (read_before (λ o. Chain rest t o u) mid_out out' next read) state outputs in
     let from_repeats = puts_more Repeats rest ticked t u ticked_out mid_out out' repeats next in
     let read_ticked = read_before (λ o. Chain (Repeats ∷ rest) ticked o u) ticked_out out' from_repeats read in
     let acknowledgements : PutsOut (λ o. IsPart Acknowledgements helloed o ticked) helloed_out ticked_out = acknowledgements_put helloed ticked helloed_out ticked_out read_ticked refl refl in
@@ -52,6 +42,6 @@ tick_puts rest marks s aged t u expired out mid_out out' fit is read ages state 
     let hellos : PutsOut (λ o. IsPart Hellos timed o helloed) aged_out helloed_out = due_hellos_put timed helloed aged_out helloed_out read_helloed refl refl in
     let from_hellos = puts_more Hellos (Acknowledgements ∷ Repeats ∷ rest) timed helloed u aged_out helloed_out out' hellos from_acknowledgements in
     let read_aged = read_before (λ o. Chain (Hellos ∷ Acknowledgements ∷ Repeats ∷ rest) timed o u) aged_out out' from_hellos read in
-    let timers : PutsOut (λ o. IsPart Timers aged o timed) aged_out aged_out = timers_put aged timed aged_out (rising aged.links fit_aged) refl in
+    let timers : PutsOut (λ o. IsPart Timers aged o timed) aged_out aged_out = timers_put aged timed aged_out aged_rise refl in
     let from_timers = puts_more Timers (Hellos ∷ Acknowledgements ∷ Repeats ∷ rest) aged timed u aged_out aged_out out' timers from_hellos in
     puts_more Ages (Timers ∷ Hellos ∷ Acknowledgements ∷ Repeats ∷ rest) s aged u out aged_out out' (ages_put s aged out aged_out expired is read_aged ages refl) from_timers

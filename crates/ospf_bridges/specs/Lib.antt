@@ -1,4 +1,3 @@
 pub mod Invariants
-pub mod Fit
 pub mod Ticks
 pub mod Events

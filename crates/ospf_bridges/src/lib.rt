@@ -5,7 +5,6 @@
 mod ends;
 mod events;
 mod links;
-mod order;
 mod ticks;
 mod told;
 
@@ -13,10 +12,6 @@ pub use crate::ends::{elections_put_out, ends_are_chains, own_lsas_put_out};
 pub use crate::events::{datagrams_are_chains, link_changes_are_chains};
 pub use crate::links::{
     descriptions_put_out, hellos_put_out, links_down_put_out, links_up_put_out, requests_put_out,
-};
-pub use crate::order::{
-    elections_keep_order, fit_links_are_ready, links_keep_order, lsas_keep_order,
-    packets_keep_order, starts_are_in_order, ticks_keep_order,
 };
 pub use crate::ticks::{
     due_hellos_put_out, outputs_before_are_read, repeats_put_out, ticks_are_chains, timers_put_out,

@@ -12,7 +12,6 @@ ghost use Rattle.ospf_links.specs.Parts.{hello_out, hello_sent, link_timed};
 ghost use Rattle.ospf_links.specs.Repeats.{all_repeats, repeated_links};
 ghost use Rattle.ospf_laws.specs.Puts.{PutsOut};
 ghost use Rattle.ospf_laws.specs.Step.{Chain, Event, IsPart, Part, first_parts};
-ghost use Rattle.ospf_bridges.specs.Fit.{AreFit};
 ghost use Rattle.ospf_bridges.specs.Invariants.{AreRising};
 ghost use Rattle.ospf_bridges.specs.Ticks.{tick_out, ticked_area};
 
@@ -41,7 +40,7 @@ pub fn repeats_put_out()
 /// All of a tick, and then what follows: only the ages and the last links and marks are not told by what was before.
 pub fn ticks_are_chains()
     ensures { (rest : List Part) (marks : List LsaKey) (s aged t u : AreaValue) (expired : List SentValue) (out mid_out out' : OutputsValue) →
-        AreFit s.links → IsDatabase aged.database → AreRead out'.sent → TickAges s expired aged →
+        AreRising aged.links → AreRising (ticked_area aged).links → IsDatabase aged.database → AreRead out'.sent → TickAges s expired aged →
         t ≡ record (ticked_area aged) { links = repeated_links (own_of aged) aged.database (ticked_area aged).links; sent = marks } →
         mid_out ≡ tick_out aged (and_sends out expired) →
         PutsOut (λ o. Chain rest t o u) mid_out out' → PutsOut (λ o. Chain (first_parts Event.Tick ++ rest) s o u) out out' }

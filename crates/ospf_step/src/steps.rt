@@ -21,8 +21,11 @@ use crate::ends::end;
 use crate::event::Event;
 use crate::ticks::take_tick;
 use ospf_area::{Area, Outputs};
+use ospf_hello::{elections_come_about, neighbours_stay_of_link};
 use ospf_links::{take_down, take_up};
+use ospf_originate::area_stays_sound;
 use ospf_receipt::Dropped;
+use ospf_resend::repeats_are_quiet;
 use std::alloc::{AllocError, Global};
 
 /// What a step gives: what it puts out, and why its datagram is dropped, if it is.
@@ -119,5 +122,9 @@ pub fn step(area: &mut Area, event: Event<'_>, alloc: Global) -> Result<Taken, A
     ensures same { OnOk result (IsSameRouter area.old area.new) }
     ensures fit { OnOk result (IsFit area.new) }
 {
+    neighbours_stay_of_link();
+    elections_come_about();
+    repeats_are_quiet();
+    area_stays_sound();
     step_parts(area, event, alloc)
 }

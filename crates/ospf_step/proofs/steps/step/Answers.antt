@@ -11,7 +11,7 @@ returns-clause-step c =
 pub returns-clause-laws : goal.returns-clause-laws
 returns-clause-laws c =
     let e = c.step_parts.ensures in
-    step_laws c.step_parts.result (happening c.args.event) c.args.area.now c.step_parts.new.area c.requires e.sender (returns-clause-step c)
+    step_laws c.neighbours_stay_of_link.ensures c.elections_come_about.ensures c.repeats_are_quiet.ensures c.area_stays_sound.ensures c.step_parts.result (happening c.args.event) c.args.area.now c.step_parts.new.area c.requires e.sender (returns-clause-step c)
 
 pub returns-clause-accounts : goal.returns-clause-accounts
 returns-clause-accounts c sound = laws_account c.step_parts.result (happening c.args.event) c.args.area.now c.step_parts.new.area sound (returns-clause-laws c)
