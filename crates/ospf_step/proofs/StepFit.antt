@@ -1,6 +1,5 @@
 -- An event that is taken, and the end of a step, keep a router fit.
-use Rattle.std.proofs.Common.{◌≡◌, ℕ, zero, suc, List, [], ◌∷◌, Option, None, Some, map, length, slice_get, refl, sym, ap, subst, ◌∙◌}
-use Rattle.ospf_base.specs.declared.ids.Addr.{Addr}
+use Rattle.std.proofs.Common.{◌≡◌, ℕ, zero, suc, List, [], ◌∷◌, Option, None, Some, length, slice_get, refl, sym, subst}
 use Rattle.ospf_base.specs.declared.ids.LsaKey.{LsaKey}
 use Rattle.ospf_base.specs.declared.ids.RouterId.{RouterId}
 use Rattle.ospf_lsa.specs.declared.header.LsaHeader.{LsaHeader}
@@ -26,9 +25,8 @@ use Rattle.ospf_update.specs.Removal.{Removes}
 use Rattle.ospf_originate.specs.Laws.{AreaStaysSound, OwnStaySound}
 use Rattle.ospf_originate.specs.Sound.{IsSetUp, IsSound}
 use Rattle.ospf_originate.specs.Steps.{OwnLsas}
-use Rattle.ospf_step.specs.Ends.{Ends}
 use Rattle.ospf_step.specs.Fit.{IsFit, IsFitLink}
-use Rattle.ospf_step.specs.Takes.{Becomes, TakesBody, TakesTick, acknowledged, hellos_sent, repeated, timers_counted}
+use Rattle.ospf_step.specs.Takes.{TakesBody, TakesTick, acknowledged, hellos_sent, repeated, timers_counted}
 use Rattle.ospf_step.proofs.AreaFit.{age_for, headers_for, own_for, removes_for, update_for}
 use Rattle.ospf_step.proofs.FitLemmas.{AllFit, IsFor}
 use Rattle.ospf_step.proofs.LinkFit.{down_stays, elects_stays, hellos_fit, hellos_set_up, hellos_settings, repeats_fit, repeats_set_up, timers_fit, timers_set_up, undelayed_fit, undelayed_set_up, up_stays}

@@ -1,5 +1,5 @@
 -- A step is the chain of its parts, and so keeps the laws of a step.
-use Rattle.std.proofs.Common.{◌≡◌, ◌≢◌, ◌++◌, ℕ, Bool, true, false, List, [], Option, None, Some, Result, Ok, Err, IfOk, OnOk, is_some, slice_get, refl, sym, ap, subst, ◌∙◌}
+use Rattle.std.proofs.Common.{◌≡◌, ◌≢◌, ◌++◌, ℕ, false, List, [], Option, None, Some, Result, Ok, Err, IfOk, OnOk, is_some, refl, sym, ap, subst, ◌∙◌}
 use Rattle.std.proofs.lemmas.List.{append-nil}
 use Rattle.std.proofs.lemmas.Option.{none-some}
 use Rattle.std.specs.declared.alloc.AllocError.{AllocError}
@@ -26,8 +26,7 @@ use Rattle.ospf_bridges.specs.Invariants.{AreRising}
 use Rattle.ospf_bridges.proofs.EventChains.{acknowledgment_chain, description_chain, down_chain, hello_chain, request_chain, up_chain, update_chain}
 use Rattle.ospf_bridges.proofs.LastParts.{ends_put}
 use Rattle.ospf_bridges.proofs.TickChain.{tick_puts}
-use Rattle.ospf_step.specs.Drops.{dropped_by, is_dropped}
-use Rattle.ospf_step.specs.Ends.{Ends}
+use Rattle.ospf_step.specs.Drops.{is_dropped}
 use Rattle.ospf_step.specs.Fit.{IsFit, IsFitLink}
 use Rattle.ospf_step.specs.Ready.{IsReadyFor, IsSenderReady}
 use Rattle.ospf_step.specs.Steps.{StepsArea, Takes}
