@@ -3,6 +3,7 @@ use Rattle.std.specs.Prelude.{◌≡◌, ◌++◌, ℕ, ℤ, Bool, false, List, 
 use Rattle.std.specs.List.{list_any, flat_map}
 use Rattle.ospf_base.specs.Keys.{same_key}
 use Rattle.ospf_base.specs.declared.ids.LsaKey.{LsaKey}
+use Rattle.ospf_lsa.specs.Lsa.{IsLsa}
 use Rattle.ospf_lsa.specs.Value.{IsMade}
 use Rattle.ospf_lsdb.specs.Moments.{among}
 use Rattle.ospf_lsdb.specs.Timers.{KeysRise}
@@ -30,6 +31,7 @@ and_issues out updates lsa = record out { sent = out.sent ++ updates; issued = o
 -- retransmission list, at age 0, flooded to all, and its number kept; and the tick of the issue is kept too
 pub record Issues (w : WantedValue) (number : ℤ) (before : AreaValue) (out out' : OutputsValue) (after : AreaValue) : Type 0 where
   pub lsa : List ℕ
+  pub is_lsa : IsLsa lsa
   pub made : IsMade (lsa_value number w) lsa
   pub stored : AreaValue
   pub stores : Stores lsa None before stored

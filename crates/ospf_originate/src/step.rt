@@ -1,6 +1,7 @@
 //! Own LSAs as they are issued.
 
 ghost use Rattle.std.specs.Prelude.{◌≡◌, ◌∷◌, ◌++◌, [], IfOk, OnOk};
+ghost use Rattle.ospf_lsa.specs.Lsa.{IsLsa};
 ghost use Rattle.ospf_lsa.specs.Value.{HasAll, IsMade};
 ghost use Rattle.ospf_originate.specs.Made.{Needs, lsa_value};
 ghost use Rattle.ospf_originate.specs.Numbers.{issued};
@@ -29,8 +30,11 @@ fn made(wanted: &OwnLsa, number: i32, alloc: Global) -> Result<Lsa, AllocError>
 
 // Tells of an LSA that is issued.
 fn tell_issued(out: &mut Outputs, lsa: &LsaView<'_>, alloc: Global) -> Result<(), AllocError>
-    ensures { OnOk result (out.new ≡ record out.old { issued = out.old.issued ++ lsa.now ∷ [] }) }
+    ensures told { OnOk result (out.new ≡ record out.old { issued = out.old.issued ++ lsa.now ∷ [] }) }
+    ensures valid { OnOk result (IsLsa lsa.now) }
 {
+    // By its bytes the view tells that it is of an LSA.
+    let _bytes = lsa.as_bytes();
     match Lsa::copy(alloc, lsa) {
         Ok(copy) => {
             out.issued.push(copy)?;

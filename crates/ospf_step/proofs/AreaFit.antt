@@ -30,10 +30,10 @@ use Rattle.ospf_area.specs.declared.sending.Own.{Own}
 use Rattle.ospf_update.specs.Aging.{Flushes, TickAges, copies_sent, copy_flooded, copy_flooded_by, copy_sent, noted, turned_area}
 use Rattle.ospf_update.specs.Meets.{MeetsRule, Stores, flooded_area, header_met, heard_by, named_by, replied, reply_to, rule_met, taken_off}
 use Rattle.ospf_update.specs.Removal.{Removes, RemovesAll, leaving}
-use Rattle.ospf_update.specs.Updates.{MeetsAndTurns, TakesSlice, TakesSlices, TakesUpdate}
+use Rattle.ospf_update.specs.Updates.{TakesSlice, TakesSlices, TakesUpdate}
 use Rattle.ospf_update.specs.Updates.TakesSlice.{Met, PassedOver}
 use Rattle.ospf_laws.specs.Puts.{headers_met}
-use Rattle.ospf_originate.specs.Steps.{Acts, ActsInTurn, FlushesAndTurns, Issues, IssuesAndTurns, IssuesIf, OwnLsas, wants}
+use Rattle.ospf_originate.specs.Steps.{Acts, ActsInTurn, Issues, IssuesIf, OwnLsas, wants}
 use Rattle.ospf_originate.specs.Wanted.{WantedValue, wanted_of}
 use Rattle.ospf_originate.specs.declared.action.Due.{Due}
 use Rattle.ospf_originate.specs.declared.action.OwnAction.{OwnAction}

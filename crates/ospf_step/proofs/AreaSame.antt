@@ -1,5 +1,5 @@
 -- The calls of the area, and own LSAs, keep the Router ID and the number of links.
-use Rattle.std.proofs.Common.{◌≡◌, ◌==◌, ◌++◌, ℕ, ℤ, Bool, true, false, List, [], ◌∷◌, Option, None, Some, length, refl, sym, ap, subst, ◌∙◌, if◌then◌else◌}
+use Rattle.std.proofs.Common.{◌≡◌, ◌++◌, ℕ, ℤ, Bool, true, false, List, [], ◌∷◌, Option, None, Some, length, sym, ap, subst, ◌∙◌, if◌then◌else◌}
 use Rattle.ospf_base.specs.Constants.{max_age}
 use Rattle.ospf_base.specs.declared.ids.LsaKey.{LsaKey}
 use Rattle.ospf_base.specs.declared.ids.Instance.{Instance}
@@ -14,12 +14,11 @@ use Rattle.ospf_lsa.specs.Lsa.{key_of, instance_of}
 use Rattle.ospf_lsa.specs.declared.header.LsaHeader.{LsaHeader}
 use Rattle.ospf_lsdb.specs.Database.{Entry, reached_at}
 use Rattle.ospf_lsdb.specs.Database as lsdb
-use Rattle.ospf_neighbour.specs.Lists.{key_unlisted}
 use Rattle.std.proofs.lemmas.List.{length-map}
 use Rattle.ospf_area.proofs.PlaceLemmas.{length-map_from}
-use Rattle.ospf_area.specs.Asking.{turned, turned_link, turned_links}
-use Rattle.ospf_area.specs.Changes.{changed_at, changed_if, changed_link, changed_on, delayed_at, delayed_on}
-use Rattle.ospf_area.specs.Flooding.{came_from, flooded_link, flooded_links, flooded_neighbour, on_link, goes_anywhere, released, released_link}
+use Rattle.ospf_area.specs.Asking.{turned_link}
+use Rattle.ospf_area.specs.Changes.{changed_at, changed_on, delayed_on}
+use Rattle.ospf_area.specs.Flooding.{flooded_link, goes_anywhere, released, released_link}
 use Rattle.ospf_area.specs.Numbers.{is_self_originated}
 use Rattle.ospf_area.specs.Outputs.{OutputsValue, SentValue}
 use Rattle.ospf_area.specs.Sending.{own_of}
@@ -27,14 +26,13 @@ use Rattle.ospf_area.specs.Standing.{acknowledging}
 use Rattle.ospf_area.specs.State.{AreaValue, LinkValue, entry_of}
 use Rattle.ospf_area.specs.declared.changes.Change.{Change}
 use Rattle.ospf_area.specs.declared.flooding.Origin.{Origin}
-use Rattle.ospf_area.specs.declared.sending.Own.{Own}
 use Rattle.ospf_update.specs.Aging.{Flushes, TickAges, copies_sent, copy_flooded, copy_flooded_by, copy_sent, noted, turned_area}
 use Rattle.ospf_update.specs.Meets.{MeetsRule, Stores, flooded_area, header_met, heard_by, named_by, replied, reply_to, rule_met, taken_off}
 use Rattle.ospf_update.specs.Removal.{Removes, RemovesAll, leaving}
-use Rattle.ospf_update.specs.Updates.{MeetsAndTurns, TakesSlice, TakesSlices, TakesUpdate}
+use Rattle.ospf_update.specs.Updates.{TakesSlice, TakesSlices, TakesUpdate}
 use Rattle.ospf_update.specs.Updates.TakesSlice.{Met, PassedOver}
 use Rattle.ospf_laws.specs.Puts.{headers_met}
-use Rattle.ospf_originate.specs.Steps.{Acts, ActsInTurn, FlushesAndTurns, Issues, IssuesAndTurns, IssuesIf, OwnLsas, wants}
+use Rattle.ospf_originate.specs.Steps.{Acts, ActsInTurn, Issues, IssuesIf, OwnLsas, wants}
 use Rattle.ospf_originate.specs.Wanted.{WantedValue, wanted_of}
 use Rattle.ospf_originate.specs.declared.action.Due.{Due}
 use Rattle.ospf_originate.specs.declared.action.OwnAction.{OwnAction}

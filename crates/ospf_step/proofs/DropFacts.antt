@@ -1,24 +1,23 @@
 -- What is known of a packet that is not dropped, and of its sender.
-use Rattle.std.proofs.Common.{◌≡◌, ◌≢◌, ◌<◌, ◌==◌, ℕ, Bool, true, false, not, List, [], ◌∷◌, Option, None, Some, if◌then◌else◌, is_some, length, nat_lt, slice_get, refl, sym, ap, subst, ◌∙◌}
+use Rattle.std.proofs.Common.{◌≡◌, ◌≢◌, ◌==◌, ℕ, Bool, true, false, not, List, [], ◌∷◌, Option, None, Some, if◌then◌else◌, is_some, length, slice_get, refl, sym, ap, subst, ◌∙◌}
 use Rattle.std.proofs.lemmas.Bool.{true≢false}
 use Rattle.std.proofs.lemmas.Option.{none-some, same_Some}
 use Rattle.ospf_base.specs.declared.ids.AreaId.{AreaId}
 use Rattle.ospf_base.specs.declared.ids.Addr.{Addr}
 use Rattle.ospf_base.specs.declared.ids.RouterId.{RouterId}
-use Rattle.ospf_base.specs.declared.interface.InterfaceKind.{InterfaceKind}
-use Rattle.ospf_base.specs.declared.interface.InterfaceKind.TheVariants.{PointToPoint, Broadcast}
+use Rattle.ospf_base.specs.declared.interface.InterfaceKind.TheVariants.{PointToPoint}
 use Rattle.ospf_exchange.specs.declared.rule.Local.{Local}
 use Rattle.ospf_iface.specs.declared.machine.Iface.{Iface}
 use Rattle.ospf_neighbour.specs.Machine.{is_exchanging}
 use Rattle.ospf_neighbour.specs.Neighbour.{NeighbourValue, is_empty}
-use Rattle.ospf_neighbour.specs.Neighbours.{at_address, max_neighbours, neighbour_of}
+use Rattle.ospf_neighbour.specs.Neighbours.{at_address, neighbour_of}
 use Rattle.ospf_packet.specs.Meaning.{BodyMeaning, Meaning, hello, description, request, update, acknowledgment}
 use Rattle.ospf_adjacency.specs.Adjacency.{is_broadcast, is_broadcast_kind}
 use Rattle.ospf_area.specs.Sending.{own_of}
 use Rattle.ospf_area.specs.State.{AreaValue, LinkValue}
 use Rattle.ospf_links.specs.Parts.{local_of}
 use Rattle.ospf_receipt.specs.Drops.{agrees, drop_by_body, drop_of_hello, drop_of_new, drop_of_packet, is_destination, is_elsewhere, is_foreign, sender_in}
-use Rattle.ospf_receipt.specs.Laws.{CanBeTaken, IsExchanging, NotDroppedIsTaken}
+use Rattle.ospf_receipt.specs.Laws.{CanBeTaken, NotDroppedIsTaken}
 use Rattle.ospf_receipt.specs.declared.dropped.Dropped.{Dropped}
 use Rattle.ospf_receipt.specs.declared.dropped.Dropped.TheVariants as dropped
 use Rattle.ospf_hello.specs.Links.{is_down}
@@ -26,7 +25,6 @@ use Rattle.ospf_step.specs.Drops.{drop_on}
 use Rattle.ospf_step.specs.Fit.{IsFit, IsFitLink}
 use Rattle.ospf_step.specs.Ready.{CanTake, CanTakeOn}
 use Rattle.ospf_step.specs.Takes.{origin_of}
-use Rattle.ospf_step.proofs.PartFit.{CanGreet}
 use Rattle.ospf_step.proofs.PutLemmas.{eq_false}
 use Rattle.ospf_step.proofs.SetLemmas.{all_at}
 use Rattle.ospf_step.proofs.StepFit.{CanCome}

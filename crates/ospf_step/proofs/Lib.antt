@@ -8,3 +8,4 @@ mod StepFit
 mod DropFacts
 mod AreaSame
 mod StepSame
+mod StepLawful

@@ -1,27 +1,23 @@
 -- Links that go up and down, ticks and elections keep a link fit and set up.
-use Rattle.std.proofs.Common.{◌≡◌, ◌≢◌, ◌≤◌, ◌<◌, ◌||◌, ◌&&◌, ◌-◌, ◌⊎◌, ℕ, suc, inl, inr, Bool, true, false, not, List, [], ◌∷◌, Option, None, Some, length, map, filter, nat_le, slice_get, refl, sym, ap, subst, ◌∙◌, if◌then◌else◌, arith}
+use Rattle.std.proofs.Common.{◌≡◌, ◌≢◌, ◌≤◌, ◌-◌, ℕ, suc, inl, inr, Bool, true, false, not, List, [], ◌∷◌, length, map, filter, nat_le, refl, sym, ap, subst, ◌∙◌, if◌then◌else◌, arith}
 use Rattle.std.specs.List.{AllByRecursion}
-use Rattle.std.proofs.lemmas.List.{length-map}
 use Rattle.ospf_base.specs.declared.ids.RouterId.{RouterId}
 use Rattle.ospf_base.specs.Masks.{IsMask}
-use Rattle.ospf_base.specs.declared.interface.InterfaceKind.TheVariants.{PointToPoint}
-use Rattle.ospf_election.specs.declared.candidate.Elected.{Elected}
-use Rattle.ospf_iface.specs.Machine.{elected, is_changed, started, stopped}
+use Rattle.ospf_iface.specs.Machine.{is_changed, started, stopped}
 use Rattle.ospf_iface.specs.declared.machine.Iface.{Iface}
 use Rattle.ospf_iface.specs.declared.settings.IfaceSettings.{IfaceSettings}
 use Rattle.ospf_iface.specs.declared.machine.IfaceState.{IfaceState}
 use Rattle.ospf_iface.specs.declared.machine.IfaceState.TheVariants as iface
 use Rattle.ospf_lsdb.specs.Database.{Held}
 use Rattle.ospf_neighbour.specs.Neighbour.{NeighbourValue, new_neighbour}
-use Rattle.ospf_neighbour.specs.Neighbours.{max_neighbours}
 use Rattle.ospf_adjacency.specs.Adjacency.{number_by}
 use Rattle.ospf_adjacency.specs.Elections.{AreOfLink, adj_ok_for, adjusted, elects_in}
 use Rattle.ospf_adjacency.specs.Packets.{Parcel}
-use Rattle.ospf_area.specs.State.{AreaValue, LinkValue}
+use Rattle.ospf_area.specs.State.{LinkValue}
 use Rattle.ospf_area.specs.declared.sending.Own.{Own}
 use Rattle.ospf_hello.specs.Laws.{ElectionsComeAbout, NeighboursStayOfLink}
-use Rattle.ospf_hello.specs.Links.{elects_by_timers, hello_ticked, inactivity_ticked, is_down, is_inactive, timed, wait_ticked}
-use Rattle.ospf_links.specs.Elections.{AreReady, ElectsIf, ElectsLink, ElectsOnLink, IsReady}
+use Rattle.ospf_hello.specs.Links.{elects_by_timers, hello_ticked, inactivity_ticked, is_down, is_inactive, timed}
+use Rattle.ospf_links.specs.Elections.{AreReady, ElectsIf, ElectsOnLink}
 use Rattle.ospf_links.specs.Parts.{hello_sent, link_down, link_timed, link_up, local_by}
 use Rattle.ospf_links.specs.Repeats.{link_repeated, repeated}
 use Rattle.ospf_resend.specs.Laws.{RepeatsAreQuiet}

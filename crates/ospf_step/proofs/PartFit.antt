@@ -1,30 +1,24 @@
 -- The parts on links keep a link fit and set up.
-use Rattle.std.proofs.Common.{◌≡◌, ◌≢◌, ◌≤◌, ◌<◌, ◌||◌, ◌⊎◌, ℕ, suc, inl, inr, Bool, true, false, List, [], ◌∷◌, Option, None, Some, length, map, filter, slice_get, refl, sym, ap, subst, ◌∙◌, if◌then◌else◌, arith}
-use Rattle.std.specs.List.{AllByRecursion}
-use Rattle.std.proofs.lemmas.List.{length-map}
-use Rattle.ospf_base.specs.declared.ids.Addr.{Addr}
+use Rattle.std.proofs.Common.{◌≡◌, ◌≢◌, ◌≤◌, ◌<◌, ◌||◌, ◌⊎◌, ℕ, suc, inl, inr, Bool, true, false, List, Option, None, Some, length, refl, sym, ap, subst, ◌∙◌, arith}
 use Rattle.ospf_base.specs.declared.ids.RouterId.{RouterId}
-use Rattle.ospf_base.specs.Masks.{IsMask}
 use Rattle.ospf_base.specs.declared.interface.InterfaceKind.TheVariants.{PointToPoint}
-use Rattle.ospf_iface.specs.declared.machine.Iface.{Iface}
-use Rattle.ospf_iface.specs.declared.settings.IfaceSettings.{IfaceSettings}
 use Rattle.ospf_lsa.specs.declared.header.LsaHeader.{LsaHeader}
 use Rattle.ospf_lsdb.specs.Database.{Held}
 use Rattle.ospf_neighbour.specs.Neighbour.{NeighbourValue}
-use Rattle.ospf_neighbour.specs.Neighbours.{IsRising, max_neighbours, neighbour_of}
+use Rattle.ospf_neighbour.specs.Neighbours.{max_neighbours, neighbour_of}
 use Rattle.ospf_packet.specs.declared.body.Description.{Description}
 use Rattle.ospf_packet.specs.declared.body.Hello.{Hello}
 use Rattle.ospf_packet.specs.declared.entry.RequestEntry.{RequestEntry}
 use Rattle.ospf_exchange.specs.declared.rule.Local.{Local}
-use Rattle.ospf_area.specs.State.{AreaValue, LinkValue}
+use Rattle.ospf_area.specs.State.{LinkValue}
 use Rattle.ospf_area.specs.declared.flooding.Origin.{Origin}
 use Rattle.ospf_area.specs.declared.sending.Own.{Own}
 use Rattle.ospf_adjacency.specs.Elections.{AreOfLink, elects_in}
 use Rattle.ospf_adjacency.specs.Laws.{DescriptionKeepsRouter}
-use Rattle.ospf_hello.specs.Heard.{Neighbourhood, elects_by_hello, elects_by_change, hello_by, hello_on, hello_turn, put, put_back, sender_of, turn_of}
+use Rattle.ospf_hello.specs.Heard.{Neighbourhood, elects_by_hello, elects_by_change, hello_turn, sender_of, turn_of}
 use Rattle.ospf_hello.proofs.GoLemmas.{heard_router}
 use Rattle.ospf_hello.specs.Laws.{ElectionsComeAbout, NeighboursStayOfLink}
-use Rattle.ospf_links.specs.Parts.{description_on, description_part, description_by, hello_part, local_of, neighbourhood_of, request_by, request_part, with_neighbourhood}
+use Rattle.ospf_links.specs.Parts.{description_part, description_by, hello_part, local_of, neighbourhood_of, request_by, request_part, with_neighbourhood}
 use Rattle.ospf_resend.specs.Answers.{answer_turn}
 use Rattle.ospf_resend.specs.Laws.{AnswersAreQuiet}
 use Rattle.ospf_adjacency.specs.Descriptions.{description_turn}

@@ -1,5 +1,5 @@
 -- Links of which one, or each, becomes another that is as fit and as well set up.
-use Rattle.std.proofs.Common.{◌≡◌, ◌≢◌, ◌≤◌, ◌<◌, ◌==◌, ℕ, zero, suc, true, List, [], ◌∷◌, Option, None, Some, length, map, set, slice_get, refl, sym, ap, subst, ◌∙◌}
+use Rattle.std.proofs.Common.{◌≡◌, ◌≢◌, ◌≤◌, ℕ, zero, suc, List, [], ◌∷◌, Some, map, set, slice_get, sym, ap, subst, ◌∙◌}
 use Rattle.std.specs.List.{AllByRecursion}
 use Rattle.std.proofs.lemmas.List.{length-map, length-set}
 use Rattle.std.proofs.lemmas.Option.{same_Some}
@@ -7,7 +7,7 @@ use Rattle.ospf_base.specs.declared.ids.LsaKey.{LsaKey}
 use Rattle.ospf_base.specs.declared.ids.RouterId.{RouterId}
 use Rattle.ospf_iface.specs.declared.settings.IfaceSettings.{IfaceSettings}
 use Rattle.ospf_area.specs.State.{AreaValue, LinkValue}
-use Rattle.ospf_originate.specs.Sound.{AreApart, AreSetUp, IsSetUp, IsSound, max_links}
+use Rattle.ospf_originate.specs.Sound.{AreApart, AreSetUp, IsSetUp, max_links}
 use Rattle.ospf_step.specs.Fit.{IsFit, IsFitLink}
 use Rattle.ospf_step.proofs.FitLemmas.{AllFit, fit_map}
 

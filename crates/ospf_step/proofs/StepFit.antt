@@ -1,6 +1,5 @@
 -- An event that is taken, and the end of a step, keep a router fit.
-use Rattle.std.proofs.Common.{◌≡◌, ℕ, zero, suc, List, [], ◌∷◌, Option, None, Some, map, length, slice_get, refl, sym, ap, subst, ◌∙◌}
-use Rattle.ospf_base.specs.declared.ids.Addr.{Addr}
+use Rattle.std.proofs.Common.{◌≡◌, ℕ, zero, suc, List, [], ◌∷◌, Option, None, Some, length, slice_get, refl, sym, subst}
 use Rattle.ospf_base.specs.declared.ids.LsaKey.{LsaKey}
 use Rattle.ospf_base.specs.declared.ids.RouterId.{RouterId}
 use Rattle.ospf_lsa.specs.declared.header.LsaHeader.{LsaHeader}
@@ -9,7 +8,7 @@ use Rattle.ospf_hello.specs.Heard.{Neighbourhood, names}
 use Rattle.ospf_hello.specs.Laws.{ElectionsComeAbout, NeighboursStayOfLink}
 use Rattle.ospf_adjacency.specs.Laws.{DescriptionKeepsRouter}
 use Rattle.ospf_resend.specs.Laws.{AnswersAreQuiet, RepeatsAreQuiet}
-use Rattle.ospf_area.specs.Outputs.{OutputsValue}
+use Rattle.ospf_area.specs.Outputs.{OutputsValue, SentValue}
 use Rattle.ospf_area.specs.Sending.{own_of}
 use Rattle.ospf_area.specs.State.{AreaValue, LinkValue}
 use Rattle.ospf_area.specs.declared.flooding.Origin.{Origin}
@@ -20,14 +19,14 @@ use Rattle.ospf_links.specs.Works.{changed, changed_on, worked, worked_links_on,
 use Rattle.ospf_laws.specs.Puts.{headers_met}
 use Rattle.ospf_packet.specs.Meaning.{BodyMeaning, hello, description, request, update, acknowledgment}
 use Rattle.ospf_update.specs.Acks.{undelayed_link}
+use Rattle.ospf_update.specs.Aging.{TickAges}
 use Rattle.ospf_update.specs.Meets.{header_met}
 use Rattle.ospf_update.specs.Removal.{Removes}
 use Rattle.ospf_originate.specs.Laws.{AreaStaysSound, OwnStaySound}
 use Rattle.ospf_originate.specs.Sound.{IsSetUp, IsSound}
 use Rattle.ospf_originate.specs.Steps.{OwnLsas}
-use Rattle.ospf_step.specs.Ends.{Ends}
 use Rattle.ospf_step.specs.Fit.{IsFit, IsFitLink}
-use Rattle.ospf_step.specs.Takes.{Becomes, TakesBody, TakesTick, acknowledged, hellos_sent, repeated, timers_counted}
+use Rattle.ospf_step.specs.Takes.{TakesBody, TakesTick, acknowledged, hellos_sent, repeated, timers_counted}
 use Rattle.ospf_step.proofs.AreaFit.{age_for, headers_for, own_for, removes_for, update_for}
 use Rattle.ospf_step.proofs.FitLemmas.{AllFit, IsFor}
 use Rattle.ospf_step.proofs.LinkFit.{down_stays, elects_stays, hellos_fit, hellos_set_up, hellos_settings, repeats_fit, repeats_set_up, timers_fit, timers_set_up, undelayed_fit, undelayed_set_up, up_stays}
@@ -102,16 +101,22 @@ module _ (stay : NeighboursStayOfLink) (come : ElectionsComeAbout) (keeps : Desc
 -- ---- ticks
 
 module _ (stay : NeighboursStayOfLink) (come : ElectionsComeAbout) (repeats : RepeatsAreQuiet) (area : AreaStaysSound) where
-  pub tick_fit : (s : AreaValue) (out out' : OutputsValue) (s' : AreaValue) → TakesTick s out out' s' → IsFit s → IsFit s'
-  tick_fit s out out' s' is fit =
-      let a = is.aged in
-      let aged : IsFit a = fit_for s a (age_for s.router s is.expired_out a is.ages (for_itself s fit)) (area.aged s is.expired_out a is.ages fit.sound) in
+  pub aged_fit : (s : AreaValue) (sent : List SentValue) (a : AreaValue) → TickAges s sent a → IsFit s → IsFit a
+  aged_fit s sent a ages fit = fit_for s a (age_for s.router s sent a ages (for_itself s fit)) (area.aged s sent a ages fit.sound)
+
+  -- up to what is sent again
+  pub ticked_fit : (a : AreaValue) → IsFit a → IsFit (acknowledged (hellos_sent (timers_counted a)))
+  ticked_fit a aged =
       let t = timers_counted a in
       let timed : IsFit t = map_fit a link_timed a.sent (λ x. refl) (timers_fit stay come a.router) timers_set_up aged in
       let h = hellos_sent t in
       let said : IsFit h = map_fit t hello_sent t.sent hellos_settings (hellos_fit t.router) hellos_set_up timed in
-      let k = acknowledged h in
-      let told : IsFit k = map_fit h undelayed_link h.sent (λ x. refl) (undelayed_fit h.router) undelayed_set_up said in
+      map_fit h undelayed_link h.sent (λ x. refl) (undelayed_fit h.router) undelayed_set_up said
+
+  pub tick_fit : (s : AreaValue) (out out' : OutputsValue) (s' : AreaValue) → TakesTick s out out' s' → IsFit s → IsFit s'
+  tick_fit s out out' s' is fit =
+      let k = acknowledged (hellos_sent (timers_counted is.aged)) in
+      let told : IsFit k = ticked_fit is.aged (aged_fit s is.expired_out is.aged is.ages fit) in
       moved (repeated k) s' is.state (map_fit k (link_repeated (own_of k) k.database) _ (λ x. refl) (repeats_fit repeats (own_of k) k.database k.router) (repeats_set_up repeats (own_of k) k.database) told)
 
 -- ---- links

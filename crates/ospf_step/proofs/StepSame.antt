@@ -1,5 +1,5 @@
 -- No step changes the Router ID or the number of links.
-use Rattle.std.proofs.Common.{◌≡◌, ℕ, zero, suc, List, [], ◌∷◌, Option, None, Some, Result, Ok, Err, IfOk, OnOk, ◌≢◌, map, set, length, slice_get, refl, sym, ap, subst, ◌∙◌}
+use Rattle.std.proofs.Common.{◌≡◌, ℕ, zero, suc, List, Option, None, Some, Result, Ok, Err, IfOk, OnOk, ◌≢◌, map, length, slice_get, refl, sym, ap, subst, ◌∙◌}
 use Rattle.std.proofs.lemmas.List.{length-map, length-set}
 use Rattle.ospf_base.specs.declared.ids.Addr.{Addr}
 use Rattle.ospf_base.specs.declared.ids.LsaKey.{LsaKey}
@@ -8,10 +8,9 @@ use Rattle.ospf_area.specs.Outputs.{OutputsValue, no_outputs}
 use Rattle.ospf_area.specs.Sending.{own_of}
 use Rattle.ospf_area.specs.State.{AreaValue, LinkValue}
 use Rattle.ospf_area.specs.declared.flooding.Origin.{Origin}
-use Rattle.ospf_laws.specs.Puts.{headers_met}
 use Rattle.ospf_laws.specs.Step.{Event}
 use Rattle.ospf_laws.specs.Step.Event.{Datagram, Tick, LinkUp, LinkDown}
-use Rattle.ospf_links.specs.Elections.{Elects, ElectsAt, ElectsFrom, ElectsThere}
+use Rattle.ospf_links.specs.Elections.{ElectsAt, ElectsFrom, ElectsThere}
 use Rattle.ospf_links.specs.Parts.{description_part, hello_part, hello_sent, link_down, link_timed, link_up, request_part, with_neighbourhood}
 use Rattle.ospf_links.specs.Repeats.{link_repeated}
 use Rattle.ospf_links.specs.Works.{changed, changed_on, worked, worked_links_on, work_next_on}

@@ -1,11 +1,16 @@
 -- What a router has so that a packet can be taken (RFC 2328, sections 10.5 and 10.7).
-use Rattle.std.specs.Prelude.{⊤, ◌≡◌, ◌<◌, true, Some, None, length, slice_get}
+use Rattle.std.specs.Prelude.{⊤, ◌≡◌, ◌<◌, ℕ, true, Option, Some, None, length, slice_get}
 use Rattle.ospf_area.specs.State.{AreaValue, LinkValue}
 use Rattle.ospf_area.specs.declared.flooding.Origin.{Origin}
+use Rattle.ospf_bridges.specs.Invariants.{NoneWaitsBelow}
+use Rattle.ospf_laws.specs.Step.{Event}
+use Rattle.ospf_laws.specs.Step.Event.{Datagram, Tick, LinkUp, LinkDown}
+use Rattle.ospf_lsdb.specs.Database.{IsDatabase}
 use Rattle.ospf_neighbour.specs.Machine.{is_exchanging}
 use Rattle.ospf_neighbour.specs.Neighbour.{NeighbourValue}
 use Rattle.ospf_neighbour.specs.Neighbours.{max_neighbours, neighbour_of}
-use Rattle.ospf_packet.specs.Meaning.{BodyMeaning, hello, description, request, update, acknowledgment}
+use Rattle.ospf_packet.specs.Meaning.{BodyMeaning, Meaning, hello, description, request, update, acknowledgment}
+use Rattle.ospf_packet.specs.PacketOf.{packet_of}
 
 -- room for a new neighbour, and for a Request a neighbour in Exchange or above
 abbrev pub CanTakeOn : BodyMeaning → Origin → LinkValue → Type 0
@@ -17,3 +22,15 @@ CanTakeOn (acknowledgment headers) f link = ⊤
 
 abbrev pub CanTake : Origin → BodyMeaning → AreaValue → Type 0
 CanTake f body s = (link : LinkValue) → slice_get s.links f.link ≡ Some link → CanTakeOn body f link
+
+-- the database is one, and nothing waits for the sender of a packet below Exchange (10.1)
+abbrev pub IsSenderReady : ℕ → Option Meaning → AreaValue → Type 0
+IsSenderReady link None s = ⊤
+IsSenderReady link (Some m) s = IsDatabase s.database × NoneWaitsBelow s link m.router
+
+-- and so for the packet of an event
+abbrev pub IsReadyFor : Event → AreaValue → Type 0
+IsReadyFor (Datagram link source destination bytes) s = IsSenderReady link (packet_of bytes) s
+IsReadyFor Tick s = ⊤
+IsReadyFor (LinkUp link) s = ⊤
+IsReadyFor (LinkDown link) s = ⊤

@@ -8,12 +8,13 @@ ghost use Rattle.ospf_packet.specs.PacketOf.{packet_of};
 ghost use Rattle.ospf_packet.specs.Said.{body_said, said};
 ghost use Rattle.ospf_step.specs.Drops.{drop_on};
 ghost use Rattle.ospf_step.specs.Fit.{IsFit};
-ghost use Rattle.ospf_step.specs.Ready.{CanTake};
+ghost use Rattle.ospf_step.specs.Ready.{CanTake, IsSenderReady};
 ghost use Rattle.ospf_step.specs.Takes.{TakesBody, TakesDatagram};
 
 use ospf_adjacency::description_keeps_router;
 use ospf_area::{Area, Link, Origin, Outputs};
 use ospf_base::Addr;
+use ospf_bridges::{database_is_one, none_waits_below};
 use ospf_exchange::Local;
 use ospf_hello::{elections_come_about, neighbours_stay_of_link};
 use ospf_links::{take_description, take_hello, take_request};
@@ -107,6 +108,7 @@ fn take_packet(
 ) -> Result<(), AllocError>
     requires fit { IsFit area.old }
     requires taken { (destination : Addr) × (drop_on (slice_get area.old.links link) area.old source destination (Some (said packet)) ≡ None) }
+    ensures sender { IsSenderReady link (Some (said packet.entry)) area.old }
     ensures takes { OnOk result (TakesDatagram link source (Some (said packet.entry)) area.old out.old out.new area.new) }
     ensures fit { OnOk result (IsFit area.new) }
 {
@@ -116,6 +118,8 @@ fn take_packet(
     description_keeps_router();
     answers_are_quiet();
     area_stays_sound();
+    database_is_one(area);
+    none_waits_below(area, link, packet.router);
     let from = Origin {
         link,
         router: packet.router,
@@ -136,6 +140,7 @@ pub(crate) fn take_datagram(
 ) -> Result<Option<Dropped>, AllocError>
     requires { IsFit area.old }
     ensures dropped { IfOk result (λ d. d ≡ drop_on (slice_get area.old.links link) area.old source destination (packet_of bytes.now)) }
+    ensures sender { IfOk result (λ d. d ≡ None → IsSenderReady link (packet_of bytes.now) area.old) }
     ensures takes { IfOk result (λ d. d ≡ None → TakesDatagram link source (packet_of bytes.now) area.old out.old out.new area.new) }
     ensures unchanged { IfOk result (λ d. d ≢ None → area.new ≡ area.old) }
     ensures silent { IfOk result (λ d. d ≢ None → out.new ≡ out.old) }

@@ -9,18 +9,12 @@ ghost use Rattle.ospf_step.specs.Fit.{IsFit};
 ghost use Rattle.ospf_update.specs.Removal.{Removes};
 
 use ospf_area::{Area, Outputs};
+use ospf_bridges::database_is_one;
 use ospf_hello::neighbours_stay_of_link;
 use ospf_links::elect;
 use ospf_originate::{area_stays_sound, own_lsas, own_stay_sound};
 use ospf_update::remove;
 use std::alloc::{AllocError, Global};
-
-// The database is one: its entries rise.
-fn is_database(area: &Area)
-    ensures { IsDatabase area.now.database }
-{
-    let _ = area.database.entries();
-}
 
 // The elections that are due.
 fn elect_all(area: &mut Area, out: &mut Outputs, alloc: Global) -> Result<(), AllocError>
@@ -45,10 +39,11 @@ fn issue_own(area: &mut Area, out: &mut Outputs, alloc: Global) -> Result<(), Al
 // The LSAs that leave the database.
 fn remove_all(area: &mut Area, out: &mut Outputs, alloc: Global) -> Result<(), AllocError>
     requires { IsFit area.old }
+    ensures database { IsDatabase area.old.database }
     ensures removes { OnOk result (Removes area.old out.old out.new area.new) }
     ensures fit { OnOk result (IsFit area.new) }
 {
-    is_database(area);
+    database_is_one(area);
     area_stays_sound();
     remove(area, out, alloc)
 }
@@ -59,7 +54,10 @@ pub(crate) fn end(area: &mut Area, out: &mut Outputs, alloc: Global) -> Result<(
     ensures ends { OnOk result (Ends area.old out.old out.new area.new) }
     ensures fit { OnOk result (IsFit area.new) }
 {
+    database_is_one(area);
     elect_all(area, out, alloc)?;
     issue_own(area, out, alloc)?;
-    remove_all(area, out, alloc)
+    remove_all(area, out, alloc)?;
+    let _sent = out.sent();
+    Ok(())
 }

@@ -3,11 +3,15 @@
 ghost use Rattle.std.specs.Prelude.{◌≡◌, ◌≢◌, None, IfOk, OnOk, slice_get};
 ghost use Rattle.ospf_area.specs.Outputs.{no_outputs};
 ghost use Rattle.ospf_area.specs.Sending.{own_of};
+ghost use Rattle.ospf_laws.specs.Accounts.{Accounts};
+ghost use Rattle.ospf_laws.specs.Step.{StepLaws, heard_in};
+ghost use Rattle.ospf_laws.specs.Words.{IsSoundState};
 ghost use Rattle.ospf_links.specs.Parts.{link_down, link_up};
 ghost use Rattle.ospf_links.specs.Works.{changed, up_out_on};
-ghost use Rattle.ospf_step.specs.Drops.{dropped_by};
+ghost use Rattle.ospf_step.specs.Drops.{dropped_by, is_dropped};
 ghost use Rattle.ospf_step.specs.Events.{happening};
 ghost use Rattle.ospf_step.specs.Fit.{IsFit};
+ghost use Rattle.ospf_step.specs.Ready.{IsReadyFor};
 ghost use Rattle.ospf_step.specs.Same.{IsSameRouter};
 ghost use Rattle.ospf_step.specs.Steps.{StepsArea, Takes};
 ghost use Rattle.ospf_step.specs.Takes.{Becomes, TakesEvent};
@@ -17,8 +21,11 @@ use crate::ends::end;
 use crate::event::Event;
 use crate::ticks::take_tick;
 use ospf_area::{Area, Outputs};
+use ospf_hello::{elections_come_about, neighbours_stay_of_link};
 use ospf_links::{take_down, take_up};
+use ospf_originate::area_stays_sound;
 use ospf_receipt::Dropped;
+use ospf_resend::repeats_are_quiet;
 use std::alloc::{AllocError, Global};
 
 /// What a step gives: what it puts out, and why its datagram is dropped, if it is.
@@ -55,6 +62,7 @@ fn take(
 ) -> Result<Option<Dropped>, AllocError>
     requires { IsFit area.old }
     ensures dropped { IfOk result (λ d. d ≡ dropped_by (happening event.entry) area.old) }
+    ensures sender { IfOk result (λ d. d ≡ None → IsReadyFor (happening event.entry) area.old) }
     ensures takes { IfOk result (λ d. d ≡ None → TakesEvent (happening event.entry) area.old out.old out.new area.new) }
     ensures unchanged { IfOk result (λ d. d ≢ None → area.new ≡ area.old) }
     ensures silent { IfOk result (λ d. d ≢ None → out.new ≡ out.old) }
@@ -86,6 +94,7 @@ fn take(
 fn step_parts(area: &mut Area, event: Event<'_>, alloc: Global) -> Result<Taken, AllocError>
     requires { IsFit area.old }
     ensures dropped { IfOk result (λ t. t.dropped ≡ dropped_by (happening event.entry) area.old) }
+    ensures sender { IfOk result (λ t. t.dropped ≡ None → IsReadyFor (happening event.entry) area.old) }
     ensures takes { IfOk result (λ t. t.dropped ≡ None → Takes (happening event.entry) area.old t.out area.new) }
     ensures unchanged { IfOk result (λ t. t.dropped ≢ None → area.new ≡ area.old) }
     ensures silent { IfOk result (λ t. t.dropped ≢ None → t.out ≡ no_outputs) }
@@ -101,14 +110,21 @@ fn step_parts(area: &mut Area, event: Event<'_>, alloc: Global) -> Result<Taken,
 
 /// Takes an event. A datagram that is dropped, for the first cause that applies, changes nothing and puts nothing out; what
 /// any other event does is followed by the elections that are due, the router's own LSAs, and the LSAs that leave the
-/// database.
+/// database. Each step keeps the laws of a step, and from a sound state it answers to other routers for all that it does.
 ///
 /// `AllocError` where memory runs out; then the router is to be stopped.
 pub fn step(area: &mut Area, event: Event<'_>, alloc: Global) -> Result<Taken, AllocError>
     requires { IsFit area.old }
     ensures step { IfOk result (λ t. StepsArea (happening event.entry) area.old t.dropped t.out area.new) }
+    ensures laws { IfOk result (λ t. StepLaws is_dropped (happening event.entry) area.old t.out area.new) }
+    ensures accounts { IsSoundState area.old → IfOk result (λ t. Accounts (heard_in (happening event.entry)) area.old t.out area.new) }
+    ensures sound { IsSoundState area.old → OnOk result (IsSoundState area.new) }
     ensures same { OnOk result (IsSameRouter area.old area.new) }
     ensures fit { OnOk result (IsFit area.new) }
 {
+    neighbours_stay_of_link();
+    elections_come_about();
+    repeats_are_quiet();
+    area_stays_sound();
     step_parts(area, event, alloc)
 }

@@ -1,0 +1,3 @@
+pub mod Invariants
+pub mod Ticks
+pub mod Events
