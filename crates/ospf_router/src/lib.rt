@@ -5,6 +5,8 @@ mod fault;
 mod router;
 mod start;
 mod tables;
+#[cfg(test)]
+mod tests;
 
 pub use crate::fault::{StartFault, Stopped};
 pub use crate::router::{Router, Step};
