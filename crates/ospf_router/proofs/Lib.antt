@@ -1,0 +1,2 @@
+mod StartLemmas
+mod TableLemmas

@@ -1,0 +1,77 @@
+-- A router: its part of the area, and its routing table (RFC 2328, sections 5 and 11).
+use Rattle.std.specs.Prelude.{◌≡◌, ◌≢◌, ℕ, ℤ, Bool, false, List, [], Option, None, Some, length, slice_get}
+use Rattle.ospf_area.specs.State.{AreaValue, LinkValue, neighbour, neighbours_in}
+use Rattle.ospf_base.specs.declared.ids.Instance.{Instance}
+use Rattle.ospf_base.specs.declared.ids.RouterId.{RouterId}
+use Rattle.ospf_edges.specs.Listed.{advertisements_of}
+use Rattle.ospf_graph.specs.Routes.{IsTable}
+use Rattle.ospf_graph.specs.declared.route.Route.{Route}
+use Rattle.ospf_lsdb.specs.Database.{listed}
+use Rattle.ospf_neighbour.specs.Lists.{is_listed}
+use Rattle.ospf_neighbour.specs.Neighbour.{NeighbourValue}
+use Rattle.ospf_step.specs.Fit.{IsFit}
+
+-- a router: how many links it has, the floor of its start, its routing table, and its part of the area; one that has stopped
+-- has none
+pub record RouterValue : Type 0 where
+  pub links : ℕ
+  pub floor : ℤ
+  pub table : List Route
+  pub area : Option AreaValue
+
+-- the routes are those of what is listed (16.1)
+abbrev pub HasRoutes : AreaValue → List Route → Type 0
+HasRoutes s table = IsTable (advertisements_of (listed s.database)) s.router table
+
+-- a router that runs: it is fit for its next step, and its table is that of its listing
+pub record Runs (links : ℕ) (table : List Route) (s : AreaValue) : Type 0 where
+  pub fit : IsFit s
+  pub routes : HasRoutes s table
+  pub as_many : length s.links ≡ links
+
+-- what a router is: it runs, or it has stopped, and routes nothing
+abbrev pub IsRouter : ℕ → List Route → Option AreaValue → Type 0
+IsRouter links table None = table ≡ []
+IsRouter links table (Some s) = Runs links table s
+
+-- the new table, if it is another one
+abbrev pub IsNow : List Route → List Route → Option (List Route) → Type 0
+IsNow old new None = new ≡ old
+IsNow old new (Some t) = (t ≡ new) × (new ≢ old)
+
+-- its table is now another one, or as it was
+abbrev pub NowRoutes : AreaValue → List Route → Option (List Route) → Type 0
+NowRoutes s table None = HasRoutes s table
+NowRoutes s table (Some new) = HasRoutes s new × (new ≢ table)
+
+-- ---- what is asked of it
+
+-- what it lists (14)
+abbrev pub listing_of : Option AreaValue → List (List ℕ)
+listing_of None = []
+listing_of (Some s) = listed s.database
+
+-- the neighbours of a link, in rising Router ID
+abbrev pub neighbours_on : Option AreaValue → ℕ → List NeighbourValue
+neighbours_on None link = []
+neighbours_on (Some s) link = neighbours_in (slice_get s.links link)
+
+-- an instance is on the retransmission list of a neighbour that may not be there (13.6)
+abbrev pub is_awaited : Instance → Option NeighbourValue → Bool
+is_awaited i None = false
+is_awaited i (Some n) = is_listed i n.retransmission
+
+abbrev pub awaits_in : Option AreaValue → ℕ → RouterId → Instance → Bool
+awaits_in None link q i = false
+awaits_in (Some s) link q i = is_awaited i (neighbour s link q)
+
+-- the greatest number of a key of its own that was issued or installed since the start, and not below the floor of the start
+abbrev pub greatest_in : ℤ → Option AreaValue → ℤ
+greatest_in floor None = floor
+greatest_in floor (Some s) = s.greatest
+
+-- ---- one that stops
+
+-- it has its links and its floor, and nothing else
+abbrev pub stopped : RouterValue → RouterValue
+stopped r = record r { table = []; area = None }

@@ -1,0 +1,19 @@
+-- A step of a router: what an event does to its area, and its routing table after it (RFC 2328, sections 8.2 and 16.1).
+use Rattle.std.specs.Prelude.{◌≡◌, ◌≢◌, ◌↔◌, IsTrue, Some}
+use Rattle.ospf_area.specs.State.{AreaValue}
+use Rattle.ospf_laws.specs.Step.{Event}
+use Rattle.ospf_step.specs.Steps.{StepsArea}
+use Rattle.ospf_router.specs.Routers.{HasRoutes, RouterValue}
+use Rattle.ospf_router.specs.declared.router.Step.{Step}
+
+-- what its area does, and a table that is that of what it lists then; it is told whether it is another one
+pub record Steps (e : Event) (before : RouterValue) (t : Step) (after : RouterValue) : Type 0 where
+  pub area : AreaValue
+  pub next : AreaValue
+  pub runs : before.area ≡ Some area
+  pub is : after.area ≡ Some next
+  pub steps : StepsArea e area t.dropped t.out next
+  pub routes : HasRoutes next after.table
+  pub changed : IsTrue t.table_changed ↔ (after.table ≢ before.table)
+  pub same_links : after.links ≡ before.links
+  pub same_floor : after.floor ≡ before.floor

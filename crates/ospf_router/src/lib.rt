@@ -1,0 +1,15 @@
+//! A router (RFC 2328): its part of an area and its routing table, stepped by datagrams, ticks, and links that go up and down.
+#![tactic(auto)]
+
+mod fault;
+mod router;
+mod start;
+mod tables;
+#[cfg(test)]
+mod tests;
+
+pub use crate::fault::{StartFault, Stopped};
+pub use crate::router::{Router, Step};
+pub use ospf_area::{Outputs, Sent};
+pub use ospf_receipt::Dropped;
+pub use ospf_step::Event;

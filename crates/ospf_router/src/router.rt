@@ -1,0 +1,244 @@
+//! The router.
+
+ghost use Rattle.std.specs.Prelude.{◌≡◌, ◌≢◌, ◌<◌, ◌↔◌, IsTrue, IfErr, IfOk, OnErr, OnOk, None, Some, option_copied};
+ghost use Rattle.ospf_flood.specs.Rules.{max_sequence_number};
+ghost use Rattle.ospf_neighbour.specs.Neighbours.{neighbour_of};
+ghost use Rattle.ospf_step.specs.Same.{IsSameRouter};
+ghost use Rattle.ospf_step.specs.Events.{happening};
+ghost use Rattle.ospf_step.specs.Fit.{IsFit};
+ghost use Rattle.ospf_router.specs.Routers.{HasRoutes, NowRoutes, Runs, awaits_in, greatest_in, listing_of, neighbours_on, stopped};
+ghost use Rattle.ospf_router.specs.Starts.{IsStarted};
+ghost use Rattle.ospf_router.specs.Steps.{Steps};
+ghost use Rattle.ospf_step.specs.Steps.{StepsArea};
+
+use crate::fault::{StartFault, Stopped};
+use crate::start::area_of;
+use crate::tables::{KeptTree, if_other};
+use ospf_area::{Area, Outputs};
+use ospf_base::{Instance, RouterId};
+use ospf_config::Config;
+use ospf_lsa::Listing;
+use ospf_neighbour::Neighbour;
+use ospf_originate::starts_sound;
+use ospf_receipt::Dropped;
+use ospf_spf::RouteTable;
+use ospf_step::{Event, Taken, step};
+use std::alloc::{AllocError, Global};
+use std::marker::Model;
+
+/// The greatest sequence number (RFC 2328, section 12.1.6).
+const MAX_SEQUENCE_NUMBER: i32 = 0x7fff_ffff;
+
+/// What a step gives.
+#[derive(Drop)]
+pub struct Step {
+    /// What it puts out.
+    pub out: Outputs,
+    /// Why the datagram is dropped, if it is.
+    pub dropped: Option<Dropped>,
+    /// Whether the routing table is another one than before.
+    pub table_changed: bool,
+}
+
+/// A router (RFC 2328).
+#[derive(Drop)]
+pub struct Router {
+    links: usize,
+    floor: i32,
+    table: RouteTable,
+    tree: KeptTree,
+    area: Option<Area>,
+}
+
+impl Model for Router {
+    ghost use Rattle.ospf_router.specs.Routers.{IsRouter, RouterValue};
+    ghost use Rattle.ospf_router.specs.Trees.{IsOfRouter};
+
+    ghost Value = { RouterValue };
+
+    ghost view = { λ r. record { links = r.links; floor = r.floor; table = r.table; area = r.area } };
+
+    ghost invariant = { λ r. IsRouter r.links r.table r.area × IsOfRouter r.tree r.area };
+}
+
+// The area's step, and the routing table after it, if it is another one.
+#[derive(Drop)]
+struct Advanced {
+    taken: Taken,
+    table: Option<RouteTable>,
+}
+
+// The routing table of what is listed now, if it is another one.
+fn refresh(
+    area: &Area,
+    tree: &mut KeptTree,
+    table: &RouteTable,
+    alloc: Global,
+) -> Result<Option<RouteTable>, AllocError>
+    requires { area.now.router ≡ tree.old }
+    ensures table { IfOk result (λ o. NowRoutes area.now table.now o) }
+    ensures tree { tree.new ≡ tree.old }
+{
+    let listing = area.database.listing(alloc)?;
+    let new = tree.routes(&listing, alloc)?;
+    if_other(table, new, alloc)
+}
+
+// A step of the area, and then its routes: a datagram that is dropped leaves both.
+fn advance(
+    area: &mut Area,
+    tree: &mut KeptTree,
+    table: &RouteTable,
+    event: Event<'_>,
+    alloc: Global,
+) -> Result<Advanced, AllocError>
+    requires fit { IsFit area.old }
+    requires routes { HasRoutes area.old table.now }
+    requires tree { area.old.router ≡ tree.old }
+    ensures area { IfOk result (λ a. StepsArea (happening event.entry) area.old a.taken.dropped a.taken.out area.new) }
+    ensures same { OnOk result (IsSameRouter area.old area.new) }
+    ensures fit { OnOk result (IsFit area.new) }
+    ensures table { IfOk result (λ a. NowRoutes area.new table.now a.table) }
+    ensures tree { OnOk result (tree.new ≡ tree.old) }
+{
+    let taken = step(area, event, alloc)?;
+    let table = match taken.dropped {
+        Some(_) => None,
+        None => refresh(area, tree, table, alloc)?,
+    };
+    Ok(Advanced { taken, table })
+}
+
+impl Router {
+    /// A router that starts with this configuration: all its links are down, and its database is empty. The numbers of its
+    /// own LSAs begin above the floor (RFC 2328, section 12.1.6); `0x80000000` as an `i32` means none.
+    ///
+    /// `StartFault::Floor` where the floor is the greatest number, else `StartFault::Memory` where memory runs out.
+    pub fn start(
+        config: &Config,
+        dd_start: u32,
+        floor: i32,
+        alloc: Global,
+    ) -> Result<Router, StartFault>
+        ensures started { IfOk result (λ r. IsStarted config.now dd_start floor r) }
+        ensures above { OnOk result (floor ≢ max_sequence_number) }
+        ensures refused { IfErr result (λ f. (f ≡ StartFault.Floor) ↔ (floor ≡ max_sequence_number)) }
+    {
+        if floor == MAX_SEQUENCE_NUMBER {
+            return Err(StartFault::Floor);
+        }
+        starts_sound();
+        let area = match area_of(config, dd_start, floor, alloc) {
+            Ok(area) => area,
+            Err(AllocError) => return Err(StartFault::Memory),
+        };
+        Ok(Router {
+            links: config.interfaces.len(),
+            floor,
+            table: RouteTable::empty(alloc),
+            tree: KeptTree::new(config.router_id),
+            area: Some(area),
+        })
+    }
+
+    /// Takes an event (RFC 2328, section 8.2): a datagram that is dropped, for the first cause that applies, changes nothing;
+    /// what any other event does is followed by the elections that are due, the router's own LSAs, the LSAs that leave the
+    /// database, and the routing table.
+    ///
+    /// `Stopped` where memory runs out, and from then on.
+    pub fn step(&mut self, event: Event<'_>, alloc: Global) -> Result<Step, Stopped>
+        ensures taken { IfOk result (λ t. Steps (happening event.entry) self.old t self.new) }
+        ensures stopped { OnErr result (self.new ≡ stopped self.old) }
+        ensures stands_still { self.old.area ≡ None → OnOk result ⊥ }
+    {
+        let Some(mut area) = self.area.take() else {
+            return Err(Stopped);
+        };
+        match advance(&mut area, &mut self.tree, &self.table, event, alloc) {
+            Ok(Advanced { taken, table }) => {
+                let table_changed = table.is_some();
+                if let Some(table) = table {
+                    self.table = table;
+                }
+                self.area = Some(area);
+                let Taken { out, dropped } = taken;
+                Ok(Step {
+                    out,
+                    dropped,
+                    table_changed,
+                })
+            }
+            Err(AllocError) => {
+                self.table = RouteTable::empty(alloc);
+                Err(Stopped)
+            }
+        }
+    }
+
+    /// The routing table (RFC 2328, section 11); one that has stopped routes nothing. No memory is taken.
+    pub fn table(&self) -> &RouteTable
+        ensures { result.now ≡ self.now.table }
+    {
+        &self.table
+    }
+
+    /// The LSAs below `MAX_AGE` (section 14).
+    ///
+    /// `AllocError` where memory runs out.
+    pub fn listing(&self, alloc: Global) -> Result<Listing, AllocError>
+        ensures { IfOk result (λ l. l ≡ listing_of self.now.area) }
+    {
+        match &self.area {
+            Some(area) => area.database.listing(alloc),
+            None => Ok(Listing::new(alloc)),
+        }
+    }
+
+    /// Whether the router has a link of this number. No memory is taken.
+    pub fn has_link(&self, link: usize) -> bool
+        ensures { IsTrue result ↔ (link < self.now.links) }
+    {
+        link < self.links
+    }
+
+    /// The neighbours of a link, in rising Router ID (section 10). No memory is taken.
+    pub fn neighbours(&self, link: usize) -> &[Neighbour]
+        ensures { result.now ≡ neighbours_on self.now.area link }
+    {
+        let Some(area) = &self.area else {
+            return &[];
+        };
+        match area.links.get(link) {
+            Some(link) => link.neighbours.all(),
+            None => &[],
+        }
+    }
+
+    /// Whether an instance is on the retransmission list of a neighbour on a link (section 13.6). No memory is taken.
+    pub fn awaits(&self, link: usize, neighbour: RouterId, instance: &Instance) -> bool
+        ensures { result ≡ awaits_in self.now.area link neighbour instance.now }
+    {
+        match find(self.neighbours(link), neighbour) {
+            Some(neighbour) => neighbour.is_listed(instance),
+            None => false,
+        }
+    }
+
+    /// The greatest of the floor of the start and all numbers of LSAs of the router's own that were issued or installed since;
+    /// for one that has stopped, the floor. No memory is taken.
+    pub fn floor(&self) -> i32
+        ensures { result ≡ greatest_in self.now.floor self.now.area }
+    {
+        match &self.area {
+            Some(area) => area.greatest,
+            None => self.floor,
+        }
+    }
+}
+
+// The neighbour of a Router ID.
+fn find(neighbours: &[Neighbour], router: RouterId) -> Option<&Neighbour>
+    ensures { option_copied result ≡ neighbour_of neighbours.now router }
+{
+    neighbours.iter().find(|n| n.router().0 == router.0)
+}

@@ -1,0 +1,96 @@
+//! What a router has as it starts.
+
+ghost use Rattle.std.specs.Prelude.{◌≡◌, IfOk};
+ghost use Rattle.ospf_router.specs.Starts.{AreLinksOf, IsAreaOf, IsLinkOf, iface_of};
+
+use ospf_area::{Area, Link, LinkSettings};
+use ospf_base::{Addr, RouterId, mask_of};
+use ospf_config::{Config, Interface};
+use ospf_iface::{Iface, IfaceSettings, IfaceState};
+use ospf_lsdb::Lsdb;
+use ospf_neighbour::Neighbours;
+use std::alloc::{AllocError, Global};
+
+// The interface of a link that is down.
+fn iface_of(router: RouterId, interface: &Interface) -> Iface
+    ensures { result ≡ iface_of router interface.now }
+{
+    Iface {
+        settings: IfaceSettings {
+            router,
+            kind: interface.kind,
+            address: interface.address.address,
+            mask: mask_of(interface.address.length),
+            priority: interface.priority,
+            hello: interface.hello,
+            dead: u32::from(interface.dead),
+        },
+        state: IfaceState::Down,
+        dr: Addr::NOWHERE,
+        backup: Addr::NOWHERE,
+        wait: 0,
+        hello_in: 0,
+    }
+}
+
+// A link with no neighbour.
+fn link_of(router: RouterId, interface: &Interface, alloc: Global) -> Link
+    ensures { IsLinkOf router interface.now result }
+{
+    Link {
+        iface: iface_of(router, interface),
+        settings: LinkSettings {
+            cost: interface.cost,
+            retransmit: interface.retransmit,
+            transmit_delay: interface.transmit_delay,
+            mtu: interface.mtu,
+        },
+        neighbours: Neighbours::new(alloc),
+        delayed: Vec::new(alloc),
+        elects: false,
+    }
+}
+
+// The links of a configuration, in its order.
+fn links_of(
+    router: RouterId,
+    interfaces: &[Interface],
+    alloc: Global,
+) -> Result<Vec<Link>, AllocError>
+    ensures { IfOk result (λ links. AreLinksOf router interfaces.now links.items) }
+{
+    let mut links = Vec::new(alloc);
+    for interface in interfaces {
+        links.push(link_of(router, interface, alloc))?;
+    }
+    Ok(links)
+}
+
+/// The part of the area of a router that starts.
+///
+/// `AllocError` where memory runs out.
+pub(crate) fn area_of(
+    config: &Config,
+    dd_start: u32,
+    floor: i32,
+    alloc: Global,
+) -> Result<Area, AllocError>
+    ensures { IfOk result (λ area. IsAreaOf config.now dd_start floor area) }
+{
+    let links = links_of(config.router_id, &config.interfaces, alloc)?;
+    Ok(Area {
+        router: config.router_id,
+        area: config.area,
+        stub_router: config.stub_router,
+        links,
+        database: Lsdb::new(alloc),
+        direct: Vec::new(alloc),
+        numbering: Vec::new(alloc),
+        floor,
+        tick: 0,
+        next_dd: dd_start,
+        sent: Vec::new(alloc),
+        heard: Vec::new(alloc),
+        greatest: floor,
+    })
+}
