@@ -1,2 +1,1 @@
 mod StartLemmas
-mod TableLemmas

@@ -1,5 +1,6 @@
 -- A router that starts is fit, and its empty table is that of its empty listing.
-use Rattle.std.proofs.Common.{◌≡◌, ◌≢◌, ◌≤◌, ◌<◌, ◌++◌, ◌+◌, ℕ, ℤ, suc, true, false, List, [], ◌∷◌, AllPairs, All, Contains, get_or, length, take, refl, sym, ap, subst, ◌∙◌, arith, add-one}
+use Rattle.std.proofs.lemmas.Option.{none-some}
+use Rattle.std.proofs.Common.{◌≡◌, ◌≢◌, ◌≤◌, ◌<◌, ◌++◌, ◌+◌, ℕ, ℤ, zero, suc, slice_get, Some, List, [], ◌∷◌, AllPairs, get_or, length, take, refl, sym, ap, subst, ◌∙◌, arith, add-one}
 use Rattle.std.specs.List.{AllByRecursion}
 use Rattle.ospf_laws.proofs.ListFacts.{Contains-nil}
 use Rattle.std.specs.Prelude.{slice_index_or}
@@ -9,21 +10,23 @@ use Rattle.ospf_config.specs.declared.config.Config.{Config}
 use Rattle.ospf_edges.specs.Listed.{advertisements_of}
 use Rattle.ospf_graph.proofs.TableLemmas.{pairs_tail}
 use Rattle.ospf_graph.specs.Routes.{IsTable}
-use Rattle.ospf_lsdb.specs.Database.{Held}
+use Rattle.ospf_lsa.specs.Lsa.{key_of}
+use Rattle.ospf_lsdb.specs.Database.{IsDatabase, entry_of}
 use Rattle.ospf_originate.specs.Laws.{StartsSound}
 use Rattle.ospf_originate.specs.Sound.{AreApart, AreSetUp, IsSetUp, IsSound}
 use Rattle.ospf_router.specs.Routers.{HasRoutes}
 use Rattle.std.proofs.Math.Seq.{take-suc}
-use Rattle.ospf_adjacency.specs.Elections.{AreOfLink, elects_in}
-use Rattle.ospf_base.specs.Masks.{IsMask, mask_of}
+use Rattle.ospf_adjacency.specs.Elections.{AreOfLink}
+use Rattle.ospf_base.specs.Masks.{IsMask}
 use Rattle.ospf_base.specs.declared.ids.RouterId.{RouterId}
 use Rattle.ospf_config.specs.declared.interface.Interface.{Interface}
-use Rattle.ospf_area.specs.State.{AreaValue, LinkValue}
+use Rattle.ospf_area.specs.State.{AreaValue, LinkValue, WaitsIn, copy_in, neighbours_in}
 use Rattle.ospf_iface.specs.declared.machine.Iface.{Iface}
 use Rattle.ospf_neighbour.specs.Neighbour.{NeighbourValue}
-use Rattle.ospf_neighbour.specs.Neighbours.{max_neighbours}
+use Rattle.ospf_laws.specs.Words.{IsSoundState}
+use Rattle.ospf_neighbour.specs.Neighbours.{max_neighbours, neighbour_of}
 use Rattle.ospf_step.specs.Fit.{IsFit, IsFitLink}
-use Rattle.ospf_router.specs.Starts.{AreLinksOf, IsAreaOf, IsLinkOf, area_of, iface_of}
+use Rattle.ospf_router.specs.Starts.{AreLinksOf, IsAreaOf, IsLinkOf, area_of}
 
 -- one link more
 pub one_more : (r : RouterId) (xs : List Interface) (ls : List LinkValue) (x : Interface) (l : LinkValue) → AreLinksOf r xs ls → IsLinkOf r x l → AreLinksOf r (xs ++ x ∷ []) (ls ++ l ∷ [])
@@ -121,5 +124,33 @@ empty_routes r = record {
   sound = λ k d within. absurd (omega arith);
 }
 
+no_database : IsDatabase []
+no_database = record { rising = tt; ages = tt }
+
 pub start_routes : (config : Config) (dd_start : ℕ) (floor : ℤ) (s : AreaValue) → IsAreaOf config dd_start floor s → HasRoutes s []
-start_routes config dd_start floor s is = subst (λ (x : AreaValue). HasRoutes x []) (sym is.rest) (empty_routes config.router_id)
+start_routes config dd_start floor s is =
+    let now : AreaValue = area_of config dd_start floor s.links in
+    let routes : HasRoutes now [] = record { database = no_database; listing = record { rising = tt; listed = tt }; routes = empty_routes config.router_id } in
+    subst (λ (x : AreaValue). HasRoutes x []) (sym is.rest) routes
+
+-- ---- nothing is held, and nothing waits
+
+none_beside : (r : RouterId) (xs : List Interface) (ls : List LinkValue) (l : ℕ) → AreLinksOf r xs ls → neighbours_in (slice_get ls l) ≡ []
+none_beside r [] [] l are = refl
+none_beside r [] (m ∷ ms) l are = absurd are
+none_beside r (x ∷ xs) [] l are = absurd are
+none_beside r (x ∷ xs) (m ∷ ms) zero are = are.0.neighbours
+none_beside r (x ∷ xs) (m ∷ ms) (suc l) are = none_beside r xs ms l are.1
+
+no_copy : (lsa : List ℕ) → copy_in (entry_of [] (key_of lsa)) ≡ Some lsa → ⊥
+no_copy lsa has = none-some lsa has
+
+pub area_sound : (config : Config) (dd_start : ℕ) (floor : ℤ) (s : AreaValue) → IsAreaOf config dd_start floor s → IsSoundState s
+area_sound config dd_start floor s is =
+    let now : AreaValue = area_of config dd_start floor s.links in
+    let sound : IsSoundState now = record {
+      lsas = λ lsa has. absurd (no_copy lsa has);
+      numbers = λ lsa has own. absurd (no_copy lsa has);
+      lists = λ l q i waits. absurd (subst (λ (ns : List NeighbourValue). WaitsIn (neighbour_of ns q) i) (none_beside config.router_id config.interfaces.items s.links l is.links) waits);
+    } in
+    subst (λ (x : AreaValue). IsSoundState x) (sym is.rest) sound

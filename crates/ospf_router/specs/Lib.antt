@@ -1,4 +1,3 @@
 pub mod Routers
 pub mod Starts
 pub mod Steps
-pub mod Trees

@@ -1,14 +1,14 @@
 -- A router: its part of the area, and its routing table (RFC 2328, sections 5 and 11).
-use Rattle.std.specs.Prelude.{◌≡◌, ◌≢◌, ℕ, ℤ, Bool, false, List, [], Option, None, Some, length, slice_get}
-use Rattle.ospf_area.specs.State.{AreaValue, LinkValue, neighbour, neighbours_in}
+use Rattle.std.specs.Prelude.{◌≡◌, ℕ, ℤ, Bool, false, List, [], Option, None, Some, length, slice_get}
+use Rattle.ospf_area.specs.State.{AreaValue, neighbour, neighbours_in}
 use Rattle.ospf_base.specs.declared.ids.Instance.{Instance}
 use Rattle.ospf_base.specs.declared.ids.RouterId.{RouterId}
-use Rattle.ospf_edges.specs.Listed.{advertisements_of}
-use Rattle.ospf_graph.specs.Routes.{IsTable}
 use Rattle.ospf_graph.specs.declared.route.Route.{Route}
+use Rattle.ospf_laws.specs.Words.{IsSoundState}
 use Rattle.ospf_lsdb.specs.Database.{listed}
 use Rattle.ospf_neighbour.specs.Lists.{is_listed}
 use Rattle.ospf_neighbour.specs.Neighbour.{NeighbourValue}
+use Rattle.ospf_routes.specs.Routes.{AreRoutes, RoutesValue}
 use Rattle.ospf_step.specs.Fit.{IsFit}
 
 -- a router: how many links it has, the floor of its start, its routing table, and its part of the area; one that has stopped
@@ -19,30 +19,25 @@ pub record RouterValue : Type 0 where
   pub table : List Route
   pub area : Option AreaValue
 
--- the routes are those of what is listed (16.1)
+-- the database is listed in order, and the routes are those of what it lists (14, 16.1)
 abbrev pub HasRoutes : AreaValue → List Route → Type 0
-HasRoutes s table = IsTable (advertisements_of (listed s.database)) s.router table
+HasRoutes s table = AreRoutes s.router s.database table
 
--- a router that runs: it is fit for its next step, and its table is that of its listing
-pub record Runs (links : ℕ) (table : List Route) (s : AreaValue) : Type 0 where
+-- what each step needs, and keeps: it can be taken, and the router can answer to others for what it does
+pub record IsKept (s : AreaValue) : Type 0 where
   pub fit : IsFit s
+  pub sound : IsSoundState s
+
+-- a router that runs
+pub record Runs (links : ℕ) (table : List Route) (s : AreaValue) : Type 0 where
+  pub kept : IsKept s
   pub routes : HasRoutes s table
   pub as_many : length s.links ≡ links
 
 -- what a router is: it runs, or it has stopped, and routes nothing
-abbrev pub IsRouter : ℕ → List Route → Option AreaValue → Type 0
-IsRouter links table None = table ≡ []
-IsRouter links table (Some s) = Runs links table s
-
--- the new table, if it is another one
-abbrev pub IsNow : List Route → List Route → Option (List Route) → Type 0
-IsNow old new None = new ≡ old
-IsNow old new (Some t) = (t ≡ new) × (new ≢ old)
-
--- its table is now another one, or as it was
-abbrev pub NowRoutes : AreaValue → List Route → Option (List Route) → Type 0
-NowRoutes s table None = HasRoutes s table
-NowRoutes s table (Some new) = HasRoutes s new × (new ≢ table)
+abbrev pub IsRouter : ℕ → RoutesValue → Option AreaValue → Type 0
+IsRouter links routes None = routes.table ≡ []
+IsRouter links routes (Some s) = Runs links routes.table s × (routes.router ≡ s.router)
 
 -- ---- what is asked of it
 

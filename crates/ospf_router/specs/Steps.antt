@@ -1,10 +1,21 @@
 -- A step of a router: what an event does to its area, and its routing table after it (RFC 2328, sections 8.2 and 16.1).
-use Rattle.std.specs.Prelude.{◌≡◌, ◌≢◌, ◌↔◌, IsTrue, Some}
+use Rattle.std.specs.Prelude.{◌≡◌, ◌≢◌, ◌↔◌, IsTrue, Option, Some}
+use Rattle.ospf_area.specs.Outputs.{OutputsValue}
 use Rattle.ospf_area.specs.State.{AreaValue}
-use Rattle.ospf_laws.specs.Step.{Event}
+use Rattle.ospf_laws.specs.Accounts.{Accounts}
+use Rattle.ospf_laws.specs.Step.{Event, StepLaws, heard_in}
+use Rattle.ospf_receipt.specs.declared.dropped.Dropped.{Dropped}
+use Rattle.ospf_step.specs.Drops.{is_dropped}
 use Rattle.ospf_step.specs.Steps.{StepsArea}
 use Rattle.ospf_router.specs.Routers.{HasRoutes, RouterValue}
 use Rattle.ospf_router.specs.declared.router.Step.{Step}
+
+-- what its area does, by the exact rules of the event; and what these come to, for the laws of many routers: parts in their
+-- order, and an account of each instance that is named, sent or held
+pub record IsLawful (e : Event) (s : AreaValue) (dropped : Option Dropped) (out : OutputsValue) (after : AreaValue) : Type 0 where
+  pub steps : StepsArea e s dropped out after
+  pub laws : StepLaws is_dropped e s out after
+  pub accounts : Accounts (heard_in e) s out after
 
 -- what its area does, and a table that is that of what it lists then; it is told whether it is another one
 pub record Steps (e : Event) (before : RouterValue) (t : Step) (after : RouterValue) : Type 0 where
@@ -12,7 +23,7 @@ pub record Steps (e : Event) (before : RouterValue) (t : Step) (after : RouterVa
   pub next : AreaValue
   pub runs : before.area ≡ Some area
   pub is : after.area ≡ Some next
-  pub steps : StepsArea e area t.dropped t.out next
+  pub lawful : IsLawful e area t.dropped t.out next
   pub routes : HasRoutes next after.table
   pub changed : IsTrue t.table_changed ↔ (after.table ≢ before.table)
   pub same_links : after.links ≡ before.links

@@ -4,7 +4,6 @@
 mod fault;
 mod router;
 mod start;
-mod tables;
 #[cfg(test)]
 mod tests;
 

@@ -1,19 +1,16 @@
 //! The router.
 
-ghost use Rattle.std.specs.Prelude.{◌≡◌, ◌≢◌, ◌<◌, ◌↔◌, IsTrue, IfErr, IfOk, OnErr, OnOk, None, Some, option_copied};
+ghost use Rattle.std.specs.Prelude.{◌≡◌, ◌≢◌, ◌<◌, ◌↔◌, IsTrue, IfErr, IfOk, OnErr, OnOk, None, Some, is_some, option_copied};
 ghost use Rattle.ospf_flood.specs.Rules.{max_sequence_number};
 ghost use Rattle.ospf_neighbour.specs.Neighbours.{neighbour_of};
 ghost use Rattle.ospf_step.specs.Same.{IsSameRouter};
 ghost use Rattle.ospf_step.specs.Events.{happening};
-ghost use Rattle.ospf_step.specs.Fit.{IsFit};
-ghost use Rattle.ospf_router.specs.Routers.{HasRoutes, NowRoutes, Runs, awaits_in, greatest_in, listing_of, neighbours_on, stopped};
+ghost use Rattle.ospf_router.specs.Routers.{HasRoutes, IsKept, awaits_in, greatest_in, listing_of, neighbours_on, stopped};
 ghost use Rattle.ospf_router.specs.Starts.{IsStarted};
-ghost use Rattle.ospf_router.specs.Steps.{Steps};
-ghost use Rattle.ospf_step.specs.Steps.{StepsArea};
+ghost use Rattle.ospf_router.specs.Steps.{IsLawful, Steps};
 
 use crate::fault::{StartFault, Stopped};
 use crate::start::area_of;
-use crate::tables::{KeptTree, if_other};
 use ospf_area::{Area, Outputs};
 use ospf_base::{Instance, RouterId};
 use ospf_config::Config;
@@ -21,6 +18,7 @@ use ospf_lsa::Listing;
 use ospf_neighbour::Neighbour;
 use ospf_originate::starts_sound;
 use ospf_receipt::Dropped;
+use ospf_routes::KeptRoutes;
 use ospf_spf::RouteTable;
 use ospf_step::{Event, Taken, step};
 use std::alloc::{AllocError, Global};
@@ -45,68 +43,80 @@ pub struct Step {
 pub struct Router {
     links: usize,
     floor: i32,
-    table: RouteTable,
-    tree: KeptTree,
+    routes: KeptRoutes,
     area: Option<Area>,
 }
 
 impl Model for Router {
     ghost use Rattle.ospf_router.specs.Routers.{IsRouter, RouterValue};
-    ghost use Rattle.ospf_router.specs.Trees.{IsOfRouter};
 
     ghost Value = { RouterValue };
 
-    ghost view = { λ r. record { links = r.links; floor = r.floor; table = r.table; area = r.area } };
+    ghost view = { λ r. record { links = r.links; floor = r.floor; table = r.routes.table; area = r.area } };
 
-    ghost invariant = { λ r. IsRouter r.links r.table r.area × IsOfRouter r.tree r.area };
+    ghost invariant = { λ r. IsRouter r.links r.routes r.area };
 }
 
-// The area's step, and the routing table after it, if it is another one.
+// The area's step, and whether the routing table after it is another one.
 #[derive(Drop)]
 struct Advanced {
     taken: Taken,
-    table: Option<RouteTable>,
+    table_changed: bool,
 }
 
-// The routing table of what is listed now, if it is another one.
-fn refresh(
-    area: &Area,
-    tree: &mut KeptTree,
-    table: &RouteTable,
-    alloc: Global,
-) -> Result<Option<RouteTable>, AllocError>
-    requires { area.now.router ≡ tree.old }
-    ensures table { IfOk result (λ o. NowRoutes area.now table.now o) }
-    ensures tree { tree.new ≡ tree.old }
+// A step of the area: what it keeps, and the laws that it keeps.
+fn step_area(area: &mut Area, event: Event<'_>, alloc: Global) -> Result<Taken, AllocError>
+    requires { IsKept area.old }
+    ensures lawful { IfOk result (λ t. IsLawful (happening event.entry) area.old t.dropped t.out area.new) }
+    ensures same { OnOk result (IsSameRouter area.old area.new) }
+    ensures kept { OnOk result (IsKept area.new) }
+    ensures unchanged { IfOk result (λ t. IsTrue (is_some t.dropped) → area.new ≡ area.old) }
 {
-    let listing = area.database.listing(alloc)?;
-    let new = tree.routes(&listing, alloc)?;
-    if_other(table, new, alloc)
+    step(area, event, alloc)
 }
 
-// A step of the area, and then its routes: a datagram that is dropped leaves both.
+// The routes after a step: one that is dropped leaves them.
+fn refresh(
+    dropped: bool,
+    area: &Area,
+    routes: &mut KeptRoutes,
+    alloc: Global,
+) -> Result<bool, AllocError>
+    requires router { routes.old.router ≡ area.now.router }
+    requires as_before { IsTrue dropped → HasRoutes area.now routes.old.table }
+    ensures routes { OnOk result (HasRoutes area.now routes.new.table) }
+    ensures changed { IfOk result (λ b. IsTrue b ↔ (routes.new.table ≢ routes.old.table)) }
+    ensures router { routes.new.router ≡ routes.old.router }
+{
+    if dropped {
+        return Ok(false);
+    }
+    routes.refresh(&area.database, alloc)
+}
+
+// A step of the area, and then its routes.
 fn advance(
     area: &mut Area,
-    tree: &mut KeptTree,
-    table: &RouteTable,
+    routes: &mut KeptRoutes,
     event: Event<'_>,
     alloc: Global,
 ) -> Result<Advanced, AllocError>
-    requires fit { IsFit area.old }
-    requires routes { HasRoutes area.old table.now }
-    requires tree { area.old.router ≡ tree.old }
-    ensures area { IfOk result (λ a. StepsArea (happening event.entry) area.old a.taken.dropped a.taken.out area.new) }
+    requires kept { IsKept area.old }
+    requires routes { HasRoutes area.old routes.old.table }
+    requires router { routes.old.router ≡ area.old.router }
+    ensures lawful { IfOk result (λ a. IsLawful (happening event.entry) area.old a.taken.dropped a.taken.out area.new) }
     ensures same { OnOk result (IsSameRouter area.old area.new) }
-    ensures fit { OnOk result (IsFit area.new) }
-    ensures table { IfOk result (λ a. NowRoutes area.new table.now a.table) }
-    ensures tree { OnOk result (tree.new ≡ tree.old) }
+    ensures kept { OnOk result (IsKept area.new) }
+    ensures routes { OnOk result (HasRoutes area.new routes.new.table) }
+    ensures changed { IfOk result (λ a. IsTrue a.table_changed ↔ (routes.new.table ≢ routes.old.table)) }
+    ensures router { routes.new.router ≡ routes.old.router }
 {
-    let taken = step(area, event, alloc)?;
-    let table = match taken.dropped {
-        Some(_) => None,
-        None => refresh(area, tree, table, alloc)?,
-    };
-    Ok(Advanced { taken, table })
+    let taken = step_area(area, event, alloc)?;
+    let table_changed = refresh(taken.dropped.is_some(), area, routes, alloc)?;
+    Ok(Advanced {
+        taken,
+        table_changed,
+    })
 }
 
 impl Router {
@@ -135,8 +145,7 @@ impl Router {
         Ok(Router {
             links: config.interfaces.len(),
             floor,
-            table: RouteTable::empty(alloc),
-            tree: KeptTree::new(config.router_id),
+            routes: KeptRoutes::new(config.router_id, alloc),
             area: Some(area),
         })
     }
@@ -154,22 +163,18 @@ impl Router {
         let Some(mut area) = self.area.take() else {
             return Err(Stopped);
         };
-        match advance(&mut area, &mut self.tree, &self.table, event, alloc) {
-            Ok(Advanced { taken, table }) => {
-                let table_changed = table.is_some();
-                if let Some(table) = table {
-                    self.table = table;
-                }
+        match advance(&mut area, &mut self.routes, event, alloc) {
+            Ok(advanced) => {
                 self.area = Some(area);
-                let Taken { out, dropped } = taken;
+                let Taken { out, dropped } = advanced.taken;
                 Ok(Step {
                     out,
                     dropped,
-                    table_changed,
+                    table_changed: advanced.table_changed,
                 })
             }
             Err(AllocError) => {
-                self.table = RouteTable::empty(alloc);
+                self.routes.clear(alloc);
                 Err(Stopped)
             }
         }
@@ -179,7 +184,7 @@ impl Router {
     pub fn table(&self) -> &RouteTable
         ensures { result.now ≡ self.now.table }
     {
-        &self.table
+        self.routes.table()
     }
 
     /// The LSAs below `MAX_AGE` (section 14).

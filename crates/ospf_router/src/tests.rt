@@ -1,6 +1,7 @@
-//! Two routers on a link, whose datagrams are passed by hand.
+//! Two routers on a link, whose datagrams are passed by hand; what is dropped; one that stops.
 
-use crate::{Dropped, Event, Outputs, Router, Sent, StartFault, Step};
+use crate::{Dropped, Event, Outputs, Router, Sent, StartFault, Step, Stopped};
+use hex::decode;
 use ospf_base::{Addr, RouterId};
 use ospf_config::Config;
 use ospf_neighbour::NeighbourState;
@@ -36,6 +37,25 @@ fn put(queue: &mut VecDeque<Waiting>, to_first: bool, out: Outputs) -> Result<()
     Ok(())
 }
 
+// A router that met want of memory takes no step, and answers as one that has not started.
+fn stands_still(router: &mut Router, alloc: Global) -> Fail {
+    let steps = router.step(Event::Tick, alloc).is_ok();
+    if steps || router.floor() != NO_FLOOR {
+        return Fail::from("it goes on");
+    }
+    if !router.neighbours(0).is_empty() || !router.table().routes().is_empty() {
+        return Fail::from("it has something");
+    }
+    Fail::from("Memory: stopped")
+}
+
+fn step(router: &mut Router, event: Event<'_>, alloc: Global) -> Result<Step, Fail> {
+    match router.step(event, alloc) {
+        Ok(step) => Ok(step),
+        Err(Stopped) => Err(stands_still(router, alloc)),
+    }
+}
+
 // Takes an event, and puts what is sent behind what waits.
 fn take(
     router: &mut Router,
@@ -44,7 +64,7 @@ fn take(
     queue: &mut VecDeque<Waiting>,
     alloc: Global,
 ) -> Result<(), Fail> {
-    let Step { out, .. } = router.step(event, alloc)?;
+    let Step { out, .. } = step(router, event, alloc)?;
     put(queue, to_first, out)
 }
 
@@ -135,10 +155,8 @@ fn two_routers_agree(rt: HostRuntime) -> Result<(), Fail> {
 }
 
 // The first Hello of 1.1.1.1, to all routers of the link.
-const HELLO: [u8; 44] = [
-    2, 1, 0, 0x2c, 1, 1, 1, 1, 0, 0, 0, 0, 0xf9, 0xa0, 0, 0, 0, 0, 0, 0, 0, 0, 0, 0, 0xff, 0xff,
-    0xff, 0xfc, 0, 10, 2, 1, 0, 0, 0, 0x28, 0, 0, 0, 0, 0, 0, 0, 0,
-];
+const HELLO: &str =
+    "0201002c0101010100000000f9a000000000000000000000fffffffc000a0201000000280000000000000000";
 
 #[test]
 fn a_link_goes_up(rt: HostRuntime) -> Result<(), Fail> {
@@ -146,22 +164,134 @@ fn a_link_goes_up(rt: HostRuntime) -> Result<(), Fail> {
     let mut router = start(FIRST, 100, alloc)?;
     assert!(rt; router.has_link(0));
     assert!(rt; !router.has_link(1));
-    let step = router.step(Event::LinkUp { link: 0 }, alloc)?;
-    let sent = step.out.sent().first().ok_or("a Hello")?;
+    let went = step(&mut router, Event::LinkUp { link: 0 }, alloc)?;
+    let sent = went.out.sent().first().ok_or("a Hello")?;
     assert_eq!(rt; sent.source, Addr(0x0a00_0001));
     assert_eq!(rt; sent.destination, Addr(0xe000_0005));
-    assert_eq!(rt; sent.bytes.as_slice(), HELLO.as_slice());
-    assert!(rt; step.table_changed);
+    let hello = decode(alloc, HELLO)?;
+    assert_eq!(rt; sent.bytes.as_slice(), hello.as_slice());
+    assert!(rt; went.table_changed);
+    Ok(())
+}
+
+const LAN: &str =
+    "router_id = \"2.2.2.2\"\narea = \"0.0.0.0\"\n[[interface]]\nkind = \"broadcast\"\naddress = \"10.1.0.2/24\"\ncost = 10\n";
+
+// A datagram from an address to another, in hexadecimal, and why it is dropped, if it is.
+struct Case {
+    source: u32,
+    destination: u32,
+    bytes: &'static str,
+    dropped: Option<Dropped>,
+}
+
+const ALL_ROUTERS: u32 = 0xe000_0005;
+
+const ALL_DESIGNATED: u32 = 0xe000_0006;
+
+const NEIGHBOUR: u32 = 0x0a01_0001;
+
+const LAN_HELLO: &str =
+    "0201002c0101010100000000fa9c00000000000000000000ffffff00000a0201000000280000000000000000";
+
+const EMPTY_REQUEST: &str = "020300180101010100000000fbe200000000000000000000";
+
+// In their order: what is wrong with the Hello is another area, the router's own Router ID, an interval of 11 seconds; the
+// last ones come after the Hello itself.
+const CASES: [Case; 10] = [
+    Case {
+        source: NEIGHBOUR,
+        destination: ALL_ROUTERS,
+        bytes: "0201",
+        dropped: Some(Dropped::Packet),
+    },
+    Case {
+        source: NEIGHBOUR,
+        destination: ALL_ROUTERS,
+        bytes: "0201002c0101010100000001fa9b00000000000000000000ffffff00000a0201000000280000000000000000",
+        dropped: Some(Dropped::Area),
+    },
+    Case {
+        source: NEIGHBOUR,
+        destination: ALL_ROUTERS,
+        bytes: "0201002c0202020200000000f89a00000000000000000000ffffff00000a0201000000280000000000000000",
+        dropped: Some(Dropped::OwnPacket),
+    },
+    Case {
+        source: NEIGHBOUR,
+        destination: ALL_DESIGNATED,
+        bytes: LAN_HELLO,
+        dropped: Some(Dropped::Destination),
+    },
+    Case {
+        source: 0x0a02_0001,
+        destination: ALL_ROUTERS,
+        bytes: LAN_HELLO,
+        dropped: Some(Dropped::Subnet),
+    },
+    Case {
+        source: NEIGHBOUR,
+        destination: ALL_ROUTERS,
+        bytes: "0201002c0101010100000000fa9b00000000000000000000ffffff00000b0201000000280000000000000000",
+        dropped: Some(Dropped::HelloMismatch),
+    },
+    Case {
+        source: NEIGHBOUR,
+        destination: ALL_ROUTERS,
+        bytes: EMPTY_REQUEST,
+        dropped: Some(Dropped::NoNeighbour),
+    },
+    Case {
+        source: NEIGHBOUR,
+        destination: ALL_ROUTERS,
+        bytes: LAN_HELLO,
+        dropped: None,
+    },
+    Case {
+        source: NEIGHBOUR,
+        destination: ALL_ROUTERS,
+        bytes: "0201002c0303030300000000f69800000000000000000000ffffff00000a0201000000280000000000000000",
+        dropped: Some(Dropped::WrongRouter),
+    },
+    Case {
+        source: NEIGHBOUR,
+        destination: ALL_ROUTERS,
+        bytes: EMPTY_REQUEST,
+        dropped: Some(Dropped::State),
+    },
+];
+
+// Whether the datagram is dropped as it is to be, and then changes no answer and puts nothing out.
+fn is_judged(router: &mut Router, case: &Case, alloc: Global) -> Result<bool, Fail> {
+    let bytes = decode(alloc, case.bytes)?;
+    let known = router.neighbours(0).len();
     let event = Event::Datagram {
         link: 0,
-        source: Addr(0x0a00_0001),
-        destination: Addr(0xe000_0005),
-        bytes: &HELLO,
+        source: Addr(case.source),
+        destination: Addr(case.destination),
+        bytes: &bytes,
     };
-    let again = router.step(event, alloc)?;
-    assert_eq!(rt; again.dropped, Some(Dropped::OwnPacket));
-    assert!(rt; !again.table_changed);
-    assert!(rt; again.out.sent().is_empty());
+    let Step {
+        out,
+        dropped,
+        table_changed,
+    } = step(router, event, alloc)?;
+    let silent = out.sent().is_empty() && !table_changed && router.neighbours(0).len() == known;
+    Ok(dropped == case.dropped && (dropped.is_none() || silent))
+}
+
+#[test]
+fn each_drop_is_told(rt: HostRuntime) -> Result<(), Fail> {
+    let alloc = rt.alloc();
+    let mut router = start(LAN, 100, alloc)?;
+    let [first, ..] = &CASES;
+    // The link is down.
+    assert!(rt; is_judged(&mut router, first, alloc)?);
+    let _up = step(&mut router, Event::LinkUp { link: 0 }, alloc)?;
+    for case in &CASES {
+        assert!(rt; is_judged(&mut router, case, alloc)?);
+    }
+    assert_eq!(rt; router.neighbours(0).len(), 1);
     Ok(())
 }
 

@@ -1,10 +1,8 @@
 -- Two tables are one where no change leads from one to the other.
-use Rattle.std.proofs.Common.{eqb-true, ◌≡◌, ◌≢◌, ◌↔◌, ◌==◌, IsTrue, ℕ, Bool, true, false, not, List, [], ◌∷◌, Contains, length, refl, sym, ap, subst, ◌∙◌, arith, Option, None, Some}
+use Rattle.std.proofs.Common.{eqb-true, ◌≡◌, ◌≢◌, ◌↔◌, ◌==◌, IsTrue, Bool, List, [], ◌∷◌, Contains, length, refl, sym, subst, ◌∙◌, arith}
 use Rattle.ospf_base.specs.declared.prefix.Prefix.{Prefix}
 use Rattle.ospf_graph.proofs.ListLemmas.{member_head}
 use Rattle.ospf_graph.specs.declared.route.Route.{Route}
-use Rattle.ospf_area.specs.State.{AreaValue}
-use Rattle.ospf_router.specs.Routers.{HasRoutes, IsNow, NowRoutes}
 use Rattle.ospf_spf.specs.Changes.{IsGone, IsNew, Reaches, edited}
 use Rattle.ospf_spf.specs.declared.changes.Change.{Change}
 use Rattle.ospf_spf.specs.declared.changes.Change.TheVariants.{Put, Gone}
@@ -29,8 +27,3 @@ module _ (old new : List Route) where
     (λ t. absurd (let zero : length (c ∷ cs) ≡ 0 = eqb-true (length (c ∷ cs)) 0 (sym is ∙ t) in omega (arith, zero))),
     (λ same. absurd (apart (c ∷ cs) c (first_in c cs) puts gone same)),
   )
-
--- the table that is lent, or the new one
-pub now_routes : (s : AreaValue) (old new : List Route) (o : Option (List Route)) → HasRoutes s new → IsNow old new o → NowRoutes s old o
-now_routes s old new None routes is = subst (λ (t : List Route). HasRoutes s t) is routes
-now_routes s old new (Some t) routes is = (subst (λ (t : List Route). HasRoutes s t) (sym is.0) routes, (λ same. is.1 (sym is.0 ∙ same)))

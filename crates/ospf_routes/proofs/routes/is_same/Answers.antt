@@ -1,7 +1,7 @@
-use Rattle.std.proofs.Common.{◌≡◌, ◌==◌, ◌∙◌, List, ap, length}
+use Rattle.std.proofs.Common.{◌==◌, ◌∙◌, List, ap, length}
 use Rattle.ospf_spf.specs.declared.changes.Change.{Change}
-use Rattle.ospf_router.proofs.TableLemmas.{told_same}
-use Rattle.ospf_router.proofs.tables.is_same.Goals as goal
+use Rattle.ospf_routes.proofs.TableLemmas.{told_same}
+use Rattle.ospf_routes.proofs.routes.is_same.Goals as goal
 
 pub returns : goal.returns
 returns c =

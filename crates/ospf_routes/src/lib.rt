@@ -1,0 +1,7 @@
+//! The routes of a database (RFC 2328, section 16.1), kept as long as it lists the same LSAs.
+#![tactic(auto)]
+
+mod listed;
+mod routes;
+
+pub use crate::routes::KeptRoutes;
