@@ -1,0 +1,175 @@
+-- A whole call of a driver, from its turns.
+use Rattle.std.proofs.Common.{◌≡◌, ◌++◌, ◌+◌, ℕ, List, [], ◌∷◌, Option, Some, Ok, Err, option_map, take, refl, ap, sym, subst, ◌∙◌}
+use Rattle.std.proofs.lemmas.List.{append-nil}
+use Rattle.ospf_area.specs.Outputs.{SentValue}
+use Rattle.ospf_laws.specs.Step.{Event}
+use Rattle.ospf_published.specs.Known.{Known}
+use Rattle.ospf_router.specs.Routers.{stopped}
+use Rattle.ospf_router.specs.Steps.{Steps}
+use Rattle.ospf_drive.proofs.Going.{chain-append, events_done-append, events_of-append, goes-append, left_by-append, no_end-append, sent_by-append}
+use Rattle.ospf_drive.proofs.Turning.{events_of-some, not_end-of}
+use Rattle.ospf_drive.specs.Drives.{Ended, FailsToHear, FailsToPublish, FailsToSend, GoesOn, Stops, last_told}
+use Rattle.ospf_drive.specs.Moments.{Moment, Done, HasNoEnd, IsChain, event_of, events_done, events_of, sent_by, tables_of}
+use Rattle.ospf_drive.specs.Traffic.{Heard, Traffic, and_goes}
+use Rattle.ospf_drive.specs.Traffic.Heard.{End}
+use Rattle.ospf_drive.specs.Whole.{Whole, DrivesAreWhole}
+use Rattle.ospf_drive.specs.declared.fault.DriveFault.TheVariants as fault
+
+-- and then this arrival, and these datagrams
+goes_then : {a m : Moment} {t : Option Traffic} {told : Option Known} (x : GoesOn a m told) (h : Heard) (sent : List SentValue) → t ≡ option_map (and_goes (h ∷ []) sent) m.traffic → t ≡ option_map (and_goes (x.taken ++ h ∷ []) (sent_by x.steps ++ sent)) a.traffic
+goes_then {a} {m} {t} {told} x h sent goes =
+    goes ∙ ap (option_map (and_goes (h ∷ []) sent)) x.traffic ∙ goes-append x.taken (h ∷ []) (sent_by x.steps) sent a.traffic
+
+-- and then this arrival, and nothing is sent
+goes_quietly : {a m : Moment} {t : Option Traffic} {told : Option Known} (x : GoesOn a m told) (h : Heard) → t ≡ option_map (and_goes (h ∷ []) []) m.traffic → t ≡ option_map (and_goes (x.taken ++ h ∷ []) (sent_by x.steps)) a.traffic
+goes_quietly {a} {m} {t} {told} x h goes =
+    goes_then x h [] goes ∙ ap (λ s. option_map (and_goes (x.taken ++ h ∷ []) s) a.traffic) (append-nil (sent_by x.steps))
+
+-- and then nothing more
+goes_no_more : {a m : Moment} {t : Option Traffic} {told : Option Known} (x : GoesOn a m told) → t ≡ option_map (and_goes [] []) m.traffic → t ≡ option_map (and_goes x.taken (sent_by x.steps)) a.traffic
+goes_no_more {a} {m} {t} {told} x goes =
+    goes ∙ ap (option_map (and_goes [] [])) x.traffic ∙ goes-append x.taken [] (sent_by x.steps) [] a.traffic
+    ∙ ap (λ hs. option_map (and_goes hs (sent_by x.steps ++ [])) a.traffic) (append-nil x.taken)
+    ∙ ap (λ s. option_map (and_goes x.taken s) a.traffic) (append-nil (sent_by x.steps))
+
+-- the events with one more
+events_then : {a m : Moment} {told : Option Known} (x : GoesOn a m told) (h : Heard) (e : Event) → event_of m.router.links h ≡ Some e → events_done x.steps ++ e ∷ [] ≡ events_of a.router.links (x.taken ++ h ∷ [])
+events_then {a} {m} {told} x h e some =
+    ap (λ es. es ++ e ∷ []) x.events
+    ∙ ap (λ es. events_of a.router.links x.taken ++ es) (sym (events_of-some a.router.links h e (ap (λ n. event_of n h) (sym x.links) ∙ some)))
+    ∙ sym (events_of-append a.router.links x.taken (h ∷ []))
+
+-- the events with one more step
+steps_then : {a m : Moment} {told : Option Known} (x : GoesOn a m told) (h : Heard) (d : Done) → event_of m.router.links h ≡ Some d.event → events_done (x.steps ++ d ∷ []) ≡ events_of a.router.links (x.taken ++ h ∷ [])
+steps_then {a} {m} {told} x h d some = events_done-append x.steps (d ∷ []) ∙ events_then x h d.event some
+
+-- the chain with one more step
+chain_then : {a m : Moment} {told : Option Known} (x : GoesOn a m told) (d : Done) → Steps d.event m.router d.gives d.after → IsChain a.router (x.steps ++ d ∷ [])
+chain_then {a} {m} {told} x d steps =
+    chain-append a.router x.steps (d ∷ []) x.chain (subst (λ r. Steps d.event r d.gives d.after) x.router steps, tt)
+
+-- no end with one more arrival, which is an event
+no_end_then : {a m : Moment} {told : Option Known} (x : GoesOn a m told) (h : Heard) (e : Event) → event_of m.router.links h ≡ Some e → HasNoEnd (x.taken ++ h ∷ [])
+no_end_then {a} {m} {told} x h e some = no_end-append x.taken (h ∷ []) x.no_end (not_end-of m.router.links h e some, tt)
+
+well : {a m b : Moment} {told last : Option Known} → GoesOn a m told → Ended m b → last ≡ told → Whole a b (Ok last)
+well {a} {m} {b} {told} {last} x e is = record {
+  taken = x.taken ++ End ∷ [];
+  steps = x.steps;
+  out = sent_by x.steps;
+  tables = tables_of x.steps;
+  chain = x.chain;
+  traffic = goes_quietly x End e.traffic;
+  fib = ap (λ k. k.fib) e.known ∙ x.fib;
+  published = ap (λ k. k.tables) e.known ∙ x.tables;
+  ends = record {
+    ended = record { before = x.taken; no_end = x.no_end; is = refl };
+    events = x.events ∙ sym (append-nil (events_of a.router.links x.taken)) ∙ sym (events_of-append a.router.links x.taken (End ∷ []));
+    router = e.router ∙ x.router;
+    all_out = refl;
+    all_published = refl;
+    tells = is ∙ x.tells ∙ ap (λ k. last_told (tables_of x.steps) k) (sym e.known);
+    failed = e.failed ∙ x.failed;
+  };
+}
+
+unheard : {a m b : Moment} {told : Option Known} → GoesOn a m told → FailsToHear m b → Whole a b (Err fault.Recv)
+unheard {a} {m} {b} {told} x e = record {
+  taken = x.taken;
+  steps = x.steps;
+  out = sent_by x.steps;
+  tables = tables_of x.steps;
+  chain = x.chain;
+  traffic = goes_no_more x e.traffic;
+  fib = ap (λ k. k.fib) e.known ∙ x.fib;
+  published = ap (λ k. k.tables) e.known ∙ x.tables;
+  ends = record {
+    no_end = x.no_end;
+    events = x.events;
+    router = e.router ∙ x.router;
+    all_out = refl;
+    all_published = refl;
+    failed = e.failed ∙ ap (λ (n : ℕ). n + 1) x.failed;
+  };
+}
+
+unsent : {a m b : Moment} {told : Option Known} → GoesOn a m told → FailsToSend m b → Whole a b (Err fault.Send)
+unsent {a} {m} {b} {told} x e = record {
+  taken = x.taken ++ e.arrival ∷ [];
+  steps = x.steps ++ e.step ∷ [];
+  out = sent_by x.steps ++ take e.count e.step.gives.out.sent;
+  tables = tables_of x.steps;
+  chain = chain_then x e.step e.steps;
+  traffic = goes_then x e.arrival (take e.count e.step.gives.out.sent) e.traffic;
+  fib = ap (λ k. k.fib) e.known ∙ x.fib;
+  published = ap (λ k. k.tables) e.known ∙ x.tables;
+  ends = record {
+    before = x.steps;
+    last = e.step;
+    count = e.count;
+    is_last = record { is = refl };
+    no_end = no_end_then x e.arrival e.step.event e.event;
+    events = steps_then x e.arrival e.step e.event;
+    router = e.router ∙ sym (left_by-append a.router x.steps (e.step ∷ []));
+    short = e.short;
+    some_out = refl;
+    published = refl;
+    failed = e.failed ∙ ap (λ (n : ℕ). n + 1) x.failed;
+  };
+}
+
+stands_still : {a m b : Moment} {told : Option Known} → GoesOn a m told → Stops m b → Whole a b (Err fault.Stopped)
+stands_still {a} {m} {b} {told} x e = record {
+  taken = x.taken ++ e.arrival ∷ [];
+  steps = x.steps;
+  out = sent_by x.steps;
+  tables = tables_of x.steps;
+  chain = x.chain;
+  traffic = goes_quietly x e.arrival e.traffic;
+  fib = ap (λ k. k.fib) e.known ∙ x.fib;
+  published = ap (λ k. k.tables) e.known ∙ x.tables;
+  ends = record {
+    event = e.event;
+    no_end = no_end_then x e.arrival e.event e.is_event;
+    events = events_then x e.arrival e.event e.is_event;
+    router = e.router ∙ ap (λ r. stopped r) x.router;
+    all_out = refl;
+    all_published = refl;
+    failed = e.failed ∙ x.failed;
+  };
+}
+
+unpublished : {a m b : Moment} {told : Option Known} → GoesOn a m told → FailsToPublish m b → Whole a b (Err fault.Publish)
+unpublished {a} {m} {b} {told} x e = record {
+  taken = x.taken ++ e.arrival ∷ [];
+  steps = x.steps ++ e.step ∷ [];
+  out = sent_by (x.steps ++ e.step ∷ []);
+  tables = tables_of x.steps;
+  chain = chain_then x e.step e.steps;
+  traffic =
+      goes_then x e.arrival e.step.gives.out.sent e.traffic
+      ∙ ap (λ s. option_map (and_goes (x.taken ++ e.arrival ∷ []) s) a.traffic) (ap (λ s. sent_by x.steps ++ s) (sym (append-nil e.step.gives.out.sent)) ∙ sym (sent_by-append x.steps (e.step ∷ [])));
+  fib = ap (λ k. k.fib) e.known ∙ x.fib;
+  published = ap (λ k. k.tables) e.known ∙ x.tables;
+  ends = record {
+    before = x.steps;
+    last = e.step;
+    is_last = record { is = refl };
+    no_end = no_end_then x e.arrival e.step.event e.event;
+    events = steps_then x e.arrival e.step e.event;
+    router = e.router ∙ sym (left_by-append a.router x.steps (e.step ∷ []));
+    changed = e.changed;
+    all_out = refl;
+    published = refl;
+    failed = e.failed ∙ x.failed;
+  };
+}
+
+-- what a driver does turn by turn, as a whole
+pub whole : DrivesAreWhole
+whole a b (Ok last) d = well d.goes_on d.ends.0 d.ends.1
+whole a b (Err fault.Recv) d = unheard d.goes_on d.ends
+whole a b (Err fault.Send) d = unsent d.goes_on d.ends
+whole a b (Err fault.Stopped) d = stands_still d.goes_on d.ends
+whole a b (Err fault.Publish) d = unpublished d.goes_on d.ends
+whole a b (Err fault.Thread) d = absurd d.ends

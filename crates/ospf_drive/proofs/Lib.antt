@@ -1,0 +1,6 @@
+pub mod Sends
+pub mod Turning
+pub mod Going
+pub mod Jobs
+pub mod Flat
+pub mod Joined

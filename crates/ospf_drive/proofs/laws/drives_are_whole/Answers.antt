@@ -1,0 +1,5 @@
+use Rattle.ospf_drive.proofs.Flat.{whole}
+use Rattle.ospf_drive.proofs.laws.drives_are_whole.Goals as goal
+
+pub returns : goal.returns
+returns c = whole

@@ -1,0 +1,46 @@
+-- What comes of drivers in threads of their own.
+use Rattle.std.specs.Prelude.{⊤, ◌≡◌, ℕ, List, [], ◌∷◌, Option, Result, Ok, Err}
+use Rattle.ospf_published.specs.Known.{Known}
+use Rattle.ospf_router.specs.Routers.{RouterValue}
+use Rattle.ospf_drive.specs.Drives.{Drives}
+use Rattle.ospf_drive.specs.Moments.{Moment, at}
+use Rattle.ospf_drive.specs.Traffic.{Traffic}
+use Rattle.ospf_drive.specs.declared.fault.DriveFault.{DriveFault}
+use Rattle.ospf_drive.specs.declared.fault.DriveFault.TheVariants as fault
+
+-- a router, its writer, and what the last publish told; or why the driver ended
+abbrev pub Outcome : Type 0
+Outcome = Result (RouterValue × Known × Option Known) DriveFault
+
+-- the driver came to the end of what its wire handed over, with these
+pub record DrivesToEnd (a : Moment) (router : RouterValue) (known : Known) (told : Option Known) : Type 0 where
+  pub traffic : Option Traffic
+  pub failed : ℕ
+  pub drives : Drives a (at router traffic failed known) (Ok told)
+
+-- the driver ended before that
+pub record DrivesInto (a : Moment) (f : DriveFault) : Type 0 where
+  pub last : Moment
+  pub drives : Drives a last (Err f)
+
+-- what came of a driver that began there; nothing where its thread did not start
+abbrev pub IsDriven : Moment → Outcome → Type 0
+IsDriven a (Ok driven) = DrivesToEnd a driven.0 driven.1 driven.2
+IsDriven a (Err fault.Thread) = ⊤
+IsDriven a (Err f) = DrivesInto a f
+
+-- a driver that began there runs, or its thread did not start
+abbrev pub IsStarted : Moment → Result Moment DriveFault → Type 0
+IsStarted a (Ok begins) = begins ≡ a
+IsStarted a (Err f) = f ≡ fault.Thread
+
+-- what came of a thread
+abbrev pub IsJoined : Result Moment DriveFault → Outcome → Type 0
+IsJoined (Ok begins) outcome = IsDriven begins outcome
+IsJoined (Err f) outcome = outcome ≡ Err f
+
+-- each of the one list and its partner in the other, in order
+abbrev pub Pairs : {A B : Type 0} → (A → B → Type 0) → List A → List B → Type 0
+Pairs P [] [] = ⊤
+Pairs P (x ∷ xs) (y ∷ ys) = P x y × Pairs P xs ys
+Pairs P _ _ = ⊥

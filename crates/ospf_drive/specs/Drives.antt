@@ -1,0 +1,105 @@
+-- What a driver does.
+use Rattle.std.specs.Prelude.{◌≡◌, ◌+◌, ◌<◌, ◌++◌, ℕ, List, [], ◌∷◌, true, Option, None, Some, Result, Ok, Err, option_map, take, length}
+use Rattle.ospf_published.specs.Known.{Known, Table}
+use Rattle.ospf_area.specs.Outputs.{SentValue}
+use Rattle.ospf_laws.specs.Step.{Event}
+use Rattle.ospf_router.specs.Routers.{stopped}
+use Rattle.ospf_router.specs.Steps.{Steps}
+use Rattle.ospf_drive.specs.Moments.{Moment, Done, event_of, events_of, events_done, HasNoEnd, IsChain, left_by, sent_by, tables_of}
+use Rattle.ospf_drive.specs.Traffic.{Heard, and_goes}
+use Rattle.ospf_drive.specs.Traffic.Heard.{End}
+use Rattle.ospf_drive.specs.declared.fault.DriveFault.{DriveFault}
+use Rattle.ospf_drive.specs.declared.fault.DriveFault.TheVariants as fault
+
+-- the `Told` of the last publish: it knows all that the writer has published
+abbrev pub last_told : List Table → Known → Option Known
+last_told [] known = None
+last_told (table ∷ tables) known = Some known
+
+-- From one moment to the other the driver took arrivals that are no end. Each that is not passed over was a step of the
+-- router. All that the steps sent went out, in order, and each table that a step changed was published, in order.
+pub record GoesOn (a b : Moment) (told : Option Known) : Type 0 where
+  pub taken : List Heard
+  pub steps : List Done
+  pub no_end : HasNoEnd taken
+  pub events : events_done steps ≡ events_of a.router.links taken
+  pub chain : IsChain a.router steps
+  pub router : b.router ≡ left_by a.router steps
+  pub links : b.router.links ≡ a.router.links
+  pub traffic : b.traffic ≡ option_map (and_goes taken (sent_by steps)) a.traffic
+  pub failed : b.failed ≡ a.failed
+  pub fib : b.known.fib ≡ a.known.fib
+  pub tables : b.known.tables ≡ a.known.tables ++ tables_of steps
+  pub tells : told ≡ last_told (tables_of steps) b.known
+
+-- the arrivals taken and the datagrams sent are these and no others
+abbrev pub Goes : Moment → List Heard → List SentValue → Moment → Type 0
+Goes a taken out b = b.traffic ≡ option_map (and_goes taken out) a.traffic
+
+-- the end came, and nothing else
+pub record Ended (a b : Moment) : Type 0 where
+  pub router : b.router ≡ a.router
+  pub traffic : Goes a (End ∷ []) [] b
+  pub failed : b.failed ≡ a.failed
+  pub known : b.known ≡ a.known
+
+-- the wire handed over nothing, and failed
+pub record FailsToHear (a b : Moment) : Type 0 where
+  pub router : b.router ≡ a.router
+  pub traffic : Goes a [] [] b
+  pub failed : b.failed ≡ a.failed + 1
+  pub known : b.known ≡ a.known
+
+-- an arrival was a step, and the wire failed before all that it sent had gone out
+pub record FailsToSend (a b : Moment) : Type 0 where
+  pub arrival : Heard
+  pub step : Done
+  pub count : ℕ
+  pub event : event_of a.router.links arrival ≡ Some step.event
+  pub steps : Steps step.event a.router step.gives step.after
+  pub router : b.router ≡ step.after
+  pub short : count < length step.gives.out.sent
+  pub traffic : Goes a (arrival ∷ []) (take count step.gives.out.sent) b
+  pub failed : b.failed ≡ a.failed + 1
+  pub known : b.known ≡ a.known
+
+-- an arrival was an event at which the router stopped
+pub record Stops (a b : Moment) : Type 0 where
+  pub arrival : Heard
+  pub event : Event
+  pub is_event : event_of a.router.links arrival ≡ Some event
+  pub router : b.router ≡ stopped a.router
+  pub traffic : Goes a (arrival ∷ []) [] b
+  pub failed : b.failed ≡ a.failed
+  pub known : b.known ≡ a.known
+
+-- an arrival was a step that changed the table, all that it sent went out, and the table was not published
+pub record FailsToPublish (a b : Moment) : Type 0 where
+  pub arrival : Heard
+  pub step : Done
+  pub event : event_of a.router.links arrival ≡ Some step.event
+  pub steps : Steps step.event a.router step.gives step.after
+  pub changed : step.gives.table_changed ≡ true
+  pub router : b.router ≡ step.after
+  pub traffic : Goes a (arrival ∷ []) step.gives.out.sent b
+  pub failed : b.failed ≡ a.failed
+  pub known : b.known ≡ a.known
+
+-- how a driver's last turn ends
+abbrev pub Fails : Moment → Moment → DriveFault → Type 0
+Fails a b fault.Recv = FailsToHear a b
+Fails a b fault.Send = FailsToSend a b
+Fails a b fault.Stopped = Stops a b
+Fails a b fault.Publish = FailsToPublish a b
+Fails a b fault.Thread = ⊥
+
+abbrev pub Ends : Moment → Option Known → Moment → Result (Option Known) DriveFault → Type 0
+Ends a told b (Ok last) = Ended a b × (last ≡ told)
+Ends a told b (Err fault) = Fails a b fault
+
+-- The driver goes on, and then it ends.
+pub record Drives (a b : Moment) (result : Result (Option Known) DriveFault) : Type 0 where
+  pub last : Moment
+  pub told : Option Known
+  pub goes_on : GoesOn a last told
+  pub ends : Ends last told b result

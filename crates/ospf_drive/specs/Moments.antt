@@ -1,0 +1,78 @@
+-- Where a driver stands: the router, the wire and the writer.
+use Rattle.std.specs.Prelude.{◌≡◌, ◌++◌, ℕ, List, [], ◌∷◌, Bool, true, false, ◌&&◌, Option, None, Some, nat_lt, nat_le, if◌then◌else◌}
+use Rattle.ospf_published.specs.Known.{Known, Table}
+use Rattle.ospf_area.specs.Outputs.{SentValue}
+use Rattle.ospf_laws.specs.Step.{Event}
+use Rattle.ospf_router.specs.Routers.{RouterValue}
+use Rattle.ospf_router.specs.Steps.{Steps}
+use Rattle.ospf_router.specs.declared.router.Step.{Step}
+use Rattle.ospf_drive.specs.Traffic.{Heard, Traffic}
+use Rattle.ospf_drive.specs.Traffic.Heard.{Datagram, Tick, LinkUp, LinkDown, End}
+
+-- the router, the wire's traffic where it is told, how often the wire has failed, and what the writer has published
+pub record Moment : Type 0 where
+  pub router : RouterValue
+  pub traffic : Option Traffic
+  pub failed : ℕ
+  pub known : Known
+
+abbrev pub at : RouterValue → Option Traffic → ℕ → Known → Moment
+at router traffic failed known =
+    record { router = router; traffic = traffic; failed = failed; known = known }
+
+-- the event that an arrival is to a router of so many links. It is none, and is passed over, where there is no such
+-- link, and where the datagram is longer than the buffer
+abbrev pub event_of : ℕ → Heard → Option Event
+event_of links (Datagram link source destination length bytes) =
+    if nat_lt link links && nat_le length 16393 then Some (Event.Datagram link source destination bytes) else None
+event_of links Tick = Some Event.Tick
+event_of links (LinkUp link) = if nat_lt link links then Some (Event.LinkUp link) else None
+event_of links (LinkDown link) = if nat_lt link links then Some (Event.LinkDown link) else None
+event_of links End = None
+
+-- the events of arrivals, in order
+abbrev pub events_of : ℕ → List Heard → List Event
+events_of links [] = []
+events_of links (h ∷ hs) = elim (event_of links h) [ None ↦ events_of links hs | Some e ↦ e ∷ events_of links hs ]
+
+-- no arrival is an end
+abbrev pub is_end : Heard → Bool
+is_end End = true
+is_end _ = false
+
+abbrev pub HasNoEnd : List Heard → Type 0
+HasNoEnd [] = Unit {0}
+HasNoEnd (h ∷ hs) = (is_end h ≡ false) × HasNoEnd hs
+
+-- a step that was made: the event, what it gave, and the router after it
+pub record Done : Type 0 where
+  pub event : Event
+  pub gives : Step
+  pub after : RouterValue
+
+abbrev pub events_done : List Done → List Event
+events_done [] = []
+events_done (d ∷ ds) = d.event ∷ events_done ds
+
+-- each of them is a step of the router, from where the one before left it
+abbrev pub IsChain : RouterValue → List Done → Type 0
+IsChain old [] = Unit {0}
+IsChain old (d ∷ ds) = Steps d.event old d.gives d.after × IsChain d.after ds
+
+-- where they leave the router
+abbrev pub left_by : RouterValue → List Done → RouterValue
+left_by old [] = old
+left_by old (d ∷ ds) = left_by d.after ds
+
+-- what they send, in order
+abbrev pub sent_by : List Done → List SentValue
+sent_by [] = []
+sent_by (d ∷ ds) = d.gives.out.sent ++ sent_by ds
+
+-- the tables of those that changed the table, in order
+abbrev pub table_of : Done → List Table
+table_of d = if d.gives.table_changed then d.after.table ∷ [] else []
+
+abbrev pub tables_of : List Done → List Table
+tables_of [] = []
+tables_of (d ∷ ds) = table_of d ++ tables_of ds

@@ -1,0 +1,104 @@
+-- A whole call of a driver: the arrivals that it took, and one list of steps.
+use Rattle.std.specs.Prelude.{◌≡◌, ◌+◌, ◌<◌, ◌++◌, ℕ, List, [], ◌∷◌, true, Option, Result, Ok, Err, option_map, take, length}
+use Rattle.ospf_area.specs.Outputs.{SentValue}
+use Rattle.ospf_laws.specs.Step.{Event}
+use Rattle.ospf_published.specs.Known.{Known, Table}
+use Rattle.ospf_router.specs.Routers.{stopped}
+use Rattle.ospf_drive.specs.Drives.{Drives, last_told}
+use Rattle.ospf_drive.specs.Moments.{Moment, Done, HasNoEnd, IsChain, events_done, events_of, left_by, sent_by, tables_of}
+use Rattle.ospf_drive.specs.Traffic.{Heard, and_goes}
+use Rattle.ospf_drive.specs.Traffic.Heard.{End}
+use Rattle.ospf_drive.specs.declared.fault.DriveFault.{DriveFault}
+use Rattle.ospf_drive.specs.declared.fault.DriveFault.TheVariants as fault
+
+-- the last of them is an end, and no other
+pub record EndsInEnd (taken : List Heard) : Type 0 where
+  pub before : List Heard
+  pub no_end : HasNoEnd before
+  pub is : taken ≡ before ++ End ∷ []
+
+-- one came after the others
+pub record IsLast (steps before : List Done) (last : Done) : Type 0 where
+  pub is : steps ≡ before ++ last ∷ []
+
+-- the end came last: each arrival that is not passed over was a step, all that these sent went out, and each table that one
+-- of them changed was published. The last of these publishes is told
+pub record EndsWell (a b : Moment) (taken : List Heard) (steps : List Done) (out : List SentValue) (tables : List Table) (told : Option Known) : Type 0 where
+  pub ended : EndsInEnd taken
+  pub events : events_done steps ≡ events_of a.router.links taken
+  pub router : b.router ≡ left_by a.router steps
+  pub all_out : out ≡ sent_by steps
+  pub all_published : tables ≡ tables_of steps
+  pub tells : told ≡ last_told (tables_of steps) b.known
+  pub failed : b.failed ≡ a.failed
+
+-- the wire failed where it was to hand over the next arrival
+pub record EndsUnheard (a b : Moment) (taken : List Heard) (steps : List Done) (out : List SentValue) (tables : List Table) : Type 0 where
+  pub no_end : HasNoEnd taken
+  pub events : events_done steps ≡ events_of a.router.links taken
+  pub router : b.router ≡ left_by a.router steps
+  pub all_out : out ≡ sent_by steps
+  pub all_published : tables ≡ tables_of steps
+  pub failed : b.failed ≡ a.failed + 1
+
+-- the wire failed before all that the last step sent had gone out
+pub record EndsUnsent (a b : Moment) (taken : List Heard) (steps : List Done) (out : List SentValue) (tables : List Table) : Type 0 where
+  pub before : List Done
+  pub last : Done
+  pub count : ℕ
+  pub is_last : IsLast steps before last
+  pub no_end : HasNoEnd taken
+  pub events : events_done steps ≡ events_of a.router.links taken
+  pub router : b.router ≡ left_by a.router steps
+  pub short : count < length last.gives.out.sent
+  pub some_out : out ≡ sent_by before ++ take count last.gives.out.sent
+  pub published : tables ≡ tables_of before
+  pub failed : b.failed ≡ a.failed + 1
+
+-- the router stopped at the event that came after the steps
+pub record EndsStopped (a b : Moment) (taken : List Heard) (steps : List Done) (out : List SentValue) (tables : List Table) : Type 0 where
+  pub event : Event
+  pub no_end : HasNoEnd taken
+  pub events : events_done steps ++ event ∷ [] ≡ events_of a.router.links taken
+  pub router : b.router ≡ stopped (left_by a.router steps)
+  pub all_out : out ≡ sent_by steps
+  pub all_published : tables ≡ tables_of steps
+  pub failed : b.failed ≡ a.failed
+
+-- the last step changed the table, and this was not published
+pub record EndsUnpublished (a b : Moment) (taken : List Heard) (steps : List Done) (out : List SentValue) (tables : List Table) : Type 0 where
+  pub before : List Done
+  pub last : Done
+  pub is_last : IsLast steps before last
+  pub no_end : HasNoEnd taken
+  pub events : events_done steps ≡ events_of a.router.links taken
+  pub router : b.router ≡ left_by a.router steps
+  pub changed : last.gives.table_changed ≡ true
+  pub all_out : out ≡ sent_by steps
+  pub published : tables ≡ tables_of before
+  pub failed : b.failed ≡ a.failed
+
+abbrev pub EndsAs : Moment → Moment → List Heard → List Done → List SentValue → List Table → Result (Option Known) DriveFault → Type 0
+EndsAs a b taken steps out tables (Ok told) = EndsWell a b taken steps out tables told
+EndsAs a b taken steps out tables (Err fault.Recv) = EndsUnheard a b taken steps out tables
+EndsAs a b taken steps out tables (Err fault.Send) = EndsUnsent a b taken steps out tables
+EndsAs a b taken steps out tables (Err fault.Stopped) = EndsStopped a b taken steps out tables
+EndsAs a b taken steps out tables (Err fault.Publish) = EndsUnpublished a b taken steps out tables
+EndsAs a b taken steps out tables (Err fault.Thread) = ⊥
+
+-- From one moment to the other the driver took these arrivals, the router made these steps, one after another, these datagrams
+-- went out and these tables were published; and so it ended.
+pub record Whole (a b : Moment) (result : Result (Option Known) DriveFault) : Type 0 where
+  pub taken : List Heard
+  pub steps : List Done
+  pub out : List SentValue
+  pub tables : List Table
+  pub chain : IsChain a.router steps
+  pub traffic : b.traffic ≡ option_map (and_goes taken out) a.traffic
+  pub fib : b.known.fib ≡ a.known.fib
+  pub published : b.known.tables ≡ a.known.tables ++ tables
+  pub ends : EndsAs a b taken steps out tables result
+
+-- what a driver does turn by turn is that
+abbrev pub DrivesAreWhole : Type 0
+DrivesAreWhole = (a b : Moment) (result : Result (Option Known) DriveFault) → Drives a b result → Whole a b result

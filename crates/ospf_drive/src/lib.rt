@@ -1,0 +1,19 @@
+//! The driver of one router: arrivals of a wire are steps, what they send goes out, and a changed table is published.
+#![tactic(auto)]
+
+mod all;
+mod driver;
+mod fault;
+mod laws;
+mod memory;
+#[cfg(test)]
+mod tests;
+mod turn;
+mod wire;
+
+pub use crate::all::{Driven, Job, drive_all};
+pub use crate::driver::drive;
+pub use crate::fault::DriveFault;
+pub use crate::laws::drives_are_whole;
+pub use crate::memory::{MemoryWire, Scripted};
+pub use crate::wire::{Arrival, LONGEST, Wire, WireFault};

@@ -1,0 +1,117 @@
+//! One turn of a driver: one arrival, and all that follows from it.
+
+ghost use Rattle.std.specs.Prelude.{◌≡◌, ◌+◌, ◌<◌, ◌^◌, ◌∷◌, [], ℕ, IfOk, IfErr, OnOk, OnErr, IfSome, IfNone, Some, None, option_map, take, length};
+ghost use Rattle.ospf_step.specs.Events.{happening};
+ghost use Rattle.ospf_drive.specs.Traffic.{heard, and_sends};
+ghost use Rattle.ospf_drive.specs.Moments.{at, event_of};
+ghost use Rattle.ospf_drive.specs.Drives.{Fails};
+ghost use Rattle.ospf_drive.specs.Turns.{Turns};
+
+use crate::fault::DriveFault;
+use crate::wire::{Arrival, LONGEST, Wire, WireFault};
+use ospf_fib::{Told, Writer};
+use ospf_router::{Event, Router, Sent};
+use std::alloc::Global;
+use std::sync::Wait;
+
+/// What a turn came to.
+#[derive(Drop)]
+pub(crate) enum Course {
+    /// With what was told, where a table was published.
+    On(Option<Told>),
+    /// The end came.
+    Over,
+}
+
+// The event that an arrival is, unless it is passed over.
+fn event_at<'a>(router: &Router, arrival: Arrival, buffer: &'a [u8; LONGEST]) -> Option<Event<'a>>
+    ensures some { IfSome result (λ event. event_of router.now.links (heard arrival buffer.now) ≡ Some (happening event)) }
+    ensures none { IfNone result (event_of router.now.links (heard arrival buffer.now) ≡ None) }
+{
+    match arrival {
+        Arrival::Datagram {
+            link,
+            source,
+            destination,
+            length,
+        } => {
+            if router.has_link(link) && length <= LONGEST {
+                Some(Event::Datagram {
+                    link,
+                    source,
+                    destination,
+                    bytes: &buffer[..length],
+                })
+            } else {
+                None
+            }
+        }
+        Arrival::Tick => Some(Event::Tick),
+        Arrival::LinkUp { link } => {
+            if router.has_link(link) {
+                Some(Event::LinkUp { link })
+            } else {
+                None
+            }
+        }
+        Arrival::LinkDown { link } => {
+            if router.has_link(link) {
+                Some(Event::LinkDown { link })
+            } else {
+                None
+            }
+        }
+        Arrival::End => None,
+    }
+}
+
+// Sends them in order, up to a failure.
+fn send_all<W: Wire>(wire: &mut W, sent: &[Sent]) -> Result<(), WireFault>
+    requires { W.failed wire.old + 1 < 2 ^ 64 }
+    ensures out { OnOk result (W.traffic wire.new ≡ option_map (and_sends sent.now) (W.traffic wire.old)) }
+    ensures out_failures { OnOk result (W.failed wire.new ≡ W.failed wire.old) }
+    ensures some_out { OnErr result ((count : ℕ) × (count < length sent.now) × (W.traffic wire.new ≡ option_map (and_sends (take count sent.now)) (W.traffic wire.old))) }
+    ensures some_failures { OnErr result (W.failed wire.new ≡ W.failed wire.old + 1) }
+{
+    for one in sent {
+        wire.send(one)?;
+    }
+    Ok(())
+}
+
+// Waits for an arrival, has the router make a step of it, sends what that puts out, and publishes the table where it
+// changed.
+pub(crate) fn turn<W: Wire, R: Wait + Drop>(
+    alloc: Global,
+    router: &mut Router,
+    wire: &mut W,
+    writer: &mut Writer<R>,
+    buffer: &mut [u8; LONGEST],
+) -> Result<Course, DriveFault>
+    requires { W.failed wire.old + 1 < 2 ^ 64 }
+    ensures ok { IfOk result (Turns (at router.old (W.traffic wire.old) (W.failed wire.old) writer.old) (at router.new (W.traffic wire.new) (W.failed wire.new) writer.new)) }
+    ensures err { IfErr result (Fails (at router.old (W.traffic wire.old) (W.failed wire.old) writer.old) (at router.new (W.traffic wire.new) (W.failed wire.new) writer.new)) }
+{
+    let Ok(arrival) = wire.recv(buffer) else {
+        return Err(DriveFault::Recv);
+    };
+    if let Arrival::End = arrival {
+        return Ok(Course::Over);
+    }
+    let Some(event) = event_at(router, arrival, buffer) else {
+        return Ok(Course::On(None));
+    };
+    let Ok(step) = router.step(event, alloc) else {
+        return Err(DriveFault::Stopped);
+    };
+    let Ok(()) = send_all(wire, step.out.sent()) else {
+        return Err(DriveFault::Send);
+    };
+    if !step.table_changed {
+        return Ok(Course::On(None));
+    }
+    match writer.publish(router.table()) {
+        Ok(told) => Ok(Course::On(Some(told))),
+        Err(_) => Err(DriveFault::Publish),
+    }
+}

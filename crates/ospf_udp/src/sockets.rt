@@ -1,0 +1,238 @@
+//! The sockets of the links.
+
+use crate::fault::OpenFault;
+use crate::frame::{Frame, read_frame, write_frame};
+use crate::ticks::{Beat, Ticks};
+use mio::net::UdpSocket;
+use mio::{Events, Interest, Poll, Token};
+use ospf_config::{Config, Interface, Port};
+use ospf_drive::{Arrival, LONGEST};
+use ospf_router::Sent;
+use std::alloc::{AllocError, Global};
+use std::io::{self, ErrorKind};
+use std::net::{Ipv4Addr, Net, SocketAddr};
+use std::time::{Clock, Duration};
+
+// An interface that listens, and where what it sends goes to.
+#[derive(Drop)]
+struct Outlet {
+    socket: UdpSocket,
+    peers: Vec<Port>,
+}
+
+/// The sockets of a router's links, in the order of its interfaces, and its ticks.
+#[derive(Drop)]
+pub(crate) struct Sockets<C: Clock + Drop> {
+    poll: Poll,
+    events: Events,
+    outlets: Vec<Outlet>,
+    ticks: Ticks<C>,
+    // How many links have come up.
+    up: usize,
+    // The link that is read first.
+    first: usize,
+    // Whether a tick was the last to come: then the sockets are next, so that neither keeps the other waiting.
+    ticked: bool,
+    // What is sent.
+    datagram: Vec<u8>,
+}
+
+// What a socket gave.
+#[derive(Drop)]
+enum Found {
+    Nothing,
+    // A datagram that is passed over, or an interrupted call: there may be more.
+    Useless,
+    Packet(Frame),
+}
+
+// What the sockets gave.
+#[derive(Drop)]
+enum Looked {
+    Nothing,
+    Useless,
+    Arrived(Arrival),
+}
+
+// The address of a port on this machine.
+fn local(port: Port) -> SocketAddr {
+    SocketAddr::from((Ipv4Addr::LOCALHOST, port.number))
+}
+
+// The next datagram of a socket.
+fn receive(socket: &UdpSocket, buffer: &mut [u8; LONGEST]) -> io::Result<Found> {
+    match socket.recv_from(buffer) {
+        Ok((count, _)) => match read_frame(buffer, count) {
+            Some(frame) => Ok(Found::Packet(frame)),
+            None => Ok(Found::Useless),
+        },
+        Err(error) => match error.kind() {
+            ErrorKind::WouldBlock => Ok(Found::Nothing),
+            ErrorKind::Interrupted | ErrorKind::ConnectionRefused => Ok(Found::Useless),
+            _ => Err(error),
+        },
+    }
+}
+
+// The socket of a port, which the poll looks at.
+fn bind<N: Net>(net: &N, poll: &Poll, port: Port, token: usize) -> io::Result<UdpSocket> {
+    let mut socket = UdpSocket::bind(net, local(port))?;
+    poll.registry()
+        .register(&mut socket, Token(token), Interest::READABLE)?;
+    Ok(socket)
+}
+
+// The same ports, in memory of their own.
+fn copy_ports(alloc: Global, ports: &[Port]) -> Result<Vec<Port>, AllocError> {
+    ports.to_vec(alloc)
+}
+
+// An interface that listens.
+fn open_outlet<N: Net>(
+    net: &N,
+    alloc: Global,
+    poll: &Poll,
+    interface: &Interface,
+    token: usize,
+) -> Result<Outlet, OpenFault> {
+    let Some(port) = interface.port else {
+        return Err(OpenFault::NoPort);
+    };
+    let peers = copy_ports(alloc, &interface.peers)?;
+    match bind(net, poll, port, token) {
+        Ok(socket) => Ok(Outlet { socket, peers }),
+        Err(error) => Err(socket_fault(&error)),
+    }
+}
+
+// Why a socket could not be made.
+fn socket_fault(error: &io::Error) -> OpenFault {
+    match error.kind() {
+        ErrorKind::OutOfMemory => OpenFault::Memory,
+        _ => OpenFault::Socket,
+    }
+}
+
+impl<C: Clock + Drop> Sockets<C> {
+    /// Makes a socket for each interface.
+    pub(crate) fn open<N: Net>(
+        net: &N,
+        alloc: Global,
+        clock: C,
+        config: &Config,
+        period: Duration,
+        count: u64,
+    ) -> Result<Sockets<C>, OpenFault> {
+        let poll = match Poll::new(net) {
+            Ok(poll) => poll,
+            Err(error) => return Err(socket_fault(&error)),
+        };
+        let mut outlets = Vec::with_capacity(alloc, config.interfaces.len())?;
+        for interface in &config.interfaces {
+            let outlet = open_outlet(net, alloc, &poll, interface, outlets.len())?;
+            outlets.push(outlet).map_err(AllocError::from)?;
+        }
+        Ok(Sockets {
+            poll,
+            events: Events::with_capacity(alloc, 16)?,
+            outlets,
+            ticks: Ticks::new(clock, period, count),
+            up: 0,
+            first: 0,
+            ticked: false,
+            datagram: Vec::new(alloc),
+        })
+    }
+
+    // Looks at each socket once, from the one that is first.
+    fn look(&mut self, buffer: &mut [u8; LONGEST]) -> io::Result<Looked> {
+        let count = self.outlets.len();
+        for step in 0..count {
+            let link = self.first.wrapping_add(step) % count;
+            match receive(&self.outlets[link].socket, buffer)? {
+                Found::Nothing => {}
+                Found::Useless => return Ok(Looked::Useless),
+                Found::Packet(
+                    Frame {
+                        source,
+                        destination,
+                        length,
+                    },
+                ) => {
+                    self.first = link.wrapping_add(1) % count;
+                    return Ok(Looked::Arrived(Arrival::Datagram {
+                        link,
+                        source,
+                        destination,
+                        length,
+                    }));
+                }
+            }
+        }
+        Ok(Looked::Nothing)
+    }
+
+    // The next link that comes up, if one does.
+    fn next_up(&mut self) -> Option<Arrival> {
+        let link = self.up;
+        if link < self.outlets.len() {
+            self.up = link + 1;
+            Some(Arrival::LinkUp { link })
+        } else {
+            None
+        }
+    }
+
+    // The next tick, or what the sockets have; `None` where all is to be looked at again.
+    fn try_next(&mut self, buffer: &mut [u8; LONGEST]) -> io::Result<Option<Arrival>> {
+        let wait = match self.ticks.beat()? {
+            Beat::Over => return Ok(Some(Arrival::End)),
+            Beat::Due if !self.ticked => {
+                self.ticks.take()?;
+                self.ticked = true;
+                return Ok(Some(Arrival::Tick));
+            }
+            Beat::Due => None,
+            Beat::In(wait) => Some(wait),
+        };
+        self.ticked = false;
+        match (self.look(buffer)?, wait) {
+            (Looked::Arrived(arrival), _) => Ok(Some(arrival)),
+            (Looked::Nothing, Some(_)) => {
+                self.poll.poll(&mut self.events, wait)?;
+                Ok(None)
+            }
+            (Looked::Nothing, None) | (Looked::Useless, _) => Ok(None),
+        }
+    }
+
+    /// Waits for what comes next: first the links come up, then come ticks and datagrams, and after the last tick the end.
+    pub(crate) fn next_arrival(&mut self, buffer: &mut [u8; LONGEST]) -> io::Result<Arrival> {
+        if let Some(arrival) = self.next_up() {
+            return Ok(arrival);
+        }
+        for _ in 0..u64::MAX {
+            if let Some(arrival) = self.try_next(buffer)? {
+                return Ok(arrival);
+            }
+        }
+        Ok(Arrival::End)
+    }
+
+    /// Sends to each peer of the link. What finds no room or no listener is lost, as on any network.
+    pub(crate) fn send_to_peers(&mut self, sent: &Sent) -> io::Result<()> {
+        write_frame(&mut self.datagram, sent)?;
+        let Some(outlet) = self.outlets.get(sent.link) else {
+            return Ok(());
+        };
+        for peer in &outlet.peers {
+            if let Err(error) = outlet.socket.send_to(&self.datagram, local(*peer)) {
+                match error.kind() {
+                    ErrorKind::WouldBlock | ErrorKind::ConnectionRefused => {}
+                    _ => return Err(error),
+                }
+            }
+        }
+        Ok(())
+    }
+}

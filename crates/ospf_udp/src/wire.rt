@@ -1,0 +1,85 @@
+//! The wire.
+
+ghost use Rattle.std.specs.Prelude.{◌≡◌, IfOk};
+
+use crate::fault::OpenFault;
+use crate::sockets::Sockets;
+use ospf_config::Config;
+use ospf_drive::{Arrival, LONGEST, Wire, WireFault};
+use ospf_router::Sent;
+use std::alloc::Global;
+use std::marker::Model;
+use std::net::Net;
+use std::time::{Clock, Duration};
+
+/// A wire with one socket for each link, on 127.0.0.1. A datagram is the source address, the destination address and the packet;
+/// one that is shorter than the addresses, or longer than any packet, is passed over. First the links come up; a tick comes each
+/// period, and none is lost where a step was slow; after the last tick comes the end.
+///
+/// It waits by the system, and takes no processor while nothing comes. It does not tell its traffic: nobody can say what a socket
+/// carries.
+#[derive(Drop)]
+pub struct UdpWire<C: Clock + Drop> {
+    sockets: Sockets<C>,
+    failed: u64,
+}
+
+impl<C: Clock + Drop> Model for UdpWire<C> {
+    ghost use Rattle.ospf_udp.specs.Wires.{UdpValue};
+
+    ghost Value = { UdpValue };
+
+    ghost view = { λ w. record { failed = w.failed } };
+}
+
+impl<C: Clock + Drop> UdpWire<C> {
+    /// Makes a socket for each interface of a configuration: so many ticks, one a period, will come.
+    ///
+    /// `NoPort` where an interface has no port, `Socket` where a socket could not be made, and `Memory` where memory ran out; for
+    /// the first interface at which one of them holds.
+    pub fn open<N: Net>(
+        net: &N,
+        alloc: Global,
+        clock: C,
+        config: &Config,
+        period: Duration,
+        count: u64,
+    ) -> Result<UdpWire<C>, OpenFault>
+        ensures { IfOk result (λ wire. wire.failed ≡ 0) }
+    {
+        let sockets = Sockets::open(net, alloc, clock, config, period, count)?;
+        Ok(UdpWire { sockets, failed: 0 })
+    }
+}
+
+impl<C: Clock + Drop> Wire for UdpWire<C> {
+    ghost use Rattle.std.specs.Prelude.{None};
+
+    ghost traffic = { λ _. None };
+
+    ghost failed = { λ wire. wire.failed };
+
+    fn recv(&mut self, buffer: &mut [u8; LONGEST]) -> Result<Arrival, WireFault> {
+        match self.sockets.next_arrival(buffer) {
+            Ok(arrival) => Ok(arrival),
+            Err(_) => {
+                self.failed += 1;
+                Err(WireFault)
+            }
+        }
+    }
+
+    fn send(&mut self, sent: &Sent) -> Result<(), WireFault> {
+        match self.sockets.send_to_peers(sent) {
+            Ok(()) => Ok(()),
+            Err(_) => {
+                self.failed += 1;
+                Err(WireFault)
+            }
+        }
+    }
+
+    fn failures(&self) -> u64 {
+        self.failed
+    }
+}
