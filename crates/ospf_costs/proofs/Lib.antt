@@ -1,0 +1,2 @@
+pub mod LinkLists
+pub mod HopLinks

@@ -1,0 +1,3 @@
+pub mod StartFacts
+pub mod RunFacts
+pub mod SlotFacts

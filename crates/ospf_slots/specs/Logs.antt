@@ -1,0 +1,61 @@
+-- The logs of a world, and numbering runs.
+use Rattle.std.specs.Prelude.{◌≡◌, ◌++◌, ℕ, List, Option, None, Some, map, length, find, take, if◌then◌else◌}
+use Rattle.ospf_base.specs.Keys.{same_key}
+use Rattle.ospf_base.specs.declared.ids.Instance.{Instance}
+use Rattle.ospf_base.specs.declared.ids.LsaKey.{LsaKey}
+use Rattle.ospf_base.specs.declared.ids.RouterId.{RouterId}
+use Rattle.ospf_area.specs.Outputs.{OutputsValue, SentValue}
+use Rattle.ospf_headline.specs.declared.logs.Datagram.{Datagram}
+use Rattle.ospf_headline.specs.declared.logs.Holding.{Holding}
+use Rattle.ospf_headline.specs.declared.logs.Issued.{Issued}
+use Rattle.ospf_headline.specs.declared.logs.Run.{Run}
+use Rattle.ospf_lsa.specs.Lsa.{instance_of, key_of}
+use Rattle.ospf_lsdb.specs.Moments.{among}
+use Rattle.ospf_update.specs.Removal.{lowest_number}
+
+-- all datagrams ever sent, all LSAs ever issued, and who ever installed, issued or acknowledged which instance
+pub record LogsValue : Type 0 where
+  pub datagrams : List Datagram
+  pub issued : List Issued
+  pub held : List Holding
+
+-- ---- runs
+
+-- the first run, or else a later one
+abbrev pub run_or : Run → Option (LsaKey × Run) → Run
+run_or first None = first
+run_or first (Some e) = e.1
+
+-- the run that a key is in: its latest later one, or else the first
+abbrev pub run_in : Run → List (LsaKey × Run) → LsaKey → Run
+run_in first later key = run_or first (find (λ e. same_key e.0 key) later)
+
+-- the runs of the keys that ended begin again, named by how many LSAs are issued by now
+abbrev pub BeginAgain : ℕ → List LsaKey → List (LsaKey × Run) → List (LsaKey × Run) → Type 0
+BeginAgain name ended later later' = (first : Run) (key : LsaKey) → run_in first later' key ≡ (if among ended key then record { name = name; base = lowest_number } else run_in first later key)
+
+-- ---- what logs grow by
+
+abbrev pub sent_by : RouterId → SentValue → Datagram
+sent_by r s = record { router = r; sent = s }
+
+abbrev pub held_by : RouterId → Instance → Holding
+held_by r i = record { router = r; instance = i }
+
+abbrev pub holdings_by : RouterId → List ℕ → Holding
+holdings_by r lsa = record { router = r; instance = instance_of lsa }
+
+abbrev pub issued_in : Run → List (LsaKey × Run) → List ℕ → Issued
+issued_in first later lsa = record { lsa = lsa; run = run_in first later (key_of lsa) }
+
+-- the logs grow by exactly these outputs of router r, whose keys are in these runs
+pub record LogsTake (before after : LogsValue) (r : RouterId) (first : Run) (later : List (LsaKey × Run)) (out : OutputsValue) : Type 0 where
+  pub datagrams : after.datagrams ≡ before.datagrams ++ map (sent_by r) out.sent
+  pub issued : after.issued ≡ before.issued ++ map (issued_in first later) out.issued
+  pub held : after.held ≡ before.held ++ (map (held_by r) out.taken ++ map (holdings_by r) out.issued)
+
+-- the logs begin as they were
+pub record StillHave (before after : LogsValue) : Type 0 where
+  pub datagrams : take (length before.datagrams) after.datagrams ≡ before.datagrams
+  pub issued : take (length before.issued) after.issued ≡ before.issued
+  pub held : take (length before.held) after.held ≡ before.held

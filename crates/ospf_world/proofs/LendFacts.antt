@@ -1,0 +1,23 @@
+-- The router of a Router ID.
+use Rattle.std.proofs.Common.{◌≡◌, ◌∙◌, ℕ, Option, None, Some, sym, ap, Result, get_or, option_map, Bor, refl}
+use Rattle.std.proofs.lemmas.Option.{slice_get-get_or}
+use Rattle.ospf_base.specs.declared.ids.RouterId.{RouterId}
+use Rattle.ospf_headline.specs.World.{member}
+use Rattle.ospf_headline.specs.declared.event.WorldFault.{WorldFault}
+use Rattle.ospf_headline.specs.declared.event.WorldFault.TheVariants as fault
+use Rattle.ospf_router.specs.Routers.{RouterValue}
+use Rattle.ospf_slots.specs.Slots.{SlotValue, member_of}
+use Rattle.ospf_world.specs.Worlds.{Lends, LendsSlot, WorldValue, place_of, world_of}
+use Rattle.ospf_world.proofs.PlaceFacts.{at_within, not_placed, placed, slot_at}
+use Rattle.ospf_world.proofs.WorldFacts.{member-is}
+use Rattle.std.proofs.Common.{Err}
+
+was_at : (w : WorldValue) (r : RouterId) (k : ℕ) (s : SlotValue) → place_of w.slots r.0 ≡ Some k → s ≡ get_or w.slots k s → member (world_of w) r ≡ Some (member_of s)
+was_at w r k s at is = let i = placed w.slots r.0 k at in member-is w r ∙ ap (option_map member_of) (slot_at w.slots r.0 k s i (slice_get-get_or w.slots k s (at_within w.slots r.0 k i) ∙ ap (λ (s : SlotValue). Some s) (sym is))).0
+
+pub lends : (w : WorldValue) (r : RouterId) (k : ℕ) (s : SlotValue) (result : Result (Bor RouterValue) WorldFault) → place_of w.slots r.0 ≡ Some k → s ≡ get_or w.slots k s → LendsSlot s result → Lends (world_of w) r result
+lends w r k s result at is (LendsSlot.SlotRuns x ok lent) = Lends.Runs (member_of s) x (was_at w r k s at is) ok lent
+lends w r k s result at is (LendsSlot.SlotStopped none err) = Lends.NotRunning (member_of s) (was_at w r k s at is) none err
+
+pub none_at : (w : WorldValue) (r : RouterId) → place_of w.slots r.0 ≡ None → Lends (world_of w) r (Err fault.NoRouter)
+none_at w r none = Lends.NoRouter (member-is w r ∙ ap (option_map member_of) (not_placed w.slots r.0 0 none)) refl

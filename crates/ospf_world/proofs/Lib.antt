@@ -1,0 +1,11 @@
+pub mod PlaceFacts
+pub mod WorldFacts
+pub mod ComesFacts
+pub mod RunFacts
+pub mod LendFacts
+pub mod NewFacts
+pub mod ListFacts
+pub mod RandomFacts
+pub mod RoundFacts
+pub mod LegFacts
+pub mod WalkFacts

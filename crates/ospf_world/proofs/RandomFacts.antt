@@ -1,0 +1,133 @@
+-- What chance does to a world, as a list of events does it.
+use Rattle.std.proofs.Common.{◌≡◌, ◌<◌, ◌≤◌, ◌+◌, ◌-◌, ◌++◌, ℕ, zero, suc, Bool, true, false, List, [], ◌∷◌, Option, None, Some, Result, Ok, Err, map, length, is_some, slice_get, get_or, refl, sym, ap, subst, ◌∙◌, vec_len}
+use Rattle.std.specs.Prelude.{option_and_then}
+use Rattle.std.proofs.lemmas.List.{length-map}
+use Rattle.std.proofs.lemmas.Option.{slice_get-get_or}
+use Rattle.ospf_chance.specs.Draws.{chosen_of, drawn, drawn_for, drawn_in, words_from}
+use Rattle.ospf_chance.specs.declared.chance.Words.{Words}
+use Rattle.ospf_config.specs.declared.config.Config.{Config}
+use Rattle.ospf_headline.specs.declared.logs.Datagram.{Datagram}
+use Rattle.ospf_headline.specs.Runs.{is_memory}
+use Rattle.ospf_headline.proofs.RunFacts.{Runs-append}
+use Rattle.ospf_headline.specs.Headline.{IsReached}
+use Rattle.ospf_headline.specs.World.{Comes, Member, Runs, World}
+use Rattle.ospf_headline.specs.declared.event.WorldEvent.{WorldEvent}
+use Rattle.ospf_headline.specs.declared.event.WorldFault.{WorldFault}
+use Rattle.ospf_slots.specs.Slots.{SlotValue, member_of}
+use Rattle.ospf_step.specs.Drops.{is_dropped}
+use Rattle.ospf_world.specs.Random.{GoesOn, IsRandom, Meets}
+use Rattle.ospf_world.specs.Worlds.{SameSettings, WorldValue, world_of}
+use Rattle.ospf_world.proofs.ListFacts.{none_left, one_left}
+use Rattle.rand_pcg.specs.Lcg.{Lcg}
+
+-- ---- what is drawn
+
+members : (slots : List SlotValue) (i : ℕ) (s : SlotValue) → slice_get slots i ≡ Some s → slice_get (map member_of slots) i ≡ Some (member_of s)
+members [] i s is = absurd (cc)
+members (t ∷ slots) zero s is = let same : t ≡ s = cc in ap (λ (x : SlotValue). Some (member_of x)) same
+members (t ∷ slots) (suc i) s is = members slots i s is
+
+count_is : (slots : List SlotValue) → length (map member_of slots) ≡ length slots
+count_is slots = length-map slots member_of
+
+pub drawn_none : (words : Words) (w : WorldValue) → chosen_of words.router (length w.slots) ≡ None → drawn words (world_of w) ≡ None
+unfolding drawn
+drawn_none words w none =
+    ap (λ (n : ℕ). option_and_then (λ (place : ℕ). option_and_then (drawn_in words (length w.logs.datagrams)) (slice_get (map member_of w.slots) place)) (chosen_of words.router n)) (count_is w.slots)
+    ∙ ap (λ (o : Option ℕ). option_and_then (λ (place : ℕ). option_and_then (drawn_in words (length w.logs.datagrams)) (slice_get (map member_of w.slots) place)) o) none
+
+pub drawn_is : (words : Words) (w : WorldValue) (place : ℕ) (s : SlotValue) → chosen_of words.router (length w.slots) ≡ Some place → place < length w.slots → s ≡ get_or w.slots place s →
+    drawn words (world_of w) ≡ drawn_for words s.config.router_id (vec_len s.config.interfaces) (is_some s.running) (length w.logs.datagrams)
+unfolding drawn
+drawn_is words w place s chosen within at =
+    let get : slice_get w.slots place ≡ Some s = slice_get-get_or w.slots place s within ∙ ap (λ (x : SlotValue). Some x) (sym at) in
+    ap (λ (n : ℕ). option_and_then (λ (place : ℕ). option_and_then (drawn_in words (length w.logs.datagrams)) (slice_get (map member_of w.slots) place)) (chosen_of words.router n)) (count_is w.slots)
+    ∙ ap (λ (o : Option ℕ). option_and_then (λ (place : ℕ). option_and_then (drawn_in words (length w.logs.datagrams)) (slice_get (map member_of w.slots) place)) o) chosen
+    ∙ ap (λ (o : Option Member). option_and_then (drawn_in words (length w.logs.datagrams)) o) (members w.slots place s get)
+
+pub drawn_here : (words : Words) (w : WorldValue) (slots : List SlotValue) (place : ℕ) (s : SlotValue) (config : Config) (links : ℕ) (runs : Bool) (datagrams : List Datagram) →
+    slots ≡ w.slots → chosen_of words.router (length slots) ≡ Some place → place < length slots → s ≡ get_or slots place s → config ≡ s.config → links ≡ vec_len config.interfaces → runs ≡ is_some s.running → datagrams ≡ w.logs.datagrams →
+    drawn_for words config.router_id links runs (length datagrams) ≡ drawn words (world_of w)
+drawn_here words w slots place s config links runs datagrams slots_are chosen within at config_is links_are runs_is datagrams_are =
+    let links_of : links ≡ vec_len s.config.interfaces = links_are ∙ ap (λ (c : Config). vec_len c.interfaces) config_is in
+    ap (λ (c : Config). drawn_for words c.router_id links runs (length datagrams)) config_is
+    ∙ ap (λ (n : ℕ). drawn_for words s.config.router_id n runs (length datagrams)) links_of
+    ∙ ap (λ (b : Bool). drawn_for words s.config.router_id (vec_len s.config.interfaces) b (length datagrams)) runs_is
+    ∙ ap (λ (ds : List Datagram). drawn_for words s.config.router_id (vec_len s.config.interfaces) (is_some s.running) (length ds)) datagrams_are
+    ∙ sym (drawn_is words w place s (subst (λ (xs : List SlotValue). chosen_of words.router (length xs) ≡ Some place) slots_are chosen) (subst (λ (xs : List SlotValue). place < length xs) slots_are within) (subst (λ (xs : List SlotValue). s ≡ get_or xs place s) slots_are at))
+
+-- ---- what is met
+
+pub meets_taken : (o : Option WorldEvent) (e : WorldEvent) (answer : Result (Unit {0}) WorldFault) (w w' : World) → o ≡ Some e → Comes is_dropped e w answer w' → answer ≡ Ok tt → Meets o w (Ok tt) w'
+meets_taken o e answer w w' is comes ok = Meets.Takes e is (subst (λ (r : Result (Unit {0}) WorldFault). Comes is_dropped e w r w') ok comes) refl
+
+pub meets_passed : (o : Option WorldEvent) (e : WorldEvent) (answer : Result (Unit {0}) WorldFault) (f : WorldFault) (w w' : World) → o ≡ Some e → Comes is_dropped e w answer w' → answer ≡ Err f → is_memory f ≡ false → Meets o w (Ok tt) w'
+meets_passed o e answer f w w' is comes err none = Meets.Passes e f is (subst (λ (r : Result (Unit {0}) WorldFault). Comes is_dropped e w r w') err comes) none refl
+
+pub meets_ended : (o : Option WorldEvent) (e : WorldEvent) (answer : Result (Unit {0}) WorldFault) (f : WorldFault) (w w' : World) → o ≡ Some e → Comes is_dropped e w answer w' → answer ≡ Err f → is_memory f ≡ true → Meets o w (Err f) w'
+meets_ended o e answer f w w' is comes err memory = Meets.Ends e f is (subst (λ (r : Result (Unit {0}) WorldFault). Comes is_dropped e w r w') err comes) memory refl
+
+-- ---- one event after another
+
+-- the rest of the events is what is still to come
+abbrev pub Comes_to : ℕ → Lcg → World → ℕ → Lcg → World → Type 0
+Comes_to count g before left g' now = (result : Result (Unit {0}) WorldFault) (after : World) → IsRandom left g' now result after → IsRandom count g before result after
+
+pub random_more : (count i : ℕ) (g g' g'' : Lcg) (words : Words) (o : Option WorldEvent) (answer : Result (Unit {0}) WorldFault) (before now next : World) → i < count → (words, g'') ≡ words_from g' → o ≡ drawn words now →
+    Meets o now answer next → answer ≡ Ok tt → Comes_to count g before (count - i) g' now → Comes_to count g before (count - (i + 1)) g'' next
+random_more count i g g' g'' words o answer before now next within draws is meets ok comes = λ result after rest.
+    let words_are : words ≡ (words_from g').0 = ap (λ (p : Words × Lcg). p.0) draws in
+    let next_is : g'' ≡ (words_from g').1 = ap (λ (p : Words × Lcg). p.1) draws in
+    let event : o ≡ drawn (words_from g').0 now = is ∙ ap (λ (ws : Words). drawn ws now) words_are in
+    let part : Meets (drawn (words_from g').0 now) now (Ok tt) next = subst (λ (x : Option WorldEvent). Meets x now (Ok tt) next) event (subst (λ (r : Result (Unit {0}) WorldFault). Meets o now r next) ok meets) in
+    let more : IsRandom (count - (i + 1)) (words_from g').1 next result after = subst (λ (h : Lcg). IsRandom (count - (i + 1)) h next result after) next_is rest in
+    let all : IsRandom (suc (count - (i + 1))) g' now result after = GoesOn.Further next part more in
+    comes result after (subst (λ (n : ℕ). IsRandom n g' now result after) (sym (one_left count i within)) all)
+
+pub random_ends : (count i : ℕ) (g g' g'' : Lcg) (words : Words) (o : Option WorldEvent) (answer : Result (Unit {0}) WorldFault) (before now next : World) (f : WorldFault) → i < count → (words, g'') ≡ words_from g' → o ≡ drawn words now →
+    Meets o now answer next → answer ≡ Err f → Comes_to count g before (count - i) g' now → IsRandom count g before (Err f) next
+random_ends count i g g' g'' words o answer before now next f within draws is meets err comes =
+    let words_are : words ≡ (words_from g').0 = ap (λ (p : Words × Lcg). p.0) draws in
+    let event : o ≡ drawn (words_from g').0 now = is ∙ ap (λ (ws : Words). drawn ws now) words_are in
+    let part : Meets (drawn (words_from g').0 now) now (Err f) next = subst (λ (x : Option WorldEvent). Meets x now (Err f) next) event (subst (λ (r : Result (Unit {0}) WorldFault). Meets o now r next) err meets) in
+    let all : IsRandom (suc (count - (i + 1))) g' now (Err f) next = GoesOn.Ended f part refl in
+    comes (Err f) next (subst (λ (n : ℕ). IsRandom n g' now (Err f) next) (sym (one_left count i within)) all)
+
+pub random_done : (count i : ℕ) (g g' : Lcg) (before now : World) → count ≤ i → Comes_to count g before (count - i) g' now → IsRandom count g before (Ok tt) now
+random_done count i g g' before now all comes =
+    let rest : IsRandom zero g' now (Ok tt) now = (refl, refl) in
+    comes (Ok tt) now (subst (λ (n : ℕ). IsRandom n g' now (Ok tt) now) (sym (none_left count i all)) rest)
+
+-- ---- as a list of events
+
+abbrev pub LeadsOn : World → World → Type 0
+LeadsOn before after = (later : List WorldEvent) × Runs is_dropped later before after
+
+pub leads_nowhere : (w w' : World) → w' ≡ w → LeadsOn w w'
+leads_nowhere w w' same = ([], same)
+
+pub leads_further : (u v w : World) → LeadsOn u v → LeadsOn v w → LeadsOn u w
+leads_further u v w a b = (a.0 ++ b.0, Runs-append is_dropped a.0 b.0 u v w a.1 b.1)
+
+leads_once : (e : WorldEvent) (result : Result (Unit {0}) WorldFault) (w w' : World) → Comes is_dropped e w result w' → LeadsOn w w'
+leads_once e result w w' comes = (e ∷ [], (w', (result, comes), refl))
+
+meets_leads : (o : Option WorldEvent) (w w' : World) (answer : Result (Unit {0}) WorldFault) → Meets o w answer w' → LeadsOn w w'
+meets_leads o w w' answer (Meets.Nothing none ok same) = leads_nowhere w w' same
+meets_leads o w w' answer (Meets.Takes e is comes ok) = leads_once e (Ok tt) w w' comes
+meets_leads o w w' answer (Meets.Passes e f is comes none ok) = leads_once e (Err f) w w' comes
+meets_leads o w w' answer (Meets.Ends e f is comes memory err) = leads_once e (Err f) w w' comes
+
+pub random_leads : (count : ℕ) (g : Lcg) (w w' : World) (result : Result (Unit {0}) WorldFault) → IsRandom count g w result w' → LeadsOn w w'
+random_leads zero g w w' result same = leads_nowhere w w' same.0
+random_leads (suc count) g w w' result (GoesOn.Further mid part rest) =
+    leads_further w mid w' (meets_leads (drawn (words_from g).0 w) w mid (Ok tt) part) (random_leads count (words_from g).1 mid w' result rest)
+random_leads (suc count) g w w' result (GoesOn.Ended f part is) = meets_leads (drawn (words_from g).0 w) w w' (Err f) part
+
+-- a world that was reached leads to worlds that are
+pub reached_on : (w w' : World) → IsReached is_dropped w → LeadsOn w w' → IsReached is_dropped w'
+reached_on w w' reached leads =
+    (reached.0 ++ leads.0, record { start = reached.1.start; new = reached.1.new; runs = Runs-append is_dropped reached.0 leads.0 reached.1.start w w' reached.1.runs leads.1 })
+
+pub same_on : (w mid w' : WorldValue) → SameSettings w mid → SameSettings mid w' → SameSettings w w'
+same_on w mid w' a b = record { configs = b.configs ∙ a.configs; offered = b.offered ∙ a.offered }

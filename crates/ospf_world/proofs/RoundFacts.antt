@@ -1,0 +1,123 @@
+-- Rounds, as lists of events go over them.
+use Rattle.std.proofs.Common.{◌≡◌, ◌<◌, ◌≤◌, ◌+◌, ◌-◌, ℕ, zero, suc, Bool, true, false, List, None, Some, Result, Ok, Err, [], ◌∷◌, length, get_or, slice_get, refl, sym, ap, subst, ◌∙◌, arith}
+use Rattle.std.proofs.lemmas.Option.{slice_get-get_or}
+use Rattle.ospf_headline.proofs.RunLemmas.{run_happens}
+use Rattle.ospf_headline.specs.Runs.{IsRun}
+use Rattle.ospf_headline.specs.World.{World}
+use Rattle.ospf_headline.specs.declared.event.WorldEvent.{WorldEvent}
+use Rattle.ospf_headline.specs.declared.event.WorldFault.{WorldFault}
+use Rattle.ospf_headline.specs.declared.logs.Datagram.{Datagram}
+use Rattle.ospf_slots.specs.Slots.{SlotValue}
+use Rattle.ospf_step.specs.Drops.{is_dropped}
+use Rattle.ospf_world.specs.Rounds.{AreNextOffers, AreOffered, IsBehind, IsRound, OffersMore, OffersNext, most_offers, offers_of, ticks}
+use Rattle.ospf_world.specs.Worlds.{SameSettings, WorldValue, configs_of, world_of}
+use Rattle.ospf_world.proofs.ListFacts.{none_left, one_left}
+use Rattle.ospf_world.proofs.RandomFacts.{LeadsOn, leads_further, leads_nowhere}
+
+abbrev pub ComesTo : ℕ → WorldValue → ℕ → WorldValue → Type 0
+ComesTo most before left now = (result : Result (Unit {0}) WorldFault) (after : WorldValue) → AreOffered left now result after → AreOffered most before result after
+
+pub offered_more : (most i : ℕ) (before now next : WorldValue) (answer : Result Bool WorldFault) (b : Bool) → i < most → OffersNext now answer next → answer ≡ Ok b → b ≡ true → ComesTo most before (most - i) now → ComesTo most before (most - (i + 1)) next
+offered_more most i before now next answer b within part is so comes = λ result after rest.
+    let one : OffersNext now (Ok true) next = subst (λ (r : Result Bool WorldFault). OffersNext now r next) (is ∙ ap (λ (b : Bool). Ok b) so) part in
+    let all : AreOffered (suc (most - (i + 1))) now result after = OffersMore.More next one rest in
+    comes result after (subst (λ (n : ℕ). AreOffered n now result after) (sym (one_left most i within)) all)
+
+pub offered_last : (most i : ℕ) (before now next : WorldValue) (answer : Result Bool WorldFault) (b : Bool) → i < most → OffersNext now answer next → answer ≡ Ok b → b ≡ false → ComesTo most before (most - i) now → AreOffered most before (Ok tt) next
+offered_last most i before now next answer b within part is so comes =
+    let one : OffersNext now (Ok false) next = subst (λ (r : Result Bool WorldFault). OffersNext now r next) (is ∙ ap (λ (b : Bool). Ok b) so) part in
+    let all : AreOffered (suc (most - (i + 1))) now (Ok tt) next = OffersMore.Last one refl in
+    comes (Ok tt) next (subst (λ (n : ℕ). AreOffered n now (Ok tt) next) (sym (one_left most i within)) all)
+
+pub offered_ends : (most i : ℕ) (before now next : WorldValue) (answer : Result Bool WorldFault) (f : WorldFault) → i < most → OffersNext now answer next → answer ≡ Err f → ComesTo most before (most - i) now → AreOffered most before (Err f) next
+offered_ends most i before now next answer f within part is comes =
+    let one : OffersNext now (Err f) next = subst (λ (r : Result Bool WorldFault). OffersNext now r next) is part in
+    let all : AreOffered (suc (most - (i + 1))) now (Err f) next = OffersMore.Ended f one refl in
+    comes (Err f) next (subst (λ (n : ℕ). AreOffered n now (Err f) next) (sym (one_left most i within)) all)
+
+pub offered_done : (most i : ℕ) (before now : WorldValue) → most ≤ i → ComesTo most before (most - i) now → AreOffered most before (Ok tt) now
+offered_done most i before now all comes =
+    let rest : AreOffered zero now (Ok tt) now = (refl, refl) in
+    comes (Ok tt) now (subst (λ (n : ℕ). AreOffered n now (Ok tt) now) (sym (none_left most i all)) rest)
+
+-- ---- the next datagram
+
+past : (ds : List Datagram) (i : ℕ) → length ds ≤ i → slice_get ds i ≡ None
+past [] i all = refl
+past (d ∷ ds) zero all = absurd (omega arith)
+past (d ∷ ds) (suc i) all = past ds i (omega arith)
+
+pub next_none : (w : WorldValue) (ds : List Datagram) (place : ℕ) → ds ≡ w.logs.datagrams → place ≡ w.offered → length ds ≤ place → AreNextOffers w None
+next_none w ds place log at all =
+    AreNextOffers.NoneNext (ap (λ (n : ℕ). slice_get w.logs.datagrams n) (sym at) ∙ ap (λ (xs : List Datagram). slice_get xs place) (sym log) ∙ past ds place all) refl
+
+pub next_some : (w : WorldValue) (ds : List Datagram) (slots : List SlotValue) (place : ℕ) (g : Datagram) (events : List WorldEvent) → ds ≡ w.logs.datagrams → slots ≡ w.slots → place ≡ w.offered → place < length ds → g ≡ get_or ds place g → events ≡ offers_of slots place g → AreNextOffers w (Some events)
+next_some w ds slots place g events log are at within is offers =
+    let here : slice_get ds place ≡ Some g = slice_get-get_or ds place g within ∙ ap (λ (d : Datagram). Some d) (sym is) in
+    let there : slice_get w.logs.datagrams w.offered ≡ Some g = ap (λ (n : ℕ). slice_get w.logs.datagrams n) (sym at) ∙ ap (λ (xs : List Datagram). slice_get xs place) (sym log) ∙ here in
+    let all : events ≡ offers_of w.slots w.offered g = offers ∙ ap (λ (xs : List SlotValue). offers_of xs place g) are ∙ ap (λ (n : ℕ). offers_of w.slots n g) at in
+    AreNextOffers.Next g there (ap (λ (es : List WorldEvent). Some es) all)
+
+-- ---- what comes of one datagram
+
+-- one more counts as offered
+abbrev pub passed : WorldValue → WorldValue
+passed w = record { slots = w.slots; logs = w.logs; offered = w.offered + 1 }
+
+behind : (w v w' : WorldValue) → v ≡ passed w → SameSettings v w' → IsBehind w w'
+behind w v w' is same = record { configs = same.configs ∙ ap configs_of is; offered = same.offered ∙ ap (λ (x : WorldValue). x.offered) is }
+
+run_from : (w v w' : WorldValue) (events offers : List WorldEvent) (answer told : Result ℕ WorldFault) → v ≡ passed w → events ≡ offers → answer ≡ told → IsRun is_dropped events (world_of v) answer (world_of w') → IsRun is_dropped offers (world_of w) told (world_of w')
+run_from w v w' events offers answer told is same said run =
+    subst (λ (r : Result ℕ WorldFault). IsRun is_dropped offers (world_of w) r (world_of w')) said
+    (subst (λ (es : List WorldEvent). IsRun is_dropped es (world_of w) answer (world_of w')) same
+    (subst (λ (x : WorldValue). IsRun is_dropped events (world_of x) answer (world_of w')) is run))
+
+pub next_taken : (w v w' : WorldValue) (events : List WorldEvent) (answer : Result ℕ WorldFault) (refused : ℕ) → AreNextOffers w (Some events) → v ≡ passed w → IsRun is_dropped events (world_of v) answer (world_of w') → SameSettings v w' → answer ≡ Ok refused → OffersNext w (Ok true) w'
+next_taken w v w' events answer refused (AreNextOffers.NoneNext at is) was run same said = cc
+next_taken w v w' events answer refused (AreNextOffers.Next g at is) was run same said =
+    let events_are : events ≡ offers_of w.slots w.offered g = cc in
+    OffersNext.Offers g refused at (run_from w v w' events (offers_of w.slots w.offered g) answer (Ok refused) was events_are said run) (behind w v w' was same) refl
+
+pub next_ends : (w v w' : WorldValue) (events : List WorldEvent) (answer : Result ℕ WorldFault) (f : WorldFault) → AreNextOffers w (Some events) → v ≡ passed w → IsRun is_dropped events (world_of v) answer (world_of w') → SameSettings v w' → answer ≡ Err f → OffersNext w (Err f) w'
+next_ends w v w' events answer f (AreNextOffers.NoneNext at is) was run same said = cc
+next_ends w v w' events answer f (AreNextOffers.Next g at is) was run same said =
+    let events_are : events ≡ offers_of w.slots w.offered g = cc in
+    OffersNext.Ends g f at (run_from w v w' events (offers_of w.slots w.offered g) answer (Err f) was events_are said run) (behind w v w' was same) refl
+
+-- ---- what comes of a round
+
+most_is : 10000 ≡ most_offers
+unfolding most_offers
+most_is = refl
+
+run_ticks : (w : World) (slots : List SlotValue) (w' : World) (events : List WorldEvent) (answer told : Result ℕ WorldFault) → events ≡ ticks slots → answer ≡ told → IsRun is_dropped events w answer w' → IsRun is_dropped (ticks slots) w told w'
+run_ticks w slots w' events answer told same said run =
+    subst (λ (r : Result ℕ WorldFault). IsRun is_dropped (ticks slots) w r w') said (subst (λ (es : List WorldEvent). IsRun is_dropped es w answer w') same run)
+
+pub round_goes : (w mid w' : WorldValue) (events : List WorldEvent) (answer : Result ℕ WorldFault) (refused : ℕ) (result : Result (Unit {0}) WorldFault) → events ≡ ticks w.slots → IsRun is_dropped events (world_of w) answer (world_of mid) → answer ≡ Ok refused → SameSettings w mid → AreOffered 10000 mid result w' → IsRound w result w'
+round_goes w mid w' events answer refused result are run said same rest =
+    IsRound.Goes refused mid (run_ticks (world_of w) w.slots (world_of mid) events answer (Ok refused) are said run) same (subst (λ (n : ℕ). AreOffered n mid result w') most_is rest)
+
+pub round_ticks_end : (w w' : WorldValue) (events : List WorldEvent) (answer : Result ℕ WorldFault) (f : WorldFault) → events ≡ ticks w.slots → IsRun is_dropped events (world_of w) answer (world_of w') → answer ≡ Err f → SameSettings w w' → IsRound w (Err f) w'
+round_ticks_end w w' events answer f are run said same = IsRound.TicksEnd f (run_ticks (world_of w) w.slots (world_of w') events answer (Err f) are said run) same refl
+
+-- ---- as a list of events
+
+next_leads : (w w' : WorldValue) (answer : Result Bool WorldFault) → OffersNext w answer w' → LeadsOn (world_of w) (world_of w')
+next_leads w w' answer (OffersNext.NoneLeft none is same) = leads_nowhere (world_of w) (world_of w') (ap world_of same)
+next_leads w w' answer (OffersNext.NoRoom is same) = leads_nowhere (world_of w) (world_of w') (ap world_of same)
+next_leads w w' answer (OffersNext.Offers g n at run behind is) = run_happens is_dropped (offers_of w.slots w.offered g) (world_of w) (world_of w') (Ok n) run
+next_leads w w' answer (OffersNext.Ends g f at run behind is) = run_happens is_dropped (offers_of w.slots w.offered g) (world_of w) (world_of w') (Err f) run
+
+offered_leads : (most : ℕ) (w w' : WorldValue) (result : Result (Unit {0}) WorldFault) → AreOffered most w result w' → LeadsOn (world_of w) (world_of w')
+offered_leads zero w w' result same = leads_nowhere (world_of w) (world_of w') (ap world_of same.0)
+offered_leads (suc most) w w' result (OffersMore.Last part is) = next_leads w w' (Ok false) part
+offered_leads (suc most) w w' result (OffersMore.More mid part rest) = leads_further (world_of w) (world_of mid) (world_of w') (next_leads w mid (Ok true) part) (offered_leads most mid w' result rest)
+offered_leads (suc most) w w' result (OffersMore.Ended f part is) = next_leads w w' (Err f) part
+
+pub round_leads : (w w' : WorldValue) (result : Result (Unit {0}) WorldFault) → IsRound w result w' → LeadsOn (world_of w) (world_of w')
+round_leads w w' result (IsRound.NoRoom is same) = leads_nowhere (world_of w) (world_of w') (ap world_of same)
+round_leads w w' result (IsRound.TicksEnd f run same is) = run_happens is_dropped (ticks w.slots) (world_of w) (world_of w') (Err f) run
+round_leads w w' result (IsRound.Goes n mid run same rest) =
+    leads_further (world_of w) (world_of mid) (world_of w') (run_happens is_dropped (ticks w.slots) (world_of w) (world_of mid) (Ok n) run) (offered_leads most_offers mid w' result rest)

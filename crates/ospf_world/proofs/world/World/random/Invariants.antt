@@ -1,0 +1,10 @@
+use Rattle.std.proofs.Common.{◌-◌}
+use Rattle.ospf_world.proofs.RandomFacts.{Comes_to}
+use Rattle.ospf_world.specs.Worlds.{SameSettings, world_of}
+use Rattle.ospf_world.proofs.world.World.random.Given as goal
+
+abbrev pub invariant-loop-i : goal.invariant-loop-i
+invariant-loop-i l = record {
+  comes : Comes_to l.count l.initial.generator (world_of l.initial.self) (l.count - l.i) l.generator (world_of l.self);
+  same : SameSettings l.initial.self l.self;
+}

@@ -1,0 +1,20 @@
+use Rattle.std.proofs.Common.{refl, ◌∷◌, []}
+use Rattle.ospf_step.specs.Drops.{is_dropped}
+use Rattle.ospf_world.specs.Worlds.{world_of}
+use Rattle.ospf_world.proofs.ComesFacts.{reaches}
+use Rattle.ospf_world.proofs.world.World.step.Goals as goal
+
+pub invariant_of-self : goal.invariant_of-self
+invariant_of-self c = reaches c.args.event _ _ c.step.result c.step.ensures.comes c.self.invariant
+
+pub returns-clause-comes : goal.returns-clause-comes
+returns-clause-comes c = rw (← c.self.view_is) c.step.ensures.comes
+
+pub returns-clause-reached : goal.returns-clause-reached
+returns-clause-reached c = reaches c.args.event _ _ c.step.result c.step.ensures.comes c.self.invariant
+
+pub returns-clause-headline : goal.returns-clause-headline
+returns-clause-headline c = rw (← c.self.view_is) (c.headline.ensures is_dropped (c.args.event ∷ []) _ _ c.self.invariant (world_of c.step.new.self, (c.step.result, c.step.ensures.comes), refl))
+
+pub returns-clause-sound : goal.returns-clause-sound
+returns-clause-sound c = rw (← c.self.view_is) (c.soundness.ensures is_dropped c.args.event _ _ c.self.invariant (c.step.result, c.step.ensures.comes))

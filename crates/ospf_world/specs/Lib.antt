@@ -1,0 +1,4 @@
+pub mod Worlds
+pub mod Random
+pub mod Rounds
+pub mod Walks

@@ -1,0 +1,86 @@
+-- Rounds: a tick of each router that runs, and then the datagrams that no round has offered.
+use Rattle.std.specs.Prelude.{◌≡◌, ◌==◌, ◌+◌, ◌&&◌, ℕ, zero, suc, Bool, true, false, not, List, [], ◌∷◌, Option, None, Some, Result, Ok, Err, find, is_some, option_and_then, slice_get, if◌then◌else◌}
+use Rattle.std.specs.List.{flat_map}
+use Rattle.ospf_chance.specs.Offers.{address_at, offers_to}
+use Rattle.ospf_config.specs.declared.address.InterfaceAddress.{InterfaceAddress}
+use Rattle.ospf_headline.specs.Runs.{IsRun}
+use Rattle.ospf_headline.specs.declared.event.WorldEvent.{WorldEvent}
+use Rattle.ospf_headline.specs.declared.event.WorldEvent.TheVariants.{Tick}
+use Rattle.ospf_headline.specs.declared.event.WorldFault.{WorldFault}
+use Rattle.ospf_headline.specs.declared.event.WorldFault.TheVariants as fault
+use Rattle.ospf_headline.specs.declared.logs.Datagram.{Datagram}
+use Rattle.ospf_slots.specs.Slots.{SlotValue}
+use Rattle.ospf_step.specs.Drops.{is_dropped}
+use Rattle.ospf_world.specs.Worlds.{SameSettings, WorldValue, configs_of, world_of}
+
+-- ---- which events
+
+-- the tick of a router that runs
+unfoldable pub tick_of : SlotValue → List WorldEvent
+tick_of s = if is_some s.running then Tick s.config.router_id ∷ [] else []
+
+-- the ticks of a round, in the order of the configurations
+abbrev pub ticks : List SlotValue → List WorldEvent
+ticks slots = flat_map tick_of slots
+
+-- the router sent the datagram
+abbrev pub is_sender : Datagram → SlotValue → Bool
+is_sender g s = s.config.router_id.0 == g.router.0
+
+-- the address of the interface that a datagram went out of
+unfoldable pub sender_in : List SlotValue → Datagram → Option InterfaceAddress
+sender_in slots g = option_and_then (λ s. address_at s.config g.sent.link) (find (is_sender g) slots)
+
+-- what a router is offered of a datagram that another one sent, where it runs
+unfoldable pub offers_at : ℕ → InterfaceAddress → Datagram → SlotValue → List WorldEvent
+offers_at d from g s = if is_some s.running && not (is_sender g s) then offers_to d from g.sent.destination s.config else []
+
+abbrev pub offers_by : ℕ → Datagram → List SlotValue → Option InterfaceAddress → List WorldEvent
+offers_by d g slots None = []
+offers_by d g slots (Some from) = flat_map (offers_at d from g) slots
+
+-- the offers of datagram d, in the order of the configurations
+abbrev pub offers_of : List SlotValue → ℕ → Datagram → List WorldEvent
+offers_of slots d g = offers_by d g slots (sender_in slots g)
+
+-- the offers of the next datagram, if there is one
+pub data AreNextOffers (w : WorldValue) (next : Option (List WorldEvent)) : Type 0 where
+  NoneNext : slice_get w.logs.datagrams w.offered ≡ None → next ≡ None → AreNextOffers w next
+  Next : (g : Datagram) → slice_get w.logs.datagrams w.offered ≡ Some g → next ≡ Some (offers_of w.slots w.offered g) → AreNextOffers w next
+
+-- ---- what comes of them
+
+-- one more datagram counts as offered
+pub record IsBehind (before after : WorldValue) : Type 0 where
+  pub configs : configs_of after ≡ configs_of before
+  pub offered : after.offered ≡ before.offered + 1
+
+-- the next datagram that no round has offered is offered, if there is one: refusals are passed over, and memory that runs out ends
+-- it. The datagram then counts as offered, but where there was no memory for the list of its offers
+pub data OffersNext (before : WorldValue) (answer : Result Bool WorldFault) (after : WorldValue) : Type 0 where
+  NoneLeft : slice_get before.logs.datagrams before.offered ≡ None → answer ≡ Ok false → after ≡ before → OffersNext before answer after
+  NoRoom : answer ≡ Err (fault.Memory false) → after ≡ before → OffersNext before answer after
+  Offers : (g : Datagram) (refused : ℕ) → slice_get before.logs.datagrams before.offered ≡ Some g → IsRun is_dropped (offers_of before.slots before.offered g) (world_of before) (Ok refused) (world_of after) → IsBehind before after → answer ≡ Ok true → OffersNext before answer after
+  Ends : (g : Datagram) (f : WorldFault) → slice_get before.logs.datagrams before.offered ≡ Some g → IsRun is_dropped (offers_of before.slots before.offered g) (world_of before) (Err f) (world_of after) → IsBehind before after → answer ≡ Err f → OffersNext before answer after
+
+-- it goes on with the rest as long as there is a next one
+pub data OffersMore (Next : Result Bool WorldFault → WorldValue → Type 0) (Rest : WorldValue → Result (Unit {0}) WorldFault → WorldValue → Type 0) (result : Result (Unit {0}) WorldFault) (after : WorldValue) : Type 0 where
+  Last : Next (Ok false) after → result ≡ Ok tt → OffersMore Next Rest result after
+  More : (mid : WorldValue) → Next (Ok true) mid → Rest mid result after → OffersMore Next Rest result after
+  Ended : (f : WorldFault) → Next (Err f) after → result ≡ Err f → OffersMore Next Rest result after
+
+-- so many datagrams at most
+abbrev pub AreOffered : ℕ → WorldValue → Result (Unit {0}) WorldFault → WorldValue → Type 0
+AreOffered zero before result after = (after ≡ before) × (result ≡ Ok tt)
+AreOffered (suc most) before result after = OffersMore (OffersNext before) (AreOffered most) result after
+
+-- how many datagrams a round offers at most
+unfoldable pub most_offers : ℕ
+most_offers = 10000
+
+-- a round: the ticks, and then the datagrams that no round has offered, with those that arise on the way. Refusals are passed over, and
+-- memory that runs out ends it, that for the list of ticks before anything is done
+pub data IsRound (before : WorldValue) (result : Result (Unit {0}) WorldFault) (after : WorldValue) : Type 0 where
+  NoRoom : result ≡ Err (fault.Memory false) → after ≡ before → IsRound before result after
+  TicksEnd : (f : WorldFault) → IsRun is_dropped (ticks before.slots) (world_of before) (Err f) (world_of after) → SameSettings before after → result ≡ Err f → IsRound before result after
+  Goes : (refused : ℕ) (mid : WorldValue) → IsRun is_dropped (ticks before.slots) (world_of before) (Ok refused) (world_of mid) → SameSettings before mid → AreOffered most_offers mid result after → IsRound before result after

@@ -1,0 +1,14 @@
+//! Worlds: many routers, started, stopped and stepped by events, and the logs of all that they sent, issued and held.
+#![tactic(auto)]
+
+mod parts;
+mod random;
+mod rounds;
+#[cfg(test)]
+mod tests;
+mod walk;
+mod world;
+
+pub use crate::walk::Walk;
+pub use crate::world::World;
+pub use ospf_slots::{Datagram, Holding, Issued, Logs, Run, Slot, WorldEvent, WorldFault};

@@ -1,0 +1,157 @@
+//! Many routers and their logs, before anything is said of what led there.
+
+ghost use Rattle.std.specs.Prelude.{◌≡◌, ◌<◌, ◌+◌, Some, length, slice_get, slice_set};
+ghost use Rattle.ospf_slots.specs.Slots.{SlotSteps, SlotValue, router_in};
+ghost use Rattle.ospf_step.specs.Drops.{is_dropped};
+ghost use Rattle.ospf_headline.specs.World.{Comes};
+ghost use Rattle.ospf_world.specs.Worlds.{Adds, Lends, LendsSlot, Opens, SameSettings, place_in, world_of};
+
+use ospf_base::RouterId;
+use ospf_config::Config;
+use ospf_router::Router;
+use ospf_slots::{Logs, Slot, WorldEvent, WorldFault};
+use std::alloc::Global;
+use std::collections::BTreeMap;
+use std::marker::Model;
+
+/// Many routers, and the logs of all that they sent, issued and held.
+#[derive(Drop)]
+pub(crate) struct Parts {
+    pub(crate) slots: Vec<Slot>,
+    // Where the router of a Router ID stands among the slots.
+    places: BTreeMap<u32, usize>,
+    pub(crate) logs: Logs,
+    // How many datagrams the rounds have offered.
+    pub(crate) offered: usize,
+}
+
+impl Model for Parts {
+    ghost use Rattle.ospf_world.specs.Worlds.{ArePlaces, WorldValue};
+
+    ghost Value = { WorldValue };
+
+    ghost view = { λ w. record { slots = w.slots.items; logs = w.logs; offered = w.offered } };
+
+    ghost invariant = { λ w. ArePlaces w.places w.slots.items };
+}
+
+// The router that an event is at.
+fn router_of(event: &WorldEvent) -> RouterId
+    ensures { result ≡ router_in event.now }
+{
+    match event {
+        WorldEvent::Start { router, .. } => *router,
+        WorldEvent::Stop { router } => *router,
+        WorldEvent::Tick { router } => *router,
+        WorldEvent::LinkUp { router, .. } => *router,
+        WorldEvent::LinkDown { router, .. } => *router,
+        WorldEvent::Deliver { router, .. } => *router,
+    }
+}
+
+// Where the router stands.
+fn place(places: &BTreeMap<u32, usize>, router: RouterId) -> Option<usize>
+    ensures { result ≡ place_in places.now router.0 }
+{
+    match places.get(&router.0) {
+        Some(place) => Some(*place),
+        None => None,
+    }
+}
+
+// A slot for a further router.
+fn add(
+    slots: &mut Vec<Slot>,
+    places: &mut BTreeMap<u32, usize>,
+    config: Config,
+) -> Result<(), WorldFault>
+    ensures { Adds config slots.old.items places.old result slots.new.items places.new }
+{
+    let router = config.router_id;
+    if place(places, router).is_some() {
+        return Err(WorldFault::SameRouter);
+    }
+    if places.insert(router.0, slots.len()).is_err() {
+        return Err(WorldFault::Memory { stopped: false });
+    }
+    if slots.push(Slot::new(config)).is_err() {
+        return Err(WorldFault::Memory { stopped: false });
+    }
+    Ok(())
+}
+
+// What an event comes to at the slot at a place.
+fn step_at(
+    slots: &mut Vec<Slot>,
+    place: usize,
+    event: &WorldEvent,
+    logs: &mut Logs,
+    alloc: Global,
+) -> Result<(), WorldFault>
+    requires { place < length slots.old.items }
+    ensures { (before : SlotValue) → slice_get slots.old.items place ≡ Some before → (after : SlotValue) × (slots.new.items ≡ slice_set slots.old.items place after) × SlotSteps event.now before logs.old result after logs.new }
+{
+    let slot = &mut slots[place];
+    slot.step(event, logs, alloc)
+}
+
+// The router of a slot, where it runs.
+fn running(slot: &Slot) -> Result<&Router, WorldFault>
+    ensures { LendsSlot slot.now result }
+{
+    match slot.router() {
+        Some(router) => Ok(router),
+        None => Err(WorldFault::NotRunning),
+    }
+}
+
+impl Parts {
+    /// Routers so configured, of which none runs.
+    ///
+    /// `WorldFault::SameRouter` where two share a Router ID; `WorldFault::Memory` where memory runs out.
+    pub(crate) fn new(configs: Vec<Config>, alloc: Global) -> Result<Parts, WorldFault>
+        ensures { Opens configs.items result }
+    {
+        let mut slots = Vec::new(alloc);
+        let mut places = BTreeMap::new(alloc);
+        for config in configs {
+            add(&mut slots, &mut places, config)?;
+        }
+        Ok(Parts {
+            slots,
+            places,
+            logs: Logs::new(alloc),
+            offered: 0,
+        })
+    }
+
+    /// The router, where it runs.
+    pub(crate) fn router(&self, router: RouterId) -> Result<&Router, WorldFault>
+        ensures { Lends (world_of self.now) router result }
+    {
+        match place(&self.places, router) {
+            Some(place) => running(&self.slots[place]),
+            None => Err(WorldFault::NoRouter),
+        }
+    }
+
+    /// What an event comes to.
+    pub(crate) fn step(&mut self, event: &WorldEvent, alloc: Global) -> Result<(), WorldFault>
+        ensures comes { Comes is_dropped event.now (world_of self.old) result (world_of self.new) }
+        ensures same { SameSettings self.old self.new }
+    {
+        match place(&self.places, router_of(event)) {
+            Some(place) => step_at(&mut self.slots, place, event, &mut self.logs, alloc),
+            None => Err(WorldFault::NoRouter),
+        }
+    }
+
+    /// One more datagram counts as offered.
+    pub(crate) fn pass_one(&mut self)
+        requires { self.old.offered < length self.old.logs.datagrams }
+        ensures { self.new ≡ record self.old { offered = self.old.offered + 1 } }
+    {
+        let _sent = self.logs.datagrams().len();
+        self.offered += 1;
+    }
+}

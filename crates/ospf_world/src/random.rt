@@ -1,0 +1,90 @@
+//! What chance does to a world.
+
+ghost use Rattle.std.specs.Prelude.{◌≡◌, ℕ, Some};
+ghost use Rattle.ospf_chance.specs.Draws.{drawn};
+ghost use Rattle.ospf_headline.specs.Headline.{Headline, IsReached};
+ghost use Rattle.ospf_headline.specs.Runs as runs;
+ghost use Rattle.ospf_step.specs.Drops.{is_dropped};
+ghost use Rattle.ospf_world.specs.Random.{IsRandom, Meets};
+ghost use Rattle.ospf_world.specs.Worlds.{SameSettings, world_of};
+ghost use Rattle.rand_pcg.specs.Lcg.{increment_of, started};
+ghost use Rattle.rand_pcg.specs.Pcg.{multiplier_64};
+
+use crate::world::World;
+use ospf_chance::{Words, chosen, draw, drawn_at};
+use ospf_headline::{WorldEvent, WorldFault, headline};
+use rand_pcg::Lcg64Xsh32;
+use std::alloc::Global;
+
+impl World {
+    // The event that these words draw, if they draw one.
+    fn draw_event(&self, words: &Words) -> Option<WorldEvent>
+        ensures { result ≡ drawn words.now (world_of self.now) }
+    {
+        let slots = self.slots();
+        let place = chosen(words.router, slots.len())?;
+        let slot = &slots[place];
+        let config = slot.config();
+        drawn_at(
+            words,
+            config.router_id,
+            config.interfaces.len(),
+            slot.runs(),
+            self.datagrams().len(),
+        )
+    }
+
+    // Meets an event, where there is one: passes over a refusal, unless memory ran out.
+    fn meet(&mut self, event: Option<WorldEvent>, alloc: Global) -> Result<(), WorldFault>
+        ensures meets { Meets event (world_of self.old) result (world_of self.new) }
+        ensures same { SameSettings self.old self.new }
+    {
+        let Some(event) = event else {
+            return Ok(());
+        };
+        match self.step(event, alloc) {
+            Ok(()) => Ok(()),
+            Err(fault) => { if is_memory(fault) { Err(fault) } else { Ok(()) } }
+        }
+    }
+
+    /// So many events by chance, one after another: four words of the generator of this number draw each, in the world as it
+    /// then is. One that is refused is passed over.
+    ///
+    /// `Memory` where memory runs out, which ends it.
+    pub fn random(&mut self, number: u64, count: u64, alloc: Global) -> Result<(), WorldFault>
+        ensures random { IsRandom count (started 64 multiplier_64 number (increment_of 64 0)) (world_of self.old) result (world_of self.new) }
+        ensures same { SameSettings self.old self.new }
+        ensures reached { IsReached is_dropped (world_of self.new) }
+        ensures headline { Headline (world_of self.old) (world_of self.new) }
+    {
+        headline();
+        self.reached();
+        let mut generator = Lcg64Xsh32::new(number, 0);
+        for i in 0..count {
+            let words = draw(&mut generator);
+            let event = self.draw_event(&words);
+            match self.meet(event, alloc) {
+                Ok(()) => {}
+                Err(fault) => return Err(fault),
+            }
+        }
+        Ok(())
+    }
+}
+
+// Whether memory ran out.
+fn is_memory(fault: WorldFault) -> bool
+    ensures { result ≡ runs.is_memory fault }
+{
+    match fault {
+        WorldFault::Memory { .. } => true,
+        WorldFault::NoRouter
+        | WorldFault::NoDatagram
+        | WorldFault::NoLink
+        | WorldFault::Running
+        | WorldFault::NotRunning
+        | WorldFault::SameRouter
+        | WorldFault::Floor => false,
+    }
+}

@@ -1,0 +1,210 @@
+//! Walks along next hops, from router to router.
+
+ghost use Rattle.std.specs.Prelude.{◌≡◌, ◌≢◌, ◌↔◌, ◌<◌, ◌%◌, ℕ, None, Some, IfOk, IsTrue, drop, is_some, length, slice_get};
+ghost use Rattle.ospf_edges.specs.Listed.{advertisements_of};
+ghost use Rattle.ospf_graph.specs.Walk.{HasLinkFor, IsLinkCost, IsNext};
+ghost use Rattle.ospf_graph.specs.declared.hop.NextHop.TheVariants as hops;
+ghost use Rattle.ospf_headline.specs.Sound.{NoCollision};
+ghost use Rattle.ospf_headline.specs.Walks.{AllListedAgree, WorldWalk, choice_of};
+ghost use Rattle.ospf_headline.specs.World.{Running, member, router_at};
+ghost use Rattle.ospf_headline.specs.declared.walk.WalkEnd.TheVariants as ends;
+ghost use Rattle.ospf_router.specs.Routers.{listing_of};
+ghost use Rattle.ospf_step.specs.Drops.{is_dropped};
+ghost use Rattle.ospf_world.specs.Walks.{IsLeg, LegsOver, Walks};
+ghost use Rattle.ospf_world.specs.Worlds.{world_of};
+
+use crate::world::World;
+use ospf_base::{Addr, RouterId};
+use ospf_costs::link_cost;
+use ospf_graph::{NextHop, Route};
+use ospf_headline::{WalkEnd, WorldFault, headline};
+use ospf_router::Router;
+use std::alloc::{AllocError, Global};
+
+/// A walk along next hops: the routers that it met, from the first, what it paid, and how it ended.
+#[derive(Debug, Drop)]
+pub struct Walk {
+    pub routers: Vec<RouterId>,
+    pub cost: u128,
+    pub end: WalkEnd,
+}
+
+/// What a walk does at one router.
+#[derive(Clone, Copy, Debug)]
+pub(crate) enum Leg {
+    /// It ends, at this cost.
+    Ends { cost: u64, end: WalkEnd },
+    /// It goes on at the next router, over a link of this cost.
+    Goes { next: RouterId, cost: u16 },
+}
+
+// The choice at a router: 0 where it is missing.
+fn choice_at(choices: &[u32], place: usize) -> u32
+    ensures { result ≡ choice_of (drop place choices.now) }
+{
+    if place < choices.len() {
+        choices[place]
+    } else {
+        0
+    }
+}
+
+// The hop of a route that a choice takes.
+fn hop_in(route: &Route, choice: u32) -> NextHop
+    requires { 0 < length route.now.hops }
+    ensures { slice_get route.now.hops (choice % length route.now.hops) ≡ Some result }
+{
+    let hops = route.hops.as_slice();
+    hops[choice as usize % hops.len()]
+}
+
+// A leg over a hop's link to the next router.
+fn crossing(
+    router: &Router,
+    at: RouterId,
+    hop: &NextHop,
+    next: RouterId,
+    alloc: Global,
+) -> Result<Leg, AllocError>
+    requires next { IsNext hop.now next }
+    requires linked { (metric : ℕ) × HasLinkFor (advertisements_of (listing_of router.now.area)) at hop.now metric }
+    ensures { IfOk result (LegsOver (advertisements_of (listing_of router.now.area)) at hop.now 0) }
+{
+    let listing = router.listing(alloc)?;
+    match link_cost(&listing, at, hop) {
+        Some(cost) => Ok(Leg::Goes { next, cost }),
+        None => unreachable!(),
+    }
+}
+
+// What a hop does, at the cost of its route.
+fn leg_over(
+    router: &Router,
+    at: RouterId,
+    hop: &NextHop,
+    cost: u64,
+    alloc: Global,
+) -> Result<Leg, AllocError>
+    requires { hop.now ≢ hops.Attached → (metric : ℕ) × HasLinkFor (advertisements_of (listing_of router.now.area)) at hop.now metric }
+    ensures { IfOk result (LegsOver (advertisements_of (listing_of router.now.area)) at hop.now cost) }
+{
+    match hop {
+        NextHop::Attached => Ok(Leg::Ends {
+            cost,
+            end: WalkEnd::Arrived,
+        }),
+        NextHop::PointToPoint { router: next, .. } => crossing(router, at, hop, *next, alloc),
+        NextHop::Lan { router: next, .. } => crossing(router, at, hop, *next, alloc),
+    }
+}
+
+impl World {
+    // Whether the world has a router, running or not.
+    fn has_router(&self, router: RouterId) -> bool
+        ensures { result ≡ is_some (member (world_of self.now) router) }
+    {
+        match self.router(router) {
+            Ok(_) => true,
+            Err(fault) => !is_no_router(fault),
+        }
+    }
+
+    // What a walk does at a router.
+    fn leg(
+        &self,
+        at: RouterId,
+        address: Addr,
+        choice: u32,
+        alloc: Global,
+    ) -> Result<Leg, AllocError>
+        ensures { IfOk result (IsLeg (world_of self.now) address.0 choice at) }
+    {
+        headline();
+        self.reached();
+        let Ok(router) = self.router(at) else {
+            return Ok(Leg::Ends {
+                cost: 0,
+                end: WalkEnd::NotRunning,
+            });
+        };
+        let Some(route) = router.table().lookup(address) else {
+            return Ok(Leg::Ends {
+                cost: 0,
+                end: WalkEnd::NoRoute,
+            });
+        };
+        let hop = hop_in(route, choice);
+        leg_over(router, at, &hop, route.cost, alloc)
+    }
+
+    // The walk, from a router of the world.
+    fn walk_from(
+        &self,
+        from: RouterId,
+        address: Addr,
+        choices: &[u32],
+        alloc: Global,
+    ) -> Result<Walk, AllocError>
+        ensures { IfOk result (λ walk. WorldWalk (world_of self.now) address.0 choices.now from walk.routers.items walk.cost walk.end) }
+    {
+        let mut routers = Vec::new(alloc);
+        let mut cost: u128 = 0;
+        let mut at = from;
+        let count = self.slots().len();
+        for i in 0..count {
+            routers.push(at)?;
+            match self.leg(at, address, choice_at(choices, i), alloc)? {
+                Leg::Ends { cost: last, end } => {
+                    return Ok(Walk {
+                        routers,
+                        cost: cost + last as u128,
+                        end,
+                    });
+                }
+                Leg::Goes { next, cost: link } => {
+                    cost += link as u128;
+                    at = next;
+                }
+            }
+        }
+        routers.push(at)?;
+        Ok(Walk {
+            routers,
+            cost,
+            end: WalkEnd::Turns,
+        })
+    }
+
+    /// The walk to an address from a router: at each router the hop at the choice modulo the number of hops of the best route is
+    /// taken, the first where choices are missing, and its link's cost is paid; where the network is the router's own the route's
+    /// cost is paid, and the walk has arrived. It may have as many hops as the world has routers. Nothing is changed.
+    ///
+    /// `NoRouter` where the world has no such router, `Memory` where memory runs out.
+    pub fn walk(
+        &self,
+        from: RouterId,
+        address: Addr,
+        choices: &[u32],
+        alloc: Global,
+    ) -> Result<Walk, WorldFault>
+        ensures walks { Walks (world_of self.now) from address.0 choices.now result }
+        ensures never_turns { (x : Running) → NoCollision self.now.logs.issued → router_at (world_of self.now) from ≡ Some x → AllListedAgree (world_of self.now) x → IfOk result (λ walk. walk.end ≢ ends.Turns) }
+    {
+        headline();
+        self.reached();
+        if !self.has_router(from) {
+            return Err(WorldFault::NoRouter);
+        }
+        match self.walk_from(from, address, choices, alloc) {
+            Ok(walk) => Ok(walk),
+            Err(AllocError) => Err(WorldFault::Memory { stopped: false }),
+        }
+    }
+}
+
+// The fault says that there is no such router.
+fn is_no_router(fault: WorldFault) -> bool
+    ensures { IsTrue result ↔ (fault ≡ WorldFault.NoRouter) }
+{
+    matches!(fault, WorldFault::NoRouter)
+}

@@ -1,0 +1,161 @@
+//! Worlds.
+
+ghost use Rattle.std.specs.Prelude.{◌≡◌, ◌<◌, ◌+◌, length};
+ghost use Rattle.ospf_headline.specs.Headline.{Headline, IsReached};
+ghost use Rattle.ospf_headline.specs.Runs.{IsRun, is_memory};
+ghost use Rattle.ospf_headline.specs.Sound.{IsSound};
+ghost use Rattle.ospf_headline.specs.World.{Comes};
+ghost use Rattle.ospf_step.specs.Drops.{is_dropped};
+ghost use Rattle.ospf_world.specs.Worlds.{Lends, Opens, SameSettings, world_of};
+
+use crate::parts::Parts;
+use ospf_base::RouterId;
+use ospf_config::Config;
+use ospf_headline::{headline, runs_lead_on, soundness};
+use ospf_router::Router;
+use ospf_slots::{Datagram, Holding, Issued, Slot, WorldEvent, WorldFault};
+use std::alloc::Global;
+use std::marker::Model;
+
+/// Many routers, started, stopped and stepped by events, and the logs of all that they sent, issued and held.
+///
+/// Every world has come from one in which nothing ran and nothing had happened, by some list of events.
+#[derive(Drop)]
+pub struct World {
+    parts: Parts,
+}
+
+impl Model for World {
+    ghost use Rattle.ospf_headline.specs.Headline.{IsReached};
+    ghost use Rattle.ospf_step.specs.Drops.{is_dropped};
+    ghost use Rattle.ospf_world.specs.Worlds.{WorldValue, world_of};
+
+    ghost Value = { WorldValue };
+
+    ghost view = { λ w. w.parts };
+
+    ghost invariant = { λ w. IsReached is_dropped (world_of w.parts) };
+}
+
+// Whether memory ran out.
+fn is_memory(fault: &WorldFault) -> bool
+    ensures { result ≡ is_memory fault.now }
+{
+    matches!(fault, WorldFault::Memory { .. })
+}
+
+impl World {
+    /// A world of routers so configured. Nothing runs.
+    ///
+    /// `WorldFault::SameRouter` where two share a Router ID; `WorldFault::Memory` where memory runs out.
+    pub fn new(configs: Vec<Config>, alloc: Global) -> Result<World, WorldFault>
+        ensures { Opens configs.items result }
+    {
+        let parts = Parts::new(configs, alloc)?;
+        Ok(World { parts })
+    }
+
+    /// What an event comes to.
+    ///
+    /// The first fault that holds: `NoRouter`, `NoLink`, `NoDatagram`, `Running` for the start of a running router,
+    /// `NotRunning` for any other event of one that does not run, and `Floor` for a start where no number is above the floor;
+    /// then nothing is changed. `Memory` where memory runs out: nothing is changed, or else, where `stopped`, the router is
+    /// stopped and no log has grown.
+    pub fn step(&mut self, event: WorldEvent, alloc: Global) -> Result<(), WorldFault>
+        ensures comes { Comes is_dropped event (world_of self.old) result (world_of self.new) }
+        ensures same { SameSettings self.old self.new }
+        ensures reached { IsReached is_dropped (world_of self.new) }
+        ensures headline { Headline (world_of self.old) (world_of self.new) }
+        ensures sound { IsSound (world_of self.old) (world_of self.new) }
+    {
+        headline();
+        soundness();
+        self.parts.step(&event, alloc)
+    }
+
+    /// The events in their order, each as by `step`: it goes on after a refused one, and answers how many were refused.
+    ///
+    /// `WorldFault::Memory` where memory runs out for one: that is the last.
+    pub fn run(&mut self, events: &[WorldEvent], alloc: Global) -> Result<usize, WorldFault>
+        ensures run { IsRun is_dropped events.now (world_of self.old) result (world_of self.new) }
+        ensures same { SameSettings self.old self.new }
+        ensures reached { IsReached is_dropped (world_of self.new) }
+        ensures headline { Headline (world_of self.old) (world_of self.new) }
+    {
+        headline();
+        runs_lead_on();
+        let _ = &self.parts;
+        let mut refused = 0;
+        for event in events {
+            match self.step(*event, alloc) {
+                Ok(()) => {}
+                Err(fault) => {
+                    if is_memory(&fault) {
+                        return Err(fault);
+                    }
+                    refused += 1;
+                }
+            }
+        }
+        Ok(refused)
+    }
+
+    /// The router, where it runs. No memory is taken.
+    ///
+    /// `WorldFault::NoRouter` where there is none of the Router ID, `WorldFault::NotRunning` where it does not run.
+    pub fn router(&self, router: RouterId) -> Result<&Router, WorldFault>
+        ensures { Lends (world_of self.now) router result }
+    {
+        self.parts.router(router)
+    }
+
+    /// The routers, running or not, in the order of their configurations. No memory is taken.
+    pub fn slots(&self) -> &[Slot]
+        ensures { result.now ≡ self.now.slots }
+    {
+        &self.parts.slots
+    }
+
+    /// All datagrams ever sent, in their order. No memory is taken.
+    pub fn datagrams(&self) -> &[Datagram]
+        ensures { result.now ≡ self.now.logs.datagrams }
+    {
+        self.parts.logs.datagrams()
+    }
+
+    /// All LSAs ever issued, in their order. No memory is taken.
+    pub fn issued(&self) -> &[Issued]
+        ensures { result.now ≡ self.now.logs.issued }
+    {
+        self.parts.logs.issued()
+    }
+
+    /// Who ever installed, issued or acknowledged which instance. No memory is taken.
+    pub fn held(&self) -> &[Holding]
+        ensures { result.now ≡ self.now.logs.held }
+    {
+        self.parts.logs.held()
+    }
+
+    // What the type tells: some list of events led here.
+    pub(crate) fn reached(&self)
+        ensures { IsReached is_dropped (world_of self.now) }
+    {
+        let _ = &self.parts;
+    }
+
+    // How many datagrams the rounds have offered.
+    pub(crate) fn offered(&self) -> usize
+        ensures { result ≡ self.now.offered }
+    {
+        self.parts.offered
+    }
+
+    // One more datagram counts as offered.
+    pub(crate) fn pass_one(&mut self)
+        requires { self.old.offered < length self.old.logs.datagrams }
+        ensures { self.new ≡ record self.old { offered = self.old.offered + 1 } }
+    {
+        self.parts.pass_one();
+    }
+}
