@@ -35,7 +35,7 @@ pub struct ListedShown(pub Instance);
 #[derive(Clone, Copy, Debug, PartialEq, Eq)]
 pub struct WalkShown<'a> {
     pub routers: &'a [RouterId],
-    pub cost: u64,
+    pub cost: u128,
     pub end: &'a str,
 }
 

@@ -1,17 +1,11 @@
 -- Faults of lines, and the lines of an input.
-use Rattle.std.proofs.Common.{◌≡◌, ◌≢◌, ◌<◌, ℕ, suc, ◌+◌, ◌⊎◌, List, [], length, Option, None, Some, IfSome, Ok, IsErr, sym, subst, inl, inr, refl, arith}
+use Rattle.std.proofs.Common.{◌≡◌, ◌≢◌, ◌<◌, ℕ, suc, ◌+◌, List, [], length, Option, None, Some, IfSome, sym, subst, refl, arith}
 use Rattle.std.specs.Io.BufRead.{take_through, drop_through, DropsThrough}
 use Rattle.std.specs.Io.KnownBytes.{IsAtEnd}
-use Rattle.hex.specs.Hex.{decode_of}
-use Rattle.ospf_lsa.specs.Lsa.{key_of}
-use Rattle.ospf_lsa.specs.Listing.{HasKey}
-use Rattle.ospf_lsa.specs.declared.fault.LsaFault.{LsaFault}
 use Rattle.ospf_lsa.specs.declared.fault.LsaFault.TheVariants as lsa_fault
-use Rattle.ospf_lsa.specs.declared.listing.ListingFault.{ListingFault}
 use Rattle.ospf_lsa.specs.declared.listing.ListingFault.TheVariants as listing_fault
 use Rattle.ospfd.specs.Fault.{IsMemoryFault, IsRefusal}
-use Rattle.ospfd.specs.Line.{HasFault, HasFirstFault, IsTaken, Reads, at_end, at_line, Refuses, here, later, text_of, first_text}
-use Rattle.ospfd.specs.declared.line.LineFault.{LineFault}
+use Rattle.ospfd.specs.Line.{HasFault, IsTaken, Reads, at_end, at_line, Refuses, here, later, text_of, first_text}
 use Rattle.ospfd.specs.declared.line.LineFault.TheVariants.{NotHex, Lsa}
 use Rattle.ospfd.specs.declared.table.EntryFault.{EntryFault}
 use Rattle.ospfd.specs.declared.table.EntryFault.TheVariants.{Line, Listing}

@@ -1,16 +1,12 @@
 -- Lookups in the one table that is published.
-use Rattle.std.proofs.Common.{◌≡◌, ◌∙◌, ap, sym, subst, refl, ◌+◌, ◌<◌, ◌≤◌, ◌%◌, ℕ, List, [], ◌∷◌, ◌++◌, length, take, get_or, slice_get, Option, None, Some, inl, inr, arith, length-append}
-use Rattle.std.proofs.lemmas.List.{take_more}
-use Rattle.std.specs.Io.KnownBytes.{Appends}
+use Rattle.std.proofs.Common.{◌≡◌, ◌∙◌, ap, sym, subst, refl, ◌%◌, ℕ, List, [], ◌∷◌, ◌++◌, length, slice_get, Option, None, Some, inl, inr, arith, length-append}
 use mathlib.Core.List.{IsPrefix}
 use Rattle.ospf_base.specs.declared.ids.Addr.{Addr}
 use Rattle.ospf_graph.specs.declared.hop.NextHop.{NextHop}
-use Rattle.ospf_graph.specs.declared.route.Route.{Route}
-use Rattle.ospf_published.specs.Known.{Known, Table, opening}
+use Rattle.ospf_published.specs.Known.{Table, opening}
 use Rattle.ospf_fib.specs.declared.answer.Answer.{Answer}
 use Rattle.ospf_fib.specs.Answers.{IsAnswer, IsAnswerOfLast}
 use Rattle.ospfd.specs.Output.{lookup_line, IsLookupLine}
-use Rattle.ospfd.proofs.Written.{HasLookups, lookup_written, no_lookups}
 
 -- a list of two tables ends with the second
 last_of : (before : List Table) (t last : Table) → opening ++ t ∷ [] ≡ before ++ last ∷ [] → last ≡ t

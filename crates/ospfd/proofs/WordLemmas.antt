@@ -1,5 +1,5 @@
 -- Texts that spell addresses.
-use Rattle.std.proofs.Common.{◌≡◌, ◌∙◌, ◌+◌, ◌<◌, ◌++◌, ℕ, suc, zero, List, [], ◌∷◌, Ok, Err, Result, IsErrAnd, IfErr, Bor, map, take, length, drop, get_or, subst, refl, ap, ap₂, sym, Option, Some, None, option_map, unwrap_or, inl, inr, arith, codes, slice_index, string_bytes}
+use Rattle.std.proofs.Common.{◌≡◌, ◌⊎◌, ◌∙◌, ◌+◌, ◌<◌, ◌++◌, ℕ, suc, zero, List, [], ◌∷◌, Ok, Err, Result, IsErrAnd, IfErr, Bor, map, take, length, drop, get_or, subst, refl, ap, ap₂, sym, Option, Some, None, option_map, unwrap_or, inl, inr, arith, codes, slice_index, string_bytes}
 use Rattle.std.proofs.lemmas.List.{map-append, take_more}
 use Rattle.std.proofs.lemmas.Option.{none-some}
 use Rattle.std.specs.declared.net.parser.AddrParseError.{AddrParseError}
@@ -144,6 +144,16 @@ one_name rows others same =
     let first : 116 ≡ 99 = ap (λ entered. slice_index (name_of entered) 0) same in
     omega (arith, first)
 
+table_is_no_sim : (rows others : List Row) → entered_of (codes "table") rows ≡ entered_of (codes "sim") others → ⊥
+table_is_no_sim rows others same =
+    let first : 116 ≡ 115 = ap (λ entered. slice_index (name_of entered) 0) same in
+    omega (arith, first)
+
+check_is_no_sim : (rows others : List Row) → entered_of (codes "check") rows ≡ entered_of (codes "sim") others → ⊥
+check_is_no_sim rows others same =
+    let first : 99 ≡ 115 = ap (λ entered. slice_index (name_of entered) 0) same in
+    omega (arith, first)
+
 same_rows : (name : List ℕ) (rows others : List Row) → entered_of name rows ≡ entered_of name others → rows ≡ others
 same_rows name rows others same = ap (λ entered. unwrap_or (option_map (λ (p : List ℕ × List Row). p.1) entered) rows) same
 
@@ -152,6 +162,7 @@ pub no_root : (rows : List Row) → first_of (codes "root") rows ≡ None → Is
 no_root rows none = record {
   no_table = λ others same. ap (first_of (codes "root")) (sym (same_rows (codes "table") rows others same)) ∙ none;
   no_check = λ others same. absurd (one_name rows others same);
+  no_sim = λ others same. absurd (table_is_no_sim rows others same);
 }
 
 -- `check` without files
@@ -159,6 +170,17 @@ pub no_files : (rows : List Row) → all_of (codes "files") rows ≡ None → Is
 no_files rows none = record {
   no_table = λ others same. absurd (one_name others rows (sym same));
   no_check = λ others same. ap (all_of (codes "files")) (sym (same_rows (codes "check") rows others same)) ∙ none;
+  no_sim = λ others same. absurd (check_is_no_sim rows others same);
+}
+
+-- `sim` without a script, or without files
+pub no_simulation : (rows : List Row) → (first_of (codes "script") rows ≡ None) ⊎ (all_of (codes "files") rows ≡ None) → IsNoJob (Some (codes "sim", rows))
+no_simulation rows none = record {
+  no_table = λ others same. absurd (table_is_no_sim others rows (sym same));
+  no_check = λ others same. absurd (check_is_no_sim others rows (sym same));
+  no_sim = λ others same.
+      let one : rows ≡ others = same_rows (codes "sim") rows others same in
+      subst (λ found. (first_of (codes "script") found ≡ None) ⊎ (all_of (codes "files") found ≡ None)) one none;
 }
 
 -- what `clap` refuses

@@ -1,17 +1,15 @@
 -- Texts that are written one after the other.
-use Rattle.std.proofs.Common.{◌≡◌, ◌∙◌, ◌&&◌, Bool, true, false, ap, sym, subst, ◌+◌, ◌<◌, ◌≤◌, ℕ, List, [], ◌∷◌, ◌++◌, length, take, get_or, Option, None, Some, append_assoc, append-nil, arith, inr, refl}
+use Rattle.std.proofs.Common.{◌≡◌, ◌∙◌, ◌&&◌, Bool, true, false, ap, sym, subst, ◌+◌, ◌<◌, ℕ, List, [], ◌∷◌, ◌++◌, length, take, get_or, Option, None, Some, append_assoc, append-nil, refl}
 use Rattle.std.proofs.lemmas.List.{take_more, flat_map_more}
 use Rattle.std.specs.Io.KnownBytes.{Appends, Keeps}
 use Rattle.ospf_base.specs.declared.ids.Addr.{Addr}
 use Rattle.ospf_base.specs.declared.ids.RouterId.{RouterId}
 use Rattle.ospf_graph.specs.Routes.{IsTable}
-use Rattle.ospf_graph.specs.Walk.{IsBest}
-use Rattle.ospf_graph.specs.declared.hop.NextHop.{NextHop}
 use Rattle.ospf_graph.specs.declared.route.Route.{Route}
 use Rattle.ospf_spf.specs.Listed.{advertisements_of}
 use Rattle.ospfd.specs.Line.{Reads}
 use Rattle.ospfd.specs.Checked.{AreTold, IsTold, IsWritten, IsWrittenOf, no_file, one_file}
-use Rattle.ospfd.specs.declared.check.NamedFile.{NamedFile}
+use Rattle.ospf_files.specs.declared.files.NamedFile.{NamedFile}
 use Rattle.ospfd.specs.Output.{route_line, routes_text, IsLookupLine, AreLookups, IsAnswered, IsOutput, IsWarning, no_more, one_more}
 
 pub nothing_written : (o : Option (List ℕ)) → Appends o o []

@@ -1,39 +1,18 @@
 -- What the program says of configurations that it checks.
-use Rattle.std.specs.Prelude.{◌≡◌, ◌⊎◌, ◌&&◌, ℕ, Bool, true, false, List, [], ◌∷◌, ◌++◌, Option, Some, IsUtf8, codes, string_bytes, option_map, ⊤}
+use Rattle.std.specs.Prelude.{◌≡◌, ◌&&◌, ℕ, Bool, true, false, List, [], ◌∷◌, ◌++◌, Option, Some, codes, string_bytes, ⊤}
 use Rattle.std.specs.Io.KnownBytes.{Appends}
-use Rattle.ospf_config.specs.Configs.{IsReading, TextHasFault}
-use Rattle.ospf_config.specs.Fault.{IsLeast, fault_text}
 use Rattle.ospf_config.specs.declared.config.Config.{Config}
 use Rattle.ospf_config.specs.declared.fault.ConfigFault.{ConfigFault}
-use Rattle.ospf_config.specs.declared.fault.ConfigFault.TheVariants.{NotToml}
-use Rattle.ospfd.specs.declared.check.NamedFile.{NamedFile}
+use Rattle.ospf_files.specs.Files.{IsConfigIn, IsRefusedFor, bytes_of, refused_line}
+use Rattle.ospf_files.specs.declared.files.NamedFile.{NamedFile}
 
--- the bytes are UTF-8, and the text is a configuration that has no fault
-pub record IsAccepted (bytes : List ℕ) : Type 0 where
-  pub is_text : IsUtf8 bytes
-  pub config : Config
-  pub reads : IsReading bytes config
-  pub free : (fault : ConfigFault) → TextHasFault bytes fault → ⊥
-
--- the bytes are not UTF-8, and so no TOML, or this is the least fault of the text
-abbrev pub IsRefusedFor : List ℕ → ConfigFault → Type 0
-IsRefusedFor bytes fault = ((IsUtf8 bytes → ⊥) × (fault ≡ NotToml)) ⊎ (IsUtf8 bytes × IsLeast (TextHasFault bytes) fault)
-
--- what the file holds, where it could be read
-abbrev pub bytes_of : NamedFile → Option (List ℕ)
-bytes_of file = option_map (λ bytes. bytes.items) file.bytes
+-- the bytes are a configuration
+abbrev pub IsAccepted : List ℕ → Type 0
+IsAccepted bytes = (config : Config) × IsConfigIn bytes config
 
 -- the line of a file that is accepted
 abbrev pub accepted_line : NamedFile → List ℕ
 accepted_line file = string_bytes file.name ++ codes ": ok\n"
-
--- the line of a file that could not be read
-abbrev pub unread_line : NamedFile → List ℕ
-unread_line file = string_bytes file.name ++ codes ": not read\n"
-
--- the line of a file that is refused
-abbrev pub refused_line : NamedFile → ConfigFault → List ℕ
-refused_line file fault = string_bytes file.name ++ (codes ": " ++ (fault_text fault ++ codes "\n"))
 
 -- what is said behind the line of a refused file: nothing, unless it is to be explained
 abbrev pub IsExplanation : Bool → List ℕ → Type 0

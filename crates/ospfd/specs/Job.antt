@@ -6,8 +6,8 @@ use Rattle.clap.specs.declared.error.kind.ErrorKind.TheVariants.{DisplayHelp, Di
 use Rattle.clap.specs.declared.error.Error.{Error}
 use Rattle.ospfd.specs.declared.jobs.JobFault.{JobFault}
 use Rattle.ospfd.specs.declared.jobs.JobFault.TheVariants as fault
-use Rattle.ospfd.specs.declared.status.Status.{Status}
-use Rattle.ospfd.specs.declared.status.Status.TheVariants as status
+use Rattle.ospf_files.specs.declared.status.Status.{Status}
+use Rattle.ospf_files.specs.declared.status.Status.TheVariants as status
 
 -- the status that a fault ends with: help and the version are what was asked for
 abbrev pub HasStatus : JobFault → Status → Type 0

@@ -1,4 +1,3 @@
-pub mod Status
 pub mod Line
 pub mod Fault
 pub mod Job

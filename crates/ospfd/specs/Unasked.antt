@@ -31,10 +31,11 @@ pub record IsWrongValue (entered : Option (Text × List Row)) (word : Text) : Ty
   pub has_root : first_of (codes "root") rows ≡ Some root
   pub first : IsFirstWrong (root ∷ unwrap_or (all_of (codes "addresses") rows) []) word
 
--- what the words enter is no `table` with a root, and no `check` with files
+-- what the words enter is no `table` with a root, no `check` with files, and no `sim` with both
 pub record IsNoJob (entered : Option (Text × List Row)) : Type 0 where
   pub no_table : (rows : List Row) → entered ≡ Some (codes "table", rows) → first_of (codes "root") rows ≡ None
   pub no_check : (rows : List Row) → entered ≡ Some (codes "check", rows) → all_of (codes "files") rows ≡ None
+  pub no_sim : (rows : List Row) → entered ≡ Some (codes "sim", rows) → (first_of (codes "script") rows ≡ None) ⊎ (all_of (codes "files") rows ≡ None)
 
 -- the job, or none where there is none
 abbrev pub IsJobIfAny : Option (Text × List Row) → Option Job → Type 0

@@ -1,5 +1,5 @@
 -- What the program's words ask for, as `clap` reads them.
-use Rattle.std.specs.Prelude.{◌≡◌, true, false, Bool, List, [], ◌∷◌, Option, Some, None, Ok, ⊤, codes, map, string_bytes, unwrap_or}
+use Rattle.std.specs.Prelude.{◌≡◌, true, false, Bool, List, [], ◌∷◌, Option, Some, None, Ok, ⊤, codes, map, option_map, string_bytes, unwrap_or}
 use Rattle.ospf_base.specs.Text.{ReadsAddress, ReadsRouterId}
 use Rattle.ospf_base.specs.declared.ids.Addr.{Addr}
 use Rattle.clap.specs.Lexer.{usize_max}
@@ -8,6 +8,7 @@ use Rattle.clap.specs.declared.builder.action.ArgAction.TheVariants.{Append, Set
 use Rattle.ospfd.specs.declared.jobs.CheckJob.{CheckJob}
 use Rattle.ospfd.specs.declared.jobs.Job.{Job}
 use Rattle.ospfd.specs.declared.jobs.Job.TheVariants as job
+use Rattle.ospfd.specs.declared.jobs.SimJob.{SimJob}
 use Rattle.ospfd.specs.declared.jobs.TableJob.{TableJob}
 
 -- one word has to be there
@@ -43,6 +44,19 @@ explain_rule = record (new_rule (codes "explain")) { long = Some (codes "explain
 abbrev pub check_app : App
 check_app = with_rule (with_rule (new_app (codes "check")) explain_rule) files_rule
 
+-- one word has to be there
+abbrev pub script_rule : Rule
+script_rule = record (new_rule (codes "script")) { required = true; value_names = 1 }
+
+-- an option of this name, with a word
+abbrev pub option_rule : Text → Rule
+option_rule name = record (new_rule name) { long = Some name; value_names = 1 }
+
+-- the command `sim`: a script, files, and the options of what is to be written
+abbrev pub sim_app : App
+sim_app =
+    with_rule (with_rule (with_rule (with_rule (new_app (codes "sim")) script_rule) files_rule) (option_rule (codes "dot"))) (option_rule (codes "pcap"))
+
 -- the program, before its commands
 abbrev pub ospfd_app : App
 ospfd_app = record (new_app (codes "ospfd")) {
@@ -51,7 +65,7 @@ ospfd_app = record (new_app (codes "ospfd")) {
 
 -- the program and its commands
 abbrev pub command_app : App
-command_app = with_subcommand (with_subcommand ospfd_app table_app.top) check_app.top
+command_app = with_subcommand (with_subcommand (with_subcommand ospfd_app table_app.top) check_app.top) sim_app.top
 
 -- each text spells the address at its place
 abbrev pub Spell : List Text → List Addr → Type 0
@@ -79,10 +93,20 @@ pub record IsCheckJob (rows : List Row) (c : CheckJob) : Type 0 where
   pub files : map string_bytes c.files.items ≡ texts
   pub explain : IsFlag (one_of (codes "explain") rows) c.explain
 
+-- the script, the files, and the files to be written that `clap` reads after `sim`
+pub record IsSimJob (rows : List Row) (s : SimJob) : Type 0 where
+  pub has_script : first_of (codes "script") rows ≡ Some (string_bytes s.script)
+  pub texts : List Text
+  pub has_files : all_of (codes "files") rows ≡ Some texts
+  pub files : map string_bytes s.files.items ≡ texts
+  pub dot : option_map string_bytes s.dot ≡ first_of (codes "dot") rows
+  pub pcap : option_map string_bytes s.pcap ≡ first_of (codes "pcap") rows
+
 -- the job is that of the command that the words enter, with the values that they give it
 abbrev pub IsJobOf : Option (Text × List Row) → Job → Type 0
 IsJobOf entered (job.Table t) = (rows : List Row) × (entered ≡ Some (codes "table", rows)) × IsTableJob rows t
 IsJobOf entered (job.Check c) = (rows : List Row) × (entered ≡ Some (codes "check", rows)) × IsCheckJob rows c
+IsJobOf entered (job.Sim s) = (rows : List Row) × (entered ≡ Some (codes "sim", rows)) × IsSimJob rows s
 
 -- the job is what `clap` reads in the words
 abbrev pub IsAsked : List Text → Job → Type 0

@@ -1,22 +1,14 @@
 //! Configurations that are checked.
 
 ghost use Rattle.std.specs.Prelude.{◌≡◌, ◌≢◌, ◌⊎◌, ◌++◌, ℕ, List, true, false, codes, IfOk, IfErr, OnOk};
-ghost use Rattle.ospf_config.specs.declared.fault.ConfigFault.TheVariants.{Memory};
+ghost use Rattle.ospf_files.specs.Files.{refused_line};
 ghost use Rattle.std.specs.Io.KnownBytes.{Appends};
-ghost use Rattle.ospfd.specs.Checked.{IsAccepted, IsExplanation, IsRefusedFor, IsWritten, IsWrittenOf, accepted_line, refused_line, unread_line};
+ghost use Rattle.ospfd.specs.Checked.{IsExplanation, IsWritten, IsWrittenOf, accepted_line};
 
-use crate::status::{Failure, Status};
 use ospf_config::{Config, ConfigFault, Explained};
+use ospf_files::{Failure, NamedFile, Status, config_in, tell_refused, tell_unread};
 use std::alloc::{AllocError, Global};
 use std::io::{self, Write};
-
-/// A file that was named.
-#[derive(Debug, Drop)]
-pub struct NamedFile {
-    pub name: String,
-    /// What it holds, where it could be read.
-    pub bytes: Option<Vec<u8>>,
-}
 
 // Why a check ends early.
 #[derive(Debug, Drop)]
@@ -43,44 +35,12 @@ impl From<AllocError> for CheckFault {
     }
 }
 
-// Whether bytes are a configuration.
-fn check_bytes(alloc: Global, bytes: &[u8]) -> Result<(), ConfigFault>
-    ensures ok { OnOk result (IsAccepted bytes.now) }
-    ensures fault { IfErr result (λ f. (f ≡ Memory) ⊎ IsRefusedFor bytes.now f) }
-{
-    match str::from_utf8(bytes) {
-        Ok(text) => {
-            Config::from_text(alloc, text)?;
-            Ok(())
-        }
-        Err(_) => Err(ConfigFault::NotToml),
-    }
-}
-
 // Tells that a file is accepted.
 fn tell_accepted<O: Write>(file: &NamedFile, out: &mut O) -> io::Result<()>
     ensures { OnOk result (Appends (O.contents out.old) (O.contents out.new) (accepted_line file.now)) }
 {
     writeln!(out, "{}: ok", file.name)?;
     out.flush()?;
-    Ok(())
-}
-
-// Tells the fault of a file.
-fn tell_refused<E: Write>(file: &NamedFile, fault: ConfigFault, err: &mut E) -> io::Result<()>
-    ensures { OnOk result (Appends (E.contents err.old) (E.contents err.new) (refused_line file.now fault)) }
-{
-    writeln!(err, "{}: {}", file.name, fault.text())?;
-    err.flush()?;
-    Ok(())
-}
-
-// Tells that a file could not be read.
-fn tell_unread<E: Write>(file: &NamedFile, err: &mut E) -> io::Result<()>
-    ensures { OnOk result (Appends (E.contents err.old) (E.contents err.new) (unread_line file.now)) }
-{
-    writeln!(err, "{}: not read", file.name)?;
-    err.flush()?;
     Ok(())
 }
 
@@ -160,8 +120,8 @@ fn check_file<O: Write, E: Write>(
             Err(error) => Err(CheckFault::of_telling(error)),
         };
     };
-    match check_bytes(alloc, bytes) {
-        Ok(()) => match tell_accepted(file, out) {
+    match config_in(alloc, bytes) {
+        Ok(_) => match tell_accepted(file, out) {
             Ok(()) => Ok(true),
             Err(error) => Err(CheckFault::of_writing(error)),
         },

@@ -1,10 +1,10 @@
 //! Configurations that are checked, by name.
 
-use crate::check::{NamedFile, check_text};
+use crate::check::check_text;
 use crate::jobs::Job;
-use crate::status::Status;
 use crate::tests::Failing;
 use crate::words::job;
+use ospf_files::{NamedFile, Status};
 use std::alloc::{AllocError, Global};
 use std::test::Fail;
 

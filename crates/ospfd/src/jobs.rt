@@ -4,9 +4,9 @@ ghost use Rattle.std.specs.Prelude.{OnOk};
 ghost use Rattle.std.specs.Io.KnownBytes.{Appends};
 ghost use Rattle.ospfd.specs.Job.{address_line};
 
-use crate::status::{Failure, Status};
 use clap::error::ErrorKind;
 use ospf_base::{Addr, RouterId};
+use ospf_files::{Failure, Status};
 use std::alloc::AllocError;
 use std::io::{self, Write};
 use thiserror::Error;
@@ -18,6 +18,8 @@ pub enum Job {
     Table(TableJob),
     /// Checks configurations.
     Check(CheckJob),
+    /// Runs a script in a world of routers.
+    Sim(SimJob),
 }
 
 /// A routing table that is asked for.
@@ -36,6 +38,19 @@ pub struct CheckJob {
     pub files: Vec<String>,
     /// Whether it is said what to do about those that are refused.
     pub explain: bool,
+}
+
+/// A simulation that is asked for.
+#[derive(Debug, Drop)]
+pub struct SimJob {
+    /// The name of the script's file.
+    pub script: String,
+    /// The names of the configurations' files.
+    pub files: Vec<String>,
+    /// The file into which the first running router's listing is drawn.
+    pub dot: Option<String>,
+    /// The file into which all datagrams are written.
+    pub pcap: Option<String>,
 }
 
 /// Why words ask for nothing that can be done.

@@ -7,33 +7,41 @@ mod check_tests;
 mod jobs;
 mod line;
 mod lookup;
-mod status;
+mod records;
 mod table;
 #[cfg(test)]
 mod tests;
 mod words;
 
-use crate::check::{NamedFile, check_text};
-use crate::jobs::{CheckJob, Job, JobFault};
-use crate::status::{Failure, Status};
+use crate::check::check_text;
+use crate::jobs::{CheckJob, Job, JobFault, SimJob};
+use crate::records::{capture, drawing};
 use crate::table::table_text;
 use crate::words::{job, not_text};
+use ospf_files::{Failure, NamedFile, Status, write_line};
+use ospf_sim::{Simulated, sim_text};
+use ospf_world::World;
 use std::io::{self, BufReader, BufWriter, ErrorKind, Write};
 use std::process::ExitCode;
 use std::rt::Runtime;
 use std::sync::Wait;
 use std::{env, fs};
 
+// The file of this name. One that cannot be read has no bytes.
+fn read_file<R: Runtime + AllocGlobal>(rt: &R, name: String) -> io::Result<NamedFile> {
+    let bytes = match fs::read(rt, name.as_str()) {
+        Ok(bytes) => Some(bytes),
+        Err(error) if error.kind() == ErrorKind::OutOfMemory => return Err(error),
+        Err(_) => None,
+    };
+    Ok(NamedFile { name, bytes })
+}
+
 // The files of these names. One that cannot be read has no bytes.
 fn read_files<R: Runtime + AllocGlobal>(rt: &R, names: Vec<String>) -> io::Result<Vec<NamedFile>> {
     let mut files = Vec::with_capacity(rt.alloc(), names.len())?;
     for name in names {
-        let bytes = match fs::read(rt, name.as_str()) {
-            Ok(bytes) => Some(bytes),
-            Err(error) if error.kind() == ErrorKind::OutOfMemory => return Err(error),
-            Err(_) => None,
-        };
-        files.push(NamedFile { name, bytes })?;
+        files.push(read_file(rt, name)?)?;
     }
     Ok(files)
 }
@@ -57,6 +65,67 @@ fn job_of<R: Runtime + AllocGlobal>(rt: &R) -> io::Result<Result<Job, JobFault>>
     Ok(job(alloc, &words))
 }
 
+// Writes a file. The answer is whether it was written; where it was not it is told.
+fn write_file<R: Runtime + AllocGlobal, E: Write>(
+    rt: &R,
+    name: &str,
+    bytes: &[u8],
+    err: &mut E,
+) -> io::Result<bool> {
+    match fs::write(rt, name, bytes) {
+        Ok(()) => Ok(true),
+        Err(error) if error.kind() == ErrorKind::OutOfMemory => Err(error),
+        Err(_) => {
+            let _ = write_line(err, &format!(in rt.alloc(); "{name}: not written")?);
+            Ok(false)
+        }
+    }
+}
+
+// Writes what is wanted of the world that a simulation leaves. The answer is whether all was written.
+fn write_records<R: Runtime + AllocGlobal, E: Write>(
+    rt: &R,
+    world: &World,
+    dot: Option<String>,
+    pcap: Option<String>,
+    err: &mut E,
+) -> io::Result<bool> {
+    let mut all = true;
+    if let Some(name) = dot {
+        let text = drawing(rt.alloc(), world)?;
+        all &= write_file(rt, &name, text.as_bytes(), err)?;
+    }
+    if let Some(name) = pcap {
+        let bytes = capture(rt.alloc(), world)?;
+        all &= write_file(rt, &name, &bytes, err)?;
+    }
+    Ok(all)
+}
+
+// Runs a simulation over the files of these names, and writes what is wanted of the world that it leaves.
+fn run_sim<R: Runtime + AllocGlobal, O: Write, E: Write>(
+    rt: &R,
+    job: SimJob,
+    out: &mut O,
+    err: &mut E,
+) -> io::Result<Status> {
+    let SimJob {
+        script,
+        files,
+        dot,
+        pcap,
+    } = job;
+    let script = read_file(rt, script)?;
+    let files = read_files(rt, files)?;
+    let Simulated { status, world } = sim_text(rt.alloc(), &script, &files, out, err);
+    if let Some(world) = world {
+        if !write_records(rt, &world, dot, pcap, err)? {
+            return Ok(Status::Stream);
+        }
+    }
+    Ok(status)
+}
+
 // Does what the program's words say. Where it fails, memory ran out.
 fn run<R: Runtime + AllocGlobal + Wait, E: Write>(rt: &R, err: &mut E) -> io::Result<Status> {
     let alloc = rt.alloc();
@@ -71,6 +140,7 @@ fn run<R: Runtime + AllocGlobal + Wait, E: Write>(rt: &R, err: &mut E) -> io::Re
             let files = read_files(rt, files)?;
             Ok(check_text(alloc, &files, explain, &mut out, err))
         }
+        Ok(Job::Sim(sim)) => run_sim(rt, sim, &mut out, err),
         Err(fault) => Ok(fault.tell(&mut out, err)),
     }
 }

@@ -11,9 +11,9 @@ ghost use Rattle.ospfd.specs.Refusal.{IsRefusalTold, refusal_line};
 use crate::jobs::TableJob;
 use crate::line::{LineFault, is_blank, lsa_of_line, without_end};
 use crate::lookup::{publish_once, write_lookups};
-use crate::status::{Failure, Status};
 use ospf_base::{Addr, Kind, LsaKey, MAX_AGE, RouterId};
 use ospf_fib::{Closed, OpenRefused};
+use ospf_files::{Failure, Status};
 use ospf_graph::Route;
 use ospf_lsa::{Listing, ListingFault, LsaFault};
 use ospf_spf::RouteTable;
@@ -83,7 +83,7 @@ impl TableFault {
 
 impl From<AllocError> for TableFault {
     ghost use Rattle.std.specs.Prelude.{◌≡◌};
-    ghost use Rattle.ospfd.specs.declared.status.Failure.TheVariants as failure;
+    ghost use Rattle.ospf_files.specs.declared.status.Failure.TheVariants as failure;
     ghost use Rattle.ospfd.specs.declared.table.TableFault.TheVariants as fault;
 
     ghost from_gives = { λ _ f. f ≡ fault.Failure failure.Memory };
@@ -106,7 +106,7 @@ impl From<io::Error> for TableFault {
 
 impl From<OpenRefused> for TableFault {
     ghost use Rattle.std.specs.Prelude.{◌≡◌};
-    ghost use Rattle.ospfd.specs.declared.status.Failure.TheVariants as failure;
+    ghost use Rattle.ospf_files.specs.declared.status.Failure.TheVariants as failure;
     ghost use Rattle.ospfd.specs.declared.table.TableFault.TheVariants as fault;
 
     ghost from_gives = { λ _ f. f ≡ fault.Failure failure.Memory };
@@ -118,7 +118,7 @@ impl From<OpenRefused> for TableFault {
 
 impl From<Closed> for TableFault {
     ghost use Rattle.std.specs.Prelude.{◌≡◌};
-    ghost use Rattle.ospfd.specs.declared.status.Failure.TheVariants as failure;
+    ghost use Rattle.ospf_files.specs.declared.status.Failure.TheVariants as failure;
     ghost use Rattle.ospfd.specs.declared.table.TableFault.TheVariants as fault;
 
     ghost from_gives = { λ _ f. f ≡ fault.Failure failure.Closed };

@@ -1,10 +1,11 @@
 //! Whole answers to words and input.
 
-use crate::check::{NamedFile, check_text};
+use crate::check::check_text;
 use crate::jobs::{CheckJob, Job};
-use crate::status::{Failure, Status};
 use crate::table::table_text;
 use crate::words::{job, not_text};
+use ospf_files::{Failure, NamedFile, Status};
+use ospf_sim::sim_text;
 use std::alloc::{AllocError, Global};
 use std::io::{self, BufReader, BufWriter, ErrorKind, Read, Write};
 use std::sync::Wait;
@@ -300,6 +301,20 @@ struct Outcome {
     status: u8,
 }
 
+// A file that cannot be read.
+fn unread_file(name: String) -> NamedFile {
+    NamedFile { name, bytes: None }
+}
+
+// Files that cannot be read.
+fn unread(alloc: Global, names: Vec<String>) -> Result<Vec<NamedFile>, AllocError> {
+    let mut files = Vec::with_capacity(alloc, names.len())?;
+    for name in names {
+        files.push(unread_file(name))?;
+    }
+    Ok(files)
+}
+
 // Does what words say, where no file can be read.
 fn status_of<R: Wait, O: Write, E: Write>(
     rt: &R,
@@ -313,15 +328,14 @@ fn status_of<R: Wait, O: Write, E: Write>(
     match job(alloc, &words) {
         Ok(Job::Table(table)) => Ok(table_text(alloc, rt, &table, input, out, err)),
         Ok(Job::Check(check)) => {
-            let mut files = Vec::new(alloc);
-            let CheckJob {
-                files: names,
-                explain,
-            } = check;
-            for name in names {
-                files.push(NamedFile { name, bytes: None })?;
-            }
+            let CheckJob { files, explain } = check;
+            let files = unread(alloc, files)?;
             Ok(check_text(alloc, &files, explain, out, err))
+        }
+        Ok(Job::Sim(sim)) => {
+            let script = unread_file(sim.script);
+            let files = unread(alloc, sim.files)?;
+            Ok(sim_text(alloc, &script, &files, out, err).status)
         }
         Err(fault) => Ok(fault.tell(out, err)),
     }
@@ -368,7 +382,7 @@ fn refuses(rt: HostRuntime) -> Result<(), Fail> {
 }
 
 // Words by name, the exit status, and how standard output and standard error begin.
-static WORDS: [(&str, &str, u8, &str, &str); 13] = [
+static WORDS: [(&str, &str, u8, &str, &str); 16] = [
     ("help", "--help", 0, "OSPF version 2 for one area\n", ""),
     ("help word", "help", 0, "OSPF version 2 for one area\n", ""),
     ("help of table", "table --help", 0, "Computes a routing", ""),
@@ -379,10 +393,13 @@ static WORDS: [(&str, &str, u8, &str, &str); 13] = [
         "Checks configurations",
         "",
     ),
+    ("help of sim", "sim --help", 0, "Simulates an area", ""),
     ("version", "--version", 0, "ospfd 0.1.0\n", ""),
     ("no command", "", 2, "", "error: "),
     ("no words", "table", 2, "", "error: "),
     ("no file", "check", 2, "", "error: "),
+    ("no configuration", "sim a", 2, "", "error: "),
+    ("unread script", "sim a b.toml", 5, "", "a: not read\n"),
     ("unread", "check a.toml", 5, "", "a.toml: not read\n"),
     (
         "unknown command",
@@ -440,7 +457,7 @@ fn says(help: &[u8], text: &str) -> bool {
 #[test]
 fn help_tells_commands(rt: HostRuntime) -> Result<(), Fail> {
     let help = outcome_of(&rt, rt.alloc(), "--help", b"")?;
-    for text in ["  table ", "  check "] {
+    for text in ["  table ", "  check ", "  sim "] {
         assert!(rt; says(&help.out, text), "{text}");
     }
     Ok(())
@@ -448,7 +465,7 @@ fn help_tells_commands(rt: HostRuntime) -> Result<(), Fail> {
 
 #[test]
 fn help_tells_statuses_and_an_example(rt: HostRuntime) -> Result<(), Fail> {
-    for words in ["--help", "table --help", "check --help"] {
+    for words in ["--help", "table --help", "check --help", "sim --help"] {
         let help = outcome_of(&rt, rt.alloc(), words, b"")?;
         for text in ["  0  ", "  2  ", "  3  ", "  4  ", "  5  ", "\n  ospfd "] {
             assert!(rt; says(&help.out, text), "{words} {text}");

@@ -1,13 +1,13 @@
 //! The words of the command line.
 
 ghost use Rattle.clap.specs.Faults.{fault_of};
-ghost use Rattle.std.specs.Prelude.{OnOk, [], ◌≡◌, ◌∷◌, false, map, codes, string_bytes, Ok, Err, Some, IfOk, IfErr};
+ghost use Rattle.std.specs.Prelude.{OnOk, [], ◌≡◌, ◌∷◌, false, map, option_map, codes, string_bytes, Ok, Err, Some, IfOk, IfErr};
 ghost use Rattle.clap.specs.Words.{app_of, found_of, rows_of, rule_of, subcommand_rows_of};
 ghost use Rattle.ospfd.specs.Job.{IsFaultOfNoValue, IsFaultOfValue, IsHelp};
 ghost use Rattle.ospfd.specs.Unasked.{IsFirstWrong, IsJobIfAny, IsUnasked, IsWrongValue};
-ghost use Rattle.ospfd.specs.Words.{IsAsked, Spell, addresses_rule, command_app, explain_rule, files_rule, ospfd_app, root_rule};
+ghost use Rattle.ospfd.specs.Words.{IsAsked, Spell, addresses_rule, command_app, explain_rule, files_rule, option_rule, ospfd_app, root_rule, script_rule};
 
-use crate::jobs::{CheckJob, Job, JobFault, TableJob};
+use crate::jobs::{CheckJob, Job, JobFault, SimJob, TableJob};
 use clap::error::ErrorKind;
 use clap::{Arg, ArgAction, ArgMatches, Command};
 use ospf_base::Addr;
@@ -25,6 +25,7 @@ const HELP: &str = "Exit status:
 Examples:
   ospfd table 1.1.1.1 192.168.2.9 < lsas.txt
   ospfd check first.toml second.toml
+  ospfd sim script first.toml second.toml
 ";
 
 // What `table --help` says below its words.
@@ -62,6 +63,31 @@ Exit status:
 
 Example:
   ospfd check --explain first.toml second.toml
+";
+
+// What `sim --help` says below its words.
+const SIM_HELP: &str = "Lines of a script:
+  start R DD [FLOOR]          the router R starts, with its first DD number and,
+                              in eight hexadecimal digits, the floor of its numbers
+  stop R                      it stops, and forgets all
+  tick R                      a second passes at it
+  up R LINK, down R LINK      a link of it comes up, or goes down
+  deliver N R LINK            datagram N comes in on a link of it
+  round COUNT                 so many times a tick each, and all datagrams delivered
+  random NUMBER COUNT         so many events, drawn by the number
+  neighbours R, listing R, table R, floor R
+                              what the router knows is printed
+  walk R ADDRESS CHOICE..     the walk from R to ADDRESS is printed
+
+Exit status:
+  0  the script has run; lines that were refused are on standard error
+  2  the words fit no command
+  3  a configuration was refused, or a line is no command
+  4  memory ran out
+  5  a file was not read or not written, or standard output not written
+
+Example:
+  ospfd sim script first.toml second.toml
 ";
 
 // The router whose table is computed.
@@ -111,6 +137,37 @@ fn files_arg<'a>(alloc: Global) -> Arg<'a>
         .action(ArgAction::Append)
 }
 
+// The file of a script.
+fn script_arg<'a>(alloc: Global) -> Arg<'a>
+    ensures rule { rule_of result ≡ script_rule }
+    ensures local { result.global ≡ false }
+{
+    Arg::new(alloc, "script")
+        .value_name("SCRIPT")
+        .help("File with the lines of a script")
+        .required(true)
+}
+
+// The file into which a listing is drawn.
+fn dot_arg<'a>(alloc: Global) -> Arg<'a>
+    ensures rule { rule_of result ≡ option_rule (codes "dot") }
+    ensures local { result.global ≡ false }
+{
+    Arg::new(alloc, "dot").long("dot").value_name("FILE").help(
+        "Draws what the first running router lists at the end, for Graphviz's dot",
+    )
+}
+
+// The file into which all datagrams are written.
+fn pcap_arg<'a>(alloc: Global) -> Arg<'a>
+    ensures rule { rule_of result ≡ option_rule (codes "pcap") }
+    ensures local { result.global ≡ false }
+{
+    Arg::new(alloc, "pcap").long("pcap").value_name("FILE").help(
+        "Writes all datagrams that were sent, for Wireshark and tcpdump",
+    )
+}
+
 // The program, before its commands.
 fn program<'a>(alloc: Global) -> Result<Command<'a>, AllocError>
     ensures { IfOk result (λ c. app_of c ≡ ospfd_app) }
@@ -139,7 +196,17 @@ fn command<'a>(alloc: Global) -> Result<Command<'a>, AllocError>
         .after_help(CHECK_HELP)
         .arg(explain_arg(alloc))?
         .arg(files_arg(alloc))?;
-    program(alloc)?.subcommand(table)?.subcommand(check)
+    let sim = Command::new(alloc, "sim")
+        .about("Simulates an area: runs a script over a router for each configuration")
+        .after_help(SIM_HELP)
+        .arg(script_arg(alloc))?
+        .arg(files_arg(alloc))?
+        .arg(dot_arg(alloc))?
+        .arg(pcap_arg(alloc))?;
+    program(alloc)?
+        .subcommand(table)?
+        .subcommand(check)?
+        .subcommand(sim)
 }
 
 // The value that a word spells.
@@ -207,6 +274,38 @@ fn check_job(alloc: Global, values: &ArgMatches<'_>) -> Result<Option<Job>, Allo
     Ok(Some(Job::Check(CheckJob { files, explain })))
 }
 
+// The text of a word, if there is one.
+fn owned_if_any(alloc: Global, word: Option<&str>) -> Result<Option<String>, AllocError>
+    ensures { IfOk result (λ text. option_map string_bytes text ≡ option_map (λ w. w.now) word.entry) }
+{
+    match word {
+        Some(word) => Ok(Some(String::from_str(alloc, word)?)),
+        None => Ok(None),
+    }
+}
+
+// The values of `sim`: its job, if they have a script and files.
+fn sim_job(alloc: Global, values: &ArgMatches<'_>) -> Result<Option<Job>, AllocError>
+    ensures { IfOk result (IsJobIfAny (Some (codes "sim", rows_of (found_of values.now)))) }
+{
+    let Some(script) = values.get_str("script") else {
+        return Ok(None);
+    };
+    let Some(files) = values.get_strs("files") else {
+        return Ok(None);
+    };
+    let script = String::from_str(alloc, script)?;
+    let files = owned(alloc, files)?;
+    let dot = owned_if_any(alloc, values.get_str("dot"))?;
+    let pcap = owned_if_any(alloc, values.get_str("pcap"))?;
+    Ok(Some(Job::Sim(SimJob {
+        script,
+        files,
+        dot,
+        pcap,
+    })))
+}
+
 // The job of the command that the words entered, if its values make one.
 fn entered_job(alloc: Global, matches: &ArgMatches<'_>) -> Result<Option<Job>, JobFault>
     ensures ok { IfOk result (IsJobIfAny (subcommand_rows_of matches.now)) }
@@ -217,6 +316,9 @@ fn entered_job(alloc: Global, matches: &ArgMatches<'_>) -> Result<Option<Job>, J
     }
     if let Some(values) = matches.subcommand_matches("check") {
         return Ok(check_job(alloc, values)?);
+    }
+    if let Some(values) = matches.subcommand_matches("sim") {
+        return Ok(sim_job(alloc, values)?);
     }
     Ok(None)
 }

@@ -1,5 +1,6 @@
 use Rattle.std.proofs.Common.{rules, ◌≡◌, ◌++◌, [], Some}
-use Rattle.ospfd.specs.Checked.{accepted_line, accepted_told, bytes_of, refused_line, refused_told}
+use Rattle.ospfd.specs.Checked.{accepted_line, accepted_told, refused_told}
+use Rattle.ospf_files.specs.Files.{bytes_of, refused_line}
 use Rattle.ospfd.proofs.Written.{nothing_written}
 use Rattle.ospfd.proofs.check.check_file.Goals as goal
 
@@ -9,19 +10,19 @@ returns-in-Ok-tell_accepted g c =
     record {
       out = accepted_line c.args.file.now;
       err = [];
-      told = accepted_told c.deref.result.now held c.in-Ok-check_bytes.ensures.ok;
+      told = accepted_told c.deref.result.now held (_, c.in-Ok-config_in.ensures.ok);
       out_written = c.in-Ok-tell_accepted.ensures;
       err_written = nothing_written _;
     }
 
-pub returns-in_ok-refuse_file-in-Err-check_bytes : goal.returns-in_ok-refuse_file-in-Err-check_bytes
-returns-in_ok-refuse_file-in-Err-check_bytes g c =
+pub returns : goal.returns
+returns g c =
     let held : bytes_of c.args.file.now ≡ Some c.deref.result.now = search rules in
-    let more = c.in_ok-refuse_file-in-Err-check_bytes.ensures in
+    let more = c.in_ok-refuse_file-in-Err-config_in.ensures in
     record {
       out = [];
-      err = refused_line c.args.file.now c.in-Err-check_bytes.fault ++ more.0;
-      told = refused_told c.deref.result.now c.in-Err-check_bytes.fault more.0 held (search rules) more.1;
+      err = refused_line c.args.file.now c.in-Err-config_in.fault ++ more.0;
+      told = refused_told c.deref.result.now c.in-Err-config_in.fault more.0 held (search rules) more.1;
       out_written = nothing_written _;
       err_written = more.2;
     }

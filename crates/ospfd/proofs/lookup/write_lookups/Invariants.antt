@@ -1,5 +1,4 @@
 use Rattle.std.proofs.Common.{◌≡◌, ◌++◌, ◌∷◌, [], take}
-use Rattle.ospf_graph.specs.declared.route.Route.{Route}
 use Rattle.ospf_published.specs.Known.{Table, opening}
 use Rattle.ospfd.proofs.Written.{HasLookups}
 use Rattle.ospfd.proofs.lookup.write_lookups.Given as goal

@@ -1,7 +1,7 @@
-use Rattle.std.proofs.Common.{rules, ◌≡◌, arith, inl, inr, refl, sym, ap, ◌∙◌}
+use Rattle.std.proofs.Common.{rules, ◌≡◌, arith, inl, inr, sym, ap, ◌∙◌}
 use Rattle.ospfd.specs.Line.{text_of}
 use Rattle.ospfd.specs.declared.table.TableFault.TheVariants.{Entry, Failure}
-use Rattle.ospfd.specs.declared.status.Failure.TheVariants as failure
+use Rattle.ospf_files.specs.declared.status.Failure.TheVariants as failure
 use Rattle.ospfd.proofs.Lines.{ends_reads, leads_on, refused_here, not_memory, IsRead}
 use Rattle.ospfd.proofs.table.read_listing.Goals as goal
 

@@ -1,6 +1,3 @@
-use Rattle.std.proofs.Common.{ℕ, List, subst}
-use Rattle.std.specs.Io.KnownBytes.{Appends}
-use Rattle.ospfd.specs.Output.{AreLookups}
 use Rattle.ospfd.proofs.Written.{output_written}
 use Rattle.ospfd.proofs.table.write_answer.Goals as goal
 

@@ -1,7 +1,7 @@
 use Rattle.std.proofs.Common.{ap, ap₂, codes, ◌≡◌, ◌∙◌}
 use Rattle.std.proofs.lemmas.Result.{IfOk-weaker}
 use Rattle.clap.specs.Words.{App, app_of, new_app, with_rule, with_subcommand}
-use Rattle.ospfd.specs.Words.{check_app, ospfd_app, table_app}
+use Rattle.ospfd.specs.Words.{check_app, ospfd_app, sim_app, table_app}
 use Rattle.ospfd.proofs.words.command.Goals as goal
 
 pub returns : goal.returns
@@ -16,5 +16,15 @@ returns c =
     let with_table : app_of c.in_ok-subcommand.field-0 ≡ with_subcommand ospfd_app table_app.top =
     c.in_ok-subcommand.ensures.shape
     (search (c.in_ok-table.ensures.globals, c.in_ok-arg.ensures.globals, c.after_help.ensures, c.about.ensures, c.new.ensures.local, c.root_arg.ensures.local, c.addresses_arg.ensures.local)) ∙ ap₂ with_subcommand c.in_ok-program.ensures (ap (λ (a : App). a.top) table_is) in
-    IfOk-weaker c.subcommand-2.result _ _
-    (λ r h. h.shape (search (c.in_ok-check.ensures.globals, c.in_ok-arg-2.ensures.globals, c.after_help-2.ensures, c.about-2.ensures, c.new-2.ensures.local, c.explain_arg.ensures.local, c.files_arg.ensures.local)) ∙ ap₂ with_subcommand with_table (ap (λ (a : App). a.top) check_is)) c.subcommand-2.ensures
+    let with_check : app_of c.in_ok-subcommand-2.field-0 ≡ with_subcommand (with_subcommand ospfd_app table_app.top) check_app.top =
+    c.in_ok-subcommand-2.ensures.shape
+    (search (c.in_ok-check.ensures.globals, c.in_ok-arg-2.ensures.globals, c.after_help-2.ensures, c.about-2.ensures, c.new-2.ensures.local, c.explain_arg.ensures.local, c.files_arg.ensures.local)) ∙ ap₂ with_subcommand with_table (ap (λ (a : App). a.top) check_is) in
+    let new_sim : app_of c.after_help-3.result ≡ new_app (codes "sim") = search (c.after_help-3.ensures, c.about-3.ensures, c.new-3.ensures.app) in
+    let sim_is : app_of c.in_ok-sim.sim ≡ sim_app =
+    c.in_ok-sim.ensures.shape c.pcap_arg.ensures.local
+    ∙ ap₂ with_rule (c.in_ok-arg-5.ensures.shape c.dot_arg.ensures.local
+    ∙ ap₂ with_rule (c.in_ok-arg-4.ensures.shape c.files_arg-2.ensures.local
+    ∙ ap₂ with_rule (c.in_ok-arg-3.ensures.shape c.script_arg.ensures.local ∙ ap₂ with_rule new_sim c.script_arg.ensures.rule) c.files_arg-2.ensures.rule)
+    c.dot_arg.ensures.rule) c.pcap_arg.ensures.rule in
+    IfOk-weaker c.subcommand-3.result _ _
+    (λ r h. h.shape (search (c.in_ok-sim.ensures.globals, c.in_ok-arg-5.ensures.globals, c.in_ok-arg-4.ensures.globals, c.in_ok-arg-3.ensures.globals, c.after_help-3.ensures, c.about-3.ensures, c.new-3.ensures.local, c.script_arg.ensures.local, c.files_arg-2.ensures.local, c.dot_arg.ensures.local, c.pcap_arg.ensures.local)) ∙ ap₂ with_subcommand with_check (ap (λ (a : App). a.top) sim_is)) c.subcommand-3.ensures

@@ -1,0 +1,138 @@
+//! How a program ends.
+
+ghost use Rattle.std.specs.Prelude.{◌++◌, OnOk, codes};
+ghost use Rattle.std.specs.Io.KnownBytes.{Appends};
+
+use std::alloc::AllocError;
+use std::io::{self, ErrorKind, Write};
+use std::process::ExitCode;
+
+/// How a program ends.
+#[derive(Clone, Copy, Debug, PartialEq, Eq)]
+pub enum Status {
+    /// What was asked is done.
+    Done,
+    /// The words ask for nothing that the program does.
+    Words,
+    /// The input was refused.
+    Refused,
+    /// Memory ran out.
+    Memory,
+    /// A file or a stream failed.
+    Stream,
+}
+
+impl Status {
+    ghost use Rattle.std.specs.Prelude.{◌≡◌};
+    ghost use Rattle.ospf_files.specs.Status.{code_of};
+
+    /// The exit status.
+    pub fn code(self) -> u8
+        ensures { result ≡ code_of self }
+    {
+        match self {
+            Status::Done => 0,
+            Status::Words => 2,
+            Status::Refused => 3,
+            Status::Memory => 4,
+            Status::Stream => 5,
+        }
+    }
+}
+
+impl From<Status> for ExitCode {
+    ghost use Rattle.std.specs.Prelude.{◌≡◌};
+    ghost use Rattle.std.specs.Process.{exit_status};
+    ghost use Rattle.ospf_files.specs.Status.{code_of};
+
+    ghost from_gives = { λ status code. exit_status code ≡ code_of status };
+
+    fn from(status: Status) -> ExitCode {
+        ExitCode::from(status.code())
+    }
+}
+
+/// What the program cannot go on without, whatever it was given.
+#[derive(Clone, Copy, Debug, PartialEq, Eq)]
+pub enum Failure {
+    /// Memory ran out, or there was no place for a seat at the published table.
+    Memory,
+    /// Standard input was not read to its end.
+    Input,
+    /// Standard output was not written.
+    Output,
+    /// Standard error was not written.
+    Error,
+    /// The published table was closed.
+    Closed,
+}
+
+impl Failure {
+    ghost use Rattle.std.specs.Prelude.{◌≡◌, ◌≢◌};
+    ghost use Rattle.std.specs.IoError.{error_kind};
+    ghost use Rattle.std.specs.declared.io.ErrorKind.TheVariants as kind;
+    ghost use Rattle.ospf_files.specs.Status.{failure_status, failure_text};
+
+    /// What an error of a stream is: want of memory, or else this failure of the stream.
+    pub fn of(error: &io::Error, stream: Failure) -> Failure
+        ensures memory { error_kind error.now ≡ kind.OutOfMemory → result ≡ Failure.Memory }
+        ensures stream { error_kind error.now ≢ kind.OutOfMemory → result ≡ stream }
+    {
+        if error.kind() == ErrorKind::OutOfMemory {
+            Failure::Memory
+        } else {
+            stream
+        }
+    }
+
+    /// The status to end with.
+    pub fn status(self) -> Status
+        ensures { result ≡ failure_status self }
+    {
+        match self {
+            Failure::Memory => Status::Memory,
+            Failure::Input | Failure::Output | Failure::Error | Failure::Closed => Status::Stream,
+        }
+    }
+
+    /// The failure as it is told.
+    pub fn text(self) -> &'static str
+        ensures { result.now ≡ failure_text self }
+    {
+        match self {
+            Failure::Memory => "out of memory",
+            Failure::Input => "standard input: not read",
+            Failure::Output => "standard output: not written",
+            Failure::Error => "standard error: not written",
+            Failure::Closed => "the published table is closed",
+        }
+    }
+
+    /// Tells the failure on `err`, as far as that can be written. The answer is the status to end with.
+    pub fn tell<E: Write>(self, err: &mut E) -> Status
+        ensures { result ≡ failure_status self }
+    {
+        let _ = write_line(err, self.text());
+        self.status()
+    }
+}
+
+impl From<AllocError> for Failure {
+    ghost use Rattle.std.specs.Prelude.{◌≡◌};
+    ghost use Rattle.ospf_files.specs.declared.status.Failure.TheVariants as failure;
+
+    ghost from_gives = { λ _ f. f ≡ failure.Memory };
+
+    fn from(_error: AllocError) -> Failure {
+        Failure::Memory
+    }
+}
+
+/// Writes a text as a line, and flushes.
+pub fn write_line<W: Write>(writer: &mut W, text: &str) -> io::Result<()>
+    ensures { OnOk result (Appends (W.contents writer.old) (W.contents writer.new) (text.now ++ codes "\n")) }
+{
+    writeln!(writer, "{text}")?;
+    writer.flush()?;
+    Ok(())
+}

@@ -1,0 +1,54 @@
+-- Commands that are done.
+use Rattle.std.proofs.Common.{◌≡◌, sym, subst, refl, ℕ, List, [], Option, None, Some, Result, Ok, Err, IfOk, OnOk}
+use Rattle.std.specs.Prelude.{Vec}
+use Rattle.std.specs.Result.{IsOk}
+use Rattle.std.specs.declared.alloc.Global.{Global}
+use Rattle.ospf_base.specs.declared.ids.Addr.{Addr}
+use Rattle.ospf_base.specs.declared.ids.RouterId.{RouterId}
+use Rattle.ospf_files.proofs.Written.{nothing_written}
+use Rattle.ospf_files.specs.declared.status.Failure.{Failure}
+use Rattle.ospf_headline.specs.declared.event.WorldEvent.{WorldEvent}
+use Rattle.ospf_script.specs.declared.command.Command.{Command}
+use Rattle.ospf_script.specs.declared.command.Command.TheVariants as command
+use Rattle.ospf_sim.specs.Worlds.{WorldValue, Comes, IsRandom}
+use Rattle.ospf_sim.specs.Commands.{Answer, AreRounds, DoesBy, DoesShown, IsDone, IsShownOn, IsWalked, IsWalkedOn, event_in, shown_in}
+use Rattle.ospf_sim.specs.declared.show.View.{View}
+
+pub on_ok : {T E : Type 0} (r : Result T E) (P : Type 0) → IsOk r → OnOk r P → P
+on_ok (Ok x) P is h = h
+on_ok (Err e) P is h = absurd (cc is)
+
+pub event_done : (c : Command) (e : WorldEvent) (w w' : WorldValue) (answer : Answer) (o : Option (List ℕ)) → event_in c ≡ Some e → Comes e w answer w'
+    → IsDone c w answer w' o o
+event_done c e w w' answer o is comes = record {
+  text = [];
+  does = subst (λ found. DoesBy found c w answer [] w') (sym is) (comes, refl);
+  written = nothing_written o;
+}
+
+pub shown_done : (c : Command) (shown : RouterId × View) (w : WorldValue) (result : Result Answer Failure) (a b : Option (List ℕ)) → event_in c ≡ None → shown_in c ≡ Some shown
+    → IfOk result (λ answer. IsShownOn shown.1 w shown.0 answer a b) → IfOk result (λ answer. IsDone c w answer w a b)
+shown_done c shown w (Err failure) a b no_event is h = h
+shown_done c shown w (Ok answer) a b no_event is h = record {
+  text = h.text;
+  does = subst (λ found. DoesBy found c w answer h.text w) (sym no_event) (subst (λ found. DoesShown found c w answer h.text w) (sym is) (h.shown, refl));
+  written = h.written;
+}
+
+pub rounds_done : (c : Command) (count : ℕ) (w w' : WorldValue) (answer : Answer) (o : Option (List ℕ)) → c ≡ command.Round count → AreRounds count w answer w'
+    → IsDone c w answer w' o o
+rounds_done c count w w' answer o is rounds =
+    subst (λ d. IsDone d w answer w' o o) (sym is) (record { text = []; does = (rounds, refl); written = nothing_written o })
+
+pub random_done : (c : Command) (number count : ℕ) (w w' : WorldValue) (answer : Answer) (o : Option (List ℕ)) → c ≡ command.Random number count
+    → IsRandom number count w answer w' → IsDone c w answer w' o o
+random_done c number count w w' answer o is random =
+    subst (λ d. IsDone d w answer w' o o) (sym is) (record { text = []; does = (random, refl); written = nothing_written o })
+
+pub walk_done : (c : Command) (from : RouterId) (address : Addr) (choices : Vec ℕ Global) (given : List ℕ) (w : WorldValue) (result : Result Answer Failure) (a b : Option (List ℕ))
+    → c ≡ command.Walk from address choices → given ≡ choices.items → IfOk result (λ answer. IsWalkedOn w from address.0 given answer a b)
+    → IfOk result (λ answer. IsDone c w answer w a b)
+walk_done c from address choices given w (Err failure) a b is same h = h
+walk_done c from address choices given w (Ok answer) a b is same h =
+    subst (λ d. IsDone d w answer w a b) (sym is)
+    (record { text = h.text; does = (subst (λ list. IsWalked w from address.0 list answer h.text) same h.walked, refl); written = h.written })

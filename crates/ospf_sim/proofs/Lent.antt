@@ -1,0 +1,46 @@
+-- What a world answers that is asked for a router, and what comes of configurations.
+use Rattle.std.proofs.Common.{◌≡◌, ◌∙◌, ap, sym, subst, refl, List, None, Some, Ok, Err, false}
+use Rattle.std.specs.Borrow.{Bor}
+use Rattle.ospf_base.specs.declared.ids.RouterId.{RouterId}
+use Rattle.ospf_config.specs.declared.config.Config.{Config}
+use Rattle.ospf_headline.specs.World.{Member, member, of_member, unless_stopped}
+use Rattle.ospf_headline.specs.declared.event.WorldFault.{WorldFault}
+use Rattle.ospf_headline.specs.declared.event.WorldFault.TheVariants as fault
+use Rattle.ospf_router.specs.Routers.{RouterValue}
+use Rattle.ospf_slots.specs.Slots.{IsLent}
+use Rattle.ospf_sim.specs.Worlds.{HaveTwins, IsNewOf, IsNotLent, LendsRouter, WorldValue}
+use Rattle.ospf_world.specs.Worlds as worlds
+use Rattle.ospf_world.specs.Worlds.{Begins, Lends, NoMemory, NoRouter, NotRunning, Runs, SameRouter, new_world, world_of}
+
+pub lent : (w : WorldValue) (r : RouterId) (x : Bor RouterValue) → Lends (world_of w) r (Ok x) → LendsRouter w r x.now
+lent w r x (Runs m y is same lends) =
+    let one : x ≡ y = cc in
+    (m, is, subst (λ b. IsLent m.running b.now) (sym one) lends)
+lent w r x (NoRouter none same) = absurd (cc same)
+lent w r x (NotRunning m is stopped same) = absurd (cc same)
+
+stops : (m : Member) → m.running ≡ None → unless_stopped m ≡ Some fault.NotRunning
+stops m stopped = rw stopped refl
+
+pub not_lent : (w : WorldValue) (r : RouterId) (f : WorldFault) → Lends (world_of w) r (Err f) → IsNotLent w r f
+not_lent w r f (Runs m y is same lends) = absurd (cc same)
+not_lent w r f (NoRouter none same) =
+    let one : f ≡ fault.NoRouter = cc in
+    subst (λ x. of_member unless_stopped (member (world_of w) r) ≡ Some x) (sym one) (ap (of_member unless_stopped) none)
+not_lent w r f (NotRunning m is stopped same) =
+    let one : f ≡ fault.NotRunning = cc in
+    subst (λ x. of_member unless_stopped (member (world_of w) r) ≡ Some x) (sym one)
+    (subst (λ x. of_member unless_stopped x ≡ Some fault.NotRunning) (sym is) (stops m stopped))
+
+pub is_new : (configs : List Config) (w : WorldValue) → worlds.Opens configs (Ok w) → IsNewOf configs w
+is_new configs w (Begins apart same) = cc
+is_new configs w (SameRouter twins same) = absurd (cc same)
+is_new configs w (NoMemory same) = absurd (cc same)
+
+pub have_twins : (configs : List Config) (f : WorldFault) → f ≡ fault.SameRouter → worlds.Opens configs (Err f) → HaveTwins configs
+have_twins configs f is (Begins apart same) = absurd (cc same)
+have_twins configs f is (SameRouter twins same) = twins
+have_twins configs f is (NoMemory same) =
+    let one : f ≡ fault.Memory false = cc in
+    let none : fault.SameRouter ≡ fault.Memory false = sym is ∙ one in
+    absurd (cc none)

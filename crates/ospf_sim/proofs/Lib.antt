@@ -1,0 +1,7 @@
+pub mod Pieces
+pub mod Rounds
+pub mod Lines
+pub mod Files
+pub mod Done
+pub mod Worlds
+pub mod Lent

@@ -1,0 +1,125 @@
+-- Lines that run one after another.
+use Rattle.std.proofs.Common.{◌≡◌, ◌∙◌, ap, sym, subst, refl, ◌+◌, ◌<◌, ℕ, suc, List, [], ◌∷◌, ◌++◌, length, take, drop, get_or, map, Bool, true, false, Option, None, Some, Result, Ok, Err, OnOk, append-nil, append_assoc}
+use Rattle.std.proofs.lemmas.List.{take_more, take-append-drop, map-append}
+use Rattle.std.proofs.Math.Seq.{drop-cons}
+use Rattle.std.specs.Io.KnownBytes.{Appends, Keeps}
+use Rattle.ospf_script.specs.Lines.{entry_of, numbered_from}
+use Rattle.ospf_script.specs.Commands.{Spells}
+use Rattle.ospf_script.specs.Words.{Text, words}
+use Rattle.ospf_script.specs.declared.command.Command.{Command}
+use Rattle.ospf_script.specs.declared.script.Line.{Line}
+use Rattle.ospf_sim.specs.Worlds.{WorldValue}
+use Rattle.ospf_files.proofs.Written.{both_written, kept_written, nothing_written}
+use Rattle.ospf_files.specs.declared.status.Failure.{Failure}
+use Rattle.ospf_sim.specs.Commands.{Answer, IsDone}
+use Rattle.ospf_sim.specs.Scripts.{EndsAt, IsRun, IsRunLine, IsTaken, LineComes, LinesCome, EndsEarly, RunsLine, RunsLines, is_taken, no_line, one_line, told_of, unreadable_line}
+
+-- one line more
+more_lines : (lines : List (ℕ × Text)) (number : ℕ) (line : Text) (w mid w' : WorldValue) (outs out errs err : Text) → RunsLines lines w mid outs errs
+    → RunsLine number line mid w' out err → RunsLines (lines ++ (number, line) ∷ []) w w' (outs ++ out) (errs ++ err)
+more_lines _ number line w mid w' _ out _ err no_line last = rw (sym (append-nil out), sym (append-nil err)) (one_line last no_line)
+more_lines _ number line w mid w' _ out _ err (one_line {lines = lines} {mid = first} {out = o} {outs = outs} {err = e} {errs = errs} head rest) last =
+    rw (append_assoc o outs out, append_assoc e errs err) (one_line head (more_lines lines number line first mid w' outs out errs err rest last))
+
+pub no_lines : (w : WorldValue) (out err : Option (List ℕ)) → IsRun [] w w out out err err
+no_lines w out err = record { out = []; err = []; runs = no_line; out_written = nothing_written out; err_written = nothing_written err }
+
+-- the entries of one line more
+entries_more : (lines : List Line) (i : ℕ) (d : Line) → i < length lines
+    → map entry_of (take (i + 1) lines) ≡ map entry_of (take i lines) ++ entry_of (get_or lines i d) ∷ []
+entries_more lines i d within = ap (map entry_of) (take_more lines i d within) ∙ map-append entry_of (take i lines) (get_or lines i d ∷ [])
+
+pub line_run : (lines : List Line) (i : ℕ) (d : Line) (w mid w' : WorldValue) (a b c x y z : Option (List ℕ)) (read : Bool) → i < length lines → read ≡ true
+    → IsRun (map entry_of (take i lines)) w mid a b x y → LineComes read (get_or lines i d) mid w' b c y z
+    → IsRun (map entry_of (take (i + 1) lines)) w w' a c x z
+line_run lines i d w mid w' a b c x y z false within is so_far next = absurd (cc is)
+line_run lines i d w mid w' a b c x y z true within is so_far next =
+    let line = get_or lines i d in
+    let entries = sym (entries_more lines i d within) in
+    record {
+      out = so_far.out ++ next.out;
+      err = so_far.err ++ next.err;
+      runs = subst (λ front. RunsLines front w w' (so_far.out ++ next.out) (so_far.err ++ next.err)) entries
+          (more_lines (map entry_of (take i lines)) line.number line.text.now w mid w' so_far.out next.out so_far.err next.err so_far.runs next.runs);
+      out_written = both_written a b c so_far.out next.out so_far.out_written next.out_written;
+      err_written = both_written x y z so_far.err next.err so_far.err_written next.err_written;
+    }
+
+-- the lines before one, that one, and those behind it
+entries_split : (lines : List Line) (i : ℕ) (d : Line) → i < length lines
+    → map entry_of lines ≡ map entry_of (take i lines) ++ entry_of (get_or lines i d) ∷ map entry_of (drop (suc i) lines)
+entries_split lines i d within =
+    let split : take i lines ++ get_or lines i d ∷ drop (suc i) lines ≡ lines =
+    ap (λ rest. take i lines ++ rest) (sym (drop-cons lines i d within)) ∙ take-append-drop i lines in
+    ap (map entry_of) (sym split) ∙ map-append entry_of (take i lines) (get_or lines i d ∷ drop (suc i) lines)
+
+pub line_ends : (lines : List Line) (i : ℕ) (d : Line) (w mid w' : WorldValue) (a b c x y z : Option (List ℕ)) (read : Bool) → i < length lines → read ≡ false
+    → IsRun (map entry_of (take i lines)) w mid a b x y → LineComes read (get_or lines i d) mid w' b c y z
+    → EndsAt (map entry_of lines) (get_or lines i d).number w w' a c x z
+line_ends lines i d w mid w' a b c x y z true within is so_far last = absurd (cc is)
+line_ends lines i d w mid w' a b c x y z false within is so_far last =
+    let line = get_or lines i d in
+    record {
+      before = map entry_of (take i lines);
+      line = line.text.now;
+      after = map entry_of (drop (suc i) lines);
+      lines_are = entries_split lines i d within;
+      unreadable = last.unreadable;
+      run = subst (λ err. IsRun (map entry_of (take i lines)) w w' a c x err) (sym last.same_err)
+          (subst (λ out. IsRun (map entry_of (take i lines)) w w' a out x y) (sym last.same_out)
+          (subst (λ end. IsRun (map entry_of (take i lines)) w end a b x y) (sym last.same_world) so_far));
+    }
+
+-- a command that is done, and told of
+pub taken : (number : ℕ) (c : Command) (w w' : WorldValue) (answer : Answer) (a b z x y : Option (List ℕ)) (result : Result (Unit {0}) Failure) → IsDone c w answer w' a b
+    → OnOk result (Appends b z []) → OnOk result (Appends x y (told_of number answer)) → OnOk result (IsTaken number c w w' a z x y)
+taken number c w w' answer a b z x y (Err failure) done out err = tt
+taken number c w w' answer a b z x y (Ok u) done out err = record {
+  answer = answer;
+  out = done.text;
+  does = done.does;
+  out_written = subst (Appends a z) (append-nil done.text) (both_written a b z done.text [] done.written out);
+  err_written = err;
+}
+
+pub taken_runs : (number : ℕ) (line : Text) (c : Command) (w w' : WorldValue) (a b x y : Option (List ℕ)) → Spells (words line) c → IsTaken number c w w' a b x y
+    → IsRunLine number line w w' a b x y
+taken_runs number line c w w' a b x y spelled done = record {
+  out = done.out;
+  err = told_of number done.answer;
+  runs = is_taken c done.answer spelled done.does refl;
+  out_written = done.out_written;
+  err_written = done.err_written;
+}
+
+-- the lines of a script that have all run
+pub script_whole : (ended : Option ℕ) (entries : List (ℕ × Text)) (script : Text) (w w' : WorldValue) (a b c x y : Option (List ℕ)) → ended ≡ None → entries ≡ numbered_from 1 script
+    → LinesCome ended entries w w' a b x y → Keeps b c → IsRun (numbered_from 1 script) w w' a c x y
+script_whole (Some number) entries script w w' a b c x y is same run kept = absurd (cc is)
+script_whole None entries script w w' a b c x y is same run kept = record {
+  out = run.out;
+  err = run.err;
+  runs = subst (λ lines. RunsLines lines w w' run.out run.err) same run.runs;
+  out_written = kept_written a b c run.out run.out_written kept;
+  err_written = run.err_written;
+}
+
+-- those of one that ends early, of which it is told
+pub script_early : (ended : Option ℕ) (number : ℕ) (entries : List (ℕ × Text)) (script : Text) (w w' : WorldValue) (a b c x y z : Option (List ℕ)) → ended ≡ Some number
+    → entries ≡ numbered_from 1 script → LinesCome ended entries w w' a b x y → Keeps b c → Appends y z (unreadable_line number) → EndsEarly script w w' a c x z
+script_early None number entries script w w' a b c x y z is same run kept told = absurd (cc is)
+script_early (Some n) number entries script w w' a b c x y z is same run kept told =
+    let one : n ≡ number = cc is in
+    record {
+      number = number;
+      before = run.before;
+      line = run.line;
+      after = run.after;
+      lines_are = sym same ∙ run.lines_are ∙ ap (λ k. run.before ++ (k, run.line) ∷ run.after) one;
+      unreadable = run.unreadable;
+      out = run.run.out;
+      err = run.run.err;
+      runs = run.run.runs;
+      out_written = kept_written a b c run.run.out run.run.out_written kept;
+      err_written = both_written x y z run.run.err (unreadable_line number) run.run.err_written told;
+    }

@@ -1,0 +1,98 @@
+-- Worlds of configurations, and what runs in them.
+use Rattle.std.proofs.Common.{◌≡◌, ◌∙◌, sym, subst, refl, inr, ◌<◌, ℕ, suc, List, ◌∷◌, length, take, drop, get_or, Bool, true, false, Option, None, Some, Result, Ok, Err, IfOk}
+use Rattle.std.specs.Io.KnownBytes.{Appends}
+use Rattle.ospf_config.specs.declared.config.Config.{Config}
+use Rattle.ospf_files.specs.Files.{IsConfigIn, refused_line, text_in}
+use Rattle.ospf_files.specs.declared.files.NamedFile.{NamedFile}
+use Rattle.ospf_files.specs.declared.status.Failure.{Failure}
+use Rattle.ospf_files.specs.declared.status.Status.{Status}
+use Rattle.ospf_files.specs.declared.status.Status.TheVariants.{Done, Words, Refused, Memory, Stream}
+use Rattle.ospf_script.specs.Words.{Text}
+use Rattle.ospf_sim.specs.Worlds.{WorldValue}
+use Rattle.ospf_sim.proofs.Files.{files_split}
+use Rattle.ospf_sim.specs.Scripts.{ScriptComes}
+use Rattle.ospf_sim.specs.declared.text.Simulated.{Simulated}
+use Rattle.ospf_sim.specs.Simulations.{AreConfigs, AreRead, Comes, ConfigComes, ConfigsCome, IsNoWorld, IsRefusalTold, Opens, RunsTo, WorldComes, same_router, same_router_line, status_for}
+
+pub config_found : (file : NamedFile) (found : Option Config) (config : Config) (y z : Option (List ℕ)) → found ≡ Some config → ConfigComes file found y z
+    → IsConfigIn (text_in file) config × (z ≡ y)
+config_found file None config y z is comes = absurd (cc is)
+config_found file (Some other) config y z is comes =
+    let one : other ≡ config = cc is in
+    (subst (IsConfigIn (text_in file)) one comes.0, comes.1)
+
+pub config_refused : (files : List NamedFile) (i : ℕ) (file : NamedFile) (configs : List Config) (found : Option Config) (x y z : Option (List ℕ)) → i < length files
+    → file ≡ get_or files i file → AreConfigs (take i files) configs → y ≡ x → found ≡ None → ConfigComes file found y z → IsRefusalTold files x z
+config_refused files i file configs (Some other) x y z within at are same is comes = absurd (cc is)
+config_refused files i file configs None x y z within at are same is comes = record {
+  file = file;
+  fault = comes.0;
+  refused = record {
+    before = take i files;
+    configs = configs;
+    after = drop (suc i) files;
+    files_are = files_split files i file within at;
+    are_configs = are;
+    refused = comes.1;
+  };
+  told = subst (λ old. Appends old z (refused_line file comes.0)) same comes.2;
+}
+
+pub world_comes : (found : Option (List Config)) (configs : List Config) (files : List NamedFile) (result : Result (Option WorldValue) Failure) (x y z : Option (List ℕ))
+    → found ≡ Some configs → ConfigsCome files found x y → IfOk result (λ world. Opens configs world y z) → IfOk result (λ world. WorldComes files world x z)
+world_comes None configs files result x y z is comes opens = absurd (cc is)
+world_comes (Some cs) configs files (Err failure) x y z is comes opens = opens
+world_comes (Some cs) configs files (Ok None) x y z is comes opens =
+    let one : cs ≡ configs = cc is in
+    same_router configs (subst (AreConfigs files) one comes.0) opens.0 (subst (λ old. Appends old z same_router_line) comes.1 opens.1)
+world_comes (Some cs) configs files (Ok (Some w)) x y z is comes opens =
+    let one : cs ≡ configs = cc is in
+    (record { configs = configs; are_configs = subst (AreConfigs files) one comes.0; new = opens.0 }, opens.1 ∙ comes.1)
+
+pub no_world_told : (found : Option WorldValue) (files : List NamedFile) (x y : Option (List ℕ)) → found ≡ None → WorldComes files found x y → IsNoWorld files x y
+no_world_told None files x y is comes = comes
+no_world_told (Some w) files x y is comes = absurd (cc is)
+
+pub runs_to : (whole : Bool) (status : Status) (script : NamedFile) (text : Text) (w w' : WorldValue) (a b x y : Option (List ℕ)) → status ≡ status_for whole
+    → text ≡ text_in script → ScriptComes whole text w w' a b x y → RunsTo status script w (Some w') a b x y
+runs_to true status script text w w' a b x y is same comes =
+    subst (λ s. RunsTo s script w (Some w') a b x y) (sym is)
+    (record { end = w'; ends = refl; comes = subst (λ t. ScriptComes true t w w' a b x y) same comes })
+runs_to false status script text w w' a b x y is same comes =
+    subst (λ s. RunsTo s script w (Some w') a b x y) (sym is)
+    (record { end = w'; ends = refl; comes = subst (λ t. ScriptComes false t w w' a b x y) same comes })
+
+run_comes : (status : Status) (start : WorldValue) (script : NamedFile) (files : List NamedFile) (world : Option WorldValue) (a b x y z : Option (List ℕ))
+    → WorldComes files (Some start) x y → AreRead (script ∷ files) → RunsTo status script start world a b y z → Comes status script files world a b x z
+run_comes Done start script files world a b x y z comes read run = record {
+  read = read;
+  start = start;
+  end = run.end;
+  starts = comes.0;
+  ends = run.ends;
+  run = subst (λ old. ScriptComes true (text_in script) start run.end a b old z) comes.1 run.comes;
+}
+run_comes Refused start script files world a b x y z comes read run = inr (record {
+  read = read;
+  start = start;
+  end = run.end;
+  starts = comes.0;
+  ends = run.ends;
+  early = subst (λ old. ScriptComes false (text_in script) start run.end a b old z) comes.1 run.comes;
+})
+run_comes Words start script files world a b x y z comes read run = tt
+run_comes Memory start script files world a b x y z comes read run = tt
+run_comes Stream start script files world a b x y z comes read run = tt
+
+found_runs : (found : Option WorldValue) (start : WorldValue) (status : Status) (script : NamedFile) (files : List NamedFile) (world : Option WorldValue) (a b x y z : Option (List ℕ))
+    → found ≡ Some start → WorldComes files found x y → AreRead (script ∷ files) → RunsTo status script start world a b y z → Comes status script files world a b x z
+found_runs None start status script files world a b x y z is comes read run = absurd (cc is)
+found_runs (Some w) start status script files world a b x y z is comes read run =
+    let one : w ≡ start = cc is in
+    run_comes status start script files world a b x y z (subst (λ v. WorldComes files (Some v) x y) one comes) read run
+
+pub world_runs : (found : Option WorldValue) (start : WorldValue) (script : NamedFile) (files : List NamedFile) (result : Result Simulated Failure) (a b x y z : Option (List ℕ))
+    → found ≡ Some start → WorldComes files found x y → AreRead (script ∷ files) → IfOk result (λ s. RunsTo s.status script start s.world a b y z)
+    → IfOk result (λ s. Comes s.status script files s.world a b x z)
+world_runs found start script files (Err failure) a b x y z is comes read run = run
+world_runs found start script files (Ok s) a b x y z is comes read run = found_runs found start s.status script files s.world a b x y z is comes read run

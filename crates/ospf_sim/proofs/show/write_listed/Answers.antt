@@ -1,0 +1,6 @@
+use Rattle.ospf_sim.specs.Shown.{listed_line}
+use Rattle.ospf_sim.proofs.Pieces.{piece_written}
+use Rattle.ospf_sim.proofs.show.write_listed.Goals as goal
+
+pub loop-lsa-preserved : goal.loop-lsa-preserved
+loop-lsa-preserved g c = piece_written listed_line _ _ _ _ _ _ c.loop-lsa-test.true c.lsa-item.is c.loop-lsa.invariant c.in_ok-write_lsa.ensures

@@ -1,0 +1,14 @@
+use Rattle.std.proofs.Common.{subst}
+use Rattle.std.specs.Io.KnownBytes.{Appends}
+use Rattle.ospf_sim.specs.Shown.{link_lines}
+use Rattle.ospf_sim.proofs.Pieces.{link_written, no_links_written}
+use Rattle.ospf_sim.proofs.show.write_neighbours.Goals as goal
+
+pub loop-link-init : goal.loop-link-init
+loop-link-init g c = no_links_written _ _
+
+pub loop-link-preserved : goal.loop-link-preserved
+loop-link-preserved g c =
+    link_written c.args.router.now.area _ _ _ c.loop-link.link c.loop-link.invariant
+    (subst (λ neighbours. Appends (g.O.Write.contents c.loop-link.out) (g.O.Write.contents c.write_link.new.out) (link_lines c.loop-link.link neighbours))
+    c.neighbours.ensures c.in_ok-write_link.ensures)

@@ -1,0 +1,5 @@
+pub mod Worlds
+pub mod Shown
+pub mod Commands
+pub mod Scripts
+pub mod Simulations

@@ -1,0 +1,106 @@
+-- What a script does: its lines one after another, up to one that cannot be read.
+use Rattle.std.specs.Prelude.{◌≡◌, ℕ, Bool, true, false, List, [], ◌∷◌, ◌++◌, Ok, Err, Option, None, Some, codes, decimal}
+use Rattle.std.specs.Io.KnownBytes.{Appends}
+use Rattle.ospf_headline.specs.Text.{world_fault_text}
+use Rattle.ospf_headline.specs.declared.event.WorldFault.{WorldFault}
+use Rattle.ospf_script.specs.Commands.{IsUnreadable, Spells}
+use Rattle.ospf_script.specs.Lines.{numbered_from}
+use Rattle.ospf_script.specs.Words.{IsBlank, Text, words}
+use Rattle.ospf_script.specs.declared.command.Command.{Command}
+use Rattle.ospf_script.specs.declared.script.Line.{Line}
+use Rattle.ospf_sim.specs.Worlds.{WorldValue}
+use Rattle.ospf_sim.specs.Commands.{Answer, Does}
+
+-- a line that is refused, and why
+abbrev pub refusal_line : ℕ → WorldFault → Text
+refusal_line number fault = codes "line " ++ decimal number ++ codes ": " ++ world_fault_text fault ++ codes "\n"
+
+-- a line that cannot be read
+abbrev pub unreadable_line : ℕ → Text
+unreadable_line number = codes "line " ++ decimal number ++ codes ": not a command\n"
+
+-- what is told on standard error of what was answered to a line
+abbrev pub told_of : ℕ → Answer → Text
+told_of number (Ok done) = []
+told_of number (Err fault) = refusal_line number fault
+
+-- what a line of this number comes to: the world after it, and what is written on standard output and on standard error
+pub data RunsLine (number : ℕ) (line : Text) (w w' : WorldValue) (out err : Text) : Type 0 where
+  is_passed_over : IsBlank line → w' ≡ w → out ≡ [] → err ≡ [] → RunsLine number line w w' out err
+  is_taken : (c : Command) (answer : Answer) → Spells (words line) c → Does c w answer out w' → err ≡ told_of number answer
+      → RunsLine number line w w' out err
+
+-- lines with their numbers, one after another: a refused one ends nothing
+pub data RunsLines : List (ℕ × Text) → WorldValue → WorldValue → Text → Text → Type 0 where
+  no_line : {w : WorldValue} → RunsLines [] w w [] []
+  one_line : {number : ℕ} {line : Text} {lines : List (ℕ × Text)} {w mid w' : WorldValue} {out outs err errs : Text}
+      → RunsLine number line w mid out err → RunsLines lines mid w' outs errs
+      → RunsLines ((number, line) ∷ lines) w w' (out ++ outs) (err ++ errs)
+
+-- what lines write is what was written
+pub record IsRun (lines : List (ℕ × Text)) (w w' : WorldValue) (out_old out_new err_old err_new : Option (List ℕ)) : Type 0 where
+  pub out : Text
+  pub err : Text
+  pub runs : RunsLines lines w w' out err
+  pub out_written : Appends out_old out_new out
+  pub err_written : Appends err_old err_new err
+
+-- the line of this number is the first that cannot be read, and those before it have run
+pub record EndsAt (lines : List (ℕ × Text)) (number : ℕ) (w w' : WorldValue) (out_old out_new err_old err_new : Option (List ℕ)) : Type 0 where
+  pub before : List (ℕ × Text)
+  pub line : Text
+  pub after : List (ℕ × Text)
+  pub lines_are : lines ≡ before ++ (number, line) ∷ after
+  pub unreadable : IsUnreadable line
+  pub run : IsRun before w w' out_old out_new err_old err_new
+
+-- a command with its answer: what it prints is what was written on standard output, and what is told of it on standard error
+pub record IsTaken (number : ℕ) (c : Command) (w w' : WorldValue) (out_old out_new err_old err_new : Option (List ℕ)) : Type 0 where
+  pub answer : Answer
+  pub out : Text
+  pub does : Does c w answer out w'
+  pub out_written : Appends out_old out_new out
+  pub err_written : Appends err_old err_new (told_of number answer)
+
+-- what a line writes is what was written
+pub record IsRunLine (number : ℕ) (line : Text) (w w' : WorldValue) (out_old out_new err_old err_new : Option (List ℕ)) : Type 0 where
+  pub out : Text
+  pub err : Text
+  pub runs : RunsLine number line w w' out err
+  pub out_written : Appends out_old out_new out
+  pub err_written : Appends err_old err_new err
+
+-- a line that cannot be read changes nothing
+pub record IsNotRead (line : Text) (w w' : WorldValue) (out_old out_new err_old err_new : Option (List ℕ)) : Type 0 where
+  pub unreadable : IsUnreadable line
+  pub same_world : w' ≡ w
+  pub same_out : out_new ≡ out_old
+  pub same_err : err_new ≡ err_old
+
+abbrev pub LineComes : Bool → Line → WorldValue → WorldValue → Option (List ℕ) → Option (List ℕ) → Option (List ℕ) → Option (List ℕ) → Type 0
+LineComes true line = IsRunLine line.number line.text.now
+LineComes false line = IsNotRead line.text.now
+
+-- all lines have run, or those before one that cannot be read
+abbrev pub LinesCome : Option ℕ → List (ℕ × Text) → WorldValue → WorldValue → Option (List ℕ) → Option (List ℕ) → Option (List ℕ) → Option (List ℕ) → Type 0
+LinesCome None lines = IsRun lines
+LinesCome (Some number) lines = EndsAt lines number
+
+-- a script of which a line cannot be read: the lines before it have run, and of the first such line it is told that it is no command
+pub record EndsEarly (script : Text) (w w' : WorldValue) (out_old out_new err_old err_new : Option (List ℕ)) : Type 0 where
+  pub number : ℕ
+  pub before : List (ℕ × Text)
+  pub line : Text
+  pub after : List (ℕ × Text)
+  pub lines_are : numbered_from 1 script ≡ before ++ (number, line) ∷ after
+  pub unreadable : IsUnreadable line
+  pub out : Text
+  pub err : Text
+  pub runs : RunsLines before w w' out err
+  pub out_written : Appends out_old out_new out
+  pub err_written : Appends err_old err_new (err ++ unreadable_line number)
+
+-- a whole script, or up to a line that cannot be read
+abbrev pub ScriptComes : Bool → Text → WorldValue → WorldValue → Option (List ℕ) → Option (List ℕ) → Option (List ℕ) → Option (List ℕ) → Type 0
+ScriptComes true script = IsRun (numbered_from 1 script)
+ScriptComes false script = EndsEarly script

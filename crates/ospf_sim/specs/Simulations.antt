@@ -1,0 +1,142 @@
+-- What a simulation comes to: its files, its configurations, and the run of its script.
+use Rattle.std.specs.Prelude.{◌≡◌, ◌⊎◌, ℕ, List, [], ◌∷◌, ◌++◌, Option, None, Some, Bool, true, false, codes, ⊤}
+use Rattle.std.specs.Io.KnownBytes.{Appends}
+use Rattle.ospf_config.specs.declared.config.Config.{Config}
+use Rattle.ospf_config.specs.declared.fault.ConfigFault.{ConfigFault}
+use Rattle.ospf_files.specs.Files.{IsConfigIn, IsRead, IsRefusedFor, refused_line, text_in}
+use Rattle.ospf_files.specs.declared.files.NamedFile.{NamedFile}
+use Rattle.ospf_files.specs.declared.status.Status.{Status}
+use Rattle.ospf_files.specs.declared.status.Status.TheVariants as status
+use Rattle.ospf_script.specs.Lines.{numbered_from}
+use Rattle.ospf_script.specs.Words.{Text}
+use Rattle.ospf_sim.specs.Worlds.{HaveTwins, IsNewOf, WorldValue}
+use Rattle.ospf_sim.specs.Scripts.{EndsEarly, IsRun, ScriptComes}
+
+-- ---- files
+
+-- all files could be read
+abbrev pub AreRead : List NamedFile → Type 0
+AreRead [] = ⊤
+AreRead (file ∷ files) = IsRead file × AreRead files
+
+-- this file could not be read, and those before it could
+pub record IsFirstUnread (file : NamedFile) (files : List NamedFile) : Type 0 where
+  pub before : List NamedFile
+  pub after : List NamedFile
+  pub files_are : files ≡ before ++ file ∷ after
+  pub read : AreRead before
+  pub unread : IsRead file → ⊥
+
+-- ---- configurations
+
+-- each file holds the configuration at its place
+abbrev pub AreConfigs : List NamedFile → List Config → Type 0
+AreConfigs [] [] = ⊤
+AreConfigs (file ∷ files) (config ∷ configs) = IsConfigIn (text_in file) config × AreConfigs files configs
+AreConfigs _ _ = ⊥
+
+-- a file holds a configuration, or it is told why it does not
+abbrev pub ConfigComes : NamedFile → Option Config → Option (List ℕ) → Option (List ℕ) → Type 0
+ConfigComes file (Some config) old new = IsConfigIn (text_in file) config × (new ≡ old)
+ConfigComes file None old new = (fault : ConfigFault) × IsRefusedFor (text_in file) fault × Appends old new (refused_line file fault)
+
+-- this file holds no configuration, for the fault of least number, and those before it hold one each
+pub record IsFirstRefused (file : NamedFile) (fault : ConfigFault) (files : List NamedFile) : Type 0 where
+  pub before : List NamedFile
+  pub configs : List Config
+  pub after : List NamedFile
+  pub files_are : files ≡ before ++ file ∷ after
+  pub are_configs : AreConfigs before configs
+  pub refused : IsRefusedFor (text_in file) fault
+
+-- the first file that holds no configuration is told, with its fault
+pub record IsRefusalTold (files : List NamedFile) (old new : Option (List ℕ)) : Type 0 where
+  pub file : NamedFile
+  pub fault : ConfigFault
+  pub refused : IsFirstRefused file fault files
+  pub told : Appends old new (refused_line file fault)
+
+-- the files hold these configurations, or it is told which is the first that holds none, and why
+abbrev pub ConfigsCome : List NamedFile → Option (List Config) → Option (List ℕ) → Option (List ℕ) → Type 0
+ConfigsCome files (Some configs) old new = AreConfigs files configs × (new ≡ old)
+ConfigsCome files None old new = IsRefusalTold files old new
+
+-- ---- worlds
+
+-- the line of configurations of which two have one Router ID
+abbrev pub same_router_line : Text
+same_router_line = codes "W7 SameRouter\n"
+
+-- a world of the configurations in the files, in which nothing runs
+pub record IsWorldOf (files : List NamedFile) (w : WorldValue) : Type 0 where
+  pub configs : List Config
+  pub are_configs : AreConfigs files configs
+  pub new : IsNewOf configs w
+
+-- there is no such world, and it is told why: a file holds no configuration, or two routers have one Router ID
+pub data IsNoWorld (files : List NamedFile) (old new : Option (List ℕ)) : Type 0 where
+  no_config : IsRefusalTold files old new → IsNoWorld files old new
+  same_router : (configs : List Config) → AreConfigs files configs → HaveTwins configs → Appends old new same_router_line → IsNoWorld files old new
+
+-- a new world of configurations, or it is told that two of them are of one router
+abbrev pub Opens : List Config → Option WorldValue → Option (List ℕ) → Option (List ℕ) → Type 0
+Opens configs (Some w) old new = IsNewOf configs w × (new ≡ old)
+Opens configs None old new = HaveTwins configs × Appends old new same_router_line
+
+abbrev pub WorldComes : List NamedFile → Option WorldValue → Option (List ℕ) → Option (List ℕ) → Type 0
+WorldComes files (Some w) old new = IsWorldOf files w × (new ≡ old)
+WorldComes files None old new = IsNoWorld files old new
+
+-- ---- simulations
+
+-- the status of a script whose lines could all be read, or not
+abbrev pub status_for : Bool → Status
+status_for true = status.Done
+status_for false = status.Refused
+
+-- a script runs from this world, whole or up to a line that cannot be read, as the status says
+pub record RunsWhole (script : NamedFile) (start : WorldValue) (world : Option WorldValue) (whole : Bool) (out_old out_new err_old err_new : Option (List ℕ)) : Type 0 where
+  pub end : WorldValue
+  pub ends : world ≡ Some end
+  pub comes : ScriptComes whole (text_in script) start end out_old out_new err_old err_new
+
+abbrev pub RunsTo : Status → NamedFile → WorldValue → Option WorldValue → Option (List ℕ) → Option (List ℕ) → Option (List ℕ) → Option (List ℕ) → Type 0
+RunsTo status.Done script start world = RunsWhole script start world true
+RunsTo status.Refused script start world = RunsWhole script start world false
+RunsTo _ script start world = λ out_old out_new err_old err_new. ⊥
+
+-- the whole script has run, in a world of the configurations
+pub record IsSimulated (script : NamedFile) (files : List NamedFile) (world : Option WorldValue) (out_old out_new err_old err_new : Option (List ℕ)) : Type 0 where
+  pub read : AreRead (script ∷ files)
+  pub start : WorldValue
+  pub end : WorldValue
+  pub starts : IsWorldOf files start
+  pub ends : world ≡ Some end
+  pub run : IsRun (numbered_from 1 (text_in script)) start end out_old out_new err_old err_new
+
+-- the script has run up to a line that cannot be read, of which that is told
+pub record IsCutShort (script : NamedFile) (files : List NamedFile) (world : Option WorldValue) (out_old out_new err_old err_new : Option (List ℕ)) : Type 0 where
+  pub read : AreRead (script ∷ files)
+  pub start : WorldValue
+  pub end : WorldValue
+  pub starts : IsWorldOf files start
+  pub ends : world ≡ Some end
+  pub early : EndsEarly (text_in script) start end out_old out_new err_old err_new
+
+-- no line has run, since there is no world of the configurations, of which it is told why
+pub record IsNotBegun (script : NamedFile) (files : List NamedFile) (world : Option WorldValue) (out_old out_new err_old err_new : Option (List ℕ)) : Type 0 where
+  pub read : AreRead (script ∷ files)
+  pub no_world : IsNoWorld files err_old err_new
+  pub none : world ≡ None
+  pub same_out : out_new ≡ out_old
+
+-- what is refused: the configurations, or a line
+abbrev pub IsRefused : NamedFile → List NamedFile → Option WorldValue → Option (List ℕ) → Option (List ℕ) → Option (List ℕ) → Option (List ℕ) → Type 0
+IsRefused script files world out_old out_new err_old err_new =
+    IsNotBegun script files world out_old out_new err_old err_new ⊎ IsCutShort script files world out_old out_new err_old err_new
+
+-- what comes of a simulation, by its status
+abbrev pub Comes : Status → NamedFile → List NamedFile → Option WorldValue → Option (List ℕ) → Option (List ℕ) → Option (List ℕ) → Option (List ℕ) → Type 0
+Comes status.Done = IsSimulated
+Comes status.Refused = IsRefused
+Comes _ = λ script files world out_old out_new err_old err_new. ⊤

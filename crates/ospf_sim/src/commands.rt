@@ -1,0 +1,169 @@
+//! Commands that are done.
+
+ghost use Rattle.std.specs.Prelude.{◌≡◌, IfOk, None};
+ghost use Rattle.ospf_sim.specs.Commands.{AreRounds, event_in, IsDone, IsShownOn, IsWalkedOn, shown_in};
+
+use crate::show::{View, on_output, write_view, write_walk};
+use ospf_base::{Addr, RouterId};
+use ospf_files::Failure;
+use ospf_script::Command;
+use ospf_world::{World, WorldEvent, WorldFault};
+use std::alloc::Global;
+use std::io::Write;
+
+// So many rounds, up to the first that is refused.
+fn run_rounds(world: &mut World, count: u64, alloc: Global) -> Result<(), WorldFault>
+    ensures { AreRounds count world.old result world.new }
+{
+    for _ in 0..count {
+        match world.round(alloc) {
+            Ok(()) => {}
+            Err(fault) => return Err(fault),
+        }
+    }
+    Ok(())
+}
+
+// Prints what a line asks of a router, if that runs.
+fn show_router<O: Write>(
+    world: &World,
+    router: RouterId,
+    view: View,
+    out: &mut O,
+    alloc: Global,
+) -> Result<Result<(), WorldFault>, Failure>
+    ensures { IfOk result (λ answer. IsShownOn view world.now router answer (O.contents out.old) (O.contents out.new)) }
+{
+    match world.router(router) {
+        Ok(lent) => {
+            write_view(out, view, lent, alloc)?;
+            Ok(Ok(()))
+        }
+        Err(fault) => Ok(Err(fault)),
+    }
+}
+
+// Prints a walk, if there is one.
+fn show_walk<O: Write>(
+    world: &World,
+    from: RouterId,
+    address: Addr,
+    choices: &[u32],
+    out: &mut O,
+    alloc: Global,
+) -> Result<Result<(), WorldFault>, Failure>
+    ensures { IfOk result (λ answer. IsWalkedOn world.now from address.0 choices.now answer (O.contents out.old) (O.contents out.new)) }
+{
+    match world.walk(from, address, choices, alloc) {
+        Ok(walk) => {
+            on_output(write_walk(out, &walk))?;
+            Ok(Ok(()))
+        }
+        Err(fault) => Ok(Err(fault)),
+    }
+}
+
+// The event that a command is, if it is one.
+fn event_of(command: &Command) -> Option<WorldEvent>
+    ensures { result ≡ event_in command.now }
+{
+    let event = match command {
+        Command::Start {
+            router,
+            dd_start,
+            floor,
+        } => WorldEvent::Start {
+            router: *router,
+            dd_start: *dd_start,
+            floor: *floor,
+        },
+        Command::Stop { router } => WorldEvent::Stop { router: *router },
+        Command::Tick { router } => WorldEvent::Tick { router: *router },
+        Command::LinkUp { router, link } => WorldEvent::LinkUp {
+            router: *router,
+            link: *link,
+        },
+        Command::LinkDown { router, link } => WorldEvent::LinkDown {
+            router: *router,
+            link: *link,
+        },
+        Command::Deliver {
+            datagram,
+            router,
+            link,
+        } => WorldEvent::Deliver {
+            datagram: *datagram,
+            router: *router,
+            link: *link,
+        },
+        _ => return None,
+    };
+    Some(event)
+}
+
+// What a command prints of a router, if it prints that.
+fn shown_of(command: &Command) -> Option<(RouterId, View)>
+    ensures { result ≡ shown_in command.now }
+{
+    match command {
+        Command::Neighbours { router } => Some((*router, View::Neighbours)),
+        Command::Listing { router } => Some((*router, View::Listing)),
+        Command::Table { router } => Some((*router, View::Table)),
+        Command::Floor { router } => Some((*router, View::Floor)),
+        _ => None,
+    }
+}
+
+// Does what a command asks for that is no event and prints nothing of a router.
+fn run_other<O: Write>(
+    world: &mut World,
+    command: &Command,
+    out: &mut O,
+    alloc: Global,
+) -> Result<Result<(), WorldFault>, Failure>
+    requires no_event { event_in command.now ≡ None }
+    requires not_shown { shown_in command.now ≡ None }
+    ensures { IfOk result (λ answer. IsDone command.now world.old answer world.new (O.contents out.old) (O.contents out.new)) }
+{
+    match command {
+        Command::Round { count } => Ok(run_rounds(world, *count, alloc)),
+        Command::Random { number, count } => Ok(world.random(*number, *count, alloc)),
+        Command::Walk {
+            from,
+            address,
+            choices,
+        } => show_walk(world, *from, *address, choices, out, alloc),
+        _ => Ok(Ok(())),
+    }
+}
+
+// Does what a command asks for that is no event.
+fn run_quiet<O: Write>(
+    world: &mut World,
+    command: &Command,
+    out: &mut O,
+    alloc: Global,
+) -> Result<Result<(), WorldFault>, Failure>
+    requires { event_in command.now ≡ None }
+    ensures { IfOk result (λ answer. IsDone command.now world.old answer world.new (O.contents out.old) (O.contents out.new)) }
+{
+    match shown_of(command) {
+        Some(shown) => show_router(world, shown.0, shown.1, out, alloc),
+        None => run_other(world, command, out, alloc),
+    }
+}
+
+// Does what a command asks for, and prints what it is to print. The answer is why it is refused, if it is.
+pub(crate) fn run_command<O: Write>(
+    world: &mut World,
+    command: &Command,
+    out: &mut O,
+    alloc: Global,
+) -> Result<Result<(), WorldFault>, Failure>
+    ensures { IfOk result (λ answer. IsDone command.now world.old answer world.new (O.contents out.old) (O.contents out.new)) }
+{
+    match event_of(command) {
+        Some(event) => Ok(world.step(event, alloc)),
+        None => run_quiet(world, command, out, alloc),
+    }
+}
