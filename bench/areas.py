@@ -1,0 +1,94 @@
+#!/usr/bin/env python3
+"""Times simulated areas: lines, a ring and a broadcast network of routers that come up, and events by chance.
+
+usage: bench/areas.py [PROGRAM]
+
+A router's steps are its ticks and the datagrams that come to it. On lines and rings each datagram comes to one router, on the broadcast network one to all is counted
+as often as it is heard, and of events by chance each is one.
+"""
+import os
+import struct
+import subprocess
+import sys
+import tempfile
+import time
+
+TOP = os.path.dirname(os.path.dirname(os.path.abspath(__file__)))
+ROUNDS = 60
+ALL_ROUTERS = 0xE0000005
+
+
+def dotted(number):
+    return ".".join(str(number >> shift & 255) for shift in (24, 16, 8, 0))
+
+
+def interface(kind, address, length):
+    return f'[[interface]]\nkind = "{kind}"\naddress = "{dotted(address)}/{length}"\ncost = 10\n'
+
+
+def configs(count, links):
+    """The configurations of so many routers, each link a pair of them."""
+    texts = [f'router_id = "{dotted(0x01000000 + place + 1)}"\narea = "0.0.0.0"\n' for place in range(count)]
+    sizes = [0] * count
+    for number, ends in enumerate(links):
+        for side, place in enumerate(ends):
+            texts[place] += interface("point-to-point", 0x0A000000 + 4 * number + side + 1, 30)
+            sizes[place] += 1
+    return texts, sizes
+
+
+def network(count):
+    """The configurations of so many routers on one broadcast network."""
+    texts = [f'router_id = "{dotted(0x01000000 + place + 1)}"\narea = "0.0.0.0"\n' + interface("broadcast", 0x0A010001 + place, 16) for place in range(count)]
+    return texts, [1] * count
+
+
+def run(program, area, last):
+    """The seconds that an area takes from its start to the end of the last line, and the datagrams that were sent."""
+    texts, sizes = area
+    with tempfile.TemporaryDirectory() as place:
+        names = []
+        for number, text in enumerate(texts):
+            names.append(os.path.join(place, f"{number}.toml"))
+            with open(names[-1], "w", encoding="utf-8") as file:
+                file.write(text)
+        ids = [dotted(0x01000000 + number + 1) for number in range(len(texts))]
+        lines = [f"start {router} 1" for router in ids]
+        lines += [f"up {router} {link}" for router, size in zip(ids, sizes) for link in range(size)]
+        script, capture = os.path.join(place, "script"), os.path.join(place, "sent")
+        with open(script, "w", encoding="utf-8") as file:
+            file.write("\n".join([*lines, last]) + "\n")
+        began = time.monotonic()
+        subprocess.run([program, "sim", script, *names], check=True, stderr=subprocess.DEVNULL)
+        took = time.monotonic() - began
+        subprocess.run([program, "sim", "--pcap", capture, script, *names], check=True, stderr=subprocess.DEVNULL)
+        with open(capture, "rb") as file:
+            return took, destinations(file.read())
+
+
+def destinations(data):
+    """The destination of each datagram of a capture."""
+    at, found = 24, []
+    while at < len(data):
+        kept = struct.unpack_from(">I", data, at + 8)[0]
+        found.append(struct.unpack_from(">I", data, at + 16 + 16)[0])
+        at += 16 + kept
+    return found
+
+
+def main():
+    program = os.path.abspath(sys.argv[1]) if len(sys.argv) > 1 else os.path.join(TOP, "ospfd")
+    areas = [(f"a line of {count}", configs(count, [(k, k + 1) for k in range(count - 1)])) for count in (2, 10, 100)]
+    areas.append(("a ring of 50", configs(50, [(k, (k + 1) % 50) for k in range(50)])))
+    areas.append(("a broadcast network of 20", network(20)))
+    for name, area in areas:
+        took, sent = run(program, area, f"round {ROUNDS}")
+        count = len(area[0])
+        heard = sum(count - 1 if name.startswith("a broadcast") and to == ALL_ROUTERS else 1 for to in sent)
+        steps = heard + ROUNDS * count
+        print(f"{name}: {ROUNDS} rounds in {took:.2f} s, {steps} steps, {steps / took:,.0f} a second", flush=True)
+    took, _ = run(program, areas[1][1], "random 7 100000")
+    print(f"100,000 events by chance over a line of 10: {took:.2f} s, {100000 / took:,.0f} a second")
+
+
+main()
