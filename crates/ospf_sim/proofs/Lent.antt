@@ -1,5 +1,5 @@
 -- What a world answers that is asked for a router, and what comes of configurations.
-use Rattle.std.proofs.Common.{◌≡◌, ◌∙◌, ap, sym, subst, refl, List, None, Some, Ok, Err, false}
+use Rattle.std.proofs.Common.{◌≡◌, ◌∙◌, ap, sym, subst, refl, List, None, Some, Result, Ok, Err, false}
 use Rattle.std.specs.Borrow.{Bor}
 use Rattle.ospf_base.specs.declared.ids.RouterId.{RouterId}
 use Rattle.ospf_config.specs.declared.config.Config.{Config}
@@ -32,8 +32,11 @@ not_lent w r f (NotRunning m is stopped same) =
     subst (λ x. of_member unless_stopped (member (world_of w) r) ≡ Some x) (sym one)
     (subst (λ x. of_member unless_stopped x ≡ Some fault.NotRunning) (sym is) (stops m stopped))
 
+same_world : (w v : WorldValue) → (a : Result WorldValue WorldFault) → a ≡ Ok w → a ≡ Ok v → w ≡ v
+same_world w v a one other = cc
+
 pub is_new : (configs : List Config) (w : WorldValue) → worlds.Opens configs (Ok w) → IsNewOf configs w
-is_new configs w (Begins apart same) = cc
+is_new configs w (Begins apart same) = (apart, same_world w (new_world configs) (Ok w) refl same)
 is_new configs w (SameRouter twins same) = absurd (cc same)
 is_new configs w (NoMemory same) = absurd (cc same)
 

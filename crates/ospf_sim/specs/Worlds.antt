@@ -39,9 +39,9 @@ LendsRouter w r x = (m : Member) × (member (world_of w) r ≡ Some m) × IsLent
 abbrev pub IsNotLent : WorldValue → RouterId → WorldFault → Type 0
 IsNotLent w r fault = of_member unless_stopped (member (world_of w) r) ≡ Some fault
 
--- a world of these configurations, in which nothing runs and nothing has happened
+-- a world of these configurations, no two of one Router ID, in which nothing runs and nothing has happened
 abbrev pub IsNewOf : List Config → WorldValue → Type 0
-IsNewOf configs w = w ≡ new_world configs
+IsNewOf configs w = (ShareRouter configs → ⊥) × (w ≡ new_world configs)
 
 -- two configurations, at different places, of one Router ID
 abbrev pub HaveTwins : List Config → Type 0
