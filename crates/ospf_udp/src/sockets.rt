@@ -151,7 +151,10 @@ impl<C: Clock + Drop> Sockets<C> {
             let link = self.first.wrapping_add(step) % count;
             match receive(&self.outlets[link].socket, buffer)? {
                 Found::Nothing => {}
-                Found::Useless => return Ok(Looked::Useless),
+                Found::Useless => {
+                    self.first = link.wrapping_add(1) % count;
+                    return Ok(Looked::Useless);
+                }
                 Found::Packet(
                     Frame {
                         source,
