@@ -7,7 +7,7 @@ use Rattle.ospf_base.specs.declared.ids.LsaKey.{LsaKey}
 use Rattle.ospf_lsdb.specs.Database.{Held, held_of, is_told, expired, Puts}
 use Rattle.ospf_base.specs.Keys.{same_key}
 use Rattle.ospf_lsdb.specs.declared.moments.Due.{Due}
-use Rattle.ospf_lsdb.specs.declared.lsdb.Stored.{Stored}
+use Rattle.ospf_lsdb.specs.declared.dated.Stored.{Stored}
 use Rattle.ospf_lsdb.specs.Moments.{ahead, key_cmp, has, same_due, is_coming}
 use Rattle.ospf_lsdb.specs.Timers.{age_at, held_at, stored_of, age_of, Comes, AreDue, IsStored, IsKept, stopped}
 use Rattle.ospf_lsdb.proofs.EntryLemmas.{expired-young}

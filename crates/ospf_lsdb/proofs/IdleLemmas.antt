@@ -5,7 +5,7 @@ use Rattle.std.specs.Map.{keys_of}
 use Rattle.ospf_base.specs.declared.ids.LsaKey.{LsaKey}
 use Rattle.ospf_lsdb.specs.Database.{Ages, reached_at}
 use Rattle.ospf_lsdb.specs.declared.moments.Due.{Due}
-use Rattle.ospf_lsdb.specs.declared.lsdb.Stored.{Stored}
+use Rattle.ospf_lsdb.specs.declared.dated.Stored.{Stored}
 use Rattle.ospf_lsdb.specs.Moments.{ahead, has, same_due, is_coming, is_at, keys_at, among, IsIdle}
 use Rattle.ospf_lsdb.specs.Timers.{age_at, held_at, stored_of, stopped, IsKept}
 use Rattle.ospf_lsdb.proofs.MapLemmas.{bool_cases}

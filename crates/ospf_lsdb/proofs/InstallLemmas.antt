@@ -7,9 +7,9 @@ use Rattle.ospf_lsa.specs.Header.{header_of}
 use Rattle.ospf_lsdb.specs.Database.{Held, key_in, entry_from, Puts, Installs}
 use Rattle.ospf_base.specs.Keys.{same_key}
 use Rattle.ospf_lsdb.specs.declared.moments.Due.{Due}
-use Rattle.ospf_lsdb.specs.declared.lsdb.Stored.{Stored}
-use Rattle.ospf_lsdb.specs.declared.lsdb.Timer.{Timer}
-use Rattle.ospf_lsdb.specs.declared.lsdb.Timer.TheVariants.{Expired}
+use Rattle.ospf_lsdb.specs.declared.dated.Stored.{Stored}
+use Rattle.ospf_lsdb.specs.declared.dated.Timer.{Timer}
+use Rattle.ospf_lsdb.specs.declared.dated.Timer.TheVariants.{Expired}
 use Rattle.ospf_lsdb.specs.Moments.{ahead, key_cmp, has, same_due, is_coming}
 use Rattle.ospf_lsdb.specs.Timers.{age_at, held_at, stored_of, age_of, Comes, AreDue, IsStored, IsKept}
 use Rattle.ospf_lsdb.proofs.MapLemmas.{bool_cases}

@@ -16,3 +16,4 @@ pub mod TickLemmas
 pub mod IdleLemmas
 pub mod MapLaws
 pub mod WalkLemmas
+pub mod CountLemmas

@@ -10,9 +10,9 @@ use Rattle.ospf_base.specs.Keys.{Precedes}
 use Rattle.ospf_base.specs.declared.ids.LsaKey.{LsaKey}
 use Rattle.ospf_lsdb.specs.Database.{Held, is_told, older, reached_at, Ages}
 use Rattle.ospf_lsdb.specs.declared.moments.Due.{Due}
-use Rattle.ospf_lsdb.specs.declared.lsdb.Stored.{Stored}
-use Rattle.ospf_lsdb.specs.declared.lsdb.Timer.{Timer}
-use Rattle.ospf_lsdb.specs.declared.lsdb.Timer.TheVariants.{Since, Expired}
+use Rattle.ospf_lsdb.specs.declared.dated.Stored.{Stored}
+use Rattle.ospf_lsdb.specs.declared.dated.Timer.{Timer}
+use Rattle.ospf_lsdb.specs.declared.dated.Timer.TheVariants.{Since, Expired}
 use Rattle.ospf_lsdb.specs.Moments.{ahead, key_cmp, due_cmp, has, is_at, keys_at, among}
 use Rattle.ospf_lsdb.specs.Timers.{age_at, held_at, stored_of, age_of, stopped, Comes, AreDue, IsStored, KeysRise, IsKept}
 use Rattle.ospf_lsdb.proofs.EntryLemmas.{older-young, older-old}

@@ -15,11 +15,11 @@ use Rattle.ospf_base.specs.declared.ids.LsaKey.{LsaKey}
 use Rattle.ospf_lsdb.specs.Database.{key_at, held_of, is_told, IsRising, IsDatabase, Puts}
 use Rattle.ospf_lsdb.specs.Places.{AllAfter}
 use Rattle.ospf_lsdb.specs.declared.moments.Due.{Due}
-use Rattle.ospf_lsdb.specs.declared.lsdb.Stored.{Stored}
+use Rattle.ospf_lsdb.specs.declared.dated.Stored.{Stored}
 use Rattle.ospf_lsdb.specs.Moments.{ahead, key_cmp, has, same_due, coming, is_coming}
 use Rattle.std.proofs.lemmas.Bool.{eqb-true, lt-ltb, ltb-true}
 use Rattle.ospf_lsdb.specs.Timers.{age_at, held_at, stored_of, age_of, Comes, AreDue, IsStored, KeysRise, IsKept, stopped}
-use Rattle.ospf_lsdb.specs.declared.lsdb.Timer.TheVariants.{Expired}
+use Rattle.ospf_lsdb.specs.declared.dated.Timer.TheVariants.{Expired}
 use Rattle.ospf_lsdb.proofs.MapLemmas.{bool_cases}
 use Rattle.ospf_base.proofs.SameKeys.{same_key-eq}
 use Rattle.ospf_lsdb.proofs.OrderLemmas.{is_eq-key_cmp, key_cmp-less}

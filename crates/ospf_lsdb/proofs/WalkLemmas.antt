@@ -6,7 +6,7 @@ use Rattle.ospf_base.specs.declared.ids.LsaKey.{LsaKey}
 use Rattle.ospf_lsdb.specs.Database.{Entry}
 use Rattle.ospf_lsdb.specs.Entries.{entry_at, AgeFits}
 use Rattle.ospf_lsdb.specs.declared.moments.Due.{Due}
-use Rattle.ospf_lsdb.specs.declared.lsdb.Stored.{Stored}
+use Rattle.ospf_lsdb.specs.declared.dated.Stored.{Stored}
 use Rattle.ospf_lsdb.specs.Timers.{held_at, IsStored}
 
 -- no stored entry is older than MaxAge

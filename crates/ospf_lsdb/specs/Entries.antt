@@ -3,7 +3,7 @@ use Rattle.std.specs.Prelude.{ℕ, ◌≤◌}
 use Rattle.ospf_base.specs.Constants.{max_age}
 use Rattle.ospf_lsdb.specs.Database.{Entry}
 use Rattle.ospf_lsdb.specs.Timers.{age_at}
-use Rattle.ospf_lsdb.specs.declared.lsdb.Stored.{Stored}
+use Rattle.ospf_lsdb.specs.declared.dated.Stored.{Stored}
 
 -- a stored entry as it is at a moment
 abbrev pub entry_at : ℕ → Stored → Entry

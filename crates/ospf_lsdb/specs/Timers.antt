@@ -8,9 +8,9 @@ use Rattle.ospf_base.specs.declared.ids.LsaKey.{LsaKey}
 use Rattle.ospf_lsdb.specs.Database.{Held, key_in, is_told}
 use Rattle.ospf_lsdb.specs.Moments.{ahead, has, IsIdle}
 use Rattle.ospf_lsdb.specs.declared.moments.Due.{Due}
-use Rattle.ospf_lsdb.specs.declared.lsdb.Timer.{Timer}
-use Rattle.ospf_lsdb.specs.declared.lsdb.Timer.TheVariants.{Since, Expired}
-use Rattle.ospf_lsdb.specs.declared.lsdb.Stored.{Stored}
+use Rattle.ospf_lsdb.specs.declared.dated.Timer.{Timer}
+use Rattle.ospf_lsdb.specs.declared.dated.Timer.TheVariants.{Since, Expired}
+use Rattle.ospf_lsdb.specs.declared.dated.Stored.{Stored}
 
 -- how old an entry is
 unfoldable pub age_at : ℕ → Timer → ℕ

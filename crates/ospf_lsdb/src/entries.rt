@@ -1,7 +1,7 @@
 //! The walk over the entries of a database.
 
+use crate::dated::Stored;
 use crate::entry::EntryView;
-use crate::lsdb::Stored;
 use ospf_base::LsaKey;
 use std::collections::btree_map::Values;
 use std::marker::Model;

@@ -2,6 +2,7 @@
 #![tactic(auto)]
 
 mod ageless;
+mod dated;
 mod entries;
 mod entry;
 mod laws;

@@ -1,78 +1,18 @@
-//! The database: a map of entries, whose ages follow from the moment that a ring has come to.
+//! The database, with how many of its entries are below `MAX_AGE`.
 
-ghost use Rattle.std.specs.Prelude.{◌≡◌, ◌≤◌, ◌<◌, ◌⊎◌, ◌+◌, ◌-◌, ℕ, List, [], length, map, ◌^◌, OnOk, OnErr, IfOk, option_map, if◌then◌else◌};
+ghost use Rattle.std.specs.Prelude.{◌≡◌, ◌⊎◌, ◌<◌, ◌^◌, [], filter, length, map, OnOk, OnErr, IfOk, option_map};
 ghost use Rattle.ospf_base.specs.Constants.{max_age};
-ghost use Rattle.ospf_base.specs.declared.ids.LsaKey.{LsaKey};
-ghost use Rattle.ospf_lsdb.specs.Database.{Held, entry_from, held_of, entry_of, IsDatabase, Puts, Installs, Ages, expired, removed, is_fresh, is_expired, is_some_and, listed, ls_refresh_time, reached_at};
-ghost use Rattle.ospf_base.specs.Keys.{same_key};
-ghost use Rattle.ospf_lsdb.specs.Timers.{age_at, age_of, Stops};
-ghost use Rattle.ospf_lsdb.specs.Moments.{key_cmp, among};
-ghost use Rattle.ospf_lsdb.specs.declared.lsdb.Timer.TheVariants as timer;
-ghost use Rattle.std.specs.BTreeMap.{IsOrdered};
+ghost use Rattle.ospf_lsdb.specs.Database.{Ages, Installs, IsDatabase, Puts, entry_from, entry_of, expired, held_of, is_expired, is_fresh, is_some_and, listed, ls_refresh_time, reached_at, removed};
+ghost use Rattle.ospf_lsdb.specs.Counts.{fresh_count, fresh_in};
 
-use crate::LS_REFRESH_TIME;
-use crate::ageless::Ageless;
+use crate::dated::Dated;
 use crate::entries::Entries;
-use crate::entry::{EntryView, add_fresh};
-use crate::moments::{Moments, Reached, moments_until, sooner, until_told};
+use crate::entry::EntryView;
+use crate::moments::Reached;
 use ospf_base::{LsaKey, MAX_AGE};
 use ospf_lsa::{Listing, Lsa};
 use std::alloc::{AllocError, Global};
-use std::collections::BTreeMap;
 use std::marker::Model;
-
-// How old an entry is.
-#[derive(Clone, Copy, Drop)]
-enum Timer {
-    // It was of age 0 at this moment, less than `MAX_AGE` moments ago.
-    Since(u16),
-    // It is of age `MAX_AGE`.
-    Expired,
-}
-
-#[derive(Drop)]
-pub(crate) struct Stored {
-    lsa: Ageless,
-    timer: Timer,
-    tick: u64,
-    by_flooding: bool,
-}
-
-impl Timer {
-    fn new(clock: u16, age: u16) -> Timer
-        requires { age ≤ max_age }
-        ensures age { age_at clock result ≡ age }
-        ensures expired { age ≡ max_age → result ≡ timer.Expired }
-    {
-        if age == MAX_AGE {
-            Timer::Expired
-        } else {
-            Timer::Since(clock.wrapping_sub(age))
-        }
-    }
-
-    fn age(self, clock: u16) -> u16
-        ensures { result ≡ age_at clock self }
-    {
-        match self {
-            Timer::Since(birth) => clock.wrapping_sub(birth),
-            Timer::Expired => MAX_AGE,
-        }
-    }
-}
-
-impl Stored {
-    ghost use Rattle.ospf_lsdb.specs.Entries.{entry_at, AgeFits};
-
-    // The entry as it is at a moment.
-    pub(crate) fn at(&self, clock: u16) -> EntryView<'_>
-        requires { AgeFits clock self.now }
-        ensures { result ≡ entry_at clock self.now }
-    {
-        let age = self.timer.age(clock);
-        EntryView::new(&self.lsa, age, self.tick, self.by_flooding)
-    }
-}
 
 /// The link state database (RFC 2328, sections 12.2 and 14).
 ///
@@ -80,68 +20,39 @@ impl Stored {
 /// from the moments at which they began.
 #[derive(Drop)]
 pub struct Lsdb {
-    clock: u16,
-    // From the clock on, nothing is due before this moment.
-    next: u16,
-    entries: BTreeMap<LsaKey, Stored>,
-    due: Moments,
+    dated: Dated,
+    // How many entries are below `MAX_AGE`.
+    fresh: usize,
 }
 
 impl Model for Lsdb {
-    ghost use Rattle.std.specs.Prelude.{List, map};
-    ghost use Rattle.ospf_lsdb.specs.Database.{Held};
+    ghost use Rattle.std.specs.Prelude.{◌≡◌, List};
+    ghost use Rattle.ospf_lsdb.specs.Database.{Held, IsDatabase};
+    ghost use Rattle.ospf_lsdb.specs.Counts.{fresh_count};
 
     ghost Value = { List Held };
 
-    ghost use Rattle.ospf_lsdb.specs.Timers.{held_at, IsRunning};
+    ghost view = { λ d. d.dated };
 
-    ghost view = { λ d. map (held_at d.clock d.due) d.entries.entries };
-
-    ghost invariant = { λ d. IsRunning d.clock d.next d.entries.entries d.due };
+    ghost invariant = { λ d. d.fresh ≡ fresh_count d.dated };
 }
 
-// The age of the entry of a key.
-fn age_in(entries: &BTreeMap<LsaKey, Stored>, clock: u16, key: &LsaKey) -> Option<u16>
-    ensures { result ≡ age_of clock entries.now.entries key.now }
+// How many of one entry, which may not be there, are below `MAX_AGE`.
+fn fresh_in(entry: Option<EntryView<'_>>) -> usize
+    ensures value { result ≡ fresh_in entry.entry }
+    ensures fits { result < 2 }
 {
-    let stored = entries.get(key)?;
-    Some(stored.timer.age(clock))
-}
-
-// Brings the entry of a key to `MAX_AGE`.
-fn stop(entries: &mut BTreeMap<LsaKey, Stored>, key: &LsaKey)
-    ensures entry { Stops (same_key key.now) entries.old.entries entries.new.entries }
-    ensures ordered { IsOrdered key_cmp entries.new }
-{
-    if let Some(stored) = entries.get_mut(key) {
-        stored.timer = Timer::Expired;
+    match entry {
+        Some(entry) if entry.age().ticks() < MAX_AGE => 1,
+        _ => 0,
     }
 }
 
-// The one look of a tick at an entry: it has come to `MAX_AGE`.
-fn look(entries: &mut BTreeMap<LsaKey, Stored>, key: LsaKey, looks: u64) -> u64
-    requires { looks + 1 < 2 ^ 64 }
-    ensures entry { Stops (same_key key) entries.old.entries entries.new.entries }
-    ensures ordered { IsOrdered key_cmp entries.new }
-    ensures looks { result ≡ looks + 1 }
+// What is dated is a database.
+fn is_database(dated: &Dated)
+    ensures { IsDatabase dated.now }
 {
-    stop(entries, &key);
-    looks + 1
-}
-
-// Looks at the entry of each of these keys, and counts the looks.
-fn look_at_all(entries: &mut BTreeMap<LsaKey, Stored>, keys: Reached<'_>) -> u64
-    requires count { length keys < 2 ^ 64 }
-    requires ordered { IsOrdered key_cmp entries.old }
-    ensures entry { Stops (among keys.entry) entries.old.entries entries.new.entries }
-    ensures ordered { IsOrdered key_cmp entries.new }
-    ensures looks { result ≡ length keys.entry }
-{
-    let mut looks = 0;
-    for key in keys {
-        looks = look(entries, key, looks);
-    }
-    looks
+    let _all = dated.len();
 }
 
 impl Lsdb {
@@ -150,10 +61,8 @@ impl Lsdb {
         ensures { result ≡ [] }
     {
         Lsdb {
-            clock: 0,
-            next: u16::MAX,
-            entries: BTreeMap::new(alloc),
-            due: Moments::new(alloc),
+            dated: Dated::new(alloc),
+            fresh: 0,
         }
     }
 
@@ -162,9 +71,7 @@ impl Lsdb {
         ensures entry { result ≡ entry_of self.now key.now }
         ensures database { IsDatabase self.now }
     {
-        let stored = self.entries.get(key)?;
-        let age = stored.timer.age(self.clock);
-        Some(EntryView::new(&stored.lsa, age, stored.tick, stored.by_flooding))
+        self.dated.get(key)
     }
 
     /// The entries in the order of their keys, each at its present age.
@@ -172,7 +79,21 @@ impl Lsdb {
         ensures entries { result ≡ map (λ h. h.entry) self.now }
         ensures database { IsDatabase self.now }
     {
-        Entries::new(self.clock, self.entries.values())
+        self.dated.entries()
+    }
+
+    /// How many entries are below `MAX_AGE`. It is known without a look at them.
+    pub fn fresh(&self) -> usize
+        ensures { result ≡ length (filter (λ h. is_fresh h.entry) self.now) }
+    {
+        self.fresh
+    }
+
+    /// How many entries are at `MAX_AGE`. It is known without a look at them.
+    pub fn expired(&self) -> usize
+        ensures { result ≡ length (filter is_expired self.now) }
+    {
+        self.dated.len() - self.fresh
     }
 
     /// Puts an LSA in place of its key's (RFC 2328, section 13.2), with the number of the present
@@ -184,31 +105,13 @@ impl Lsdb {
         ensures err { OnErr result (self.new ≡ self.old) }
     {
         let key = lsa.view().key();
-        let age = lsa.view().header().age.ticks();
-        let stored = Stored {
-            lsa: Ageless::new(lsa),
-            timer: Timer::new(self.clock, age),
-            tick,
-            by_flooding,
-        };
-        // All growths come first.
-        self.due.add_coming(self.clock, age, key)?;
-        self.next = sooner(self.clock, self.next, until_told(age));
-        match self.entries.insert(key, stored) {
-            Ok(Some(old)) => {
-                let old_age = old.timer.age(self.clock);
-                self.due.remove_reached(self.clock, old_age, key);
-                if old_age != age {
-                    self.due.remove_coming(self.clock, old_age, key);
-                }
-                Ok(())
-            }
-            Ok(None) => Ok(()),
-            Err(_) => {
-                self.due.remove_coming(self.clock, age, key);
-                Err(AllocError)
-            }
-        }
+        let gone = fresh_in(self.dated.get(&key));
+        self.dated.install(lsa, tick, by_flooding)?;
+        let come = fresh_in(self.dated.get(&key));
+        // There are as many entries at least.
+        let _all = self.dated.len();
+        self.fresh = self.fresh - gone + come;
+        Ok(())
     }
 
     /// A tick passes: each age below `MAX_AGE` is one more (RFC 2328, section 14).
@@ -219,26 +122,11 @@ impl Lsdb {
         ensures ages { Ages self.old self.new }
         ensures looks { result ≡ length (reached_at max_age self.new) }
     {
-        // Nothing is due now, nor at the next moment.
-        if moments_until(self.clock, self.next) >= 2 {
-            self.clock = self.clock.wrapping_add(1);
-            return 0;
-        }
-        self.tick_due()
-    }
-
-    // A tick in which something may be due.
-    fn tick_due(&mut self) -> u64
-        ensures ages { Ages self.old self.new }
-        ensures looks { result ≡ length (reached_at max_age self.new) }
-    {
-        self.due.forget(self.clock, LS_REFRESH_TIME);
-        self.due.forget(self.clock, MAX_AGE);
-        let now = self.clock.wrapping_add(1);
-        self.clock = now;
-        self.next = now.wrapping_add(self.due.idle_from(now));
-        let keys = self.due.at(now, MAX_AGE);
-        look_at_all(&mut self.entries, keys)
+        is_database(&self.dated);
+        let looks = self.dated.tick();
+        is_database(&self.dated);
+        self.fresh -= looks as usize;
+        looks
     }
 
     /// Brings the age of a key's entry to `MAX_AGE` and changes nothing else of it, so that it can
@@ -247,16 +135,13 @@ impl Lsdb {
         ensures entry { Puts key.now (option_map expired (held_of self.old key.now)) self.old self.new }
         ensures was_fresh { result ≡ is_some_and (λ h. is_fresh h.entry) (held_of self.old key.now) }
     {
-        let Some(age) = age_in(&self.entries, self.clock, key) else {
-            return false;
-        };
-        if age == MAX_AGE {
-            return false;
+        is_database(&self.dated);
+        let was_fresh = self.dated.expire(key);
+        is_database(&self.dated);
+        if was_fresh {
+            self.fresh -= 1;
         }
-        stop(&mut self.entries, key);
-        self.due.remove_reached(self.clock, age, *key);
-        self.due.remove_coming(self.clock, age, *key);
-        true
+        was_fresh
     }
 
     /// Takes the entry of a key out if its age is `MAX_AGE`, and answers whether it did.
@@ -264,15 +149,10 @@ impl Lsdb {
         ensures entry { Puts key.now (removed (held_of self.old key.now)) self.old self.new }
         ensures was_expired { result ≡ is_some_and is_expired (held_of self.old key.now) }
     {
-        let Some(age) = age_in(&self.entries, self.clock, key) else {
-            return false;
-        };
-        if age < MAX_AGE {
-            return false;
-        }
-        self.entries.remove(key);
-        self.due.remove_reached(self.clock, MAX_AGE, *key);
-        true
+        is_database(&self.dated);
+        let was_expired = self.dated.remove_expired(key);
+        is_database(&self.dated);
+        was_expired
     }
 
     /// The keys whose age became this one, `LS_REFRESH_TIME` or `MAX_AGE`, at the last tick, in
@@ -281,7 +161,7 @@ impl Lsdb {
         requires told { (age ≡ ls_refresh_time) ⊎ (age ≡ max_age) }
         ensures keys { result ≡ reached_at age self.now }
     {
-        self.due.at(self.clock, age)
+        self.dated.reached(age)
     }
 
     /// The LSAs below `MAX_AGE`, at their present ages.
@@ -290,12 +170,6 @@ impl Lsdb {
     pub fn listing(&self, alloc: Global) -> Result<Listing, AllocError>
         ensures ok { IfOk result (λ l. l ≡ listed self.now) }
     {
-        let mut listing = Listing::new(alloc);
-        for stored in self.entries.values() {
-            let age = stored.timer.age(self.clock);
-            let entry = EntryView::new(&stored.lsa, age, stored.tick, stored.by_flooding);
-            add_fresh(&mut listing, &entry, alloc)?;
-        }
-        Ok(listing)
+        self.dated.listing(alloc)
     }
 }

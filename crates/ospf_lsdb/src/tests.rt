@@ -156,10 +156,13 @@ fn one_expires_at_its_moment(rt: HostRuntime) -> Result<(), Fail> {
     let mut lsdb = Lsdb::new(alloc);
     lsdb.install(lsa_of(alloc, 1, 3599)?, 0, false)?;
     assert_eq!(rt; lsdb.listing(alloc)?.lsas().len(), 1);
+    assert_eq!(rt; (lsdb.fresh(), lsdb.expired()), (1, 0));
     assert!(rt; !lsdb.remove_expired(&key_of(1)));
     assert_eq!(rt; lsdb.tick(), 1);
     assert_eq!(rt; lsdb.listing(alloc)?.lsas().len(), 0);
+    assert_eq!(rt; (lsdb.fresh(), lsdb.expired()), (0, 1));
     assert!(rt; lsdb.remove_expired(&key_of(1)));
+    assert_eq!(rt; (lsdb.fresh(), lsdb.expired()), (0, 0));
     assert!(rt; lsdb.get(&key_of(1)).is_none());
     assert!(rt; !lsdb.remove_expired(&key_of(1)));
     Ok(())

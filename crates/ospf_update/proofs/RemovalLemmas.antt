@@ -1,13 +1,13 @@
 -- LSAs leave one after the other.
-use Rattle.std.proofs.Common.{◌≡◌, ◌||◌, Bool, true, false, if◌then◌else◌, Option, None, Some, ap, ◌∙◌, List, [], ◌∷◌, ◌++◌, refl, subst}
+use Rattle.std.proofs.Common.{◌≡◌, ◌||◌, Bool, true, false, if◌then◌else◌, Option, None, Some, ap, ◌∙◌, List, [], ◌∷◌, ◌++◌, refl, subst, arith, filter, length, map}
 use Rattle.ospf_base.specs.declared.ids.LsaKey.{LsaKey}
 use Rattle.ospf_base.proofs.SameKeys.{same_key-eq}
 use Rattle.ospf_base.specs.Keys.{same_key}
-use Rattle.ospf_lsdb.specs.Database.{Held, held_of, is_expired, removed}
+use Rattle.ospf_lsdb.specs.Database.{Held, entries, held_of, is_expired, removed}
 use Rattle.ospf_lsdb.specs.Moments.{among}
 use Rattle.ospf_area.specs.Outputs.{OutputsValue}
-use Rattle.ospf_update.specs.Removal.{RemovesOne, RemovesAll}
-use Rattle.ospf_area.specs.State.{AreaValue}
+use Rattle.ospf_update.specs.Removal.{RemovesOne, RemovesAll, is_leaving, key_of_entry, leaving}
+use Rattle.ospf_area.specs.State.{AreaValue, LinkValue, some_link_loading}
 
 -- one more
 pub RemovesAll-more : (keys : List LsaKey) (key : LsaKey) (s m e : AreaValue) (o p q : OutputsValue) → RemovesAll keys s o p m → RemovesOne key m p q e → RemovesAll (keys ++ key ∷ []) s o q e
@@ -47,3 +47,21 @@ removed_all [] s e o q none key = ap (λ (x : AreaValue). held_of x.database key
 removed_all (k ∷ keys) s e o q some key =
     one_of k key (held_of s.database key) (held_of some.0.database key) (held_of e.database key) (among keys key) (held_of s.database) refl (some.2.database key)
     (removed_all keys some.0 e some.1 q some.3 key)
+
+-- ---- none is at MaxAge
+
+none_leaves : (links : List LinkValue) (db : List Held) → length (filter is_expired db) ≡ 0 → filter (is_leaving links) (entries db) ≡ []
+none_leaves links [] none = refl
+none_leaves links (h ∷ hs) none = by (is_expired h) refl (none_leaves links hs)
+  where
+    by : (b : Bool) → is_expired h ≡ b → (length (filter is_expired hs) ≡ 0 → filter (is_leaving links) (entries hs) ≡ []) → filter (is_leaving links) (entries (h ∷ hs)) ≡ []
+    by true e later = absurd (let some = simp e at none in omega (arith, some))
+    by false e later = let rest = simp e at none in rw e (later rest)
+
+-- then none leaves
+pub leaving_none : (s : AreaValue) → length (filter is_expired s.database) ≡ 0 → leaving s ≡ []
+leaving_none s none = by (some_link_loading s.links) refl
+  where
+    by : (b : Bool) → some_link_loading s.links ≡ b → leaving s ≡ []
+    by true e = rw e refl
+    by false e = rw e (ap (λ es. map key_of_entry es) (none_leaves s.links s.database none))

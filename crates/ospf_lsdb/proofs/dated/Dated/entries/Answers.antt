@@ -2,10 +2,10 @@ use Rattle.std.proofs.Common.{List, map, ap, subst, sym, ◌∙◌}
 use Rattle.std.specs.List.{AllByRecursion}
 use Rattle.ospf_lsdb.specs.Database.{Held, IsDatabase}
 use Rattle.ospf_lsdb.specs.Entries.{entry_at, AgeFits}
-use Rattle.ospf_lsdb.specs.declared.lsdb.Stored.{Stored}
+use Rattle.ospf_lsdb.specs.declared.dated.Stored.{Stored}
 use Rattle.ospf_lsdb.proofs.TimerLemmas.{IsDatabase-stored}
 use Rattle.ospf_lsdb.proofs.WalkLemmas.{young_values, map_values}
-use Rattle.ospf_lsdb.proofs.lsdb.Lsdb.entries.Goals as goal
+use Rattle.ospf_lsdb.proofs.dated.Dated.entries.Goals as goal
 
 pub new-requires : goal.new-requires
 new-requires c =

@@ -6,8 +6,8 @@ use Rattle.ospf_lsdb.specs.Moments.{is_at, keys_at, among}
 use Rattle.ospf_lsdb.specs.Timers.{IsKept, held_at, stored_of, stopped}
 use Rattle.ospf_lsdb.proofs.TickLemmas.{then_at, Forgets, Looks, ordered-KeysRise, ticks_kept, ticks_ages, ticks_looks}
 use Rattle.ospf_lsdb.proofs.IdleLemmas.{idle_moment}
-use Rattle.ospf_lsdb.proofs.lsdb.Lsdb.tick_due.Goals as goal
-use Rattle.ospf_lsdb.proofs.lsdb.Lsdb.tick_due.Goals.{After-look_at_all}
+use Rattle.ospf_lsdb.proofs.dated.Dated.tick_due.Goals as goal
+use Rattle.ospf_lsdb.proofs.dated.Dated.tick_due.Goals.{After-look_at_all}
 
 ops : (c : After-look_at_all) → Forgets c.self.inside.clock c.self.inside.due c.forget-2.new.self
 ops c = λ q. c.forget-2.ensures q ∙ ap (λ (b : Bool). not (is_at c.self.inside.clock 3600 q) && b) (c.forget.ensures q)

@@ -1,8 +1,8 @@
 use Rattle.std.proofs.Common.{◌≡◌, ap, sym, ◌∙◌, Option, None, Some, option_map, ℕ}
-use Rattle.ospf_lsdb.specs.declared.lsdb.Stored.{Stored}
+use Rattle.ospf_lsdb.specs.declared.dated.Stored.{Stored}
 use Rattle.ospf_lsdb.specs.Timers.{stored_of, age_at}
 use Rattle.ospf_lsdb.proofs.TimerLemmas.{stored_of-get}
-use Rattle.ospf_lsdb.proofs.lsdb.age_in.Goals as goal
+use Rattle.ospf_lsdb.proofs.dated.age_in.Goals as goal
 
 pub returns : goal.returns
 returns c =

@@ -4,10 +4,10 @@ use Rattle.std.specs.BTreeMap.{BTreeMap}
 use Rattle.ospf_base.specs.declared.ids.LsaKey.{LsaKey}
 use Rattle.ospf_lsdb.specs.Moments.{key_cmp}
 use Rattle.ospf_lsdb.specs.Timers.{stored_of}
-use Rattle.ospf_lsdb.specs.declared.lsdb.Stored.{Stored}
-use Rattle.ospf_lsdb.specs.declared.lsdb.Timer.TheVariants.{Expired}
+use Rattle.ospf_lsdb.specs.declared.dated.Stored.{Stored}
+use Rattle.ospf_lsdb.specs.declared.dated.Timer.TheVariants.{Expired}
 use Rattle.ospf_lsdb.proofs.TimerLemmas.{stored_of-get, stored_updated, stopped_put, stopped_none}
-use Rattle.ospf_lsdb.proofs.lsdb.stop.Goals as goal
+use Rattle.ospf_lsdb.proofs.dated.stop.Goals as goal
 
 pub returns-in-Some-clause-entry : goal.returns-in-Some-clause-entry
 returns-in-Some-clause-entry c = λ q.

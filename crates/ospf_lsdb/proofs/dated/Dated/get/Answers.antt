@@ -1,9 +1,9 @@
 use Rattle.std.proofs.Common.{◌≡◌, ◌≤◌, ap, subst, sym, ◌∙◌, Option, None, Some, option_map, List, ℕ}
 use Rattle.ospf_lsdb.specs.Database.{Entry, Held, entry_of, IsDatabase}
-use Rattle.ospf_lsdb.specs.declared.lsdb.Stored.{Stored}
+use Rattle.ospf_lsdb.specs.declared.dated.Stored.{Stored}
 use Rattle.ospf_lsdb.specs.Timers.{held_at, stored_of}
 use Rattle.ospf_lsdb.proofs.TimerLemmas.{IsDatabase-stored, held_of-stored, stored_of-get, stored_one}
-use Rattle.ospf_lsdb.proofs.lsdb.Lsdb.get.Goals as goal
+use Rattle.ospf_lsdb.proofs.dated.Dated.get.Goals as goal
 
 pub returns-in_err-stored-clause-entry : goal.returns-in_err-stored-clause-entry
 returns-in_err-stored-clause-entry c =

@@ -1,7 +1,7 @@
 use Rattle.std.proofs.Common.{refl, sym, arith}
 use Rattle.ospf_lsdb.specs.Moments.{ahead}
 use Rattle.ospf_lsdb.specs.Timers.{age_at}
-use Rattle.ospf_lsdb.proofs.lsdb.Timer.new.Goals as goal
+use Rattle.ospf_lsdb.proofs.dated.Timer.new.Goals as goal
 
 pub returns-then-age-eq-MAX_AGE : goal.returns-then-age-eq-MAX_AGE
 unfolding age_at

@@ -6,11 +6,11 @@ use Rattle.ospf_base.specs.Keys.{Precedes}
 use Rattle.ospf_base.specs.declared.ids.LsaKey.{LsaKey}
 use Rattle.ospf_lsa.specs.Lsa.{key_of}
 use Rattle.ospf_lsdb.specs.Database.{Entry, key_at, key_in, listed, listed_of}
-use Rattle.ospf_lsdb.specs.declared.lsdb.Stored.{Stored}
+use Rattle.ospf_lsdb.specs.declared.dated.Stored.{Stored}
 use Rattle.ospf_lsdb.proofs.TimerLemmas.{rising_stored}
 use Rattle.ospf_lsdb.proofs.ListingLemmas.{bare, age_among, bare_last, bare_more, bare_all}
-use Rattle.ospf_lsdb.proofs.lsdb.Lsdb.listing.Goals as goal
-use Rattle.ospf_lsdb.proofs.lsdb.Lsdb.listing.Goals.{In-Some, After-new-entry}
+use Rattle.ospf_lsdb.proofs.dated.Dated.listing.Goals as goal
+use Rattle.ospf_lsdb.proofs.dated.Dated.listing.Goals.{In-Some, After-new-entry}
 
 walked : (c : In-Some) → values_of c.self.inside.entries.entries ≡ c.loop-stored.invariant.done ++ c.in-Some.stored.now ∷ c.next.new.self
 walked c = c.loop-stored.invariant.walked ∙ ap (λ (t : List Stored). c.loop-stored.invariant.done ++ t) c.in-Some.ensures.steps

@@ -3,7 +3,7 @@ use Rattle.std.specs.BTreeMap.{IsOrdered}
 use Rattle.ospf_base.specs.declared.ids.LsaKey.{LsaKey}
 use Rattle.ospf_lsdb.specs.Moments.{key_cmp, among}
 use Rattle.ospf_lsdb.specs.Timers.{stored_of, stopped}
-use Rattle.ospf_lsdb.proofs.lsdb.look_at_all.Given as goal
+use Rattle.ospf_lsdb.proofs.dated.look_at_all.Given as goal
 
 abbrev pub invariant-loop-key : goal.invariant-loop-key
 invariant-loop-key l = record {

@@ -1,7 +1,7 @@
 use Rattle.std.proofs.Common.{◌<◌, ap, ◌∙◌, List}
 use Rattle.ospf_lsdb.specs.Database.{Held, reached_at}
 use Rattle.ospf_lsdb.proofs.ReachedKeys.{keys_at-reached}
-use Rattle.ospf_lsdb.proofs.lsdb.Lsdb.reached.Goals as goal
+use Rattle.ospf_lsdb.proofs.dated.Dated.reached.Goals as goal
 
 pub returns : goal.returns
 returns c =

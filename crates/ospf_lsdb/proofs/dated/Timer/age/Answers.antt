@@ -1,8 +1,8 @@
 use Rattle.std.proofs.Common.{ap, sym}
-use Rattle.ospf_lsdb.specs.declared.lsdb.Timer.{Timer}
+use Rattle.ospf_lsdb.specs.declared.dated.Timer.{Timer}
 use Rattle.ospf_lsdb.specs.Moments.{ahead}
 use Rattle.ospf_lsdb.specs.Timers.{age_at}
-use Rattle.ospf_lsdb.proofs.lsdb.Timer.age.Goals as goal
+use Rattle.ospf_lsdb.proofs.dated.Timer.age.Goals as goal
 
 pub returns-in-Since : goal.returns-in-Since
 unfolding age_at ahead

@@ -1,9 +1,9 @@
 use Rattle.std.proofs.Common.{◌≡◌, ◌++◌, List, map}
 use Rattle.std.specs.Map.{values_of}
 use Rattle.ospf_lsdb.specs.Database.{listed}
-use Rattle.ospf_lsdb.specs.declared.lsdb.Stored.{Stored}
+use Rattle.ospf_lsdb.specs.declared.dated.Stored.{Stored}
 use Rattle.ospf_lsdb.proofs.ListingLemmas.{bare}
-use Rattle.ospf_lsdb.proofs.lsdb.Lsdb.listing.Given as goal
+use Rattle.ospf_lsdb.proofs.dated.Dated.listing.Given as goal
 
 abbrev pub invariant-loop-stored : goal.invariant-loop-stored
 invariant-loop-stored l = record {
