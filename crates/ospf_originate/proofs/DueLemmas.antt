@@ -14,11 +14,11 @@ use Rattle.ospf_area.specs.State.{AreaValue, entry_of, numbering_of, kept_number
 use Rattle.ospf_area.specs.declared.state.Numbering.{Numbering}
 use Rattle.ospf_originate.specs.Actions.{own_action, unwanted_action}
 use Rattle.ospf_originate.specs.Numbers.{waits}
-use Rattle.ospf_originate.specs.Own.{value_of}
-use Rattle.ospf_originate.specs.declared.wants.OwnLsa.{OwnLsa}
+use Rattle.ospf_wanted.specs.Own.{value_of}
+use Rattle.ospf_wanted.specs.declared.wants.OwnLsa.{OwnLsa}
 use Rattle.ospf_originate.specs.Sound.{AreNumbered}
 use Rattle.ospf_originate.specs.Steps.{wants, is_heard, action_of, candidates}
-use Rattle.ospf_originate.specs.Wanted.{WantedValue, wanted_key, wanted_of}
+use Rattle.ospf_wanted.specs.Wanted.{WantedValue, wanted_key, wanted_of}
 use Rattle.ospf_originate.specs.declared.action.OwnAction.{OwnAction}
 use Rattle.ospf_originate.specs.declared.action.OwnAction.TheVariants.{Leave}
 
@@ -79,7 +79,7 @@ none_heard (k ∷ ks) key is =
     ap (λ (b : Bool). b || list_any (λ k. same_key k key) ks) (parts.0) ∙ none_heard ks key parts.1
 
 -- nothing becomes of a copy that was not heard, and is not the router's own
-left_alone : (copy : Option Entry) (own : Bool) → (is_some copy ≡ true → own ≡ true → ⊥) → unwanted_action copy false own ≡ Leave
+pub left_alone : (copy : Option Entry) (own : Bool) → (is_some copy ≡ true → own ≡ true → ⊥) → unwanted_action copy false own ≡ Leave
 left_alone None own never = refl
 left_alone (Some copy) true never = absurd (never refl refl)
 left_alone (Some copy) false never = refl

@@ -19,11 +19,11 @@ use Rattle.ospf_area.specs.Numbers.{is_own}
 use Rattle.ospf_area.specs.State.{AreaValue, entry_of, kept_number}
 use Rattle.ospf_originate.specs.Actions.{own_action, wanted_action, unwanted_action, next_action, makes_room, is_due}
 use Rattle.ospf_originate.specs.Laws.{IsNext}
-use Rattle.ospf_originate.specs.Made.{lsa_value}
+use Rattle.ospf_wanted.specs.Made.{lsa_value}
 use Rattle.ospf_originate.specs.Numbers.{waits}
 use Rattle.ospf_originate.specs.Steps.{wants, is_heard, action_of}
-use Rattle.ospf_originate.specs.Wanted.{WantedValue, wanted_key, wanted_of}
-use Rattle.ospf_originate.specs.Wanted.WantedValue.{RouterLsa, NetworkLsa}
+use Rattle.ospf_wanted.specs.Wanted.{WantedValue, wanted_key, wanted_of}
+use Rattle.ospf_wanted.specs.Wanted.WantedValue.{RouterLsa, NetworkLsa}
 use Rattle.ospf_originate.specs.declared.action.OwnAction.TheVariants.{Leave, Flush, Issue}
 
 -- ---- the key and the number of an LSA that is made

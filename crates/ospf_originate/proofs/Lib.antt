@@ -1,7 +1,6 @@
 pub mod DueLemmas
+mod IdleLemmas
 pub mod KeepLemmas
-mod MadeLemmas
-mod MakeLemmas
 pub mod NumberLemmas
 mod OwnLaws
 mod OwnLemmas
@@ -9,4 +8,4 @@ mod RemovalSound
 mod SoundLemmas
 mod StaySound
 mod StepLemmas
-pub mod WantedLemmas
+pub use Rattle.ospf_wanted.proofs.WantedLemmas

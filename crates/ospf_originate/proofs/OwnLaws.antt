@@ -14,7 +14,7 @@ use Rattle.ospf_update.specs.Aging.{turned_area}
 use Rattle.ospf_originate.specs.Numbers.{issued, issued_at_in}
 use Rattle.ospf_originate.specs.Sound.{IsSound}
 use Rattle.ospf_originate.specs.Steps.{Acts, ActsInTurn, Issues, IssuesIf, OwnLsas, wants}
-use Rattle.ospf_originate.specs.Wanted.{WantedValue, wanted_key, wanted_of}
+use Rattle.ospf_wanted.specs.Wanted.{WantedValue, wanted_key, wanted_of}
 use Rattle.ospf_originate.specs.declared.action.Due.{Due}
 use Rattle.ospf_originate.specs.declared.action.OwnAction.{OwnAction}
 use Rattle.ospf_originate.specs.declared.action.OwnAction.TheVariants.{Leave, Flush, Issue}

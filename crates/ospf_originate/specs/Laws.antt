@@ -1,10 +1,8 @@
--- Laws of own LSAs: their numbers, what is wanted, that it can be made, and what is kept for it.
-use Rattle.std.specs.Prelude.{◌≡◌, ◌&&◌, ◌+ℤ◌, ◌≤ℤ◌, ℕ, ℤ, pos, Bool, true, List, [], Option, Some, if◌then◌else◌}
+-- Laws of own LSAs: their numbers, and what is kept for them; those of what is wanted stand in `ospf_wanted`.
+use Rattle.std.specs.Prelude.{◌≡◌, ◌&&◌, ◌+ℤ◌, ◌≤ℤ◌, ℕ, ℤ, pos, true, List, [], Option, Some, if◌then◌else◌}
 use Rattle.std.specs.Int.{int_max}
-use Rattle.std.specs.List.{AllByRecursion}
 use Rattle.ospf_base.specs.Keys.{same_key}
 use Rattle.ospf_base.specs.declared.ids.LsaKey.{LsaKey}
-use Rattle.ospf_base.specs.declared.ids.RouterId.{RouterId}
 use Rattle.ospf_lsa.specs.Recency.{recency}
 use Rattle.ospf_lsa.specs.declared.header.LsaHeader.{LsaHeader}
 use Rattle.ospf_lsa.specs.declared.recency.Recency.TheVariants.{Newer}
@@ -17,12 +15,12 @@ use Rattle.ospf_update.specs.Aging.{Flushes, TickAges}
 use Rattle.ospf_update.specs.Meets.{header_met}
 use Rattle.ospf_update.specs.Removal.{Removes}
 use Rattle.ospf_update.specs.Updates.{TakesUpdate}
-use Rattle.ospf_originate.specs.Made.{CanBeMade}
 use Rattle.ospf_originate.specs.Numbers.{issued_at_in}
-use Rattle.ospf_originate.specs.Sound.{AreApart, AreSetUp, IsSound}
+use Rattle.ospf_originate.specs.Sound.{AreSetUp, IsSound}
 use Rattle.ospf_originate.specs.Steps.{Issues, OwnLsas, wants, action_of}
-use Rattle.ospf_originate.specs.Wanted.{WantedValue, wanted, wanted_key, wanted_of}
+use Rattle.ospf_wanted.specs.Wanted.{WantedValue, wanted_key, wanted_of}
 use Rattle.ospf_originate.specs.declared.action.OwnAction.TheVariants.{Issue}
+pub use Rattle.ospf_wanted.specs.Laws.{WantedAreOfTheirKeys, WantedAreOwn, WantedCanBeMade}
 
 -- ---- numbers
 
@@ -35,21 +33,6 @@ IssuedIsKept = (w : WantedValue) (number : ℤ) (s : AreaValue) (o o' : OutputsV
 abbrev pub IssuedWaits : Type 0
 IssuedWaits = (w : WantedValue) (number : ℤ) (s : AreaValue) (o o' : OutputsValue) (s' : AreaValue) → Issues w number s o o' s' → is_own s.router (wanted_key w) ≡ true → (key : LsaKey)
     → issued_at_in (numbering_of s'.numbering key) ≡ (if same_key (wanted_key w) key then Some s.tick else issued_at_in (numbering_of s.numbering key))
-
--- ---- what is wanted
-
--- no two wanted LSAs are of one key: each is the one of its key
-abbrev pub WantedAreOfTheirKeys : Type 0
-WantedAreOfTheirKeys = (stub_router : Bool) (router : RouterId) (links : List LinkValue) → AreApart links
-    → AllByRecursion (λ w. wanted_of (wanted stub_router router links) (wanted_key w) ≡ Some w) (wanted stub_router router links)
-
--- all of them are the router's own
-abbrev pub WantedAreOwn : Type 0
-WantedAreOwn = (stub_router : Bool) (router : RouterId) (links : List LinkValue) → AllByRecursion (λ w. (wanted_key w).router ≡ router) (wanted stub_router router links)
-
--- what a router of links that are set up wants can be made: only want of memory is in the way
-abbrev pub WantedCanBeMade : Type 0
-WantedCanBeMade = (stub_router : Bool) (router : RouterId) (links : List LinkValue) → AreSetUp links → AllByRecursion CanBeMade (wanted stub_router router links)
 
 -- ---- the own LSAs that end a step
 

@@ -1,8 +1,10 @@
-pub mod Wanted
-pub mod Own
+pub use Rattle.ospf_wanted.specs.Wanted
+pub use Rattle.ospf_wanted.specs.Own
+pub use Rattle.ospf_wanted.specs.Made
+pub use Rattle.ospf_wanted.specs.Said
 pub mod Numbers
-pub mod Made
 pub mod Actions
 pub mod Sound
 pub mod Steps
+pub mod Idle
 pub mod Laws

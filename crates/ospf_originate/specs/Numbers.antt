@@ -1,14 +1,11 @@
 -- How far the numbers of a router's own LSAs have come, and when each was last issued (RFC 2328, sections 12.1.6 and 12.4).
-use Rattle.std.specs.Prelude.{ℕ, ℤ, negsuc, Bool, false, List, Option, None, Some, map, not, if◌then◌else◌}
+use Rattle.std.specs.Prelude.{ℕ, Bool, false, List, Option, None, Some, map, not, if◌then◌else◌}
 use Rattle.ospf_base.specs.Ticks.{have_passed}
 use Rattle.ospf_base.specs.declared.ids.LsaKey.{LsaKey}
 use Rattle.ospf_area.specs.Numbers.{is_numbering_of}
 use Rattle.ospf_area.specs.State.{numbering_of}
 use Rattle.ospf_area.specs.declared.state.Numbering.{Numbering}
-
--- InitialSequenceNumber
-abbrev pub first_number : ℤ
-first_number = negsuc 0x7ffffffe
+pub use Rattle.ospf_wanted.specs.Made.{first_number}
 
 -- MinLSInterval: the ticks between two issues of an LSA (appendix B)
 abbrev pub min_ls_interval : ℕ

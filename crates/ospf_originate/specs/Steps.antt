@@ -15,9 +15,9 @@ use Rattle.ospf_area.specs.declared.state.Numbering.{Numbering}
 use Rattle.ospf_update.specs.Aging.{Flushes, turn_out, turned_area}
 use Rattle.ospf_update.specs.Meets.{Stores, Unchanged, store_updates}
 use Rattle.ospf_originate.specs.Actions.{IsUsed, own_action}
-use Rattle.ospf_originate.specs.Made.{lsa_value}
+use Rattle.ospf_wanted.specs.Made.{lsa_value}
 use Rattle.ospf_originate.specs.Numbers.{waits, issued}
-use Rattle.ospf_originate.specs.Wanted.{WantedValue, wanted, wanted_of, wanted_key}
+use Rattle.ospf_wanted.specs.Wanted.{WantedValue, wanted, wanted_of, wanted_key}
 use Rattle.ospf_originate.specs.declared.action.Due.{Due}
 use Rattle.ospf_originate.specs.declared.action.OwnAction.{OwnAction}
 use Rattle.ospf_originate.specs.declared.action.OwnAction.TheVariants.{Leave, Flush, Issue}

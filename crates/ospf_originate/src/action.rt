@@ -4,14 +4,13 @@ ghost use Rattle.std.specs.Prelude.{◌≡◌, IfErr, IfOk, option_map, option_c
 ghost use Rattle.ospf_lsa.specs.Value.{IsUnmade};
 ghost use Rattle.ospf_lsdb.specs.Database.{is_fresh};
 ghost use Rattle.ospf_originate.specs.Actions.{makes_room, next_action, is_due, wanted_action, unwanted_action, own_action, IsUsed};
-ghost use Rattle.ospf_originate.specs.Made.{IsUnmadeIf, Needs};
-ghost use Rattle.ospf_originate.specs.Numbers.{first_number};
-ghost use Rattle.ospf_originate.specs.Own.{value_of};
+ghost use Rattle.ospf_wanted.specs.Made.{IsUnmadeIf, Needs, first_number};
+ghost use Rattle.ospf_wanted.specs.Own.{value_of};
 
-use crate::wants::OwnLsa;
 use ospf_base::{LsaKey, MAX_AGE};
 use ospf_lsa::LsaFault;
 use ospf_lsdb::{EntryView, LS_REFRESH_TIME};
+use ospf_wanted::OwnLsa;
 use std::alloc::Global;
 
 /// The greatest number of an LSA (RFC 2328, section 12.1.6).
@@ -35,7 +34,7 @@ pub struct Due {
     pub action: OwnAction,
 }
 
-fn is_fresh(copy: &EntryView<'_>) -> bool
+pub(crate) fn is_fresh(copy: &EntryView<'_>) -> bool
     ensures { result ≡ is_fresh copy.now }
 {
     copy.age().ticks() < MAX_AGE
@@ -53,7 +52,7 @@ fn makes_room(copy: Option<EntryView<'_>>) -> OwnAction
 }
 
 // What an LSA that is to be issued comes to.
-fn next_action(copy: Option<EntryView<'_>>, kept: i32) -> OwnAction
+pub(crate) fn next_action(copy: Option<EntryView<'_>>, kept: i32) -> OwnAction
     ensures is { result ≡ next_action copy.entry kept }
     ensures used { IsUsed result }
 {

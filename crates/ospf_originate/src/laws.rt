@@ -1,6 +1,6 @@
-//! Laws: each holds of all numbers, links and routers.
+//! Laws: each holds of all numbers and routers.
 
-ghost use Rattle.ospf_originate.specs.Laws.{AreaStaysSound, StartsSound, IssueIsNext, IssuedIsKept, IssuedWaits, NextIsNewer, OwnStaySound, WantedAreOfTheirKeys, WantedAreOwn, WantedCanBeMade};
+ghost use Rattle.ospf_originate.specs.Laws.{AreaStaysSound, StartsSound, IssueIsNext, IssuedIsKept, IssuedWaits, NextIsNewer, OwnStaySound};
 
 /// An issued LSA's number is kept.
 pub fn issued_is_kept()
@@ -20,21 +20,6 @@ pub fn issue_is_next()
 /// What is issued is newer than a copy whose number was kept.
 pub fn next_is_newer()
     ensures { NextIsNewer }
-{}
-
-/// No two wanted LSAs are of one key.
-pub fn wanted_are_of_their_keys()
-    ensures { WantedAreOfTheirKeys }
-{}
-
-/// All wanted LSAs are the router's own.
-pub fn wanted_are_own()
-    ensures { WantedAreOwn }
-{}
-
-/// What is wanted can be made, with any number that is used.
-pub fn wanted_can_be_made()
-    ensures { WantedCanBeMade }
 {}
 
 /// A router that starts has what it keeps for its own LSAs, and keeps it with other links.

@@ -1,21 +1,22 @@
-//! A router's own LSAs (RFC 2328, section 12.4): which it wants, when they are issued and flushed, and with which numbers.
+//! A router's own LSAs (RFC 2328, section 12.4): when they are issued and flushed, and with which numbers.
 #![tactic(auto)]
 
 mod action;
+mod idle;
 mod laws;
-mod made;
 mod numbers;
 mod own;
 mod step;
 #[cfg(test)]
 mod tests;
-mod wants;
 
 pub use crate::action::{Due, OwnAction, own_action};
 pub use crate::laws::{
     area_stays_sound, issue_is_next, issued_is_kept, issued_waits, next_is_newer, own_stay_sound,
-    starts_sound, wanted_are_of_their_keys, wanted_are_own, wanted_can_be_made,
+    starts_sound,
 };
 pub use crate::own::own_lsas;
 pub use crate::step::issue;
-pub use crate::wants::{OwnLsa, wanted};
+pub use ospf_wanted::{
+    OwnLsa, wanted, wanted_are_of_their_keys, wanted_are_own, wanted_can_be_made,
+};

@@ -1,6 +1,6 @@
 //! The own LSAs that end a step.
 
-ghost use Rattle.std.specs.Prelude.{◌≡◌, ◌++◌, [], false, IfOk, OnOk, find, map, option_copied, option_map};
+ghost use Rattle.std.specs.Prelude.{◌≡◌, ◌++◌, [], false, IfOk, OnErr, OnOk, find, map, option_copied, option_map};
 ghost use Rattle.std.specs.BTreeSet.{IsOrdered};
 ghost use Rattle.std.specs.List.{AllByRecursion, list_any};
 ghost use Rattle.ospf_base.specs.Keys.{same_key};
@@ -9,20 +9,21 @@ ghost use Rattle.ospf_lsa.specs.Value.{HasAll};
 ghost use Rattle.ospf_lsdb.specs.Moments.{among, key_cmp};
 ghost use Rattle.ospf_lsdb.specs.Timers.{KeysRise};
 ghost use Rattle.ospf_originate.specs.Actions.{IsUsed};
-ghost use Rattle.ospf_originate.specs.Made.{CanBeMade, CanBeMadeIf, Needs};
-ghost use Rattle.ospf_originate.specs.Own.{value_of};
+ghost use Rattle.ospf_wanted.specs.Made.{CanBeMade, CanBeMadeIf, Needs};
+ghost use Rattle.ospf_originate.specs.Idle.{IsIdle};
+ghost use Rattle.ospf_wanted.specs.Own.{value_of};
 ghost use Rattle.ospf_originate.specs.Sound.{AreNumbered, IsSound};
 ghost use Rattle.ospf_originate.specs.Steps.{wants, action_of, Acts, ActsInTurn, FlushesAndTurns, HasUsedNumber, IssuesAndTurns, IssuesIf, due_as, due_of, candidates, IsDue, OwnLsas};
-ghost use Rattle.ospf_originate.specs.Wanted.{wanted_of, wanted_key};
+ghost use Rattle.ospf_wanted.specs.Wanted.{wanted_of, wanted_key};
 
 use crate::action::{Due, OwnAction, own_action};
-use crate::made::want_of_memory;
+use crate::idle::is_idle;
 use crate::numbers::{kept_number, waits};
-use crate::step::issue;
-use crate::wants::{OwnLsa, wanted};
+use crate::step::{issue, want_of_memory};
 use ospf_area::{Area, Numbering, Outputs, is_own};
 use ospf_base::LsaKey;
 use ospf_update::{flush, turn_in};
+use ospf_wanted::{OwnLsa, wanted};
 use std::alloc::{AllocError, Global};
 use std::collections::BTreeSet;
 
@@ -285,11 +286,8 @@ fn forget_heard(area: &mut Area)
     area.heard.clear();
 }
 
-/// Issues and flushes the own LSAs that are due in this state (RFC 2328, sections 12.4, 13.4 and 14.1), in the order of
-/// their keys, at the end of a step.
-///
-/// `AllocError` where memory runs out; then the router is to be stopped.
-pub fn own_lsas(area: &mut Area, out: &mut Outputs, alloc: Global) -> Result<(), AllocError>
+// Issues and flushes what is due.
+fn issue_and_flush(area: &mut Area, out: &mut Outputs, alloc: Global) -> Result<(), AllocError>
     requires { IsSound area.old }
     ensures own { OnOk result (OwnLsas area.old out.old out.new area.new) }
     ensures sound { OnOk result (IsSound area.new) }
@@ -299,4 +297,20 @@ pub fn own_lsas(area: &mut Area, out: &mut Outputs, alloc: Global) -> Result<(),
     act_in_turn(area, &all, &due, out, alloc)?;
     forget_heard(area);
     Ok(())
+}
+
+/// Issues and flushes the own LSAs that are due in this state (RFC 2328, sections 12.4, 13.4 and 14.1), in the order of
+/// their keys, at the end of a step. Where nothing is due and none was heard, no memory is taken.
+///
+/// `AllocError` where memory runs out; then the router is to be stopped.
+pub fn own_lsas(area: &mut Area, out: &mut Outputs, alloc: Global) -> Result<(), AllocError>
+    requires { IsSound area.old }
+    ensures own { OnOk result (OwnLsas area.old out.old out.new area.new) }
+    ensures sound { OnOk result (IsSound area.new) }
+    ensures idle { OnErr result (IsIdle area.old → ⊥) }
+{
+    if is_idle(area) {
+        return Ok(());
+    }
+    issue_and_flush(area, out, alloc)
 }

@@ -3,19 +3,26 @@
 ghost use Rattle.std.specs.Prelude.{◌≡◌, ◌∷◌, ◌++◌, [], IfOk, OnOk};
 ghost use Rattle.ospf_lsa.specs.Lsa.{IsLsa};
 ghost use Rattle.ospf_lsa.specs.Value.{HasAll, IsMade};
-ghost use Rattle.ospf_originate.specs.Made.{Needs, lsa_value};
+ghost use Rattle.ospf_wanted.specs.Made.{Needs, lsa_value};
 ghost use Rattle.ospf_originate.specs.Numbers.{issued};
-ghost use Rattle.ospf_originate.specs.Own.{value_of};
+ghost use Rattle.ospf_wanted.specs.Own.{value_of};
 ghost use Rattle.ospf_originate.specs.Steps.{Issues};
 
-use crate::made::want_of_memory;
 use crate::numbers::note_issue;
-use crate::wants::OwnLsa;
 use ospf_area::{Area, Outputs};
 use ospf_base::LsaKey;
-use ospf_lsa::{Lsa, LsaView};
+use ospf_lsa::{Lsa, LsaFault, LsaView};
 use ospf_update::store;
+use ospf_wanted::OwnLsa;
 use std::alloc::{AllocError, Global};
+
+// The fault of an LSA that lacks nothing but memory.
+pub(crate) fn want_of_memory(fault: LsaFault) -> AllocError
+    requires { fault ≡ LsaFault.Memory }
+{
+    prove!(matches!(&fault, LsaFault::Memory));
+    AllocError
+}
 
 // The LSA of a wanted one, with a number.
 fn made(wanted: &OwnLsa, number: i32, alloc: Global) -> Result<Lsa, AllocError>

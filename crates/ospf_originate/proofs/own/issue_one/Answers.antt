@@ -1,7 +1,7 @@
 use Rattle.std.proofs.Common.{ℤ, subst}
 use Rattle.std.specs.Int.{w32}
 use Rattle.std.proofs.lemmas.Int.{to_z-of_z}
-use Rattle.ospf_originate.specs.Own.{value_of}
+use Rattle.ospf_wanted.specs.Own.{value_of}
 use Rattle.ospf_originate.specs.Steps.{Issues}
 use Rattle.ospf_originate.proofs.own.issue_one.Goals as goal
 

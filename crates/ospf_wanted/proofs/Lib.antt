@@ -1,0 +1,4 @@
+mod MadeLemmas
+pub mod MakeLemmas
+mod SaidLemmas
+pub mod WantedLemmas

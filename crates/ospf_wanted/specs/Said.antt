@@ -1,0 +1,36 @@
+-- LSAs compared as they stand, piece by piece (RFC 2328, section 12.4).
+use Rattle.std.specs.Prelude.{ℕ, Bool, true, false, List, [], ◌∷◌, Option, None, Some, length, take, drop, if◌then◌else◌}
+use Rattle.std.specs.List.{flat_map}
+use Rattle.std.specs.Str.{bytes_eq}
+use Rattle.ospf_area.specs.State.{LinkValue}
+use Rattle.ospf_base.specs.declared.ids.RouterId.{RouterId}
+use Rattle.ospf_lsa.specs.Attached.{router_bytes}
+use Rattle.ospf_lsa.specs.Link.{link_bytes}
+use Rattle.ospf_neighbour.specs.Neighbour.{NeighbourValue}
+use Rattle.ospf_wanted.specs.Wanted.{is_full, is_full_before, is_full_behind, links_at, router_link}
+
+-- what stands behind these bytes, where others begin with them
+unfoldable pub behind : List ℕ → Option (List ℕ) → Option (List ℕ)
+behind front None = None
+behind front (Some bytes) = if bytes_eq (take (length front) bytes) front then Some (drop (length front) bytes) else None
+
+-- nothing stands behind them
+unfoldable pub is_end : Option (List ℕ) → Bool
+is_end None = false
+is_end (Some []) = true
+is_end (Some (byte ∷ rest)) = false
+
+-- the bytes of the link to a neighbour, which there is where it is fully adjacent (12.4.1)
+unfoldable pub router_link_bytes : Bool → LinkValue → NeighbourValue → List ℕ
+router_link_bytes stub_router a n = if is_full n then link_bytes (router_link stub_router a n) else []
+
+-- the bytes of the links of a link
+unfoldable pub links_bytes : Bool → LinkValue → List ℕ
+links_bytes stub_router a = flat_map link_bytes (links_at stub_router a)
+
+-- the bytes of the ID of a fully adjacent neighbour that stands before a router, and of one that stands behind it (12.4.2)
+unfoldable pub before_bytes : RouterId → NeighbourValue → List ℕ
+before_bytes router n = if is_full_before router n then router_bytes n.router else []
+
+unfoldable pub behind_bytes : RouterId → NeighbourValue → List ℕ
+behind_bytes router n = if is_full_behind router n then router_bytes n.router else []

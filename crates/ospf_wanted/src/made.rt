@@ -1,0 +1,75 @@
+//! Own LSAs as they are made, and what a copy says.
+
+ghost use Rattle.std.specs.Prelude.{◌≡◌, ◌≤◌, IfOk, IfErr, OnOk, length, take, drop};
+ghost use Rattle.std.specs.Str.{bytes_eq};
+ghost use Rattle.ospf_base.specs.Sums.{contents};
+ghost use Rattle.ospf_lsa.specs.Value.{HasAll, IsMade, IsUnmade};
+ghost use Rattle.ospf_wanted.specs.Made.{lsa_value, Needs, aside, first_number, says};
+ghost use Rattle.ospf_wanted.specs.Own.{value_of};
+
+use crate::wants::OwnLsa;
+use ospf_lsa::{Lsa, LsaFault, LsaView};
+use std::alloc::Global;
+
+/// The first number of an LSA (RFC 2328, section 12.1.6).
+const INITIAL_SEQUENCE_NUMBER: i32 = -0x7fff_ffff;
+
+// Whether two LSAs have the same Options, kind, Link State ID and Advertising Router.
+fn same_front(a: &[u8], b: &[u8]) -> bool
+    requires first { 20 ≤ length a.now }
+    requires second { 20 ≤ length b.now }
+    ensures { result ≡ bytes_eq (take 10 (drop 2 a.now)) (take 10 (drop 2 b.now)) }
+{
+    a[2..12] == b[2..12]
+}
+
+// Whether they have the same length and body.
+fn same_rest(a: &[u8], b: &[u8]) -> bool
+    requires first { 20 ≤ length a.now }
+    requires second { 20 ≤ length b.now }
+    ensures { result ≡ bytes_eq (drop 18 a.now) (drop 18 b.now) }
+{
+    a[18..] == b[18..]
+}
+
+// Whether two LSAs say the same, numbers and checksums aside.
+fn same_aside(a: &LsaView<'_>, b: &LsaView<'_>) -> bool
+    ensures { result ≡ bytes_eq (aside (contents a.now)) (aside (contents b.now)) }
+{
+    let (a, b) = (a.as_bytes(), b.as_bytes());
+    let front = same_front(a, b);
+    let rest = same_rest(a, b);
+    front && rest
+}
+
+impl OwnLsa {
+    /// The LSA with a number, at age 0.
+    ///
+    /// A fault tells the first that it needs and that is missing; `Memory` where nothing else is.
+    pub fn make(&self, number: i32, alloc: Global) -> Result<Lsa, LsaFault>
+        ensures ok { IfOk result (λ lsa. IsMade (lsa_value number (value_of self.now)) lsa) }
+        ensures needs { OnOk result (HasAll (Needs number (value_of self.now))) }
+        ensures fault { IfErr result (λ f. IsUnmade (Needs number (value_of self.now)) f) }
+    {
+        match self {
+            OwnLsa::Router { router, links } => Lsa::router(alloc, *router, number, links),
+            OwnLsa::Network {
+                id,
+                router,
+                mask,
+                routers,
+            } => Lsa::network(alloc, *id, *router, number, *mask, routers),
+        }
+    }
+
+    /// Whether an LSA is the wanted one, number and checksum aside (RFC 2328, section 12.4).
+    ///
+    /// A fault is that of the wanted LSA, if it cannot be made.
+    pub fn is_said_by(&self, copy: &LsaView<'_>, alloc: Global) -> Result<bool, LsaFault>
+        ensures ok { IfOk result (λ said. said ≡ says (contents copy.now) (value_of self.now)) }
+        ensures fault { IfErr result (λ f. IsUnmade (Needs first_number (value_of self.now)) f) }
+    {
+        let lsa = self.make(INITIAL_SEQUENCE_NUMBER, alloc)?;
+        Ok(same_aside(copy, &lsa.view()))
+    }
+}
