@@ -23,3 +23,4 @@ pub mod AgingChains
 pub mod RemovalChains
 pub mod LinkParts
 pub mod PutParts
+pub mod KeptChains

@@ -1,1 +1,3 @@
+mod ListingFacts
 mod StartLemmas
+mod SettledLemmas

@@ -1,6 +1,6 @@
 -- A router that starts is fit, and its empty table is that of its empty listing.
 use Rattle.std.proofs.lemmas.Option.{none-some}
-use Rattle.std.proofs.Common.{◌≡◌, ◌≢◌, ◌≤◌, ◌<◌, ◌++◌, ◌+◌, ℕ, ℤ, zero, suc, slice_get, Some, List, [], ◌∷◌, AllPairs, get_or, length, take, refl, sym, ap, subst, ◌∙◌, arith, add-one}
+use Rattle.std.proofs.Common.{◌≡◌, ◌≢◌, ◌≤◌, ◌<◌, ◌++◌, ◌+◌, ℕ, ℤ, zero, suc, slice_get, Some, List, [], ◌∷◌, AllPairs, get_or, length, map, take, refl, sym, ap, subst, ◌∙◌, arith, add-one}
 use Rattle.std.specs.List.{AllByRecursion}
 use Rattle.ospf_laws.proofs.ListFacts.{Contains-nil}
 use Rattle.std.specs.Prelude.{slice_index_or}
@@ -11,10 +11,13 @@ use Rattle.ospf_edges.specs.Listed.{advertisements_of}
 use Rattle.ospf_graph.proofs.TableLemmas.{pairs_tail}
 use Rattle.ospf_graph.specs.Routes.{IsTable}
 use Rattle.ospf_lsa.specs.Lsa.{key_of}
-use Rattle.ospf_lsdb.specs.Database.{IsDatabase, entry_of}
+use Rattle.ospf_lsdb.specs.Database.{IsDatabase, entry_of, listed}
 use Rattle.ospf_originate.specs.Laws.{StartsSound}
 use Rattle.ospf_originate.specs.Sound.{AreApart, AreSetUp, IsSetUp, IsSound}
 use Rattle.ospf_router.specs.Routers.{HasRoutes}
+use Rattle.ospf_routes.specs.Listings.{ListsAs}
+use Rattle.ospf_routes.specs.Routes.{RoutesValue}
+use Rattle.ospf_base.specs.Sums.{contents}
 use Rattle.std.proofs.Math.Seq.{take-suc}
 use Rattle.ospf_adjacency.specs.Elections.{AreOfLink}
 use Rattle.ospf_base.specs.Masks.{IsMask}
@@ -132,6 +135,12 @@ start_routes config dd_start floor s is =
     let now : AreaValue = area_of config dd_start floor s.links in
     let routes : HasRoutes now [] = record { database = no_database; listing = record { rising = tt; listed = tt }; routes = empty_routes config.router_id } in
     subst (λ (x : AreaValue). HasRoutes x []) (sym is.rest) routes
+
+-- and it lists nothing
+pub start_lists : (config : Config) (dd_start : ℕ) (floor : ℤ) (s : AreaValue) → IsAreaOf config dd_start floor s → (routes : RoutesValue) → routes.listing ≡ [] → ListsAs s.database routes.listing
+start_lists config dd_start floor s is routes none =
+    let lists : map contents (listed (area_of config dd_start floor s.links).database) ≡ map contents routes.listing = ap (map contents) (sym none) in
+    subst (λ (x : AreaValue). ListsAs x.database routes.listing) (sym is.rest) lists
 
 -- ---- nothing is held, and nothing waits
 

@@ -8,6 +8,7 @@ use Rattle.ospf_laws.specs.Words.{IsSoundState}
 use Rattle.ospf_lsdb.specs.Database.{listed}
 use Rattle.ospf_neighbour.specs.Lists.{is_listed}
 use Rattle.ospf_neighbour.specs.Neighbour.{NeighbourValue}
+use Rattle.ospf_routes.specs.Listings.{ListsAs}
 use Rattle.ospf_routes.specs.Routes.{AreRoutes, RoutesValue}
 use Rattle.ospf_step.specs.Fit.{IsFit}
 
@@ -28,16 +29,17 @@ pub record IsKept (s : AreaValue) : Type 0 where
   pub fit : IsFit s
   pub sound : IsSoundState s
 
--- a router that runs
-pub record Runs (links : ℕ) (table : List Route) (s : AreaValue) : Type 0 where
+-- a router that runs; its routes were made of LSAs that its database lists, at whatever ages
+pub record Runs (links : ℕ) (routes : RoutesValue) (s : AreaValue) : Type 0 where
   pub kept : IsKept s
-  pub routes : HasRoutes s table
+  pub has_routes : HasRoutes s routes.table
+  pub listing : ListsAs s.database routes.listing
   pub as_many : length s.links ≡ links
 
 -- what a router is: it runs, or it has stopped, and routes nothing
 abbrev pub IsRouter : ℕ → RoutesValue → Option AreaValue → Type 0
 IsRouter links routes None = routes.table ≡ []
-IsRouter links routes (Some s) = Runs links routes.table s × (routes.router ≡ s.router)
+IsRouter links routes (Some s) = Runs links routes s × (routes.router ≡ s.router)
 
 -- ---- what is asked of it
 

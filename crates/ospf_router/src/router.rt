@@ -1,8 +1,13 @@
 //! The router.
 
-ghost use Rattle.std.specs.Prelude.{◌≡◌, ◌≢◌, ◌<◌, ◌↔◌, IsTrue, IfErr, IfOk, OnErr, OnOk, None, Some, is_some, option_copied};
+ghost use Rattle.std.specs.Prelude.{◌≡◌, ◌≢◌, ◌<◌, ◌⊎◌, ◌↔◌, [], IsTrue, IfErr, IfOk, IfSome, OnErr, OnOk, None, Some, is_some, map, option_copied};
+ghost use Rattle.ospf_base.specs.Sums.{contents};
+ghost use Rattle.ospf_edges.specs.Listed.{advertisements_of};
 ghost use Rattle.ospf_flood.specs.Rules.{max_sequence_number};
+ghost use Rattle.ospf_lsdb.specs.Counts.{fresh_count};
+ghost use Rattle.ospf_lsdb.specs.Database.{IsDatabase};
 ghost use Rattle.ospf_neighbour.specs.Neighbours.{neighbour_of};
+ghost use Rattle.ospf_routes.specs.Listings.{ListsAs};
 ghost use Rattle.ospf_step.specs.Same.{IsSameRouter};
 ghost use Rattle.ospf_step.specs.Events.{happening};
 ghost use Rattle.ospf_router.specs.Routers.{HasRoutes, IsKept, awaits_in, greatest_in, listing_of, neighbours_on, stopped};
@@ -75,20 +80,49 @@ fn step_area(area: &mut Area, event: Event<'_>, alloc: Global) -> Result<Taken, 
     step(area, event, alloc)
 }
 
-// The routes after a step: one that is dropped leaves them.
+// How many LSAs of the database are below `MAX_AGE`.
+fn fresh_in(area: &Area) -> usize
+    ensures count { result ≡ fresh_count area.now.database }
+    ensures database { IsDatabase area.now.database }
+{
+    // Its contract says that it is a database.
+    let _entries = area.database.entries();
+    area.database.fresh()
+}
+
+// Whether nothing was installed from an Update or issued. If so, what is listed after a step was so before.
+fn brings_none(out: &Outputs) -> bool
+    ensures { IsTrue result → (out.now.taken ≡ []) × (out.now.issued ≡ []) }
+{
+    out.taken.is_empty() && out.issued.is_empty()
+}
+
+// Whether a step lists what was listed before: it is dropped, or brings nothing, and as many LSAs are below `MAX_AGE` as were.
+fn is_settled(taken: &Taken, before: usize, after: usize) -> bool
+    ensures { IsTrue result → IsTrue (is_some taken.now.dropped) ⊎ ((taken.now.out.taken ≡ []) × (taken.now.out.issued ≡ []) × (after ≡ before)) }
+{
+    if taken.dropped.is_some() {
+        return true;
+    }
+    brings_none(&taken.out) && after == before
+}
+
+// The routes after a step: one that lists what was listed before leaves them, with no look at the database.
 fn refresh(
-    dropped: bool,
+    settled: bool,
     area: &Area,
     routes: &mut KeptRoutes,
     alloc: Global,
 ) -> Result<bool, AllocError>
     requires router { routes.old.router ≡ area.now.router }
-    requires as_before { IsTrue dropped → HasRoutes area.now routes.old.table }
+    requires as_before { IsTrue settled → HasRoutes area.now routes.old.table }
+    requires as_listed { IsTrue settled → ListsAs area.now.database routes.old.listing }
     ensures routes { OnOk result (HasRoutes area.now routes.new.table) }
+    ensures listing { OnOk result (ListsAs area.now.database routes.new.listing) }
     ensures changed { IfOk result (λ b. IsTrue b ↔ (routes.new.table ≢ routes.old.table)) }
     ensures router { routes.new.router ≡ routes.old.router }
 {
-    if dropped {
+    if settled {
         return Ok(false);
     }
     routes.refresh(&area.database, alloc)
@@ -103,16 +137,20 @@ fn advance(
 ) -> Result<Advanced, AllocError>
     requires kept { IsKept area.old }
     requires routes { HasRoutes area.old routes.old.table }
+    requires listing { ListsAs area.old.database routes.old.listing }
     requires router { routes.old.router ≡ area.old.router }
     ensures lawful { IfOk result (λ a. IsLawful (happening event.entry) area.old a.taken.dropped a.taken.out area.new) }
     ensures same { OnOk result (IsSameRouter area.old area.new) }
     ensures kept { OnOk result (IsKept area.new) }
     ensures routes { OnOk result (HasRoutes area.new routes.new.table) }
+    ensures listing { OnOk result (ListsAs area.new.database routes.new.listing) }
     ensures changed { IfOk result (λ a. IsTrue a.table_changed ↔ (routes.new.table ≢ routes.old.table)) }
     ensures router { routes.new.router ≡ routes.old.router }
 {
+    let before = fresh_in(area);
     let taken = step_area(area, event, alloc)?;
-    let table_changed = refresh(taken.dropped.is_some(), area, routes, alloc)?;
+    let settled = is_settled(&taken, before, fresh_in(area));
+    let table_changed = refresh(settled, area, routes, alloc)?;
     Ok(Advanced {
         taken,
         table_changed,
@@ -196,6 +234,19 @@ impl Router {
         match &self.area {
             Some(area) => area.database.listing(alloc),
             None => Ok(Listing::new(alloc)),
+        }
+    }
+
+    /// The LSAs that the routing table was last made of, if it was made of any: those that the router lists (section 14), at the
+    /// ages that they had then. No memory is taken.
+    pub fn kept_listing(&self) -> Option<&Listing>
+        ensures same { IfSome result (λ l. map contents l.now ≡ map contents (listing_of self.now.area)) }
+        ensures told { IfSome result (λ l. advertisements_of l.now ≡ advertisements_of (listing_of self.now.area)) }
+        ensures none { result ≡ None → listing_of self.now.area ≡ [] }
+    {
+        match &self.area {
+            Some(_) => self.routes.listing(),
+            None => None,
         }
     }
 

@@ -1,3 +1,4 @@
-mod ListLemmas
+pub mod ListLemmas
 mod SameListings
 mod TableLemmas
+pub mod KeepLemmas

@@ -1,5 +1,5 @@
 -- The routes of a database (RFC 2328, sections 14 and 16.1).
-use Rattle.std.specs.Prelude.{List}
+use Rattle.std.specs.Prelude.{ℕ, List}
 use Rattle.ospf_base.specs.declared.ids.RouterId.{RouterId}
 use Rattle.ospf_edges.specs.Listed.{advertisements_of}
 use Rattle.ospf_graph.specs.Routes.{IsTable}
@@ -13,7 +13,8 @@ pub record AreRoutes (router : RouterId) (db : List Held) (table : List Route) :
   pub listing : IsListing (listed db)
   pub routes : IsTable (advertisements_of (listed db)) router table
 
--- routes that are kept: whose they are, and which
+-- routes that are kept: whose they are, which, and the LSAs that they were made of
 pub record RoutesValue : Type 0 where
   pub router : RouterId
   pub table : List Route
+  pub listing : List (List ℕ)

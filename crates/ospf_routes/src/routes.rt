@@ -1,10 +1,11 @@
 //! The routing table of a database, with the listing and the tree that it was made of.
 
-ghost use Rattle.std.specs.Prelude.{◌≡◌, ◌≢◌, ◌↔◌, [], IsTrue, IfOk, IfSome, OnErr, OnOk};
+ghost use Rattle.std.specs.Prelude.{◌≡◌, ◌≢◌, ◌↔◌, [], IsTrue, IfOk, IfSome, None, OnErr, OnOk};
 ghost use Rattle.ospf_edges.specs.Listed.{advertisements_of};
 ghost use Rattle.ospf_graph.specs.Routes.{IsTable};
 ghost use Rattle.ospf_lsa.specs.Listing.{IsListing};
 ghost use Rattle.ospf_lsdb.specs.Database.{IsDatabase, listed};
+ghost use Rattle.ospf_routes.specs.Listings.{ListsAs};
 ghost use Rattle.ospf_routes.specs.Routes.{AreRoutes};
 
 use crate::listed::lists_as;
@@ -85,12 +86,12 @@ pub struct KeptRoutes {
 }
 
 impl Model for KeptRoutes {
-    ghost use Rattle.ospf_routes.specs.Kept.{IsTableOf};
+    ghost use Rattle.ospf_routes.specs.Kept.{IsTableOf, lsas_in};
     ghost use Rattle.ospf_routes.specs.Routes.{RoutesValue};
 
     ghost Value = { RoutesValue };
 
-    ghost view = { λ r. record { router = r.tree; table = r.table } };
+    ghost view = { λ r. record { router = r.tree; table = r.table; listing = lsas_in r.listing } };
 
     ghost invariant = { λ r. IsTableOf r.tree r.table r.listing };
 }
@@ -120,7 +121,7 @@ fn listing_is_one(listing: &Listing)
 impl KeptRoutes {
     /// No routes yet, of this router.
     pub fn new(router: RouterId, alloc: Global) -> KeptRoutes
-        ensures { result ≡ record { router = router; table = [] } }
+        ensures { result ≡ record { router = router; table = []; listing = [] } }
     {
         KeptRoutes {
             table: RouteTable::empty(alloc),
@@ -136,9 +137,21 @@ impl KeptRoutes {
         &self.table
     }
 
+    /// The listing that the routes were made of, if any was; its ages are those of that time. No memory is taken.
+    pub fn listing(&self) -> Option<&Listing>
+        ensures some { IfSome result (λ l. l.now ≡ self.now.listing) }
+        ensures none { result ≡ None → self.now.listing ≡ [] }
+    {
+        match &self.listing {
+            Some(listing) => Some(listing),
+            None => None,
+        }
+    }
+
     // Whether the routes are those of a listing as the database has it. No memory is taken.
     fn is_current(&self, database: &Lsdb) -> bool
-        ensures { IsTrue result → AreRoutes self.now.router database.now self.now.table }
+        ensures routes { IsTrue result → AreRoutes self.now.router database.now self.now.table }
+        ensures listing { IsTrue result → ListsAs database.now self.now.listing }
     {
         match &self.listing {
             Some(listing) => lists_as(database, listing),
@@ -149,6 +162,7 @@ impl KeptRoutes {
     // Puts the routes of a listing in place; whether they are others than before.
     fn put(&mut self, listing: Listing, alloc: Global) -> Result<bool, AllocError>
         ensures table { OnOk result (IsTable (advertisements_of listing) self.old.router self.new.table) }
+        ensures listing { OnOk result (self.new.listing ≡ listing) }
         ensures changed { IfOk result (λ b. IsTrue b ↔ (self.new.table ≢ self.old.table)) }
         ensures router { self.new.router ≡ self.old.router }
         ensures kept { OnErr result (self.new.table ≡ self.old.table) }
@@ -163,6 +177,7 @@ impl KeptRoutes {
     // Makes the routes of what the database lists; whether they are others than before.
     fn renew(&mut self, database: &Lsdb, alloc: Global) -> Result<bool, AllocError>
         ensures table { OnOk result (AreRoutes self.old.router database.now self.new.table) }
+        ensures listing { OnOk result (self.new.listing ≡ listed database.now) }
         ensures changed { IfOk result (λ b. IsTrue b ↔ (self.new.table ≢ self.old.table)) }
         ensures router { self.new.router ≡ self.old.router }
         ensures kept { OnErr result (self.new.table ≡ self.old.table) }
@@ -179,6 +194,7 @@ impl KeptRoutes {
     /// `AllocError` where memory runs out; then the table is as it was.
     pub fn refresh(&mut self, database: &Lsdb, alloc: Global) -> Result<bool, AllocError>
         ensures table { OnOk result (AreRoutes self.old.router database.now self.new.table) }
+        ensures listing { OnOk result (ListsAs database.now self.new.listing) }
         ensures changed { IfOk result (λ b. IsTrue b ↔ (self.new.table ≢ self.old.table)) }
         ensures router { self.new.router ≡ self.old.router }
         ensures kept { OnErr result (self.new.table ≡ self.old.table) }
@@ -191,7 +207,7 @@ impl KeptRoutes {
 
     /// No routes, as at first.
     pub fn clear(&mut self, alloc: Global)
-        ensures { self.new ≡ record self.old { table = [] } }
+        ensures { self.new ≡ record self.old { table = []; listing = [] } }
     {
         self.table = RouteTable::empty(alloc);
         self.listing = None;
