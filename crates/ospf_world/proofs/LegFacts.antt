@@ -1,12 +1,13 @@
 -- What a walk does at one router.
-use Rattle.std.proofs.Common.{◌≡◌, ◌≢◌, ◌%◌, ℕ, List, Option, None, Some, Result, Ok, Err, length, slice_get, sym, ap, subst, ◌∙◌, inl, inr}
-use Rattle.std.specs.Prelude.{IfOk, option_and_then}
+use Rattle.std.proofs.Common.{◌≡◌, ◌≢◌, ◌%◌, ℕ, List, Option, None, Some, Result, Ok, Err, length, slice_get, refl, sym, ap, subst, ◌∙◌, inl, inr}
+use Rattle.std.specs.Prelude.{[], option_and_then}
 use Rattle.std.specs.List.{Contains}
 use Rattle.std.specs.Borrow.{Bor}
 use Rattle.ospf_area.specs.State.{AreaValue}
 use Rattle.ospf_base.specs.declared.ids.RouterId.{RouterId}
 use Rattle.ospf_edges.specs.Listed.{advertisements_of}
 use Rattle.ospf_graph.proofs.WalkSteps.{onward_of}
+use Rattle.ospf_laws.proofs.ListFacts.{Contains-nil}
 use Rattle.ospf_graph.specs.Advertisements.{Advertisement}
 use Rattle.ospf_graph.specs.Routes.{IsHop, IsRoute, IsTable}
 use Rattle.ospf_graph.specs.Walk.{HasLinkFor, IsBest}
@@ -67,17 +68,24 @@ here_linked w a v here address choice route hop is best taken apart =
 
 -- ---- legs
 
-pub any_cost : {E : Type 0} (A : List Advertisement) (at : RouterId) (hop : NextHop) (cost : ℕ) (r : Result Leg E) → hop ≢ hops.Attached → IfOk r (LegsOver A at hop 0) → IfOk r (LegsOver A at hop cost)
-any_cost A at hop cost (Err e) apart h = tt
-any_cost A at hop cost (Ok leg) apart (LegsOver.Here is ends) = absurd (apart is)
-any_cost A at hop cost (Ok leg) apart (LegsOver.There next link named costs goes) = LegsOver.There next link named costs goes
+nothing_listed : advertisements_of [] ≡ []
+unfolding advertisements_of
+nothing_listed = refl
+
+none_linked : (a : RouterId) (hop : NextHop) (m : ℕ) → HasLinkFor [] a hop m → ⊥
+none_linked a hops.Attached m h = h
+none_linked a (hops.PointToPoint local b) m h = Contains-nil _ h.0.listed
+none_linked a (hops.Lan local b address) m h = Contains-nil _ h.2.0.listed
+
+-- where nothing is listed nothing is linked
+pub not_linked : (a : RouterId) (hop : NextHop) (lsas : List (List ℕ)) → lsas ≡ [] → ((m : ℕ) × HasLinkFor (advertisements_of lsas) a hop m) → ⊥
+not_linked a hop lsas none linked = none_linked a hop linked.0 (subst (λ (A : List Advertisement). HasLinkFor A a hop linked.0) (ap advertisements_of none ∙ nothing_listed) linked.1)
 
 pub leg_stops : (w : World) (address choice : ℕ) (at : RouterId) (v : RouterValue) (here : IsHere w at v) → HasNoRoute v.table address → HasNoRoute here.x.table address
 leg_stops w address choice at v here none = subst (λ (t : List Route). HasNoRoute t address) here.table none
 
-pub leg_goes : {E : Type 0} (w : World) (address choice : ℕ) (at : RouterId) (v : RouterValue) (here : IsHere w at v) (route : Route) (hop : NextHop) (r : Result Leg E) → IsBest v.table address route → slice_get route.hops (choice % length route.hops) ≡ Some hop
-    → IfOk r (LegsOver (advertisements_of (listing_of v.area)) at hop route.cost) → IfOk r (IsLeg w address choice at)
-leg_goes w address choice at v here route hop (Err e) best taken h = tt
-leg_goes w address choice at v here route hop (Ok leg) best taken h =
+pub leg_goes : (w : World) (address choice : ℕ) (at : RouterId) (v : RouterValue) (here : IsHere w at v) (route : Route) (hop : NextHop) (leg : Leg) → IsBest v.table address route → slice_get route.hops (choice % length route.hops) ≡ Some hop
+    → LegsOver (advertisements_of (listing_of v.area)) at hop route.cost leg → IsLeg w address choice at leg
+leg_goes w address choice at v here route hop leg best taken h =
     IsLeg.Legs here.x route hop here.runs (subst (λ (t : List Route). IsBest t address route) here.table best) taken
     (subst (λ (o : Option AreaValue). LegsOver (advertisements_of (listing_of o)) at hop route.cost leg) here.area h)

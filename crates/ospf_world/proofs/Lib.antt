@@ -1,5 +1,6 @@
 pub mod PlaceFacts
-pub mod WorldFacts
+pub mod TickFacts
+mod WorldFacts
 pub mod ComesFacts
 pub mod RunFacts
 pub mod LendFacts

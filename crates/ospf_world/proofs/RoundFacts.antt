@@ -62,7 +62,7 @@ next_some w ds slots place g events log are at within is offers =
 
 -- one more counts as offered
 abbrev pub passed : WorldValue → WorldValue
-passed w = record { slots = w.slots; logs = w.logs; offered = w.offered + 1 }
+passed w = record { slots = w.slots; logs = w.logs; ticks = w.ticks; offered = w.offered + 1 }
 
 behind : (w v w' : WorldValue) → v ≡ passed w → SameSettings v w' → IsBehind w w'
 behind w v w' is same = record { configs = same.configs ∙ ap configs_of is; offered = same.offered ∙ ap (λ (x : WorldValue). x.offered) is }

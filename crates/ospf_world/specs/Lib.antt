@@ -1,3 +1,5 @@
+pub mod Ticks
+pub mod Sounds
 pub mod Worlds
 pub mod Random
 pub mod Rounds

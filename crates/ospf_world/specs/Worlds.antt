@@ -11,11 +11,13 @@ use Rattle.ospf_headline.specs.declared.event.WorldFault.TheVariants as fault
 use Rattle.ospf_router.specs.Routers.{RouterValue}
 use Rattle.ospf_slots.specs.Logs.{LogsValue}
 use Rattle.ospf_slots.specs.Slots.{IsLent, SlotValue, member_of}
+use Rattle.ospf_world.specs.declared.ticks.Ticked.{Ticked}
 
--- the routers in the order of their configurations, the logs, and how many datagrams the rounds have offered
+-- the routers in the order of their configurations, the logs, the ticks that they took, and how many datagrams the rounds have offered
 pub record WorldValue : Type 0 where
   pub slots : List SlotValue
   pub logs : LogsValue
+  pub ticks : List Ticked
   pub offered : ℕ
 
 -- what the laws of worlds speak of
@@ -65,7 +67,7 @@ no_logs = record { datagrams = []; issued = []; held = [] }
 
 -- a world of these configurations, in which nothing runs and nothing has happened
 abbrev pub new_world : List Config → WorldValue
-new_world configs = record { slots = map stopped configs; logs = no_logs; offered = 0 }
+new_world configs = record { slots = map stopped configs; logs = no_logs; ticks = []; offered = 0 }
 
 -- two configurations, at different places, of one Router ID
 pub record ShareRouter (configs : List Config) : Type 0 where

@@ -1,4 +1,5 @@
-//! Worlds: many routers, started, stopped and stepped by events, and the logs of all that they sent, issued and held.
+//! Worlds: many routers, started, stopped and stepped by events, the logs of all that they sent, issued and
+//! held, and the ticks that they took.
 #![tactic(auto)]
 
 mod parts;
@@ -6,9 +7,11 @@ mod random;
 mod rounds;
 #[cfg(test)]
 mod tests;
+mod ticks;
 mod walk;
 mod world;
 
+pub use crate::ticks::Ticked;
 pub use crate::walk::Walk;
 pub use crate::world::World;
 pub use ospf_slots::{Datagram, Holding, Issued, Logs, Run, Slot, WorldEvent, WorldFault};

@@ -1,11 +1,13 @@
 //! Many routers and their logs, before anything is said of what led there.
 
-ghost use Rattle.std.specs.Prelude.{◌≡◌, ◌<◌, ◌+◌, Some, length, slice_get, slice_set};
+ghost use Rattle.std.specs.Prelude.{◌≡◌, ◌<◌, ◌+◌, ◌++◌, Some, length, slice_get, slice_set};
 ghost use Rattle.ospf_slots.specs.Slots.{SlotSteps, SlotValue, router_in};
 ghost use Rattle.ospf_step.specs.Drops.{is_dropped};
 ghost use Rattle.ospf_headline.specs.World.{Comes};
+ghost use Rattle.ospf_world.specs.Ticks.{ticked_by};
 ghost use Rattle.ospf_world.specs.Worlds.{Adds, Lends, LendsSlot, Opens, SameSettings, place_in, world_of};
 
+use crate::ticks::{Ticked, step_slot};
 use ospf_base::RouterId;
 use ospf_config::Config;
 use ospf_router::Router;
@@ -14,13 +16,14 @@ use std::alloc::Global;
 use std::collections::BTreeMap;
 use std::marker::Model;
 
-/// Many routers, and the logs of all that they sent, issued and held.
+/// Many routers, the logs of all that they sent, issued and held, and the ticks that they took.
 #[derive(Drop)]
 pub(crate) struct Parts {
     pub(crate) slots: Vec<Slot>,
     // Where the router of a Router ID stands among the slots.
     places: BTreeMap<u32, usize>,
     pub(crate) logs: Logs,
+    pub(crate) ticks: Vec<Ticked>,
     // How many datagrams the rounds have offered.
     pub(crate) offered: usize,
 }
@@ -30,7 +33,7 @@ impl Model for Parts {
 
     ghost Value = { WorldValue };
 
-    ghost view = { λ w. record { slots = w.slots.items; logs = w.logs; offered = w.offered } };
+    ghost view = { λ w. record { slots = w.slots.items; logs = w.logs; ticks = w.ticks.items; offered = w.offered } };
 
     ghost invariant = { λ w. ArePlaces w.places w.slots.items };
 }
@@ -86,13 +89,15 @@ fn step_at(
     place: usize,
     event: &WorldEvent,
     logs: &mut Logs,
+    ticks: &mut Vec<Ticked>,
     alloc: Global,
 ) -> Result<(), WorldFault>
     requires { place < length slots.old.items }
-    ensures { (before : SlotValue) → slice_get slots.old.items place ≡ Some before → (after : SlotValue) × (slots.new.items ≡ slice_set slots.old.items place after) × SlotSteps event.now before logs.old result after logs.new }
+    ensures steps { (before : SlotValue) → slice_get slots.old.items place ≡ Some before → (after : SlotValue) × (slots.new.items ≡ slice_set slots.old.items place after) × SlotSteps event.now before logs.old result after logs.new }
+    ensures ticks { ticks.new.items ≡ ticks.old.items ++ ticked_by event.now result (length logs.old.datagrams) }
 {
     let slot = &mut slots[place];
-    slot.step(event, logs, alloc)
+    step_slot(slot, event, logs, ticks, alloc)
 }
 
 // The router of a slot, where it runs.
@@ -121,6 +126,7 @@ impl Parts {
             slots,
             places,
             logs: Logs::new(alloc),
+            ticks: Vec::new(alloc),
             offered: 0,
         })
     }
@@ -139,9 +145,17 @@ impl Parts {
     pub(crate) fn step(&mut self, event: &WorldEvent, alloc: Global) -> Result<(), WorldFault>
         ensures comes { Comes is_dropped event.now (world_of self.old) result (world_of self.new) }
         ensures same { SameSettings self.old self.new }
+        ensures ticks { self.new.ticks ≡ self.old.ticks ++ ticked_by event.now result (length self.old.logs.datagrams) }
     {
         match place(&self.places, router_of(event)) {
-            Some(place) => step_at(&mut self.slots, place, event, &mut self.logs, alloc),
+            Some(place) => step_at(
+                &mut self.slots,
+                place,
+                event,
+                &mut self.logs,
+                &mut self.ticks,
+                alloc,
+            ),
             None => Err(WorldFault::NoRouter),
         }
     }

@@ -3,16 +3,17 @@
 ghost use Rattle.std.specs.Prelude.{◌≡◌, ℕ, Some};
 ghost use Rattle.ospf_chance.specs.Draws.{drawn};
 ghost use Rattle.ospf_headline.specs.Headline.{Headline, IsReached};
-ghost use Rattle.ospf_headline.specs.Runs as runs;
 ghost use Rattle.ospf_step.specs.Drops.{is_dropped};
 ghost use Rattle.ospf_world.specs.Random.{IsRandom, Meets};
+ghost use Rattle.ospf_world.specs.Sounds.{IsSoundBetween};
+ghost use Rattle.ospf_world.specs.Ticks.{TicksOn};
 ghost use Rattle.ospf_world.specs.Worlds.{SameSettings, world_of};
 ghost use Rattle.rand_pcg.specs.Lcg.{increment_of, started};
 ghost use Rattle.rand_pcg.specs.Pcg.{multiplier_64};
 
-use crate::world::World;
+use crate::world::{World, is_memory};
 use ospf_chance::{Words, chosen, draw, drawn_at};
-use ospf_headline::{WorldEvent, WorldFault, headline};
+use ospf_headline::{WorldEvent, WorldFault, headline, soundness};
 use rand_pcg::Lcg64Xsh32;
 use std::alloc::Global;
 
@@ -38,13 +39,20 @@ impl World {
     fn meet(&mut self, event: Option<WorldEvent>, alloc: Global) -> Result<(), WorldFault>
         ensures meets { Meets event (world_of self.old) result (world_of self.new) }
         ensures same { SameSettings self.old self.new }
+        ensures ticks { TicksOn (world_of self.old) self.old.ticks (world_of self.new) self.new.ticks }
     {
         let Some(event) = event else {
             return Ok(());
         };
         match self.step(event, alloc) {
             Ok(()) => Ok(()),
-            Err(fault) => { if is_memory(fault) { Err(fault) } else { Ok(()) } }
+            Err(fault) => {
+                if is_memory(&fault) {
+                    Err(fault)
+                } else {
+                    Ok(())
+                }
+            }
         }
     }
 
@@ -57,8 +65,11 @@ impl World {
         ensures same { SameSettings self.old self.new }
         ensures reached { IsReached is_dropped (world_of self.new) }
         ensures headline { Headline (world_of self.old) (world_of self.new) }
+        ensures sound { IsSoundBetween (world_of self.old) (world_of self.new) }
+        ensures ticks { TicksOn (world_of self.old) self.old.ticks (world_of self.new) self.new.ticks }
     {
         headline();
+        soundness();
         self.reached();
         let mut generator = Lcg64Xsh32::new(number, 0);
         for i in 0..count {
@@ -70,21 +81,5 @@ impl World {
             }
         }
         Ok(())
-    }
-}
-
-// Whether memory ran out.
-fn is_memory(fault: WorldFault) -> bool
-    ensures { result ≡ runs.is_memory fault }
-{
-    match fault {
-        WorldFault::Memory { .. } => true,
-        WorldFault::NoRouter
-        | WorldFault::NoDatagram
-        | WorldFault::NoLink
-        | WorldFault::Running
-        | WorldFault::NotRunning
-        | WorldFault::SameRouter
-        | WorldFault::Floor => false,
     }
 }

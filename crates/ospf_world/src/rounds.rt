@@ -5,12 +5,14 @@ ghost use Rattle.ospf_headline.specs.Headline.{Headline, IsReached};
 ghost use Rattle.ospf_step.specs.Drops.{is_dropped};
 ghost use Rattle.ospf_world.specs.Rounds as rounds;
 ghost use Rattle.ospf_world.specs.Rounds.{AreNextOffers, AreOffered, IsRound, OffersNext, is_sender, offers_at, sender_in, tick_of, ticks};
+ghost use Rattle.ospf_world.specs.Sounds.{IsSoundBetween};
+ghost use Rattle.ospf_world.specs.Ticks.{TicksOn};
 ghost use Rattle.ospf_world.specs.Worlds.{world_of};
 
 use crate::world::World;
 use ospf_chance::{push_offers, sending_address};
 use ospf_config::InterfaceAddress;
-use ospf_headline::{Datagram, WorldEvent, WorldFault, headline, runs_lead_on};
+use ospf_headline::{Datagram, WorldEvent, WorldFault, headline, runs_lead_on, soundness};
 use ospf_slots::Slot;
 use std::alloc::{AllocError, Global};
 
@@ -122,7 +124,8 @@ impl World {
 
     // Offers the next datagram, if there is one.
     fn offer_next(&mut self, alloc: Global) -> Result<bool, WorldFault>
-        ensures { OffersNext self.old result self.new }
+        ensures offers { OffersNext self.old result self.new }
+        ensures ticks { TicksOn (world_of self.old) self.old.ticks (world_of self.new) self.new.ticks }
     {
         match self.next_offers(alloc) {
             Ok(Some(offers)) => {
@@ -139,7 +142,8 @@ impl World {
 
     // Offers so many datagrams at most.
     fn offer(&mut self, most: u64, alloc: Global) -> Result<(), WorldFault>
-        ensures { AreOffered most self.old result self.new }
+        ensures offered { AreOffered most self.old result self.new }
+        ensures ticks { TicksOn (world_of self.old) self.old.ticks (world_of self.new) self.new.ticks }
     {
         for i in 0..most {
             match self.offer_next(alloc) {
@@ -161,8 +165,11 @@ impl World {
         ensures round { IsRound self.old result self.new }
         ensures reached { IsReached is_dropped (world_of self.new) }
         ensures headline { Headline (world_of self.old) (world_of self.new) }
+        ensures sound { IsSoundBetween (world_of self.old) (world_of self.new) }
+        ensures ticks { TicksOn (world_of self.old) self.old.ticks (world_of self.new) self.new.ticks }
     {
         headline();
+        soundness();
         runs_lead_on();
         self.reached();
         let Ok(ticks) = ticks_of(self.slots(), alloc) else {

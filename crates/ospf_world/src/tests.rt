@@ -153,5 +153,6 @@ fn two_routers_agree(rt: HostRuntime) -> Result<(), Fail> {
     assert!(rt; world.slots()[0].runs());
     assert_eq!(rt; world.issued().len(), 4);
     assert!(rt; world.held().len() >= 4);
+    assert_eq!(rt; world.ticks().len(), 40);
     Ok(())
 }

@@ -59,42 +59,32 @@ fn hop_in(route: &Route, choice: u32) -> NextHop
 }
 
 // A leg over a hop's link to the next router.
-fn crossing(
-    router: &Router,
-    at: RouterId,
-    hop: &NextHop,
-    next: RouterId,
-    alloc: Global,
-) -> Result<Leg, AllocError>
+fn crossing(router: &Router, at: RouterId, hop: &NextHop, next: RouterId) -> Leg
     requires next { IsNext hop.now next }
     requires linked { (metric : ℕ) × HasLinkFor (advertisements_of (listing_of router.now.area)) at hop.now metric }
-    ensures { IfOk result (LegsOver (advertisements_of (listing_of router.now.area)) at hop.now 0) }
+    ensures { (paid : ℕ) → LegsOver (advertisements_of (listing_of router.now.area)) at hop.now paid result }
 {
-    let listing = router.listing(alloc)?;
-    match link_cost(&listing, at, hop) {
-        Some(cost) => Ok(Leg::Goes { next, cost }),
+    let Some(listing) = router.kept_listing() else {
+        unreachable!()
+    };
+    match link_cost(listing, at, hop) {
+        Some(cost) => Leg::Goes { next, cost },
         None => unreachable!(),
     }
 }
 
 // What a hop does, at the cost of its route.
-fn leg_over(
-    router: &Router,
-    at: RouterId,
-    hop: &NextHop,
-    cost: u64,
-    alloc: Global,
-) -> Result<Leg, AllocError>
+fn leg_over(router: &Router, at: RouterId, hop: &NextHop, cost: u64) -> Leg
     requires { hop.now ≢ hops.Attached → (metric : ℕ) × HasLinkFor (advertisements_of (listing_of router.now.area)) at hop.now metric }
-    ensures { IfOk result (LegsOver (advertisements_of (listing_of router.now.area)) at hop.now cost) }
+    ensures { LegsOver (advertisements_of (listing_of router.now.area)) at hop.now cost result }
 {
     match hop {
-        NextHop::Attached => Ok(Leg::Ends {
+        NextHop::Attached => Leg::Ends {
             cost,
             end: WalkEnd::Arrived,
-        }),
-        NextHop::PointToPoint { router: next, .. } => crossing(router, at, hop, *next, alloc),
-        NextHop::Lan { router: next, .. } => crossing(router, at, hop, *next, alloc),
+        },
+        NextHop::PointToPoint { router: next, .. } => crossing(router, at, hop, *next),
+        NextHop::Lan { router: next, .. } => crossing(router, at, hop, *next),
     }
 }
 
@@ -110,31 +100,25 @@ impl World {
     }
 
     // What a walk does at a router.
-    fn leg(
-        &self,
-        at: RouterId,
-        address: Addr,
-        choice: u32,
-        alloc: Global,
-    ) -> Result<Leg, AllocError>
-        ensures { IfOk result (IsLeg (world_of self.now) address.0 choice at) }
+    fn leg(&self, at: RouterId, address: Addr, choice: u32) -> Leg
+        ensures { IsLeg (world_of self.now) address.0 choice at result }
     {
         headline();
         self.reached();
         let Ok(router) = self.router(at) else {
-            return Ok(Leg::Ends {
+            return Leg::Ends {
                 cost: 0,
                 end: WalkEnd::NotRunning,
-            });
+            };
         };
         let Some(route) = router.table().lookup(address) else {
-            return Ok(Leg::Ends {
+            return Leg::Ends {
                 cost: 0,
                 end: WalkEnd::NoRoute,
-            });
+            };
         };
         let hop = hop_in(route, choice);
-        leg_over(router, at, &hop, route.cost, alloc)
+        leg_over(router, at, &hop, route.cost)
     }
 
     // The walk, from a router of the world.
@@ -153,7 +137,7 @@ impl World {
         let count = self.slots().len();
         for i in 0..count {
             routers.push(at)?;
-            match self.leg(at, address, choice_at(choices, i), alloc)? {
+            match self.leg(at, address, choice_at(choices, i)) {
                 Leg::Ends { cost: last, end } => {
                     return Ok(Walk {
                         routers,
@@ -177,7 +161,8 @@ impl World {
 
     /// The walk to an address from a router: at each router the hop at the choice modulo the number of hops of the best route is
     /// taken, the first where choices are missing, and its link's cost is paid; where the network is the router's own the route's
-    /// cost is paid, and the walk has arrived. It may have as many hops as the world has routers. Nothing is changed.
+    /// cost is paid, and the walk has arrived. It may have as many hops as the world has routers. Nothing is changed, and memory is
+    /// taken for the list of routers alone.
     ///
     /// `NoRouter` where the world has no such router, `Memory` where memory runs out.
     pub fn walk(

@@ -1,14 +1,17 @@
 //! Worlds.
 
-ghost use Rattle.std.specs.Prelude.{◌≡◌, ◌<◌, ◌+◌, length};
+ghost use Rattle.std.specs.Prelude.{◌≡◌, ◌<◌, ◌+◌, ◌++◌, length};
 ghost use Rattle.ospf_headline.specs.Headline.{Headline, IsReached};
 ghost use Rattle.ospf_headline.specs.Runs.{IsRun, is_memory};
 ghost use Rattle.ospf_headline.specs.Sound.{IsSound};
 ghost use Rattle.ospf_headline.specs.World.{Comes};
 ghost use Rattle.ospf_step.specs.Drops.{is_dropped};
+ghost use Rattle.ospf_world.specs.Sounds.{IsSoundBetween};
+ghost use Rattle.ospf_world.specs.Ticks.{TicksOn, ticked_by};
 ghost use Rattle.ospf_world.specs.Worlds.{Lends, Opens, SameSettings, world_of};
 
 use crate::parts::Parts;
+use crate::ticks::Ticked;
 use ospf_base::RouterId;
 use ospf_config::Config;
 use ospf_headline::{headline, runs_lead_on, soundness};
@@ -37,8 +40,8 @@ impl Model for World {
     ghost invariant = { λ w. IsReached is_dropped (world_of w.parts) };
 }
 
-// Whether memory ran out.
-fn is_memory(fault: &WorldFault) -> bool
+/// Whether memory ran out.
+pub(crate) fn is_memory(fault: &WorldFault) -> bool
     ensures { result ≡ is_memory fault.now }
 {
     matches!(fault, WorldFault::Memory { .. })
@@ -67,6 +70,7 @@ impl World {
         ensures reached { IsReached is_dropped (world_of self.new) }
         ensures headline { Headline (world_of self.old) (world_of self.new) }
         ensures sound { IsSound (world_of self.old) (world_of self.new) }
+        ensures ticks { self.new.ticks ≡ self.old.ticks ++ ticked_by event result (length self.old.logs.datagrams) }
     {
         headline();
         soundness();
@@ -81,8 +85,11 @@ impl World {
         ensures same { SameSettings self.old self.new }
         ensures reached { IsReached is_dropped (world_of self.new) }
         ensures headline { Headline (world_of self.old) (world_of self.new) }
+        ensures sound { IsSoundBetween (world_of self.old) (world_of self.new) }
+        ensures ticks { TicksOn (world_of self.old) self.old.ticks (world_of self.new) self.new.ticks }
     {
         headline();
+        soundness();
         runs_lead_on();
         let _ = &self.parts;
         let mut refused = 0;
@@ -135,6 +142,13 @@ impl World {
         ensures { result.now ≡ self.now.logs.held }
     {
         self.parts.logs.held()
+    }
+
+    /// All ticks that routers took, in their order. No memory is taken.
+    pub fn ticks(&self) -> &[Ticked]
+        ensures { result.now ≡ self.now.ticks }
+    {
+        &self.parts.ticks
     }
 
     // What the type tells: some list of events led here.

@@ -1,6 +1,4 @@
-use Rattle.std.proofs.Common.{◌≡◌, ℕ, List, [], ◌∷◌, ap, sym, subst, ◌∙◌, ◌++◌}
-use Rattle.std.specs.BTreeMap as tree
-use Rattle.std.specs.Ordering.{nat_cmp}
+use Rattle.std.proofs.Common.{List, [], ap, sym, subst, ◌∙◌, ◌++◌}
 use Rattle.ospf_config.specs.declared.config.Config.{Config}
 use Rattle.ospf_slots.specs.Slots.{SlotValue}
 use Rattle.ospf_world.proofs.NewFacts.{IsBegun, begun_added, begun_none, empty_none, opens_err, opens_fault, walked_on}

@@ -1,6 +1,7 @@
-use Rattle.std.proofs.Common.{sym, ◌∙◌}
+use Rattle.std.proofs.Common.{refl, sym, ◌∙◌}
 use Rattle.ospf_world.specs.Worlds.{world_of}
 use Rattle.ospf_world.proofs.RandomFacts.{meets_ended, meets_passed, meets_taken}
+use Rattle.ospf_world.proofs.TickFacts.{ticks_nowhere, ticks_once}
 use Rattle.ospf_world.proofs.world.World.meet.Goals as goal
 
 pub returns-in-Ok-clause-meets : goal.returns-in-Ok-clause-meets
@@ -11,3 +12,15 @@ returns-then-is_memory-clause-meets c = meets_ended c.args.event c.in-Some.event
 
 pub returns-else-is_memory-clause-meets : goal.returns-else-is_memory-clause-meets
 returns-else-is_memory-clause-meets c = meets_passed c.args.event c.in-Some.event c.step.result c.in-Err.fault (world_of c.args.self.now) (world_of c.step.new.self) c.in-Some.is c.step.ensures.comes c.in-Err.is (sym c.is_memory.ensures ∙ c.if-is_memory.false)
+
+pub returns-in-Ok-clause-ticks : goal.returns-in-Ok-clause-ticks
+returns-in-Ok-clause-ticks c = ticks_once c.in-Some.event c.step.result _ _ _ _ c.step.ensures.comes c.step.ensures.ticks
+
+pub returns-then-is_memory-clause-ticks : goal.returns-then-is_memory-clause-ticks
+returns-then-is_memory-clause-ticks c = ticks_once c.in-Some.event c.step.result _ _ _ _ c.step.ensures.comes c.step.ensures.ticks
+
+pub returns-else-is_memory-clause-ticks : goal.returns-else-is_memory-clause-ticks
+returns-else-is_memory-clause-ticks c = ticks_once c.in-Some.event c.step.result _ _ _ _ c.step.ensures.comes c.step.ensures.ticks
+
+pub returns-in_default-clause-ticks : goal.returns-in_default-clause-ticks
+returns-in_default-clause-ticks c = ticks_nowhere _ _ _ _ refl refl

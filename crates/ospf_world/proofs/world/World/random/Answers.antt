@@ -1,9 +1,10 @@
-use Rattle.std.proofs.Common.{Err, Ok, subst, arith}
+use Rattle.std.proofs.Common.{Err, Ok, refl, rules, subst, arith}
 use Rattle.rand_pcg.specs.Lcg.{Lcg}
 use Rattle.ospf_step.specs.Drops.{is_dropped}
 use Rattle.ospf_world.specs.Random.{IsRandom}
 use Rattle.ospf_world.specs.Worlds.{world_of}
 use Rattle.ospf_world.proofs.RandomFacts.{random_done, random_ends, random_leads, random_more, reached_on, same_on}
+use Rattle.ospf_world.proofs.TickFacts.{sound_between, ticks_further, ticks_nowhere}
 use Rattle.ospf_world.proofs.world.World.random.Goals as goal
 
 pub returns-in-Err-clause-random : goal.returns-in-Err-clause-random
@@ -27,6 +28,7 @@ loop-i-preserved c = record {
   comes = random_more c.args.count c.loop-i.i c.new-generator.result c.loop-i.generator c.draw-words.new.generator c.draw-words.result c.draw_event-event.result c.meet.result (world_of c.args.self.now) (world_of c.loop-i.self) (world_of c.meet.new.self)
       c.loop-i-test.true c.draw-words.ensures c.draw_event-event.ensures c.meet.ensures.meets c.in-Ok.is c.loop-i.invariant.comes;
   same = same_on c.args.self.now c.loop-i.self c.meet.new.self c.loop-i.invariant.same c.meet.ensures.same;
+  ticks = ticks_further _ _ _ _ _ _ c.loop-i.invariant.ticks c.meet.ensures.ticks;
 }
 
 pub returns-clause-random : goal.returns-clause-random
@@ -42,3 +44,23 @@ pub returns-clause-headline : goal.returns-clause-headline
 returns-clause-headline c =
     let leads = random_leads c.args.count _ (world_of c.args.self.now) (world_of c.loop-i.self) (Ok tt) (returns-clause-random c) in
     c.headline.ensures is_dropped leads.0 (world_of c.args.self.now) (world_of c.loop-i.self) c.reached.ensures leads.1
+
+pub returns-in-Err-clause-sound : goal.returns-in-Err-clause-sound
+returns-in-Err-clause-sound c =
+    sound_between (λ event before after reached happens. c.soundness.ensures is_dropped event before after reached happens) (world_of c.args.self.now) (world_of c.meet.new.self) c.reached.ensures
+    (random_leads c.args.count _ (world_of c.args.self.now) (world_of c.meet.new.self) (Err c.in-Err.fault) (returns-in-Err-clause-random c))
+
+pub returns-in-Err-clause-ticks : goal.returns-in-Err-clause-ticks
+returns-in-Err-clause-ticks c = ticks_further _ _ _ _ _ _ c.loop-i.invariant.ticks c.meet.ensures.ticks
+
+pub returns-clause-sound : goal.returns-clause-sound
+returns-clause-sound c =
+    sound_between (λ event before after reached happens. c.soundness.ensures is_dropped event before after reached happens) (world_of c.args.self.now) (world_of c.loop-i.self) c.reached.ensures
+    (random_leads c.args.count _ (world_of c.args.self.now) (world_of c.loop-i.self) (Ok tt) (returns-clause-random c))
+
+pub loop-i-init : goal.loop-i-init
+loop-i-init c = record {
+  comes = search rules;
+  same = record { configs = refl; offered = refl };
+  ticks = ticks_nowhere _ _ _ _ refl refl;
+}

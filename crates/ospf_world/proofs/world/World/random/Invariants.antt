@@ -1,5 +1,6 @@
 use Rattle.std.proofs.Common.{◌-◌}
 use Rattle.ospf_world.proofs.RandomFacts.{Comes_to}
+use Rattle.ospf_world.specs.Ticks.{TicksOn}
 use Rattle.ospf_world.specs.Worlds.{SameSettings, world_of}
 use Rattle.ospf_world.proofs.world.World.random.Given as goal
 
@@ -7,4 +8,5 @@ abbrev pub invariant-loop-i : goal.invariant-loop-i
 invariant-loop-i l = record {
   comes : Comes_to l.count l.initial.generator (world_of l.initial.self) (l.count - l.i) l.generator (world_of l.self);
   same : SameSettings l.initial.self l.self;
+  ticks : TicksOn (world_of l.initial.self) l.initial.self.ticks (world_of l.self) l.self.ticks;
 }

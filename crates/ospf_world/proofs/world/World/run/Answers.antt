@@ -1,8 +1,9 @@
-use Rattle.std.proofs.Common.{sym, subst, ◌∙◌, arith}
+use Rattle.std.proofs.Common.{refl, sym, subst, ◌∙◌, arith}
 use Rattle.ospf_headline.specs.Headline.{IsReached}
 use Rattle.ospf_step.specs.Drops.{is_dropped}
 use Rattle.ospf_world.specs.Worlds.{world_of}
 use Rattle.ospf_world.proofs.RunFacts.{done, ends_early, goes_err, goes_ok, run_headline, run_reached, same_on}
+use Rattle.ospf_world.proofs.TickFacts.{sound_between, ticks_further, ticks_nowhere, ticks_once}
 use Rattle.ospf_world.proofs.world.World.run.Goals.{in-Ok, in-Err+else-is_memory}
 use Rattle.ospf_world.proofs.world.World.run.Goals as goal
 
@@ -17,8 +18,8 @@ returns-then-is_memory-clause-headline c = run_headline _ _ _ _ (ends_early _ _ 
 
 pub loop-event-preserved : goal.loop-event-preserved
 loop-event-preserved c = elim c.match-step.branch [
-  | in-Ok w ↦ (goes_ok _ _ _ _ _ _ _ _ _ c.loop-event-test.true c.loop-event.invariant.0 c.step.ensures.comes w.in-Ok.is w.refused-is, (let h = c.loop-event.invariant.1 in omega arith), same_on _ _ _ c.loop-event.invariant.2 c.step.ensures.same)
-  | in-Err+else-is_memory w ↦ (goes_err _ _ _ _ _ _ _ _ _ _ c.loop-event-test.true c.loop-event.invariant.0 c.step.ensures.comes w.in-Err.is (sym w.is_memory.ensures ∙ w.if-is_memory.false) w.refused-is, (let h = c.loop-event.invariant.1 in omega arith), same_on _ _ _ c.loop-event.invariant.2 c.step.ensures.same)
+  | in-Ok w ↦ (goes_ok _ _ _ _ _ _ _ _ _ c.loop-event-test.true c.loop-event.invariant.0 c.step.ensures.comes w.in-Ok.is w.refused-is, (let h = c.loop-event.invariant.1 in omega arith), same_on _ _ _ c.loop-event.invariant.2 c.step.ensures.same, ticks_further _ _ _ _ _ _ c.loop-event.invariant.3 (ticks_once _ _ _ _ _ _ c.step.ensures.comes c.step.ensures.ticks))
+  | in-Err+else-is_memory w ↦ (goes_err _ _ _ _ _ _ _ _ _ _ c.loop-event-test.true c.loop-event.invariant.0 c.step.ensures.comes w.in-Err.is (sym w.is_memory.ensures ∙ w.if-is_memory.false) w.refused-is, (let h = c.loop-event.invariant.1 in omega arith), same_on _ _ _ c.loop-event.invariant.2 c.step.ensures.same, ticks_further _ _ _ _ _ _ c.loop-event.invariant.3 (ticks_once _ _ _ _ _ _ c.step.ensures.comes c.step.ensures.ticks))
 ]
 
 pub returns-clause-run : goal.returns-clause-run
@@ -32,3 +33,22 @@ returns-clause-headline c = run_headline _ _ _ _ (done _ _ _ _ _ (omega arith) c
 
 pub returns-clause-reached : goal.returns-clause-reached
 returns-clause-reached c = run_reached _ _ _ _ (done _ _ _ _ _ (omega arith) c.loop-event.invariant.0) (subst (λ v. IsReached is_dropped (world_of v)) c.self.view_is c.self.invariant) (λ run. c.runs_lead_on.ensures is_dropped _ _ _ _ run)
+
+pub returns-then-is_memory-clause-sound : goal.returns-then-is_memory-clause-sound
+returns-then-is_memory-clause-sound c =
+    sound_between (λ event before after reached happens. c.soundness.ensures is_dropped event before after reached happens) _ _ (subst (λ v. IsReached is_dropped (world_of v)) c.self.view_is c.self.invariant)
+    (c.runs_lead_on.ensures is_dropped _ _ _ _ (returns-then-is_memory-clause-run c))
+
+pub returns-then-is_memory-clause-ticks : goal.returns-then-is_memory-clause-ticks
+returns-then-is_memory-clause-ticks c = ticks_further _ _ _ _ _ _ c.loop-event.invariant.3 (ticks_once _ _ _ _ _ _ c.step.ensures.comes c.step.ensures.ticks)
+
+pub returns-clause-sound : goal.returns-clause-sound
+returns-clause-sound c =
+    sound_between (λ event before after reached happens. c.soundness.ensures is_dropped event before after reached happens) _ _ (subst (λ v. IsReached is_dropped (world_of v)) c.self.view_is c.self.invariant)
+    (c.runs_lead_on.ensures is_dropped _ _ _ _ (returns-clause-run c))
+
+pub returns-clause-ticks : goal.returns-clause-ticks
+returns-clause-ticks c = c.loop-event.invariant.3
+
+pub loop-event-init : goal.loop-event-init
+loop-event-init c = ((refl, refl), omega arith, record { configs = refl; offered = refl }, ticks_nowhere _ _ _ _ refl refl)

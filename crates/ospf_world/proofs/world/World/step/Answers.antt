@@ -18,3 +18,6 @@ returns-clause-headline c = rw (← c.self.view_is) (c.headline.ensures is_dropp
 
 pub returns-clause-sound : goal.returns-clause-sound
 returns-clause-sound c = rw (← c.self.view_is) (c.soundness.ensures is_dropped c.args.event _ _ c.self.invariant (c.step.result, c.step.ensures.comes))
+
+pub returns-clause-ticks : goal.returns-clause-ticks
+returns-clause-ticks c = rw (← c.self.view_is) c.step.ensures.ticks

@@ -1,0 +1,32 @@
+-- The ticks that the routers of a world took.
+use Rattle.std.specs.Prelude.{◌≡◌, ◌++◌, ℕ, List, [], ◌∷◌, Result, Ok, Err, length}
+use Rattle.ospf_headline.specs.World.{Comes, World}
+use Rattle.ospf_headline.specs.declared.event.WorldEvent.{WorldEvent}
+use Rattle.ospf_headline.specs.declared.event.WorldEvent.TheVariants.{Start, Stop, Tick, LinkUp, LinkDown, Deliver}
+use Rattle.ospf_headline.specs.declared.event.WorldFault.{WorldFault}
+use Rattle.ospf_step.specs.Drops.{is_dropped}
+use Rattle.ospf_world.specs.declared.ticks.Ticked.{Ticked}
+
+-- a tick that is not refused
+abbrev pub ticked_if : Result (Unit {0}) WorldFault → Ticked → List Ticked
+ticked_if (Ok done) tick = tick ∷ []
+ticked_if (Err fault) tick = []
+
+-- what the log of ticks grows by: a tick that its router took, where so many datagrams had been sent
+abbrev pub ticked_by : WorldEvent → Result (Unit {0}) WorldFault → ℕ → List Ticked
+ticked_by (Start r dd floor) result sent = []
+ticked_by (Stop r) result sent = []
+ticked_by (Tick r) result sent = ticked_if result (record { router = r; sent = sent })
+ticked_by (LinkUp r l) result sent = []
+ticked_by (LinkDown r l) result sent = []
+ticked_by (Deliver d r l) result sent = []
+
+-- these events led from the one world to the other, and the log of ticks grew by theirs
+abbrev pub TicksBy : List WorldEvent → World → List Ticked → World → List Ticked → Type 0
+TicksBy [] w ticks w' ticks' = (w' ≡ w) × (ticks' ≡ ticks)
+TicksBy (event ∷ events) w ticks w' ticks' = (mid : World) × (result : Result (Unit {0}) WorldFault) × Comes is_dropped event w result mid
+    × TicksBy events mid (ticks ++ ticked_by event result (length w.datagrams)) w' ticks'
+
+-- some events did
+abbrev pub TicksOn : World → List Ticked → World → List Ticked → Type 0
+TicksOn w ticks w' ticks' = (events : List WorldEvent) × TicksBy events w ticks w' ticks'
