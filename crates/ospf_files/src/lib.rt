@@ -1,8 +1,10 @@
 //! What the programs have in common: files that were named, the configurations in them, and how a program ends.
 #![tactic(auto)]
 
+mod configs;
 mod files;
 mod status;
 
+pub use crate::configs::{first_unread, read_configs};
 pub use crate::files::{NamedFile, config_in, tell_refused, tell_unread};
 pub use crate::status::{Failure, Status, write_line};

@@ -23,4 +23,5 @@ pub use crate::command::Command;
 pub use crate::fault::LineFault;
 pub use crate::laws::words_spell_one_command;
 pub use crate::script::{Line, first_line, lines};
+pub use crate::values::floor_of;
 pub use crate::views::{FloorShown, ListedShown, NeighbourShown, RefusalShown, WalkShown};

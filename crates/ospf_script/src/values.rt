@@ -93,8 +93,8 @@ pub(crate) fn short_number_of(word: &[u8]) -> Option<u32>
     Some(number as u32)
 }
 
-// The floor that a word spells.
-pub(crate) fn floor_of(word: &[u8]) -> Option<i32>
+/// The floor of LS sequence numbers that a word spells: eight hexadecimal digits, of either case, in two's complement.
+pub fn floor_of(word: &[u8]) -> Option<i32>
     ensures some { IfSome result (IsFloor word.now) }
     ensures none { IfNone result ((floor : ℤ) → IsFloor word.now floor → ⊥) }
 {

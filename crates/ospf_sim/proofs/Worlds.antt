@@ -2,41 +2,17 @@
 use Rattle.std.proofs.Common.{◌≡◌, ◌∙◌, sym, subst, refl, inr, ◌<◌, ℕ, suc, List, ◌∷◌, length, take, drop, get_or, Bool, true, false, Option, None, Some, Result, Ok, Err, IfOk}
 use Rattle.std.specs.Io.KnownBytes.{Appends}
 use Rattle.ospf_config.specs.declared.config.Config.{Config}
-use Rattle.ospf_files.specs.Files.{IsConfigIn, refused_line, text_in}
+use Rattle.ospf_files.specs.Files.{text_in}
+use Rattle.ospf_files.specs.Listed.{AreConfigs, AreRead, ConfigsCome}
 use Rattle.ospf_files.specs.declared.files.NamedFile.{NamedFile}
 use Rattle.ospf_files.specs.declared.status.Failure.{Failure}
 use Rattle.ospf_files.specs.declared.status.Status.{Status}
 use Rattle.ospf_files.specs.declared.status.Status.TheVariants.{Done, Words, Refused, Memory, Stream}
 use Rattle.ospf_script.specs.Words.{Text}
 use Rattle.ospf_sim.specs.Worlds.{WorldValue}
-use Rattle.ospf_sim.proofs.Files.{files_split}
 use Rattle.ospf_sim.specs.Scripts.{ScriptComes}
 use Rattle.ospf_sim.specs.declared.text.Simulated.{Simulated}
-use Rattle.ospf_sim.specs.Simulations.{AreConfigs, AreRead, Comes, ConfigComes, ConfigsCome, IsNoWorld, IsRefusalTold, Opens, RunsTo, WorldComes, same_router, same_router_line, status_for}
-
-pub config_found : (file : NamedFile) (found : Option Config) (config : Config) (y z : Option (List ℕ)) → found ≡ Some config → ConfigComes file found y z
-    → IsConfigIn (text_in file) config × (z ≡ y)
-config_found file None config y z is comes = absurd (cc is)
-config_found file (Some other) config y z is comes =
-    let one : other ≡ config = cc is in
-    (subst (IsConfigIn (text_in file)) one comes.0, comes.1)
-
-pub config_refused : (files : List NamedFile) (i : ℕ) (file : NamedFile) (configs : List Config) (found : Option Config) (x y z : Option (List ℕ)) → i < length files
-    → file ≡ get_or files i file → AreConfigs (take i files) configs → y ≡ x → found ≡ None → ConfigComes file found y z → IsRefusalTold files x z
-config_refused files i file configs (Some other) x y z within at are same is comes = absurd (cc is)
-config_refused files i file configs None x y z within at are same is comes = record {
-  file = file;
-  fault = comes.0;
-  refused = record {
-    before = take i files;
-    configs = configs;
-    after = drop (suc i) files;
-    files_are = files_split files i file within at;
-    are_configs = are;
-    refused = comes.1;
-  };
-  told = subst (λ old. Appends old z (refused_line file comes.0)) same comes.2;
-}
+use Rattle.ospf_sim.specs.Simulations.{Comes, IsNoWorld, Opens, RunsTo, WorldComes, same_router, same_router_line, status_for}
 
 pub world_comes : (found : Option (List Config)) (configs : List Config) (files : List NamedFile) (result : Result (Option WorldValue) Failure) (x y z : Option (List ℕ))
     → found ≡ Some configs → ConfigsCome files found x y → IfOk result (λ world. Opens configs world y z) → IfOk result (λ world. WorldComes files world x z)

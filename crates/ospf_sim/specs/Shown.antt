@@ -2,8 +2,6 @@
 use Rattle.std.specs.Prelude.{ℕ, zero, suc, List, [], ◌++◌, Option, codes, decimal, flat_map}
 use Rattle.ospf_area.specs.State.{AreaValue}
 use Rattle.ospf_base.specs.Text.{number_text}
-use Rattle.ospf_graph.specs.Text.{route_text}
-use Rattle.ospf_graph.specs.declared.route.Route.{Route}
 use Rattle.ospf_headline.specs.declared.walk.WalkEnd.{WalkEnd}
 use Rattle.ospf_headline.specs.declared.walk.WalkEnd.TheVariants.{Arrived, NoRoute, NotRunning, Turns}
 use Rattle.ospf_lsa.specs.Lsa.{instance_of}
@@ -14,6 +12,7 @@ use Rattle.ospf_router.specs.Routers.{RouterValue, greatest_in, listing_of, neig
 use Rattle.ospf_script.specs.Texts.{floor_text}
 use Rattle.ospf_script.specs.Views.{listed_text, routers_text}
 use Rattle.ospf_script.specs.Words.{Text}
+use Rattle.ospf_shown.specs.Shown.{routes_text}
 use Rattle.ospf_world.specs.declared.walk.Walk.{Walk}
 use Rattle.ospf_sim.specs.declared.show.View.{View}
 use Rattle.ospf_sim.specs.declared.show.View.TheVariants as view
@@ -53,12 +52,9 @@ listed_line lsa = listed_text (instance_of lsa) ++ codes "\n"
 abbrev pub listing_lines : RouterValue → Text
 listing_lines x = flat_map listed_line (listing_of x.area)
 
--- a route: its prefix, cost and hops
-abbrev pub route_line : Route → Text
-route_line route = route_text route ++ codes "\n"
-
+-- the routing table, a line a route
 abbrev pub table_lines : RouterValue → Text
-table_lines x = flat_map route_line x.table
+table_lines x = routes_text x.table
 
 -- the greatest of the floor of the start and all numbers of the router's own LSAs since
 abbrev pub floor_line : RouterValue → Text

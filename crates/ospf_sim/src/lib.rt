@@ -5,7 +5,6 @@
 #![tactic(auto)]
 
 mod commands;
-mod configs;
 mod script;
 mod show;
 mod text;

@@ -2,15 +2,15 @@
 
 ghost use Rattle.std.specs.Prelude.{◌≡◌, IsOk, OnOk, flat_map};
 ghost use Rattle.std.specs.Io.KnownBytes.{Appends};
-ghost use Rattle.ospf_sim.specs.Shown.{end_text, floor_line, link_lines, listed_line, listing_lines, neighbour_line, neighbours_lines, route_line, state_text, table_lines, view_lines, walk_line};
+ghost use Rattle.ospf_sim.specs.Shown.{end_text, floor_line, link_lines, listed_line, listing_lines, neighbour_line, neighbours_lines, state_text, table_lines, view_lines, walk_line};
 
 use ospf_files::Failure;
-use ospf_graph::Route;
 use ospf_headline::WalkEnd;
 use ospf_lsa::Lsa;
 use ospf_neighbour::{Neighbour, NeighbourState};
 use ospf_router::Router;
 use ospf_script::{FloorShown, ListedShown, NeighbourShown, WalkShown};
+use ospf_shown::write_routes;
 use ospf_world::Walk;
 use std::alloc::Global;
 use std::io::{self, Write};
@@ -110,16 +110,6 @@ fn write_listing<O: Write>(out: &mut O, router: &Router, alloc: Global) -> Resul
 {
     let listing = router.listing(alloc)?;
     on_output(write_listed(out, listing.lsas()))
-}
-
-// Writes routes.
-fn write_routes<O: Write>(out: &mut O, routes: &[Route]) -> io::Result<()>
-    ensures { OnOk result (Appends (O.contents out.old) (O.contents out.new) (flat_map route_line routes.now)) }
-{
-    for route in routes {
-        writeln!(out, "{route}")?;
-    }
-    Ok(())
 }
 
 // Writes the floor of a router's numbers.

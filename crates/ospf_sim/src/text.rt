@@ -3,12 +3,12 @@
 ghost use Rattle.std.specs.Prelude.{◌≡◌, ◌≢◌, ◌⊎◌, ◌∷◌, IfOk, IfSome, IfNone, OnOk};
 ghost use Rattle.std.specs.Io.KnownBytes.{Appends};
 ghost use Rattle.ospf_files.specs.declared.files.NamedFile.{NamedFile};
-ghost use Rattle.ospf_sim.specs.Simulations.{AreRead, Comes, IsFirstUnread, IsRefused, IsSimulated, Opens, RunsTo, WorldComes, same_router_line, status_for};
+ghost use Rattle.ospf_files.specs.Listed.{AreRead, IsFirstUnread};
+ghost use Rattle.ospf_sim.specs.Simulations.{Comes, IsRefused, IsSimulated, Opens, RunsTo, WorldComes, same_router_line, status_for};
 
-use crate::configs::{first_unread, read_configs};
 use crate::script::run_script;
 use ospf_config::Config;
-use ospf_files::{Failure, NamedFile, Status, tell_unread, write_line};
+use ospf_files::{Failure, NamedFile, Status, first_unread, read_configs, tell_unread, write_line};
 use ospf_world::{World, WorldFault};
 use std::alloc::Global;
 use std::io::{self, Write};

@@ -1,5 +1,1 @@
-pub mod HexText
-pub mod Lines
 pub mod WordLemmas
-pub mod Written
-mod Looked

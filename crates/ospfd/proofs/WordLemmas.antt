@@ -1,18 +1,18 @@
 -- Texts that spell addresses.
-use Rattle.std.proofs.Common.{◌≡◌, ◌⊎◌, ◌∙◌, ◌+◌, ◌<◌, ◌++◌, ℕ, suc, zero, List, [], ◌∷◌, Ok, Err, Result, IsErrAnd, IfErr, Bor, map, take, length, drop, get_or, subst, refl, ap, ap₂, sym, Option, Some, None, option_map, unwrap_or, inl, inr, arith, codes, slice_index, string_bytes}
+use Rattle.std.proofs.Common.{◌≡◌, ◌⊎◌, ◌∙◌, ◌+◌, ◌<◌, ◌^◌, ◌++◌, ℕ, suc, zero, List, [], ◌∷◌, Ok, Err, Result, IsErrAnd, IfErr, Bor, map, take, length, drop, get_or, subst, refl, ap, ap₂, sym, Option, Some, None, option_map, unwrap_or, inl, inr, arith, codes, slice_index, string_bytes}
 use Rattle.std.proofs.lemmas.List.{map-append, take_more}
 use Rattle.std.proofs.lemmas.Option.{none-some}
 use Rattle.std.specs.declared.net.parser.AddrParseError.{AddrParseError}
 use Rattle.clap.specs.Faults.{fault_of}
 use Rattle.clap.specs.Kinds.{HasKind}
-use Rattle.clap.specs.Words.{Row, all_of, first_of, subcommand_of}
+use Rattle.clap.specs.Words.{ReadsOne, Row, all_of, first_of, one_of, subcommand_of}
 use Rattle.clap.specs.declared.error.Error.{Error}
 use Rattle.ospf_base.specs.Text.{IsDottedNumber, ReadsAddress, ReadsRouterId}
 use Rattle.ospf_base.specs.declared.ids.RouterId.{RouterId}
 use Rattle.ospf_base.specs.declared.ids.Addr.{Addr}
 use Rattle.ospfd.specs.Job.{IsFaultOfNoValue, IsFaultOfValue, IsFaultOfWords}
-use Rattle.ospfd.specs.Unasked.{IsFirstWrong, IsNoAddress, IsNoJob, IsUnasked, IsWrongValue}
-use Rattle.ospfd.specs.Words.{Spell, command_app}
+use Rattle.ospfd.specs.Unasked.{IsFirstWrong, IsNoAddress, IsNoJob, IsNoNumber, IsUnasked, IsWrongValue}
+use Rattle.ospfd.specs.Words.{IsNumber, Spell, command_app}
 use Rattle.ospfd.specs.declared.jobs.JobFault.{JobFault}
 use Rattle.ospfd.specs.declared.jobs.JobFault.TheVariants as fault
 
@@ -128,7 +128,11 @@ address_wrong root r texts w reads f = record {
 -- the first wrong word is the first wrong value of `table`
 pub wrong_value : (rows : List Row) (root w : List ℕ) → first_of (codes "root") rows ≡ Some root
     → IsFirstWrong (root ∷ unwrap_or (all_of (codes "addresses") rows) []) w → IsWrongValue (Some (codes "table", rows)) w
-wrong_value rows root w is_root first = record { rows = rows; table = refl; root = root; has_root = is_root; first = first }
+wrong_value rows root w is_root first = inl (record { rows = rows; table = refl; root = root; has_root = is_root; first = first })
+
+-- what a run is to look up spells no address
+pub wrong_lookup : (rows : List Row) (w : List ℕ) → first_of (codes "lookup") rows ≡ Some w → IsNoAddress w → IsWrongValue (Some (codes "run", rows)) w
+wrong_lookup rows w has wrong = inr (record { rows = rows; run = refl; has_lookup = has; wrong = wrong })
 
 -- ---- words that make no job
 
@@ -154,6 +158,21 @@ check_is_no_sim rows others same =
     let first : 99 ≡ 115 = ap (λ entered. slice_index (name_of entered) 0) same in
     omega (arith, first)
 
+table_is_no_run : (rows others : List Row) → entered_of (codes "table") rows ≡ entered_of (codes "run") others → ⊥
+table_is_no_run rows others same =
+    let first : 116 ≡ 114 = ap (λ entered. slice_index (name_of entered) 0) same in
+    omega (arith, first)
+
+check_is_no_run : (rows others : List Row) → entered_of (codes "check") rows ≡ entered_of (codes "run") others → ⊥
+check_is_no_run rows others same =
+    let first : 99 ≡ 114 = ap (λ entered. slice_index (name_of entered) 0) same in
+    omega (arith, first)
+
+sim_is_no_run : (rows others : List Row) → entered_of (codes "sim") rows ≡ entered_of (codes "run") others → ⊥
+sim_is_no_run rows others same =
+    let first : 115 ≡ 114 = ap (λ entered. slice_index (name_of entered) 0) same in
+    omega (arith, first)
+
 same_rows : (name : List ℕ) (rows others : List Row) → entered_of name rows ≡ entered_of name others → rows ≡ others
 same_rows name rows others same = ap (λ entered. unwrap_or (option_map (λ (p : List ℕ × List Row). p.1) entered) rows) same
 
@@ -163,6 +182,7 @@ no_root rows none = record {
   no_table = λ others same. ap (first_of (codes "root")) (sym (same_rows (codes "table") rows others same)) ∙ none;
   no_check = λ others same. absurd (one_name rows others same);
   no_sim = λ others same. absurd (table_is_no_sim rows others same);
+  no_run = λ others same. absurd (table_is_no_run rows others same);
 }
 
 -- `check` without files
@@ -171,6 +191,7 @@ no_files rows none = record {
   no_table = λ others same. absurd (one_name others rows (sym same));
   no_check = λ others same. ap (all_of (codes "files")) (sym (same_rows (codes "check") rows others same)) ∙ none;
   no_sim = λ others same. absurd (check_is_no_sim rows others same);
+  no_run = λ others same. absurd (check_is_no_run rows others same);
 }
 
 -- `sim` without a script, or without files
@@ -181,7 +202,35 @@ no_simulation rows none = record {
   no_sim = λ others same.
       let one : rows ≡ others = same_rows (codes "sim") rows others same in
       subst (λ found. (first_of (codes "script") found ≡ None) ⊎ (all_of (codes "files") found ≡ None)) one none;
+  no_run = λ others same. absurd (sim_is_no_run rows others same);
 }
+
+-- what `run` wants: two numbers, and files
+abbrev RunWants : List Row → Type 0
+RunWants rows = IsNoNumber (one_of (codes "ticks") rows) ⊎ IsNoNumber (one_of (codes "tick") rows) ⊎ (all_of (codes "files") rows ≡ None)
+
+-- `run` without one of them
+pub no_running : (rows : List Row) → RunWants rows → IsNoJob (Some (codes "run", rows))
+no_running rows none = record {
+  no_table = λ others same. absurd (table_is_no_run others rows (sym same));
+  no_check = λ others same. absurd (check_is_no_run others rows (sym same));
+  no_sim = λ others same. absurd (sim_is_no_run others rows (sym same));
+  no_run = λ others same. subst RunWants (same_rows (codes "run") rows others same) none;
+}
+
+-- ---- numbers
+
+-- the text that a value was read of
+pub number_read : {E : Type 0} (gives : List ℕ → Result ℕ E → Type 0) → ((t : List ℕ) (n : ℕ) → gives t (Ok n) → IsNumber t n) → (o : Option (List ℕ)) (r : Option ℕ) (n : ℕ)
+    → (o ≡ None → r ≡ None) → ((t : List ℕ) → o ≡ Some t → ReadsOne gives t r) → r ≡ Some n → (t : List ℕ) × (o ≡ Some t) × IsNumber t n
+number_read gives reads None r n none some is = absurd (none-some n (sym (none refl) ∙ is))
+number_read gives reads (Some t) r n none some is = (t, refl, reads t n (subst (λ q. ReadsOne gives t q) is (some t refl)))
+
+-- a value that was not read is of no text that is a number
+pub no_number_read : {E : Type 0} (gives : List ℕ → Result ℕ E → Type 0) → ((t : List ℕ) (e : E) (n : ℕ) → gives t (Err e) → IsNumber t n → n < 2 ^ 64 → ⊥)
+    → (o : Option (List ℕ)) (r : Option ℕ) → ((t : List ℕ) → o ≡ Some t → ReadsOne gives t r) → r ≡ None → IsNoNumber o
+no_number_read gives refuses o r some is = λ t n at number small.
+    let refused = subst (λ q. ReadsOne gives t q) is (some t at) in refuses t refused.0 n refused.1 number small
 
 -- what `clap` refuses
 pub words_refused : (words : List (List ℕ)) (e : Error) (f : JobFault) → HasKind (fault_of command_app words) e → IsFaultOfWords e f → IsUnasked words f

@@ -1,15 +1,18 @@
 -- What the program's words ask for, as `clap` reads them.
-use Rattle.std.specs.Prelude.{◌≡◌, true, false, Bool, List, [], ◌∷◌, Option, Some, None, Ok, ⊤, codes, map, option_map, string_bytes, unwrap_or}
+use Rattle.std.specs.Str.Parse.{IsNumeral, digits_value, without_leading_plus}
+use Rattle.std.specs.Prelude.{◌≡◌, ℕ, true, false, Bool, List, [], ◌∷◌, Option, Some, None, Ok, ⊤, codes, map, option_map, string_bytes, unwrap_or}
 use Rattle.ospf_base.specs.Text.{ReadsAddress, ReadsRouterId}
 use Rattle.ospf_base.specs.declared.ids.Addr.{Addr}
 use Rattle.clap.specs.Lexer.{usize_max}
 use Rattle.clap.specs.Words.{App, Row, Rule, Text, all_of, first_of, one_of, new_app, new_rule, subcommand_of, with_rule, with_subcommand}
 use Rattle.clap.specs.declared.builder.action.ArgAction.TheVariants.{Append, SetTrue}
+use Rattle.clap.specs.declared.builder.value_parser.ValueParser.TheVariants.{Unsigned}
 use Rattle.ospfd.specs.declared.jobs.CheckJob.{CheckJob}
 use Rattle.ospfd.specs.declared.jobs.Job.{Job}
 use Rattle.ospfd.specs.declared.jobs.Job.TheVariants as job
+use Rattle.ospfd.specs.declared.jobs.RunJob.{RunJob}
 use Rattle.ospfd.specs.declared.jobs.SimJob.{SimJob}
-use Rattle.ospfd.specs.declared.jobs.TableJob.{TableJob}
+use Rattle.ospf_table.specs.declared.table.TableJob.{TableJob}
 
 -- one word has to be there
 abbrev pub root_rule : Rule
@@ -57,6 +60,20 @@ abbrev pub sim_app : App
 sim_app =
     with_rule (with_rule (with_rule (with_rule (new_app (codes "sim")) script_rule) files_rule) (option_rule (codes "dot"))) (option_rule (codes "pcap"))
 
+-- how many ticks: a number of at least one
+abbrev pub ticks_rule : Rule
+ticks_rule = record (new_rule (codes "ticks")) { required = true; value_names = 1; parser = Some (Unsigned 1 1000000) }
+
+-- the milliseconds of a tick: a thousand at the most, and where nothing is said
+abbrev pub tick_rule : Rule
+tick_rule = record (option_rule (codes "tick")) { defaults = codes "1000" ∷ []; parser = Some (Unsigned 1 1000) }
+
+-- the command `run`: ticks, files, and options
+abbrev pub run_app : App
+run_app =
+    with_rule (with_rule (with_rule (with_rule (with_rule (new_app (codes "run")) ticks_rule) files_rule) tick_rule) (option_rule (codes "lookup")))
+    (option_rule (codes "floor"))
+
 -- the program, before its commands
 abbrev pub ospfd_app : App
 ospfd_app = record (new_app (codes "ospfd")) {
@@ -65,7 +82,7 @@ ospfd_app = record (new_app (codes "ospfd")) {
 
 -- the program and its commands
 abbrev pub command_app : App
-command_app = with_subcommand (with_subcommand (with_subcommand ospfd_app table_app.top) check_app.top) sim_app.top
+command_app = with_subcommand (with_subcommand (with_subcommand (with_subcommand ospfd_app table_app.top) check_app.top) sim_app.top) run_app.top
 
 -- each text spells the address at its place
 abbrev pub Spell : List Text → List Addr → Type 0
@@ -102,11 +119,36 @@ pub record IsSimJob (rows : List Row) (s : SimJob) : Type 0 where
   pub dot : option_map string_bytes s.dot ≡ first_of (codes "dot") rows
   pub pcap : option_map string_bytes s.pcap ≡ first_of (codes "pcap") rows
 
+-- a text is read as this number
+abbrev pub IsNumber : Text → ℕ → Type 0
+IsNumber text number = IsNumeral 10 (without_leading_plus text) × (digits_value 10 (without_leading_plus text) ≡ number)
+
+-- the address that a text spells, if there is one
+abbrev pub IsAddressIfAny : Option Text → Option Addr → Type 0
+IsAddressIfAny (Some text) (Some address) = ReadsAddress text (Ok address)
+IsAddressIfAny None None = ⊤
+IsAddressIfAny _ _ = ⊥
+
+-- the ticks, the files and the options that `clap` reads after `run`
+pub record IsRunJob (rows : List Row) (r : RunJob) : Type 0 where
+  pub ticks_text : Text
+  pub has_ticks : one_of (codes "ticks") rows ≡ Some ticks_text
+  pub ticks : IsNumber ticks_text r.ticks
+  pub tick_text : Text
+  pub has_tick : one_of (codes "tick") rows ≡ Some tick_text
+  pub tick : IsNumber tick_text r.milliseconds
+  pub texts : List Text
+  pub has_files : all_of (codes "files") rows ≡ Some texts
+  pub files : map string_bytes r.files.items ≡ texts
+  pub lookup : IsAddressIfAny (first_of (codes "lookup") rows) r.lookup
+  pub floor : option_map string_bytes r.floor ≡ first_of (codes "floor") rows
+
 -- the job is that of the command that the words enter, with the values that they give it
 abbrev pub IsJobOf : Option (Text × List Row) → Job → Type 0
 IsJobOf entered (job.Table t) = (rows : List Row) × (entered ≡ Some (codes "table", rows)) × IsTableJob rows t
 IsJobOf entered (job.Check c) = (rows : List Row) × (entered ≡ Some (codes "check", rows)) × IsCheckJob rows c
 IsJobOf entered (job.Sim s) = (rows : List Row) × (entered ≡ Some (codes "sim", rows)) × IsSimJob rows s
+IsJobOf entered (job.Run r) = (rows : List Row) × (entered ≡ Some (codes "run", rows)) × IsRunJob rows r
 
 -- the job is what `clap` reads in the words
 abbrev pub IsAsked : List Text → Job → Type 0

@@ -5,8 +5,9 @@ ghost use Rattle.std.specs.Io.KnownBytes.{Appends};
 ghost use Rattle.ospfd.specs.Job.{address_line};
 
 use clap::error::ErrorKind;
-use ospf_base::{Addr, RouterId};
+use ospf_base::Addr;
 use ospf_files::{Failure, Status};
+use ospf_table::TableJob;
 use std::alloc::AllocError;
 use std::io::{self, Write};
 use thiserror::Error;
@@ -20,15 +21,8 @@ pub enum Job {
     Check(CheckJob),
     /// Runs a script in a world of routers.
     Sim(SimJob),
-}
-
-/// A routing table that is asked for.
-#[derive(Debug, Drop)]
-pub struct TableJob {
-    /// The router whose table it is.
-    pub root: RouterId,
-    /// The addresses to look up in the table.
-    pub addresses: Vec<Addr>,
+    /// Runs routers over UDP.
+    Run(RunJob),
 }
 
 /// Configurations that are to be checked.
@@ -51,6 +45,21 @@ pub struct SimJob {
     pub dot: Option<String>,
     /// The file into which all datagrams are written.
     pub pcap: Option<String>,
+}
+
+/// Routers that are to run.
+#[derive(Debug, Drop)]
+pub struct RunJob {
+    /// How many ticks there are.
+    pub ticks: u64,
+    /// The milliseconds of a tick.
+    pub milliseconds: u64,
+    /// The address that is looked up in the table of each router.
+    pub lookup: Option<Addr>,
+    /// The text of the floor of the LS sequence numbers of each router's own LSAs.
+    pub floor: Option<String>,
+    /// The names of the configurations' files.
+    pub files: Vec<String>,
 }
 
 /// Why words ask for nothing that can be done.

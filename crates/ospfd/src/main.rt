@@ -1,30 +1,27 @@
 //! A routing daemon of OSPF version 2 (RFC 2328), and the tables that it computes.
 #![tactic(auto)]
 
-mod check;
-#[cfg(test)]
-mod check_tests;
 mod jobs;
-mod line;
-mod lookup;
-mod records;
-mod table;
 #[cfg(test)]
 mod tests;
 mod words;
 
-use crate::check::check_text;
-use crate::jobs::{CheckJob, Job, JobFault, SimJob};
-use crate::records::{capture, drawing};
-use crate::table::table_text;
+use crate::jobs::{CheckJob, Job, JobFault, RunJob, SimJob};
 use crate::words::{job, not_text};
+use ospf_check::check_text;
 use ospf_files::{Failure, NamedFile, Status, write_line};
+use ospf_records::{capture, drawing};
+use ospf_run::{Settings, run_text};
 use ospf_sim::{Simulated, sim_text};
+use ospf_table::table_text;
 use ospf_world::World;
 use std::io::{self, BufReader, BufWriter, ErrorKind, Write};
+use std::net::Net;
 use std::process::ExitCode;
 use std::rt::Runtime;
 use std::sync::Wait;
+use std::thread::Threads;
+use std::time::Clock;
 use std::{env, fs};
 
 // The file of this name. One that cannot be read has no bytes.
@@ -92,11 +89,11 @@ fn write_records<R: Runtime + AllocGlobal, E: Write>(
 ) -> io::Result<bool> {
     let mut all = true;
     if let Some(name) = dot {
-        let text = drawing(rt.alloc(), world)?;
+        let text = drawing(world, rt.alloc())?;
         all &= write_file(rt, &name, text.as_bytes(), err)?;
     }
     if let Some(name) = pcap {
-        let bytes = capture(rt.alloc(), world)?;
+        let bytes = capture(world, rt.alloc())?;
         all &= write_file(rt, &name, &bytes, err)?;
     }
     Ok(all)
@@ -126,8 +123,34 @@ fn run_sim<R: Runtime + AllocGlobal, O: Write, E: Write>(
     Ok(status)
 }
 
+// Runs routers of the configurations in the files of these names.
+fn run_routers<
+    R: Runtime + AllocGlobal + Net + Threads + Wait + Clock + Copy + Send + Drop + 'static,
+    O: Write,
+    E: Write,
+>(rt: &R, job: RunJob, out: &mut O, err: &mut E) -> io::Result<Status> {
+    let RunJob {
+        ticks,
+        milliseconds,
+        lookup,
+        floor,
+        files,
+    } = job;
+    let files = read_files(rt, files)?;
+    let settings = Settings {
+        ticks,
+        milliseconds,
+        lookup,
+        floor,
+    };
+    Ok(run_text(rt, rt.alloc(), &settings, &files, out, err))
+}
+
 // Does what the program's words say. Where it fails, memory ran out.
-fn run<R: Runtime + AllocGlobal + Wait, E: Write>(rt: &R, err: &mut E) -> io::Result<Status> {
+fn run<
+    R: Runtime + AllocGlobal + Net + Threads + Wait + Clock + Copy + Send + Drop + 'static,
+    E: Write,
+>(rt: &R, err: &mut E) -> io::Result<Status> {
     let alloc = rt.alloc();
     let mut out = BufWriter::new(alloc, io::writer(rt))?;
     match job_of(rt)? {
@@ -141,6 +164,7 @@ fn run<R: Runtime + AllocGlobal + Wait, E: Write>(rt: &R, err: &mut E) -> io::Re
             Ok(check_text(alloc, &files, explain, &mut out, err))
         }
         Ok(Job::Sim(sim)) => run_sim(rt, sim, &mut out, err),
+        Ok(Job::Run(routers)) => run_routers(rt, routers, &mut out, err),
         Err(fault) => Ok(fault.tell(&mut out, err)),
     }
 }

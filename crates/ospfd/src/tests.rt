@@ -1,11 +1,12 @@
 //! Whole answers to words and input.
 
-use crate::check::check_text;
 use crate::jobs::{CheckJob, Job};
-use crate::table::table_text;
 use crate::words::{job, not_text};
+use ospf_base::Addr;
+use ospf_check::check_text;
 use ospf_files::{Failure, NamedFile, Status};
 use ospf_sim::sim_text;
+use ospf_table::table_text;
 use std::alloc::{AllocError, Global};
 use std::io::{self, BufReader, BufWriter, ErrorKind, Read, Write};
 use std::sync::Wait;
@@ -337,6 +338,7 @@ fn status_of<R: Wait, O: Write, E: Write>(
             let files = unread(alloc, sim.files)?;
             Ok(sim_text(alloc, &script, &files, out, err).status)
         }
+        Ok(Job::Run(_)) => Ok(Status::Words),
         Err(fault) => Ok(fault.tell(out, err)),
     }
 }
@@ -382,7 +384,7 @@ fn refuses(rt: HostRuntime) -> Result<(), Fail> {
 }
 
 // Words by name, the exit status, and how standard output and standard error begin.
-static WORDS: [(&str, &str, u8, &str, &str); 16] = [
+static WORDS: [(&str, &str, u8, &str, &str); 22] = [
     ("help", "--help", 0, "OSPF version 2 for one area\n", ""),
     ("help word", "help", 0, "OSPF version 2 for one area\n", ""),
     ("help of table", "table --help", 0, "Computes a routing", ""),
@@ -394,6 +396,30 @@ static WORDS: [(&str, &str, u8, &str, &str); 16] = [
         "",
     ),
     ("help of sim", "sim --help", 0, "Simulates an area", ""),
+    ("help of run", "run --help", 0, "Runs a router", ""),
+    ("no configuration of a run", "run 60", 2, "", "error: "),
+    ("no tick", "run 0 a.toml", 2, "", "error: invalid value '0'"),
+    (
+        "too many ticks",
+        "run 1000001 a.toml",
+        2,
+        "",
+        "error: invalid value '1000001'",
+    ),
+    (
+        "too long a tick",
+        "run --tick 1001 60 a.toml",
+        2,
+        "",
+        "error: invalid value '1001'",
+    ),
+    (
+        "no address to look up",
+        "run --lookup 10.0.0.01 60 a.toml",
+        2,
+        "",
+        "10.0.0.01: not an address\n",
+    ),
     ("version", "--version", 0, "ospfd 0.1.0\n", ""),
     ("no command", "", 2, "", "error: "),
     ("no words", "table", 2, "", "error: "),
@@ -457,7 +483,7 @@ fn says(help: &[u8], text: &str) -> bool {
 #[test]
 fn help_tells_commands(rt: HostRuntime) -> Result<(), Fail> {
     let help = outcome_of(&rt, rt.alloc(), "--help", b"")?;
-    for text in ["  table ", "  check ", "  sim "] {
+    for text in ["  table ", "  check ", "  sim ", "  run "] {
         assert!(rt; says(&help.out, text), "{text}");
     }
     Ok(())
@@ -465,7 +491,13 @@ fn help_tells_commands(rt: HostRuntime) -> Result<(), Fail> {
 
 #[test]
 fn help_tells_statuses_and_an_example(rt: HostRuntime) -> Result<(), Fail> {
-    for words in ["--help", "table --help", "check --help", "sim --help"] {
+    for words in [
+        "--help",
+        "table --help",
+        "check --help",
+        "sim --help",
+        "run --help",
+    ] {
         let help = outcome_of(&rt, rt.alloc(), words, b"")?;
         for text in ["  0  ", "  2  ", "  3  ", "  4  ", "  5  ", "\n  ospfd "] {
             assert!(rt; says(&help.out, text), "{words} {text}");
@@ -515,8 +547,8 @@ impl Read for Broken {
 
 // A writer that takes so many writes, or flushes, before it fails.
 #[derive(Drop)]
-pub(crate) struct Failing {
-    pub(crate) left: usize,
+struct Failing {
+    left: usize,
 }
 
 impl Failing {
@@ -655,5 +687,54 @@ fn tells_of_failed_writes(rt: HostRuntime) -> Result<(), Fail> {
         }
         assert!(rt; 1 < needed && needed < 100, "{words} {needed}");
     }
+    Ok(())
+}
+
+#[test]
+fn names_files(rt: HostRuntime) -> Result<(), Fail> {
+    let Ok(Job::Check(check)) = job(rt.alloc(), &["check", "a.toml", "b c.toml"]) else {
+        return Err(Fail::from("words"));
+    };
+    assert_eq!(rt; check.files.len(), 2);
+    assert_eq!(rt; check.files[0].as_str(), "a.toml");
+    assert_eq!(rt; check.files[1].as_str(), "b c.toml");
+    assert!(rt; !check.explain);
+    let Ok(Job::Check(explained)) = job(rt.alloc(), &["check", "--explain", "a.toml"]) else {
+        return Err(Fail::from("words"));
+    };
+    assert_eq!(rt; explained.files.len(), 1);
+    assert!(rt; explained.explain);
+    Ok(())
+}
+
+#[test]
+fn reads_the_words_of_a_run(rt: HostRuntime) -> Result<(), Fail> {
+    let Ok(Job::Run(run)) = job(rt.alloc(), &["run", "60", "a.toml", "b.toml"]) else {
+        return Err(Fail::from("words"));
+    };
+    assert_eq!(rt; run.ticks, 60);
+    assert_eq!(rt; run.milliseconds, 1000);
+    assert!(rt; run.lookup.is_none());
+    assert!(rt; run.floor.is_none());
+    assert_eq!(rt; run.files.len(), 2);
+    let words = [
+        "run",
+        "--tick",
+        "20",
+        "--lookup",
+        "192.168.2.9",
+        "--floor",
+        "80000007",
+        "120",
+        "a.toml",
+    ];
+    let Ok(Job::Run(run)) = job(rt.alloc(), &words) else {
+        return Err(Fail::from("words"));
+    };
+    assert_eq!(rt; run.ticks, 120);
+    assert_eq!(rt; run.milliseconds, 20);
+    assert_eq!(rt; run.lookup, Some("192.168.2.9".parse::<Addr>()?));
+    assert_eq!(rt; run.floor.as_deref(), Some("80000007"));
+    assert_eq!(rt; run.files.len(), 1);
     Ok(())
 }

@@ -4,13 +4,15 @@ ghost use Rattle.clap.specs.Faults.{fault_of};
 ghost use Rattle.std.specs.Prelude.{OnOk, [], ◌≡◌, ◌∷◌, false, map, option_map, codes, string_bytes, Ok, Err, Some, IfOk, IfErr};
 ghost use Rattle.clap.specs.Words.{app_of, found_of, rows_of, rule_of, subcommand_rows_of};
 ghost use Rattle.ospfd.specs.Job.{IsFaultOfNoValue, IsFaultOfValue, IsHelp};
-ghost use Rattle.ospfd.specs.Unasked.{IsFirstWrong, IsJobIfAny, IsUnasked, IsWrongValue};
-ghost use Rattle.ospfd.specs.Words.{IsAsked, Spell, addresses_rule, command_app, explain_rule, files_rule, option_rule, ospfd_app, root_rule, script_rule};
+ghost use Rattle.ospfd.specs.Unasked.{IsFirstWrong, IsJobIfAny, IsNoAddress, IsUnasked, IsWrongValue};
+ghost use Rattle.ospfd.specs.Words.{IsAddressIfAny, IsAsked, Spell, addresses_rule, command_app, explain_rule, files_rule, option_rule, ospfd_app, root_rule, script_rule, tick_rule, ticks_rule};
 
-use crate::jobs::{CheckJob, Job, JobFault, SimJob, TableJob};
+use crate::jobs::{CheckJob, Job, JobFault, RunJob, SimJob};
+use clap::builder::ValueParser;
 use clap::error::ErrorKind;
 use clap::{Arg, ArgAction, ArgMatches, Command};
 use ospf_base::Addr;
+use ospf_table::TableJob;
 use std::alloc::{AllocError, Global};
 use std::str::FromStr;
 
@@ -26,6 +28,7 @@ Examples:
   ospfd table 1.1.1.1 192.168.2.9 < lsas.txt
   ospfd check first.toml second.toml
   ospfd sim script first.toml second.toml
+  ospfd run 60 first.toml second.toml
 ";
 
 // What `table --help` says below its words.
@@ -89,6 +92,34 @@ Exit status:
 Example:
   ospfd sim script first.toml second.toml
 ";
+
+// What `run --help` says below its words.
+const RUN_HELP: &str =
+    "Output, when the last tick has passed, for each router in the order of the files:
+  router R                    its Router ID
+  PREFIX COST HOPS            its routing table, a line a route, as of `table`
+  lookup ADDRESS ..           with --lookup, what the table sends the address to
+  floor NUMBER                with --floor, the greatest number of its own LSAs
+  FILE: U2 Send               on standard error, in place of these, where it failed
+
+Exit status:
+  0  all routers came to the end
+  2  the words fit no command, or one is no address
+  3  the floor or a configuration was refused
+  4  memory ran out
+  5  a file was not read, a socket was not made, or a wire or a stream failed
+
+Example:
+  ospfd run --tick 100 --lookup 192.168.2.9 60 first.toml second.toml
+";
+
+// The most ticks of a run.
+const MOST_TICKS: u64 = 1_000_000;
+
+// The most milliseconds of a tick, and those of one where nothing is said.
+const MOST_MILLISECONDS: u64 = 1000;
+
+const MILLISECONDS: &str = "1000";
 
 // The router whose table is computed.
 fn root_arg<'a>(alloc: Global) -> Arg<'a>
@@ -168,6 +199,53 @@ fn pcap_arg<'a>(alloc: Global) -> Arg<'a>
     )
 }
 
+// How many ticks there are.
+fn ticks_arg<'a>(alloc: Global) -> Arg<'a>
+    ensures rule { rule_of result ≡ ticks_rule }
+    ensures local { result.global ≡ false }
+{
+    Arg::new(alloc, "ticks")
+        .value_name("TICKS")
+        .help("How many ticks the routers run, 1 to 1000000")
+        .required(true)
+        .value_parser(ValueParser::unsigned(1, MOST_TICKS))
+}
+
+// The milliseconds of a tick.
+fn tick_arg<'a>(alloc: Global) -> Arg<'a>
+    ensures rule { rule_of result ≡ tick_rule }
+    ensures local { result.global ≡ false }
+{
+    Arg::new(alloc, "tick")
+        .long("tick")
+        .value_name("MS")
+        .help("The milliseconds of a tick, 1 to 1000")
+        .default_value(MILLISECONDS)
+        .value_parser(ValueParser::unsigned(1, MOST_MILLISECONDS))
+}
+
+// The address that is looked up while the routers run.
+fn lookup_arg<'a>(alloc: Global) -> Arg<'a>
+    ensures rule { rule_of result ≡ option_rule (codes "lookup") }
+    ensures local { result.global ≡ false }
+{
+    Arg::new(alloc, "lookup")
+        .long("lookup")
+        .value_name("ADDRESS")
+        .help("An address to look up in each table, while the routers run and at the end")
+}
+
+// The floor of the numbers of own LSAs.
+fn floor_arg<'a>(alloc: Global) -> Arg<'a>
+    ensures rule { rule_of result ≡ option_rule (codes "floor") }
+    ensures local { result.global ≡ false }
+{
+    Arg::new(alloc, "floor")
+        .long("floor")
+        .value_name("NUMBER")
+        .help("What the numbers of own LSAs begin above, in eight hexadecimal digits")
+}
+
 // The program, before its commands.
 fn program<'a>(alloc: Global) -> Result<Command<'a>, AllocError>
     ensures { IfOk result (λ c. app_of c ≡ ospfd_app) }
@@ -203,10 +281,19 @@ fn command<'a>(alloc: Global) -> Result<Command<'a>, AllocError>
         .arg(files_arg(alloc))?
         .arg(dot_arg(alloc))?
         .arg(pcap_arg(alloc))?;
+    let run = Command::new(alloc, "run")
+        .about("Runs a router for each configuration, each in a thread, over UDP on this machine")
+        .after_help(RUN_HELP)
+        .arg(ticks_arg(alloc))?
+        .arg(files_arg(alloc))?
+        .arg(tick_arg(alloc))?
+        .arg(lookup_arg(alloc))?
+        .arg(floor_arg(alloc))?;
     program(alloc)?
         .subcommand(table)?
         .subcommand(check)?
-        .subcommand(sim)
+        .subcommand(sim)?
+        .subcommand(run)
 }
 
 // The value that a word spells.
@@ -306,6 +393,43 @@ fn sim_job(alloc: Global, values: &ArgMatches<'_>) -> Result<Option<Job>, AllocE
     })))
 }
 
+// The address that a word spells, if there is one.
+fn parsed_if_any(alloc: Global, word: Option<&str>) -> Result<Option<Addr>, JobFault>
+    ensures value { IfOk result (IsAddressIfAny (option_map (λ w. w.now) word.entry)) }
+    ensures fault { IfErr result (IsFaultOfValue (λ w. (option_map (λ t. t.now) word.entry ≡ Some w) × IsNoAddress w)) }
+{
+    match word {
+        Some(word) => Ok(Some(parsed(alloc, word)?)),
+        None => Ok(None),
+    }
+}
+
+// The values of `run`: its job, if they have the ticks and files.
+fn run_job(alloc: Global, values: &ArgMatches<'_>) -> Result<Option<Job>, JobFault>
+    ensures ok { IfOk result (IsJobIfAny (Some (codes "run", rows_of (found_of values.now)))) }
+    ensures fault { IfErr result (IsFaultOfValue (IsWrongValue (Some (codes "run", rows_of (found_of values.now))))) }
+{
+    let Some(ticks) = values.get_one::<u64>("ticks") else {
+        return Ok(None);
+    };
+    let Some(milliseconds) = values.get_one::<u64>("tick") else {
+        return Ok(None);
+    };
+    let Some(files) = values.get_strs("files") else {
+        return Ok(None);
+    };
+    let files = owned(alloc, files)?;
+    let lookup = parsed_if_any(alloc, values.get_str("lookup"))?;
+    let floor = owned_if_any(alloc, values.get_str("floor"))?;
+    Ok(Some(Job::Run(RunJob {
+        ticks,
+        milliseconds,
+        lookup,
+        floor,
+        files,
+    })))
+}
+
 // The job of the command that the words entered, if its values make one.
 fn entered_job(alloc: Global, matches: &ArgMatches<'_>) -> Result<Option<Job>, JobFault>
     ensures ok { IfOk result (IsJobIfAny (subcommand_rows_of matches.now)) }
@@ -319,6 +443,9 @@ fn entered_job(alloc: Global, matches: &ArgMatches<'_>) -> Result<Option<Job>, J
     }
     if let Some(values) = matches.subcommand_matches("sim") {
         return Ok(sim_job(alloc, values)?);
+    }
+    if let Some(values) = matches.subcommand_matches("run") {
+        return run_job(alloc, values);
     }
     Ok(None)
 }

@@ -1,11 +1,11 @@
-use Rattle.std.proofs.Common.{◌≡◌, ◌∙◌, ap, subst, []}
+use Rattle.std.proofs.Common.{◌≡◌, ◌∙◌, ap, subst, sym, []}
 use Rattle.clap.specs.Faults.{fault_of, is_simple_and_free}
 use Rattle.clap.specs.Kinds.{HasKind}
 use Rattle.clap.specs.Words.{app_of, is_simple, subcommand_of, subcommand_rows_of}
-use Rattle.ospfd.specs.Job.{IsFaultOfWords}
-use Rattle.ospfd.specs.Unasked.{IsJobIfAny, IsNoJob, IsUnasked}
-use Rattle.ospfd.specs.Words.{command_app}
-use Rattle.ospfd.proofs.WordLemmas.{err_kept, no_job_refused, texts_of, words_refused}
+use Rattle.ospfd.specs.Job.{IsFaultOfValue, IsFaultOfWords}
+use Rattle.ospfd.specs.Unasked.{IsJobIfAny, IsNoJob, IsUnasked, IsWrongValue}
+use Rattle.ospfd.specs.Words.{IsJobOf, command_app}
+use Rattle.ospfd.proofs.WordLemmas.{err_kept, no_job_refused, texts_of, value_unasked, words_refused}
 use Rattle.ospfd.proofs.words.job.Goals as goal
 
 pub returns-in_err-matches-clause-fault : goal.returns-in_err-matches-clause-fault
@@ -32,3 +32,20 @@ returns-clause-fault c =
     (c.in_ok-matches.ensures.ok.2 (ap is_simple command_is)).1 ∙ ap (λ a. subcommand_of a words) command_is in
     no_job_refused words c.no_job.result none (subst IsNoJob asked (subst (IsJobIfAny (subcommand_rows_of c.in_ok-matches.matches)) c.in-None.is c.in_ok-job.ensures.ok))
     c.no_job.ensures
+
+pub returns-in_err-job-clause-fault : goal.returns-in_err-job-clause-fault
+returns-in_err-job-clause-fault c =
+    let words = texts_of c.args.words.now in
+    let command_is : app_of c.in_ok-command.command ≡ command_app = c.in_ok-command.ensures in
+    let asked : subcommand_rows_of c.in_ok-matches.matches ≡ subcommand_of command_app words =
+    (c.in_ok-matches.ensures.ok.2 (ap is_simple command_is)).1 ∙ ap (λ a. subcommand_of a words) command_is in
+    err_kept c.from_residual-in_err-job.result (λ f. f ≡ c.in_err-job.field-0.0) (IsUnasked words) c.from_residual-in_err-job.ensures.1
+    (λ f is. subst (IsUnasked words) (sym is) (value_unasked words c.in_err-job.field-0.0 (subst (λ e. IsFaultOfValue (IsWrongValue e) c.in_err-job.field-0.0) asked c.in_err-job.ensures.fault)))
+
+pub returns-in-Some-clause-ok : goal.returns-in-Some-clause-ok
+returns-in-Some-clause-ok c =
+    let words = texts_of c.args.words.now in
+    let command_is : app_of c.in_ok-command.command ≡ command_app = c.in_ok-command.ensures in
+    let asked : subcommand_rows_of c.in_ok-matches.matches ≡ subcommand_of command_app words =
+    (c.in_ok-matches.ensures.ok.2 (ap is_simple command_is)).1 ∙ ap (λ a. subcommand_of a words) command_is in
+    subst (λ e. IsJobOf e c.in-Some.job) asked (subst (IsJobIfAny (subcommand_rows_of c.in_ok-matches.matches)) c.in-Some.is c.in_ok-job.ensures.ok)

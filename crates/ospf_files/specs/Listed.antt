@@ -1,0 +1,52 @@
+-- Lists of files, and the configurations that they hold.
+use Rattle.std.specs.Prelude.{◌≡◌, ℕ, List, [], ◌∷◌, ◌++◌, Option, None, Some, ⊤}
+use Rattle.std.specs.Io.KnownBytes.{Appends}
+use Rattle.ospf_config.specs.declared.config.Config.{Config}
+use Rattle.ospf_config.specs.declared.fault.ConfigFault.{ConfigFault}
+use Rattle.ospf_files.specs.Files.{IsConfigIn, IsRead, IsRefusedFor, refused_line, text_in}
+use Rattle.ospf_files.specs.declared.files.NamedFile.{NamedFile}
+
+-- all files could be read
+abbrev pub AreRead : List NamedFile → Type 0
+AreRead [] = ⊤
+AreRead (file ∷ files) = IsRead file × AreRead files
+
+-- this file could not be read, and those before it could
+pub record IsFirstUnread (file : NamedFile) (files : List NamedFile) : Type 0 where
+  pub before : List NamedFile
+  pub after : List NamedFile
+  pub files_are : files ≡ before ++ file ∷ after
+  pub read : AreRead before
+  pub unread : IsRead file → ⊥
+
+-- each file holds the configuration at its place
+abbrev pub AreConfigs : List NamedFile → List Config → Type 0
+AreConfigs [] [] = ⊤
+AreConfigs (file ∷ files) (config ∷ configs) = IsConfigIn (text_in file) config × AreConfigs files configs
+AreConfigs _ _ = ⊥
+
+-- a file holds a configuration, or it is told why it does not
+abbrev pub ConfigComes : NamedFile → Option Config → Option (List ℕ) → Option (List ℕ) → Type 0
+ConfigComes file (Some config) old new = IsConfigIn (text_in file) config × (new ≡ old)
+ConfigComes file None old new = (fault : ConfigFault) × IsRefusedFor (text_in file) fault × Appends old new (refused_line file fault)
+
+-- this file holds no configuration, for the fault of least number, and those before it hold one each
+pub record IsFirstRefused (file : NamedFile) (fault : ConfigFault) (files : List NamedFile) : Type 0 where
+  pub before : List NamedFile
+  pub configs : List Config
+  pub after : List NamedFile
+  pub files_are : files ≡ before ++ file ∷ after
+  pub are_configs : AreConfigs before configs
+  pub refused : IsRefusedFor (text_in file) fault
+
+-- the first file that holds no configuration is told, with its fault
+pub record IsRefusalTold (files : List NamedFile) (old new : Option (List ℕ)) : Type 0 where
+  pub file : NamedFile
+  pub fault : ConfigFault
+  pub refused : IsFirstRefused file fault files
+  pub told : Appends old new (refused_line file fault)
+
+-- the files hold these configurations, or it is told which is the first that holds none, and why
+abbrev pub ConfigsCome : List NamedFile → Option (List Config) → Option (List ℕ) → Option (List ℕ) → Type 0
+ConfigsCome files (Some configs) old new = AreConfigs files configs × (new ≡ old)
+ConfigsCome files None old new = IsRefusalTold files old new

@@ -1,0 +1,3 @@
+mod CountFacts
+mod CaptureFacts
+mod DrawingFacts

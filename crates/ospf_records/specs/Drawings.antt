@@ -1,0 +1,18 @@
+-- The drawing of what a network's first running router lists.
+use Rattle.std.specs.Prelude.{ℕ, List, [], ◌∷◌, Option, None, Some}
+use Rattle.ospf_dot.specs.Drawing.{graph_text}
+use Rattle.ospf_headline.specs.World.{Running, listing}
+use Rattle.ospf_slots.specs.Slots.{SlotValue}
+
+-- what a router lists, or else what another has
+abbrev pub listing_or : Option Running → List (List ℕ) → List (List ℕ)
+listing_or None others = others
+listing_or (Some x) others = listing x
+
+-- what the first router that runs lists, in the order of the configurations; nothing where none runs
+abbrev pub first_listing : List SlotValue → List (List ℕ)
+first_listing [] = []
+first_listing (s ∷ slots) = listing_or s.running (first_listing slots)
+
+abbrev pub drawing_of : List SlotValue → List ℕ
+drawing_of slots = graph_text (first_listing slots)

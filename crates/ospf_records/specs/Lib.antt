@@ -1,0 +1,4 @@
+pub mod Counts
+pub mod Captures
+pub mod Stamps
+pub mod Drawings

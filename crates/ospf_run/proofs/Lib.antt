@@ -1,0 +1,8 @@
+mod Planned
+mod Known
+mod Lists
+mod Ends
+mod Statuses
+mod Finished
+mod Wired
+mod Reported

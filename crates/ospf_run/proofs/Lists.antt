@@ -1,0 +1,125 @@
+-- Lists that go along with each other.
+use Rattle.std.proofs.Common.{◌≡◌, ◌∙◌, ap, sym, subst, refl, ◌+◌, ◌<◌, ◌≤◌, ℕ, ℤ, suc, List, [], ◌∷◌, ◌++◌, All, length, take, drop, get_or, arith, add-one, length-append}
+use Rattle.std.proofs.lemmas.List.{take_more, append-nil, take_all}
+use Rattle.std.proofs.lemmas.List.Elements.{All-cons, All-drop, All-get_or, All-nil, All-append}
+use Rattle.std.proofs.Math.Seq.{drop-cons}
+use Rattle.std.proofs.lemmas.List.{flat_map_more}
+use Rattle.std.specs.Io.KnownBytes.{Appends}
+use Rattle.std.specs.Prelude.{Option, flat_map}
+use Rattle.ospf_config.specs.declared.config.Config.{Config}
+use Rattle.ospf_drive.specs.Driven.{IsDriven, Outcome as Driven, Pairs}
+use Rattle.ospf_drive.specs.Moments.{Moment}
+use Rattle.ospf_drive.proofs.Joined.{pairs_then}
+use Rattle.ospf_base.specs.declared.ids.Addr.{Addr}
+use Rattle.ospf_files.specs.declared.files.NamedFile.{NamedFile}
+use Rattle.ospf_files.proofs.Written.{both_written}
+use Rattle.ospf_published.specs.Known.{Known}
+use Rattle.ospf_run.specs.Lookers.{IsFrom}
+use Rattle.ospf_run.specs.Runs.{AreOutcomes, Begins, IsOutcome, Trio, Trios}
+use Rattle.ospf_run.specs.declared.finish.Outcome.{Outcome}
+use Rattle.ospf_run.specs.declared.look.Looker.{Looker}
+
+-- the text of one element more
+pub piece_written : {X : Type 0} (f : X → List ℕ) (a b c : Option (List ℕ)) (xs : List X) (i : ℕ) (x : X) → i < length xs → x ≡ get_or xs i x
+    → Appends a b (flat_map f (take i xs)) → Appends b c (f x) → Appends a c (flat_map f (take (i + 1) xs))
+piece_written f a b c xs i x within is h k =
+    let more = flat_map_more f [] (take i xs) (get_or xs i x) ∙ ap (flat_map f) (sym (take_more xs i x within)) in
+    subst (Appends a c) more (both_written a b c _ _ h (subst (λ q. Appends b c (f q)) is k))
+
+-- the front of a list, with one more
+pub front_more : {A : Type 0} (xs : List A) (i : ℕ) (x : A) → i < length xs → x ≡ get_or xs i x → take (i + 1) xs ≡ take i xs ++ x ∷ []
+front_more xs i x within is = take_more xs i x within ∙ ap (λ last. take i xs ++ last ∷ []) (sym is)
+
+-- one pair more
+pub pairs_more : {A B : Type 0} (P : A → B → Type 0) (xs : List A) (i : ℕ) (x : A) (ys more : List B) (y : B) → i < length xs → x ≡ get_or xs i x
+    → Pairs P (take i xs) ys → P x y → more ≡ ys ++ y ∷ [] → Pairs P (take (i + 1) xs) more
+pairs_more {A} {B} P xs i x ys more y within is pairs pair more_is =
+    subst (λ (zs : List B). Pairs P (take (i + 1) xs) zs) (sym more_is)
+    (subst (λ (zs : List A). Pairs P zs (ys ++ y ∷ [])) (sym (front_more xs i x within is)) (pairs_then P (take i xs) ys x y pairs pair))
+
+-- one pair more, at the ends of both
+pub pairs_both : {A B : Type 0} (P : A → B → Type 0) (xs xs' : List A) (ys ys' : List B) (x : A) (y : B) → Pairs P xs ys → P x y
+    → xs' ≡ xs ++ x ∷ [] → ys' ≡ ys ++ y ∷ [] → Pairs P xs' ys'
+pairs_both {A} {B} P xs xs' ys ys' x y pairs pair more_x more_y =
+    subst (λ (zs : List B). Pairs P xs' zs) (sym more_y) (subst (λ (zs : List A). Pairs P zs (ys ++ y ∷ [])) (sym more_x) (pairs_then P xs ys x y pairs pair))
+
+pub all_more : {A : Type 0} (P : A → Type 0) (xs xs' : List A) (x : A) → All P xs → P x → xs' ≡ xs ++ x ∷ [] → All P xs'
+all_more {A} P xs xs' x all here more = subst (λ (zs : List A). All P zs) (sym more) (All-append P xs (x ∷ []) all (All-cons P x [] here (All-nil P)))
+
+pub one_more : {A : Type 0} (xs xs' : List A) (x : A) (n : ℕ) → xs' ≡ xs ++ x ∷ [] → length xs ≡ n → length xs' ≡ n + 1
+one_more xs xs' x n more count = ap (λ zs. length zs) more ∙ length-append xs (x ∷ []) ∙ ap (λ m. m + 1) count
+
+-- the one list is as long as the other
+pub as_many : {A B : Type 0} (P : A → B → Type 0) (xs : List A) (ys : List B) → Pairs P xs ys → length xs ≡ length ys
+as_many P [] [] ps = refl
+as_many P [] (y ∷ ys) ps = absurd ps
+as_many P (x ∷ xs) [] ps = absurd ps
+as_many P (x ∷ xs) (y ∷ ys) ps = ap (λ (n : ℕ). suc n) (as_many P xs ys ps.1)
+
+-- what began and what came of it, router by router
+pub trios_of : {J : Type 0} (begins : J → Moment) (floor : ℤ) (configs : List Config) (jobs : List J) (drivens : List Driven) (seats : List Known) (lookers : List Looker)
+    → Pairs (λ config job. Begins floor config (begins job).router (begins job).known) configs jobs → Pairs (λ job driven. IsDriven (begins job) driven) jobs drivens
+    → Pairs (λ job seat. seat ≡ (begins job).known) jobs seats → Pairs IsFrom seats lookers → Trios floor configs drivens lookers
+trios_of begins floor [] [] [] [] [] p q r s = tt
+trios_of begins floor [] [] [] [] (l ∷ ls) p q r s = absurd s
+trios_of begins floor [] [] [] (k ∷ ks) ls p q r s = absurd r
+trios_of begins floor [] [] (d ∷ ds) ks ls p q r s = absurd q
+trios_of begins floor [] (j ∷ js) ds ks ls p q r s = absurd p
+trios_of begins floor (c ∷ cs) [] ds ks ls p q r s = absurd p
+trios_of begins floor (c ∷ cs) (j ∷ js) [] ks ls p q r s = absurd q
+trios_of begins floor (c ∷ cs) (j ∷ js) (d ∷ ds) [] ls p q r s = absurd r
+trios_of begins floor (c ∷ cs) (j ∷ js) (d ∷ ds) (k ∷ ks) [] p q r s = absurd s
+trios_of begins floor (c ∷ cs) (j ∷ js) (d ∷ ds) (k ∷ ks) (l ∷ ls) p q r s =
+    (record { a = begins j; begins = p.0; ended = q.0; looks = subst (λ (known : Known). IsFrom known l) r.0 s.0 }, trios_of begins floor cs js ds ks ls p.1 q.1 r.1 s.1)
+
+-- the first of those that are left
+pub record HasFirst (floor : ℤ) (config : Config) (configs : List Config) (drivens : List Driven) (lookers : List Looker) : Type 0 where
+  pub driven : Driven
+  pub looker : Looker
+  pub later_drivens : List Driven
+  pub later_lookers : List Looker
+  pub drivens_are : drivens ≡ driven ∷ later_drivens
+  pub lookers_are : lookers ≡ looker ∷ later_lookers
+  pub first : Trio floor config driven looker
+  pub later : Trios floor configs later_drivens later_lookers
+
+first_of : (floor : ℤ) (config : Config) (configs : List Config) (drivens : List Driven) (lookers : List Looker) → Trios floor (config ∷ configs) drivens lookers
+    → HasFirst floor config configs drivens lookers
+first_of floor config configs [] ls trios = absurd trios
+first_of floor config configs (d ∷ ds) [] trios = absurd trios
+first_of floor config configs (d ∷ ds) (l ∷ ls) trios =
+    record { driven = d; looker = l; later_drivens = ds; later_lookers = ls; drivens_are = refl; lookers_are = refl; first = trios.0; later = trios.1 }
+
+pub first_left : (floor : ℤ) (configs : List Config) (i : ℕ) (config : Config) (drivens : List Driven) (lookers : List Looker) → i < length configs
+    → config ≡ get_or configs i config → Trios floor (drop i configs) drivens lookers → HasFirst floor config (drop (i + 1) configs) drivens lookers
+first_left floor configs i config ds ls within is trios =
+    let split : drop i configs ≡ config ∷ drop (i + 1) configs =
+    drop-cons configs i config within ∙ ap (λ x. x ∷ drop (suc i) configs) (sym is) ∙ ap (λ n. config ∷ drop n configs) (sym (add-one i)) in
+    first_of floor config (drop (i + 1) configs) ds ls (subst (λ (cs : List Config). Trios floor cs ds ls) split trios)
+
+-- what is taken off a list, and what is left
+pub taken_off : {A : Type 0} (xs : List A) (x y : A) (ys rest : List A) → xs ≡ x ∷ ys → y ≡ get_or xs 0 y → rest ≡ take 0 xs ++ drop (0 + 1) xs → (y ≡ x) × (rest ≡ ys)
+taken_off [] x y ys rest is first after = absurd (cc is)
+taken_off (z ∷ zs) x y ys rest is first after =
+    let heads : z ≡ x = cc (is) in let tails : zs ≡ ys = cc (is) in (first ∙ heads, after ∙ tails)
+
+outcomes_then : (lookup : Option Addr) (floor : ℤ) (files : List NamedFile) (configs : List Config) (outcomes : List Outcome) (file : NamedFile) (config : Config) (outcome : Outcome)
+    → AreOutcomes lookup floor files configs outcomes → IsOutcome lookup floor file config outcome
+    → AreOutcomes lookup floor (files ++ file ∷ []) (configs ++ config ∷ []) (outcomes ++ outcome ∷ [])
+outcomes_then lookup floor [] [] [] file config outcome are is = (is, tt)
+outcomes_then lookup floor [] [] (o ∷ os) file config outcome are is = absurd are
+outcomes_then lookup floor [] (c ∷ cs) os file config outcome are is = absurd are
+outcomes_then lookup floor (f ∷ fs) [] os file config outcome are is = absurd are
+outcomes_then lookup floor (f ∷ fs) (c ∷ cs) [] file config outcome are is = absurd are
+outcomes_then lookup floor (f ∷ fs) (c ∷ cs) (o ∷ os) file config outcome are is = (are.0, outcomes_then lookup floor fs cs os file config outcome are.1 is)
+
+-- one outcome more
+pub outcomes_more : (lookup : Option Addr) (floor : ℤ) (files : List NamedFile) (configs : List Config) (outcomes more : List Outcome) (i : ℕ) (file : NamedFile) (config : Config)
+    (outcome : Outcome) → i < length files → file ≡ get_or files i file → i < length configs → config ≡ get_or configs i config
+    → AreOutcomes lookup floor (take i files) (take i configs) outcomes → IsOutcome lookup floor file config outcome → more ≡ outcomes ++ outcome ∷ []
+    → AreOutcomes lookup floor (take (i + 1) files) (take (i + 1) configs) more
+outcomes_more lookup floor files configs outcomes more i file config outcome in_files file_is in_configs config_is are is more_is =
+    subst (λ (os : List Outcome). AreOutcomes lookup floor (take (i + 1) files) (take (i + 1) configs) os) (sym more_is)
+    (subst (λ (cs : List Config). AreOutcomes lookup floor (take (i + 1) files) cs (outcomes ++ outcome ∷ [])) (sym (front_more configs i config in_configs config_is))
+    (subst (λ (fs : List NamedFile). AreOutcomes lookup floor fs (take i configs ++ config ∷ []) (outcomes ++ outcome ∷ [])) (sym (front_more files i file in_files file_is))
+    (outcomes_then lookup floor (take i files) (take i configs) outcomes file config outcome are is)))

@@ -1,0 +1,14 @@
+use Rattle.std.proofs.Common.{◌≡◌, ◌+◌, ◌≤◌, ◌++◌, List, vec_len, vec_capacity}
+use Rattle.ospf_drive.specs.Driven.{Pairs}
+use Rattle.ospf_run.specs.Lookers.{IsFrom}
+use Rattle.ospf_run.proofs.over.start_lookers.Given as goal
+
+-- each seat that is gone has what looks up there, and there is room for those of the seats that are left
+abbrev pub invariant-loop-rt : goal.invariant-loop-rt
+invariant-loop-rt g l = record {
+  room : vec_len l.lookers + vec_len l.seats ≤ vec_capacity l.lookers;
+  started : (gone : List _) × (l.fn.seats.items ≡ gone ++ l.seats.items) × Pairs IsFrom gone l.lookers.items;
+}
+
+abbrev pub decreases-loop-rt : goal.decreases-loop-rt
+decreases-loop-rt g l = vec_len l.seats

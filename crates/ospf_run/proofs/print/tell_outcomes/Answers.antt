@@ -1,0 +1,7 @@
+use Rattle.ospf_run.specs.Printed.{outcome_told}
+use Rattle.ospf_run.proofs.Lists.{piece_written}
+use Rattle.ospf_run.proofs.print.tell_outcomes.Goals as goal
+
+pub loop-outcome-preserved : goal.loop-outcome-preserved
+loop-outcome-preserved g c =
+    piece_written outcome_told _ _ _ _ _ _ c.loop-outcome-test.true c.outcome-item.is c.loop-outcome.invariant c.in_ok-tell_outcome.ensures

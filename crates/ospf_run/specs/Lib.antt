@@ -1,0 +1,5 @@
+pub mod Plans
+pub mod Lookers
+pub mod Runs
+pub mod Printed
+pub mod Wires

@@ -1,0 +1,17 @@
+-- Seats from which an address is looked up beside a driver.
+use Rattle.std.specs.Prelude.{◌≡◌, ⊤}
+use mathlib.Core.List.{IsPrefix}
+use Rattle.ospf_published.specs.Known.{Known}
+use Rattle.ospf_run.specs.declared.look.Looker.{Looker}
+use Rattle.ospf_run.specs.declared.look.Looker.TheVariants as looker
+
+-- what a seat knows after another: of the same table, and no less
+pub record Follows (old new : Known) : Type 0 where
+  pub fib : new.fib ≡ old.fib
+  pub tables : IsPrefix old.tables new.tables
+
+-- a seat that knew this before anything was looked up there
+abbrev pub IsFrom : Known → Looker → Type 0
+IsFrom known (looker.Idle seat) = seat ≡ known
+IsFrom known (looker.Looking began) = began ≡ known
+IsFrom known looker.NotStarted = ⊤

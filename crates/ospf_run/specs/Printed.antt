@@ -1,0 +1,93 @@
+-- What is printed and told of routers whose drivers have ended.
+use Rattle.std.specs.Prelude.{◌≡◌, ℕ, Bool, true, false, List, [], ◌++◌, Option, None, Some, Result, Ok, Err, codes, flat_map, string_bytes, cond}
+use Rattle.std.specs.List.{list_any}
+use Rattle.std.specs.Io.KnownBytes.{Appends}
+use Rattle.ospf_base.specs.Text.{number_text}
+use Rattle.ospf_base.specs.declared.ids.RouterId.{RouterId}
+use Rattle.ospf_drive.specs.Faults.{fault_text}
+use Rattle.ospf_drive.specs.declared.fault.DriveFault.{DriveFault}
+use Rattle.ospf_drive.specs.declared.fault.DriveFault.TheVariants as fault
+use Rattle.ospf_files.specs.declared.files.NamedFile.{NamedFile}
+use Rattle.ospf_files.specs.declared.status.Status.{Status}
+use Rattle.ospf_files.specs.declared.status.Status.TheVariants as status
+use Rattle.ospf_router.specs.Routers.{RouterValue, greatest_in}
+use Rattle.ospf_script.specs.Texts.{floor_text}
+use Rattle.ospf_shown.specs.Shown.{lookup_line, routes_text}
+use Rattle.ospf_run.specs.declared.finish.Looked.{Looked}
+use Rattle.ospf_run.specs.declared.finish.Outcome.{Outcome}
+use Rattle.ospf_run.specs.declared.finish.Shown.{Shown}
+
+-- ---- standard output
+
+-- what a lookup found, if one was asked for
+abbrev pub looked_lines : Option Looked → List ℕ
+looked_lines None = []
+looked_lines (Some looked) = lookup_line looked.address.0 looked.answer
+
+-- the greatest of the floor of the start and all numbers of the router's own LSAs since, if it is wanted
+abbrev pub floor_lines : Bool → RouterValue → List ℕ
+floor_lines false router = []
+floor_lines true router = codes "floor " ++ floor_text (greatest_in router.floor router.area) ++ codes "\n"
+
+-- a router: its Router ID, its routes, and what was asked for beside them
+abbrev pub router_lines : Bool → RouterId → Shown → List ℕ
+router_lines floors router shown =
+    codes "router " ++ number_text router.0 ++ codes "\n" ++ routes_text shown.router.table ++ looked_lines shown.looked
+    ++ floor_lines floors shown.router
+
+-- what is printed of a router: nothing where its driver did not come to the end
+abbrev pub came_lines : Bool → RouterId → Result Shown DriveFault → List ℕ
+came_lines floors router (Ok shown) = router_lines floors router shown
+came_lines floors router (Err f) = []
+
+abbrev pub outcome_lines : Bool → Outcome → List ℕ
+outcome_lines floors outcome = came_lines floors outcome.router outcome.came
+
+-- ---- standard error
+
+-- the line of a file whose router's driver did not come to the end
+abbrev pub fault_line : NamedFile → DriveFault → List ℕ
+fault_line file f = string_bytes file.name ++ codes ": " ++ fault_text f ++ codes "\n"
+
+abbrev pub came_told : NamedFile → Result Shown DriveFault → List ℕ
+came_told file (Ok shown) = []
+came_told file (Err f) = fault_line file f
+
+abbrev pub outcome_told : Outcome → List ℕ
+outcome_told outcome = came_told outcome.file.now outcome.came
+
+-- ---- the status
+
+-- a wire or a thread failed
+abbrev pub is_fault_of_system : DriveFault → Bool
+is_fault_of_system fault.Recv = true
+is_fault_of_system fault.Send = true
+is_fault_of_system fault.Thread = true
+is_fault_of_system fault.Stopped = false
+is_fault_of_system fault.Publish = false
+
+abbrev pub came_failed : Result Shown DriveFault → Bool
+came_failed (Ok shown) = false
+came_failed (Err f) = is_fault_of_system f
+
+abbrev pub came_early : Result Shown DriveFault → Bool
+came_early (Ok shown) = false
+came_early (Err f) = true
+
+abbrev pub is_failed : Outcome → Bool
+is_failed outcome = came_failed outcome.came
+
+abbrev pub is_early : Outcome → Bool
+is_early outcome = came_early outcome.came
+
+-- a wire or a thread failed one of the routers; else one met want of memory; else all is done
+abbrev pub status_for : List Outcome → Status
+status_for outcomes = cond (list_any is_failed outcomes) status.Stream (cond (list_any is_early outcomes) status.Memory status.Done)
+
+-- ---- all of it
+
+-- what came of routers is printed and told, in their order
+pub record IsReported (floors : Bool) (outcomes : List Outcome) (status : Status) (out_old out_new err_old err_new : Option (List ℕ)) : Type 0 where
+  pub status_is : status ≡ status_for outcomes
+  pub out : Appends out_old out_new (flat_map (outcome_lines floors) outcomes)
+  pub err : Appends err_old err_new (flat_map outcome_told outcomes)

@@ -1,0 +1,108 @@
+-- Routers that run: how they begin, and what comes of them.
+use Rattle.std.specs.Prelude.{⊤, ◌≡◌, ℕ, ℤ, Bool, List, [], ◌∷◌, Option, None, Some, Result, Ok, Err, is_some}
+use Rattle.ospf_base.specs.declared.ids.Addr.{Addr}
+use Rattle.ospf_config.specs.declared.config.Config.{Config}
+use Rattle.ospf_drive.specs.Driven.{DrivesToEnd, IsDriven, Outcome as Driven}
+use Rattle.ospf_drive.specs.Moments.{Moment}
+use Rattle.ospf_drive.specs.declared.fault.DriveFault.{DriveFault}
+use Rattle.ospf_fib.specs.Answers.{IsAnswerOfLast}
+use Rattle.ospf_files.specs.declared.status.Status.{Status}
+use Rattle.ospf_files.specs.declared.status.Status.TheVariants.{Refused, Stream}
+use Rattle.ospf_files.specs.declared.files.NamedFile.{NamedFile}
+use Rattle.ospf_published.specs.Known.{Known, Table, opening}
+use Rattle.ospf_router.specs.Routers.{RouterValue}
+use Rattle.ospf_router.specs.Starts.{IsStarted}
+use Rattle.ospf_run.specs.Lookers.{IsFrom}
+use Rattle.ospf_run.specs.Plans.{IsPlan, IsRefused, IsUnreadTold}
+use Rattle.ospf_run.specs.Printed.{IsReported}
+use Rattle.ospf_run.specs.Wires.{IsSocketTold}
+use Rattle.ospf_run.specs.declared.finish.Looked.{Looked}
+use Rattle.ospf_run.specs.declared.finish.Outcome.{Outcome}
+use Rattle.ospf_run.specs.declared.finish.Shown.{Shown}
+use Rattle.ospf_run.specs.declared.look.Looker.{Looker}
+
+-- a router begins with its configuration, DD sequence number 1 and the floor, and the empty table is published
+pub record Begins (floor : ℤ) (config : Config) (router : RouterValue) (known : Known) : Type 0 where
+  pub started : IsStarted config 1 floor router
+  pub opened : known.tables ≡ opening
+
+-- what a lookup in the table that was published last finds, if an address was asked for
+abbrev pub IsLookedUp : Option Addr → List Table → Option Looked → Type 0
+IsLookedUp None tables None = ⊤
+IsLookedUp (Some address) tables (Some looked) = (looked.address ≡ address) × IsAnswerOfLast tables address 0 looked.answer
+IsLookedUp _ tables _ = ⊥
+
+-- a driver that began there came to the end, with this router, and the lookup is in the table that it published last
+pub record ComesToEnd (lookup : Option Addr) (a : Moment) (shown : Shown) : Type 0 where
+  pub known : Known
+  pub told : Option Known
+  pub drives : DrivesToEnd a shown.router known told
+  pub looked : IsLookedUp lookup known.tables shown.looked
+
+-- what came of a router whose driver began there
+abbrev pub Came : Option Addr → Moment → Result Shown DriveFault → Type 0
+Came lookup a (Ok shown) = ComesToEnd lookup a shown
+Came lookup a (Err f) = IsDriven a (Err f)
+
+-- the router of a configuration begins, and this came of it
+pub record IsOutcome (lookup : Option Addr) (floor : ℤ) (file : NamedFile) (config : Config) (outcome : Outcome) : Type 0 where
+  pub file_is : outcome.file.now ≡ file
+  pub router_is : outcome.router ≡ config.router_id
+  pub a : Moment
+  pub begins : Begins floor config a.router a.known
+  pub came : Came lookup a outcome.came
+
+-- what came of the routers of files, in their order
+abbrev pub AreOutcomes : Option Addr → ℤ → List NamedFile → List Config → List Outcome → Type 0
+AreOutcomes lookup floor [] [] [] = ⊤
+AreOutcomes lookup floor (file ∷ files) (config ∷ configs) (outcome ∷ outcomes) =
+    IsOutcome lookup floor file config outcome × AreOutcomes lookup floor files configs outcomes
+AreOutcomes lookup floor _ _ _ = ⊥
+
+-- ---- on the way
+
+-- what the last publish of a driver told: all that its writer has published; nothing where that is the empty table alone
+abbrev pub IsTold : Known → Option Known → Type 0
+IsTold known None = known.tables ≡ opening
+IsTold known (Some told) = told ≡ known
+
+-- a driver that began there has ended, and what looks up beside it has
+pub record Ran (a : Moment) (driven : Driven) (looker : Looker) : Type 0 where
+  pub opened : a.known.tables ≡ opening
+  pub ended : IsDriven a driven
+  pub looks : IsFrom a.known looker
+
+-- the router of a configuration began, and this came of its driver and of what looks up beside it
+pub record Trio (floor : ℤ) (config : Config) (driven : Driven) (looker : Looker) : Type 0 where
+  pub a : Moment
+  pub begins : Begins floor config a.router a.known
+  pub ended : IsDriven a driven
+  pub looks : IsFrom a.known looker
+
+abbrev pub Trios : ℤ → List Config → List Driven → List Looker → Type 0
+Trios floor [] [] [] = ⊤
+Trios floor (config ∷ configs) (driven ∷ drivens) (looker ∷ lookers) = Trio floor config driven looker × Trios floor configs drivens lookers
+Trios floor _ _ _ = ⊥
+
+-- what came of the routers of a plan is printed and told
+pub record Reports (lookup : Option Addr) (floors : Bool) (least : ℤ) (files : List NamedFile) (configs : List Config) (status : Status) (out_old out_new err_old err_new : Option (List ℕ)) : Type 0 where
+  pub outcomes : List Outcome
+  pub are : AreOutcomes lookup least files configs outcomes
+  pub reported : IsReported floors outcomes status out_old out_new err_old err_new
+
+-- ---- runs
+
+-- the plan of the files was run: what came of each router is printed and told
+pub record IsRun (lookup : Option Addr) (floor : Option (List ℕ)) (files : List NamedFile) (status : Status) (out_old out_new err_old err_new : Option (List ℕ)) : Type 0 where
+  pub configs : List Config
+  pub least : ℤ
+  pub plan : IsPlan floor files configs least
+  pub reports : Reports lookup (is_some floor) least files configs status out_old out_new err_old err_new
+
+-- how a run comes to its end: it is refused, a file could not be read, a socket could not be made, or it was run
+pub data Comes (lookup : Option Addr) (floor : Option (List ℕ)) (files : List NamedFile) (status : Status) (out_old out_new err_old err_new : Option (List ℕ)) : Type 0 where
+  refused : status ≡ Refused → IsRefused floor files err_old err_new → out_new ≡ out_old → Comes lookup floor files status out_old out_new err_old err_new
+  unread : status ≡ Stream → IsUnreadTold floor files err_old err_new → out_new ≡ out_old → Comes lookup floor files status out_old out_new err_old err_new
+  no_socket : status ≡ Stream → (configs : List Config) (least : ℤ) → IsPlan floor files configs least → IsSocketTold files err_old err_new
+      → out_new ≡ out_old → Comes lookup floor files status out_old out_new err_old err_new
+  ran : IsRun lookup floor files status out_old out_new err_old err_new → Comes lookup floor files status out_old out_new err_old err_new

@@ -1,0 +1,88 @@
+//! Routers that start: each with a writer of its table, and a seat there.
+
+ghost use Rattle.std.specs.Prelude.{◌≡◌, ◌≢◌, ◌+◌, ◌<◌, ◌^◌, All, IfOk, length};
+ghost use Rattle.ospf_drive.specs.Driven.{Pairs};
+ghost use Rattle.ospf_flood.specs.Rules.{max_sequence_number};
+ghost use Rattle.ospf_published.specs.Known.{opening};
+ghost use Rattle.ospf_router.specs.Starts.{IsStarted};
+ghost use Rattle.ospf_run.specs.Runs.{Begins};
+
+use crate::tell::put;
+use ospf_config::Config;
+use ospf_drive::{Job, Wire};
+use ospf_fib::{Fib, OpenRefused, Seat, Writer};
+use ospf_files::Failure;
+use ospf_router::{Router, StartFault};
+use std::alloc::Global;
+use std::sync::Wait;
+
+// The first DD sequence number of each router (RFC 2328, section 10.8).
+const DD_START: u32 = 1;
+
+// An empty table that is published, with one seat at it.
+fn open_table<R: Wait + Drop>(rt: R, alloc: Global) -> Result<(Writer<R>, Seat), OpenRefused>
+    ensures tables { IfOk result (λ opened. opened.0.tables ≡ opening) }
+    ensures seat { IfOk result (λ opened. opened.1 ≡ opened.0) }
+{
+    let (writer, mut seats) = Fib::open(alloc, rt, 1)?;
+    let seat = seats.pop().ok_or(OpenRefused)?;
+    Ok((writer, seat))
+}
+
+// A router that starts with a configuration.
+fn start_router(alloc: Global, config: &Config, floor: i32) -> Result<Router, Failure>
+    requires { floor ≢ max_sequence_number }
+    ensures { IfOk result (IsStarted config.now 1 floor) }
+{
+    match Router::start(config, DD_START, floor, alloc) {
+        Ok(router) => Ok(router),
+        Err(StartFault::Memory) => Err(Failure::Memory),
+        Err(StartFault::Floor) => unreachable!(),
+    }
+}
+
+// A router that starts with a configuration, the writer of its table, and a seat there.
+fn begin<W: Wire + Drop, R: Wait + Drop>(
+    rt: R,
+    alloc: Global,
+    config: &Config,
+    floor: i32,
+    wire: W,
+) -> Result<(Job<W, R>, Seat), Failure>
+    requires { floor ≢ max_sequence_number }
+    ensures begins { IfOk result (λ begun. Begins floor config.now begun.0.0 begun.0.2) }
+    ensures wire { IfOk result (λ begun. begun.0.1 ≡ wire) }
+    ensures seat { IfOk result (λ begun. begun.1 ≡ begun.0.2) }
+{
+    let router = start_router(alloc, config, floor)?;
+    match open_table(rt, alloc) {
+        Ok((writer, seat)) => Ok(((router, wire, writer), seat)),
+        Err(OpenRefused) => Err(Failure::Memory),
+    }
+}
+
+/// Starts a router for each configuration, over the wire at its place. The floor of their numbers is below the greatest number.
+pub(crate) fn begin_all<W: Wire + Drop, R: Wait + Copy + Drop>(
+    rt: R,
+    alloc: Global,
+    configs: &[Config],
+    floor: i32,
+    mut wires: Vec<W>,
+) -> Result<(Vec<Job<W, R>>, Vec<Seat>), Failure>
+    requires floor { floor ≢ max_sequence_number }
+    requires wires { length wires.items ≡ length configs.now }
+    requires fresh { All (λ wire. W.failed wire + 1 < 2 ^ 64) wires.items }
+    ensures begins { IfOk result (λ begun. Pairs (λ config job. Begins floor config job.0 job.2) configs.now begun.0.items) }
+    ensures fresh { IfOk result (λ begun. All (λ job. W.failed job.1 + 1 < 2 ^ 64) begun.0.items) }
+    ensures seats { IfOk result (λ begun. Pairs (λ job seat. seat ≡ job.2) begun.0.items begun.1.items) }
+{
+    let mut jobs = Vec::with_capacity(alloc, configs.len())?;
+    let mut seats = Vec::with_capacity(alloc, configs.len())?;
+    for config in configs {
+        let wire = wires.remove(0);
+        let (job, seat) = begin(rt, alloc, config, floor, wire)?;
+        put(&mut jobs, job)?;
+        put(&mut seats, seat)?;
+    }
+    Ok((jobs, seats))
+}

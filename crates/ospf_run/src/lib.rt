@@ -1,0 +1,21 @@
+//! Routers that run in threads of their own, over UDP on this machine.
+//!
+//! `run_text` is the whole: it reads configurations, opens sockets, drives the routers, looks an address up beside them, and
+//! prints their tables. What is refused before a socket is made stands in `specs/Plans`, what a run prints in `specs/Printed`.
+#![tactic(auto)]
+
+mod begin;
+mod finish;
+mod look;
+mod over;
+mod plan;
+mod print;
+mod run;
+mod settings;
+mod tell;
+#[cfg(test)]
+mod tests;
+mod wires;
+
+pub use crate::run::run_text;
+pub use crate::settings::Settings;

@@ -1,0 +1,127 @@
+//! Threads that look an address up beside the drivers.
+
+ghost use Rattle.std.specs.Prelude.{IfSome};
+ghost use Rattle.ospf_published.specs.Known.{Known};
+ghost use Rattle.ospf_run.specs.Lookers.{IsFrom, Follows};
+
+use ospf_base::Addr;
+use ospf_fib::Seat;
+use std::alloc::{AllocError, Global};
+use std::marker::Model;
+use std::snapshot::Snapshot;
+use std::sync::atomic::{AtomicBool, Ordering};
+use std::sync::{Arc, Wait};
+use std::thread;
+use std::thread::{Promise, PromisedHandle, Threads};
+use std::time::{Clock, Duration};
+
+// How long a thread waits between two looks, in milliseconds.
+const BETWEEN_LOOKS: u64 = 10;
+
+/// Whether the drivers are done: what the threads that look up ask from time to time.
+pub(crate) type Done = Arc<AtomicBool, Global>;
+
+// What a thread will give back: its seat, at the same table, which knows no less than before.
+#[derive(Drop)]
+struct SeatOf(Snapshot<Seat>);
+
+impl Promise<Seat> for SeatOf {
+    ghost kept_by = { λ p seat. Follows p.0.value seat };
+}
+
+/// A thread that looks up. Proofs see what its seat knew at the start.
+#[derive(Drop)]
+pub(crate) struct Looking {
+    handle: PromisedHandle<Seat, SeatOf>,
+}
+
+impl Model for Looking {
+    ghost use Rattle.ospf_published.specs.Known.{Known};
+
+    ghost Value = { Known };
+
+    ghost view = { λ l. l.handle.promise.0.value };
+}
+
+/// The seat of a router.
+#[derive(Drop)]
+pub(crate) enum Looker {
+    /// Nothing is looked up there.
+    Idle(Seat),
+    Looking(Looking),
+    /// The thread did not start.
+    NotStarted,
+}
+
+// A seat from which the address was looked up.
+fn look_once(mut seat: Seat, address: Addr) -> Seat
+    ensures { Follows seat result }
+{
+    let _ = seat.lookup(address, 0);
+    seat
+}
+
+// Looks the address up from time to time, until the drivers are done.
+fn look_until<S: Wait + Clock>(rt: &S, seat: Seat, address: Addr, done: &Done) -> Seat
+    ensures { Follows seat result }
+{
+    let mut seat = look_once(seat, address);
+    for _ in rt.forever() {
+        if done.load(Ordering::SeqCst) {
+            return seat;
+        }
+        thread::sleep(rt, Duration::from_millis(BETWEEN_LOOKS));
+        seat = look_once(seat, address);
+    }
+    unreachable!()
+}
+
+// Starts a thread that looks up.
+fn start_looking<S: Threads + Wait + Clock + Copy + Send + 'static>(
+    rt: S,
+    seat: Seat,
+    address: Addr,
+    done: Done,
+) -> Looker
+    ensures { IsFrom seat result }
+{
+    let promise = SeatOf(Snapshot::of(&seat));
+    let thread = thread::spawn_with(&rt, promise, move || -> Seat {
+        look_until(&rt, seat, address, &done)
+    });
+    match thread {
+        Ok(handle) => Looker::Looking(Looking { handle }),
+        Err(_) => Looker::NotStarted,
+    }
+}
+
+/// Starts a thread that looks the address up from the seat, until it is done, if there is an address.
+pub(crate) fn start_looker<S: Threads + Wait + Clock + Copy + Send + 'static>(
+    rt: S,
+    seat: Seat,
+    lookup: Option<Addr>,
+    done: &Done,
+) -> Looker
+    ensures { IsFrom seat result }
+{
+    let Some(address) = lookup else {
+        return Looker::Idle(seat);
+    };
+    match Arc::try_clone(done) {
+        Ok(done) => start_looking(rt, seat, address, done),
+        Err(AllocError) => Looker::NotStarted,
+    }
+}
+
+impl Looker {
+    /// The seat, once nothing is looked up there any more. `None` where the thread did not start.
+    pub(crate) fn into_seat<S: Threads>(self, rt: &S) -> Option<Seat>
+        ensures { (k : Known) → IsFrom k self → IfSome result (Follows k) }
+    {
+        match self {
+            Looker::Idle(seat) => Some(seat),
+            Looker::Looking(Looking { handle }) => Some(handle.join(rt)),
+            Looker::NotStarted => None,
+        }
+    }
+}

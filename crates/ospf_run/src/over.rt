@@ -1,0 +1,117 @@
+//! Runs of a plan over wires.
+
+ghost use Rattle.std.specs.Prelude.{◌≡◌, ◌≢◌, ◌+◌, ◌<◌, ◌≤◌, ◌^◌, [], ℤ, List, All, IfOk, is_some, length, option_map, string_bytes, vec_capacity, vec_len};
+ghost use Rattle.ospf_config.specs.declared.config.Config.{Config};
+ghost use Rattle.ospf_drive.specs.Driven.{IsDriven, Pairs};
+ghost use Rattle.ospf_drive.specs.Moments.{at};
+ghost use Rattle.ospf_flood.specs.Rules.{max_sequence_number};
+ghost use Rattle.ospf_run.specs.Lookers.{IsFrom};
+ghost use Rattle.ospf_run.specs.Runs.{Begins, Reports, Trios};
+
+use crate::begin::begin_all;
+use crate::finish::finish_all;
+use crate::look::{Done, Looker, start_looker};
+use crate::plan::Plan;
+use crate::print::report;
+use crate::settings::Settings;
+use ospf_base::Addr;
+use ospf_drive::{Driven, Job, Wire, drive_all};
+use ospf_fib::Seat;
+use ospf_files::{Failure, NamedFile, Status};
+use std::alloc::{AllocError, Global};
+use std::io::Write;
+use std::sync::atomic::{AtomicBool, Ordering};
+use std::sync::{Arc, Wait};
+use std::thread::Threads;
+use std::time::Clock;
+
+// Starts to look the address up from the seats, in order.
+fn start_lookers<S: Threads + Wait + Clock + Copy + Send + 'static>(
+    rt: S,
+    mut seats: Vec<Seat>,
+    lookup: Option<Addr>,
+    done: &Done,
+    lookers: &mut Vec<Looker>,
+)
+    requires none { lookers.old.items ≡ [] }
+    requires room { vec_len seats ≤ vec_capacity lookers.old }
+    ensures { Pairs IsFrom seats.items lookers.new.items }
+{
+    while !seats.is_empty() {
+        let seat = seats.remove(0);
+        let looker = start_looker(rt, seat, lookup, done);
+        let Ok(()) = lookers.push(looker) else {
+            unreachable!()
+        };
+    }
+}
+
+// Drives the routers, and says when they are done.
+fn drive_to_end<
+    W: Wire + Send + Drop + 'static,
+    R: Threads + Wait + Clock + Copy + Send + Drop + 'static,
+>(rt: &R, alloc: Global, jobs: Vec<Job<W, R>>, done: &Done) -> Result<Vec<Driven<R>>, AllocError>
+    requires { All (λ job. W.failed job.1 + 1 < 2 ^ 64) jobs.items }
+    ensures { IfOk result (λ all. Pairs (λ job driven. IsDriven (at job.0 (W.traffic job.1) (W.failed job.1) job.2) driven) jobs.items all.items) }
+{
+    let driven = drive_all(rt, alloc, jobs);
+    done.store(true, Ordering::SeqCst);
+    driven
+}
+
+// Drives the routers, and looks the address up beside them.
+fn drive_and_look<
+    W: Wire + Send + Drop + 'static,
+    R: Threads + Wait + Clock + Copy + Send + Drop + 'static,
+>(
+    rt: &R,
+    alloc: Global,
+    jobs: Vec<Job<W, R>>,
+    seats: Vec<Seat>,
+    lookup: Option<Addr>,
+) -> Result<(Vec<Driven<R>>, Vec<Looker>), Failure>
+    requires { All (λ job. W.failed job.1 + 1 < 2 ^ 64) jobs.items }
+    ensures { (floor : ℤ) (configs : List Config) → Pairs (λ config job. Begins floor config job.0 job.2) configs jobs.items → Pairs (λ job seat. seat ≡ job.2) jobs.items seats.items → IfOk result (λ ended. Trios floor configs ended.0.items ended.1.items) }
+{
+    let done = Arc::new(alloc, AtomicBool::new(false)).map_err(AllocError::from)?;
+    let mut lookers = Vec::with_capacity(alloc, seats.len())?;
+    start_lookers(*rt, seats, lookup, &done, &mut lookers);
+    let driven = drive_to_end(rt, alloc, jobs, &done)?;
+    Ok((driven, lookers))
+}
+
+/// Runs a plan over wires, one for each configuration.
+pub(crate) fn run_over<
+    W: Wire + Send + Drop + 'static,
+    R: Threads + Wait + Clock + Copy + Send + Drop + 'static,
+    O: Write,
+    E: Write,
+>(
+    rt: &R,
+    alloc: Global,
+    settings: &Settings,
+    files: &[NamedFile],
+    plan: &Plan,
+    wires: Vec<W>,
+    out: &mut O,
+    err: &mut E,
+) -> Result<Status, Failure>
+    requires floor { plan.now.floor ≢ max_sequence_number }
+    requires files { length files.now ≡ length plan.now.configs.items }
+    requires wires { length wires.items ≡ length plan.now.configs.items }
+    requires fresh { All (λ wire. W.failed wire + 1 < 2 ^ 64) wires.items }
+    ensures { IfOk result (λ status. Reports settings.now.lookup (is_some (option_map string_bytes settings.now.floor)) plan.now.floor files.now plan.now.configs.items status (O.contents out.old) (O.contents out.new) (E.contents err.old) (E.contents err.new)) }
+{
+    let (jobs, seats) = begin_all(*rt, alloc, &plan.configs, plan.floor, wires)?;
+    let (driven, lookers) = drive_and_look(rt, alloc, jobs, seats, settings.lookup)?;
+    let outcomes = finish_all(
+        rt,
+        alloc,
+        files,
+        &plan.configs,
+        driven,
+        lookers,
+        settings.lookup,
+    )?;
+    report(&outcomes, settings.floor.is_some(), out, err)
+}

@@ -1,7 +1,0 @@
-use Rattle.std.proofs.Common.{take}
-use Rattle.ospf_sim.specs.Simulations.{AreRead}
-use Rattle.ospf_sim.proofs.configs.first_unread.Given as goal
-
--- the files so far could be read
-abbrev pub invariant-loop-file : goal.invariant-loop-file
-invariant-loop-file l = AreRead (take l.file-index l.files)

@@ -1,0 +1,4 @@
+pub mod HexText
+pub mod Lines
+pub mod Written
+mod Looked

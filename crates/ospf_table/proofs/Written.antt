@@ -1,0 +1,62 @@
+-- Texts that are written one after the other.
+use Rattle.std.proofs.Common.{◌≡◌, sym, subst, ◌+◌, ◌<◌, ℕ, List, [], ◌∷◌, ◌++◌, length, take, get_or, Option, append_assoc, append-nil, refl}
+use Rattle.std.proofs.lemmas.List.{take_more}
+use Rattle.std.specs.Io.KnownBytes.{Appends, Keeps}
+use Rattle.ospf_base.specs.declared.ids.Addr.{Addr}
+use Rattle.ospf_base.specs.declared.ids.RouterId.{RouterId}
+use Rattle.ospf_graph.specs.Routes.{IsTable}
+use Rattle.ospf_graph.specs.declared.route.Route.{Route}
+use Rattle.ospf_spf.specs.Listed.{advertisements_of}
+use Rattle.ospf_table.specs.Line.{Reads}
+use Rattle.ospf_shown.specs.Shown.{routes_text}
+use Rattle.ospf_files.proofs.Written.{both_written, kept_written, nothing_written}
+use Rattle.ospf_table.specs.Output.{IsLookupLine, AreLookups, IsAnswered, IsOutput, IsWarning, no_more, one_more}
+
+-- the line of one address more
+more_lookups : (table : List Route) (addresses : List Addr) (lines : List ℕ) (address : Addr) (line : List ℕ) → AreLookups table addresses lines
+    → IsLookupLine table address.0 line → AreLookups table (addresses ++ address ∷ []) (lines ++ line)
+more_lookups table _ _ address line no_more is = subst (AreLookups table (address ∷ [])) (append-nil line) (one_more is no_more)
+more_lookups table _ _ address line (one_more {address = first} {rest = rest} {line = first_line} {lines = lines} first_is are) is =
+    subst (AreLookups table (first ∷ (rest ++ address ∷ []))) (sym (append_assoc first_line lines line))
+    (one_more first_is (more_lookups table rest lines address line are is))
+
+-- the addresses so far are looked up
+pub record HasLookups (a b : Option (List ℕ)) (table : List Route) (addresses : List Addr) : Type 0 where
+  pub lines : List ℕ
+  pub are : AreLookups table addresses lines
+  pub written : Appends a b lines
+
+pub lookup_written : (a b c : Option (List ℕ)) (table : List Route) (addresses : List Addr) (i : ℕ) (d : Addr) → i < length addresses
+    → HasLookups a b table (take i addresses) → ((line : List ℕ) × IsLookupLine table (get_or addresses i d).0 line × Appends b c line)
+    → HasLookups a c table (take (i + 1) addresses)
+lookup_written a b c table addresses i d within so_far next =
+    record {
+      lines = so_far.lines ++ next.0;
+      are = subst (λ front. AreLookups table front (so_far.lines ++ next.0)) (sym (take_more addresses i d within))
+          (more_lookups table (take i addresses) so_far.lines (get_or addresses i d) next.0 so_far.are next.1);
+      written = both_written a b c so_far.lines next.0 so_far.written next.2;
+    }
+
+pub no_lookups : (a : Option (List ℕ)) (table : List Route) → HasLookups a a table []
+no_lookups a table = record { lines = []; are = no_more; written = nothing_written a }
+
+-- the routes, the lookups and a flush
+pub output_written : (a b c d : Option (List ℕ)) (table routes : List Route) (addresses : List Addr) → routes ≡ table → Appends a b (routes_text routes)
+    → ((lines : List ℕ) × AreLookups table addresses lines × Appends b c lines) → Keeps c d
+    → (text : List ℕ) × IsOutput table addresses text × Appends a d text
+output_written a b c d table routes addresses same h lookups flushed =
+    let routes_written : Appends a b (routes_text table) = subst (λ rs. Appends a b (routes_text rs)) same h in
+    let output : IsOutput table addresses (routes_text table ++ lookups.0) = record { lookups = lookups.0; are_lookups = lookups.1; text_is = refl } in
+    (routes_text table ++ lookups.0, output, kept_written a c d _ (both_written a b c _ _ routes_written lookups.2) flushed)
+
+-- the answer, and the warning of the root
+pub answered : (a b x y : Option (List ℕ)) (input : List ℕ) (listing : List (List ℕ)) (root : RouterId) (table : List Route) (addresses : List Addr)
+    → Reads input [] listing → ((warning : List ℕ) × IsWarning listing root warning × Appends x y warning) → IsTable (advertisements_of listing) root table
+    → ((text : List ℕ) × IsOutput table addresses text × Appends a b text) → IsAnswered input root addresses a b x y
+answered a b x y input listing root table addresses reads warned is_table written = record {
+  text = written.0;
+  warning = warned.0;
+  is = record { listing = listing; reads = reads; warned = warned.1; table = table; is_table = is_table; output = written.1 };
+  out = written.2;
+  err = warned.2;
+}

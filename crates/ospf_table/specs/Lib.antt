@@ -1,0 +1,4 @@
+pub mod Line
+pub mod Fault
+pub mod Refusal
+pub mod Output

@@ -1,0 +1,80 @@
+-- What the program prints of a routing table, and of the addresses that are looked up in it.
+use Rattle.std.specs.Prelude.{◌≡◌, ◌≢◌, ◌⊎◌, ℕ, List, [], ◌∷◌, ◌++◌, Contains, Option, codes}
+use Rattle.ospf_base.specs.Prefixes.{Holds}
+use Rattle.ospf_base.specs.Text.{number_text}
+use Rattle.ospf_base.specs.declared.ids.Addr.{Addr}
+use Rattle.ospf_base.specs.declared.ids.RouterId.{RouterId}
+use Rattle.ospf_graph.specs.Routes.{IsTable}
+use Rattle.ospf_graph.specs.Walk.{IsBest}
+use Rattle.ospf_graph.specs.declared.hop.NextHop.{NextHop}
+use Rattle.ospf_graph.specs.declared.route.Route.{Route}
+use Rattle.ospf_shown.specs.Shown.{found_text, no_route_line, routes_text}
+use Rattle.ospf_spf.specs.Listed.{advertisements_of}
+use Rattle.ospf_table.specs.Line.{Reads}
+use Rattle.ospf_base.specs.declared.ids.Kind.TheVariants.{Router}
+use Rattle.ospf_base.specs.declared.ids.LsaKey.{LsaKey}
+use Rattle.ospf_lsa.specs.Listing.{HasKey}
+use Rattle.std.specs.Io.KnownBytes.{Appends}
+
+-- no route's prefix holds the address, and the line says so
+pub record IsNoRouteLine (table : List Route) (address : ℕ) (line : List ℕ) : Type 0 where
+  pub none : (route : Route) → Contains table route → Holds route.prefix address → ⊥
+  pub line_is : line ≡ no_route_line address
+
+-- the line has the route of longest prefix that holds the address (RFC 2328, section 11.1), and the first of its hops
+pub record IsBestLine (table : List Route) (address : ℕ) (line : List ℕ) : Type 0 where
+  pub route : Route
+  pub best : IsBest table address route
+  pub hop : NextHop
+  pub others : List NextHop
+  pub hops : route.hops ≡ hop ∷ others
+  pub line_is : line ≡ found_text address route.prefix route.cost hop ++ codes "\n"
+
+abbrev pub IsLookupLine : List Route → ℕ → List ℕ → Type 0
+IsLookupLine table address line = IsNoRouteLine table address line ⊎ IsBestLine table address line
+
+-- a line for each address, in their order
+pub data AreLookups : List Route → List Addr → List ℕ → Type 0 where
+  no_more : {table : List Route} → AreLookups table [] []
+  one_more : {table : List Route} {address : Addr} {rest : List Addr} {line lines : List ℕ} → IsLookupLine table address.0 line
+      → AreLookups table rest lines → AreLookups table (address ∷ rest) (line ++ lines)
+
+-- the routes, and after them the lookups
+pub record IsOutput (table : List Route) (addresses : List Addr) (text : List ℕ) : Type 0 where
+  pub lookups : List ℕ
+  pub are_lookups : AreLookups table addresses lookups
+  pub text_is : text ≡ routes_text table ++ lookups
+
+-- the key of a router's own router-LSA (RFC 2328, section 12.4.1)
+abbrev pub router_key : RouterId → LsaKey
+router_key router = record { kind = Router; id = router.0; router = router }
+
+-- what is said of a root without a router-LSA
+abbrev pub unlisted_line : RouterId → List ℕ
+unlisted_line root = number_text root.0 ++ codes ": no router-LSA of this router\n"
+
+-- LSAs are listed, and none is the root's router-LSA
+abbrev pub IsUnlisted : List (List ℕ) → RouterId → Type 0
+IsUnlisted listing root = (listing ≢ []) × (HasKey listing (router_key root) → ⊥)
+
+-- what is said on standard error of the root: that its router-LSA is not listed, where others are
+abbrev pub IsWarning : List (List ℕ) → RouterId → List ℕ → Type 0
+IsWarning listing root text =
+    (IsUnlisted listing root × (text ≡ unlisted_line root)) ⊎ ((IsUnlisted listing root → ⊥) × (text ≡ []))
+
+-- what is printed for an input: the routing table of the root over its LSAs, and the lookups in it; and the warning of the root
+pub record IsAnswer (input : List ℕ) (root : RouterId) (addresses : List Addr) (text warning : List ℕ) : Type 0 where
+  pub listing : List (List ℕ)
+  pub reads : Reads input [] listing
+  pub warned : IsWarning listing root warning
+  pub table : List Route
+  pub is_table : IsTable (advertisements_of listing) root table
+  pub output : IsOutput table addresses text
+
+-- the answer for an input stands on standard output, and its warning on standard error
+pub record IsAnswered (input : List ℕ) (root : RouterId) (addresses : List Addr) (out_old out_new err_old err_new : Option (List ℕ)) : Type 0 where
+  pub text : List ℕ
+  pub warning : List ℕ
+  pub is : IsAnswer input root addresses text warning
+  pub out : Appends out_old out_new text
+  pub err : Appends err_old err_new warning

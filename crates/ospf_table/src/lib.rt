@@ -1,0 +1,11 @@
+//! Routing tables of LSAs that are read as lines of text, and lookups in them.
+//!
+//! `table_text` is the whole: it reads, calculates, publishes, writes and looks up.
+#![tactic(auto)]
+
+mod line;
+mod lookup;
+mod table;
+
+pub use crate::line::{LineFault, lsa_line};
+pub use crate::table::{EntryFault, TableJob, table_text};

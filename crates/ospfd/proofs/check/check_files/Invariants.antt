@@ -1,8 +1,0 @@
-use Rattle.std.proofs.Common.{take}
-use Rattle.ospfd.specs.Checked.{IsWritten}
-use Rattle.ospfd.proofs.check.check_files.Given as goal
-
--- the files so far are told
-abbrev pub invariant-loop-file : goal.invariant-loop-file
-invariant-loop-file g l =
-    IsWritten l.explain (take l.file-index l.files) l.all (g.O.Write.contents l.fn.out) (g.O.Write.contents l.out) (g.E.Write.contents l.fn.err) (g.E.Write.contents l.err)
