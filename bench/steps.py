@@ -1,0 +1,49 @@
+#!/usr/bin/env python3
+"""Counts and times an idle tick of a router, and an Update with an LSA that it has, by the clock and by valgrind."""
+import re
+import subprocess
+import tempfile
+
+from program import build
+
+BELOW = [
+    "ospf_base", "ospf_lsa", "ospf_packet", "ospf_graph", "ospf_edges", "ospf_spf", "ospf_election", "ospf_iface", "ospf_neighbour",
+    "ospf_config", "ospf_lsdb", "ospf_routes", "ospf_exchange", "ospf_flood", "ospf_area", "ospf_update", "ospf_adjacency", "ospf_hello",
+    "ospf_receipt", "ospf_resend", "ospf_links", "ospf_laws", "ospf_originate", "ospf_bridges", "ospf_step", "ospf_router",
+]
+# Links, neighbours on each, and LSAs.
+SIZES = ((2, 2, 100), (10, 10, 100), (10, 10, 1000), (10, 10, 10000))
+# Fewer than lie between two Hellos.
+STEPS = 8
+
+
+def words_of(program, size, ticks, updates):
+    return [program, *map(str, size), str(ticks), str(updates)]
+
+
+def nanoseconds(program, size):
+    told = subprocess.run(words_of(program, size, STEPS, STEPS), check=True, capture_output=True, text=True).stdout
+    return [int(word) / STEPS for word in told.split()]
+
+
+def instructions(program, size, ticks, updates):
+    words = ["valgrind", "--tool=callgrind", "--callgrind-out-file=/dev/null", *words_of(program, size, ticks, updates)]
+    told = subprocess.run(words, check=True, capture_output=True, text=True).stderr
+    return int(re.search(r"Collected : (\d+)", told).group(1))
+
+
+def counts(program, size):
+    none = instructions(program, size, 0, 0)
+    return [(instructions(program, size, *steps) - none) / STEPS for steps in ((STEPS, 0), (0, STEPS))]
+
+
+def main():
+    with tempfile.TemporaryDirectory() as place:
+        program = build(place, "steps", BELOW, ["2", "2", "10", "1", "1"])
+        for size in SIZES:
+            links, each, lsas = size
+            (tick, update), (tick_count, update_count) = nanoseconds(program, size), counts(program, size)
+            print(f"| {links} | {links * each} | {lsas:,} | {tick_count:,.0f} | {tick / 1000:,.1f} | {update_count:,.0f} | {update / 1000:,.1f} |", flush=True)
+
+
+main()
