@@ -2,3 +2,4 @@ pub mod PackLemmas
 pub mod KeyLists
 pub mod DueLemmas
 pub mod QuietLemmas
+pub mod SendLemmas

@@ -35,7 +35,8 @@ fn resend_keys(neighbour: &mut Neighbour, keys: &BTreeSet<LsaKey>, database: &Ls
     }
 }
 
-// The copies of these keys go to a neighbour.
+// The copies of these keys go to a neighbour. Most often there are none.
+#[tactic(auto, using(crate::proofs::SendLemmas::none_sent))]
 pub(crate) fn send_to(
     neighbour: &mut Neighbour,
     keys: &BTreeSet<LsaKey>,
@@ -48,6 +49,9 @@ pub(crate) fn send_to(
 ) -> Result<(), AllocError>
     ensures { OnOk result ((next : ℕ) → turn neighbour.new next out.new.items ≡ copies_turn iface.now local delay database.now keys.now.keys (turn neighbour.old next out.old.items)) }
 {
+    if keys.is_empty() {
+        return Ok(());
+    }
     let to = to_address(iface, neighbour.address());
     resend_keys(neighbour, keys, database, local.tick);
     send_copies(keys, database, delay, local.mtu, to, out, alloc)
