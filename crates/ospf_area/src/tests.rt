@@ -178,102 +178,158 @@ fn last_sent(out: &Outputs) -> Result<(usize, Addr, u16), Fail> {
     Ok((sent.link, sent.destination, age))
 }
 
+// The functions from here to the tests say nothing of what they did, so that the proof of a test carries little.
+
+// How many datagrams there are, and the one LSA of the last.
+fn all_sent(out: &Outputs) -> Result<(usize, (usize, Addr, u16)), Fail> {
+    Ok((out.sent.len(), last_sent(out)?))
+}
+
+// How many instances wait for neighbours 1, 2 and 3.
+fn all_waiting(area: &Area) -> (usize, usize, usize) {
+    (
+        waiting(area, FROM_DR),
+        waiting(area, FROM_OTHER),
+        waiting(area, FROM_THIRD),
+    )
+}
+
+// Floods router 7's LSA from here. Answers whether it was sent anywhere, and back.
+fn flood_from(
+    area: &mut Area,
+    from: Origin,
+    out: &mut Outputs,
+    alloc: Global,
+) -> Result<(bool, bool), Fail> {
+    let own = own_of(area);
+    let lsa = lsa_of(alloc, FIRST)?;
+    let flooded = flood(&mut area.links, &lsa.view(), Some(from), own, out, alloc)?;
+    Ok((flooded.anywhere, flooded.back))
+}
+
+fn release_it(area: &mut Area) {
+    release(&mut area.links, &KEY);
+}
+
 // From the Designated Router: not back out of its link, but out of the other.
 #[test]
 fn floods_past_the_designated_router(rt: HostRuntime) -> Result<(), Fail> {
     let alloc = rt.alloc();
+    let group = "224.0.0.5".parse::<Addr>()?;
     let mut area = area(alloc, &[])?;
     let mut out = Outputs::new(alloc);
-    let own = own_of(&area);
-    let lsa = lsa_of(alloc, FIRST)?;
-    let flooded = flood(
-        &mut area.links,
-        &lsa.view(),
-        Some(FROM_DR),
-        own,
-        &mut out,
-        alloc,
-    )?;
-    assert!(rt; flooded.anywhere);
-    assert!(rt; !flooded.back);
-    assert_eq!(rt; out.sent.len(), 1);
-    assert_eq!(rt; last_sent(&out)?, (1, "224.0.0.5".parse::<Addr>()?, 13));
-    assert_eq!(rt; waiting(&area, FROM_DR), 0);
-    assert_eq!(rt; waiting(&area, FROM_OTHER), 1);
-    assert_eq!(rt; waiting(&area, FROM_THIRD), 1);
-    release(&mut area.links, &KEY);
-    assert_eq!(rt; waiting(&area, FROM_OTHER), 0);
-    assert_eq!(rt; waiting(&area, FROM_THIRD), 0);
+    let went = flood_from(&mut area, FROM_DR, &mut out, alloc)?;
+    let sent = all_sent(&out)?;
+    let listed = all_waiting(&area);
+    release_it(&mut area);
+    assert_eq!(rt; (went, sent), ((true, false), (1, (1, group, 13))));
+    assert_eq!(rt; (listed, all_waiting(&area)), ((0, 1, 1), (0, 0, 0)));
     Ok(())
+}
+
+// Whether the instance waits for neighbours 1, 2 and 3.
+fn all_awaited(area: &Area, instance: &Instance) -> (bool, bool, bool) {
+    (
+        is_awaited(&area.links, FROM_DR, instance),
+        is_awaited(&area.links, FROM_OTHER, instance),
+        is_awaited(&area.links, FROM_THIRD, instance),
+    )
+}
+
+fn instance_of(alloc: Global) -> Result<Instance, Fail> {
+    Ok(lsa_of(alloc, FIRST)?.view().instance())
 }
 
 // From another link: the Backup floods it to all routers of its link.
 #[test]
 fn the_backup_floods_what_came_elsewhere(rt: HostRuntime) -> Result<(), Fail> {
     let alloc = rt.alloc();
+    let group = "224.0.0.5".parse::<Addr>()?;
+    let instance = instance_of(alloc)?;
     let mut area = area(alloc, &[])?;
     let mut out = Outputs::new(alloc);
-    let own = own_of(&area);
-    let lsa = lsa_of(alloc, FIRST)?;
-    flood(
-        &mut area.links,
-        &lsa.view(),
-        Some(FROM_THIRD),
-        own,
-        &mut out,
-        alloc,
-    )?;
-    assert_eq!(rt; out.sent.len(), 1);
-    assert_eq!(rt; last_sent(&out)?, (0, "224.0.0.5".parse::<Addr>()?, 13));
-    let instance = lsa.view().instance();
-    assert!(rt; is_awaited(&area.links, FROM_DR, &instance));
-    assert!(rt; is_awaited(&area.links, FROM_OTHER, &instance));
-    assert!(rt; !is_awaited(&area.links, FROM_THIRD, &instance));
+    flood_from(&mut area, FROM_THIRD, &mut out, alloc)?;
+    let sent = all_sent(&out)?;
+    let awaited = all_awaited(&area, &instance);
+    assert_eq!(rt; (sent, awaited), ((1, (0, group, 13)), (true, true, false)));
     acknowledged_and_sent_again(&mut area, instance)
+}
+
+// In tick 8.
+fn change(area: &mut Area, from: Origin, change: Change) {
+    change_at(&mut area.links, from, change, 8);
+}
+
+// When the first instance that waits for the neighbour was sent to it.
+fn first_sent_at(area: &Area, from: Origin) -> Result<u64, Fail> {
+    let other = origin_of(&area.links, from).ok_or("no neighbour")?;
+    let listed = other.retransmission().first().ok_or("nothing listed")?;
+    Ok(listed.sent_at)
+}
+
+// Whether the exchange with the neighbour begins, and its DD sequence number.
+fn beginning(area: &Area, from: Origin) -> Result<(bool, u32), Fail> {
+    let other = origin_of(&area.links, from).ok_or("no neighbour")?;
+    Ok((
+        other.state() == NeighbourState::ExStart,
+        other.exchanging().number,
+    ))
 }
 
 // One neighbour acknowledges, and the other is sent it again.
 fn acknowledged_and_sent_again(area: &mut Area, instance: Instance) -> Result<(), Fail> {
-    change_at(&mut area.links, FROM_DR, Change::Acknowledges(instance), 8);
+    change(area, FROM_DR, Change::Acknowledges(instance));
     require(waiting(area, FROM_DR) == 0 && waiting(area, FROM_OTHER) == 1)?;
-    change_at(&mut area.links, FROM_OTHER, Change::IsSent(instance), 8);
-    let other = origin_of(&area.links, FROM_OTHER).ok_or("no neighbour")?;
-    let listed = other.retransmission().first().ok_or("nothing listed")?;
-    require(listed.sent_at == 8)?;
-    change_at(&mut area.links, FROM_OTHER, Change::Restarts(300), 8);
-    let other = origin_of(&area.links, FROM_OTHER).ok_or("no neighbour")?;
-    require(other.state() == NeighbourState::ExStart)?;
-    require(other.exchanging().number == 300)
+    change(area, FROM_OTHER, Change::IsSent(instance));
+    require(first_sent_at(area, FROM_OTHER)? == 8)?;
+    change(area, FROM_OTHER, Change::Restarts(300));
+    require(beginning(area, FROM_OTHER)? == (true, 300))
+}
+
+// An area whose neighbour 3 has described router 7's LSA.
+fn loading_area(alloc: Global) -> Result<Area, Fail> {
+    let lsa = lsa_of(alloc, FIRST)?;
+    area(alloc, &[lsa.view().header()])
+}
+
+// Whether some neighbour is loading, whether neighbour 3 is still asked for the LSA, and whether it is taken from.
+fn loading(area: &Area) -> (bool, bool, bool) {
+    (
+        some_link_loading(&area.links),
+        is_requested(&area.links, FROM_THIRD, &KEY),
+        is_taken(&area.links, FROM_THIRD),
+    )
+}
+
+// The next Requests. Answers how many datagrams there are then.
+fn ask(area: &mut Area, out: &mut Outputs, alloc: Global) -> Result<usize, Fail> {
+    let own = own_of(area);
+    turn_requests(&mut area.links, own, out, alloc)?;
+    Ok(out.sent.len())
 }
 
 // Loading ends with the LSA that was asked for.
 #[test]
 fn loading_ends(rt: HostRuntime) -> Result<(), Fail> {
     let alloc = rt.alloc();
-    let lsa = lsa_of(alloc, FIRST)?;
-    let mut area = area(alloc, &[lsa.view().header()])?;
+    let mut area = loading_area(alloc)?;
     let mut out = Outputs::new(alloc);
-    let own = own_of(&area);
-    assert!(rt; some_link_loading(&area.links));
-    assert!(rt; is_requested(&area.links, FROM_THIRD, &KEY));
-    turn_requests(&mut area.links, own, &mut out, alloc)?;
-    assert_eq!(rt; out.sent.len(), 1);
-    assert!(rt; asks_once(&out)?);
+    let before = loading(&area);
+    let asked = ask(&mut area, &mut out, alloc)?;
+    let once = asks_once(&out)?;
     // Asked for already.
-    turn_requests(&mut area.links, own, &mut out, alloc)?;
-    assert_eq!(rt; out.sent.len(), 1);
-    flood(
-        &mut area.links,
-        &lsa.view(),
-        Some(FROM_THIRD),
-        own,
-        &mut out,
-        alloc,
-    )?;
-    assert!(rt; !is_requested(&area.links, FROM_THIRD, &KEY));
-    turn_requests(&mut area.links, own, &mut out, alloc)?;
-    assert!(rt; !some_link_loading(&area.links));
-    assert!(rt; is_taken(&area.links, FROM_THIRD));
+    let still = ask(&mut area, &mut out, alloc)?;
+    assert_eq!(rt;
+        (before, asked, once, still),
+        ((true, true, true), 1, true, 1)
+    );
+    flood_from(&mut area, FROM_THIRD, &mut out, alloc)?;
+    let come = loading(&area);
+    ask(&mut area, &mut out, alloc)?;
+    assert_eq!(rt;
+        (come, loading(&area)),
+        ((true, false, true), (false, false, true))
+    );
     Ok(())
 }
 
@@ -289,56 +345,142 @@ fn asks_once(out: &Outputs) -> Result<bool, Fail> {
     }
 }
 
+// How an LSA that is newer is acknowledged, if it came from here.
+fn answer(area: &Area, from: Origin) -> Acknowledgement {
+    answer_at(&area.links, AcknowledgementCase::NotFloodedBack, from)
+}
+
+fn acknowledge_it(area: &mut Area, answer: Acknowledgement, alloc: Global) -> Result<(), Fail> {
+    let header = lsa_of(alloc, FIRST)?.view().header();
+    acknowledge_by(area, answer, FROM_DR, &header)?;
+    Ok(())
+}
+
+fn delay_it(area: &mut Area, alloc: Global) -> Result<(), Fail> {
+    let header = lsa_of(alloc, FIRST)?.view().header();
+    delay_at(&mut area.links, 1, &header)?;
+    Ok(())
+}
+
+// Whether one acknowledgement waits on each link.
+fn each_delays_one(area: &Area) -> bool {
+    let mut each = true;
+    for link in &area.links {
+        if link.delayed.len() != 1 {
+            each = false;
+        }
+    }
+    each
+}
+
 #[test]
 fn acknowledgements_wait(rt: HostRuntime) -> Result<(), Fail> {
     let alloc = rt.alloc();
     let mut area = area(alloc, &[])?;
-    let lsa = lsa_of(alloc, FIRST)?;
-    let header = lsa.view().header();
-    let newer = AcknowledgementCase::NotFloodedBack;
     // The Backup leaves it to others, unless the Designated Router sent it.
-    let from_dr = answer_at(&area.links, newer, FROM_DR);
-    assert_eq!(rt; from_dr, Acknowledgement::Delayed);
-    let from_other = answer_at(&area.links, newer, FROM_OTHER);
-    assert_eq!(rt; from_other, Acknowledgement::None);
-    for answer in [from_dr, from_other, Acknowledgement::Direct] {
-        acknowledge_by(&mut area, answer, FROM_DR, &header)?;
-    }
-    delay_at(&mut area.links, 1, &header)?;
-    assert_eq!(rt; area.direct.len(), 1);
-    for link in &area.links {
-        assert_eq!(rt; link.delayed.len(), 1);
-    }
+    let from_dr = answer(&area, FROM_DR);
+    let from_other = answer(&area, FROM_OTHER);
+    assert_eq!(rt;
+        (from_dr, from_other),
+        (Acknowledgement::Delayed, Acknowledgement::None)
+    );
+    acknowledge_it(&mut area, from_dr, alloc)?;
+    acknowledge_it(&mut area, from_other, alloc)?;
+    acknowledge_it(&mut area, Acknowledgement::Direct, alloc)?;
+    delay_it(&mut area, alloc)?;
+    assert_eq!(rt; (area.direct.len(), each_delays_one(&area)), (1, true));
     Ok(())
+}
+
+// The key of the router's own router-LSA.
+const OWN_KEY: LsaKey = LsaKey {
+    kind: Kind::Router,
+    id: 9,
+    router: OWN,
+};
+
+// Counts the number of an LSA of the router's own, under this key. Answers whether the LSA's key is `OWN_KEY`.
+fn count_own(area: &mut Area, key: LsaKey, number: i32, alloc: Global) -> Result<bool, Fail> {
+    let lsa = Lsa::router(alloc, OWN, number, &[])?;
+    count_number(area, key, &lsa.view().header())?;
+    Ok(lsa.view().key().is_same(&OWN_KEY))
+}
+
+// How many keys are numbered, whether the router's own is, and another, and the greatest number.
+fn numbers(area: &Area) -> (usize, bool, bool, i32) {
+    (
+        area.numbering.len(),
+        is_numbered(&area.numbering, &OWN_KEY),
+        is_numbered(&area.numbering, &KEY),
+        area.greatest,
+    )
+}
+
+// Whether the router numbers its own key, and another.
+fn owns() -> (bool, bool) {
+    (is_own(OWN, &OWN_KEY), is_own(OWN, &KEY))
+}
+
+// Whether a network is the router's own whose Designated Router has an address of this router's, and another LSA.
+fn originates(area: &Area) -> (bool, bool) {
+    let network = LsaKey {
+        kind: Kind::Network,
+        id: 102,
+        router: RouterId(5),
+    };
+    (
+        is_self_originated(OWN, &area.links, &network),
+        is_self_originated(OWN, &area.links, &KEY),
+    )
+}
+
+fn mark_it(area: &mut Area, key: LsaKey, went: bool) -> Result<(), Fail> {
+    mark(&mut area.sent, key, went)?;
+    Ok(())
+}
+
+// Whether the router's own LSA was sent, and the other.
+fn marks(area: &Area) -> (bool, bool) {
+    (was_sent(&area.sent, &OWN_KEY), was_sent(&area.sent, &KEY))
 }
 
 #[test]
 fn numbers_and_marks(rt: HostRuntime) -> Result<(), Fail> {
     let alloc = rt.alloc();
     let mut area = area(alloc, &[])?;
-    let own = Lsa::router(alloc, OWN, FIRST + 4, &[])?;
-    let earlier = Lsa::router(alloc, OWN, FIRST, &[])?;
-    let key = own.view().key();
-    count_number(&mut area, key, &own.view().header())?;
-    count_number(&mut area, key, &earlier.view().header())?;
-    count_number(&mut area, KEY, &earlier.view().header())?;
-    assert_eq!(rt; area.numbering.len(), 1);
-    assert!(rt; is_numbered(&area.numbering, &key) && !is_numbered(&area.numbering, &KEY));
-    assert_eq!(rt; area.greatest, FIRST + 4);
-    assert!(rt; is_own(OWN, &key) && !is_own(OWN, &KEY));
-    // A network whose Designated Router has an address of this router's.
-    let network = LsaKey {
-        kind: Kind::Network,
-        id: 102,
-        router: RouterId(5),
-    };
-    assert!(rt; is_self_originated(OWN, &area.links, &network));
-    assert!(rt; !is_self_originated(OWN, &area.links, &KEY));
-    mark(&mut area.sent, KEY, true)?;
-    mark(&mut area.sent, key, true)?;
-    mark(&mut area.sent, KEY, false)?;
-    assert!(rt; was_sent(&area.sent, &key) && !was_sent(&area.sent, &KEY));
+    let first = count_own(&mut area, OWN_KEY, FIRST + 4, alloc)?;
+    let second = count_own(&mut area, OWN_KEY, FIRST, alloc)?;
+    count_own(&mut area, KEY, FIRST, alloc)?;
+    assert_eq!(rt;
+        (first, second, numbers(&area)),
+        (true, true, (1, true, false, FIRST + 4))
+    );
+    assert_eq!(rt; (owns(), originates(&area)), ((true, false), (true, false)));
+    mark_it(&mut area, KEY, true)?;
+    mark_it(&mut area, OWN_KEY, true)?;
+    mark_it(&mut area, KEY, false)?;
+    assert_eq!(rt; marks(&area), (true, false));
     Ok(())
+}
+
+// Where a packet to neighbour 2 goes, and from which address.
+fn to_neighbour(link: &Link) -> (Addr, Addr) {
+    let to = to_address(&link.iface, Addr(2));
+    (to, way_out(0, &link.iface, to).source)
+}
+
+// The age of router 7's LSA as it is sent out of the link.
+fn sent_age(link: &Link, alloc: Global) -> Result<u16, Fail> {
+    let aged = sent_lsa(link.settings, &lsa_of(alloc, FIRST)?.view(), alloc)?;
+    Ok(aged.view().header().age.ticks())
+}
+
+// Sends neighbour 2 a Request. Answers how many datagrams there are.
+fn requests_sent(area: &Area, link: &Link, alloc: Global) -> Result<usize, Fail> {
+    let mut out = Outputs::new(alloc);
+    let other = origin_of(&area.links, FROM_OTHER).ok_or("no neighbour")?;
+    send_request(other, 0, &link.iface, own_of(area), &mut out, alloc)?;
+    Ok(out.sent.len())
 }
 
 // Everything on the way out that no other test calls.
@@ -346,16 +488,10 @@ fn numbers_and_marks(rt: HostRuntime) -> Result<(), Fail> {
 fn ways_out(rt: HostRuntime) -> Result<(), Fail> {
     let alloc = rt.alloc();
     let area = area(alloc, &[])?;
-    let mut out = Outputs::new(alloc);
-    let own = own_of(&area);
     let link = area.links.first().ok_or("no link")?;
-    let to = to_address(&link.iface, Addr(2));
-    assert_eq!(rt; to, Addr(2));
-    assert_eq!(rt; way_out(0, &link.iface, to).source, Addr(101));
-    let aged = sent_lsa(link.settings, &lsa_of(alloc, FIRST)?.view(), alloc)?;
-    assert_eq!(rt; aged.view().header().age.ticks(), 13);
-    let other = origin_of(&area.links, FROM_OTHER).ok_or("no neighbour")?;
-    send_request(other, 0, &link.iface, own, &mut out, alloc)?;
-    assert_eq!(rt; out.sent.len(), 1);
+    let way = to_neighbour(link);
+    let age = sent_age(link, alloc)?;
+    let sent = requests_sent(&area, link, alloc)?;
+    assert_eq!(rt; (way, age, sent), ((Addr(2), Addr(101)), 13, 1));
     Ok(())
 }
