@@ -308,6 +308,17 @@ fn ask(area: &mut Area, out: &mut Outputs, alloc: Global) -> Result<usize, Fail>
     Ok(out.sent.len())
 }
 
+// Asks, and asks again. Answers how many datagrams there are after each, and whether the first asks for one LSA.
+fn ask_twice(
+    area: &mut Area,
+    out: &mut Outputs,
+    alloc: Global,
+) -> Result<(usize, bool, usize), Fail> {
+    let asked = ask(area, out, alloc)?;
+    let once = asks_once(out)?;
+    Ok((asked, once, ask(area, out, alloc)?))
+}
+
 // Loading ends with the LSA that was asked for.
 #[test]
 fn loading_ends(rt: HostRuntime) -> Result<(), Fail> {
@@ -315,21 +326,18 @@ fn loading_ends(rt: HostRuntime) -> Result<(), Fail> {
     let mut area = loading_area(alloc)?;
     let mut out = Outputs::new(alloc);
     let before = loading(&area);
-    let asked = ask(&mut area, &mut out, alloc)?;
-    let once = asks_once(&out)?;
-    // Asked for already.
-    let still = ask(&mut area, &mut out, alloc)?;
-    assert_eq!(rt;
-        (before, asked, once, still),
-        ((true, true, true), 1, true, 1)
-    );
+    // Asked for already the second time.
+    let asked = ask_twice(&mut area, &mut out, alloc)?;
     flood_from(&mut area, FROM_THIRD, &mut out, alloc)?;
     let come = loading(&area);
     ask(&mut area, &mut out, alloc)?;
-    assert_eq!(rt;
-        (come, loading(&area)),
-        ((true, false, true), (false, false, true))
+    let seen = (before, come, loading(&area));
+    let expected = (
+        (true, true, true),
+        (true, false, true),
+        (false, false, true),
     );
+    assert_eq!(rt; (asked, seen), ((1, true, 1), expected));
     Ok(())
 }
 
@@ -444,22 +452,32 @@ fn marks(area: &Area) -> (bool, bool) {
     (was_sent(&area.sent, &OWN_KEY), was_sent(&area.sent, &KEY))
 }
 
+// Counts two numbers of the router's own key, and one of another. Answers whether the key of both LSAs is `OWN_KEY`.
+fn count_three(area: &mut Area, alloc: Global) -> Result<(bool, bool), Fail> {
+    let first = count_own(area, OWN_KEY, FIRST + 4, alloc)?;
+    let second = count_own(area, OWN_KEY, FIRST, alloc)?;
+    count_own(area, KEY, FIRST, alloc)?;
+    Ok((first, second))
+}
+
+fn mark_three(area: &mut Area) -> Result<(), Fail> {
+    mark_it(area, KEY, true)?;
+    mark_it(area, OWN_KEY, true)?;
+    mark_it(area, KEY, false)
+}
+
 #[test]
 fn numbers_and_marks(rt: HostRuntime) -> Result<(), Fail> {
     let alloc = rt.alloc();
     let mut area = area(alloc, &[])?;
-    let first = count_own(&mut area, OWN_KEY, FIRST + 4, alloc)?;
-    let second = count_own(&mut area, OWN_KEY, FIRST, alloc)?;
-    count_own(&mut area, KEY, FIRST, alloc)?;
+    let own = count_three(&mut area, alloc)?;
+    mark_three(&mut area)?;
+    let seen = (owns(), originates(&area), marks(&area));
     assert_eq!(rt;
-        (first, second, numbers(&area)),
-        (true, true, (1, true, false, FIRST + 4))
+        (own, numbers(&area)),
+        ((true, true), (1, true, false, FIRST + 4))
     );
-    assert_eq!(rt; (owns(), originates(&area)), ((true, false), (true, false)));
-    mark_it(&mut area, KEY, true)?;
-    mark_it(&mut area, OWN_KEY, true)?;
-    mark_it(&mut area, KEY, false)?;
-    assert_eq!(rt; marks(&area), (true, false));
+    assert_eq!(rt; seen, ((true, false), (true, false), (true, false)));
     Ok(())
 }
 
