@@ -466,18 +466,31 @@ fn mark_three(area: &mut Area) -> Result<(), Fail> {
     mark_it(area, KEY, false)
 }
 
+// What `count_three` and then `numbers` answer.
+fn numbered(alloc: Global) -> Result<((bool, bool), (usize, bool, bool, i32)), Fail> {
+    let mut area = area(alloc, &[])?;
+    let own = count_three(&mut area, alloc)?;
+    Ok((own, numbers(&area)))
+}
+
+// What `originates` answers, and `marks` after three marks.
+fn marked(alloc: Global) -> Result<((bool, bool), (bool, bool)), Fail> {
+    let mut area = area(alloc, &[])?;
+    mark_three(&mut area)?;
+    Ok((originates(&area), marks(&area)))
+}
+
 #[test]
 fn numbers_and_marks(rt: HostRuntime) -> Result<(), Fail> {
     let alloc = rt.alloc();
-    let mut area = area(alloc, &[])?;
-    let own = count_three(&mut area, alloc)?;
-    mark_three(&mut area)?;
-    let seen = (owns(), originates(&area), marks(&area));
     assert_eq!(rt;
-        (own, numbers(&area)),
+        numbered(alloc)?,
         ((true, true), (1, true, false, FIRST + 4))
     );
-    assert_eq!(rt; seen, ((true, false), (true, false), (true, false)));
+    assert_eq!(rt;
+        (owns(), marked(alloc)?),
+        ((true, false), ((true, false), (true, false)))
+    );
     Ok(())
 }
 
