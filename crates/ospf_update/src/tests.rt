@@ -192,6 +192,19 @@ fn installs(area: &mut Area, number: i32, age: u16, alloc: Global) -> Result<(),
     Ok(())
 }
 
+// The Designated Router of the broadcast link, with router 7's LSA installed.
+fn holding(number: i32, age: u16, alloc: Global) -> Result<Area, Fail> {
+    let mut area = area(alloc, IfaceState::Dr, &[])?;
+    installs(&mut area, number, age, alloc)?;
+    Ok(area)
+}
+
+// The same without an LSA, whose neighbour 3 has described this one.
+fn loading_area(router: u32, number: i32, alloc: Global) -> Result<Area, Fail> {
+    let described = lsa_of(alloc, router, number, 10)?.view().header();
+    area(alloc, IfaceState::Dr, &[described])
+}
+
 // ---- what comes
 
 // The bytes of an Update with the LSAs.
@@ -328,6 +341,19 @@ fn age_in(case: AcknowledgementCase) -> u16 {
     }
 }
 
+// Takes an Update of this case. Answers how many acknowledgements go out directly.
+fn acknowledges(
+    area: &mut Area,
+    case: AcknowledgementCase,
+    from: Origin,
+    alloc: Global,
+) -> Result<usize, Fail> {
+    let lsa = lsa_of(alloc, 7, FIRST, age_in(case))?;
+    let mut out = Outputs::new(alloc);
+    takes(area, from, lsa, &mut out, alloc)?;
+    acknowledged(&out)
+}
+
 // How many acknowledgements go out directly, and how many wait, by an Update of this case.
 fn answered(
     case: AcknowledgementCase,
@@ -336,11 +362,19 @@ fn answered(
     alloc: Global,
 ) -> Result<(usize, usize), Fail> {
     let mut area = area(alloc, state, &[])?;
-    let mut out = Outputs::new(alloc);
     prepares(&mut area, case, alloc)?;
-    let lsa = lsa_of(alloc, 7, FIRST, age_in(case))?;
-    takes(&mut area, from, lsa, &mut out, alloc)?;
-    Ok((acknowledged(&out)?, delayed(&area)))
+    let direct = acknowledges(&mut area, case, from, alloc)?;
+    Ok((direct, delayed(&area)))
+}
+
+// What the Backup answers its Designated Router, and the other neighbour.
+fn backup_answered(
+    case: AcknowledgementCase,
+    alloc: Global,
+) -> Result<((usize, usize), (usize, usize)), Fail> {
+    let from_dr = answered(case, IfaceState::Backup, FROM_FIRST, alloc)?;
+    let from_other = answered(case, IfaceState::Backup, FROM_SECOND, alloc)?;
+    Ok((from_dr, from_other))
 }
 
 #[test]
@@ -351,10 +385,8 @@ fn cells_of_the_backup(rt: HostRuntime) -> Result<(), Fail> {
         (NotImplied, (1, 0), (1, 0)),
         (Expired, (1, 0), (1, 0)),
     ] {
-        let answer = answered(case, IfaceState::Backup, FROM_FIRST, rt.alloc())?;
-        assert_eq!(rt; answer, from_dr, "{case:?}");
-        let answer = answered(case, IfaceState::Backup, FROM_SECOND, rt.alloc())?;
-        assert_eq!(rt; answer, from_other, "{case:?}");
+        let answers = backup_answered(case, rt.alloc())?;
+        assert_eq!(rt; answers, (from_dr, from_other), "{case:?}");
     }
     Ok(())
 }
@@ -389,32 +421,51 @@ fn the_backup_floods_nothing_back(rt: HostRuntime) -> Result<(), Fail> {
 
 // ---- two links and three neighbours
 
+// How many datagrams go out, and how many LSAs were taken.
+fn counts(out: &Outputs) -> (usize, usize) {
+    (out.sent.len(), out.taken.len())
+}
+
+// Takes an Update with router 7's first LSA. Answers `counts` and `last_update`.
+fn takes_first(
+    area: &mut Area,
+    from: Origin,
+    out: &mut Outputs,
+    alloc: Global,
+) -> Result<((usize, usize), (usize, Addr, u16, i32)), Fail> {
+    let lsa = lsa_of(alloc, 7, FIRST, 10)?;
+    takes(area, from, lsa, out, alloc)?;
+    Ok((counts(out), last_update(out)?))
+}
+
 // From the point-to-point link to all routers of the other, three ticks older; acknowledged at the next tick.
 #[test]
 fn floods_to_the_other_link(rt: HostRuntime) -> Result<(), Fail> {
     let alloc = rt.alloc();
     let mut area = area(alloc, IfaceState::Dr, &[])?;
     let mut out = Outputs::new(alloc);
-    takes(
-        &mut area,
-        FROM_THIRD,
-        lsa_of(alloc, 7, FIRST, 10)?,
-        &mut out,
-        alloc,
-    )?;
-    assert_eq!(rt; (out.sent.len(), out.taken.len()), (1, 1));
-    assert_eq!(rt; last_update(&out)?, (0, ALL_SPF_ROUTERS, 13, FIRST));
-    assert_eq!(rt; all_waiting(&area), (1, 1, 0));
-    assert_eq!(rt; sends_delayed(&mut area, alloc)?, (1, ALL_SPF_ROUTERS, 1));
-    assert_eq!(rt; delayed(&area), 0);
+    let flooded = takes_first(&mut area, FROM_THIRD, &mut out, alloc)?;
+    let seen = (flooded, all_waiting(&area));
+    let acknowledged = sends_delayed(&mut area, alloc)?;
+    let update = (0, ALL_SPF_ROUTERS, 13, FIRST);
+    assert_eq!(rt;
+        (seen, acknowledged, delayed(&area)),
+        ((((1, 1), update), (1, 1, 0)), (1, ALL_SPF_ROUTERS, 1), 0)
+    );
     Ok(())
+}
+
+// What goes out at a tick.
+fn delayed_out(area: &mut Area, alloc: Global) -> Result<Outputs, Fail> {
+    let mut out = Outputs::new(alloc);
+    let own = own_of(area);
+    send_delayed(&mut area.links, own, &mut out, alloc)?;
+    Ok(out)
 }
 
 // The link, the destination and the number of headers of the one Acknowledgment that goes out at a tick.
 fn sends_delayed(area: &mut Area, alloc: Global) -> Result<(usize, Addr, usize), Fail> {
-    let mut out = Outputs::new(alloc);
-    let own = own_of(area);
-    send_delayed(&mut area.links, own, &mut out, alloc)?;
+    let out = delayed_out(area, alloc)?;
     require(out.sent.len() == 1)?;
     let sent = out.sent().last().ok_or("nothing sent")?;
     Ok((sent.link, sent.destination, headers_in(&sent.bytes)?))
@@ -425,22 +476,16 @@ fn sends_delayed(area: &mut Area, alloc: Global) -> Result<(usize, Addr, usize),
 #[test]
 fn older_ones_are_answered_once_a_tick(rt: HostRuntime) -> Result<(), Fail> {
     let alloc = rt.alloc();
-    let mut area = area(alloc, IfaceState::Dr, &[])?;
+    let mut area = holding(SECOND, 10, alloc)?;
     let mut out = Outputs::new(alloc);
-    installs(&mut area, SECOND, 10, alloc)?;
-    for _ in 0..2 {
-        takes(
-            &mut area,
-            FROM_SECOND,
-            lsa_of(alloc, 7, FIRST, 10)?,
-            &mut out,
-            alloc,
-        )?;
-        assert_eq!(rt; out.sent.len(), 1);
-        assert_eq!(rt; last_update(&out)?, (0, Addr(2), 13, SECOND));
-    }
-    assert_eq!(rt; (delayed(&area), out.taken.len()), (0, 0));
-    assert_eq!(rt; all_waiting(&area), (0, 0, 0));
+    let once = takes_first(&mut area, FROM_SECOND, &mut out, alloc)?;
+    let again = takes_first(&mut area, FROM_SECOND, &mut out, alloc)?;
+    // One answer after either.
+    let answer = ((1, 0), (0, Addr(2), 13, SECOND));
+    assert_eq!(rt;
+        (once, again, delayed(&area), all_waiting(&area)),
+        (answer, answer, 0, (0, 0, 0))
+    );
     Ok(())
 }
 
@@ -473,24 +518,35 @@ fn acknowledgements_name_an_instance(rt: HostRuntime) -> Result<(), Fail> {
     Ok(())
 }
 
-// 26 headers fit an MTU of 576, and they go in order of key.
-#[test]
-fn acknowledgements_are_packed(rt: HostRuntime) -> Result<(), Fail> {
-    let alloc = rt.alloc();
+// Of the first LSAs of routers 27 to 1.
+fn many_headers(alloc: Global) -> Result<Vec<LsaHeader>, Fail> {
     let mut headers = Vec::new(alloc);
     for router in 0..27 {
         let router: u32 = router;
         headers.push(lsa_of(alloc, 27 - router, FIRST, 10)?.view().header())?;
     }
-    let out = packed(&headers, alloc)?;
-    assert_eq!(rt; out.sent.len(), 2);
+    Ok(headers)
+}
+
+// How many headers each of the first two datagrams has.
+fn headers_sent(out: &Outputs) -> Result<[usize; 2], Fail> {
     let mut counts = [0, 0];
     for (at, sent) in out.sent().iter().take(2).enumerate() {
         counts[at] = headers_in(&sent.bytes)?;
     }
-    assert_eq!(rt; counts, [26, 1]);
-    let last = out.sent().last().ok_or("nothing sent")?;
-    assert_eq!(rt; first_router(&last.bytes)?, RouterId(27));
+    Ok(counts)
+}
+
+// 26 headers fit an MTU of 576, and they go in order of key.
+#[test]
+fn acknowledgements_are_packed(rt: HostRuntime) -> Result<(), Fail> {
+    let alloc = rt.alloc();
+    let headers = many_headers(alloc)?;
+    let out = packed(&headers, alloc)?;
+    assert_eq!(rt;
+        (out.sent.len(), headers_sent(&out)?, last_router(&out)?),
+        (2, [26, 1], RouterId(27))
+    );
     Ok(())
 }
 
@@ -510,6 +566,12 @@ fn first_router(bytes: &[u8]) -> Result<RouterId, Fail> {
         return Err("no Acknowledgment".into());
     };
     Ok(headers.next().ok_or("no header")?.router)
+}
+
+// The same of the last datagram.
+fn last_router(out: &Outputs) -> Result<RouterId, Fail> {
+    let last = out.sent().last().ok_or("nothing sent")?;
+    first_router(&last.bytes)
 }
 
 // ---- LSAs that expire
@@ -546,44 +608,74 @@ fn all_acknowledge(area: &mut Area, alloc: Global) -> Result<(), Fail> {
     Ok(())
 }
 
+// How many instances wait, and then whether router 7's LSA is still there after the end of a step.
+fn waits_and_stays(area: &mut Area, alloc: Global) -> Result<((usize, usize, usize), bool), Fail> {
+    let waits = all_waiting(area);
+    Ok((waits, stays(area, alloc)?))
+}
+
+// How many datagrams each of two ticks sends.
+fn ages_twice(area: &mut Area, alloc: Global) -> Result<(usize, usize), Fail> {
+    let first = ages(area, alloc)?;
+    Ok((first, ages(area, alloc)?))
+}
+
 #[test]
 fn expires_and_leaves(rt: HostRuntime) -> Result<(), Fail> {
     let alloc = rt.alloc();
-    let mut area = area(alloc, IfaceState::Dr, &[])?;
-    installs(&mut area, FIRST, MAX_AGE - 2, alloc)?;
-    assert_eq!(rt; ages(&mut area, alloc)?, 0);
-    assert_eq!(rt; ages(&mut area, alloc)?, 2);
-    assert_eq!(rt; all_waiting(&area), (1, 1, 1));
-    assert!(rt; stays(&mut area, alloc)?);
+    let mut area = holding(FIRST, MAX_AGE - 2, alloc)?;
+    let sent = ages_twice(&mut area, alloc)?;
+    let expired = waits_and_stays(&mut area, alloc)?;
     all_acknowledge(&mut area, alloc)?;
-    assert_eq!(rt; all_waiting(&area), (0, 0, 0));
-    assert!(rt; !stays(&mut area, alloc)?);
+    let acknowledged = waits_and_stays(&mut area, alloc)?;
+    assert_eq!(rt;
+        (sent, expired, acknowledged),
+        ((0, 2), ((1, 1, 1), true), ((0, 0, 0), false))
+    );
     Ok(())
 }
 
 #[test]
 fn flushed_to_all(rt: HostRuntime) -> Result<(), Fail> {
     let alloc = rt.alloc();
-    let mut area = area(alloc, IfaceState::Dr, &[])?;
-    installs(&mut area, FIRST, 10, alloc)?;
-    assert_eq!(rt; flushes(&mut area, alloc)?, 2);
-    assert_eq!(rt; all_waiting(&area), (1, 1, 1));
-    assert!(rt; stays(&mut area, alloc)?);
+    let mut area = holding(FIRST, 10, alloc)?;
+    let sent = flushes(&mut area, alloc)?;
+    let flushed = waits_and_stays(&mut area, alloc)?;
+    assert_eq!(rt; (sent, flushed), (2, ((1, 1, 1), true)));
     Ok(())
+}
+
+// What is done with one at MaxAge without a copy.
+fn rule_of_expired(area: &Area, alloc: Global) -> Result<Option<LsaRule>, Fail> {
+    let expired = lsa_of(alloc, 6, FIRST, MAX_AGE)?;
+    Ok(rule_met(area, FROM_FIRST, &expired.view()))
 }
 
 // While a neighbour loads none leaves, and one at MaxAge without a copy is installed.
 #[test]
 fn none_leaves_while_a_neighbour_loads(rt: HostRuntime) -> Result<(), Fail> {
     let alloc = rt.alloc();
-    let described = lsa_of(alloc, 8, FIRST, 10)?.view().header();
-    let mut area = area(alloc, IfaceState::Dr, &[described])?;
-    let expired = lsa_of(alloc, 6, FIRST, MAX_AGE)?;
-    let rule = rule_met(&area, FROM_FIRST, &expired.view());
-    assert_eq!(rt; rule, Some(LsaRule::Installs));
+    let mut area = loading_area(8, FIRST, alloc)?;
+    let rule = rule_of_expired(&area, alloc)?;
     installs(&mut area, FIRST, MAX_AGE, alloc)?;
-    assert!(rt; stays(&mut area, alloc)?);
+    let left = stays(&mut area, alloc)?;
+    assert_eq!(rt; (rule, left), (Some(LsaRule::Installs), true));
     Ok(())
+}
+
+// Installs the router's own LSA of the last number, at MaxAge. Answers its instance.
+fn installs_last(area: &mut Area, alloc: Global) -> Result<Instance, Fail> {
+    let lsa = lsa_of(alloc, 9, LAST, MAX_AGE)?;
+    let instance = lsa.view().instance();
+    area.database.install(lsa, 5, false)?;
+    Ok(instance)
+}
+
+// The end of a step. Answers the keys whose runs end.
+fn ended(area: &mut Area, alloc: Global) -> Result<Vec<LsaKey>, Fail> {
+    let mut out = Outputs::new(alloc);
+    remove(area, &mut out, alloc)?;
+    Ok(out.ended)
 }
 
 // With the last number of the router's own key its run ends, and numbers begin below the first.
@@ -591,19 +683,18 @@ fn none_leaves_while_a_neighbour_loads(rt: HostRuntime) -> Result<(), Fail> {
 fn a_run_ends(rt: HostRuntime) -> Result<(), Fail> {
     let alloc = rt.alloc();
     let mut area = area(alloc, IfaceState::Dr, &[])?;
-    let lsa = lsa_of(alloc, 9, LAST, MAX_AGE)?;
-    let instance = lsa.view().instance();
-    area.database.install(lsa, 5, false)?;
-    assert!(rt; !some_awaits(&instance, &area.links));
-    let mut out = Outputs::new(alloc);
-    remove(&mut area, &mut out, alloc)?;
-    assert_eq!(rt; out.ended.as_slice(), [instance.key].as_slice());
+    let instance = installs_last(&mut area, alloc)?;
+    let awaited = some_awaits(&instance, &area.links);
+    let ended = ended(&mut area, alloc)?;
     let begun = Numbering {
         key: instance.key,
         kept: i32::MIN,
         issued_at: None,
     };
-    assert_eq!(rt; area.numbering.as_slice(), [begun].as_slice());
+    assert_eq!(rt;
+        (awaited, ended.as_slice(), area.numbering.as_slice()),
+        (false, [instance.key].as_slice(), [begun].as_slice())
+    );
     Ok(())
 }
 
@@ -634,19 +725,25 @@ fn state_of(area: &Area, from: Origin) -> Option<NeighbourState> {
     }
 }
 
+// Takes the bad Update. Answers `counts` and `last_description`.
+fn takes_bad(area: &mut Area, alloc: Global) -> Result<((usize, usize), (u8, u32, u16)), Fail> {
+    let bytes = bad_update(alloc)?;
+    let mut out = Outputs::new(alloc);
+    takes_bytes(area, FROM_THIRD, &bytes, &mut out, alloc)?;
+    Ok((counts(&out), last_description(&out)?))
+}
+
 // The exchange begins again, and the rest of the Update is left.
 #[test]
 fn a_bad_request_begins_anew(rt: HostRuntime) -> Result<(), Fail> {
     let alloc = rt.alloc();
-    let described = lsa_of(alloc, 7, SECOND, 10)?.view().header();
-    let mut area = area(alloc, IfaceState::Dr, &[described])?;
+    let mut area = loading_area(7, SECOND, alloc)?;
     installs(&mut area, FIRST, 10, alloc)?;
-    let mut out = Outputs::new(alloc);
-    let bytes = bad_update(alloc)?;
-    takes_bytes(&mut area, FROM_THIRD, &bytes, &mut out, alloc)?;
-    assert_eq!(rt; (out.sent.len(), out.taken.len()), (1, 0));
-    assert_eq!(rt; last_description(&out)?, (7, 300, MTU));
-    assert_eq!(rt; area.next_dd, 301);
-    assert_eq!(rt; state_of(&area, FROM_THIRD), Some(NeighbourState::ExStart));
+    let sent = takes_bad(&mut area, alloc)?;
+    let state = state_of(&area, FROM_THIRD);
+    assert_eq!(rt;
+        (sent, area.next_dd, state),
+        (((1, 0), (7, 300, MTU)), 301, Some(NeighbourState::ExStart))
+    );
     Ok(())
 }
