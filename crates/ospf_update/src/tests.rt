@@ -4,7 +4,8 @@ use crate::{
     age, flush, on_header, on_update, remove, rule_met, send_acks, send_delayed, some_awaits, store,
 };
 use ospf_area::{
-    Area, Link, LinkSettings, Numbering, Origin, Outputs, answer_at, origin_of, own_of, way_out,
+    Area, Link, LinkSettings, Numbering, Origin, Outputs, Own, answer_at, origin_of, own_of,
+    way_out,
 };
 use ospf_base::{
     ALL_SPF_ROUTERS, Addr, Age, AreaId, Instance, InterfaceKind, Kind, LsaKey, MAX_AGE, RouterId,
@@ -300,6 +301,11 @@ fn is_held(area: &Area) -> bool {
     area.database.get(&KEY).is_some()
 }
 
+fn age_and_number(lsa: &[u8]) -> Result<(u16, i32), Fail> {
+    let header = LsaView::read(lsa)?.header();
+    Ok((header.age.ticks(), header.number))
+}
+
 // The age and the number of the last LSA of an Update.
 fn lsa_in(bytes: &[u8]) -> Result<(u16, i32), Fail> {
     let packet = Packet::read(bytes)?;
@@ -308,8 +314,7 @@ fn lsa_in(bytes: &[u8]) -> Result<(u16, i32), Fail> {
     };
     let mut found = (9999, 0);
     for lsa in lsas {
-        let header = LsaView::read(lsa)?.header();
-        found = (header.age.ticks(), header.number);
+        found = age_and_number(lsa)?;
     }
     Ok(found)
 }
@@ -552,10 +557,14 @@ fn acknowledgements_are_packed(rt: HostRuntime) -> Result<(), Fail> {
 
 fn packed(headers: &[LsaHeader], alloc: Global) -> Result<Outputs, Fail> {
     let area = area(alloc, IfaceState::Dr, &[])?;
-    let mut out = Outputs::new(alloc);
     let link = area.links.first().ok_or("no link")?;
+    packed_on(link, own_of(&area), headers, alloc)
+}
+
+fn packed_on(link: &Link, own: Own, headers: &[LsaHeader], alloc: Global) -> Result<Outputs, Fail> {
+    let mut out = Outputs::new(alloc);
     let way = way_out(0, &link.iface, Addr(2));
-    send_acks(&mut out, own_of(&area), way, link.settings, headers, alloc)?;
+    send_acks(&mut out, own, way, link.settings, headers, alloc)?;
     Ok(out)
 }
 
