@@ -120,6 +120,13 @@ pub wanted_later : (s : AreaValue) (key : LsaKey) (first later : Bool) → first
 wanted_later s key first later is never of_links =
     or_false first later never ∙ ap (λ (b : Bool). b || later) is ∙ ap (λ (b : Bool). same_key (wanted_key (own_router s)) key || b) of_links ∙ is_wanted_is s key
 
+-- which of two is asked first is the same
+pub either : (a b : Bool) → (a || b) ≡ (b || a)
+either true true = refl
+either true false = refl
+either false true = refl
+either false false = refl
+
 -- ---- all keys
 
 both_true : (a b : Bool) → (a && b) ≡ true → (a ≡ true) × (b ≡ true)

@@ -131,63 +131,86 @@ counts_in r key number f ns = if is_own r key then counted key number f ns else 
 abbrev pub greatest_in : RouterId → LsaKey → ℤ → ℤ → ℤ
 greatest_in r key number g = if is_own r key then int_max g number else g
 
-module _ (r : RouterId) (db db' : List Held) (ns : List Numbering) (f g : ℤ) (at : LsaKey) (c : List ℕ) (puts : (key : LsaKey) → known db' key ≡ (if same_key at key then Some c else known db key)) (old : Numbers r db ns f g) where
-  counts_some : (key : LsaKey) → is_own r key ≡ true → is_some (numbering_of ns key) ≡ true → is_some (numbering_of (counts_in r at (number_in c) f ns) key) ≡ true
-  counts_some key own there = by_test (is_own r at)
+-- a number is counted
+module _ (r : RouterId) (ns : List Numbering) (f : ℤ) (at : LsaKey) (n : ℤ) where
+  counts_some : (key : LsaKey) → is_some (numbering_of ns key) ≡ true → is_some (numbering_of (counts_in r at n f ns) key) ≡ true
+  counts_some key there = by_test (is_own r at)
     where
-      by_test : (b : Bool) → is_some (numbering_of (if b then counted at (number_in c) f ns else ns) key) ≡ true
-      by_test true = counted_some at (number_in c) f ns key ∙ or_there (is_some (numbering_of ns key)) (same_key at key) there
+      by_test : (b : Bool) → is_some (numbering_of (if b then counted at n f ns else ns) key) ≡ true
+      by_test true = counted_some at n f ns key ∙ or_there (is_some (numbering_of ns key)) (same_key at key) there
       by_test false = there
 
-  counts_here : (key : LsaKey) → same_key at key ≡ true → is_own r key ≡ true → is_some (numbering_of (counts_in r at (number_in c) f ns) key) ≡ true
+  counts_here : (key : LsaKey) → same_key at key ≡ true → is_own r key ≡ true → is_some (numbering_of (counts_in r at n f ns) key) ≡ true
   counts_here key one own =
       let own_at : is_own r at ≡ true = subst (λ (k : LsaKey). is_own r k ≡ true) (sym (same_key-eq at key one)) own in
-      ap (λ (b : Bool). is_some (numbering_of (if b then counted at (number_in c) f ns else ns) key)) own_at
-      ∙ (counted_some at (number_in c) f ns key ∙ or_here (is_some (numbering_of ns key)) (same_key at key) one)
+      ap (λ (b : Bool). is_some (numbering_of (if b then counted at n f ns else ns) key)) own_at
+      ∙ (counted_some at n f ns key ∙ or_here (is_some (numbering_of ns key)) (same_key at key) one)
 
-  kept_now : (key : LsaKey) → kept_in f (numbering_of (counts_in r at (number_in c) f ns) key)
-      ≡ (if same_key at key && is_own r key then int_max (kept_in f (numbering_of ns key)) (number_in c) else kept_in f (numbering_of ns key))
-  kept_now key = own_counted r at key (number_in c) f ns
+  kept_now : (key : LsaKey) → kept_in f (numbering_of (counts_in r at n f ns) key)
+      ≡ (if same_key at key && is_own r key then int_max (kept_in f (numbering_of ns key)) n else kept_in f (numbering_of ns key))
+  kept_now key = own_counted r at key n f ns
 
   -- the number of each key rises, if it changes
-  rises : (key : LsaKey) → kept_in f (numbering_of ns key) ≤ℤ kept_in f (numbering_of (counts_in r at (number_in c) f ns) key)
-  rises key = subst (λ (n : ℤ). kept_in f (numbering_of ns key) ≤ℤ n) (sym (kept_now key)) (by_test (same_key at key && is_own r key))
+  rises : (key : LsaKey) → kept_in f (numbering_of ns key) ≤ℤ kept_in f (numbering_of (counts_in r at n f ns) key)
+  rises key = subst (λ (x : ℤ). kept_in f (numbering_of ns key) ≤ℤ x) (sym (kept_now key)) (by_test (same_key at key && is_own r key))
     where
-      by_test : (b : Bool) → kept_in f (numbering_of ns key) ≤ℤ (if b then int_max (kept_in f (numbering_of ns key)) (number_in c) else kept_in f (numbering_of ns key))
-      by_test true = max_left (kept_in f (numbering_of ns key)) (number_in c)
+      by_test : (b : Bool) → kept_in f (numbering_of ns key) ≤ℤ (if b then int_max (kept_in f (numbering_of ns key)) n else kept_in f (numbering_of ns key))
+      by_test true = max_left (kept_in f (numbering_of ns key)) n
       by_test false = omega (arith, ints)
+
+  -- that of its key is at least it
+  reaches : (key : LsaKey) → same_key at key ≡ true → is_own r key ≡ true → n ≤ℤ kept_in f (numbering_of (counts_in r at n f ns) key)
+  reaches key one own =
+      let whole : kept_in f (numbering_of (counts_in r at n f ns) key) ≡ int_max (kept_in f (numbering_of ns key)) n =
+      kept_now key ∙ ap (λ (b : Bool). if b && is_own r key then int_max (kept_in f (numbering_of ns key)) n else kept_in f (numbering_of ns key)) one
+      ∙ ap (λ (b : Bool). if b then int_max (kept_in f (numbering_of ns key)) n else kept_in f (numbering_of ns key)) own in
+      subst (λ (x : ℤ). n ≤ℤ x) (sym whole) (max_right (kept_in f (numbering_of ns key)) n)
+
+  -- and none is above the greatest one
+  module _ (g : ℤ) (low : (key : LsaKey) → kept_in f (numbering_of ns key) ≤ℤ g) where
+    top_own : (key : LsaKey) (b : Bool) → is_own r at ≡ b → kept_in f (numbering_of ns key) ≤ℤ (if b then int_max g n else g)
+    top_own key true e = le_trans _ _ _ (low key) (max_left g n)
+    top_own key false e = low key
+
+    top_here : (key : LsaKey) → is_own r at ≡ true → int_max (kept_in f (numbering_of ns key)) n ≤ℤ greatest_in r at n g
+    top_here key own = subst (λ (b : Bool). int_max (kept_in f (numbering_of ns key)) n ≤ℤ (if b then int_max g n else g)) (sym own) (max_both _ _ _ (low key))
+
+    top_test : (key : LsaKey) (b : Bool) → same_key at key ≡ b → (d : Bool) → is_own r key ≡ d
+        → (if b && d then int_max (kept_in f (numbering_of ns key)) n else kept_in f (numbering_of ns key)) ≤ℤ greatest_in r at n g
+    top_test key true one true own = top_here key (subst (λ (k : LsaKey). is_own r k ≡ true) (sym (same_key-eq at key one)) own)
+    top_test key true one false other = top_own key (is_own r at) refl
+    top_test key false two d own = top_own key (is_own r at) refl
+
+    top : (key : LsaKey) → kept_in f (numbering_of (counts_in r at n f ns) key) ≤ℤ greatest_in r at n g
+    top key = subst (λ (x : ℤ). x ≤ℤ greatest_in r at n g) (sym (kept_now key)) (top_test key (same_key at key) refl (is_own r key) refl)
+
+-- where the database stays
+pub counted_numbers : (r : RouterId) (db : List Held) (ns : List Numbering) (f g : ℤ) (at : LsaKey) (n : ℤ) → Numbers r db ns f g → Numbers r db (counts_in r at n f ns) f (greatest_in r at n g)
+counted_numbers r db ns f g at n old = record {
+  numbered = λ key c is own. counts_some r ns f at n key (old.numbered key c is own);
+  counted = λ key c is own. le_trans _ _ _ (old.counted key c is own) (rises r ns f at n key);
+  greatest = top r ns f at n g old.greatest;
+}
+
+-- where an LSA with the number is installed
+module _ (r : RouterId) (db db' : List Held) (ns : List Numbering) (f g : ℤ) (at : LsaKey) (c : List ℕ) (puts : (key : LsaKey) → known db' key ≡ (if same_key at key then Some c else known db key)) (old : Numbers r db ns f g) where
+  some_test : (key : LsaKey) (d : List ℕ) → is_own r key ≡ true → (b : Bool) → same_key at key ≡ b → (if b then Some c else known db key) ≡ Some d
+      → is_some (numbering_of (counts_in r at (number_in c) f ns) key) ≡ true
+  some_test key d own true one is = counts_here r ns f at (number_in c) key one own
+  some_test key d own false two is = counts_some r ns f at (number_in c) key (old.numbered key d is own)
+
+  count_test : (key : LsaKey) (d : List ℕ) → is_own r key ≡ true → (b : Bool) → same_key at key ≡ b → (if b then Some c else known db key) ≡ Some d
+      → number_in d ≤ℤ kept_in f (numbering_of (counts_in r at (number_in c) f ns) key)
+  count_test key d own true one is =
+      subst (λ (x : List ℕ). number_in x ≤ℤ kept_in f (numbering_of (counts_in r at (number_in c) f ns) key)) (same_Some c d is) (reaches r ns f at (number_in c) key one own)
+  count_test key d own false two is = le_trans _ _ _ (old.counted key d is own) (rises r ns f at (number_in c) key)
 
   pub stored_numbers : Numbers r db' (counts_in r at (number_in c) f ns) f (greatest_in r at (number_in c) g)
   stored_numbers = record {
     numbered = λ key d is own. some_test key d own (same_key at key) refl (sym (puts key) ∙ is);
     counted = λ key d is own. count_test key d own (same_key at key) refl (sym (puts key) ∙ is);
-    greatest = λ key. subst (λ (n : ℤ). n ≤ℤ greatest_in r at (number_in c) g) (sym (kept_now key)) (top_test key (same_key at key) refl (is_own r key) refl);
+    greatest = top r ns f at (number_in c) g old.greatest;
   }
-    where
-      some_test : (key : LsaKey) (d : List ℕ) → is_own r key ≡ true → (b : Bool) → same_key at key ≡ b → (if b then Some c else known db key) ≡ Some d → is_some (numbering_of (counts_in r at (number_in c) f ns) key) ≡ true
-      some_test key d own true one is = counts_here key one own
-      some_test key d own false two is = counts_some key own (old.numbered key d is own)
-
-      count_test : (key : LsaKey) (d : List ℕ) → is_own r key ≡ true → (b : Bool) → same_key at key ≡ b → (if b then Some c else known db key) ≡ Some d → number_in d ≤ℤ kept_in f (numbering_of (counts_in r at (number_in c) f ns) key)
-      count_test key d own true one is =
-          let whole : kept_in f (numbering_of (counts_in r at (number_in c) f ns) key) ≡ int_max (kept_in f (numbering_of ns key)) (number_in c) =
-          kept_now key ∙ ap (λ (b : Bool). if b && is_own r key then int_max (kept_in f (numbering_of ns key)) (number_in c) else kept_in f (numbering_of ns key)) one
-          ∙ ap (λ (b : Bool). if b then int_max (kept_in f (numbering_of ns key)) (number_in c) else kept_in f (numbering_of ns key)) own in
-          subst (λ (n : ℤ). number_in d ≤ℤ n) (sym whole) (subst (λ (x : List ℕ). number_in x ≤ℤ int_max (kept_in f (numbering_of ns key)) (number_in c)) (same_Some c d is) (max_right (kept_in f (numbering_of ns key)) (number_in c)))
-      count_test key d own false two is = le_trans _ _ _ (old.counted key d is own) (rises key)
-
-      top_own : (key : LsaKey) (b : Bool) → is_own r at ≡ b → kept_in f (numbering_of ns key) ≤ℤ (if b then int_max g (number_in c) else g)
-      top_own key true e = le_trans _ _ _ (old.greatest key) (max_left g (number_in c))
-      top_own key false e = old.greatest key
-
-      top_here : (key : LsaKey) → is_own r at ≡ true → int_max (kept_in f (numbering_of ns key)) (number_in c) ≤ℤ greatest_in r at (number_in c) g
-      top_here key own = subst (λ (b : Bool). int_max (kept_in f (numbering_of ns key)) (number_in c) ≤ℤ (if b then int_max g (number_in c) else g)) (sym own) (max_both _ _ _ (old.greatest key))
-
-      top_test : (key : LsaKey) (b : Bool) → same_key at key ≡ b → (d : Bool) → is_own r key ≡ d
-          → (if b && d then int_max (kept_in f (numbering_of ns key)) (number_in c) else kept_in f (numbering_of ns key)) ≤ℤ greatest_in r at (number_in c) g
-      top_test key true one true own = top_here key (subst (λ (k : LsaKey). is_own r k ≡ true) (sym (same_key-eq at key one)) own)
-      top_test key true one false other = top_own key (is_own r at) refl
-      top_test key false two d own = top_own key (is_own r at) refl
 
 -- the copy of a key leaves, and its numbers begin again
 pub ended_numbers : (r : RouterId) (db db' : List Held) (ns : List Numbering) (f g : ℤ) (at : LsaKey) → ((key : LsaKey) (c : List ℕ) → known db' key ≡ Some c → (same_key at key ≡ false) × (known db key ≡ Some c))

@@ -30,6 +30,7 @@ use Rattle.ospf_area.proofs.PlaceLemmas.{length-map_from}
 use Rattle.ospf_area.specs.Asking.{turned, turned_link, turned_links}
 use Rattle.ospf_area.specs.Changes.{changed_at, changed_if, changed_link, changed_on, delayed_at, delayed_on}
 use Rattle.ospf_area.specs.Flooding.{flooded_link, flooded_links, flooded_neighbour, on_link, goes_anywhere, released, released_link}
+use Rattle.ospf_update.specs.Acks.{undelayed_link}
 use Rattle.ospf_area.specs.Numbers.{counts, greatest_after, is_self_originated, marked}
 use Rattle.ospf_area.specs.Outputs.{OutputsValue, SentValue}
 use Rattle.ospf_area.specs.Places.{map_from}
@@ -41,11 +42,12 @@ use Rattle.ospf_area.specs.declared.flooding.Origin.{Origin}
 use Rattle.ospf_area.specs.declared.sending.Own.{Own}
 use Rattle.ospf_area.specs.declared.state.Numbering.{Numbering}
 use Rattle.ospf_update.specs.Aging.{Flushes, TickAges, copies_sent, copy_flooded, copy_flooded_by, copy_sent, noted, turned_area}
-use Rattle.ospf_update.specs.Meets.{MeetsLsa, MeetsRule, Stores, flooded_area, header_met, heard_by, named_by, replied, reply_to, rule_met, taken_off}
+use Rattle.ospf_update.specs.Meets.{MeetsLsa, MeetsRule, RestartsExchange, Stores, flooded_area, header_met, heard_by, named_by, replied, reply_to, rule_met, taken_off}
 use Rattle.ospf_update.specs.Updates.{MeetsAndTurns, TakesSlice, TakesSlices, TakesUpdate}
 use Rattle.ospf_update.specs.Updates.TakesSlice.{Met, PassedOver}
+use Rattle.ospf_originate.specs.Laws.{LinksStaySetUp, PartsStaySound}
 use Rattle.ospf_originate.specs.Sound.{AreApart, AreSetUp, IsSetUp, IsSound, max_links}
-use Rattle.ospf_originate.proofs.SoundLemmas.{Numbers, contents-entry_from, counts_in, fewer, greatest_in, known, number_of-contents, numbers_of, sound_of, stored_numbers}
+use Rattle.ospf_originate.proofs.SoundLemmas.{Numbers, contents-entry_from, counted_numbers, counts_in, fewer, greatest_in, known, number_of-contents, numbers_of, sound_of, stored_numbers}
 
 -- ---- links
 
@@ -194,14 +196,17 @@ replied_sound (Some lsa) f key s sound =
     let links = changed_at f (Change.IsSent (instance_of lsa)) s.tick s.links in
     rest s links s.direct s.tick s.next_dd (marked key true s.sent) s.heard (changed_up f (Change.IsSent (instance_of lsa)) s.tick s.links sound.links) sound
 
+restart_sound : (f : Origin) (s : AreaValue) (o o' : OutputsValue) (s' : AreaValue) → RestartsExchange f s o o' s' → IsSound s → IsSound s'
+restart_sound f s o o' s' is sound =
+    along _ s' is.state (rest s (changed_at f (Change.Restarts s.next_dd) s.tick s.links) s.direct s.tick _ s.sent s.heard (changed_up f (Change.Restarts s.next_dd) s.tick s.links sound.links) sound)
+
 rule_sound : (r : Option LsaRule) (f : Origin) (lsa : List ℕ) (s : AreaValue) (o o' : OutputsValue) (s' : AreaValue) → MeetsRule r f lsa s o o' s' → IsSound s → IsSound s'
 rule_sound None f lsa s o o' s' is sound = along s s' is.state sound
 rule_sound (Some AcknowledgesExpired) f lsa s o o' s' is sound = along _ s' is.state (acknowledging_sound _ f (header_of lsa) s sound)
 rule_sound (Some TooSoon) f lsa s o o' s' is sound = along s s' is.state sound
 rule_sound (Some Installs) f lsa s o o' s' is sound =
     along _ s' is.state (heard_sound (key_of lsa) _ (acknowledging_sound _ f (header_of lsa) is.mid (store_sound lsa (Some f) s is.mid is.stores sound)))
-rule_sound (Some BadRequest) f lsa s o o' s' is sound =
-    along _ s' is.state (rest s (changed_at f (Change.Restarts s.next_dd) s.tick s.links) s.direct s.tick _ s.sent s.heard (changed_up f (Change.Restarts s.next_dd) s.tick s.links sound.links) sound)
+rule_sound (Some BadRequest) f lsa s o o' s' is sound = restart_sound f s o o' s' is sound
 rule_sound (Some Duplicate) f lsa s o o' s' is sound =
     along _ s' is.state (acknowledging_sound _ f (header_of lsa) _ (changed_sound f (Change.Acknowledges (instance_of lsa)) s sound))
 rule_sound (Some Stale) f lsa s o o' s' is sound = along _ s' is.state (replied_sound (reply_to s (key_of lsa)) f (key_of lsa) s sound)
@@ -330,3 +335,39 @@ relinked_sound s links tick up sound = rest s links s.direct tick s.next_dd s.se
 -- one LSA of an Update
 pub lsa_sound : (f : Origin) (lsa : List ℕ) (s : AreaValue) (o o' : OutputsValue) (s' : AreaValue) → MeetsLsa f lsa s o o' s' → IsSound s → IsSound s'
 lsa_sound f lsa s o o' s' is sound = rule_sound (rule_met s f lsa) f lsa s o o' s' is sound
+
+-- ---- the parts of these calls
+
+pub links_sound : (s : AreaValue) (links : List LinkValue) → AreSetUp links → IsSound s → IsSound (record s { links = links })
+links_sound s links up sound = relinked s links up sound
+
+pub links_stay : LinksStaySetUp
+links_stay = record {
+  released = released_up;
+  flooded = flooded_up;
+  turned = turned_up;
+  changed = changed_up;
+  delayed = delayed_up;
+  undelayed = set_up_map undelayed_link (λ x. record { iface = refl; many = refl });
+}
+
+pub count_sound : (key : LsaKey) (number : ℤ) (s : AreaValue) → IsSound s → IsSound (record s { numbering = counts key number s; greatest = greatest_after key number s })
+count_sound key number s sound =
+    sound_of (record s { numbering = counts key number s; greatest = greatest_after key number s }) sound.links
+    (counted_numbers s.router s.database s.numbering s.floor s.greatest key number (numbers_of s sound))
+
+pub parts_stay : PartsStaySound
+parts_stay = record {
+  links = links_stay;
+  relinked = links_sound;
+  counted = count_sound;
+  acknowledging = acknowledging_sound;
+  stored = store_sound;
+  met = lsa_sound;
+  restarted = restart_sound;
+  turned = turned_sound;
+  copied = sent_sound;
+  flooded = λ lsa from s sound. relinked s (flooded_links (key_of lsa) (header_of lsa) from s.tick s.links) (flooded_up (key_of lsa) (header_of lsa) from s.tick s.links sound.links) sound;
+  answered = λ s sound. rest s s.links [] s.tick s.next_dd s.sent s.heard sound.links sound;
+  marked = λ s sent sound. rest s s.links s.direct s.tick s.next_dd sent s.heard sound.links sound;
+}

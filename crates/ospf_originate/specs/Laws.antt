@@ -7,12 +7,20 @@ use Rattle.ospf_lsa.specs.Recency.{recency}
 use Rattle.ospf_lsa.specs.declared.header.LsaHeader.{LsaHeader}
 use Rattle.ospf_lsa.specs.declared.recency.Recency.TheVariants.{Newer}
 use Rattle.ospf_lsdb.specs.Database.{IsDatabase}
-use Rattle.ospf_area.specs.Numbers.{is_own}
+use Rattle.ospf_area.specs.Asking.{turned_links}
+use Rattle.ospf_area.specs.Changes.{changed_at, delayed_at}
+use Rattle.ospf_area.specs.Flooding.{flooded_links, released}
+use Rattle.ospf_area.specs.Numbers.{counts, greatest_after, is_own}
 use Rattle.ospf_area.specs.Outputs.{OutputsValue, SentValue}
+use Rattle.ospf_area.specs.Standing.{acknowledging}
 use Rattle.ospf_area.specs.State.{AreaValue, LinkValue, kept_number, numbering_of}
+use Rattle.ospf_area.specs.declared.changes.Change.{Change}
 use Rattle.ospf_area.specs.declared.flooding.Origin.{Origin}
-use Rattle.ospf_update.specs.Aging.{Flushes, TickAges}
-use Rattle.ospf_update.specs.Meets.{header_met}
+use Rattle.ospf_area.specs.declared.sending.Own.{Own}
+use Rattle.ospf_flood.specs.declared.acknowledgement.Acknowledgement.{Acknowledgement}
+use Rattle.ospf_update.specs.Acks.{undelayed}
+use Rattle.ospf_update.specs.Aging.{Flushes, TickAges, copy_sent, turned_area}
+use Rattle.ospf_update.specs.Meets.{MeetsLsa, RestartsExchange, Stores, flooded_area, header_met}
 use Rattle.ospf_update.specs.Removal.{Removes}
 use Rattle.ospf_update.specs.Updates.{TakesUpdate}
 use Rattle.ospf_originate.specs.Numbers.{issued_at_in}
@@ -68,3 +76,27 @@ pub record AreaStaysSound : Type 0 where
   pub acknowledged : (f : Origin) (h : LsaHeader) (s : AreaValue) → IsSound s → IsSound (header_met f h s)
   pub aged : (s : AreaValue) (sent : List SentValue) (s' : AreaValue) → TickAges s sent s' → IsSound s → IsSound s'
   pub removed : (s : AreaValue) (o o' : OutputsValue) (s' : AreaValue) → IsDatabase s.database → Removes s o o' s' → IsSound s → IsSound s'
+
+-- links that are set up stay so, whatever their lists and neighbours do
+pub record LinksStaySetUp : Type 0 where
+  pub released : (key : LsaKey) (links : List LinkValue) → AreSetUp links → AreSetUp (released key links)
+  pub flooded : (key : LsaKey) (h : LsaHeader) (from : Option Origin) (tick : ℕ) (links : List LinkValue) → AreSetUp links → AreSetUp (flooded_links key h from tick links)
+  pub turned : (own : Own) (links : List LinkValue) → AreSetUp links → AreSetUp (turned_links own links)
+  pub changed : (f : Origin) (change : Change) (tick : ℕ) (links : List LinkValue) → AreSetUp links → AreSetUp (changed_at f change tick links)
+  pub delayed : (number : ℕ) (h : LsaHeader) (links : List LinkValue) → AreSetUp links → AreSetUp (delayed_at number h links)
+  pub undelayed : (links : List LinkValue) → AreSetUp links → AreSetUp (undelayed links)
+
+-- and so does each call of which these are made keep it
+pub record PartsStaySound : Type 0 where
+  pub links : LinksStaySetUp
+  pub relinked : (s : AreaValue) (links : List LinkValue) → AreSetUp links → IsSound s → IsSound (record s { links = links })
+  pub counted : (key : LsaKey) (number : ℤ) (s : AreaValue) → IsSound s → IsSound (record s { numbering = counts key number s; greatest = greatest_after key number s })
+  pub acknowledging : (a : Acknowledgement) (f : Origin) (h : LsaHeader) (s : AreaValue) → IsSound s → IsSound (acknowledging a f h s)
+  pub stored : (lsa : List ℕ) (from : Option Origin) (s s' : AreaValue) → Stores lsa from s s' → IsSound s → IsSound s'
+  pub met : (f : Origin) (lsa : List ℕ) (s : AreaValue) (o o' : OutputsValue) (s' : AreaValue) → MeetsLsa f lsa s o o' s' → IsSound s → IsSound s'
+  pub restarted : (f : Origin) (s : AreaValue) (o o' : OutputsValue) (s' : AreaValue) → RestartsExchange f s o o' s' → IsSound s → IsSound s'
+  pub turned : (s : AreaValue) → IsSound s → IsSound (turned_area s)
+  pub copied : (key : LsaKey) (s : AreaValue) → IsSound s → IsSound (copy_sent key s)
+  pub flooded : (lsa : List ℕ) (from : Option Origin) (s : AreaValue) → IsSound s → IsSound (flooded_area lsa from s)
+  pub answered : (s : AreaValue) → IsSound s → IsSound (record s { direct = [] })
+  pub marked : (s : AreaValue) (sent : List LsaKey) → IsSound s → IsSound (record s { sent = sent })

@@ -1,6 +1,6 @@
 //! Laws: each holds of all numbers and routers.
 
-ghost use Rattle.ospf_originate.specs.Laws.{AreaStaysSound, StartsSound, IssueIsNext, IssuedIsKept, IssuedWaits, NextIsNewer, OwnStaySound};
+ghost use Rattle.ospf_originate.specs.Laws.{AreaStaysSound, StartsSound, IssueIsNext, IssuedIsKept, IssuedWaits, NextIsNewer, OwnStaySound, PartsStaySound};
 
 /// An issued LSA's number is kept.
 pub fn issued_is_kept()
@@ -35,4 +35,9 @@ pub fn own_stay_sound()
 /// It is kept where Updates and acknowledgements are taken, where LSAs age, and where they leave.
 pub fn area_stays_sound()
     ensures { AreaStaysSound }
+{}
+
+/// So does each call of `ospf_area` and `ospf_update` that these are made of.
+pub fn parts_stay_sound()
+    ensures { PartsStaySound }
 {}
