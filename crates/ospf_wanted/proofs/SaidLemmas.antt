@@ -1,5 +1,5 @@
 -- Bytes compared piece by piece.
-use Rattle.std.proofs.Common.{◌≡◌, ◌≤◌, ◌<◌, ◌+◌, ◌-◌, ◌*◌, ◌/◌, ◌++◌, cond, map, filter, pos, ◌&&◌, ◌⊎◌, ℕ, Bool, true, false, List, [], ◌∷◌, length, take, drop, get_or, Option, None, Some, inl, inr, refl, sym, ap, subst, ◌∙◌, arith, if◌then◌else◌}
+use Rattle.std.proofs.Common.{◌≡◌, ◌≤◌, ◌<◌, ◌+◌, ◌-◌, ◌*◌, ◌/◌, ◌++◌, cond, map, filter, pos, ◌&&◌, ◌||◌, ◌⊎◌, ℕ, Bool, true, false, List, [], ◌∷◌, length, take, drop, get_or, Option, None, Some, inl, inr, refl, sym, ap, subst, ◌∙◌, arith, if◌then◌else◌}
 use Rattle.std.specs.Prelude.{◌==◌}
 use Rattle.std.specs.List.{flat_map}
 use Rattle.std.specs.Str.{bytes_eq}
@@ -27,6 +27,13 @@ use Rattle.ospf_lsa.specs.declared.header.LsaHeader.{LsaHeader}
 use Rattle.ospf_wanted.specs.Made.{aside, says}
 use Rattle.ospf_wanted.specs.Said.{behind, is_end, links_bytes, router_link_bytes, before_bytes, behind_bytes}
 use Rattle.ospf_wanted.proofs.MadeLemmas.{bytes_eq-append}
+
+-- which of two is asked first is the same
+pub either : (a b : Bool) → (a || b) ≡ (b || a)
+either true true = refl
+either true false = refl
+either false true = refl
+either false false = refl
 
 nothing_behind : (front : List ℕ) → behind front None ≡ None
 unfolding behind

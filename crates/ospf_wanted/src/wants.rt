@@ -99,11 +99,12 @@ pub fn is_dr_of(link: &AreaLink) -> bool
     is_dr(link.iface.state) && some_full(link.neighbours.all())
 }
 
-// Whether a link is one to a transit network.
+// Whether a link is one to a transit network. A Designated Router has a fully adjacent neighbour soon found.
+#[tactic(auto, using(crate::proofs::SaidLemmas::either))]
 fn is_transit(link: &AreaLink) -> bool
     ensures { result ≡ is_transit link.now }
 {
-    full_at(link.iface.dr.0, link.neighbours.all()) || is_dr_of(link)
+    is_dr_of(link) || full_at(link.iface.dr.0, link.neighbours.all())
 }
 
 // The metric of links to routers and to transit networks.
