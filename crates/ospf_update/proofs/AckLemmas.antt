@@ -1,43 +1,14 @@
--- Headers in order, and as many in a packet as fit.
-use Rattle.std.proofs.Common.{◌≡◌, ◌<◌, ◌≤◌, ◌+◌, ℕ, zero, suc, min, Bool, true, false, if◌then◌else◌, List, [], ◌∷◌, ◌++◌, length, take, drop, get_or, refl, sym, ap, ◌∙◌, arith, append_assoc}
-use Rattle.std.specs.List.{flat_map, insert}
-use Rattle.std.proofs.lemmas.List.{drop_more, take_more, length-drop, drop_all}
+-- As many headers in a packet as fit.
+use Rattle.std.proofs.Common.{◌≡◌, ◌<◌, ◌≤◌, ℕ, zero, suc, min, List, [], ◌∷◌, ◌++◌, length, take, drop, refl, sym, ap, ◌∙◌, arith}
+use Rattle.std.specs.List.{flat_map}
+use Rattle.std.proofs.lemmas.List.{length-drop}
 use Rattle.ospf_lsa.specs.declared.header.LsaHeader.{LsaHeader}
-use Rattle.ospf_update.specs.Acks.{header_precedes, put_in_order, cut, packets, ack_out, packed_out}
+use Rattle.ospf_update.specs.Acks.{cut, packets, ack_out, packed_out}
 use Rattle.ospf_area.specs.Outputs.{OutputsValue}
 use Rattle.ospf_area.specs.Sending.{and_sends}
 use Rattle.ospf_area.specs.declared.sending.Own.{Own}
 use Rattle.ospf_area.specs.declared.sending.Way.{Way}
 use Rattle.ospf_area.proofs.SendingLemmas.{sends_more}
-
--- ---- a header is put in order
-
-put_here : (h x : LsaHeader) (xs : List LsaHeader) → header_precedes h x ≡ true → put_in_order h (x ∷ xs) ≡ h ∷ x ∷ xs
-put_here h x xs e = ap (λ (b : Bool). if b then h ∷ x ∷ xs else x ∷ put_in_order h xs) e
-
-put_behind : (h x : LsaHeader) (xs : List LsaHeader) → header_precedes h x ≡ false → put_in_order h (x ∷ xs) ≡ x ∷ put_in_order h xs
-put_behind h x xs e = ap (λ (b : Bool). if b then h ∷ x ∷ xs else x ∷ put_in_order h xs) e
-
-pub put_stops : (h : LsaHeader) (xs : List LsaHeader) (i : ℕ) (d : LsaHeader) → i < length xs → header_precedes h (get_or xs i d) ≡ true
-    → take i xs ++ put_in_order h (drop i xs) ≡ put_in_order h xs → insert xs i h ≡ put_in_order h xs
-put_stops h xs i d lt before inv =
-    ap (λ l. take i xs ++ h ∷ l) (drop_more xs i d lt)
-    ∙ ap (λ l. take i xs ++ l) (sym (put_here h (get_or xs i d) (drop (i + 1) xs) before) ∙ ap (put_in_order h) (sym (drop_more xs i d lt)))
-    ∙ inv
-
-pub put_goes_on : (h : LsaHeader) (xs : List LsaHeader) (i : ℕ) (d : LsaHeader) → i < length xs → header_precedes h (get_or xs i d) ≡ false
-    → take i xs ++ put_in_order h (drop i xs) ≡ put_in_order h xs → take (i + 1) xs ++ put_in_order h (drop (i + 1) xs) ≡ put_in_order h xs
-put_goes_on h xs i d lt behind inv =
-    ap (λ l. l ++ put_in_order h (drop (i + 1) xs)) (take_more xs i d lt)
-    ∙ append_assoc (take i xs) (get_or xs i d ∷ []) (put_in_order h (drop (i + 1) xs))
-    ∙ ap (λ l. take i xs ++ l) (sym (put_behind h (get_or xs i d) (drop (i + 1) xs) behind) ∙ ap (put_in_order h) (sym (drop_more xs i d lt)))
-    ∙ inv
-
-pub put_last : (h : LsaHeader) (xs : List LsaHeader) (i : ℕ) → i ≡ length xs → take i xs ++ put_in_order h (drop i xs) ≡ put_in_order h xs → insert xs i h ≡ put_in_order h xs
-put_last h xs i end inv =
-    ap (λ l. take i xs ++ h ∷ l) (drop_all i xs (omega arith)) ∙ ap (λ l. take i xs ++ put_in_order h l) (sym (drop_all i xs (omega arith))) ∙ inv
-
--- ---- as many in a packet as fit
 
 cut_none : (n room : ℕ) → cut n room [] ≡ []
 unfolding cut

@@ -1,4 +1,5 @@
 pub mod StoreLemmas
 pub mod AckLemmas
+pub mod OrderLemmas
 pub mod RemovalLemmas
 pub mod LawLemmas

@@ -1,8 +1,8 @@
 //! How acknowledgements are sent.
 
-ghost use Rattle.std.specs.Prelude.{◌≡◌, ◌<◌, ◌≤◌, [], IfOk, OnOk, Some, slice_get, map, length};
-ghost use Rattle.std.specs.List.{insert};
-ghost use Rattle.ospf_update.specs.Acks.{header_precedes, put_in_order, put_all_in_order, in_order, ack_room, ack_out, packed_out, acks_out, direct_out_on, direct_out, delayed_out_on, delayed_out, undelayed_link, undelayed};
+ghost use Rattle.std.specs.Prelude.{◌≡◌, ◌<◌, [], IfOk, OnOk, Some, slice_get, map};
+ghost use Rattle.std.specs.Ordering.{is_lt};
+ghost use Rattle.ospf_update.specs.Acks.{header_precedes, in_order, ack_room, ack_out, packed_out, acks_out, direct_out_on, direct_out, delayed_out_on, delayed_out, undelayed_link, undelayed};
 ghost use Rattle.ospf_area.specs.Sending.{and_sends, own_of};
 
 use ospf_area::{
@@ -13,43 +13,21 @@ use ospf_flood::flooding_address;
 use ospf_lsa::LsaHeader;
 use ospf_packet::{BodyValue, PacketValue};
 use std::alloc::{AllocError, Global};
+use std::cmp::Ordering;
 
-// Whether the key of a header stands before that of another.
-fn header_precedes(a: &LsaHeader, b: &LsaHeader) -> bool
-    ensures { result ≡ header_precedes a.now b.now }
+// Headers compare by LS type, then by Link State ID, then by Advertising Router.
+fn by_key(a: &LsaHeader, b: &LsaHeader) -> Ordering
+    ensures { is_lt result ≡ header_precedes a.now b.now }
 {
-    a.kind < b.kind || a.kind == b.kind && (a.id < b.id || a.id == b.id && a.router.0 < b.router.0)
+    (a.kind, a.id, a.router).cmp(&(b.kind, b.id, b.router))
 }
 
-// Where a header belongs, behind those that it does not precede.
-fn place_of(header: &LsaHeader, sorted: &[LsaHeader]) -> usize
-    ensures within { result ≤ length sorted.now }
-    ensures place { insert sorted.now result header.now ≡ put_in_order header.now sorted.now }
-{
-    for (place, other) in sorted.iter().enumerate() {
-        if header_precedes(header, other) {
-            return place;
-        }
-    }
-    sorted.len()
-}
-
-fn put_in_order(header: &LsaHeader, sorted: &mut Vec<LsaHeader>) -> Result<(), AllocError>
-    ensures { OnOk result (sorted.new.items ≡ put_in_order header.now sorted.old.items) }
-{
-    let place = place_of(header, sorted);
-    sorted.insert(place, *header)?;
-    Ok(())
-}
-
-// The headers in order of key.
+// The headers in order of key. Those of one key stay in the order in which they came, so the sort is a stable one.
 fn in_order(headers: &[LsaHeader], alloc: Global) -> Result<Vec<LsaHeader>, AllocError>
     ensures { IfOk result (λ v. v.items ≡ in_order headers.now) }
 {
-    let mut sorted = Vec::new(alloc);
-    for header in headers {
-        put_in_order(header, &mut sorted)?;
-    }
+    let mut sorted = Vec::from_slice(alloc, headers)?;
+    sorted.sort_by(by_key)?;
     Ok(sorted)
 }
 
