@@ -162,7 +162,7 @@ module _ {X : Type 0} (lt : X → X → Bool) (o : IsStrictWeakOrder lt) where
 
 -- ---- the order of the keys of headers
 
-abbrev pub header_cmp : LsaHeader → LsaHeader → Ordering
+abbrev header_cmp : LsaHeader → LsaHeader → Ordering
 header_cmp a b = ordering_then (nat_cmp a.kind b.kind) (ordering_then (nat_cmp a.id b.id) (nat_cmp a.router.0 b.router.0))
 
 then_less : (m n : ℕ) (r : Ordering) → is_lt (ordering_then (nat_cmp m n) r) ≡ (nat_lt m n || ((m == n) && is_lt r))
@@ -181,7 +181,7 @@ nat_less m n = go (nat_lt m n) (m == n)
     go false true = refl
     go false false = refl
 
-pub header_less : (a b : LsaHeader) → is_lt (header_cmp a b) ≡ header_precedes a b
+header_less : (a b : LsaHeader) → is_lt (header_cmp a b) ≡ header_precedes a b
 header_less a b =
     then_less a.kind b.kind (ordering_then (nat_cmp a.id b.id) (nat_cmp a.router.0 b.router.0))
     ∙ ap (λ (r : Bool). nat_lt a.kind b.kind || ((a.kind == b.kind) && r))
