@@ -1,8 +1,8 @@
 //! The index of a table: its ranges, and a directory of them by the first 16 bits of an address.
 
-ghost use Rattle.std.specs.Prelude.{◌≡◌, ◌≤◌, ◌<◌, ◌+◌, ◌*◌, ◌^◌, ◌∷◌, ◌++◌, [], AllPairs, IfOk, None, get_or, length, vec_capacity};
+ghost use Rattle.std.specs.Prelude.{◌≡◌, ◌≤◌, ◌<◌, ◌+◌, ◌*◌, ◌^◌, ◌∷◌, ◌++◌, [], AllPairs, IfOk, get_or, length, vec_capacity};
 ghost use Rattle.ospf_graph.specs.Routes.{IsRouteBefore};
-ghost use Rattle.ospf_index.specs.Ranges.{HasRanges, IsAnswerAt, IsDirectory, IsInRange, IsIndexOf, block_start};
+ghost use Rattle.ospf_index.specs.Ranges.{HasRanges, IsDirectory, IsInRange, IsIndexOf, IsPlaceFor, IsRising, block_start};
 ghost use Rattle.ospf_index.specs.Room.{HasIndexRoom, IsRoomFor};
 
 use crate::ranges::Ranges;
@@ -24,14 +24,14 @@ const BLOCK_BITS: u32 = 16;
 #[derive(Debug, Drop)]
 pub(crate) struct Index {
     pub ranges: Ranges,
-    pub directory: Vec<usize>,
+    pub directory: Vec<u32>,
 }
 
 /// All the memory that an index takes.
 #[derive(Debug, Drop)]
 pub(crate) struct IndexRoom {
     pub sweep: Sweep,
-    pub directory: Vec<usize>,
+    pub directory: Vec<u32>,
 }
 
 impl IndexRoom {
@@ -65,8 +65,9 @@ fn advance(starts: &[u32], from: usize, address: u64) -> usize
 }
 
 // The directory of ranges.
-fn directory_of(starts: &[u32], room: Vec<usize>) -> Vec<usize>
+fn directory_of(starts: &[u32], room: Vec<u32>) -> Vec<u32>
     requires first { (0 < length starts.now) × (get_or starts.now 0 0 ≡ 0) }
+    requires in_order { IsRising starts.now }
     requires room { (room.items ≡ []) × (65537 ≤ vec_capacity room) }
     ensures { IsDirectory starts.now result.items }
 {
@@ -74,7 +75,7 @@ fn directory_of(starts: &[u32], room: Vec<usize>) -> Vec<usize>
     let mut range = 0;
     for block in 0..BLOCKS + 1 {
         range = advance(starts, range, block as u64 * BLOCK_SIZE);
-        match directory.push(range) {
+        match directory.push(range as u32) {
             Ok(()) => {}
             Err(_) => unreachable!(),
         }
@@ -84,20 +85,24 @@ fn directory_of(starts: &[u32], room: Vec<usize>) -> Vec<usize>
 
 // The range that has an address, which lies from one range on and before another.
 fn range_between(starts: &[u32], from: usize, to: usize, address: u32) -> usize
+    requires in_order { IsRising starts.now }
     requires within { (from < to) × (to ≤ length starts.now) }
     requires low { get_or starts.now from 0 ≤ address }
     requires high { to < length starts.now → address < get_or starts.now to 0 }
     ensures within { result < length starts.now }
     ensures exact { IsInRange starts.now result address }
 {
-    let (mut low, mut high) = (from, to);
-    while low + 1 < high {
-        let middle = low + (high - low) / 2;
-        if starts[middle] <= address {
-            low = middle;
+    let (mut low, mut count) = (from, to - from);
+    // A step does the same work whatever it finds, so that no processor has to guess.
+    while count > 1 {
+        let half = count / 2;
+        let middle = low + half;
+        low = if starts[middle] <= address {
+            middle
         } else {
-            high = middle;
-        }
+            low
+        };
+        count -= half;
     }
     low
 }
@@ -105,7 +110,7 @@ fn range_between(starts: &[u32], from: usize, to: usize, address: u32) -> usize
 impl Index {
     ghost use Rattle.std.specs.Prelude.{AllPairs, length};
     ghost use Rattle.ospf_graph.specs.Routes.{IsRouteBefore};
-    ghost use Rattle.ospf_index.specs.Ranges.{IsAnswerAt, IsIndexOf};
+    ghost use Rattle.ospf_index.specs.Ranges.{IsIndexOf, IsPlaceFor};
     ghost use Rattle.ospf_index.specs.Room.{HasIndexRoom};
 
     /// The index of the routes of a table. It takes no memory but what is given.
@@ -120,15 +125,16 @@ impl Index {
         Index { ranges, directory }
     }
 
-    /// The place of the route of longest prefix that holds an address; `None` where no route's prefix does.
-    pub fn place(&self, routes: &[Route], address: u32) -> Option<usize>
+    /// The place of the route of longest prefix that holds an address; one behind the last route where no route's
+    /// prefix does.
+    pub fn place(&self, routes: &[Route], address: u32) -> usize
         requires { IsIndexOf routes.now self.now }
-        ensures { IsAnswerAt routes.now address result }
+        ensures { IsPlaceFor routes.now address result }
     {
         let block = (address >> BLOCK_BITS) as usize;
-        let from = self.directory[block];
-        let to = self.directory[block + 1] + 1;
+        let from = self.directory[block] as usize;
+        let to = self.directory[block + 1] as usize + 1;
         let range = range_between(&self.ranges.starts, from, to, address);
-        self.ranges.best[range]
+        self.ranges.places[range]
     }
 }
