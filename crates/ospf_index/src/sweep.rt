@@ -4,7 +4,7 @@ ghost use Rattle.std.specs.Prelude.{◌≡◌, ◌≤◌, ◌<◌, ◌+◌, ◌-
 ghost use Rattle.ospf_graph.specs.Routes.{IsRouteBefore};
 ghost use Rattle.ospf_index.specs.Ranges.{HasRanges, end_of};
 ghost use Rattle.ospf_index.specs.Room.{HasRoom, IsRoomFor, IsSweptTo};
-ghost use Rattle.ospf_index.specs.Sweep.{IsBegun, blocks_of};
+ghost use Rattle.ospf_index.specs.Sweep.{IsBegun, blocks_of, top};
 
 use crate::ranges::Ranges;
 use ospf_base::Prefix;
@@ -29,7 +29,7 @@ impl Sweep {
     ghost use Rattle.std.specs.Prelude.{◌≡◌, ◌≤◌, ◌<◌, ◌+◌, ◌-◌, ◌++◌, ◌∷◌, ℕ, AllPairs, IfOk, MatchOption, get_or, length, vec_len, vec_capacity};
     ghost use Rattle.ospf_graph.specs.Routes.{IsRouteBefore};
     ghost use Rattle.ospf_index.specs.Room.{HasRoom, IsRoomFor, IsSweptTo};
-    ghost use Rattle.ospf_index.specs.Sweep.{IsBegun, blocks_of};
+    ghost use Rattle.ospf_index.specs.Sweep.{IsBegun, blocks_of, top};
 
     /// All the memory for a sweep over so many routes.
     ///
@@ -76,6 +76,13 @@ impl Sweep {
         }
     }
 
+    // The place of the route that was opened last; another where none is open.
+    fn innermost(&self, otherwise: usize) -> usize
+        ensures { result ≡ top otherwise self.now.opened.items }
+    {
+        self.opened.last().copied().unwrap_or(otherwise)
+    }
+
     // The end of the route that was opened last, unless it is behind the limit.
     fn ended(&self, routes: &[Route], begun: usize, limit: u32) -> Option<u32>
         requires { IsSweptTo routes.now begun self.now }
@@ -109,7 +116,7 @@ impl Sweep {
     {
         while let Some(end) = self.ended(routes, begun, limit) {
             let _place = self.opened.pop();
-            let place = self.opened.last().copied().unwrap_or(routes.len());
+            let place = self.innermost(routes.len());
             self.begin_range(end, place);
         }
     }

@@ -1,8 +1,5 @@
 use Rattle.std.proofs.Common.{subst, ◌≡◌, ◌-◌, ℕ, length, take, get_or, vec_len, vec_capacity, ap, ◌∙◌, arith}
 use Rattle.std.proofs.lemmas.List.{length-take-le}
-use Rattle.std.proofs.lemmas.Option.{unwrap_or-slice_get}
-use Rattle.std.specs.List.{slice_get}
-use Rattle.std.specs.Option.{unwrap_or}
 use Rattle.ospf_index.specs.Sweep.{IsBegun, blocks_of, top}
 use Rattle.ospf_index.proofs.BlockLemmas.{table_nested}
 use Rattle.ospf_index.proofs.SweepLemmas.{ends_one}
@@ -22,9 +19,7 @@ loop-end-preserved c =
     let starts = before.ranges.starts.items in
     let places = before.ranges.places.items in
     let last = c.begin_range.new.self.ranges in
-    let outer : c.copied.result ≡ slice_get fewer (length fewer - 1) = c.copied.ensures ∙ c.last.ensures.value ∙ ap (λ l. slice_get l (length l - 1)) c.deref.ensures.value in
-    let place : c.unwrap_or-place.result ≡ top b.count fewer =
-    c.unwrap_or-place.ensures ∙ ap (λ o. unwrap_or o (length routes)) outer ∙ unwrap_or-slice_get fewer (length fewer - 1) (length routes) in
+    let place : c.innermost-place.result ≡ top b.count fewer = c.innermost-place.ensures in
     let begun : IsBegun starts places (b.end (get_or opened (length opened - 1) 0)) (top b.count fewer) last.starts.items last.places.items =
     subst (λ (n : ℕ). IsBegun starts places n (top b.count fewer) last.starts.items last.places.items) end
     (subst (λ (n : ℕ). IsBegun starts places c.in-Some.end n last.starts.items last.places.items) place c.begin_range.ensures.begun) in
