@@ -1,6 +1,6 @@
 //! The index of a table: its ranges, and a directory of them by the first 16 bits of an address.
 
-ghost use Rattle.std.specs.Prelude.{◌≡◌, ◌≤◌, ◌<◌, ◌+◌, ◌*◌, ◌^◌, ◌∷◌, ◌++◌, [], AllPairs, IfOk, get_or, length, vec_capacity};
+ghost use Rattle.std.specs.Prelude.{◌≡◌, ◌≤◌, ◌<◌, ◌+◌, ◌*◌, ◌^◌, ◌⊎◌, ◌∷◌, ◌++◌, [], AllPairs, IfOk, get_or, length, vec_capacity};
 ghost use Rattle.ospf_graph.specs.Routes.{IsRouteBefore};
 ghost use Rattle.ospf_index.specs.Ranges.{HasRanges, IsDirectory, IsInRange, IsIndexOf, IsPlaceFor, IsRising, block_start};
 ghost use Rattle.ospf_index.specs.Room.{HasIndexRoom, IsRoomFor};
@@ -18,6 +18,11 @@ const BLOCK_SIZE: u64 = 65536;
 
 // The bits of an address behind those that name its block.
 const BLOCK_BITS: u32 = 16;
+
+// How many addresses there are, and how many bits tell them apart.
+const ADDRESSES: u64 = 1 << 32;
+
+const ADDRESS_BITS: u32 = 32;
 
 /// The ranges of a table's routes, and for each block of addresses, and for what stands behind the last one,
 /// the range in which it begins.
@@ -83,6 +88,15 @@ fn directory_of(starts: &[u32], room: Vec<u32>) -> Vec<u32>
     directory
 }
 
+// This many, where the start is the address or before it, else none. It does the same work for both, so that no
+// processor has to guess which it is.
+fn step_to(start: u32, address: u32, many: usize) -> usize
+    ensures { ((start ≤ address) × (result ≡ many)) ⊎ ((address < start) × (result ≡ 0)) }
+{
+    let is_before = (address as u64 + ADDRESSES - start as u64) >> ADDRESS_BITS;
+    many * is_before as usize
+}
+
 // The range that has an address, which lies from one range on and before another.
 fn range_between(starts: &[u32], from: usize, to: usize, address: u32) -> usize
     requires in_order { IsRising starts.now }
@@ -93,15 +107,9 @@ fn range_between(starts: &[u32], from: usize, to: usize, address: u32) -> usize
     ensures exact { IsInRange starts.now result address }
 {
     let (mut low, mut count) = (from, to - from);
-    // A step does the same work whatever it finds, so that no processor has to guess.
     while count > 1 {
         let half = count / 2;
-        let middle = low + half;
-        low = if starts[middle] <= address {
-            middle
-        } else {
-            low
-        };
+        low += step_to(starts[low + half], address, half);
         count -= half;
     }
     low
