@@ -1,5 +1,5 @@
 -- A prefix is a block of addresses, and blocks of prefixes in order lie in one another or apart.
-use Rattle.std.proofs.Common.{subst, ◌≡◌, ◌+◌, ◌-◌, ◌*◌, ◌/◌, ◌^◌, ◌<◌, ◌≤◌, ◌⊎◌, ℕ, List, [], ◌∷◌, length, get_or, Option, Some, None, sym, ap, ◌∙◌, inl, inr, arith}
+use Rattle.std.proofs.Common.{subst, ◌≡◌, ◌+◌, ◌-◌, ◌*◌, ◌/◌, ◌^◌, ◌<◌, ◌≤◌, ◌⊎◌, ℕ, List, [], ◌∷◌, length, get_or, sym, ap, ◌∙◌, inl, inr, arith}
 use Rattle.std.specs.Prelude.{bit_and}
 use Rattle.std.specs.List.{AllPairs}
 use Rattle.std.proofs.lemmas.List.{get_or-map}
@@ -12,7 +12,7 @@ use Rattle.ospf_base.proofs.PrefixLaws.{prefix_same}
 use Rattle.ospf_graph.specs.declared.route.Route.{Route}
 use Rattle.ospf_graph.specs.Routes.{IsRouteBefore}
 use Rattle.ospf_spf.proofs.PrefixOrder.{prefixes_told}
-use Rattle.ospf_index.specs.Ranges.{end_of, IsAnswerAt}
+use Rattle.ospf_index.specs.Ranges.{end_of, IsPlaceFor}
 use Rattle.ospf_index.specs.Sweep.{IsLongest, AreNested, blocks_of}
 
 same_or_less : (i j : ℕ) → i ≤ j → (i ≡ j) ⊎ (i < j)
@@ -145,16 +145,19 @@ module _ (routes : List Route) (order : AllPairs IsRouteBefore routes) where
       }
 
   -- the longest block that has an address is that of the best route
-  pub longest_answers : (address : ℕ) (v : Option ℕ) → address < 2 ^ 32 → IsLongest (blocks_of routes) address v → IsAnswerAt routes address v
-  longest_answers address None small h = λ k d lt held.
-      let has = holds_in (get_or routes k d).prefix address small held in
-      h k lt (omega (arith, has.0, first_is routes k d lt), omega (arith, has.1, end_is routes k d lt))
-  longest_answers address (Some t) small h =
-      record {
-        within = h.0;
-        holds = λ d. in_holds (get_or routes t d).prefix address small (omega (arith, h.1.0, first_is routes t d h.0)) (omega (arith, h.1.1, end_is routes t d h.0));
-        longest = λ k d lt held.
-            let has = holds_in (get_or routes k d).prefix address small held in
-            let le = h.2 k lt (omega (arith, has.0, first_is routes k d lt), omega (arith, has.1, end_is routes k d lt)) in
-            omega (arith, le, long_is routes k d lt, long_is routes t d h.0);
-      }
+  pub longest_answers : (address t : ℕ) → address < 2 ^ 32 → IsLongest (blocks_of routes) address t → IsPlaceFor routes address t
+  longest_answers address t small h = (
+    λ lt.
+        let p = h.0 lt in
+        record {
+          within = lt;
+          holds = λ d. in_holds (get_or routes t d).prefix address small (omega (arith, p.0.0, first_is routes t d lt)) (omega (arith, p.0.1, end_is routes t d lt));
+          longest = λ k d in_table held.
+              let has = holds_in (get_or routes k d).prefix address small held in
+              let le = p.1 k in_table (omega (arith, has.0, first_is routes k d in_table), omega (arith, has.1, end_is routes k d in_table)) in
+              omega (arith, le, long_is routes k d in_table, long_is routes t d lt);
+        },
+    λ le k d in_table held.
+        let has = holds_in (get_or routes k d).prefix address small held in
+        h.1 le k in_table (omega (arith, has.0, first_is routes k d in_table), omega (arith, has.1, end_is routes k d in_table)),
+  )

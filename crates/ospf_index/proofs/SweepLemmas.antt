@@ -1,10 +1,10 @@
 -- The steps of the sweep.
-use Rattle.std.proofs.Common.{subst, ◌≡◌, ◌+◌, ◌-◌, ◌<◌, ◌≤◌, ◌⊎◌, ℕ, List, [], ◌∷◌, ◌++◌, length, take, get_or, Option, Some, None, refl, sym, ap, ◌∙◌, inl, inr, arith}
+use Rattle.std.proofs.Common.{subst, ◌≡◌, ◌+◌, ◌-◌, ◌<◌, ◌≤◌, ◌⊎◌, ℕ, List, [], ◌∷◌, ◌++◌, length, take, get_or, refl, sym, ap, ◌∙◌, inl, inr, arith}
 use Rattle.std.specs.List.{Contains}
 use Rattle.std.proofs.lemmas.List.{get_or_append_left, get_or_push, get_or-take, get_or_default, length_push, length-take-le}
 use Rattle.std.proofs.lemmas.List.Elements.{Contains-append_left, Contains-push}
-use Rattle.std.proofs.lemmas.Option.{slice_get-get_or}
-use Rattle.ospf_index.specs.Sweep.{Blocks, IsLongest, IsSwept, AreNested, here, top}
+use Rattle.ospf_index.specs.Ranges.{IsRising}
+use Rattle.ospf_index.specs.Sweep.{Blocks, IsBegun, IsLongest, IsSwept, AreNested, here, top}
 
 same_or_less : (i j : ℕ) → i ≤ j → (i ≡ j) ⊎ (i < j)
 same_or_less i j le = grind arith
@@ -16,17 +16,27 @@ none_or_some : (n : ℕ) → (n ≡ 0) ⊎ (0 < n)
 none_or_some n = grind arith
 
 -- the last of a list that is not empty
-pub top_is : (opened : List ℕ) → 0 < length opened → top opened ≡ Some (get_or opened (length opened - 1) 0)
-top_is opened some = slice_get-get_or opened (length opened - 1) 0 (omega arith)
+pub top_is : (count : ℕ) (opened : List ℕ) → 0 < length opened → top count opened ≡ get_or opened (length opened - 1) 0
+top_is count opened some = get_or_default opened (length opened - 1) count 0 (omega arith)
 
-pub top_none : (opened : List ℕ) → length opened ≡ 0 → top opened ≡ None
-top_none [] e = refl
-top_none (x ∷ xs) e = absurd (omega arith)
+pub top_none : (count : ℕ) (opened : List ℕ) → length opened ≡ 0 → top count opened ≡ count
+top_none count [] e = refl
+top_none count (x ∷ xs) e = absurd (omega arith)
 
 here_push : (starts : List ℕ) (y : ℕ) → here (starts ++ y ∷ []) ≡ y
 here_push starts y = let n : length starts ≡ length (starts ++ y ∷ []) - 1 = omega (arith, length_push starts y) in get_or_push starts y 0 (length (starts ++ y ∷ []) - 1) n
 
-module _ (b : Blocks) (nest : AreNested b) (begun : ℕ) (opened starts : List ℕ) (best : List (Option ℕ)) (m : IsSwept b begun opened starts best) where
+-- ranges of which the last begins here and has this place, and all others have their answers
+pub record IsNext (b : Blocks) (y v : ℕ) (starts places : List ℕ) : Type 0 where
+  pub same_length : length places ≡ length starts
+  pub some : 0 < length starts
+  pub from_first : get_or starts 0 0 ≡ 0
+  pub in_order : IsRising starts
+  pub exact : (i address : ℕ) → i + 1 < length starts → get_or starts i 0 ≤ address → address < get_or starts (i + 1) 0 → IsLongest b address (get_or places i 0)
+  pub current : get_or places (length starts - 1) 0 ≡ v
+  pub at_last : here starts ≡ y
+
+module _ (b : Blocks) (nest : AreNested b) (begun : ℕ) (opened starts places : List ℕ) (m : IsSwept b begun opened starts places) where
   longest : (k : ℕ) → Contains opened k → 0 < length opened → b.long k ≤ b.long (get_or opened (length opened - 1) 0)
   longest k in_open some =
       let is : get_or opened in_open.0 0 ≡ k = get_or_default opened in_open.0 0 k in_open.1 ∙ in_open.2 in
@@ -38,17 +48,20 @@ module _ (b : Blocks) (nest : AreNested b) (begun : ℕ) (opened starts : List �
 
   -- the range at which the sweep stands has its answer up to an address that is not behind the next block nor the end of the last opened
   pub closes : (y : ℕ) → ((k : ℕ) → begun ≤ k → k < b.count → y ≤ b.first k) → (0 < length opened → y ≤ b.end (get_or opened (length opened - 1) 0))
-      → (a : ℕ) → here starts ≤ a → a < y → IsLongest b a (top opened)
+      → (a : ℕ) → here starts ≤ a → a < y → IsLongest b a (top b.count opened)
   closes y before inside a from to =
       elim (none_or_some (length opened)) [
-        | inl none ↦ rw (top_none opened none) (λ k lt has.
-            elim (less_or_more k begun) [
-              | inl less ↦ elim (m.ended k less) [
-                | inl in_open ↦ let low = in_open.1 in omega arith
-                | inr gone ↦ omega (arith, gone, has.1, from)
-              ]
-              | inr more ↦ omega (arith, before k more lt, has.0, to)
-            ])
+        | inl none ↦ rw (top_none b.count opened none) (
+          λ small. absurd (omega arith),
+          λ le k lt has.
+              elim (less_or_more k begun) [
+                | inl less ↦ elim (m.ended k less) [
+                  | inl in_open ↦ let low = in_open.1 in omega arith
+                  | inr gone ↦ omega (arith, gone, has.1, from)
+                ]
+                | inr more ↦ omega (arith, before k more lt, has.0, to)
+              ],
+        )
         | inr some ↦
             let last = length opened - 1 in
             let t = get_or opened last 0 in
@@ -56,82 +69,118 @@ module _ (b : Blocks) (nest : AreNested b) (begun : ℕ) (opened starts : List �
             let fits : a < b.end t = omega (arith, inside some, to) in
             let low : b.first t ≤ a = omega (arith, at.1, from) in
             let small : t < b.count = omega (arith, at.0, m.within) in
-            rw (top_is opened some) (
-              small,
-              (low, fits),
-              λ k lt has.
-                  elim (less_or_more k begun) [
-                    | inr more ↦ absurd (omega (arith, before k more lt, has.0, to))
-                    | inl less ↦ elim (m.ended k less) [
-                      | inr gone ↦ absurd (omega (arith, gone, has.1, from))
-                      | inl in_open ↦ longest k in_open some
-                    ]
-                  ],
+            rw (top_is b.count opened some) (
+              λ _. (
+                (low, fits),
+                λ k lt has.
+                    elim (less_or_more k begun) [
+                      | inr more ↦ absurd (omega (arith, before k more lt, has.0, to))
+                      | inl less ↦ elim (m.ended k less) [
+                        | inr gone ↦ absurd (omega (arith, gone, has.1, from))
+                        | inl in_open ↦ longest k in_open some
+                      ]
+                    ],
+              ),
+              λ le. absurd (omega (arith, small, le)),
             )
       ]
 
+  -- a range begins where the last one does
+  renamed : (y v : ℕ) → here starts ≡ y → IsNext b y v starts (take (length places - 1) places ++ v ∷ [])
+  renamed y v same =
+      let kept = take (length places - 1) places in
+      let long : length kept ≡ length starts - 1 = omega (arith, length-take-le (length places - 1) places (omega arith), m.same_length) in
+      let at : (i : ℕ) → i < length starts - 1 → get_or (kept ++ v ∷ []) i 0 ≡ get_or places i 0 = λ i lt.
+      get_or_append_left kept (v ∷ []) 0 i (omega (arith, long)) ∙ get_or-take (length places - 1) places i 0 (omega (arith, m.same_length)) in
+      record {
+        same_length = omega (arith, length_push kept v, long, m.some);
+        some = m.some;
+        from_first = m.from_first;
+        in_order = m.in_order;
+        exact = λ i a lt from to. subst (λ (n : ℕ). IsLongest b a n) (sym (at i (omega arith))) (m.exact i a lt from to);
+        current = get_or_push kept v 0 (length starts - 1) long;
+        at_last = same;
+      }
+
   -- each range has its answer, with one more that begins at this address
-  exact_more : (y : ℕ) (v : Option ℕ) → ((a : ℕ) → here starts ≤ a → a < y → IsLongest b a (top opened))
-      → (i a : ℕ) → i + 1 < length (starts ++ y ∷ []) → get_or (starts ++ y ∷ []) i 0 ≤ a → a < get_or (starts ++ y ∷ []) (i + 1) 0 → IsLongest b a (get_or (best ++ v ∷ []) i None)
+  exact_more : (y v : ℕ) → ((a : ℕ) → here starts ≤ a → a < y → IsLongest b a (top b.count opened))
+      → (i a : ℕ) → i + 1 < length (starts ++ y ∷ []) → get_or (starts ++ y ∷ []) i 0 ≤ a → a < get_or (starts ++ y ∷ []) (i + 1) 0 → IsLongest b a (get_or (places ++ v ∷ []) i 0)
   exact_more y v closed i a lt from to =
       let long = length_push starts y in
-      let in_best : i < length best = omega (arith, m.same_length, long) in
-      let is : get_or (best ++ v ∷ []) i None ≡ get_or best i None = get_or_append_left best (v ∷ []) None i in_best in
+      let in_places : i < length places = omega (arith, m.same_length, long) in
+      let is : get_or (places ++ v ∷ []) i 0 ≡ get_or places i 0 = get_or_append_left places (v ∷ []) 0 i in_places in
       let at : get_or (starts ++ y ∷ []) i 0 ≡ get_or starts i 0 = get_or_append_left starts (y ∷ []) 0 i (omega (arith, long)) in
       let low : get_or starts i 0 ≤ a = subst (λ (n : ℕ). n ≤ a) at from in
-      subst (λ (o : Option ℕ). IsLongest b a o) (sym is) (elim (same_or_less (i + 2) (length starts + 1) (omega (arith, long))) [
+      subst (λ (n : ℕ). IsLongest b a n) (sym is) (elim (same_or_less (i + 2) (length starts + 1) (omega (arith, long))) [
         | inl same ↦
             let e : i ≡ length starts - 1 = omega arith in
             let next : get_or (starts ++ y ∷ []) (i + 1) 0 ≡ y = get_or_push starts y 0 (i + 1) (omega arith) in
             let h : here starts ≤ a = subst (λ (n : ℕ). get_or starts n 0 ≤ a) e low in
             let p = closed a h (subst (λ (n : ℕ). a < n) next to) in
-            subst (λ (o : Option ℕ). IsLongest b a o) (sym (ap (λ n. get_or best n None) e ∙ m.current)) p
+            subst (λ (n : ℕ). IsLongest b a n) (sym (ap (λ n. get_or places n 0) e ∙ m.current)) p
         | inr less ↦
             let next : get_or (starts ++ y ∷ []) (i + 1) 0 ≡ get_or starts (i + 1) 0 = get_or_append_left starts (y ∷ []) 0 (i + 1) (omega arith) in
             m.exact i a (omega arith) low (subst (λ (n : ℕ). a < n) next to)
       ])
 
-  order_more : (y : ℕ) → here starts ≤ y → (i j : ℕ) → i ≤ j → j < length (starts ++ y ∷ []) → get_or (starts ++ y ∷ []) i 0 ≤ get_or (starts ++ y ∷ []) j 0
-  order_more y up i j le lt =
+  order_more : (y : ℕ) → here starts < y → IsRising (starts ++ y ∷ [])
+  order_more y up i j before lt =
       let long = length_push starts y in
+      let first : get_or (starts ++ y ∷ []) i 0 ≡ get_or starts i 0 = get_or_append_left starts (y ∷ []) 0 i (omega (arith, long)) in
       elim (same_or_less j (length starts) (omega (arith, long))) [
-        | inr less ↦ rw (get_or_append_left starts (y ∷ []) 0 j less, get_or_append_left starts (y ∷ []) 0 i (omega arith)) (m.in_order i j le less)
+        | inr less ↦ rw (get_or_append_left starts (y ∷ []) 0 j less, first) (m.in_order i j before less)
         | inl at ↦
             let last : get_or (starts ++ y ∷ []) j 0 ≡ y = get_or_push starts y 0 j (sym at) in
-            elim (same_or_less i j le) [
-              | inl same ↦ let e : get_or (starts ++ y ∷ []) i 0 ≡ get_or (starts ++ y ∷ []) j 0 = ap (λ n. get_or (starts ++ y ∷ []) n 0) same in omega (arith, e)
-              | inr before ↦
-                  let first : get_or (starts ++ y ∷ []) i 0 ≡ get_or starts i 0 = get_or_append_left starts (y ∷ []) 0 i (omega arith) in
-                  let low = m.in_order i (length starts - 1) (omega arith) (omega (arith, m.some)) in
-                  omega (arith, first, last, low, up)
+            elim (same_or_less i (length starts - 1) (omega arith)) [
+              | inl same ↦ let e : get_or starts i 0 ≡ here starts = ap (λ n. get_or starts n 0) same in omega (arith, e, first, last, up)
+              | inr less ↦ omega (arith, first, last, m.in_order i (length starts - 1) less (omega (arith, m.some)), up)
             ]
       ]
 
-  from_first_more : (y : ℕ) → get_or (starts ++ y ∷ []) 0 0 ≡ 0
-  from_first_more y = get_or_append_left starts (y ∷ []) 0 0 m.some ∙ m.from_first
+  -- a range begins behind the last one
+  added : (y v : ℕ) → here starts < y → ((a : ℕ) → here starts ≤ a → a < y → IsLongest b a (top b.count opened)) → IsNext b y v (starts ++ y ∷ []) (places ++ v ∷ [])
+  added y v up closed =
+      record {
+        same_length = omega (arith, length_push places v, length_push starts y, m.same_length);
+        some = omega (arith, length_push starts y);
+        from_first = get_or_append_left starts (y ∷ []) 0 0 m.some ∙ m.from_first;
+        in_order = order_more y up;
+        exact = exact_more y v closed;
+        current = get_or_push places v 0 (length (starts ++ y ∷ []) - 1) (omega (arith, m.same_length, length_push starts y));
+        at_last = here_push starts y;
+      }
 
-  current_more : (y : ℕ) (v : Option ℕ) → get_or (best ++ v ∷ []) (length (starts ++ y ∷ []) - 1) None ≡ v
-  current_more y v = get_or_push best v None (length (starts ++ y ∷ []) - 1) (omega (arith, m.same_length, length_push starts y))
+  -- a range begins
+  next_ranges : (y v : ℕ) (next_starts next_places : List ℕ) → here starts ≤ y → ((a : ℕ) → here starts ≤ a → a < y → IsLongest b a (top b.count opened))
+      → IsBegun starts places y v next_starts next_places → IsNext b y v next_starts next_places
+  next_ranges y v next_starts next_places up closed (inl is) = rw (is.2, is.3) (renamed y v is.1)
+  next_ranges y v next_starts next_places up closed (inr is) =
+      let behind : here starts < y = elim (same_or_less (here starts) y up) [
+        | inl same ↦ absurd (is.0 m.some same)
+        | inr less ↦ less
+      ] in
+      rw (is.1, is.2) (added y v behind closed)
 
   -- the block that was opened last ends
-  pub ends_one : (limit : ℕ) (fewer : List ℕ) → 0 < length opened → fewer ≡ take (length opened - 1) opened → b.end (get_or opened (length opened - 1) 0) ≤ limit
+  pub ends_one : (limit : ℕ) (fewer next_starts next_places : List ℕ) → 0 < length opened → fewer ≡ take (length opened - 1) opened → b.end (get_or opened (length opened - 1) 0) ≤ limit
       → ((k : ℕ) → begun ≤ k → k < b.count → limit ≤ b.first k)
-      → IsSwept b begun fewer (starts ++ b.end (get_or opened (length opened - 1) 0) ∷ []) (best ++ top fewer ∷ [])
-  ends_one limit fewer some is fits before =
+      → IsBegun starts places (b.end (get_or opened (length opened - 1) 0)) (top b.count fewer) next_starts next_places → IsSwept b begun fewer next_starts next_places
+  ends_one limit fewer next_starts next_places some is fits before started =
       let last = length opened - 1 in
       let y = b.end (get_or opened last 0) in
       let long : length fewer ≡ last = ap length is ∙ length-take-le last opened (omega arith) in
       let at : (s : ℕ) → s < last → get_or fewer s 0 ≡ get_or opened s 0 = λ s lt. ap (λ l. get_or l s 0) is ∙ get_or-take last opened s 0 lt in
       let up : here starts ≤ y = (m.open_here last (omega arith)).2 in
-      let next : here (starts ++ y ∷ []) ≡ y = here_push starts y in
+      let more = next_ranges y (top b.count fewer) next_starts next_places up (closes y (λ k le lt. omega (arith, before k le lt)) (λ _. omega arith)) started in
+      let next = more.at_last in
       record {
         within = m.within;
-        same_length = omega (arith, length_push best (top fewer), length_push starts y, m.same_length);
-        some = omega (arith, length_push starts y);
-        from_first = from_first_more y;
-        in_order = order_more y up;
-        exact = exact_more y (top fewer) (closes y (λ k le lt. omega (arith, before k le lt)) (λ _. omega arith));
-        current = current_more y (top fewer);
+        same_length = more.same_length;
+        some = more.some;
+        from_first = more.from_first;
+        in_order = more.in_order;
+        exact = more.exact;
+        current = more.current;
         open_here = λ s lt.
             let less : s < last = omega (arith, long) in
             let h = m.open_here s (omega arith) in
@@ -154,20 +203,20 @@ module _ (b : Blocks) (nest : AreNested b) (begun : ℕ) (opened starts : List �
       }
 
   -- the next block begins
-  pub begins_one : begun < b.count → (0 < length opened → b.first begun < b.end (get_or opened (length opened - 1) 0))
-      → IsSwept b (begun + 1) (opened ++ begun ∷ []) (starts ++ b.first begun ∷ []) (best ++ Some begun ∷ [])
-  begins_one more inside =
+  pub begins_one : (next_starts next_places : List ℕ) → begun < b.count → (0 < length opened → b.first begun < b.end (get_or opened (length opened - 1) 0))
+      → IsBegun starts places (b.first begun) begun next_starts next_places → IsSwept b (begun + 1) (opened ++ begun ∷ []) next_starts next_places
+  begins_one next_starts next_places small inside started =
       let y = b.first begun in
-      let v : Option ℕ = Some begun in
-      let up : here starts ≤ y = m.ahead begun (omega arith) more in
-      let next : here (starts ++ y ∷ []) ≡ y = here_push starts y in
+      let up : here starts ≤ y = m.ahead begun (omega arith) small in
+      let more = next_ranges y begun next_starts next_places up (closes y (λ k le lt. nest.in_order begun k le lt) (λ s. omega (arith, inside s))) started in
+      let next = more.at_last in
       let long = length_push opened begun in
       let last : get_or (opened ++ begun ∷ []) (length opened) 0 ≡ begun = get_or_push opened begun 0 (length opened) refl in
       let at : (s : ℕ) → s < length opened → get_or (opened ++ begun ∷ []) s 0 ≡ get_or opened s 0 = λ s lt. get_or_append_left opened (begun ∷ []) 0 s lt in
       let behind : length (opened ++ begun ∷ []) - 1 ≡ length opened = omega (arith, long) in
-      let is_top : top (opened ++ begun ∷ []) ≡ v =
-      top_is (opened ++ begun ∷ []) (omega (arith, long)) ∙ ap (λ n. Some n) (ap (λ n. get_or (opened ++ begun ∷ []) n 0) behind ∙ last) in
-      let holds = nest.not_empty begun more in
+      let is_top : top b.count (opened ++ begun ∷ []) ≡ begun =
+      top_is b.count (opened ++ begun ∷ []) (omega (arith, long)) ∙ ap (λ n. get_or (opened ++ begun ∷ []) n 0) behind ∙ last in
+      let holds = nest.not_empty begun small in
       let ends : (s : ℕ) → s < length opened → y < b.end (get_or opened s 0) = λ s lt.
       elim (same_or_less s (length opened - 1) (omega arith)) [
         | inl same ↦ let e : b.end (get_or opened s 0) ≡ b.end (get_or opened (length opened - 1) 0) = ap (λ j. b.end (get_or opened j 0)) same in omega (arith, e, inside (omega arith))
@@ -175,12 +224,12 @@ module _ (b : Blocks) (nest : AreNested b) (begun : ℕ) (opened starts : List �
       ] in
       record {
         within = omega arith;
-        same_length = omega (arith, length_push best v, length_push starts y, m.same_length);
-        some = omega (arith, length_push starts y);
-        from_first = from_first_more y;
-        in_order = order_more y up;
-        exact = exact_more y v (closes y (λ k le lt. nest.in_order begun k le lt) (λ s. omega (arith, inside s)));
-        current = current_more y v ∙ sym is_top;
+        same_length = more.same_length;
+        some = more.some;
+        from_first = more.from_first;
+        in_order = more.in_order;
+        exact = more.exact;
+        current = more.current ∙ sym is_top;
         open_here = λ s lt.
             elim (same_or_less s (length opened) (omega (arith, long))) [
               | inl same ↦ let e : get_or (opened ++ begun ∷ []) s 0 ≡ begun = ap (λ n. get_or (opened ++ begun ∷ []) n 0) same ∙ last in rw (e, next) (omega arith, omega arith, omega (arith, holds))
@@ -191,7 +240,7 @@ module _ (b : Blocks) (nest : AreNested b) (begun : ℕ) (opened starts : List �
             elim (same_or_less t (length opened) (omega (arith, long))) [
               | inl same ↦
                   let e : get_or (opened ++ begun ∷ []) t 0 ≡ begun = ap (λ n. get_or (opened ++ begun ∷ []) n 0) same ∙ last in
-                  let n = nest.nested (get_or opened s 0) begun (m.open_here s before).0 more (ends s before) in
+                  let n = nest.nested (get_or opened s 0) begun (m.open_here s before).0 small (ends s before) in
                   rw (e, at s before) n
               | inr less ↦ rw (at s before, at t less) (m.nested s t lt less)
             ];

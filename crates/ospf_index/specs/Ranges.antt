@@ -1,5 +1,5 @@
 -- Ranges of addresses: each begins at its start and ends before the next one's.
-use Rattle.std.specs.Prelude.{◌≡◌, ◌+◌, ◌-◌, ◌<◌, ◌≤◌, ◌^◌, ◌*◌, ℕ, List, Option, Some, None, get_or, length}
+use Rattle.std.specs.Prelude.{◌≡◌, ◌+◌, ◌-◌, ◌<◌, ◌≤◌, ◌^◌, ◌*◌, ℕ, List, get_or, length}
 use Rattle.ospf_base.specs.Prefixes.{Holds}
 use Rattle.ospf_base.specs.declared.prefix.Prefix.{Prefix}
 use Rattle.ospf_graph.specs.declared.route.Route.{Route}
@@ -11,10 +11,15 @@ use Rattle.ospf_index.specs.declared.index.Index.{Index}
 abbrev pub end_of : Prefix → ℕ
 end_of prefix = prefix.address.0 + 2 ^ (32 - prefix.length)
 
--- the place of the route of longest prefix that holds the address, or none does
-abbrev pub IsAnswerAt : List Route → ℕ → Option ℕ → Type 0
-IsAnswerAt routes address None = (k : ℕ) (d : Route) → k < length routes → Holds (get_or routes k d).prefix address → ⊥
-IsAnswerAt routes address (Some place) = IsBestPlace routes address place
+-- the place of the route of longest prefix that holds the address, or one behind the last route where no route does
+abbrev pub IsPlaceFor : List Route → ℕ → ℕ → Type 0
+IsPlaceFor routes address place =
+    (place < length routes → IsBestPlace routes address place)
+    × (length routes ≤ place → (k : ℕ) (d : Route) → k < length routes → Holds (get_or routes k d).prefix address → ⊥)
+
+-- each range begins behind the one before it
+abbrev pub IsRising : List ℕ → Type 0
+IsRising starts = (i j : ℕ) → i < j → j < length starts → get_or starts i 0 < get_or starts j 0
 
 -- the address lies in this range
 abbrev pub IsInRange : List ℕ → ℕ → ℕ → Type 0
@@ -22,12 +27,12 @@ IsInRange starts i address = (get_or starts i 0 ≤ address) × (i + 1 < length 
 
 -- the ranges begin at the first address, one after another, and each has the answer of all its addresses
 pub record HasRanges (routes : List Route) (ranges : Ranges) : Type 0 where
-  pub same_length : length ranges.best.items ≡ length ranges.starts.items
+  pub same_length : length ranges.places.items ≡ length ranges.starts.items
   pub some : 0 < length ranges.starts.items
   pub from_first : get_or ranges.starts.items 0 0 ≡ 0
-  pub in_order : (i j : ℕ) → i ≤ j → j < length ranges.starts.items → get_or ranges.starts.items i 0 ≤ get_or ranges.starts.items j 0
+  pub in_order : IsRising ranges.starts.items
   pub exact : (i address : ℕ) → i < length ranges.starts.items → address < 2 ^ 32 → IsInRange ranges.starts.items i address
-      → IsAnswerAt routes address (get_or ranges.best.items i None)
+      → IsPlaceFor routes address (get_or ranges.places.items i 0)
 
 -- the first addresses of the blocks of a directory, by the first 16 bits, and the one behind the last block
 abbrev pub block_start : ℕ → ℕ

@@ -1,8 +1,8 @@
 //! The index of a table: its ranges, and a directory of them by the first 16 bits of an address.
 
-ghost use Rattle.std.specs.Prelude.{◌≡◌, ◌≤◌, ◌<◌, ◌+◌, ◌*◌, ◌^◌, ◌∷◌, ◌++◌, [], AllPairs, IfOk, None, get_or, length, vec_capacity};
+ghost use Rattle.std.specs.Prelude.{◌≡◌, ◌≤◌, ◌<◌, ◌+◌, ◌*◌, ◌^◌, ◌⊎◌, ◌∷◌, ◌++◌, [], AllPairs, IfOk, get_or, length, vec_capacity};
 ghost use Rattle.ospf_graph.specs.Routes.{IsRouteBefore};
-ghost use Rattle.ospf_index.specs.Ranges.{HasRanges, IsAnswerAt, IsDirectory, IsInRange, IsIndexOf, block_start};
+ghost use Rattle.ospf_index.specs.Ranges.{HasRanges, IsDirectory, IsInRange, IsIndexOf, IsPlaceFor, IsRising, block_start};
 ghost use Rattle.ospf_index.specs.Room.{HasIndexRoom, IsRoomFor};
 
 use crate::ranges::Ranges;
@@ -19,19 +19,24 @@ const BLOCK_SIZE: u64 = 65536;
 // The bits of an address behind those that name its block.
 const BLOCK_BITS: u32 = 16;
 
+// How many addresses there are, and how many bits tell them apart.
+const ADDRESSES: u64 = 1 << 32;
+
+const ADDRESS_BITS: u32 = 32;
+
 /// The ranges of a table's routes, and for each block of addresses, and for what stands behind the last one,
 /// the range in which it begins.
 #[derive(Debug, Drop)]
 pub(crate) struct Index {
     pub ranges: Ranges,
-    pub directory: Vec<usize>,
+    pub directory: Vec<u32>,
 }
 
 /// All the memory that an index takes.
 #[derive(Debug, Drop)]
 pub(crate) struct IndexRoom {
     pub sweep: Sweep,
-    pub directory: Vec<usize>,
+    pub directory: Vec<u32>,
 }
 
 impl IndexRoom {
@@ -65,8 +70,9 @@ fn advance(starts: &[u32], from: usize, address: u64) -> usize
 }
 
 // The directory of ranges.
-fn directory_of(starts: &[u32], room: Vec<usize>) -> Vec<usize>
+fn directory_of(starts: &[u32], room: Vec<u32>) -> Vec<u32>
     requires first { (0 < length starts.now) × (get_or starts.now 0 0 ≡ 0) }
+    requires in_order { IsRising starts.now }
     requires room { (room.items ≡ []) × (65537 ≤ vec_capacity room) }
     ensures { IsDirectory starts.now result.items }
 {
@@ -74,7 +80,7 @@ fn directory_of(starts: &[u32], room: Vec<usize>) -> Vec<usize>
     let mut range = 0;
     for block in 0..BLOCKS + 1 {
         range = advance(starts, range, block as u64 * BLOCK_SIZE);
-        match directory.push(range) {
+        match directory.push(range as u32) {
             Ok(()) => {}
             Err(_) => unreachable!(),
         }
@@ -82,22 +88,29 @@ fn directory_of(starts: &[u32], room: Vec<usize>) -> Vec<usize>
     directory
 }
 
+// This many, where the start is the address or before it, else none. It does the same work for both, so that no
+// processor has to guess which it is.
+fn step_to(start: u32, address: u32, many: usize) -> usize
+    ensures { ((start ≤ address) × (result ≡ many)) ⊎ ((address < start) × (result ≡ 0)) }
+{
+    let is_before = (address as u64 + ADDRESSES - start as u64) >> ADDRESS_BITS;
+    many * is_before as usize
+}
+
 // The range that has an address, which lies from one range on and before another.
 fn range_between(starts: &[u32], from: usize, to: usize, address: u32) -> usize
+    requires in_order { IsRising starts.now }
     requires within { (from < to) × (to ≤ length starts.now) }
     requires low { get_or starts.now from 0 ≤ address }
     requires high { to < length starts.now → address < get_or starts.now to 0 }
     ensures within { result < length starts.now }
     ensures exact { IsInRange starts.now result address }
 {
-    let (mut low, mut high) = (from, to);
-    while low + 1 < high {
-        let middle = low + (high - low) / 2;
-        if starts[middle] <= address {
-            low = middle;
-        } else {
-            high = middle;
-        }
+    let (mut low, mut count) = (from, to - from);
+    while count > 1 {
+        let half = count / 2;
+        low += step_to(starts[low + half], address, half);
+        count -= half;
     }
     low
 }
@@ -105,7 +118,7 @@ fn range_between(starts: &[u32], from: usize, to: usize, address: u32) -> usize
 impl Index {
     ghost use Rattle.std.specs.Prelude.{AllPairs, length};
     ghost use Rattle.ospf_graph.specs.Routes.{IsRouteBefore};
-    ghost use Rattle.ospf_index.specs.Ranges.{IsAnswerAt, IsIndexOf};
+    ghost use Rattle.ospf_index.specs.Ranges.{IsIndexOf, IsPlaceFor};
     ghost use Rattle.ospf_index.specs.Room.{HasIndexRoom};
 
     /// The index of the routes of a table. It takes no memory but what is given.
@@ -120,15 +133,16 @@ impl Index {
         Index { ranges, directory }
     }
 
-    /// The place of the route of longest prefix that holds an address; `None` where no route's prefix does.
-    pub fn place(&self, routes: &[Route], address: u32) -> Option<usize>
+    /// The place of the route of longest prefix that holds an address; one behind the last route where no route's
+    /// prefix does.
+    pub fn place(&self, routes: &[Route], address: u32) -> usize
         requires { IsIndexOf routes.now self.now }
-        ensures { IsAnswerAt routes.now address result }
+        ensures { IsPlaceFor routes.now address result }
     {
         let block = (address >> BLOCK_BITS) as usize;
-        let from = self.directory[block];
-        let to = self.directory[block + 1] + 1;
+        let from = self.directory[block] as usize;
+        let to = self.directory[block + 1] as usize + 1;
         let range = range_between(&self.ranges.starts, from, to, address);
-        self.ranges.best[range]
+        self.ranges.places[range]
     }
 }

@@ -2,9 +2,10 @@
 
 use std::alloc::Global;
 
-/// Ranges of addresses: where each begins, and the place of the route that answers for it.
+/// Ranges of addresses: where each begins, and the place of the route that answers for it. Where none does, the
+/// place is behind the last route.
 #[derive(Debug, Drop)]
 pub(crate) struct Ranges {
     pub starts: Vec<u32>,
-    pub best: Vec<Option<usize>>,
+    pub places: Vec<usize>,
 }

@@ -4,7 +4,7 @@ ghost use Rattle.std.specs.Prelude.{◌≡◌, ◌≤◌, ◌<◌, ◌+◌, ◌-
 ghost use Rattle.ospf_graph.specs.Routes.{IsRouteBefore};
 ghost use Rattle.ospf_index.specs.Ranges.{HasRanges, end_of};
 ghost use Rattle.ospf_index.specs.Room.{HasRoom, IsRoomFor, IsSweptTo};
-ghost use Rattle.ospf_index.specs.Sweep.{blocks_of};
+ghost use Rattle.ospf_index.specs.Sweep.{IsBegun, blocks_of, top};
 
 use crate::ranges::Ranges;
 use ospf_base::Prefix;
@@ -29,7 +29,7 @@ impl Sweep {
     ghost use Rattle.std.specs.Prelude.{◌≡◌, ◌≤◌, ◌<◌, ◌+◌, ◌-◌, ◌++◌, ◌∷◌, ℕ, AllPairs, IfOk, MatchOption, get_or, length, vec_len, vec_capacity};
     ghost use Rattle.ospf_graph.specs.Routes.{IsRouteBefore};
     ghost use Rattle.ospf_index.specs.Room.{HasRoom, IsRoomFor, IsSweptTo};
-    ghost use Rattle.ospf_index.specs.Sweep.{blocks_of};
+    ghost use Rattle.ospf_index.specs.Sweep.{IsBegun, blocks_of, top};
 
     /// All the memory for a sweep over so many routes.
     ///
@@ -43,30 +43,44 @@ impl Sweep {
             .checked_add(1)
             .ok_or(AllocError)?;
         let starts = Vec::with_capacity(alloc, most)?;
-        let best = Vec::with_capacity(alloc, most)?;
+        let places = Vec::with_capacity(alloc, most)?;
         let opened = Vec::with_capacity(alloc, count)?;
         Ok(Sweep {
-            ranges: Ranges { starts, best },
+            ranges: Ranges { starts, places },
             opened,
         })
     }
 
-    // Begins a range.
-    fn begin_range(&mut self, start: u32, place: Option<usize>)
+    // Begins a range. The last one is left out where it has no address.
+    fn begin_range(&mut self, start: u32, place: usize)
         requires starts { vec_len self.old.ranges.starts < vec_capacity self.old.ranges.starts }
-        requires best { vec_len self.old.ranges.best < vec_capacity self.old.ranges.best }
-        ensures starts { self.new.ranges.starts.items ≡ self.old.ranges.starts.items ++ start ∷ [] }
-        ensures best { self.new.ranges.best.items ≡ self.old.ranges.best.items ++ place ∷ [] }
+        requires places { vec_len self.old.ranges.places < vec_capacity self.old.ranges.places }
+        ensures begun { IsBegun self.old.ranges.starts.items self.old.ranges.places.items start place self.new.ranges.starts.items self.new.ranges.places.items }
         ensures opened { self.new.opened ≡ self.old.opened }
         ensures starts_room { vec_capacity self.old.ranges.starts ≤ vec_capacity self.new.ranges.starts }
-        ensures best_room { vec_capacity self.old.ranges.best ≤ vec_capacity self.new.ranges.best }
-        ensures starts_len { vec_len self.new.ranges.starts ≡ vec_len self.old.ranges.starts + 1 }
-        ensures best_len { vec_len self.new.ranges.best ≡ vec_len self.old.ranges.best + 1 }
+        ensures places_room { vec_capacity self.old.ranges.places ≤ vec_capacity self.new.ranges.places }
+        ensures starts_len { vec_len self.new.ranges.starts ≤ vec_len self.old.ranges.starts + 1 }
+        ensures places_len { vec_len self.new.ranges.places ≤ vec_len self.old.ranges.places + 1 }
     {
-        match (self.ranges.starts.push(start), self.ranges.best.push(place)) {
-            (Ok(()), Ok(())) => {}
-            _ => unreachable!(),
+        if self.ranges.starts.last().copied() == Some(start) {
+            let _nobodys = self.ranges.places.pop();
+        } else {
+            match self.ranges.starts.push(start) {
+                Ok(()) => {}
+                Err(_) => unreachable!(),
+            }
         }
+        match self.ranges.places.push(place) {
+            Ok(()) => {}
+            Err(_) => unreachable!(),
+        }
+    }
+
+    // The place of the route that was opened last; another where none is open.
+    fn innermost(&self, otherwise: usize) -> usize
+        ensures { result ≡ top otherwise self.now.opened.items }
+    {
+        self.opened.last().copied().unwrap_or(otherwise)
     }
 
     // The end of the route that was opened last, unless it is behind the limit.
@@ -102,7 +116,7 @@ impl Sweep {
     {
         while let Some(end) = self.ended(routes, begun, limit) {
             let _place = self.opened.pop();
-            let place = self.opened.last().copied();
+            let place = self.innermost(routes.len());
             self.begin_range(end, place);
         }
     }
@@ -122,7 +136,7 @@ impl Sweep {
             Ok(()) => {}
             Err(_) => unreachable!(),
         }
-        self.begin_range(start, Some(place));
+        self.begin_range(start, place);
     }
 }
 
@@ -133,7 +147,7 @@ pub(crate) fn ranges_of(sweep: Sweep, routes: &[Route]) -> Ranges
     ensures { HasRanges routes.now result }
 {
     let mut sweep = sweep;
-    sweep.begin_range(0, None);
+    sweep.begin_range(0, routes.len());
     for place in 0..routes.len() {
         sweep.open(routes, place);
     }

@@ -99,7 +99,6 @@ impl IndexedTable {
         ensures none { IfNone result ((r : Route) → Contains self.now r → Holds r.prefix address.0 → ⊥) }
     {
         let routes = self.table.routes();
-        let place = self.index.place(routes, address.0)?;
-        Some(&routes[place])
+        routes.get(self.index.place(routes, address.0))
     }
 }

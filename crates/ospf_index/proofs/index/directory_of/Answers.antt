@@ -1,10 +1,16 @@
 use Rattle.std.proofs.Common.{subst, ◌≡◌, ◌+◌, ◌<◌, ◌++◌, ◌∷◌, [], ◌⊎◌, ℕ, length, get_or, sym, ap, ◌∙◌, inl, inr, arith}
 use Rattle.std.proofs.lemmas.List.{get_or_append_left, get_or_push, length_push}
+use Rattle.ospf_index.proofs.RangeLemmas.{at_most_start}
 use Rattle.ospf_index.specs.Ranges.{IsInRange, block_start}
 use Rattle.ospf_index.proofs.index.directory_of.Goals as goal
 
 same_or_less : (i j : ℕ) → i < j + 1 → (i ≡ j) ⊎ (i < j)
 same_or_less i j lt = grind arith
+
+pub overflow_cast-range : goal.overflow_cast-range
+overflow_cast-range c =
+    let range = c.advance-range.result in
+    omega (arith, at_most_start c.args.starts.now c.requires.in_order range c.advance-range.ensures.within, c.type_inv.starts range)
 
 pub loop-block-preserved : goal.loop-block-preserved
 loop-block-preserved c =

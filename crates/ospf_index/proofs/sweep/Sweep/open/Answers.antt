@@ -1,5 +1,5 @@
-use Rattle.std.proofs.Common.{◌++◌, ◌∷◌, [], sym, ap, ◌∙◌, arith}
-use Rattle.ospf_index.specs.Sweep.{blocks_of}
+use Rattle.std.proofs.Common.{subst, ℕ, sym, ap, ◌∙◌, arith}
+use Rattle.ospf_index.specs.Sweep.{IsBegun, blocks_of}
 use Rattle.ospf_index.proofs.BlockLemmas.{first_is, table_nested}
 use Rattle.ospf_index.proofs.SweepLemmas.{begins_one}
 use Rattle.ospf_index.proofs.sweep.Sweep.open.Goals as goal
@@ -16,9 +16,12 @@ returns-clause-swept c =
     let after = c.close_to.new.self in
     let b = blocks_of routes in
     let first = first_is routes c.args.place c.index-routes-place.result c.requires.within in
-    let next = begins_one b (table_nested routes c.requires.order) c.args.place after.opened.items after.ranges.starts.items after.ranges.best.items c.close_to.ensures.swept
-    c.requires.within (λ some. omega (arith, first, c.close_to.ensures.open some)) in
-    let starts = c.begin_range.ensures.starts ∙ ap (λ n. after.ranges.starts.items ++ n ∷ []) (sym first) in
-    let best = c.begin_range.ensures.best in
+    let last = c.begin_range.new.self.ranges in
+    let starts = after.ranges.starts.items in
+    let places = after.ranges.places.items in
+    let begun : IsBegun starts places (b.first c.args.place) c.args.place last.starts.items last.places.items =
+    subst (λ (n : ℕ). IsBegun starts places n c.args.place last.starts.items last.places.items) (sym first) c.begin_range.ensures.begun in
+    let next = begins_one b (table_nested routes c.requires.order) c.args.place after.opened.items starts places c.close_to.ensures.swept
+    last.starts.items last.places.items c.requires.within (λ some. omega (arith, first, c.close_to.ensures.open some)) begun in
     let opened = ap (λ v. v.items) c.begin_range.ensures.opened ∙ c.in-Ok.ensures.items in
-    rw (opened, starts, best) next
+    rw opened next

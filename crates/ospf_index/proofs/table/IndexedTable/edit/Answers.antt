@@ -15,10 +15,10 @@ of-requires-clause-room c =
     record {
       sweep = record {
         no_start = room.sweep.no_start;
-        no_best = room.sweep.no_best;
+        no_place = room.sweep.no_place;
         none_open = room.sweep.none_open;
         starts = omega (arith, most, room.sweep.starts);
-        best = omega (arith, most, room.sweep.best);
+        places = omega (arith, most, room.sweep.places);
         opened = omega (arith, most, room.sweep.opened);
       };
       none = room.none;
