@@ -58,9 +58,27 @@ fn sends_alone(step: &Step, text: &str, alloc: Global) -> Result<bool, Fail> {
     Ok(taken && sent.bytes.as_slice() == wanted.as_slice())
 }
 
-// Whether nothing comes of it.
-fn is_silent(step: &Step) -> bool {
-    step.out.sent().is_empty() && !step.table_changed
+// Whether this alone answers what 2.2.2.2 sends, in hexadecimal, and the table is as it was.
+fn answers(router: &mut Router, text: &str, answer: &str, alloc: Global) -> Result<bool, Fail> {
+    let heard = hear_text(router, text, alloc)?;
+    sends_alone(&heard, answer, alloc)
+}
+
+// Whether nothing comes of what 2.2.2.2 sends. It is dropped for this cause, or it is taken.
+fn is_silent(
+    router: &mut Router,
+    bytes: &[u8],
+    cause: Option<Dropped>,
+    alloc: Global,
+) -> Result<bool, Fail> {
+    let heard = hear(router, bytes, alloc)?;
+    Ok(heard.out.sent().is_empty() && !heard.table_changed && heard.dropped == cause)
+}
+
+// The same of what is taken, in hexadecimal.
+fn is_silent_text(router: &mut Router, text: &str, alloc: Global) -> Result<bool, Fail> {
+    let bytes = decode(alloc, text)?;
+    is_silent(router, &bytes, None, alloc)
 }
 
 // The state of the neighbour.
@@ -82,8 +100,7 @@ const OUTDOES_IT: &str =
 fn an_own_lsa_of_an_earlier_run(rt: HostRuntime) -> Result<(), Fail> {
     let alloc = rt.alloc();
     let mut first = agreed(alloc)?;
-    let heard = hear_text(&mut first, OF_AN_EARLIER_RUN, alloc)?;
-    assert!(rt; sends_alone(&heard, OUTDOES_IT, alloc)?);
+    assert!(rt; answers(&mut first, OF_AN_EARLIER_RUN, OUTDOES_IT, alloc)?);
     assert_eq!(rt; listed(&first, 0, alloc)?, (-0x7fff_fffa, 0xd831));
     assert_eq!(rt; first.floor(), -0x7fff_fffa);
     Ok(())
@@ -115,11 +132,9 @@ const FLUSHED: Instance = Instance {
 fn an_unwanted_network_lsa(rt: HostRuntime) -> Result<(), Fail> {
     let alloc = rt.alloc();
     let mut first = agreed(alloc)?;
-    let heard = hear_text(&mut first, UNWANTED, alloc)?;
-    assert!(rt; sends_alone(&heard, FLUSHES_IT, alloc)?);
+    assert!(rt; answers(&mut first, UNWANTED, FLUSHES_IT, alloc)?);
     assert!(rt; first.awaits(0, SECOND_ID, &FLUSHED));
-    let answered = hear_text(&mut first, FLUSH_IS_ACKNOWLEDGED, alloc)?;
-    assert!(rt; is_silent(&answered) && answered.dropped.is_none());
+    assert!(rt; is_silent_text(&mut first, FLUSH_IS_ACKNOWLEDGED, alloc)?);
     assert!(rt; !first.awaits(0, SECOND_ID, &FLUSHED));
     Ok(())
 }
@@ -132,8 +147,7 @@ const ACKNOWLEDGMENT: &str =
 fn a_late_acknowledgment_changes_nothing(rt: HostRuntime) -> Result<(), Fail> {
     let alloc = rt.alloc();
     let mut first = agreed(alloc)?;
-    let heard = hear_text(&mut first, ACKNOWLEDGMENT, alloc)?;
-    assert!(rt; is_silent(&heard) && heard.dropped.is_none());
+    assert!(rt; is_silent_text(&mut first, ACKNOWLEDGMENT, alloc)?);
     assert_eq!(rt; state(&first)?, NeighbourState::Full);
     assert_eq!(rt; listed(&first, 0, alloc)?, (-0x7fff_fffe, 0xe02d));
     Ok(())
@@ -148,17 +162,20 @@ const LAST_OF_SLAVE: &str = "020200200101010100000000f3360000000000000000000005d
 // Its number is none that is due.
 const STRANGE: &str = "020200200202020200000000f12d0000000000000000000005dc0203000000cd";
 
+// Whether it is taken, and the exchange is to begin.
+fn begins_anew(first: &mut Router, alloc: Global) -> Result<bool, Fail> {
+    let strange = hear_text(first, STRANGE, alloc)?;
+    Ok(strange.dropped.is_none() && state(first)? == NeighbourState::ExStart)
+}
+
 // Section 10.6: the first is answered by what answered it before, the second begins the exchange anew.
 #[test]
 fn descriptions_in_state_full(rt: HostRuntime) -> Result<(), Fail> {
     let alloc = rt.alloc();
     let mut first = agreed(alloc)?;
-    let repeated = hear_text(&mut first, LAST_OF_MASTER, alloc)?;
-    assert!(rt; sends_alone(&repeated, LAST_OF_SLAVE, alloc)?);
+    assert!(rt; answers(&mut first, LAST_OF_MASTER, LAST_OF_SLAVE, alloc)?);
     assert_eq!(rt; state(&first)?, NeighbourState::Full);
-    let strange = hear_text(&mut first, STRANGE, alloc)?;
-    assert_eq!(rt; strange.dropped, None);
-    assert_eq!(rt; state(&first)?, NeighbourState::ExStart);
+    assert!(rt; begins_anew(&mut first, alloc)?);
     Ok(())
 }
 
@@ -175,6 +192,13 @@ fn held_back(second: &mut Router, alloc: Global) -> Result<Sent, Fail> {
     Ok(ticked.out.sent.pop().ok_or("a datagram")?)
 }
 
+// 1.1.1.1, 15 seconds after the link went up, and the Acknowledgment, which has not come.
+fn first_and_held(alloc: Global) -> Result<(Router, Sent), Fail> {
+    let (first, mut second) = two_after(15, alloc)?;
+    let held = held_back(&mut second, alloc)?;
+    Ok((first, held))
+}
+
 // Whether of all the instances that it may be 80000002 is awaited, of no neighbour but 2.2.2.2.
 fn awaits_the_second(router: &Router) -> bool {
     let flooded = own(-0x7fff_fffe, 0xe02d);
@@ -187,11 +211,9 @@ fn awaits_the_second(router: &Router) -> bool {
 #[test]
 fn flooded_is_awaited_until_acknowledged(rt: HostRuntime) -> Result<(), Fail> {
     let alloc = rt.alloc();
-    let (mut first, mut second) = two_after(15, alloc)?;
+    let (mut first, held) = first_and_held(alloc)?;
     assert!(rt; awaits_the_second(&first));
-    let sent = held_back(&mut second, alloc)?;
-    let heard = hear(&mut first, &sent.bytes, alloc)?;
-    assert!(rt; is_silent(&heard) && heard.dropped.is_none());
+    assert!(rt; is_silent(&mut first, &held.bytes, None, alloc)?);
     assert!(rt; !first.awaits(0, SECOND_ID, &own(-0x7fff_fffe, 0xe02d)));
     Ok(())
 }
@@ -205,38 +227,38 @@ fn start_anew(first: &mut Router, alloc: Global) -> Result<Router, Fail> {
     Ok(second)
 }
 
+// Whether it has heard of 2.2.2.2 alone, and awaits no Acknowledgment.
+fn is_begun(first: &Router) -> Result<bool, Fail> {
+    let awaits = first.awaits(0, SECOND_ID, &own(-0x7fff_fffe, 0xe02d));
+    Ok(!awaits && state(first)? == NeighbourState::Init)
+}
+
 // The Hello has ended the adjacency: nothing is awaited, and the Acknowledgment that was held back is dropped.
 #[test]
 fn an_ended_adjacency_awaits_nothing(rt: HostRuntime) -> Result<(), Fail> {
     let alloc = rt.alloc();
-    let (mut first, mut second) = two_after(15, alloc)?;
-    let held = held_back(&mut second, alloc)?;
-    let _anew = start_anew(&mut first, alloc)?;
-    assert_eq!(rt; state(&first)?, NeighbourState::Init);
-    assert!(rt; !first.awaits(0, SECOND_ID, &own(-0x7fff_fffe, 0xe02d)));
-    let heard = hear(&mut first, &held.bytes, alloc)?;
-    assert!(rt; is_silent(&heard) && heard.dropped == Some(Dropped::State));
+    let (mut first, held) = first_and_held(alloc)?;
+    drop(start_anew(&mut first, alloc)?);
+    assert!(rt; is_begun(&first)?);
+    assert!(rt; is_silent(&mut first, &held.bytes, Some(Dropped::State), alloc)?);
     Ok(())
 }
 
-// The two, 5 seconds after 2.2.2.2 has started anew, and the Acknowledgment that was held back.
-fn agreed_anew(alloc: Global) -> Result<(Router, Sent), Fail> {
-    let (mut first, mut second) = two_after(15, alloc)?;
-    let held = held_back(&mut second, alloc)?;
-    let mut anew = start_anew(&mut first, alloc)?;
-    rounds(&mut first, &mut anew, 5, alloc)?;
-    Ok((first, held))
+// 2.2.2.2 starts anew, and 5 seconds pass.
+fn agree_anew(first: &mut Router, alloc: Global) -> Result<(), Fail> {
+    let mut anew = start_anew(first, alloc)?;
+    rounds(first, &mut anew, 5, alloc)
 }
 
 // Section 13.7: the Acknowledgment of 80000002 does not answer 80000004, which the new adjacency awaits.
 #[test]
 fn an_acknowledgment_answers_its_instance(rt: HostRuntime) -> Result<(), Fail> {
     let alloc = rt.alloc();
-    let (mut first, held) = agreed_anew(alloc)?;
+    let (mut first, held) = first_and_held(alloc)?;
+    agree_anew(&mut first, alloc)?;
     assert_eq!(rt; state(&first)?, NeighbourState::Full);
     assert!(rt; first.awaits(0, SECOND_ID, &own(-0x7fff_fffc, 0xdc2f)));
-    let heard = hear(&mut first, &held.bytes, alloc)?;
-    assert!(rt; is_silent(&heard) && heard.dropped.is_none());
+    assert!(rt; is_silent(&mut first, &held.bytes, None, alloc)?);
     assert!(rt; first.awaits(0, SECOND_ID, &own(-0x7fff_fffc, 0xdc2f)));
     Ok(())
 }

@@ -166,17 +166,31 @@ pub(crate) fn listed(router: &Router, place: usize, alloc: Global) -> Result<(i3
     Ok((instance.number, instance.sum))
 }
 
+// Who the neighbour is, and its state.
+fn heard(router: &Router) -> Option<(RouterId, NeighbourState)> {
+    let neighbour = router.neighbours(0).first()?;
+    Some((neighbour.router(), neighbour.state()))
+}
+
+// Whether the router-LSAs are those that each has issued second.
+fn are_listed(first: &Router, second: &Router, alloc: Global) -> Result<bool, Fail> {
+    let of_first = listed(first, 0, alloc)?;
+    let of_second = listed(second, 1, alloc)?;
+    Ok(of_first == (-0x7fff_fffe, 0xe02d) && of_second == (-0x7fff_fffe, 0x8088))
+}
+
 #[test]
 fn two_routers_agree(rt: HostRuntime) -> Result<(), Fail> {
     let alloc = rt.alloc();
     let (first, second) = two_after(20, alloc)?;
-    let neighbour = first.neighbours(0).first().ok_or("a neighbour")?;
-    assert_eq!(rt; neighbour.router(), RouterId(0x0202_0202));
-    assert_eq!(rt; neighbour.state(), NeighbourState::Full);
-    assert_eq!(rt; listed(&first, 0, alloc)?, (-0x7fff_fffe, 0xe02d));
-    assert_eq!(rt; listed(&second, 1, alloc)?, (-0x7fff_fffe, 0x8088));
-    let route = first.table().lookup(Addr(0x0a00_0002)).ok_or("a route")?;
-    assert_eq!(rt; route.cost, 10);
+    let expected = Some((RouterId(0x0202_0202), NeighbourState::Full));
+    assert_eq!(rt; heard(&first), expected);
+    assert!(rt; are_listed(&first, &second, alloc)?);
+    let cost = first
+        .table()
+        .lookup(Addr(0x0a00_0002))
+        .map(|route| route.cost);
+    assert_eq!(rt; cost, Some(10));
     assert_eq!(rt; first.floor(), -0x7fff_fffe);
     Ok(())
 }
