@@ -2,6 +2,8 @@
 #![tactic(auto)]
 
 mod all;
+#[cfg(test)]
+mod beside_tests;
 mod driver;
 mod fault;
 mod laws;

@@ -9,14 +9,17 @@ use std::alloc::Global;
 use std::collections::VecDeque;
 use std::test::Fail;
 
-const FIRST: &str =
+pub(crate) const FIRST: &str =
     "router_id = \"1.1.1.1\"\narea = \"0.0.0.0\"\n[[interface]]\nkind = \"point-to-point\"\naddress = \"10.0.0.1/30\"\ncost = 10\n";
 
-const SECOND: &str =
+pub(crate) const SECOND: &str =
     "router_id = \"2.2.2.2\"\narea = \"0.0.0.0\"\n[[interface]]\nkind = \"point-to-point\"\naddress = \"10.0.0.2/30\"\ncost = 10\n";
 
 // No number is below it.
 const NO_FLOOR: i32 = -0x8000_0000;
+
+// A floor above all numbers that these routers come to from none.
+pub(crate) const LATER_FLOOR: i32 = -0x7fff_ff00;
 
 // A datagram on its way.
 #[derive(Drop)]
@@ -25,9 +28,18 @@ struct Waiting {
     sent: Sent,
 }
 
-fn start(text: &str, dd_start: u32, alloc: Global) -> Result<Router, Fail> {
+pub(crate) fn start_above(
+    text: &str,
+    dd_start: u32,
+    floor: i32,
+    alloc: Global,
+) -> Result<Router, Fail> {
     let config = Config::from_text(alloc, text)?;
-    Ok(Router::start(&config, dd_start, NO_FLOOR, alloc)?)
+    Ok(Router::start(&config, dd_start, floor, alloc)?)
+}
+
+fn start(text: &str, dd_start: u32, alloc: Global) -> Result<Router, Fail> {
+    start_above(text, dd_start, NO_FLOOR, alloc)
 }
 
 fn put(queue: &mut VecDeque<Waiting>, to_first: bool, out: Outputs) -> Result<(), Fail> {
@@ -40,7 +52,8 @@ fn put(queue: &mut VecDeque<Waiting>, to_first: bool, out: Outputs) -> Result<()
 // A router that met want of memory takes no step, and answers as one that has not started.
 fn stands_still(router: &mut Router, alloc: Global) -> Fail {
     let steps = router.step(Event::Tick, alloc).is_ok();
-    if steps || router.floor() != NO_FLOOR {
+    let floor = router.floor();
+    if steps || (floor != NO_FLOOR && floor != LATER_FLOOR) {
         return Fail::from("it goes on");
     }
     if !router.neighbours(0).is_empty() || !router.table().routes().is_empty() {
@@ -49,7 +62,7 @@ fn stands_still(router: &mut Router, alloc: Global) -> Fail {
     Fail::from("Memory: stopped")
 }
 
-fn step(router: &mut Router, event: Event<'_>, alloc: Global) -> Result<Step, Fail> {
+pub(crate) fn step(router: &mut Router, event: Event<'_>, alloc: Global) -> Result<Step, Fail> {
     match router.step(event, alloc) {
         Ok(step) => Ok(step),
         Err(Stopped) => Err(stands_still(router, alloc)),
@@ -114,42 +127,70 @@ fn round(
     pass(first, second, queue, alloc)
 }
 
-fn rounds(
+// So many seconds, in each of which all that is sent arrives.
+pub(crate) fn rounds(
     first: &mut Router,
     second: &mut Router,
-    queue: &mut VecDeque<Waiting>,
+    count: u32,
     alloc: Global,
 ) -> Result<(), Fail> {
-    take(first, Event::LinkUp { link: 0 }, false, queue, alloc)?;
-    take(second, Event::LinkUp { link: 0 }, true, queue, alloc)?;
-    for _ in 0..20u32 {
-        round(first, second, queue, alloc)?;
+    let mut queue = VecDeque::new(alloc);
+    for _ in 0..count {
+        round(first, second, &mut queue, alloc)?;
     }
     Ok(())
 }
 
+// Both ends of the link go up.
+fn bring_up(first: &mut Router, second: &mut Router, alloc: Global) -> Result<(), Fail> {
+    let mut queue = VecDeque::new(alloc);
+    take(first, Event::LinkUp { link: 0 }, false, &mut queue, alloc)?;
+    take(second, Event::LinkUp { link: 0 }, true, &mut queue, alloc)?;
+    pass(first, second, &mut queue, alloc)
+}
+
+// The two routers, so many seconds after their link went up.
+pub(crate) fn two_after(count: u32, alloc: Global) -> Result<(Router, Router), Fail> {
+    let mut first = start(FIRST, 100, alloc)?;
+    let mut second = start(SECOND, 200, alloc)?;
+    bring_up(&mut first, &mut second, alloc)?;
+    rounds(&mut first, &mut second, count, alloc)?;
+    Ok((first, second))
+}
+
 // The number and the sum of the router-LSA at a place of the listing.
-fn listed(router: &Router, place: usize, alloc: Global) -> Result<(i32, u16), Fail> {
+pub(crate) fn listed(router: &Router, place: usize, alloc: Global) -> Result<(i32, u16), Fail> {
     let listing = router.listing(alloc)?;
     let lsa = listing.lsas().get(place).ok_or("an LSA")?;
     let instance = lsa.view().instance();
     Ok((instance.number, instance.sum))
 }
 
+// Who the neighbour is, and its state.
+fn heard(router: &Router) -> Option<(RouterId, NeighbourState)> {
+    let neighbour = router.neighbours(0).first()?;
+    Some((neighbour.router(), neighbour.state()))
+}
+
+// Whether the router-LSAs are those that each has issued second.
+fn are_listed(first: &Router, second: &Router, alloc: Global) -> Result<bool, Fail> {
+    let of_first = listed(first, 0, alloc)?;
+    let of_second = listed(second, 1, alloc)?;
+    Ok(of_first == (-0x7fff_fffe, 0xe02d) && of_second == (-0x7fff_fffe, 0x8088))
+}
+
 #[test]
 fn two_routers_agree(rt: HostRuntime) -> Result<(), Fail> {
     let alloc = rt.alloc();
-    let mut first = start(FIRST, 100, alloc)?;
-    let mut second = start(SECOND, 200, alloc)?;
-    let mut queue = VecDeque::new(alloc);
-    rounds(&mut first, &mut second, &mut queue, alloc)?;
-    let neighbour = first.neighbours(0).first().ok_or("a neighbour")?;
-    assert_eq!(rt; neighbour.router(), RouterId(0x0202_0202));
-    assert_eq!(rt; neighbour.state(), NeighbourState::Full);
-    assert_eq!(rt; listed(&first, 0, alloc)?, (-0x7fff_fffe, 0xe02d));
-    assert_eq!(rt; listed(&second, 1, alloc)?, (-0x7fff_fffe, 0x8088));
-    let route = first.table().lookup(Addr(0x0a00_0002)).ok_or("a route")?;
-    assert_eq!(rt; route.cost, 10);
+    let (first, second) = two_after(20, alloc)?;
+    let expected = Some((RouterId(0x0202_0202), NeighbourState::Full));
+    assert_eq!(rt; heard(&first), expected);
+    assert!(rt; are_listed(&first, &second, alloc)?);
+    let cost = first
+        .table()
+        .lookup(Addr(0x0a00_0002))
+        .map(|route| route.cost);
+    assert_eq!(rt; cost, Some(10));
     assert_eq!(rt; first.floor(), -0x7fff_fffe);
     Ok(())
 }
