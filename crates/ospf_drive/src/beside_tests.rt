@@ -167,6 +167,8 @@ impl<'a, R: Wait> Wire for GatedWire<'a, R> {
         }
     }
 
+    fn sees(&mut self, _router: &Router) {}
+
     fn send(&mut self, sent: &Sent) -> Result<(), WireFault> {
         match self.pass_on(sent) {
             Ok(()) => Ok(()),

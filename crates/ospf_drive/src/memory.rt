@@ -6,7 +6,7 @@ ghost use Rattle.ospf_drive.specs.Scripts.{new_wire, scripted};
 
 use crate::wire::{Arrival, LONGEST, Wire, WireFault};
 use ospf_base::Addr;
-use ospf_router::Sent;
+use ospf_router::{Router, Sent};
 use std::alloc::{AllocError, Global};
 use std::marker::Model;
 
@@ -159,6 +159,8 @@ impl Wire for MemoryWire {
         self.taken += 1;
         Ok(arrival)
     }
+
+    fn sees(&mut self, _router: &Router) {}
 
     fn send(&mut self, sent: &Sent) -> Result<(), WireFault> {
         let (fails, good) = count_down(self.good_sends);

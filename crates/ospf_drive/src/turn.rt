@@ -79,7 +79,19 @@ fn send_all<W: Wire>(wire: &mut W, sent: &[Sent]) -> Result<(), WireFault>
     Ok(())
 }
 
-// Waits for an arrival, has the router make a step of it, sends what that puts out, and publishes the table where it
+// Shows the wire what became of the router, and sends what its step puts out.
+fn show_and_send<W: Wire>(wire: &mut W, router: &Router, sent: &[Sent]) -> Result<(), WireFault>
+    requires { W.failed wire.old + 1 < 2 ^ 64 }
+    ensures out { OnOk result (W.traffic wire.new ≡ option_map (and_sends sent.now) (W.traffic wire.old)) }
+    ensures out_failures { OnOk result (W.failed wire.new ≡ W.failed wire.old) }
+    ensures some_out { OnErr result ((count : ℕ) × (count < length sent.now) × (W.traffic wire.new ≡ option_map (and_sends (take count sent.now)) (W.traffic wire.old))) }
+    ensures some_failures { OnErr result (W.failed wire.new ≡ W.failed wire.old + 1) }
+{
+    wire.sees(router);
+    send_all(wire, sent)
+}
+
+// Waits for an arrival, has the router make a step of it, shows it to the wire, sends what it puts out, and publishes the table where it
 // changed.
 pub(crate) fn turn<W: Wire, R: Wait + Drop>(
     alloc: Global,
@@ -104,7 +116,7 @@ pub(crate) fn turn<W: Wire, R: Wait + Drop>(
     let Ok(step) = router.step(event, alloc) else {
         return Err(DriveFault::Stopped);
     };
-    let Ok(()) = send_all(wire, step.out.sent()) else {
+    let Ok(()) = show_and_send(wire, router, step.out.sent()) else {
         return Err(DriveFault::Send);
     };
     if !step.table_changed {

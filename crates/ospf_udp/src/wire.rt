@@ -6,7 +6,7 @@ use crate::fault::OpenFault;
 use crate::sockets::Sockets;
 use ospf_config::Config;
 use ospf_drive::{Arrival, LONGEST, Wire, WireFault};
-use ospf_router::Sent;
+use ospf_router::{Router, Sent};
 use std::alloc::Global;
 use std::marker::Model;
 use std::net::Net;
@@ -68,6 +68,8 @@ impl<C: Clock + Drop> Wire for UdpWire<C> {
             }
         }
     }
+
+    fn sees(&mut self, _router: &Router) {}
 
     fn send(&mut self, sent: &Sent) -> Result<(), WireFault> {
         match self.sockets.send_to_peers(sent) {
