@@ -9,6 +9,7 @@ use Rattle.std.specs.Prelude.{Option, flat_map}
 use Rattle.ospf_config.specs.declared.config.Config.{Config}
 use Rattle.ospf_drive.specs.Driven.{IsDriven, Outcome as Driven, Pairs}
 use Rattle.ospf_drive.specs.Moments.{Moment}
+use Rattle.ospf_drive.proofs.Jobs.{of_first, of_later}
 use Rattle.ospf_drive.proofs.Joined.{pairs_then}
 use Rattle.ospf_base.specs.declared.ids.Addr.{Addr}
 use Rattle.ospf_files.specs.declared.files.NamedFile.{NamedFile}
@@ -55,6 +56,14 @@ as_many P [] [] ps = refl
 as_many P [] (y ∷ ys) ps = absurd ps
 as_many P (x ∷ xs) [] ps = absurd ps
 as_many P (x ∷ xs) (y ∷ ys) ps = ap (λ (n : ℕ). suc n) (as_many P xs ys ps.1)
+
+-- what holds of each of the one list holds of its partner
+pub all_paired : {A B : Type 0} (R : A → B → Type 0) (P : A → Type 0) (Q : B → Type 0) (xs : List A) (ys : List B) → ((x : A) (y : B) → R x y → P x → Q y) → Pairs R xs ys → All P xs → All Q ys
+all_paired R P Q [] [] then pairs all = All-nil Q
+all_paired R P Q [] (y ∷ ys) then pairs all = absurd pairs
+all_paired R P Q (x ∷ xs) [] then pairs all = absurd pairs
+all_paired R P Q (x ∷ xs) (y ∷ ys) then pairs all =
+    All-cons Q y ys (then x y pairs.0 (of_first P (x ∷ xs) x refl (omega (arith)) all)) (all_paired R P Q xs ys then pairs.1 (of_later P (x ∷ xs) xs refl all))
 
 -- what began and what came of it, router by router
 pub trios_of : {J : Type 0} (begins : J → Moment) (floor : ℤ) (configs : List Config) (jobs : List J) (drivens : List Driven) (seats : List Known) (lookers : List Looker)

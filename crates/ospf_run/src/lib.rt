@@ -1,7 +1,7 @@
 //! Routers that run in threads of their own, over UDP on this machine.
 //!
 //! `run_text` is the whole: it reads configurations, opens sockets, drives the routers, looks an address up beside them, and
-//! prints their tables. What is refused before a socket is made stands in `specs/Plans`, what a run prints in `specs/Printed`.
+//! prints their tables, and tells a `Tap` what goes on meanwhile. What is refused before a socket is made stands in `specs/Plans`, what a run prints in `specs/Printed`.
 #![tactic(auto)]
 
 mod begin;
@@ -12,6 +12,7 @@ mod plan;
 mod print;
 mod run;
 mod settings;
+mod tap;
 mod tell;
 #[cfg(test)]
 mod tests;
@@ -19,3 +20,4 @@ mod wires;
 
 pub use crate::run::run_text;
 pub use crate::settings::Settings;
+pub use crate::tap::Tap;

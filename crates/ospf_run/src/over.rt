@@ -14,6 +14,7 @@ use crate::look::{Done, Looker, start_looker};
 use crate::plan::Plan;
 use crate::print::report;
 use crate::settings::Settings;
+use crate::tap::{Tap, tap_all};
 use ospf_base::Addr;
 use ospf_drive::{Driven, Job, Wire, drive_all};
 use ospf_fib::Seat;
@@ -80,8 +81,8 @@ fn drive_and_look<
     Ok((driven, lookers))
 }
 
-/// Runs a plan over wires, one for each configuration.
-pub(crate) fn run_over<
+// Runs a plan over wires, one for each configuration.
+fn run_over<
     W: Wire + Send + Drop + 'static,
     R: Threads + Wait + Clock + Copy + Send + Drop + 'static,
     O: Write,
@@ -114,4 +115,32 @@ pub(crate) fn run_over<
         settings.lookup,
     )?;
     report(&outcomes, settings.floor.is_some(), out, err)
+}
+
+/// Runs a plan over wires, one for each configuration, and tells a tap of it.
+pub(crate) fn run_tapped<
+    W: Wire + Send + Drop + 'static,
+    T: Tap + Send + Drop + 'static,
+    R: Threads + Wait + Clock + Copy + Send + Drop + 'static,
+    O: Write,
+    E: Write,
+>(
+    rt: &R,
+    alloc: Global,
+    settings: &Settings,
+    files: &[NamedFile],
+    plan: &Plan,
+    wires: Vec<W>,
+    tap: &T,
+    out: &mut O,
+    err: &mut E,
+) -> Result<Status, Failure>
+    requires floor { plan.now.floor ≢ max_sequence_number }
+    requires files { length files.now ≡ length plan.now.configs.items }
+    requires wires { length wires.items ≡ length plan.now.configs.items }
+    requires fresh { All (λ wire. W.failed wire + 1 < 2 ^ 64) wires.items }
+    ensures { IfOk result (λ status. Reports settings.now.lookup (is_some (option_map string_bytes settings.now.floor)) plan.now.floor files.now plan.now.configs.items status (O.contents out.old) (O.contents out.new) (E.contents err.old) (E.contents err.new)) }
+{
+    let wires = tap_all(alloc, wires, tap)?;
+    run_over(rt, alloc, settings, files, plan, wires, out, err)
 }

@@ -1,0 +1,96 @@
+//! What is told of routers while they run.
+
+ghost use Rattle.std.specs.Prelude.{◌≡◌, IfOk};
+ghost use Rattle.ospf_drive.specs.Driven.{Pairs};
+
+use crate::tell::put;
+use ospf_drive::{Arrival, LONGEST, Wire, WireFault};
+use ospf_files::Failure;
+use ospf_router::{Router, Sent};
+use std::alloc::{AllocError, Global};
+
+/// What is told of the routers while they run, each in a thread of its own. What a tap makes of it is its own affair: no router
+/// learns of it.
+pub trait Tap {
+    /// The tap of one more router.
+    ///
+    /// `AllocError` where memory runs out.
+    fn another(&self) -> Result<Self, AllocError>;
+
+    /// A tick of the router has come.
+    fn ticks(&mut self);
+
+    /// The router is so after a step.
+    fn sees(&mut self, router: &Router);
+
+    /// The router's datagram went out.
+    fn sends(&mut self, sent: &Sent);
+
+    /// The router's wire has come to its end, or failed: its driver ends.
+    fn ends(&mut self);
+}
+
+/// A wire of which a tap is told.
+#[derive(Drop)]
+pub(crate) struct TappedWire<W: Wire + Drop, T: Tap + Drop> {
+    wire: W,
+    tap: T,
+}
+
+impl<W: Wire + Drop, T: Tap + Drop> Wire for TappedWire<W, T> {
+    ghost traffic = { λ w. W.traffic w.wire };
+
+    ghost failed = { λ w. W.failed w.wire };
+
+    fn recv(&mut self, buffer: &mut [u8; LONGEST]) -> Result<Arrival, WireFault> {
+        let received = self.wire.recv(buffer);
+        match received {
+            Ok(Arrival::Tick) => self.tap.ticks(),
+            Ok(Arrival::End) | Err(WireFault) => self.tap.ends(),
+            Ok(_) => {}
+        }
+        received
+    }
+
+    fn sees(&mut self, router: &Router) {
+        self.wire.sees(router);
+        self.tap.sees(router);
+    }
+
+    fn send(&mut self, sent: &Sent) -> Result<(), WireFault> {
+        let done = self.wire.send(sent);
+        match done {
+            Ok(()) => self.tap.sends(sent),
+            Err(WireFault) => self.tap.ends(),
+        }
+        done
+    }
+
+    fn failures(&self) -> u64 {
+        self.wire.failures()
+    }
+}
+
+// A wire, and a tap of its own.
+fn tapped<W: Wire + Drop, T: Tap + Drop>(wire: W, tap: &T) -> Result<TappedWire<W, T>, AllocError>
+    ensures { IfOk result (λ it. it.wire ≡ wire) }
+{
+    let tap = tap.another()?;
+    Ok(TappedWire { wire, tap })
+}
+
+/// The same wires, in the same order, of each of which a tap of its own is told.
+pub(crate) fn tap_all<W: Wire + Drop, T: Tap + Drop>(
+    alloc: Global,
+    mut wires: Vec<W>,
+    tap: &T,
+) -> Result<Vec<TappedWire<W, T>>, Failure>
+    ensures { IfOk result (λ all. Pairs (λ wire it. it.wire ≡ wire) wires.items all.items) }
+{
+    let mut all = Vec::with_capacity(alloc, wires.len())?;
+    while !wires.is_empty() {
+        let wire = wires.remove(0);
+        put(&mut all, tapped(wire, tap)?)?;
+    }
+    Ok(all)
+}
