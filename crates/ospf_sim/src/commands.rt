@@ -4,6 +4,7 @@ ghost use Rattle.std.specs.Prelude.{◌≡◌, IfOk, None};
 ghost use Rattle.ospf_sim.specs.Commands.{AreRounds, event_in, IsDone, IsShownOn, IsWalkedOn, shown_in};
 
 use crate::show::{View, on_output, write_view, write_walk};
+use crate::watch::Watch;
 use ospf_base::{Addr, RouterId};
 use ospf_files::Failure;
 use ospf_script::Command;
@@ -12,16 +13,36 @@ use std::alloc::Global;
 use std::io::Write;
 
 // So many rounds, up to the first that is refused.
-fn run_rounds(world: &mut World, count: u64, alloc: Global) -> Result<(), WorldFault>
+fn run_rounds<V: Watch>(
+    world: &mut World,
+    count: u64,
+    alloc: Global,
+    watch: &mut V,
+) -> Result<(), WorldFault>
     ensures { AreRounds count world.old result world.new }
 {
-    for _ in 0..count {
+    for done in 0..count {
+        watch.begins_round(done, count);
         match world.round(alloc) {
             Ok(()) => {}
             Err(fault) => return Err(fault),
         }
     }
     Ok(())
+}
+
+// So many rounds, and their end is told.
+fn run_watched<V: Watch>(
+    world: &mut World,
+    count: u64,
+    alloc: Global,
+    watch: &mut V,
+) -> Result<(), WorldFault>
+    ensures { AreRounds count world.old result world.new }
+{
+    let answer = run_rounds(world, count, alloc, watch);
+    watch.ends_rounds();
+    answer
 }
 
 // Prints what a line asks of a router, if that runs.
@@ -115,18 +136,19 @@ fn shown_of(command: &Command) -> Option<(RouterId, View)>
 }
 
 // Does what a command asks for that is no event and prints nothing of a router.
-fn run_other<O: Write>(
+fn run_other<O: Write, V: Watch>(
     world: &mut World,
     command: &Command,
     out: &mut O,
     alloc: Global,
+    watch: &mut V,
 ) -> Result<Result<(), WorldFault>, Failure>
     requires no_event { event_in command.now ≡ None }
     requires not_shown { shown_in command.now ≡ None }
     ensures { IfOk result (λ answer. IsDone command.now world.old answer world.new (O.contents out.old) (O.contents out.new)) }
 {
     match command {
-        Command::Round { count } => Ok(run_rounds(world, *count, alloc)),
+        Command::Round { count } => Ok(run_watched(world, *count, alloc, watch)),
         Command::Random { number, count } => Ok(world.random(*number, *count, alloc)),
         Command::Walk {
             from,
@@ -138,32 +160,34 @@ fn run_other<O: Write>(
 }
 
 // Does what a command asks for that is no event.
-fn run_quiet<O: Write>(
+fn run_quiet<O: Write, V: Watch>(
     world: &mut World,
     command: &Command,
     out: &mut O,
     alloc: Global,
+    watch: &mut V,
 ) -> Result<Result<(), WorldFault>, Failure>
     requires { event_in command.now ≡ None }
     ensures { IfOk result (λ answer. IsDone command.now world.old answer world.new (O.contents out.old) (O.contents out.new)) }
 {
     match shown_of(command) {
         Some(shown) => show_router(world, shown.0, shown.1, out, alloc),
-        None => run_other(world, command, out, alloc),
+        None => run_other(world, command, out, alloc, watch),
     }
 }
 
 // Does what a command asks for, and prints what it is to print. The answer is why it is refused, if it is.
-pub(crate) fn run_command<O: Write>(
+pub(crate) fn run_command<O: Write, V: Watch>(
     world: &mut World,
     command: &Command,
     out: &mut O,
     alloc: Global,
+    watch: &mut V,
 ) -> Result<Result<(), WorldFault>, Failure>
     ensures { IfOk result (λ answer. IsDone command.now world.old answer world.new (O.contents out.old) (O.contents out.new)) }
 {
     match event_of(command) {
         Some(event) => Ok(world.step(event, alloc)),
-        None => run_quiet(world, command, out, alloc),
+        None => run_quiet(world, command, out, alloc, watch),
     }
 }

@@ -8,5 +8,7 @@ mod commands;
 mod script;
 mod show;
 mod text;
+mod watch;
 
 pub use crate::text::{Simulated, sim_text};
+pub use crate::watch::Watch;

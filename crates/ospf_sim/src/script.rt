@@ -7,6 +7,7 @@ ghost use Rattle.ospf_sim.specs.Scripts.{IsTaken, LineComes, LinesCome, ScriptCo
 
 use crate::commands::run_command;
 use crate::show::on_output;
+use crate::watch::Watch;
 use ospf_files::Failure;
 use ospf_script::{Command, Line, LineFault, RefusalShown, lines};
 use ospf_world::{World, WorldFault};
@@ -56,34 +57,36 @@ fn tell_answer<O: Write, E: Write>(
 }
 
 // Runs the command of a line.
-fn run_read<O: Write, E: Write>(
+fn run_read<O: Write, E: Write, V: Watch>(
     world: &mut World,
     number: u64,
     command: &Command,
     out: &mut O,
     err: &mut E,
     alloc: Global,
+    watch: &mut V,
 ) -> Result<(), Failure>
     ensures { OnOk result (IsTaken number command.now world.old world.new (O.contents out.old) (O.contents out.new) (E.contents err.old) (E.contents err.new)) }
 {
-    let answer = run_command(world, command, out, alloc)?;
+    let answer = run_command(world, command, out, alloc, watch)?;
     tell_answer(number, answer, out, err)
 }
 
 // Runs a line. The answer is whether it can be read.
-fn run_line<O: Write, E: Write>(
+fn run_line<O: Write, E: Write, V: Watch>(
     world: &mut World,
     line: &Line<'_>,
     out: &mut O,
     err: &mut E,
     alloc: Global,
+    watch: &mut V,
 ) -> Result<bool, Failure>
     ensures { IfOk result (λ read. LineComes read line.now world.old world.new (O.contents out.old) (O.contents out.new) (E.contents err.old) (E.contents err.new)) }
 {
     match Command::read(alloc, line.text) {
         Ok(None) => Ok(true),
         Ok(Some(command)) => {
-            run_read(world, line.number, &command, out, err, alloc)?;
+            run_read(world, line.number, &command, out, err, alloc, watch)?;
             Ok(true)
         }
         Err(LineFault::NotACommand) => Ok(false),
@@ -92,17 +95,18 @@ fn run_line<O: Write, E: Write>(
 }
 
 // Runs lines, up to the first that cannot be read: the answer is its number.
-fn run_lines<O: Write, E: Write>(
+fn run_lines<O: Write, E: Write, V: Watch>(
     world: &mut World,
     lines: &[Line<'_>],
     out: &mut O,
     err: &mut E,
     alloc: Global,
+    watch: &mut V,
 ) -> Result<Option<u64>, Failure>
     ensures { IfOk result (λ ended. LinesCome ended (map entry_of lines.now) world.old world.new (O.contents out.old) (O.contents out.new) (E.contents err.old) (E.contents err.new)) }
 {
     for line in lines {
-        let is_read = run_line(world, line, out, err, alloc)?;
+        let is_read = run_line(world, line, out, err, alloc, watch)?;
         if !is_read {
             return Ok(Some(line.number));
         }
@@ -112,17 +116,18 @@ fn run_lines<O: Write, E: Write>(
 
 /// Runs the lines of a script, up to the first that cannot be read, and tells of that one. The answer is whether all could
 /// be read.
-pub(crate) fn run_script<O: Write, E: Write>(
+pub(crate) fn run_script<O: Write, E: Write, V: Watch>(
     world: &mut World,
     script: &[u8],
     out: &mut O,
     err: &mut E,
     alloc: Global,
+    watch: &mut V,
 ) -> Result<bool, Failure>
     ensures { IfOk result (λ whole. ScriptComes whole script.now world.old world.new (O.contents out.old) (O.contents out.new) (E.contents err.old) (E.contents err.new)) }
 {
     let lines = lines(alloc, script)?;
-    let ended = run_lines(world, &lines, out, err, alloc)?;
+    let ended = run_lines(world, &lines, out, err, alloc, watch)?;
     on_output(out.flush())?;
     match ended {
         None => Ok(true),

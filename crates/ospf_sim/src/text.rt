@@ -7,6 +7,7 @@ ghost use Rattle.ospf_files.specs.Listed.{AreRead, IsFirstUnread};
 ghost use Rattle.ospf_sim.specs.Simulations.{Comes, IsRefused, IsSimulated, Opens, RunsTo, WorldComes, same_router_line, status_for};
 
 use crate::script::run_script;
+use crate::watch::Watch;
 use ospf_config::Config;
 use ospf_files::{Failure, NamedFile, Status, first_unread, read_configs, tell_unread, write_line};
 use ospf_world::{World, WorldFault};
@@ -73,16 +74,17 @@ fn new_world<E: Write>(
 }
 
 // Runs a script in a world.
-fn run_to_end<O: Write, E: Write>(
+fn run_to_end<O: Write, E: Write, V: Watch>(
     alloc: Global,
     mut world: World,
     script: &NamedFile,
     out: &mut O,
     err: &mut E,
+    watch: &mut V,
 ) -> Result<Simulated, Failure>
     ensures { IfOk result (λ s. RunsTo s.status script.now world s.world (O.contents out.old) (O.contents out.new) (E.contents err.old) (E.contents err.new)) }
 {
-    let whole = run_script(&mut world, script.text(), out, err, alloc)?;
+    let whole = run_script(&mut world, script.text(), out, err, alloc, watch)?;
     let status = status_of(whole);
     Ok(Simulated {
         status,
@@ -98,19 +100,20 @@ fn status_of(whole: bool) -> Status
 }
 
 // Runs a script in a world of the configurations in files.
-fn run_in_world<O: Write, E: Write>(
+fn run_in_world<O: Write, E: Write, V: Watch>(
     alloc: Global,
     script: &NamedFile,
     files: &[NamedFile],
     out: &mut O,
     err: &mut E,
+    watch: &mut V,
 ) -> Result<Simulated, Failure>
     requires { AreRead (script.now ∷ files.now) }
     ensures comes { IfOk result (λ s. Comes s.status script.now files.now s.world (O.contents out.old) (O.contents out.new) (E.contents err.old) (E.contents err.new)) }
     ensures ended { IfOk result (λ s. (s.status ≡ Status.Done) ⊎ (s.status ≡ Status.Refused)) }
 {
     match new_world(alloc, files, err)? {
-        Some(world) => run_to_end(alloc, world, script, out, err),
+        Some(world) => run_to_end(alloc, world, script, out, err, watch),
         None => Ok(Simulated {
             status: Status::Refused,
             world: None,
@@ -132,12 +135,13 @@ fn end_unread<E: Write>(file: &NamedFile, err: &mut E) -> Result<Simulated, Fail
 }
 
 // Runs a script, if all files could be read.
-fn simulate<O: Write, E: Write>(
+fn simulate<O: Write, E: Write, V: Watch>(
     alloc: Global,
     script: &NamedFile,
     files: &[NamedFile],
     out: &mut O,
     err: &mut E,
+    watch: &mut V,
 ) -> Result<Simulated, Failure>
     ensures comes { IfOk result (λ s. Comes s.status script.now files.now s.world (O.contents out.old) (O.contents out.new) (E.contents err.old) (E.contents err.new)) }
     ensures not_words { IfOk result (λ s. s.status ≢ Status.Words) }
@@ -146,7 +150,7 @@ fn simulate<O: Write, E: Write>(
 {
     match unread_of(script, files) {
         Some(file) => end_unread(file, err),
-        None => run_in_world(alloc, script, files, out, err),
+        None => run_in_world(alloc, script, files, out, err, watch),
     }
 }
 
@@ -157,12 +161,14 @@ fn simulate<O: Write, E: Write>(
 /// simulation, each told on `err`: a file that could not be read, with status `Stream`; the first that holds no
 /// configuration, with status `Refused`; and two configurations of one Router ID, with status `Refused`. Status `Memory`
 /// says that memory ran out, and `Stream` that a write failed; which it was is told on `err`, as far as that can be written.
-pub fn sim_text<O: Write, E: Write>(
+/// The watch is told meanwhile how far the rounds of a line have come.
+pub fn sim_text<O: Write, E: Write, V: Watch>(
     alloc: Global,
     script: &NamedFile,
     files: &[NamedFile],
     out: &mut O,
     err: &mut E,
+    watch: &mut V,
 ) -> Simulated
     ensures done { result.status ≡ Status.Done → IsSimulated script.now files.now result.world (O.contents out.old) (O.contents out.new) (E.contents err.old) (E.contents err.new) }
     ensures refused { result.status ≡ Status.Refused → IsRefused script.now files.now result.world (O.contents out.old) (O.contents out.new) (E.contents err.old) (E.contents err.new) }
@@ -170,7 +176,7 @@ pub fn sim_text<O: Write, E: Write>(
     ensures unwritten { (file : NamedFile) → IsFirstUnread file (script.now ∷ files.now) → O.contents out.new ≡ O.contents out.old }
     ensures not_words { result.status ≢ Status.Words }
 {
-    match simulate(alloc, script, files, out, err) {
+    match simulate(alloc, script, files, out, err, watch) {
         Ok(simulated) => simulated,
         Err(failure) => Simulated {
             status: failure.tell(err),

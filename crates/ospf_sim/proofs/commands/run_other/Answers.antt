@@ -2,7 +2,7 @@ use Rattle.ospf_sim.proofs.Done.{random_done, rounds_done, walk_done}
 use Rattle.ospf_sim.proofs.commands.run_other.Goals as goal
 
 pub returns-in-Round : goal.returns-in-Round
-returns-in-Round g c = rounds_done _ _ _ _ _ _ c.in-Round.is c.run_rounds.ensures
+returns-in-Round g c = rounds_done _ _ _ _ _ _ c.in-Round.is c.run_watched.ensures
 
 pub returns-in-Random : goal.returns-in-Random
 returns-in-Random g c = random_done _ _ _ _ _ _ _ c.in-Random.is (c.random.ensures.random, c.random.ensures.same)
