@@ -71,8 +71,8 @@ tick_rule = record (option_rule (codes "tick")) { defaults = codes "1000" ∷ []
 -- the command `run`: ticks, files, and options
 abbrev pub run_app : App
 run_app =
-    with_rule (with_rule (with_rule (with_rule (with_rule (new_app (codes "run")) ticks_rule) files_rule) tick_rule) (option_rule (codes "lookup")))
-    (option_rule (codes "floor"))
+    with_rule (with_rule (with_rule (with_rule (with_rule (with_rule (new_app (codes "run")) ticks_rule) files_rule) tick_rule) (option_rule (codes "lookup")))
+    (option_rule (codes "floor"))) (option_rule (codes "pcap"))
 
 -- the program, before its commands
 abbrev pub ospfd_app : App
@@ -142,6 +142,7 @@ pub record IsRunJob (rows : List Row) (r : RunJob) : Type 0 where
   pub files : map string_bytes r.files.items ≡ texts
   pub lookup : IsAddressIfAny (first_of (codes "lookup") rows) r.lookup
   pub floor : option_map string_bytes r.floor ≡ first_of (codes "floor") rows
+  pub pcap : option_map string_bytes r.pcap ≡ first_of (codes "pcap") rows
 
 -- the job is that of the command that the words enter, with the values that they give it
 abbrev pub IsJobOf : Option (Text × List Row) → Job → Type 0

@@ -58,6 +58,8 @@ pub struct RunJob {
     pub lookup: Option<Addr>,
     /// The text of the floor of the LS sequence numbers of each router's own LSAs.
     pub floor: Option<String>,
+    /// The file into which all datagrams are written.
+    pub pcap: Option<String>,
     /// The names of the configurations' files.
     pub files: Vec<String>,
 }

@@ -2,11 +2,15 @@
 #![tactic(auto)]
 
 mod jobs;
+mod notes;
+mod screen;
 #[cfg(test)]
 mod tests;
 mod words;
 
 use crate::jobs::{CheckJob, Job, JobFault, RunJob, SimJob};
+use crate::notes::Notes;
+use crate::screen::Screen;
 use crate::words::{job, not_text};
 use ospf_check::check_text;
 use ospf_files::{Failure, NamedFile, Status, write_line};
@@ -15,7 +19,8 @@ use ospf_run::{Settings, run_text};
 use ospf_sim::{Simulated, sim_text};
 use ospf_table::table_text;
 use ospf_world::World;
-use std::io::{self, BufReader, BufWriter, ErrorKind, Write};
+use std::alloc::Global;
+use std::io::{self, BufReader, BufWriter, ErrorKind, IsTerminal, Write};
 use std::net::Net;
 use std::process::ExitCode;
 use std::rt::Runtime;
@@ -62,6 +67,12 @@ fn job_of<R: Runtime + AllocGlobal>(rt: &R) -> io::Result<Result<Job, JobFault>>
     Ok(job(alloc, &words))
 }
 
+// Tells that a file was not written.
+fn tell_unwritten<E: Write>(alloc: Global, name: &str, err: &mut E) -> io::Result<()> {
+    let _ = write_line(err, &format!(in alloc; "{name}: not written")?);
+    Ok(())
+}
+
 // Writes a file. The answer is whether it was written; where it was not it is told.
 fn write_file<R: Runtime + AllocGlobal, E: Write>(
     rt: &R,
@@ -73,7 +84,7 @@ fn write_file<R: Runtime + AllocGlobal, E: Write>(
         Ok(()) => Ok(true),
         Err(error) if error.kind() == ErrorKind::OutOfMemory => Err(error),
         Err(_) => {
-            let _ = write_line(err, &format!(in rt.alloc(); "{name}: not written")?);
+            tell_unwritten(rt.alloc(), name, err)?;
             Ok(false)
         }
     }
@@ -100,11 +111,12 @@ fn write_records<R: Runtime + AllocGlobal, E: Write>(
 }
 
 // Runs a simulation over the files of these names, and writes what is wanted of the world that it leaves.
-fn run_sim<R: Runtime + AllocGlobal, O: Write, E: Write>(
+fn run_sim<R: Runtime + AllocGlobal + Clock + Copy + Drop, O: Write, E: Write, T: Write + Drop>(
     rt: &R,
     job: SimJob,
     out: &mut O,
     err: &mut E,
+    terminal: Option<T>,
 ) -> io::Result<Status> {
     let SimJob {
         script,
@@ -114,7 +126,8 @@ fn run_sim<R: Runtime + AllocGlobal, O: Write, E: Write>(
     } = job;
     let script = read_file(rt, script)?;
     let files = read_files(rt, files)?;
-    let Simulated { status, world } = sim_text(rt.alloc(), &script, &files, out, err);
+    let mut screen = Screen::new(*rt, terminal);
+    let Simulated { status, world } = sim_text(rt.alloc(), &script, &files, out, err, &mut screen);
     if let Some(world) = world {
         if !write_records(rt, &world, dot, pcap, err)? {
             return Ok(Status::Stream);
@@ -123,17 +136,68 @@ fn run_sim<R: Runtime + AllocGlobal, O: Write, E: Write>(
     Ok(status)
 }
 
+// The file for a capture, emptied; where it cannot be written it is told.
+fn open_capture<R: Runtime, E: Write>(
+    rt: &R,
+    alloc: Global,
+    name: &str,
+    err: &mut E,
+) -> io::Result<Option<R::File>> {
+    match fs::File::create(rt, name) {
+        Ok(file) => Ok(Some(file)),
+        Err(error) if error.kind() == ErrorKind::OutOfMemory => Err(error),
+        Err(_) => {
+            tell_unwritten(alloc, name, err)?;
+            Ok(None)
+        }
+    }
+}
+
+// Runs routers of the configurations in files, and notes what they send and how far they have come.
+fn run_noted<
+    R: Runtime + AllocGlobal + Net + Threads + Wait + Clock + Copy + Send + Drop + 'static,
+    O: Write,
+    E: Write,
+    F: Write + Send + Drop + 'static,
+    T: Write + Send + Drop + 'static,
+>(
+    rt: &R,
+    settings: &Settings,
+    files: &[NamedFile],
+    pcap: Option<(String, F)>,
+    out: &mut O,
+    err: &mut E,
+    terminal: Option<T>,
+) -> io::Result<Status> {
+    let alloc = rt.alloc();
+    let (name, capture) = pcap.unzip();
+    let notes = Notes::new(*rt, alloc, settings.ticks, capture, terminal)?;
+    let status = run_text(rt, alloc, settings, files, &notes, out, err);
+    match name {
+        Some(name) if !notes.is_written() => {
+            tell_unwritten(alloc, &name, err)?;
+            Ok(Status::Stream)
+        }
+        _ => Ok(status),
+    }
+}
+
 // Runs routers of the configurations in the files of these names.
 fn run_routers<
     R: Runtime + AllocGlobal + Net + Threads + Wait + Clock + Copy + Send + Drop + 'static,
     O: Write,
     E: Write,
->(rt: &R, job: RunJob, out: &mut O, err: &mut E) -> io::Result<Status> {
+    T: Write + Send + Drop + 'static,
+>(rt: &R, job: RunJob, out: &mut O, err: &mut E, terminal: Option<T>) -> io::Result<Status>
+where
+    R::File: Send + 'static,
+{
     let RunJob {
         ticks,
         milliseconds,
         lookup,
         floor,
+        pcap,
         files,
     } = job;
     let files = read_files(rt, files)?;
@@ -143,14 +207,33 @@ fn run_routers<
         lookup,
         floor,
     };
-    Ok(run_text(rt, rt.alloc(), &settings, &files, out, err))
+    match pcap {
+        None => run_noted::<R, O, E, R::File, T>(rt, &settings, &files, None, out, err, terminal),
+        Some(name) => match open_capture(rt, rt.alloc(), &name, err)? {
+            Some(file) => run_noted(
+                rt,
+                &settings,
+                &files,
+                Some((name, file)),
+                out,
+                err,
+                terminal,
+            ),
+            None => Ok(Status::Stream),
+        },
+    }
 }
 
-// Does what the program's words say. Where it fails, memory ran out.
+// Does what the program's words say, and tells on the terminal, if standard error is one, how far it has come. Where it fails,
+// memory ran out.
 fn run<
     R: Runtime + AllocGlobal + Net + Threads + Wait + Clock + Copy + Send + Drop + 'static,
     E: Write,
->(rt: &R, err: &mut E) -> io::Result<Status> {
+    T: Write + Send + Drop + 'static,
+>(rt: &R, err: &mut E, terminal: Option<T>) -> io::Result<Status>
+where
+    R::File: Send + 'static,
+{
     let alloc = rt.alloc();
     let mut out = BufWriter::new(alloc, io::writer(rt))?;
     match job_of(rt)? {
@@ -163,14 +246,16 @@ fn run<
             let files = read_files(rt, files)?;
             Ok(check_text(alloc, &files, explain, &mut out, err))
         }
-        Ok(Job::Sim(sim)) => run_sim(rt, sim, &mut out, err),
-        Ok(Job::Run(routers)) => run_routers(rt, routers, &mut out, err),
+        Ok(Job::Sim(sim)) => run_sim(rt, sim, &mut out, err, terminal),
+        Ok(Job::Run(routers)) => run_routers(rt, routers, &mut out, err, terminal),
         Err(fault) => Ok(fault.tell(&mut out, err)),
     }
 }
 
 fn main(rt: HostRuntime) -> ExitCode {
-    match run(&rt, &mut rt.stderr()) {
+    let err = rt.stderr();
+    let terminal = if err.is_terminal() { Some(err) } else { None };
+    match run(&rt, &mut rt.stderr(), terminal) {
         Ok(status) => ExitCode::from(status),
         Err(_) => ExitCode::from(Failure::Memory.tell(&mut rt.stderr())),
     }

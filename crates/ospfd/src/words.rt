@@ -288,7 +288,8 @@ fn command<'a>(alloc: Global) -> Result<Command<'a>, AllocError>
         .arg(files_arg(alloc))?
         .arg(tick_arg(alloc))?
         .arg(lookup_arg(alloc))?
-        .arg(floor_arg(alloc))?;
+        .arg(floor_arg(alloc))?
+        .arg(pcap_arg(alloc))?;
     program(alloc)?
         .subcommand(table)?
         .subcommand(check)?
@@ -421,11 +422,13 @@ fn run_job(alloc: Global, values: &ArgMatches<'_>) -> Result<Option<Job>, JobFau
     let files = owned(alloc, files)?;
     let lookup = parsed_if_any(alloc, values.get_str("lookup"))?;
     let floor = owned_if_any(alloc, values.get_str("floor"))?;
+    let pcap = owned_if_any(alloc, values.get_str("pcap"))?;
     Ok(Some(Job::Run(RunJob {
         ticks,
         milliseconds,
         lookup,
         floor,
+        pcap,
         files,
     })))
 }

@@ -30,11 +30,12 @@ returns c =
     c.in_ok-subcommand-3.ensures.shape (search (c.in_ok-sim.ensures.globals, c.in_ok-arg-5.ensures.globals, c.in_ok-arg-4.ensures.globals, c.in_ok-arg-3.ensures.globals, c.after_help-3.ensures, c.about-3.ensures, c.new-3.ensures.local, c.script_arg.ensures.local, c.files_arg-2.ensures.local, c.dot_arg.ensures.local, c.pcap_arg.ensures.local)) ∙ ap₂ with_subcommand with_check (ap (λ (a : App). a.top) sim_is) in
     let new_run : app_of c.after_help-4.result ≡ new_app (codes "run") = search (c.after_help-4.ensures, c.about-4.ensures, c.new-4.ensures.app) in
     let run_is : app_of c.in_ok-run.run' ≡ run_app =
-    c.in_ok-run.ensures.shape c.floor_arg.ensures.local
+    c.in_ok-run.ensures.shape c.pcap_arg-2.ensures.local
+    ∙ ap₂ with_rule (c.in_ok-arg-10.ensures.shape c.floor_arg.ensures.local
     ∙ ap₂ with_rule (c.in_ok-arg-9.ensures.shape c.lookup_arg.ensures.local
     ∙ ap₂ with_rule (c.in_ok-arg-8.ensures.shape c.tick_arg.ensures.local
     ∙ ap₂ with_rule (c.in_ok-arg-7.ensures.shape c.files_arg-3.ensures.local
     ∙ ap₂ with_rule (c.in_ok-arg-6.ensures.shape c.ticks_arg.ensures.local ∙ ap₂ with_rule new_run c.ticks_arg.ensures.rule) c.files_arg-3.ensures.rule)
-    c.tick_arg.ensures.rule) c.lookup_arg.ensures.rule) c.floor_arg.ensures.rule in
+    c.tick_arg.ensures.rule) c.lookup_arg.ensures.rule) c.floor_arg.ensures.rule) c.pcap_arg-2.ensures.rule in
     IfOk-weaker c.subcommand-4.result _ _
-    (λ r h. h.shape (search (c.in_ok-run.ensures.globals, c.in_ok-arg-9.ensures.globals, c.in_ok-arg-8.ensures.globals, c.in_ok-arg-7.ensures.globals, c.in_ok-arg-6.ensures.globals, c.after_help-4.ensures, c.about-4.ensures, c.new-4.ensures.local, c.ticks_arg.ensures.local, c.files_arg-3.ensures.local, c.tick_arg.ensures.local, c.lookup_arg.ensures.local, c.floor_arg.ensures.local)) ∙ ap₂ with_subcommand with_sim (ap (λ (a : App). a.top) run_is)) c.subcommand-4.ensures
+    (λ r h. h.shape (search (c.in_ok-run.ensures.globals, c.in_ok-arg-10.ensures.globals, c.in_ok-arg-9.ensures.globals, c.in_ok-arg-8.ensures.globals, c.in_ok-arg-7.ensures.globals, c.in_ok-arg-6.ensures.globals, c.after_help-4.ensures, c.about-4.ensures, c.new-4.ensures.local, c.ticks_arg.ensures.local, c.files_arg-3.ensures.local, c.tick_arg.ensures.local, c.lookup_arg.ensures.local, c.floor_arg.ensures.local, c.pcap_arg-2.ensures.local)) ∙ ap₂ with_subcommand with_sim (ap (λ (a : App). a.top) run_is)) c.subcommand-4.ensures

@@ -60,5 +60,6 @@ returns-clause-ok c =
         files = c.in_ok-files.ensures;
         lookup = subst (λ o. IsAddressIfAny o c.in_ok-lookup.lookup) (c.get_str.ensures ∙ first_value-rows found (codes "lookup")) c.in_ok-lookup.ensures.value;
         floor = c.in_ok-floor.ensures ∙ c.get_str-2.ensures ∙ first_value-rows found (codes "floor");
+        pcap = c.in_ok-pcap.ensures ∙ c.get_str-3.ensures ∙ first_value-rows found (codes "pcap");
       },
     )
