@@ -1,12 +1,15 @@
 #!/usr/bin/env python3
-"""Times simulated areas: lines, a ring and a broadcast network of routers that come up, and events by chance.
+"""Times simulated areas: lines, a ring, links by chance and broadcast networks of routers that come up, and events by chance.
 
-usage: bench/areas.py [PROGRAM]
+usage: bench/areas.py [PROGRAM [COUNT..]]
+
+With COUNT it is a line of so many routers, for each, and nothing else.
 
 A router's steps are its ticks and the datagrams that come to it. On lines and rings each datagram comes to one router, on the broadcast network one to all is counted
 as often as it is heard, and of events by chance each is one.
 """
 import os
+import random
 import struct
 import subprocess
 import sys
@@ -43,6 +46,14 @@ def network(count):
     return texts, [1] * count
 
 
+def by_chance(count):
+    """The configurations of so many routers, each but the first linked with one before it, and as many links more between any two."""
+    chance = random.Random(7)
+    links = [(chance.randrange(place), place) for place in range(1, count)]
+    links += [tuple(chance.sample(range(count), 2)) for _ in range(count)]
+    return configs(count, links)
+
+
 def run(program, area, last):
     """The seconds that an area takes from its start to the end of the last line, and the datagrams that were sent."""
     texts, sizes = area
@@ -76,19 +87,27 @@ def destinations(data):
     return found
 
 
+def line(count):
+    return f"a line of {count}", configs(count, [(k, k + 1) for k in range(count - 1)])
+
+
 def main():
     program = os.path.abspath(sys.argv[1]) if len(sys.argv) > 1 else os.path.join(TOP, "ospfd")
-    areas = [(f"a line of {count}", configs(count, [(k, k + 1) for k in range(count - 1)])) for count in (2, 10, 100)]
-    areas.append(("a ring of 50", configs(50, [(k, (k + 1) % 50) for k in range(50)])))
-    areas.append(("a broadcast network of 20", network(20)))
+    areas = [line(int(word)) for word in sys.argv[2:]]
+    if not areas:
+        areas = [line(count) for count in (2, 10, 100)]
+        areas.append(("a ring of 50", configs(50, [(k, (k + 1) % 50) for k in range(50)])))
+        areas.append(("50 routers and links by chance", by_chance(50)))
+        areas += [(f"a broadcast network of {count}", network(count)) for count in (20, 50)]
     for name, area in areas:
         took, sent = run(program, area, f"round {ROUNDS}")
         count = len(area[0])
         heard = sum(count - 1 if name.startswith("a broadcast") and to == ALL_ROUTERS else 1 for to in sent)
         steps = heard + ROUNDS * count
         print(f"{name}: {ROUNDS} rounds in {took:.2f} s, {steps} steps, {steps / took:,.0f} a second", flush=True)
-    took, _ = run(program, areas[1][1], "random 7 100000")
-    print(f"100,000 events by chance over a line of 10: {took:.2f} s, {100000 / took:,.0f} a second")
+    if len(sys.argv) < 3:
+        took, _ = run(program, line(10)[1], "random 7 100000")
+        print(f"100,000 events by chance over a line of 10: {took:.2f} s, {100000 / took:,.0f} a second")
 
 
 main()
