@@ -81,6 +81,12 @@ fn is_silent_text(router: &mut Router, text: &str, alloc: Global) -> Result<bool
     is_silent(router, &bytes, None, alloc)
 }
 
+// How many LSAs are listed.
+fn count_listed(router: &Router, alloc: Global) -> Result<usize, Fail> {
+    let listing = router.listing(alloc)?;
+    Ok(listing.lsas().len())
+}
+
 // The state of the neighbour.
 fn state(router: &Router) -> Result<NeighbourState, Fail> {
     let neighbour = router.neighbours(0).first().ok_or("a neighbour")?;
@@ -103,6 +109,7 @@ fn an_own_lsa_of_an_earlier_run(rt: HostRuntime) -> Result<(), Fail> {
     assert!(rt; answers(&mut first, OF_AN_EARLIER_RUN, OUTDOES_IT, alloc)?);
     assert_eq!(rt; listed(&first, 0, alloc)?, (-0x7fff_fffa, 0xd831));
     assert_eq!(rt; first.floor(), -0x7fff_fffa);
+    assert_eq!(rt; count_listed(&first, alloc)?, 2);
     Ok(())
 }
 
@@ -133,6 +140,7 @@ fn an_unwanted_network_lsa(rt: HostRuntime) -> Result<(), Fail> {
     let alloc = rt.alloc();
     let mut first = agreed(alloc)?;
     assert!(rt; answers(&mut first, UNWANTED, FLUSHES_IT, alloc)?);
+    assert_eq!(rt; count_listed(&first, alloc)?, 2);
     assert!(rt; first.awaits(0, SECOND_ID, &FLUSHED));
     assert!(rt; is_silent_text(&mut first, FLUSH_IS_ACKNOWLEDGED, alloc)?);
     assert!(rt; !first.awaits(0, SECOND_ID, &FLUSHED));
@@ -150,6 +158,37 @@ fn a_late_acknowledgment_changes_nothing(rt: HostRuntime) -> Result<(), Fail> {
     assert!(rt; is_silent_text(&mut first, ACKNOWLEDGMENT, alloc)?);
     assert_eq!(rt; state(&first)?, NeighbourState::Full);
     assert_eq!(rt; listed(&first, 0, alloc)?, (-0x7fff_fffe, 0xe02d));
+    Ok(())
+}
+
+// The first Database Description of 2.2.2.2, whose first number is 200.
+const FIRST_DESCRIPTION: &str = "020200200202020200000000f12e0000000000000000000005dc0207000000c8";
+
+// What 1.1.1.1 sends as the next second passes.
+fn sent_next(first: &mut Router, alloc: Global) -> Result<Sent, Fail> {
+    let mut ticked = step(first, Event::Tick, alloc)?;
+    Ok(ticked.out.sent.pop().ok_or("a datagram")?)
+}
+
+// What 2.2.2.2 makes of it.
+fn second_hears(second: &mut Router, sent: &Sent, alloc: Global) -> Result<Step, Fail> {
+    let event = Event::Datagram {
+        link: 0,
+        source: sent.source,
+        destination: sent.destination,
+        bytes: &sent.bytes,
+    };
+    step(second, event, alloc)
+}
+
+// Section 10.8: the second Hello of 1.1.1.1 names 2.2.2.2, which begins to describe its database.
+#[test]
+fn the_first_description(rt: HostRuntime) -> Result<(), Fail> {
+    let alloc = rt.alloc();
+    let (mut first, mut second) = two_after(9, alloc)?;
+    let hello = sent_next(&mut first, alloc)?;
+    let heard = second_hears(&mut second, &hello, alloc)?;
+    assert!(rt; sends_alone(&heard, FIRST_DESCRIPTION, alloc)?);
     Ok(())
 }
 

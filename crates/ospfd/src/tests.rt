@@ -5,7 +5,7 @@ use crate::words::{job, not_text};
 use ospf_base::Addr;
 use ospf_check::check_text;
 use ospf_files::{Failure, NamedFile, Status};
-use ospf_sim::sim_text;
+use ospf_sim::{Watch, sim_text};
 use ospf_table::table_text;
 use std::alloc::{AllocError, Global};
 use std::io::{self, BufReader, BufWriter, ErrorKind, Read, Write};
@@ -316,6 +316,16 @@ fn unread(alloc: Global, names: Vec<String>) -> Result<Vec<NamedFile>, AllocErro
     Ok(files)
 }
 
+// Nobody is told how far a simulation has come.
+#[derive(Drop)]
+struct Nobody;
+
+impl Watch for Nobody {
+    fn begins_round(&mut self, _done: u64, _count: u64) {}
+
+    fn ends_rounds(&mut self) {}
+}
+
 // Does what words say, where no file can be read.
 fn status_of<R: Wait, O: Write, E: Write>(
     rt: &R,
@@ -336,7 +346,7 @@ fn status_of<R: Wait, O: Write, E: Write>(
         Ok(Job::Sim(sim)) => {
             let script = unread_file(sim.script);
             let files = unread(alloc, sim.files)?;
-            Ok(sim_text(alloc, &script, &files, out, err).status)
+            Ok(sim_text(alloc, &script, &files, out, err, &mut Nobody).status)
         }
         Ok(Job::Run(_)) => Ok(Status::Words),
         Err(fault) => Ok(fault.tell(out, err)),
@@ -715,7 +725,7 @@ fn reads_the_words_of_a_run(rt: HostRuntime) -> Result<(), Fail> {
     assert_eq!(rt; run.ticks, 60);
     assert_eq!(rt; run.milliseconds, 1000);
     assert!(rt; run.lookup.is_none());
-    assert!(rt; run.floor.is_none());
+    assert!(rt; run.floor.is_none() && run.pcap.is_none());
     assert_eq!(rt; run.files.len(), 2);
     let words = [
         "run",
@@ -725,6 +735,8 @@ fn reads_the_words_of_a_run(rt: HostRuntime) -> Result<(), Fail> {
         "192.168.2.9",
         "--floor",
         "80000007",
+        "--pcap",
+        "sent.pcap",
         "120",
         "a.toml",
     ];
@@ -735,6 +747,7 @@ fn reads_the_words_of_a_run(rt: HostRuntime) -> Result<(), Fail> {
     assert_eq!(rt; run.milliseconds, 20);
     assert_eq!(rt; run.lookup, Some("192.168.2.9".parse::<Addr>()?));
     assert_eq!(rt; run.floor.as_deref(), Some("80000007"));
+    assert_eq!(rt; run.pcap.as_deref(), Some("sent.pcap"));
     assert_eq!(rt; run.files.len(), 1);
     Ok(())
 }
