@@ -4,9 +4,9 @@ use Rattle.std.specs.List.{Contains}
 use Rattle.std.proofs.lemmas.List.{get_or_default, get_or-set_same, get_or-set_other, length-set, take_more}
 use Rattle.std.proofs.lemmas.Bool.{cases_eq}
 use Rattle.std.proofs.lemmas.List.Elements.{Contains-append_left, Contains-append_right, Contains-append_cases}
-use Rattle.ospf_graph.proofs.ListLemmas.{member_cases, member_head, member_later, member_of_map, member_to_map, more_members}
+use Rattle.ospf_graph.proofs.ListLemmas.{member_cases, member_head, member_later, member_of_map, member_to_map}
 use Rattle.ospf_graph.proofs.CandidateLemmas.{code_injective}
-use Rattle.ospf_graph.specs.Reached.{AddsStarts, AddsStartTo, ArePlaces, extended_by, settled_of, starts_at, starts_of}
+use Rattle.ospf_graph.specs.Reached.{AddsStarts, ArePlaces, extended_by, settled_of, starts_at, starts_of}
 use Rattle.ospf_graph.specs.Search.{AtIn, BringsStarts, vertex_code}
 use Rattle.ospf_graph.specs.Tree.{extend}
 use Rattle.ospf_graph.specs.declared.graph.Edge.{Edge}
@@ -14,20 +14,6 @@ use Rattle.ospf_graph.specs.declared.graph.Start.{Start}
 use Rattle.ospf_graph.specs.declared.graph.Vertex.{Vertex}
 use Rattle.ospf_graph.specs.declared.paths.VertexStart.{VertexStart}
 use Rattle.ospf_graph.specs.declared.reached.Reached.{Reached}
-
--- one start more of those to add
-pub adds_more : (more : List Start) (i : ℕ) (d : Start) (old mid new : List Start) → i < length more → AddsStarts (take i more) old mid
-    → AddsStartTo (get_or more i d) mid new → AddsStarts (take (i + 1) more) old new
-adds_more more i d old mid new lt so_far one y = (
-  λ m. elim ((one y).0 m) [
-    | inl before ↦ elim ((so_far y).0 before) [ inl o ↦ inl o | inr t ↦ inr ((more_members more i d lt y).1 (inl t)) ]
-    | inr here ↦ inr ((more_members more i d lt y).1 (inr here))
-  ],
-  λ m. elim m [
-    | inl o ↦ (one y).1 (inl ((so_far y).1 (inl o)))
-    | inr t ↦ elim ((more_members more i d lt y).0 t) [ inl before ↦ (one y).1 (inl ((so_far y).1 (inr before))) | inr here ↦ (one y).1 (inr here) ]
-  ],
-)
 
 -- who has a start
 pub starts_from : (rs : List Reached) (b : VertexStart) → Contains (starts_of rs) b → (r : Reached) × Contains rs r × (r.vertex ≡ b.vertex) × Contains r.starts.items b.start

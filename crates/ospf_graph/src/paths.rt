@@ -12,7 +12,7 @@ ghost use Rattle.ospf_graph.specs.Search.{AddsStart, AtIn, BringsStarts, IsFit, 
 use crate::candidates::{Candidate, Candidates};
 use crate::graph::{Edge, Start, Vertex, vertex_order};
 use crate::hop::NextHop;
-use crate::reached::{Reached, bring, place_of, reach};
+use crate::reached::{Reached, bring, place_of, reach, tidy_all};
 use ospf_base::Addr;
 use std::alloc::{AllocError, Global};
 use std::collections::HashMap;
@@ -199,6 +199,7 @@ fn reach_root(
         vertex: root,
         distance: 0,
         starts: vec![in alloc; Start::Here]?,
+        in_order: 1,
     })?;
     Ok(())
 }
@@ -304,6 +305,7 @@ fn search(alloc: Global, edges: &[Edge], root: Vertex) -> Result<Searched, Alloc
             &mut candidates,
         )?;
     }
+    tidy_all(&mut reached);
     let looks = candidates.looks();
     Ok(Searched { reached, looks })
 }

@@ -2,6 +2,7 @@ pub mod KeptLemmas
 pub mod PrefixOrder
 pub mod RouteLemmas
 pub mod HopLemmas
+pub mod NetworkLemmas
 pub mod ReachLemmas
 pub mod Groups
 pub mod TableOf

@@ -1,5 +1,5 @@
 -- What routes are made of: ends of prefixes that the shortest paths reach.
-use Rattle.std.specs.Prelude.{◌≡◌, ◌+◌, ◌*◌, ◌<◌, ◌≤◌, ◌↔◌, ◌⊎◌, ℕ, List, [], AllPairs, Contains, Option, Some, None, length, slice_index_or}
+use Rattle.std.specs.Prelude.{◌≡◌, ◌+◌, ◌*◌, ◌<◌, ◌≤◌, ◌↔◌, ◌⊎◌, ⊤, ℕ, List, [], AllPairs, Contains, Option, Some, None, length, slice_index_or}
 use Rattle.std.specs.List.Sorted.{IsNonDecreasingBy}
 use Rattle.ospf_base.specs.declared.prefix.Prefix.{Prefix}
 use Rattle.ospf_graph.specs.Hops.{IsHopBefore}
@@ -43,6 +43,26 @@ Excludes a b = IsLargerNetwork a.vertex b.vertex × (a.prefix ≡ b.prefix) × (
 -- no reach excludes this one
 abbrev pub IsChosenEnd : List Reach → Reach → Type 0
 IsChosenEnd reaches end = (other : Reach) → Contains reaches other → Excludes other end → ⊥
+
+-- a transit network of the prefix, at this cost
+abbrev pub network_reach : Prefix → ℕ → ℕ → Reach
+network_reach prefix n cost = record { prefix = prefix; vertex = Network n; cost = cost }
+
+-- what is known of the networks of a prefix at a cost: there is none, or this is the largest Link State ID
+abbrev pub IsLargestOf : List Reach → Prefix → ℕ → Option ℕ → Type 0
+IsLargestOf reaches prefix cost None = (n : ℕ) → Contains reaches (network_reach prefix n cost) → ⊥
+IsLargestOf reaches prefix cost (Some id) =
+    Contains reaches (network_reach prefix id cost) × ((n : ℕ) → Contains reaches (network_reach prefix n cost) → n ≤ id)
+
+-- a router, or this network
+abbrev pub IsRouterOr : Option ℕ → Vertex → Type 0
+IsRouterOr _ (Router _) = ⊤
+IsRouterOr None (Network _) = ⊥
+IsRouterOr (Some id) (Network n) = n ≡ id
+
+-- exactly the hops of P are added
+abbrev pub GathersHops : (NextHop → Type 0) → List NextHop → List NextHop → Type 0
+GathersHops P old new = (h : NextHop) → Contains new h ↔ (Contains old h ⊎ P h)
 
 -- exactly the hops of P are added, in order
 pub record AddsHops (P : NextHop → Type 0) (old new : List NextHop) : Type 0 where

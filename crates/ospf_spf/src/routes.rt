@@ -4,16 +4,16 @@ ghost use Rattle.std.specs.Prelude.{◌≡◌, ◌≤◌, ◌<◌, ◌↔◌, �
 ghost use Rattle.ospf_base.specs.declared.prefix.Prefix.{Prefix};
 ghost use Rattle.ospf_base.specs.Prefixes.{IsPrefixBefore};
 ghost use Rattle.ospf_graph.specs.declared.graph.Vertex.{Vertex};
+ghost use Rattle.ospf_graph.specs.declared.hop.NextHop.{NextHop};
 ghost use Rattle.ospf_graph.specs.declared.route.Route.{Route};
 ghost use Rattle.ospf_graph.specs.Advertisements.{Advertisement, IsListed};
-ghost use Rattle.ospf_graph.specs.Hops.{IsHopBefore};
 ghost use Rattle.ospf_graph.specs.Routes.{IsTable};
 ghost use Rattle.ospf_graph.specs.Search.{AtIn, vertex_code};
 ghost use Rattle.ospf_graph.specs.Tree.{hop_of_start};
 ghost use Rattle.ospf_spf.specs.Kept.{AreTold, IsTreeOf};
 ghost use Rattle.ospf_spf.specs.declared.routes.Reach.{Reach};
 ghost use Rattle.ospf_base.specs.declared.ids.RouterId.{RouterId};
-ghost use Rattle.ospf_spf.specs.Reach.{AddsHops, Excludes, HasHop, HasHopOf, IsChosenEnd, IsLargerNetwork, IsLeastOf, IsReachOf, IsRouteOf, IsGroup, AreReachesInOrder, AreStartsInOrder, prefix_code};
+ghost use Rattle.ospf_spf.specs.Reach.{AddsHops, GathersHops, HasHop, HasHopOf, IsLargestOf, IsLeastOf, IsReachOf, IsRouteOf, IsRouterOr, IsGroup, AreReachesInOrder, AreStartsInOrder, network_reach, prefix_code};
 ghost use Rattle.ospf_edges.specs.Given.{IsEndsOf};
 ghost use Rattle.std.specs.List.Sorted.{IsNonDecreasingBy};
 
@@ -24,6 +24,9 @@ use ospf_graph::{
     starts_at,
 };
 use std::alloc::{AllocError, Global};
+
+// Up to twice as many hops are gathered before doubles are looked for.
+const FEW_HOPS: usize = 16;
 
 /// An end of a prefix that the shortest paths reach, at this cost from the root.
 #[derive(Clone, Copy, Debug, PartialEq, Eq)]
@@ -70,37 +73,54 @@ fn least_cost(prefix: Prefix, reaches: &[Reach]) -> Option<u64>
     best
 }
 
-// Whether both are networks, and the first has the larger Link State ID.
-fn is_larger_network(a: Vertex, b: Vertex) -> bool
-    ensures { IsTrue result ↔ IsLargerNetwork a b }
+// The Link State ID of the network that is reached, if it is one of the prefix at this cost.
+fn network_at(reach: Reach, prefix: Prefix, cost: u64) -> Option<u32>
+    ensures { MatchOption result ((n : ℕ) → reach ≡ network_reach prefix n cost → ⊥) (λ n. reach ≡ network_reach prefix n cost) }
 {
-    match (a, b) {
-        (Vertex::Network(m), Vertex::Network(n)) => n < m,
-        (Vertex::Network(_), Vertex::Router(_)) => false,
-        (Vertex::Router(_), _) => false,
+    match reach.vertex {
+        Vertex::Network(id) => {
+            if is_same_prefix(reach.prefix, prefix) && reach.cost == cost {
+                Some(id)
+            } else {
+                None
+            }
+        }
+        Vertex::Router(_) => None,
     }
 }
 
-// Whether the first end keeps the second from counting (own choice among networks of one prefix).
-fn excludes(a: Reach, b: Reach) -> bool
-    ensures { IsTrue result ↔ Excludes a b }
+// The larger of two Link State IDs, where there is one already.
+fn larger(largest: Option<u32>, id: u32) -> u32
+    ensures { MatchOption largest (result ≡ id) (λ n. ((result ≡ n) × (id ≤ n)) ⊎ ((result ≡ id) × (n ≤ id))) }
 {
-    is_larger_network(a.vertex, b.vertex) && is_same_prefix(a.prefix, b.prefix) && a.cost == b.cost
+    match largest {
+        Some(n) => { if id <= n { n } else { id } }
+        None => id,
+    }
 }
 
-// Whether no network of its prefix, at its cost and with a larger Link State ID, stands before this end.
-fn is_chosen(reaches: &[Reach], end: Reach) -> bool
-    ensures { IsTrue result ↔ IsChosenEnd reaches.now end }
+// The network that counts at a prefix and cost: the one of the largest Link State ID (own choice among
+// networks of one prefix).
+fn chosen_network(prefix: Prefix, cost: u64, reaches: &[Reach]) -> Option<u32>
+    ensures { IsLargestOf reaches.now prefix cost result }
 {
-    if matches!(end.vertex, Vertex::Router(_)) {
-        return true;
-    }
+    let mut largest = None;
     for reach in reaches {
-        if excludes(*reach, end) {
-            return false;
+        if let Some(id) = network_at(*reach, prefix, cost) {
+            largest = Some(larger(largest, id));
         }
     }
-    true
+    largest
+}
+
+// Whether this is a router or the network.
+fn is_router_or(network: Option<u32>, vertex: Vertex) -> bool
+    ensures { IsTrue result ↔ IsRouterOr network vertex }
+{
+    match vertex {
+        Vertex::Router(_) => true,
+        Vertex::Network(id) => network == Some(id),
+    }
 }
 
 // The next hop that a start makes where its path ends.
@@ -114,34 +134,53 @@ fn hop_from(start: Start) -> NextHop
     }
 }
 
-// Adds the hops of all starts of a vertex.
-fn add_hops(starts: &[VertexStart], vertex: Vertex, hops: &mut Hops) -> Result<(), AllocError>
-    requires { AllPairs IsHopBefore hops.old }
-    ensures { OnOk result (AddsHops (HasHop starts.now vertex) hops.old hops.new) }
+// Gathers the hops of all starts of a vertex.
+fn add_hops(
+    starts: &[VertexStart],
+    vertex: Vertex,
+    hops: &mut Vec<NextHop>,
+) -> Result<(), AllocError>
+    ensures { OnOk result (GathersHops (HasHop starts.now vertex) hops.old.items hops.new.items) }
 {
     for begun in starts {
         if is_same(begun.vertex, vertex) {
-            hops.insert(hop_from(begun.start))?;
+            hops.push(hop_from(begun.start))?;
         }
     }
     Ok(())
 }
 
-// Adds the hops of all starts of a vertex, of starts in the order of vertices.
-fn add_hops_at(starts: &[VertexStart], vertex: Vertex, hops: &mut Hops) -> Result<(), AllocError>
-    requires hops_in_order { AllPairs IsHopBefore hops.old }
-    requires starts_in_order { AreStartsInOrder starts.now }
-    ensures { OnOk result (AddsHops (HasHop starts.now vertex) hops.old hops.new) }
+// Gathers the hops of all starts of a vertex, of starts in the order of vertices.
+fn add_hops_at(
+    starts: &[VertexStart],
+    vertex: Vertex,
+    hops: &mut Vec<NextHop>,
+) -> Result<(), AllocError>
+    requires { AreStartsInOrder starts.now }
+    ensures { OnOk result (GathersHops (HasHop starts.now vertex) hops.old.items hops.new.items) }
 {
     add_hops(starts_at(starts, vertex), vertex, hops)?;
     Ok(())
 }
 
-// Whether this is a chosen end of the prefix at this cost.
-fn counts(reaches: &[Reach], end: Reach, prefix: Prefix, cost: u64) -> bool
-    ensures { IsTrue result ↔ ((end.prefix ≡ prefix) × (end.cost ≡ cost) × IsChosenEnd reaches.now end) }
+// Leaves each hop once, where there are twice as many as were left the last time, so that doubles never take up
+// more room than the hops themselves. It tells how many are left.
+fn leave_once(hops: &mut Vec<NextHop>, left: usize) -> usize
+    ensures { (hop : NextHop) → Contains hops.new.items hop ↔ Contains hops.old.items hop }
 {
-    is_same_prefix(end.prefix, prefix) && end.cost == cost && is_chosen(reaches, end)
+    if hops.len() / 2 < left {
+        return left;
+    }
+    hops.sort_unstable();
+    hops.dedup();
+    hops.len().max(FEW_HOPS)
+}
+
+// Whether this is an end of the prefix at this cost, and a router or the network.
+fn counts(end: Reach, prefix: Prefix, cost: u64, network: Option<u32>) -> bool
+    ensures { IsTrue result ↔ ((end.prefix ≡ prefix) × (end.cost ≡ cost) × IsRouterOr network end.vertex) }
+{
+    is_same_prefix(end.prefix, prefix) && end.cost == cost && is_router_or(network, end.vertex)
 }
 
 // The hops of a prefix at its least cost.
@@ -155,13 +194,16 @@ fn hops_of(
     requires { AreStartsInOrder starts.now }
     ensures { IfOk result (λ hops. AddsHops (HasHopOf reaches.now starts.now prefix cost) [] hops) }
 {
-    let mut hops = Hops::new(alloc);
+    let network = chosen_network(prefix, cost, reaches);
+    let mut hops = Vec::new(alloc);
+    let mut left = FEW_HOPS;
     for reach in reaches {
-        if counts(reaches, *reach, prefix, cost) {
+        if counts(*reach, prefix, cost, network) {
             add_hops_at(starts, reach.vertex, &mut hops)?;
+            left = leave_once(&mut hops, left);
         }
     }
-    Ok(hops)
+    Ok(Hops::of(hops))
 }
 
 // The ends that are reached.

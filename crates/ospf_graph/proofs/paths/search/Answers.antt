@@ -3,6 +3,7 @@ use Rattle.std.specs.HashMap.{get}
 use Rattle.std.proofs.lemmas.List.Sorted.{length_permutation}
 use Rattle.ospf_graph.specs.Reached.{settled_of, starts_of}
 use Rattle.ospf_graph.proofs.ReachedLemmas.{none_some}
+use Rattle.ospf_graph.proofs.SameStarts.{tree_same}
 use Rattle.ospf_graph.proofs.SearchState.{state_started, state_taken, state_tree, state_near, candidate_small, unreached_root, work_falls, work_taken}
 use Rattle.ospf_graph.proofs.paths.search.Goals as goal
 
@@ -45,7 +46,8 @@ loop-candidate-preserved c =
 
 pub returns-clause-tree : goal.returns-clause-tree
 returns-clause-tree c =
-    state_tree c.args.edges.now c.requires.fit c.args.root _ _ _ _ c.loop-candidate.invariant.state c.in_default.ensures.none
+    tree_same c.args.edges.now c.args.root c.loop-candidate.reached.items c.tidy_all.new.reached.items c.tidy_all.ensures.settled c.tidy_all.ensures.starts
+    (state_tree c.args.edges.now c.requires.fit c.args.root _ _ _ _ c.loop-candidate.invariant.state c.in_default.ensures.none)
 
 pub returns-clause-near : goal.returns-clause-near
-returns-clause-near c = state_near c.args.edges.now c.args.root _ _ _ _ c.loop-candidate.invariant.state
+returns-clause-near c = rw c.tidy_all.ensures.settled (state_near c.args.edges.now c.args.root _ _ _ _ c.loop-candidate.invariant.state)
