@@ -25,12 +25,12 @@ pub struct Answer {
 fn answer_of(table: &IndexedTable, version: u64, address: Addr, choice: u32) -> Option<Answer>
     ensures { IsAnswer table.now version address choice result }
 {
-    let route = table.lookup(address)?;
-    let hops = route.hops.as_slice();
+    let found = table.lookup(address)?;
+    let hops = found.hops;
     Some(Answer {
         version,
-        prefix: route.prefix,
-        cost: route.cost,
+        prefix: found.prefix,
+        cost: found.cost,
         hop: hops[choice as usize % hops.len()],
         hops: hops.len(),
     })

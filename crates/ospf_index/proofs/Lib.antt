@@ -1,3 +1,5 @@
 pub mod SweepLemmas
 pub mod BlockLemmas
 pub mod RangeLemmas
+pub mod SetLemmas
+pub mod CountLemmas

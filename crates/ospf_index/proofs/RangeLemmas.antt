@@ -20,7 +20,7 @@ at_most_start starts order (suc i) lt = omega (arith, at_most_start starts order
 -- once all routes have begun, and those that are open end behind the last address, each range has its answer
 pub all_swept : (routes : List Route) (n : ℕ) (opened : List ℕ) (ranges : Ranges) → AllPairs IsRouteBefore routes → length routes ≤ n
     → IsSwept (blocks_of routes) n opened ranges.starts.items ranges.places.items
-    → (0 < length opened → 2 ^ 32 - 1 < (blocks_of routes).end (get_or opened (length opened - 1) 0)) → HasRanges routes ranges
+    → (0 < length opened → 2 ^ 32 - 1 < (blocks_of routes).end (get_or opened (length opened - 1) 0)) → HasRanges routes ranges.starts.items ranges.places.items
 all_swept routes n opened ranges order all m behind =
     let starts = ranges.starts.items in
     let places = ranges.places.items in

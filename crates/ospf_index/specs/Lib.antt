@@ -1,3 +1,6 @@
 pub mod Ranges
 pub mod Sweep
+pub mod Sets
+pub mod Entries
+pub mod Indexes
 pub mod Room

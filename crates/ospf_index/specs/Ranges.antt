@@ -4,8 +4,6 @@ use Rattle.ospf_base.specs.Prefixes.{Holds}
 use Rattle.ospf_base.specs.declared.prefix.Prefix.{Prefix}
 use Rattle.ospf_graph.specs.declared.route.Route.{Route}
 use Rattle.ospf_spf.specs.Table.{IsBestPlace}
-use Rattle.ospf_index.specs.declared.ranges.Ranges.{Ranges}
-use Rattle.ospf_index.specs.declared.index.Index.{Index}
 
 -- the first address behind those of a prefix
 abbrev pub end_of : Prefix → ℕ
@@ -25,14 +23,13 @@ IsRising starts = (i j : ℕ) → i < j → j < length starts → get_or starts 
 abbrev pub IsInRange : List ℕ → ℕ → ℕ → Type 0
 IsInRange starts i address = (get_or starts i 0 ≤ address) × (i + 1 < length starts → address < get_or starts (i + 1) 0)
 
--- the ranges begin at the first address, one after another, and each has the answer of all its addresses
-pub record HasRanges (routes : List Route) (ranges : Ranges) : Type 0 where
-  pub same_length : length ranges.places.items ≡ length ranges.starts.items
-  pub some : 0 < length ranges.starts.items
-  pub from_first : get_or ranges.starts.items 0 0 ≡ 0
-  pub in_order : IsRising ranges.starts.items
-  pub exact : (i address : ℕ) → i < length ranges.starts.items → address < 2 ^ 32 → IsInRange ranges.starts.items i address
-      → IsPlaceFor routes address (get_or ranges.places.items i 0)
+-- the ranges begin at the first address, one after another, and the route at its place is the answer of all addresses of each
+pub record HasRanges (routes : List Route) (starts places : List ℕ) : Type 0 where
+  pub same_length : length places ≡ length starts
+  pub some : 0 < length starts
+  pub from_first : get_or starts 0 0 ≡ 0
+  pub in_order : IsRising starts
+  pub exact : (i address : ℕ) → i < length starts → address < 2 ^ 32 → IsInRange starts i address → IsPlaceFor routes address (get_or places i 0)
 
 -- the first addresses of the blocks of a directory, by the first 16 bits, and the one behind the last block
 abbrev pub block_start : ℕ → ℕ
@@ -43,8 +40,3 @@ pub record IsDirectory (starts directory : List ℕ) : Type 0 where
   pub all : length directory ≡ 65537
   pub within : (block : ℕ) → block ≤ 65536 → get_or directory block 0 < length starts
   pub exact : (block : ℕ) → block ≤ 65536 → IsInRange starts (get_or directory block 0) (block_start block)
-
--- the ranges of the routes, and the directory of these ranges
-pub record IsIndexOf (routes : List Route) (index : Index) : Type 0 where
-  pub ranges : HasRanges routes index.ranges
-  pub directory : IsDirectory index.ranges.starts.items index.directory.items

@@ -1,12 +1,17 @@
 //! The index of a table: its ranges, and a directory of them by the first 16 bits of an address.
 
-ghost use Rattle.std.specs.Prelude.{◌≡◌, ◌≤◌, ◌<◌, ◌+◌, ◌*◌, ◌^◌, ◌⊎◌, ◌∷◌, ◌++◌, [], AllPairs, IfOk, get_or, length, vec_capacity};
+ghost use Rattle.std.specs.Prelude.{◌≡◌, ◌≤◌, ◌<◌, ◌+◌, ◌*◌, ◌^◌, ◌⊎◌, [], ℕ, AllPairs, IfOk, get_or, length, vec_capacity};
 ghost use Rattle.ospf_graph.specs.Routes.{IsRouteBefore};
-ghost use Rattle.ospf_index.specs.Ranges.{HasRanges, IsDirectory, IsInRange, IsIndexOf, IsPlaceFor, IsRising, block_start};
-ghost use Rattle.ospf_index.specs.Room.{HasIndexRoom, IsRoomFor};
+ghost use Rattle.ospf_index.specs.Entries.{IsEntryFor};
+ghost use Rattle.ospf_index.specs.Indexes.{IsIndexOf};
+ghost use Rattle.ospf_index.specs.Ranges.{IsDirectory, IsInRange, IsRising, block_start};
+ghost use Rattle.ospf_index.specs.Room.{HasIndexRoom, hops_in};
 
+use crate::entries::{Entry, entries_of};
+use crate::numbering::{Numbering, numbers_of};
 use crate::ranges::Ranges;
-use crate::sweep::{Sweep, ranges_of};
+use crate::sets::HopSets;
+use crate::sweep::{Sweep, most_ranges, ranges_of};
 use ospf_graph::Route;
 use std::alloc::{AllocError, Global};
 
@@ -24,11 +29,13 @@ const ADDRESSES: u64 = 1 << 32;
 
 const ADDRESS_BITS: u32 = 32;
 
-/// The ranges of a table's routes, and for each block of addresses, and for what stands behind the last one,
-/// the range in which it begins.
+/// Where the ranges of a table's routes begin, what each of them answers, with the sets of hops, and for each block
+/// of addresses, and for what stands behind the last one, the range in which it begins.
 #[derive(Debug, Drop)]
 pub(crate) struct Index {
-    pub ranges: Ranges,
+    pub starts: Vec<u32>,
+    pub entries: Vec<Entry>,
+    pub sets: HopSets,
     pub directory: Vec<u32>,
 }
 
@@ -36,6 +43,9 @@ pub(crate) struct Index {
 #[derive(Debug, Drop)]
 pub(crate) struct IndexRoom {
     pub sweep: Sweep,
+    pub numbering: Numbering,
+    pub numbers: Vec<usize>,
+    pub entries: Vec<Entry>,
     pub directory: Vec<u32>,
 }
 
@@ -43,30 +53,55 @@ impl IndexRoom {
     ghost use Rattle.std.specs.Prelude.{IfOk};
     ghost use Rattle.ospf_index.specs.Room.{HasIndexRoom};
 
-    /// The memory for the index of a table of so many routes.
+    /// The memory for the index of a table of so many routes, which have so many hops in all.
     ///
     /// `AllocError` where memory runs out.
-    pub fn new(alloc: Global, count: usize) -> Result<IndexRoom, AllocError>
-        ensures { IfOk result (HasIndexRoom count) }
+    pub fn new(alloc: Global, count: usize, hops: usize) -> Result<IndexRoom, AllocError>
+        ensures { IfOk result (HasIndexRoom count hops) }
     {
         let sweep = Sweep::with_room(alloc, count)?;
+        let numbering = Numbering::with_room(alloc, count, hops)?;
+        let numbers = Vec::with_capacity(alloc, count)?;
+        let entries = Vec::with_capacity(alloc, most_ranges(count).ok_or(AllocError)?)?;
         let directory = Vec::with_capacity(alloc, BLOCKS + 1)?;
-        Ok(IndexRoom { sweep, directory })
+        Ok(IndexRoom {
+            sweep,
+            numbering,
+            numbers,
+            entries,
+            directory,
+        })
     }
 }
 
-// The range that has an address, from this range on.
-fn advance(starts: &[u32], from: usize, address: u64) -> usize
-    requires within { from < length starts.now }
-    requires low { get_or starts.now from 0 ≤ address }
-    ensures within { result < length starts.now }
-    ensures exact { IsInRange starts.now result address }
+// How many blocks begin before this range does; all, and what stands behind them, where it is behind the last one.
+fn blocks_before(starts: &[u32], range: usize) -> usize
+    ensures few { result ≤ 65537 }
+    ensures all { length starts.now ≤ range → result ≡ 65537 }
+    ensures before { (block : ℕ) → block < result → range < length starts.now → block_start block < get_or starts.now range 0 }
+    ensures behind { range < length starts.now → get_or starts.now range 0 ≤ block_start result }
 {
-    let mut range = from;
-    while range + 1 < starts.len() && starts[range + 1] as u64 <= address {
-        range += 1;
+    match starts.get(range) {
+        Some(start) => (*start as u64 + (BLOCK_SIZE - 1) >> BLOCK_BITS) as usize,
+        None => BLOCKS + 1,
     }
-    range
+}
+
+// Names this range for the blocks before this one that have none yet.
+fn name_before(directory: &mut Vec<u32>, past: usize, range: u32)
+    requires { past ≤ vec_capacity directory.old }
+    ensures room { vec_capacity directory.old ≤ vec_capacity directory.new }
+    ensures more { length directory.old.items ≤ past → length directory.new.items ≡ past }
+    ensures all { past ≤ length directory.old.items → length directory.new.items ≡ length directory.old.items }
+    ensures same { (block : ℕ) → block < length directory.old.items → get_or directory.new.items block 0 ≡ get_or directory.old.items block 0 }
+    ensures named { (block : ℕ) → length directory.old.items ≤ block → block < length directory.new.items → get_or directory.new.items block 0 ≡ range }
+{
+    if past > directory.len() {
+        match directory.resize(past, range) {
+            Ok(()) => {}
+            Err(_) => unreachable!(),
+        }
+    }
 }
 
 // The directory of ranges.
@@ -77,13 +112,9 @@ fn directory_of(starts: &[u32], room: Vec<u32>) -> Vec<u32>
     ensures { IsDirectory starts.now result.items }
 {
     let mut directory = room;
-    let mut range = 0;
-    for block in 0..BLOCKS + 1 {
-        range = advance(starts, range, block as u64 * BLOCK_SIZE);
-        match directory.push(range as u32) {
-            Ok(()) => {}
-            Err(_) => unreachable!(),
-        }
+    for range in 0..starts.len() {
+        let past = blocks_before(starts, range + 1);
+        name_before(&mut directory, past, range as u32);
     }
     directory
 }
@@ -115,34 +146,77 @@ fn range_between(starts: &[u32], from: usize, to: usize, address: u32) -> usize
     low
 }
 
+// The place, from one on and up to another, that is in proportion to the address within its block.
+fn guess_between(from: usize, last: usize, address: u32) -> usize
+    requires { (from ≤ last) × (last < 2 ^ 32) }
+    ensures { (from ≤ result) × (result ≤ last) }
+{
+    let within_block = address as usize % BLOCK_SIZE as usize;
+    from + ((last - from) * within_block >> BLOCK_BITS)
+}
+
+// The range that has an address, which lies from one range on and up to another. Prefixes are mostly spread
+// evenly over a block, so it is first looked for where it would stand then.
+fn range_near(starts: &[u32], from: usize, last: usize, address: u32) -> usize
+    requires in_order { IsRising starts.now }
+    requires within { (from ≤ last) × (last < length starts.now) × (last < 2 ^ 32) }
+    requires low { get_or starts.now from 0 ≤ address }
+    requires high { last + 1 < length starts.now → address < get_or starts.now (last + 1) 0 }
+    ensures within { result < length starts.now }
+    ensures exact { IsInRange starts.now result address }
+{
+    let guess = guess_between(from, last, address);
+    if starts[guess] > address {
+        return range_between(starts, from, guess, address);
+    }
+    if guess == last || starts[guess + 1] > address {
+        return guess;
+    }
+    range_between(starts, guess + 1, last + 1, address)
+}
+
 impl Index {
-    ghost use Rattle.std.specs.Prelude.{AllPairs, length};
+    ghost use Rattle.std.specs.Prelude.{◌≡◌, AllPairs, length};
     ghost use Rattle.ospf_graph.specs.Routes.{IsRouteBefore};
-    ghost use Rattle.ospf_index.specs.Ranges.{IsIndexOf, IsPlaceFor};
-    ghost use Rattle.ospf_index.specs.Room.{HasIndexRoom};
+    ghost use Rattle.ospf_index.specs.Entries.{IsEntryFor};
+    ghost use Rattle.ospf_index.specs.Indexes.{IsIndexOf};
+    ghost use Rattle.ospf_index.specs.Room.{HasIndexRoom, hops_in};
 
     /// The index of the routes of a table. It takes no memory but what is given.
     pub fn of(routes: &[Route], room: IndexRoom) -> Index
         requires order { AllPairs IsRouteBefore routes.now }
-        requires room { HasIndexRoom (length routes.now) room }
+        requires room { HasIndexRoom (length routes.now) (hops_in routes.now) room }
         ensures { IsIndexOf routes.now result }
     {
-        let IndexRoom { sweep, directory } = room;
-        let ranges = ranges_of(sweep, routes);
-        let directory = directory_of(&ranges.starts, directory);
-        Index { ranges, directory }
+        let IndexRoom {
+            sweep,
+            numbering,
+            numbers,
+            entries,
+            directory,
+        } = room;
+        let Ranges { starts, places } = ranges_of(sweep, routes);
+        let (sets, numbers) = numbers_of(numbering, numbers, routes);
+        let entries = entries_of(entries, routes, &numbers, &places);
+        let directory = directory_of(&starts, directory);
+        Index {
+            starts,
+            entries,
+            sets,
+            directory,
+        }
     }
 
-    /// The place of the route of longest prefix that holds an address; one behind the last route where no route's
-    /// prefix does.
-    pub fn place(&self, routes: &[Route], address: u32) -> usize
+    /// What the route of longest prefix that holds an address says; the set of no hop where no route's prefix
+    /// does.
+    pub fn entry(&self, routes: &[Route], address: u32) -> Entry
         requires { IsIndexOf routes.now self.now }
-        ensures { IsPlaceFor routes.now address result }
+        ensures { IsEntryFor routes.now self.now.sets address result }
     {
         let block = (address >> BLOCK_BITS) as usize;
         let from = self.directory[block] as usize;
-        let to = self.directory[block + 1] as usize + 1;
-        let range = range_between(&self.ranges.starts, from, to, address);
-        self.ranges.places[range]
+        let last = self.directory[block + 1] as usize;
+        let range = range_near(&self.starts, from, last, address);
+        self.entries[range]
     }
 }

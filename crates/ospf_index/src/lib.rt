@@ -2,11 +2,16 @@
 //! for (RFC 2328, section 11.1).
 #![tactic(auto)]
 
+mod counts;
+mod entries;
 mod index;
+mod numbering;
 mod ranges;
+mod sets;
 mod sweep;
 mod table;
 #[cfg(test)]
 mod tests;
 
+pub use crate::entries::Found;
 pub use crate::table::IndexedTable;

@@ -1,6 +1,6 @@
 //! The sweep over the routes of a table, which finds the ranges of addresses that one route answers for.
 
-ghost use Rattle.std.specs.Prelude.{◌≡◌, ◌≤◌, ◌<◌, ◌+◌, ◌-◌, ◌*◌, ◌++◌, ◌∷◌, [], ℕ, AllPairs, IfOk, MatchOption, get_or, length, vec_len, vec_capacity};
+ghost use Rattle.std.specs.Prelude.{◌≡◌, ◌≤◌, ◌<◌, ◌+◌, ◌-◌, ◌*◌, ◌++◌, ◌∷◌, [], ℕ, AllPairs, IfOk, IfSome, MatchOption, get_or, length, vec_len, vec_capacity};
 ghost use Rattle.ospf_graph.specs.Routes.{IsRouteBefore};
 ghost use Rattle.ospf_index.specs.Ranges.{HasRanges, end_of};
 ghost use Rattle.ospf_index.specs.Room.{HasRoom, IsRoomFor, IsSweptTo};
@@ -25,6 +25,13 @@ fn end_address(prefix: Prefix) -> u64
     prefix.address.0 as u64 + (1u64 << (32 - prefix.length))
 }
 
+/// How many ranges so many routes have at most; `None` where there is no memory for so many.
+pub(crate) fn most_ranges(count: usize) -> Option<usize>
+    ensures { IfSome result (λ most. most ≡ 2 * count + 1) }
+{
+    count.checked_mul(2)?.checked_add(1)
+}
+
 impl Sweep {
     ghost use Rattle.std.specs.Prelude.{◌≡◌, ◌≤◌, ◌<◌, ◌+◌, ◌-◌, ◌++◌, ◌∷◌, ℕ, AllPairs, IfOk, MatchOption, get_or, length, vec_len, vec_capacity};
     ghost use Rattle.ospf_graph.specs.Routes.{IsRouteBefore};
@@ -37,11 +44,7 @@ impl Sweep {
     pub fn with_room(alloc: Global, count: usize) -> Result<Sweep, AllocError>
         ensures { IfOk result (IsRoomFor count) }
     {
-        let most = count
-            .checked_mul(2)
-            .ok_or(AllocError)?
-            .checked_add(1)
-            .ok_or(AllocError)?;
+        let most = most_ranges(count).ok_or(AllocError)?;
         let starts = Vec::with_capacity(alloc, most)?;
         let places = Vec::with_capacity(alloc, most)?;
         let opened = Vec::with_capacity(alloc, count)?;
@@ -109,10 +112,10 @@ impl Sweep {
         requires order { AllPairs IsRouteBefore routes.now }
         requires swept { IsSweptTo routes.now begun self.old }
         requires ahead { (k : ℕ) → begun ≤ k → k < length routes.now → limit ≤ (blocks_of routes.now).first k }
-        requires room { HasRoom self.old (length routes.now - begun) }
+        requires room { HasRoom (2 * length routes.now + 1) self.old (length routes.now - begun) }
         ensures swept { IsSweptTo routes.now begun self.new }
         ensures open { 0 < length self.new.opened.items → limit < (blocks_of routes.now).end (get_or self.new.opened.items (length self.new.opened.items - 1) 0) }
-        ensures room { HasRoom self.new (length routes.now - begun) }
+        ensures room { HasRoom (2 * length routes.now + 1) self.new (length routes.now - begun) }
     {
         while let Some(end) = self.ended(routes, begun, limit) {
             let _place = self.opened.pop();
@@ -126,9 +129,9 @@ impl Sweep {
         requires order { AllPairs IsRouteBefore routes.now }
         requires within { place < length routes.now }
         requires swept { IsSweptTo routes.now place self.old }
-        requires room { HasRoom self.old (length routes.now - place) }
+        requires room { HasRoom (2 * length routes.now + 1) self.old (length routes.now - place) }
         ensures swept { IsSweptTo routes.now (place + 1) self.new }
-        ensures room { HasRoom self.new (length routes.now - (place + 1)) }
+        ensures room { HasRoom (2 * length routes.now + 1) self.new (length routes.now - (place + 1)) }
     {
         let start = routes[place].prefix.address.0;
         self.close_to(routes, place, start);
@@ -144,7 +147,8 @@ impl Sweep {
 pub(crate) fn ranges_of(sweep: Sweep, routes: &[Route]) -> Ranges
     requires order { AllPairs IsRouteBefore routes.now }
     requires room { IsRoomFor (length routes.now) sweep }
-    ensures { HasRanges routes.now result }
+    ensures exact { HasRanges routes.now result.starts.items result.places.items }
+    ensures few { length result.places.items ≤ 2 * length routes.now + 1 }
 {
     let mut sweep = sweep;
     sweep.begin_range(0, routes.len());

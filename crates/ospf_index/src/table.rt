@@ -5,8 +5,11 @@ ghost use Rattle.ospf_base.specs.Prefixes.{Holds};
 ghost use Rattle.ospf_graph.specs.declared.route.Route.{Route};
 ghost use Rattle.ospf_graph.specs.Routes.{IsRouteBefore};
 ghost use Rattle.ospf_graph.specs.Walk.{IsBest};
+ghost use Rattle.ospf_index.specs.Entries.{route_of};
 ghost use Rattle.ospf_spf.specs.Changes.{edited, IsChangeBefore, PutsHops};
 
+use crate::counts::most_hops;
+use crate::entries::Found;
 use crate::index::{Index, IndexRoom};
 use ospf_base::Addr;
 use ospf_graph::Route;
@@ -24,7 +27,7 @@ pub struct IndexedTable {
 impl Model for IndexedTable {
     ghost use Rattle.std.specs.Prelude.{List};
     ghost use Rattle.ospf_graph.specs.declared.route.Route.{Route};
-    ghost use Rattle.ospf_index.specs.Ranges.{IsIndexOf};
+    ghost use Rattle.ospf_index.specs.Indexes.{IsIndexOf};
 
     ghost Value = { List Route };
 
@@ -40,7 +43,7 @@ impl IndexedTable {
     pub fn empty(alloc: Global) -> Result<IndexedTable, AllocError>
         ensures { IfOk result (λ table. table ≡ []) }
     {
-        let room = IndexRoom::new(alloc, 0)?;
+        let room = IndexRoom::new(alloc, 0, 0)?;
         let table = RouteTable::empty(alloc);
         let index = Index::of(table.routes(), room);
         Ok(IndexedTable { table, index })
@@ -84,7 +87,8 @@ impl IndexedTable {
         ensures refused { OnErr result (self.new ≡ self.old) }
     {
         let edit = Edit::new(alloc, &self.table, changes)?;
-        let room = IndexRoom::new(alloc, edit.room())?;
+        let hops = most_hops(self.table.routes(), changes)?;
+        let room = IndexRoom::new(alloc, edit.room(), hops)?;
         let IndexedTable { table, index } = self;
         table.make(edit);
         *index = Index::of(table.routes(), room);
@@ -93,12 +97,20 @@ impl IndexedTable {
 
     /// The route of longest prefix that holds an address (RFC 2328, section 11.1); `None` where no route's
     /// prefix does.
-    pub fn lookup(&self, address: Addr) -> Option<&Route>
-        ensures found { IfSome result (λ r. IsBest self.now address.0 r.now) }
-        ensures hop { IfSome result (λ r. 0 < length r.now.hops) }
+    pub fn lookup(&self, address: Addr) -> Option<Found<'_>>
+        ensures found { IfSome result (λ r. IsBest self.now address.0 (route_of r)) }
+        ensures hop { IfSome result (λ r. 0 < length r.hops.now) }
         ensures none { IfNone result ((r : Route) → Contains self.now r → Holds r.prefix address.0 → ⊥) }
     {
-        let routes = self.table.routes();
-        routes.get(self.index.place(routes, address.0))
+        let entry = self.index.entry(self.table.routes(), address.0);
+        let hops = self.index.sets.get(entry.set);
+        if hops.is_empty() {
+            return None;
+        }
+        Some(Found {
+            prefix: entry.prefix,
+            cost: entry.cost,
+            hops,
+        })
     }
 }

@@ -1,6 +1,8 @@
 //! Lookups in tables of each shape.
 
 use crate::IndexedTable;
+use crate::counts::most_hops;
+use crate::numbering::{Numbering, numbers_of};
 use ospf_base::{Addr, RouterId};
 use ospf_lsa::{Link, LinkKind, Listing, Lsa};
 use ospf_spf::RouteTable;
@@ -124,6 +126,75 @@ fn ends_of_prefixes(rt: HostRuntime) -> Result<(), Fail> {
     }
     table.clear(rt.alloc())?;
     assert!(rt; table.lookup(Addr(0x0a00_0080)).is_none());
+    Ok(())
+}
+
+// Prefixes that crowd at the beginning of a block, and one at its end.
+#[test]
+fn prefixes_not_spread_evenly(rt: HostRuntime) -> Result<(), Fail> {
+    let alloc = rt.alloc();
+    let mut stubs = Vec::new(alloc);
+    for k in 0u16..100 {
+        stubs.push(stub(0x0a00_0000 | k as u32, 0xffff_ffff, k))?;
+    }
+    stubs.push(stub(0x0a00_ff00, 0xffff_ff00, 100))?;
+    let table = table_of(alloc, &stubs)?;
+    for k in 0u16..100 {
+        let route = table.lookup(Addr(0x0a00_0000 | k as u32)).ok_or("a route")?;
+        assert_eq!(rt; route.cost, k as u64);
+    }
+    for address in [0x0a00_0064, 0x0a00_7fff, 0x0a00_feff, 0x0a01_0000] {
+        assert!(rt; table.lookup(Addr(address)).is_none());
+    }
+    for address in [0x0a00_ff00, 0x0a00_ff7f, 0x0a00_ffff] {
+        assert_eq!(rt;
+            table.lookup(Addr(address)).map(|route| route.cost),
+            Some(100)
+        );
+    }
+    Ok(())
+}
+
+// A router behind the root that has every third of 30 stubs from this one on, and one that all have.
+fn third(alloc: Global, k: u32) -> Result<Lsa, Fail> {
+    let mut links = Vec::new(alloc);
+    links.push(point_to_point(ROOT, 0x0a01_0000 | k))?;
+    links.push(stub(0x1500_0000, 0xffff_ff00, 1))?;
+    for s in 0u32..10 {
+        let address = 0x1400_0000 | s.wrapping_mul(3).wrapping_add(k) << 8;
+        links.push(stub(address, 0xffff_ff00, s as u16))?;
+    }
+    let lsa = Lsa::router(alloc, RouterId(0x0202_0000 | k), FIRST_NUMBER, &links)?;
+    Ok(lsa)
+}
+
+// The routes by turns are over three routers, and the last is over all of them.
+#[test]
+fn each_set_of_hops_stands_once(rt: HostRuntime) -> Result<(), Fail> {
+    let alloc = rt.alloc();
+    let mut listing = Listing::new(alloc);
+    let mut links = Vec::new(alloc);
+    for k in 0u32..3 {
+        links.push(point_to_point(RouterId(0x0202_0000 | k), 0x0a00_0000 | k))?;
+        listing.add(third(alloc, k)?)?;
+    }
+    listing.add(Lsa::router(alloc, ROOT, FIRST_NUMBER, &links)?)?;
+    let table = indexed(alloc, &listing)?;
+    let routes = table.routes();
+    assert_eq!(rt; routes.len(), 31);
+    for route in routes {
+        let found = table.lookup(route.prefix.address).ok_or("a route")?;
+        assert_eq!(rt; found.cost, route.cost);
+        assert!(rt; found.hops == route.hops.as_slice());
+    }
+    let numbering = Numbering::with_room(alloc, routes.len(), most_hops(routes, &[])?)?;
+    let numbers = Vec::with_capacity(alloc, routes.len())?;
+    let (sets, numbers) = numbers_of(numbering, numbers, routes);
+    assert_eq!(rt; sets.sets.len(), 5);
+    assert_eq!(rt; sets.hops.len(), 6);
+    for (place, number) in numbers.iter().enumerate() {
+        assert_eq!(rt; *number, if place < 30 { place % 3 + 1 } else { 4 });
+    }
     Ok(())
 }
 

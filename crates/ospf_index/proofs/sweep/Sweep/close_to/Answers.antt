@@ -33,6 +33,7 @@ loop-end-preserved c =
     let room = c.loop-end.invariant.1 in (
       rw still next,
       record {
+        few = omega (arith, fewer_long, popped, same, long, some, room.few, c.begin_range.ensures.places_len);
         starts = omega (arith, fewer_long, popped, same, long, some, room.starts, c.begin_range.ensures.starts_len, c.begin_range.ensures.starts_room);
         places = omega (arith, fewer_long, popped, same, long, some, room.places, c.begin_range.ensures.places_len, c.begin_range.ensures.places_room);
         opened = omega (arith, fewer_long, popped, same, cap, long, some, room.opened, c.pop-place.ensures.capacity);
