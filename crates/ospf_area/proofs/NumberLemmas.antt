@@ -1,9 +1,14 @@
 -- Kept numbers, and marks, key by key.
-use Rattle.std.proofs.Common.{◌≡◌, ◌==◌, ◌&&◌, ◌||◌, ℤ, Bool, true, false, if◌then◌else◌, Option, None, Some, List, [], ◌∷◌, ◌++◌, filter, map, not, refl, sym, ap, subst, ◌∙◌}
+use Rattle.std.proofs.Common.{◌≡◌, ◌==◌, ◌&&◌, ◌||◌, ℤ, Bool, true, false, true≢false, cond, if◌then◌else◌, Option, None, Some, List, [], ◌∷◌, ◌++◌, filter, map, not, refl, sym, ap, subst, ◌∙◌, Ordering, Less, Equal, Greater}
+use Rattle.std.specs.BTreeSet.{insert_key}
 use Rattle.std.specs.Int.{int_max}
 use Rattle.std.specs.List.{list_any}
 use Rattle.std.specs.Option.{option_map}
-use Rattle.ospf_base.proofs.SameKeys.{same_key-eq, same_key-refl}
+use Rattle.std.specs.Ordering.{is_eq, match_ordering}
+use Rattle.std.specs.Set.{remove_key}
+use Rattle.ospf_base.proofs.SameKeys.{same_key-eq, same_key-refl, same_key-turned}
+use Rattle.ospf_lsdb.proofs.OrderLemmas.{is_eq-key_cmp}
+use Rattle.ospf_lsdb.specs.Moments.{key_cmp}
 use Rattle.ospf_base.specs.Keys.{same_key}
 use Rattle.ospf_base.specs.declared.ids.LsaKey.{LsaKey}
 use Rattle.ospf_base.specs.declared.ids.RouterId.{RouterId}
@@ -144,17 +149,75 @@ own_counted own key k number floor ns = by_key (same_key key k) refl
 
 -- ---- marks
 
-sent_behind : (sent : List LsaKey) (key k : LsaKey) → was_sent (sent ++ key ∷ []) k ≡ (was_sent sent k || same_key key k)
-sent_behind [] key k = by_test (same_key key k)
+this : (a b : Bool) → (a || b) ≡ false → a ≡ false
+this true b is = absurd (cc)
+this false b is = refl
+
+other : (a b : Bool) → (a || b) ≡ false → b ≡ false
+other true b is = absurd (cc)
+other false b is = is
+
+-- the test of the set's order is that of one key being another
+pub is_here : (key k : LsaKey) → is_eq (key_cmp key k) ≡ same_key k key
+is_here key k = is_eq-key_cmp key k ∙ same_key-turned key k
+
+-- what the set has was sent
+pub set_has : (key : LsaKey) (sent : List LsaKey) → list_any (λ k. is_eq (key_cmp key k)) sent ≡ was_sent sent key
+set_has key [] = refl
+set_has key (x ∷ xs) = ap (λ (b : Bool). b || list_any (λ k. is_eq (key_cmp key k)) xs) (is_here key x) ∙ ap (λ (b : Bool). same_key x key || b) (set_has key xs)
+
+-- a key that is put in is marked, beside those that were
+put_in : (key k : LsaKey) (sent : List LsaKey) → was_sent (insert_key key_cmp sent key) k ≡ (same_key key k || was_sent sent k)
+put_in key k [] = refl
+put_in key k (x ∷ xs) = by_order (key_cmp key x) refl (put_in key k xs)
   where
-    by_test : (b : Bool) → (b || false) ≡ b
-    by_test true = refl
-    by_test false = refl
-sent_behind (x ∷ xs) key k = ap (λ (b : Bool). same_key x k || b) (sent_behind xs key k) ∙ by_test (same_key x k)
+    over : (a b c : Bool) → c ≡ (a || b) → (a || b) ≡ (a || c)
+    over true b c e = refl
+    over false b c e = sym e
+
+    twice : (a b : Bool) → (a || b) ≡ (a || (a || b))
+    twice true b = refl
+    twice false b = refl
+
+    turned : (a b c : Bool) → (a || (b || c)) ≡ (b || (a || c))
+    turned true true c = refl
+    turned true false c = refl
+    turned false b c = refl
+
+    by_order : (o : Ordering) → key_cmp key x ≡ o → was_sent (insert_key key_cmp xs key) k ≡ (same_key key k || was_sent xs k)
+        → was_sent (match_ordering o (key ∷ x ∷ xs) (x ∷ xs) (x ∷ insert_key key_cmp xs key)) k ≡ (same_key key k || (same_key x k || was_sent xs k))
+    by_order Less e rest = refl
+    by_order Equal e rest =
+        let one : x ≡ key = same_key-eq x key (sym (is_here key x) ∙ ap is_eq e) in
+        ap (λ (j : LsaKey). same_key j k || was_sent xs k) one ∙ twice (same_key key k) (was_sent xs k)
+        ∙ ap (λ (j : LsaKey). same_key key k || (same_key j k || was_sent xs k)) (sym one)
+    by_order Greater e rest = ap (λ (b : Bool). same_key x k || b) rest ∙ turned (same_key x k) (same_key key k) (was_sent xs k)
+
+-- where the key is not marked, nothing leaves
+all_stay : (key : LsaKey) (sent : List LsaKey) → list_any (λ k. is_eq (key_cmp key k)) sent ≡ false → unmarked key sent ≡ sent
+all_stay key [] none = refl
+all_stay key (x ∷ xs) none = by_test (same_key x key) refl (all_stay key xs (other (is_eq (key_cmp key x)) (list_any (λ k. is_eq (key_cmp key k)) xs) none))
   where
-    by_test : (b : Bool) → (b || (was_sent xs k || same_key key k)) ≡ ((b || was_sent xs k) || same_key key k)
-    by_test true = refl
-    by_test false = refl
+    by_test : (b : Bool) → same_key x key ≡ b → unmarked key xs ≡ xs → (if not b then x ∷ unmarked key xs else unmarked key xs) ≡ x ∷ xs
+    by_test true e rest = absurd (let no = this (is_eq (key_cmp key x)) (list_any (λ k. is_eq (key_cmp key k)) xs) none in true≢false (sym e ∙ sym (is_here key x) ∙ no))
+    by_test false e rest = ap (λ l. x ∷ l) rest
+
+-- where the first mark of a key was the only one, it is all that leaves
+taken_first : (key : LsaKey) (sent : List LsaKey) → list_any (λ k. is_eq (key_cmp key k)) (remove_key (λ k. is_eq (key_cmp key k)) sent) ≡ false
+    → remove_key (λ k. is_eq (key_cmp key k)) sent ≡ unmarked key sent
+taken_first key [] none = refl
+taken_first key (x ∷ xs) none = by_test (is_eq (key_cmp key x)) (sym (is_here key x)) none (taken_first key xs)
+  where
+    by_test : (b : Bool) → same_key x key ≡ b → list_any (λ k. is_eq (key_cmp key k)) (cond b xs (x ∷ remove_key (λ k. is_eq (key_cmp key k)) xs)) ≡ false
+        → (list_any (λ k. is_eq (key_cmp key k)) (remove_key (λ k. is_eq (key_cmp key k)) xs) ≡ false → remove_key (λ k. is_eq (key_cmp key k)) xs ≡ unmarked key xs)
+        → cond b xs (x ∷ remove_key (λ k. is_eq (key_cmp key k)) xs) ≡ unmarked key (x ∷ xs)
+    by_test true e none rest = sym (ap (λ (b : Bool). if not b then x ∷ unmarked key xs else unmarked key xs) e ∙ all_stay key xs none)
+    by_test false e none rest =
+        ap (λ l. x ∷ l) (rest (other (is_eq (key_cmp key x)) (list_any (λ k. is_eq (key_cmp key k)) (remove_key (λ k. is_eq (key_cmp key k)) xs)) none))
+        ∙ sym (ap (λ (b : Bool). if not b then x ∷ unmarked key xs else unmarked key xs) e)
+
+pub taken_out : (key : LsaKey) (sent left : List LsaKey) → left ≡ remove_key (λ k. is_eq (key_cmp key k)) sent → list_any (λ k. is_eq (key_cmp key k)) left ≡ false → left ≡ unmarked key sent
+taken_out key sent left is none = is ∙ taken_first key sent (sym (ap (λ ks. list_any (λ k. is_eq (key_cmp key k)) ks) is) ∙ none)
 
 -- the key's own marks are gone
 unmarked_here : (key : LsaKey) (sent : List LsaKey) → was_sent (unmarked key sent) key ≡ false
@@ -186,13 +249,8 @@ unmarked_at key sent k = by_test (same_key key k) refl
 
 pub marks : (key : LsaKey) (went : Bool) (sent : List LsaKey) (k : LsaKey) → was_sent (marked key went sent) k ≡ (if same_key key k then went else was_sent sent k)
 marks key false sent k = unmarked_at key sent k
-marks key true sent k =
-    sent_behind (unmarked key sent) key k ∙ ap (λ (b : Bool). b || same_key key k) (unmarked_at key sent k) ∙ by_test (same_key key k)
+marks key true sent k = put_in key k sent ∙ by_test (same_key key k)
   where
-    by_test : (b : Bool) → ((if b then false else was_sent sent k) || b) ≡ (if b then true else was_sent sent k)
+    by_test : (b : Bool) → (b || was_sent sent k) ≡ (if b then true else was_sent sent k)
     by_test true = refl
-    by_test false = or_nothing (was_sent sent k)
-      where
-        or_nothing : (a : Bool) → (a || false) ≡ a
-        or_nothing true = refl
-        or_nothing false = refl
+    by_test false = refl

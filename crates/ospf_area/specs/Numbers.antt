@@ -1,12 +1,14 @@
 -- How far the numbers of the router's own keys have come (RFC 2328, section 12.1.6).
 use Rattle.std.specs.Prelude.{◌==◌, ◌++◌, ◌||◌, ◌&&◌, ℕ, ℤ, Bool, false, true, None, List, [], ◌∷◌, filter, map, not, if◌then◌else◌}
 use Rattle.std.specs.Int.{int_max}
+use Rattle.std.specs.BTreeSet.{insert_key}
 use Rattle.std.specs.List.{list_any}
 use Rattle.ospf_base.specs.Keys.{same_key}
 use Rattle.ospf_base.specs.declared.ids.Kind.{Kind}
 use Rattle.ospf_base.specs.declared.ids.Kind.TheVariants.{Router, Network}
 use Rattle.ospf_base.specs.declared.ids.LsaKey.{LsaKey}
 use Rattle.ospf_base.specs.declared.ids.RouterId.{RouterId}
+use Rattle.ospf_lsdb.specs.Moments.{key_cmp}
 use Rattle.ospf_area.specs.State.{AreaValue, LinkValue}
 use Rattle.ospf_area.specs.declared.state.Numbering.{Numbering}
 
@@ -55,6 +57,7 @@ is_self_originated router links key = is_own router key || (is_network key.kind 
 abbrev pub unmarked : LsaKey → List LsaKey → List LsaKey
 unmarked key sent = filter (λ k. not (same_key k key)) sent
 
--- the key's copy has just been installed, and was sent in an Update or was not (13, step 8)
+-- the key's copy has just been installed, and was sent in an Update or was not (13, step 8): it stands at its place in
+-- the order of keys, or not
 abbrev pub marked : LsaKey → Bool → List LsaKey → List LsaKey
-marked key went sent = if went then unmarked key sent ++ key ∷ [] else unmarked key sent
+marked key went sent = if went then insert_key key_cmp sent key else unmarked key sent

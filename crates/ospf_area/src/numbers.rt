@@ -11,6 +11,7 @@ use crate::state::{Area, Link, Numbering};
 use ospf_base::{Kind, LsaKey, RouterId};
 use ospf_lsa::LsaHeader;
 use std::alloc::AllocError;
+use std::collections::BTreeSet;
 
 fn larger(a: i32, b: i32) -> i32
     ensures { result ≡ int_max a b }
@@ -106,27 +107,29 @@ pub fn is_self_originated(router: RouterId, links: &[Link], key: &LsaKey) -> boo
 }
 
 /// Whether the copy of a key was sent in an Update in this tick (section 13, step 8).
-pub fn was_sent(sent: &[LsaKey], key: &LsaKey) -> bool
-    ensures { result ≡ was_sent sent.now key.now }
+pub fn was_sent(sent: &BTreeSet<LsaKey>, key: &LsaKey) -> bool
+    ensures { result ≡ was_sent sent.now.keys key.now }
 {
-    sent.iter().any(|k| k.is_same(key))
+    sent.contains(key)
 }
 
-fn unmark(sent: &mut Vec<LsaKey>, key: &LsaKey)
-    ensures { sent.new.items ≡ unmarked key.now sent.old.items }
+fn unmark(sent: &mut BTreeSet<LsaKey>, key: &LsaKey)
+    ensures { sent.new.keys ≡ unmarked key.now sent.old.keys }
 {
-    sent.retain(|k| !k.is_same(key));
+    sent.remove(key);
 }
 
-/// The copy of a key has just been installed, and was sent in an Update or was not.
+/// The copy of a key has just been installed, and was sent in an Update or was not. Memory is taken for a key that was
+/// not marked.
 ///
 /// `AllocError` where memory runs out; then the router is to be stopped.
-pub fn mark(sent: &mut Vec<LsaKey>, key: LsaKey, went: bool) -> Result<(), AllocError>
-    ensures { OnOk result (sent.new.items ≡ marked key went sent.old.items) }
+pub fn mark(sent: &mut BTreeSet<LsaKey>, key: LsaKey, went: bool) -> Result<(), AllocError>
+    ensures { OnOk result (sent.new.keys ≡ marked key went sent.old.keys) }
 {
-    unmark(sent, &key);
     if went {
-        sent.push(key)?;
+        sent.insert(key)?;
+    } else {
+        unmark(sent, &key);
     }
     Ok(())
 }

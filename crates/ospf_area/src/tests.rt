@@ -14,6 +14,7 @@ use ospf_lsdb::Lsdb;
 use ospf_neighbour::{NbrEvent, Neighbour, NeighbourState, Neighbours};
 use ospf_packet::{Body, Packet};
 use std::alloc::Global;
+use std::collections::BTreeSet;
 use std::test::Fail;
 
 // 0x80000001, the number that a router uses first.
@@ -127,7 +128,7 @@ fn area(alloc: Global, described: &[LsaHeader]) -> Result<Area, Fail> {
         floor: i32::MIN,
         tick: 7,
         next_dd: 300,
-        sent: Vec::new(alloc),
+        sent: BTreeSet::new(alloc),
         heard: Vec::new(alloc),
         greatest: i32::MIN,
     })

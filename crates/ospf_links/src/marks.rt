@@ -9,8 +9,11 @@ use std::alloc::AllocError;
 use std::collections::BTreeSet;
 
 // Copies of these keys went out in Updates in this tick.
-pub(crate) fn mark_all(sent: &mut Vec<LsaKey>, keys: &BTreeSet<LsaKey>) -> Result<(), AllocError>
-    ensures { OnOk result (sent.new.items ≡ marked_all keys.now.keys sent.old.items) }
+pub(crate) fn mark_all(
+    sent: &mut BTreeSet<LsaKey>,
+    keys: &BTreeSet<LsaKey>,
+) -> Result<(), AllocError>
+    ensures { OnOk result (sent.new.keys ≡ marked_all keys.now.keys sent.old.keys) }
 {
     for key in keys {
         mark(sent, *key, true)?;

@@ -15,6 +15,7 @@ use ospf_lsdb::Lsdb;
 use ospf_neighbour::Neighbour;
 use ospf_resend::repeat;
 use std::alloc::{AllocError, Global};
+use std::collections::BTreeSet;
 
 // The repeats to a neighbour on a link of this number.
 fn repeat_to(
@@ -24,13 +25,13 @@ fn repeat_to(
     settings: LinkSettings,
     database: &Lsdb,
     own: Own,
-    sent: &mut Vec<LsaKey>,
+    sent: &mut BTreeSet<LsaKey>,
     out: &mut Outputs,
     alloc: Global,
 ) -> Result<(), AllocError>
     ensures after { OnOk result (neighbour.new ≡ repeated own iface.now settings database.now neighbour.old) }
     ensures sent { OnOk result (out.new ≡ and_sends out.old (repeats_to own number iface.now settings database.now neighbour.old)) }
-    ensures marks { OnOk result (sent.new.items ≡ marked_all (keys_to own settings database.now neighbour.old) sent.old.items) }
+    ensures marks { OnOk result (sent.new.keys ≡ marked_all (keys_to own settings database.now neighbour.old) sent.old.keys) }
 {
     let mut packets = Vec::new(alloc);
     let local = local_by(own, settings);
@@ -56,13 +57,13 @@ fn repeat_to_each(
     settings: LinkSettings,
     database: &Lsdb,
     own: Own,
-    sent: &mut Vec<LsaKey>,
+    sent: &mut BTreeSet<LsaKey>,
     out: &mut Outputs,
     alloc: Global,
 ) -> Result<(), AllocError>
     ensures after { OnOk result (all.new ≡ map (repeated own iface.now settings database.now) all.old) }
     ensures sent { OnOk result (out.new ≡ and_sends out.old (flat_map (repeats_to own number iface.now settings database.now) all.old)) }
-    ensures marks { OnOk result (sent.new.items ≡ marked_all (flat_map (keys_to own settings database.now) all.old) sent.old.items) }
+    ensures marks { OnOk result (sent.new.keys ≡ marked_all (flat_map (keys_to own settings database.now) all.old) sent.old.keys) }
 {
     for neighbour in all.iter_mut() {
         repeat_to(
@@ -80,13 +81,13 @@ fn repeat_to_all(
     settings: LinkSettings,
     database: &Lsdb,
     own: Own,
-    sent: &mut Vec<LsaKey>,
+    sent: &mut BTreeSet<LsaKey>,
     out: &mut Outputs,
     alloc: Global,
 ) -> Result<(), AllocError>
     ensures after { OnOk result (all.new.items ≡ map (repeated own iface.now settings database.now) all.old.items) }
     ensures sent { OnOk result (out.new ≡ and_sends out.old (flat_map (repeats_to own number iface.now settings database.now) all.old.items)) }
-    ensures marks { OnOk result (sent.new.items ≡ marked_all (flat_map (keys_to own settings database.now) all.old.items) sent.old.items) }
+    ensures marks { OnOk result (sent.new.keys ≡ marked_all (flat_map (keys_to own settings database.now) all.old.items) sent.old.keys) }
 {
     repeat_to_each(
         all, number, iface, settings, database, own, sent, out, alloc,
@@ -100,13 +101,13 @@ fn repeat_on(
     number: usize,
     database: &Lsdb,
     own: Own,
-    sent: &mut Vec<LsaKey>,
+    sent: &mut BTreeSet<LsaKey>,
     out: &mut Outputs,
     alloc: Global,
 ) -> Result<(), AllocError>
     ensures after { OnOk result (link.new ≡ link_repeated own database.now link.old) }
     ensures sent { OnOk result (out.new ≡ and_sends out.old (repeats_out own database.now number link.old)) }
-    ensures marks { OnOk result (sent.new.items ≡ marked_all (keys_out own database.now link.old) sent.old.items) }
+    ensures marks { OnOk result (sent.new.keys ≡ marked_all (keys_out own database.now link.old) sent.old.keys) }
 {
     let iface = iface_of(link);
     let settings = link.settings;
@@ -127,13 +128,13 @@ pub fn repeat_all(
     links: &mut [Link],
     database: &Lsdb,
     own: Own,
-    sent: &mut Vec<LsaKey>,
+    sent: &mut BTreeSet<LsaKey>,
     out: &mut Outputs,
     alloc: Global,
 ) -> Result<(), AllocError>
     ensures after { OnOk result (links.new ≡ repeated_links own database.now links.old) }
     ensures sent { OnOk result (out.new ≡ and_sends out.old (all_repeats own database.now links.old)) }
-    ensures marks { OnOk result (sent.new.items ≡ marked_all (all_keys own database.now links.old) sent.old.items) }
+    ensures marks { OnOk result (sent.new.keys ≡ marked_all (all_keys own database.now links.old) sent.old.keys) }
 {
     for (number, link) in links.iter_mut().enumerate() {
         repeat_on(link, number, database, own, sent, out, alloc)?;

@@ -92,7 +92,7 @@ fn request_on_link(
     database: &Lsdb,
     own: Own,
     next: &mut u32,
-    sent: &mut Vec<LsaKey>,
+    sent: &mut BTreeSet<LsaKey>,
     out: &mut Outputs,
     alloc: Global,
 ) -> Result<(), AllocError>
@@ -100,7 +100,7 @@ fn request_on_link(
     ensures after { OnOk result (link.new ≡ with_neighbourhood (request_part own from database.now requests.entry next.old link.old) link.old) }
     ensures number { OnOk result (next.new ≡ (request_part own from database.now requests.entry next.old link.old).next) }
     ensures sent { OnOk result (out.new ≡ and_sends out.old (posted_all own from.link link.old.iface (request_part own from database.now requests.entry next.old link.old).sent)) }
-    ensures marks { OnOk result (sent.new.items ≡ marked_all (answered_by (neighbour_of link.old.neighbours from.router) database.now requests.entry) sent.old.items) }
+    ensures marks { OnOk result (sent.new.keys ≡ marked_all (answered_by (neighbour_of link.old.neighbours from.router) database.now requests.entry) sent.old.keys) }
 {
     let mut packets = Vec::new(alloc);
     let local = local_of(own, link);

@@ -23,6 +23,7 @@ use ospf_packet::{
     Requests, write_packet,
 };
 use std::alloc::{AllocError, Global};
+use std::collections::BTreeSet;
 use std::test::Fail;
 
 // The first Hello of 1.1.1.1.
@@ -99,7 +100,7 @@ fn router_of(
         floor: i32::MIN,
         tick: 0,
         next_dd,
-        sent: Vec::new(alloc),
+        sent: BTreeSet::new(alloc),
         heard: Vec::new(alloc),
         greatest: i32::MIN,
     };

@@ -5,6 +5,7 @@ pub mod NumberLemmas
 mod OwnLaws
 mod OwnLemmas
 mod RemovalSound
+mod ShortOwn
 mod SoundLemmas
 mod StaySound
 mod StepLemmas

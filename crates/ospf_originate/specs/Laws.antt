@@ -3,13 +3,16 @@ use Rattle.std.specs.Prelude.{◌≡◌, ◌&&◌, ◌+ℤ◌, ◌≤ℤ◌, ℕ
 use Rattle.std.specs.Int.{int_max}
 use Rattle.ospf_base.specs.Keys.{same_key}
 use Rattle.ospf_base.specs.declared.ids.LsaKey.{LsaKey}
+use Rattle.ospf_lsa.specs.Lsa.{IsLsa}
 use Rattle.ospf_lsa.specs.Recency.{recency}
+use Rattle.ospf_lsa.specs.Value.{IsMade}
 use Rattle.ospf_lsa.specs.declared.header.LsaHeader.{LsaHeader}
 use Rattle.ospf_lsa.specs.declared.recency.Recency.TheVariants.{Newer}
 use Rattle.ospf_lsdb.specs.Database.{IsDatabase}
 use Rattle.ospf_area.specs.Asking.{turned_links}
 use Rattle.ospf_area.specs.Changes.{changed_at, delayed_at}
 use Rattle.ospf_area.specs.Flooding.{flooded_links, released}
+use Rattle.ospf_area.specs.Laws.{AreShort}
 use Rattle.ospf_area.specs.Numbers.{counts, greatest_after, is_own}
 use Rattle.ospf_area.specs.Outputs.{OutputsValue, SentValue}
 use Rattle.ospf_area.specs.Standing.{acknowledging}
@@ -20,12 +23,14 @@ use Rattle.ospf_area.specs.declared.sending.Own.{Own}
 use Rattle.ospf_flood.specs.declared.acknowledgement.Acknowledgement.{Acknowledgement}
 use Rattle.ospf_update.specs.Acks.{undelayed}
 use Rattle.ospf_update.specs.Aging.{Flushes, TickAges, copy_sent, turned_area}
+use Rattle.ospf_update.specs.Laws.{IsShortLsa}
 use Rattle.ospf_update.specs.Meets.{MeetsLsa, RestartsExchange, Stores, flooded_area, header_met}
 use Rattle.ospf_update.specs.Removal.{Removes}
 use Rattle.ospf_update.specs.Updates.{TakesUpdate}
 use Rattle.ospf_originate.specs.Numbers.{issued_at_in}
 use Rattle.ospf_originate.specs.Sound.{AreSetUp, IsSound}
 use Rattle.ospf_originate.specs.Steps.{Issues, OwnLsas, wants, action_of}
+use Rattle.ospf_wanted.specs.Made.{CanBeMade, lsa_value}
 use Rattle.ospf_wanted.specs.Wanted.{WantedValue, wanted_key, wanted_of}
 use Rattle.ospf_originate.specs.declared.action.OwnAction.TheVariants.{Issue}
 pub use Rattle.ospf_wanted.specs.Laws.{WantedAreOfTheirKeys, WantedAreOwn, WantedCanBeMade}
@@ -100,3 +105,11 @@ pub record PartsStaySound : Type 0 where
   pub flooded : (lsa : List ℕ) (from : Option Origin) (s : AreaValue) → IsSound s → IsSound (flooded_area lsa from s)
   pub answered : (s : AreaValue) → IsSound s → IsSound (record s { direct = [] })
   pub marked : (s : AreaValue) (sent : List LsaKey) → IsSound s → IsSound (record s { sent = sent })
+
+-- ---- how long own LSAs are
+
+-- what is made is one that an Update has room for, and so the LSAs of the database stay where it is issued
+pub record OwnStayShort : Type 0 where
+  pub made : (w : WantedValue) (number : ℤ) (lsa : List ℕ) → CanBeMade w → IsLsa lsa → IsMade (lsa_value number w) lsa → IsShortLsa lsa
+  pub issued : (w : WantedValue) (number : ℤ) (s : AreaValue) (o o' : OutputsValue) (s' : AreaValue) → Issues w number s o o' s' → CanBeMade w → AreShort s.database → AreShort s'.database
+  pub ended : (s : AreaValue) (o o' : OutputsValue) (s' : AreaValue) → OwnLsas s o o' s' → AreSetUp s.links → AreShort s.database → AreShort s'.database

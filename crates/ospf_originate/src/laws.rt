@@ -1,6 +1,6 @@
 //! Laws: each holds of all numbers and routers.
 
-ghost use Rattle.ospf_originate.specs.Laws.{AreaStaysSound, StartsSound, IssueIsNext, IssuedIsKept, IssuedWaits, NextIsNewer, OwnStaySound, PartsStaySound};
+ghost use Rattle.ospf_originate.specs.Laws.{AreaStaysSound, StartsSound, IssueIsNext, IssuedIsKept, IssuedWaits, NextIsNewer, OwnStayShort, OwnStaySound, PartsStaySound};
 
 /// An issued LSA's number is kept.
 pub fn issued_is_kept()
@@ -40,4 +40,9 @@ pub fn area_stays_sound()
 /// So does each call of `ospf_area` and `ospf_update` that these are made of.
 pub fn parts_stay_sound()
     ensures { PartsStaySound }
+{}
+
+/// What is issued is at most `ospf_base::LARGEST_LSA` bytes long, and leaves each LSA of the database at most so long.
+pub fn own_stay_short()
+    ensures { OwnStayShort }
 {}

@@ -12,6 +12,7 @@ use ospf_lsdb::Lsdb;
 use ospf_neighbour::{NbrEvent, Neighbour, Neighbours};
 use ospf_update::{on_lsa, remove};
 use std::alloc::Global;
+use std::collections::BTreeSet;
 use std::test::Fail;
 
 const NO_FLOOR: i32 = i32::MIN;
@@ -157,7 +158,7 @@ fn area(alloc: Global, own: End, stub_router: bool, floor: i32, links: Vec<AreaL
         floor,
         tick: 0,
         next_dd: 1,
-        sent: Vec::new(alloc),
+        sent: BTreeSet::new(alloc),
         heard: Vec::new(alloc),
         greatest: floor,
     }

@@ -10,6 +10,7 @@ use ospf_iface::{Iface, IfaceSettings, IfaceState};
 use ospf_lsdb::Lsdb;
 use ospf_neighbour::Neighbours;
 use std::alloc::{AllocError, Global};
+use std::collections::BTreeSet;
 
 // The interface of a link that is down.
 fn iface_of(router: RouterId, interface: &Interface) -> Iface
@@ -89,7 +90,7 @@ pub(crate) fn area_of(
         floor,
         tick: 0,
         next_dd: dd_start,
-        sent: Vec::new(alloc),
+        sent: BTreeSet::new(alloc),
         heard: Vec::new(alloc),
         greatest: floor,
     })

@@ -3,3 +3,9 @@ pub mod AckLemmas
 pub mod OrderLemmas
 pub mod RemovalLemmas
 pub mod LawLemmas
+pub mod CopyLemmas
+pub mod MeetLemmas
+pub mod ShortLemmas
+pub mod NumberLemmas
+pub mod BringLemmas
+pub mod ReachLemmas

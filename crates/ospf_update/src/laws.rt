@@ -1,6 +1,6 @@
 //! Laws: each holds of all routers.
 
-ghost use Rattle.ospf_update.specs.Laws.{StoredNeighbours, StoredEntry, StoredNumbers, StoredStays, StoredReaches, RemovedEntries};
+ghost use Rattle.ospf_update.specs.Laws.{AreaStaysShort, CopiesReach, CopiesStay, NumbersAreKept, StoredNeighbours, StoredEntry, StoredNumbers, StoredStays, StoredReaches, RemovedEntries, UpdatesBringShort};
 
 /// What storing an LSA does to each neighbour.
 pub fn stored_neighbours()
@@ -30,4 +30,29 @@ pub fn stored_reaches()
 /// What leaves the database at the end of a step.
 pub fn removed_entries()
     ensures { RemovedEntries }
+{}
+
+/// What waits for an acknowledgement while a copy is flushed, and while ages rise.
+pub fn copies_stay()
+    ensures { CopiesStay }
+{}
+
+/// Whom a copy reaches that is flushed, or that comes to `MAX_AGE`.
+pub fn copies_reach()
+    ensures { CopiesReach }
+{}
+
+/// What each call does to the kept numbers.
+pub fn numbers_are_kept()
+    ensures { NumbersAreKept }
+{}
+
+/// The LSAs of an Update are at most `ospf_base::LARGEST_LSA` bytes long.
+pub fn updates_bring_short()
+    ensures { UpdatesBringShort }
+{}
+
+/// Each call leaves each LSA of the database at most so long, if what is stored is.
+pub fn area_stays_short()
+    ensures { AreaStaysShort }
 {}

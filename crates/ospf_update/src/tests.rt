@@ -17,6 +17,7 @@ use ospf_lsdb::Lsdb;
 use ospf_neighbour::{NbrEvent, Neighbour, NeighbourState, Neighbours};
 use ospf_packet::{Body, BodyValue, Packet, PacketValue, write_packet};
 use std::alloc::Global;
+use std::collections::BTreeSet;
 use std::test::Fail;
 
 // 0x80000001, the number that a router uses first, and the one that follows.
@@ -166,7 +167,7 @@ fn area_of(alloc: Global, links: Vec<Link>) -> Area {
         floor: i32::MIN,
         tick: 7,
         next_dd: 300,
-        sent: Vec::new(alloc),
+        sent: BTreeSet::new(alloc),
         heard: Vec::new(alloc),
         greatest: i32::MIN,
     }

@@ -19,5 +19,5 @@ loop-number-preserved c =
     record {
       repeated = ap (λ (v : LinkValue). set ys i v) (c.in_ok-repeat_on.ensures.after ∙ ap f (sym c.index-links-number.is)) ∙ map_over_more f xs ys i x lt c.loop-number.invariant.repeated c.index-links-number.is;
       sent = c.in_ok-repeat_on.ensures.sent ∙ sends_step_from (repeats_out c.args.own c.args.database.now) c.args.out.now c.loop-number.out xs i x (get_or ys i x) lt (sym c.index-links-number.is) read c.loop-number.invariant.sent;
-      marks = c.in_ok-repeat_on.ensures.marks ∙ marks_step (keys_out c.args.own c.args.database.now) c.args.sent.now.items c.loop-number.sent.items xs i x (get_or ys i x) lt (sym c.index-links-number.is) read c.loop-number.invariant.marks;
+      marks = c.in_ok-repeat_on.ensures.marks ∙ marks_step (keys_out c.args.own c.args.database.now) c.args.sent.now.keys c.loop-number.sent.keys xs i x (get_or ys i x) lt (sym c.index-links-number.is) read c.loop-number.invariant.marks;
     }

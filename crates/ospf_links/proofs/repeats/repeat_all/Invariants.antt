@@ -9,5 +9,5 @@ abbrev pub invariant-loop-number : goal.invariant-loop-number
 invariant-loop-number l = record {
   repeated : l.links ≡ map (link_repeated l.own l.database) (take l.number l.initial.links) ++ drop l.number l.initial.links;
   sent : l.out ≡ and_sends l.initial.out (flat_from (repeats_out l.own l.database) 0 (take l.number l.initial.links));
-  marks : l.sent.items ≡ marked_all (flat_map (keys_out l.own l.database) (take l.number l.initial.links)) l.initial.sent.items;
+  marks : l.sent.keys ≡ marked_all (flat_map (keys_out l.own l.database) (take l.number l.initial.links)) l.initial.sent.keys;
 }

@@ -19,5 +19,5 @@ loop-neighbour-preserved c =
     record {
       repeated = ap (λ (v : NeighbourValue). set ys i v) (c.in_ok-repeat_to.ensures.after ∙ ap f (sym c.neighbour-item.is)) ∙ map_over_more f xs ys i x lt c.loop-neighbour.invariant.repeated c.neighbour-item.is;
       sent = c.in_ok-repeat_to.ensures.sent ∙ sends_step (repeats_to c.args.own c.args.number c.args.iface.now c.args.settings c.args.database.now) c.args.out.now c.loop-neighbour.out xs i x (get_or ys i x) lt (sym c.neighbour-item.is) read c.loop-neighbour.invariant.sent;
-      marks = c.in_ok-repeat_to.ensures.marks ∙ marks_step (keys_to c.args.own c.args.settings c.args.database.now) c.args.sent.now.items c.loop-neighbour.sent.items xs i x (get_or ys i x) lt (sym c.neighbour-item.is) read c.loop-neighbour.invariant.marks;
+      marks = c.in_ok-repeat_to.ensures.marks ∙ marks_step (keys_to c.args.own c.args.settings c.args.database.now) c.args.sent.now.keys c.loop-neighbour.sent.keys xs i x (get_or ys i x) lt (sym c.neighbour-item.is) read c.loop-neighbour.invariant.marks;
     }

@@ -8,5 +8,5 @@ abbrev pub invariant-loop-neighbour : goal.invariant-loop-neighbour
 invariant-loop-neighbour l = record {
   repeated : l.all ≡ map (repeated l.own l.iface l.settings l.database) (take l.neighbour-index l.initial.all) ++ drop l.neighbour-index l.initial.all;
   sent : l.out ≡ and_sends l.initial.out (flat_map (repeats_to l.own l.number l.iface l.settings l.database) (take l.neighbour-index l.initial.all));
-  marks : l.sent.items ≡ marked_all (flat_map (keys_to l.own l.settings l.database) (take l.neighbour-index l.initial.all)) l.initial.sent.items;
+  marks : l.sent.keys ≡ marked_all (flat_map (keys_to l.own l.settings l.database) (take l.neighbour-index l.initial.all)) l.initial.sent.keys;
 }
