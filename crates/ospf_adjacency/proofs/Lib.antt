@@ -1,3 +1,4 @@
+pub mod PostLemmas
 pub mod ElectionLemmas
 pub mod TurnLemmas
 pub mod MemberLemmas

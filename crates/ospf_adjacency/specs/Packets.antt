@@ -1,26 +1,17 @@
 -- What goes out on a link (RFC 2328, sections 8.1, 10.8 and 10.9).
-use Rattle.std.specs.Prelude.{ℕ, List, [], ◌∷◌, Bool, map, if◌then◌else◌}
+use Rattle.std.specs.Prelude.{ℕ, List, [], ◌∷◌, Bool, if◌then◌else◌}
 use Rattle.ospf_base.specs.Constants.{router_options}
 use Rattle.ospf_base.specs.declared.ids.Addr.{Addr}
 use Rattle.ospf_iface.specs.declared.machine.Iface.{Iface}
 use Rattle.ospf_neighbour.specs.Neighbour.{NeighbourValue}
 use Rattle.ospf_packet.specs.Meaning.{BodyMeaning, description}
-use Rattle.ospf_packet.specs.Said.{body_meant}
 use Rattle.ospf_area.specs.Asking.{request_body}
 use Rattle.ospf_area.specs.Sending.{to_address}
-use Rattle.ospf_adjacency.specs.declared.packets.Outgoing.{Outgoing}
 
 -- a packet that is to go out: where it goes, and what it says
 pub record Parcel : Type 0 where
   pub destination : Addr
   pub body : BodyMeaning
-
-abbrev pub parcel_of : Outgoing → Parcel
-parcel_of o = record { destination = o.destination; body = body_meant o.body }
-
--- what goes out, in order
-abbrev pub parcels : List Outgoing → List Parcel
-parcels out = map parcel_of out
 
 -- a packet that goes out, or none
 abbrev pub parcel_if : Bool → Parcel → List Parcel

@@ -1,10 +1,12 @@
 //! Where an adjacency is wanted, and how one begins.
 
-ghost use Rattle.std.specs.Prelude.{◌≡◌, ◌++◌, OnOk};
+ghost use Rattle.std.specs.Prelude.{◌≡◌, OnOk};
 ghost use Rattle.ospf_adjacency.specs.Adjacency.{is_broadcast, is_chosen, wants_adjacency, is_beginning, begins_by, event_taken, number_by};
-ghost use Rattle.ospf_adjacency.specs.Packets.{parcels, dd_parcel, parcel_if};
+ghost use Rattle.ospf_adjacency.specs.Packets.{dd_parcel, parcel_if};
+ghost use Rattle.ospf_adjacency.specs.Posting.{and_parcels};
 
-use crate::packets::{Outgoing, send_dd};
+use crate::outbox::Outbox;
+use crate::packets::send_dd;
 use ospf_base::{Addr, InterfaceKind};
 use ospf_exchange::{Local, begin};
 use ospf_iface::Iface;
@@ -71,12 +73,12 @@ pub fn take_event(
     iface: &Iface,
     local: Local,
     numbers: &mut u32,
-    out: &mut Vec<Outgoing>,
+    out: &mut Outbox,
     alloc: Global,
 ) -> Result<(), AllocError>
     ensures neighbour { neighbour.new ≡ event_taken event iface.now.settings.dead numbers.old local.tick neighbour.old }
     ensures number { numbers.new ≡ number_by event neighbour.old numbers.old }
-    ensures sent { OnOk result (parcels out.new.items ≡ parcels out.old.items ++ parcel_if (begins_by event neighbour.old) (dd_parcel iface.now local.mtu (event_taken event iface.now.settings.dead numbers.old local.tick neighbour.old))) }
+    ensures sent { OnOk result (out.new ≡ and_parcels out.old (parcel_if (begins_by event neighbour.old) (dd_parcel iface.now local.mtu (event_taken event iface.now.settings.dead numbers.old local.tick neighbour.old)))) }
 {
     if count_event(neighbour, event, iface.settings.dead, numbers, local.tick) {
         send_dd(neighbour, iface, local.mtu, out, alloc)?;

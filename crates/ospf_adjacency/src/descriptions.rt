@@ -1,12 +1,13 @@
 //! Database Descriptions and Requests of one neighbour, with what goes out.
 
-ghost use Rattle.std.specs.Prelude.{◌≡◌, ◌++◌, ℕ, not, IfOk, OnOk};
+ghost use Rattle.std.specs.Prelude.{◌≡◌, ℕ, not, IfOk, OnOk};
 ghost use Rattle.ospf_exchange.specs.Exchange.{dd_answer};
 ghost use Rattle.ospf_exchange.specs.Laws.{is_not_taken};
-ghost use Rattle.ospf_adjacency.specs.Descriptions.{Turn, turn, is_init, dd_dropped, touched, request_turn, dd_turn, event_turn, greeted_turn, answered_turn, exchange_turn, description_turn};
+ghost use Rattle.ospf_adjacency.specs.Descriptions.{IsAfter, Turn, turn, is_init, dd_dropped, touched, request_turn, dd_turn, event_turn, greeted_turn, answered_turn, exchange_turn, description_turn};
 
 use crate::adjacency::{take_event, wants_adjacency};
-use crate::packets::{Outgoing, send_dd, send_request};
+use crate::outbox::Outbox;
+use crate::packets::{send_dd, send_request};
 use ospf_area::turn_one;
 use ospf_base::RouterId;
 use ospf_exchange::{DdAnswer, ExchangeFault, Local, dd_sent, is_not_taken, on_dd};
@@ -24,10 +25,10 @@ pub fn request_turn(
     neighbour: &mut Neighbour,
     iface: &Iface,
     local: Local,
-    out: &mut Vec<Outgoing>,
+    out: &mut Outbox,
     alloc: Global,
 ) -> Result<(), AllocError>
-    ensures { OnOk result ((next : ℕ) → turn neighbour.new next out.new.items ≡ request_turn iface.now local (turn neighbour.old next out.old.items)) }
+    ensures { OnOk result ((next : ℕ) → IsAfter (request_turn iface.now local (turn neighbour.old next)) neighbour.new next out.old out.new) }
 {
     if turn_one(neighbour, local.mtu, local.tick) {
         send_request(neighbour, iface, out, alloc)?;
@@ -47,10 +48,10 @@ fn repeat(
     neighbour: &mut Neighbour,
     iface: &Iface,
     local: Local,
-    out: &mut Vec<Outgoing>,
+    out: &mut Outbox,
     alloc: Global,
 ) -> Result<(), AllocError>
-    ensures { OnOk result ((next : ℕ) → turn neighbour.new next out.new.items ≡ dd_turn iface.now local (record (turn neighbour.old next out.old.items) { neighbour = touched local.tick neighbour.old })) }
+    ensures { OnOk result ((next : ℕ) → IsAfter (dd_turn iface.now local (turn (touched local.tick neighbour.old) next)) neighbour.new next out.old out.new) }
 {
     dd_sent(neighbour, local.tick);
     send_dd(neighbour, iface, local.mtu, out, alloc)
@@ -61,10 +62,10 @@ fn go_on(
     neighbour: &mut Neighbour,
     iface: &Iface,
     local: Local,
-    out: &mut Vec<Outgoing>,
+    out: &mut Outbox,
     alloc: Global,
 ) -> Result<(), AllocError>
-    ensures { OnOk result ((next : ℕ) → turn neighbour.new next out.new.items ≡ request_turn iface.now local (dd_turn iface.now local (turn neighbour.old next out.old.items))) }
+    ensures { OnOk result ((next : ℕ) → IsAfter (request_turn iface.now local (dd_turn iface.now local (turn neighbour.old next))) neighbour.new next out.old out.new) }
 {
     send_dd(neighbour, iface, local.mtu, out, alloc)?;
     request_turn(neighbour, iface, local, out, alloc)
@@ -76,10 +77,10 @@ fn greet(
     iface: &Iface,
     local: Local,
     numbers: &mut u32,
-    out: &mut Vec<Outgoing>,
+    out: &mut Outbox,
     alloc: Global,
 ) -> Result<(), AllocError>
-    ensures { OnOk result (turn neighbour.new numbers.new out.new.items ≡ greeted_turn iface.now local (turn neighbour.old numbers.old out.old.items)) }
+    ensures { OnOk result (IsAfter (greeted_turn iface.now local (turn neighbour.old numbers.old)) neighbour.new numbers.new out.old out.new) }
 {
     if is_init(neighbour.state()) {
         let event = NbrEvent::TwoWayReceived(wants_adjacency(iface, neighbour.address()));
@@ -98,10 +99,10 @@ fn exchange(
     iface: &Iface,
     local: Local,
     numbers: &mut u32,
-    out: &mut Vec<Outgoing>,
+    out: &mut Outbox,
     alloc: Global,
 ) -> Result<bool, AllocError>
-    ensures turn { OnOk result (turn neighbour.new numbers.new out.new.items ≡ exchange_turn iface.now local sender description headers.entry database.now (turn neighbour.old numbers.old out.old.items)) }
+    ensures turn { OnOk result (IsAfter (exchange_turn iface.now local sender description headers.entry database.now (turn neighbour.old numbers.old)) neighbour.new numbers.new out.old out.new) }
     ensures taken { IfOk result (λ taken. taken ≡ not (is_not_taken (dd_answer local sender description headers.entry neighbour.old))) }
 {
     match on_dd(
@@ -168,10 +169,10 @@ pub fn take_description(
     iface: &Iface,
     local: Local,
     numbers: &mut u32,
-    out: &mut Vec<Outgoing>,
+    out: &mut Outbox,
     alloc: Global,
 ) -> Result<bool, AllocError>
-    ensures turn { OnOk result (turn neighbour.new numbers.new out.new.items ≡ description_turn iface.now local sender description headers.entry database.now (turn neighbour.old numbers.old out.old.items)) }
+    ensures turn { OnOk result (IsAfter (description_turn iface.now local sender description headers.entry database.now (turn neighbour.old numbers.old)) neighbour.new numbers.new out.old out.new) }
     ensures taken { IfOk result (λ taken. taken ≡ not (dd_dropped local sender description headers.entry neighbour.old)) }
 {
     if local.mtu < description.mtu {

@@ -1,15 +1,16 @@
 //! The election that ends a step on a link.
 
-ghost use Rattle.std.specs.Prelude.{◌≡◌, ◌++◌, List, Contains, true, map, IfOk, OnOk};
+ghost use Rattle.std.specs.Prelude.{◌≡◌, List, Contains, true, map, IfOk, OnOk};
 ghost use Rattle.ospf_election.specs.Election.{AreDistinct};
 ghost use Rattle.ospf_election.specs.declared.candidate.Candidate.{Candidate};
 ghost use Rattle.ospf_iface.specs.declared.machine.IfaceChange.{IfaceChange};
 ghost use Rattle.ospf_iface.specs.Machine.{own_candidate, Elects};
 ghost use Rattle.ospf_adjacency.specs.Elections.{AreOfLink, ElectsOn, elects_in, candidate_of, candidates_of, taking_part, adjusted, number_after, first_dds};
-ghost use Rattle.ospf_adjacency.specs.Packets.{Parcel, parcels};
+ghost use Rattle.ospf_adjacency.specs.Packets.{Parcel};
+ghost use Rattle.ospf_adjacency.specs.Posting.{and_parcels};
 
 use crate::adjacency::{take_event, wants_adjacency};
-use crate::packets::Outgoing;
+use crate::outbox::Outbox;
 use ospf_election::Candidate;
 use ospf_exchange::Local;
 use ospf_iface::{Iface, IfaceEvent, IfaceState};
@@ -68,12 +69,12 @@ fn adjust(
     iface: &Iface,
     local: Local,
     numbers: &mut u32,
-    out: &mut Vec<Outgoing>,
+    out: &mut Outbox,
     alloc: Global,
 ) -> Result<(), AllocError>
     ensures neighbours { OnOk result (neighbours.new ≡ adjusted iface.now local.tick numbers.old neighbours.old) }
     ensures number { OnOk result (numbers.new ≡ number_after iface.now numbers.old neighbours.old) }
-    ensures sent { OnOk result (parcels out.new.items ≡ parcels out.old.items ++ first_dds iface.now local.mtu local.tick numbers.old neighbours.old) }
+    ensures sent { OnOk result (out.new ≡ and_parcels out.old (first_dds iface.now local.mtu local.tick numbers.old neighbours.old)) }
 {
     for neighbour in neighbours.iter_mut() {
         let event = NbrEvent::AdjOk(wants_adjacency(iface, neighbour.address()));
@@ -91,12 +92,12 @@ pub fn elect_on(
     neighbours: &mut [Neighbour],
     local: Local,
     numbers: &mut u32,
-    out: &mut Vec<Outgoing>,
+    out: &mut Outbox,
     alloc: Global,
 ) -> Result<(), AllocError>
     requires electing { elects_in iface.old.state ≡ true }
     requires link { AreOfLink iface.old neighbours.old }
-    ensures { OnOk result ((sent : List Parcel) × ElectsOn local.mtu local.tick iface.old neighbours.old numbers.old sent iface.new neighbours.new numbers.new × (parcels out.new.items ≡ parcels out.old.items ++ sent)) }
+    ensures { OnOk result ((sent : List Parcel) × ElectsOn local.mtu local.tick iface.old neighbours.old numbers.old sent iface.new neighbours.new numbers.new × (out.new ≡ and_parcels out.old sent)) }
 {
     let candidates = candidates_of(iface, neighbours, alloc)?;
     if elect(iface, &candidates) {

@@ -1,13 +1,14 @@
 //! Adjacencies (RFC 2328, sections 9.4, 10.3, 10.4 and 10.6): where one is wanted, how one begins, and what keeps it.
 //!
 //! `take_event` takes an event of the neighbour machine, `take_description` a Database Description, and `elect_on` ends a
-//! step on a link with its election and AdjOK?. What goes out is put behind a list of `Outgoing`.
+//! step on a link with its election and AdjOK?. What goes out is sent through an `Outbox`, behind the outputs.
 #![tactic(auto)]
 
 mod adjacency;
 mod descriptions;
 mod elections;
 mod laws;
+mod outbox;
 mod packets;
 #[cfg(test)]
 mod tests;
@@ -20,4 +21,5 @@ pub use crate::laws::{
     events_keep_lists, events_keep_routers, events_say_only, kept_goes_on, only_negotiation_enters,
     requests_keep_lists, requests_never_enter, requests_say_only,
 };
-pub use crate::packets::{Outgoing, send_dd, send_request};
+pub use crate::outbox::Outbox;
+pub use crate::packets::{send_dd, send_request};

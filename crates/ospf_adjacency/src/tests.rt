@@ -3,9 +3,10 @@
 ghost use Rattle.std.specs.Prelude.{◌≡◌};
 
 use crate::{
-    Outgoing, elect_on, is_broadcast, is_dropped, request_turn, send_dd, send_request,
+    Outbox, elect_on, is_broadcast, is_dropped, request_turn, send_dd, send_request,
     take_description, take_event, wants_adjacency,
 };
+use ospf_area::{Outputs, Own};
 use ospf_base::{ALL_SPF_ROUTERS, Addr, AreaId, InterfaceKind, RouterId};
 use ospf_exchange::Local;
 use ospf_iface::{Iface, IfaceSettings, IfaceState};
@@ -49,6 +50,22 @@ fn local(mtu: u16) -> Local {
     }
 }
 
+// Nothing has gone out of link 4, at address 0.0.0.1.
+fn outbox(alloc: Global) -> Outbox {
+    let own = Own {
+        router: OWN,
+        area: AreaId(0),
+        tick: 7,
+    };
+    let link = iface(InterfaceKind::Broadcast, IfaceState::DrOther);
+    Outbox::new(Outputs::new(alloc), own, 4, &link)
+}
+
+// How many datagrams have gone out.
+fn count(out: &Outbox) -> usize {
+    out.outputs().sent().len()
+}
+
 fn require(holds: bool) -> Result<(), Fail> {
     if holds { Ok(()) } else { Err("not so".into()) }
 }
@@ -58,7 +75,7 @@ fn hear(
     neighbour: &mut Neighbour,
     description: Description,
     database: &Lsdb,
-    out: &mut Vec<Outgoing>,
+    out: &mut Outbox,
     alloc: Global,
 ) -> Result<bool, Fail> {
     let value = PacketValue {
@@ -100,20 +117,25 @@ fn description(mtu: u16, flags: u8, number: u32) -> Description {
     }
 }
 
-// The flags, the number and how many headers the last packet has.
-fn last_sent(out: &[Outgoing]) -> Option<(u8, u32, usize)> {
-    match &out.last()?.body {
-        BodyValue::Description(fields, headers) => Some((
-            fields.flags,
-            fields.number,
-            headers.len(),
-        )),
-        _ => None,
+// The flags, the number and how many headers a Database Description has.
+fn description_in(bytes: &[u8]) -> Option<(u8, u32, usize)> {
+    let Body::Description(fields, headers) = Packet::read(bytes).ok()?.body else {
+        return None;
+    };
+    let mut count: usize = 0;
+    for _ in headers {
+        count = count.wrapping_add(1);
     }
+    Some((fields.flags, fields.number, count))
+}
+
+// Those of the last packet.
+fn last_sent(out: &Outbox) -> Option<(u8, u32, usize)> {
+    description_in(&out.outputs().sent().last()?.bytes)
 }
 
 // A neighbour in ExStart on a point-to-point link, and the first packet to it.
-fn starting(alloc: Global, out: &mut Vec<Outgoing>) -> Result<Neighbour, Fail> {
+fn starting(alloc: Global, out: &mut Outbox) -> Result<Neighbour, Fail> {
     let link = iface(InterfaceKind::PointToPoint, IfaceState::PointToPoint);
     let mut number = 50;
     let mut neighbour = Neighbour::new(alloc, RouterId(2), Addr(2));
@@ -147,7 +169,7 @@ fn filled(alloc: Global, count: u32) -> Result<Lsdb, Fail> {
 fn a_larger_mtu_is_dropped(rt: HostRuntime) -> Result<(), Fail> {
     let alloc = rt.alloc();
     let database = Lsdb::new(alloc);
-    let mut out = Vec::new(alloc);
+    let mut out = outbox(alloc);
     let mut neighbour = Neighbour::new(alloc, RouterId(2), Addr(2));
     let _ = neighbour.event(NbrEvent::HelloReceived, 40);
     let taken = hear(
@@ -159,7 +181,7 @@ fn a_larger_mtu_is_dropped(rt: HostRuntime) -> Result<(), Fail> {
     )?;
     assert_eq!(rt; taken, false);
     assert_eq!(rt; neighbour.state(), NeighbourState::Init);
-    assert!(rt; out.is_empty());
+    assert_eq!(rt; count(&out), 0);
     let taken = hear(
         &mut neighbour,
         description(576, 7, 5),
@@ -177,7 +199,7 @@ fn a_larger_mtu_is_dropped(rt: HostRuntime) -> Result<(), Fail> {
 fn a_slave_sends_what_fits(rt: HostRuntime) -> Result<(), Fail> {
     let alloc = rt.alloc();
     let database = filled(alloc, 27)?;
-    let mut out = Vec::new(alloc);
+    let mut out = outbox(alloc);
     let mut neighbour = starting(alloc, &mut out)?;
     assert_eq!(rt; last_sent(&out), Some((7, 50, 0)));
     hear(
@@ -205,7 +227,7 @@ fn a_slave_sends_what_fits(rt: HostRuntime) -> Result<(), Fail> {
 fn a_slave_repeats_its_last(rt: HostRuntime) -> Result<(), Fail> {
     let alloc = rt.alloc();
     let database = filled(alloc, 27)?;
-    let mut out = Vec::new(alloc);
+    let mut out = outbox(alloc);
     let mut neighbour = starting(alloc, &mut out)?;
     hear(
         &mut neighbour,
@@ -214,7 +236,7 @@ fn a_slave_repeats_its_last(rt: HostRuntime) -> Result<(), Fail> {
         &mut out,
         alloc,
     )?;
-    let sent = out.len();
+    let sent = count(&out);
     hear(
         &mut neighbour,
         description(576, 7, 900),
@@ -222,7 +244,7 @@ fn a_slave_repeats_its_last(rt: HostRuntime) -> Result<(), Fail> {
         &mut out,
         alloc,
     )?;
-    assert_eq!(rt; out.len(), sent.wrapping_add(1));
+    assert_eq!(rt; count(&out), sent.wrapping_add(1));
     assert_eq!(rt; last_sent(&out), Some((2, 900, 26)));
     assert_eq!(rt; neighbour.summary().len(), 1);
     Ok(())
@@ -233,7 +255,7 @@ fn a_slave_repeats_its_last(rt: HostRuntime) -> Result<(), Fail> {
 fn a_mismatch_begins_anew(rt: HostRuntime) -> Result<(), Fail> {
     let alloc = rt.alloc();
     let database = filled(alloc, 27)?;
-    let mut out = Vec::new(alloc);
+    let mut out = outbox(alloc);
     let mut neighbour = starting(alloc, &mut out)?;
     hear(
         &mut neighbour,
@@ -283,7 +305,7 @@ fn three_routers_elect(rt: HostRuntime) -> Result<(), Fail> {
         two_way(alloc, 3, 0, Addr::NOWHERE),
     ];
     let mut number = u32::MAX;
-    let mut out = Vec::new(alloc);
+    let mut out = outbox(alloc);
     elect_on(
         &mut link,
         &mut neighbours,
@@ -298,7 +320,7 @@ fn three_routers_elect(rt: HostRuntime) -> Result<(), Fail> {
     );
     assert_eq!(rt; number, 1);
     let mut begun = Vec::new(alloc);
-    for packet in &out {
+    for packet in out.outputs().sent() {
         begun.push(packet.destination)?;
     }
     assert_eq!(rt; begun.as_slice(), [Addr(2), Addr(3)].as_slice());
@@ -327,7 +349,7 @@ fn adjacencies_end(rt: HostRuntime) -> Result<(), Fail> {
     link.dr = Addr(2);
     let mut neighbours = [exchanging(alloc, 2), two_way(alloc, 3, 1, Addr(3))];
     let mut number = 50;
-    let mut out = Vec::new(alloc);
+    let mut out = outbox(alloc);
     elect_on(
         &mut link,
         &mut neighbours,
@@ -342,7 +364,7 @@ fn adjacencies_end(rt: HostRuntime) -> Result<(), Fail> {
     );
     assert_eq!(rt; neighbours[0].state(), NeighbourState::TwoWay);
     assert_eq!(rt; neighbours[1].state(), NeighbourState::ExStart);
-    assert_eq!(rt; (out.len(), last_sent(&out)), (1, Some((7, 50, 0))));
+    assert_eq!(rt; (count(&out), last_sent(&out)), (1, Some((7, 50, 0))));
     Ok(())
 }
 
@@ -357,10 +379,10 @@ fn loading_is_done(rt: HostRuntime) -> Result<(), Fail> {
         neighbour.add_requests(&[lsa.view().header()])?;
     }
     let _ = neighbour.event(NbrEvent::ExchangeDone, 40);
-    let mut out = Vec::new(alloc);
+    let mut out = outbox(alloc);
     for state in [NeighbourState::Loading, NeighbourState::Full] {
         request_turn(&mut neighbour, &link, local(1500), &mut out, alloc)?;
-        assert_eq!(rt; (neighbour.state(), out.len()), (state, 1));
+        assert_eq!(rt; (neighbour.state(), count(&out)), (state, 1));
         neighbour.remove_request(&lsa.view().key());
     }
     Ok(())
@@ -381,7 +403,7 @@ fn adjacencies_with_the_designated_router(rt: HostRuntime) {
 #[test]
 fn where_packets_go(rt: HostRuntime) -> Result<(), Fail> {
     let alloc = rt.alloc();
-    let mut out = Vec::new(alloc);
+    let mut out = outbox(alloc);
     let mut neighbour = starting(alloc, &mut out)?;
     let ends = iface(InterfaceKind::PointToPoint, IfaceState::PointToPoint);
     let link = iface(InterfaceKind::Broadcast, IfaceState::DrOther);
@@ -389,12 +411,43 @@ fn where_packets_go(rt: HostRuntime) -> Result<(), Fail> {
     send_request(&neighbour, &link, &mut out, alloc)?;
     request_turn(&mut neighbour, &link, local(576), &mut out, alloc)?;
     let mut ways = Vec::new(alloc);
-    for packet in &out {
+    for packet in out.outputs().sent() {
         ways.push(packet.destination)?;
     }
     assert_eq!(rt;
         ways.as_slice(),
         [ALL_SPF_ROUTERS, ALL_SPF_ROUTERS, Addr(2)].as_slice()
+    );
+    Ok(())
+}
+
+// What goes out is behind what there was, from the interface's address.
+#[test]
+fn outputs_are_kept(rt: HostRuntime) -> Result<(), Fail> {
+    let alloc = rt.alloc();
+    let mut out = outbox(alloc);
+    let neighbour = starting(alloc, &mut out)?;
+    let own = Own {
+        router: RouterId(5),
+        area: AreaId(3),
+        tick: 8,
+    };
+    let link = iface(InterfaceKind::PointToPoint, IfaceState::PointToPoint);
+    let mut next = Outbox::new(out.into_outputs(), own, 6, &link);
+    send_dd(&neighbour, &link, 576, &mut next, alloc)?;
+    let outputs = next.into_outputs();
+    let mut links = Vec::new(alloc);
+    for sent in outputs.sent() {
+        let packet = Packet::read(&sent.bytes)?;
+        links.push((sent.link, sent.source, packet.router, packet.area))?;
+    }
+    assert_eq!(rt;
+        links.as_slice(),
+        [
+            (4, Addr(1), OWN, AreaId(0)),
+            (6, Addr(1), RouterId(5), AreaId(3)),
+        ]
+        .as_slice()
     );
     Ok(())
 }

@@ -18,7 +18,7 @@ use Rattle.ospf_area.specs.State.{AreaValue}
 use Rattle.ospf_laws.specs.Links.{AreKnown}
 use Rattle.ospf_laws.specs.Packets.{lsas_of, headers_of}
 use Rattle.ospf_laws.proofs.ListFacts.{Contains-nil}
-use Rattle.ospf_links.specs.Posting.{posted_all}
+use Rattle.ospf_adjacency.specs.Posting.{posted_all}
 use Rattle.ospf_bridges.proofs.Known.{posted_known, says_nothing}
 
 abbrev pub IsBare : BodyMeaning → Type 0

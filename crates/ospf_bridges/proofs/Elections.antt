@@ -21,7 +21,7 @@ use Rattle.ospf_laws.proofs.LinkParts.{each_same, part_quiet, quiet_same}
 use Rattle.ospf_laws.proofs.ListFacts.{Contains-nil}
 use Rattle.ospf_laws.proofs.PutParts.{puts_sent}
 use Rattle.ospf_links.specs.Elections.{Elects, ElectsFrom, ElectsIf, ElectsThere}
-use Rattle.ospf_links.specs.Posting.{posted_all}
+use Rattle.ospf_adjacency.specs.Posting.{posted_all}
 use Rattle.ospf_bridges.proofs.Bare.{AreBare, bare_known, first_bare}
 use Rattle.ospf_bridges.proofs.Going.{link_quiet, same_goes}
 use Rattle.ospf_bridges.proofs.Known.{both_known, none_known}

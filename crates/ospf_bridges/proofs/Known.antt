@@ -26,7 +26,7 @@ use Rattle.ospf_laws.proofs.AckFacts.{flat_map-members}
 use Rattle.ospf_laws.proofs.CopyFacts.{HasHeader-held}
 use Rattle.ospf_laws.proofs.ListFacts.{Contains-nil}
 use Rattle.ospf_laws.proofs.SentFacts.{datagrams-packet}
-use Rattle.ospf_links.specs.Posting.{posted, posted_all}
+use Rattle.ospf_adjacency.specs.Posting.{posted, posted_all}
 
 -- what a packet says is known
 pub record SaysKnown (s : AreaValue) (b : BodyMeaning) : Type 0 where

@@ -24,7 +24,7 @@ use Rattle.ospf_laws.proofs.LinkParts.{one_quiet, quiet_same}
 use Rattle.ospf_laws.proofs.ListFacts.{Contains-nil}
 use Rattle.ospf_laws.proofs.PutParts.{puts_sent}
 use Rattle.ospf_links.specs.Parts.{hello_out, hello_part, hello_sent, link_down, link_timed, link_up, local_of, neighbourhood_of, up_parcels, with_neighbourhood}
-use Rattle.ospf_links.specs.Posting.{posted_all}
+use Rattle.ospf_adjacency.specs.Posting.{posted_all}
 use Rattle.ospf_links.specs.Works.{changed, changed_on, up_out_on, work_sent, worked}
 use Rattle.ospf_bridges.specs.Invariants.{AreRising}
 use Rattle.ospf_bridges.proofs.Bare.{AreBare, bare_if, bare_known, event_bare}

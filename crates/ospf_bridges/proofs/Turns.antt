@@ -42,7 +42,7 @@ use Rattle.ospf_laws.proofs.ListFacts.{Contains-map_cases, Contains-nil}
 use Rattle.ospf_laws.proofs.LsaFacts.{header_names, same_contents}
 use Rattle.ospf_laws.proofs.StateFacts.{copy_of-has, neighbour-router, same_router}
 use Rattle.ospf_links.specs.Parts.{description_by, description_part, local_by, local_of, neighbourhood_of, request_by, request_part, with_neighbourhood}
-use Rattle.ospf_links.specs.Posting.{posted_all}
+use Rattle.ospf_adjacency.specs.Posting.{posted_all}
 use Rattle.ospf_links.specs.Repeats.{all_repeats, link_repeated, repeated, repeated_links, repeats_for, repeats_out, repeats_to}
 use Rattle.ospf_links.specs.Works.{work_sent, worked}
 use Rattle.ospf_bridges.specs.Invariants.{AreRising, NoneWaitsBelow}

@@ -1,5 +1,5 @@
 -- Hellos that come, and what they make of a neighbour and of its link's election (RFC 2328, sections 9.2 and 10.5).
-use Rattle.std.specs.Prelude.{◌==◌, ◌&&◌, ◌||◌, not, nat_lt, ℕ, List, [], ◌∷◌, Bool, true, false, unwrap_or, suc, if◌then◌else◌}
+use Rattle.std.specs.Prelude.{◌≡◌, ◌==◌, ◌&&◌, ◌||◌, not, nat_lt, ℕ, List, [], ◌∷◌, Bool, true, false, unwrap_or, suc, if◌then◌else◌}
 use Rattle.std.specs.List.{list_any}
 use Rattle.ospf_base.specs.Addresses.{nowhere}
 use Rattle.ospf_base.specs.declared.ids.Addr.{Addr}
@@ -18,8 +18,8 @@ use Rattle.ospf_exchange.specs.declared.rule.Local.{Local}
 use Rattle.ospf_area.specs.Changes.{after_event}
 use Rattle.ospf_adjacency.specs.Adjacency.{is_broadcast, wants_adjacency}
 use Rattle.ospf_adjacency.specs.Descriptions.{Turn, event_turn}
-use Rattle.ospf_adjacency.specs.Packets.{Parcel, parcels}
-use Rattle.ospf_adjacency.specs.declared.packets.Outgoing.{Outgoing}
+use Rattle.ospf_adjacency.specs.Packets.{Parcel}
+use Rattle.ospf_adjacency.specs.Posting.{OutboxValue, and_parcels}
 use Rattle.ospf_hello.specs.declared.heard.Bearing.{Bearing}
 
 -- a Hello names the router among the neighbours that were heard (10.5)
@@ -109,8 +109,16 @@ pub record Neighbourhood : Type 0 where
   pub next : ℕ
   pub sent : List Parcel
 
-abbrev pub neighbourhood : List NeighbourValue → Bool → ℕ → List Outgoing → Neighbourhood
-neighbourhood ns elects next out = record { neighbours = ns; elects = elects; next = next; sent = parcels out }
+-- where nothing has gone out yet
+abbrev pub neighbourhood : List NeighbourValue → Bool → ℕ → Neighbourhood
+neighbourhood ns elects next = record { neighbours = ns; elects = elects; next = next; sent = [] }
+
+-- they are as such a part leaves them, and what goes out by it is behind what went out before
+pub record AreAfter (x : Neighbourhood) (ns : List NeighbourValue) (elects : Bool) (next : ℕ) (before after : OutboxValue) : Type 0 where
+  pub neighbours : ns ≡ x.neighbours
+  pub elects_is : elects ≡ x.elects
+  pub number : next ≡ x.next
+  pub sent : after ≡ and_parcels before x.sent
 
 -- one neighbour of them
 abbrev pub turn_of : NeighbourValue → Neighbourhood → Turn

@@ -3,13 +3,12 @@
 ghost use Rattle.std.specs.Prelude.{◌≡◌, ◌≢◌, ◌∷◌, ◌<◌, ◌||◌, ◌==◌, List, true, false, IsTrue, OnOk, IfOk, length, slice_set, slice_get, Some};
 ghost use Rattle.ospf_neighbour.specs.Neighbour.{NeighbourValue};
 ghost use Rattle.ospf_neighbour.specs.Neighbours.{IsRising};
-ghost use Rattle.ospf_adjacency.specs.Descriptions.{turn};
-ghost use Rattle.ospf_adjacency.specs.Packets.{parcels};
+ghost use Rattle.ospf_adjacency.specs.Descriptions.{IsAfter, turn};
 ghost use Rattle.std.specs.Prelude.{if◌then◌else◌};
 ghost use Rattle.ospf_adjacency.specs.Adjacency.{wants_adjacency};
-ghost use Rattle.ospf_hello.specs.Heard.{names, with_declared, heard, naming_event, hello_turn, bearing_of, is_neighbor_change, is_backup_seen, is_settled, is_waiting, elects_by_hello, place_for, neighbourhood, hello_on};
+ghost use Rattle.ospf_hello.specs.Heard.{AreAfter, names, with_declared, heard, naming_event, hello_turn, bearing_of, is_neighbor_change, is_backup_seen, is_settled, is_waiting, elects_by_hello, place_for, neighbourhood, hello_on};
 
-use ospf_adjacency::{Outgoing, is_broadcast, take_event, wants_adjacency};
+use ospf_adjacency::{Outbox, is_broadcast, take_event, wants_adjacency};
 use ospf_base::{Addr, RouterId};
 use ospf_exchange::Local;
 use ospf_iface::{Iface, IfaceState};
@@ -62,10 +61,10 @@ fn take_hello(
     iface: &Iface,
     local: Local,
     numbers: &mut u32,
-    out: &mut Vec<Outgoing>,
+    out: &mut Outbox,
     alloc: Global,
 ) -> Result<(), AllocError>
-    ensures { OnOk result (turn neighbour.new numbers.new out.new.items ≡ hello_turn iface.now local hello.now named (turn neighbour.old numbers.old out.old.items)) }
+    ensures { OnOk result (IsAfter (hello_turn iface.now local hello.now named (turn neighbour.old numbers.old)) neighbour.new numbers.new out.old out.new) }
 {
     let event = naming_event(iface, named, neighbour.address());
     hear(neighbour, iface, hello);
@@ -136,10 +135,10 @@ fn hello_of(
     iface: &Iface,
     local: Local,
     numbers: &mut u32,
-    out: &mut Vec<Outgoing>,
+    out: &mut Outbox,
     alloc: Global,
 ) -> Result<bool, AllocError>
-    ensures turn { OnOk result (turn neighbour.new numbers.new out.new.items ≡ hello_turn iface.now local hello.now named (turn neighbour.old numbers.old out.old.items)) }
+    ensures turn { OnOk result (IsAfter (hello_turn iface.now local hello.now named (turn neighbour.old numbers.old)) neighbour.new numbers.new out.old out.new) }
     ensures elects { IfOk result (λ elects. elects ≡ elects_by_hello iface.now.state neighbour.old neighbour.new) }
 {
     let before = bearing_of(neighbour);
@@ -191,11 +190,11 @@ pub fn hello_on(
     iface: &Iface,
     local: Local,
     numbers: &mut u32,
-    out: &mut Vec<Outgoing>,
+    out: &mut Outbox,
     alloc: Global,
 ) -> Result<bool, AllocError>
     requires { IsRising neighbours.old.items }
-    ensures { IfOk result (λ elects. neighbourhood neighbours.new.items elects numbers.new out.new.items ≡ hello_on iface.now local sender source hello.now named (neighbourhood neighbours.old.items false numbers.old out.old.items)) }
+    ensures { IfOk result (λ elects. AreAfter (hello_on iface.now local sender source hello.now named (neighbourhood neighbours.old.items false numbers.old)) neighbours.new.items elects numbers.new out.old out.new) }
 {
     let at = place_for(neighbours, sender);
     if is_at(neighbours, at, sender) {

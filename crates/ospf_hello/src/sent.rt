@@ -1,12 +1,11 @@
 //! Hellos that go out.
 
-ghost use Rattle.std.specs.Prelude.{◌≡◌, ◌++◌, ◌∷◌, [], map, IfOk, OnOk};
-ghost use Rattle.ospf_packet.specs.Meaning.{hello};
-ghost use Rattle.ospf_packet.specs.Said.{body_meant};
-ghost use Rattle.ospf_adjacency.specs.Packets.{parcel_if, parcels};
+ghost use Rattle.std.specs.Prelude.{◌≡◌, ◌∷◌, [], map, IfOk, OnOk};
+ghost use Rattle.ospf_adjacency.specs.Packets.{parcel_if};
+ghost use Rattle.ospf_adjacency.specs.Posting.{and_parcels};
 ghost use Rattle.ospf_hello.specs.Links.{own_hello, hello_parcel, hello_ticked, is_hello_due};
 
-use ospf_adjacency::Outgoing;
+use ospf_adjacency::Outbox;
 use ospf_base::{ALL_SPF_ROUTERS, RouterId};
 use ospf_iface::Iface;
 use ospf_neighbour::Neighbour;
@@ -25,18 +24,14 @@ fn routers_of(neighbours: &[Neighbour], alloc: Global) -> Result<Vec<RouterId>, 
 pub fn send_hello(
     iface: &Iface,
     neighbours: &[Neighbour],
-    out: &mut Vec<Outgoing>,
+    out: &mut Outbox,
     alloc: Global,
 ) -> Result<(), AllocError>
-    ensures { OnOk result (parcels out.new.items ≡ parcels out.old.items ++ hello_parcel iface.now neighbours.now ∷ []) }
+    ensures { OnOk result (out.new ≡ and_parcels out.old (hello_parcel iface.now neighbours.now ∷ [])) }
 {
     let routers = routers_of(neighbours, alloc)?;
     let body = iface.hello(alloc, &routers)?;
-    out.push(Outgoing {
-        destination: ALL_SPF_ROUTERS,
-        body,
-    })?;
-    Ok(())
+    out.put(ALL_SPF_ROUTERS, body, alloc)
 }
 
 /// A tick of a link's Hello timer: the Hello goes out where it is due (RFC 2328, section 9.5).
@@ -45,11 +40,11 @@ pub fn send_hello(
 pub fn send_due_hello(
     iface: &mut Iface,
     neighbours: &[Neighbour],
-    out: &mut Vec<Outgoing>,
+    out: &mut Outbox,
     alloc: Global,
 ) -> Result<(), AllocError>
     ensures timer { iface.new ≡ hello_ticked iface.old }
-    ensures sent { OnOk result (parcels out.new.items ≡ parcels out.old.items ++ parcel_if (is_hello_due iface.old) (hello_parcel iface.old neighbours.now)) }
+    ensures sent { OnOk result (out.new ≡ and_parcels out.old (parcel_if (is_hello_due iface.old) (hello_parcel iface.old neighbours.now))) }
 {
     if iface.hello_tick() {
         send_hello(iface, neighbours, out, alloc)?;

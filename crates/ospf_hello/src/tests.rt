@@ -6,7 +6,8 @@ use crate::{
     go_down, go_up, hello_on, is_at, is_down, is_named, is_settled, place_for, send_due_hello,
     send_hello, tick_neighbours, tick_timers,
 };
-use ospf_adjacency::Outgoing;
+use ospf_adjacency::Outbox;
+use ospf_area::{Outputs, Own};
 use ospf_base::{ALL_SPF_ROUTERS, Addr, AreaId, InterfaceKind, RouterId};
 use ospf_exchange::Local;
 use ospf_iface::{Iface, IfaceSettings, IfaceState};
@@ -54,6 +55,21 @@ fn hello(priority: u8, dr: Addr, backup: Addr) -> Hello {
     }
 }
 
+// Nothing has gone out of the link.
+fn outbox(alloc: Global, link: &Iface) -> Outbox {
+    let own = Own {
+        router: OWN,
+        area: AreaId(0),
+        tick: LOCAL.tick,
+    };
+    Outbox::new(Outputs::new(alloc), own, 0, link)
+}
+
+// How many datagrams have gone out.
+fn count(out: &Outbox) -> usize {
+    out.outputs().sent().len()
+}
+
 fn require(holds: bool) -> Result<(), Fail> {
     if holds { Ok(()) } else { Err("not so".into()) }
 }
@@ -77,7 +93,7 @@ fn a_hello_makes_a_neighbour(rt: HostRuntime) -> Result<(), Fail> {
     let link = iface(InterfaceKind::Broadcast, IfaceState::DrOther);
     let mut neighbours = Vec::new(alloc);
     let mut number = 5;
-    let mut out = Vec::new(alloc);
+    let mut out = outbox(alloc, &link);
     let said = hello(3, Addr(2), Addr::NOWHERE);
     let elects = hello_on(
         &mut neighbours,
@@ -92,7 +108,7 @@ fn a_hello_makes_a_neighbour(rt: HostRuntime) -> Result<(), Fail> {
         alloc,
     )?;
     assert_eq!(rt; elects, true);
-    assert!(rt; out.is_empty());
+    assert_eq!(rt; count(&out), 0);
     let first = neighbours.first().ok_or("none")?;
     assert_eq!(rt;
         (first.router(), first.state()),
@@ -113,7 +129,7 @@ fn heard_both_ways(rt: HostRuntime) -> Result<(), Fail> {
     let link = iface(InterfaceKind::PointToPoint, IfaceState::PointToPoint);
     let mut neighbours = vec![in alloc; neighbour(alloc, 2, false, 1)]?;
     let mut number = 5;
-    let mut out = Vec::new(alloc);
+    let mut out = outbox(alloc, &link);
     let said = hello(1, Addr::NOWHERE, Addr::NOWHERE);
     let elects = hello_on(
         &mut neighbours,
@@ -134,11 +150,15 @@ fn heard_both_ways(rt: HostRuntime) -> Result<(), Fail> {
         (first.state(), first.inactivity()),
         (NeighbourState::ExStart, 40)
     );
-    let sent = out.first().ok_or("nothing sent")?;
-    let BodyValue::Description(fields, headers) = &sent.body else {
+    let sent = out.outputs().sent().first().ok_or("nothing sent")?;
+    let Body::Description(fields, headers) = Packet::read(&sent.bytes)?.body else {
         return Err("another packet".into());
     };
-    assert_eq!(rt; (fields.number, fields.flags, headers.len()), (5, 7, 0));
+    let mut described: usize = 0;
+    for _ in headers {
+        described = described.wrapping_add(1);
+    }
+    assert_eq!(rt; (fields.number, fields.flags, described), (5, 7, 0));
     Ok(())
 }
 
@@ -152,7 +172,7 @@ fn elects_by(
     let link = iface(InterfaceKind::Broadcast, state);
     let mut neighbours = vec![in alloc; neighbour(alloc, 2, true, 40)]?;
     let mut number = 5;
-    let mut out = Vec::new(alloc);
+    let mut out = outbox(alloc, &link);
     let elects = hello_on(
         &mut neighbours,
         RouterId(2),
@@ -246,13 +266,17 @@ fn a_link_goes_down(rt: HostRuntime) -> Result<(), Fail> {
 }
 
 // The neighbours that the last Hello lists.
-fn listed(out: &[Outgoing], alloc: Global) -> Result<Vec<RouterId>, Fail> {
-    let last = out.last().ok_or("nothing sent")?;
+fn listed(out: &Outbox, alloc: Global) -> Result<Vec<RouterId>, Fail> {
+    let last = out.outputs().sent().last().ok_or("nothing sent")?;
     require(last.destination == ALL_SPF_ROUTERS)?;
-    match &last.body {
-        BodyValue::Hello(_, neighbours) => Ok(Vec::from_slice(alloc, neighbours)?),
-        _ => Err("another packet".into()),
+    let Body::Hello(_, neighbours) = Packet::read(&last.bytes)?.body else {
+        return Err("another packet".into());
+    };
+    let mut all = Vec::new(alloc);
+    for router in neighbours {
+        all.push(router)?;
     }
+    Ok(all)
 }
 
 // A Hello goes out each HelloInterval, and lists the neighbours in rising Router ID.
@@ -265,17 +289,17 @@ fn a_hello_each_interval(rt: HostRuntime) -> Result<(), Fail> {
         neighbour(alloc, 2, false, 40),
         neighbour(alloc, 3, true, 40),
     ];
-    let mut out = Vec::new(alloc);
+    let mut out = outbox(alloc, &link);
     send_due_hello(&mut link, &neighbours, &mut out, alloc)?;
-    assert!(rt; out.is_empty());
+    assert_eq!(rt; count(&out), 0);
     send_due_hello(&mut link, &neighbours, &mut out, alloc)?;
-    assert_eq!(rt; (out.len(), link.hello_in), (1, 10));
+    assert_eq!(rt; (count(&out), link.hello_in), (1, 10));
     assert_eq!(rt;
         listed(&out, alloc)?.as_slice(),
         [RouterId(2), RouterId(3)].as_slice()
     );
     send_hello(&link, &neighbours, &mut out, alloc)?;
-    assert_eq!(rt; out.len(), 2);
+    assert_eq!(rt; count(&out), 2);
     Ok(())
 }
 

@@ -6,7 +6,7 @@ use Rattle.ospf_area.specs.Outputs.{OutputsValue}
 use Rattle.ospf_area.specs.Sending.{and_sends}
 use Rattle.ospf_area.specs.State.{AreaValue, LinkValue}
 use Rattle.ospf_area.specs.declared.sending.Own.{Own}
-use Rattle.ospf_links.specs.Posting.{posted_all}
+use Rattle.ospf_adjacency.specs.Posting.{posted_all}
 use Rattle.ospf_links.specs.Elections.{IsReady, AreReady, ElectsAt, ElectsFrom, ElectsIf, ElectsLink, ElectsThere}
 
 -- the election of a link that is there

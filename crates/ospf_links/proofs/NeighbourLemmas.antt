@@ -15,8 +15,8 @@ use Rattle.ospf_neighbour.specs.Neighbour.{NeighbourValue}
 use Rattle.ospf_neighbour.specs.Neighbours.{AreNeighbours, IsRising, neighbour_of}
 use Rattle.ospf_packet.specs.declared.body.Hello.{Hello}
 use Rattle.ospf_exchange.specs.declared.rule.Local.{Local}
-use Rattle.ospf_adjacency.specs.declared.packets.Outgoing.{Outgoing}
-use Rattle.ospf_hello.specs.Heard.{Neighbourhood, neighbourhood, hello_on, hello_turn, turn_of, sender_of, place_for, put}
+use Rattle.ospf_adjacency.specs.Posting.{OutboxValue}
+use Rattle.ospf_hello.specs.Heard.{AreAfter, Neighbourhood, neighbourhood, hello_on, hello_turn, turn_of, sender_of, place_for, put}
 use Rattle.ospf_hello.specs.Links.{timed, is_inactive}
 use Rattle.ospf_hello.proofs.GoLemmas.{bool_cases, heard_router}
 use Rattle.ospf_hello.proofs.HelloLemmas.{place_within}
@@ -63,20 +63,21 @@ pub timed_stays : (ns : List NeighbourValue) → AreNeighbours ns → AreNeighbo
 timed_stays ns are = record { rising = timed_rises ns are.rising; few = omega (arith, timed_few ns, are.few) }
 
 -- the link once its neighbours are put back
-pub hello_becomes : (local : Local) (q : RouterId) (source : Addr) (h : Hello) (named : Bool) (link bare after : LinkValue) (ns : List NeighbourValue) (elects due : Bool) (next next' : ℕ) (out out' : List Outgoing)
-    → bare ≡ record link { neighbours = [] } → after ≡ record bare { neighbours = ns; elects = due } → due ≡ bare.elects || elects → out ≡ []
-    → neighbourhood ns elects next' out' ≡ hello_on link.iface local q source h named (neighbourhood link.neighbours false next out)
-    → Becomes (hello_comes local q source h named next link) link after next' out'
-hello_becomes local q source h named link bare after ns elects due next next' out out' is_bare is_after is_due none is =
-    let eq = is ∙ ap (λ (o : List Outgoing). hello_on link.iface local q source h named (neighbourhood link.neighbours false next o)) none in
+pub hello_becomes : (local : Local) (q : RouterId) (source : Addr) (h : Hello) (named : Bool) (link bare after : LinkValue) (ns : List NeighbourValue) (elects due : Bool) (next next' : ℕ) (out out' : OutboxValue)
+    → bare ≡ record link { neighbours = [] } → after ≡ record bare { neighbours = ns; elects = due } → due ≡ bare.elects || elects
+    → AreAfter (hello_on link.iface local q source h named (neighbourhood link.neighbours false next)) ns elects next' out out'
+    → Becomes (hello_comes local q source h named next link) link after next' out out'
+hello_becomes local q source h named link bare after ns elects due next next' out out' is_bare is_after is_due is =
+    let now = hello_on link.iface local q source h named (neighbourhood link.neighbours false next) in
     let due_is : due ≡ link.elects || elects = is_due ∙ ap (λ (l : LinkValue). l.elects || elects) is_bare in
     record {
       link =
           is_after ∙ ap (λ (l : LinkValue). record l { neighbours = ns; elects = due }) is_bare
           ∙ ap (λ (b : Bool). record link { neighbours = ns; elects = b }) due_is
-          ∙ ap (λ (y : Neighbourhood). record link { neighbours = y.neighbours; elects = link.elects || y.elects }) eq;
-      number = ap (λ (y : Neighbourhood). y.next) eq;
-      sent = ap (λ (y : Neighbourhood). y.sent) eq;
+          ∙ ap (λ (l : List NeighbourValue). record link { neighbours = l; elects = link.elects || elects }) is.neighbours
+          ∙ ap (λ (b : Bool). record link { neighbours = now.neighbours; elects = link.elects || b }) is.elects_is;
+      number = is.number;
+      sent = is.sent;
     }
 
 -- ---- an election

@@ -7,13 +7,9 @@ use Rattle.ospf_neighbour.specs.Neighbours.{AreNeighbours}
 use Rattle.ospf_neighbour.proofs.NeighbourLemmas.{AreNeighbours-same, routers}
 use Rattle.ospf_area.specs.declared.sending.Own.{Own}
 use Rattle.ospf_area.specs.declared.state.LinkSettings.{LinkSettings}
-use Rattle.ospf_exchange.specs.declared.rule.Local.{Local}
-use Rattle.ospf_adjacency.specs.Descriptions.{turn}
-use Rattle.ospf_adjacency.specs.declared.packets.Outgoing.{Outgoing}
-use Rattle.ospf_resend.specs.Repeats.{repeats_turn}
 use Rattle.ospf_resend.proofs.QuietLemmas.{repeats_are_quiet}
 use Rattle.ospf_links.specs.Parts.{local_by}
-use Rattle.ospf_links.specs.Repeats.{repeated, repeats_for}
+use Rattle.ospf_links.specs.Repeats.{repeated}
 
 repeated_router : (own : Own) (i : Iface) (settings : LinkSettings) (db : List Held) (n : NeighbourValue) → (repeated own i settings db n).router ≡ n.router
 repeated_router own i settings db n = (repeats_are_quiet i (local_by own settings) settings.retransmit settings.transmit_delay db (record { neighbour = n; next = 0; sent = [] })).same.router
@@ -25,11 +21,3 @@ repeated_routers own i settings db (n ∷ ns) =
 
 pub repeated_stay : (own : Own) (i : Iface) (settings : LinkSettings) (db : List Held) (ns : List NeighbourValue) → AreNeighbours ns → AreNeighbours (map (repeated own i settings db) ns)
 repeated_stay own i settings db ns are = AreNeighbours-same _ _ (repeated_routers own i settings db ns) are
-
--- what the repeats to a neighbour make of it, and what goes out
-pub repeats_done : (own : Own) (i : Iface) (settings : LinkSettings) (db : List Held) (n m : NeighbourValue) (before after : List Outgoing) (local : Local)
-    → local ≡ local_by own settings → before ≡ [] → turn m 0 after ≡ repeats_turn i local settings.retransmit settings.transmit_delay db (turn n 0 before)
-    → turn m 0 after ≡ repeats_for own i settings db n
-repeats_done own i settings db n m before after local is none done =
-    done ∙ ap (λ (l : Local). repeats_turn i l settings.retransmit settings.transmit_delay db (turn n 0 before)) is
-    ∙ ap (λ (out : List Outgoing). repeats_turn i (local_by own settings) settings.retransmit settings.transmit_delay db (turn n 0 out)) none

@@ -8,16 +8,18 @@ use Rattle.ospf_neighbour.specs.Neighbour.{NeighbourValue}
 use Rattle.ospf_neighbour.specs.Neighbours.{IsRising, AreNeighbours, neighbour_of}
 use Rattle.ospf_packet.specs.declared.body.Description.{Description}
 use Rattle.ospf_exchange.specs.declared.rule.Local.{Local}
-use Rattle.ospf_adjacency.specs.Descriptions.{Turn, turn, description_turn}
-use Rattle.ospf_adjacency.specs.declared.packets.Outgoing.{Outgoing}
+use Rattle.ospf_adjacency.specs.Descriptions.{IsAfter, Turn, turn, description_turn}
+use Rattle.ospf_adjacency.specs.Posting.{OutboxValue}
 use Rattle.ospf_adjacency.proofs.SameLemmas.{description_keeps_router}
-use Rattle.ospf_hello.specs.Heard.{Neighbourhood, neighbourhood, turn_of, put_back, elects_by_change, place_for, put}
+use Rattle.ospf_adjacency.proofs.TurnLemmas.{turn_is}
+use Rattle.ospf_hello.specs.Heard.{AreAfter, Neighbourhood, neighbourhood, turn_of, put_back, elects_by_change, place_for, put}
 use Rattle.std.proofs.Common.{Option, inl, inr}
 use Rattle.std.proofs.lemmas.Option.{slice_get_past, slice_get_read}
 use Rattle.std.proofs.Common.{get_or}
 use Rattle.std.proofs.Common.{nat_lt, is_some, suc, true}
 use Rattle.std.proofs.lemmas.Bool.Decides.{leb_tells}
 use Rattle.std.proofs.lemmas.Bool.Decides.{eqb_tells}
+use Rattle.ospf_hello.proofs.HelloLemmas.{are_after}
 use Rattle.ospf_hello.proofs.StayLemmas.{put_rises}
 use Rattle.ospf_links.proofs.NeighbourLemmas.{few_by}
 use Rattle.ospf_hello.proofs.PutLemmas.{found, not_found, put_found}
@@ -62,23 +64,26 @@ pub is_none : (ns : List NeighbourValue) (k : ℕ) (q : RouterId) → IsRising n
 is_none ns k q rises at other =
     not_found ns q rises (λ o there same. other o (ap (slice_get ns) at ∙ there) (λ j. record { 0 = same j }))
 
-pub described_found : (i : Iface) (local : Local) (q : RouterId) (d : Description) (hs : List LsaHeader) (db : List Held) (ns : List NeighbourValue) (next next' k : ℕ) (sent sent' : List Outgoing) (e m : NeighbourValue) (elects : Bool)
+pub described_found : (i : Iface) (local : Local) (q : RouterId) (d : Description) (hs : List LsaHeader) (db : List Held) (ns : List NeighbourValue) (next next' k : ℕ) (before after : OutboxValue) (e m : NeighbourValue) (elects : Bool)
     → k ≡ place_for ns q.0 → slice_get ns k ≡ Some e → e.router ≡ q → m.router ≡ e.router
-    → turn m next' sent' ≡ description_turn i local q d hs db (turn e next sent) → elects ≡ elects_by_change i.state e m
-    → neighbourhood (set ns k m) elects next' sent' ≡ description_on i local q d hs db (neighbourhood ns false next sent)
-described_found i local q d hs db ns next next' k sent sent' e m elects at there e_is same is due =
-    let x = neighbourhood ns false next sent in
-    ap (λ (l : List NeighbourValue). neighbourhood l elects next' sent') (is_put ns k q e m at there e_is same)
-    ∙ ap (λ b. put_back b (turn m next' sent') x) due
-    ∙ ap (λ (u : Turn). put_back (elects_by_change i.state e u.neighbour) u x) is
-    ∙ ap (λ o. description_by o i local q d hs db x) (sym (is_found ns k q e at there e_is))
+    → IsAfter (description_turn i local q d hs db (turn e next)) m next' before after → elects ≡ elects_by_change i.state e m
+    → AreAfter (description_on i local q d hs db (neighbourhood ns false next)) (set ns k m) elects next' before after
+described_found i local q d hs db ns next next' k before after e m elects at there e_is same is due =
+    let x = neighbourhood ns false next in
+    let ends = description_turn i local q d hs db (turn e next) in
+    are_after _ (record { neighbours = set ns k m; elects = elects; next = next'; sent = ends.sent }) before after
+    (ap (λ (l : List NeighbourValue). record { neighbours = l; elects = elects; next = next'; sent = ends.sent }) (is_put ns k q e m at there e_is same)
+    ∙ ap (λ b. put_back b (record { neighbour = m; next = next'; sent = ends.sent }) x) due
+    ∙ ap (λ (u : Turn). put_back (elects_by_change i.state e u.neighbour) u x) (turn_is ends m next' before after is)
+    ∙ ap (λ o. description_by o i local q d hs db x) (sym (is_found ns k q e at there e_is)))
+    is.sent
 
 same_is : (n m : NeighbourValue) → IsSameRouter n m → n.router ≡ m.router
 same_is n m e = sym e.router
 
 -- a Database Description makes no other neighbour of one
-pub described_router : (i : Iface) (local : Local) (q : RouterId) (d : Description) (hs : List LsaHeader) (db : List Held) (t u : Turn) → u ≡ description_turn i local q d hs db t → u.neighbour.router ≡ t.neighbour.router
-described_router i local q d hs db t u is = ap (λ (v : Turn). v.neighbour.router) is ∙ sym (same_is _ _ (description_keeps_router i local q d hs db t))
+pub described_router : (i : Iface) (local : Local) (q : RouterId) (d : Description) (hs : List LsaHeader) (db : List Held) (t : Turn) (m : NeighbourValue) → m ≡ (description_turn i local q d hs db t).neighbour → m.router ≡ t.neighbour.router
+described_router i local q d hs db t m is = ap (λ (v : NeighbourValue). v.router) is ∙ sym (same_is _ _ (description_keeps_router i local q d hs db t))
 
 described_stays_by : (i : Iface) (local : Local) (q : RouterId) (d : Description) (hs : List LsaHeader) (db : List Held) (x : Neighbourhood) → AreNeighbours x.neighbours → (o : Option NeighbourValue) → neighbour_of x.neighbours q ≡ o
     → ((n : NeighbourValue) → o ≡ Some n → n.router ≡ q) → AreNeighbours (description_by o i local q d hs db x).neighbours

@@ -6,7 +6,7 @@ use Rattle.ospf_area.specs.Outputs.{OutputsValue}
 use Rattle.ospf_area.specs.Sending.{and_sends, own_of}
 use Rattle.ospf_area.specs.State.{AreaValue, LinkValue}
 use Rattle.ospf_area.specs.declared.sending.Own.{Own}
-use Rattle.ospf_links.specs.Posting.{posted_all}
+use Rattle.ospf_adjacency.specs.Posting.{posted_all}
 
 -- the election of a link on which one is due, and AdjOK? (9.4)
 pub record ElectsOnLink (mtu tick next : ℕ) (before after : LinkValue) (next' : ℕ) (sent : List Parcel) : Type 0 where

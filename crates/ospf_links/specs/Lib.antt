@@ -1,4 +1,3 @@
-pub mod Posting
 pub mod Parts
 pub mod Works
 pub mod Repeats

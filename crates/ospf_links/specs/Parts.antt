@@ -18,12 +18,11 @@ use Rattle.ospf_area.specs.declared.flooding.Origin.{Origin}
 use Rattle.ospf_area.specs.declared.sending.Own.{Own}
 use Rattle.ospf_area.specs.declared.state.LinkSettings.{LinkSettings}
 use Rattle.ospf_adjacency.specs.Descriptions.{description_turn}
-use Rattle.ospf_adjacency.specs.Packets.{Parcel, parcel_if, parcels}
-use Rattle.ospf_adjacency.specs.declared.packets.Outgoing.{Outgoing}
+use Rattle.ospf_adjacency.specs.Packets.{Parcel, parcel_if}
 use Rattle.ospf_hello.specs.Heard.{Neighbourhood, elects_by_change, hello_on, put_back, turn_of}
 use Rattle.ospf_hello.specs.Links.{down, elects_by_timers, hello_parcel, hello_ticked, is_down, is_hello_due, timed, up, wait_ticked}
 use Rattle.ospf_resend.specs.Answers.{answer_turn, answered_keys}
-use Rattle.ospf_links.specs.Posting.{posted_all}
+use Rattle.ospf_adjacency.specs.Posting.{OutboxValue, and_parcels, posted_all}
 
 -- what a part needs to know of the router and of a link
 abbrev pub local_by : Own → LinkSettings → Local
@@ -40,11 +39,11 @@ neighbourhood_of link next = record { neighbours = link.neighbours; elects = lin
 abbrev pub with_neighbourhood : Neighbourhood → LinkValue → LinkValue
 with_neighbourhood x link = record link { neighbours = x.neighbours; elects = x.elects }
 
--- what a part has made of a link, of the router's next DD number, and what goes out
-pub record Becomes (x : Neighbourhood) (before after : LinkValue) (next : ℕ) (out : List Outgoing) : Type 0 where
+-- what a part has made of a link, of the router's next DD number, and of what goes out
+pub record Becomes (x : Neighbourhood) (before after : LinkValue) (next : ℕ) (out out' : OutboxValue) : Type 0 where
   pub link : after ≡ with_neighbourhood x before
   pub number : next ≡ x.next
-  pub sent : parcels out ≡ x.sent
+  pub sent : out' ≡ and_parcels out x.sent
 
 -- ---- packets that come
 

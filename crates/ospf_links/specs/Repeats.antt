@@ -14,7 +14,7 @@ use Rattle.ospf_area.specs.declared.sending.Own.{Own}
 use Rattle.ospf_area.specs.declared.state.LinkSettings.{LinkSettings}
 use Rattle.ospf_resend.specs.Repeats.{due_keys, repeats_turn}
 use Rattle.ospf_links.specs.Parts.{local_by}
-use Rattle.ospf_links.specs.Posting.{posted_all}
+use Rattle.ospf_adjacency.specs.Posting.{posted_all}
 
 -- copies of these keys went out in Updates in this tick (13, step 8)
 abbrev pub marked_all : List LsaKey → List LsaKey → List LsaKey

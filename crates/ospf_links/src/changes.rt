@@ -4,11 +4,10 @@ ghost use Rattle.std.specs.Prelude.{◌≡◌, OnOk, slice_get};
 ghost use Rattle.ospf_area.specs.Sending.{and_sends, own_of};
 ghost use Rattle.ospf_hello.specs.Links.{up};
 ghost use Rattle.ospf_links.specs.Parts.{link_down, link_up, up_parcels};
-ghost use Rattle.ospf_links.specs.Posting.{posted_all};
+ghost use Rattle.ospf_adjacency.specs.Posting.{posted_all};
 ghost use Rattle.ospf_links.specs.Works.{changed, up_out_on};
 
-use crate::link::take_out;
-use crate::posting::post;
+use crate::link::{open, take_out};
 use ospf_area::{Area, Link, Outputs, Own, own_of};
 use ospf_hello::{go_down, go_up, send_hello};
 use std::alloc::{AllocError, Global};
@@ -27,9 +26,10 @@ fn link_goes_up(
     if !go_up(&mut link.iface) {
         return Ok(());
     }
-    let mut packets = Vec::new(alloc);
-    send_hello(&link.iface, link.neighbours.all(), &mut packets, alloc)?;
-    post(packets, number, &link.iface, own, out, alloc)
+    let mut outbox = open(out, own, number, &link.iface, alloc);
+    send_hello(&link.iface, link.neighbours.all(), &mut outbox, alloc)?;
+    *out = outbox.into_outputs();
+    Ok(())
 }
 
 /// A link of the router goes up (RFC 2328, section 9.3): where it was down its first Hello goes out.

@@ -1,17 +1,16 @@
 //! Database Descriptions that come.
 
-ghost use Rattle.std.specs.Prelude.{◌≡◌, [], false, IfOk, OnOk};
+ghost use Rattle.std.specs.Prelude.{◌≡◌, false, IfOk, OnOk};
 ghost use Rattle.ospf_neighbour.specs.Neighbours.{IsRising};
 ghost use Rattle.ospf_area.specs.Sending.{and_sends, own_of};
-ghost use Rattle.ospf_adjacency.specs.Descriptions.{description_turn, turn};
-ghost use Rattle.ospf_hello.specs.Heard.{elects_by_change, neighbourhood};
+ghost use Rattle.ospf_adjacency.specs.Descriptions.{IsAfter, description_turn, turn};
+ghost use Rattle.ospf_hello.specs.Heard.{AreAfter, elects_by_change, neighbourhood};
 ghost use Rattle.ospf_links.specs.Parts.{Becomes, description_on, description_part, neighbourhood_of, with_neighbourhood};
-ghost use Rattle.ospf_links.specs.Posting.{posted_all};
+ghost use Rattle.ospf_adjacency.specs.Posting.{posted_all};
 ghost use Rattle.ospf_links.specs.Works.{work_sent, worked};
 
-use crate::link::{iface_of, is_due, local_of, put_back, take_out};
-use crate::posting::post;
-use ospf_adjacency::{Outgoing, take_description as describe_to};
+use crate::link::{iface_of, is_due, local_of, open, put_back, take_out};
+use ospf_adjacency::{Outbox, take_description as describe_to};
 use ospf_area::{Area, Link, Origin, Outputs, Own, own_of};
 use ospf_exchange::Local;
 use ospf_hello::{is_at, is_settled, place_for};
@@ -31,10 +30,10 @@ fn describe(
     iface: &Iface,
     local: Local,
     next: &mut u32,
-    out: &mut Vec<Outgoing>,
+    out: &mut Outbox,
     alloc: Global,
 ) -> Result<bool, AllocError>
-    ensures turn { OnOk result (turn neighbour.new next.new out.new.items ≡ description_turn iface.now local from.router fields headers.entry database.now (turn neighbour.old next.old out.old.items)) }
+    ensures turn { OnOk result (IsAfter (description_turn iface.now local from.router fields headers.entry database.now (turn neighbour.old next.old)) neighbour.new next.new out.old out.new) }
     ensures elects { IfOk result (λ elects. elects ≡ elects_by_change iface.now.state neighbour.old neighbour.new) }
 {
     let before = neighbour.state().is_two_way();
@@ -64,11 +63,11 @@ fn describe_in(
     iface: &Iface,
     local: Local,
     next: &mut u32,
-    out: &mut Vec<Outgoing>,
+    out: &mut Outbox,
     alloc: Global,
 ) -> Result<bool, AllocError>
     requires { IsRising all.old.items }
-    ensures { IfOk result (λ elects. neighbourhood all.new.items elects next.new out.new.items ≡ description_on iface.now local from.router fields headers.entry database.now (neighbourhood all.old.items false next.old out.old.items)) }
+    ensures { IfOk result (λ elects. AreAfter (description_on iface.now local from.router fields headers.entry database.now (neighbourhood all.old.items false next.old)) all.new.items elects next.new out.old out.new) }
 {
     let place = place_for(all, from.router);
     if !is_at(all, place, from.router) {
@@ -90,11 +89,10 @@ fn description_comes(
     database: &Lsdb,
     local: Local,
     next: &mut u32,
-    out: &mut Vec<Outgoing>,
+    out: &mut Outbox,
     alloc: Global,
 ) -> Result<(), AllocError>
-    requires fresh { out.old.items ≡ [] }
-    ensures { OnOk result (Becomes (description_on link.old.iface local from.router fields headers.entry database.now (neighbourhood_of link.old next.old)) link.old link.new next.new out.new.items) }
+    ensures { OnOk result (Becomes (description_on link.old.iface local from.router fields headers.entry database.now (neighbourhood_of link.old next.old)) link.old link.new next.new out.old out.new) }
 {
     let iface = iface_of(link);
     let mut all = take_out(link, alloc);
@@ -122,9 +120,9 @@ fn description_on_link(
     ensures number { OnOk result (next.new ≡ (description_part own from fields headers.entry database.now next.old link.old).next) }
     ensures sent { OnOk result (out.new ≡ and_sends out.old (posted_all own from.link link.old.iface (description_part own from fields headers.entry database.now next.old link.old).sent)) }
 {
-    let mut packets = Vec::new(alloc);
     let local = local_of(own, link);
     let iface = iface_of(link);
+    let mut outbox = open(out, own, from.link, &iface, alloc);
     description_comes(
         link,
         from,
@@ -133,10 +131,11 @@ fn description_on_link(
         database,
         local,
         next,
-        &mut packets,
+        &mut outbox,
         alloc,
     )?;
-    post(packets, from.link, &iface, own, out, alloc)
+    *out = outbox.into_outputs();
+    Ok(())
 }
 
 /// Takes a Database Description that comes on a link of the router (RFC 2328, section 10.6). One that is dropped, or whose

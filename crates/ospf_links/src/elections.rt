@@ -1,15 +1,14 @@
 //! The elections that end a step.
 
-ghost use Rattle.std.specs.Prelude.{◌≡◌, ◌++◌, true, List, OnOk};
+ghost use Rattle.std.specs.Prelude.{◌≡◌, true, List, OnOk};
 ghost use Rattle.ospf_adjacency.specs.Elections.{AreOfLink, ElectsOn, elects_in};
-ghost use Rattle.ospf_adjacency.specs.Packets.{Parcel, parcels};
+ghost use Rattle.ospf_adjacency.specs.Packets.{Parcel};
+ghost use Rattle.ospf_adjacency.specs.Posting.{and_parcels, posted_all};
 ghost use Rattle.ospf_area.specs.Sending.{and_sends};
 ghost use Rattle.ospf_links.specs.Elections.{AreReady, Elects, ElectsAt, ElectsLink, ElectsOnLink, IsReady};
-ghost use Rattle.ospf_links.specs.Posting.{posted_all};
 
-use crate::link::{iface_of, local_of, put_back, take_out};
-use crate::posting::post;
-use ospf_adjacency::{Outgoing, elect_on};
+use crate::link::{iface_of, local_of, open, put_back, take_out};
+use ospf_adjacency::{Outbox, elect_on};
 use ospf_area::{Area, Link, Outputs, Own, own_of};
 use ospf_exchange::Local;
 use ospf_neighbour::Neighbour;
@@ -21,12 +20,12 @@ fn elect_over(
     all: &mut Vec<Neighbour>,
     local: Local,
     numbers: &mut u32,
-    out: &mut Vec<Outgoing>,
+    out: &mut Outbox,
     alloc: Global,
 ) -> Result<(), AllocError>
     requires electing { elects_in link.old.iface.state ≡ true }
     requires link { AreOfLink link.old.iface all.old.items }
-    ensures elects { OnOk result ((sent : List Parcel) × ElectsOn local.mtu local.tick link.old.iface all.old.items numbers.old sent link.new.iface all.new.items numbers.new × (parcels out.new.items ≡ parcels out.old.items ++ sent)) }
+    ensures elects { OnOk result ((sent : List Parcel) × ElectsOn local.mtu local.tick link.old.iface all.old.items numbers.old sent link.new.iface all.new.items numbers.new × (out.new ≡ and_parcels out.old sent)) }
     ensures rest { link.new ≡ record link.old { iface = link.new.iface } }
 {
     elect_on(&mut link.iface, all, local, numbers, out, alloc)
@@ -37,12 +36,12 @@ fn link_election(
     link: &mut Link,
     local: Local,
     numbers: &mut u32,
-    out: &mut Vec<Outgoing>,
+    out: &mut Outbox,
     alloc: Global,
 ) -> Result<(), AllocError>
     requires electing { elects_in link.old.iface.state ≡ true }
     requires others { AreOfLink link.old.iface link.old.neighbours }
-    ensures { OnOk result ((sent : List Parcel) × ElectsOnLink local.mtu local.tick numbers.old link.old link.new numbers.new sent × (parcels out.new.items ≡ parcels out.old.items ++ sent)) }
+    ensures { OnOk result ((sent : List Parcel) × ElectsOnLink local.mtu local.tick numbers.old link.old link.new numbers.new sent × (out.new ≡ and_parcels out.old sent)) }
 {
     let mut all = take_out(link, alloc);
     elect_over(link, &mut all, local, numbers, out, alloc)?;
@@ -65,11 +64,12 @@ fn elect_link(
     if !link.elects {
         return Ok(());
     }
-    let mut packets = Vec::new(alloc);
     let local = local_of(own, link);
     let iface = iface_of(link);
-    link_election(link, local, next, &mut packets, alloc)?;
-    post(packets, number, &iface, own, out, alloc)
+    let mut outbox = open(out, own, number, &iface, alloc);
+    link_election(link, local, next, &mut outbox, alloc)?;
+    *out = outbox.into_outputs();
+    Ok(())
 }
 
 // That of one link.

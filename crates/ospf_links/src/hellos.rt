@@ -1,17 +1,16 @@
 //! Hellos that come.
 
-ghost use Rattle.std.specs.Prelude.{◌≡◌, ◌<◌, [], None, Some, OnOk, length, slice_get};
+ghost use Rattle.std.specs.Prelude.{◌≡◌, ◌<◌, None, Some, OnOk, length, slice_get};
 ghost use Rattle.ospf_neighbour.specs.Neighbours.{neighbour_of};
 ghost use Rattle.ospf_area.specs.Sending.{and_sends, own_of};
 ghost use Rattle.ospf_area.specs.State.{LinkValue};
 ghost use Rattle.ospf_hello.specs.Heard.{names};
 ghost use Rattle.ospf_links.specs.Parts.{Becomes, hello_comes, hello_part, with_neighbourhood};
-ghost use Rattle.ospf_links.specs.Posting.{posted_all};
+ghost use Rattle.ospf_adjacency.specs.Posting.{posted_all};
 ghost use Rattle.ospf_links.specs.Works.{work_sent, worked};
 
-use crate::link::{iface_of, is_due, local_of, put_back, take_out};
-use crate::posting::post;
-use ospf_adjacency::Outgoing;
+use crate::link::{iface_of, is_due, local_of, open, put_back, take_out};
+use ospf_adjacency::Outbox;
 use ospf_area::{Area, Link, Origin, Outputs, Own, own_of};
 use ospf_base::{Addr, RouterId};
 use ospf_exchange::Local;
@@ -28,12 +27,11 @@ fn hello_comes(
     named: bool,
     local: Local,
     numbers: &mut u32,
-    out: &mut Vec<Outgoing>,
+    out: &mut Outbox,
     alloc: Global,
 ) -> Result<(), AllocError>
     requires room { neighbour_of link.old.neighbours sender ≡ None → length link.old.neighbours < 255 }
-    requires fresh { out.old.items ≡ [] }
-    ensures { OnOk result (Becomes (hello_comes local sender source hello.now named numbers.old link.old) link.old link.new numbers.new out.new.items) }
+    ensures { OnOk result (Becomes (hello_comes local sender source hello.now named numbers.old link.old) link.old link.new numbers.new out.old out.new) }
 {
     let iface = iface_of(link);
     let mut all = take_out(link, alloc);
@@ -61,9 +59,9 @@ fn hello_on_link(
     ensures number { OnOk result (next.new ≡ (hello_part own from hello.now named next.old link.old).next) }
     ensures sent { OnOk result (out.new ≡ and_sends out.old (posted_all own from.link link.old.iface (hello_part own from hello.now named next.old link.old).sent)) }
 {
-    let mut packets = Vec::new(alloc);
     let local = local_of(own, link);
     let iface = iface_of(link);
+    let mut outbox = open(out, own, from.link, &iface, alloc);
     hello_comes(
         link,
         from.router,
@@ -72,10 +70,11 @@ fn hello_on_link(
         named,
         local,
         next,
-        &mut packets,
+        &mut outbox,
         alloc,
     )?;
-    post(packets, from.link, &iface, own, out, alloc)
+    *out = outbox.into_outputs();
+    Ok(())
 }
 
 /// Takes a Hello that comes on a link of the router (RFC 2328, section 10.5) and is not dropped: its sender is a neighbour, or

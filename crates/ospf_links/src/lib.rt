@@ -11,7 +11,6 @@ mod elections;
 mod hellos;
 mod link;
 mod marks;
-mod posting;
 mod repeats;
 mod requests;
 #[cfg(test)]
@@ -22,7 +21,6 @@ pub use crate::changes::{take_down, take_up};
 pub use crate::descriptions::take_description;
 pub use crate::elections::elect;
 pub use crate::hellos::take_hello;
-pub use crate::posting::post;
 pub use crate::repeats::repeat_all;
 pub use crate::requests::take_request;
 pub use crate::ticks::{count_timers, send_hellos};

@@ -5,9 +5,8 @@ ghost use Rattle.std.specs.List.{flat_map};
 ghost use Rattle.ospf_area.specs.Sending.{and_sends};
 ghost use Rattle.ospf_links.specs.Repeats.{all_keys, all_repeats, keys_out, keys_to, link_repeated, marked_all, repeated, repeated_links, repeats_out, repeats_to};
 
-use crate::link::{iface_of, local_by, put_back, take_out};
+use crate::link::{iface_of, local_by, open, put_back, take_out};
 use crate::marks::mark_all;
-use crate::posting::post;
 use ospf_area::{Link, LinkSettings, Outputs, Own};
 use ospf_base::LsaKey;
 use ospf_iface::Iface;
@@ -33,8 +32,8 @@ fn repeat_to(
     ensures sent { OnOk result (out.new ≡ and_sends out.old (repeats_to own number iface.now settings database.now neighbour.old)) }
     ensures marks { OnOk result (sent.new.keys ≡ marked_all (keys_to own settings database.now neighbour.old) sent.old.keys) }
 {
-    let mut packets = Vec::new(alloc);
     let local = local_by(own, settings);
+    let mut outbox = open(out, own, number, iface, alloc);
     let keys = repeat(
         neighbour,
         database,
@@ -42,11 +41,12 @@ fn repeat_to(
         local,
         settings.retransmit,
         settings.transmit_delay,
-        &mut packets,
+        &mut outbox,
         alloc,
     )?;
     mark_all(sent, &keys)?;
-    post(packets, number, iface, own, out, alloc)
+    *out = outbox.into_outputs();
+    Ok(())
 }
 
 // The repeats to neighbours.

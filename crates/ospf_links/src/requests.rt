@@ -1,21 +1,20 @@
 //! Requests that come.
 
-ghost use Rattle.std.specs.Prelude.{◌≡◌, [], false, true, Some, IfOk, OnOk, slice_get};
+ghost use Rattle.std.specs.Prelude.{◌≡◌, false, true, Some, IfOk, OnOk, slice_get};
 ghost use Rattle.ospf_neighbour.specs.Machine.{is_exchanging};
 ghost use Rattle.ospf_neighbour.specs.Neighbour.{NeighbourValue};
 ghost use Rattle.ospf_neighbour.specs.Neighbours.{IsRising, neighbour_of};
 ghost use Rattle.ospf_area.specs.Sending.{and_sends, own_of};
 ghost use Rattle.ospf_area.specs.State.{LinkValue};
-ghost use Rattle.ospf_hello.specs.Heard.{neighbourhood};
+ghost use Rattle.ospf_hello.specs.Heard.{AreAfter, neighbourhood};
 ghost use Rattle.ospf_links.specs.Parts.{Becomes, answered_by, answered_on, neighbourhood_of, request_on, request_part, with_neighbourhood};
-ghost use Rattle.ospf_links.specs.Posting.{posted_all};
+ghost use Rattle.ospf_adjacency.specs.Posting.{posted_all};
 ghost use Rattle.ospf_links.specs.Repeats.{marked_all};
 ghost use Rattle.ospf_links.specs.Works.{work_sent, worked};
 
-use crate::link::{iface_of, is_due, local_of, put_back, take_out};
+use crate::link::{iface_of, is_due, local_of, open, put_back, take_out};
 use crate::marks::mark_all;
-use crate::posting::post;
-use ospf_adjacency::Outgoing;
+use ospf_adjacency::Outbox;
 use ospf_area::{Area, Link, Origin, Outputs, Own, own_of};
 use ospf_base::LsaKey;
 use ospf_exchange::Local;
@@ -38,12 +37,12 @@ fn answer_in(
     local: Local,
     delay: u16,
     next: &mut u32,
-    out: &mut Vec<Outgoing>,
+    out: &mut Outbox,
     alloc: Global,
 ) -> Result<BTreeSet<LsaKey>, AllocError>
     requires rising { IsRising all.old.items }
     requires exchanging { (n : NeighbourValue) → neighbour_of all.old.items from.router ≡ Some n → is_exchanging n.state ≡ true }
-    ensures turn { OnOk result (neighbourhood all.new.items false next.new out.new.items ≡ request_on iface.now local from.router delay database.now requests.entry (neighbourhood all.old.items false next.old out.old.items)) }
+    ensures turn { OnOk result (AreAfter (request_on iface.now local from.router delay database.now requests.entry (neighbourhood all.old.items false next.old)) all.new.items false next.new out.old out.new) }
     ensures keys { IfOk result (λ keys. keys.keys ≡ answered_by (neighbour_of all.old.items from.router) database.now requests.entry) }
 {
     let place = place_for(all, from.router);
@@ -65,12 +64,11 @@ fn request_comes(
     database: &Lsdb,
     local: Local,
     next: &mut u32,
-    out: &mut Vec<Outgoing>,
+    out: &mut Outbox,
     alloc: Global,
 ) -> Result<BTreeSet<LsaKey>, AllocError>
-    requires fresh { out.old.items ≡ [] }
     requires exchanging { (n : NeighbourValue) → neighbour_of link.old.neighbours from.router ≡ Some n → is_exchanging n.state ≡ true }
-    ensures turn { OnOk result (Becomes (request_on link.old.iface local from.router link.old.settings.transmit_delay database.now requests.entry (neighbourhood_of link.old next.old)) link.old link.new next.new out.new.items) }
+    ensures turn { OnOk result (Becomes (request_on link.old.iface local from.router link.old.settings.transmit_delay database.now requests.entry (neighbourhood_of link.old next.old)) link.old link.new next.new out.old out.new) }
     ensures keys { IfOk result (λ keys. keys.keys ≡ answered_by (neighbour_of link.old.neighbours from.router) database.now requests.entry) }
 {
     let iface = iface_of(link);
@@ -102,9 +100,9 @@ fn request_on_link(
     ensures sent { OnOk result (out.new ≡ and_sends out.old (posted_all own from.link link.old.iface (request_part own from database.now requests.entry next.old link.old).sent)) }
     ensures marks { OnOk result (sent.new.keys ≡ marked_all (answered_by (neighbour_of link.old.neighbours from.router) database.now requests.entry) sent.old.keys) }
 {
-    let mut packets = Vec::new(alloc);
     let local = local_of(own, link);
     let iface = iface_of(link);
+    let mut outbox = open(out, own, from.link, &iface, alloc);
     let keys = request_comes(
         link,
         from,
@@ -112,11 +110,12 @@ fn request_on_link(
         database,
         local,
         next,
-        &mut packets,
+        &mut outbox,
         alloc,
     )?;
     mark_all(sent, &keys)?;
-    post(packets, from.link, &iface, own, out, alloc)
+    *out = outbox.into_outputs();
+    Ok(())
 }
 
 /// Takes a Request that comes on a link of the router (RFC 2328, section 10.7) from a neighbour in Exchange or above: the keys

@@ -7,11 +7,11 @@ ghost use Rattle.ospf_neighbour.specs.Neighbour.{NeighbourValue};
 ghost use Rattle.ospf_neighbour.specs.Neighbours.{neighbour_of};
 ghost use Rattle.ospf_links.specs.Elections.{AreReady, IsReady};
 
+use crate::link::open;
 use crate::{
-    count_timers, elect, post, repeat_all, send_hellos, take_description, take_down, take_hello,
+    count_timers, elect, repeat_all, send_hellos, take_description, take_down, take_hello,
     take_request, take_up,
 };
-use ospf_adjacency::Outgoing;
 use ospf_area::{Area, Link, LinkSettings, Origin, Outputs, Sent, flood, origin_of, own_of};
 use ospf_base::{ALL_SPF_ROUTERS, Addr, AreaId, InterfaceKind, RouterId};
 use ospf_iface::{Iface, IfaceSettings, IfaceState};
@@ -1068,7 +1068,7 @@ fn a_description_elects(rt: HostRuntime) -> Result<(), Fail> {
 // ---- packets
 
 // The first Hello of 1.1.1.1.
-fn first_hello(alloc: Global, destination: Addr) -> Outgoing {
+fn first_hello(alloc: Global) -> BodyValue {
     let fields = Hello {
         mask: 0xffff_fffc,
         hello_interval: 10,
@@ -1078,25 +1078,17 @@ fn first_hello(alloc: Global, destination: Addr) -> Outgoing {
         designated: Addr::NOWHERE,
         backup: Addr::NOWHERE,
     };
-    Outgoing {
-        destination,
-        body: BodyValue::Hello(fields, Vec::new(alloc)),
-    }
+    BodyValue::Hello(fields, Vec::new(alloc))
 }
 
 // To all, and to 10.0.0.2.
-fn two_hellos(alloc: Global) -> Result<Vec<Outgoing>, Fail> {
-    let mut packets = Vec::new(alloc);
-    packets.push(first_hello(alloc, ALL_SPF_ROUTERS))?;
-    packets.push(first_hello(alloc, FROM_SECOND.address))?;
-    Ok(packets)
-}
-
 fn posts(router: &mut Router, alloc: Global) -> Result<(), Fail> {
-    let packets = two_hellos(alloc)?;
     let own = own_of(&router.area);
     let iface = router.area.links.first().ok_or("no link")?.iface;
-    post(packets, 0, &iface, own, &mut router.out, alloc)?;
+    let mut outbox = open(&mut router.out, own, 0, &iface, alloc);
+    outbox.put(ALL_SPF_ROUTERS, first_hello(alloc), alloc)?;
+    outbox.put(FROM_SECOND.address, first_hello(alloc), alloc)?;
+    router.out = outbox.into_outputs();
     Ok(())
 }
 

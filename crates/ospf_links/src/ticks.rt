@@ -6,8 +6,7 @@ ghost use Rattle.ospf_area.specs.Sending.{and_sends};
 ghost use Rattle.ospf_hello.specs.Links.{elects_by_timers, timed, wait_ticked};
 ghost use Rattle.ospf_links.specs.Parts.{hello_out, hello_sent, link_timed};
 
-use crate::link::{put_back, take_out};
-use crate::posting::post;
+use crate::link::{open, put_back, take_out};
 use ospf_area::{Link, Outputs, Own};
 use ospf_hello::{send_due_hello, tick_timers};
 use ospf_neighbour::Neighbour;
@@ -52,9 +51,10 @@ fn send_hello_on(
     ensures after { OnOk result (link.new ≡ hello_sent link.old) }
     ensures sent { OnOk result (out.new ≡ and_sends out.old (hello_out own number link.old)) }
 {
-    let mut packets = Vec::new(alloc);
-    send_due_hello(&mut link.iface, link.neighbours.all(), &mut packets, alloc)?;
-    post(packets, number, &link.iface, own, out, alloc)
+    let mut outbox = open(out, own, number, &link.iface, alloc);
+    send_due_hello(&mut link.iface, link.neighbours.all(), &mut outbox, alloc)?;
+    *out = outbox.into_outputs();
+    Ok(())
 }
 
 /// A tick of the Hello timers of all links: the Hellos that are due go out (RFC 2328, section 9.5).

@@ -2,11 +2,11 @@
 
 ghost use Rattle.std.specs.Prelude.{◌≡◌, ℕ, IsTrue, IfOk, OnOk};
 ghost use Rattle.ospf_neighbour.specs.Machine.{is_exchanging};
-ghost use Rattle.ospf_adjacency.specs.Descriptions.{turn};
+ghost use Rattle.ospf_adjacency.specs.Descriptions.{IsAfter, turn};
 ghost use Rattle.ospf_resend.specs.Answers.{resent_copy, resent_keys, copies_turn, answered_keys, answer_turn};
 
 use crate::packing::send_copies;
-use ospf_adjacency::{Outgoing, take_event};
+use ospf_adjacency::{Outbox, take_event};
 use ospf_area::to_address;
 use ospf_base::LsaKey;
 use ospf_exchange::{ExchangeFault, Local, on_request};
@@ -44,10 +44,10 @@ pub(crate) fn send_to(
     iface: &Iface,
     local: Local,
     delay: u16,
-    out: &mut Vec<Outgoing>,
+    out: &mut Outbox,
     alloc: Global,
 ) -> Result<(), AllocError>
-    ensures { OnOk result ((next : ℕ) → turn neighbour.new next out.new.items ≡ copies_turn iface.now local delay database.now keys.now.keys (turn neighbour.old next out.old.items)) }
+    ensures { OnOk result ((next : ℕ) → IsAfter (copies_turn iface.now local delay database.now keys.now.keys (turn neighbour.old next)) neighbour.new next out.old out.new) }
 {
     if keys.is_empty() {
         return Ok(());
@@ -70,11 +70,11 @@ pub fn take_request(
     local: Local,
     delay: u16,
     numbers: &mut u32,
-    out: &mut Vec<Outgoing>,
+    out: &mut Outbox,
     alloc: Global,
 ) -> Result<BTreeSet<LsaKey>, AllocError>
     requires { IsTrue (is_exchanging neighbour.old.state) }
-    ensures turn { OnOk result (turn neighbour.new numbers.new out.new.items ≡ answer_turn iface.now local delay database.now requests.entry (turn neighbour.old numbers.old out.old.items)) }
+    ensures turn { OnOk result (IsAfter (answer_turn iface.now local delay database.now requests.entry (turn neighbour.old numbers.old)) neighbour.new numbers.new out.old out.new) }
     ensures keys { IfOk result (λ keys. keys.keys ≡ answered_keys database.now requests.entry) }
 {
     // Its contract says that the keys of the database rise.

@@ -1,8 +1,8 @@
 //! Copies of the database that are sent to one neighbour: as answers to its Requests, and again (RFC 2328, sections 10.7
 //! and 13.6), with the repeats of Database Descriptions and Requests.
 //!
-//! `take_request` answers a Request, and `repeat` sends again what is due in a tick. Both put what goes out behind a list of
-//! `Outgoing`, and answer the keys whose copies are among it.
+//! `take_request` answers a Request, and `repeat` sends again what is due in a tick. Both send through an `Outbox`, and
+//! answer the keys whose copies went out.
 #![tactic(auto)]
 
 mod answering;

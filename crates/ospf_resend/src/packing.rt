@@ -1,12 +1,12 @@
 //! How copies of the database are packed into Updates.
 
-ghost use Rattle.std.specs.Prelude.{◌≡◌, ◌-◌, ◌||◌, nat_le, ◌++◌, ◌∷◌, [], List, ℕ, map, IfOk, OnOk};
+ghost use Rattle.std.specs.Prelude.{◌≡◌, ◌-◌, ◌||◌, nat_le, ◌∷◌, [], List, ℕ, map, IfOk, OnOk};
 ghost use Rattle.ospf_lsdb.specs.Database.{lsa_of};
 ghost use Rattle.ospf_area.specs.Sending.{sent_lsa};
-ghost use Rattle.ospf_adjacency.specs.Packets.{parcels};
+ghost use Rattle.ospf_adjacency.specs.Posting.{and_parcels};
 ghost use Rattle.ospf_resend.specs.Packing.{has_none, bytes_in, packed, update_to, update_room, updates_of};
 
-use ospf_adjacency::Outgoing;
+use ospf_adjacency::Outbox;
 use ospf_base::{Addr, IP_HEADER, LsaKey, PACKET_HEADER};
 use ospf_lsa::Lsa;
 use ospf_lsdb::{EntryView, Lsdb};
@@ -40,14 +40,15 @@ fn sent_copy(copy: &EntryView<'_>, delay: u16, alloc: Global) -> Result<Lsa, All
 }
 
 // An Update with these LSAs goes out.
-fn send(lsas: Vec<Lsa>, destination: Addr, out: &mut Vec<Outgoing>) -> Result<(), AllocError>
-    ensures { OnOk result (parcels out.new.items ≡ parcels out.old.items ++ update_to destination lsas.items ∷ []) }
+fn send(
+    lsas: Vec<Lsa>,
+    destination: Addr,
+    out: &mut Outbox,
+    alloc: Global,
+) -> Result<(), AllocError>
+    ensures { OnOk result (out.new ≡ and_parcels out.old (update_to destination lsas.items ∷ [])) }
 {
-    out.push(Outgoing {
-        destination,
-        body: BodyValue::Update(lsas),
-    })?;
-    Ok(())
+    out.put(destination, BodyValue::Update(lsas), alloc)
 }
 
 // Whether an LSA of so many bytes goes into an Update behind these.
@@ -65,17 +66,17 @@ fn add(
     left: &mut usize,
     room: usize,
     destination: Addr,
-    out: &mut Vec<Outgoing>,
+    out: &mut Outbox,
     alloc: Global,
 ) -> Result<(), AllocError>
     requires { left.old ≡ room - bytes_in batch.old.items }
     ensures left { OnOk result (left.new ≡ room - bytes_in batch.new.items) }
-    ensures sent { OnOk result ((rest : List (List ℕ)) → parcels out.new.items ++ map (update_to destination) (packed room batch.new.items rest) ≡ parcels out.old.items ++ map (update_to destination) (packed room batch.old.items (lsa ∷ rest))) }
+    ensures sent { OnOk result ((rest : List (List ℕ)) → and_parcels out.new (map (update_to destination) (packed room batch.new.items rest)) ≡ and_parcels out.old (map (update_to destination) (packed room batch.old.items (lsa ∷ rest)))) }
 {
     let length = lsa.view().as_bytes().len();
     if !goes_in(batch, length, *left) {
         let full = mem::replace(batch, Vec::new(alloc));
-        send(full, destination, out)?;
+        send(full, destination, out, alloc)?;
         *left = room;
     }
     *left = left.saturating_sub(length);
@@ -93,10 +94,10 @@ pub fn send_copies(
     delay: u16,
     mtu: u16,
     destination: Addr,
-    out: &mut Vec<Outgoing>,
+    out: &mut Outbox,
     alloc: Global,
 ) -> Result<(), AllocError>
-    ensures { OnOk result (parcels out.new.items ≡ parcels out.old.items ++ updates_of destination mtu delay database.now keys.now.keys) }
+    ensures { OnOk result (out.new ≡ and_parcels out.old (updates_of destination mtu delay database.now keys.now.keys)) }
 {
     let room = update_room(mtu);
     let mut batch = Vec::new(alloc);
@@ -108,7 +109,7 @@ pub fn send_copies(
         }
     }
     if !batch.is_empty() {
-        send(batch, destination, out)?;
+        send(batch, destination, out, alloc)?;
     }
     Ok(())
 }

@@ -3,11 +3,11 @@
 ghost use Rattle.std.specs.Prelude.{◌≡◌, ◌&&◌, ℕ, is_some, IfOk, OnOk};
 ghost use Rattle.ospf_lsdb.specs.Database.{entry_of};
 ghost use Rattle.ospf_flood.specs.Due.{is_due};
-ghost use Rattle.ospf_adjacency.specs.Descriptions.{turn};
+ghost use Rattle.ospf_adjacency.specs.Descriptions.{IsAfter, turn};
 ghost use Rattle.ospf_resend.specs.Repeats.{dd_again, request_again, due_keys, repeats_turn};
 
 use crate::answering::send_to;
-use ospf_adjacency::{Outgoing, send_dd, send_request};
+use ospf_adjacency::{Outbox, send_dd, send_request};
 use ospf_base::LsaKey;
 use ospf_exchange::{Local, dd_sent, is_dd_due, is_request_repeat_due, next_request};
 use ospf_flood::is_due;
@@ -51,10 +51,10 @@ fn repeat_dd(
     iface: &Iface,
     local: Local,
     retransmit: u16,
-    out: &mut Vec<Outgoing>,
+    out: &mut Outbox,
     alloc: Global,
 ) -> Result<(), AllocError>
-    ensures { OnOk result ((next : ℕ) → turn neighbour.new next out.new.items ≡ dd_again iface.now local retransmit (turn neighbour.old next out.old.items)) }
+    ensures { OnOk result ((next : ℕ) → IsAfter (dd_again iface.now local retransmit (turn neighbour.old next)) neighbour.new next out.old out.new) }
 {
     if is_dd_due(neighbour, retransmit, local.tick) {
         dd_sent(neighbour, local.tick);
@@ -69,10 +69,10 @@ fn repeat_request(
     iface: &Iface,
     local: Local,
     retransmit: u16,
-    out: &mut Vec<Outgoing>,
+    out: &mut Outbox,
     alloc: Global,
 ) -> Result<(), AllocError>
-    ensures { OnOk result ((next : ℕ) → turn neighbour.new next out.new.items ≡ request_again iface.now local retransmit (turn neighbour.old next out.old.items)) }
+    ensures { OnOk result ((next : ℕ) → IsAfter (request_again iface.now local retransmit (turn neighbour.old next)) neighbour.new next out.old out.new) }
 {
     if is_request_repeat_due(neighbour, retransmit, local.tick) {
         next_request(neighbour, local.mtu, local.tick);
@@ -93,10 +93,10 @@ pub fn repeat(
     local: Local,
     retransmit: u16,
     delay: u16,
-    out: &mut Vec<Outgoing>,
+    out: &mut Outbox,
     alloc: Global,
 ) -> Result<BTreeSet<LsaKey>, AllocError>
-    ensures turn { OnOk result ((next : ℕ) → turn neighbour.new next out.new.items ≡ repeats_turn iface.now local retransmit delay database.now (turn neighbour.old next out.old.items)) }
+    ensures turn { OnOk result ((next : ℕ) → IsAfter (repeats_turn iface.now local retransmit delay database.now (turn neighbour.old next)) neighbour.new next out.old out.new) }
     ensures keys { IfOk result (λ keys. keys.keys ≡ due_keys retransmit local.tick database.now neighbour.old) }
 {
     let keys = due_keys(neighbour, database, retransmit, local.tick, alloc)?;

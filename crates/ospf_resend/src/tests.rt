@@ -1,11 +1,12 @@
 //! Requests that are answered, repeats, and Database Descriptions over an MTU of 576.
 
 use crate::{repeat, take_request};
-use ospf_adjacency::{Outgoing, request_turn, take_description, take_event};
+use ospf_adjacency::{Outbox, request_turn, take_description, take_event};
+use ospf_area::{Outputs, Own, Sent};
 use ospf_base::{Addr, Age, AreaId, Instance, InterfaceKind, Kind, LsaKey, RouterId};
 use ospf_exchange::Local;
 use ospf_iface::{Iface, IfaceSettings, IfaceState};
-use ospf_lsa::{Lsa, LsaHeader};
+use ospf_lsa::{Lsa, LsaHeader, LsaView};
 use ospf_lsdb::Lsdb;
 use ospf_neighbour::{NbrEvent, Neighbour, NeighbourState};
 use ospf_packet::{Body, BodyValue, Description, Packet, PacketValue, RequestEntry, write_packet};
@@ -56,6 +57,16 @@ fn iface() -> Iface {
     }
 }
 
+// Nothing has gone out of the link.
+fn outbox(alloc: Global) -> Outbox {
+    let own = Own {
+        router: LOCAL.router,
+        area: AreaId(0),
+        tick: LOCAL.tick,
+    };
+    Outbox::new(Outputs::new(alloc), own, 0, &iface())
+}
+
 // The router-LSA of a router without links, ten ticks old.
 fn lsa_of(alloc: Global, router: u32) -> Result<Lsa, Fail> {
     let mut lsa = Lsa::router(alloc, RouterId(router), FIRST, &[])?;
@@ -92,7 +103,7 @@ fn headers_of(alloc: Global, count: u32) -> Result<Vec<LsaHeader>, Fail> {
 fn starting(alloc: Global, router: u32) -> Result<Neighbour, Fail> {
     let mut neighbour = Neighbour::new(alloc, RouterId(router), Addr(router));
     let mut numbers = 300;
-    let mut out = Vec::new(alloc);
+    let mut out = outbox(alloc);
     for event in [NbrEvent::HelloReceived, NbrEvent::TwoWayReceived(true)] {
         take_event(
             &mut neighbour,
@@ -104,7 +115,7 @@ fn starting(alloc: Global, router: u32) -> Result<Neighbour, Fail> {
             alloc,
         )?;
     }
-    require(out.len() == 1)?;
+    require(count(&out) == 1)?;
     Ok(neighbour)
 }
 
@@ -138,7 +149,7 @@ fn describes(
     flags: u8,
     number: u32,
     database: &Lsdb,
-    out: &mut Vec<Outgoing>,
+    out: &mut Outbox,
     alloc: Global,
 ) -> Result<bool, Fail> {
     let fields = Description {
@@ -155,7 +166,7 @@ fn takes_description(
     neighbour: &mut Neighbour,
     bytes: &[u8],
     database: &Lsdb,
-    out: &mut Vec<Outgoing>,
+    out: &mut Outbox,
     alloc: Global,
 ) -> Result<bool, Fail> {
     let packet = Packet::read(bytes)?;
@@ -184,7 +195,7 @@ fn requests(
     neighbour: &mut Neighbour,
     routers: &[u32],
     database: &Lsdb,
-    out: &mut Vec<Outgoing>,
+    out: &mut Outbox,
     alloc: Global,
 ) -> Result<usize, Fail> {
     let mut entries = Vec::new(alloc);
@@ -203,7 +214,7 @@ fn takes_request(
     neighbour: &mut Neighbour,
     bytes: &[u8],
     database: &Lsdb,
-    out: &mut Vec<Outgoing>,
+    out: &mut Outbox,
     alloc: Global,
 ) -> Result<usize, Fail> {
     let packet = Packet::read(bytes)?;
@@ -234,8 +245,8 @@ fn repeats(
     tick: u64,
     database: &Lsdb,
     alloc: Global,
-) -> Result<(Vec<Outgoing>, usize), Fail> {
-    let mut out = Vec::new(alloc);
+) -> Result<(Outbox, usize), Fail> {
+    let mut out = outbox(alloc);
     let keys = repeat(
         neighbour,
         database,
@@ -251,35 +262,53 @@ fn repeats(
 
 // ---- what goes out
 
+// How many datagrams have gone out.
+fn count(out: &Outbox) -> usize {
+    out.outputs().sent().len()
+}
+
+fn last_bytes(out: &Outbox) -> Result<&[u8], Fail> {
+    let last = out.outputs().sent().last().ok_or("nothing sent")?;
+    Ok(&last.bytes)
+}
+
 // The flags, the number and how many headers the last packet has, a Database Description.
-fn last_description(out: &[Outgoing]) -> Result<(u8, u32, usize), Fail> {
-    let last = out.last().ok_or("nothing sent")?;
-    match &last.body {
-        BodyValue::Description(fields, headers) => {
-            Ok((fields.flags, fields.number, headers.len()))
-        }
-        _ => Err("another packet".into()),
+fn last_description(out: &Outbox) -> Result<(u8, u32, usize), Fail> {
+    let Body::Description(fields, headers) = Packet::read(last_bytes(out)?)?.body else {
+        return Err("another packet".into());
+    };
+    let mut count: usize = 0;
+    for _ in headers {
+        count = count.wrapping_add(1);
     }
+    Ok((fields.flags, fields.number, count))
 }
 
 // How many entries the last packet has, a Request.
-fn last_request(out: &[Outgoing]) -> Result<usize, Fail> {
-    let last = out.last().ok_or("nothing sent")?;
-    match &last.body {
-        BodyValue::Request(entries) => Ok(entries.len()),
-        _ => Err("another packet".into()),
+fn last_request(out: &Outbox) -> Result<usize, Fail> {
+    let Body::Request(entries) = Packet::read(last_bytes(out)?)?.body else {
+        return Err("another packet".into());
+    };
+    let mut count: usize = 0;
+    for _ in entries {
+        count = count.wrapping_add(1);
     }
+    Ok(count)
 }
 
 // How many LSAs a packet has, the age of the last, and its Advertising Router.
-fn update_in(packet: &Outgoing) -> Result<(usize, u16, u32), Fail> {
-    match &packet.body {
-        BodyValue::Update(lsas) => {
-            let last = lsas.last().ok_or("no LSA")?.view().header();
-            Ok((lsas.len(), last.age.ticks(), last.router.0))
-        }
-        _ => Err("another packet".into()),
+fn update_in(packet: &Sent) -> Result<(usize, u16, u32), Fail> {
+    let Body::Update(lsas) = Packet::read(&packet.bytes)?.body else {
+        return Err("another packet".into());
+    };
+    let mut count: usize = 0;
+    let mut found = (9999, 0);
+    for lsa in lsas {
+        let header = LsaView::read(lsa)?.header();
+        count = count.wrapping_add(1);
+        found = (header.age.ticks(), header.router.0);
     }
+    Ok((count, found.0, found.1))
 }
 
 // ---- Database Descriptions
@@ -297,12 +326,12 @@ fn a_slave_with_27_lsas(rt: HostRuntime) -> Result<(), Fail> {
     let alloc = rt.alloc();
     let database = database_of(alloc, 27)?;
     let mut slave = starting(alloc, 12)?;
-    let mut out = Vec::new(alloc);
+    let mut out = outbox(alloc);
     assert!(rt; describes(&mut slave, FIRST_OF_MASTER, 700, &database, &mut out, alloc)?);
     assert_eq!(rt; last_description(&out)?, (MORE, 700, 26));
-    for count in [2, 3] {
+    for wanted in [2, 3] {
         assert!(rt; describes(&mut slave, LAST_OF_MASTER, 701, &database, &mut out, alloc)?);
-        assert_eq!(rt; out.len(), count);
+        assert_eq!(rt; count(&out), wanted);
         assert_eq!(rt; last_description(&out)?, (0, 701, 1));
         assert_eq!(rt; slave.state(), NeighbourState::Full);
     }
@@ -315,19 +344,19 @@ fn a_master_gets_one_again(rt: HostRuntime) -> Result<(), Fail> {
     let alloc = rt.alloc();
     let database = database_of(alloc, 1)?;
     let mut master = starting(alloc, 3)?;
-    let mut out = Vec::new(alloc);
+    let mut out = outbox(alloc);
     for _ in 0..2 {
         assert!(rt; describes(&mut master, MORE, 300, &database, &mut out, alloc)?);
-        assert_eq!(rt; out.len(), 1);
+        assert_eq!(rt; count(&out), 1);
         assert_eq!(rt; last_description(&out)?, (LAST_OF_MASTER, 301, 1));
     }
     let (early, _) = repeats(&mut master, 11, &database, alloc)?;
-    assert_eq!(rt; early.len(), 0);
+    assert_eq!(rt; count(&early), 0);
     let (due, _) = repeats(&mut master, 12, &database, alloc)?;
-    assert_eq!(rt; due.len(), 1);
+    assert_eq!(rt; count(&due), 1);
     assert_eq!(rt; last_description(&due)?, (LAST_OF_MASTER, 301, 1));
     let (again, _) = repeats(&mut master, 16, &database, alloc)?;
-    assert_eq!(rt; again.len(), 0);
+    assert_eq!(rt; count(&again), 0);
     Ok(())
 }
 
@@ -338,13 +367,13 @@ fn a_request_has_44_entries(rt: HostRuntime) -> Result<(), Fail> {
     let alloc = rt.alloc();
     let database = Lsdb::new(alloc);
     let mut neighbour = loading(alloc, &headers_of(alloc, 50)?)?;
-    let mut out = Vec::new(alloc);
+    let mut out = outbox(alloc);
     request_turn(&mut neighbour, &iface(), LOCAL, &mut out, alloc)?;
     assert_eq!(rt; last_request(&out)?, 44);
     let (early, _) = repeats(&mut neighbour, 11, &database, alloc)?;
-    assert_eq!(rt; early.len(), 0);
+    assert_eq!(rt; count(&early), 0);
     let (due, keys) = repeats(&mut neighbour, 12, &database, alloc)?;
-    assert_eq!(rt; (due.len(), keys), (1, 0));
+    assert_eq!(rt; (count(&due), keys), (1, 0));
     assert_eq!(rt; last_request(&due)?, 44);
     Ok(())
 }
@@ -355,16 +384,16 @@ fn a_request_is_answered(rt: HostRuntime) -> Result<(), Fail> {
     let alloc = rt.alloc();
     let database = database_of(alloc, 30)?;
     let mut neighbour = loading(alloc, &[])?;
-    let mut out = Vec::new(alloc);
+    let mut out = outbox(alloc);
     let routers = [
         24, 23, 22, 21, 20, 19, 18, 17, 16, 15, 14, 13, 12, 11, 10, 9, 8, 7, 6, 5, 4, 3, 2, 1, 24,
     ];
     let keys = requests(&mut neighbour, &routers, &database, &mut out, alloc)?;
-    assert_eq!(rt; (out.len(), keys), (2, 24));
-    let first = out.first().ok_or("nothing sent")?;
+    assert_eq!(rt; (count(&out), keys), (2, 24));
+    let first = out.outputs().sent().first().ok_or("nothing sent")?;
     assert_eq!(rt; first.destination, Addr(2));
     assert_eq!(rt; update_in(first)?, (22, 13, 22));
-    let last = out.last().ok_or("nothing sent")?;
+    let last = out.outputs().sent().last().ok_or("nothing sent")?;
     assert_eq!(rt; update_in(last)?, (2, 13, 24));
     Ok(())
 }
@@ -374,9 +403,9 @@ fn a_missing_copy_begins_anew(rt: HostRuntime) -> Result<(), Fail> {
     let alloc = rt.alloc();
     let database = database_of(alloc, 3)?;
     let mut neighbour = loading(alloc, &[])?;
-    let mut out = Vec::new(alloc);
+    let mut out = outbox(alloc);
     let keys = requests(&mut neighbour, &[1, 7], &database, &mut out, alloc)?;
-    assert_eq!(rt; (out.len(), keys), (1, 0));
+    assert_eq!(rt; (count(&out), keys), (1, 0));
     assert_eq!(rt; last_description(&out)?, (FIRST_OF_MASTER, 301, 0));
     assert_eq!(rt; neighbour.state(), NeighbourState::ExStart);
     Ok(())
@@ -392,13 +421,13 @@ fn what_is_due_goes_again(rt: HostRuntime) -> Result<(), Fail> {
     let mut neighbour = loading(alloc, &[])?;
     lists(&mut neighbour, alloc)?;
     let (early, _) = repeats(&mut neighbour, 11, &database, alloc)?;
-    assert_eq!(rt; early.len(), 0);
+    assert_eq!(rt; count(&early), 0);
     let (out, keys) = repeats(&mut neighbour, 12, &database, alloc)?;
-    assert_eq!(rt; (out.len(), keys), (1, 2));
-    let first = out.first().ok_or("nothing sent")?;
+    assert_eq!(rt; (count(&out), keys), (1, 2));
+    let first = out.outputs().sent().first().ok_or("nothing sent")?;
     assert_eq!(rt; update_in(first)?, (2, 13, 3));
     let (again, _) = repeats(&mut neighbour, 13, &database, alloc)?;
-    assert_eq!(rt; again.len(), 1);
+    assert_eq!(rt; count(&again), 1);
     Ok(())
 }
 

@@ -3,7 +3,6 @@ use Rattle.ospf_base.specs.declared.ids.Addr.{Addr}
 use Rattle.ospf_neighbour.specs.Neighbour.{NeighbourValue}
 use Rattle.ospf_neighbour.specs.declared.machine.NbrEvent.TheVariants.{AdjOk}
 use Rattle.ospf_adjacency.specs.Adjacency.{wants_adjacency}
-use Rattle.ospf_adjacency.specs.Packets.{parcels}
 use Rattle.ospf_adjacency.proofs.ElectionLemmas.{adjusted-more}
 use Rattle.ospf_adjacency.proofs.elections.adjust.Goals as goal
 
@@ -12,7 +11,7 @@ loop-neighbour-preserved c =
     let now = c.loop-neighbour.neighbours in
     let k = c.loop-neighbour.neighbour-index in
     adjusted-more c.args.iface.now c.args.local.mtu c.args.local.tick c.args.numbers.now c.args.neighbours.now k now c.loop-neighbour.numbers c.take_event.new.numbers
-    (parcels c.args.out.now.items) (parcels c.loop-neighbour.out.items) (parcels c.take_event.new.out.items) _ (get_or now k c.neighbour-item.result) c.take_event.new.neighbour
+    c.args.out.now c.loop-neighbour.out c.take_event.new.out _ (get_or now k c.neighbour-item.result) c.take_event.new.neighbour
     c.loop-neighbour.invariant c.loop-neighbour-test.true (ap (λ (d : NeighbourValue). get_or now k d) c.neighbour-item.is)
     (ap (λ (b : Bool). AdjOk b) (c.wants_adjacency.ensures ∙ ap (λ (a : Addr). wants_adjacency c.args.iface.now a) c.address.ensures))
     c.take_event.ensures.neighbour c.take_event.ensures.number c.in_ok-take_event.ensures.sent

@@ -1,8 +1,9 @@
-use Rattle.std.proofs.Common.{◌≡◌, ◌∙◌, List, Option, None, Some, IsTrue, Bool, true, false, ap, sym, slice_get}
+use Rattle.std.proofs.Common.{◌≡◌, ◌∙◌, List, Option, None, Some, IsTrue, Bool, true, false, ap, subst, sym, slice_get}
 use Rattle.std.proofs.lemmas.Option.{get_or_from_slice_get}
 use Rattle.ospf_neighbour.specs.Neighbour.{NeighbourValue}
 use Rattle.ospf_neighbour.specs.Neighbours.{neighbour_of}
-use Rattle.ospf_hello.specs.Heard.{place_for, neighbourhood}
+use Rattle.ospf_hello.specs.Heard.{AreAfter, neighbourhood, place_for}
+use Rattle.ospf_hello.proofs.HelloLemmas.{are_still}
 use Rattle.ospf_links.specs.Parts.{answered_by, request_by}
 use Rattle.ospf_links.proofs.RequestLemmas.{requested_found}
 use Rattle.ospf_links.proofs.WorkLemmas.{is_found, is_none}
@@ -21,7 +22,9 @@ nobody c =
 
 pub returns-then-not-is_at-clause-turn : goal.returns-then-not-is_at-clause-turn
 returns-then-not-is_at-clause-turn c =
-    ap (λ (o : Option NeighbourValue). request_by o c.args.iface.now c.args.local c.args.delay c.args.database.now c.args.requests (neighbourhood c.args.all.now.items false c.args.next.now c.args.out.now.items)) (sym (nobody c.before))
+    let x = neighbourhood c.args.all.now.items false c.args.next.now in
+    subst (λ (o : Option NeighbourValue). AreAfter (request_by o c.args.iface.now c.args.local c.args.delay c.args.database.now c.args.requests x) c.args.all.now.items false c.args.next.now c.args.out.now c.args.out.now)
+    (sym (nobody c.before)) (are_still c.args.all.now.items false c.args.next.now c.args.out.now)
 
 pub returns-then-not-is_at-clause-keys : goal.returns-then-not-is_at-clause-keys
 returns-then-not-is_at-clause-keys c =
@@ -46,7 +49,7 @@ returns-clause-turn c =
     let there : slice_get ns k ≡ Some h.0 = ap (λ (l : List NeighbourValue). slice_get l k) (sym c.deref-2.ensures.value) ∙ h.1 in
     let is : e ≡ h.0 = c.index_mut-neighbour.ensures.value ∙ get_or_from_slice_get ns k h.0 e there in
     requested_found c.args.iface.now c.args.local c.args.from.router c.args.delay c.args.database.now c.args.requests ns c.args.next.now c.take_request.new.numbers k
-    c.args.out.now.items c.take_request.new.out.items e c.take_request.new.neighbour
+    c.args.out.now c.take_request.new.out e c.take_request.new.neighbour
     (c.place_for-place.ensures ∙ ap (λ (l : List NeighbourValue). place_for l c.args.from.router.0) c.deref.ensures.value) (there ∙ ap (λ (n : NeighbourValue). Some n) (sym is)) (ap (λ (n : NeighbourValue). n.router) is ∙ h.2)
     c.in_ok-keys.ensures.turn
 

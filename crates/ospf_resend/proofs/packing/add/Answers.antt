@@ -1,5 +1,4 @@
 use Rattle.std.proofs.Common.{◌≡◌, ℕ, ◌-◌, ◌∙◌, ◌++◌, ◌∷◌, ◌||◌, [], List, length, nat_le, sym, ap}
-use Rattle.ospf_adjacency.specs.Packets.{parcels}
 use Rattle.ospf_resend.specs.Packing.{bytes_in, has_none, goes_in}
 use Rattle.ospf_resend.proofs.PackLemmas.{left_behind, left_whole, goes_by, packs_after, packs_anew}
 use Rattle.ospf_resend.proofs.packing.add.Goals as goal
@@ -22,12 +21,12 @@ returns-clause-sent c = λ rest.
     ∙ ap (λ (l : List ℕ). has_none c.args.batch.now.items || nat_le (length l) c.args.left.now) (c.as_bytes-length.ensures.bytes ∙ c.view.ensures.same)) in
     elim c.if-not-goes_in.branch [
       | then-not-goes_in+in_ok-send w ↦
-          packs_anew c.args.room c.args.destination c.args.batch.now.items c.push.new.self.items c.args.lsa rest (parcels c.args.out.now.items) (parcels c.if-not-goes_in.out.items)
+          packs_anew c.args.room c.args.destination c.args.batch.now.items c.push.new.self.items c.args.lsa rest c.args.out.now c.if-not-goes_in.out
           (sym w.if-not-goes_in.true ∙ by)
           (rw w.out-is (w.in_ok-send.ensures ∙ rw w.replace-full.ensures.value))
           (c.in_ok-push.ensures.items ∙ rw w.batch-is (rw w.replace-full.ensures.after (ap (λ (b : List (List ℕ)). b ++ c.args.lsa ∷ []) w.new.ensures.items)))
       | else-not-goes_in w ↦
-          packs_after c.args.room c.args.destination c.args.batch.now.items c.push.new.self.items c.args.lsa rest (parcels c.args.out.now.items) (parcels c.if-not-goes_in.out.items)
+          packs_after c.args.room c.args.destination c.args.batch.now.items c.push.new.self.items c.args.lsa rest c.args.out.now c.if-not-goes_in.out
           (sym w.if-not-goes_in.false ∙ by)
           (rw w.out-is) (c.in_ok-push.ensures.items ∙ rw w.batch-is)
     ]
