@@ -2,32 +2,24 @@
 
 ghost use Rattle.std.specs.Prelude.{◌≡◌, OnOk};
 ghost use Rattle.std.specs.Option.{option_copied};
-ghost use Rattle.ospf_neighbour.specs.Neighbours.{neighbour_of};
 ghost use Rattle.ospf_area.specs.Standing.{origin_of, is_taken_in, is_requested_of, is_awaited_of, answer_at, acknowledging};
 ghost use Rattle.ospf_area.specs.State.{some_link_loading};
 
 use crate::changes::delay_at;
 use crate::flooding::Origin;
 use crate::state::{Area, Link};
-use ospf_base::{Instance, LsaKey, RouterId};
+use ospf_base::{Instance, LsaKey};
 use ospf_flood::{Acknowledgement, AcknowledgementCase, acknowledge, sender_at};
 use ospf_lsa::LsaHeader;
 use ospf_neighbour::Neighbour;
 use std::alloc::AllocError;
-
-// The neighbour of a Router ID.
-fn find(all: &[Neighbour], router: RouterId) -> Option<&Neighbour>
-    ensures { option_copied result ≡ neighbour_of all.now router }
-{
-    all.iter().find(|n| n.router().0 == router.0)
-}
 
 /// The neighbour of the origin.
 pub fn origin_of(links: &[Link], from: Origin) -> Option<&Neighbour>
     ensures { option_copied result ≡ origin_of links.now from }
 {
     match links.get(from.link) {
-        Some(link) => find(link.neighbours.all(), from.router),
+        Some(link) => link.neighbours.get(from.router),
         None => None,
     }
 }

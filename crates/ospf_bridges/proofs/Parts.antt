@@ -10,7 +10,8 @@ use Rattle.ospf_adjacency.specs.Descriptions.{Turn}
 use Rattle.ospf_adjacency.specs.Packets.{parcel_if}
 use Rattle.ospf_hello.specs.Heard.{heard, hello_turn, naming_event, sender_of, turn_of}
 use Rattle.ospf_hello.specs.Laws as hellos
-use Rattle.ospf_hello.specs.Links.{down, hello_parcel, hello_ticked, is_down, is_hello_due, up}
+use Rattle.ospf_iface.specs.Machine.{is_down}
+use Rattle.ospf_hello.specs.Links.{down, hello_parcel, hello_ticked, is_hello_due, up}
 use Rattle.ospf_hello.proofs.GoLemmas.{hello_goes, timers_go}
 use Rattle.ospf_area.specs.Outputs.{AreRead, OutputsValue}
 use Rattle.ospf_area.specs.Places.{flat_from}

@@ -4,9 +4,7 @@ use Rattle.std.specs.List.{list_any}
 use Rattle.ospf_base.specs.Addresses.{all_spf_routers, nowhere}
 use Rattle.ospf_base.specs.Constants.{router_options}
 use Rattle.ospf_iface.specs.declared.machine.Iface.{Iface}
-use Rattle.ospf_iface.specs.declared.machine.IfaceState.{IfaceState}
-use Rattle.ospf_iface.specs.declared.machine.IfaceState.TheVariants as iface
-use Rattle.ospf_iface.specs.Machine.{started, stopped}
+use Rattle.ospf_iface.specs.Machine.{is_down, started, stopped}
 use Rattle.ospf_neighbour.specs.Machine.{is_two_way}
 use Rattle.ospf_neighbour.specs.Neighbour.{NeighbourValue}
 use Rattle.ospf_packet.specs.Meaning.{hello}
@@ -32,10 +30,6 @@ own_hello i = record {
 -- the Hello that a link sends to all: it names the link's neighbours (9.5)
 abbrev pub hello_parcel : Iface → List NeighbourValue → Parcel
 hello_parcel i ns = record { destination = all_spf_routers; body = hello (own_hello i) (map (λ n. n.router) ns) }
-
-abbrev pub is_down : IfaceState → Bool
-is_down iface.Down = true
-is_down _ = false
 
 -- a Hello is due: the link is up, and HelloInterval is over (9.5)
 abbrev pub is_hello_due : Iface → Bool

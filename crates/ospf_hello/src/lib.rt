@@ -15,5 +15,5 @@ pub use crate::heard::{hello_on, is_at, is_named, is_settled, place_for};
 pub use crate::laws::{
     adj_ok_goes, elections_come_about, hello_goes, neighbours_stay_of_link, puts_one, timers_go,
 };
-pub use crate::links::{go_down, go_up, is_down, tick_neighbours, tick_timers};
+pub use crate::links::{go_down, go_up, tick_neighbours, tick_timers};
 pub use crate::sent::{send_due_hello, send_hello};

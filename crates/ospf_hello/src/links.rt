@@ -3,25 +3,19 @@
 ghost use Rattle.std.specs.Prelude.{◌≡◌, ◌&&◌, [], true, false, map, filter, not};
 ghost use Rattle.std.specs.List.{list_any};
 ghost use Rattle.ospf_neighbour.specs.Machine.{is_two_way};
-ghost use Rattle.ospf_hello.specs.Links.{is_down, is_inactive, inactivity_ticked, timed, up, down, wait_ticked, is_wait_over, elects_by_timers};
+ghost use Rattle.ospf_iface.specs.Machine.{is_down};
+ghost use Rattle.ospf_hello.specs.Links.{is_inactive, inactivity_ticked, timed, up, down, wait_ticked, is_wait_over, elects_by_timers};
 
 use crate::heard::{is_settled, is_waiting};
-use ospf_iface::{Iface, IfaceEvent, IfaceState};
+use ospf_iface::{Iface, IfaceEvent};
 use ospf_neighbour::Neighbour;
-
-/// Whether an interface is Down (RFC 2328, section 9.1).
-pub fn is_down(state: IfaceState) -> bool
-    ensures { result ≡ is_down state }
-{
-    matches!(state, IfaceState::Down)
-}
 
 /// A link goes up (RFC 2328, section 9.3). Answers whether it was down: then a Hello goes out. No memory is taken.
 pub fn go_up(iface: &mut Iface) -> bool
     ensures was_down { result ≡ is_down iface.old.state }
     ensures up { iface.new ≡ up iface.old }
 {
-    if !is_down(iface.state) {
+    if !iface.state.is_down() {
         return false;
     }
     let _ = iface.event(IfaceEvent::InterfaceUp);
@@ -35,7 +29,7 @@ pub fn go_down(iface: &mut Iface, neighbours: &mut Vec<Neighbour>) -> bool
     ensures killed { is_down iface.old.state ≡ false → neighbours.new.items ≡ [] }
     ensures same { is_down iface.old.state ≡ true → neighbours.new.items ≡ neighbours.old.items }
 {
-    if is_down(iface.state) {
+    if iface.state.is_down() {
         return false;
     }
     let _ = iface.event(IfaceEvent::InterfaceDown);

@@ -3,8 +3,8 @@
 ghost use Rattle.std.specs.Prelude.{◌≡◌};
 
 use crate::{
-    go_down, go_up, hello_on, is_at, is_down, is_named, is_settled, place_for, send_due_hello,
-    send_hello, tick_neighbours, tick_timers,
+    go_down, go_up, hello_on, is_at, is_named, is_settled, place_for, send_due_hello, send_hello,
+    tick_neighbours, tick_timers,
 };
 use ospf_adjacency::Outbox;
 use ospf_area::{Outputs, Own};
@@ -258,7 +258,7 @@ fn a_link_goes_down(rt: HostRuntime) -> Result<(), Fail> {
     let mut link = iface(InterfaceKind::Broadcast, IfaceState::Backup);
     let mut neighbours = vec![in alloc; neighbour(alloc, 2, true, 40)]?;
     assert!(rt; go_down(&mut link, &mut neighbours));
-    assert!(rt; is_down(link.state));
+    assert!(rt; link.state.is_down());
     assert!(rt; neighbours.is_empty());
     assert!(rt; !go_down(&mut link, &mut neighbours));
     assert!(rt; is_settled(IfaceState::Backup) && !is_settled(link.state));

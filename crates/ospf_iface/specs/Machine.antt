@@ -14,6 +14,17 @@ use Rattle.ospf_iface.specs.declared.machine.IfaceEvent.{IfaceEvent}
 use Rattle.ospf_iface.specs.declared.machine.IfaceState.TheVariants.{Down, Waiting, PointToPoint, DrOther, Backup, Dr}
 use Rattle.ospf_iface.specs.declared.machine.IfaceEvent.TheVariants.{InterfaceUp, BackupSeen, WaitTimer, NeighborChange, InterfaceDown}
 
+-- the interface takes no part (9.1)
+abbrev pub is_down : IfaceState → Bool
+is_down Down = true
+is_down _ = false
+
+-- the router is the DR or the Backup of the network (9.1)
+abbrev pub is_dr_or_backup : IfaceState → Bool
+is_dr_or_backup Dr = true
+is_dr_or_backup Backup = true
+is_dr_or_backup _ = false
+
 -- what the machine does
 pub data Action : Type 0 where
   Start : Action  -- the interface becomes operational

@@ -15,6 +15,25 @@ pub enum IfaceState {
     Dr,
 }
 
+impl IfaceState {
+    ghost use Rattle.std.specs.Prelude.{◌≡◌};
+    ghost use Rattle.ospf_iface.specs.Machine.{is_down, is_dr_or_backup};
+
+    /// Whether the interface takes no part.
+    pub fn is_down(self) -> bool
+        ensures { result ≡ is_down self }
+    {
+        matches!(self, IfaceState::Down)
+    }
+
+    /// Whether the router is the Designated Router or the Backup of the network.
+    pub fn is_dr_or_backup(self) -> bool
+        ensures { result ≡ is_dr_or_backup self }
+    {
+        matches!(self, IfaceState::Dr | IfaceState::Backup)
+    }
+}
+
 /// An interface (section 9).
 #[derive(Clone, Copy, Debug, PartialEq, Eq)]
 pub struct Iface {

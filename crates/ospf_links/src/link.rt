@@ -71,8 +71,8 @@ pub(crate) fn local_by(own: Own, settings: LinkSettings) -> Local
     }
 }
 
-// What they need to know on this link.
-pub(crate) fn local_of(own: Own, link: &Link) -> Local
+/// What the parts of a step need to know of the router and this link.
+pub fn local_of(own: Own, link: &Link) -> Local
     ensures { result ≡ local_of own link.now }
 {
     local_by(own, link.settings)

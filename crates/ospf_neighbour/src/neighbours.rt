@@ -1,9 +1,9 @@
 //! The neighbours of an interface.
 
-ghost use Rattle.std.specs.Prelude.{◌≡◌, ◌↔◌, [], OnOk, OnErr, Err, IfSome, IfNone, Contains, length, map};
+ghost use Rattle.std.specs.Prelude.{◌≡◌, ◌↔◌, [], OnOk, OnErr, Err, IfNone, length, map};
 ghost use Rattle.std.specs.Option.{option_copied};
 ghost use Rattle.ospf_neighbour.specs.Lists.{key_unlisted};
-ghost use Rattle.ospf_neighbour.specs.Neighbours.{AreNeighbours, HasNeighbour, IsAdded, IsPlace, IsRising, at_address, max_neighbours, place_of, some_lists, some_loading, without_router};
+ghost use Rattle.ospf_neighbour.specs.Neighbours.{AreNeighbours, HasNeighbour, IsAdded, IsPlace, IsRising, at_address, max_neighbours, neighbour_of, place_of, some_lists, some_loading, without_router};
 ghost use Rattle.ospf_neighbour.specs.declared.neighbours.NeighbourFault.TheVariants as fault;
 
 use crate::neighbour::Neighbour;
@@ -129,10 +129,10 @@ impl Neighbours {
 
     /// The neighbour of a Router ID.
     pub fn get(&self, router: RouterId) -> Option<&Neighbour>
-        ensures found { IfSome result (λ n. Contains self.now n.now × (n.now.router.0 ≡ router.0)) }
+        ensures found { option_copied result ≡ neighbour_of self.now router }
         ensures none { IfNone result (HasNeighbour self.now router → ⊥) }
     {
-        find(&self.all, router)
+        self.all.iter().find(|n| n.router().0 == router.0)
     }
 
     /// Puts a neighbour in where its Router ID belongs, which none of them has.
@@ -163,19 +163,6 @@ fn unlist_key_of(key: &LsaKey, all: &mut [Neighbour])
     for neighbour in all.iter_mut() {
         neighbour.unlist_key(key);
     }
-}
-
-// The neighbour of a Router ID.
-fn find(all: &[Neighbour], router: RouterId) -> Option<&Neighbour>
-    ensures found { IfSome result (λ n. Contains all.now n.now × (n.now.router.0 ≡ router.0)) }
-    ensures none { IfNone result (HasNeighbour all.now router → ⊥) }
-{
-    for neighbour in all {
-        if neighbour.router().0 == router.0 {
-            return Some(neighbour);
-        }
-    }
-    None
 }
 
 // Where a neighbour of this Router ID belongs, which is not there.

@@ -8,13 +8,11 @@ ghost use Rattle.ospf_wanted.specs.Made.{IsUnmadeIf, Needs, first_number};
 ghost use Rattle.ospf_wanted.specs.Own.{value_of};
 
 use ospf_base::{LsaKey, MAX_AGE};
+use ospf_flood::MAX_SEQUENCE_NUMBER;
 use ospf_lsa::LsaFault;
 use ospf_lsdb::{EntryView, LS_REFRESH_TIME};
 use ospf_wanted::OwnLsa;
 use std::alloc::Global;
-
-/// The greatest number of an LSA (RFC 2328, section 12.1.6).
-const MAX_SEQUENCE_NUMBER: i32 = 0x7fff_ffff;
 
 /// What becomes of an own LSA.
 #[derive(Clone, Copy, Debug, PartialEq, Eq)]

@@ -14,7 +14,7 @@ use Rattle.ospf_packet.specs.Meaning.{BodyMeaning, hello, description, request, 
 use Rattle.ospf_packet.specs.declared.body.Description.{Description}
 use Rattle.ospf_adjacency.specs.Adjacency.{is_broadcast}
 use Rattle.ospf_adjacency.specs.Descriptions.{dd_dropped}
-use Rattle.ospf_hello.specs.Links.{is_down}
+use Rattle.ospf_iface.specs.Machine.{is_down}
 use Rattle.ospf_receipt.specs.Drops.{agrees, drop_below_exchange, drop_by_body, drop_of_description, drop_of_hello, is_destination, is_elsewhere, is_foreign, sender_in}
 use Rattle.ospf_receipt.specs.Laws.{CanBeTaken, IsExchanging, NotDroppedIsTaken, SendersAreNeighbours}
 use Rattle.ospf_receipt.specs.declared.dropped.Dropped.{Dropped}

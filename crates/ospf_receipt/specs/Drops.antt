@@ -5,9 +5,8 @@ use Rattle.ospf_base.specs.Constants.{router_options}
 use Rattle.ospf_base.specs.declared.ids.Addr.{Addr}
 use Rattle.ospf_base.specs.declared.ids.AreaId.{AreaId}
 use Rattle.ospf_base.specs.declared.ids.RouterId.{RouterId}
+use Rattle.ospf_iface.specs.Machine.{is_down, is_dr_or_backup}
 use Rattle.ospf_iface.specs.declared.machine.Iface.{Iface}
-use Rattle.ospf_iface.specs.declared.machine.IfaceState.{IfaceState}
-use Rattle.ospf_iface.specs.declared.machine.IfaceState.TheVariants as iface
 use Rattle.ospf_neighbour.specs.Machine.{is_exchanging}
 use Rattle.ospf_neighbour.specs.Neighbour.{NeighbourValue, is_empty}
 use Rattle.ospf_neighbour.specs.Neighbours.{at_address, max_neighbours, neighbour_of}
@@ -18,16 +17,10 @@ use Rattle.ospf_packet.specs.declared.body.Hello.{Hello}
 use Rattle.ospf_exchange.specs.declared.rule.Local.{Local}
 use Rattle.ospf_adjacency.specs.Adjacency.{is_broadcast}
 use Rattle.ospf_adjacency.specs.Descriptions.{dd_dropped}
-use Rattle.ospf_hello.specs.Links.{is_down}
 use Rattle.ospf_receipt.specs.declared.dropped.Dropped.{Dropped}
 use Rattle.ospf_receipt.specs.declared.dropped.Dropped.TheVariants as dropped
 
 -- ---- where it comes from and goes to
-
-abbrev pub is_dr_or_backup : IfaceState → Bool
-is_dr_or_backup iface.Dr = true
-is_dr_or_backup iface.Backup = true
-is_dr_or_backup _ = false
 
 -- it is for this interface: for AllSPFRouters, for its address, or for AllDRouters where the router is DR or Backup (8.2)
 abbrev pub is_destination : Iface → Addr → Bool

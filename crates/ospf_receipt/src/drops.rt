@@ -5,22 +5,15 @@ ghost use Rattle.std.specs.Option.{option_copied};
 ghost use Rattle.ospf_neighbour.specs.Neighbours.{at_address, neighbour_of};
 ghost use Rattle.ospf_packet.specs.PacketOf.{packet_of};
 ghost use Rattle.ospf_packet.specs.Said.{body_said, said};
-ghost use Rattle.ospf_receipt.specs.Drops.{agrees, is_dr_or_backup, is_destination, is_foreign, is_elsewhere, sender_in, drop_of_new, drop_of_hello, drop_of_description, drop_below_exchange, drop_by_body, drop_of_packet, drop_of};
+ghost use Rattle.ospf_receipt.specs.Drops.{agrees, is_destination, is_foreign, is_elsewhere, sender_in, drop_of_new, drop_of_hello, drop_of_description, drop_below_exchange, drop_by_body, drop_of_packet, drop_of};
 
 use crate::dropped::Dropped;
 use ospf_adjacency::{is_broadcast, is_dropped};
 use ospf_base::{ALL_D_ROUTERS, ALL_SPF_ROUTERS, Addr, AreaId, RouterId};
 use ospf_exchange::Local;
-use ospf_hello::is_down;
-use ospf_iface::{Iface, IfaceState};
+use ospf_iface::Iface;
 use ospf_neighbour::{MAX_NEIGHBOURS, Neighbour};
 use ospf_packet::{Body, Description, Headers, Packet};
-
-fn is_dr_or_backup(state: IfaceState) -> bool
-    ensures { result ≡ is_dr_or_backup state }
-{
-    matches!(state, IfaceState::Dr | IfaceState::Backup)
-}
 
 // Whether a datagram is for the interface.
 fn is_destination(iface: &Iface, destination: Addr) -> bool
@@ -28,7 +21,7 @@ fn is_destination(iface: &Iface, destination: Addr) -> bool
 {
     destination.0 == ALL_SPF_ROUTERS.0
         || destination.0 == iface.settings.address.0
-        || (destination.0 == ALL_D_ROUTERS.0 && is_dr_or_backup(iface.state))
+        || (destination.0 == ALL_D_ROUTERS.0 && iface.state.is_dr_or_backup())
 }
 
 // Whether it comes from another network.
@@ -196,7 +189,7 @@ fn drop_of_packet(
 ) -> Option<Dropped>
     ensures { result ≡ drop_of_packet local iface.now neighbours.now area source destination (said packet.now) }
 {
-    if is_down(iface.state) {
+    if iface.state.is_down() {
         Some(Dropped::Packet)
     } else if packet.area.0 != area.0 {
         Some(Dropped::Area)

@@ -1,12 +1,12 @@
 -- A router: its part of the area, and its routing table (RFC 2328, sections 5 and 11).
 use Rattle.std.specs.Prelude.{◌≡◌, ℕ, ℤ, Bool, false, List, [], Option, None, Some, length, slice_get}
+use Rattle.ospf_area.specs.Standing.{is_awaited_of}
 use Rattle.ospf_area.specs.State.{AreaValue, neighbour, neighbours_in}
 use Rattle.ospf_base.specs.declared.ids.Instance.{Instance}
 use Rattle.ospf_base.specs.declared.ids.RouterId.{RouterId}
 use Rattle.ospf_graph.specs.declared.route.Route.{Route}
 use Rattle.ospf_laws.specs.Words.{IsSoundState}
 use Rattle.ospf_lsdb.specs.Database.{listed}
-use Rattle.ospf_neighbour.specs.Lists.{is_listed}
 use Rattle.ospf_neighbour.specs.Neighbour.{NeighbourValue}
 use Rattle.ospf_routes.specs.Listings.{ListsAs}
 use Rattle.ospf_routes.specs.Routes.{AreRoutes, RoutesValue}
@@ -54,13 +54,9 @@ neighbours_on None link = []
 neighbours_on (Some s) link = neighbours_in (slice_get s.links link)
 
 -- an instance is on the retransmission list of a neighbour that may not be there (13.6)
-abbrev pub is_awaited : Instance → Option NeighbourValue → Bool
-is_awaited i None = false
-is_awaited i (Some n) = is_listed i n.retransmission
-
 abbrev pub awaits_in : Option AreaValue → ℕ → RouterId → Instance → Bool
 awaits_in None link q i = false
-awaits_in (Some s) link q i = is_awaited i (neighbour s link q)
+awaits_in (Some s) link q i = is_awaited_of i (neighbour s link q)
 
 -- the greatest number of a key of its own that was issued or installed since the start, and not below the floor of the start
 abbrev pub greatest_in : ℤ → Option AreaValue → ℤ

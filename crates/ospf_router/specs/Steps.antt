@@ -5,10 +5,11 @@ use Rattle.ospf_area.specs.State.{AreaValue}
 use Rattle.ospf_laws.specs.Accounts.{Accounts}
 use Rattle.ospf_laws.specs.Step.{Event, StepLaws, heard_in}
 use Rattle.ospf_receipt.specs.declared.dropped.Dropped.{Dropped}
-use Rattle.ospf_step.specs.Drops.{is_dropped}
 use Rattle.ospf_step.specs.Steps.{StepsArea}
 use Rattle.ospf_router.specs.Routers.{HasRoutes, RouterValue}
 use Rattle.ospf_router.specs.declared.router.Step.{Step}
+pub use Rattle.ospf_step.specs.Drops.{is_dropped}
+pub use Rattle.ospf_step.specs.Events.{happening}
 
 -- what its area does, by the exact rules of the event; and what these come to, for the laws of many routers: parts in their
 -- order, and an account of each instance that is named, sent or held

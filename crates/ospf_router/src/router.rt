@@ -1,12 +1,11 @@
 //! The router.
 
-ghost use Rattle.std.specs.Prelude.{◌≡◌, ◌≢◌, ◌<◌, ◌⊎◌, ◌↔◌, [], IsTrue, IfErr, IfOk, IfSome, OnErr, OnOk, None, Some, is_some, map, option_copied};
+ghost use Rattle.std.specs.Prelude.{◌≡◌, ◌≢◌, ◌<◌, ◌⊎◌, ◌↔◌, [], IsTrue, IfErr, IfOk, IfSome, OnErr, OnOk, None, Some, is_some, map};
 ghost use Rattle.ospf_base.specs.Sums.{contents};
 ghost use Rattle.ospf_edges.specs.Listed.{advertisements_of};
 ghost use Rattle.ospf_flood.specs.Rules.{max_sequence_number};
 ghost use Rattle.ospf_lsdb.specs.Counts.{fresh_count};
 ghost use Rattle.ospf_lsdb.specs.Database.{IsDatabase};
-ghost use Rattle.ospf_neighbour.specs.Neighbours.{neighbour_of};
 ghost use Rattle.ospf_routes.specs.Listings.{ListsAs};
 ghost use Rattle.ospf_step.specs.Same.{IsSameRouter};
 ghost use Rattle.ospf_step.specs.Events.{happening};
@@ -19,6 +18,7 @@ use crate::start::area_of;
 use ospf_area::{Area, Outputs};
 use ospf_base::{Instance, RouterId};
 use ospf_config::Config;
+use ospf_flood::MAX_SEQUENCE_NUMBER;
 use ospf_lsa::Listing;
 use ospf_neighbour::Neighbour;
 use ospf_originate::starts_sound;
@@ -28,9 +28,6 @@ use ospf_spf::RouteTable;
 use ospf_step::{Event, Taken, step};
 use std::alloc::{AllocError, Global};
 use std::marker::Model;
-
-/// The greatest sequence number (RFC 2328, section 12.1.6).
-const MAX_SEQUENCE_NUMBER: i32 = 0x7fff_ffff;
 
 /// What a step gives.
 #[derive(Drop)]
@@ -274,7 +271,13 @@ impl Router {
     pub fn awaits(&self, link: usize, neighbour: RouterId, instance: &Instance) -> bool
         ensures { result ≡ awaits_in self.now.area link neighbour instance.now }
     {
-        match find(self.neighbours(link), neighbour) {
+        let Some(area) = &self.area else {
+            return false;
+        };
+        let Some(link) = area.links.get(link) else {
+            return false;
+        };
+        match link.neighbours.get(neighbour) {
             Some(neighbour) => neighbour.is_listed(instance),
             None => false,
         }
@@ -290,11 +293,4 @@ impl Router {
             None => self.floor,
         }
     }
-}
-
-// The neighbour of a Router ID.
-fn find(neighbours: &[Neighbour], router: RouterId) -> Option<&Neighbour>
-    ensures { option_copied result ≡ neighbour_of neighbours.now router }
-{
-    neighbours.iter().find(|n| n.router().0 == router.0)
 }

@@ -20,7 +20,7 @@ use Rattle.ospf_receipt.specs.Drops.{agrees, drop_by_body, drop_of_hello, drop_o
 use Rattle.ospf_receipt.specs.Laws.{CanBeTaken, NotDroppedIsTaken}
 use Rattle.ospf_receipt.specs.declared.dropped.Dropped.{Dropped}
 use Rattle.ospf_receipt.specs.declared.dropped.Dropped.TheVariants as dropped
-use Rattle.ospf_hello.specs.Links.{is_down}
+use Rattle.ospf_iface.specs.Machine.{is_down}
 use Rattle.ospf_step.specs.Drops.{drop_on}
 use Rattle.ospf_step.specs.Fit.{IsFit, IsFitLink}
 use Rattle.ospf_step.specs.Ready.{CanTake, CanTakeOn}

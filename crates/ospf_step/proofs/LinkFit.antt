@@ -3,7 +3,7 @@ use Rattle.std.proofs.Common.{◌≡◌, ◌≢◌, ◌≤◌, ◌-◌, ℕ, suc
 use Rattle.std.specs.List.{AllByRecursion}
 use Rattle.ospf_base.specs.declared.ids.RouterId.{RouterId}
 use Rattle.ospf_base.specs.Masks.{IsMask}
-use Rattle.ospf_iface.specs.Machine.{is_changed, started, stopped}
+use Rattle.ospf_iface.specs.Machine.{is_changed, is_down, started, stopped}
 use Rattle.ospf_iface.specs.declared.machine.Iface.{Iface}
 use Rattle.ospf_iface.specs.declared.settings.IfaceSettings.{IfaceSettings}
 use Rattle.ospf_iface.specs.declared.machine.IfaceState.{IfaceState}
@@ -16,7 +16,7 @@ use Rattle.ospf_adjacency.specs.Packets.{Parcel}
 use Rattle.ospf_area.specs.State.{LinkValue}
 use Rattle.ospf_area.specs.declared.sending.Own.{Own}
 use Rattle.ospf_hello.specs.Laws.{ElectionsComeAbout, NeighboursStayOfLink}
-use Rattle.ospf_hello.specs.Links.{elects_by_timers, hello_ticked, inactivity_ticked, is_down, is_inactive, timed}
+use Rattle.ospf_hello.specs.Links.{elects_by_timers, hello_ticked, inactivity_ticked, is_inactive, timed}
 use Rattle.ospf_links.specs.Elections.{AreReady, ElectsIf, ElectsOnLink}
 use Rattle.ospf_links.specs.Parts.{hello_sent, link_down, link_timed, link_up, local_by}
 use Rattle.ospf_links.specs.Repeats.{link_repeated, repeated}

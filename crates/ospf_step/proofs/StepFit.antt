@@ -26,7 +26,8 @@ use Rattle.ospf_originate.specs.Laws.{AreaStaysSound, OwnStaySound}
 use Rattle.ospf_originate.specs.Sound.{IsSetUp, IsSound}
 use Rattle.ospf_originate.specs.Steps.{OwnLsas}
 use Rattle.ospf_step.specs.Fit.{IsFit, IsFitLink}
-use Rattle.ospf_step.specs.Takes.{TakesBody, TakesTick, acknowledged, hellos_sent, repeated, timers_counted}
+use Rattle.ospf_bridges.specs.Ticks.{acknowledged_area, helloed_area, timed_area}
+use Rattle.ospf_step.specs.Takes.{TakesBody, TakesTick, repeated}
 use Rattle.ospf_step.proofs.AreaFit.{age_for, headers_for, own_for, removes_for, update_for}
 use Rattle.ospf_step.proofs.FitLemmas.{AllFit, IsFor}
 use Rattle.ospf_step.proofs.LinkFit.{down_stays, elects_stays, hellos_fit, hellos_set_up, hellos_settings, repeats_fit, repeats_set_up, timers_fit, timers_set_up, undelayed_fit, undelayed_set_up, up_stays}
@@ -105,17 +106,17 @@ module _ (stay : NeighboursStayOfLink) (come : ElectionsComeAbout) (repeats : Re
   aged_fit s sent a ages fit = fit_for s a (age_for s.router s sent a ages (for_itself s fit)) (area.aged s sent a ages fit.sound)
 
   -- up to what is sent again
-  pub ticked_fit : (a : AreaValue) → IsFit a → IsFit (acknowledged (hellos_sent (timers_counted a)))
+  pub ticked_fit : (a : AreaValue) → IsFit a → IsFit (acknowledged_area (helloed_area (timed_area a)))
   ticked_fit a aged =
-      let t = timers_counted a in
+      let t = timed_area a in
       let timed : IsFit t = map_fit a link_timed a.sent (λ x. refl) (timers_fit stay come a.router) timers_set_up aged in
-      let h = hellos_sent t in
+      let h = helloed_area t in
       let said : IsFit h = map_fit t hello_sent t.sent hellos_settings (hellos_fit t.router) hellos_set_up timed in
       map_fit h undelayed_link h.sent (λ x. refl) (undelayed_fit h.router) undelayed_set_up said
 
   pub tick_fit : (s : AreaValue) (out out' : OutputsValue) (s' : AreaValue) → TakesTick s out out' s' → IsFit s → IsFit s'
   tick_fit s out out' s' is fit =
-      let k = acknowledged (hellos_sent (timers_counted is.aged)) in
+      let k = acknowledged_area (helloed_area (timed_area is.aged)) in
       let told : IsFit k = ticked_fit is.aged (aged_fit s is.expired_out is.aged is.ages fit) in
       moved (repeated k) s' is.state (map_fit k (link_repeated (own_of k) k.database) _ (λ x. refl) (repeats_fit repeats (own_of k) k.database k.router) (repeats_set_up repeats (own_of k) k.database) told)
 

@@ -30,7 +30,8 @@ use Rattle.ospf_step.specs.Drops.{is_dropped}
 use Rattle.ospf_step.specs.Fit.{IsFit, IsFitLink}
 use Rattle.ospf_step.specs.Ready.{IsReadyFor, IsSenderReady}
 use Rattle.ospf_step.specs.Steps.{StepsArea, Takes}
-use Rattle.ospf_step.specs.Takes.{TakesBody, TakesDatagram, TakesEvent, TakesTick, acknowledged, hellos_sent, origin_of, timers_counted}
+use Rattle.ospf_bridges.specs.Ticks.{acknowledged_area, helloed_area, timed_area}
+use Rattle.ospf_step.specs.Takes.{TakesBody, TakesDatagram, TakesEvent, TakesTick, origin_of}
 use Rattle.ospf_step.specs.declared.steps.Taken.{Taken}
 use Rattle.ospf_step.proofs.SetLemmas.{all_at}
 use Rattle.ospf_step.proofs.StepFit.{aged_fit, ticked_fit}
@@ -62,7 +63,7 @@ module _ (stay : NeighboursStayOfLink) (come : ElectionsComeAbout) (repeats : Re
   take_tick_puts fit after is =
       let aged : IsDatabase is.aged.database = subst IsDatabase (ap (λ (x : AreaValue). x.database) is.state) after in
       let aged_fits : IsFit is.aged = aged_fit stay come repeats area s is.expired_out is.aged is.ages fit in
-      let ticked = acknowledged (hellos_sent (timers_counted is.aged)) in
+      let ticked = acknowledged_area (helloed_area (timed_area is.aged)) in
       tick_puts rest _ s is.aged t u is.expired_out out mid_out out' (links_rise is.aged aged_fits) (links_rise ticked (ticked_fit stay come repeats area is.aged aged_fits)) aged read is.ages is.state is.outputs next
 
   event_puts : (e : Event) → IsFit s → IsDatabase t.database → IsReadyFor e s → TakesEvent e s out mid_out t → PutsOut (λ o. Chain (first_parts e ++ rest) s o u) out out'

@@ -1,21 +1,20 @@
 -- What an event does to the router before the step ends (RFC 2328, sections 9.3, 10.5 to 10.9, 13, 13.5 to 13.7 and 14).
-use Rattle.std.specs.Prelude.{◌≡◌, ℕ, List, [], Option, None, Some, map, slice_get}
+use Rattle.std.specs.Prelude.{◌≡◌, ℕ, List, [], Option, None, Some, slice_get}
 use Rattle.ospf_base.specs.declared.ids.Addr.{Addr}
 use Rattle.ospf_area.specs.Outputs.{OutputsValue, SentValue}
-use Rattle.ospf_area.specs.Places.{flat_from}
 use Rattle.ospf_area.specs.Sending.{and_sends, own_of}
 use Rattle.ospf_area.specs.State.{AreaValue}
 use Rattle.ospf_area.specs.declared.flooding.Origin.{Origin}
+use Rattle.ospf_bridges.specs.Ticks.{acknowledged_area, acknowledgements_out, helloed_area, hellos_out, timed_area}
 use Rattle.ospf_hello.specs.Heard.{names}
 use Rattle.ospf_laws.specs.Puts.{headers_met}
 use Rattle.ospf_laws.specs.Step.{Event}
 use Rattle.ospf_laws.specs.Step.Event.{Datagram, Tick, LinkUp, LinkDown}
-use Rattle.ospf_links.specs.Parts.{answered_on, description_part, hello_out, hello_part, hello_sent, link_down, link_timed, link_up, request_part}
+use Rattle.ospf_links.specs.Parts.{answered_on, description_part, hello_part, link_down, link_up, request_part}
 use Rattle.ospf_links.specs.Repeats.{all_keys, all_repeats, marked_all, repeated_links}
 use Rattle.ospf_links.specs.Works.{changed, up_out_on, work_sent, worked}
 use Rattle.ospf_packet.specs.Meaning.{BodyMeaning, Meaning, hello, description, request, update, acknowledgment}
 use Rattle.ospf_packet.specs.PacketOf.{packet_of}
-use Rattle.ospf_update.specs.Acks.{delayed_out, undelayed}
 use Rattle.ospf_update.specs.Aging.{TickAges}
 use Rattle.ospf_update.specs.Updates.{TakesUpdate}
 
@@ -51,24 +50,6 @@ TakesDatagram link source (Some m) s out out' after = TakesBody m.body (origin_o
 
 -- ---- ticks (14)
 
--- the timers of links and neighbours
-abbrev pub timers_counted : AreaValue → AreaValue
-timers_counted s = record s { links = map link_timed s.links }
-
--- the Hellos that are due
-abbrev pub hellos_sent : AreaValue → AreaValue
-hellos_sent s = record s { links = map hello_sent s.links }
-
-abbrev pub hellos_out : AreaValue → List SentValue
-hellos_out s = flat_from (hello_out (own_of s)) 0 s.links
-
--- the delayed acknowledgements
-abbrev pub acknowledged : AreaValue → AreaValue
-acknowledged s = record s { links = undelayed s.links }
-
-abbrev pub acknowledgements_out : AreaValue → List SentValue
-acknowledgements_out s = delayed_out (own_of s) s.links
-
 -- what is sent again
 abbrev pub repeated : AreaValue → AreaValue
 repeated s = record s { links = repeated_links (own_of s) s.database s.links; sent = marked_all (all_keys (own_of s) s.database s.links) s.sent }
@@ -81,8 +62,8 @@ pub record TakesTick (s : AreaValue) (out out' : OutputsValue) (after : AreaValu
   pub aged : AreaValue
   pub expired_out : List SentValue
   pub ages : TickAges s expired_out aged
-  pub state : after ≡ repeated (acknowledged (hellos_sent (timers_counted aged)))
-  pub outputs : out' ≡ and_sends (and_sends (and_sends (and_sends out expired_out) (hellos_out (timers_counted aged))) (acknowledgements_out (hellos_sent (timers_counted aged)))) (repeats_out (acknowledged (hellos_sent (timers_counted aged))))
+  pub state : after ≡ repeated (acknowledged_area (helloed_area (timed_area aged)))
+  pub outputs : out' ≡ and_sends (and_sends (and_sends (and_sends out expired_out) (hellos_out (timed_area aged))) (acknowledgements_out (helloed_area (timed_area aged)))) (repeats_out (acknowledged_area (helloed_area (timed_area aged))))
 
 -- ---- events
 

@@ -12,29 +12,17 @@ ghost use Rattle.ospf_step.specs.Ready.{CanTake, IsSenderReady};
 ghost use Rattle.ospf_step.specs.Takes.{TakesBody, TakesDatagram};
 
 use ospf_adjacency::description_keeps_router;
-use ospf_area::{Area, Link, Origin, Outputs};
+use ospf_area::{Area, Origin, Outputs, own_of};
 use ospf_base::Addr;
 use ospf_bridges::{database_is_one, none_waits_below};
-use ospf_exchange::Local;
 use ospf_hello::{elections_come_about, neighbours_stay_of_link};
-use ospf_links::{take_description, take_hello, take_request};
+use ospf_links::{local_of, take_description, take_hello, take_request};
 use ospf_originate::area_stays_sound;
 use ospf_packet::{Body, Headers, Packet};
 use ospf_receipt::{Dropped, not_dropped_is_taken, receive};
 use ospf_resend::answers_are_quiet;
 use ospf_update::{on_header, on_update};
 use std::alloc::{AllocError, Global};
-
-// What a part needs to know of the router and of a link.
-fn local_of(area: &Area, link: &Link) -> Local
-    ensures { result ≡ local_of (own_of area.now) link.now }
-{
-    Local {
-        router: area.router,
-        mtu: link.settings.mtu,
-        tick: area.tick,
-    }
-}
 
 // The headers of an Acknowledgment, one after the other.
 fn take_headers(area: &mut Area, from: Origin, headers: Headers<'_>)
@@ -85,7 +73,7 @@ fn receive_on<'a>(
     let Some(there) = area.links.get(link) else {
         return Err(Dropped::Packet);
     };
-    let local = local_of(area, there);
+    let local = local_of(own_of(area), there);
     receive(
         bytes,
         source,

@@ -3,7 +3,8 @@
 ghost use Rattle.std.specs.Prelude.{◌≡◌, OnOk};
 ghost use Rattle.ospf_area.specs.Sending.{and_sends};
 ghost use Rattle.ospf_step.specs.Fit.{IsFit};
-ghost use Rattle.ospf_step.specs.Takes.{TakesTick, acknowledged, acknowledgements_out, hellos_out, hellos_sent, repeated, repeats_out, timers_counted};
+ghost use Rattle.ospf_bridges.specs.Ticks.{acknowledged_area, acknowledgements_out, helloed_area, hellos_out, timed_area};
+ghost use Rattle.ospf_step.specs.Takes.{TakesTick, repeated, repeats_out};
 
 use ospf_area::{Area, Outputs, own_of};
 use ospf_hello::{elections_come_about, neighbours_stay_of_link};
@@ -15,14 +16,14 @@ use std::alloc::{AllocError, Global};
 
 // The timers of links and neighbours.
 fn count(area: &mut Area, alloc: Global)
-    ensures { area.new ≡ timers_counted area.old }
+    ensures { area.new ≡ timed_area area.old }
 {
     count_timers(&mut area.links, alloc);
 }
 
 // The Hellos that are due.
 fn say_hello(area: &mut Area, out: &mut Outputs, alloc: Global) -> Result<(), AllocError>
-    ensures after { OnOk result (area.new ≡ hellos_sent area.old) }
+    ensures after { OnOk result (area.new ≡ helloed_area area.old) }
     ensures sent { OnOk result (out.new ≡ and_sends out.old (hellos_out area.old)) }
 {
     let own = own_of(area);
@@ -31,7 +32,7 @@ fn say_hello(area: &mut Area, out: &mut Outputs, alloc: Global) -> Result<(), Al
 
 // The delayed acknowledgements.
 fn acknowledge(area: &mut Area, out: &mut Outputs, alloc: Global) -> Result<(), AllocError>
-    ensures after { OnOk result (area.new ≡ acknowledged area.old) }
+    ensures after { OnOk result (area.new ≡ acknowledged_area area.old) }
     ensures sent { OnOk result (out.new ≡ and_sends out.old (acknowledgements_out area.old)) }
 {
     let own = own_of(area);

@@ -7,11 +7,9 @@ ghost use Rattle.ospf_area.specs.State.{entry_of};
 
 use ospf_area::{Area, Link, Numbering, Outputs, is_numbered, is_own, some_link_loading};
 use ospf_base::{Instance, LsaKey, MAX_AGE};
+use ospf_flood::MAX_SEQUENCE_NUMBER;
 use ospf_lsdb::{EntryView, Lsdb};
 use std::alloc::{AllocError, Global};
-
-/// The number after which the numbers of a key begin again (RFC 2328, section 12.1.6).
-const MAX_SEQUENCE_NUMBER: i32 = 0x7fff_ffff;
 
 /// 0x80000000, below the first number.
 const LOWEST_NUMBER: i32 = i32::MIN;

@@ -9,8 +9,9 @@ use Rattle.ospf_base.specs.declared.interface.InterfaceKind.TheVariants as kind
 use Rattle.ospf_lsa.specs.declared.link.Link.{Link}
 use Rattle.ospf_lsa.specs.declared.link.LinkKind.TheVariants.{PointToPoint, Transit, Stub}
 use Rattle.ospf_area.specs.State.{LinkValue}
+use Rattle.ospf_iface.specs.Machine.{is_down}
 use Rattle.ospf_iface.specs.declared.machine.IfaceState.{IfaceState}
-use Rattle.ospf_iface.specs.declared.machine.IfaceState.TheVariants.{Down, Dr}
+use Rattle.ospf_iface.specs.declared.machine.IfaceState.TheVariants.{Dr}
 use Rattle.ospf_base.specs.Keys.{same_key}
 use Rattle.ospf_neighbour.specs.Neighbour.{NeighbourValue}
 use Rattle.ospf_neighbour.specs.declared.machine.NeighbourState.{NeighbourState}
@@ -35,10 +36,6 @@ is_full n = is_full_state n.state
 -- the router is fully adjacent to the neighbour of this address
 abbrev pub is_full_at : ℕ → NeighbourValue → Bool
 is_full_at address n = is_full n && (n.address.0 == address)
-
-abbrev pub is_down : IfaceState → Bool
-is_down Down = true
-is_down _ = false
 
 abbrev pub is_dr : IfaceState → Bool
 is_dr Dr = true

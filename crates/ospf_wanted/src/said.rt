@@ -16,7 +16,7 @@ ghost use Rattle.ospf_wanted.specs.Said.{behind, is_end, links_bytes, router_lin
 ghost use Rattle.ospf_wanted.specs.Wanted.{attached_routers, is_full, links_at, router_link};
 ghost use Rattle.ospf_wanted.specs.Wanted.WantedValue.{RouterLsa, NetworkLsa};
 
-use crate::wants::{broadcast_link, is_down, is_full, router_link, subnet_link};
+use crate::wants::{broadcast_link, is_full, router_link, subnet_link};
 use ospf_area::Link as AreaLink;
 use ospf_base::{Age, InterfaceKind, OPTIONS, RouterId, u16_at};
 use ospf_lsa::{Link, LinkKind, LsaHeader, LsaView};
@@ -208,7 +208,7 @@ fn behind_links_at<'a>(
 ) -> Option<&'a [u8]>
     ensures { option_copied result ≡ behind (links_bytes stub_router link.now) (option_copied bytes.entry) }
 {
-    if is_down(link.iface.state) {
+    if link.iface.state.is_down() {
         return bytes;
     }
     match link.iface.settings.kind {

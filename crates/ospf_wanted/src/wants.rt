@@ -2,7 +2,7 @@
 
 ghost use Rattle.std.specs.Prelude.{◌≡◌, ◌++◌, ◌∷◌, [], IfOk, OnOk, OnErr, map, filter};
 ghost use Rattle.std.specs.List.{list_any, flat_map};
-ghost use Rattle.ospf_wanted.specs.Wanted.{is_full, is_full_at, is_down, is_dr, is_dr_of, is_transit, through_metric, router_link, network_link, subnet_link, broadcast_link, links_at, is_full_before, is_full_behind, attached_routers, networks_at, wanted, wanted_key};
+ghost use Rattle.ospf_wanted.specs.Wanted.{is_full, is_full_at, is_dr, is_dr_of, is_transit, through_metric, router_link, network_link, subnet_link, broadcast_link, links_at, is_full_before, is_full_behind, attached_routers, networks_at, wanted, wanted_key};
 ghost use Rattle.ospf_wanted.specs.Own.{value_of};
 
 use ospf_area::Link as AreaLink;
@@ -61,12 +61,6 @@ pub(crate) fn is_full(neighbour: &Neighbour) -> bool
     ensures { result ≡ is_full neighbour.now }
 {
     matches!(neighbour.state(), NeighbourState::Full)
-}
-
-pub(crate) fn is_down(state: IfaceState) -> bool
-    ensures { result ≡ is_down state }
-{
-    matches!(state, IfaceState::Down)
 }
 
 fn is_dr(state: IfaceState) -> bool
@@ -187,7 +181,7 @@ fn push_links(
 ) -> Result<(), AllocError>
     ensures { OnOk result (out.new.items ≡ out.old.items ++ links_at stub_router link.now) }
 {
-    if is_down(link.iface.state) {
+    if link.iface.state.is_down() {
         return Ok(());
     }
     match link.iface.settings.kind {
