@@ -1,5 +1,5 @@
 -- What chance draws in a world.
-use Rattle.std.specs.Prelude.{◌==◌, ◌%◌, ℕ, Bool, Option, None, Some, length, slice_get, is_some, nat_lt, option_map, option_and_then, if◌then◌else◌}
+use Rattle.std.specs.Prelude.{◌==◌, ◌%◌, ℕ, zero, suc, Bool, Option, None, Some, length, slice_get, is_some, nat_lt, option_map, option_and_then, if◌then◌else◌}
 use Rattle.rand_pcg.specs.Lcg.{Lcg}
 use Rattle.rand_pcg.specs.Pcg.{pcg32}
 use Rattle.ospf_base.specs.declared.ids.RouterId.{RouterId}
@@ -17,6 +17,11 @@ words_from g =
     let third = pcg32 second.1 in
     let fourth = pcg32 third.1 in
     (record { kind = first.0; router = second.0; link = third.0; number = fourth.0 }, fourth.1)
+
+-- a generator behind the words of so many events
+abbrev pub drawn_past : ℕ → Lcg → Lcg
+drawn_past zero g = g
+drawn_past (suc count) g = drawn_past count (words_from g).1
 
 -- which of so many things a word chooses; of none, none
 unfoldable pub chosen_of : (word count : ℕ) → Option ℕ

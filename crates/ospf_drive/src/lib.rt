@@ -19,3 +19,4 @@ pub use crate::fault::DriveFault;
 pub use crate::laws::drives_are_whole;
 pub use crate::memory::{MemoryWire, Scripted};
 pub use crate::wire::{Arrival, LONGEST, Wire, WireFault};
+pub use ospf_router::{Router, Sent};

@@ -1,7 +1,7 @@
 //! One turn of a driver: one arrival, and all that follows from it.
 
 ghost use Rattle.std.specs.Prelude.{◌≡◌, ◌+◌, ◌<◌, ◌^◌, ◌∷◌, [], ℕ, IfOk, IfErr, OnOk, OnErr, IfSome, IfNone, Some, None, option_map, take, length};
-ghost use Rattle.ospf_step.specs.Events.{happening};
+ghost use Rattle.ospf_router.specs.Steps.{happening};
 ghost use Rattle.ospf_drive.specs.Traffic.{heard, and_sends};
 ghost use Rattle.ospf_drive.specs.Moments.{at, event_of};
 ghost use Rattle.ospf_drive.specs.Drives.{Fails};

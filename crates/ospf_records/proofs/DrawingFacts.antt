@@ -2,8 +2,7 @@
 use Rattle.std.proofs.Common.{◌≡◌, ◌<◌, ◌+◌, ℕ, List, Option, None, add-one, drop, drop-cons, get_or, length, sym, ap, ◌∙◌, suc}
 use Rattle.ospf_area.specs.State.{AreaValue}
 use Rattle.ospf_headline.specs.World.{Running}
-use Rattle.ospf_router.specs.Routers.{RouterValue, listing_of}
-use Rattle.ospf_slots.specs.Slots.{IsLent, SlotValue}
+use Rattle.ospf_world.specs.Worlds.{IsLent, RouterValue, SlotValue, listing_of}
 use Rattle.ospf_records.specs.Drawings.{first_listing, listing_or}
 
 module _ (slots : List SlotValue) (i : ℕ) (s : SlotValue) (within : i < length slots) (is : s ≡ get_or slots i s) where

@@ -2,7 +2,7 @@
 use Rattle.std.specs.Prelude.{ℕ, List, [], ◌∷◌, Option, None, Some}
 use Rattle.ospf_dot.specs.Drawing.{graph_text}
 use Rattle.ospf_headline.specs.World.{Running, listing}
-use Rattle.ospf_slots.specs.Slots.{SlotValue}
+use Rattle.ospf_world.specs.Worlds.{SlotValue}
 
 -- what a router lists, or else what another has
 abbrev pub listing_or : Option Running → List (List ℕ) → List (List ℕ)

@@ -6,8 +6,7 @@ ghost use Rattle.ospf_records.specs.Drawings.{drawing_of, first_listing};
 
 use ospf_dot::Graph;
 use ospf_lsa::Listing;
-use ospf_slots::Slot;
-use ospf_world::World;
+use ospf_world::{Slot, World};
 use std::alloc::{AllocError, Global};
 
 // What the first router that runs lists; nothing where none runs.

@@ -7,10 +7,9 @@ use Rattle.ospf_headline.specs.World.{Member, member, of_member, unless_stopped}
 use Rattle.ospf_headline.specs.declared.event.WorldFault.{WorldFault}
 use Rattle.ospf_headline.specs.declared.event.WorldFault.TheVariants as fault
 use Rattle.ospf_router.specs.Routers.{RouterValue}
-use Rattle.ospf_slots.specs.Slots.{IsLent}
 use Rattle.ospf_sim.specs.Worlds.{HaveTwins, IsNewOf, IsNotLent, LendsRouter, WorldValue}
 use Rattle.ospf_world.specs.Worlds as worlds
-use Rattle.ospf_world.specs.Worlds.{Begins, Lends, NoMemory, NoRouter, NotRunning, Runs, SameRouter, new_world, world_of}
+use Rattle.ospf_world.specs.Worlds.{Begins, IsLent, Lends, NoMemory, NoRouter, NotRunning, Runs, SameRouter, new_world, world_of}
 
 pub lent : (w : WorldValue) (r : RouterId) (x : Bor RouterValue) → Lends (world_of w) r (Ok x) → LendsRouter w r x.now
 lent w r x (Runs m y is same lends) =

@@ -7,11 +7,10 @@ use Rattle.ospf_headline.specs.World.{Member, member, of_member, unless_stopped}
 use Rattle.ospf_headline.specs.declared.event.WorldEvent.{WorldEvent}
 use Rattle.ospf_headline.specs.declared.event.WorldFault.{WorldFault}
 use Rattle.ospf_router.specs.Routers.{RouterValue}
-use Rattle.ospf_slots.specs.Slots.{IsLent}
-use Rattle.ospf_step.specs.Drops.{is_dropped}
+use Rattle.ospf_router.specs.Steps.{is_dropped}
 use Rattle.ospf_world.specs.Random as random
 use Rattle.ospf_world.specs.Walks.{Walks}
-use Rattle.ospf_world.specs.Worlds.{SameSettings, ShareRouter, new_world, world_of}
+use Rattle.ospf_world.specs.Worlds.{IsLent, SameSettings, ShareRouter, new_world, world_of}
 use Rattle.ospf_world.specs.declared.walk.Walk.{Walk}
 use Rattle.rand_pcg.specs.Lcg.{increment_of, started}
 use Rattle.rand_pcg.specs.Pcg.{multiplier_64}

@@ -2,6 +2,7 @@
 
 ghost use Rattle.std.specs.Prelude.{◌≡◌, IfOk, None};
 ghost use Rattle.ospf_sim.specs.Commands.{AreRounds, event_in, IsDone, IsShownOn, IsWalkedOn, shown_in};
+ghost use Rattle.ospf_sim.specs.Worlds.{IsRandom};
 
 use crate::show::{View, on_output, write_view, write_walk};
 use crate::watch::Watch;
@@ -9,8 +10,12 @@ use ospf_base::{Addr, RouterId};
 use ospf_files::Failure;
 use ospf_script::Command;
 use ospf_world::{World, WorldEvent, WorldFault};
+use rand_pcg::Lcg64Xsh32;
 use std::alloc::Global;
 use std::io::Write;
+
+// How many events by chance come about between two words to the watch.
+const EVENTS_AT_ONCE: u64 = 10_000;
 
 // So many rounds, up to the first that is refused.
 fn run_rounds<V: Watch>(
@@ -41,7 +46,45 @@ fn run_watched<V: Watch>(
     ensures { AreRounds count world.old result world.new }
 {
     let answer = run_rounds(world, count, alloc, watch);
-    watch.ends_rounds();
+    watch.ends_line();
+    answer
+}
+
+// So many events by chance, some at a time, up to want of memory.
+fn run_events<V: Watch>(
+    world: &mut World,
+    number: u64,
+    count: u64,
+    alloc: Global,
+    watch: &mut V,
+) -> Result<(), WorldFault>
+    ensures { IsRandom number count world.old result world.new }
+{
+    let mut generator = Lcg64Xsh32::new(number, 0);
+    let mut done = 0;
+    while done < count {
+        watch.draws_events(done, count);
+        let part = (count - done).min(EVENTS_AT_ONCE);
+        match world.draw_events(&mut generator, part, alloc) {
+            Ok(()) => done += part,
+            Err(fault) => return Err(fault),
+        }
+    }
+    Ok(())
+}
+
+// So many events by chance, and their end is told.
+fn draw_watched<V: Watch>(
+    world: &mut World,
+    number: u64,
+    count: u64,
+    alloc: Global,
+    watch: &mut V,
+) -> Result<(), WorldFault>
+    ensures { IsRandom number count world.old result world.new }
+{
+    let answer = run_events(world, number, count, alloc, watch);
+    watch.ends_line();
     answer
 }
 
@@ -149,7 +192,7 @@ fn run_other<O: Write, V: Watch>(
 {
     match command {
         Command::Round { count } => Ok(run_watched(world, *count, alloc, watch)),
-        Command::Random { number, count } => Ok(world.random(*number, *count, alloc)),
+        Command::Random { number, count } => Ok(draw_watched(world, *number, *count, alloc, watch)),
         Command::Walk {
             from,
             address,

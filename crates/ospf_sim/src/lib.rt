@@ -12,3 +12,4 @@ mod watch;
 
 pub use crate::text::{Simulated, sim_text};
 pub use crate::watch::Watch;
+pub use ospf_world::World;

@@ -11,7 +11,7 @@ use Rattle.ospf_headline.specs.declared.logs.Issued.{Issued}
 use Rattle.ospf_headline.specs.declared.logs.Run.{Run}
 use Rattle.ospf_laws.specs.Step.{Event, StepLaws}
 use Rattle.ospf_router.specs.Routers.{RouterValue}
-use Rattle.ospf_step.specs.Drops.{is_dropped}
+use Rattle.ospf_router.specs.Steps.{is_dropped}
 use Rattle.ospf_slots.specs.Logs.{BeginAgain, LogsTake, LogsValue}
 
 -- a router, the run of its keys since its start, and the later runs of single keys, the latest first

@@ -15,7 +15,7 @@ use Rattle.ospf_headline.specs.declared.event.WorldEvent.TheVariants.{Start, Sto
 use Rattle.ospf_headline.specs.declared.event.WorldFault.TheVariants as fault
 use Rattle.ospf_laws.specs.Step.{Event, StepLaws}
 use Rattle.ospf_router.specs.Routers.{RouterValue}
-use Rattle.ospf_step.specs.Drops.{is_dropped}
+use Rattle.ospf_router.specs.Steps.{is_dropped}
 use Rattle.ospf_slots.specs.Logs.{LogsTake, LogsValue}
 use Rattle.ospf_slots.specs.Running.{Lives, RunningValue, delivery, running_of}
 

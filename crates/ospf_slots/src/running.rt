@@ -4,7 +4,7 @@ ghost use Rattle.std.specs.Prelude.{◌≡◌, ◌≢◌, ◌<◌, ◌↔◌, If
 ghost use Rattle.ospf_flood.specs.Rules.{max_sequence_number};
 ghost use Rattle.ospf_router.specs.declared.fault.StartFault.TheVariants as fault;
 ghost use Rattle.ospf_slots.specs.Running.{Begins, Fed, Goes, Settles, delivery};
-ghost use Rattle.ospf_step.specs.Events.{happening};
+ghost use Rattle.ospf_router.specs.Steps.{happening};
 
 use crate::logs::Logs;
 use ospf_area::Outputs;

@@ -4,7 +4,7 @@ ghost use Rattle.std.specs.Prelude.{◌≡◌, ◌<◌, None, Some, Ok, Err, IfO
 ghost use Rattle.ospf_headline.specs.declared.event.WorldFault.TheVariants as fault;
 ghost use Rattle.ospf_slots.specs.Running.{Lives, delivery, running_of};
 ghost use Rattle.ospf_slots.specs.Slots.{DeliversOn, Feeds, FeedsOn, IsLent, SlotSteps, StartsSlot, StopsSlot, with_running};
-ghost use Rattle.ospf_step.specs.Events.{happening};
+ghost use Rattle.ospf_router.specs.Steps.{happening};
 
 use crate::logs::Logs;
 use crate::running::RunningRouter;

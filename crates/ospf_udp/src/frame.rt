@@ -4,8 +4,7 @@ ghost use Rattle.std.specs.Prelude.{◌≡◌, ◌≤◌, ℕ, IfSome, IfNone, O
 ghost use Rattle.ospf_udp.specs.Frames.{IsFrameOf, IsPassedOver, frame_bytes};
 
 use ospf_base::{Addr, u32_at};
-use ospf_drive::LONGEST;
-use ospf_router::Sent;
+use ospf_drive::{LONGEST, Sent};
 use std::alloc::AllocError;
 
 /// The bytes before the packet.

@@ -19,7 +19,7 @@ use Rattle.ospf_slots.proofs.RunFacts.{run_of-is}
 use Rattle.ospf_slots.specs.Logs.{LogsTake, LogsValue}
 use Rattle.ospf_slots.specs.Running.{delivery}
 use Rattle.ospf_slots.specs.Slots.{GoesOn, SlotSteps, SlotTakes, SlotValue, fed_by, member_of, refused_by, router_in, with_running}
-use Rattle.ospf_step.specs.Drops.{is_dropped}
+use Rattle.ospf_router.specs.Steps.{is_dropped}
 use Rattle.ospf_world.specs.Worlds.{SameSettings, WorldValue, config_of, is_slot_of, place_of, world_of}
 use Rattle.ospf_world.proofs.PlaceFacts.{IsAt, at_within, not_placed, place_set, placed, set_same, slot_at}
 use Rattle.ospf_world.proofs.WorldFacts.{becomes, configs_set, id_is, member-is, router_at-is}

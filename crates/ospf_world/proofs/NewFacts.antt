@@ -15,7 +15,7 @@ use Rattle.ospf_headline.specs.declared.event.WorldFault.{WorldFault}
 use Rattle.ospf_headline.specs.declared.event.WorldFault.TheVariants as fault
 use Rattle.ospf_laws.proofs.ListFacts.{slice_get-append_cases}
 use Rattle.ospf_slots.specs.Slots.{SlotValue}
-use Rattle.ospf_step.specs.Drops.{is_dropped}
+use Rattle.ospf_router.specs.Steps.{is_dropped}
 use Rattle.ospf_world.specs.Worlds.{Adds, ArePlaces, Opens, ShareRouter, WorldValue, is_slot_of, new_world, place_from, place_in, place_of, stopped, world_of}
 use Rattle.ospf_world.proofs.PlaceFacts.{IsAt, placed}
 use Rattle.ospf_world.proofs.WorldFacts.{id_is, router_at-is}

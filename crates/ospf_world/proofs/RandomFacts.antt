@@ -1,9 +1,9 @@
 -- What chance does to a world, as a list of events does it.
-use Rattle.std.proofs.Common.{◌≡◌, ◌<◌, ◌≤◌, ◌+◌, ◌-◌, ◌++◌, ℕ, zero, suc, Bool, true, false, List, [], ◌∷◌, Option, None, Some, Result, Ok, Err, map, length, is_some, slice_get, get_or, refl, sym, ap, subst, ◌∙◌, vec_len}
+use Rattle.std.proofs.Common.{◌≡◌, ◌<◌, ◌≤◌, ◌+◌, ◌-◌, ◌++◌, ℕ, zero, suc, Bool, true, false, List, [], ◌∷◌, Option, None, Some, Result, Ok, Err, map, length, is_some, slice_get, get_or, refl, sym, ap, subst, ◌∙◌, vec_len, arith}
 use Rattle.std.specs.Prelude.{option_and_then}
 use Rattle.std.proofs.lemmas.List.{length-map}
 use Rattle.std.proofs.lemmas.Option.{slice_get-get_or}
-use Rattle.ospf_chance.specs.Draws.{chosen_of, drawn, drawn_for, drawn_in, words_from}
+use Rattle.ospf_chance.specs.Draws.{chosen_of, drawn, drawn_for, drawn_in, drawn_past, words_from}
 use Rattle.ospf_chance.specs.declared.chance.Words.{Words}
 use Rattle.ospf_config.specs.declared.config.Config.{Config}
 use Rattle.ospf_headline.specs.declared.logs.Datagram.{Datagram}
@@ -14,7 +14,7 @@ use Rattle.ospf_headline.specs.World.{Comes, Member, Runs, World}
 use Rattle.ospf_headline.specs.declared.event.WorldEvent.{WorldEvent}
 use Rattle.ospf_headline.specs.declared.event.WorldFault.{WorldFault}
 use Rattle.ospf_slots.specs.Slots.{SlotValue, member_of}
-use Rattle.ospf_step.specs.Drops.{is_dropped}
+use Rattle.ospf_router.specs.Steps.{is_dropped}
 use Rattle.ospf_world.specs.Random.{GoesOn, IsRandom, Meets}
 use Rattle.ospf_world.specs.Worlds.{SameSettings, WorldValue, world_of}
 use Rattle.ospf_world.proofs.ListFacts.{none_left, one_left}
@@ -97,6 +97,21 @@ pub random_done : (count i : ℕ) (g g' : Lcg) (before now : World) → count �
 random_done count i g g' before now all comes =
     let rest : IsRandom zero g' now (Ok tt) now = (refl, refl) in
     comes (Ok tt) now (subst (λ (n : ℕ). IsRandom n g' now (Ok tt) now) (sym (none_left count i all)) rest)
+
+-- ---- the generator
+
+drawn_once : (i : ℕ) (g : Lcg) → drawn_past (suc i) g ≡ (words_from (drawn_past i g)).1
+drawn_once zero g = refl
+drawn_once (suc i) g = drawn_once i (words_from g).1
+
+pub drawn_more : (i : ℕ) (g g' g'' : Lcg) (words : Words) → (words, g'') ≡ words_from g' → g' ≡ drawn_past i g → g'' ≡ drawn_past (i + 1) g
+drawn_more i g g' g'' words draws is =
+    let next : g'' ≡ (words_from g').1 = ap (λ (p : Words × Lcg). p.1) draws in
+    let one : i + 1 ≡ suc i = omega arith in
+    next ∙ ap (λ (h : Lcg). (words_from h).1) is ∙ sym (drawn_once i g) ∙ ap (λ (n : ℕ). drawn_past n g) (sym one)
+
+pub drawn_all : (count i : ℕ) (g g' : Lcg) → count ≤ i → i ≤ count → g' ≡ drawn_past i g → g' ≡ drawn_past count g
+drawn_all count i g g' all within is = let same : i ≡ count = omega (arith, all, within) in is ∙ ap (λ (n : ℕ). drawn_past n g) same
 
 -- ---- as a list of events
 

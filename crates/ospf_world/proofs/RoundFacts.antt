@@ -8,7 +8,7 @@ use Rattle.ospf_headline.specs.declared.event.WorldEvent.{WorldEvent}
 use Rattle.ospf_headline.specs.declared.event.WorldFault.{WorldFault}
 use Rattle.ospf_headline.specs.declared.logs.Datagram.{Datagram}
 use Rattle.ospf_slots.specs.Slots.{SlotValue}
-use Rattle.ospf_step.specs.Drops.{is_dropped}
+use Rattle.ospf_router.specs.Steps.{is_dropped}
 use Rattle.ospf_world.specs.Rounds.{AreNextOffers, AreOffered, IsBehind, IsRound, OffersMore, OffersNext, most_offers, offers_of, ticks}
 use Rattle.ospf_world.specs.Worlds.{SameSettings, WorldValue, configs_of, world_of}
 use Rattle.ospf_world.proofs.ListFacts.{none_left, one_left}

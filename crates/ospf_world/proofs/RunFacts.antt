@@ -9,7 +9,7 @@ use Rattle.ospf_headline.specs.declared.event.WorldEvent.{WorldEvent}
 use Rattle.ospf_headline.specs.declared.event.WorldFault.{WorldFault}
 use Rattle.ospf_headline.specs.declared.event.WorldFault.TheVariants as fault
 use Rattle.ospf_headline.proofs.RunFacts.{Runs-append}
-use Rattle.ospf_step.specs.Drops.{is_dropped}
+use Rattle.ospf_router.specs.Steps.{is_dropped}
 use Rattle.ospf_world.specs.Worlds.{SameSettings, WorldValue}
 
 RunsOn-more : (events : List WorldEvent) (event : WorldEvent) (w : World) (n : ℕ) (mid : World) (m : ℕ) (w' : World) (n' : ℕ) → RunsOn is_dropped events w n mid m → GoesOver is_dropped event mid m w' n' → RunsOn is_dropped (events ++ event ∷ []) w n w' n'

@@ -5,7 +5,7 @@ use Rattle.ospf_headline.specs.World.{Comes, World}
 use Rattle.ospf_headline.specs.declared.event.WorldEvent.{WorldEvent}
 use Rattle.ospf_headline.specs.declared.event.WorldFault.{WorldFault}
 use Rattle.ospf_headline.specs.Runs.{is_memory}
-use Rattle.ospf_step.specs.Drops.{is_dropped}
+use Rattle.ospf_router.specs.Steps.{is_dropped}
 use Rattle.rand_pcg.specs.Lcg.{Lcg}
 
 -- an event, where there is one, is taken, or refused and passed over; or memory runs out, and that is answered

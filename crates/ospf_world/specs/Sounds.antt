@@ -3,7 +3,7 @@ use Rattle.std.specs.Prelude.{List}
 use Rattle.ospf_headline.specs.Sound.{IsSound}
 use Rattle.ospf_headline.specs.World.{Happens, Runs, World}
 use Rattle.ospf_headline.specs.declared.event.WorldEvent.{WorldEvent}
-use Rattle.ospf_step.specs.Drops.{is_dropped}
+use Rattle.ospf_router.specs.Steps.{is_dropped}
 
 -- some events lead from the one to the other, and whatever events do, acknowledgement is sound at each of them
 pub record IsSoundBetween (before after : World) : Type 0 where

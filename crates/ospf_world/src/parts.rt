@@ -2,7 +2,7 @@
 
 ghost use Rattle.std.specs.Prelude.{◌≡◌, ◌<◌, ◌+◌, ◌++◌, Some, length, slice_get, slice_set};
 ghost use Rattle.ospf_slots.specs.Slots.{SlotSteps, SlotValue, router_in};
-ghost use Rattle.ospf_step.specs.Drops.{is_dropped};
+ghost use Rattle.ospf_router.specs.Steps.{is_dropped};
 ghost use Rattle.ospf_headline.specs.World.{Comes};
 ghost use Rattle.ospf_world.specs.Ticks.{ticked_by};
 ghost use Rattle.ospf_world.specs.Worlds.{Adds, Lends, LendsSlot, Opens, SameSettings, place_in, world_of};

@@ -1,9 +1,9 @@
 //! What chance does to a world.
 
-ghost use Rattle.std.specs.Prelude.{◌≡◌, ℕ, Some};
-ghost use Rattle.ospf_chance.specs.Draws.{drawn};
+ghost use Rattle.std.specs.Prelude.{◌≡◌, ℕ, OnOk, Some};
+ghost use Rattle.ospf_chance.specs.Draws.{drawn, drawn_past};
 ghost use Rattle.ospf_headline.specs.Headline.{Headline, IsReached};
-ghost use Rattle.ospf_step.specs.Drops.{is_dropped};
+ghost use Rattle.ospf_router.specs.Steps.{is_dropped};
 ghost use Rattle.ospf_world.specs.Random.{IsRandom, Meets};
 ghost use Rattle.ospf_world.specs.Sounds.{IsSoundBetween};
 ghost use Rattle.ospf_world.specs.Ticks.{TicksOn};
@@ -56,8 +56,39 @@ impl World {
         }
     }
 
-    /// So many events by chance, one after another: four words of the generator of this number draw each, in the world as it
-    /// then is. One that is refused is passed over.
+    /// So many events by chance, one after another: four words of the generator draw each, in the world as it then is. One
+    /// that is refused is passed over.
+    ///
+    /// `Memory` where memory runs out, which ends it.
+    pub fn draw_events(
+        &mut self,
+        generator: &mut Lcg64Xsh32,
+        count: u64,
+        alloc: Global,
+    ) -> Result<(), WorldFault>
+        ensures random { IsRandom count generator.old (world_of self.old) result (world_of self.new) }
+        ensures drawn { OnOk result (generator.new ≡ drawn_past count generator.old) }
+        ensures same { SameSettings self.old self.new }
+        ensures reached { IsReached is_dropped (world_of self.new) }
+        ensures headline { Headline (world_of self.old) (world_of self.new) }
+        ensures sound { IsSoundBetween (world_of self.old) (world_of self.new) }
+        ensures ticks { TicksOn (world_of self.old) self.old.ticks (world_of self.new) self.new.ticks }
+    {
+        headline();
+        soundness();
+        self.reached();
+        for i in 0..count {
+            let words = draw(generator);
+            let event = self.draw_event(&words);
+            match self.meet(event, alloc) {
+                Ok(()) => {}
+                Err(fault) => return Err(fault),
+            }
+        }
+        Ok(())
+    }
+
+    /// So many events by chance, as `draw_events` has them, drawn by the generator of this number.
     ///
     /// `Memory` where memory runs out, which ends it.
     pub fn random(&mut self, number: u64, count: u64, alloc: Global) -> Result<(), WorldFault>
@@ -68,18 +99,7 @@ impl World {
         ensures sound { IsSoundBetween (world_of self.old) (world_of self.new) }
         ensures ticks { TicksOn (world_of self.old) self.old.ticks (world_of self.new) self.new.ticks }
     {
-        headline();
-        soundness();
-        self.reached();
         let mut generator = Lcg64Xsh32::new(number, 0);
-        for i in 0..count {
-            let words = draw(&mut generator);
-            let event = self.draw_event(&words);
-            match self.meet(event, alloc) {
-                Ok(()) => {}
-                Err(fault) => return Err(fault),
-            }
-        }
-        Ok(())
+        self.draw_events(&mut generator, count, alloc)
     }
 }

@@ -2,7 +2,7 @@
 
 ghost use Rattle.std.specs.Prelude.{◌≡◌, ◌++◌, IfOk, OnOk, Some, find, option_copied, option_map};
 ghost use Rattle.ospf_headline.specs.Headline.{Headline, IsReached};
-ghost use Rattle.ospf_step.specs.Drops.{is_dropped};
+ghost use Rattle.ospf_router.specs.Steps.{is_dropped};
 ghost use Rattle.ospf_world.specs.Rounds as rounds;
 ghost use Rattle.ospf_world.specs.Rounds.{AreNextOffers, AreOffered, IsRound, OffersNext, is_sender, offers_at, sender_in, tick_of, ticks};
 ghost use Rattle.ospf_world.specs.Sounds.{IsSoundBetween};

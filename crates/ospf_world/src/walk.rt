@@ -9,7 +9,7 @@ ghost use Rattle.ospf_headline.specs.Walks.{AllListedAgree, WorldWalk, choice_of
 ghost use Rattle.ospf_headline.specs.World.{Running, member, router_at};
 ghost use Rattle.ospf_headline.specs.declared.walk.WalkEnd.TheVariants as ends;
 ghost use Rattle.ospf_router.specs.Routers.{listing_of};
-ghost use Rattle.ospf_step.specs.Drops.{is_dropped};
+ghost use Rattle.ospf_router.specs.Steps.{is_dropped};
 ghost use Rattle.ospf_world.specs.Walks.{IsLeg, LegsOver, Walks};
 ghost use Rattle.ospf_world.specs.Worlds.{world_of};
 

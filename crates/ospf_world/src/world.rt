@@ -5,7 +5,7 @@ ghost use Rattle.ospf_headline.specs.Headline.{Headline, IsReached};
 ghost use Rattle.ospf_headline.specs.Runs.{IsRun, is_memory};
 ghost use Rattle.ospf_headline.specs.Sound.{IsSound};
 ghost use Rattle.ospf_headline.specs.World.{Comes};
-ghost use Rattle.ospf_step.specs.Drops.{is_dropped};
+ghost use Rattle.ospf_router.specs.Steps.{is_dropped};
 ghost use Rattle.ospf_world.specs.Sounds.{IsSoundBetween};
 ghost use Rattle.ospf_world.specs.Ticks.{TicksOn, ticked_by};
 ghost use Rattle.ospf_world.specs.Worlds.{Lends, Opens, SameSettings, world_of};
@@ -30,7 +30,7 @@ pub struct World {
 
 impl Model for World {
     ghost use Rattle.ospf_headline.specs.Headline.{IsReached};
-    ghost use Rattle.ospf_step.specs.Drops.{is_dropped};
+    ghost use Rattle.ospf_router.specs.Steps.{is_dropped};
     ghost use Rattle.ospf_world.specs.Worlds.{WorldValue, world_of};
 
     ghost Value = { WorldValue };

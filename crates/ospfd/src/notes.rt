@@ -3,8 +3,7 @@
 use crate::screen::Line;
 use ospf_capture::{CaptureFault, Moment, write_datagram, write_header};
 use ospf_neighbour::NeighbourState;
-use ospf_router::{Router, Sent};
-use ospf_run::Tap;
+use ospf_run::{Router, Sent, Tap};
 use std::alloc::{AllocError, Global};
 use std::io::{self, ErrorKind, Write};
 use std::sync::{Arc, Mutex, Wait};

@@ -67,7 +67,7 @@ impl<T: Write + Drop> Line<T> {
     }
 }
 
-/// Tells on a terminal how far the rounds of a simulation have come.
+/// Tells on a terminal how far the rounds, or the events by chance, of a simulation have come.
 #[derive(Drop)]
 pub(crate) struct Screen<C: Clock + Drop, T: Write + Drop> {
     clock: C,
@@ -89,7 +89,13 @@ impl<C: Clock + Drop, T: Write + Drop> Watch for Screen<C, T> {
         }
     }
 
-    fn ends_rounds(&mut self) {
+    fn draws_events(&mut self, done: u64, count: u64) {
+        if let Some(terminal) = self.line.begin(&self.clock) {
+            let _ = write!(terminal, "\r\x1b[K{done} of {count} events by chance");
+        }
+    }
+
+    fn ends_line(&mut self) {
         self.line.erase();
     }
 }

@@ -323,7 +323,9 @@ struct Nobody;
 impl Watch for Nobody {
     fn begins_round(&mut self, _done: u64, _count: u64) {}
 
-    fn ends_rounds(&mut self) {}
+    fn draws_events(&mut self, _done: u64, _count: u64) {}
+
+    fn ends_line(&mut self) {}
 }
 
 // Does what words say, where no file can be read.

@@ -1,5 +1,5 @@
 use Rattle.std.proofs.Common.{◌+◌, ℕ, ◌∙◌, ap}
-use Rattle.ospf_step.specs.Events.{happening}
+use Rattle.ospf_router.specs.Steps.{happening}
 use Rattle.ospf_drive.proofs.Turning.{passed_over, stepped_quietly, stepped_published, failed_to_send, failed_to_publish, is_end-heard, same_known}
 use Rattle.ospf_drive.specs.Traffic.{heard}
 use Rattle.ospf_drive.proofs.turn.turn.Goals as goal

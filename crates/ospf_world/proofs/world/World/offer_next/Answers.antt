@@ -1,7 +1,7 @@
 use Rattle.std.proofs.Common.{subst, List}
 use Rattle.ospf_headline.specs.declared.event.WorldEvent.{WorldEvent}
 use Rattle.ospf_headline.specs.Runs.{IsRun}
-use Rattle.ospf_step.specs.Drops.{is_dropped}
+use Rattle.ospf_router.specs.Steps.{is_dropped}
 use Rattle.ospf_world.specs.Ticks.{TicksOn}
 use Rattle.ospf_world.specs.Worlds.{WorldValue, world_of}
 use Rattle.ospf_world.proofs.RoundFacts.{next_ends, next_taken}

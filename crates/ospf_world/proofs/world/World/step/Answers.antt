@@ -1,5 +1,5 @@
 use Rattle.std.proofs.Common.{refl, ◌∷◌, []}
-use Rattle.ospf_step.specs.Drops.{is_dropped}
+use Rattle.ospf_router.specs.Steps.{is_dropped}
 use Rattle.ospf_world.specs.Worlds.{world_of}
 use Rattle.ospf_world.proofs.ComesFacts.{reaches}
 use Rattle.ospf_world.proofs.world.World.step.Goals as goal
