@@ -6,6 +6,8 @@ use Rattle.ospf_drive.specs.Driven.{DrivesToEnd, IsDriven, Outcome as Driven}
 use Rattle.ospf_drive.specs.Moments.{Moment}
 use Rattle.ospf_drive.specs.declared.fault.DriveFault.{DriveFault}
 use Rattle.ospf_fib.specs.Answers.{IsAnswerOfLast}
+use Rattle.ospf_files.specs.Status.{failure_status}
+use Rattle.ospf_files.specs.declared.status.Failure.{Failure}
 use Rattle.ospf_files.specs.declared.status.Status.{Status}
 use Rattle.ospf_files.specs.declared.status.Status.TheVariants.{Refused, Stream}
 use Rattle.ospf_files.specs.declared.files.NamedFile.{NamedFile}
@@ -106,3 +108,8 @@ pub data Comes (lookup : Option Addr) (floor : Option (List ℕ)) (files : List 
   no_socket : status ≡ Stream → (configs : List Config) (least : ℤ) → IsPlan floor files configs least → IsSocketTold files err_old err_new
       → out_new ≡ out_old → Comes lookup floor files status out_old out_new err_old err_new
   ran : IsRun lookup floor files status out_old out_new err_old err_new → Comes lookup floor files status out_old out_new err_old err_new
+
+-- how the program ends: a run comes to its end, or memory ran out, a stream failed or a table was closed on the way
+pub data Ends (lookup : Option Addr) (floor : Option (List ℕ)) (files : List NamedFile) (status : Status) (out_old out_new err_old err_new : Option (List ℕ)) : Type 0 where
+  comes : Comes lookup floor files status out_old out_new err_old err_new → Ends lookup floor files status out_old out_new err_old err_new
+  fails : (failure : Failure) → status ≡ failure_status failure → Ends lookup floor files status out_old out_new err_old err_new

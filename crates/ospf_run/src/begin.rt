@@ -25,8 +25,10 @@ fn open_table<R: Wait + Drop>(rt: R, alloc: Global) -> Result<(Writer<R>, Seat),
     ensures seat { IfOk result (λ opened. opened.1 ≡ opened.0) }
 {
     let (writer, mut seats) = Fib::open(alloc, rt, 1)?;
-    let seat = seats.pop().ok_or(OpenRefused)?;
-    Ok((writer, seat))
+    match seats.pop() {
+        Some(seat) => Ok((writer, seat)),
+        None => Err(OpenRefused),
+    }
 }
 
 // A router that starts with a configuration.

@@ -10,15 +10,13 @@ use crate::tell::{on_error, tell};
 use ospf_base::RouterId;
 use ospf_config::Config;
 use ospf_files::{Failure, NamedFile, first_unread, read_configs, tell_unread};
+use ospf_flood::MAX_SEQUENCE_NUMBER;
 use ospf_script::floor_of;
 use std::alloc::Global;
 use std::io::{self, Write};
 
 // The floor below all LS sequence numbers, which is none.
 const NO_FLOOR: i32 = i32::MIN;
-
-// The greatest LS sequence number (RFC 2328, section 12.1.6): none is above it.
-const MAX_SEQUENCE_NUMBER: i32 = 0x7fff_ffff;
 
 /// The routers that are to run.
 #[derive(Debug, Drop)]

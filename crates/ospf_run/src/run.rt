@@ -2,7 +2,7 @@
 
 ghost use Rattle.std.specs.Prelude.{◌≡◌, ◌≢◌, IfOk, option_map, string_bytes};
 ghost use Rattle.ospf_run.specs.Plans.{IsPlan, IsRefused};
-ghost use Rattle.ospf_run.specs.Runs.{Comes, IsRun};
+ghost use Rattle.ospf_run.specs.Runs.{Comes, Ends, IsRun};
 
 use crate::over::run_tapped;
 use crate::plan::{Plan, Prepared, prepare};
@@ -97,6 +97,7 @@ pub fn run_text<
     ensures refused { result ≡ Status.Refused → IsRefused (option_map string_bytes settings.now.floor) files.now (E.contents err.old) (E.contents err.new) }
     ensures unwritten { result ≡ Status.Refused → O.contents out.new ≡ O.contents out.old }
     ensures not_words { result ≢ Status.Words }
+    ensures ended { Ends settings.now.lookup (option_map string_bytes settings.now.floor) files.now result (O.contents out.old) (O.contents out.new) (E.contents err.old) (E.contents err.new) }
 {
     match run(rt, alloc, settings, files, tap, out, err) {
         Ok(status) => status,
