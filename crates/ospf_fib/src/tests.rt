@@ -74,8 +74,10 @@ fn opened_one<R: Wait + Drop>(alloc: Global, rt: R) -> Result<(Writer<R>, Seat),
     ensures { IfOk result (λ opened. opened.1 ≡ opened.0) }
 {
     let (writer, mut seats) = Fib::open(alloc, rt, 1)?;
-    let seat = seats.pop().ok_or(OpenRefused)?;
-    Ok((writer, seat))
+    match seats.pop() {
+        Some(seat) => Ok((writer, seat)),
+        None => Err(OpenRefused),
+    }
 }
 
 #[test]

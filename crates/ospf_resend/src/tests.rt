@@ -320,68 +320,159 @@ const LAST_OF_MASTER: u8 = 1;
 
 const MORE: u8 = 2;
 
+// Whether a Database Description was taken, how many datagrams have gone out, and the last of them.
+type Told = (bool, usize, (u8, u32, usize));
+
+fn told(
+    neighbour: &mut Neighbour,
+    flags: u8,
+    number: u32,
+    database: &Lsdb,
+    out: &mut Outbox,
+    alloc: Global,
+) -> Result<Told, Fail> {
+    let taken = describes(neighbour, flags, number, database, out, alloc)?;
+    Ok((taken, count(out), last_description(out)?))
+}
+
+fn slave_told(
+    slave: &mut Neighbour,
+    database: &Lsdb,
+    alloc: Global,
+) -> Result<(Told, Told, Told), Fail> {
+    let mut out = outbox(alloc);
+    let first = told(slave, FIRST_OF_MASTER, 700, database, &mut out, alloc)?;
+    let second = told(slave, LAST_OF_MASTER, 701, database, &mut out, alloc)?;
+    let third = told(slave, LAST_OF_MASTER, 701, database, &mut out, alloc)?;
+    Ok((first, second, third))
+}
+
+fn slave_of_27(alloc: Global) -> Result<((Told, Told, Told), NeighbourState), Fail> {
+    let database = database_of(alloc, 27)?;
+    let mut slave = starting(alloc, 12)?;
+    let told = slave_told(&mut slave, &database, alloc)?;
+    Ok((told, slave.state()))
+}
+
 // 26 headers with M set, then one; and that last packet again where the master repeats its own.
 #[test]
 fn a_slave_with_27_lsas(rt: HostRuntime) -> Result<(), Fail> {
-    let alloc = rt.alloc();
-    let database = database_of(alloc, 27)?;
-    let mut slave = starting(alloc, 12)?;
-    let mut out = outbox(alloc);
-    assert!(rt; describes(&mut slave, FIRST_OF_MASTER, 700, &database, &mut out, alloc)?);
-    assert_eq!(rt; last_description(&out)?, (MORE, 700, 26));
-    for wanted in [2, 3] {
-        assert!(rt; describes(&mut slave, LAST_OF_MASTER, 701, &database, &mut out, alloc)?);
-        assert_eq!(rt; count(&out), wanted);
-        assert_eq!(rt; last_description(&out)?, (0, 701, 1));
-        assert_eq!(rt; slave.state(), NeighbourState::Full);
-    }
+    let ((first, second, third), state) = slave_of_27(rt.alloc())?;
+    assert_eq!(rt; first, (true, 1, (MORE, 700, 26)));
+    assert_eq!(rt; second, (true, 2, (0, 701, 1)));
+    assert_eq!(rt; third, (true, 3, (0, 701, 1)));
+    assert_eq!(rt; state, NeighbourState::Full);
     Ok(())
+}
+
+fn master_told(
+    master: &mut Neighbour,
+    database: &Lsdb,
+    alloc: Global,
+) -> Result<(Told, Told), Fail> {
+    let mut out = outbox(alloc);
+    let first = told(master, MORE, 300, database, &mut out, alloc)?;
+    let second = told(master, MORE, 300, database, &mut out, alloc)?;
+    Ok((first, second))
+}
+
+// How many datagrams go out again at a tick.
+fn repeat_count(
+    neighbour: &mut Neighbour,
+    tick: u64,
+    database: &Lsdb,
+    alloc: Global,
+) -> Result<usize, Fail> {
+    let (out, _) = repeats(neighbour, tick, database, alloc)?;
+    Ok(count(&out))
+}
+
+// Also the last of them, a Database Description.
+fn described_again(
+    master: &mut Neighbour,
+    tick: u64,
+    database: &Lsdb,
+    alloc: Global,
+) -> Result<(usize, (u8, u32, usize)), Fail> {
+    let (out, _) = repeats(master, tick, database, alloc)?;
+    Ok((count(&out), last_description(&out)?))
+}
+
+// A master that has one LSA, and a slave's packet twice; and what it sends at three ticks.
+fn master_of_one(
+    alloc: Global,
+) -> Result<((Told, Told), usize, (usize, (u8, u32, usize)), usize), Fail> {
+    let database = database_of(alloc, 1)?;
+    let mut master = starting(alloc, 3)?;
+    let told = master_told(&mut master, &database, alloc)?;
+    let early = repeat_count(&mut master, 11, &database, alloc)?;
+    let due = described_again(&mut master, 12, &database, alloc)?;
+    let again = repeat_count(&mut master, 16, &database, alloc)?;
+    Ok((told, early, due, again))
 }
 
 // The slave's packet again is passed over; the master sends its own again after RxmtInterval, and not a tick before.
 #[test]
 fn a_master_gets_one_again(rt: HostRuntime) -> Result<(), Fail> {
-    let alloc = rt.alloc();
-    let database = database_of(alloc, 1)?;
-    let mut master = starting(alloc, 3)?;
-    let mut out = outbox(alloc);
-    for _ in 0..2 {
-        assert!(rt; describes(&mut master, MORE, 300, &database, &mut out, alloc)?);
-        assert_eq!(rt; count(&out), 1);
-        assert_eq!(rt; last_description(&out)?, (LAST_OF_MASTER, 301, 1));
-    }
-    let (early, _) = repeats(&mut master, 11, &database, alloc)?;
-    assert_eq!(rt; count(&early), 0);
-    let (due, _) = repeats(&mut master, 12, &database, alloc)?;
-    assert_eq!(rt; count(&due), 1);
-    assert_eq!(rt; last_description(&due)?, (LAST_OF_MASTER, 301, 1));
-    let (again, _) = repeats(&mut master, 16, &database, alloc)?;
-    assert_eq!(rt; count(&again), 0);
+    let ((first, second), early, due, again) = master_of_one(rt.alloc())?;
+    assert_eq!(rt; first, (true, 1, (LAST_OF_MASTER, 301, 1)));
+    assert_eq!(rt; second, (true, 1, (LAST_OF_MASTER, 301, 1)));
+    assert_eq!(rt; early, 0);
+    assert_eq!(rt; due, (1, (LAST_OF_MASTER, 301, 1)));
+    assert_eq!(rt; again, 0);
     Ok(())
 }
 
 // ---- Requests
 
-#[test]
-fn a_request_has_44_entries(rt: HostRuntime) -> Result<(), Fail> {
-    let alloc = rt.alloc();
+fn asked(neighbour: &mut Neighbour, alloc: Global) -> Result<usize, Fail> {
+    let mut out = outbox(alloc);
+    request_turn(neighbour, &iface(), LOCAL, &mut out, alloc)?;
+    last_request(&out)
+}
+
+// How many datagrams go out again at a tick, how many keys are among them, and how many entries the last has, a Request.
+fn asked_again(
+    neighbour: &mut Neighbour,
+    tick: u64,
+    database: &Lsdb,
+    alloc: Global,
+) -> Result<(usize, usize, usize), Fail> {
+    let (out, keys) = repeats(neighbour, tick, database, alloc)?;
+    Ok((count(&out), keys, last_request(&out)?))
+}
+
+// A neighbour that has described 50 LSAs, and what it is asked at once and at two ticks.
+fn asked_of_50(alloc: Global) -> Result<(usize, usize, (usize, usize, usize)), Fail> {
     let database = Lsdb::new(alloc);
     let mut neighbour = loading(alloc, &headers_of(alloc, 50)?)?;
-    let mut out = outbox(alloc);
-    request_turn(&mut neighbour, &iface(), LOCAL, &mut out, alloc)?;
-    assert_eq!(rt; last_request(&out)?, 44);
-    let (early, _) = repeats(&mut neighbour, 11, &database, alloc)?;
-    assert_eq!(rt; count(&early), 0);
-    let (due, keys) = repeats(&mut neighbour, 12, &database, alloc)?;
-    assert_eq!(rt; (count(&due), keys), (1, 0));
-    assert_eq!(rt; last_request(&due)?, 44);
+    let first = asked(&mut neighbour, alloc)?;
+    let early = repeat_count(&mut neighbour, 11, &database, alloc)?;
+    let due = asked_again(&mut neighbour, 12, &database, alloc)?;
+    Ok((first, early, due))
+}
+
+#[test]
+fn a_request_has_44_entries(rt: HostRuntime) -> Result<(), Fail> {
+    let (first, early, due) = asked_of_50(rt.alloc())?;
+    assert_eq!(rt; first, 44);
+    assert_eq!(rt; early, 0);
+    assert_eq!(rt; due, (1, 0, 44));
     Ok(())
 }
 
-// Each key once, in order, as many in an Update as fit, three ticks older: 22 of 24 bytes in 528.
-#[test]
-fn a_request_is_answered(rt: HostRuntime) -> Result<(), Fail> {
-    let alloc = rt.alloc();
+// Where the first datagram goes, and what it and the last have, which are Updates.
+fn updates_in(out: &Outbox) -> Result<(Addr, (usize, u16, u32), (usize, u16, u32)), Fail> {
+    let sent = out.outputs().sent();
+    let first = sent.first().ok_or("nothing sent")?;
+    let last = sent.last().ok_or("nothing sent")?;
+    Ok((first.destination, update_in(first)?, update_in(last)?))
+}
+
+// What a Request of 24 keys, one of them twice, is answered with.
+fn answers_to_24(
+    alloc: Global,
+) -> Result<(usize, usize, (Addr, (usize, u16, u32), (usize, u16, u32))), Fail> {
     let database = database_of(alloc, 30)?;
     let mut neighbour = loading(alloc, &[])?;
     let mut out = outbox(alloc);
@@ -389,45 +480,74 @@ fn a_request_is_answered(rt: HostRuntime) -> Result<(), Fail> {
         24, 23, 22, 21, 20, 19, 18, 17, 16, 15, 14, 13, 12, 11, 10, 9, 8, 7, 6, 5, 4, 3, 2, 1, 24,
     ];
     let keys = requests(&mut neighbour, &routers, &database, &mut out, alloc)?;
-    assert_eq!(rt; (count(&out), keys), (2, 24));
-    let first = out.outputs().sent().first().ok_or("nothing sent")?;
-    assert_eq!(rt; first.destination, Addr(2));
-    assert_eq!(rt; update_in(first)?, (22, 13, 22));
-    let last = out.outputs().sent().last().ok_or("nothing sent")?;
-    assert_eq!(rt; update_in(last)?, (2, 13, 24));
+    Ok((count(&out), keys, updates_in(&out)?))
+}
+
+// Each key once, in order, as many in an Update as fit, three ticks older: 22 of 24 bytes in 528.
+#[test]
+fn a_request_is_answered(rt: HostRuntime) -> Result<(), Fail> {
+    let (datagrams, keys, (destination, first, last)) = answers_to_24(rt.alloc())?;
+    assert_eq!(rt; (datagrams, keys), (2, 24));
+    assert_eq!(rt; destination, Addr(2));
+    assert_eq!(rt; first, (22, 13, 22));
+    assert_eq!(rt; last, (2, 13, 24));
     Ok(())
 }
 
-#[test]
-fn a_missing_copy_begins_anew(rt: HostRuntime) -> Result<(), Fail> {
-    let alloc = rt.alloc();
+// What a Request for a copy that is not there comes to: datagrams and keys, the last datagram, and the neighbour's state.
+fn missing_copy(alloc: Global) -> Result<((usize, usize), (u8, u32, usize), NeighbourState), Fail> {
     let database = database_of(alloc, 3)?;
     let mut neighbour = loading(alloc, &[])?;
     let mut out = outbox(alloc);
     let keys = requests(&mut neighbour, &[1, 7], &database, &mut out, alloc)?;
-    assert_eq!(rt; (count(&out), keys), (1, 0));
-    assert_eq!(rt; last_description(&out)?, (FIRST_OF_MASTER, 301, 0));
-    assert_eq!(rt; neighbour.state(), NeighbourState::ExStart);
+    Ok((
+        (count(&out), keys),
+        last_description(&out)?,
+        neighbour.state(),
+    ))
+}
+
+#[test]
+fn a_missing_copy_begins_anew(rt: HostRuntime) -> Result<(), Fail> {
+    let (counts, last, state) = missing_copy(rt.alloc())?;
+    assert_eq!(rt; counts, (1, 0));
+    assert_eq!(rt; last, (FIRST_OF_MASTER, 301, 0));
+    assert_eq!(rt; state, NeighbourState::ExStart);
     Ok(())
 }
 
 // ---- retransmission lists
 
-// What is due goes out in one Update, and what is not stays. A copy that has gone is not sent.
-#[test]
-fn what_is_due_goes_again(rt: HostRuntime) -> Result<(), Fail> {
-    let alloc = rt.alloc();
+// How many datagrams go out again at a tick, how many keys are among them, and what the first has, an Update.
+fn updated_again(
+    neighbour: &mut Neighbour,
+    tick: u64,
+    database: &Lsdb,
+    alloc: Global,
+) -> Result<(usize, usize, (usize, u16, u32)), Fail> {
+    let (out, keys) = repeats(neighbour, tick, database, alloc)?;
+    let (_, first, _) = updates_in(&out)?;
+    Ok((count(&out), keys, first))
+}
+
+// A neighbour that some instances wait for, and what it is sent at three ticks.
+fn sent_to_one(alloc: Global) -> Result<(usize, (usize, usize, (usize, u16, u32)), usize), Fail> {
     let database = database_of(alloc, 4)?;
     let mut neighbour = loading(alloc, &[])?;
     lists(&mut neighbour, alloc)?;
-    let (early, _) = repeats(&mut neighbour, 11, &database, alloc)?;
-    assert_eq!(rt; count(&early), 0);
-    let (out, keys) = repeats(&mut neighbour, 12, &database, alloc)?;
-    assert_eq!(rt; (count(&out), keys), (1, 2));
-    let first = out.outputs().sent().first().ok_or("nothing sent")?;
-    assert_eq!(rt; update_in(first)?, (2, 13, 3));
-    let (again, _) = repeats(&mut neighbour, 13, &database, alloc)?;
-    assert_eq!(rt; count(&again), 1);
+    let early = repeat_count(&mut neighbour, 11, &database, alloc)?;
+    let due = updated_again(&mut neighbour, 12, &database, alloc)?;
+    let again = repeat_count(&mut neighbour, 13, &database, alloc)?;
+    Ok((early, due, again))
+}
+
+// What is due goes out in one Update, and what is not stays. A copy that has gone is not sent.
+#[test]
+fn what_is_due_goes_again(rt: HostRuntime) -> Result<(), Fail> {
+    let (early, due, again) = sent_to_one(rt.alloc())?;
+    assert_eq!(rt; early, 0);
+    assert_eq!(rt; due, (1, 2, (2, 13, 3)));
+    assert_eq!(rt; again, 1);
     Ok(())
 }
 
