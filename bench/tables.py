@@ -7,6 +7,7 @@ For each area the processor time, user and system, of the run of least time out 
 largest area also the peak of memory in megabytes. Needs rustc.
 """
 import os
+import random
 import subprocess
 import sys
 import tempfile
@@ -44,10 +45,17 @@ def layers(count, width):
     return dense(pairs, [at(0, a) for a in range(width)])
 
 
+def reordered(text, order):
+    lines = text.splitlines(True)
+    return "".join(order(lines))
+
+
 AREAS = {
     "1,000 routers": lambda: area.text(1000, 1),
     "5,000 routers": lambda: area.text(5000, 1),
     "20,000 routers": lambda: area.text(20000, 1),
+    "20,000 routers in falling order": lambda: reordered(area.text(20000, 1), lambda lines: lines[::-1]),
+    "20,000 routers in any order": lambda: reordered(area.text(20000, 1), lambda lines: random.Random(1).sample(lines, len(lines))),
     "1,000 routers of one metric, 16 links of the root": lambda: area.text(1000, 1, root_links=16, greatest_metric=1),
     "5,000 routers of two metrics, 16 links of the root": lambda: area.text(5000, 1, root_links=16, greatest_metric=2),
     "a clique of 300": lambda: clique(300),

@@ -1,3 +1,4 @@
+pub mod EntryLemmas
 pub mod HexText
 pub mod Lines
 pub mod Written

@@ -1,3 +1,4 @@
+pub mod Entries
 pub mod Line
 pub mod Fault
 pub mod Refusal

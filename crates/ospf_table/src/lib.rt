@@ -3,6 +3,7 @@
 //! `table_text` is the whole: it reads, calculates, publishes, writes and looks up.
 #![tactic(auto)]
 
+mod entries;
 mod line;
 mod lookup;
 mod table;

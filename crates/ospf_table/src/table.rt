@@ -8,6 +8,7 @@ ghost use Rattle.ospf_table.specs.Output.{IsAnswered, IsOutput, IsUnlisted, IsWa
 ghost use Rattle.ospf_table.specs.Line.{IsTaken, HasFault, Reads, Refuses};
 ghost use Rattle.ospf_table.specs.Refusal.{IsRefusalTold, refusal_line};
 
+use crate::entries::Entries;
 use crate::line::{LineFault, is_blank, lsa_of_line, without_end};
 use crate::lookup::{publish_once, write_lookups};
 use ospf_base::{Addr, Kind, LsaKey, MAX_AGE, RouterId};
@@ -138,11 +139,11 @@ impl From<Closed> for TableFault {
     }
 }
 
-// Lists the LSA of a text, unless the text is blank or the LSA is at `MAX_AGE`.
-fn list_entry(alloc: Global, listing: &mut Listing, text: &[u8]) -> Result<(), EntryFault>
-    ensures ok { OnOk result (IsTaken text.now listing.old listing.new) }
-    ensures err { OnErr result (listing.new ≡ listing.old) }
-    ensures fault { IfErr result (λ e. IsMemoryFault e ⊎ HasFault text.now listing.old e) }
+// Takes the LSA of a text, unless the text is blank or the LSA is at `MAX_AGE`.
+fn take_entry(alloc: Global, entries: &mut Entries, text: &[u8]) -> Result<(), EntryFault>
+    ensures ok { OnOk result (IsTaken text.now entries.old entries.new) }
+    ensures err { OnErr result (entries.new ≡ entries.old) }
+    ensures fault { IfErr result (λ e. IsMemoryFault e ⊎ HasFault text.now entries.old e) }
 {
     if is_blank(text) {
         return Ok(());
@@ -154,31 +155,43 @@ fn list_entry(alloc: Global, listing: &mut Listing, text: &[u8]) -> Result<(), E
     if lsa.view().header().age.ticks() == MAX_AGE {
         return Ok(());
     }
-    match listing.add(lsa) {
+    match entries.add(lsa) {
         Ok(()) => Ok(()),
         Err(fault) => Err(EntryFault::Listing(fault)),
     }
 }
 
 // The LSAs of the lines up to the end of the input.
-fn read_listing<R: BufRead + Drop>(alloc: Global, mut input: R) -> Result<Listing, TableFault>
-    ensures whole { IfOk result (λ listing. IfSome (R.remaining input) (λ bytes. Reads bytes [] listing)) }
+fn read_entries<R: BufRead + Drop>(alloc: Global, mut input: R) -> Result<Entries, TableFault>
+    ensures whole { IfOk result (λ entries. IfSome (R.remaining input) (λ bytes. Reads bytes [] entries)) }
     ensures refused { (n : ℕ) (f : EntryFault) → result ≡ Err (TableFault.Entry n f) → IfSome (R.remaining input) (λ bytes. Refuses bytes [] n f) }
 {
-    let mut listing = Listing::new(alloc);
+    let mut entries = Entries::new(alloc);
     let mut line = Vec::new(alloc);
     for number in 1..u64::MAX {
         line.clear();
         match input.read_until(b'\n', &mut line) {
-            Ok(0) => return Ok(listing),
+            Ok(0) => return Ok(entries),
             Ok(_) => {}
             Err(error) => return Err(TableFault::of_reading(error)),
         }
-        if let Err(fault) = list_entry(alloc, &mut listing, without_end(&line)) {
+        if let Err(fault) = take_entry(alloc, &mut entries, without_end(&line)) {
             return Err(TableFault::of_entry(number, fault));
         }
     }
     Err(TableFault::Failure(Failure::Input))
+}
+
+// The listing of the LSAs of the lines.
+fn read_listing<R: BufRead + Drop>(alloc: Global, input: R) -> Result<Listing, TableFault>
+    ensures whole { IfOk result (λ listing. IfSome (R.remaining input) (λ bytes. Reads bytes [] listing)) }
+    ensures refused { (n : ℕ) (f : EntryFault) → result ≡ Err (TableFault.Entry n f) → IfSome (R.remaining input) (λ bytes. Refuses bytes [] n f) }
+{
+    let entries = read_entries(alloc, input)?;
+    match entries.listing(alloc) {
+        Ok(listing) => Ok(listing),
+        Err(error) => Err(TableFault::from(error)),
+    }
 }
 
 // Whether LSAs are listed, and the router-LSA of the root is none of them.

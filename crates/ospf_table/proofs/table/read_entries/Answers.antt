@@ -3,14 +3,14 @@ use Rattle.ospf_table.specs.Line.{text_of}
 use Rattle.ospf_table.specs.declared.table.TableFault.TheVariants.{Entry, Failure}
 use Rattle.ospf_files.specs.declared.status.Failure.TheVariants as failure
 use Rattle.ospf_table.proofs.Lines.{ends_reads, leads_on, refused_here, not_memory, IsRead}
-use Rattle.ospf_table.proofs.table.read_listing.Goals as goal
+use Rattle.ospf_table.proofs.table.read_entries.Goals as goal
 
 pub returns-in-Ok-eq0-clause-whole : goal.returns-in-Ok-eq0-clause-whole
 returns-in-Ok-eq0-clause-whole g c =
     ends_reads _ (g.R.Read.remaining c.loop-number.input) _ _ c.loop-number.invariant (c.in-Ok-eq0.ensures.end (search rules))
 
-pub returns-in-Err-list_entry-clause-refused : goal.returns-in-Err-list_entry-clause-refused
-returns-in-Err-list_entry-clause-refused g c = λ n f e.
+pub returns-in-Err-take_entry-clause-refused : goal.returns-in-Err-take_entry-clause-refused
+returns-in-Err-take_entry-clause-refused g c = λ n f e.
     let line = c.read_until.new.buf.items in
     let made : c.of_entry.result ≡ Entry n f = cc in
     let bytes = rw c.clear.ensures.items at c.in-Ok.ensures.bytes in
@@ -19,7 +19,7 @@ returns-in-Err-list_entry-clause-refused g c = λ n f e.
       some = omega (arith, c.read_until.new.buf.ok.0, c.in-Ok.ensures.ok);
       text_is = c.without_end.ensures ∙ ap text_of c.deref.ensures.value;
     } in
-    elim c.in-Err-list_entry.ensures.fault [
+    elim c.in-Err-take_entry.ensures.fault [
       | inl m ↦ let no_memory : Failure failure.Memory ≡ Entry n f = sym (c.of_entry.ensures.memory m) ∙ made in cc
       | inr h ↦
           let entry = c.of_entry.ensures.entry (not_memory _ _ _ h) in

@@ -1,6 +1,0 @@
-use Rattle.std.proofs.Common.{IfSome}
-use Rattle.ospf_table.proofs.Lines.{LeadsTo}
-use Rattle.ospf_table.proofs.table.read_listing.Given as goal
-
-abbrev pub invariant-loop-number : goal.invariant-loop-number
-invariant-loop-number g l = IfSome (g.R.Read.remaining l.fn.input) (λ whole. LeadsTo whole (g.R.Read.remaining l.input) l.listing l.number)
