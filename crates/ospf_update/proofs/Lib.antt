@@ -9,3 +9,4 @@ pub mod ShortLemmas
 pub mod NumberLemmas
 pub mod BringLemmas
 pub mod ReachLemmas
+pub mod TurnLemmas

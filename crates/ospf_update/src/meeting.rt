@@ -8,7 +8,7 @@ ghost use Rattle.ospf_lsa.specs.Header.{header_of};
 ghost use Rattle.ospf_lsa.specs.Lsa.{key_of, instance_of};
 ghost use Rattle.ospf_area.specs.Flooding.{flooded_back, flooding_updates, goes_anywhere, released};
 ghost use Rattle.ospf_area.specs.Numbers.{marked};
-ghost use Rattle.ospf_update.specs.Meets.{flooded_area, InstallsIn, store_updates, Stores, rule_met, heard_by, Admits, AnswersExpired, RestartsExchange, first_description, first_dd_on, duplicated, reply_to, lsa_out_on, Replies, MeetsLsa, named_by, header_met};
+ghost use Rattle.ospf_update.specs.Meets.{flooded_area, InstallsIn, store_updates, Stores, rule_met, heard_by, Admits, AnswersExpired, RestartsExchange, first_description, first_dd_on, duplicated, reply_to, lsa_out_on, Replies, MeetsRule, MeetsLsa, named_by, header_met};
 ghost use Rattle.ospf_area.specs.Outputs.{and_takes};
 ghost use Rattle.ospf_packet.specs.Meaning as meaning;
 ghost use Rattle.ospf_packet.specs.Said.{meant};
@@ -354,6 +354,29 @@ fn reply(
     mark(&mut area.sent, key, true)
 }
 
+/// Does what a rule says to an LSA of an Update from the neighbour of the origin (section 13).
+///
+/// `AllocError` where memory runs out; then the router is to be stopped.
+pub(crate) fn follow(
+    rule: Option<LsaRule>,
+    area: &mut Area,
+    from: Origin,
+    lsa: &LsaView,
+    out: &mut Outputs,
+    alloc: Global,
+) -> Result<(), AllocError>
+    ensures { OnOk result (MeetsRule rule from lsa.now area.old out.old out.new area.new) }
+{
+    match rule {
+        None | Some(LsaRule::TooSoon) => Ok(()),
+        Some(LsaRule::AcknowledgesExpired) => on_expired(area, from, lsa, out),
+        Some(LsaRule::Installs) => admit(area, from, lsa, out, alloc),
+        Some(LsaRule::BadRequest) => restart(area, from, out, alloc),
+        Some(LsaRule::Duplicate) => on_same(area, from, lsa),
+        Some(LsaRule::Stale) => reply(area, from, lsa.key(), out, alloc),
+    }
+}
+
 /// Takes an LSA of an Update from the neighbour of the origin (section 13).
 ///
 /// `AllocError` where memory runs out; then the router is to be stopped.
@@ -366,12 +389,6 @@ pub fn on_lsa(
 ) -> Result<(), AllocError>
     ensures { OnOk result (MeetsLsa from lsa.now area.old out.old out.new area.new) }
 {
-    match rule_met(area, from, lsa) {
-        None | Some(LsaRule::TooSoon) => Ok(()),
-        Some(LsaRule::AcknowledgesExpired) => on_expired(area, from, lsa, out),
-        Some(LsaRule::Installs) => admit(area, from, lsa, out, alloc),
-        Some(LsaRule::BadRequest) => restart(area, from, out, alloc),
-        Some(LsaRule::Duplicate) => on_same(area, from, lsa),
-        Some(LsaRule::Stale) => reply(area, from, lsa.key(), out, alloc),
-    }
+    let rule = rule_met(area, from, lsa);
+    follow(rule, area, from, lsa, out, alloc)
 }

@@ -757,3 +757,50 @@ fn a_bad_request_begins_anew(rt: HostRuntime) -> Result<(), Fail> {
     );
     Ok(())
 }
+
+// ---- an Update of LSAs that the router has
+
+// An Update with router 7's LSA three times, and router 8's behind it.
+fn repeating_update(alloc: Global) -> Result<Vec<u8>, Fail> {
+    let mut lsas = Vec::new(alloc);
+    for router in [7, 7, 7, 8] {
+        lsas.push(lsa_of(alloc, router, FIRST, 10)?)?;
+    }
+    update_of(alloc, lsas)
+}
+
+fn is_request(bytes: &[u8]) -> Result<bool, Fail> {
+    let packet = Packet::read(bytes)?;
+    Ok(matches!(packet.body, Body::Request(_)))
+}
+
+// How many Requests went out.
+fn requested(out: &Outputs) -> Result<usize, Fail> {
+    let mut count: usize = 0;
+    for sent in out.sent() {
+        if is_request(&sent.bytes)? {
+            count = count.wrapping_add(1);
+        }
+    }
+    Ok(count)
+}
+
+// Takes the repeating Update. Answers how many Requests went out.
+fn takes_repeating(area: &mut Area, alloc: Global) -> Result<usize, Fail> {
+    let bytes = repeating_update(alloc)?;
+    let mut out = Outputs::new(alloc);
+    takes_bytes(area, FROM_THIRD, &bytes, &mut out, alloc)?;
+    requested(&out)
+}
+
+// Neighbour 3 is asked once for what it has described, and is Full once that has come behind the others.
+#[test]
+fn asks_once_while_lsas_repeat(rt: HostRuntime) -> Result<(), Fail> {
+    let alloc = rt.alloc();
+    let mut area = loading_area(8, FIRST, alloc)?;
+    installs(&mut area, FIRST, 10, alloc)?;
+    let requests = takes_repeating(&mut area, alloc)?;
+    let state = state_of(&area, FROM_THIRD);
+    assert_eq!(rt; (requests, state), (1, Some(NeighbourState::Full)));
+    Ok(())
+}

@@ -1,10 +1,12 @@
+use Rattle.std.proofs.Common.{◌≡◌, true}
 use Rattle.ospf_area.specs.Outputs.{OutputsValue}
 use Rattle.ospf_area.specs.State.{AreaValue}
-use Rattle.ospf_update.specs.Updates.{TakesSlices}
+use Rattle.ospf_update.specs.Updates.{IsTurned, TakesSlices}
 use Rattle.ospf_update.proofs.updates.take_slices.Given as goal
 
 abbrev pub invariant-loop-bytes : goal.invariant-loop-bytes
 invariant-loop-bytes l =
     (goal.iterator-loop-bytes).can_next l.bytes-iterator ×
     (goal.iterator-loop-bytes).is_finite l.bytes-iterator ×
+    (l.is_turned ≡ true → IsTurned l.area) ×
     ((o : OutputsValue) (s : AreaValue) → TakesSlices l.from l.bytes-iterator l.area l.out o s → TakesSlices l.from l.fn.lsas l.fn.area l.fn.out o s)
