@@ -13,7 +13,7 @@ use Rattle.ospf_neighbour.specs.declared.machine.NbrEvent.{NbrEvent}
 use Rattle.ospf_neighbour.specs.declared.machine.NbrEvent.TheVariants.{NegotiationDone}
 use Rattle.ospf_packet.specs.Meaning.{BodyMeaning, hello, description, request, update, acknowledgment}
 use Rattle.ospf_packet.specs.declared.body.Description.{Description}
-use Rattle.ospf_exchange.specs.Laws.{HasHeader, HasInstance}
+use Rattle.ospf_exchange.specs.Laws.{HasHeader, HasInstance, KeepsRouter}
 use Rattle.ospf_exchange.specs.declared.rule.Local.{Local}
 use Rattle.ospf_adjacency.specs.Adjacency.{event_taken}
 use Rattle.ospf_adjacency.specs.Descriptions.{Turn, event_turn, request_turn, description_turn, dd_dropped}
@@ -31,11 +31,6 @@ pub record GoesOn (db : List Held) (told : List LsaHeader) (n m : NeighbourValue
 -- it does not enter Exchange
 abbrev pub NeverEnters : NeighbourValue → NeighbourValue → Type 0
 NeverEnters n m = is_exchanging m.state ≡ true → is_exchanging n.state ≡ true
-
--- it stays the neighbour that it is
-pub record IsSameRouter (n m : NeighbourValue) : Type 0 where
-  pub router : m.router ≡ n.router
-  pub address : m.address ≡ n.address
 
 -- the lists are as they were
 pub record SameLists (n m : NeighbourValue) : Type 0 where
@@ -68,7 +63,7 @@ OnlyNegotiationEnters = (e : NbrEvent) (dead next tick : ℕ) (n : NeighbourValu
 
 -- an event makes no other neighbour of it
 abbrev pub EventsKeepRouters : Type 0
-EventsKeepRouters = (e : NbrEvent) (dead next tick : ℕ) (n : NeighbourValue) → IsSameRouter n (event_taken e dead next tick n)
+EventsKeepRouters = (e : NbrEvent) (dead next tick : ℕ) (n : NeighbourValue) → KeepsRouter n (event_taken e dead next tick n)
 
 -- what keeps its lists goes on
 abbrev pub KeptGoesOn : Type 0
@@ -124,4 +119,4 @@ DescriptionSaysOnly = (i : Iface) (local : Local) (sender : RouterId) (d : Descr
 
 abbrev pub DescriptionKeepsRouter : Type 0
 DescriptionKeepsRouter = (i : Iface) (local : Local) (sender : RouterId) (d : Description) (headers : List LsaHeader) (db : List Held) (t : Turn)
-    → IsSameRouter t.neighbour (description_turn i local sender d headers db t).neighbour
+    → KeepsRouter t.neighbour (description_turn i local sender d headers db t).neighbour

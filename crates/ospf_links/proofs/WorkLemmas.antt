@@ -27,7 +27,7 @@ use Rattle.ospf_area.specs.Outputs.{OutputsValue, SentValue}
 use Rattle.ospf_area.specs.Sending.{and_sends}
 use Rattle.ospf_area.specs.State.{LinkValue}
 use Rattle.ospf_area.specs.declared.sending.Own.{Own}
-use Rattle.ospf_adjacency.specs.Laws.{IsSameRouter}
+use Rattle.ospf_exchange.specs.Laws.{KeepsRouter}
 use Rattle.ospf_links.specs.Parts.{description_by, description_on}
 use Rattle.ospf_links.specs.Works.{work_sent, work_sent_on, up_out_on}
 
@@ -78,7 +78,7 @@ described_found i local q d hs db ns next next' k before after e m elects at the
     ∙ ap (λ o. description_by o i local q d hs db x) (sym (is_found ns k q e at there e_is)))
     is.sent
 
-same_is : (n m : NeighbourValue) → IsSameRouter n m → n.router ≡ m.router
+same_is : (n m : NeighbourValue) → KeepsRouter n m → n.router ≡ m.router
 same_is n m e = sym e.router
 
 -- a Database Description makes no other neighbour of one

@@ -23,7 +23,8 @@ use Rattle.ospf_exchange.specs.declared.rule.Local.{Local}
 use Rattle.ospf_area.specs.Sending.{sent_lsa, to_address}
 use Rattle.ospf_adjacency.specs.Adjacency.{event_taken}
 use Rattle.ospf_adjacency.specs.Descriptions.{Turn, event_turn, dd_turn, touched}
-use Rattle.ospf_adjacency.specs.Laws.{GoesOn, KeepsLists, NeverEnters, IsSameRouter, SaysOnly}
+use Rattle.ospf_adjacency.specs.Laws.{GoesOn, KeepsLists, NeverEnters, SaysOnly}
+use Rattle.ospf_exchange.specs.Laws.{KeepsRouter}
 use Rattle.ospf_adjacency.specs.Packets.{Parcel, dd_parcel, request_parcel}
 use Rattle.ospf_adjacency.proofs.MemberLemmas.{cons_cases, cons_first, cons_rest, map_from, none_of_nil}
 use Rattle.ospf_adjacency.proofs.LawLemmas.{event_keeps}
@@ -173,7 +174,7 @@ kept_goes db told n m keeps = first_of (search rules, grind (arith, common_steps
 bad_enters : (i : Iface) (next tick : ℕ) (n : NeighbourValue) → NeverEnters n (event_taken BadLsReq i.settings.dead next tick n)
 bad_enters i next tick n = first_of (search rules, grind (arith, common_steps))
 
-bad_same : (i : Iface) (next tick : ℕ) (n : NeighbourValue) → IsSameRouter n (event_taken BadLsReq i.settings.dead next tick n)
+bad_same : (i : Iface) (next tick : ℕ) (n : NeighbourValue) → KeepsRouter n (event_taken BadLsReq i.settings.dead next tick n)
 bad_same i next tick n = first_of (search rules, grind (arith, common_steps))
 
 answer_by : (held : Bool) (i : Iface) (local : Local) (delay : ℕ) (db : List Held) (keys : List LsaKey) (t : Turn)

@@ -10,7 +10,8 @@ use Rattle.ospf_packet.specs.declared.entry.RequestEntry.{RequestEntry}
 use Rattle.ospf_exchange.specs.declared.rule.Local.{Local}
 use Rattle.ospf_area.specs.Sending.{sent_lsa}
 use Rattle.ospf_adjacency.specs.Descriptions.{Turn}
-use Rattle.ospf_adjacency.specs.Laws.{GoesOn, NeverEnters, IsSameRouter, SaysOnly}
+use Rattle.ospf_adjacency.specs.Laws.{GoesOn, NeverEnters, SaysOnly}
+use Rattle.ospf_exchange.specs.Laws.{KeepsRouter}
 use Rattle.ospf_adjacency.specs.Packets.{Parcel}
 use Rattle.ospf_resend.specs.Answers.{answer_turn}
 use Rattle.ospf_resend.specs.Repeats.{repeats_turn}
@@ -31,7 +32,7 @@ HasCopiesOnly db delay n (acknowledgment headers) = ⊥
 pub record IsQuiet (db : List Held) (delay : ℕ) (t u : Turn) : Type 0 where
   pub goes : (told : List LsaHeader) → GoesOn db told t.neighbour u.neighbour
   pub enters : NeverEnters t.neighbour u.neighbour
-  pub same : IsSameRouter t.neighbour u.neighbour
+  pub same : KeepsRouter t.neighbour u.neighbour
   pub sends : (p : Parcel) → Contains u.sent p → Contains t.sent p ⊎ HasCopiesOnly db delay t.neighbour p.body
 
 -- a Request that is answered, or not
