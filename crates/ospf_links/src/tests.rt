@@ -12,10 +12,11 @@ use crate::{
     count_timers, elect, repeat_all, send_hellos, take_description, take_down, take_hello,
     take_request, take_up,
 };
+use ospf_adjacency::Outbox;
 use ospf_area::{Area, Link, LinkSettings, Origin, Outputs, Sent, flood, origin_of, own_of};
 use ospf_base::{ALL_SPF_ROUTERS, Addr, AreaId, InterfaceKind, RouterId};
 use ospf_iface::{Iface, IfaceSettings, IfaceState};
-use ospf_lsa::{Link as LsaLink, LinkKind, Lsa};
+use ospf_lsa::{Link as LsaLink, LinkKind, Lsa, LsaView};
 use ospf_lsdb::Lsdb;
 use ospf_neighbour::{NeighbourState, Neighbours};
 use ospf_packet::{
@@ -271,6 +272,19 @@ fn next_dd(router: &Router) -> u32 {
     router.area.next_dd
 }
 
+// Whether its interface, a neighbour, and how many datagrams it has sent are these.
+fn stands(
+    router: &Router,
+    elected: (IfaceState, Addr, Addr),
+    from: Origin,
+    state: Option<NeighbourState>,
+    count: usize,
+) -> bool {
+    iface_state(router) == Some(elected)
+        && neighbour_state(router, from) == state
+        && count_sent(router) == count
+}
+
 // The bytes of a hexadecimal text, whose spaces and ends of lines mean nothing.
 fn bytes_of(alloc: Global, text: &str) -> Result<Vec<u8>, AllocError> {
     let mut bytes = Vec::new(alloc);
@@ -289,10 +303,16 @@ fn bytes_of(alloc: Global, text: &str) -> Result<Vec<u8>, AllocError> {
 }
 
 // Whether a datagram that a router has sent has these bytes.
-fn is_sent(router: &Router, place: usize, text: &str, alloc: Global) -> Result<bool, Fail> {
-    let sent = router.out.sent().get(place).ok_or("nothing sent")?;
+fn is_sent(router: &Router, place: usize, text: &str, alloc: Global) -> Result<bool, AllocError> {
     let bytes = bytes_of(alloc, text)?;
-    Ok(sent.bytes.as_slice() == bytes.as_slice())
+    Ok(is_sent_as(router, place, &bytes))
+}
+
+fn is_sent_as(router: &Router, place: usize, bytes: &[u8]) -> bool {
+    match router.out.sent().get(place) {
+        Some(sent) => sent.bytes.as_slice() == bytes,
+        None => false,
+    }
 }
 
 // Whether two datagrams that a router has sent have the same bytes.
@@ -359,17 +379,21 @@ fn said(bytes: &[u8]) -> Result<Says, Fail> {
     }
 }
 
-// What a router has sent from a place on.
-fn sent_from(router: &Router, place: usize, alloc: Global) -> Result<Vec<Says>, Fail> {
-    let mut all = Vec::new(alloc);
-    for sent in router.out.sent().iter().skip(place) {
-        all.push(said(&sent.bytes)?)?;
-    }
-    Ok(all)
+fn is_said(sent: &Sent, wanted: Says) -> Result<bool, Fail> {
+    Ok(said(&sent.bytes)? == wanted)
 }
 
-fn sends(router: &Router, place: usize, wanted: &[Says], alloc: Global) -> Result<bool, Fail> {
-    Ok(sent_from(router, place, alloc)?.as_slice() == wanted)
+// Whether this is what a router has sent from a place on.
+fn sends(router: &Router, place: usize, wanted: &[Says]) -> Result<bool, Fail> {
+    if count_sent(router) != place.wrapping_add(wanted.len()) {
+        return Ok(false);
+    }
+    for (sent, says) in router.out.sent().iter().skip(place).zip(wanted) {
+        if !is_said(sent, *says)? {
+            return Ok(false);
+        }
+    }
+    Ok(true)
 }
 
 // ---- two routers
@@ -440,11 +464,15 @@ fn pass_all(pair: &mut Pair, all: &[To], alloc: Global) -> Result<(), Fail> {
     Ok(())
 }
 
-// Their link comes up, and they hear each other's first Hello.
-fn linked(alloc: Global, mtu: u16) -> Result<Pair, Fail> {
+fn pair_of(alloc: Global, mtu: u16) -> Result<Pair, Fail> {
     let first = router_of(alloc, point_to_point(FIRST, 0x0a00_0001), mtu, 100)?;
     let second = router_of(alloc, point_to_point(SECOND, 0x0a00_0002), mtu, 200)?;
-    let mut pair = Pair { first, second };
+    Ok(Pair { first, second })
+}
+
+// Their link comes up, and they hear each other's first Hello.
+fn linked(alloc: Global, mtu: u16) -> Result<Pair, Fail> {
+    let mut pair = pair_of(alloc, mtu)?;
     link_up(&mut pair, alloc)?;
     Ok(pair)
 }
@@ -474,21 +502,37 @@ fn meet(pair: &mut Pair, alloc: Global) -> Result<(), Fail> {
 fn have_met(pair: &Pair, alloc: Global) -> Result<bool, Fail> {
     let wanted = [Says::Greets(0), Says::Greets(1), Says::Describes(7, 100, 0)];
     Ok(
-        sends(&pair.first, 0, &wanted, alloc)?
+        sends(&pair.first, 0, &wanted)?
             && is_sent(&pair.first, 0, HELLO, alloc)?
             && is_sent(&pair.second, 2, DESCRIPTION, alloc)?,
     )
 }
 
+// Whether each is in Init at the other before that; whether they then have sent what they should; the DD numbers that follow;
+// and whether each is in ExStart at the other.
+type Meeting = (bool, bool, [u32; 2], bool);
+
+fn met_by(pair: &mut Pair, alloc: Global) -> Result<Meeting, Fail> {
+    let linked = are_in(pair, NeighbourState::Init, NeighbourState::Init);
+    meet(pair, alloc)?;
+    let sent = have_met(pair, alloc)?;
+    let numbers = [next_dd(&pair.first), next_dd(&pair.second)];
+    let begun = are_in(pair, NeighbourState::ExStart, NeighbourState::ExStart);
+    Ok((linked, sent, numbers, begun))
+}
+
+fn meeting(alloc: Global) -> Result<Meeting, Fail> {
+    let mut pair = linked(alloc, 1500)?;
+    met_by(&mut pair, alloc)
+}
+
 #[test]
 fn two_routers_meet(rt: HostRuntime) -> Result<(), Fail> {
-    let alloc = rt.alloc();
-    let mut pair = linked(alloc, 1500)?;
-    assert!(rt; are_in(&pair, NeighbourState::Init, NeighbourState::Init));
-    meet(&mut pair, alloc)?;
-    assert!(rt; have_met(&pair, alloc)?);
-    assert_eq!(rt; [next_dd(&pair.first), next_dd(&pair.second)], [101, 201]);
-    assert!(rt; are_in(&pair, NeighbourState::ExStart, NeighbourState::ExStart));
+    let (linked, sent, numbers, begun) = meeting(rt.alloc())?;
+    assert!(rt; linked);
+    assert!(rt; sent);
+    assert_eq!(rt; numbers, [101, 201]);
+    assert!(rt; begun);
     Ok(())
 }
 
@@ -501,10 +545,14 @@ fn met(alloc: Global) -> Result<Pair, Fail> {
 
 fn prepare(pair: &mut Pair, alloc: Global) -> Result<(), Fail> {
     meet(pair, alloc)?;
-    let lsa = lsa_of(alloc, FIRST, SECOND, 0x0a00_0001)?;
-    pair.first.area.database.install(lsa, 0, false)?;
-    let lsa = lsa_of(alloc, SECOND, FIRST, 0x0a00_0002)?;
-    pair.second.area.database.install(lsa, 0, false)?;
+    installs(&mut pair.first, FROM_FIRST, SECOND, alloc)?;
+    installs(&mut pair.second, FROM_SECOND, FIRST, alloc)
+}
+
+// A router's own LSA, of its link to another.
+fn installs(router: &mut Router, own: Origin, other: RouterId, alloc: Global) -> Result<(), Fail> {
+    let lsa = lsa_of(alloc, own.router, other, own.address.0)?;
+    router.area.database.install(lsa, 0, false)?;
     Ok(())
 }
 
@@ -529,21 +577,32 @@ fn have_exchanged(pair: &Pair, alloc: Global) -> Result<bool, Fail> {
     ];
     let second = [Says::Describes(1, 201, 1), Says::Requests(1)];
     Ok(
-        sends(&pair.first, 3, &first, alloc)?
-            && sends(&pair.second, 3, &second, alloc)?
+        sends(&pair.first, 3, &first)?
+            && sends(&pair.second, 3, &second)?
             && is_sent(&pair.first, 5, REQUEST, alloc)?
             && is_sent(&pair.first, 6, UPDATE, alloc)?,
     )
 }
 
+// Whether they have sent what they should, how many keys are marked at 1.1.1.1, and whether each is in Loading at the other.
+fn exchanged_by(pair: &mut Pair, alloc: Global) -> Result<(bool, usize, bool), Fail> {
+    exchange(pair, alloc)?;
+    let sent = have_exchanged(pair, alloc)?;
+    let loading = are_in(pair, NeighbourState::Loading, NeighbourState::Loading);
+    Ok((sent, count_marked(&pair.first), loading))
+}
+
+fn exchanging(alloc: Global) -> Result<(bool, usize, bool), Fail> {
+    let mut pair = met(alloc)?;
+    exchanged_by(&mut pair, alloc)
+}
+
 #[test]
 fn two_routers_exchange(rt: HostRuntime) -> Result<(), Fail> {
-    let alloc = rt.alloc();
-    let mut pair = met(alloc)?;
-    exchange(&mut pair, alloc)?;
-    assert!(rt; have_exchanged(&pair, alloc)?);
-    assert_eq!(rt; count_marked(&pair.first), 1);
-    assert!(rt; are_in(&pair, NeighbourState::Loading, NeighbourState::Loading));
+    let (sent, marked, loading) = exchanging(rt.alloc())?;
+    assert!(rt; sent);
+    assert_eq!(rt; marked, 1);
+    assert!(rt; loading);
     Ok(())
 }
 
@@ -571,23 +630,41 @@ fn describes(router: &mut Router, from: Origin, flags: u8, alloc: Global) -> Res
     hears(router, from, &bytes, alloc)
 }
 
-// The last packet of each comes again.
-fn repeat_both(pair: &mut Pair, alloc: Global) -> Result<(), Fail> {
+// The last packet of each comes again: how many datagrams each has sent, and whether the slave sent the same.
+fn repeat_both(pair: &mut Pair, alloc: Global) -> Result<([usize; 2], bool), Fail> {
     pass_all(pair, &NEGOTIATION, alloc)?;
-    pass_all(pair, &[To::First(2), To::Second(3)], alloc)
+    pass_all(pair, &[To::First(2), To::Second(3)], alloc)?;
+    Ok((counts_sent(pair), are_same(&pair.first, 3, 4)))
+}
+
+// A packet comes that does not follow: whether the master sends its first, and is in ExStart.
+fn begin_anew(master: &mut Router, alloc: Global) -> Result<(bool, bool), Fail> {
+    describes(master, FROM_FIRST, 0, alloc)?;
+    let sent = sends(master, 5, &[Says::Describes(7, 201, 0)])?;
+    Ok((sent, is_in(master, FROM_FIRST, NeighbourState::ExStart)))
+}
+
+// How many datagrams each has sent when the last of each came again; whether the slave sent the same; whether the master
+// begins anew.
+type Repeats = ([usize; 2], bool, (bool, bool));
+
+fn repeated_by(pair: &mut Pair, alloc: Global) -> Result<Repeats, Fail> {
+    let (sent, same) = repeat_both(pair, alloc)?;
+    Ok((sent, same, begin_anew(&mut pair.second, alloc)?))
+}
+
+fn repeating(alloc: Global) -> Result<Repeats, Fail> {
+    let mut pair = met(alloc)?;
+    repeated_by(&mut pair, alloc)
 }
 
 // The slave repeats its last, the master passes over one that comes again, and begins anew by one that does not follow.
 #[test]
 fn descriptions_come_again(rt: HostRuntime) -> Result<(), Fail> {
-    let alloc = rt.alloc();
-    let mut pair = met(alloc)?;
-    repeat_both(&mut pair, alloc)?;
-    assert_eq!(rt; counts_sent(&pair), [5, 5]);
-    assert!(rt; are_same(&pair.first, 3, 4));
-    describes(&mut pair.second, FROM_FIRST, 0, alloc)?;
-    assert!(rt; sends(&pair.second, 5, &[Says::Describes(7, 201, 0)], alloc)?);
-    assert!(rt; is_in(&pair.second, FROM_FIRST, NeighbourState::ExStart));
+    let (sent, same, begun) = repeating(rt.alloc())?;
+    assert_eq!(rt; sent, [5, 5]);
+    assert!(rt; same);
+    assert_eq!(rt; begun, (true, true));
     Ok(())
 }
 
@@ -617,42 +694,55 @@ fn fill_both(pair: &mut Pair, alloc: Global) -> Result<(), Fail> {
     fill(&mut pair.second, 1000, 53, alloc)
 }
 
-fn exchange_many(pair: &mut Pair, alloc: Global) -> Result<(), Fail> {
+const SLAVE_SENDS: [Says; 5] = [
+    Says::Describes(2, 200, 26),
+    Says::Describes(0, 201, 1),
+    Says::Requests(26),
+    Says::Describes(0, 202, 0),
+    Says::Requests(44),
+];
+
+const MASTER_SENDS: [Says; 3] = [
+    Says::Describes(3, 201, 26),
+    Says::Requests(26),
+    Says::Describes(3, 202, 26),
+];
+
+// Whether the slave, and the master, have sent what they should.
+fn exchange_many(pair: &mut Pair, alloc: Global) -> Result<(bool, bool), Fail> {
     pass_all(pair, &NEGOTIATION, alloc)?;
     pass_all(pair, &SLAVE_ENDS, alloc)?;
-    wait_for(&mut pair.first, 5, alloc)
+    wait_for(&mut pair.first, 5, alloc)?;
+    let slave = sends(&pair.first, 3, &SLAVE_SENDS)?;
+    Ok((slave, sends(&pair.second, 3, &MASTER_SENDS)?))
+}
+
+fn exchanging_many(alloc: Global) -> Result<(bool, bool), Fail> {
+    let mut pair = filled(alloc)?;
+    exchange_many(&mut pair, alloc)
 }
 
 // At MTU 576: 26 headers and then one, and a Request of 44 entries of 52.
 #[test]
 fn what_fits_a_small_mtu(rt: HostRuntime) -> Result<(), Fail> {
-    let alloc = rt.alloc();
-    let mut pair = filled(alloc)?;
-    exchange_many(&mut pair, alloc)?;
-    let slave = [
-        Says::Describes(2, 200, 26),
-        Says::Describes(0, 201, 1),
-        Says::Requests(26),
-        Says::Describes(0, 202, 0),
-        Says::Requests(44),
-    ];
-    assert!(rt; sends(&pair.first, 3, &slave, alloc)?);
-    let master = [
-        Says::Describes(3, 201, 26),
-        Says::Requests(26),
-        Says::Describes(3, 202, 26),
-    ];
-    assert!(rt; sends(&pair.second, 3, &master, alloc)?);
+    let (slave, master) = exchanging_many(rt.alloc())?;
+    assert!(rt; slave);
+    assert!(rt; master);
     Ok(())
 }
 
 // An LSA of 1.1.1.1 is flooded.
 fn floods(router: &mut Router, alloc: Global) -> Result<(), Fail> {
     let lsa = lsa_of(alloc, FIRST, SECOND, 0x0a00_0001)?;
+    floods_copy(router, &lsa.view(), alloc)?;
+    Ok(())
+}
+
+fn floods_copy(router: &mut Router, lsa: &LsaView, alloc: Global) -> Result<(), AllocError> {
     let own = own_of(&router.area);
     flood(
         &mut router.area.links,
-        &lsa.view(),
+        lsa,
         None,
         own,
         &mut router.out,
@@ -661,36 +751,72 @@ fn floods(router: &mut Router, alloc: Global) -> Result<(), Fail> {
     Ok(())
 }
 
+// How many datagrams each has sent after so many ticks of 2.2.2.2.
+fn sent_after(pair: &mut Pair, count: usize, alloc: Global) -> Result<[usize; 2], Fail> {
+    wait_for(&mut pair.second, count, alloc)?;
+    Ok(counts_sent(pair))
+}
+
+// How many after four ticks, after one more and after four more; and whether its last is the same as the one before.
+type Waits = ([usize; 2], [usize; 2], [usize; 2], bool);
+
+fn waited_by(pair: &mut Pair, alloc: Global) -> Result<Waits, Fail> {
+    let early = sent_after(pair, 4, alloc)?;
+    let due = sent_after(pair, 1, alloc)?;
+    let later = sent_after(pair, 4, alloc)?;
+    Ok((early, due, later, are_same(&pair.second, 2, 3)))
+}
+
+fn waiting(alloc: Global) -> Result<Waits, Fail> {
+    let mut pair = met(alloc)?;
+    waited_by(&mut pair, alloc)
+}
+
 // The first packet in ExStart goes out again after RxmtInterval and not a tick before.
 #[test]
 fn descriptions_are_repeated(rt: HostRuntime) -> Result<(), Fail> {
-    let alloc = rt.alloc();
-    let mut pair = met(alloc)?;
-    for (count, sent) in [(4, [3, 3]), (1, [3, 4]), (4, [3, 4])] {
-        wait_for(&mut pair.second, count, alloc)?;
-        assert_eq!(rt; counts_sent(&pair), sent);
-    }
-    assert!(rt; are_same(&pair.second, 2, 3));
+    let (early, due, later, same) = waiting(rt.alloc())?;
+    assert_eq!(rt; early, [3, 3]);
+    assert_eq!(rt; due, [3, 4]);
+    assert_eq!(rt; later, [3, 4]);
+    assert!(rt; same);
     Ok(())
 }
 
+// How many keys are marked as sent after so many ticks.
+fn marked_after(router: &mut Router, count: usize, alloc: Global) -> Result<usize, Fail> {
+    wait_for(router, count, alloc)?;
+    Ok(count_marked(router))
+}
+
 // So does an LSA that is not acknowledged: how many keys are marked as sent in the tick before, and in its own.
-fn flood_and_wait(pair: &mut Pair, alloc: Global) -> Result<[usize; 2], Fail> {
+fn flood_and_wait(router: &mut Router, alloc: Global) -> Result<[usize; 2], Fail> {
+    floods(router, alloc)?;
+    let before = marked_after(router, 4, alloc)?;
+    Ok([before, marked_after(router, 1, alloc)?])
+}
+
+// Whether an Update went out, and the same again.
+fn sent_twice(router: &Router, alloc: Global) -> Result<bool, AllocError> {
+    Ok(is_sent(router, 4, UPDATE, alloc)? && are_same(router, 4, 5))
+}
+
+fn updated_by(pair: &mut Pair, alloc: Global) -> Result<([usize; 2], bool), Fail> {
     pass(pair, To::First(2), alloc)?;
-    floods(&mut pair.first, alloc)?;
-    wait_for(&mut pair.first, 4, alloc)?;
-    let before = count_marked(&pair.first);
-    wait_for(&mut pair.first, 1, alloc)?;
-    Ok([before, count_marked(&pair.first)])
+    let marked = flood_and_wait(&mut pair.first, alloc)?;
+    Ok((marked, sent_twice(&pair.first, alloc)?))
+}
+
+fn updates_after(alloc: Global) -> Result<([usize; 2], bool), Fail> {
+    let mut pair = met(alloc)?;
+    updated_by(&mut pair, alloc)
 }
 
 #[test]
 fn updates_are_repeated(rt: HostRuntime) -> Result<(), Fail> {
-    let alloc = rt.alloc();
-    let mut pair = met(alloc)?;
-    assert_eq!(rt; flood_and_wait(&mut pair, alloc)?, [0, 1]);
-    assert!(rt; is_sent(&pair.first, 4, UPDATE, alloc)?);
-    assert!(rt; are_same(&pair.first, 4, 5));
+    let (marked, twice) = updates_after(rt.alloc())?;
+    assert_eq!(rt; marked, [0, 1]);
+    assert!(rt; twice);
     Ok(())
 }
 
@@ -700,32 +826,55 @@ fn count_for(router: &mut Router, count: usize, alloc: Global) {
     }
 }
 
+// The state of 2.2.2.2 after so many ticks.
+fn state_after(router: &mut Router, count: usize, alloc: Global) -> Option<NeighbourState> {
+    count_for(router, count, alloc);
+    neighbour_state(router, FROM_SECOND)
+}
+
+fn states_after(alloc: Global) -> Result<[Option<NeighbourState>; 2], Fail> {
+    let mut pair = met(alloc)?;
+    let before = state_after(&mut pair.first, 39, alloc);
+    Ok([before, state_after(&mut pair.first, 1, alloc)])
+}
+
 // A neighbour is removed RouterDeadInterval after its last Hello.
 #[test]
 fn a_silent_neighbour_goes(rt: HostRuntime) -> Result<(), Fail> {
-    let alloc = rt.alloc();
-    let mut pair = met(alloc)?;
-    for (ticks, state) in [(39, Some(NeighbourState::ExStart)), (1, None)] {
-        count_for(&mut pair.first, ticks, alloc);
-        assert_eq!(rt; neighbour_state(&pair.first, FROM_SECOND), state);
-    }
+    let states = states_after(rt.alloc())?;
+    assert_eq!(rt; states, [Some(NeighbourState::ExStart), None]);
     Ok(())
+}
+
+const DOWN: (IfaceState, Addr, Addr) = (IfaceState::Down, Addr::NOWHERE, Addr::NOWHERE);
+
+// Whether a link that goes down is as it should be, with so many datagrams sent. Then it comes up.
+fn down_and_up(router: &mut Router, count: usize, alloc: Global) -> Result<bool, Fail> {
+    goes_down(router, 0, alloc);
+    let stands = stands(router, DOWN, FROM_SECOND, None, count);
+    goes_up(router, 0, alloc)?;
+    Ok(stands)
+}
+
+// Twice; and whether the last Hello is the same as the first.
+fn down_twice(router: &mut Router, alloc: Global) -> Result<(bool, bool, bool), Fail> {
+    let first = down_and_up(router, 3, alloc)?;
+    let second = down_and_up(router, 4, alloc)?;
+    Ok((first, second, are_same(router, 0, 4)))
+}
+
+fn going_down(alloc: Global) -> Result<(bool, bool, bool), Fail> {
+    let mut pair = met(alloc)?;
+    down_twice(&mut pair.first, alloc)
 }
 
 // A link that goes down forgets its neighbours, and begins as it began when it comes up.
 #[test]
 fn a_link_goes_down(rt: HostRuntime) -> Result<(), Fail> {
-    let alloc = rt.alloc();
-    let mut pair = met(alloc)?;
-    for count in [3, 4] {
-        goes_down(&mut pair.first, 0, alloc);
-        assert_eq!(rt; neighbour_state(&pair.first, FROM_SECOND), None);
-        let down = (IfaceState::Down, Addr::NOWHERE, Addr::NOWHERE);
-        assert_eq!(rt; iface_state(&pair.first), Some(down));
-        assert_eq!(rt; count_sent(&pair.first), count);
-        goes_up(&mut pair.first, 0, alloc)?;
-    }
-    assert!(rt; are_same(&pair.first, 0, 4));
+    let (first, second, same) = going_down(rt.alloc())?;
+    assert!(rt; first);
+    assert!(rt; second);
+    assert!(rt; same);
     Ok(())
 }
 
@@ -743,13 +892,23 @@ fn does_nothing(pair: &mut Pair, alloc: Global) -> Result<(), Fail> {
     goes_up(&mut pair.first, 0, alloc)
 }
 
+// Whether each is in ExStart at the other then, and how many datagrams each has sent.
+fn left_by(pair: &mut Pair, alloc: Global) -> Result<(bool, [usize; 2]), Fail> {
+    does_nothing(pair, alloc)?;
+    let begun = are_in(pair, NeighbourState::ExStart, NeighbourState::ExStart);
+    Ok((begun, counts_sent(pair)))
+}
+
+fn doing_nothing(alloc: Global) -> Result<(bool, [usize; 2]), Fail> {
+    let mut pair = met(alloc)?;
+    left_by(&mut pair, alloc)
+}
+
 #[test]
 fn nothing_is_done(rt: HostRuntime) -> Result<(), Fail> {
-    let alloc = rt.alloc();
-    let mut pair = met(alloc)?;
-    does_nothing(&mut pair, alloc)?;
-    assert!(rt; are_in(&pair, NeighbourState::ExStart, NeighbourState::ExStart));
-    assert_eq!(rt; counts_sent(&pair), [3, 3]);
+    let (begun, sent) = doing_nothing(rt.alloc())?;
+    assert!(rt; begun);
+    assert_eq!(rt; sent, [3, 3]);
     Ok(())
 }
 
@@ -913,44 +1072,63 @@ fn are_elected(routers: &[Router], wanted: &[(IfaceState, Addr, Addr)]) -> bool 
     true
 }
 
-// The destinations of what a router has sent from a place on.
-fn destinations(router: &Router, place: usize, alloc: Global) -> Result<Vec<Addr>, Fail> {
-    let mut all = Vec::new(alloc);
-    for sent in router.out.sent().iter().skip(place) {
-        all.push(sent.destination)?;
+// Whether what a router has sent from a place on went there.
+fn sends_to(router: &Router, place: usize, wanted: &[Addr]) -> bool {
+    if count_sent(router) != place.wrapping_add(wanted.len()) {
+        return false;
     }
-    Ok(all)
+    for (sent, destination) in router.out.sent().iter().skip(place).zip(wanted) {
+        if sent.destination != *destination {
+            return false;
+        }
+    }
+    true
 }
 
 // The Designated Router begins adjacencies in rising Router ID.
-fn begins(routers: &[Router], alloc: Global) -> Result<bool, Fail> {
-    let router = routers.get(1).ok_or("no router")?;
+fn begins(router: &Router) -> Result<bool, Fail> {
     let wanted = [Says::Describes(7, 200, 0), Says::Describes(7, 201, 0)];
-    let to = destinations(router, 5, alloc)?;
-    let rises = to.as_slice() == [FIRST_THERE, THIRD_THERE].as_slice();
-    Ok(rises && sends(router, 5, &wanted, alloc)?)
+    Ok(sends_to(router, 5, &[FIRST_THERE, THIRD_THERE]) && sends(router, 5, &wanted)?)
+}
+
+// What the routers have elected when the wait timers have fired.
+const BEGUN: [(IfaceState, Addr, Addr); 3] = [
+    (IfaceState::DrOther, SECOND_THERE, SECOND_THERE),
+    (IfaceState::Dr, SECOND_THERE, FIRST_THERE),
+    (IfaceState::DrOther, SECOND_THERE, SECOND_THERE),
+];
+
+// And two Hellos later.
+const AGREED: [(IfaceState, Addr, Addr); 3] = [
+    (IfaceState::Backup, SECOND_THERE, FIRST_THERE),
+    (IfaceState::Dr, SECOND_THERE, FIRST_THERE),
+    (IfaceState::DrOther, SECOND_THERE, FIRST_THERE),
+];
+
+// Whether that is so, and whether the Designated Router begins as it should.
+fn elected_by(routers: &mut [Router], alloc: Global) -> Result<(bool, bool, bool), Fail> {
+    greet_and_wait_for(routers, 4, alloc)?;
+    let elected = are_elected(routers, &BEGUN);
+    let begins = match routers.get(1) {
+        Some(designated) => begins(designated)?,
+        None => false,
+    };
+    greet_and_wait_for(routers, 2, alloc)?;
+    Ok((elected, begins, are_elected(routers, &AGREED)))
+}
+
+fn electing(alloc: Global) -> Result<(bool, bool, bool), Fail> {
+    let mut routers = lan(alloc)?;
+    elected_by(&mut routers, alloc)
 }
 
 // When the wait timers fire nobody declares anything; the Hellos that follow bring the routers to agree.
 #[test]
 fn three_routers_elect(rt: HostRuntime) -> Result<(), Fail> {
-    let alloc = rt.alloc();
-    let mut routers = lan(alloc)?;
-    greet_and_wait_for(&mut routers, 4, alloc)?;
-    let begun = [
-        (IfaceState::DrOther, SECOND_THERE, SECOND_THERE),
-        (IfaceState::Dr, SECOND_THERE, FIRST_THERE),
-        (IfaceState::DrOther, SECOND_THERE, SECOND_THERE),
-    ];
-    assert!(rt; are_elected(&routers, &begun));
-    assert!(rt; begins(&routers, alloc)?);
-    greet_and_wait_for(&mut routers, 2, alloc)?;
-    let agreed = [
-        (IfaceState::Backup, SECOND_THERE, FIRST_THERE),
-        (IfaceState::Dr, SECOND_THERE, FIRST_THERE),
-        (IfaceState::DrOther, SECOND_THERE, FIRST_THERE),
-    ];
-    assert!(rt; are_elected(&routers, &agreed));
+    let (elected, begins, agreed) = electing(rt.alloc())?;
+    assert!(rt; elected);
+    assert!(rt; begins);
+    assert!(rt; agreed);
     Ok(())
 }
 
@@ -999,69 +1177,129 @@ fn hears_of(
     elects(router, alloc)
 }
 
+// A Hello, and what it makes of the interface and of the neighbour that sent it.
+#[derive(Clone, Copy)]
+struct Turn {
+    place: usize,
+    priority: u8,
+    declared: (Addr, Addr),
+    named: bool,
+    elected: (IfaceState, Addr, Addr),
+    state: NeighbourState,
+}
+
+const BOTH: (Addr, Addr) = (FIRST_THERE, SECOND_THERE);
+
+const BEFORE: (IfaceState, Addr, Addr) = (IfaceState::Backup, FIRST_THERE, SECOND_THERE);
+
+const AFTER: (IfaceState, Addr, Addr) = (IfaceState::Dr, SECOND_THERE, THIRD_THERE);
+
+const FIRST_TURN: Turn = Turn {
+    place: 0,
+    priority: 1,
+    declared: (FIRST_THERE, Addr::NOWHERE),
+    named: true,
+    elected: BEFORE,
+    state: NeighbourState::ExStart,
+};
+
+const TURNS: [Turn; 4] = [
+    FIRST_TURN,
+    Turn {
+        declared: BOTH,
+        ..FIRST_TURN
+    },
+    Turn {
+        place: 2,
+        priority: 5,
+        declared: (Addr::NOWHERE, Addr::NOWHERE),
+        ..FIRST_TURN
+    },
+    Turn {
+        declared: BOTH,
+        named: false,
+        elected: AFTER,
+        state: NeighbourState::Init,
+        ..FIRST_TURN
+    },
+];
+
+// Whether a Hello that comes makes that of them.
+fn takes_turn(router: &mut Router, turn: &Turn, alloc: Global) -> Result<bool, Fail> {
+    let Turn {
+        place,
+        priority,
+        declared,
+        named,
+        ..
+    } = *turn;
+    hears_of(router, place, priority, declared, named, alloc)?;
+    Ok(iface_state(router) == Some(turn.elected) && is_in(router, origin_at(place), turn.state))
+}
+
+// How many do, up to the first that does not.
+fn take_turns(router: &mut Router, alloc: Global) -> Result<usize, Fail> {
+    let mut count: usize = 0;
+    for turn in &TURNS {
+        if !takes_turn(router, turn, alloc)? {
+            return Ok(count);
+        }
+        count = count.wrapping_add(1);
+    }
+    Ok(count)
+}
+
+fn taking_over(alloc: Global) -> Result<usize, Fail> {
+    let mut router = on_lan(alloc, broadcast(SECOND, SECOND_THERE.0, 1), 200)?;
+    take_turns(&mut router, alloc)
+}
+
 // 2.2.2.2 waits, and hears a Designated Router without a Backup: it becomes the Backup, and stays it beside a router of
 // priority 5. Once the former no longer names it, it is the Designated Router, and the latter the Backup.
 #[test]
 fn a_backup_takes_over(rt: HostRuntime) -> Result<(), Fail> {
-    let alloc = rt.alloc();
-    let mut router = on_lan(alloc, broadcast(SECOND, SECOND_THERE.0, 1), 200)?;
-    let nobody = (Addr::NOWHERE, Addr::NOWHERE);
-    let alone = (FIRST_THERE, Addr::NOWHERE);
-    let both = (FIRST_THERE, SECOND_THERE);
-    let before = (IfaceState::Backup, FIRST_THERE, SECOND_THERE);
-    let after = (IfaceState::Dr, SECOND_THERE, THIRD_THERE);
-    for (place, priority, declared, named, elected, state) in [
-        (0, 1, alone, true, before, NeighbourState::ExStart),
-        (0, 1, both, true, before, NeighbourState::ExStart),
-        (2, 5, nobody, true, before, NeighbourState::ExStart),
-        (0, 1, both, false, after, NeighbourState::Init),
-    ] {
-        hears_of(&mut router, place, priority, declared, named, alloc)?;
-        assert_eq!(rt; iface_state(&router), Some(elected));
-        let heard = neighbour_state(&router, origin_at(place));
-        assert_eq!(rt; heard, Some(state));
-    }
+    let count = taking_over(rt.alloc())?;
+    assert_eq!(rt; count, TURNS.len());
     Ok(())
 }
 
-// The interface, the neighbour 1.1.1.1, and how many datagrams have been sent.
-fn standing(
-    router: &Router,
-) -> (
-    Option<(IfaceState, Addr, Addr)>,
-    Option<NeighbourState>,
-    usize,
-) {
-    (
-        iface_state(router),
-        neighbour_state(router, origin_at(0)),
-        count_sent(router),
-    )
+// Whether the interface, the neighbour 1.1.1.1, and how many datagrams have been sent are as they should be: after a Hello
+// and a Database Description of it, and after an election.
+fn is_described(router: &mut Router, alloc: Global) -> Result<bool, Fail> {
+    let alone = (FIRST_THERE, Addr::NOWHERE);
+    hears_of(router, 0, 1, alone, false, alloc)?;
+    describes(router, origin_at(0), 7, alloc)?;
+    let nobody = (IfaceState::DrOther, Addr::NOWHERE, Addr::NOWHERE);
+    let state = Some(NeighbourState::TwoWay);
+    Ok(stands(router, nobody, origin_at(0), state, 1))
+}
+
+fn is_elected(router: &mut Router, alloc: Global) -> Result<bool, Fail> {
+    elects(router, alloc)?;
+    let designated = (IfaceState::DrOther, FIRST_THERE, Addr::NOWHERE);
+    let state = Some(NeighbourState::ExStart);
+    Ok(stands(router, designated, origin_at(0), state, 2))
+}
+
+fn elected_twice(router: &mut Router, alloc: Global) -> Result<(bool, bool, bool), Fail> {
+    let described = is_described(router, alloc)?;
+    let first = is_elected(router, alloc)?;
+    let second = is_elected(router, alloc)?;
+    Ok((described, first, second))
+}
+
+fn electing_by_description(alloc: Global) -> Result<(bool, bool, bool), Fail> {
+    let mut router = on_lan(alloc, broadcast(THIRD, THIRD_THERE.0, 0), 300)?;
+    elected_twice(&mut router, alloc)
 }
 
 // A Database Description of a neighbour in Init is 2-WayReceived, by which an election is due, and no drop.
 #[test]
 fn a_description_elects(rt: HostRuntime) -> Result<(), Fail> {
-    let alloc = rt.alloc();
-    let mut router = on_lan(alloc, broadcast(THIRD, THIRD_THERE.0, 0), 300)?;
-    hears_of(
-        &mut router,
-        0,
-        1,
-        (FIRST_THERE, Addr::NOWHERE),
-        false,
-        alloc,
-    )?;
-    describes(&mut router, origin_at(0), 7, alloc)?;
-    let nobody = (IfaceState::DrOther, Addr::NOWHERE, Addr::NOWHERE);
-    let wanted = (Some(nobody), Some(NeighbourState::TwoWay), 1);
-    assert_eq!(rt; standing(&router), wanted);
-    let designated = (IfaceState::DrOther, FIRST_THERE, Addr::NOWHERE);
-    let wanted = (Some(designated), Some(NeighbourState::ExStart), 2);
-    for _ in 0..2 {
-        elects(&mut router, alloc)?;
-        assert_eq!(rt; standing(&router), wanted);
-    }
+    let (described, first, second) = electing_by_description(rt.alloc())?;
+    assert!(rt; described);
+    assert!(rt; first);
+    assert!(rt; second);
     Ok(())
 }
 
@@ -1083,29 +1321,52 @@ fn first_hello(alloc: Global) -> BodyValue {
 
 // To all, and to 10.0.0.2.
 fn posts(router: &mut Router, alloc: Global) -> Result<(), Fail> {
-    let own = own_of(&router.area);
     let iface = router.area.links.first().ok_or("no link")?.iface;
-    let mut outbox = open(&mut router.out, own, 0, &iface, alloc);
-    outbox.put(ALL_SPF_ROUTERS, first_hello(alloc), alloc)?;
-    outbox.put(FROM_SECOND.address, first_hello(alloc), alloc)?;
+    posts_from(router, &iface, alloc)?;
+    Ok(())
+}
+
+fn posts_from(router: &mut Router, iface: &Iface, alloc: Global) -> Result<(), AllocError> {
+    let mut outbox = open(&mut router.out, own_of(&router.area), 0, iface, alloc);
+    puts(&mut outbox, alloc)?;
     router.out = outbox.into_outputs();
     Ok(())
+}
+
+fn puts(outbox: &mut Outbox, alloc: Global) -> Result<(), AllocError> {
+    outbox.put(ALL_SPF_ROUTERS, first_hello(alloc), alloc)?;
+    outbox.put(FROM_SECOND.address, first_hello(alloc), alloc)
+}
+
+// Whether they go where they should, whether they are as they should, and the link and the source of the first.
+type Posted = (bool, bool, Option<(usize, Addr)>);
+
+fn posted_by(router: &mut Router, alloc: Global) -> Result<Posted, Fail> {
+    posts(router, alloc)?;
+    let goes = sends_to(router, 0, &[ALL_SPF_ROUTERS, FROM_SECOND.address]);
+    let same = is_sent(router, 0, HELLO, alloc)? && are_same(router, 0, 1);
+    Ok((goes, same, first_source(router)))
+}
+
+fn first_source(router: &Router) -> Option<(usize, Addr)> {
+    match router.out.sent().first() {
+        Some(sent) => Some((sent.link, sent.source)),
+        None => None,
+    }
+}
+
+fn posting(alloc: Global) -> Result<Posted, Fail> {
+    let settings = point_to_point(FIRST, 0x0a00_0001);
+    let mut router = router_of(alloc, settings, 1500, 100)?;
+    posted_by(&mut router, alloc)
 }
 
 // In their order, from the interface's address.
 #[test]
 fn packets_are_posted(rt: HostRuntime) -> Result<(), Fail> {
-    let alloc = rt.alloc();
-    let mut router = router_of(alloc, point_to_point(FIRST, 0x0a00_0001), 1500, 100)?;
-    posts(&mut router, alloc)?;
-    let to = destinations(&router, 0, alloc)?;
-    assert_eq!(rt;
-        to.as_slice(),
-        [ALL_SPF_ROUTERS, FROM_SECOND.address].as_slice()
-    );
-    assert!(rt; is_sent(&router, 0, HELLO, alloc)?);
-    assert!(rt; are_same(&router, 0, 1));
-    let sent = router.out.sent().first().ok_or("nothing sent")?;
-    assert_eq!(rt; (sent.link, sent.source), (0, Addr(0x0a00_0001)));
+    let (goes, same, source) = posting(rt.alloc())?;
+    assert!(rt; goes);
+    assert!(rt; same);
+    assert_eq!(rt; source, Some((0, Addr(0x0a00_0001))));
     Ok(())
 }
