@@ -97,7 +97,7 @@ def main():
     if not areas:
         areas = [line(count) for count in (2, 10, 100)]
         areas.append(("a ring of 50", configs(50, [(k, (k + 1) % 50) for k in range(50)])))
-        areas.append(("50 routers and links by chance", by_chance(50)))
+        areas += [(f"{count} routers and links by chance", by_chance(count)) for count in (50, 100, 200)]
         areas += [(f"a broadcast network of {count}", network(count)) for count in (20, 50)]
     for name, area in areas:
         took, sent = run(program, area, f"round {ROUNDS}")
