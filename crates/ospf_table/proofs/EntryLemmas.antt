@@ -13,6 +13,7 @@ use Rattle.ospf_base.proofs.SameKeys.{same_key-refl, same_key-eq}
 use Rattle.ospf_lsa.specs.Lsa.{key_of}
 use Rattle.ospf_lsa.specs.Listing.{HasKey, IsInserted}
 use Rattle.ospf_lsdb.specs.Moments.{key_cmp}
+use Rattle.ospf_lsdb.proofs.MapLemmas.{bool_cases}
 use Rattle.ospf_lsdb.proofs.OrderLemmas.{is_eq-key_cmp, key_cmp-less}
 use Rattle.ospf_table.specs.Entries.{IsKeyed, AreKeyed}
 
@@ -22,10 +23,6 @@ Entry = LsaKey × List ℕ
 -- what the map finds of a key
 abbrev pub found : LsaKey → List Entry → Option (List ℕ)
 found key es = lookup (is_at (key_cmp key)) es
-
-bool_cases : (b : Bool) → (b ≡ true) ⊎ (b ≡ false)
-bool_cases true = inl refl
-bool_cases false = inr refl
 
 any_later : {X : Type 0} (P : X → Type 0) (x : X) (xs : List X) → Any P xs → Any P (x ∷ xs)
 any_later P x xs any = (suc any.0, any.1, omega (arith, any.2), any.3, any.4)
