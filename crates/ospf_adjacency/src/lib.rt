@@ -10,8 +10,6 @@ mod elections;
 mod laws;
 mod outbox;
 mod packets;
-#[cfg(test)]
-mod tests;
 
 pub use crate::adjacency::{is_broadcast, take_event, wants_adjacency};
 pub use crate::descriptions::{is_dropped, request_turn, take_description};

@@ -12,8 +12,6 @@ mod outputs;
 mod sending;
 mod standing;
 mod state;
-#[cfg(test)]
-mod tests;
 
 pub use crate::asking::{request_body, send_request, turn_one, turn_requests};
 pub use crate::changes::{Change, change_at, delay_at};

@@ -2,7 +2,5 @@
 #![tactic(auto)]
 
 mod check;
-#[cfg(test)]
-mod tests;
 
 pub use crate::check::check_text;

@@ -11,8 +11,6 @@ mod keys;
 mod peers;
 mod read;
 mod rules;
-#[cfg(test)]
-mod tests;
 mod top;
 
 pub use crate::address::InterfaceAddress;

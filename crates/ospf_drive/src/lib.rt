@@ -2,14 +2,10 @@
 #![tactic(auto)]
 
 mod all;
-#[cfg(test)]
-mod beside_tests;
 mod driver;
 mod fault;
 mod laws;
 mod memory;
-#[cfg(test)]
-mod tests;
 mod turn;
 mod wire;
 

@@ -4,8 +4,6 @@
 mod candidate;
 mod election;
 mod laws;
-#[cfg(test)]
-mod tests;
 
 pub use crate::candidate::{Candidate, Elected};
 pub use crate::election::elect;

@@ -11,8 +11,6 @@ mod headers;
 mod laws;
 mod request;
 mod rule;
-#[cfg(test)]
-mod tests;
 mod timers;
 
 pub use crate::description::{DdAnswer, is_not_taken, on_dd};

@@ -11,8 +11,6 @@ mod laws;
 mod link;
 mod offer;
 mod rule;
-#[cfg(test)]
-mod tests;
 
 pub use crate::acknowledged::{on_acknowledgement, on_duplicate};
 pub use crate::acknowledgement::{Acknowledgement, AcknowledgementCase, Sender, acknowledge};

@@ -4,8 +4,6 @@
 mod event;
 mod laws;
 mod logs;
-#[cfg(test)]
-mod tests;
 mod walk;
 
 pub use crate::event::{WorldEvent, WorldFault};

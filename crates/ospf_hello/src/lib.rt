@@ -8,8 +8,6 @@ mod heard;
 mod laws;
 mod links;
 mod sent;
-#[cfg(test)]
-mod tests;
 
 pub use crate::heard::{hello_on, is_at, is_named, is_settled, place_for};
 pub use crate::laws::{

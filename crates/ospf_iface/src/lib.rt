@@ -5,8 +5,6 @@ mod hello;
 mod laws;
 mod machine;
 mod settings;
-#[cfg(test)]
-mod tests;
 
 pub use crate::laws::own_may_be_elected;
 pub use crate::machine::{Iface, IfaceChange, IfaceEvent, IfaceState};

@@ -13,8 +13,6 @@ mod link;
 mod marks;
 mod repeats;
 mod requests;
-#[cfg(test)]
-mod tests;
 mod ticks;
 
 pub use crate::changes::{take_down, take_up};

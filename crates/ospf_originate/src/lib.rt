@@ -7,8 +7,6 @@ mod laws;
 mod numbers;
 mod own;
 mod step;
-#[cfg(test)]
-mod tests;
 
 pub use crate::action::{Due, OwnAction, own_action};
 pub use crate::laws::{

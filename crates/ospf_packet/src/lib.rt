@@ -12,8 +12,6 @@ mod laws;
 mod lsas;
 mod packet;
 mod requests;
-#[cfg(test)]
-mod tests;
 mod value;
 mod write;
 

@@ -6,8 +6,6 @@
 mod dropped;
 mod drops;
 mod laws;
-#[cfg(test)]
-mod tests;
 
 pub use crate::dropped::Dropped;
 pub use crate::drops::receive;

@@ -9,8 +9,6 @@ mod answering;
 mod laws;
 mod packing;
 mod repeating;
-#[cfg(test)]
-mod tests;
 
 pub use crate::answering::take_request;
 pub use crate::laws::{answers_are_quiet, repeats_are_quiet};

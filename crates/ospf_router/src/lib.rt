@@ -1,13 +1,9 @@
 //! A router (RFC 2328): its part of an area and its routing table, stepped by datagrams, ticks, and links that go up and down.
 #![tactic(auto)]
 
-#[cfg(test)]
-mod crafted_tests;
 mod fault;
 mod router;
 mod start;
-#[cfg(test)]
-mod tests;
 
 pub use crate::fault::{StartFault, Stopped};
 pub use crate::router::{Router, Step};

@@ -14,8 +14,6 @@ mod run;
 mod settings;
 mod tap;
 mod tell;
-#[cfg(test)]
-mod tests;
 mod wires;
 
 pub use crate::run::run_text;

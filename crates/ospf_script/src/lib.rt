@@ -12,8 +12,6 @@ mod read;
 mod script;
 mod shapes;
 mod show;
-#[cfg(test)]
-mod tests;
 mod values;
 mod views;
 mod walk;

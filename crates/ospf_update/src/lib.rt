@@ -7,8 +7,6 @@ mod aging;
 mod laws;
 mod meeting;
 mod removal;
-#[cfg(test)]
-mod tests;
 mod updates;
 
 pub use crate::acks::{send_acks, send_delayed, send_direct};

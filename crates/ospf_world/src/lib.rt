@@ -5,8 +5,6 @@
 mod parts;
 mod random;
 mod rounds;
-#[cfg(test)]
-mod tests;
 mod ticks;
 mod walk;
 mod world;

@@ -1,0 +1,304 @@
+//! Configurations that are checked, by name.
+
+use ospf_check::check_text;
+use ospf_files::{NamedFile, Status};
+use std::alloc::{AllocError, Global};
+use std::io::{self, ErrorKind, Write};
+use std::test::Fail;
+
+// A file, and what is told of it.
+struct Case {
+    name: &'static str,
+    text: &'static str,
+    told: &'static str,
+}
+
+// One file each.
+static CASES: [Case; 16] = [
+    Case {
+        name: "broadcast address",
+        text: "router_id = \"1.1.1.1\"\narea = \"0.0.0.0\"\n\n[[interface]]\nkind = \"point-to-point\"\naddress = \"10.0.0.3/30\"\ncost = 10\n",
+        told: "C4 Range",
+    },
+    Case {
+        name: "dead not over hello",
+        text: "router_id = \"1.1.1.1\"\narea = \"0.0.0.0\"\n\n[[interface]]\nkind = \"point-to-point\"\naddress = \"10.0.0.1/30\"\ncost = 10\ndead = 10\n",
+        told: "C7 DeadNotOverHello",
+    },
+    Case {
+        name: "empty",
+        text: "",
+        told: "C2 Missing",
+    },
+    Case {
+        name: "empty interface list",
+        text: "router_id = \"1.1.1.1\"\narea = \"0.0.0.0\"\ninterface = []\n",
+        told: "C4 Range",
+    },
+    Case {
+        name: "every key",
+        text: "router_id = \"9.8.7.6\"\narea = \"0.0.0.0\"\n\n[[interface]]\nkind = \"broadcast\"\naddress = \"192.168.7.3/24\"\ncost = 65535\npriority = 0\nhello = 1\ndead = 2\nretransmit = 65535\ntransmit_delay = 3600\nmtu = 9000\nport = 1024\npeers = [65535, 1024]\n",
+        told: "ok",
+    },
+    Case {
+        name: "host address",
+        text: "router_id = \"1.1.1.1\"\narea = \"0.0.0.0\"\n\n[[interface]]\nkind = \"point-to-point\"\naddress = \"10.0.0.2/30\"\ncost = 10\n",
+        told: "ok",
+    },
+    Case {
+        name: "interface no list",
+        text: "router_id = \"1.1.1.1\"\narea = \"0.0.0.0\"\ninterface = 1\n",
+        told: "C3 Type",
+    },
+    Case {
+        name: "network address",
+        text: "router_id = \"1.1.1.1\"\narea = \"0.0.0.0\"\n\n[[interface]]\nkind = \"point-to-point\"\naddress = \"10.0.0.0/30\"\ncost = 10\n",
+        told: "C4 Range",
+    },
+    Case {
+        name: "no interface",
+        text: "router_id = \"1.1.1.1\"\narea = \"0.0.0.0\"\n",
+        told: "C2 Missing",
+    },
+    Case {
+        name: "no router id",
+        text: "# = \"1.1.1.1\"\narea = \"0.0.0.0\"\n\n[[interface]]\nkind = \"point-to-point\"\naddress = \"10.0.0.1/30\"\ncost = 10\n",
+        told: "C2 Missing",
+    },
+    Case {
+        name: "not toml",
+        text: "x",
+        told: "C1 NotToml",
+    },
+    Case {
+        name: "priority out of range",
+        text: "router_id = \"1.1.1.1\"\narea = \"0.0.0.0\"\n\n[[interface]]\nkind = \"point-to-point\"\naddress = \"10.0.0.1/30\"\ncost = 10\npriority = 256\n",
+        told: "C4 Range",
+    },
+    Case {
+        name: "same prefix",
+        text: "router_id = \"1.1.1.1\"\narea = \"0.0.0.0\"\n\n[[interface]]\nkind = \"point-to-point\"\naddress = \"10.0.0.1/30\"\ncost = 10\n[[interface]]\nkind = \"point-to-point\"\naddress = \"10.0.0.2/30\"\ncost = 10\n",
+        told: "C6 SamePrefix",
+    },
+    Case {
+        name: "unknown key",
+        text: "router_id = \"1.1.1.1\"\narea = \"0.0.0.0\"\n\n[[interface]]\nkind = \"point-to-point\"\naddress = \"10.0.0.1/30\"\ncost = 10\ncolour = 1\n",
+        told: "C8 Unknown",
+    },
+    Case {
+        name: "wrong type before same prefix",
+        text: "router_id = \"1.1.1.1\"\narea = \"0.0.0.0\"\n\n[[interface]]\nkind = \"point-to-point\"\naddress = \"10.0.0.1/30\"\ncost = 10\n[[interface]]\nkind = \"point-to-point\"\naddress = \"10.0.0.2/30\"\ncost = \"10\"\n",
+        told: "C3 Type",
+    },
+    Case {
+        name: "zero cost before unknown key",
+        text: "router_id = \"1.1.1.1\"\narea = \"0.0.0.0\"\n\n[[interface]]\nkind = \"point-to-point\"\naddress = \"10.0.0.1/30\"\ncost = 0\ncolour = 1\n",
+        told: "C5 ZeroCost",
+    },
+];
+
+// A configuration that is accepted, and one whose cost is zero.
+const GOOD: &str =
+    "router_id = \"1.1.1.1\"\narea = \"0.0.0.0\"\n\n[[interface]]\nkind = \"point-to-point\"\naddress = \"10.0.0.1/30\"\ncost = 10\n";
+
+const BAD: &str =
+    "router_id = \"1.1.1.1\"\narea = \"0.0.0.0\"\n\n[[interface]]\nkind = \"point-to-point\"\naddress = \"10.0.0.1/30\"\ncost = 0\n";
+
+// What was told, and the status.
+#[derive(Drop)]
+struct Outcome {
+    out: Vec<u8>,
+    err: Vec<u8>,
+    status: Status,
+}
+
+fn named(alloc: Global, name: &str, bytes: Option<&[u8]>) -> Result<NamedFile, AllocError> {
+    let bytes = match bytes {
+        Some(bytes) => {
+            let mut copy = Vec::new(alloc);
+            copy.extend_from_slice(bytes)?;
+            Some(copy)
+        }
+        None => None,
+    };
+    Ok(NamedFile {
+        name: String::from_str(alloc, name)?,
+        bytes,
+    })
+}
+
+fn outcome_of(alloc: Global, files: &[(&str, Option<&[u8]>)]) -> Result<Outcome, AllocError> {
+    told_of(alloc, files, false)
+}
+
+fn told_of(
+    alloc: Global,
+    files: &[(&str, Option<&[u8]>)],
+    explain: bool,
+) -> Result<Outcome, AllocError> {
+    let mut named_files = Vec::new(alloc);
+    for (name, bytes) in files {
+        named_files.push(named(alloc, name, *bytes)?)?;
+    }
+    let mut out = Vec::new(alloc);
+    let mut err = Vec::new(alloc);
+    let status = check_text(alloc, &named_files, explain, &mut out, &mut err);
+    Ok(Outcome { out, err, status })
+}
+
+#[test]
+fn tells_of_one_file(rt: HostRuntime) -> Result<(), Fail> {
+    for case in &CASES {
+        let name = case.name;
+        let outcome = outcome_of(rt.alloc(), &[("a.toml", Some(case.text.as_bytes()))])?;
+        let accepted = case.told == "ok";
+        let status = if accepted {
+            Status::Done
+        } else {
+            Status::Refused
+        };
+        let line = format!(in rt.alloc(); "a.toml: {}\n", case.told)?;
+        let (written, empty) = if accepted {
+            (&outcome.out, &outcome.err)
+        } else {
+            (&outcome.err, &outcome.out)
+        };
+        assert_eq!(rt; outcome.status, status, "{name}");
+        assert_eq!(rt; written.as_slice(), line.as_bytes(), "{name}");
+        assert!(rt; empty.is_empty(), "{name}");
+    }
+    Ok(())
+}
+
+#[test]
+fn accepts_two_files(rt: HostRuntime) -> Result<(), Fail> {
+    let good = Some(GOOD.as_bytes());
+    let outcome = outcome_of(rt.alloc(), &[("a.toml", good), ("b.toml", good)])?;
+    assert_eq!(rt; outcome.status, Status::Done);
+    assert_eq!(rt;
+        outcome.out.as_slice(),
+        b"a.toml: ok\nb.toml: ok\n".as_slice()
+    );
+    assert!(rt; outcome.err.is_empty());
+    Ok(())
+}
+
+#[test]
+fn goes_on_after_a_refused_file(rt: HostRuntime) -> Result<(), Fail> {
+    let good = Some(GOOD.as_bytes());
+    let bad = Some(BAD.as_bytes());
+    let files = [("a.toml", good), ("b.toml", bad), ("c.toml", good)];
+    let outcome = outcome_of(rt.alloc(), &files)?;
+    assert_eq!(rt; outcome.status, Status::Refused);
+    assert_eq!(rt;
+        outcome.out.as_slice(),
+        b"a.toml: ok\nc.toml: ok\n".as_slice()
+    );
+    assert_eq!(rt; outcome.err.as_slice(), b"b.toml: C5 ZeroCost\n".as_slice());
+    Ok(())
+}
+
+#[test]
+fn ends_at_a_file_that_is_not_read(rt: HostRuntime) -> Result<(), Fail> {
+    let files = [
+        ("a.toml", Some(b"\xff".as_slice())),
+        ("missing.toml", None),
+        ("b.toml", Some(GOOD.as_bytes())),
+    ];
+    let outcome = outcome_of(rt.alloc(), &files)?;
+    assert_eq!(rt; outcome.status, Status::Stream);
+    assert!(rt; outcome.out.is_empty());
+    assert_eq!(rt;
+        outcome.err.as_slice(),
+        b"a.toml: C1 NotToml\nmissing.toml: not read\n".as_slice()
+    );
+    Ok(())
+}
+
+// A configuration of so many interfaces.
+fn interfaces(alloc: Global, count: u8) -> Result<String, AllocError> {
+    let mut text = String::from_str(alloc, "router_id = \"1.1.1.1\"\narea = \"0.0.0.0\"\n")?;
+    for number in 0..count {
+        let table = format!(in alloc;
+            "[[interface]]\nkind = \"point-to-point\"\naddress = \"10.{number}.0.1/30\"\ncost = 10\n"
+        )?;
+        text.push_str(&table)?;
+    }
+    Ok(text)
+}
+
+#[test]
+fn most_and_too_many_interfaces(rt: HostRuntime) -> Result<(), Fail> {
+    let most = interfaces(rt.alloc(), 32)?;
+    let outcome = outcome_of(rt.alloc(), &[("a.toml", Some(most.as_bytes()))])?;
+    assert_eq!(rt; outcome.out.as_slice(), b"a.toml: ok\n".as_slice());
+    let too_many = interfaces(rt.alloc(), 33)?;
+    let outcome = outcome_of(rt.alloc(), &[("a.toml", Some(too_many.as_bytes()))])?;
+    assert_eq!(rt; outcome.err.as_slice(), b"a.toml: C4 Range\n".as_slice());
+    assert_eq!(rt; outcome.status, Status::Refused);
+    Ok(())
+}
+
+#[test]
+fn explains_refused_files(rt: HostRuntime) -> Result<(), Fail> {
+    let files = [
+        ("a.toml", Some(GOOD.as_bytes())),
+        ("b.toml", Some(BAD.as_bytes())),
+        ("c.toml", Some(b"\xff".as_slice())),
+        ("d.toml", Some(b"router_id = 1.1".as_slice())),
+    ];
+    let told = told_of(rt.alloc(), &files, true)?;
+    assert_eq!(rt; told.status, Status::Refused);
+    assert_eq!(rt; told.out.as_slice(), b"a.toml: ok\n".as_slice());
+    assert_eq!(rt;
+        told.err.as_slice(),
+        b"b.toml: C5 ZeroCost\n  interface 0: cost: 1 to 65535 wanted, 0 found\nc.toml: C1 NotToml\n  the file is not UTF-8\nd.toml: C2 Missing\n  area: a dotted text, as \"0.0.0.1\", wanted, nothing found\n  interface: 1 to 32 tables [[interface]] wanted, nothing found\n".as_slice()
+    );
+    Ok(())
+}
+
+// A writer that takes so many writes, or flushes, before it fails.
+#[derive(Drop)]
+struct Failing {
+    left: usize,
+}
+
+impl Failing {
+    fn step(&mut self) -> io::Result<()> {
+        if self.left == 0 {
+            return Err(io::Error::from(ErrorKind::BrokenPipe));
+        }
+        self.left -= 1;
+        Ok(())
+    }
+}
+
+impl Write for Failing {
+    fn write(&mut self, buf: &[u8]) -> io::Result<usize> {
+        self.step()?;
+        Ok(buf.len())
+    }
+
+    fn flush(&mut self) -> io::Result<()> {
+        self.step()
+    }
+}
+
+#[test]
+fn tells_of_failed_writes(rt: HostRuntime) -> Result<(), Fail> {
+    let alloc = rt.alloc();
+    for (text, status) in [(GOOD, Status::Done), (BAD, Status::Refused)] {
+        let files = [named(alloc, "a.toml", Some(text.as_bytes()))?];
+        for left in 0..3 {
+            let mut out = Failing { left };
+            let mut err = Failing { left };
+            let failed = check_text(alloc, &files, false, &mut out, &mut err);
+            assert_eq!(rt; failed, Status::Stream, "{left}");
+        }
+        let mut out = Failing { left: 20 };
+        let mut err = Failing { left: 20 };
+        let written = check_text(alloc, &files, false, &mut out, &mut err);
+        assert_eq!(rt; written, status);
+    }
+    Ok(())
+}

@@ -1,0 +1,438 @@
+//! Configurations that are accepted, and the least fault of others.
+
+use ospf_base::{Addr, AreaId, InterfaceKind, RouterId};
+use ospf_config::{Config, ConfigFault};
+use std::alloc::Global;
+use std::process::Abort;
+use std::test::Fail;
+
+// The keys at the top.
+const TOP: &str = "router_id = \"1.1.1.1\"\narea = \"0.0.0.0\"\n\n";
+
+// An interface of a point-to-point link.
+const INTERFACE: &str =
+    "[[interface]]\nkind = \"point-to-point\"\naddress = \"10.0.0.1/30\"\ncost = 10\n";
+
+// The same, but for its address and cost.
+const OTHER: &str = "[[interface]]\nkind = \"point-to-point\"\naddress = ";
+
+// A text of three parts.
+fn joined(alloc: Global, first: &str, second: &str, third: &str) -> Result<String, ConfigFault> {
+    let mut text = String::from_str(alloc, first)?;
+    text.push_str(second)?;
+    text.push_str(third)?;
+    Ok(text)
+}
+
+// The fault of a text of three parts; want of memory ends the test.
+fn fault_of(
+    alloc: Global,
+    first: &str,
+    second: &str,
+    third: &str,
+) -> Result<Option<ConfigFault>, ConfigFault> {
+    let text = joined(alloc, first, second, third)?;
+    match Config::from_text(alloc, text.as_str()) {
+        Ok(_) => Ok(None),
+        Err(ConfigFault::Memory) => Err(ConfigFault::Memory),
+        Err(fault) => Ok(Some(fault)),
+    }
+}
+
+// So many interfaces, each with a prefix of its own.
+fn interfaces(alloc: Global, count: u8) -> Result<String, ConfigFault> {
+    let mut text = String::new(alloc);
+    for i in 0..count {
+        text.push_str(OTHER)?;
+        let address = format!(in alloc; "\"10.{i}.0.1/30\"\ncost = 10\n")?;
+        text.push_str(address.as_str())?;
+    }
+    Ok(text)
+}
+
+#[test]
+fn accepted(rt: HostRuntime) -> Result<(), Fail> {
+    let text = joined(rt.alloc(), TOP, INTERFACE, "")?;
+    let config = Config::from_text(rt.alloc(), text.as_str())?;
+    assert_eq!(rt; config.router_id, RouterId(0x0101_0101));
+    assert_eq!(rt; config.area, AreaId(0));
+    assert!(rt; !config.stub_router);
+    assert_eq!(rt; config.interfaces.len(), 1);
+    let interface = &config.interfaces[0];
+    assert_eq!(rt; interface.kind, InterfaceKind::PointToPoint);
+    assert_eq!(rt; interface.address.address, Addr(0x0a00_0001));
+    assert_eq!(rt; interface.address.length, 30);
+    assert_eq!(rt; interface.address.prefix().address, Addr(0x0a00_0000));
+    assert_eq!(rt; interface.cost, 10);
+    assert_eq!(rt; interface.priority, 1);
+    assert_eq!(rt; interface.hello, 10);
+    assert_eq!(rt; interface.dead, 40);
+    assert_eq!(rt; interface.retransmit, 5);
+    assert_eq!(rt; interface.transmit_delay, 1);
+    assert_eq!(rt; interface.mtu, 1500);
+    assert!(rt; interface.port.is_none());
+    assert!(rt; interface.peers.is_empty());
+    Ok(())
+}
+
+#[test]
+fn every_key(rt: HostRuntime) -> Result<(), Fail> {
+    let text = joined(
+        rt.alloc(),
+        "router_id = \"9.8.7.6\"\narea = \"0.0.0.1\"\nstub_router = true\n\n[[interface]]\nkind = \"broadcast\"\naddress = \"192.168.7.3/24\"\ncost = 65535\npriority = 0\nhello = 1\ndead = 2\n",
+        "retransmit = 65535\ntransmit_delay = 3600\nmtu = 9000\nport = 1024\npeers = [65535, 1024]\n",
+        "",
+    )?;
+    let config = Config::from_text(rt.alloc(), text.as_str())?;
+    assert_eq!(rt; config.router_id, RouterId(0x0908_0706));
+    assert_eq!(rt; config.area, AreaId(1));
+    assert!(rt; config.stub_router);
+    assert_eq!(rt; config.interfaces.len(), 1);
+    let interface = &config.interfaces[0];
+    assert_eq!(rt; interface.kind, InterfaceKind::Broadcast);
+    assert_eq!(rt; interface.address.address, Addr(0xc0a8_0703));
+    assert_eq!(rt; interface.cost, 65535);
+    assert_eq!(rt; interface.priority, 0);
+    assert_eq!(rt; interface.hello, 1);
+    assert_eq!(rt; interface.dead, 2);
+    assert_eq!(rt; interface.retransmit, 65535);
+    assert_eq!(rt; interface.transmit_delay, 3600);
+    assert_eq!(rt; interface.mtu, 9000);
+    match interface.port {
+        Some(port) => assert_eq!(rt; port.number, 1024),
+        None => assert!(rt; false, "a port"),
+    }
+    assert_eq!(rt; interface.peers.len(), 2);
+    assert_eq!(rt; interface.peers[0].number, 65535);
+    assert_eq!(rt; interface.peers[1].number, 1024);
+    Ok(())
+}
+
+#[test]
+fn two_interfaces_in_order(rt: HostRuntime) -> Result<(), Fail> {
+    let two = joined(rt.alloc(), INTERFACE, OTHER, "\"10.0.0.5/30\"\ncost = 7\n")?;
+    let text = joined(rt.alloc(), TOP, two.as_str(), "")?;
+    let config = Config::from_text(rt.alloc(), text.as_str())?;
+    assert_eq!(rt; config.interfaces.len(), 2);
+    assert_eq!(rt; config.interfaces[0].cost, 10);
+    assert_eq!(rt; config.interfaces[1].cost, 7);
+    Ok(())
+}
+
+#[test]
+fn refused_at_the_top(rt: HostRuntime) -> Result<(), Fail> {
+    let cases: [(&str, Option<ConfigFault>, &str); 9] = [
+        ("", Some(ConfigFault::Missing), "empty"),
+        ("x", Some(ConfigFault::NotToml), "not-toml"),
+        (
+            "area = \"0.0.0.0\"\n\n[[interface]]\nkind = \"point-to-point\"\naddress = \"10.0.0.1/30\"\ncost = 10\n",
+            Some(ConfigFault::Missing),
+            "no-router-id",
+        ),
+        (TOP, Some(ConfigFault::Missing), "no-interface"),
+        (
+            "router_id = \"1.1.1.1\"\narea = \"0.0.0.0\"\ninterface = []\n",
+            Some(ConfigFault::Range),
+            "empty-interface-list",
+        ),
+        (
+            "router_id = \"1.1.1.1\"\narea = \"0.0.0.0\"\ninterface = 5\n",
+            Some(ConfigFault::Type),
+            "interface-no-list",
+        ),
+        (
+            "router_id = \"1.1.1.1\"\narea = \"0.0.0.0\"\ninterface = [{}, 5]\n",
+            Some(ConfigFault::Type),
+            "a member that is no table hides the keys of the others",
+        ),
+        (
+            "router_id = \"0.0.0.0\"\narea = \"0.0.0.0\"\ninterface = [{kind = \"broadcast\", address = \"10.0.0.1/30\", cost = 1}]\n",
+            Some(ConfigFault::Range),
+            "a Router ID of zeros",
+        ),
+        (
+            "router_id = \"1.1.1.1\"\narea = \"0.0.0.0\"\nstub_router = 1\ninterface = [{kind = \"broadcast\", address = \"10.0.0.1/30\", cost = 1}]\n",
+            Some(ConfigFault::Type),
+            "a stub router that is a number",
+        ),
+    ];
+    for (text, fault, name) in cases {
+        assert_eq!(rt; fault_of(rt.alloc(), text, "", "")?, fault, "{name}");
+    }
+    Ok(())
+}
+
+#[test]
+fn refused_keys(rt: HostRuntime) -> Result<(), Fail> {
+    let cases: [(&str, Option<ConfigFault>, &str); 14] = [
+        (
+            "dead = 10\n",
+            Some(ConfigFault::DeadNotOverHello),
+            "dead-not-over-hello",
+        ),
+        ("dead = 11\n", None, "dead just over hello"),
+        (
+            "hello = 40\n",
+            Some(ConfigFault::DeadNotOverHello),
+            "hello of the default dead",
+        ),
+        (
+            "priority = 256\n",
+            Some(ConfigFault::Range),
+            "priority-out-of-range",
+        ),
+        (
+            "priority = -1\n",
+            Some(ConfigFault::Range),
+            "a negative priority",
+        ),
+        ("priority = 255\n", None, "the highest priority"),
+        ("colour = 1\n", Some(ConfigFault::Unknown), "unknown-key"),
+        (
+            "colour = 1\nmtu = 9001\n",
+            Some(ConfigFault::Range),
+            "range before unknown key",
+        ),
+        ("mtu = 575\n", Some(ConfigFault::Range), "a small mtu"),
+        (
+            "transmit_delay = 3601\n",
+            Some(ConfigFault::Range),
+            "a long delay",
+        ),
+        (
+            "port = 1023\n",
+            Some(ConfigFault::Range),
+            "a privileged port",
+        ),
+        ("port = 0\n", None, "no port"),
+        (
+            "peers = [1024, 1.5]\n",
+            Some(ConfigFault::Type),
+            "a port that is no integer",
+        ),
+        (
+            "peers = [1023]\n",
+            Some(ConfigFault::Range),
+            "a peer out of range",
+        ),
+    ];
+    for (keys, fault, name) in cases {
+        assert_eq!(rt;
+            fault_of(rt.alloc(), TOP, INTERFACE, keys)?,
+            fault,
+            "{name}"
+        );
+    }
+    Ok(())
+}
+
+#[test]
+fn refused_interfaces(rt: HostRuntime) -> Result<(), Fail> {
+    let cases: [(&str, Option<ConfigFault>, &str); 12] = [
+        ("\"10.0.0.2/30\"\ncost = 10\n", None, "host-address"),
+        (
+            "\"10.0.0.3/30\"\ncost = 10\n",
+            Some(ConfigFault::Range),
+            "broadcast-address",
+        ),
+        (
+            "\"10.0.0.0/30\"\ncost = 10\n",
+            Some(ConfigFault::Range),
+            "network-address",
+        ),
+        (
+            "\"10.0.0.1/31\"\ncost = 10\n",
+            Some(ConfigFault::Range),
+            "a prefix of 31 bits",
+        ),
+        (
+            "\"10.0.0.1/08\"\ncost = 10\n",
+            Some(ConfigFault::Range),
+            "a leading zero",
+        ),
+        (
+            "\"010.0.0.1/30\"\ncost = 10\n",
+            Some(ConfigFault::Range),
+            "a leading zero in an octet",
+        ),
+        (
+            "\"224.0.0.1/30\"\ncost = 10\n",
+            Some(ConfigFault::Range),
+            "a multicast address",
+        ),
+        (
+            "\"10.0.0.1/30\"\ncost = 0\n",
+            Some(ConfigFault::ZeroCost),
+            "zero cost",
+        ),
+        (
+            "\"10.0.0.1/30\"\ncost = 0\ncolour = 1\n",
+            Some(ConfigFault::ZeroCost),
+            "zero-cost-before-unknown-key",
+        ),
+        (
+            "\"10.0.0.1/30\"\ncost = 65536\n",
+            Some(ConfigFault::Range),
+            "a cost out of range",
+        ),
+        (
+            "\"10.0.0.1/30\"\ncost = \"10\"\n",
+            Some(ConfigFault::Type),
+            "a cost that is a text",
+        ),
+        ("\"10.0.0.1/30\"\n", Some(ConfigFault::Missing), "no cost"),
+    ];
+    for (rest, fault, name) in cases {
+        assert_eq!(rt; fault_of(rt.alloc(), TOP, OTHER, rest)?, fault, "{name}");
+    }
+    Ok(())
+}
+
+#[test]
+fn refused_pairs(rt: HostRuntime) -> Result<(), Fail> {
+    let first = joined(rt.alloc(), TOP, INTERFACE, "")?;
+    let cases: [(&str, Option<ConfigFault>, &str); 4] = [
+        (
+            "\"10.0.0.2/30\"\ncost = 10\n",
+            Some(ConfigFault::SamePrefix),
+            "same-prefix",
+        ),
+        (
+            "\"10.0.0.1/24\"\ncost = 10\n",
+            Some(ConfigFault::SamePrefix),
+            "one address",
+        ),
+        (
+            "\"10.0.0.2/29\"\ncost = 10\n",
+            None,
+            "prefixes of two lengths",
+        ),
+        (
+            "\"10.0.0.2/30\"\ncost = \"10\"\n",
+            Some(ConfigFault::Type),
+            "wrong-type-before-same-prefix",
+        ),
+    ];
+    for (rest, fault, name) in cases {
+        assert_eq!(rt;
+            fault_of(rt.alloc(), first.as_str(), OTHER, rest)?,
+            fault,
+            "{name}"
+        );
+    }
+    Ok(())
+}
+
+#[test]
+fn counts_of_interfaces(rt: HostRuntime) -> Result<(), Fail> {
+    let most = interfaces(rt.alloc(), 32)?;
+    assert_eq!(rt;
+        fault_of(rt.alloc(), TOP, most.as_str(), "")?,
+        None,
+        "most-interfaces"
+    );
+    let more = interfaces(rt.alloc(), 33)?;
+    assert_eq!(rt;
+        fault_of(rt.alloc(), TOP, more.as_str(), "")?,
+        Some(ConfigFault::Range),
+        "too-many-interfaces"
+    );
+    Ok(())
+}
+
+// What is told of a text of three parts, one line a place.
+fn explained(alloc: Global, first: &str, second: &str, third: &str) -> Result<String, ConfigFault> {
+    let text = joined(alloc, first, second, third)?;
+    let mut lines = String::new(alloc);
+    for place in Config::explain(alloc, text.as_str())?.iter() {
+        let line = format!(in alloc; "{place}\n")?;
+        lines.push_str(line.as_str())?;
+    }
+    Ok(lines)
+}
+
+#[test]
+fn explains_keys(rt: HostRuntime) -> Result<(), Fail> {
+    let alloc = rt.alloc();
+    assert_eq!(rt; explained(alloc, TOP, INTERFACE, "")?.as_str(), "");
+    let rows = [
+        (
+            "mtu = 100\n",
+            "interface 0: mtu: 576 to 9000 wanted, 100 found\n",
+        ),
+        (
+            "mtu = \"big\"\n",
+            "interface 0: mtu: 576 to 9000 wanted, \"big\" found\n",
+        ),
+        (
+            "dead = 10\n",
+            "interface 0: dead: more than `hello` wanted, 10 found\n",
+        ),
+        (
+            "colour = \"red\"\n",
+            "interface 0: colour: a known key wanted, \"red\" found\n",
+        ),
+        (
+            "peers = [1]\n",
+            "interface 0: peers: a list of at most 32 numbers, each 1024 to 65535, wanted, a list of 1 found\n",
+        ),
+        (
+            "[[interface]]\nkind = \"broadcast\"\naddress = \"10.1.0.1/24\"\n",
+            "interface 1: cost: 1 to 65535 wanted, nothing found\n",
+        ),
+        (
+            "[[interface]]\nkind = \"broadcast\"\naddress = \"10.1.0.1/24\"\ncost = 0\n",
+            "interface 1: cost: 1 to 65535 wanted, 0 found\n",
+        ),
+        (
+            "[[interface]]\nkind = \"broadcast\"\naddress = \"10.0.0.2/30\"\ncost = 1\n",
+            "interface 1: address: a prefix and an address that no interface before has wanted, \"10.0.0.2/30\" found\n",
+        ),
+        ("hello = 1\nmtu 7\n", "line 9: no TOML\n"),
+    ];
+    for (third, told) in rows.iter() {
+        assert_eq!(rt; explained(alloc, TOP, INTERFACE, third)?.as_str(), *told);
+    }
+    Ok(())
+}
+
+#[test]
+fn explains_the_top(rt: HostRuntime) -> Result<(), Fail> {
+    let alloc = rt.alloc();
+    let told = explained(
+        alloc,
+        "router_id = 5\n",
+        "stub_router = true\n",
+        "area = \"0.0.0.0\"\ninterface = []\n",
+    )?;
+    let wanted =
+        "router_id: a dotted text, as \"10.0.0.1\", other than \"0.0.0.0\", wanted, 5 found\n";
+    assert_eq!(rt; told.as_str(), wanted);
+    let told = explained(alloc, "stub_router = 1\n", "", "")?;
+    let wanted =
+        "router_id: a dotted text, as \"10.0.0.1\", other than \"0.0.0.0\", wanted, nothing found\n\
+        area: a dotted text, as \"0.0.0.1\", wanted, nothing found\n\
+        interface: 1 to 32 tables [[interface]] wanted, nothing found\n";
+    assert_eq!(rt; told.as_str(), wanted);
+    Ok(())
+}
+
+#[test]
+fn prints_each_fault(rt: HostRuntime) -> Result<(), Fail> {
+    let alloc = rt.alloc();
+    let faults = [
+        (ConfigFault::NotToml, "C1 NotToml"),
+        (ConfigFault::Missing, "C2 Missing"),
+        (ConfigFault::Type, "C3 Type"),
+        (ConfigFault::Range, "C4 Range"),
+        (ConfigFault::ZeroCost, "C5 ZeroCost"),
+        (ConfigFault::SamePrefix, "C6 SamePrefix"),
+        (ConfigFault::DeadNotOverHello, "C7 DeadNotOverHello"),
+        (ConfigFault::Unknown, "C8 Unknown"),
+        (ConfigFault::Memory, "C9 Memory"),
+    ];
+    for (fault, text) in faults.iter() {
+        assert_eq!(rt; format!(in alloc; "{fault}")?.as_str(), *text);
+    }
+    Ok(())
+}

@@ -1,0 +1,5 @@
+//! The tests of `ospf_election`.
+#![tactic(auto)]
+
+#[cfg(test)]
+mod tests;

@@ -1,0 +1,5 @@
+use Rattle.ospf_fib_tests.proofs.tests.race.opened_race.Given as goal
+
+-- the forwarding table that was just opened
+abbrev pub ghosts-race : goal.ghosts-race
+ghosts-race g a = record { fib = a.writer.fib }

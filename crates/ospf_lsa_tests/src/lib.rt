@@ -1,0 +1,5 @@
+//! The tests of `ospf_lsa`.
+#![tactic(auto)]
+
+#[cfg(test)]
+mod tests;

@@ -1,0 +1,474 @@
+//! The numbers and contents of own LSAs over an area, against sums that were computed elsewhere.
+
+ghost use Rattle.std.specs.Prelude.{IfOk, OnOk};
+ghost use Rattle.ospf_originate.specs.Sound.{AreSetUp, IsSetUp, IsSound};
+
+use ospf_area::{Area, Link as AreaLink, LinkSettings, Origin, Outputs};
+use ospf_base::{Addr, AreaId, Instance, InterfaceKind, Kind, LsaKey, MAX_AGE, RouterId, is_mask};
+use ospf_iface::{Iface, IfaceSettings, IfaceState};
+use ospf_lsa::{LinkKind, Lsa, LsaView};
+use ospf_lsdb::Lsdb;
+use ospf_neighbour::{NbrEvent, Neighbour, Neighbours};
+use ospf_originate::own_lsas;
+use ospf_update::{on_lsa, remove};
+use std::alloc::Global;
+use std::collections::BTreeSet;
+use std::test::Fail;
+
+const NO_FLOOR: i32 = i32::MIN;
+
+// 0x80000001, the number that a router uses first.
+const FIRST: i32 = -0x7fff_ffff;
+
+// 255.255.255.252
+const MASK: u32 = 0xffff_fffc;
+
+// A router at an end of the link, and its address there.
+#[derive(Clone, Copy)]
+struct End {
+    router: RouterId,
+    address: Addr,
+}
+
+// 1.1.1.1 at 10.0.0.1
+const ONE: End = End {
+    router: RouterId(0x0101_0101),
+    address: Addr(0x0a00_0001),
+};
+
+// 2.2.2.2 at 10.0.0.2
+const TWO: End = End {
+    router: RouterId(0x0202_0202),
+    address: Addr(0x0a00_0002),
+};
+
+const ROUTER_KEY: LsaKey = LsaKey {
+    kind: Kind::Router,
+    id: 0x0101_0101,
+    router: RouterId(0x0101_0101),
+};
+
+const NETWORK_KEY: LsaKey = LsaKey {
+    kind: Kind::Network,
+    id: 0x0a00_0001,
+    router: RouterId(0x0101_0101),
+};
+
+fn full(alloc: Global, end: End) -> Neighbour {
+    let mut neighbour = Neighbour::new(alloc, end.router, end.address);
+    neighbour.event(NbrEvent::HelloReceived, 40);
+    neighbour.event(NbrEvent::TwoWayReceived(true), 40);
+    neighbour.event(NbrEvent::NegotiationDone, 40);
+    neighbour.event(NbrEvent::ExchangeDone, 40);
+    neighbour
+}
+
+fn neighbours(alloc: Global, other: Option<End>) -> Result<Neighbours, Fail> {
+    let mut neighbours = Neighbours::new(alloc);
+    if let Some(other) = other {
+        if neighbours.get(other.router).is_some() {
+            return Err("there already".into());
+        }
+        neighbours.add(full(alloc, other))?;
+    }
+    Ok(neighbours)
+}
+
+fn settings(own: End, kind: InterfaceKind) -> IfaceSettings {
+    IfaceSettings {
+        router: own.router,
+        kind,
+        address: own.address,
+        mask: MASK,
+        priority: 1,
+        hello: 10,
+        dead: 40,
+    }
+}
+
+fn iface(own: End, state: IfaceState) -> Iface {
+    let (kind, dr) = match state {
+        IfaceState::Dr => (InterfaceKind::Broadcast, own.address),
+        _ => (InterfaceKind::PointToPoint, Addr::NOWHERE),
+    };
+    Iface {
+        settings: settings(own, kind),
+        state,
+        dr,
+        backup: Addr::NOWHERE,
+        wait: 0,
+        hello_in: 0,
+    }
+}
+
+// The link of cost 10, of a router that is its Designated Router or has it as point-to-point, and is fully adjacent to
+// this one if there is one.
+fn link(alloc: Global, own: End, state: IfaceState, other: Option<End>) -> Result<AreaLink, Fail>
+    ensures { IfOk result (λ l. IsSetUp l) }
+{
+    let neighbours = neighbours(alloc, other)?;
+    let iface = iface(own, state);
+    let settings = LinkSettings {
+        cost: 10,
+        retransmit: 5,
+        transmit_delay: 1,
+        mtu: 1500,
+    };
+    if neighbours.all().len() > 1 {
+        return Err("more than one neighbour".into());
+    }
+    if !is_mask(iface.settings.mask) {
+        return Err("a mask with a hole".into());
+    }
+    Ok(AreaLink {
+        iface,
+        settings,
+        neighbours,
+        delayed: Vec::new(alloc),
+        elects: false,
+    })
+}
+
+fn links(
+    alloc: Global,
+    own: End,
+    state: IfaceState,
+    other: Option<End>,
+) -> Result<Vec<AreaLink>, Fail>
+    ensures { IfOk result (λ ls. AreSetUp ls.items) }
+{
+    let mut links = Vec::new(alloc);
+    links.push(link(alloc, own, state, other)?)?;
+    Ok(links)
+}
+
+// A router that has just started.
+fn area(alloc: Global, own: End, stub_router: bool, floor: i32, links: Vec<AreaLink>) -> Area
+    requires { AreSetUp links.items }
+    ensures { IsSound result }
+{
+    Area {
+        router: own.router,
+        area: AreaId(0),
+        stub_router,
+        links,
+        database: Lsdb::new(alloc),
+        direct: Vec::new(alloc),
+        numbering: Vec::new(alloc),
+        floor,
+        tick: 0,
+        next_dd: 1,
+        sent: BTreeSet::new(alloc),
+        heard: Vec::new(alloc),
+        greatest: floor,
+    }
+}
+
+// 1.1.1.1, with the link up, fully adjacent to 2.2.2.2 or not.
+fn one(alloc: Global, stub_router: bool, floor: i32, other: Option<End>) -> Result<Area, Fail>
+    ensures { IfOk result (λ a. IsSound a) }
+{
+    let links = links(alloc, ONE, IfaceState::PointToPoint, other)?;
+    Ok(area(alloc, ONE, stub_router, floor, links))
+}
+
+// The links are others at a later tick.
+fn go_on(area: &mut Area, links: Vec<AreaLink>, tick: u64)
+    requires sound { IsSound area.old }
+    requires links { AreSetUp links.items }
+    ensures { IsSound area.new }
+{
+    area.links = links;
+    area.tick = tick;
+}
+
+// What a step issues, as kinds, numbers and sums.
+fn step(area: &mut Area, alloc: Global) -> Result<Vec<Instance>, Fail>
+    requires { IsSound area.old }
+    ensures { OnOk result (IsSound area.new) }
+{
+    let mut out = Outputs::new(alloc);
+    own_lsas(area, &mut out, alloc)?;
+    let mut issued = Vec::new(alloc);
+    for lsa in &out.issued {
+        issued.push(lsa.view().instance())?;
+    }
+    Ok(issued)
+}
+
+// An LSA comes from 2.2.2.2.
+fn hear(area: &mut Area, lsa: &Lsa, alloc: Global) -> Result<(), Fail>
+    requires { IsSound area.old }
+    ensures { OnOk result (IsSound area.new) }
+{
+    let from = Origin {
+        link: 0,
+        router: TWO.router,
+        address: TWO.address,
+    };
+    let mut out = Outputs::new(alloc);
+    on_lsa(area, from, &lsa.view(), &mut out, alloc)?;
+    Ok(())
+}
+
+// The copy of a key, which is at MaxAge, leaves.
+fn leave(area: &mut Area, key: LsaKey, alloc: Global) -> Result<(), Fail>
+    requires { IsSound area.old }
+    ensures { OnOk result (IsSound area.new) }
+{
+    if area.database.get(&key).is_none() {
+        return Err("no copy".into());
+    }
+    let mut out = Outputs::new(alloc);
+    remove(area, &mut out, alloc)?;
+    Ok(())
+}
+
+// A step issues nothing.
+fn rests(area: &mut Area, alloc: Global) -> Result<bool, Fail>
+    requires { IsSound area.old }
+    ensures { OnOk result (IsSound area.new) }
+{
+    let issued = step(area, alloc)?;
+    Ok(issued.is_empty())
+}
+
+// A step issues one LSA, of this key, number and sum.
+fn issues(area: &mut Area, key: LsaKey, number: i32, sum: u16, alloc: Global) -> Result<bool, Fail>
+    requires { IsSound area.old }
+    ensures { OnOk result (IsSound area.new) }
+{
+    let issued = step(area, alloc)?;
+    let instance = Instance { key, number, sum };
+    Ok(issued.len() == 1 && issued.iter().all(|i| i.is_same(&instance)))
+}
+
+// A step issues one LSA, with this number.
+fn issues_number(area: &mut Area, number: i32, alloc: Global) -> Result<bool, Fail>
+    requires { IsSound area.old }
+    ensures { OnOk result (IsSound area.new) }
+{
+    let issued = step(area, alloc)?;
+    Ok(issued.len() == 1 && issued.iter().all(|i| i.number == number))
+}
+
+// At a later tick the link is in another state, fully adjacent to 2.2.2.2 or not.
+fn change(
+    area: &mut Area,
+    state: IfaceState,
+    other: Option<End>,
+    tick: u64,
+    alloc: Global,
+) -> Result<(), Fail>
+    requires { IsSound area.old }
+    ensures { OnOk result (IsSound area.new) }
+{
+    let links = links(alloc, ONE, state, other)?;
+    go_on(area, links, tick);
+    Ok(())
+}
+
+// The copy of a key is at MaxAge.
+fn is_expired(area: &Area, key: LsaKey) -> bool {
+    match area.database.get(&key) {
+        Some(copy) => copy.age().ticks() == MAX_AGE,
+        None => false,
+    }
+}
+
+// Without a neighbour there is one stub link, and the first number.
+#[test]
+fn first_number(rt: HostRuntime) -> Result<(), Fail> {
+    let alloc = rt.alloc();
+    let mut area = one(alloc, false, NO_FLOOR, None)?;
+    assert!(rt; issues_number(&mut area, FIRST, alloc)?);
+    assert_eq!(rt; area.greatest, FIRST);
+    assert!(rt; has_one_stub_link(&area));
+    Ok(())
+}
+
+fn has_one_stub_link(area: &Area) -> bool {
+    match area.database.get(&ROUTER_KEY) {
+        Some(copy) => is_one_stub_link(&copy.lsa()),
+        None => false,
+    }
+}
+
+fn is_one_stub_link(lsa: &LsaView<'_>) -> bool {
+    match lsa.kind() {
+        Kind::Router => {
+            let mut links = lsa.links();
+            match links.next() {
+                Some(link) => matches!(link.kind, LinkKind::Stub) && links.next().is_none(),
+                None => false,
+            }
+        }
+        Kind::Network => false,
+    }
+}
+
+// With 2.2.2.2 Full: the router-LSA of two links, byte for byte, and the next number.
+#[test]
+fn contents_with_a_neighbour(rt: HostRuntime) -> Result<(), Fail> {
+    let alloc = rt.alloc();
+    let mut area = one(alloc, false, FIRST, Some(TWO))?;
+    assert!(rt; issues(&mut area, ROUTER_KEY, FIRST + 1, 0xe02d, alloc)?);
+    assert!(rt; has_both_links(&area));
+    Ok(())
+}
+
+fn has_both_links(area: &Area) -> bool {
+    let expected = [
+        0u8, 0, 2, 1, 1, 1, 1, 1, 1, 1, 1, 1, 0x80, 0, 0, 2, 0xe0, 0x2d, 0, 0x30, 0, 0, 0, 2, 2, 2,
+        2, 2, 10, 0, 0, 1, 1, 0, 0, 10, 10, 0, 0, 0, 255, 255, 255, 252, 3, 0, 0, 10,
+    ];
+    match area.database.get(&ROUTER_KEY) {
+        Some(copy) => copy.lsa().as_bytes()[2..] == expected[2..],
+        None => false,
+    }
+}
+
+// A change four ticks after the issue issues nothing, and at the fifth tick it does.
+#[test]
+fn a_change_waits(rt: HostRuntime) -> Result<(), Fail> {
+    let alloc = rt.alloc();
+    let mut area = one(alloc, false, NO_FLOOR, None)?;
+    assert!(rt; issues_number(&mut area, FIRST, alloc)?);
+    change(&mut area, IfaceState::PointToPoint, Some(TWO), 4, alloc)?;
+    assert!(rt; rests(&mut area, alloc)?);
+    change(&mut area, IfaceState::PointToPoint, Some(TWO), 5, alloc)?;
+    assert!(rt; issues(&mut area, ROUTER_KEY, FIRST + 1, 0xe02d, alloc)?);
+    Ok(())
+}
+
+// The metric to the neighbour is the largest, that of the subnet is not.
+#[test]
+fn stub_routers(rt: HostRuntime) -> Result<(), Fail> {
+    let alloc = rt.alloc();
+    let mut area = one(alloc, true, FIRST, Some(TWO))?;
+    assert!(rt; issues(&mut area, ROUTER_KEY, FIRST + 1, 0x2ceb, alloc)?);
+    Ok(())
+}
+
+// The other end of the link.
+#[test]
+fn the_other_router(rt: HostRuntime) -> Result<(), Fail> {
+    let alloc = rt.alloc();
+    let links = links(alloc, TWO, IfaceState::PointToPoint, Some(ONE))?;
+    let mut area = area(alloc, TWO, false, FIRST, links);
+    let key = LsaKey {
+        kind: Kind::Router,
+        id: 0x0202_0202,
+        router: TWO.router,
+    };
+    assert!(rt; issues(&mut area, key, FIRST + 1, 0x8088, alloc)?);
+    Ok(())
+}
+
+#[test]
+fn numbers_begin_above_the_floor(rt: HostRuntime) -> Result<(), Fail> {
+    let alloc = rt.alloc();
+    let mut area = one(alloc, false, FIRST + 6, None)?;
+    assert!(rt; issues(&mut area, ROUTER_KEY, FIRST + 7, 0x41f1, alloc)?);
+    assert_eq!(rt; area.greatest, FIRST + 7);
+    Ok(())
+}
+
+// The last number, then a flush, and the first number once the copy has left.
+#[test]
+fn numbers_begin_again(rt: HostRuntime) -> Result<(), Fail> {
+    let alloc = rt.alloc();
+    let mut area = one(alloc, false, 0x7fff_fffe, None)?;
+    assert!(rt; issues(&mut area, ROUTER_KEY, 0x7fff_ffff, 0x56e5, alloc)?);
+    assert!(rt; goes_down(&mut area, alloc)?);
+    leave(&mut area, ROUTER_KEY, alloc)?;
+    assert!(rt; issues(&mut area, ROUTER_KEY, FIRST, 0x3328, alloc)?);
+    assert_eq!(rt; area.greatest, 0x7fff_ffff);
+    Ok(())
+}
+
+// The link goes down: the router-LSA is flushed, and then left as it is.
+fn goes_down(area: &mut Area, alloc: Global) -> Result<bool, Fail>
+    requires { IsSound area.old }
+    ensures { OnOk result (IsSound area.new) }
+{
+    change(area, IfaceState::Down, None, 5, alloc)?;
+    let first = rests(area, alloc)?;
+    let then = rests(area, alloc)?;
+    Ok(first && then && is_expired(area, ROUTER_KEY))
+}
+
+// A network-LSA that was flushed and is wanted again has the number after its last one.
+#[test]
+fn numbers_outlive_a_flush(rt: HostRuntime) -> Result<(), Fail> {
+    let alloc = rt.alloc();
+    let links = links(alloc, ONE, IfaceState::Dr, Some(TWO))?;
+    let mut area = area(alloc, ONE, false, NO_FLOOR, links);
+    step(&mut area, alloc)?;
+    assert!(rt; stands_alone(&mut area, alloc)?);
+    leave(&mut area, NETWORK_KEY, alloc)?;
+    change(&mut area, IfaceState::Dr, Some(TWO), 5, alloc)?;
+    assert!(rt; issues_number(&mut area, FIRST + 1, alloc)?);
+    Ok(())
+}
+
+// No one is fully adjacent any more: the network-LSA is flushed.
+fn stands_alone(area: &mut Area, alloc: Global) -> Result<bool, Fail>
+    requires { IsSound area.old }
+    ensures { OnOk result (IsSound area.new) }
+{
+    change(area, IfaceState::Dr, None, 1, alloc)?;
+    let none = rests(area, alloc)?;
+    Ok(none && is_expired(area, NETWORK_KEY))
+}
+
+#[test]
+fn a_newer_one_that_was_heard(rt: HostRuntime) -> Result<(), Fail> {
+    let alloc = rt.alloc();
+    let mut area = one(alloc, false, NO_FLOOR, Some(TWO))?;
+    assert!(rt; issues_number(&mut area, FIRST, alloc)?);
+    let lsa = Lsa::router(alloc, ONE.router, FIRST + 4, &[])?;
+    hear(&mut area, &lsa, alloc)?;
+    assert!(rt; issues_number(&mut area, FIRST + 5, alloc)?);
+    Ok(())
+}
+
+// A network-LSA of the router's address that it does not want is flushed, all its other bytes as they were.
+#[test]
+fn one_that_is_not_wanted(rt: HostRuntime) -> Result<(), Fail> {
+    let alloc = rt.alloc();
+    let mut area = one(alloc, false, NO_FLOOR, Some(TWO))?;
+    assert!(rt; issues_number(&mut area, FIRST, alloc)?);
+    let routers = [ONE.router, TWO.router];
+    let lsa = Lsa::network(alloc, ONE.address.0, ONE.router, FIRST + 2, MASK, &routers)?;
+    hear(&mut area, &lsa, alloc)?;
+    assert!(rt; flushes(&mut area, &lsa, alloc)?);
+    assert!(rt; is_expired(&area, NETWORK_KEY));
+    Ok(())
+}
+
+// A step issues nothing, and sends one datagram, an Update of the LSA at MaxAge.
+fn flushes(area: &mut Area, lsa: &Lsa, alloc: Global) -> Result<bool, Fail>
+    requires { IsSound area.old }
+    ensures { OnOk result (IsSound area.new) }
+{
+    let mut out = Outputs::new(alloc);
+    own_lsas(area, &mut out, alloc)?;
+    Ok(out.issued.is_empty() && was_flushed(&out, &lsa.view()))
+}
+
+fn was_flushed(out: &Outputs, lsa: &LsaView<'_>) -> bool {
+    let [sent] = out.sent() else {
+        return false;
+    };
+    match sent.bytes.get(28..) {
+        Some(copy) => match LsaView::read(copy) {
+            Ok(copy) => {
+                let expired = copy.header().age.ticks() == MAX_AGE;
+                expired && copy.as_bytes()[2..] == lsa.as_bytes()[2..]
+            }
+            Err(_) => false,
+        },
+        None => false,
+    }
+}

@@ -1,0 +1,306 @@
+//! Lines that are read, lines that are not, and what is printed.
+
+use ospf_base::{Addr, Instance, Kind, LsaKey, RouterId};
+use ospf_script::{
+    Command, FloorShown, LineFault, ListedShown, NeighbourShown, RefusalShown, WalkShown,
+    first_line, lines, words_spell_one_command,
+};
+use std::alloc::Global;
+use std::process::Abort;
+use std::test::Fail;
+
+const ONE: RouterId = RouterId(0x0101_0101);
+
+// A line spells a command, which is printed as this text.
+fn spells(
+    rt: &impl Abort,
+    alloc: Global,
+    line: &str,
+    command: &Command,
+    printed: &str,
+) -> Result<(), LineFault> {
+    let read = Command::read(alloc, line.as_bytes())?;
+    assert_eq!(rt; read.as_ref(), Some(command), "{line}");
+    assert_eq!(rt; format!(in alloc; "{command}")?.as_str(), printed);
+    Ok(())
+}
+
+#[test]
+fn events(rt: HostRuntime) -> Result<(), Fail> {
+    let alloc = rt.alloc();
+    let start = |dd_start: u32, floor: i32| Command::Start {
+        router: ONE,
+        dd_start,
+        floor,
+    };
+    spells(
+        &rt,
+        alloc,
+        "start 1.1.1.1 100",
+        &start(100, i32::MIN),
+        "start 1.1.1.1 100 80000000",
+    )?;
+    spells(
+        &rt,
+        alloc,
+        "start 1.1.1.1 4294967295 7FFFfffe",
+        &start(u32::MAX, i32::MAX - 1),
+        "start 1.1.1.1 4294967295 7ffffffe",
+    )?;
+    spells(
+        &rt,
+        alloc,
+        " start  1.1.1.1 007 00000000 ",
+        &start(7, 0),
+        "start 1.1.1.1 7 00000000",
+    )?;
+    spells(
+        &rt,
+        alloc,
+        "stop 1.1.1.1",
+        &Command::Stop { router: ONE },
+        "stop 1.1.1.1",
+    )?;
+    spells(
+        &rt,
+        alloc,
+        "tick 1.1.1.1",
+        &Command::Tick { router: ONE },
+        "tick 1.1.1.1",
+    )?;
+    let up = Command::LinkUp {
+        router: ONE,
+        link: usize::MAX,
+    };
+    spells(
+        &rt,
+        alloc,
+        "up 1.1.1.1 18446744073709551615",
+        &up,
+        "up 1.1.1.1 18446744073709551615",
+    )?;
+    let down = Command::LinkDown {
+        router: ONE,
+        link: 2,
+    };
+    spells(&rt, alloc, "down 1.1.1.1 02", &down, "down 1.1.1.1 2")?;
+    let deliver = Command::Deliver {
+        datagram: 5,
+        router: ONE,
+        link: 3,
+    };
+    spells(
+        &rt,
+        alloc,
+        "deliver 5 1.1.1.1 3",
+        &deliver,
+        "deliver 5 1.1.1.1 3",
+    )?;
+    spells(
+        &rt,
+        alloc,
+        "round 20",
+        &Command::Round { count: 20 },
+        "round 20",
+    )?;
+    let random = Command::Random {
+        number: 7,
+        count: 5000,
+    };
+    spells(&rt, alloc, "random 7 5000", &random, "random 7 5000")?;
+    Ok(())
+}
+
+#[test]
+fn printing(rt: HostRuntime) -> Result<(), Fail> {
+    let alloc = rt.alloc();
+    spells(
+        &rt,
+        alloc,
+        "neighbours 1.1.1.1",
+        &Command::Neighbours { router: ONE },
+        "neighbours 1.1.1.1",
+    )?;
+    spells(
+        &rt,
+        alloc,
+        "listing 1.1.1.1",
+        &Command::Listing { router: ONE },
+        "listing 1.1.1.1",
+    )?;
+    spells(
+        &rt,
+        alloc,
+        "table 1.1.1.1",
+        &Command::Table { router: ONE },
+        "table 1.1.1.1",
+    )?;
+    spells(
+        &rt,
+        alloc,
+        "floor 1.1.1.1",
+        &Command::Floor { router: ONE },
+        "floor 1.1.1.1",
+    )?;
+    let walk = |choices: Vec<u32>| Command::Walk {
+        from: ONE,
+        address: Addr(0x0a09_0909),
+        choices,
+    };
+    spells(
+        &rt,
+        alloc,
+        "walk 1.1.1.1 10.9.9.9",
+        &walk(Vec::new(alloc)),
+        "walk 1.1.1.1 10.9.9.9",
+    )?;
+    let choices = [0, 4_294_967_295].to_vec(alloc)?;
+    spells(
+        &rt,
+        alloc,
+        "walk 1.1.1.1 10.9.9.9 0  4294967295",
+        &walk(choices),
+        "walk 1.1.1.1 10.9.9.9 0 4294967295",
+    )?;
+    Ok(())
+}
+
+// Each is refused for one reason.
+const UNREADABLE: [&[u8]; 26] = [
+    b"nonsense",
+    b"TICK 1.1.1.1",
+    b"tick",
+    b"tick 1.1.1.1 2",
+    b"tick\t1.1.1.1",
+    b"tick 1.1.1.1\r",
+    b"tick 01.1.1.1",
+    b"tick 1.1.1",
+    b"tick 1.1.1.256",
+    b"tick 1.1.1.\xff",
+    b"tick 1.1.1.\xc3\xa9",
+    b"up 1.1.1.1",
+    b"up 1.1.1.1 x",
+    b"up 1.1.1.1 +1",
+    b"up 1.1.1.1 -1",
+    b"up 1.1.1.1 18446744073709551616",
+    b"start 1.1.1.1",
+    b"start 1.1.1.1 4294967296",
+    b"start 1.1.1.1 1 8000000",
+    b"start 1.1.1.1 1 080000000",
+    b"start 1.1.1.1 1 8000000g",
+    b"start 1.1.1.1 1 +0000000",
+    b"start 1.1.1.1 1 80000000 1",
+    b"walk 1.1.1.1",
+    b"walk 1.1.1.1 10.9.9",
+    b"walk 1.1.1.1 10.9.9.9 0 4294967296",
+];
+
+#[test]
+fn unreadable(rt: HostRuntime) {
+    for line in UNREADABLE {
+        assert_eq!(rt;
+            Command::read(rt.alloc(), line),
+            Err(LineFault::NotACommand)
+        );
+    }
+}
+
+#[test]
+fn blank(rt: HostRuntime) {
+    assert_eq!(rt; Command::read(rt.alloc(), b""), Ok(None));
+    assert_eq!(rt; Command::read(rt.alloc(), b"   "), Ok(None));
+}
+
+#[test]
+fn law() {
+    words_spell_one_command();
+}
+
+#[test]
+fn faults(rt: HostRuntime) -> Result<(), Fail> {
+    let alloc = rt.alloc();
+    let fault = LineFault::NotACommand;
+    assert_eq!(rt; format!(in alloc; "{fault}")?.as_str(), "not a command");
+    let fault = LineFault::Memory;
+    assert_eq!(rt; format!(in alloc; "{fault}")?.as_str(), "Memory");
+    Ok(())
+}
+
+#[test]
+fn numbered(rt: HostRuntime) -> Result<(), Fail> {
+    let found = lines(rt.alloc(), b"tick 1.1.1.1\r\n\n  \nround 1\r\r\nend\r")?;
+    let expected: [(u64, &[u8]); 5] = [
+        (1, b"tick 1.1.1.1"),
+        (2, b""),
+        (3, b"  "),
+        (4, b"round 1\r"),
+        (5, b"end\r"),
+    ];
+    assert_eq!(rt; found.len(), 5);
+    for (line, (number, text)) in found.iter().zip(expected) {
+        assert_eq!(rt; line.number, number);
+        assert_eq!(rt; line.text, text);
+    }
+    assert_eq!(rt; lines(rt.alloc(), b"\n")?.len(), 1);
+    assert_eq!(rt; first_line(b""), None);
+    Ok(())
+}
+
+#[test]
+fn printed(rt: HostRuntime) -> Result<(), Fail> {
+    let alloc = rt.alloc();
+    let floor = FloorShown(i32::MAX);
+    assert_eq!(rt; format!(in alloc; "{floor}")?.as_str(), "7fffffff");
+    let refusal = RefusalShown {
+        number: 7,
+        fault: "W8 Floor",
+    };
+    assert_eq!(rt;
+        format!(in alloc; "{refusal}")?.as_str(),
+        "line 7: W8 Floor"
+    );
+    let neighbour = NeighbourShown {
+        link: 0,
+        router: RouterId(0x0202_0202),
+        state: "Full",
+    };
+    assert_eq!(rt;
+        format!(in alloc; "{neighbour}")?.as_str(),
+        "0 2.2.2.2 Full"
+    );
+    let walk = WalkShown {
+        routers: &[ONE, RouterId(0x0404_0404), RouterId(0x0303_0303)],
+        cost: 23,
+        end: "arrived",
+    };
+    assert_eq!(rt;
+        format!(in alloc; "{walk}")?.as_str(),
+        "1.1.1.1 4.4.4.4 3.3.3.3 cost 23 arrived"
+    );
+    Ok(())
+}
+
+#[test]
+fn listed(rt: HostRuntime) -> Result<(), Fail> {
+    let alloc = rt.alloc();
+    let instance = |kind: Kind, id: u32, number: i32, sum: u16| Instance {
+        key: LsaKey {
+            kind,
+            id,
+            router: ONE,
+        },
+        number,
+        sum,
+    };
+    let own = ListedShown(instance(Kind::Router, 0x0101_0101, i32::MIN + 2, 0xe02d));
+    assert_eq!(rt;
+        format!(in alloc; "{own}")?.as_str(),
+        "router 1.1.1.1 1.1.1.1 80000002 e02d"
+    );
+    let network = ListedShown(instance(Kind::Network, 0x0a00_0001, 1, 0x2d));
+    assert_eq!(rt;
+        format!(in alloc; "{network}")?.as_str(),
+        "network 10.0.0.1 1.1.1.1 00000001 002d"
+    );
+    Ok(())
+}

@@ -1,0 +1,177 @@
+//! Two routers on a link, stepped by world events that are written by hand.
+
+use ospf_base::RouterId;
+use ospf_config::Config;
+use ospf_world::{World, WorldEvent, WorldFault};
+use std::alloc::Global;
+use std::test::Fail;
+
+const FIRST: &str =
+    "router_id = \"1.1.1.1\"\narea = \"0.0.0.0\"\n[[interface]]\nkind = \"point-to-point\"\naddress = \"10.0.0.1/30\"\ncost = 10\n";
+
+const SECOND: &str =
+    "router_id = \"2.2.2.2\"\narea = \"0.0.0.0\"\n[[interface]]\nkind = \"point-to-point\"\naddress = \"10.0.0.2/30\"\ncost = 10\n";
+
+const ONE: RouterId = RouterId(0x0101_0101);
+
+const TWO: RouterId = RouterId(0x0202_0202);
+
+const NOBODY: RouterId = RouterId(0x0909_0909);
+
+// No number is below it.
+const NO_FLOOR: i32 = -0x8000_0000;
+
+fn world(alloc: Global) -> Result<World, Fail> {
+    let mut configs = Vec::new(alloc);
+    configs.push(Config::from_text(alloc, FIRST)?)?;
+    configs.push(Config::from_text(alloc, SECOND)?)?;
+    Ok(World::new(configs, alloc)?)
+}
+
+fn start(router: RouterId, dd_start: u32) -> WorldEvent {
+    WorldEvent::Start {
+        router,
+        dd_start,
+        floor: NO_FLOOR,
+    }
+}
+
+// Each with what it is answered in a new world, in this order.
+fn six() -> [(WorldEvent, Result<(), WorldFault>); 6] {
+    [
+        (
+            WorldEvent::Tick { router: ONE },
+            Err(WorldFault::NotRunning),
+        ),
+        (
+            WorldEvent::LinkUp {
+                router: ONE,
+                link: 1,
+            },
+            Err(WorldFault::NoLink),
+        ),
+        (
+            WorldEvent::Deliver {
+                datagram: 0,
+                router: ONE,
+                link: 0,
+            },
+            Err(WorldFault::NoDatagram),
+        ),
+        (
+            WorldEvent::Tick { router: NOBODY },
+            Err(WorldFault::NoRouter),
+        ),
+        (start(ONE, 1), Ok(())),
+        (start(ONE, 2), Err(WorldFault::Running)),
+    ]
+}
+
+#[test]
+fn the_first_fault_is_answered(rt: HostRuntime) -> Result<(), Fail> {
+    let alloc = rt.alloc();
+    let mut world = world(alloc)?;
+    for (event, answer) in six() {
+        assert!(rt; world.step(event, alloc) == answer);
+    }
+    assert!(rt; world.router(ONE).is_ok());
+    assert!(rt; world.router(TWO).is_err());
+    Ok(())
+}
+
+#[test]
+fn refused_events_are_counted(rt: HostRuntime) -> Result<(), Fail> {
+    let alloc = rt.alloc();
+    let mut world = world(alloc)?;
+    let mut events = Vec::new(alloc);
+    for (event, _) in six() {
+        events.push(event)?;
+    }
+    assert_eq!(rt; world.run(&events, alloc)?, 5);
+    Ok(())
+}
+
+#[test]
+fn two_of_one_router_id_are_refused(rt: HostRuntime) -> Result<(), Fail> {
+    let alloc = rt.alloc();
+    let mut configs = Vec::new(alloc);
+    configs.push(Config::from_text(alloc, FIRST)?)?;
+    configs.push(Config::from_text(alloc, FIRST)?)?;
+    match World::new(configs, alloc) {
+        Ok(_) => Err(Fail::from("two of one Router ID")),
+        Err(fault) => {
+            assert_eq!(rt; fault, WorldFault::SameRouter);
+            Ok(())
+        }
+    }
+}
+
+// Each datagram that was sent since comes in at the other router.
+fn pass(world: &mut World, passed: usize, alloc: Global) -> Result<usize, Fail> {
+    let mut next = passed;
+    for _ in 0..1000u32 {
+        let Some(datagram) = world.datagrams().get(next) else {
+            return Ok(next);
+        };
+        let router = if datagram.router == ONE { TWO } else { ONE };
+        world.step(
+            WorldEvent::Deliver {
+                datagram: next,
+                router,
+                link: 0,
+            },
+            alloc,
+        )?;
+        next += 1;
+    }
+    Err(Fail::from("no end"))
+}
+
+#[test]
+fn two_routers_agree(rt: HostRuntime) -> Result<(), Fail> {
+    let alloc = rt.alloc();
+    let mut world = world(alloc)?;
+    for (router, dd_start) in [(ONE, 100), (TWO, 200)] {
+        world.step(start(router, dd_start), alloc)?;
+        world.step(WorldEvent::LinkUp { router, link: 0 }, alloc)?;
+    }
+    let mut passed = 0;
+    for _ in 0..20u32 {
+        world.step(WorldEvent::Tick { router: ONE }, alloc)?;
+        world.step(WorldEvent::Tick { router: TWO }, alloc)?;
+        passed = pass(&mut world, passed, alloc)?;
+    }
+    let mine = world.router(ONE)?.listing(alloc)?;
+    let other = world.router(TWO)?.listing(alloc)?;
+    for listing in [&mine, &other] {
+        let lsa = listing.lsas().get(1).ok_or("two LSAs")?;
+        let instance = lsa.view().instance();
+        assert_eq!(rt; instance.number, -0x7fff_fffe);
+        assert_eq!(rt; instance.sum, 0x8088);
+    }
+    assert_eq!(rt; world.slots().len(), 2);
+    assert!(rt; world.slots()[0].runs());
+    assert_eq!(rt; world.issued().len(), 4);
+    assert!(rt; world.held().len() >= 4);
+    assert_eq!(rt; world.ticks().len(), 40);
+    Ok(())
+}
+
+#[test]
+fn faults_are_printed(rt: HostRuntime) -> Result<(), Fail> {
+    let alloc = rt.alloc();
+    for (fault, text) in [
+        (WorldFault::NoRouter, "W1 NoRouter"),
+        (WorldFault::NoDatagram, "W2 NoDatagram"),
+        (WorldFault::NoLink, "W3 NoLink"),
+        (WorldFault::Running, "W4 Running"),
+        (WorldFault::NotRunning, "W5 NotRunning"),
+        (WorldFault::Memory { stopped: true }, "W6 Memory"),
+        (WorldFault::SameRouter, "W7 SameRouter"),
+        (WorldFault::Floor, "W8 Floor"),
+    ] {
+        let printed = format!(in alloc; "{fault}")?;
+        assert_eq!(rt; printed.as_str(), text);
+    }
+    Ok(())
+}
