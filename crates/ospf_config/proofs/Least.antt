@@ -1,5 +1,5 @@
 -- The least fault of several.
-use Rattle.std.proofs.Common.{◌≡◌, ◌≤◌, ◌⊎◌, ℕ, zero, suc, ℤ, pos, negsuc, Option, Some, None, Result, Ok, Err, nat_lt, inl, inr, refl, sym, ap, ◌∙◌, arith}
+use Rattle.std.proofs.Common.{◌≡◌, ◌≤◌, ◌⊎◌, zero, suc, ℤ, pos, negsuc, Option, Some, None, Result, Ok, Err, nat_lt, inl, inr, sym, ◌∙◌, arith}
 use Rattle.std.proofs.lemmas.Bool.{cases_Bool, cases_lt}
 use Rattle.std.proofs.lemmas.Bool.Decides.{nat_tests}
 use Rattle.std.specs.Result.{result_err}
@@ -73,37 +73,6 @@ least_of Holds f holds least = record { broken = holds; first = λ g lt here. (l
 
 pub least_number : (Holds : ConfigFault → Type 0) (f : ConfigFault) → IsLeast Holds f → (g : ConfigFault) → Holds g → fault_number f ≤ fault_number g
 least_number Holds f is g here = elim (cases_lt (fault_number g) (fault_number f)) [ inl lt ↦ absurd (is.first g lt here) | inr le ↦ le ]
-
-of_number : ℕ → ConfigFault
-of_number (suc zero) = fault.NotToml
-of_number (suc (suc zero)) = fault.Missing
-of_number (suc (suc (suc zero))) = fault.Type
-of_number (suc (suc (suc (suc zero)))) = fault.Range
-of_number (suc (suc (suc (suc (suc zero))))) = fault.ZeroCost
-of_number (suc (suc (suc (suc (suc (suc zero)))))) = fault.SamePrefix
-of_number (suc (suc (suc (suc (suc (suc (suc zero))))))) = fault.DeadNotOverHello
-of_number (suc (suc (suc (suc (suc (suc (suc (suc zero)))))))) = fault.Unknown
-of_number _ = fault.Memory
-
-number_back : (f : ConfigFault) → of_number (fault_number f) ≡ f
-unfolding of_number
-number_back fault.NotToml = refl
-number_back fault.Missing = refl
-number_back fault.Type = refl
-number_back fault.Range = refl
-number_back fault.ZeroCost = refl
-number_back fault.SamePrefix = refl
-number_back fault.DeadNotOverHello = refl
-number_back fault.Unknown = refl
-number_back fault.Memory = refl
-
--- there is one least
-pub least_one : (Holds : ConfigFault → Type 0) (f g : ConfigFault) → IsLeast Holds f → IsLeast Holds g → f ≡ g
-least_one Holds f g p q =
-    let below = least_number Holds f p g q.broken in
-    let above = least_number Holds g q f p.broken in
-    let same : fault_number f ≡ fault_number g = omega arith in
-    sym (number_back f) ∙ ap of_number same ∙ number_back g
 
 module _ {T : Type 0} (Reads : Result T ConfigFault → Type 0) (single : IsSingle Reads) where
   -- of one key

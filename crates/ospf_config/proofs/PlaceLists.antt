@@ -17,7 +17,7 @@ use Rattle.ospf_config.specs.declared.fault.ConfigFault.{ConfigFault}
 use Rattle.ospf_config.specs.declared.fault.ConfigFault.TheVariants as fault
 use Rattle.ospf_config.specs.declared.rows.Row.{Row}
 use Rattle.ospf_config.specs.Configs.{TextHasFault}
-use Rattle.ospf_config.specs.Explained.{KnownKey, KeyHas, key_name, item_number, IsValueText, IsFound, IsKeyPlace, IsKnownPlace, ArePlacesOf, no_key, taken, passed, IsPlaceWhere, told, not_told, AreTopPlaces, AreInConflict, AreInterfacePlaces, AreAllPlaces, one_more, AreTablePlaces, IsLineIn, IsExplained, keys_at_top, keys_of_interface, router_id_key, area_key, stub_router_key, interface_key, kind_key, address_key, cost_key, priority_key, hello_key, dead_key, retransmit_key, transmit_delay_key, mtu_key, port_key, peers_key}
+use Rattle.ospf_config.specs.Explained.{KnownKey, KeyHas, key_name, item_number, IsValueText, IsFound, IsKeyPlace, IsKnownPlace, ArePlacesOf, no_key, taken, passed, IsPlaceWhere, told, not_told, AreTopPlaces, AreInConflict, AreInterfacePlaces, AreAllPlaces, one_more, IsLineIn, IsExplained, keys_at_top, keys_of_interface, router_id_key, area_key, stub_router_key, interface_key, kind_key, address_key, cost_key, priority_key, hello_key, dead_key, retransmit_key, transmit_delay_key, mtu_key, port_key, peers_key}
 use Rattle.ospf_config.specs.Pairs.{EachPair}
 use Rattle.ospf_config.specs.Rows.{IsRowOf, Adds}
 use Rattle.ospf_config.specs.Tables.{IsDeadNotOverHello, IsTableWith, keys_of, tables_of}
@@ -34,7 +34,7 @@ adds_nothing Are old are = record { more = []; added = sym (append-nil old); are
 pub adds_one : (Are : List Explained → Type 0) (old : List Explained) (e : Explained) → Are (e ∷ []) → Adds Are old (old ++ e ∷ [])
 adds_one Are old e are = record { more = e ∷ []; added = refl; are = are }
 
-pub where_same : (A B : Type 0) (IsPlace : Explained → Type 0) (es : List Explained) → (A ↔ B) → IsPlaceWhere A IsPlace es → IsPlaceWhere B IsPlace es
+where_same : (A B : Type 0) (IsPlace : Explained → Type 0) (es : List Explained) → (A ↔ B) → IsPlaceWhere A IsPlace es → IsPlaceWhere B IsPlace es
 where_same A B IsPlace _ same (told fact is) = told (same.0 fact) is
 where_same A B IsPlace _ same (not_told none) = not_told (λ b. none (same.1 b))
 
@@ -120,7 +120,7 @@ module _ (t : Members) where
       subst (λ wanted. IsKeyPlace n t (key_name k) wanted e) is.wanted_is named
 
   -- the places of rows are those of their keys
-  pub row_places : (f : ConfigFault) (n : Option ℕ) (ks : List KnownKey) (rows : List Row) (es : List Explained) → EachPair (IsRowOf t) ks rows
+  row_places : (f : ConfigFault) (n : Option ℕ) (ks : List KnownKey) (rows : List Row) (es : List Explained) → EachPair (IsRowOf t) ks rows
       → ArePlacesOf (λ (row : Row). row.fault ≡ Some f) (λ row e. IsKeyPlace n t row.key.now row.wanted.now e) rows es → ArePlacesOf (KeyHas t f) (IsKnownPlace n t) ks es
   row_places f n [] _ _ each no_key = no_key
   row_places f n (k ∷ ks) _ _ each no_key = absurd each
@@ -132,7 +132,7 @@ module _ (t : Members) where
       passed (λ has. none (fault_of k f row.fault each.0.fault_is has)) (row_places f n ks rows es each.1 rest)
 
   -- those at the top, and of an interface, of a fault that is told by rows
-  pub top_places : (f : ConfigFault) (es : List Explained) → (f ≡ fault.Unknown → ⊥) → ArePlacesOf (KeyHas t f) (IsKnownPlace None t) keys_at_top es → AreTopPlaces t f es
+  top_places : (f : ConfigFault) (es : List Explained) → (f ≡ fault.Unknown → ⊥) → ArePlacesOf (KeyHas t f) (IsKnownPlace None t) keys_at_top es → AreTopPlaces t f es
   top_places fault.NotToml es other h = h
   top_places fault.Missing es other h = h
   top_places fault.Type es other h = h
@@ -143,7 +143,7 @@ module _ (t : Members) where
   top_places fault.Unknown es other h = absurd (other refl)
   top_places fault.Memory es other h = h
 
-  pub interface_places : (n : ℕ) (before : List Members) (f : ConfigFault) (es : List Explained) → (f ≡ fault.SamePrefix → ⊥) → (f ≡ fault.DeadNotOverHello → ⊥) → (f ≡ fault.Unknown → ⊥)
+  interface_places : (n : ℕ) (before : List Members) (f : ConfigFault) (es : List Explained) → (f ≡ fault.SamePrefix → ⊥) → (f ≡ fault.DeadNotOverHello → ⊥) → (f ≡ fault.Unknown → ⊥)
       → ArePlacesOf (KeyHas t f) (IsKnownPlace (Some n) t) keys_of_interface es → AreInterfacePlaces n before t f es
   interface_places n before fault.NotToml es a b c h = h
   interface_places n before fault.Missing es a b c h = h
@@ -168,7 +168,7 @@ item_number_of : (vs : List Value) → item_number (items_view vs) ≡ length vs
 item_number_of [] = refl
 item_number_of (v ∷ vs) = ap (λ n. 1 + n) (item_number_of vs) ∙ omega arith
 
-pub list_text : (d : Data) (vs : List Value) (text : List ℕ) → Some (items_view vs) ≡ as_array d → text ≡ codes "a list of " ++ decimal (length vs) → IsValueText d text
+list_text : (d : Data) (vs : List Value) (text : List ℕ) → Some (items_view vs) ≡ as_array d → text ≡ codes "a list of " ++ decimal (length vs) → IsValueText d text
 list_text (array ds) vs text e is = is ∙ ap (λ n. codes "a list of " ++ decimal n) (sym (item_number_of vs) ∙ ap item_number (same_Some (items_view vs) ds e))
 list_text (string s) vs text e is = absurd (none_is_some (items_view vs) (sym e))
 list_text (integer z) vs text e is = absurd (none_is_some (items_view vs) (sym e))
@@ -184,7 +184,7 @@ fault_error Reads single found o (Err f) e is reads = rw (e, is) reads
 
 -- ---- interfaces
 
-pub conflict_tables : (P : Members → Type 0) (vs : List Value) (b : Bool) → ((b ≡ true) ↔ Any (λ v. IsTableWith P (view v)) vs) → (b ≡ true) ↔ Any P (tables_of (items_view vs))
+conflict_tables : (P : Members → Type 0) (vs : List Value) (b : Bool) → ((b ≡ true) ↔ Any (λ v. IsTableWith P (view v)) vs) → (b ≡ true) ↔ Any P (tables_of (items_view vs))
 conflict_tables P vs b same = (λ yes. any_table P vs (same.0 yes), λ has. same.1 (any_value P vs has))
 
 -- the tables of the interfaces before the one of this number
@@ -221,17 +221,6 @@ line_explained text fault.SamePrefix line es none is at (t, parsed, h) = absurd 
 line_explained text fault.DeadNotOverHello line es none is at (t, parsed, h) = absurd (none_is_some t (sym none ∙ parsed))
 line_explained text fault.Unknown line es none is at (t, parsed, h) = absurd (none_is_some t (sym none ∙ parsed))
 line_explained text fault.Memory line es none is at (t, parsed, h) = absurd (none_is_some t (sym none ∙ parsed))
-
-pub table_places : (text : List ℕ) (t : Members) (f : ConfigFault) (es : List Explained) → parse_document text ≡ Some t → TextHasFault text f → AreTablePlaces t f es → IsExplained text f es
-table_places text t fault.NotToml es parsed has h = absurd (none_is_some t (sym has ∙ parsed))
-table_places text t fault.Missing es parsed has h = (t, parsed, h)
-table_places text t fault.Type es parsed has h = (t, parsed, h)
-table_places text t fault.Range es parsed has h = (t, parsed, h)
-table_places text t fault.ZeroCost es parsed has h = (t, parsed, h)
-table_places text t fault.SamePrefix es parsed has h = (t, parsed, h)
-table_places text t fault.DeadNotOverHello es parsed has h = (t, parsed, h)
-table_places text t fault.Unknown es parsed has h = (t, parsed, h)
-table_places text t fault.Memory es parsed has h = (t, parsed, h)
 
 -- ---- what is added of an interface, and at the top
 
