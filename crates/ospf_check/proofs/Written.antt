@@ -1,8 +1,11 @@
 -- What is told of files, one after the other.
-use Rattle.std.proofs.Common.{◌≡◌, ◌∙◌, ◌&&◌, Bool, true, false, ap, sym, subst, ◌+◌, ◌<◌, ℕ, List, [], ◌∷◌, ◌++◌, length, take, get_or, Option, append_assoc, append-nil, refl}
-use Rattle.std.proofs.lemmas.List.{take_more}
+use Rattle.std.proofs.Common.{◌≡◌, ◌∙◌, ◌&&◌, Bool, true, false, ap, sym, subst, ◌+◌, ◌<◌, ℕ, List, [], ◌∷◌, ◌++◌, length, take, get_or, flat_map, Option, append_assoc, append-nil, refl}
+use Rattle.std.proofs.lemmas.List.{take_more, flat_map_more}
+use Rattle.std.specs.Io.KnownBytes.{Appends}
+use Rattle.ospf_config.specs.Explained.{explained_text}
+use Rattle.ospf_config.specs.declared.explain.Explained.{Explained}
 use Rattle.ospf_files.proofs.Written.{both_written, nothing_written}
-use Rattle.ospf_check.specs.Checked.{AreTold, IsTold, IsWritten, IsWrittenOf, no_file, one_file}
+use Rattle.ospf_check.specs.Checked.{AreTold, IsTold, IsWritten, IsWrittenOf, no_file, one_file, place_line, said_line}
 use Rattle.ospf_files.specs.declared.files.NamedFile.{NamedFile}
 
 and_assoc : (a b c : Bool) → ((a && b) && c) ≡ (a && (b && c))
@@ -36,3 +39,11 @@ file_written explain a b c x y z files i file all accepted within at so_far next
       out_written = both_written a b c so_far.out next.out so_far.out_written next.out_written;
       err_written = both_written x y z so_far.err next.err so_far.err_written next.err_written;
     }
+
+-- the line of one place more
+pub place_written : (a b c : Option (List ℕ)) (places : List Explained) (i : ℕ) (place : Explained) (text : List ℕ) → i < length places → place ≡ get_or places i place
+    → text ≡ explained_text place → Appends a b (flat_map place_line (take i places)) → Appends b c (said_line text) → Appends a c (flat_map place_line (take (i + 1) places))
+place_written a b c places i place text within is shown so_far next =
+    let more = flat_map_more place_line [] (take i places) (get_or places i place) ∙ ap (flat_map place_line) (sym (take_more places i place within)) in
+    let line : Appends b c (place_line place) = subst (λ shown. Appends b c (said_line shown)) shown next in
+    subst (Appends a c) more (both_written a b c _ _ so_far (subst (λ q. Appends b c (place_line q)) is line))

@@ -1,9 +1,11 @@
 //! Configurations that are checked.
 
-ghost use Rattle.std.specs.Prelude.{◌≡◌, ◌≢◌, ◌⊎◌, ◌++◌, ℕ, List, true, false, codes, IfOk, IfErr, OnOk};
-ghost use Rattle.ospf_files.specs.Files.{refused_line};
+ghost use Rattle.std.specs.Prelude.{◌≡◌, ◌≢◌, ◌⊎◌, ◌++◌, ℕ, List, true, false, codes, flat_map, IfOk, IfErr, OnOk};
+ghost use Rattle.ospf_config.specs.Explained.{explained_text};
+ghost use Rattle.ospf_config.specs.declared.fault.ConfigFault.{ConfigFault};
+ghost use Rattle.ospf_files.specs.Files.{IsRefusedFor, refused_line};
 ghost use Rattle.std.specs.Io.KnownBytes.{Appends};
-ghost use Rattle.ospf_check.specs.Checked.{IsExplanation, IsWritten, IsWrittenOf, accepted_line};
+ghost use Rattle.ospf_check.specs.Checked.{IsExplanation, IsSaid, IsWritten, IsWrittenOf, accepted_line, place_line, said_line};
 
 use ospf_config::{Config, ConfigFault, Explained};
 use ospf_files::{Failure, NamedFile, Status, config_in, tell_refused, tell_unread};
@@ -46,7 +48,7 @@ fn tell_accepted<O: Write>(file: &NamedFile, out: &mut O) -> io::Result<()>
 
 // Says one thing about a file that is refused.
 fn tell_place<E: Write>(text: &str, err: &mut E) -> io::Result<()>
-    ensures { OnOk result (Appends (E.contents err.old) (E.contents err.new) (codes "  " ++ (text.now ++ codes "\n"))) }
+    ensures { OnOk result (Appends (E.contents err.old) (E.contents err.new) (said_line text.now)) }
 {
     writeln!(err, "  {text}")?;
     err.flush()?;
@@ -55,7 +57,7 @@ fn tell_place<E: Write>(text: &str, err: &mut E) -> io::Result<()>
 
 // Says what to do about the places that are wrong.
 fn tell_places<E: Write>(alloc: Global, places: &[Explained], err: &mut E) -> Result<(), CheckFault>
-    ensures { OnOk result ((more : List ℕ) × Appends (E.contents err.old) (E.contents err.new) more) }
+    ensures { OnOk result (Appends (E.contents err.old) (E.contents err.new) (flat_map place_line places.now)) }
 {
     for place in places {
         let text = format!(in alloc; "{place}")?;
@@ -69,7 +71,7 @@ fn tell_places<E: Write>(alloc: Global, places: &[Explained], err: &mut E) -> Re
 
 // Says what to do about a file that is refused.
 fn explain_file<E: Write>(alloc: Global, bytes: &[u8], err: &mut E) -> Result<(), CheckFault>
-    ensures { OnOk result ((more : List ℕ) × Appends (E.contents err.old) (E.contents err.new) more) }
+    ensures { (fault : ConfigFault) → IsRefusedFor bytes.now fault → OnOk result ((more : List ℕ) × IsSaid bytes.now fault more × Appends (E.contents err.old) (E.contents err.new) more) }
 {
     match str::from_utf8(bytes) {
         Ok(text) => {
@@ -92,7 +94,7 @@ fn refuse_file<E: Write>(
     explain: bool,
     err: &mut E,
 ) -> Result<(), CheckFault>
-    ensures { OnOk result ((more : List ℕ) × IsExplanation explain more × Appends (E.contents err.old) (E.contents err.new) (refused_line file.now fault ++ more)) }
+    ensures { IsRefusedFor bytes.now fault → OnOk result ((more : List ℕ) × IsExplanation explain bytes.now fault more × Appends (E.contents err.old) (E.contents err.new) (refused_line file.now fault ++ more)) }
 {
     match tell_refused(file, fault, err) {
         Ok(()) => {}

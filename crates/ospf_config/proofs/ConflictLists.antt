@@ -156,3 +156,8 @@ interfaces_apart ts xs h none i j d lt within c =
       second_address = s.address;
       conflict = c;
     })
+
+-- the addresses of two tables are in conflict however they are read
+pub conflict_of_both : (f s : Members) (a b c d : InterfaceAddress) → ReadsAddress f (Ok a) → ReadsAddress s (Ok b) → ReadsAddress f (Ok c) → ReadsAddress s (Ok d) → Conflict a b → Conflict c d
+conflict_of_both f s a b c d fa sb fc sd h =
+    conflict_same a b c d (address_one (get_member (codes "address") f) a c fa fc) (address_one (get_member (codes "address") s) b d sb sd) h

@@ -7,3 +7,4 @@ mod KeyLists
 mod ConflictLists
 mod FaultLemmas
 mod TextFaults
+mod PlaceLists

@@ -215,7 +215,7 @@ in_number (Some d) free =
 
 -- ---- values that are all tables
 
-tables_push : (ds : Items) (d : Data) (t : Members) → as_table d ≡ Some t → tables_of (push_item ds d) ≡ tables_of ds ++ t ∷ []
+pub tables_push : (ds : Items) (d : Data) (t : Members) → as_table d ≡ Some t → tables_of (push_item ds d) ≡ tables_of ds ++ t ∷ []
 tables_push no_items (table u) t e = ap (λ x. x ∷ []) (same_Some u t e)
 tables_push no_items (string s) t e = absurd (none_is_some t e)
 tables_push no_items (integer z) t e = absurd (none_is_some t e)

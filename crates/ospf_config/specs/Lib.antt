@@ -8,3 +8,5 @@ pub mod Conflicts
 pub mod Tables
 pub mod Interfaces
 pub mod Configs
+pub mod Explained
+pub mod Rows

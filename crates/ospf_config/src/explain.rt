@@ -1,22 +1,17 @@
 //! What to do about a text that is refused.
 
-ghost use Rattle.std.specs.Prelude.{◌≡◌, ℕ, List, codes, IfOk, []};
+ghost use Rattle.std.specs.Prelude.{◌≡◌, ◌==◌, ◌+◌, ◌≤◌, ℕ, List, length, take, count_by, codes, IfOk, []};
+ghost use Rattle.std.specs.Fmt.{WritesOnOk};
 ghost use Rattle.ospf_config.specs.Configs.{TextHasFault};
+ghost use Rattle.ospf_config.specs.Explained.{IsExplained, found_text, interface_text};
+ghost use Rattle.ospf_config.specs.Fault.{IsLeast};
 ghost use Rattle.ospf_config.specs.declared.fault.ConfigFault.{ConfigFault};
 
 use crate::config::Config;
 use crate::fault::ConfigFault;
-use crate::faults::{interface_values, list_fault};
-use crate::keys::{
-    address_at, cost_at, dead_at, hello_at, kind_at, mtu_at, port_at, priority_at, retransmit_at,
-    transmit_delay_at, value_at,
-};
-use crate::peers::peers_fault;
-use crate::rules::is_dead_not_over_hello;
-use crate::top::{area_at, router_id_at, stub_router_at};
+use crate::places::table_explained;
 use std::alloc::{AllocError, Global};
 use std::fmt::{self, Display, Formatter, Write};
-use toml::{Table, Value};
 
 /// A place of a text that is refused, and what to do about it.
 #[derive(Debug, Drop)]
@@ -41,6 +36,11 @@ pub struct KeyExplained {
 
 /// As `interface 0: mtu: 576 to 9000 wanted, 100 found`.
 impl Display for Explained {
+    ghost use Rattle.std.specs.Prelude.{Some};
+    ghost use Rattle.ospf_config.specs.Explained.{explained_text};
+
+    ghost output = { λ place. Some (explained_text place) };
+
     fn fmt<W: Write>(&self, f: &mut Formatter<W>) -> fmt::Result {
         match self {
             Explained::Line(line) => write!(f, "line {line}: no TOML"),
@@ -49,257 +49,65 @@ impl Display for Explained {
     }
 }
 
+// Writes the number of an interface, where there is one.
+fn write_interface<W: Write>(f: &mut Formatter<W>, interface: Option<usize>) -> fmt::Result
+    ensures { WritesOnOk W.Write.write_str_gives f.old result (interface_text interface) f.new }
+{
+    match interface {
+        None => Ok(()),
+        Some(number) => write!(f, "interface {number}: "),
+    }
+}
+
+// Writes what stood at a key.
+fn write_found<W: Write>(f: &mut Formatter<W>, found: &Option<String>) -> fmt::Result
+    ensures { WritesOnOk W.Write.write_str_gives f.old result (found_text found.now) f.new }
+{
+    match found {
+        None => f.write_str("nothing found"),
+        Some(found) => write!(f, "{found} found"),
+    }
+}
+
+/// As `interface 0: mtu: 576 to 9000 wanted, 100 found`.
 impl Display for KeyExplained {
+    ghost use Rattle.std.specs.Prelude.{Some};
+    ghost use Rattle.ospf_config.specs.Explained.{key_explained_text};
+
+    ghost output = { λ place. Some (key_explained_text place) };
+
     fn fmt<W: Write>(&self, f: &mut Formatter<W>) -> fmt::Result {
-        if let Some(number) = self.interface {
-            write!(f, "interface {number}: ")?;
-        }
+        write_interface(f, self.interface)?;
         write!(f, "{}: {} wanted, ", self.key, self.wanted)?;
-        match &self.found {
-            None => f.write_str("nothing found"),
-            Some(found) => write!(f, "{found} found"),
-        }
+        write_found(f, &self.found)
     }
-}
-
-// A key with its fault, and what belongs there.
-#[derive(Clone, Copy)]
-struct Row {
-    key: &'static str,
-    fault: Option<ConfigFault>,
-    wanted: &'static str,
-}
-
-fn key_row(key: &'static str, fault: Option<ConfigFault>, wanted: &'static str) -> Row {
-    Row { key, fault, wanted }
-}
-
-// The keys at the top.
-fn top_rows(table: &Table) -> [Row; 4] {
-    let dotted = "a dotted text, as \"10.0.0.1\", other than \"0.0.0.0\",";
-    [
-        key_row("router_id", router_id_at(table).err(), dotted),
-        key_row(
-            "area",
-            area_at(table).err(),
-            "a dotted text, as \"0.0.0.1\",",
-        ),
-        key_row("stub_router", stub_router_at(table).err(), "true or false"),
-        key_row(
-            "interface",
-            list_fault(table),
-            "1 to 32 tables [[interface]]",
-        ),
-    ]
-}
-
-// The keys of an interface.
-fn interface_rows(table: &Table) -> [Row; 11] {
-    let address = "a host's address with the length of its prefix, 1 to 30, as \"10.0.0.1/30\",";
-    let ticks = "1 to 65535";
-    [
-        key_row(
-            "kind",
-            kind_at(table).err(),
-            "\"point-to-point\" or \"broadcast\"",
-        ),
-        key_row("address", address_at(table).err(), address),
-        key_row("cost", cost_at(table).err(), ticks),
-        key_row("priority", priority_at(table).err(), "0 to 255"),
-        key_row("hello", hello_at(table).err(), ticks),
-        key_row("dead", dead_at(table).err(), ticks),
-        key_row("retransmit", retransmit_at(table).err(), ticks),
-        key_row(
-            "transmit_delay",
-            transmit_delay_at(table).err(),
-            "1 to 3600",
-        ),
-        key_row("mtu", mtu_at(table).err(), "576 to 9000"),
-        key_row("port", port_at(table).err(), "0, or 1024 to 65535,"),
-        key_row(
-            "peers",
-            peers_fault(table),
-            "a list of at most 32 numbers, each 1024 to 65535,",
-        ),
-    ]
-}
-
-// What stands at a key, in words.
-fn found_in(alloc: Global, value: &Value) -> Result<String, AllocError> {
-    if let Some(number) = value.as_integer() {
-        return format!(in alloc; "{number}");
-    }
-    if let Some(text) = value.as_str() {
-        return format!(in alloc; "{text:?}");
-    }
-    if let Some(values) = value.as_array() {
-        return format!(in alloc; "a list of {}", values.len());
-    }
-    format!(in alloc; "a {}", value.type_str())
-}
-
-// A key that is not as it has to be.
-fn key_of(
-    alloc: Global,
-    interface: Option<usize>,
-    table: &Table,
-    key: &str,
-    wanted: &'static str,
-) -> Result<Explained, AllocError> {
-    let found = match value_at(table, key) {
-        None => None,
-        Some(value) => Some(found_in(alloc, value)?),
-    };
-    let key = String::from_str(alloc, key)?;
-    Ok(Explained::Key(KeyExplained {
-        interface,
-        key,
-        wanted,
-        found,
-    }))
-}
-
-// Adds the keys of a table that have this fault.
-fn add_rows(
-    alloc: Global,
-    out: &mut Vec<Explained>,
-    interface: Option<usize>,
-    table: &Table,
-    rows: &[Row],
-    fault: ConfigFault,
-) -> Result<(), AllocError> {
-    for row in rows {
-        if row.fault == Some(fault) {
-            out.push(key_of(alloc, interface, table, row.key, row.wanted)?)?;
-        }
-    }
-    Ok(())
-}
-
-// Adds the keys of a table that are in none of these rows.
-fn add_unknown(
-    alloc: Global,
-    out: &mut Vec<Explained>,
-    interface: Option<usize>,
-    table: &Table,
-    rows: &[Row],
-) -> Result<(), AllocError> {
-    for key in table.keys() {
-        if !rows.iter().any(|row| row.key == key.as_str()) {
-            out.push(key_of(alloc, interface, table, key.as_str(), "a known key")?)?;
-        }
-    }
-    Ok(())
-}
-
-// Adds the address of an interface, where an interface before it has its prefix or address.
-fn add_conflict(
-    alloc: Global,
-    out: &mut Vec<Explained>,
-    interface: usize,
-    table: &Table,
-    before: &[Value],
-) -> Result<(), AllocError> {
-    let Ok(own) = address_at(table) else {
-        return Ok(());
-    };
-    for value in before {
-        let Some(other) = value.as_table() else {
-            continue;
-        };
-        if let Ok(address) = address_at(other) {
-            if own.conflicts_with(&address) {
-                let wanted = "a prefix and an address that no interface before has";
-                out.push(key_of(alloc, Some(interface), table, "address", wanted)?)?;
-                return Ok(());
-            }
-        }
-    }
-    Ok(())
-}
-
-// Adds what an interface has of this fault.
-fn add_interface(
-    alloc: Global,
-    out: &mut Vec<Explained>,
-    interface: usize,
-    values: &[Value],
-    fault: ConfigFault,
-) -> Result<(), AllocError> {
-    let Some(value) = values.get(interface) else {
-        return Ok(());
-    };
-    let Some(table) = value.as_table() else {
-        return Ok(());
-    };
-    match fault {
-        ConfigFault::SamePrefix => add_conflict(alloc, out, interface, table, &values[..interface]),
-        ConfigFault::DeadNotOverHello => {
-            if is_dead_not_over_hello(table) {
-                out.push(key_of(alloc, Some(interface), table, "dead", "more than `hello`")?)?;
-            }
-            Ok(())
-        }
-        ConfigFault::Unknown => add_unknown(
-            alloc,
-            out,
-            Some(interface),
-            table,
-            &interface_rows(table),
-        ),
-        fault => add_rows(
-            alloc,
-            out,
-            Some(interface),
-            table,
-            &interface_rows(table),
-            fault,
-        ),
-    }
-}
-
-// The places of a table that have this fault.
-fn table_explained(
-    alloc: Global,
-    table: &Table,
-    fault: ConfigFault,
-) -> Result<Vec<Explained>, AllocError> {
-    let mut out = Vec::new(alloc);
-    match fault {
-        ConfigFault::Unknown => add_unknown(alloc, &mut out, None, table, &top_rows(table))?,
-        fault => add_rows(alloc, &mut out, None, table, &top_rows(table), fault)?,
-    }
-    let values = interface_values(table);
-    for interface in 0..values.len() {
-        add_interface(alloc, &mut out, interface, values, fault)?;
-    }
-    Ok(out)
 }
 
 // The line, from 1, of a place in a text.
-fn line_of(text: &[u8], place: usize) -> usize {
-    let mut line = 1usize;
-    for (at, byte) in text.iter().enumerate() {
-        if at < place && *byte == b'\n' {
-            line = line.saturating_add(1);
-        }
-    }
-    line
+fn line_of(text: &[u8], place: usize) -> usize
+    requires { place ≤ length text.now }
+    ensures { result ≡ 1 + count_by (λ byte. byte == 10) (take place text.now) }
+{
+    let before = &text[..place];
+    1 + before.iter().filter(|byte| **byte == b'\n').count()
 }
 
-// The places of a text that have this fault.
+// The places of a text that have its fault.
 fn text_explained(
     alloc: Global,
     text: &str,
     fault: ConfigFault,
-) -> Result<Vec<Explained>, AllocError> {
+) -> Result<Vec<Explained>, AllocError>
+    ensures { TextHasFault text.now fault → IfOk result (λ places. IsExplained text.now fault places.items) }
+{
     match toml::table_from_str(alloc, text) {
         Ok(table) => table_explained(alloc, &table, fault),
         Err(error) => match error.span() {
             None => Err(AllocError),
             Some(span) => {
+                let line = line_of(text.as_bytes(), span.start);
                 let mut out = Vec::new(alloc);
-                out.push(Explained::Line(line_of(text.as_bytes(), span.start)))?;
+                out.push(Explained::Line(line))?;
                 Ok(out)
             }
         },
@@ -313,6 +121,7 @@ impl Config {
     /// `AllocError` where memory runs out.
     pub fn explain(alloc: Global, text: &str) -> Result<Vec<Explained>, AllocError>
         ensures accepted { ((f : ConfigFault) → TextHasFault text.now f → ⊥) → IfOk result (λ places. places.items ≡ []) }
+        ensures refused { (f : ConfigFault) → IsLeast (TextHasFault text.now) f → IfOk result (λ places. IsExplained text.now f places.items) }
     {
         match Config::from_text(alloc, text) {
             Ok(_) => Ok(Vec::new(alloc)),

@@ -9,7 +9,9 @@ mod faults;
 mod interface;
 mod keys;
 mod peers;
+mod places;
 mod read;
+mod rows;
 mod rules;
 mod top;
 

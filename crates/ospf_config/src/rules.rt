@@ -104,7 +104,7 @@ fn is_among(key: &str, known: &[&str]) -> bool
 }
 
 // Whether a key is none of these.
-fn is_other(key: &str, known: &[&str]) -> bool
+pub(crate) fn is_other(key: &str, known: &[&str]) -> bool
     ensures { IsTrue result ↔ IsOther (map (λ k. k.now) known.now) key.now }
 {
     !is_among(key, known)
@@ -129,11 +129,11 @@ fn has_other_key(table: &Table, known: &[&str]) -> bool
     is_any_other(table, known)
 }
 
-// Whether a value is a table with a key that no interface has.
-fn has_unknown_key(value: &Value) -> bool
-    ensures { IsTrue result ↔ IsTableWith (HasOtherKey interface_keys) (view value.now) }
+// The keys of an interface.
+pub(crate) fn interface_names() -> [&'static str; 11]
+    ensures { map (λ k. k.now) result ≡ interface_keys }
 {
-    let known = [
+    [
         "kind",
         "address",
         "cost",
@@ -145,10 +145,16 @@ fn has_unknown_key(value: &Value) -> bool
         "mtu",
         "port",
         "peers",
-    ];
+    ]
+}
+
+// Whether a value is a table with a key that no interface has.
+fn has_unknown_key(value: &Value) -> bool
+    ensures { IsTrue result ↔ IsTableWith (HasOtherKey interface_keys) (view value.now) }
+{
     match value.as_table() {
         None => false,
-        Some(table) => has_other_key(table, &known),
+        Some(table) => has_other_key(table, &interface_names()),
     }
 }
 
@@ -159,10 +165,16 @@ fn has_any_unknown_key(values: &[Value]) -> bool
     values.iter().any(|value| has_unknown_key(value))
 }
 
+// The keys at the top.
+pub(crate) fn top_names() -> [&'static str; 4]
+    ensures { map (λ k. k.now) result ≡ top_keys }
+{
+    ["router_id", "area", "stub_router", "interface"]
+}
+
 // Whether a key is not known.
 pub(crate) fn is_any_unknown(table: &Table, values: &[Value]) -> bool
     ensures { IsTrue result ↔ (HasOtherKey top_keys (table_view table.now) ⊎ Any (λ v. IsTableWith (HasOtherKey interface_keys) (view v)) values.now) }
 {
-    let known = ["router_id", "area", "stub_router", "interface"];
-    has_other_key(table, &known) || has_any_unknown_key(values)
+    has_other_key(table, &top_names()) || has_any_unknown_key(values)
 }

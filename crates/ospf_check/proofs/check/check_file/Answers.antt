@@ -1,6 +1,6 @@
-use Rattle.std.proofs.Common.{rules, ◌≡◌, ◌++◌, [], Some}
+use Rattle.std.proofs.Common.{rules, ◌≡◌, ◌++◌, [], Some, subst}
 use Rattle.ospf_check.specs.Checked.{accepted_line, accepted_told, refused_told}
-use Rattle.ospf_files.specs.Files.{bytes_of, refused_line}
+use Rattle.ospf_files.specs.Files.{IsRefusedFor, bytes_of, refused_line}
 use Rattle.ospf_files.proofs.Written.{nothing_written}
 use Rattle.ospf_check.proofs.check.check_file.Goals as goal
 
@@ -17,12 +17,17 @@ returns-in-Ok-tell_accepted g c =
 
 pub returns : goal.returns
 returns g c =
-    let held : bytes_of c.args.file.now ≡ Some c.deref.result.now = search rules in
-    let more = c.in_ok-refuse_file-in-Err-config_in.ensures in
+    let bytes = c.deref-in-Err-config_in.result.now in
+    let fault = c.in-Err-config_in.fault in
+    let held : bytes_of c.args.file.now ≡ Some bytes = search rules in
+    let read : IsRefusedFor c.deref.result.now fault = search rules in
+    let same : c.deref.result.now ≡ bytes = search rules in
+    let refused : IsRefusedFor bytes fault = subst (λ b. IsRefusedFor b fault) same read in
+    let more = c.in_ok-refuse_file-in-Err-config_in.ensures refused in
     record {
       out = [];
-      err = refused_line c.args.file.now c.in-Err-config_in.fault ++ more.0;
-      told = refused_told c.deref.result.now c.in-Err-config_in.fault more.0 held (search rules) more.1;
+      err = refused_line c.args.file.now fault ++ more.0;
+      told = refused_told bytes fault more.0 held refused more.1;
       out_written = nothing_written _;
       err_written = more.2;
     }

@@ -1,7 +1,8 @@
-use Rattle.std.proofs.Common.{ℕ, List}
+use Rattle.std.proofs.Common.{take, flat_map}
 use Rattle.std.specs.Io.KnownBytes.{Appends}
+use Rattle.ospf_check.specs.Checked.{place_line}
 use Rattle.ospf_check.proofs.check.tell_places.Given as goal
 
--- something is written
+-- the lines of the places so far are written
 abbrev pub invariant-loop-place : goal.invariant-loop-place
-invariant-loop-place g l = (more : List ℕ) × Appends (g.E.Write.contents l.fn.err) (g.E.Write.contents l.err) more
+invariant-loop-place g l = Appends (g.E.Write.contents l.fn.err) (g.E.Write.contents l.err) (flat_map place_line (take l.place-index l.places))
