@@ -2,8 +2,8 @@
 use Rattle.std.proofs.Common.{◌≡◌, ◌∙◌, ◌&&◌, Bool, true, false, ap, sym, subst, ◌+◌, ◌<◌, ℕ, List, [], ◌∷◌, ◌++◌, length, take, get_or, flat_map, Option, append_assoc, append-nil, refl}
 use Rattle.std.proofs.lemmas.List.{take_more, flat_map_more}
 use Rattle.std.specs.Io.KnownBytes.{Appends}
-use Rattle.ospf_config.specs.Explained.{explained_text}
-use Rattle.ospf_config.specs.declared.explain.Explained.{Explained}
+use Rattle.ospf_explain.specs.Explained.{explained_text}
+use Rattle.ospf_explain.specs.declared.explained.Explained.{Explained}
 use Rattle.ospf_files.proofs.Written.{both_written, nothing_written}
 use Rattle.ospf_check.specs.Checked.{AreTold, IsTold, IsWritten, IsWrittenOf, no_file, one_file, place_line, said_line}
 use Rattle.ospf_files.specs.declared.files.NamedFile.{NamedFile}

@@ -1,9 +1,9 @@
 -- What the program says of configurations that it checks.
 use Rattle.std.specs.Prelude.{◌≡◌, ◌&&◌, ℕ, Bool, true, false, List, [], ◌∷◌, ◌++◌, flat_map, IsUtf8, Option, Some, codes, string_bytes}
 use Rattle.std.specs.Io.KnownBytes.{Appends}
-use Rattle.ospf_config.specs.Explained.{IsExplained, explained_text}
+use Rattle.ospf_explain.specs.Explained.{IsExplained, explained_text}
 use Rattle.ospf_config.specs.declared.config.Config.{Config}
-use Rattle.ospf_config.specs.declared.explain.Explained.{Explained}
+use Rattle.ospf_explain.specs.declared.explained.Explained.{Explained}
 use Rattle.ospf_config.specs.declared.fault.ConfigFault.{ConfigFault}
 use Rattle.ospf_files.specs.Files.{IsConfigIn, IsRefusedFor, bytes_of, refused_line}
 use Rattle.ospf_files.specs.declared.files.NamedFile.{NamedFile}

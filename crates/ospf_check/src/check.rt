@@ -1,13 +1,14 @@
 //! Configurations that are checked.
 
 ghost use Rattle.std.specs.Prelude.{◌≡◌, ◌≢◌, ◌⊎◌, ◌++◌, ℕ, List, true, false, codes, flat_map, IfOk, IfErr, OnOk};
-ghost use Rattle.ospf_config.specs.Explained.{explained_text};
+ghost use Rattle.ospf_explain.specs.Explained.{explained_text};
 ghost use Rattle.ospf_config.specs.declared.fault.ConfigFault.{ConfigFault};
 ghost use Rattle.ospf_files.specs.Files.{IsRefusedFor, refused_line};
 ghost use Rattle.std.specs.Io.KnownBytes.{Appends};
 ghost use Rattle.ospf_check.specs.Checked.{IsExplanation, IsSaid, IsWritten, IsWrittenOf, accepted_line, place_line, said_line};
 
-use ospf_config::{Config, ConfigFault, Explained};
+use ospf_config::ConfigFault;
+use ospf_explain::{Explained, explain};
 use ospf_files::{Failure, NamedFile, Status, config_in, tell_refused, tell_unread};
 use std::alloc::{AllocError, Global};
 use std::io::{self, Write};
@@ -75,7 +76,7 @@ fn explain_file<E: Write>(alloc: Global, bytes: &[u8], err: &mut E) -> Result<()
 {
     match str::from_utf8(bytes) {
         Ok(text) => {
-            let places = Config::explain(alloc, text)?;
+            let places = explain(alloc, text)?;
             tell_places(alloc, &places, err)
         }
         Err(_) => match tell_place("the file is not UTF-8", err) {

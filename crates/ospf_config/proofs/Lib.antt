@@ -1,10 +1,9 @@
 mod AddressTexts
-mod PeerLists
-mod Least
-mod Singles
-mod TableLists
+pub mod PeerLists
+pub mod Least
+pub mod Singles
+pub mod TableLists
 mod KeyLists
-mod ConflictLists
+pub mod ConflictLists
 mod FaultLemmas
 mod TextFaults
-mod PlaceLists

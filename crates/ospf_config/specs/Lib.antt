@@ -8,5 +8,3 @@ pub mod Conflicts
 pub mod Tables
 pub mod Interfaces
 pub mod Configs
-pub mod Explained
-pub mod Rows

@@ -88,8 +88,8 @@ impl InterfaceAddress {
         Prefix { address, length }
     }
 
-    // Whether two interfaces have one prefix or one address.
-    pub(crate) fn conflicts_with(&self, other: &InterfaceAddress) -> bool
+    /// Whether two interfaces have one prefix or one address.
+    pub fn conflicts_with(&self, other: &InterfaceAddress) -> bool
         ensures { IsTrue result ↔ Conflict self.now other.now }
     {
         let (here, there) = (self.address.0, other.address.0);

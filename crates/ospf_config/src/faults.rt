@@ -58,8 +58,8 @@ fn are_all_tables(values: &[Value]) -> bool
     values.iter().all(|value| value.is_table())
 }
 
-// The fault of the key `interface`.
-pub(crate) fn list_fault(table: &Table) -> Option<ConfigFault>
+/// The fault of the key `interface`, if it has one.
+pub fn list_fault(table: &Table) -> Option<ConfigFault>
     ensures { IsFaultIfAny (ReadsInterfaces (table_view table.now)) result }
 {
     let Some(value) = value_at(table, "interface") else {
@@ -82,8 +82,8 @@ pub(crate) fn list_fault(table: &Table) -> Option<ConfigFault>
     }
 }
 
-// The tables of the interfaces, or none where the key `interface` is no list of tables.
-pub(crate) fn interface_values(table: &Table) -> &[Value]
+/// The tables of the interfaces, or none where the key `interface` is no list of tables.
+pub fn interface_values(table: &Table) -> &[Value]
     ensures tables { tables_of (items_view result.now) ≡ interface_tables (table_view table.now) }
     ensures all { All (λ v. IsSome (as_table (view v))) result.now }
 {

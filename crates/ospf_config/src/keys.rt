@@ -14,8 +14,8 @@ use crate::interface::Port;
 use ospf_base::{InterfaceKind, MAX_AGE};
 use toml::{Table, Value};
 
-// What the table holds at a key.
-pub(crate) fn value_at<'a>(table: &'a Table, key: &str) -> Option<&'a Value>
+/// What the table holds at a key.
+pub fn value_at<'a>(table: &'a Table, key: &str) -> Option<&'a Value>
     ensures { option_map (λ v. view v.now) result ≡ get_member key.now (table_view table.now) }
 {
     table.get(key)
@@ -65,7 +65,8 @@ fn kind_of(text: Option<&str>) -> Result<InterfaceKind, ConfigFault>
     }
 }
 
-pub(crate) fn kind_at(table: &Table) -> Result<InterfaceKind, ConfigFault>
+/// The kind of interface at the key `kind`, or the fault of the key.
+pub fn kind_at(table: &Table) -> Result<InterfaceKind, ConfigFault>
     ensures { ReadsKind (table_view table.now) result }
 {
     match value_at(table, "kind") {
@@ -84,7 +85,8 @@ fn address_of(text: Option<&str>) -> Result<InterfaceAddress, ConfigFault>
     }
 }
 
-pub(crate) fn address_at(table: &Table) -> Result<InterfaceAddress, ConfigFault>
+/// The address at the key `address`, or the fault of the key.
+pub fn address_at(table: &Table) -> Result<InterfaceAddress, ConfigFault>
     ensures { ReadsAddress (table_view table.now) result }
 {
     match value_at(table, "address") {
@@ -104,7 +106,8 @@ fn cost_of(number: Option<i64>) -> Result<u16, ConfigFault>
     }
 }
 
-pub(crate) fn cost_at(table: &Table) -> Result<u16, ConfigFault>
+/// The interface output cost at the key `cost`, or the fault of the key.
+pub fn cost_at(table: &Table) -> Result<u16, ConfigFault>
     ensures reads { ReadsCost (table_view table.now) result }
     ensures range { IfOk result (λ n. 1 ≤ n) }
 {
@@ -114,42 +117,48 @@ pub(crate) fn cost_at(table: &Table) -> Result<u16, ConfigFault>
     }
 }
 
-pub(crate) fn priority_at(table: &Table) -> Result<u8, ConfigFault>
+/// The Router Priority at the key `priority`, 1 where nothing is there, or the fault of the key.
+pub fn priority_at(table: &Table) -> Result<u8, ConfigFault>
     ensures { ReadsPriority (table_view table.now) result }
 {
     let priority = number_at(table, "priority", 0, 255, 1)?;
     Ok(priority as u8)
 }
 
-pub(crate) fn hello_at(table: &Table) -> Result<u16, ConfigFault>
+/// HelloInterval in ticks at the key `hello`, 10 where nothing is there, or the fault of the key.
+pub fn hello_at(table: &Table) -> Result<u16, ConfigFault>
     ensures reads { ReadsHello (table_view table.now) result }
     ensures range { IfOk result (λ n. 1 ≤ n) }
 {
     number_at(table, "hello", 1, 65535, 10)
 }
 
-pub(crate) fn dead_at(table: &Table) -> Result<u16, ConfigFault>
+/// RouterDeadInterval in ticks at the key `dead`, 40 where nothing is there, or the fault of the key.
+pub fn dead_at(table: &Table) -> Result<u16, ConfigFault>
     ensures reads { ReadsDead (table_view table.now) result }
     ensures range { IfOk result (λ n. 1 ≤ n) }
 {
     number_at(table, "dead", 1, 65535, 40)
 }
 
-pub(crate) fn retransmit_at(table: &Table) -> Result<u16, ConfigFault>
+/// RxmtInterval in ticks at the key `retransmit`, 5 where nothing is there, or the fault of the key.
+pub fn retransmit_at(table: &Table) -> Result<u16, ConfigFault>
     ensures reads { ReadsRetransmit (table_view table.now) result }
     ensures range { IfOk result (λ n. 1 ≤ n) }
 {
     number_at(table, "retransmit", 1, 65535, 5)
 }
 
-pub(crate) fn transmit_delay_at(table: &Table) -> Result<u16, ConfigFault>
+/// InfTransDelay in ticks at the key `transmit_delay`, 1 where nothing is there, or the fault of the key.
+pub fn transmit_delay_at(table: &Table) -> Result<u16, ConfigFault>
     ensures reads { ReadsTransmitDelay (table_view table.now) result }
     ensures range { IfOk result (λ n. (1 ≤ n) × (n ≤ max_age)) }
 {
     number_at(table, "transmit_delay", 1, MAX_AGE, 1)
 }
 
-pub(crate) fn mtu_at(table: &Table) -> Result<u16, ConfigFault>
+/// The largest IP datagram in bytes at the key `mtu`, 1500 where nothing is there, or the fault of the key.
+pub fn mtu_at(table: &Table) -> Result<u16, ConfigFault>
     ensures reads { ReadsMtu (table_view table.now) result }
     ensures range { IfOk result (λ n. (576 ≤ n) × (n ≤ 9000)) }
 {
@@ -169,7 +178,8 @@ fn port_of(number: Option<i64>) -> Result<Option<Port>, ConfigFault>
     }
 }
 
-pub(crate) fn port_at(table: &Table) -> Result<Option<Port>, ConfigFault>
+/// The UDP port at the key `port`, none where it is 0 or nothing is there, or the fault of the key.
+pub fn port_at(table: &Table) -> Result<Option<Port>, ConfigFault>
     ensures { ReadsPort (table_view table.now) result }
 {
     match value_at(table, "port") {

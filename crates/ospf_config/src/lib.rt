@@ -1,22 +1,26 @@
-//! The configuration of a router of OSPF version 2, read from TOML.
+//! The configuration of a router of OSPF version 2, read from TOML, whole and key by key.
 #![tactic(auto)]
 
 mod address;
 mod config;
-mod explain;
 mod fault;
 mod faults;
 mod interface;
 mod keys;
 mod peers;
-mod places;
 mod read;
-mod rows;
 mod rules;
 mod top;
 
 pub use crate::address::InterfaceAddress;
 pub use crate::config::Config;
-pub use crate::explain::{Explained, KeyExplained};
 pub use crate::fault::ConfigFault;
+pub use crate::faults::{interface_values, list_fault};
 pub use crate::interface::{Interface, Port};
+pub use crate::keys::{
+    address_at, cost_at, dead_at, hello_at, kind_at, mtu_at, port_at, priority_at, retransmit_at,
+    transmit_delay_at, value_at,
+};
+pub use crate::peers::peers_fault;
+pub use crate::rules::{interface_names, is_dead_not_over_hello, is_other, table_in, top_names};
+pub use crate::top::{area_at, router_id_at, stub_router_at};

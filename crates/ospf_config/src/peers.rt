@@ -62,8 +62,8 @@ fn check(values: &[Value]) -> Result<(), ConfigFault>
     Ok(())
 }
 
-// The fault of the key `peers`.
-pub(crate) fn peers_fault(table: &Table) -> Option<ConfigFault>
+/// The fault of the key `peers`, if it has one.
+pub fn peers_fault(table: &Table) -> Option<ConfigFault>
     ensures { IsFaultIfAny (ReadsPeers (table_view table.now)) result }
 {
     match value_at(table, "peers") {

@@ -16,8 +16,8 @@ use crate::keys::{address_at, dead_at, hello_at};
 use std::alloc::Global;
 use toml::{Table, Value};
 
-// The table that a value is.
-pub(crate) fn table_in(value: &Value) -> &Table
+/// The table that a value is.
+pub fn table_in(value: &Value) -> &Table
     requires { IsSome (as_table (view value.now)) }
     ensures { as_table (view value.now) ≡ Some (table_view result.now) }
 {
@@ -69,8 +69,8 @@ pub(crate) fn has_conflict(addresses: &[InterfaceAddress]) -> bool
     false
 }
 
-// Whether the interface would be dead no later than its next Hello.
-pub(crate) fn is_dead_not_over_hello(table: &Table) -> bool
+/// Whether the interface would be dead no later than its next Hello.
+pub fn is_dead_not_over_hello(table: &Table) -> bool
     ensures { IsTrue result ↔ IsDeadNotOverHello (table_view table.now) }
 {
     match (hello_at(table), dead_at(table)) {
@@ -103,8 +103,8 @@ fn is_among(key: &str, known: &[&str]) -> bool
     known.iter().any(|name| *name == key)
 }
 
-// Whether a key is none of these.
-pub(crate) fn is_other(key: &str, known: &[&str]) -> bool
+/// Whether a key is none of these.
+pub fn is_other(key: &str, known: &[&str]) -> bool
     ensures { IsTrue result ↔ IsOther (map (λ k. k.now) known.now) key.now }
 {
     !is_among(key, known)
@@ -129,8 +129,8 @@ fn has_other_key(table: &Table, known: &[&str]) -> bool
     is_any_other(table, known)
 }
 
-// The keys of an interface.
-pub(crate) fn interface_names() -> [&'static str; 11]
+/// The keys of an interface.
+pub fn interface_names() -> [&'static str; 11]
     ensures { map (λ k. k.now) result ≡ interface_keys }
 {
     [
@@ -165,8 +165,8 @@ fn has_any_unknown_key(values: &[Value]) -> bool
     values.iter().any(|value| has_unknown_key(value))
 }
 
-// The keys at the top.
-pub(crate) fn top_names() -> [&'static str; 4]
+/// The keys at the top.
+pub fn top_names() -> [&'static str; 4]
     ensures { map (λ k. k.now) result ≡ top_keys }
 {
     ["router_id", "area", "stub_router", "interface"]

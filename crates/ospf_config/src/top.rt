@@ -26,7 +26,8 @@ fn router_id_of(text: Option<&str>) -> Result<RouterId, ConfigFault>
     }
 }
 
-pub(crate) fn router_id_at(table: &Table) -> Result<RouterId, ConfigFault>
+/// The Router ID at the key `router_id`, or the fault of the key.
+pub fn router_id_at(table: &Table) -> Result<RouterId, ConfigFault>
     ensures reads { ReadsRouterId (table_view table.now) result }
     ensures range { IfOk result (λ id. 0 < id.0) }
 {
@@ -49,7 +50,8 @@ fn area_of(text: Option<&str>) -> Result<AreaId, ConfigFault>
     }
 }
 
-pub(crate) fn area_at(table: &Table) -> Result<AreaId, ConfigFault>
+/// The Area ID at the key `area`, or the fault of the key.
+pub fn area_at(table: &Table) -> Result<AreaId, ConfigFault>
     ensures { ReadsArea (table_view table.now) result }
 {
     match value_at(table, "area") {
@@ -58,7 +60,8 @@ pub(crate) fn area_at(table: &Table) -> Result<AreaId, ConfigFault>
     }
 }
 
-pub(crate) fn stub_router_at(table: &Table) -> Result<bool, ConfigFault>
+/// Whether the router is a stub router (RFC 6987), at the key `stub_router`: not where nothing is there; or the fault of the key.
+pub fn stub_router_at(table: &Table) -> Result<bool, ConfigFault>
     ensures { ReadsStubRouter (table_view table.now) result }
 {
     match value_at(table, "stub_router") {

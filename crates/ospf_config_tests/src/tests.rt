@@ -2,6 +2,7 @@
 
 use ospf_base::{Addr, AreaId, InterfaceKind, RouterId};
 use ospf_config::{Config, ConfigFault};
+use ospf_explain::explain;
 use std::alloc::Global;
 use std::process::Abort;
 use std::test::Fail;
@@ -344,7 +345,7 @@ fn counts_of_interfaces(rt: HostRuntime) -> Result<(), Fail> {
 fn explained(alloc: Global, first: &str, second: &str, third: &str) -> Result<String, ConfigFault> {
     let text = joined(alloc, first, second, third)?;
     let mut lines = String::new(alloc);
-    for place in Config::explain(alloc, text.as_str())?.iter() {
+    for place in explain(alloc, text.as_str())?.iter() {
         let line = format!(in alloc; "{place}\n")?;
         lines.push_str(line.as_str())?;
     }

@@ -2,7 +2,7 @@ use Rattle.std.proofs.Common.{rules, ◌≡◌, flat_map, inl, inr, ap}
 use Rattle.std.specs.Prelude.{IsUtf8}
 use Rattle.std.proofs.lemmas.Result.{on_ok_weaker}
 use Rattle.ospf_config.specs.Configs.{TextHasFault}
-use Rattle.ospf_config.specs.Explained.{IsExplained}
+use Rattle.ospf_explain.specs.Explained.{IsExplained}
 use Rattle.ospf_config.specs.Fault.{IsLeast}
 use Rattle.ospf_check.specs.Checked.{its_places, place_line}
 use Rattle.ospf_check.proofs.check.explain_file.Goals as goal
