@@ -4,8 +4,6 @@
 mod jobs;
 mod notes;
 mod screen;
-#[cfg(test)]
-mod tests;
 mod words;
 
 use crate::jobs::{CheckJob, Job, JobFault, RunJob, SimJob};
