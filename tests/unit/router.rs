@@ -1,5 +1,7 @@
 //! Two routers on a link, whose datagrams are passed by hand; what is dropped; one that stops.
 
+mod crafted;
+
 use hex::decode;
 use ospf_base::{Addr, RouterId};
 use ospf_config::Config;
@@ -9,17 +11,17 @@ use std::alloc::Global;
 use std::collections::VecDeque;
 use std::test::Fail;
 
-pub(crate) const FIRST: &str =
+const FIRST: &str =
     "router_id = \"1.1.1.1\"\narea = \"0.0.0.0\"\n[[interface]]\nkind = \"point-to-point\"\naddress = \"10.0.0.1/30\"\ncost = 10\n";
 
-pub(crate) const SECOND: &str =
+const SECOND: &str =
     "router_id = \"2.2.2.2\"\narea = \"0.0.0.0\"\n[[interface]]\nkind = \"point-to-point\"\naddress = \"10.0.0.2/30\"\ncost = 10\n";
 
 // No number is below it.
 const NO_FLOOR: i32 = -0x8000_0000;
 
 // A floor above all numbers that these routers come to from none.
-pub(crate) const LATER_FLOOR: i32 = -0x7fff_ff00;
+const LATER_FLOOR: i32 = -0x7fff_ff00;
 
 // A datagram on its way.
 #[derive(Drop)]
@@ -28,7 +30,7 @@ struct Waiting {
     sent: Sent,
 }
 
-pub(crate) fn start_above(
+fn start_above(
     text: &str,
     dd_start: u32,
     floor: i32,
@@ -62,7 +64,7 @@ fn stands_still(router: &mut Router, alloc: Global) -> Fail {
     Fail::from("Memory: stopped")
 }
 
-pub(crate) fn step(router: &mut Router, event: Event<'_>, alloc: Global) -> Result<Step, Fail> {
+fn step(router: &mut Router, event: Event<'_>, alloc: Global) -> Result<Step, Fail> {
     match router.step(event, alloc) {
         Ok(step) => Ok(step),
         Err(Stopped) => Err(stands_still(router, alloc)),
@@ -128,7 +130,7 @@ fn round(
 }
 
 // So many seconds, in each of which all that is sent arrives.
-pub(crate) fn rounds(
+fn rounds(
     first: &mut Router,
     second: &mut Router,
     count: u32,
@@ -150,7 +152,7 @@ fn bring_up(first: &mut Router, second: &mut Router, alloc: Global) -> Result<()
 }
 
 // The two routers, so many seconds after their link went up.
-pub(crate) fn two_after(count: u32, alloc: Global) -> Result<(Router, Router), Fail> {
+fn two_after(count: u32, alloc: Global) -> Result<(Router, Router), Fail> {
     let mut first = start(FIRST, 100, alloc)?;
     let mut second = start(SECOND, 200, alloc)?;
     bring_up(&mut first, &mut second, alloc)?;
@@ -159,7 +161,7 @@ pub(crate) fn two_after(count: u32, alloc: Global) -> Result<(Router, Router), F
 }
 
 // The number and the sum of the router-LSA at a place of the listing.
-pub(crate) fn listed(router: &Router, place: usize, alloc: Global) -> Result<(i32, u16), Fail> {
+fn listed(router: &Router, place: usize, alloc: Global) -> Result<(i32, u16), Fail> {
     let listing = router.listing(alloc)?;
     let lsa = listing.lsas().get(place).ok_or("an LSA")?;
     let instance = lsa.view().instance();

@@ -1,12 +1,5 @@
 //! Two routers over one link, each call by hand; the elections of a LAN; links that go up and down; timers.
 
-ghost use Rattle.std.specs.Prelude.{◌≡◌, ◌<◌, true, Some, length, slice_get};
-ghost use Rattle.ospf_area.specs.State.{LinkValue};
-ghost use Rattle.ospf_neighbour.specs.Machine.{is_exchanging};
-ghost use Rattle.ospf_neighbour.specs.Neighbour.{NeighbourValue};
-ghost use Rattle.ospf_neighbour.specs.Neighbours.{neighbour_of};
-ghost use Rattle.ospf_links.specs.Elections.{AreReady, IsReady};
-
 use ospf_adjacency::Outbox;
 use ospf_area::{Area, Link, LinkSettings, Origin, Outputs, Sent, flood, origin_of, own_of};
 use ospf_base::{ALL_SPF_ROUTERS, Addr, AreaId, InterfaceKind, RouterId};
@@ -158,9 +151,7 @@ fn iface_state(router: &Router) -> Option<(IfaceState, Addr, Addr)> {
 // ---- what comes
 
 // Whether a link has room for one neighbour more, if it is there.
-fn has_room(area: &Area, number: usize) -> bool
-    ensures { result ≡ true → (link : LinkValue) → slice_get area.now.links number ≡ Some link → length link.neighbours < 255 }
-{
+fn has_room(area: &Area, number: usize) -> bool {
     match area.links.get(number) {
         Some(link) => link.neighbours.all().len() < 255,
         None => true,
@@ -168,9 +159,7 @@ fn has_room(area: &Area, number: usize) -> bool
 }
 
 // Whether a neighbour is in Exchange or above, if it is there.
-fn is_answered(area: &Area, from: Origin) -> bool
-    ensures { result ≡ true → (link : LinkValue) → slice_get area.now.links from.link ≡ Some link → (n : NeighbourValue) → neighbour_of link.neighbours from.router ≡ Some n → is_exchanging n.state ≡ true }
-{
+fn is_answered(area: &Area, from: Origin) -> bool {
     match origin_of(&area.links, from) {
         Some(neighbour) => neighbour.state().is_exchanging(),
         None => true,
@@ -948,9 +937,7 @@ fn origin_at(place: usize) -> Origin {
 }
 
 // Whether an election can come about on a link.
-fn is_ready(link: &Link) -> bool
-    ensures { result ≡ true → IsReady link.now }
-{
+fn is_ready(link: &Link) -> bool {
     let own = link.iface.settings.router;
     let others = link.neighbours.all().iter().all(|n| n.router().0 != own.0);
     others
@@ -961,9 +948,7 @@ fn is_ready(link: &Link) -> bool
 }
 
 // Whether a router has one link, and an election can come about there.
-fn are_ready(links: &[Link]) -> bool
-    ensures { result ≡ true → AreReady links.now }
-{
+fn are_ready(links: &[Link]) -> bool {
     match links {
         [link] => is_ready(link),
         _ => false,

@@ -1,7 +1,5 @@
 //! Hellos of one link, and its timers.
 
-ghost use Rattle.std.specs.Prelude.{◌≡◌};
-
 use ospf_adjacency::Outbox;
 use ospf_area::{Outputs, Own};
 use ospf_base::{ALL_SPF_ROUTERS, Addr, AreaId, InterfaceKind, RouterId};
@@ -75,9 +73,7 @@ fn require(holds: bool) -> Result<(), Fail> {
 }
 
 // A neighbour that has been heard, or that has heard the router too.
-fn neighbour(alloc: Global, router: u32, two_way: bool, dead: u32) -> Neighbour
-    ensures { result.router.0 ≡ router }
-{
+fn neighbour(alloc: Global, router: u32, two_way: bool, dead: u32) -> Neighbour {
     let mut neighbour = Neighbour::new(alloc, RouterId(router), Addr(router));
     let _ = neighbour.event(NbrEvent::HelloReceived, dead);
     if two_way {

@@ -1,7 +1,5 @@
 //! The table of the state machine, each pair of state and event, a neighbour's lists, and the neighbours of an interface.
 
-ghost use Rattle.std.specs.Prelude.{◌≡◌};
-
 use ospf_base::{Addr, Age, Instance, Kind, LsaKey, RouterId};
 use ospf_lsa::LsaHeader;
 use ospf_neighbour::{
@@ -190,9 +188,7 @@ fn states_print_their_names(rt: HostRuntime) -> Result<(), Fail> {
     Ok(())
 }
 
-fn neighbour(alloc: Global, id: u32) -> Neighbour
-    ensures { result.router ≡ record { 0 = id } }
-{
+fn neighbour(alloc: Global, id: u32) -> Neighbour {
     Neighbour::new(alloc, RouterId(id), Addr(id))
 }
 

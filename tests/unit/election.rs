@@ -1,7 +1,5 @@
 //! Elections that were worked out by hand.
 
-ghost use Rattle.std.specs.Prelude.{◌≡◌};
-
 use ospf_base::{Addr, RouterId};
 use ospf_election::{Candidate, Elected, elect};
 use std::test::Fail;
@@ -20,9 +18,7 @@ const TWO: RouterId = RouterId(0x0202_0202);
 
 const THREE: RouterId = RouterId(0x0303_0303);
 
-fn candidate(id: RouterId, address: Addr, priority: u8, dr: Addr, backup: Addr) -> Candidate
-    ensures { result ≡ record { id = id; address = address; priority = priority; dr = dr; backup = backup } }
-{
+fn candidate(id: RouterId, address: Addr, priority: u8, dr: Addr, backup: Addr) -> Candidate {
     Candidate {
         id,
         address,

@@ -1,7 +1,5 @@
 //! Adjacencies of one router: Database Descriptions that come, and an election.
 
-ghost use Rattle.std.specs.Prelude.{◌≡◌};
-
 use ospf_adjacency::{
     Outbox, elect_on, is_broadcast, is_dropped, request_turn, send_dd, send_request,
     take_description, take_event, wants_adjacency,
@@ -278,9 +276,7 @@ fn a_mismatch_begins_anew(rt: HostRuntime) -> Result<(), Fail> {
 }
 
 // A neighbour in 2-Way, which declares this Designated Router.
-fn two_way(alloc: Global, router: u32, priority: u8, dr: Addr) -> Neighbour
-    ensures { result.router.0 ≡ router }
-{
+fn two_way(alloc: Global, router: u32, priority: u8, dr: Addr) -> Neighbour {
     let mut neighbour = Neighbour::new(alloc, RouterId(router), Addr(router));
     let _ = neighbour.event(NbrEvent::HelloReceived, 40);
     let _ = neighbour.event(NbrEvent::TwoWayReceived(false), 40);
@@ -329,9 +325,7 @@ fn three_routers_elect(rt: HostRuntime) -> Result<(), Fail> {
 }
 
 // A neighbour in Exchange, which declares nothing and may not be elected.
-fn exchanging(alloc: Global, router: u32) -> Neighbour
-    ensures { result.router.0 ≡ router }
-{
+fn exchanging(alloc: Global, router: u32) -> Neighbour {
     let mut neighbour = two_way(alloc, router, 0, Addr::NOWHERE);
     let _ = neighbour.event(NbrEvent::AdjOk(true), 40);
     let _ = neighbour.event(NbrEvent::NegotiationDone, 40);

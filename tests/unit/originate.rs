@@ -1,8 +1,5 @@
 //! The numbers and contents of own LSAs over an area, against sums that were computed elsewhere.
 
-ghost use Rattle.std.specs.Prelude.{IfOk, OnOk};
-ghost use Rattle.ospf_originate.specs.Sound.{AreSetUp, IsSetUp, IsSound};
-
 use ospf_area::{Area, Link as AreaLink, LinkSettings, Origin, Outputs};
 use ospf_base::{Addr, AreaId, Instance, InterfaceKind, Kind, LsaKey, MAX_AGE, RouterId, is_mask};
 use ospf_iface::{Iface, IfaceSettings, IfaceState};
@@ -103,9 +100,7 @@ fn iface(own: End, state: IfaceState) -> Iface {
 
 // The link of cost 10, of a router that is its Designated Router or has it as point-to-point, and is fully adjacent to
 // this one if there is one.
-fn link(alloc: Global, own: End, state: IfaceState, other: Option<End>) -> Result<AreaLink, Fail>
-    ensures { IfOk result (λ l. IsSetUp l) }
-{
+fn link(alloc: Global, own: End, state: IfaceState, other: Option<End>) -> Result<AreaLink, Fail> {
     let neighbours = neighbours(alloc, other)?;
     let iface = iface(own, state);
     let settings = LinkSettings {
@@ -134,19 +129,14 @@ fn links(
     own: End,
     state: IfaceState,
     other: Option<End>,
-) -> Result<Vec<AreaLink>, Fail>
-    ensures { IfOk result (λ ls. AreSetUp ls.items) }
-{
+) -> Result<Vec<AreaLink>, Fail> {
     let mut links = Vec::new(alloc);
     links.push(link(alloc, own, state, other)?)?;
     Ok(links)
 }
 
 // A router that has just started.
-fn area(alloc: Global, own: End, stub_router: bool, floor: i32, links: Vec<AreaLink>) -> Area
-    requires { AreSetUp links.items }
-    ensures { IsSound result }
-{
+fn area(alloc: Global, own: End, stub_router: bool, floor: i32, links: Vec<AreaLink>) -> Area {
     Area {
         router: own.router,
         area: AreaId(0),
@@ -165,28 +155,19 @@ fn area(alloc: Global, own: End, stub_router: bool, floor: i32, links: Vec<AreaL
 }
 
 // 1.1.1.1, with the link up, fully adjacent to 2.2.2.2 or not.
-fn one(alloc: Global, stub_router: bool, floor: i32, other: Option<End>) -> Result<Area, Fail>
-    ensures { IfOk result (λ a. IsSound a) }
-{
+fn one(alloc: Global, stub_router: bool, floor: i32, other: Option<End>) -> Result<Area, Fail> {
     let links = links(alloc, ONE, IfaceState::PointToPoint, other)?;
     Ok(area(alloc, ONE, stub_router, floor, links))
 }
 
 // The links are others at a later tick.
-fn go_on(area: &mut Area, links: Vec<AreaLink>, tick: u64)
-    requires sound { IsSound area.old }
-    requires links { AreSetUp links.items }
-    ensures { IsSound area.new }
-{
+fn go_on(area: &mut Area, links: Vec<AreaLink>, tick: u64) {
     area.links = links;
     area.tick = tick;
 }
 
 // What a step issues, as kinds, numbers and sums.
-fn step(area: &mut Area, alloc: Global) -> Result<Vec<Instance>, Fail>
-    requires { IsSound area.old }
-    ensures { OnOk result (IsSound area.new) }
-{
+fn step(area: &mut Area, alloc: Global) -> Result<Vec<Instance>, Fail> {
     let mut out = Outputs::new(alloc);
     own_lsas(area, &mut out, alloc)?;
     let mut issued = Vec::new(alloc);
@@ -197,10 +178,7 @@ fn step(area: &mut Area, alloc: Global) -> Result<Vec<Instance>, Fail>
 }
 
 // An LSA comes from 2.2.2.2.
-fn hear(area: &mut Area, lsa: &Lsa, alloc: Global) -> Result<(), Fail>
-    requires { IsSound area.old }
-    ensures { OnOk result (IsSound area.new) }
-{
+fn hear(area: &mut Area, lsa: &Lsa, alloc: Global) -> Result<(), Fail> {
     let from = Origin {
         link: 0,
         router: TWO.router,
@@ -213,10 +191,7 @@ fn hear(area: &mut Area, lsa: &Lsa, alloc: Global) -> Result<(), Fail>
 }
 
 // The copy of a key, which is at MaxAge, leaves.
-fn leave(area: &mut Area, key: LsaKey, alloc: Global) -> Result<(), Fail>
-    requires { IsSound area.old }
-    ensures { OnOk result (IsSound area.new) }
-{
+fn leave(area: &mut Area, key: LsaKey, alloc: Global) -> Result<(), Fail> {
     if area.database.get(&key).is_none() {
         return Err("no copy".into());
     }
@@ -227,29 +202,20 @@ fn leave(area: &mut Area, key: LsaKey, alloc: Global) -> Result<(), Fail>
 }
 
 // A step issues nothing.
-fn rests(area: &mut Area, alloc: Global) -> Result<bool, Fail>
-    requires { IsSound area.old }
-    ensures { OnOk result (IsSound area.new) }
-{
+fn rests(area: &mut Area, alloc: Global) -> Result<bool, Fail> {
     let issued = step(area, alloc)?;
     Ok(issued.is_empty())
 }
 
 // A step issues one LSA, of this key, number and sum.
-fn issues(area: &mut Area, key: LsaKey, number: i32, sum: u16, alloc: Global) -> Result<bool, Fail>
-    requires { IsSound area.old }
-    ensures { OnOk result (IsSound area.new) }
-{
+fn issues(area: &mut Area, key: LsaKey, number: i32, sum: u16, alloc: Global) -> Result<bool, Fail> {
     let issued = step(area, alloc)?;
     let instance = Instance { key, number, sum };
     Ok(issued.len() == 1 && issued.iter().all(|i| i.is_same(&instance)))
 }
 
 // A step issues one LSA, with this number.
-fn issues_number(area: &mut Area, number: i32, alloc: Global) -> Result<bool, Fail>
-    requires { IsSound area.old }
-    ensures { OnOk result (IsSound area.new) }
-{
+fn issues_number(area: &mut Area, number: i32, alloc: Global) -> Result<bool, Fail> {
     let issued = step(area, alloc)?;
     Ok(issued.len() == 1 && issued.iter().all(|i| i.number == number))
 }
@@ -261,10 +227,7 @@ fn change(
     other: Option<End>,
     tick: u64,
     alloc: Global,
-) -> Result<(), Fail>
-    requires { IsSound area.old }
-    ensures { OnOk result (IsSound area.new) }
-{
+) -> Result<(), Fail> {
     let links = links(alloc, ONE, state, other)?;
     go_on(area, links, tick);
     Ok(())
@@ -390,10 +353,7 @@ fn numbers_begin_again(rt: HostRuntime) -> Result<(), Fail> {
 }
 
 // The link goes down: the router-LSA is flushed, and then left as it is.
-fn goes_down(area: &mut Area, alloc: Global) -> Result<bool, Fail>
-    requires { IsSound area.old }
-    ensures { OnOk result (IsSound area.new) }
-{
+fn goes_down(area: &mut Area, alloc: Global) -> Result<bool, Fail> {
     change(area, IfaceState::Down, None, 5, alloc)?;
     let first = rests(area, alloc)?;
     let then = rests(area, alloc)?;
@@ -415,10 +375,7 @@ fn numbers_outlive_a_flush(rt: HostRuntime) -> Result<(), Fail> {
 }
 
 // No one is fully adjacent any more: the network-LSA is flushed.
-fn stands_alone(area: &mut Area, alloc: Global) -> Result<bool, Fail>
-    requires { IsSound area.old }
-    ensures { OnOk result (IsSound area.new) }
-{
+fn stands_alone(area: &mut Area, alloc: Global) -> Result<bool, Fail> {
     change(area, IfaceState::Dr, None, 1, alloc)?;
     let none = rests(area, alloc)?;
     Ok(none && is_expired(area, NETWORK_KEY))
@@ -450,10 +407,7 @@ fn one_that_is_not_wanted(rt: HostRuntime) -> Result<(), Fail> {
 }
 
 // A step issues nothing, and sends one datagram, an Update of the LSA at MaxAge.
-fn flushes(area: &mut Area, lsa: &Lsa, alloc: Global) -> Result<bool, Fail>
-    requires { IsSound area.old }
-    ensures { OnOk result (IsSound area.new) }
-{
+fn flushes(area: &mut Area, lsa: &Lsa, alloc: Global) -> Result<bool, Fail> {
     let mut out = Outputs::new(alloc);
     own_lsas(area, &mut out, alloc)?;
     Ok(out.issued.is_empty() && was_flushed(&out, &lsa.view()))

@@ -1,6 +1,6 @@
 //! Datagrams made by hand, for two routers that agree. An independent program computed their sums.
 
-use crate::tests::{LATER_FLOOR, SECOND, listed, rounds, start_above, step, two_after};
+use super::{LATER_FLOOR, SECOND, listed, rounds, start_above, step, two_after};
 use hex::decode;
 use ospf_base::{Addr, Instance, Kind, LsaKey, RouterId};
 use ospf_neighbour::NeighbourState;

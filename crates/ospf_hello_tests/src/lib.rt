@@ -1,5 +1,0 @@
-//! The tests of `ospf_hello`.
-#![tactic(auto)]
-
-#[cfg(test)]
-mod tests;

@@ -1,5 +1,0 @@
-//! The tests of `ospf_originate`.
-#![tactic(auto)]
-
-#[cfg(test)]
-mod tests;
