@@ -8,8 +8,6 @@
 mod fault;
 mod laws;
 mod moment;
-#[cfg(test)]
-mod tests;
 mod write;
 
 pub use crate::fault::CaptureFault;

@@ -8,8 +8,6 @@ mod edges;
 mod graph;
 mod laws;
 mod nodes;
-#[cfg(test)]
-mod tests;
 
 pub use crate::graph::Graph;
 pub use crate::laws::{names_tell_apart, prefixes_are_drawn};

@@ -84,14 +84,14 @@ fn opened_one<R: Wait + Drop>(alloc: Global, rt: R) -> Result<(Writer<R>, Seat),
 fn as_many_seats_as_there_are(rt: HostRuntime) -> Result<(), Fail> {
     let alloc = rt.alloc();
     let (mut writer, mut seats) = Fib::open(alloc, &rt, MAX_SEATS)?;
-    assert_eq!(rt; seats.len(), 64);
+    assert!(rt; seats.len() == 64);
     for seat in &mut seats {
-        assert_eq!(rt; seat.lookup(FAR, 0), Ok(None));
+        assert!(rt; seat.lookup(FAR, 0) == Ok(None));
     }
     let _told = writer.publish(&two_routers(alloc, 5)?)?;
     for seat in &mut seats {
-        assert_eq!(rt; seat.lookup(FAR, 7), Ok(Some(far_answer(1, 15))));
-        assert_eq!(rt; seat.lookup(Addr(0x0a09_0909), 0), Ok(None));
+        assert!(rt; seat.lookup(FAR, 7) == Ok(Some(far_answer(1, 15))));
+        assert!(rt; seat.lookup(Addr(0x0a09_0909), 0) == Ok(None));
     }
     Ok(())
 }
@@ -101,11 +101,11 @@ fn closed_by_the_writers_end(rt: HostRuntime) -> Result<(), Fail> {
     let alloc = rt.alloc();
     let (mut writer, mut seat) = opened_one(alloc, &rt)?;
     let told = writer.publish(&two_routers(alloc, 5)?)?;
-    assert_eq!(rt; seat.lookup(FAR, 0), Ok(Some(far_answer(1, 15))));
+    assert!(rt; seat.lookup(FAR, 0) == Ok(Some(far_answer(1, 15))));
     drop(writer);
-    assert_eq!(rt; seat.lookup(FAR, 0), Err(Closed));
+    assert!(rt; seat.lookup(FAR, 0) == Err(Closed));
     seat.learn(told);
-    assert_eq!(rt; seat.lookup(FAR, 0), Err(Closed));
+    assert!(rt; seat.lookup(FAR, 0) == Err(Closed));
     Ok(())
 }
 
@@ -135,8 +135,8 @@ fn refused_publish_changes_nothing(rt: HostRuntime) -> Result<(), Fail> {
             Err(_) => refused = refused.wrapping_add(1),
         }
         let expected = shown.map(|cost| far_answer(version, cost));
-        assert_eq!(rt; seat.lookup(FAR, 0), Ok(expected));
-        assert_eq!(rt; writer.shown().routes().is_empty(), shown.is_none());
+        assert!(rt; seat.lookup(FAR, 0) == Ok(expected));
+        assert!(rt; writer.shown().routes().is_empty() == shown.is_none());
     }
     // One allocation at most was refused.
     assert!(rt; refused <= 1 && version.wrapping_add(refused) == 6);
@@ -148,6 +148,6 @@ fn refusals_as_text(rt: HostRuntime) -> Result<(), Fail> {
     let mut text = String::new(rt.alloc());
     write!(text, "{OpenRefused}; {Closed}")?;
     let expected = "no memory or no place for a forwarding table; the forwarding table is closed";
-    assert_eq!(rt; text.as_str(), expected);
+    assert!(rt; text.as_str() == expected);
     Ok(())
 }

@@ -10,8 +10,6 @@ mod ranges;
 mod sets;
 mod sweep;
 mod table;
-#[cfg(test)]
-mod tests;
 
 pub use crate::entries::Found;
 pub use crate::table::IndexedTable;

@@ -56,11 +56,11 @@ fn reads_what_others_made(rt: HostRuntime) -> Result<(), Fail> {
     match view.kind() {
         Kind::Router => assert!(rt; false, "a network-LSA"),
         Kind::Network => {
-            assert_eq!(rt; view.mask(), 0xffff_ff00);
+            assert!(rt; view.mask() == 0xffff_ff00);
             let mut attached = view.attached();
-            assert_eq!(rt; attached.next(), Some(RouterId(0x0101_0101)));
-            assert_eq!(rt; attached.next(), Some(RouterId(0x0202_0202)));
-            assert_eq!(rt; attached.next(), None);
+            assert!(rt; attached.next() == Some(RouterId(0x0101_0101)));
+            assert!(rt; attached.next() == Some(RouterId(0x0202_0202)));
+            assert!(rt; attached.next() == None);
         }
     }
     Ok(())
@@ -70,16 +70,16 @@ fn reads_what_others_made(rt: HostRuntime) -> Result<(), Fail> {
 fn walks_links(rt: HostRuntime) -> Result<(), Fail> {
     let view = LsaView::read(&FIRST)?;
     let header = view.header();
-    assert_eq!(rt; header.number, FIRST_NUMBER);
-    assert_eq!(rt; header.sum, 0xe22c);
-    assert_eq!(rt; header.length, 48);
+    assert!(rt; header.number == FIRST_NUMBER);
+    assert!(rt; header.sum == 0xe22c);
+    assert!(rt; header.length == 48);
     let [first, second] = first_links();
     match view.kind() {
         Kind::Router => {
             let mut links = view.links();
-            assert_eq!(rt; links.next(), Some(first));
-            assert_eq!(rt; links.next(), Some(second));
-            assert_eq!(rt; links.next(), None);
+            assert!(rt; links.next() == Some(first));
+            assert!(rt; links.next() == Some(second));
+            assert!(rt; links.next() == None);
         }
         Kind::Network => assert!(rt; false, "a router-LSA"),
     }
@@ -116,15 +116,15 @@ fn tells_the_first_fault(rt: HostRuntime) -> Result<(), Fail> {
     ];
     for (changes, fault, name) in cases {
         let bytes = changed(changes);
-        assert_eq!(rt; LsaView::read(&bytes).err(), fault, "{name}");
+        assert!(rt; LsaView::read(&bytes).err() == fault, "{name}");
     }
-    assert_eq!(rt; LsaView::read(&FIRST[..47]).err(), Some(LsaFault::Short));
-    assert_eq!(rt; LsaView::read(&FIRST[..19]).err(), Some(LsaFault::Short));
+    assert!(rt; LsaView::read(&FIRST[..47]).err() == Some(LsaFault::Short));
+    assert!(rt; LsaView::read(&FIRST[..19]).err() == Some(LsaFault::Short));
     let mut longer = [0u8; 49];
     longer[..48].copy_from_slice(&FIRST);
-    assert_eq!(rt; LsaView::read(&longer).err(), Some(LsaFault::Length));
+    assert!(rt; LsaView::read(&longer).err() == Some(LsaFault::Length));
     let oldest = changed(&[(0, 0xff), (1, 0xff)]);
-    assert_eq!(rt; LsaView::read(&oldest)?.header().age, Age::new(3600));
+    assert!(rt; LsaView::read(&oldest)?.header().age == Age::new(3600));
     Ok(())
 }
 
@@ -136,7 +136,7 @@ fn makes_the_same_bytes(rt: HostRuntime) -> Result<(), Fail> {
         FIRST_NUMBER,
         &first_links(),
     )?;
-    assert_eq!(rt; first.view().as_bytes(), FIRST.as_slice());
+    assert!(rt; first.view().as_bytes() == FIRST.as_slice());
     let back = [
         Link {
             id: 0x0101_0101,
@@ -158,7 +158,7 @@ fn makes_the_same_bytes(rt: HostRuntime) -> Result<(), Fail> {
         },
     ];
     let second = Lsa::router(rt.alloc(), RouterId(0x0202_0202), FIRST_NUMBER, &back)?;
-    assert_eq!(rt; second.view().as_bytes(), SECOND.as_slice());
+    assert!(rt; second.view().as_bytes() == SECOND.as_slice());
     let network = Lsa::network(
         rt.alloc(),
         0x0a01_0002,
@@ -167,7 +167,7 @@ fn makes_the_same_bytes(rt: HostRuntime) -> Result<(), Fail> {
         0xffff_ff00,
         &[RouterId(0x0101_0101), RouterId(0x0202_0202)],
     )?;
-    assert_eq!(rt; network.view().as_bytes(), NETWORK.as_slice());
+    assert!(rt; network.view().as_bytes() == NETWORK.as_slice());
     Ok(())
 }
 
@@ -185,22 +185,19 @@ fn makes_no_other(rt: HostRuntime) -> Result<(), Fail> {
         ..stub
     };
     let free = Link { metric: 0, ..link };
-    assert_eq!(rt; refusal(alloc, FIRST_NUMBER, holed), Some(LsaFault::Mask));
-    assert_eq!(rt;
-        refusal(alloc, FIRST_NUMBER, free),
-        Some(LsaFault::ZeroMetric)
-    );
-    assert_eq!(rt; refusal(alloc, i32::MIN, link), Some(LsaFault::Number));
-    assert_eq!(rt; refusal(alloc, i32::MIN, free), Some(LsaFault::ZeroMetric));
+    assert!(rt; refusal(alloc, FIRST_NUMBER, holed) == Some(LsaFault::Mask));
+    assert!(rt; refusal(alloc, FIRST_NUMBER, free) == Some(LsaFault::ZeroMetric));
+    assert!(rt; refusal(alloc, i32::MIN, link) == Some(LsaFault::Number));
+    assert!(rt; refusal(alloc, i32::MIN, free) == Some(LsaFault::ZeroMetric));
     let many = [link; 1362];
     let most = Lsa::router(alloc, RouterId(1), FIRST_NUMBER, &many[..1361])?;
-    assert_eq!(rt; most.view().as_bytes().len(), 16356);
+    assert!(rt; most.view().as_bytes().len() == 16356);
     let long = Lsa::router(alloc, RouterId(1), i32::MIN, &many);
-    assert_eq!(rt; long.err(), Some(LsaFault::Length));
+    assert!(rt; long.err() == Some(LsaFault::Length));
     let network = Lsa::network(alloc, 1, RouterId(1), FIRST_NUMBER, 0xff00_ff00, &[]);
-    assert_eq!(rt; network.err(), Some(LsaFault::Mask));
+    assert!(rt; network.err() == Some(LsaFault::Mask));
     let unused = Lsa::network(alloc, 1, RouterId(1), i32::MIN, 0, &[]);
-    assert_eq!(rt; unused.err(), Some(LsaFault::Number));
+    assert!(rt; unused.err() == Some(LsaFault::Number));
     Ok(())
 }
 
@@ -232,7 +229,7 @@ fn compares_at_the_edges(rt: HostRuntime) {
     ];
     for (a, b, want) in ages {
         let (a, b) = (instance(a, 7, 9), instance(b, 7, 9));
-        assert_eq!(rt; newer(&a, &b), want, "{a:?} {b:?}");
+        assert!(rt; newer(&a, &b) == want, "{a:?} {b:?}");
     }
     let numbers = [
         (instance(3600, i32::MAX, 1), instance(0, -0x7fff_ffff, 9)),
@@ -240,8 +237,8 @@ fn compares_at_the_edges(rt: HostRuntime) {
         (instance(0, 7, 2), instance(3600, 7, 1)),
     ];
     for (a, b) in numbers {
-        assert_eq!(rt; newer(&a, &b), Recency::Newer, "{a:?} {b:?}");
-        assert_eq!(rt; newer(&b, &a), Recency::Older, "{b:?} {a:?}");
+        assert!(rt; newer(&a, &b) == Recency::Newer, "{a:?} {b:?}");
+        assert!(rt; newer(&b, &a) == Recency::Older, "{b:?} {a:?}");
     }
 }
 
@@ -264,19 +261,16 @@ fn lists_in_order(rt: HostRuntime) -> Result<(), Fail> {
         .iter()
         .map(|lsa| lsa.view().key().router.0)
         .collect(alloc)?;
-    assert_eq!(rt;
-        routers.as_slice(),
-        [0x0101_0101, 0x0202_0202, 2, 4, 9, 1].as_slice()
-    );
+    assert!(rt; routers.as_slice() == [0x0101_0101, 0x0202_0202, 2, 4, 9, 1].as_slice());
     let top = listing.network(5).map(|lsa| lsa.view().key().router);
-    assert_eq!(rt; top, Some(RouterId(9)));
+    assert!(rt; top == Some(RouterId(9)));
     assert!(rt; listing.network(6).is_none());
     let key = LsaKey {
         kind: Kind::Network,
         id: 5,
         router: RouterId(4),
     };
-    assert_eq!(rt; listing.get(&key).map(|lsa| lsa.view().key()), Some(key));
+    assert!(rt; listing.get(&key).map(|lsa| lsa.view().key()) == Some(key));
     let absent = LsaKey {
         router: RouterId(3),
         ..key
@@ -291,13 +285,13 @@ fn lists_no_other(rt: HostRuntime) -> Result<(), Fail> {
     let mut listing = Listing::new(alloc);
     let mut old = Lsa::copy(alloc, &LsaView::read(&FIRST)?)?;
     old.set_age(Age::new(3600));
-    assert_eq!(rt; old.view().header().age, Age::new(3600));
-    assert_eq!(rt; listing.add(old).err(), Some(ListingFault::MaxAge));
+    assert!(rt; old.view().header().age == Age::new(3600));
+    assert!(rt; listing.add(old).err() == Some(ListingFault::MaxAge));
     listing.add(Lsa::copy(alloc, &LsaView::read(&FIRST)?)?)?;
     let mut twice = Lsa::copy(alloc, &LsaView::read(&FIRST)?)?;
     twice.set_age(Age::new(3600));
-    assert_eq!(rt; listing.add(twice).err(), Some(ListingFault::Twice));
-    assert_eq!(rt; listing.lsas().len(), 1);
+    assert!(rt; listing.add(twice).err() == Some(ListingFault::Twice));
+    assert!(rt; listing.lsas().len() == 1);
     Ok(())
 }
 
@@ -317,10 +311,10 @@ fn prints_each_fault(rt: HostRuntime) -> Result<(), Fail> {
         (LsaFault::Memory, "L10 Memory"),
     ];
     for (fault, text) in faults.iter() {
-        assert_eq!(rt; format!(in alloc; "{fault}")?.as_str(), *text);
+        assert!(rt; format!(in alloc; "{fault}")?.as_str() == *text);
     }
     let twice = ListingFault::Twice;
-    assert_eq!(rt; format!(in alloc; "{twice}")?.as_str(), "K1 Twice");
+    assert!(rt; format!(in alloc; "{twice}")?.as_str() == "K1 Twice");
     Ok(())
 }
 
@@ -332,9 +326,9 @@ fn names_what_a_header_names(rt: HostRuntime) -> Result<(), Fail> {
         id: 0x0a01_0002,
         router: RouterId(0x0202_0202),
     };
-    assert_eq!(rt; header.key(), Some(key));
+    assert!(rt; header.key() == Some(key));
     let mut other = header;
     other.kind = 5;
-    assert_eq!(rt; other.key(), None);
+    assert!(rt; other.key() == None);
     Ok(())
 }

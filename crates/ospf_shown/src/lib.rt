@@ -11,9 +11,6 @@ use ospf_graph::Route;
 use std::fmt::{self, Display, Formatter};
 use std::io::{self, Write};
 
-#[cfg(test)]
-mod tests;
-
 // An address with what a lookup found.
 #[derive(Clone, Copy)]
 struct Found {

@@ -4,8 +4,6 @@
 mod fault;
 mod frame;
 mod sockets;
-#[cfg(test)]
-mod tests;
 mod ticks;
 mod wire;
 

@@ -1,6 +1,6 @@
 //! A capture that was written by hand from the formats (`tests/check-capture` reads it), and what is refused.
 
-use crate::{
+use ospf_capture::{
     CaptureFault, Moment, checksum_holds, has_one_reading, lengths_are_told, write_datagram,
     write_header,
 };

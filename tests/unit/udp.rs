@@ -1,6 +1,6 @@
 //! The wire, with a socket that sends to it.
 
-use crate::{OpenFault, UdpWire};
+use ospf_udp::{OpenFault, UdpWire};
 use ospf_base::Addr;
 use ospf_config::Config;
 use ospf_drive::{Arrival, LONGEST, Wire, WireFault};

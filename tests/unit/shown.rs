@@ -1,6 +1,6 @@
 //! Lines written by hand.
 
-use crate::{write_lookup, write_routes};
+use ospf_shown::{write_lookup, write_routes};
 use ospf_base::{Addr, Prefix, RouterId};
 use ospf_fib::Answer;
 use ospf_graph::{Hops, NextHop, Route};

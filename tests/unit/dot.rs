@@ -1,6 +1,6 @@
 //! A drawing that was written by hand from the LSAs.
 
-use crate::{Graph, names_tell_apart, prefixes_are_drawn};
+use ospf_dot::{Graph, names_tell_apart, prefixes_are_drawn};
 use ospf_base::RouterId;
 use ospf_lsa::{Link, LinkKind, Listing, Lsa};
 use std::test::Fail;
