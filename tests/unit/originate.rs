@@ -6,7 +6,7 @@ use ospf_iface::{Iface, IfaceSettings, IfaceState};
 use ospf_lsa::{LinkKind, Lsa, LsaView};
 use ospf_lsdb::Lsdb;
 use ospf_neighbour::{NbrEvent, Neighbour, Neighbours};
-use ospf_originate::{area_stays_sound, own_lsas, parts_stay_sound};
+use ospf_originate::own_lsas;
 use ospf_update::{on_lsa, remove};
 use std::alloc::Global;
 use std::collections::BTreeSet;
@@ -184,7 +184,6 @@ fn hear(area: &mut Area, lsa: &Lsa, alloc: Global) -> Result<(), Fail> {
         router: TWO.router,
         address: TWO.address,
     };
-    parts_stay_sound();
     let mut out = Outputs::new(alloc);
     on_lsa(area, from, &lsa.view(), &mut out, alloc)?;
     Ok(())
@@ -195,7 +194,6 @@ fn leave(area: &mut Area, key: LsaKey, alloc: Global) -> Result<(), Fail> {
     if area.database.get(&key).is_none() {
         return Err("no copy".into());
     }
-    area_stays_sound();
     let mut out = Outputs::new(alloc);
     remove(area, &mut out, alloc)?;
     Ok(())
