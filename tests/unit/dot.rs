@@ -1,7 +1,7 @@
 //! A drawing that was written by hand from the LSAs.
 
-use ospf_dot::{Graph, names_tell_apart, prefixes_are_drawn};
 use ospf_base::RouterId;
+use ospf_dot::{Graph, names_tell_apart, prefixes_are_drawn};
 use ospf_lsa::{Link, LinkKind, Listing, Lsa};
 use std::test::Fail;
 

@@ -206,7 +206,13 @@ fn rests(area: &mut Area, alloc: Global) -> Result<bool, Fail> {
 }
 
 // A step issues one LSA, of this key, number and sum.
-fn issues(area: &mut Area, key: LsaKey, number: i32, sum: u16, alloc: Global) -> Result<bool, Fail> {
+fn issues(
+    area: &mut Area,
+    key: LsaKey,
+    number: i32,
+    sum: u16,
+    alloc: Global,
+) -> Result<bool, Fail> {
     let issued = step(area, alloc)?;
     let instance = Instance { key, number, sum };
     Ok(issued.len() == 1 && issued.iter().all(|i| i.is_same(&instance)))

@@ -30,12 +30,7 @@ struct Waiting {
     sent: Sent,
 }
 
-fn start_above(
-    text: &str,
-    dd_start: u32,
-    floor: i32,
-    alloc: Global,
-) -> Result<Router, Fail> {
+fn start_above(text: &str, dd_start: u32, floor: i32, alloc: Global) -> Result<Router, Fail> {
     let config = Config::from_text(alloc, text)?;
     Ok(Router::start(&config, dd_start, floor, alloc)?)
 }
@@ -130,12 +125,7 @@ fn round(
 }
 
 // So many seconds, in each of which all that is sent arrives.
-fn rounds(
-    first: &mut Router,
-    second: &mut Router,
-    count: u32,
-    alloc: Global,
-) -> Result<(), Fail> {
+fn rounds(first: &mut Router, second: &mut Router, count: u32, alloc: Global) -> Result<(), Fail> {
     let mut queue = VecDeque::new(alloc);
     for _ in 0..count {
         round(first, second, &mut queue, alloc)?;

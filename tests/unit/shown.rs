@@ -1,9 +1,9 @@
 //! Lines written by hand.
 
-use ospf_shown::{write_lookup, write_routes};
 use ospf_base::{Addr, Prefix, RouterId};
 use ospf_fib::Answer;
 use ospf_graph::{Hops, NextHop, Route};
+use ospf_shown::{write_lookup, write_routes};
 use std::test::Fail;
 
 static LINES: &str = "10.0.0.0/30 10 attached

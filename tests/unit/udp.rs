@@ -1,9 +1,9 @@
 //! The wire, with a socket that sends to it.
 
-use ospf_udp::{OpenFault, UdpWire};
 use ospf_base::Addr;
 use ospf_config::Config;
 use ospf_drive::{Arrival, LONGEST, Wire, WireFault};
+use ospf_udp::{OpenFault, UdpWire};
 use std::alloc::Global;
 use std::io;
 use std::net::{Net, UdpSocket};
