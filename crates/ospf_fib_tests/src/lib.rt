@@ -1,7 +1,5 @@
-//! The tests of `ospf_fib` and `ospf_published`.
+//! Tests of `ospf_fib` in which threads run, or an allocation is refused.
 #![tactic(auto)]
 
-#[cfg(test)]
-mod published_tests;
 #[cfg(test)]
 mod tests;

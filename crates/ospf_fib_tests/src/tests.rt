@@ -3,12 +3,11 @@
 ghost use Rattle.std.specs.Prelude.{◌≡◌, IfOk};
 
 use ospf_base::{Addr, Prefix, RouterId};
-use ospf_fib::{Answer, Closed, Fib, MAX_SEATS, OpenRefused, Seat, Writer};
+use ospf_fib::{Answer, Fib, OpenRefused, Seat, Writer};
 use ospf_graph::NextHop;
 use ospf_lsa::{Link, LinkKind, Listing, Lsa};
 use ospf_spf::RouteTable;
 use std::alloc::Global;
-use std::fmt::Write;
 use std::sync::Wait;
 use std::test::Fail;
 
@@ -80,35 +79,6 @@ fn opened_one<R: Wait + Drop>(alloc: Global, rt: R) -> Result<(Writer<R>, Seat),
     }
 }
 
-#[test]
-fn as_many_seats_as_there_are(rt: HostRuntime) -> Result<(), Fail> {
-    let alloc = rt.alloc();
-    let (mut writer, mut seats) = Fib::open(alloc, &rt, MAX_SEATS)?;
-    assert!(rt; seats.len() == 64);
-    for seat in &mut seats {
-        assert!(rt; seat.lookup(FAR, 0) == Ok(None));
-    }
-    let _told = writer.publish(&two_routers(alloc, 5)?)?;
-    for seat in &mut seats {
-        assert!(rt; seat.lookup(FAR, 7) == Ok(Some(far_answer(1, 15))));
-        assert!(rt; seat.lookup(Addr(0x0a09_0909), 0) == Ok(None));
-    }
-    Ok(())
-}
-
-#[test]
-fn closed_by_the_writers_end(rt: HostRuntime) -> Result<(), Fail> {
-    let alloc = rt.alloc();
-    let (mut writer, mut seat) = opened_one(alloc, &rt)?;
-    let told = writer.publish(&two_routers(alloc, 5)?)?;
-    assert!(rt; seat.lookup(FAR, 0) == Ok(Some(far_answer(1, 15))));
-    drop(writer);
-    assert!(rt; seat.lookup(FAR, 0) == Err(Closed));
-    seat.learn(told);
-    assert!(rt; seat.lookup(FAR, 0) == Err(Closed));
-    Ok(())
-}
-
 // With no allocation refused it is six publishes. One that is refused changes nothing, and the next one succeeds.
 #[test]
 fn refused_publish_changes_nothing(rt: HostRuntime) -> Result<(), Fail> {
@@ -140,14 +110,5 @@ fn refused_publish_changes_nothing(rt: HostRuntime) -> Result<(), Fail> {
     }
     // One allocation at most was refused.
     assert!(rt; refused <= 1 && version.wrapping_add(refused) == 6);
-    Ok(())
-}
-
-#[test]
-fn refusals_as_text(rt: HostRuntime) -> Result<(), Fail> {
-    let mut text = String::new(rt.alloc());
-    write!(text, "{OpenRefused}; {Closed}")?;
-    let expected = "no memory or no place for a forwarding table; the forwarding table is closed";
-    assert!(rt; text.as_str() == expected);
     Ok(())
 }

@@ -1,6 +1,5 @@
 -- How many entries of a database are below MaxAge.
-use Rattle.std.proofs.Common.{◌≡◌, ◌<◌, ◌≤◌, ◌⊎◌, inl, inr, ℕ, ◌+◌, ◌==◌, ◌&&◌, ◌||◌, nat_lt, Bool, true, false, List, [], ◌∷◌, ◌++◌, filter, map, length, not, refl, ap, sym, ◌∙◌, subst, arith, Option, None, Some, option_map, if◌then◌else◌}
-use Rattle.std.proofs.lemmas.List.{length-map}
+use Rattle.std.proofs.Common.{◌≡◌, ◌<◌, ◌≤◌, ◌⊎◌, inl, inr, ℕ, ◌+◌, ◌==◌, ◌&&◌, ◌||◌, nat_lt, true, false, List, [], ◌∷◌, ◌++◌, filter, map, length, refl, ap, sym, ◌∙◌, subst, arith, Option, None, Some, option_map, if◌then◌else◌}
 use Rattle.ospf_base.specs.declared.ids.LsaKey.{LsaKey}
 use Rattle.ospf_base.specs.Keys.{Precedes, same_key}
 use Rattle.ospf_base.proofs.KeyOrder.{Precedes-cases}

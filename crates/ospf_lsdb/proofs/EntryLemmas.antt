@@ -13,10 +13,6 @@ key_of-contents [] = refl
 key_of-contents (a ∷ []) = refl
 key_of-contents (a ∷ b ∷ rest) = refl
 
-pub key_of-bare : (contents : List ℕ) → key_of (0 ∷ 0 ∷ contents) ≡ key_in contents
-unfolding key_in
-key_of-bare contents = refl
-
 -- so it is at each age
 pub key_of-with_age : (age : ℕ) (contents : List ℕ) → key_of (with_age age (0 ∷ 0 ∷ contents)) ≡ key_in contents
 unfolding key_in
@@ -45,11 +41,6 @@ expired-young h lt = let yes = lt-ltb h.entry.age 3600 lt in rw yes refl
 pub expired-old : (h : Held) → 3600 ≤ h.entry.age → expired h ≡ h
 unfolding expired
 expired-old h old = let no : nat_lt h.entry.age 3600 ≡ false = grind arith in rw no refl
-
--- what an LSA begins as
-pub age-entry_from : (lsa : List ℕ) (tick : ℕ) (by_flooding : Bool) → (entry_from lsa tick by_flooding).age ≤ 3600
-unfolding entry_from
-age-entry_from lsa tick by_flooding = omega arith
 
 pub key-entry_from : (lsa : List ℕ) (tick : ℕ) (by_flooding : Bool) → key_of lsa ≡ key_in (entry_from lsa tick by_flooding).contents
 unfolding entry_from

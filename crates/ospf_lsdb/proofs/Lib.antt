@@ -1,7 +1,6 @@
 pub mod EntryLemmas
 pub mod MapLemmas
 pub mod RisingLemmas
-pub mod PlaceLemmas
 pub mod OrderLemmas
 pub mod MomentLemmas
 pub mod FirstLemmas

@@ -6,11 +6,6 @@ use Rattle.ospf_base.proofs.SameKeys.{same_key-refl, same_key-eq, same_key-apart
 use Rattle.ospf_lsdb.specs.Database.{Held, key_at, held_of, Puts}
 use Rattle.ospf_lsdb.specs.Places.{AllBefore, AllAfter}
 
--- what stands before a key is not of it
-before-none : (key : LsaKey) (xs : List Held) → AllBefore key xs → held_of xs key ≡ None
-before-none key [] below = refl
-before-none key (x ∷ xs) below = let no = same_key-apart (key_at x) key below.0 in rw no (before-none key xs below.1)
-
 pub after-none : (key : LsaKey) (xs : List Held) → AllAfter key xs → held_of xs key ≡ None
 after-none key [] above = refl
 after-none key (x ∷ xs) above = let no = same_key-apart_after (key_at x) key above.0 in rw no (after-none key xs above.1)

@@ -31,9 +31,6 @@ is_eq-kind_cmp Router Network = refl
 is_eq-kind_cmp Network Router = refl
 is_eq-kind_cmp Network Network = refl
 
-key_cmp-is : (a b : LsaKey) → key_cmp a b ≡ ordering_then (kind_cmp a.kind b.kind) (ordering_then (nat_cmp a.id b.id) (nat_cmp a.router.0 b.router.0))
-key_cmp-is a b = refl
-
 -- keys that the map takes for one are one
 pub is_eq-key_cmp : (a b : LsaKey) → is_eq (key_cmp a b) ≡ same_key a b
 unfolding same_key

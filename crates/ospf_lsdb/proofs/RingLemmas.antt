@@ -29,7 +29,3 @@ ahead-tick clock moment c far = omega arith
 pub ahead-past : (clock : ℕ) → clock < 65536 → ahead ((clock + 1) % 65536) clock ≡ 65535
 unfolding ahead
 ahead-past clock c = omega arith
-
-pub ahead-below : (clock moment : ℕ) → ahead clock moment < 65536
-unfolding ahead
-ahead-below clock moment = omega arith

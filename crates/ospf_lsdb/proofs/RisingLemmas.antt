@@ -1,15 +1,13 @@
 -- Entries in the order of their keys.
-use Rattle.std.proofs.Common.{◌≡◌, ◌<◌, ◌≤◌, ◌⊎◌, inl, inr, ℕ, ◌+◌, List, [], ◌∷◌, ◌++◌, length, take, drop, get_or, refl, ap, sym, ◌∙◌, subst, arith, map}
-use Rattle.std.proofs.lemmas.Grind.{common_steps}
-use Rattle.std.proofs.lemmas.List.{drop_more, take-append-drop, length-map}
+use Rattle.std.proofs.Common.{◌≡◌, ◌<◌, ◌≤◌, ◌⊎◌, inl, inr, ℕ, ◌+◌, List, [], ◌∷◌, ◌++◌, length, take, drop, get_or, ap, sym, ◌∙◌, subst, arith, map}
+use Rattle.std.proofs.lemmas.List.{drop_more, take-append-drop}
 use Rattle.std.proofs.lemmas.List.Elements.{All-from_recursion}
 use Rattle.std.specs.List.{AllByRecursion}
 use Rattle.ospf_base.specs.declared.ids.LsaKey.{LsaKey}
 use Rattle.ospf_base.specs.Keys.{Precedes}
 use Rattle.ospf_base.proofs.KeyOrder.{Precedes-trans}
-use Rattle.ospf_lsdb.specs.Database.{Held, key_at, IsRising, IsDatabase, older, expired, is_fresh}
+use Rattle.ospf_lsdb.specs.Database.{Held, key_at, IsRising, IsDatabase, older}
 use Rattle.ospf_lsdb.specs.Places.{AllBefore, AllAfter}
-use Rattle.ospf_lsdb.proofs.MapLemmas.{bool_cases}
 use Rattle.ospf_lsdb.proofs.EntryLemmas.{older-young, older-old}
 
 pub all_join : {X : Type 0} (P : X → Type 0) (xs ys : List X) → AllByRecursion P xs → AllByRecursion P ys → AllByRecursion P (xs ++ ys)
@@ -28,11 +26,6 @@ all_back P (x ∷ xs) ys p = all_back P xs ys p.1
 pub all_after-trans : (k m : LsaKey) (xs : List Held) → Precedes k m → AllAfter m xs → AllAfter k xs
 all_after-trans k m [] lt p = tt
 all_after-trans k m (x ∷ xs) lt p = (Precedes-trans k m (key_at x) lt p.0, all_after-trans k m xs lt p.1)
-
--- entries behind one of a rising list
-pub rising_behind : (xs : List Held) (h : Held) (ys : List Held) → IsRising (xs ++ h ∷ ys) → AllAfter (key_at h) ys
-rising_behind [] h ys rises = rises.0
-rising_behind (x ∷ xs) h ys rises = rising_behind xs h ys rises.1
 
 -- entries in front of it
 pub rising_before : (xs : List Held) (h : Held) (ys : List Held) → IsRising (xs ++ h ∷ ys) → AllBefore (key_at h) xs
@@ -74,15 +67,6 @@ IsDatabase-remove xs h ys is = record {
 pub split_at : (db : List Held) (at : ℕ) (d : Held) → at < length db → db ≡ take at db ++ get_or db at d ∷ drop (at + 1) db
 split_at db at d within = sym (take-append-drop at db) ∙ ap (λ (t : List Held). take at db ++ t) (drop_more db at d within)
 
--- what coming to MaxAge keeps
-pub key_at-expired : (h : Held) → key_at (expired h) ≡ key_at h
-unfolding expired
-key_at-expired h = elim (bool_cases (is_fresh h.entry)) [ inl one ↦ rw one refl | inr two ↦ rw two refl ]
-
-pub age-expired : (h : Held) → h.entry.age ≤ 3600 → (expired h).entry.age ≤ 3600
-unfolding expired
-age-expired h fits = elim (bool_cases (is_fresh h.entry)) [ inl one ↦ rw one (omega arith) | inr two ↦ rw two fits ]
-
 -- what growing older keeps
 pub key_at-older : (h : Held) → key_at (older h) ≡ key_at h
 key_at-older h = elim (order h.entry.age) [
@@ -120,7 +104,3 @@ IsDatabase-older db is = record { rising = IsRising-older db is.rising; ages = a
 -- the age at a place
 pub age_at : (db : List Held) → IsDatabase db → (at : ℕ) (d : Held) → at < length db → (get_or db at d).entry.age ≤ 3600
 age_at db is at d within = All-from_recursion (λ h. h.entry.age ≤ 3600) db is.ages at d within
-
--- what a slice of a whole vector was written to
-pub whole-older : (db ys : List Held) (n : ℕ) → ys ≡ map older db → n ≡ length db → take n (ys ++ drop (length ys) db) ≡ map older db
-whole-older db ys n is count = grind (arith, common_steps, length-map)

@@ -8,10 +8,6 @@ mod entry;
 mod laws;
 mod lsdb;
 mod moments;
-#[cfg(test)]
-mod plain;
-#[cfg(test)]
-mod tests;
 
 pub use crate::entries::Entries;
 pub use crate::entry::EntryView;

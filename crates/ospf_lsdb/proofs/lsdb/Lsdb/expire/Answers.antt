@@ -1,4 +1,4 @@
-use Rattle.std.proofs.Common.{◌≡◌, ◌+◌, List, option_map, arith, ◌∙◌, sym}
+use Rattle.std.proofs.Common.{◌≡◌, ◌+◌, option_map, arith, ◌∙◌, sym}
 use Rattle.ospf_lsdb.specs.Counts.{fresh_count}
 use Rattle.ospf_lsdb.specs.Database.{expired, held_of}
 use Rattle.ospf_lsdb.proofs.CountLemmas.{expired_count, fresh_held, puts_count, was_count}

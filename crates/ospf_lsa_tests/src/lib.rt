@@ -1,5 +1,0 @@
-//! The tests of `ospf_lsa`.
-#![tactic(auto)]
-
-#[cfg(test)]
-mod tests;

@@ -1,5 +1,0 @@
-//! The tests of `ospf_spf`.
-#![tactic(auto)]
-
-#[cfg(test)]
-mod tests;
