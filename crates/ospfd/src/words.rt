@@ -2,10 +2,10 @@
 
 ghost use Rattle.clap.specs.Faults.{fault_of};
 ghost use Rattle.std.specs.Prelude.{OnOk, [], ◌≡◌, ◌∷◌, false, map, option_map, codes, string_bytes, Ok, Err, Some, IfOk, IfErr};
-ghost use Rattle.clap.specs.Words.{app_of, found_of, rows_of, rule_of, subcommand_rows_of};
+ghost use Rattle.clap.specs.Words.{app_of, found_of, rows_of, rule_of, subcommand_rows_of, with_subcommand};
 ghost use Rattle.ospfd.specs.Job.{IsFaultOfNoValue, IsFaultOfValue, IsHelp};
 ghost use Rattle.ospfd.specs.Unasked.{IsFirstWrong, IsJobIfAny, IsNoAddress, IsUnasked, IsWrongValue};
-ghost use Rattle.ospfd.specs.Words.{IsAddressIfAny, IsAsked, Spell, addresses_rule, command_app, explain_rule, files_rule, option_rule, ospfd_app, root_rule, script_rule, tick_rule, ticks_rule};
+ghost use Rattle.ospfd.specs.Words.{IsAddressIfAny, IsAsked, Spell, addresses_rule, check_app, command_app, explain_rule, files_rule, option_rule, ospfd_app, root_rule, run_app, script_rule, sim_app, table_app, tick_rule, ticks_rule};
 
 use crate::jobs::{CheckJob, Job, JobFault, RunJob, SimJob};
 use clap::builder::ValueParser;
@@ -260,20 +260,34 @@ fn program<'a>(alloc: Global) -> Result<Command<'a>, AllocError>
     Ok(program)
 }
 
-// The words that the program knows.
-fn command<'a>(alloc: Global) -> Result<Command<'a>, AllocError>
-    ensures { IfOk result (λ c. app_of c ≡ command_app) }
+// Adds the command `table` and its words.
+fn with_table<'a>(program: Command<'a>, alloc: Global) -> Result<Command<'a>, AllocError>
+    ensures { IfOk result (λ c. app_of c ≡ with_subcommand (app_of program.entry) table_app.top) }
 {
     let table = Command::new(alloc, "table")
         .about("Computes a routing table from LSAs in hexadecimal, one a line, on standard input")
         .after_help(TABLE_HELP)
         .arg(root_arg(alloc))?
         .arg(addresses_arg(alloc))?;
+    program.subcommand(table)
+}
+
+// Adds the command `check` and its words.
+fn with_check<'a>(program: Command<'a>, alloc: Global) -> Result<Command<'a>, AllocError>
+    ensures { IfOk result (λ c. app_of c ≡ with_subcommand (app_of program.entry) check_app.top) }
+{
     let check = Command::new(alloc, "check")
         .about("Checks configurations in TOML")
         .after_help(CHECK_HELP)
         .arg(explain_arg(alloc))?
         .arg(files_arg(alloc))?;
+    program.subcommand(check)
+}
+
+// Adds the command `sim` and its words.
+fn with_sim<'a>(program: Command<'a>, alloc: Global) -> Result<Command<'a>, AllocError>
+    ensures { IfOk result (λ c. app_of c ≡ with_subcommand (app_of program.entry) sim_app.top) }
+{
     let sim = Command::new(alloc, "sim")
         .about("Simulates an area: runs a script over a router for each configuration")
         .after_help(SIM_HELP)
@@ -281,6 +295,13 @@ fn command<'a>(alloc: Global) -> Result<Command<'a>, AllocError>
         .arg(files_arg(alloc))?
         .arg(dot_arg(alloc))?
         .arg(pcap_arg(alloc))?;
+    program.subcommand(sim)
+}
+
+// Adds the command `run` and its words.
+fn with_run<'a>(program: Command<'a>, alloc: Global) -> Result<Command<'a>, AllocError>
+    ensures { IfOk result (λ c. app_of c ≡ with_subcommand (app_of program.entry) run_app.top) }
+{
     let run = Command::new(alloc, "run")
         .about("Runs a router for each configuration, each in a thread, over UDP on this machine")
         .after_help(RUN_HELP)
@@ -290,11 +311,17 @@ fn command<'a>(alloc: Global) -> Result<Command<'a>, AllocError>
         .arg(lookup_arg(alloc))?
         .arg(floor_arg(alloc))?
         .arg(pcap_arg(alloc))?;
-    program(alloc)?
-        .subcommand(table)?
-        .subcommand(check)?
-        .subcommand(sim)?
-        .subcommand(run)
+    program.subcommand(run)
+}
+
+// The words that the program knows.
+fn command<'a>(alloc: Global) -> Result<Command<'a>, AllocError>
+    ensures { IfOk result (λ c. app_of c ≡ command_app) }
+{
+    let program = with_table(program(alloc)?, alloc)?;
+    let program = with_check(program, alloc)?;
+    let program = with_sim(program, alloc)?;
+    with_run(program, alloc)
 }
 
 // The value that a word spells.
