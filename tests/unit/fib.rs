@@ -10,6 +10,8 @@ use std::alloc::Global;
 use std::fmt::Write;
 use std::test::Fail;
 
+mod many;
+
 const FIRST: RouterId = RouterId(0x0101_0101);
 
 const SECOND: RouterId = RouterId(0x0202_0202);

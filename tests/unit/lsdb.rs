@@ -10,7 +10,7 @@ use std::test::Fail;
 
 mod plain;
 
-use crate::lsdb::plain::{PlainAnswer, PlainLsdb};
+use self::plain::{PlainAnswer, PlainLsdb};
 
 // How many routers have LSAs in the two databases.
 const ROUTERS: u32 = 8;

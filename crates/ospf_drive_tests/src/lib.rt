@@ -1,7 +1,7 @@
-//! The tests of `ospf_drive`.
+//! Tests that run at full speed: threads beside a writer, and publishes and drives for which each allocation is refused in turn.
 #![tactic(auto)]
 
 #[cfg(test)]
-mod beside_tests;
+mod drives;
 #[cfg(test)]
-mod tests;
+mod publishes;

@@ -1,7 +1,5 @@
 //! Two routers, each driven in a thread of its own, over a link in memory, beside a reader of each one's table.
 
-ghost use Rattle.std.specs.Prelude.{◌≡◌};
-
 use ospf_base::{Addr, Prefix, RouterId};
 use ospf_config::Config;
 use ospf_drive::{Arrival, LONGEST, Wire, WireFault, drive};
@@ -114,9 +112,7 @@ impl<'a, R: Wait> GatedWire<'a, R> {
     }
 
     // First the links go up; then come datagrams, and where there is none a second.
-    fn next(&mut self, buffer: &mut [u8; LONGEST]) -> Option<Arrival>
-        ensures { self.new.failed ≡ self.old.failed }
-    {
+    fn next(&mut self, buffer: &mut [u8; LONGEST]) -> Option<Arrival> {
         if self.down > 0 {
             self.down -= 1;
             return Some(Arrival::LinkUp { link: self.down });

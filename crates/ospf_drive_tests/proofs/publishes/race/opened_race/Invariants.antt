@@ -1,4 +1,4 @@
-use Rattle.ospf_fib_tests.proofs.tests.race.opened_race.Given as goal
+use Rattle.ospf_drive_tests.proofs.publishes.race.opened_race.Given as goal
 
 -- the forwarding table that was just opened
 abbrev pub ghosts-race : goal.ghosts-race

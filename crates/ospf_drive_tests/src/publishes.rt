@@ -11,7 +11,6 @@ use std::alloc::Global;
 use std::sync::Wait;
 use std::test::Fail;
 
-mod many;
 mod race;
 
 const FIRST: RouterId = RouterId(0x0101_0101);

@@ -1,6 +1,4 @@
-//! A driver over the wire in memory, whose calls fail one by one.
-
-ghost use Rattle.std.specs.Prelude.{◌≡◌};
+//! A driver over the wire in memory, for which an allocation is refused.
 
 use ospf_base::Addr;
 use ospf_config::Config;
@@ -23,73 +21,20 @@ const HELLO: [u8; 48] = [
     0xff, 0xfc, 0, 10, 2, 1, 0, 0, 0, 40, 0, 0, 0, 0, 0, 0, 0, 0, 1, 1, 1, 1,
 ];
 
-// The link goes up, a second passes, and the Hello comes; with an end or without.
-fn script(alloc: Global, ends: bool) -> Result<Vec<Scripted>, AllocError> {
-    let mut arrivals = Vec::with_capacity(alloc, 4)?;
+// An address of the link.
+const NEAR: Addr = Addr(0x0a00_0002);
+
+// The link goes up, a second passes, the Hello comes, four more pass, and the link goes down: the table changes twice.
+fn script(alloc: Global) -> Result<Vec<Scripted>, AllocError> {
+    let mut arrivals = Vec::with_capacity(alloc, 9)?;
     arrivals.push(Scripted::LinkUp { link: 0 })?;
     arrivals.push(Scripted::Tick)?;
     arrivals.push(Scripted::Datagram {
         link: 0,
-        source: Addr(0x0a00_0002),
+        source: NEAR,
         destination: Addr(0xe000_0005),
         bytes: HELLO.to_vec(alloc)?,
     })?;
-    if ends {
-        arrivals.push(Scripted::End)?;
-    }
-    Ok(arrivals)
-}
-
-// Whether something was told, or the fault; how many datagrams went out, and how often the wire failed.
-type Played = (Result<bool, DriveFault>, usize, u64);
-
-// Drives a router over the wire.
-fn play<R: Wait>(rt: &R, alloc: Global, mut wire: MemoryWire) -> Result<Played, Fail>
-    requires { wire.failed ≡ 0 }
-{
-    let (mut writer, _seats) = Fib::open(alloc, rt, 1)?;
-    let mut router = Router::start(&Config::from_text(alloc, CONFIG)?, 100, NO_FLOOR, alloc)?;
-    let driven = drive(rt, alloc, &mut router, &mut wire, &mut writer);
-    let told = driven.map(|told| told.is_some());
-    Ok((told, wire.sent().len(), wire.failures()))
-}
-
-// A Hello goes out as the link goes up, and the first Database Description to the neighbour that lists the router.
-#[test]
-fn each_send_fails_once(rt: HostRuntime) -> Result<(), Fail> {
-    let alloc = rt.alloc();
-    for good in 0..2usize {
-        let wire = MemoryWire::new(alloc, script(alloc, true)?, None, Some(good));
-        assert!(rt; play(&rt, alloc, wire)? == (Err(DriveFault::Send), good, 1));
-    }
-    let wire = MemoryWire::new(alloc, script(alloc, true)?, None, Some(2));
-    assert!(rt; play(&rt, alloc, wire)? == (Ok(true), 2, 0));
-    Ok(())
-}
-
-// The script without an end fails where it stops.
-#[test]
-fn each_receive_fails_once(rt: HostRuntime) -> Result<(), Fail> {
-    let alloc = rt.alloc();
-    for (ends, good, sent) in [
-        (true, Some(0), 0),
-        (true, Some(1), 1),
-        (true, Some(2), 1),
-        (true, Some(3), 2),
-        (false, None, 2),
-    ] {
-        let wire = MemoryWire::new(alloc, script(alloc, ends)?, good, None);
-        assert!(rt; play(&rt, alloc, wire)? == (Err(DriveFault::Recv), sent, 1));
-    }
-    Ok(())
-}
-
-// An address of the link.
-const NEAR: Addr = Addr(0x0a00_0002);
-
-// The link goes up, five seconds pass, the Hello comes, and the link goes down: the table changes twice.
-fn long_script(alloc: Global) -> Result<Vec<Scripted>, AllocError> {
-    let mut arrivals = script(alloc, false)?;
     for _ in 0..4u32 {
         arrivals.push(Scripted::Tick)?;
     }
@@ -109,12 +54,12 @@ struct Ended {
     failures: u64,
 }
 
-// Drives a router by the long script, and looks at what is left.
-fn drive_long<R: Wait>(rt: &R, alloc: Global) -> Result<Ended, Fail> {
+// Drives a router by the script, and looks at what is left.
+fn drive_all<R: Wait>(rt: &R, alloc: Global) -> Result<Ended, Fail> {
     let (mut writer, mut seats) = Fib::open(alloc, rt, 1)?;
     let mut seat = seats.pop().ok_or("a seat")?;
     let mut router = Router::start(&Config::from_text(alloc, CONFIG)?, 100, NO_FLOOR, alloc)?;
-    let mut wire = MemoryWire::new(alloc, long_script(alloc)?, None, None);
+    let mut wire = MemoryWire::new(alloc, script(alloc)?, None, None);
     let driven = drive(rt, alloc, &mut router, &mut wire, &mut writer).map(|told| told.is_some());
     Ok(Ended {
         driven,
@@ -149,7 +94,7 @@ fn is_as_stated(ended: &Ended) -> bool {
 // Where an allocation is refused, a drive says where: in a step, in a publish, or where the wire keeps what is sent.
 #[test]
 fn want_of_memory_ends_as_stated(rt: HostRuntime) -> Result<(), Fail> {
-    let ended = drive_long(&rt, rt.alloc())?;
+    let ended = drive_all(&rt, rt.alloc())?;
     if !is_as_stated(&ended) {
         return Err(Fail::from("not as stated"));
     }

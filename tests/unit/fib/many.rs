@@ -14,9 +14,9 @@ use std::thread;
 use std::thread::{Threads, join};
 
 // How many tables are published, of how many routes, and how many different ones there are.
-const PUBLISHED: u64 = 10_000;
+const PUBLISHED: u64 = 500;
 
-const ROUTES: u32 = 1_000;
+const ROUTES: u32 = 100;
 
 const TABLES: u64 = 4;
 

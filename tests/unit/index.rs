@@ -1,9 +1,9 @@
 //! Lookups in tables of each shape.
 
-use crate::IndexedTable;
-use crate::counts::most_hops;
-use crate::numbering::{Numbering, numbers_of};
 use ospf_base::{Addr, RouterId};
+use ospf_index::IndexedTable;
+use ospf_index::counts::most_hops;
+use ospf_index::numbering::{Numbering, numbers_of};
 use ospf_lsa::{Link, LinkKind, Listing, Lsa};
 use ospf_spf::RouteTable;
 use std::alloc::Global;

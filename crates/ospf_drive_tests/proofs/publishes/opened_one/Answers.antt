@@ -1,7 +1,7 @@
 use Rattle.std.proofs.Common.{◌≡◌, Option, Some, subst}
 use Rattle.std.specs.Option.{IfSome}
 use Rattle.std.proofs.lemmas.List.Elements.{All-pop}
-use Rattle.ospf_fib_tests.proofs.tests.opened_one.Goals as goal
+use Rattle.ospf_drive_tests.proofs.publishes.opened_one.Goals as goal
 
 holds_of : {X : Type 0} (P : X → Type 0) (r : Option X) (x : X) → r ≡ Some x → IfSome r P → P x
 holds_of P r x is holds = subst (λ o. IfSome o P) is holds
