@@ -1,9 +1,9 @@
 //! Configurations that are checked, by name.
 
+use super::failing::Failing;
 use ospf_check::check_text;
 use ospf_files::{NamedFile, Status};
 use std::alloc::{AllocError, Global};
-use std::io::{self, ErrorKind, Write};
 use std::test::Fail;
 
 // A file, and what is told of it.
@@ -255,33 +255,6 @@ fn explains_refused_files(rt: HostRuntime) -> Result<(), Fail> {
         b"b.toml: C5 ZeroCost\n  interface 0: cost: 1 to 65535 wanted, 0 found\nc.toml: C1 NotToml\n  the file is not UTF-8\nd.toml: C2 Missing\n  area: a dotted text, as \"0.0.0.1\", wanted, nothing found\n  interface: 1 to 32 tables [[interface]] wanted, nothing found\n".as_slice()
     );
     Ok(())
-}
-
-// A writer that takes so many writes, or flushes, before it fails.
-#[derive(Drop)]
-struct Failing {
-    left: usize,
-}
-
-impl Failing {
-    fn step(&mut self) -> io::Result<()> {
-        if self.left == 0 {
-            return Err(io::Error::from(ErrorKind::BrokenPipe));
-        }
-        self.left -= 1;
-        Ok(())
-    }
-}
-
-impl Write for Failing {
-    fn write(&mut self, buf: &[u8]) -> io::Result<usize> {
-        self.step()?;
-        Ok(buf.len())
-    }
-
-    fn flush(&mut self) -> io::Result<()> {
-        self.step()
-    }
 }
 
 #[test]

@@ -1,5 +1,6 @@
 //! Whole answers to words and input.
 
+use super::failing::Failing;
 use crate::jobs::{CheckJob, Job};
 use crate::words::{job, not_text};
 use ospf_base::Addr;
@@ -554,33 +555,6 @@ struct Broken;
 impl Read for Broken {
     fn read(&mut self, _buf: &mut [u8]) -> io::Result<usize> {
         Err(io::Error::from(ErrorKind::BrokenPipe))
-    }
-}
-
-// A writer that takes so many writes, or flushes, before it fails.
-#[derive(Drop)]
-struct Failing {
-    left: usize,
-}
-
-impl Failing {
-    fn step(&mut self) -> io::Result<()> {
-        if self.left == 0 {
-            return Err(io::Error::from(ErrorKind::BrokenPipe));
-        }
-        self.left -= 1;
-        Ok(())
-    }
-}
-
-impl Write for Failing {
-    fn write(&mut self, buf: &[u8]) -> io::Result<usize> {
-        self.step()?;
-        Ok(buf.len())
-    }
-
-    fn flush(&mut self) -> io::Result<()> {
-        self.step()
     }
 }
 
