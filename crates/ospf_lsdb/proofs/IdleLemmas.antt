@@ -110,8 +110,8 @@ idle_less clock next due c quiet two = record {
 }
 
 -- a count of moments, as the moment that is so far ahead
-pub idle_moment : (clock count : ℕ) (due : List Due) → clock < 65536 → count < 65536 → IsIdle clock count due → IsIdle clock (ahead clock ((clock + count) % 65536)) due
-idle_moment clock count due c fits quiet = rw (ahead-of clock count c fits) quiet
+pub idle_moment : (clock count next : ℕ) (due : List Due) → ahead clock next ≡ count → IsIdle clock count due → IsIdle clock (ahead clock next) due
+idle_moment clock count next due is quiet = rw is quiet
 
 -- each entry is older
 pub idle_ages : (clock idle : ℕ) (m : BTreeMap LsaKey Stored) (due : List Due) → IsKept clock m.entries due → IsIdle clock idle due → 2 ≤ idle → Ages (map (held_at clock due) m.entries) (map (held_at (then_at clock) due) m.entries)

@@ -16,6 +16,6 @@ returns c =
       version_is = refl;
       prefix_is = refl;
       cost_is = refl;
-      hops_is = refl;
+      hops_is = omega arith;
       hop_is = slice_get-get_or hops (c.args.choice % length hops) Attached within;
     }

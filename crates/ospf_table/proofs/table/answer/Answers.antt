@@ -15,7 +15,7 @@ pub returns-clause-answer : goal.returns-clause-answer
 returns-clause-answer g c =
     map_some (g.R.Read.remaining c.args.input) _ _
     (λ input reads. answered _ _ _ _ input c.in_ok-listing.listing c.args.job.now.root c.in_ok-table.table c.args.job.now.addresses.items reads
-    c.in-Ok.ensures c.in_ok-table.ensures
+    c.in-Ok.ensures (search (c.in_ok-table.ensures))
     (subst (λ addresses. (text : List ℕ) × IsOutput c.in_ok-table.table addresses text × Appends (g.O.Write.contents c.args.out.now) (g.O.Write.contents c.write_answer.new.out) text)
     c.deref.ensures.value c.in_ok-write_answer.ensures.output))
     c.in_ok-listing.ensures.whole

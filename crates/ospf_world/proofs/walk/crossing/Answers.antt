@@ -1,4 +1,4 @@
-use Rattle.std.proofs.Common.{List, refl, subst}
+use Rattle.std.proofs.Common.{List, rules, subst}
 use Rattle.ospf_graph.specs.Advertisements.{Advertisement}
 use Rattle.ospf_graph.specs.Walk.{IsLinkCost}
 use Rattle.ospf_router.specs.Routers.{listing_of}
@@ -11,4 +11,4 @@ unreachable-requires c = not_linked c.args.at c.args.hop.now (listing_of c.args.
 
 pub returns : goal.returns
 returns c =
-    λ paid. LegsOver.There c.args.next c.in-Some-link_cost.cost c.requires.next (subst (λ (A : List Advertisement). IsLinkCost A c.args.at c.args.hop.now c.in-Some-link_cost.cost) c.in-Some.ensures.told c.in-Some-link_cost.ensures.cost) refl
+    λ paid. LegsOver.There c.args.next c.in-Some-link_cost.cost c.requires.next (subst (λ (A : List Advertisement). IsLinkCost A c.args.at c.args.hop.now c.in-Some-link_cost.cost) c.in-Some.ensures.told c.in-Some-link_cost.ensures.cost) (search rules)

@@ -1,9 +1,9 @@
-use Rattle.std.proofs.Common.{refl, ℕ, List, ◌≡◌, ◌<◌, ap, sym, ◌∙◌, subst, arith}
+use Rattle.std.proofs.Common.{refl, ℕ, List, ◌∷◌, ◌++◌, take, drop, ◌≡◌, ◌<◌, ap, sym, ◌∙◌, subst, arith}
 use Rattle.ospf_base.specs.declared.ids.LsaKey.{LsaKey}
 use Rattle.ospf_lsa.specs.Header.{header_of, HeaderFits}
 use Rattle.ospf_lsa.specs.declared.header.LsaHeader.{LsaHeader}
 use Rattle.ospf_lsa.specs.Lsa.{IsLsa, key_of}
-use Rattle.ospf_lsa.specs.Listing.{IsPlace, HasKey}
+use Rattle.ospf_lsa.specs.Listing.{IsListing, IsPlace, HasKey}
 use Rattle.ospf_lsa.proofs.ListingLemmas.{IsListing-place, no_key_at}
 use Rattle.ospf_lsa.proofs.listing.Listing.add.Goals as goal
 use Rattle.ospf_lsa.proofs.listing.Listing.add.Goals.{In-Some}
@@ -39,4 +39,5 @@ invariant_of-self-2 c =
     let below : c.ticks.result < 3600 = omega (arith, c.ticks.ensures.at_most, c.if-ticks-eq-MAX_AGE.false) in
     let young : (header_of c.args.lsa).age < 3600 = rw (← age, ← c.ticks.ensures.value) below in
     let ok = c.if-is_err.ensures.negation in
-    rw (c.insert.ensures.items, ok) (IsListing-place c.self.inside.lsas.items c.args.lsa c.in-Some.at c.self.invariant (is, fits, young) there)
+    let grown = IsListing-place c.self.inside.lsas.items c.args.lsa c.in-Some.at c.self.invariant (is, fits, young) there in
+    rw (c.insert.ensures.items, ok) (subst (λ (n : ℕ). IsListing (take n c.self.inside.lsas.items ++ c.args.lsa ∷ drop n c.self.inside.lsas.items)) (omega arith) grown)

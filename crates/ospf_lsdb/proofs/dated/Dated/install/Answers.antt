@@ -44,8 +44,13 @@ was c =
     let there : stored_of c.self.inside.entries.entries c.key-key.result ≡ Some c.in-Ok-Some.old = sym (stored_of-get c.self.inside.entries c.key-key.result) ∙ sym c.in-Ok-Some.ensures.old ∙ c.in-Ok-Some.field-0-is in
     ap (λ (o : Option Stored). option_map (λ s. age_at c.self.inside.clock s.timer) o) there ∙ ap (λ (n : ℕ). Some n) (sym c.age-old_age.ensures)
 
+gone : (c : After-remove_reached) (q : Due) → has c.remove_reached.new.self q ≡ (not (same_due (record { moment = c.self.inside.clock; age = c.age-old_age.result; key = c.key-key.result }) q) && has c.add_coming.new.self q)
+gone c q =
+    subst (λ (n : ℕ). has c.remove_reached.new.self q ≡ (not (same_due (record { moment = c.self.inside.clock; age = n; key = c.key-key.result }) q) && has c.add_coming.new.self q)) (omega arith)
+    (c.remove_reached.ensures.gone q)
+
 ops_same : (c : After-remove_reached) (q : Due) → has c.remove_reached.new.self q ≡ (not (same_due (record { moment = c.self.inside.clock; age = c.age-old_age.result; key = c.key-key.result }) q) && (is_coming c.self.inside.clock c.ticks-age.result c.key-key.result q || has c.self.inside.due q))
-ops_same c q = c.remove_reached.ensures.gone q ∙ ap (λ (b : Bool). not (same_due (record { moment = c.self.inside.clock; age = c.age-old_age.result; key = c.key-key.result }) q) && b) (c.in_ok-add_coming.ensures.ok q)
+ops_same c q = gone c q ∙ ap (λ (b : Bool). not (same_due (record { moment = c.self.inside.clock; age = c.age-old_age.result; key = c.key-key.result }) q) && b) (c.in_ok-add_coming.ensures.ok q)
 
 same_age : (c : After-remove_reached) → c.age-old_age.result ≡ c.ticks-age.result → Replaces c.self.inside.clock c.ticks-age.result c.key-key.result c.self.inside.due c.remove_reached.new.self
 same_age c same = replaces_same c.self.inside.clock c.age-old_age.result c.ticks-age.result c.key-key.result c.self.inside.entries.entries c.self.inside.due c.remove_reached.new.self c.self.invariant.kept.on_ring c.self.invariant.kept.are_due (was c) same (ops_same c)
@@ -71,7 +76,7 @@ installed_some c after replaces =
     (put_some d) (key_from e) c.new-2.ensures.age (age_is e) replaces)
 
 left : (c : After-remove_reached) (q : Due) → has c.remove_reached.new.self q ≡ true → has c.add_coming.new.self q ≡ true
-left c q there = and_right (not (same_due (record { moment = c.self.inside.clock; age = c.age-old_age.result; key = c.key-key.result }) q)) (has c.add_coming.new.self q) (sym (c.remove_reached.ensures.gone q) ∙ there)
+left c q there = and_right (not (same_due (record { moment = c.self.inside.clock; age = c.age-old_age.result; key = c.key-key.result }) q)) (has c.add_coming.new.self q) (sym (gone c q) ∙ there)
 
 pub invariant_of-self-then-old_age-age : goal.invariant_of-self-then-old_age-age
 invariant_of-self-then-old_age-age c =
@@ -135,12 +140,16 @@ returns-in-Ok-None-clause-ok c = λ k.
 
 -- ---- where memory ran out
 
+undone : (c : After-remove_coming-in-Err) (q : Due) → has c.remove_coming-in-Err.new.self q ≡ (not (is_coming c.self.inside.clock c.ticks-age.result c.key-key.result q) && has c.add_coming.new.self q)
+undone c q =
+    subst (λ (n : ℕ). has c.remove_coming-in-Err.new.self q ≡ (not (is_coming c.self.inside.clock n c.key-key.result q) && has c.add_coming.new.self q)) (omega arith) (c.remove_coming-in-Err.ensures q)
+
 nothing : (c : After-remove_coming-in-Err) (q : Due) → has c.remove_coming-in-Err.new.self q ≡ has c.self.inside.due q
 nothing c =
     let none : stored_of c.self.inside.entries.entries c.key-key.result ≡ None = sym (stored_of-get c.self.inside.entries c.key-key.result) ∙ c.in-Err.ensures.absent in
     undone_due c.self.inside.clock c.ticks-age.result c.key-key.result c.self.inside.entries.entries c.self.inside.due c.remove_coming-in-Err.new.self c.self.invariant.kept.on_ring c.self.invariant.kept.are_due
     (ap (λ (o : Option Stored). option_map (λ s. age_at c.self.inside.clock s.timer) o) none)
-    (λ q. c.remove_coming-in-Err.ensures q ∙ ap (λ (b : Bool). not (is_coming c.self.inside.clock c.ticks-age.result c.key-key.result q) && b) (c.in_ok-add_coming.ensures.ok q))
+    (λ q. undone c q ∙ ap (λ (b : Bool). not (is_coming c.self.inside.clock c.ticks-age.result c.key-key.result q) && b) (c.in_ok-add_coming.ensures.ok q))
 
 pub invariant_of-self-in-Err : goal.invariant_of-self-in-Err
 invariant_of-self-in-Err c =
@@ -149,7 +158,7 @@ invariant_of-self-in-Err c =
       kept = subst (λ (es : List (LsaKey × Stored)). IsKept c.self.inside.clock es c.remove_coming-in-Err.new.self) (sym c.in-Err.ensures.err)
           (same_kept c.self.inside.clock c.self.inside.entries.entries c.self.inside.due c.remove_coming-in-Err.new.self c.self.invariant.kept (nothing c));
       quiet = quiet d c.remove_coming-in-Err.new.self
-          (λ q there. and_right (not (is_coming c.self.inside.clock c.ticks-age.result c.key-key.result q)) (has c.add_coming.new.self q) (sym (c.remove_coming-in-Err.ensures q) ∙ there));
+          (λ q there. and_right (not (is_coming c.self.inside.clock c.ticks-age.result c.key-key.result q)) (has c.add_coming.new.self q) (sym (undone (goal.at.invariant_of-self-in-Err c).After-remove_coming-in-Err q) ∙ there));
     }
 
 pub returns-clause-err : goal.returns-clause-err

@@ -4,4 +4,7 @@ use Rattle.ospf_slots.proofs.SlotFacts.{stops}
 use Rattle.ospf_slots.proofs.slot.Slot.stop.Goals as goal
 
 pub returns : goal.returns
-returns c = let h : is_some c.args.self.now.running ≡ true = search rules in rw (← c.self.view_is) (stops c.self.inside.config c.self.inside.running (subst (λ (s : SlotValue). is_some s.running ≡ true) (sym c.self.view_is) h))
+returns c =
+    let h : is_some c.args.self.now.running ≡ true = search rules in
+    let stopped = stops c.self.inside.config c.self.inside.running (subst (λ (s : SlotValue). is_some s.running ≡ true) (sym c.self.view_is) h) in
+    rw (← c.self.view_is) (search stopped)
