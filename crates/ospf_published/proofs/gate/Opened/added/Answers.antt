@@ -1,4 +1,4 @@
-use Rattle.std.proofs.Common.{◌≡◌, [], ◌∷◌, ◌++◌, refl, sym, ◌∙◌, ap}
+use Rattle.std.proofs.Common.{arith, ◌≡◌, [], ◌∷◌, ◌++◌, refl, sym, ◌∙◌, ap}
 use Rattle.ospf_published.proofs.Steps.{adds_moves, told}
 use Rattle.ospf_published.specs.declared.rule.Event.TheVariants.{Added}
 use Rattle.ospf_published.proofs.Events.{after_added}
@@ -21,13 +21,13 @@ compare_exchange-found-requires c =
 pub invariant_of-result : goal.invariant_of-result
 invariant_of-result c =
     let log : c.compare_exchange-found.new.seen.log ≡ c.self.inside.seen.log ++ Added c.args.table.now ∷ [] =
-    told c.compare_exchange-found.result c.self.inside.events c.if-found-events.true c.compare_exchange-found.ensures.7 ∙ rw (c.again-seen.ensures, c.plain-offer.ensures.1) refl in
+    told c.compare_exchange-found.result c.self.inside.events (omega (arith, c.if-found-events.true)) c.compare_exchange-found.ensures.7 ∙ rw (c.again-seen.ensures, c.plain-offer.ensures.1) refl in
     let r = after_added c.self.inside.seen.log c.compare_exchange-found.new.seen.log c.args.table.now c.self.inside.count c.self.inside.events log c.self.invariant.0 c.self.invariant.1 c.self.invariant.2 in
-    (r.0, r.1, r.2)
+    (omega (arith, r.0), r.1, r.2)
 
 pub returns-then-found-events-clause-tables : goal.returns-then-found-events-clause-tables
 returns-then-found-events-clause-tables c =
     let log : c.compare_exchange-found.new.seen.log ≡ c.self.inside.seen.log ++ Added c.args.table.now ∷ [] =
-    told c.compare_exchange-found.result c.self.inside.events c.if-found-events.true c.compare_exchange-found.ensures.7 ∙ rw (c.again-seen.ensures, c.plain-offer.ensures.1) refl in
+    told c.compare_exchange-found.result c.self.inside.events (omega (arith, c.if-found-events.true)) c.compare_exchange-found.ensures.7 ∙ rw (c.again-seen.ensures, c.plain-offer.ensures.1) refl in
     let r = after_added c.self.inside.seen.log c.compare_exchange-found.new.seen.log c.args.table.now c.self.inside.count c.self.inside.events log c.self.invariant.0 c.self.invariant.1 c.self.invariant.2 in
     r.3 ∙ ap (λ k. k.tables ++ c.args.table.now ∷ []) c.self.view_is

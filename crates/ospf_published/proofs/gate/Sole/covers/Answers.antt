@@ -11,9 +11,10 @@ pub returns-clause-covers : goal.returns-clause-covers
 returns-clause-covers c =
     let tells = c.compare_exchange.ensures.7 in
     let after = c.compare_exchange.new.seen.log in
+    let stays : IsPrefix c.learn.new.self.log after = search (c.compare_exchange.ensures.6) in
     let own : IsPrefix c.self.inside.seen.log c.learn.new.self.log = subst (λ (s : List Event). IsPrefix s c.learn.new.self.log) (ap (λ s. s.log) c.again-seen.ensures) c.learn.ensures.2 in
-    let ahead : IsPrefix c.self.inside.seen.log after = prefix_trans c.self.inside.seen.log c.learn.new.self.log after own c.compare_exchange.ensures.6 in
-    let other : IsPrefix c.other.inside.seen.log after = prefix_trans c.other.inside.seen.log c.learn.new.self.log after c.learn.ensures.3 c.compare_exchange.ensures.6 in
+    let ahead : IsPrefix c.self.inside.seen.log after = prefix_trans c.self.inside.seen.log c.learn.new.self.log after own stays in
+    let other : IsPrefix c.other.inside.seen.log after = prefix_trans c.other.inside.seen.log c.learn.new.self.log after c.learn.ensures.3 stays in
     let key : suc (suc (opens after)) ≡ suc (suc (opens c.self.inside.seen.log)) = tells.0 ∙ ap (λ n. n.key) c.self.invariant.4 in
     let same : after ≡ c.self.inside.seen.log = whole c.self.inside.seen.log after ahead c.self.invariant.2 tells.1 (omega (arith, key)) in
     rw (← c.other.view_is) (subst (λ (l : List Event). IsPrefix (tables_of c.other.inside.seen.log) (tables_of l)) same (tables_prefix c.other.inside.seen.log after other))

@@ -18,7 +18,7 @@ told c =
     (lengths_tell (tables_of c.self.inside.seen.log) (tables_of c.other.inside.seen.log) (tables_of both) c.self.inside.count c.other.inside.count (tables_prefix c.self.inside.seen.log both own) (tables_prefix c.other.inside.seen.log both c.learn.ensures.3) c.self.invariant c.other.invariant)
 
 pub returns-clause-begins : goal.returns-clause-begins
-returns-clause-begins c = (told c).0
+returns-clause-begins c = search ((told c).0)
 
 pub returns-clause-longer : goal.returns-clause-longer
 returns-clause-longer c = (told c).1
