@@ -29,6 +29,10 @@ spell_suc (w ∷ words) (suc i) d [] a below spelled reads = absurd spelled
 spell_suc (w ∷ words) (suc i) d (b ∷ rest) a below spelled reads =
     (spelled.0, spell_suc words i d rest a (omega arith) spelled.1 reads)
 
+-- what is asked for by a name, which is this one
+pub named : {A : Type 0} (f : List ℕ → A) (x : A) (m n : List ℕ) → m ≡ n → x ≡ f m → x ≡ f n
+named f x m n same is = is ∙ ap f same
+
 -- one more word, and its text
 pub more_texts : {S : Type 0} (text : S → List ℕ) (words : List (Bor (List ℕ))) (i : ℕ) (d : Bor (List ℕ)) (texts : List S) (t : S) → i < length words
     → map text texts ≡ texts_of (take i words) → text t ≡ (get_or words i d).now → map text (texts ++ t ∷ []) ≡ texts_of (take (i + 1) words)

@@ -1,7 +1,7 @@
-use Rattle.std.proofs.Common.{◌∙◌, sym, refl, codes}
-use Rattle.clap.specs.Words.{found_of, rows_of}
+use Rattle.std.proofs.Common.{rules, ◌∙◌, sym, refl, codes}
+use Rattle.clap.specs.Words.{all_of, found_of, rows_of}
 use Rattle.clap.proofs.WalkLemmas.{one_text-rows, raw_values-rows}
-use Rattle.ospfd.proofs.WordLemmas.{no_files, texts_of}
+use Rattle.ospfd.proofs.WordLemmas.{named, no_files, texts_of}
 use Rattle.ospfd.proofs.words.check_job.Goals as goal
 
 pub returns-in_default : goal.returns-in_default
@@ -16,8 +16,8 @@ returns c =
       refl,
       record {
         texts = texts_of c.in-Some.files.now;
-        has_files = sym (c.in-Some.ensures ∙ raw_values-rows found (codes "files"));
-        files = c.in_ok-files.ensures;
+        has_files = sym (named (λ n. all_of n (rows_of found)) _ _ (codes "files") (search rules) (c.in-Some.ensures ∙ raw_values-rows found _));
+        files = search (c.in_ok-files.ensures);
         explain = record {
           none = λ e. c.get_flag-explain.ensures.none (one_text-rows found (codes "explain") ∙ e);
           set = λ e. c.get_flag-explain.ensures.value (one_text-rows found (codes "explain") ∙ e);

@@ -1,10 +1,10 @@
-use Rattle.std.proofs.Common.{◌≡◌, ◌∙◌, ap, sym, refl, subst, codes, [], Some, unwrap_or}
-use Rattle.clap.specs.Words.{all_of, found_of, rows_of}
+use Rattle.std.proofs.Common.{rules, ◌≡◌, ◌∙◌, ap, sym, refl, subst, codes, [], Some, unwrap_or}
+use Rattle.clap.specs.Words.{all_of, first_of, found_of, rows_of}
 use Rattle.clap.proofs.WalkLemmas.{first_value-rows, raw_values-rows}
 use Rattle.ospfd.specs.Job.{IsFaultOfValue}
 use Rattle.ospfd.specs.Unasked.{IsFirstWrong, IsWrongValue}
 use Rattle.ospfd.specs.Words.{Spell}
-use Rattle.ospfd.proofs.WordLemmas.{address_wrong, err_kept, no_root, root_wrong, texts_of, texts_or_none, value_weaker, wrong_value}
+use Rattle.ospfd.proofs.WordLemmas.{address_wrong, err_kept, named, no_root, root_wrong, texts_of, texts_or_none, value_weaker, wrong_value}
 use Rattle.ospfd.proofs.words.table_job.Goals as goal
 
 pub returns-in_default-clause-ok : goal.returns-in_default-clause-ok
@@ -46,13 +46,13 @@ returns-clause-ok c =
     let rows = rows_of found in
     let addresses : texts_of c.unwrap_or-addresses.result.now ≡ unwrap_or (all_of (codes "addresses") rows) [] =
     ap (λ a. texts_of a.now) c.unwrap_or-addresses.ensures ∙ texts_or_none c.get_strs.result _ refl
-    ∙ ap (λ o. unwrap_or o []) (c.get_strs.ensures ∙ raw_values-rows found (codes "addresses")) in (
+    ∙ ap (λ o. unwrap_or o []) (named (λ n. all_of n (rows_of found)) _ _ (codes "addresses") (search rules) (c.get_strs.ensures ∙ raw_values-rows found _)) in (
       rows,
       refl,
       record {
         text = c.in-Some.root.now;
-        has_root = sym (c.in-Some.ensures ∙ first_value-rows found (codes "root"));
-        root = c.in_ok-parsed.ensures.value;
-        addresses = subst (λ texts. Spell texts c.in_ok-parsed_addresses.field-0.items) addresses c.in_ok-parsed_addresses.ensures.spelled;
+        has_root = sym (named (λ n. first_of n (rows_of found)) _ _ (codes "root") (search rules) (c.in-Some.ensures ∙ first_value-rows found _));
+        root = search (c.in_ok-parsed.ensures.value);
+        addresses = subst (λ texts. Spell texts c.in_ok-parsed_addresses.field-0.items) addresses (search (c.in_ok-parsed_addresses.ensures.spelled));
       },
     )
