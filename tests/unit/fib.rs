@@ -1,70 +1,14 @@
 //! Seats of a forwarding table, what its refusals are called, and one list of tables that is known in two places.
 
-use ospf_base::{Addr, Prefix, RouterId};
-use ospf_fib::{Answer, Closed, Fib, MAX_SEATS, OpenRefused};
-use ospf_graph::NextHop;
-use ospf_lsa::{Link, LinkKind, Listing, Lsa};
+use super::given::{FAR, far_answer, two_routers};
+use ospf_base::Addr;
+use ospf_fib::{Closed, Fib, MAX_SEATS, OpenRefused};
 use ospf_published::Opened;
 use ospf_spf::RouteTable;
-use std::alloc::Global;
 use std::fmt::Write;
 use std::test::Fail;
 
 mod many;
-
-const FIRST: RouterId = RouterId(0x0101_0101);
-
-const SECOND: RouterId = RouterId(0x0202_0202);
-
-// The number that a router uses first.
-const FIRST_NUMBER: i32 = -0x7fff_ffff;
-
-// An address behind the second router.
-const FAR: Addr = Addr(0xc0a8_0209);
-
-fn link(kind: LinkKind, id: u32, link_data: u32, metric: u16) -> Link {
-    Link {
-        id,
-        link_data,
-        kind,
-        metric,
-    }
-}
-
-// The table of the first of two routers with a link between them and a stub behind the second, at this cost.
-fn two_routers(alloc: Global, cost: u16) -> Result<RouteTable, Fail> {
-    let first = [
-        link(LinkKind::PointToPoint, SECOND.0, 0x0a00_0001, 10),
-        link(LinkKind::Stub, 0x0a00_0000, 0xffff_fffc, 10),
-    ];
-    let second = [
-        link(LinkKind::PointToPoint, FIRST.0, 0x0a00_0002, 10),
-        link(LinkKind::Stub, 0x0a00_0000, 0xffff_fffc, 10),
-        link(LinkKind::Stub, 0xc0a8_0200, 0xffff_ff00, cost),
-    ];
-    let mut listing = Listing::new(alloc);
-    listing.add(Lsa::router(alloc, FIRST, FIRST_NUMBER, &first)?)?;
-    listing.add(Lsa::router(alloc, SECOND, FIRST_NUMBER, &second)?)?;
-    let table = RouteTable::of(alloc, &listing, FIRST)?;
-    Ok(table)
-}
-
-// What a lookup of the far address answers, at the cost of the route.
-fn far_answer(version: u64, cost: u64) -> Answer {
-    Answer {
-        version,
-        prefix: Prefix {
-            address: Addr(0xc0a8_0200),
-            length: 24,
-        },
-        cost,
-        hop: NextHop::PointToPoint {
-            local: Addr(0x0a00_0001),
-            router: SECOND,
-        },
-        hops: 1,
-    }
-}
 
 #[test]
 fn as_many_seats_as_there_are(rt: HostRuntime) -> Result<(), Fail> {

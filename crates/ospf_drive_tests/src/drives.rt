@@ -1,5 +1,6 @@
 //! A driver over the wire in memory, for which an allocation is refused.
 
+use crate::given::{CONFIG, HELLO, NO_FLOOR};
 use ospf_base::Addr;
 use ospf_config::Config;
 use ospf_drive::{DriveFault, MemoryWire, Scripted, Wire, drive};
@@ -8,18 +9,6 @@ use ospf_router::{Event, Router};
 use std::alloc::{AllocError, Global};
 use std::sync::Wait;
 use std::test::Fail;
-
-const CONFIG: &str =
-    "router_id = \"1.1.1.1\"\narea = \"0.0.0.0\"\n[[interface]]\nkind = \"point-to-point\"\naddress = \"10.0.0.1/30\"\ncost = 10\n";
-
-// No number is below it.
-const NO_FLOOR: i32 = -0x8000_0000;
-
-// A Hello of 2.2.2.2 that lists 1.1.1.1.
-const HELLO: [u8; 48] = [
-    2, 1, 0, 48, 2, 2, 2, 2, 0, 0, 0, 0, 0xf5, 0x98, 0, 0, 0, 0, 0, 0, 0, 0, 0, 0, 0xff, 0xff,
-    0xff, 0xfc, 0, 10, 2, 1, 0, 0, 0, 40, 0, 0, 0, 0, 0, 0, 0, 0, 1, 1, 1, 1,
-];
 
 // An address of the link.
 const NEAR: Addr = Addr(0x0a00_0002);

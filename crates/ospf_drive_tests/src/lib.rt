@@ -4,4 +4,6 @@
 #[cfg(test)]
 mod drives;
 #[cfg(test)]
+mod given;
+#[cfg(test)]
 mod publishes;

@@ -1,5 +1,6 @@
 //! Two routers, each driven in a thread of its own, over a link in memory, beside a reader of each one's table.
 
+use super::super::given::{CONFIG, NO_FLOOR};
 use ospf_base::{Addr, Prefix, RouterId};
 use ospf_config::Config;
 use ospf_drive::{Arrival, LONGEST, Wire, WireFault, drive};
@@ -14,16 +15,9 @@ use std::test::Fail;
 use std::thread;
 use std::thread::{Threads, join};
 
-// It has the link between the two alone.
-const FIRST: &str =
-    "router_id = \"1.1.1.1\"\narea = \"0.0.0.0\"\n[[interface]]\nkind = \"point-to-point\"\naddress = \"10.0.0.1/30\"\ncost = 10\n";
-
-// It has a network of its own too.
+// The router at the other end of the link; it has a network of its own too.
 const SECOND: &str =
     "router_id = \"2.2.2.2\"\narea = \"0.0.0.0\"\n[[interface]]\nkind = \"point-to-point\"\naddress = \"10.0.0.2/30\"\ncost = 10\n[[interface]]\nkind = \"broadcast\"\naddress = \"192.168.2.1/24\"\ncost = 3\n";
-
-// No number is below it.
-const NO_FLOOR: i32 = -0x8000_0000;
 
 // How many seconds each router is driven: three Hellos, and as many again.
 const SECONDS: u64 = 60;
@@ -234,7 +228,7 @@ fn first_plan() -> Plan {
         },
     };
     Plan {
-        config: FIRST,
+        config: CONFIG,
         links: 1,
         routes: [near, far],
     }

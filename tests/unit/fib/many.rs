@@ -1,6 +1,6 @@
 //! A writer that publishes many tables of many routes, beside three readers.
 
-use super::{FIRST, FIRST_NUMBER, SECOND, link};
+use super::super::given::{FIRST, FIRST_NUMBER, SECOND, link};
 use ospf_base::{Addr, Prefix};
 use ospf_fib::{Answer, Fib, Seat, Writer};
 use ospf_graph::NextHop;

@@ -4,7 +4,7 @@ ghost use Rattle.std.specs.Prelude.{◌≡◌};
 ghost use Rattle.logbook.specs.Pages.{Book};
 ghost use denote.Param.Send.{IsSend, IsSync};
 
-use super::{FAR, far_answer, two_routers};
+use crate::given::{FAR, far_answer, two_routers};
 use ospf_fib::{Fib, Seat, Told, Writer};
 use ospf_spf::RouteTable;
 use std::alloc::{AllocError, Global};
