@@ -16,7 +16,8 @@ import sys
 import tempfile
 import time
 
-TOP = os.path.dirname(os.path.dirname(os.path.abspath(__file__)))
+import proved
+
 ROUNDS = 60
 ALL_ROUTERS = 0xE0000005
 
@@ -92,7 +93,7 @@ def line(count):
 
 
 def main():
-    program = os.path.abspath(sys.argv[1]) if len(sys.argv) > 1 else os.path.join(TOP, "ospfd")
+    program = os.path.abspath(sys.argv[1]) if len(sys.argv) > 1 else proved.program()
     areas = [line(int(word)) for word in sys.argv[2:]]
     if not areas:
         areas = [line(count) for count in (2, 10, 100)]

@@ -14,10 +14,10 @@ import tempfile
 import time
 
 import area
+import proved
 
 HERE = os.path.dirname(os.path.abspath(__file__))
-SCRIPT = os.path.join(HERE, "..", "ospfd")
-OSPFD = [os.path.join(HERE, "..", "crates", "ospfd", "out", "ospfd"), "table"]
+OSPFD = [proved.program(), "table"]
 ROUTERS = (100, 1000, 5000)
 NOT_LISTED = "203.0.113.1"
 ROOT = "192.0.2.1"
@@ -64,8 +64,6 @@ def main():
     with tempfile.TemporaryDirectory() as folder:
         plain = os.path.join(folder, "plain")
         subprocess.run(["rustc", "--edition", "2021", "-O", "-o", plain, os.path.join(HERE, "plain.rs")], check=True)
-        # builds the program where that is needed
-        subprocess.run([SCRIPT, "--version"], check=True, stdout=subprocess.DEVNULL)
         print(f"{'':12} {'routers':>6} {'whole':>9} {'reading':>9} {'calculate':>9} {'print':>9}")
         for count in ROUTERS:
             compare(runs, count, plain, os.path.join(folder, "area"))

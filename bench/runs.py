@@ -12,7 +12,8 @@ import tempfile
 import threading
 import time
 
-TOP = os.path.dirname(os.path.dirname(os.path.abspath(__file__)))
+import proved
+
 IDLE_TICKS = 60
 NOISE = 200_000
 NOISE_LENGTH = 64
@@ -95,6 +96,6 @@ def main():
     print(f"both have their tables after {ticks} ticks of 10 ms")
 
 
-PROGRAM = os.path.abspath(sys.argv[1]) if len(sys.argv) > 1 else os.path.join(TOP, "ospfd")
+PROGRAM = os.path.abspath(sys.argv[1]) if len(sys.argv) > 1 else proved.program()
 dropped = []
 main()

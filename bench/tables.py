@@ -13,10 +13,10 @@ import sys
 import tempfile
 
 import area
+import proved
 
 HERE = os.path.dirname(os.path.abspath(__file__))
-SCRIPT = os.path.join(HERE, "..", "ospfd")
-OSPFD = [os.path.join(HERE, "..", "crates", "ospfd", "out", "ospfd"), "table"]
+OSPFD = [proved.program(), "table"]
 ROOT = "192.0.2.1"
 COST = 10
 
@@ -92,8 +92,6 @@ def main():
     with tempfile.TemporaryDirectory() as folder:
         plain, path = os.path.join(folder, "plain"), os.path.join(folder, "area")
         subprocess.run(["rustc", "--edition", "2021", "-O", "-o", plain, os.path.join(HERE, "plain.rs")], check=True)
-        # builds the program where that is needed
-        subprocess.run([SCRIPT, "--version"], check=True, stdout=subprocess.DEVNULL)
         print("| Area | `ospfd table` | plain Rust | Ratio |\n|---|---|---|---|")
         for name, made in AREAS.items():
             with open(path, "w") as lines:
