@@ -37,3 +37,7 @@ unread_line file = string_bytes file.name ++ codes ": not read\n"
 -- the line of a file that is refused
 abbrev pub refused_line : NamedFile → ConfigFault → List ℕ
 refused_line file fault = string_bytes file.name ++ (codes ": " ++ (fault_text fault ++ codes "\n"))
+
+-- the line of a file of this name that could not be written
+abbrev pub unwritten : List ℕ → List ℕ
+unwritten name = name ++ codes ": not written\n"

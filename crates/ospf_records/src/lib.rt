@@ -6,7 +6,9 @@
 mod captures;
 mod counts;
 mod drawings;
+mod files;
 mod stamps;
 
 pub use crate::captures::capture;
 pub use crate::drawings::drawing;
+pub use crate::files::write_records;

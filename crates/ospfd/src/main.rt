@@ -1,21 +1,17 @@
 //! A routing daemon of OSPF version 2 (RFC 2328), and the tables that it computes.
 #![tactic(auto)]
 
-mod jobs;
-mod notes;
 mod screen;
-mod words;
 
-use crate::jobs::{CheckJob, Job, JobFault, RunJob, SimJob};
-use crate::notes::Notes;
 use crate::screen::Screen;
-use crate::words::{job, not_text};
 use ospf_check::check_text;
-use ospf_files::{Failure, NamedFile, Status, write_line};
-use ospf_records::{capture, drawing};
+use ospf_files::{Failure, NamedFile, Status, read_file, read_files, tell_unwritten};
+use ospf_notes::Notes;
+use ospf_records::write_records;
 use ospf_run::{Settings, run_text};
-use ospf_sim::{Simulated, World, sim_text};
+use ospf_sim::{Simulated, sim_text};
 use ospf_table::table_text;
+use ospf_words::{CheckJob, Job, JobFault, RunJob, SimJob, job, not_text};
 use std::alloc::Global;
 use std::io::{self, BufReader, BufWriter, ErrorKind, IsTerminal, Write};
 use std::net::Net;
@@ -25,25 +21,6 @@ use std::sync::Wait;
 use std::thread::Threads;
 use std::time::Clock;
 use std::{env, fs};
-
-// The file of this name. One that cannot be read has no bytes.
-fn read_file<R: Runtime + AllocGlobal>(rt: &R, name: String) -> io::Result<NamedFile> {
-    let bytes = match fs::read(rt, name.as_str()) {
-        Ok(bytes) => Some(bytes),
-        Err(error) if error.kind() == ErrorKind::OutOfMemory => return Err(error),
-        Err(_) => None,
-    };
-    Ok(NamedFile { name, bytes })
-}
-
-// The files of these names. One that cannot be read has no bytes.
-fn read_files<R: Runtime + AllocGlobal>(rt: &R, names: Vec<String>) -> io::Result<Vec<NamedFile>> {
-    let mut files = Vec::with_capacity(rt.alloc(), names.len())?;
-    for name in names {
-        files.push(read_file(rt, name)?)?;
-    }
-    Ok(files)
-}
 
 // The program's words without its own name; `None` where one is not UTF-8.
 fn words_of<R: Runtime + AllocGlobal>(rt: &R) -> io::Result<Option<Vec<String>>> {
@@ -62,49 +39,6 @@ fn job_of<R: Runtime + AllocGlobal>(rt: &R) -> io::Result<Result<Job, JobFault>>
     };
     let words: Vec<&str> = words.iter().map(|word| word.as_str()).collect(alloc)?;
     Ok(job(alloc, &words))
-}
-
-// Tells that a file was not written.
-fn tell_unwritten<E: Write>(alloc: Global, name: &str, err: &mut E) -> io::Result<()> {
-    let _ = write_line(err, &format!(in alloc; "{name}: not written")?);
-    Ok(())
-}
-
-// Writes a file. The answer is whether it was written; where it was not it is told.
-fn write_file<R: Runtime + AllocGlobal, E: Write>(
-    rt: &R,
-    name: &str,
-    bytes: &[u8],
-    err: &mut E,
-) -> io::Result<bool> {
-    match fs::write(rt, name, bytes) {
-        Ok(()) => Ok(true),
-        Err(error) if error.kind() == ErrorKind::OutOfMemory => Err(error),
-        Err(_) => {
-            tell_unwritten(rt.alloc(), name, err)?;
-            Ok(false)
-        }
-    }
-}
-
-// Writes what is wanted of the world that a simulation leaves. The answer is whether all was written.
-fn write_records<R: Runtime + AllocGlobal, E: Write>(
-    rt: &R,
-    world: &World,
-    dot: Option<String>,
-    pcap: Option<String>,
-    err: &mut E,
-) -> io::Result<bool> {
-    let mut all = true;
-    if let Some(name) = dot {
-        let text = drawing(world, rt.alloc())?;
-        all &= write_file(rt, &name, text.as_bytes(), err)?;
-    }
-    if let Some(name) = pcap {
-        let bytes = capture(world, rt.alloc())?;
-        all &= write_file(rt, &name, &bytes, err)?;
-    }
-    Ok(all)
 }
 
 // Runs a simulation over the files of these names, and writes what is wanted of the world that it leaves.
@@ -126,7 +60,7 @@ fn run_sim<R: Runtime + AllocGlobal + Clock + Copy + Drop, O: Write, E: Write, T
     let mut screen = Screen::new(*rt, terminal);
     let Simulated { status, world } = sim_text(rt.alloc(), &script, &files, out, err, &mut screen);
     if let Some(world) = world {
-        if !write_records(rt, &world, dot, pcap, err)? {
+        if !write_records(rt, &world, dot.as_deref(), pcap.as_deref(), err)? {
             return Ok(Status::Stream);
         }
     }
@@ -136,7 +70,6 @@ fn run_sim<R: Runtime + AllocGlobal + Clock + Copy + Drop, O: Write, E: Write, T
 // The file for a capture, emptied; where it cannot be written it is told.
 fn open_capture<R: Runtime, E: Write>(
     rt: &R,
-    alloc: Global,
     name: &str,
     err: &mut E,
 ) -> io::Result<Option<R::File>> {
@@ -144,7 +77,7 @@ fn open_capture<R: Runtime, E: Write>(
         Ok(file) => Ok(Some(file)),
         Err(error) if error.kind() == ErrorKind::OutOfMemory => Err(error),
         Err(_) => {
-            tell_unwritten(alloc, name, err)?;
+            let _ = tell_unwritten(name, err);
             Ok(None)
         }
     }
@@ -172,7 +105,7 @@ fn run_noted<
     let status = run_text(rt, alloc, settings, files, &notes, out, err);
     match name {
         Some(name) if !notes.is_written() => {
-            tell_unwritten(alloc, &name, err)?;
+            let _ = tell_unwritten(&name, err);
             Ok(Status::Stream)
         }
         _ => Ok(status),
@@ -206,7 +139,7 @@ where
     };
     match pcap {
         None => run_noted::<R, O, E, R::File, T>(rt, &settings, &files, None, out, err, terminal),
-        Some(name) => match open_capture(rt, rt.alloc(), &name, err)? {
+        Some(name) => match open_capture(rt, &name, err)? {
             Some(file) => run_noted(
                 rt,
                 &settings,

@@ -1,0 +1,74 @@
+//! Files of a disk, read and written whole.
+
+ghost use Rattle.std.specs.Prelude.{◌≡◌, IfOk, IfErr, Ok, OnOk, map, true};
+ghost use Rattle.std.specs.Io.KnownBytes.{Appends};
+ghost use Rattle.std.specs.IoError.{error_kind};
+ghost use Rattle.ospf_files.specs.Files.{unwritten};
+
+use crate::files::NamedFile;
+use std::fs;
+use std::io::{self, ErrorKind, Write};
+use std::rt::Runtime;
+
+/// The file of this name. One that cannot be read has no bytes.
+///
+/// The error is want of memory.
+pub fn read_file<R: Runtime + AllocGlobal>(rt: &R, name: String) -> io::Result<NamedFile>
+    ensures name { IfOk result (λ file. file.name ≡ name) }
+    ensures memory { IfErr result (λ error. error_kind error ≡ ErrorKind.OutOfMemory) }
+{
+    let bytes = match fs::read(rt, name.as_str()) {
+        Ok(bytes) => Some(bytes),
+        Err(error) if error.kind() == ErrorKind::OutOfMemory => return Err(error),
+        Err(_) => None,
+    };
+    Ok(NamedFile { name, bytes })
+}
+
+/// The files of these names, in their order. One that cannot be read has no bytes.
+///
+/// The error is want of memory.
+pub fn read_files<R: Runtime + AllocGlobal>(
+    rt: &R,
+    names: Vec<String>,
+) -> io::Result<Vec<NamedFile>>
+    ensures names { IfOk result (λ files. map (λ file. file.name) files.items ≡ names.items) }
+{
+    let mut files = Vec::with_capacity(rt.alloc(), names.len())?;
+    for name in names {
+        files.push(read_file(rt, name)?)?;
+    }
+    Ok(files)
+}
+
+/// Tells that a file could not be written.
+pub fn tell_unwritten<E: Write>(name: &str, err: &mut E) -> io::Result<()>
+    ensures { OnOk result (Appends (E.contents err.old) (E.contents err.new) (unwritten name.now)) }
+{
+    writeln!(err, "{name}: not written")?;
+    err.flush()?;
+    Ok(())
+}
+
+/// Writes a file. The answer is whether it was written; where it was not that is told, as far as
+/// `err` can be written.
+///
+/// The error is want of memory.
+pub fn write_file<R: Runtime + AllocGlobal, E: Write>(
+    rt: &R,
+    name: &str,
+    bytes: &[u8],
+    err: &mut E,
+) -> io::Result<bool>
+    ensures silent { result ≡ Ok true → E.contents err.new ≡ E.contents err.old }
+    ensures memory { IfErr result (λ error. error_kind error ≡ ErrorKind.OutOfMemory) }
+{
+    match fs::write(rt, name, bytes) {
+        Ok(()) => Ok(true),
+        Err(error) if error.kind() == ErrorKind::OutOfMemory => Err(error),
+        Err(_) => {
+            let _ = tell_unwritten(name, err);
+            Ok(false)
+        }
+    }
+}

@@ -1,0 +1,251 @@
+-- Texts that spell addresses.
+use Rattle.std.proofs.Common.{◌≡◌, ◌⊎◌, ◌∙◌, ◌+◌, ◌<◌, ◌^◌, ◌++◌, ℕ, suc, zero, List, [], ◌∷◌, Ok, Err, Result, IsErrAnd, IfErr, Bor, map, take, length, drop, get_or, subst, refl, ap, ap₂, sym, Option, Some, None, option_map, unwrap_or, inl, inr, arith, codes, slice_index, string_bytes}
+use Rattle.std.proofs.lemmas.List.{map-append, take_more}
+use Rattle.std.proofs.lemmas.Option.{none-some}
+use Rattle.std.specs.declared.net.parser.AddrParseError.{AddrParseError}
+use Rattle.clap.specs.Faults.{fault_of}
+use Rattle.clap.specs.Kinds.{HasKind}
+use Rattle.clap.specs.Words.{ReadsOne, Row, all_of, first_of, one_of, subcommand_of}
+use Rattle.clap.specs.declared.error.Error.{Error}
+use Rattle.ospf_base.specs.Text.{IsDottedNumber, ReadsAddress, ReadsRouterId}
+use Rattle.ospf_base.specs.declared.ids.RouterId.{RouterId}
+use Rattle.ospf_base.specs.declared.ids.Addr.{Addr}
+use Rattle.ospf_words.specs.Job.{IsFaultOfNoValue, IsFaultOfValue, IsFaultOfWords}
+use Rattle.ospf_words.specs.Unasked.{IsFirstWrong, IsNoAddress, IsNoJob, IsNoNumber, IsUnasked, IsWrongValue}
+use Rattle.ospf_words.specs.Words.{IsNumber, Spell, command_app}
+use Rattle.ospf_words.specs.declared.jobs.JobFault.{JobFault}
+use Rattle.ospf_words.specs.declared.jobs.JobFault.TheVariants as fault
+
+abbrev pub texts_of : List (Bor (List ℕ)) → List (List ℕ)
+texts_of = map (λ w. w.now)
+
+spell_suc : (words : List (Bor (List ℕ))) (i : ℕ) (d : Bor (List ℕ)) (addresses : List Addr) (a : Addr) → i < length words
+    → Spell (texts_of (take i words)) addresses → ReadsAddress (get_or words i d).now (Ok a)
+    → Spell (texts_of (take (suc i) words)) (addresses ++ a ∷ [])
+spell_suc [] i d addresses a below spelled reads = absurd (omega arith)
+spell_suc (w ∷ words) zero d [] a below spelled reads = (reads, tt)
+spell_suc (w ∷ words) zero d (b ∷ rest) a below spelled reads = absurd spelled
+spell_suc (w ∷ words) (suc i) d [] a below spelled reads = absurd spelled
+spell_suc (w ∷ words) (suc i) d (b ∷ rest) a below spelled reads =
+    (spelled.0, spell_suc words i d rest a (omega arith) spelled.1 reads)
+
+-- what is asked for by a name, which is this one
+pub named : {A : Type 0} (f : List ℕ → A) (x : A) (m n : List ℕ) → m ≡ n → x ≡ f m → x ≡ f n
+named f x m n same is = is ∙ ap f same
+
+-- one more word, and its text
+pub more_texts : {S : Type 0} (text : S → List ℕ) (words : List (Bor (List ℕ))) (i : ℕ) (d : Bor (List ℕ)) (texts : List S) (t : S) → i < length words
+    → map text texts ≡ texts_of (take i words) → text t ≡ (get_or words i d).now → map text (texts ++ t ∷ []) ≡ texts_of (take (i + 1) words)
+more_texts text words i d texts t below so_far is = map-append text texts (t ∷ [])
+    ∙ ap₂ (λ front last. front ++ last ∷ []) so_far is
+    ∙ sym (map-append (λ w. w.now) (take i words) (get_or words i d ∷ [])) ∙ ap texts_of (sym (take_more words i d below))
+
+-- one more text, and the address that it spells
+pub spell_more : (words : List (Bor (List ℕ))) (i : ℕ) (d : Bor (List ℕ)) (addresses : List Addr) (a : Addr) → i < length words
+    → Spell (texts_of (take i words)) addresses → ReadsAddress (get_or words i d).now (Ok a)
+    → Spell (texts_of (take (i + 1) words)) (addresses ++ a ∷ [])
+spell_more words i d addresses a below spelled reads =
+    let next : suc i ≡ i + 1 = omega arith in
+    subst (λ n. Spell (texts_of (take n words)) (addresses ++ a ∷ [])) next (spell_suc words i d addresses a below spelled reads)
+
+-- the two halves of what there is
+pub both_halves : {S X Y : Type 0} (s : Option S) (f : S → X) (g : S → Y) (x : X) (y : Y) → Some x ≡ option_map f s
+    → Some y ≡ option_map (λ (p : X × Y). p.1) (option_map (λ b. (f b, g b)) s) → option_map {U = X × Y} (λ b. (f b, g b)) s ≡ Some (x, y)
+both_halves (Some b) f g x y first second = ap₂ (λ v w. Some (v, w)) (sym (ap (λ o. unwrap_or o x) first)) (sym (ap (λ o. unwrap_or o y) second))
+both_halves None f g x y first second = absurd (none-some x (sym first))
+
+-- the first half of what there is
+pub first_half : {S X Y : Type 0} (s : Option S) (f : S → X) (g : S → Y) (x : X) (y : Y) → option_map {U = X × Y} (λ b. (f b, g b)) s ≡ Some (x, y)
+    → option_map f s ≡ Some x
+first_half {X = X} {Y = Y} (Some b) f g x y e = ap (option_map (λ (p : X × Y). p.0)) e
+first_half {X = X} {Y = Y} None f g x y e = ap (option_map (λ (p : X × Y). p.0)) e
+
+-- the second half is one
+pub second_half : {X Y : Type 0} (o : Option (X × Y)) (x : X) (y z : Y) → o ≡ Some (x, y) → option_map (λ (p : X × Y). p.1) o ≡ Some z → y ≡ z
+second_half {X} {Y} o x y z e h = ap (λ q. unwrap_or q z) (ap (option_map (λ (p : X × Y). p.1)) (sym e) ∙ h)
+
+-- the texts of the words, or none where there are no words
+pub texts_or_none : (words : Option (Bor (List (Bor (List ℕ))))) (none : Bor (List (Bor (List ℕ)))) → none.now ≡ []
+    → texts_of (unwrap_or words none).now ≡ unwrap_or (option_map (λ w. texts_of w.now) words) []
+texts_or_none (Some words) none is_empty = refl
+texts_or_none None none is_empty = ap texts_of is_empty
+
+-- ---- words that ask for no job
+
+-- an error that is handed on, or turned into another
+pub err_kept : {T E : Type 0} (r : Result T E) (R Q : E → Type 0) → IsErrAnd r R → ((e : E) → R e → Q e) → IfErr r Q
+err_kept (Ok x) R Q is k = tt
+err_kept (Err e) R Q is k = k e is
+
+pub value_weaker : (P Q : List ℕ → Type 0) (f : JobFault) → ((w : List ℕ) → P w → Q w) → IsFaultOfValue P f → IsFaultOfValue Q f
+value_weaker P Q (fault.Words e) k h = absurd h
+value_weaker P Q (fault.Address w) k h = k (string_bytes w) h
+value_weaker P Q fault.Memory k h = tt
+
+pub value_unasked : (words : List (List ℕ)) (f : JobFault) → IsFaultOfValue (IsWrongValue (subcommand_of command_app words)) f → IsUnasked words f
+value_unasked words (fault.Words e) h = absurd h
+value_unasked words (fault.Address w) h = h
+value_unasked words fault.Memory h = tt
+
+-- the texts before a place, the one there and those after it
+split_at : (words : List (Bor (List ℕ))) (i : ℕ) (d : Bor (List ℕ)) → i < length words
+    → texts_of words ≡ texts_of (take i words) ++ (get_or words i d).now ∷ texts_of (drop (suc i) words)
+split_at [] i d below = absurd (omega arith)
+split_at (w ∷ words) zero d below = refl
+split_at (w ∷ words) (suc i) d below = ap (λ ts. w.now ∷ ts) (split_at words i d (omega arith))
+
+-- a word is no address, and those before it were read
+pub first_wrong : (words : List (Bor (List ℕ))) (i : ℕ) (d : Bor (List ℕ)) (addresses : List Addr) → i < length words
+    → Spell (texts_of (take i words)) addresses → (w : List ℕ)
+    → ((w ≡ (get_or words i d).now) × (e : AddrParseError) × ReadsAddress (get_or words i d).now (Err e)) → IsFirstWrong (texts_of words) w
+first_wrong words i d addresses below spelled w h = record {
+  before = texts_of (take i words);
+  after = texts_of (drop (suc i) words);
+  texts_are = split_at words i d below ∙ ap (λ t. texts_of (take i words) ++ t ∷ texts_of (drop (suc i) words)) (sym h.0);
+  addresses = addresses;
+  spelled = spelled;
+  wrong = subst IsNoAddress (sym h.0) h.2;
+}
+
+pub root_wrong : (root : List ℕ) (texts : List (List ℕ)) (w : List ℕ)
+    → ((w ≡ root) × (e : AddrParseError) × ReadsRouterId root (Err e)) → IsFirstWrong (root ∷ texts) w
+root_wrong root texts w h = record {
+  before = [];
+  after = texts;
+  texts_are = ap (λ t. t ∷ texts) (sym h.0);
+  addresses = [];
+  spelled = tt;
+  wrong = λ a is. h.2 (record { 0 = a.0 }) (subst (λ t. IsDottedNumber t a.0) h.0 is);
+}
+
+pub address_wrong : (root : List ℕ) (r : RouterId) (texts : List (List ℕ)) (w : List ℕ) → ReadsRouterId root (Ok r) → IsFirstWrong texts w
+    → IsFirstWrong (root ∷ texts) w
+address_wrong root r texts w reads f = record {
+  before = root ∷ f.before;
+  after = f.after;
+  texts_are = ap (λ ts. root ∷ ts) f.texts_are;
+  addresses = record { 0 = r.0 } ∷ f.addresses;
+  spelled = (reads, f.spelled);
+  wrong = f.wrong;
+}
+
+-- the first wrong word is the first wrong value of `table`
+pub wrong_value : (rows : List Row) (root w : List ℕ) → first_of (codes "root") rows ≡ Some root
+    → IsFirstWrong (root ∷ unwrap_or (all_of (codes "addresses") rows) []) w → IsWrongValue (Some (codes "table", rows)) w
+wrong_value rows root w is_root first = inl (record { rows = rows; table = refl; root = root; has_root = is_root; first = first })
+
+-- what a run is to look up spells no address
+pub wrong_lookup : (rows : List Row) (w : List ℕ) → first_of (codes "lookup") rows ≡ Some w → IsNoAddress w → IsWrongValue (Some (codes "run", rows)) w
+wrong_lookup rows w has wrong = inr (record { rows = rows; run = refl; has_lookup = has; wrong = wrong })
+
+-- ---- words that make no job
+
+-- what is entered has one name
+abbrev name_of : Option (List ℕ × List Row) → List ℕ
+name_of entered = unwrap_or (option_map (λ (p : List ℕ × List Row). p.0) entered) []
+
+abbrev entered_of : List ℕ → List Row → Option (List ℕ × List Row)
+entered_of name rows = Some (name, rows)
+
+one_name : (rows others : List Row) → entered_of (codes "table") rows ≡ entered_of (codes "check") others → ⊥
+one_name rows others same =
+    let first : 116 ≡ 99 = ap (λ entered. slice_index (name_of entered) 0) same in
+    omega (arith, first)
+
+table_is_no_sim : (rows others : List Row) → entered_of (codes "table") rows ≡ entered_of (codes "sim") others → ⊥
+table_is_no_sim rows others same =
+    let first : 116 ≡ 115 = ap (λ entered. slice_index (name_of entered) 0) same in
+    omega (arith, first)
+
+check_is_no_sim : (rows others : List Row) → entered_of (codes "check") rows ≡ entered_of (codes "sim") others → ⊥
+check_is_no_sim rows others same =
+    let first : 99 ≡ 115 = ap (λ entered. slice_index (name_of entered) 0) same in
+    omega (arith, first)
+
+table_is_no_run : (rows others : List Row) → entered_of (codes "table") rows ≡ entered_of (codes "run") others → ⊥
+table_is_no_run rows others same =
+    let first : 116 ≡ 114 = ap (λ entered. slice_index (name_of entered) 0) same in
+    omega (arith, first)
+
+check_is_no_run : (rows others : List Row) → entered_of (codes "check") rows ≡ entered_of (codes "run") others → ⊥
+check_is_no_run rows others same =
+    let first : 99 ≡ 114 = ap (λ entered. slice_index (name_of entered) 0) same in
+    omega (arith, first)
+
+sim_is_no_run : (rows others : List Row) → entered_of (codes "sim") rows ≡ entered_of (codes "run") others → ⊥
+sim_is_no_run rows others same =
+    let first : 115 ≡ 114 = ap (λ entered. slice_index (name_of entered) 0) same in
+    omega (arith, first)
+
+same_rows : (name : List ℕ) (rows others : List Row) → entered_of name rows ≡ entered_of name others → rows ≡ others
+same_rows name rows others same = ap (λ entered. unwrap_or (option_map (λ (p : List ℕ × List Row). p.1) entered) rows) same
+
+-- `table` without a root
+pub no_root : (rows : List Row) → first_of (codes "root") rows ≡ None → IsNoJob (Some (codes "table", rows))
+no_root rows none = record {
+  no_table = λ others same. ap (first_of (codes "root")) (sym (same_rows (codes "table") rows others same)) ∙ none;
+  no_check = λ others same. absurd (one_name rows others same);
+  no_sim = λ others same. absurd (table_is_no_sim rows others same);
+  no_run = λ others same. absurd (table_is_no_run rows others same);
+}
+
+-- `check` without files
+pub no_files : (rows : List Row) → all_of (codes "files") rows ≡ None → IsNoJob (Some (codes "check", rows))
+no_files rows none = record {
+  no_table = λ others same. absurd (one_name others rows (sym same));
+  no_check = λ others same. ap (all_of (codes "files")) (sym (same_rows (codes "check") rows others same)) ∙ none;
+  no_sim = λ others same. absurd (check_is_no_sim rows others same);
+  no_run = λ others same. absurd (check_is_no_run rows others same);
+}
+
+-- `sim` without a script, or without files
+pub no_simulation : (rows : List Row) → (first_of (codes "script") rows ≡ None) ⊎ (all_of (codes "files") rows ≡ None) → IsNoJob (Some (codes "sim", rows))
+no_simulation rows none = record {
+  no_table = λ others same. absurd (table_is_no_sim others rows (sym same));
+  no_check = λ others same. absurd (check_is_no_sim others rows (sym same));
+  no_sim = λ others same.
+      let one : rows ≡ others = same_rows (codes "sim") rows others same in
+      subst (λ found. (first_of (codes "script") found ≡ None) ⊎ (all_of (codes "files") found ≡ None)) one none;
+  no_run = λ others same. absurd (sim_is_no_run rows others same);
+}
+
+-- what `run` wants: two numbers, and files
+abbrev RunWants : List Row → Type 0
+RunWants rows = IsNoNumber (one_of (codes "ticks") rows) ⊎ IsNoNumber (one_of (codes "tick") rows) ⊎ (all_of (codes "files") rows ≡ None)
+
+-- `run` without one of them
+pub no_running : (rows : List Row) → RunWants rows → IsNoJob (Some (codes "run", rows))
+no_running rows none = record {
+  no_table = λ others same. absurd (table_is_no_run others rows (sym same));
+  no_check = λ others same. absurd (check_is_no_run others rows (sym same));
+  no_sim = λ others same. absurd (sim_is_no_run others rows (sym same));
+  no_run = λ others same. subst RunWants (same_rows (codes "run") rows others same) none;
+}
+
+-- ---- numbers
+
+-- the text that a value was read of
+pub number_read : {E : Type 0} (gives : List ℕ → Result ℕ E → Type 0) → ((t : List ℕ) (n : ℕ) → gives t (Ok n) → IsNumber t n) → (o : Option (List ℕ)) (r : Option ℕ) (n : ℕ)
+    → (o ≡ None → r ≡ None) → ((t : List ℕ) → o ≡ Some t → ReadsOne gives t r) → r ≡ Some n → (t : List ℕ) × (o ≡ Some t) × IsNumber t n
+number_read gives reads None r n none some is = absurd (none-some n (sym (none refl) ∙ is))
+number_read gives reads (Some t) r n none some is = (t, refl, reads t n (subst (λ q. ReadsOne gives t q) is (some t refl)))
+
+-- a value that was not read is of no text that is a number
+pub no_number_read : {E : Type 0} (gives : List ℕ → Result ℕ E → Type 0) → ((t : List ℕ) (e : E) (n : ℕ) → gives t (Err e) → IsNumber t n → n < 2 ^ 64 → ⊥)
+    → (o : Option (List ℕ)) (r : Option ℕ) → ((t : List ℕ) → o ≡ Some t → ReadsOne gives t r) → r ≡ None → IsNoNumber o
+no_number_read gives refuses o r some is = λ t n at number small.
+    let refused = subst (λ q. ReadsOne gives t q) is (some t at) in refuses t refused.0 n refused.1 number small
+
+-- what `clap` refuses
+pub words_refused : (words : List (List ℕ)) (e : Error) (f : JobFault) → HasKind (fault_of command_app words) e → IsFaultOfWords e f → IsUnasked words f
+words_refused words e f kinds is = elim is [
+  | inl h ↦ subst (IsUnasked words) (sym h.1) tt
+  | inr h ↦ subst (IsUnasked words) (sym h.1) (inl (elim kinds [ inl memory ↦ absurd (h.0 memory) | inr among ↦ among ]))
+]
+
+-- where `clap` refuses nothing and reads no job
+pub no_job_refused : (words : List (List ℕ)) (f : JobFault) → fault_of command_app words ≡ [] → IsNoJob (subcommand_of command_app words)
+    → IsFaultOfNoValue f → IsUnasked words f
+no_job_refused words (fault.Words e) none no_job is = inr (none, no_job)
+no_job_refused words (fault.Address w) none no_job is = absurd is
+no_job_refused words fault.Memory none no_job is = tt

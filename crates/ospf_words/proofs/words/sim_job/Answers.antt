@@ -1,0 +1,31 @@
+use Rattle.std.proofs.Common.{rules, ◌≡◌, ◌∙◌, ap, sym, refl, codes, string_bytes, inl, inr, Some}
+use Rattle.clap.specs.Words.{all_of, first_of, found_of, rows_of}
+use Rattle.clap.proofs.WalkLemmas.{first_value-rows, raw_values-rows}
+use Rattle.ospf_words.proofs.WordLemmas.{named, no_simulation, texts_of}
+use Rattle.ospf_words.proofs.words.sim_job.Goals as goal
+
+pub returns-in_default : goal.returns-in_default
+returns-in_default c =
+    let found = found_of c.args.values.now in
+    no_simulation (rows_of found) (inl (sym (c.in_default.ensures ∙ first_value-rows found (codes "script"))))
+
+pub returns-in_default-get_strs : goal.returns-in_default-get_strs
+returns-in_default-get_strs c =
+    let found = found_of c.args.values.now in
+    no_simulation (rows_of found) (inr (sym (c.in_default-get_strs.ensures ∙ raw_values-rows found (codes "files"))))
+
+pub returns : goal.returns
+returns c =
+    let found = found_of c.args.values.now in
+    let script : string_bytes c.in_ok-script.script ≡ c.in-Some.script.now = search (c.in_ok-script.ensures.ok) in (
+      rows_of found,
+      refl,
+      record {
+        has_script = sym (named (λ n. first_of n (rows_of found)) _ _ (codes "script") (search rules) (c.in-Some.ensures ∙ first_value-rows found _)) ∙ ap Some (sym script);
+        texts = texts_of c.in-Some-get_strs.files.now;
+        has_files = sym (named (λ n. all_of n (rows_of found)) _ _ (codes "files") (search rules) (c.in-Some-get_strs.ensures ∙ raw_values-rows found _));
+        files = search (c.in_ok-files.ensures);
+        dot = c.in_ok-dot.ensures ∙ named (λ n. first_of n (rows_of found)) _ _ (codes "dot") (search rules) (c.get_str-2.ensures ∙ first_value-rows found _);
+        pcap = c.in_ok-pcap.ensures ∙ named (λ n. first_of n (rows_of found)) _ _ (codes "pcap") (search rules) (c.get_str-3.ensures ∙ first_value-rows found _);
+      },
+    )

@@ -1,0 +1,67 @@
+-- Why the program's words ask for no job.
+use Rattle.std.specs.Prelude.{◌≡◌, ◌<◌, ◌^◌, ◌⊎◌, ℕ, List, [], ◌∷◌, ◌++◌, Option, Some, None, ⊤, codes, unwrap_or, string_bytes}
+use Rattle.ospf_base.specs.Text.{IsDottedNumber}
+use Rattle.ospf_base.specs.declared.ids.Addr.{Addr}
+use Rattle.clap.specs.Kinds.{IsAmong}
+use Rattle.clap.specs.Words.{Row, Text, all_of, first_of, kind_of, one_of, subcommand_of}
+use Rattle.clap.specs.Faults.{fault_of}
+use Rattle.ospf_words.specs.declared.jobs.Job.{Job}
+use Rattle.ospf_words.specs.declared.jobs.JobFault.{JobFault}
+use Rattle.ospf_words.specs.declared.jobs.JobFault.TheVariants as fault
+use Rattle.ospf_words.specs.Words.{IsJobOf, IsNumber, Spell, command_app}
+
+-- the text spells no address
+abbrev pub IsNoAddress : Text → Type 0
+IsNoAddress text = (address : Addr) → IsDottedNumber text address.0 → ⊥
+
+-- this text spells no address, and each before it spells one
+pub record IsFirstWrong (texts : List Text) (word : Text) : Type 0 where
+  pub before : List Text
+  pub after : List Text
+  pub texts_are : texts ≡ before ++ word ∷ after
+  pub addresses : List Addr
+  pub spelled : Spell before addresses
+  pub wrong : IsNoAddress word
+
+-- the first of the root and the addresses after `table` that spells no address
+pub record IsWrongInTable (entered : Option (Text × List Row)) (word : Text) : Type 0 where
+  pub rows : List Row
+  pub table : entered ≡ Some (codes "table", rows)
+  pub root : Text
+  pub has_root : first_of (codes "root") rows ≡ Some root
+  pub first : IsFirstWrong (root ∷ unwrap_or (all_of (codes "addresses") rows) []) word
+
+-- what is to be looked up in a run spells no address
+pub record IsWrongInRun (entered : Option (Text × List Row)) (word : Text) : Type 0 where
+  pub rows : List Row
+  pub run : entered ≡ Some (codes "run", rows)
+  pub has_lookup : first_of (codes "lookup") rows ≡ Some word
+  pub wrong : IsNoAddress word
+
+-- the first word that is to be an address, and spells none
+abbrev pub IsWrongValue : Option (Text × List Row) → Text → Type 0
+IsWrongValue entered word = IsWrongInTable entered word ⊎ IsWrongInRun entered word
+
+-- there is no text that is read as a number of 64 bits
+abbrev pub IsNoNumber : Option Text → Type 0
+IsNoNumber text = (t : Text) (number : ℕ) → text ≡ Some t → IsNumber t number → number < 2 ^ 64 → ⊥
+
+-- what the words enter is no `table` with a root, no `check` with files, no `sim` with both, and no `run` with numbers and files
+pub record IsNoJob (entered : Option (Text × List Row)) : Type 0 where
+  pub no_table : (rows : List Row) → entered ≡ Some (codes "table", rows) → first_of (codes "root") rows ≡ None
+  pub no_check : (rows : List Row) → entered ≡ Some (codes "check", rows) → all_of (codes "files") rows ≡ None
+  pub no_sim : (rows : List Row) → entered ≡ Some (codes "sim", rows) → (first_of (codes "script") rows ≡ None) ⊎ (all_of (codes "files") rows ≡ None)
+  pub no_run : (rows : List Row) → entered ≡ Some (codes "run", rows)
+      → IsNoNumber (one_of (codes "ticks") rows) ⊎ IsNoNumber (one_of (codes "tick") rows) ⊎ (all_of (codes "files") rows ≡ None)
+
+-- the job, or none where there is none
+abbrev pub IsJobIfAny : Option (Text × List Row) → Option Job → Type 0
+IsJobIfAny entered (Some job) = IsJobOf entered job
+IsJobIfAny entered None = IsNoJob entered
+
+-- the words are refused for this: `clap` refuses them by an error of this kind, or a value is no address
+abbrev pub IsUnasked : List Text → JobFault → Type 0
+IsUnasked words (fault.Words e) =
+    IsAmong (kind_of e) (fault_of command_app words) ⊎ ((fault_of command_app words ≡ []) × IsNoJob (subcommand_of command_app words))
+IsUnasked words (fault.Address word) = IsWrongValue (subcommand_of command_app words) (string_bytes word)
+IsUnasked words fault.Memory = ⊤

@@ -1,0 +1,156 @@
+-- What the program's words ask for, as `clap` reads them.
+use Rattle.std.specs.Str.Parse.{IsNumeral, digits_value, without_leading_plus}
+use Rattle.std.specs.Prelude.{◌≡◌, ℕ, true, false, Bool, List, [], ◌∷◌, Option, Some, None, Ok, ⊤, codes, map, option_map, string_bytes, unwrap_or}
+use Rattle.ospf_base.specs.Text.{ReadsAddress, ReadsRouterId}
+use Rattle.ospf_base.specs.declared.ids.Addr.{Addr}
+use Rattle.clap.specs.Lexer.{usize_max}
+use Rattle.clap.specs.Words.{App, Row, Rule, Text, all_of, first_of, one_of, new_app, new_rule, subcommand_of, with_rule, with_subcommand}
+use Rattle.clap.specs.declared.builder.action.ArgAction.TheVariants.{Append, SetTrue}
+use Rattle.clap.specs.declared.builder.value_parser.ValueParser.TheVariants.{Unsigned}
+use Rattle.ospf_words.specs.declared.jobs.CheckJob.{CheckJob}
+use Rattle.ospf_words.specs.declared.jobs.Job.{Job}
+use Rattle.ospf_words.specs.declared.jobs.Job.TheVariants as job
+use Rattle.ospf_words.specs.declared.jobs.RunJob.{RunJob}
+use Rattle.ospf_words.specs.declared.jobs.SimJob.{SimJob}
+use Rattle.ospf_table.specs.declared.table.TableJob.{TableJob}
+
+-- one word has to be there
+abbrev pub root_rule : Rule
+root_rule = record (new_rule (codes "root")) { required = true; value_names = 1 }
+
+-- any number of words
+abbrev pub addresses_rule : Rule
+addresses_rule = record (new_rule (codes "addresses")) {
+  action = Some Append;
+  range = Some (record { start_inclusive = 0; end_inclusive = usize_max });
+  value_names = 1;
+}
+
+-- the command `table`: a root, then addresses
+abbrev pub table_app : App
+table_app = with_rule (with_rule (new_app (codes "table")) root_rule) addresses_rule
+
+-- one word or more
+abbrev pub files_rule : Rule
+files_rule = record (new_rule (codes "files")) {
+  required = true;
+  action = Some Append;
+  range = Some (record { start_inclusive = 1; end_inclusive = usize_max });
+  value_names = 1;
+}
+
+-- a flag
+abbrev pub explain_rule : Rule
+explain_rule = record (new_rule (codes "explain")) { long = Some (codes "explain"); action = Some SetTrue }
+
+-- the command `check`: a flag, and files
+abbrev pub check_app : App
+check_app = with_rule (with_rule (new_app (codes "check")) explain_rule) files_rule
+
+-- one word has to be there
+abbrev pub script_rule : Rule
+script_rule = record (new_rule (codes "script")) { required = true; value_names = 1 }
+
+-- an option of this name, with a word
+abbrev pub option_rule : Text → Rule
+option_rule name = record (new_rule name) { long = Some name; value_names = 1 }
+
+-- the command `sim`: a script, files, and the options of what is to be written
+abbrev pub sim_app : App
+sim_app =
+    with_rule (with_rule (with_rule (with_rule (new_app (codes "sim")) script_rule) files_rule) (option_rule (codes "dot"))) (option_rule (codes "pcap"))
+
+-- how many ticks: a number of at least one
+abbrev pub ticks_rule : Rule
+ticks_rule = record (new_rule (codes "ticks")) { required = true; value_names = 1; parser = Some (Unsigned 1 1000000) }
+
+-- the milliseconds of a tick: a thousand at the most, and where nothing is said
+abbrev pub tick_rule : Rule
+tick_rule = record (option_rule (codes "tick")) { defaults = codes "1000" ∷ []; parser = Some (Unsigned 1 1000) }
+
+-- the command `run`: ticks, files, and options
+abbrev pub run_app : App
+run_app =
+    with_rule (with_rule (with_rule (with_rule (with_rule (with_rule (new_app (codes "run")) ticks_rule) files_rule) tick_rule) (option_rule (codes "lookup")))
+    (option_rule (codes "floor"))) (option_rule (codes "pcap"))
+
+-- the program, before its commands
+abbrev pub ospfd_app : App
+ospfd_app = record (new_app (codes "ospfd")) {
+  top = record (new_app (codes "ospfd")).top { no_binary_name = true; has_version = true; subcommand_required = true };
+}
+
+-- the program and its commands
+abbrev pub command_app : App
+command_app = with_subcommand (with_subcommand (with_subcommand (with_subcommand ospfd_app table_app.top) check_app.top) sim_app.top) run_app.top
+
+-- each text spells the address at its place
+abbrev pub Spell : List Text → List Addr → Type 0
+Spell [] [] = ⊤
+Spell (text ∷ texts) (address ∷ addresses) = ReadsAddress text (Ok address) × Spell texts addresses
+Spell _ _ = ⊥
+
+-- the root and the addresses that `clap` reads after `table`
+pub record IsTableJob (rows : List Row) (t : TableJob) : Type 0 where
+  pub text : Text
+  pub has_root : first_of (codes "root") rows ≡ Some text
+  pub root : ReadsRouterId text (Ok t.root)
+  pub addresses : Spell (unwrap_or (all_of (codes "addresses") rows) []) t.addresses.items
+
+-- whether a flag is given, by the text that `clap` keeps of it
+pub record IsFlag (text : Option Text) (given : Bool) : Type 0 where
+  pub none : text ≡ None → given ≡ false
+  pub set : text ≡ Some (codes "true") → given ≡ true
+  pub unset : text ≡ Some (codes "false") → given ≡ false
+
+-- the files that `clap` reads after `check`, and the flag
+pub record IsCheckJob (rows : List Row) (c : CheckJob) : Type 0 where
+  pub texts : List Text
+  pub has_files : all_of (codes "files") rows ≡ Some texts
+  pub files : map string_bytes c.files.items ≡ texts
+  pub explain : IsFlag (one_of (codes "explain") rows) c.explain
+
+-- the script, the files, and the files to be written that `clap` reads after `sim`
+pub record IsSimJob (rows : List Row) (s : SimJob) : Type 0 where
+  pub has_script : first_of (codes "script") rows ≡ Some (string_bytes s.script)
+  pub texts : List Text
+  pub has_files : all_of (codes "files") rows ≡ Some texts
+  pub files : map string_bytes s.files.items ≡ texts
+  pub dot : option_map string_bytes s.dot ≡ first_of (codes "dot") rows
+  pub pcap : option_map string_bytes s.pcap ≡ first_of (codes "pcap") rows
+
+-- a text is read as this number
+abbrev pub IsNumber : Text → ℕ → Type 0
+IsNumber text number = IsNumeral 10 (without_leading_plus text) × (digits_value 10 (without_leading_plus text) ≡ number)
+
+-- the address that a text spells, if there is one
+abbrev pub IsAddressIfAny : Option Text → Option Addr → Type 0
+IsAddressIfAny (Some text) (Some address) = ReadsAddress text (Ok address)
+IsAddressIfAny None None = ⊤
+IsAddressIfAny _ _ = ⊥
+
+-- the ticks, the files and the options that `clap` reads after `run`
+pub record IsRunJob (rows : List Row) (r : RunJob) : Type 0 where
+  pub ticks_text : Text
+  pub has_ticks : one_of (codes "ticks") rows ≡ Some ticks_text
+  pub ticks : IsNumber ticks_text r.ticks
+  pub tick_text : Text
+  pub has_tick : one_of (codes "tick") rows ≡ Some tick_text
+  pub tick : IsNumber tick_text r.milliseconds
+  pub texts : List Text
+  pub has_files : all_of (codes "files") rows ≡ Some texts
+  pub files : map string_bytes r.files.items ≡ texts
+  pub lookup : IsAddressIfAny (first_of (codes "lookup") rows) r.lookup
+  pub floor : option_map string_bytes r.floor ≡ first_of (codes "floor") rows
+  pub pcap : option_map string_bytes r.pcap ≡ first_of (codes "pcap") rows
+
+-- the job is that of the command that the words enter, with the values that they give it
+abbrev pub IsJobOf : Option (Text × List Row) → Job → Type 0
+IsJobOf entered (job.Table t) = (rows : List Row) × (entered ≡ Some (codes "table", rows)) × IsTableJob rows t
+IsJobOf entered (job.Check c) = (rows : List Row) × (entered ≡ Some (codes "check", rows)) × IsCheckJob rows c
+IsJobOf entered (job.Sim s) = (rows : List Row) × (entered ≡ Some (codes "sim", rows)) × IsSimJob rows s
+IsJobOf entered (job.Run r) = (rows : List Row) × (entered ≡ Some (codes "run", rows)) × IsRunJob rows r
+
+-- the job is what `clap` reads in the words
+abbrev pub IsAsked : List Text → Job → Type 0
+IsAsked words = IsJobOf (subcommand_of command_app words)

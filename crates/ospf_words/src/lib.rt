@@ -1,0 +1,9 @@
+//! What the words of the command line ask for.
+#![tactic(auto)]
+
+mod build;
+mod jobs;
+mod words;
+
+pub use jobs::{CheckJob, Job, JobFault, RunJob, SimJob};
+pub use words::{job, not_text};

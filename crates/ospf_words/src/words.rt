@@ -1,0 +1,524 @@
+//! The words of the command line.
+
+ghost use Rattle.clap.specs.Faults.{fault_of};
+ghost use Rattle.std.specs.Prelude.{OnOk, [], ◌≡◌, ◌∷◌, false, map, option_map, codes, string_bytes, Ok, Err, Some, IfOk, IfErr};
+ghost use Rattle.clap.specs.Words.{app_of, found_of, rows_of, rule_of, subcommand_rows_of, with_subcommand};
+ghost use Rattle.ospf_words.specs.Job.{IsFaultOfNoValue, IsFaultOfValue, IsHelp};
+ghost use Rattle.ospf_words.specs.Unasked.{IsFirstWrong, IsJobIfAny, IsNoAddress, IsUnasked, IsWrongValue};
+ghost use Rattle.ospf_words.specs.Words.{IsAddressIfAny, IsAsked, Spell, addresses_rule, check_app, command_app, explain_rule, files_rule, option_rule, ospfd_app, root_rule, run_app, script_rule, sim_app, table_app, tick_rule, ticks_rule};
+
+use crate::build::VERSION;
+use crate::jobs::{CheckJob, Job, JobFault, RunJob, SimJob};
+use clap::builder::ValueParser;
+use clap::error::ErrorKind;
+use clap::{Arg, ArgAction, ArgMatches, Command};
+use ospf_base::Addr;
+use ospf_table::TableJob;
+use std::alloc::{AllocError, Global};
+use std::str::FromStr;
+
+// What `--help` says below the commands.
+const HELP: &str = "Exit status:
+  0  done
+  2  the words ask for nothing that ospfd does
+  3  the input was refused
+  4  memory ran out
+  5  a file or a stream failed
+
+Examples:
+  ospfd table 1.1.1.1 192.168.2.9 < lsas.txt
+  ospfd check first.toml second.toml
+  ospfd sim script first.toml second.toml
+  ospfd run 60 first.toml second.toml
+";
+
+// What `table --help` says below its words.
+const TABLE_HELP: &str = "Output:
+  PREFIX COST HOPS            a line a route; a hop is one of
+      attached                the prefix is the router's own
+      LOCAL>ROUTER            over the point-to-point interface LOCAL
+      LOCAL>ROUTER@ADDRESS    over the broadcast interface LOCAL, to ADDRESS
+  lookup ADDRESS PREFIX COST HOP, or lookup ADDRESS none, for each ADDRESS
+
+Exit status:
+  0  done; where the root's router-LSA is not listed, standard error says so
+  2  the words fit no command, or one is no address
+  3  a line was refused: its number and fault are on standard error
+  4  memory ran out
+  5  standard input was not read, or standard output not written
+
+Example:
+  ospfd table 1.1.1.1 192.168.2.9 < lsas.txt
+";
+
+// What `check --help` says below its words.
+const CHECK_HELP: &str = "Output:
+  FILE: ok                    on standard output
+  FILE: C5 ZeroCost           on standard error: the fault of least number; with
+                              --explain, further lines say what to do about it
+  FILE: not read              on standard error, where the check ends
+
+Exit status:
+  0  each file is accepted
+  2  the words fit no command
+  3  a file was refused
+  4  memory ran out
+  5  a file was not read, or standard output not written
+
+Example:
+  ospfd check --explain first.toml second.toml
+";
+
+// What `sim --help` says below its words.
+const SIM_HELP: &str = "Lines of a script:
+  start R DD [FLOOR]          the router R starts, with its first DD number and,
+                              in eight hexadecimal digits, the floor of its numbers
+  stop R                      it stops, and forgets all
+  tick R                      a second passes at it
+  up R LINK, down R LINK      a link of it comes up, or goes down
+  deliver N R LINK            datagram N comes in on a link of it
+  round COUNT                 so many times a tick each, and all datagrams delivered
+  random NUMBER COUNT         so many events, drawn by the number
+  neighbours R, listing R, table R, floor R
+                              what the router knows is printed
+  walk R ADDRESS CHOICE..     the walk from R to ADDRESS is printed
+
+Exit status:
+  0  the script has run; lines that were refused are on standard error
+  2  the words fit no command
+  3  a configuration was refused, or a line is no command
+  4  memory ran out
+  5  a file was not read or not written, or standard output not written
+
+Example:
+  ospfd sim script first.toml second.toml
+";
+
+// What `run --help` says below its words.
+const RUN_HELP: &str =
+    "Output, when the last tick has passed, for each router in the order of the files:
+  router R                    its Router ID
+  PREFIX COST HOPS            its routing table, a line a route, as of `table`
+  lookup ADDRESS ..           with --lookup, what the table sends the address to
+  floor NUMBER                with --floor, the greatest number of its own LSAs
+  FILE: U2 Send               on standard error, in place of these, where it failed
+
+Exit status:
+  0  all routers came to the end
+  2  the words fit no command, or one is no address
+  3  the floor or a configuration was refused
+  4  memory ran out
+  5  a file was not read, a socket was not made, or a wire or a stream failed
+
+Example:
+  ospfd run --tick 100 --lookup 192.168.2.9 60 first.toml second.toml
+";
+
+// The most ticks of a run.
+const MOST_TICKS: u64 = 1_000_000;
+
+// The most milliseconds of a tick, and those of one where nothing is said.
+const MOST_MILLISECONDS: u64 = 1000;
+
+const MILLISECONDS: &str = "1000";
+
+// The router whose table is computed.
+fn root_arg<'a>(alloc: Global) -> Arg<'a>
+    ensures rule { rule_of result ≡ root_rule }
+    ensures local { result.global ≡ false }
+{
+    Arg::new(alloc, "root")
+        .value_name("ROOT")
+        .help("The Router ID of the router whose table is computed")
+        .required(true)
+}
+
+// The addresses that are looked up.
+fn addresses_arg<'a>(alloc: Global) -> Arg<'a>
+    ensures rule { rule_of result ≡ addresses_rule }
+    ensures local { result.global ≡ false }
+{
+    Arg::new(alloc, "addresses")
+        .value_name("ADDRESS")
+        .help("Addresses to look up in the table")
+        .num_args(0..)
+        .action(ArgAction::Append)
+}
+
+// Whether it is said what to do about files that are refused.
+fn explain_arg<'a>(alloc: Global) -> Arg<'a>
+    ensures rule { rule_of result ≡ explain_rule }
+    ensures local { result.global ≡ false }
+{
+    Arg::new(alloc, "explain")
+        .long("explain")
+        .action(ArgAction::SetTrue)
+        .help("Says of each refused file which key is wrong, and what belongs there")
+}
+
+// The files of configurations.
+fn files_arg<'a>(alloc: Global) -> Arg<'a>
+    ensures rule { rule_of result ≡ files_rule }
+    ensures local { result.global ≡ false }
+{
+    Arg::new(alloc, "files")
+        .value_name("CONFIG")
+        .help("Files with the configuration of a router each")
+        .required(true)
+        .num_args(1..)
+        .action(ArgAction::Append)
+}
+
+// The file of a script.
+fn script_arg<'a>(alloc: Global) -> Arg<'a>
+    ensures rule { rule_of result ≡ script_rule }
+    ensures local { result.global ≡ false }
+{
+    Arg::new(alloc, "script")
+        .value_name("SCRIPT")
+        .help("File with the lines of a script")
+        .required(true)
+}
+
+// The file into which a listing is drawn.
+fn dot_arg<'a>(alloc: Global) -> Arg<'a>
+    ensures rule { rule_of result ≡ option_rule (codes "dot") }
+    ensures local { result.global ≡ false }
+{
+    Arg::new(alloc, "dot").long("dot").value_name("FILE").help(
+        "Draws what the first running router lists at the end, for Graphviz's dot",
+    )
+}
+
+// The file into which all datagrams are written.
+fn pcap_arg<'a>(alloc: Global) -> Arg<'a>
+    ensures rule { rule_of result ≡ option_rule (codes "pcap") }
+    ensures local { result.global ≡ false }
+{
+    Arg::new(alloc, "pcap").long("pcap").value_name("FILE").help(
+        "Writes all datagrams that were sent, for Wireshark and tcpdump",
+    )
+}
+
+// How many ticks there are.
+fn ticks_arg<'a>(alloc: Global) -> Arg<'a>
+    ensures rule { rule_of result ≡ ticks_rule }
+    ensures local { result.global ≡ false }
+{
+    Arg::new(alloc, "ticks")
+        .value_name("TICKS")
+        .help("How many ticks the routers run, 1 to 1000000")
+        .required(true)
+        .value_parser(ValueParser::unsigned(1, MOST_TICKS))
+}
+
+// The milliseconds of a tick.
+fn tick_arg<'a>(alloc: Global) -> Arg<'a>
+    ensures rule { rule_of result ≡ tick_rule }
+    ensures local { result.global ≡ false }
+{
+    Arg::new(alloc, "tick")
+        .long("tick")
+        .value_name("MS")
+        .help("The milliseconds of a tick, 1 to 1000")
+        .default_value(MILLISECONDS)
+        .value_parser(ValueParser::unsigned(1, MOST_MILLISECONDS))
+}
+
+// The address that is looked up while the routers run.
+fn lookup_arg<'a>(alloc: Global) -> Arg<'a>
+    ensures rule { rule_of result ≡ option_rule (codes "lookup") }
+    ensures local { result.global ≡ false }
+{
+    Arg::new(alloc, "lookup")
+        .long("lookup")
+        .value_name("ADDRESS")
+        .help("An address to look up in each table, while the routers run and at the end")
+}
+
+// The floor of the numbers of own LSAs.
+fn floor_arg<'a>(alloc: Global) -> Arg<'a>
+    ensures rule { rule_of result ≡ option_rule (codes "floor") }
+    ensures local { result.global ≡ false }
+{
+    Arg::new(alloc, "floor")
+        .long("floor")
+        .value_name("NUMBER")
+        .help("What the numbers of own LSAs begin above, in eight hexadecimal digits")
+}
+
+// The program, before its commands.
+fn program<'a>(alloc: Global) -> Result<Command<'a>, AllocError>
+    ensures { IfOk result (λ c. app_of c ≡ ospfd_app) }
+{
+    let program = Command::new(alloc, "ospfd")
+        .bin_name("ospfd")?
+        .version(VERSION)
+        .about("OSPF version 2 for one area")
+        .after_help(HELP)
+        .no_binary_name(true)
+        .subcommand_required(true);
+    Ok(program)
+}
+
+// Adds the command `table` and its words.
+fn with_table<'a>(program: Command<'a>, alloc: Global) -> Result<Command<'a>, AllocError>
+    ensures { IfOk result (λ c. app_of c ≡ with_subcommand (app_of program.entry) table_app.top) }
+{
+    let table = Command::new(alloc, "table")
+        .about("Computes a routing table from LSAs in hexadecimal, one a line, on standard input")
+        .after_help(TABLE_HELP)
+        .arg(root_arg(alloc))?
+        .arg(addresses_arg(alloc))?;
+    program.subcommand(table)
+}
+
+// Adds the command `check` and its words.
+fn with_check<'a>(program: Command<'a>, alloc: Global) -> Result<Command<'a>, AllocError>
+    ensures { IfOk result (λ c. app_of c ≡ with_subcommand (app_of program.entry) check_app.top) }
+{
+    let check = Command::new(alloc, "check")
+        .about("Checks configurations in TOML")
+        .after_help(CHECK_HELP)
+        .arg(explain_arg(alloc))?
+        .arg(files_arg(alloc))?;
+    program.subcommand(check)
+}
+
+// Adds the command `sim` and its words.
+fn with_sim<'a>(program: Command<'a>, alloc: Global) -> Result<Command<'a>, AllocError>
+    ensures { IfOk result (λ c. app_of c ≡ with_subcommand (app_of program.entry) sim_app.top) }
+{
+    let sim = Command::new(alloc, "sim")
+        .about("Simulates an area: runs a script over a router for each configuration")
+        .after_help(SIM_HELP)
+        .arg(script_arg(alloc))?
+        .arg(files_arg(alloc))?
+        .arg(dot_arg(alloc))?
+        .arg(pcap_arg(alloc))?;
+    program.subcommand(sim)
+}
+
+// Adds the command `run` and its words.
+fn with_run<'a>(program: Command<'a>, alloc: Global) -> Result<Command<'a>, AllocError>
+    ensures { IfOk result (λ c. app_of c ≡ with_subcommand (app_of program.entry) run_app.top) }
+{
+    let run = Command::new(alloc, "run")
+        .about("Runs a router for each configuration, each in a thread, over UDP on this machine")
+        .after_help(RUN_HELP)
+        .arg(ticks_arg(alloc))?
+        .arg(files_arg(alloc))?
+        .arg(tick_arg(alloc))?
+        .arg(lookup_arg(alloc))?
+        .arg(floor_arg(alloc))?
+        .arg(pcap_arg(alloc))?;
+    program.subcommand(run)
+}
+
+// The words that the program knows.
+fn command<'a>(alloc: Global) -> Result<Command<'a>, AllocError>
+    ensures { IfOk result (λ c. app_of c ≡ command_app) }
+{
+    let program = with_table(program(alloc)?, alloc)?;
+    let program = with_check(program, alloc)?;
+    let program = with_sim(program, alloc)?;
+    with_run(program, alloc)
+}
+
+// The value that a word spells.
+fn parsed<T: FromStr>(alloc: Global, word: &str) -> Result<T, JobFault>
+where
+    T::Err: Drop,
+    ensures value { IfOk result (λ value. T.from_str_gives word.now (Ok value)) }
+    ensures fault { IfErr result (IsFaultOfValue (λ w. (w ≡ word.now) × (e : T.Err) × T.from_str_gives word.now (Err e))) }
+{
+    match word.parse::<T>() {
+        Ok(value) => Ok(value),
+        Err(_) => Err(JobFault::Address(String::from_str(alloc, word)?)),
+    }
+}
+
+// The addresses that words spell.
+fn parsed_addresses(alloc: Global, words: &[&str]) -> Result<Vec<Addr>, JobFault>
+    ensures spelled { IfOk result (λ addresses. Spell (map (λ w. w.now) words.now) addresses.items) }
+    ensures fault { IfErr result (IsFaultOfValue (IsFirstWrong (map (λ w. w.now) words.now))) }
+{
+    let mut addresses = Vec::with_capacity(alloc, words.len())?;
+    for word in words {
+        addresses
+            .push(parsed(alloc, word)?)
+            .map_err(AllocError::from)?;
+    }
+    Ok(addresses)
+}
+
+// The values of `table`: its job, if they have a root.
+fn table_job(alloc: Global, values: &ArgMatches<'_>) -> Result<Option<Job>, JobFault>
+    ensures ok { IfOk result (IsJobIfAny (Some (codes "table", rows_of (found_of values.now)))) }
+    ensures fault { IfErr result (IsFaultOfValue (IsWrongValue (Some (codes "table", rows_of (found_of values.now))))) }
+{
+    let Some(root) = values.get_str("root") else {
+        return Ok(None);
+    };
+    let addresses = values.get_strs("addresses").unwrap_or(&[]);
+    Ok(Some(Job::Table(TableJob {
+        root: parsed(alloc, root)?,
+        addresses: parsed_addresses(alloc, addresses)?,
+    })))
+}
+
+// The texts of words.
+fn owned(alloc: Global, words: &[&str]) -> Result<Vec<String>, AllocError>
+    ensures { IfOk result (λ texts. map string_bytes texts.items ≡ map (λ w. w.now) words.now) }
+{
+    let mut texts = Vec::with_capacity(alloc, words.len())?;
+    for word in words {
+        texts.push(String::from_str(alloc, word)?)?;
+    }
+    Ok(texts)
+}
+
+// The values of `check`: its job, if they have files.
+fn check_job(alloc: Global, values: &ArgMatches<'_>) -> Result<Option<Job>, AllocError>
+    ensures { IfOk result (IsJobIfAny (Some (codes "check", rows_of (found_of values.now)))) }
+{
+    let Some(files) = values.get_strs("files") else {
+        return Ok(None);
+    };
+    let files = owned(alloc, files)?;
+    let explain = values.get_flag("explain");
+    Ok(Some(Job::Check(CheckJob { files, explain })))
+}
+
+// The text of a word, if there is one.
+fn owned_if_any(alloc: Global, word: Option<&str>) -> Result<Option<String>, AllocError>
+    ensures { IfOk result (λ text. option_map string_bytes text ≡ option_map (λ w. w.now) word.entry) }
+{
+    match word {
+        Some(word) => Ok(Some(String::from_str(alloc, word)?)),
+        None => Ok(None),
+    }
+}
+
+// The values of `sim`: its job, if they have a script and files.
+fn sim_job(alloc: Global, values: &ArgMatches<'_>) -> Result<Option<Job>, AllocError>
+    ensures { IfOk result (IsJobIfAny (Some (codes "sim", rows_of (found_of values.now)))) }
+{
+    let Some(script) = values.get_str("script") else {
+        return Ok(None);
+    };
+    let Some(files) = values.get_strs("files") else {
+        return Ok(None);
+    };
+    let script = String::from_str(alloc, script)?;
+    let files = owned(alloc, files)?;
+    let dot = owned_if_any(alloc, values.get_str("dot"))?;
+    let pcap = owned_if_any(alloc, values.get_str("pcap"))?;
+    Ok(Some(Job::Sim(SimJob {
+        script,
+        files,
+        dot,
+        pcap,
+    })))
+}
+
+// The address that a word spells, if there is one.
+fn parsed_if_any(alloc: Global, word: Option<&str>) -> Result<Option<Addr>, JobFault>
+    ensures value { IfOk result (IsAddressIfAny (option_map (λ w. w.now) word.entry)) }
+    ensures fault { IfErr result (IsFaultOfValue (λ w. (option_map (λ t. t.now) word.entry ≡ Some w) × IsNoAddress w)) }
+{
+    match word {
+        Some(word) => Ok(Some(parsed(alloc, word)?)),
+        None => Ok(None),
+    }
+}
+
+// The values of `run`: its job, if they have the ticks and files.
+fn run_job(alloc: Global, values: &ArgMatches<'_>) -> Result<Option<Job>, JobFault>
+    ensures ok { IfOk result (IsJobIfAny (Some (codes "run", rows_of (found_of values.now)))) }
+    ensures fault { IfErr result (IsFaultOfValue (IsWrongValue (Some (codes "run", rows_of (found_of values.now))))) }
+{
+    let Some(ticks) = values.get_one::<u64>("ticks") else {
+        return Ok(None);
+    };
+    let Some(milliseconds) = values.get_one::<u64>("tick") else {
+        return Ok(None);
+    };
+    let Some(files) = values.get_strs("files") else {
+        return Ok(None);
+    };
+    let files = owned(alloc, files)?;
+    let lookup = parsed_if_any(alloc, values.get_str("lookup"))?;
+    let floor = owned_if_any(alloc, values.get_str("floor"))?;
+    let pcap = owned_if_any(alloc, values.get_str("pcap"))?;
+    Ok(Some(Job::Run(RunJob {
+        ticks,
+        milliseconds,
+        lookup,
+        floor,
+        pcap,
+        files,
+    })))
+}
+
+// The job of the command that the words entered, if its values make one.
+fn entered_job(alloc: Global, matches: &ArgMatches<'_>) -> Result<Option<Job>, JobFault>
+    ensures ok { IfOk result (IsJobIfAny (subcommand_rows_of matches.now)) }
+    ensures fault { IfErr result (IsFaultOfValue (IsWrongValue (subcommand_rows_of matches.now))) }
+{
+    if let Some(values) = matches.subcommand_matches("table") {
+        return table_job(alloc, values);
+    }
+    if let Some(values) = matches.subcommand_matches("check") {
+        return Ok(check_job(alloc, values)?);
+    }
+    if let Some(values) = matches.subcommand_matches("sim") {
+        return Ok(sim_job(alloc, values)?);
+    }
+    if let Some(values) = matches.subcommand_matches("run") {
+        return run_job(alloc, values);
+    }
+    Ok(None)
+}
+
+// The fault of words in which `clap` reads no job.
+fn no_job(command: &mut Command<'_>) -> JobFault
+    ensures { IsFaultOfNoValue result }
+{
+    match command.error(ErrorKind::MissingSubcommand, "a command is needed") {
+        Ok(error) => JobFault::from(error),
+        Err(_) => JobFault::Memory,
+    }
+}
+
+/// The fault of words of which one is not UTF-8: `Words`, or `Memory` where memory ran out.
+pub fn not_text(alloc: Global) -> JobFault
+    ensures fault { IsFaultOfNoValue result }
+    ensures not_help { IsHelp result → ⊥ }
+{
+    let told = match command(alloc) {
+        Ok(mut command) => command.error(ErrorKind::InvalidValue, "a word is not UTF-8"),
+        Err(error) => Err(error),
+    };
+    match told {
+        Ok(error) => JobFault::from(error),
+        Err(_) => JobFault::Memory,
+    }
+}
+
+/// Reads the program's words, without its own name.
+///
+/// The error is `Words` where they fit no command, or ask for help or the version, `Address` with the
+/// first word that is to be an address and is none, and `Memory` where memory ran out.
+pub fn job(alloc: Global, words: &[&str]) -> Result<Job, JobFault>
+    ensures ok { IfOk result (IsAsked (map (λ w. w.now) words.now)) }
+    ensures accepted { OnOk result (fault_of command_app (map (λ w. w.now) words.now) ≡ []) }
+    ensures fault { IfErr result (IsUnasked (map (λ w. w.now) words.now)) }
+{
+    let mut command = command(alloc)?;
+    let matches = command.try_get_matches_from_mut(words)?;
+    match entered_job(alloc, &matches)? {
+        Some(job) => Ok(job),
+        None => Err(no_job(&mut command)),
+    }
+}
