@@ -61,6 +61,16 @@ impl<'a> Headers<'a> {
         }
     }
 
+    /// The same walk, from where it stands.
+    pub fn copy(&self) -> Headers<'a>
+        ensures { result ≡ self.now }
+    {
+        Headers {
+            left: self.left,
+            rest: self.rest,
+        }
+    }
+
     /// Whether no header is left. It goes no step.
     #[tactic(auto, using(crate::proofs::HeaderLists::count_left))]
     pub fn is_empty(&self) -> bool

@@ -56,4 +56,14 @@ impl<'a> Requests<'a> {
             rest: bytes,
         }
     }
+
+    /// The same walk, from where it stands.
+    pub fn copy(&self) -> Requests<'a>
+        ensures { result ≡ self.now }
+    {
+        Requests {
+            left: self.left,
+            rest: self.rest,
+        }
+    }
 }
