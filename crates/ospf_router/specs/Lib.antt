@@ -1,3 +1,4 @@
 pub mod Routers
 pub mod Starts
 pub mod Steps
+pub mod Text

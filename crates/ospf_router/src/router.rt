@@ -8,7 +8,9 @@ ghost use Rattle.ospf_lsdb.specs.Counts.{fresh_count};
 ghost use Rattle.ospf_lsdb.specs.Database.{IsDatabase};
 ghost use Rattle.ospf_routes.specs.Listings.{ListsAs};
 ghost use Rattle.ospf_step.specs.Same.{IsSameRouter};
+ghost use Rattle.ospf_step.specs.Drops.{dropped_by};
 ghost use Rattle.ospf_step.specs.Events.{happening};
+ghost use Rattle.ospf_area.specs.State.{AreaValue};
 ghost use Rattle.ospf_router.specs.Routers.{HasRoutes, IsKept, awaits_in, greatest_in, listing_of, neighbours_on, stopped};
 ghost use Rattle.ospf_router.specs.Starts.{IsStarted};
 ghost use Rattle.ospf_router.specs.Steps.{IsLawful, Steps};
@@ -73,6 +75,7 @@ fn step_area(area: &mut Area, event: Event<'_>, alloc: Global) -> Result<Taken, 
     ensures same { OnOk result (IsSameRouter area.old area.new) }
     ensures kept { OnOk result (IsKept area.new) }
     ensures unchanged { IfOk result (λ t. IsTrue (is_some t.dropped) → area.new ≡ area.old) }
+    ensures memory { OnErr result (dropped_by (happening event.entry) area.old ≡ None) }
 {
     step(area, event, alloc)
 }
@@ -96,7 +99,8 @@ fn brings_none(out: &Outputs) -> bool
 
 // Whether a step lists what was listed before: it is dropped, or brings nothing, and as many LSAs are below `MAX_AGE` as were.
 fn is_settled(taken: &Taken, before: usize, after: usize) -> bool
-    ensures { IsTrue result → IsTrue (is_some taken.now.dropped) ⊎ ((taken.now.out.taken ≡ []) × (taken.now.out.issued ≡ []) × (after ≡ before)) }
+    ensures dropped { IsTrue (is_some taken.now.dropped) → IsTrue result }
+    ensures settled { IsTrue result → IsTrue (is_some taken.now.dropped) ⊎ ((taken.now.out.taken ≡ []) × (taken.now.out.issued ≡ []) × (after ≡ before)) }
 {
     if taken.dropped.is_some() {
         return true;
@@ -118,6 +122,7 @@ fn refresh(
     ensures listing { OnOk result (ListsAs area.now.database routes.new.listing) }
     ensures changed { IfOk result (λ b. IsTrue b ↔ (routes.new.table ≢ routes.old.table)) }
     ensures router { routes.new.router ≡ routes.old.router }
+    ensures memory { OnErr result (IsTrue settled → ⊥) }
 {
     if settled {
         return Ok(false);
@@ -143,6 +148,7 @@ fn advance(
     ensures listing { OnOk result (ListsAs area.new.database routes.new.listing) }
     ensures changed { IfOk result (λ a. IsTrue a.table_changed ↔ (routes.new.table ≢ routes.old.table)) }
     ensures router { routes.new.router ≡ routes.old.router }
+    ensures memory { OnErr result (dropped_by (happening event.entry) area.old ≡ None) }
 {
     let before = fresh_in(area);
     let taken = step_area(area, event, alloc)?;
@@ -194,6 +200,7 @@ impl Router {
         ensures taken { IfOk result (λ t. Steps (happening event.entry) self.old t self.new) }
         ensures stopped { OnErr result (self.new ≡ stopped self.old) }
         ensures stands_still { self.old.area ≡ None → OnOk result ⊥ }
+        ensures memory { (s : AreaValue) → self.old.area ≡ Some s → OnErr result (dropped_by (happening event.entry) s ≡ None) }
     {
         let Some(mut area) = self.area.take() else {
             return Err(Stopped);

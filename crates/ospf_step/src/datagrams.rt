@@ -1,6 +1,6 @@
 //! Datagrams that come.
 
-ghost use Rattle.std.specs.Prelude.{◌≡◌, ◌≢◌, None, Some, IfErr, IfOk, OnOk, slice_get};
+ghost use Rattle.std.specs.Prelude.{◌≡◌, ◌≢◌, None, Some, IfErr, IfOk, OnErr, OnOk, slice_get};
 ghost use Rattle.ospf_area.specs.Sending.{own_of};
 ghost use Rattle.ospf_laws.specs.Puts.{headers_met};
 ghost use Rattle.ospf_links.specs.Parts.{local_of};
@@ -132,6 +132,7 @@ pub(crate) fn take_datagram(
     ensures takes { IfOk result (λ d. d ≡ None → TakesDatagram link source (packet_of bytes.now) area.old out.old out.new area.new) }
     ensures unchanged { IfOk result (λ d. d ≢ None → area.new ≡ area.old) }
     ensures silent { IfOk result (λ d. d ≢ None → out.new ≡ out.old) }
+    ensures memory { OnErr result (drop_on (slice_get area.old.links link) area.old source destination (packet_of bytes.now) ≡ None) }
     ensures fit { OnOk result (IsFit area.new) }
 {
     match receive_on(area, link, source, destination, bytes) {

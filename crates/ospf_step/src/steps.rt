@@ -1,6 +1,6 @@
 //! A step.
 
-ghost use Rattle.std.specs.Prelude.{◌≡◌, ◌≢◌, None, IfOk, OnOk, slice_get};
+ghost use Rattle.std.specs.Prelude.{◌≡◌, ◌≢◌, None, IfOk, OnErr, OnOk, slice_get};
 ghost use Rattle.ospf_area.specs.Outputs.{no_outputs};
 ghost use Rattle.ospf_area.specs.Sending.{own_of};
 ghost use Rattle.ospf_laws.specs.Accounts.{Accounts};
@@ -66,6 +66,7 @@ fn take(
     ensures takes { IfOk result (λ d. d ≡ None → TakesEvent (happening event.entry) area.old out.old out.new area.new) }
     ensures unchanged { IfOk result (λ d. d ≢ None → area.new ≡ area.old) }
     ensures silent { IfOk result (λ d. d ≢ None → out.new ≡ out.old) }
+    ensures memory { OnErr result (dropped_by (happening event.entry) area.old ≡ None) }
     ensures fit { OnOk result (IsFit area.new) }
 {
     match event {
@@ -98,6 +99,7 @@ fn step_parts(area: &mut Area, event: Event<'_>, alloc: Global) -> Result<Taken,
     ensures takes { IfOk result (λ t. t.dropped ≡ None → Takes (happening event.entry) area.old t.out area.new) }
     ensures unchanged { IfOk result (λ t. t.dropped ≢ None → area.new ≡ area.old) }
     ensures silent { IfOk result (λ t. t.dropped ≢ None → t.out ≡ no_outputs) }
+    ensures memory { OnErr result (dropped_by (happening event.entry) area.old ≡ None) }
     ensures fit { OnOk result (IsFit area.new) }
 {
     let mut out = Outputs::new(alloc);
@@ -120,6 +122,7 @@ pub fn step(area: &mut Area, event: Event<'_>, alloc: Global) -> Result<Taken, A
     ensures accounts { IsSoundState area.old → IfOk result (λ t. Accounts (heard_in (happening event.entry)) area.old t.out area.new) }
     ensures sound { IsSoundState area.old → OnOk result (IsSoundState area.new) }
     ensures same { OnOk result (IsSameRouter area.old area.new) }
+    ensures memory { OnErr result (dropped_by (happening event.entry) area.old ≡ None) }
     ensures fit { OnOk result (IsFit area.new) }
 {
     neighbours_stay_of_link();
