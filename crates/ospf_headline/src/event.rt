@@ -1,6 +1,7 @@
 //! What may happen in a world, and why it may be refused.
 
 use ospf_base::RouterId;
+use std::fmt::{self, Display, Formatter, Write};
 use thiserror::Error;
 
 /// What may happen in a world.
@@ -42,7 +43,6 @@ pub enum WorldEvent {
 
 /// Why an event, or a world, is refused.
 #[derive(Clone, Copy, Debug, PartialEq, Eq, Error)]
-#[error("{text}", text = self.text())]
 pub enum WorldFault {
     /// The world has no such router.
     NoRouter,
@@ -80,5 +80,17 @@ impl WorldFault {
             WorldFault::SameRouter => "W7 SameRouter",
             WorldFault::Floor => "W8 Floor",
         }
+    }
+}
+
+/// The number and the name, as `W5 NotRunning`.
+impl Display for WorldFault {
+    ghost use Rattle.std.specs.Prelude.{Some};
+    ghost use Rattle.ospf_headline.specs.Text.{world_fault_text};
+
+    ghost output = { λ fault. Some (world_fault_text fault) };
+
+    fn fmt<W: Write>(&self, f: &mut Formatter<W>) -> fmt::Result {
+        f.write_str(self.text())
     }
 }

@@ -10,7 +10,7 @@ ghost use Rattle.ospf_headline.specs.Headline.{Headline, IsReached};
 ghost use Rattle.ospf_headline.specs.Runs.{IsRun};
 ghost use Rattle.ospf_headline.specs.Sound.{HeldAnywhere, WasIssued, AgreeUnlessIssuedAgain, BasesAreHigh, NoCollision, NoneLargest, BasesAreFloors, IsSound};
 ghost use Rattle.ospf_headline.specs.Walks.{adverts, AllListedAgree, WalksArrive, ChosenWalksArrive};
-ghost use Rattle.ospf_headline.specs.World.{World, WorldEvent, WorldFault, Running, router_at, IsNew, Runs, Happens};
+ghost use Rattle.ospf_headline.specs.World.{World, WorldEvent, WorldFault, Running, router_at, IsNew, Runs, Happens, Comes};
 
 use ospf_spf::walk_law;
 
@@ -95,7 +95,7 @@ pub fn soundness()
 /// What goes over a list of events leads on as some list of them does.
 pub fn runs_lead_on()
     ensures { (is_dropped : Event → AreaValue → Bool) (events : List WorldEvent) (before after : World) (result : Result ℕ WorldFault) →
-        IsRun is_dropped events before result after → (later : List WorldEvent) × Runs is_dropped later before after }
+        IsRun (Comes is_dropped) events before result after → (later : List WorldEvent) × Runs is_dropped later before after }
 {}
 
 /// There are worlds to speak of: in one a router has started, and a second has passed.

@@ -10,7 +10,7 @@ use Rattle.ospf_files.specs.declared.status.Failure.{Failure}
 use Rattle.ospf_headline.specs.declared.event.WorldEvent.{WorldEvent}
 use Rattle.ospf_script.specs.declared.command.Command.{Command}
 use Rattle.ospf_script.specs.declared.command.Command.TheVariants as command
-use Rattle.ospf_sim.specs.Worlds.{WorldValue, Comes, IsRandom}
+use Rattle.ospf_sim.specs.Worlds.{WorldValue, EventDoes, IsRandom}
 use Rattle.ospf_sim.specs.Commands.{Answer, AreRounds, DoesBy, DoesShown, IsDone, IsShownOn, IsWalked, IsWalkedOn, event_in, shown_in}
 use Rattle.ospf_sim.specs.declared.show.View.{View}
 
@@ -18,11 +18,11 @@ pub on_ok : {T E : Type 0} (r : Result T E) (P : Type 0) → IsOk r → OnOk r P
 on_ok (Ok x) P is h = h
 on_ok (Err e) P is h = absurd (cc is)
 
-pub event_done : (c : Command) (e : WorldEvent) (w w' : WorldValue) (answer : Answer) (o : Option (List ℕ)) → event_in c ≡ Some e → Comes e w answer w'
+pub event_done : (c : Command) (e : WorldEvent) (w w' : WorldValue) (answer : Answer) (o : Option (List ℕ)) → event_in c ≡ Some e → EventDoes e w answer w'
     → IsDone c w answer w' o o
-event_done c e w w' answer o is comes = record {
+event_done c e w w' answer o is done = record {
   text = [];
-  does = subst (λ found. DoesBy found c w answer [] w') (sym is) (comes, refl);
+  does = subst (λ found. DoesBy found c w answer [] w') (sym is) (done, refl);
   written = nothing_written o;
 }
 

@@ -9,7 +9,7 @@ use Rattle.ospf_router.specs.Routers.{RouterValue}
 use Rattle.ospf_script.specs.Words.{Text}
 use Rattle.ospf_script.specs.declared.command.Command.{Command}
 use Rattle.ospf_script.specs.declared.command.Command.TheVariants as command
-use Rattle.ospf_sim.specs.Worlds.{WorldValue, Comes, IsRound, IsRandom, IsWalkFrom, LendsRouter, IsNotLent}
+use Rattle.ospf_sim.specs.Worlds.{WorldValue, EventDoes, IsRound, IsRandom, IsWalkFrom, LendsRouter, IsNotLent}
 use Rattle.ospf_world.specs.declared.walk.Walk.{Walk}
 use Rattle.ospf_sim.specs.Shown.{view_lines, walk_line}
 use Rattle.ospf_sim.specs.declared.show.View.{View}
@@ -68,7 +68,7 @@ DoesShown (Some shown) c w answer text w' = IsShown shown.1 w shown.0 answer tex
 DoesShown None c w answer text w' = DoesOther c w answer text w'
 
 abbrev pub DoesBy : Option WorldEvent → Command → WorldValue → Answer → Text → WorldValue → Type 0
-DoesBy (Some e) c w answer text w' = Comes e w answer w' × (text ≡ [])
+DoesBy (Some e) c w answer text w' = EventDoes e w answer w' × (text ≡ [])
 DoesBy None c w answer text w' = DoesShown (shown_in c) c w answer text w'
 
 -- what a command does to a world, what is answered, and what is printed

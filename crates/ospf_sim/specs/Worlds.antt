@@ -2,29 +2,28 @@
 use Rattle.std.specs.Prelude.{◌≡◌, ℕ, List, Some, Result}
 use Rattle.ospf_base.specs.declared.ids.RouterId.{RouterId}
 use Rattle.ospf_config.specs.declared.config.Config.{Config}
-use Rattle.ospf_headline.specs.World as world
 use Rattle.ospf_headline.specs.World.{Member, member, of_member, unless_stopped}
 use Rattle.ospf_headline.specs.declared.event.WorldEvent.{WorldEvent}
 use Rattle.ospf_headline.specs.declared.event.WorldFault.{WorldFault}
 use Rattle.ospf_router.specs.Routers.{RouterValue}
-use Rattle.ospf_router.specs.Steps.{is_dropped}
+use Rattle.ospf_world.specs.Does.{Does}
 use Rattle.ospf_world.specs.Random as random
 use Rattle.ospf_world.specs.Walks.{Walks}
-use Rattle.ospf_world.specs.Worlds.{IsLent, SameSettings, ShareRouter, new_world, world_of}
+use Rattle.ospf_world.specs.Worlds.{IsLent, ShareRouter, new_world, world_of}
 use Rattle.ospf_world.specs.declared.walk.Walk.{Walk}
 use Rattle.rand_pcg.specs.Lcg.{increment_of, started}
 use Rattle.rand_pcg.specs.Pcg.{multiplier_64}
 pub use Rattle.ospf_world.specs.Rounds.{IsRound}
 pub use Rattle.ospf_world.specs.Worlds.{WorldValue}
 
--- an event comes to this, and what the routers are configured with stays
-abbrev pub Comes : WorldEvent → WorldValue → Result (Unit {0}) WorldFault → WorldValue → Type 0
-Comes e w answer w' = world.Comes is_dropped e (world_of w) answer (world_of w') × SameSettings w w'
+-- what an event does: what it names happens to the router that it names, exactly
+abbrev pub EventDoes : WorldEvent → WorldValue → Result (Unit {0}) WorldFault → WorldValue → Type 0
+EventDoes = Does
 
--- so many events come by chance, drawn by the generator of this number, and what the routers are configured with stays
+-- so many events come by chance, drawn by the generator of this number
 abbrev pub IsRandom : ℕ → ℕ → WorldValue → Result (Unit {0}) WorldFault → WorldValue → Type 0
 IsRandom number count w answer w' =
-    random.IsRandom count (started 64 multiplier_64 number (increment_of 64 0)) (world_of w) answer (world_of w') × SameSettings w w'
+    random.IsRandom count (started 64 multiplier_64 number (increment_of 64 0)) w answer w'
 
 -- the walk from a router towards an address by these choices, or why there is none
 abbrev pub IsWalkFrom : WorldValue → RouterId → ℕ → List ℕ → Result Walk WorldFault → Type 0

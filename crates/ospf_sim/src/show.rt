@@ -19,7 +19,7 @@ use std::io::{self, Write};
 const MAX_INTERFACES: usize = 32;
 
 // What a line prints of a router.
-#[derive(Clone, Copy, Debug, PartialEq, Eq)]
+#[derive(Clone, Copy)]
 pub(crate) enum View {
     Neighbours,
     Listing,

@@ -40,7 +40,8 @@ feeds e config o mid v after logs logs' (Ok x) result is none slot fed same ok e
   out = fed.out;
   was = ap (option_and_then running_of) is ∙ ap (option_map (runs_in v)) fed.was;
   is = ok.1 ∙ ap (with_running (slot_of config o)) (ap (option_map (runs_in x)) fed.is);
-  laws = fed.laws;
+  dropped = fed.dropped;
+  lawful = fed.lawful;
   table = fed.table;
   takes = fed.takes;
   runs = fed.runs;
@@ -82,13 +83,13 @@ not_equal x y apart = go (int_eq x y) refl
     go true is = absurd (apart ((Decides-int_eq x y).0 is))
 
 -- a router that runs is not started
-pub runs_already : (log : List Issued) (floor : ℤ) (s : SlotValue) → is_some s.running ≡ true → StartsSlot log floor s (Err fault.Running) s
-runs_already log floor s is = let (x, runs) = running_is s.running is in StartsSlot.IsRunning x runs refl refl
+pub runs_already : (log : List Issued) (dd_start : ℕ) (floor : ℤ) (s : SlotValue) → is_some s.running ≡ true → StartsSlot log dd_start floor s (Err fault.Running) s
+runs_already log dd_start floor s is = let (x, runs) = running_is s.running is in StartsSlot.IsRunning x runs refl refl
 
 -- one that does not run starts above a floor
-pub starts : (log : List Issued) (issued : ℕ) (floor : ℤ) (config : Config) (o : Option RunningValue) (v : RunningValue) → issued ≡ length log → is_some (slot_of config o).running ≡ false → floor ≢ max_sequence_number → Begins config issued floor v →
-    StartsSlot log floor (slot_of config o) (Ok tt) (slot_of config (Some v))
-starts log issued floor config o v is none above b =
+pub starts : (log : List Issued) (dd_start issued : ℕ) (floor : ℤ) (config : Config) (o : Option RunningValue) (v : RunningValue) → issued ≡ length log → is_some (slot_of config o).running ≡ false → floor ≢ max_sequence_number → Begins config dd_start issued floor v →
+    StartsSlot log dd_start floor (slot_of config o) (Ok tt) (slot_of config (Some v))
+starts log dd_start issued floor config o v is none above b =
     StartsSlot.Begins (stopped_is _ none) (not_equal floor max_sequence_number above) (runs_in v b.area) refl (ap (with_running (slot_of config o)) (ap (option_map (runs_in v)) b.runs)) (b.started log (sym is))
 
 -- one that runs stops
@@ -127,7 +128,7 @@ steps_delivered r place l s after logs logs' result (DeliversOn.NoDatagram has n
 steps_delivered r place l s after logs logs' result (DeliversOn.Delivers has g at by) =
     steps_fed (Deliver place r l) (delivery l g) s after logs logs' result (ap (λ (b : Bool). cond b (world.with_datagram (slice_get logs.datagrams place) (member_of s)) (Some fault.NoLink)) has ∙ ap (λ o. world.with_datagram o (member_of s)) at) (ap (option_map (delivery l)) at) by
 
-pub steps_started : (r : RouterId) (dd : ℕ) (floor : ℤ) (s after : SlotValue) (logs : LogsValue) (result : Result (Unit {0}) WorldFault) → StartsSlot logs.issued floor s result after → SlotSteps (Start r dd floor) s logs result after logs
+pub steps_started : (r : RouterId) (dd : ℕ) (floor : ℤ) (s after : SlotValue) (logs : LogsValue) (result : Result (Unit {0}) WorldFault) → StartsSlot logs.issued dd floor s result after → SlotSteps (Start r dd floor) s logs result after logs
 steps_started r dd floor s after logs result (StartsSlot.IsRunning x runs is same) = SlotSteps.Refused fault.Running (ap (unless_running floor) runs) is same refl
 steps_started r dd floor s after logs result (StartsSlot.AtFloor none at is same) = SlotSteps.Refused fault.Floor (ap (unless_running floor) none ∙ ap (λ (z : ℤ). cond (int_eq z max_sequence_number) (Some fault.Floor) None) at) is same refl
 steps_started r dd floor s after logs result (StartsSlot.NotDone none above is same) = SlotSteps.Taken (ap (unless_running floor) none ∙ ap (λ (b : Bool). cond b (Some fault.Floor) None) above) (SlotTakes.NotDone is same refl)

@@ -82,14 +82,18 @@ started_now config dd floor links are log first is = record {
 }
 
 -- a router that starts begins a run
-pub begins : (config : Config) (dd : ℕ) (floor : ℤ) (issued : ℕ) (r : RouterValue) → router.IsStarted config dd floor r → Begins config issued floor (record { router = r; first = record { name = issued; base = floor }; later = [] })
+pub begins : (config : Config) (dd : ℕ) (floor : ℤ) (issued : ℕ) (r : RouterValue) → router.IsStarted config dd floor r → Begins config dd issued floor (record { router = r; first = record { name = issued; base = floor }; later = [] })
 begins config dd floor issued r s = record {
   area = s.area;
   runs = s.runs;
-  started = λ log is.
-      subst (λ (a : AreaValue). IsStarted log config.router_id floor (record { state = a; table = r.table; first = first; later = [] })) (sym s.is.rest)
-      (subst (λ t. IsStarted log config.router_id floor (record { state = router.area_of config dd floor s.area.links; table = t; first = first; later = [] })) (sym s.table)
-      (started_now config dd floor s.area.links s.is.links log first (ap (λ n. record { name = n; base = floor }) (sym is))));
+  started = λ log is. record {
+    area = s.is;
+    table = s.table;
+    begins =
+        subst (λ (a : AreaValue). IsStarted log config.router_id floor (record { state = a; table = r.table; first = first; later = [] })) (sym s.is.rest)
+        (subst (λ t. IsStarted log config.router_id floor (record { state = router.area_of config dd floor s.area.links; table = t; first = first; later = [] })) (sym s.table)
+        (started_now config dd floor s.area.links s.is.links log first (ap (λ n. record { name = n; base = floor }) (sym is))));
+  };
 }
   where
     first : Run

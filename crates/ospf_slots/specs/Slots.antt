@@ -6,18 +6,19 @@ use Rattle.ospf_base.specs.declared.ids.RouterId.{RouterId}
 use Rattle.ospf_config.specs.declared.config.Config.{Config}
 use Rattle.ospf_flood.specs.Rules.{max_sequence_number}
 use Rattle.ospf_headline.specs.World as world
-use Rattle.ospf_headline.specs.World.{HasItsTable, IsStarted, Member, Running, RunsGoOn}
+use Rattle.ospf_headline.specs.World.{HasItsTable, Member, Running, RunsGoOn}
 use Rattle.ospf_headline.specs.declared.logs.Datagram.{Datagram}
 use Rattle.ospf_headline.specs.declared.logs.Issued.{Issued}
 use Rattle.ospf_headline.specs.declared.event.WorldEvent.{WorldEvent}
 use Rattle.ospf_headline.specs.declared.event.WorldFault.{WorldFault}
 use Rattle.ospf_headline.specs.declared.event.WorldEvent.TheVariants.{Start, Stop, Tick, LinkUp, LinkDown, Deliver}
 use Rattle.ospf_headline.specs.declared.event.WorldFault.TheVariants as fault
-use Rattle.ospf_laws.specs.Step.{Event, StepLaws}
+use Rattle.ospf_laws.specs.Step.{Event}
+use Rattle.ospf_receipt.specs.declared.dropped.Dropped.{Dropped}
 use Rattle.ospf_router.specs.Routers.{RouterValue}
-use Rattle.ospf_router.specs.Steps.{is_dropped}
+use Rattle.ospf_router.specs.Steps.{IsLawful}
 use Rattle.ospf_slots.specs.Logs.{LogsTake, LogsValue}
-use Rattle.ospf_slots.specs.Running.{Lives, RunningValue, delivery, running_of}
+use Rattle.ospf_slots.specs.Running.{Lives, RunningValue, StartsAs, delivery, running_of}
 
 -- how a router is configured, and how it runs, if it does
 pub record SlotValue : Type 0 where
@@ -75,14 +76,16 @@ fed_by sent (LinkUp r l) = Some (Event.LinkUp l)
 fed_by sent (LinkDown r l) = Some (Event.LinkDown l)
 fed_by sent (Deliver d r l) = option_map (delivery l) (slice_get sent d)
 
--- the slot's router goes on, and the logs grow by exactly its outputs
+-- the slot's router takes the exact step of the event, dropped for this cause if it is dropped, and the logs grow by exactly its
+-- outputs
 pub record GoesOn (e : Event) (before : SlotValue) (logs : LogsValue) (after : SlotValue) (logs' : LogsValue) : Type 0 where
   pub x : Running
   pub x' : Running
   pub out : OutputsValue
   pub was : before.running ≡ Some x
   pub is : after ≡ with_running before (Some x')
-  pub laws : StepLaws is_dropped e x.state out x'.state
+  pub dropped : Option Dropped
+  pub lawful : IsLawful e x.state dropped out x'.state
   pub table : HasItsTable x'
   pub takes : LogsTake logs logs' before.config.router_id x.first x.later out
   pub runs : RunsGoOn logs'.issued out.ended x x'
@@ -104,12 +107,12 @@ pub data DeliversOn (l : ℕ) (sent : Option Datagram) (before : SlotValue) (log
   NoDatagram : nat_lt l (vec_len before.config.interfaces) ≡ true → sent ≡ None → result ≡ Err fault.NoDatagram → after ≡ before → logs' ≡ logs → DeliversOn l sent before logs result after logs'
   Delivers : nat_lt l (vec_len before.config.interfaces) ≡ true → (g : Datagram) → sent ≡ Some g → Feeds (delivery l g) before logs result after logs' → DeliversOn l sent before logs result after logs'
 
--- its router is to start above the floor
-pub data StartsSlot (issued : List Issued) (floor : ℤ) (before : SlotValue) (result : Result (Unit {0}) WorldFault) (after : SlotValue) : Type 0 where
-  IsRunning : (x : Running) → before.running ≡ Some x → result ≡ Err fault.Running → after ≡ before → StartsSlot issued floor before result after
-  AtFloor : before.running ≡ None → floor ≡ max_sequence_number → result ≡ Err fault.Floor → after ≡ before → StartsSlot issued floor before result after
-  NotDone : before.running ≡ None → int_eq floor max_sequence_number ≡ false → result ≡ Err (fault.Memory false) → after ≡ before → StartsSlot issued floor before result after
-  Begins : before.running ≡ None → int_eq floor max_sequence_number ≡ false → (x : Running) → result ≡ Ok tt → after ≡ with_running before (Some x) → IsStarted issued before.config.router_id floor x → StartsSlot issued floor before result after
+-- its router is to start above the floor, as its configuration and this number say
+pub data StartsSlot (issued : List Issued) (dd_start : ℕ) (floor : ℤ) (before : SlotValue) (result : Result (Unit {0}) WorldFault) (after : SlotValue) : Type 0 where
+  IsRunning : (x : Running) → before.running ≡ Some x → result ≡ Err fault.Running → after ≡ before → StartsSlot issued dd_start floor before result after
+  AtFloor : before.running ≡ None → floor ≡ max_sequence_number → result ≡ Err fault.Floor → after ≡ before → StartsSlot issued dd_start floor before result after
+  NotDone : before.running ≡ None → int_eq floor max_sequence_number ≡ false → result ≡ Err (fault.Memory false) → after ≡ before → StartsSlot issued dd_start floor before result after
+  Begins : before.running ≡ None → int_eq floor max_sequence_number ≡ false → (x : Running) → result ≡ Ok tt → after ≡ with_running before (Some x) → StartsAs before.config dd_start floor issued x → StartsSlot issued dd_start floor before result after
 
 -- its router is to stop
 pub data StopsSlot (before : SlotValue) (result : Result (Unit {0}) WorldFault) (after : SlotValue) : Type 0 where
@@ -117,11 +120,11 @@ pub data StopsSlot (before : SlotValue) (result : Result (Unit {0}) WorldFault) 
   Ends : (x : Running) → before.running ≡ Some x → result ≡ Ok tt → after ≡ with_running before None → StopsSlot before result after
 
 -- what an event that is not refused comes to: memory is wanting, before anything is done or so that the router stops; or
--- the router starts, stops, or takes a step
+-- the router starts exactly as it is configured, stops, or takes the exact step of what the event feeds it
 pub data SlotTakes (event : WorldEvent) (before : SlotValue) (logs : LogsValue) (result : Result (Unit {0}) WorldFault) (after : SlotValue) (logs' : LogsValue) : Type 0 where
   NotDone : result ≡ Err (fault.Memory false) → after ≡ before → logs' ≡ logs → SlotTakes event before logs result after logs'
   MemoryStops : (e : Event) → fed_by logs.datagrams event ≡ Some e → result ≡ Err (fault.Memory true) → after ≡ with_running before None → logs' ≡ logs → SlotTakes event before logs result after logs'
-  Starts : (r : RouterId) (dd : ℕ) (floor : ℤ) (x : Running) → event ≡ Start r dd floor → result ≡ Ok tt → before.running ≡ None → after ≡ with_running before (Some x) → IsStarted logs.issued before.config.router_id floor x → logs' ≡ logs → SlotTakes event before logs result after logs'
+  Starts : (r : RouterId) (dd_start : ℕ) (floor : ℤ) (x : Running) → event ≡ Start r dd_start floor → result ≡ Ok tt → before.running ≡ None → after ≡ with_running before (Some x) → StartsAs before.config dd_start floor logs.issued x → logs' ≡ logs → SlotTakes event before logs result after logs'
   Stops : (r : RouterId) → event ≡ Stop r → result ≡ Ok tt → after ≡ with_running before None → logs' ≡ logs → SlotTakes event before logs result after logs'
   Stepped : (e : Event) → fed_by logs.datagrams event ≡ Some e → result ≡ Ok tt → GoesOn e before logs after logs' → SlotTakes event before logs result after logs'
 

@@ -42,7 +42,7 @@ impl RunningRouter {
         floor: &i32,
         alloc: Global,
     ) -> Result<RunningRouter, StartFault>
-        ensures begins { IfOk result (λ x. Begins config.now issued floor.now x) }
+        ensures begins { IfOk result (λ x. Begins config.now dd_start issued floor.now x) }
         ensures above { OnOk result (floor.now ≢ max_sequence_number) }
         ensures refused { IfErr result (λ f. (f ≡ fault.Floor) ↔ (floor.now ≡ max_sequence_number)) }
     {

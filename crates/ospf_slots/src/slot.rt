@@ -155,7 +155,7 @@ impl Slot {
         logs: &Logs,
         alloc: Global,
     ) -> Result<(), WorldFault>
-        ensures { StartsSlot logs.now.issued floor.now self.old result self.new }
+        ensures { StartsSlot logs.now.issued dd_start floor.now self.old result self.new }
     {
         if self.runs() {
             return Err(WorldFault::Running);

@@ -1,13 +1,13 @@
 -- What an event comes to at a slot, it comes to in the world.
-use Rattle.std.proofs.Common.{Bool, ◌≡◌, ◌++◌, ℕ, List, [], ◌∷◌, Option, None, Some, map, find, refl, sym, ap, subst, ◌∙◌, slice_get, set, slice_set, option_and_then, option_map, length, Result, Ok, Err, eqb-true, ◌⊎◌, inl, inr, ◌<◌, ◌≤◌, get_or, arith}
+use Rattle.std.proofs.Common.{◌≡◌, ◌++◌, ℕ, List, [], ◌∷◌, Option, None, Some, map, find, refl, sym, ap, subst, ◌∙◌, slice_get, set, slice_set, option_and_then, option_map, length, Result, Ok, Err, eqb-true, ◌⊎◌, inl, inr, ◌<◌, ◌≤◌, get_or, arith}
+use Rattle.std.proofs.lemmas.List.{append-nil}
 use Rattle.std.proofs.lemmas.Option.{slice_get_cases}
 use Rattle.ospf_base.specs.declared.ids.RouterId.{RouterId}
 use Rattle.ospf_lsa.specs.Lsa.{key_of}
 use Rattle.ospf_area.specs.Outputs.{OutputsValue}
-use Rattle.ospf_area.specs.State.{AreaValue}
 use Rattle.ospf_laws.specs.Step.{Event}
 use Rattle.ospf_headline.specs.Headline.{IsReached}
-use Rattle.ospf_headline.specs.World.{Becomes, Comes, LogsGrow, Member, Running, SameLogs, World, member, of_member, refusal, router_at, stepped_by, IsStarted}
+use Rattle.ospf_headline.specs.World.{Becomes, Comes, LogsGrow, Running, SameLogs, World, member, of_member, refusal, router_at, stepped_by, IsStarted}
 use Rattle.ospf_headline.specs.declared.event.WorldEvent.{WorldEvent}
 use Rattle.ospf_headline.specs.declared.event.WorldEvent.TheVariants.{Start, Stop, Tick, LinkUp, LinkDown, Deliver}
 use Rattle.ospf_headline.specs.declared.event.WorldFault.{WorldFault}
@@ -20,7 +20,10 @@ use Rattle.ospf_slots.specs.Logs.{LogsTake, LogsValue}
 use Rattle.ospf_slots.specs.Running.{delivery}
 use Rattle.ospf_slots.specs.Slots.{GoesOn, SlotSteps, SlotTakes, SlotValue, fed_by, member_of, refused_by, router_in, with_running}
 use Rattle.ospf_router.specs.Steps.{is_dropped}
-use Rattle.ospf_world.specs.Worlds.{SameSettings, WorldValue, config_of, is_slot_of, place_of, world_of}
+use Rattle.ospf_world.specs.Does.{Does}
+use Rattle.ospf_world.specs.Ticks.{ticked_by}
+use Rattle.ospf_world.specs.declared.ticks.Ticked.{Ticked}
+use Rattle.ospf_world.specs.Worlds.{SameSettings, WorldValue, config_of, configs_of, is_slot_of, place_of, world_of}
 use Rattle.ospf_world.proofs.PlaceFacts.{IsAt, at_within, not_placed, place_set, placed, set_same, slot_at}
 use Rattle.ospf_world.proofs.WorldFacts.{becomes, configs_set, id_is, member-is, router_at-is}
 
@@ -97,7 +100,7 @@ comes event w w' k s s' result at get slots steps = by steps
     goes e none fed ok g = Comes.Stepped none ok (router_in event) e g.x g.x' g.out (steps_with (world_of w) event e fed) (record {
       was = was ∙ g.was;
       changes = now (Some g.x') g.is;
-      laws = g.laws;
+      laws = g.lawful.laws;
       table = g.table;
       logs = grow w w' (router_in event) g.x g.out (subst (λ r. LogsTake w.logs w'.logs r g.x.first g.x.later g.out) id g.takes);
       runs = g.runs;
@@ -107,34 +110,68 @@ comes event w w' k s s' result at get slots steps = by steps
     by (SlotSteps.Refused f why is after same) = Comes.Refused f (refused ∙ why) is (unchanged after same)
     by (SlotSteps.Taken none (SlotTakes.NotDone err after same)) = Comes.NotDone (refused ∙ none) err (unchanged after same)
     by (SlotSteps.Taken none (SlotTakes.MemoryStops e fed err after same)) = Comes.MemoryStops (refused ∙ none) err (router_in event) e (steps_with (world_of w) event e fed) (now None after) (same_logs w w' same)
-    by (SlotSteps.Taken none (SlotTakes.Starts r dd floor x is ok stopped after started same)) = Comes.Starts (refused ∙ none) ok r dd floor x is (subst (λ r. router_at (world_of w) r ≡ None) (ap router_in is) (was ∙ stopped)) (subst (λ r. Becomes (world_of w) (world_of w') r (Some x)) (ap router_in is) (now (Some x) after)) (subst (λ r. IsStarted w.logs.issued r floor x) (id ∙ ap router_in is) started) (same_logs w w' same)
+    by (SlotSteps.Taken none (SlotTakes.Starts r dd floor x is ok stopped after starts same)) = Comes.Starts (refused ∙ none) ok r dd floor x is (subst (λ r. router_at (world_of w) r ≡ None) (ap router_in is) (was ∙ stopped)) (subst (λ r. Becomes (world_of w) (world_of w') r (Some x)) (ap router_in is) (now (Some x) after)) (subst (λ r. IsStarted w.logs.issued r floor x) (id ∙ ap router_in is) starts.begins) (same_logs w w' same)
     by (SlotSteps.Taken none (SlotTakes.Stops r is ok after same)) = Comes.Stops (refused ∙ none) ok r is (subst (λ r. Becomes (world_of w) (world_of w') r None) (ap router_in is) (now None after)) (same_logs w w' same)
     by (SlotSteps.Taken none (SlotTakes.Stepped e fed ok g)) = goes e (refused ∙ none) fed ok g
 
--- an event at a router that the world has
-pub steps_in : (event : WorldEvent) (w w' : WorldValue) (k : ℕ) (result : Result (Unit {0}) WorldFault) → place_of w.slots (router_in event).0 ≡ Some k → w'.offered ≡ w.offered →
+-- what an event does at a router that the world has, and where the routers stand then
+pub steps_in : (event : WorldEvent) (w w' : WorldValue) (k : ℕ) (result : Result (Unit {0}) WorldFault) → place_of w.slots (router_in event).0 ≡ Some k → w'.offered ≡ w.offered → w'.ticks ≡ w.ticks ++ ticked_by event result (length w.logs.datagrams) →
     ((before : SlotValue) → slice_get w.slots k ≡ Some before → (after : SlotValue) × (w'.slots ≡ slice_set w.slots k after) × SlotSteps event before w.logs result after w'.logs) →
-    Comes is_dropped event (world_of w) result (world_of w') × SameSettings w w' × ((r : ℕ) → place_of w'.slots r ≡ place_of w.slots r)
-steps_in event w w' k result placed_at offered steps = by (slice_get_cases w.slots k).1
+    Does event w result w' × ((r : ℕ) → place_of w'.slots r ≡ place_of w.slots r)
+steps_in event w w' k result placed_at offered ticks steps = by (slice_get_cases w.slots k).1
   where
-    at : IsAt w.slots (router_in event).0 k
-    at = placed w.slots (router_in event).0 k placed_at
-
     within : k < length w.slots
-    within = at_within w.slots (router_in event).0 k at
+    within = at_within w.slots (router_in event).0 k (placed w.slots (router_in event).0 k placed_at)
 
-    with_slot : (s : SlotValue) → slice_get w.slots k ≡ Some s → ((s' : SlotValue) × (w'.slots ≡ slice_set w.slots k s') × SlotSteps event s w.logs result s' w'.logs) → Comes is_dropped event (world_of w) result (world_of w') × SameSettings w w' × ((r : ℕ) → place_of w'.slots r ≡ place_of w.slots r)
+    with_slot : (s : SlotValue) → slice_get w.slots k ≡ Some s → ((s' : SlotValue) × (w'.slots ≡ slice_set w.slots k s') × SlotSteps event s w.logs result s' w'.logs) → Does event w result w' × ((r : ℕ) → place_of w'.slots r ≡ place_of w.slots r)
     with_slot s get (s', slots, step) =
         let kept = config_kept event s s' w.logs w'.logs result step in
-        (comes event w w' k s s' result at get slots step, record { configs = ap (map config_of) slots ∙ configs_set w.slots k s s' get kept; offered = offered }, λ r. ap (λ slots. place_of slots r) slots ∙ place_set w.slots k s s' get kept r 0)
+        (Does.AtRouter s s' (record { place = k; stands = placed_at; was = get; is = slots }) step ticks offered, λ r. ap (λ slots. place_of slots r) slots ∙ place_set w.slots k s s' get kept r 0)
 
-    by : ((s : SlotValue) × (k < length w.slots) × (slice_get w.slots k ≡ Some s) × (get_or w.slots k s ≡ s)) ⊎ ((length w.slots ≤ k) × (slice_get w.slots k ≡ None)) → Comes is_dropped event (world_of w) result (world_of w') × SameSettings w w' × ((r : ℕ) → place_of w'.slots r ≡ place_of w.slots r)
+    by : ((s : SlotValue) × (k < length w.slots) × (slice_get w.slots k ≡ Some s) × (get_or w.slots k s ≡ s)) ⊎ ((length w.slots ≤ k) × (slice_get w.slots k ≡ None)) → Does event w result w' × ((r : ℕ) → place_of w'.slots r ≡ place_of w.slots r)
     by (inl (s, lt, get, _)) = with_slot s get (steps s get)
     by (inr (le, _)) = let lt = within in absurd (omega (arith, lt, le))
 
--- and at one that it does not have
-pub no_router : (event : WorldEvent) (w : WorldValue) → place_of w.slots (router_in event).0 ≡ None → Comes is_dropped event (world_of w) (Err fault.NoRouter) (world_of w)
+-- at one that it does not have
+no_router : (event : WorldEvent) (w : WorldValue) → place_of w.slots (router_in event).0 ≡ None → Comes is_dropped event (world_of w) (Err fault.NoRouter) (world_of w)
 no_router event w none = Comes.Refused fault.NoRouter (refusal-is (world_of w) event ∙ ap (of_member (refused_by w.logs.datagrams event)) (member-is w (router_in event) ∙ ap (option_map member_of) (not_placed w.slots (router_in event).0 0 none))) refl refl
+
+-- ---- what follows from what an event does
+
+-- what it comes to, as the laws of worlds have it
+pub does_comes : (event : WorldEvent) (w w' : WorldValue) (result : Result (Unit {0}) WorldFault) → Does event w result w' → Comes is_dropped event (world_of w) result (world_of w')
+does_comes event w w' result (Does.NoRouter none is same) =
+    subst (λ (v : WorldValue). Comes is_dropped event (world_of w) result (world_of v)) (sym same)
+    (subst (λ (r : Result (Unit {0}) WorldFault). Comes is_dropped event (world_of w) r (world_of w)) (sym is) (no_router event w none))
+does_comes event w w' result (Does.AtRouter s s' changes steps ticks offered) =
+    comes event w w' changes.place s s' result (placed w.slots (router_in event).0 changes.place changes.stands) changes.was changes.is steps
+
+pub does_same : (event : WorldEvent) (w w' : WorldValue) (result : Result (Unit {0}) WorldFault) → Does event w result w' → SameSettings w w'
+does_same event w w' result (Does.NoRouter none is same) = record { configs = ap configs_of same; offered = ap (λ (v : WorldValue). v.offered) same }
+does_same event w w' result (Does.AtRouter s s' changes steps ticks offered) = record {
+  configs = ap (map config_of) changes.is ∙ configs_set w.slots changes.place s s' changes.was (config_kept event s s' w.logs w'.logs result steps);
+  offered = offered;
+}
+
+none_ticked : (event : WorldEvent) (f : WorldFault) (sent : ℕ) → ticked_by event (Err f) sent ≡ []
+none_ticked (Start r dd floor) f sent = refl
+none_ticked (Stop r) f sent = refl
+none_ticked (Tick r) f sent = refl
+none_ticked (LinkUp r l) f sent = refl
+none_ticked (LinkDown r l) f sent = refl
+none_ticked (Deliver d r l) f sent = refl
+
+-- what is refused logs nothing
+pub none_more : (event : WorldEvent) (f : WorldFault) (sent : ℕ) (ticks : List Ticked) → ticks ≡ ticks ++ ticked_by event (Err f) sent
+none_more event f sent ticks = sym (ap (λ (ts : List Ticked). ticks ++ ts) (none_ticked event f sent) ∙ append-nil ticks)
+
+pub does_tick : (event : WorldEvent) (w w' : WorldValue) (result : Result (Unit {0}) WorldFault) → Does event w result w' → w'.ticks ≡ w.ticks ++ ticked_by event result (length w.logs.datagrams)
+does_tick event w w' result (Does.NoRouter none is same) =
+    ap (λ (v : WorldValue). v.ticks) same ∙ none_more event fault.NoRouter (length w.logs.datagrams) w.ticks
+    ∙ ap (λ (r : Result (Unit {0}) WorldFault). w.ticks ++ ticked_by event r (length w.logs.datagrams)) (sym is)
+does_tick event w w' result (Does.AtRouter s s' changes steps ticks offered) = ticks
+
+-- ---- what is reached
 
 -- a world that was reached goes on to one that was reached
 pub reaches : (event : WorldEvent) (w w' : World) (result : Result (Unit {0}) WorldFault) → Comes is_dropped event w result w' → IsReached is_dropped w → IsReached is_dropped w'

@@ -10,13 +10,15 @@ use Rattle.ospf_headline.specs.declared.logs.Datagram.{Datagram}
 use Rattle.ospf_headline.specs.Runs.{is_memory}
 use Rattle.ospf_headline.proofs.RunFacts.{Runs-append}
 use Rattle.ospf_headline.specs.Headline.{IsReached}
-use Rattle.ospf_headline.specs.World.{Comes, Member, Runs, World}
+use Rattle.ospf_headline.specs.World.{Member, Runs, World}
 use Rattle.ospf_headline.specs.declared.event.WorldEvent.{WorldEvent}
 use Rattle.ospf_headline.specs.declared.event.WorldFault.{WorldFault}
 use Rattle.ospf_slots.specs.Slots.{SlotValue, member_of}
 use Rattle.ospf_router.specs.Steps.{is_dropped}
+use Rattle.ospf_world.specs.Does.{Does}
 use Rattle.ospf_world.specs.Random.{GoesOn, IsRandom, Meets}
 use Rattle.ospf_world.specs.Worlds.{SameSettings, WorldValue, world_of}
+use Rattle.ospf_world.proofs.ComesFacts.{does_comes}
 use Rattle.ospf_world.proofs.ListFacts.{none_left, one_left}
 use Rattle.rand_pcg.specs.Lcg.{Lcg}
 
@@ -58,42 +60,42 @@ drawn_here words w slots place s config links runs datagrams slots_are chosen wi
 
 -- ---- what is met
 
-pub meets_taken : (o : Option WorldEvent) (e : WorldEvent) (answer : Result (Unit {0}) WorldFault) (w w' : World) → o ≡ Some e → Comes is_dropped e w answer w' → answer ≡ Ok tt → Meets o w (Ok tt) w'
-meets_taken o e answer w w' is comes ok = Meets.Takes e is (subst (λ (r : Result (Unit {0}) WorldFault). Comes is_dropped e w r w') ok comes) refl
+pub meets_taken : (o : Option WorldEvent) (e : WorldEvent) (answer : Result (Unit {0}) WorldFault) (w w' : WorldValue) → o ≡ Some e → Does e w answer w' → answer ≡ Ok tt → Meets o w (Ok tt) w'
+meets_taken o e answer w w' is does ok = Meets.Takes e is (subst (λ (r : Result (Unit {0}) WorldFault). Does e w r w') ok does) refl
 
-pub meets_passed : (o : Option WorldEvent) (e : WorldEvent) (answer : Result (Unit {0}) WorldFault) (f : WorldFault) (w w' : World) → o ≡ Some e → Comes is_dropped e w answer w' → answer ≡ Err f → is_memory f ≡ false → Meets o w (Ok tt) w'
-meets_passed o e answer f w w' is comes err none = Meets.Passes e f is (subst (λ (r : Result (Unit {0}) WorldFault). Comes is_dropped e w r w') err comes) none refl
+pub meets_passed : (o : Option WorldEvent) (e : WorldEvent) (answer : Result (Unit {0}) WorldFault) (f : WorldFault) (w w' : WorldValue) → o ≡ Some e → Does e w answer w' → answer ≡ Err f → is_memory f ≡ false → Meets o w (Ok tt) w'
+meets_passed o e answer f w w' is does err none = Meets.Passes e f is (subst (λ (r : Result (Unit {0}) WorldFault). Does e w r w') err does) none refl
 
-pub meets_ended : (o : Option WorldEvent) (e : WorldEvent) (answer : Result (Unit {0}) WorldFault) (f : WorldFault) (w w' : World) → o ≡ Some e → Comes is_dropped e w answer w' → answer ≡ Err f → is_memory f ≡ true → Meets o w (Err f) w'
-meets_ended o e answer f w w' is comes err memory = Meets.Ends e f is (subst (λ (r : Result (Unit {0}) WorldFault). Comes is_dropped e w r w') err comes) memory refl
+pub meets_ended : (o : Option WorldEvent) (e : WorldEvent) (answer : Result (Unit {0}) WorldFault) (f : WorldFault) (w w' : WorldValue) → o ≡ Some e → Does e w answer w' → answer ≡ Err f → is_memory f ≡ true → Meets o w (Err f) w'
+meets_ended o e answer f w w' is does err memory = Meets.Ends e f is (subst (λ (r : Result (Unit {0}) WorldFault). Does e w r w') err does) memory refl
 
 -- ---- one event after another
 
 -- the rest of the events is what is still to come
-abbrev pub Comes_to : ℕ → Lcg → World → ℕ → Lcg → World → Type 0
-Comes_to count g before left g' now = (result : Result (Unit {0}) WorldFault) (after : World) → IsRandom left g' now result after → IsRandom count g before result after
+abbrev pub Comes_to : ℕ → Lcg → WorldValue → ℕ → Lcg → WorldValue → Type 0
+Comes_to count g before left g' now = (result : Result (Unit {0}) WorldFault) (after : WorldValue) → IsRandom left g' now result after → IsRandom count g before result after
 
-pub random_more : (count i : ℕ) (g g' g'' : Lcg) (words : Words) (o : Option WorldEvent) (answer : Result (Unit {0}) WorldFault) (before now next : World) → i < count → (words, g'') ≡ words_from g' → o ≡ drawn words now →
+pub random_more : (count i : ℕ) (g g' g'' : Lcg) (words : Words) (o : Option WorldEvent) (answer : Result (Unit {0}) WorldFault) (before now next : WorldValue) → i < count → (words, g'') ≡ words_from g' → o ≡ drawn words (world_of now) →
     Meets o now answer next → answer ≡ Ok tt → Comes_to count g before (count - i) g' now → Comes_to count g before (count - (i + 1)) g'' next
 random_more count i g g' g'' words o answer before now next within draws is meets ok comes = λ result after rest.
     let words_are : words ≡ (words_from g').0 = ap (λ (p : Words × Lcg). p.0) draws in
     let next_is : g'' ≡ (words_from g').1 = ap (λ (p : Words × Lcg). p.1) draws in
-    let event : o ≡ drawn (words_from g').0 now = is ∙ ap (λ (ws : Words). drawn ws now) words_are in
-    let part : Meets (drawn (words_from g').0 now) now (Ok tt) next = subst (λ (x : Option WorldEvent). Meets x now (Ok tt) next) event (subst (λ (r : Result (Unit {0}) WorldFault). Meets o now r next) ok meets) in
+    let event : o ≡ drawn (words_from g').0 (world_of now) = is ∙ ap (λ (ws : Words). drawn ws (world_of now)) words_are in
+    let part : Meets (drawn (words_from g').0 (world_of now)) now (Ok tt) next = subst (λ (x : Option WorldEvent). Meets x now (Ok tt) next) event (subst (λ (r : Result (Unit {0}) WorldFault). Meets o now r next) ok meets) in
     let more : IsRandom (count - (i + 1)) (words_from g').1 next result after = subst (λ (h : Lcg). IsRandom (count - (i + 1)) h next result after) next_is rest in
     let all : IsRandom (suc (count - (i + 1))) g' now result after = GoesOn.Further next part more in
     comes result after (subst (λ (n : ℕ). IsRandom n g' now result after) (sym (one_left count i within)) all)
 
-pub random_ends : (count i : ℕ) (g g' g'' : Lcg) (words : Words) (o : Option WorldEvent) (answer : Result (Unit {0}) WorldFault) (before now next : World) (f : WorldFault) → i < count → (words, g'') ≡ words_from g' → o ≡ drawn words now →
+pub random_ends : (count i : ℕ) (g g' g'' : Lcg) (words : Words) (o : Option WorldEvent) (answer : Result (Unit {0}) WorldFault) (before now next : WorldValue) (f : WorldFault) → i < count → (words, g'') ≡ words_from g' → o ≡ drawn words (world_of now) →
     Meets o now answer next → answer ≡ Err f → Comes_to count g before (count - i) g' now → IsRandom count g before (Err f) next
 random_ends count i g g' g'' words o answer before now next f within draws is meets err comes =
     let words_are : words ≡ (words_from g').0 = ap (λ (p : Words × Lcg). p.0) draws in
-    let event : o ≡ drawn (words_from g').0 now = is ∙ ap (λ (ws : Words). drawn ws now) words_are in
-    let part : Meets (drawn (words_from g').0 now) now (Err f) next = subst (λ (x : Option WorldEvent). Meets x now (Err f) next) event (subst (λ (r : Result (Unit {0}) WorldFault). Meets o now r next) err meets) in
+    let event : o ≡ drawn (words_from g').0 (world_of now) = is ∙ ap (λ (ws : Words). drawn ws (world_of now)) words_are in
+    let part : Meets (drawn (words_from g').0 (world_of now)) now (Err f) next = subst (λ (x : Option WorldEvent). Meets x now (Err f) next) event (subst (λ (r : Result (Unit {0}) WorldFault). Meets o now r next) err meets) in
     let all : IsRandom (suc (count - (i + 1))) g' now (Err f) next = GoesOn.Ended f part refl in
     comes (Err f) next (subst (λ (n : ℕ). IsRandom n g' now (Err f) next) (sym (one_left count i within)) all)
 
-pub random_done : (count i : ℕ) (g g' : Lcg) (before now : World) → count ≤ i → Comes_to count g before (count - i) g' now → IsRandom count g before (Ok tt) now
+pub random_done : (count i : ℕ) (g g' : Lcg) (before now : WorldValue) → count ≤ i → Comes_to count g before (count - i) g' now → IsRandom count g before (Ok tt) now
 random_done count i g g' before now all comes =
     let rest : IsRandom zero g' now (Ok tt) now = (refl, refl) in
     comes (Ok tt) now (subst (λ (n : ℕ). IsRandom n g' now (Ok tt) now) (sym (none_left count i all)) rest)
@@ -124,20 +126,20 @@ leads_nowhere w w' same = ([], same)
 pub leads_further : (u v w : World) → LeadsOn u v → LeadsOn v w → LeadsOn u w
 leads_further u v w a b = (a.0 ++ b.0, Runs-append is_dropped a.0 b.0 u v w a.1 b.1)
 
-leads_once : (e : WorldEvent) (result : Result (Unit {0}) WorldFault) (w w' : World) → Comes is_dropped e w result w' → LeadsOn w w'
-leads_once e result w w' comes = (e ∷ [], (w', (result, comes), refl))
+leads_once : (e : WorldEvent) (result : Result (Unit {0}) WorldFault) (w w' : WorldValue) → Does e w result w' → LeadsOn (world_of w) (world_of w')
+leads_once e result w w' does = (e ∷ [], (world_of w', (result, does_comes e w w' result does), refl))
 
-meets_leads : (o : Option WorldEvent) (w w' : World) (answer : Result (Unit {0}) WorldFault) → Meets o w answer w' → LeadsOn w w'
-meets_leads o w w' answer (Meets.Nothing none ok same) = leads_nowhere w w' same
-meets_leads o w w' answer (Meets.Takes e is comes ok) = leads_once e (Ok tt) w w' comes
-meets_leads o w w' answer (Meets.Passes e f is comes none ok) = leads_once e (Err f) w w' comes
-meets_leads o w w' answer (Meets.Ends e f is comes memory err) = leads_once e (Err f) w w' comes
+meets_leads : (o : Option WorldEvent) (w w' : WorldValue) (answer : Result (Unit {0}) WorldFault) → Meets o w answer w' → LeadsOn (world_of w) (world_of w')
+meets_leads o w w' answer (Meets.Nothing none ok same) = leads_nowhere (world_of w) (world_of w') (ap world_of same)
+meets_leads o w w' answer (Meets.Takes e is does ok) = leads_once e (Ok tt) w w' does
+meets_leads o w w' answer (Meets.Passes e f is does none ok) = leads_once e (Err f) w w' does
+meets_leads o w w' answer (Meets.Ends e f is does memory err) = leads_once e (Err f) w w' does
 
-pub random_leads : (count : ℕ) (g : Lcg) (w w' : World) (result : Result (Unit {0}) WorldFault) → IsRandom count g w result w' → LeadsOn w w'
-random_leads zero g w w' result same = leads_nowhere w w' same.0
+pub random_leads : (count : ℕ) (g : Lcg) (w w' : WorldValue) (result : Result (Unit {0}) WorldFault) → IsRandom count g w result w' → LeadsOn (world_of w) (world_of w')
+random_leads zero g w w' result same = leads_nowhere (world_of w) (world_of w') (ap world_of same.0)
 random_leads (suc count) g w w' result (GoesOn.Further mid part rest) =
-    leads_further w mid w' (meets_leads (drawn (words_from g).0 w) w mid (Ok tt) part) (random_leads count (words_from g).1 mid w' result rest)
-random_leads (suc count) g w w' result (GoesOn.Ended f part is) = meets_leads (drawn (words_from g).0 w) w w' (Err f) part
+    leads_further (world_of w) (world_of mid) (world_of w') (meets_leads (drawn (words_from g).0 (world_of w)) w mid (Ok tt) part) (random_leads count (words_from g).1 mid w' result rest)
+random_leads (suc count) g w w' result (GoesOn.Ended f part is) = meets_leads (drawn (words_from g).0 (world_of w)) w w' (Err f) part
 
 -- a world that was reached leads to worlds that are
 pub reached_on : (w w' : World) → IsReached is_dropped w → LeadsOn w w' → IsReached is_dropped w'

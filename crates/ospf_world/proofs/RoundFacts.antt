@@ -3,16 +3,17 @@ use Rattle.std.proofs.Common.{◌≡◌, ◌<◌, ◌≤◌, ◌+◌, ◌-◌, �
 use Rattle.std.proofs.lemmas.Option.{slice_get-get_or}
 use Rattle.ospf_headline.proofs.RunLemmas.{run_happens}
 use Rattle.ospf_headline.specs.Runs.{IsRun}
-use Rattle.ospf_headline.specs.World.{World}
 use Rattle.ospf_headline.specs.declared.event.WorldEvent.{WorldEvent}
 use Rattle.ospf_headline.specs.declared.event.WorldFault.{WorldFault}
 use Rattle.ospf_headline.specs.declared.logs.Datagram.{Datagram}
 use Rattle.ospf_slots.specs.Slots.{SlotValue}
 use Rattle.ospf_router.specs.Steps.{is_dropped}
-use Rattle.ospf_world.specs.Rounds.{AreNextOffers, AreOffered, IsBehind, IsRound, OffersMore, OffersNext, most_offers, offers_of, ticks}
-use Rattle.ospf_world.specs.Worlds.{SameSettings, WorldValue, configs_of, world_of}
+use Rattle.ospf_world.specs.Does.{Does}
+use Rattle.ospf_world.specs.Rounds.{AreNextOffers, AreOffered, IsRound, OffersMore, OffersNext, most_offers, offers_of, passed, ticks}
+use Rattle.ospf_world.specs.Worlds.{WorldValue, world_of}
 use Rattle.ospf_world.proofs.ListFacts.{none_left, one_left}
 use Rattle.ospf_world.proofs.RandomFacts.{LeadsOn, leads_further, leads_nowhere}
+use Rattle.ospf_world.proofs.RunFacts.{run_comes}
 
 abbrev pub ComesTo : ℕ → WorldValue → ℕ → WorldValue → Type 0
 ComesTo most before left now = (result : Result (Unit {0}) WorldFault) (after : WorldValue) → AreOffered left now result after → AreOffered most before result after
@@ -60,30 +61,23 @@ next_some w ds slots place g events log are at within is offers =
 
 -- ---- what comes of one datagram
 
--- one more counts as offered
-abbrev pub passed : WorldValue → WorldValue
-passed w = record { slots = w.slots; logs = w.logs; ticks = w.ticks; offered = w.offered + 1 }
-
-behind : (w v w' : WorldValue) → v ≡ passed w → SameSettings v w' → IsBehind w w'
-behind w v w' is same = record { configs = same.configs ∙ ap configs_of is; offered = same.offered ∙ ap (λ (x : WorldValue). x.offered) is }
-
-run_from : (w v w' : WorldValue) (events offers : List WorldEvent) (answer told : Result ℕ WorldFault) → v ≡ passed w → events ≡ offers → answer ≡ told → IsRun is_dropped events (world_of v) answer (world_of w') → IsRun is_dropped offers (world_of w) told (world_of w')
+run_from : (w v w' : WorldValue) (events offers : List WorldEvent) (answer told : Result ℕ WorldFault) → v ≡ passed w → events ≡ offers → answer ≡ told → IsRun Does events v answer w' → IsRun Does offers (passed w) told w'
 run_from w v w' events offers answer told is same said run =
-    subst (λ (r : Result ℕ WorldFault). IsRun is_dropped offers (world_of w) r (world_of w')) said
-    (subst (λ (es : List WorldEvent). IsRun is_dropped es (world_of w) answer (world_of w')) same
-    (subst (λ (x : WorldValue). IsRun is_dropped events (world_of x) answer (world_of w')) is run))
+    subst (λ (r : Result ℕ WorldFault). IsRun Does offers (passed w) r w') said
+    (subst (λ (es : List WorldEvent). IsRun Does es (passed w) answer w') same
+    (subst (λ (x : WorldValue). IsRun Does events x answer w') is run))
 
-pub next_taken : (w v w' : WorldValue) (events : List WorldEvent) (answer : Result ℕ WorldFault) (refused : ℕ) → AreNextOffers w (Some events) → v ≡ passed w → IsRun is_dropped events (world_of v) answer (world_of w') → SameSettings v w' → answer ≡ Ok refused → OffersNext w (Ok true) w'
-next_taken w v w' events answer refused (AreNextOffers.NoneNext at is) was run same said = cc
-next_taken w v w' events answer refused (AreNextOffers.Next g at is) was run same said =
+pub next_taken : (w v w' : WorldValue) (events : List WorldEvent) (answer : Result ℕ WorldFault) (refused : ℕ) → AreNextOffers w (Some events) → v ≡ passed w → IsRun Does events v answer w' → answer ≡ Ok refused → OffersNext w (Ok true) w'
+next_taken w v w' events answer refused (AreNextOffers.NoneNext at is) was run said = cc
+next_taken w v w' events answer refused (AreNextOffers.Next g at is) was run said =
     let events_are : events ≡ offers_of w.slots w.offered g = cc in
-    OffersNext.Offers g refused at (run_from w v w' events (offers_of w.slots w.offered g) answer (Ok refused) was events_are said run) (behind w v w' was same) refl
+    OffersNext.Offers g refused at (run_from w v w' events (offers_of w.slots w.offered g) answer (Ok refused) was events_are said run) refl
 
-pub next_ends : (w v w' : WorldValue) (events : List WorldEvent) (answer : Result ℕ WorldFault) (f : WorldFault) → AreNextOffers w (Some events) → v ≡ passed w → IsRun is_dropped events (world_of v) answer (world_of w') → SameSettings v w' → answer ≡ Err f → OffersNext w (Err f) w'
-next_ends w v w' events answer f (AreNextOffers.NoneNext at is) was run same said = cc
-next_ends w v w' events answer f (AreNextOffers.Next g at is) was run same said =
+pub next_ends : (w v w' : WorldValue) (events : List WorldEvent) (answer : Result ℕ WorldFault) (f : WorldFault) → AreNextOffers w (Some events) → v ≡ passed w → IsRun Does events v answer w' → answer ≡ Err f → OffersNext w (Err f) w'
+next_ends w v w' events answer f (AreNextOffers.NoneNext at is) was run said = cc
+next_ends w v w' events answer f (AreNextOffers.Next g at is) was run said =
     let events_are : events ≡ offers_of w.slots w.offered g = cc in
-    OffersNext.Ends g f at (run_from w v w' events (offers_of w.slots w.offered g) answer (Err f) was events_are said run) (behind w v w' was same) refl
+    OffersNext.Ends g f at (run_from w v w' events (offers_of w.slots w.offered g) answer (Err f) was events_are said run) refl
 
 -- ---- what comes of a round
 
@@ -91,24 +85,27 @@ most_is : 10000 ≡ most_offers
 unfolding most_offers
 most_is = refl
 
-run_ticks : (w : World) (slots : List SlotValue) (w' : World) (events : List WorldEvent) (answer told : Result ℕ WorldFault) → events ≡ ticks slots → answer ≡ told → IsRun is_dropped events w answer w' → IsRun is_dropped (ticks slots) w told w'
-run_ticks w slots w' events answer told same said run =
-    subst (λ (r : Result ℕ WorldFault). IsRun is_dropped (ticks slots) w r w') said (subst (λ (es : List WorldEvent). IsRun is_dropped es w answer w') same run)
+run_ticks : (w w' : WorldValue) (events : List WorldEvent) (answer told : Result ℕ WorldFault) → events ≡ ticks w.slots → answer ≡ told → IsRun Does events w answer w' → IsRun Does (ticks w.slots) w told w'
+run_ticks w w' events answer told same said run =
+    subst (λ (r : Result ℕ WorldFault). IsRun Does (ticks w.slots) w r w') said (subst (λ (es : List WorldEvent). IsRun Does es w answer w') same run)
 
-pub round_goes : (w mid w' : WorldValue) (events : List WorldEvent) (answer : Result ℕ WorldFault) (refused : ℕ) (result : Result (Unit {0}) WorldFault) → events ≡ ticks w.slots → IsRun is_dropped events (world_of w) answer (world_of mid) → answer ≡ Ok refused → SameSettings w mid → AreOffered 10000 mid result w' → IsRound w result w'
-round_goes w mid w' events answer refused result are run said same rest =
-    IsRound.Goes refused mid (run_ticks (world_of w) w.slots (world_of mid) events answer (Ok refused) are said run) same (subst (λ (n : ℕ). AreOffered n mid result w') most_is rest)
+pub round_goes : (w mid w' : WorldValue) (events : List WorldEvent) (answer : Result ℕ WorldFault) (refused : ℕ) (result : Result (Unit {0}) WorldFault) → events ≡ ticks w.slots → IsRun Does events w answer mid → answer ≡ Ok refused → AreOffered 10000 mid result w' → IsRound w result w'
+round_goes w mid w' events answer refused result are run said rest =
+    IsRound.Goes refused mid (run_ticks w mid events answer (Ok refused) are said run) (subst (λ (n : ℕ). AreOffered n mid result w') most_is rest)
 
-pub round_ticks_end : (w w' : WorldValue) (events : List WorldEvent) (answer : Result ℕ WorldFault) (f : WorldFault) → events ≡ ticks w.slots → IsRun is_dropped events (world_of w) answer (world_of w') → answer ≡ Err f → SameSettings w w' → IsRound w (Err f) w'
-round_ticks_end w w' events answer f are run said same = IsRound.TicksEnd f (run_ticks (world_of w) w.slots (world_of w') events answer (Err f) are said run) same refl
+pub round_ticks_end : (w w' : WorldValue) (events : List WorldEvent) (answer : Result ℕ WorldFault) (f : WorldFault) → events ≡ ticks w.slots → IsRun Does events w answer w' → answer ≡ Err f → IsRound w (Err f) w'
+round_ticks_end w w' events answer f are run said = IsRound.TicksEnd f (run_ticks w w' events answer (Err f) are said run) refl
 
 -- ---- as a list of events
+
+run_leads : (events : List WorldEvent) (w w' : WorldValue) (answer : Result ℕ WorldFault) → IsRun Does events w answer w' → LeadsOn (world_of w) (world_of w')
+run_leads events w w' answer run = run_happens is_dropped events (world_of w) (world_of w') answer (run_comes events w w' answer run)
 
 next_leads : (w w' : WorldValue) (answer : Result Bool WorldFault) → OffersNext w answer w' → LeadsOn (world_of w) (world_of w')
 next_leads w w' answer (OffersNext.NoneLeft none is same) = leads_nowhere (world_of w) (world_of w') (ap world_of same)
 next_leads w w' answer (OffersNext.NoRoom is same) = leads_nowhere (world_of w) (world_of w') (ap world_of same)
-next_leads w w' answer (OffersNext.Offers g n at run behind is) = run_happens is_dropped (offers_of w.slots w.offered g) (world_of w) (world_of w') (Ok n) run
-next_leads w w' answer (OffersNext.Ends g f at run behind is) = run_happens is_dropped (offers_of w.slots w.offered g) (world_of w) (world_of w') (Err f) run
+next_leads w w' answer (OffersNext.Offers g n at run is) = run_leads (offers_of w.slots w.offered g) (passed w) w' (Ok n) run
+next_leads w w' answer (OffersNext.Ends g f at run is) = run_leads (offers_of w.slots w.offered g) (passed w) w' (Err f) run
 
 offered_leads : (most : ℕ) (w w' : WorldValue) (result : Result (Unit {0}) WorldFault) → AreOffered most w result w' → LeadsOn (world_of w) (world_of w')
 offered_leads zero w w' result same = leads_nowhere (world_of w) (world_of w') (ap world_of same.0)
@@ -118,6 +115,6 @@ offered_leads (suc most) w w' result (OffersMore.Ended f part is) = next_leads w
 
 pub round_leads : (w w' : WorldValue) (result : Result (Unit {0}) WorldFault) → IsRound w result w' → LeadsOn (world_of w) (world_of w')
 round_leads w w' result (IsRound.NoRoom is same) = leads_nowhere (world_of w) (world_of w') (ap world_of same)
-round_leads w w' result (IsRound.TicksEnd f run same is) = run_happens is_dropped (ticks w.slots) (world_of w) (world_of w') (Err f) run
-round_leads w w' result (IsRound.Goes n mid run same rest) =
-    leads_further (world_of w) (world_of mid) (world_of w') (run_happens is_dropped (ticks w.slots) (world_of w) (world_of mid) (Ok n) run) (offered_leads most_offers mid w' result rest)
+round_leads w w' result (IsRound.TicksEnd f run is) = run_leads (ticks w.slots) w w' (Err f) run
+round_leads w w' result (IsRound.Goes n mid run rest) =
+    leads_further (world_of w) (world_of mid) (world_of w') (run_leads (ticks w.slots) w mid (Ok n) run) (offered_leads most_offers mid w' result rest)

@@ -1,5 +1,5 @@
 -- The log of ticks, and sound acknowledgement from one moment to another.
-use Rattle.std.proofs.Common.{Bool, ◌≡◌, ◌++◌, ℕ, List, [], ◌∷◌, None, Some, Result, Ok, Err, true, false, is_some, length, refl, sym, ap, subst, ◌∙◌}
+use Rattle.std.proofs.Common.{Bool, ◌≡◌, ◌++◌, ℕ, List, [], ◌∷◌, None, Some, Result, Ok, true, false, is_some, length, refl, sym, ap, subst, ◌∙◌}
 use Rattle.std.specs.Prelude.{if◌then◌else◌}
 use Rattle.std.proofs.lemmas.List.{append-nil}
 use Rattle.ospf_base.specs.declared.ids.RouterId.{RouterId}
@@ -20,18 +20,6 @@ use Rattle.ospf_world.specs.declared.ticks.Ticked.{Ticked}
 use Rattle.ospf_world.proofs.RandomFacts.{LeadsOn, reached_on}
 
 -- ---- one event
-
-none_ticked : (event : WorldEvent) (f : WorldFault) (sent : ℕ) → ticked_by event (Err f) sent ≡ []
-none_ticked (Start r dd floor) f sent = refl
-none_ticked (Stop r) f sent = refl
-none_ticked (Tick r) f sent = refl
-none_ticked (LinkUp r l) f sent = refl
-none_ticked (LinkDown r l) f sent = refl
-none_ticked (Deliver d r l) f sent = refl
-
--- what is refused logs nothing
-pub none_more : (event : WorldEvent) (f : WorldFault) (sent : ℕ) (ticks : List Ticked) → ticks ≡ ticks ++ ticked_by event (Err f) sent
-none_more event f sent ticks = sym (ap (λ (ts : List Ticked). ticks ++ ts) (none_ticked event f sent) ∙ append-nil ticks)
 
 unticked : (event : WorldEvent) (s s' : SlotValue) (logs logs' : LogsValue) (result : Result (Unit {0}) WorldFault) (sent : ℕ) → SlotSteps event s logs result s' logs' →
     ((r : RouterId) → event ≡ Tick r → is_some s.running ≡ false) → ticked_by event result sent ≡ []

@@ -1,26 +1,26 @@
 -- What chance does to a world.
 use Rattle.std.specs.Prelude.{◌≡◌, ℕ, zero, suc, true, false, Option, None, Some, Result, Ok, Err}
 use Rattle.ospf_chance.specs.Draws.{drawn, words_from}
-use Rattle.ospf_headline.specs.World.{Comes, World}
 use Rattle.ospf_headline.specs.declared.event.WorldEvent.{WorldEvent}
 use Rattle.ospf_headline.specs.declared.event.WorldFault.{WorldFault}
 use Rattle.ospf_headline.specs.Runs.{is_memory}
-use Rattle.ospf_router.specs.Steps.{is_dropped}
+use Rattle.ospf_world.specs.Does.{Does}
+use Rattle.ospf_world.specs.Worlds.{WorldValue, world_of}
 use Rattle.rand_pcg.specs.Lcg.{Lcg}
 
 -- an event, where there is one, is taken, or refused and passed over; or memory runs out, and that is answered
-pub data Meets (event : Option WorldEvent) (before : World) (answer : Result (Unit {0}) WorldFault) (after : World) : Type 0 where
+pub data Meets (event : Option WorldEvent) (before : WorldValue) (answer : Result (Unit {0}) WorldFault) (after : WorldValue) : Type 0 where
   Nothing : event ≡ None → answer ≡ Ok tt → after ≡ before → Meets event before answer after
-  Takes : (e : WorldEvent) → event ≡ Some e → Comes is_dropped e before (Ok tt) after → answer ≡ Ok tt → Meets event before answer after
-  Passes : (e : WorldEvent) (f : WorldFault) → event ≡ Some e → Comes is_dropped e before (Err f) after → is_memory f ≡ false → answer ≡ Ok tt → Meets event before answer after
-  Ends : (e : WorldEvent) (f : WorldFault) → event ≡ Some e → Comes is_dropped e before (Err f) after → is_memory f ≡ true → answer ≡ Err f → Meets event before answer after
+  Takes : (e : WorldEvent) → event ≡ Some e → Does e before (Ok tt) after → answer ≡ Ok tt → Meets event before answer after
+  Passes : (e : WorldEvent) (f : WorldFault) → event ≡ Some e → Does e before (Err f) after → is_memory f ≡ false → answer ≡ Ok tt → Meets event before answer after
+  Ends : (e : WorldEvent) (f : WorldFault) → event ≡ Some e → Does e before (Err f) after → is_memory f ≡ true → answer ≡ Err f → Meets event before answer after
 
 -- what comes of a part, and where that was not refused of the rest
-pub data GoesOn (Part : Result (Unit {0}) WorldFault → World → Type 0) (Rest : World → Result (Unit {0}) WorldFault → World → Type 0) (result : Result (Unit {0}) WorldFault) (after : World) : Type 0 where
-  Further : (mid : World) → Part (Ok tt) mid → Rest mid result after → GoesOn Part Rest result after
+pub data GoesOn (Part : Result (Unit {0}) WorldFault → WorldValue → Type 0) (Rest : WorldValue → Result (Unit {0}) WorldFault → WorldValue → Type 0) (result : Result (Unit {0}) WorldFault) (after : WorldValue) : Type 0 where
+  Further : (mid : WorldValue) → Part (Ok tt) mid → Rest mid result after → GoesOn Part Rest result after
   Ended : (f : WorldFault) → Part (Err f) after → result ≡ Err f → GoesOn Part Rest result after
 
 -- so many events, each drawn by four words of the generator, which goes on behind them
-abbrev pub IsRandom : ℕ → Lcg → World → Result (Unit {0}) WorldFault → World → Type 0
+abbrev pub IsRandom : ℕ → Lcg → WorldValue → Result (Unit {0}) WorldFault → WorldValue → Type 0
 IsRandom zero g before result after = (after ≡ before) × (result ≡ Ok tt)
-IsRandom (suc count) g before result after = GoesOn (Meets (drawn (words_from g).0 before) before) (IsRandom count (words_from g).1) result after
+IsRandom (suc count) g before result after = GoesOn (Meets (drawn (words_from g).0 (world_of before)) before) (IsRandom count (words_from g).1) result after

@@ -10,8 +10,8 @@ use Rattle.ospf_headline.specs.declared.event.WorldFault.{WorldFault}
 use Rattle.ospf_headline.specs.declared.event.WorldFault.TheVariants as fault
 use Rattle.ospf_headline.specs.declared.logs.Datagram.{Datagram}
 use Rattle.ospf_slots.specs.Slots.{SlotValue}
-use Rattle.ospf_router.specs.Steps.{is_dropped}
-use Rattle.ospf_world.specs.Worlds.{SameSettings, WorldValue, configs_of, world_of}
+use Rattle.ospf_world.specs.Does.{Does}
+use Rattle.ospf_world.specs.Worlds.{WorldValue}
 
 -- ---- which events
 
@@ -51,17 +51,16 @@ pub data AreNextOffers (w : WorldValue) (next : Option (List WorldEvent)) : Type
 -- ---- what comes of them
 
 -- one more datagram counts as offered
-pub record IsBehind (before after : WorldValue) : Type 0 where
-  pub configs : configs_of after ≡ configs_of before
-  pub offered : after.offered ≡ before.offered + 1
+abbrev pub passed : WorldValue → WorldValue
+passed w = record { slots = w.slots; logs = w.logs; ticks = w.ticks; offered = w.offered + 1 }
 
 -- the next datagram that no round has offered is offered, if there is one: refusals are passed over, and memory that runs out ends
 -- it. The datagram then counts as offered, but where there was no memory for the list of its offers
 pub data OffersNext (before : WorldValue) (answer : Result Bool WorldFault) (after : WorldValue) : Type 0 where
   NoneLeft : slice_get before.logs.datagrams before.offered ≡ None → answer ≡ Ok false → after ≡ before → OffersNext before answer after
   NoRoom : answer ≡ Err (fault.Memory false) → after ≡ before → OffersNext before answer after
-  Offers : (g : Datagram) (refused : ℕ) → slice_get before.logs.datagrams before.offered ≡ Some g → IsRun is_dropped (offers_of before.slots before.offered g) (world_of before) (Ok refused) (world_of after) → IsBehind before after → answer ≡ Ok true → OffersNext before answer after
-  Ends : (g : Datagram) (f : WorldFault) → slice_get before.logs.datagrams before.offered ≡ Some g → IsRun is_dropped (offers_of before.slots before.offered g) (world_of before) (Err f) (world_of after) → IsBehind before after → answer ≡ Err f → OffersNext before answer after
+  Offers : (g : Datagram) (refused : ℕ) → slice_get before.logs.datagrams before.offered ≡ Some g → IsRun Does (offers_of before.slots before.offered g) (passed before) (Ok refused) after → answer ≡ Ok true → OffersNext before answer after
+  Ends : (g : Datagram) (f : WorldFault) → slice_get before.logs.datagrams before.offered ≡ Some g → IsRun Does (offers_of before.slots before.offered g) (passed before) (Err f) after → answer ≡ Err f → OffersNext before answer after
 
 -- it goes on with the rest as long as there is a next one
 pub data OffersMore (Next : Result Bool WorldFault → WorldValue → Type 0) (Rest : WorldValue → Result (Unit {0}) WorldFault → WorldValue → Type 0) (result : Result (Unit {0}) WorldFault) (after : WorldValue) : Type 0 where
@@ -82,5 +81,5 @@ most_offers = 10000
 -- memory that runs out ends it, that for the list of ticks before anything is done
 pub data IsRound (before : WorldValue) (result : Result (Unit {0}) WorldFault) (after : WorldValue) : Type 0 where
   NoRoom : result ≡ Err (fault.Memory false) → after ≡ before → IsRound before result after
-  TicksEnd : (f : WorldFault) → IsRun is_dropped (ticks before.slots) (world_of before) (Err f) (world_of after) → SameSettings before after → result ≡ Err f → IsRound before result after
-  Goes : (refused : ℕ) (mid : WorldValue) → IsRun is_dropped (ticks before.slots) (world_of before) (Ok refused) (world_of mid) → SameSettings before mid → AreOffered most_offers mid result after → IsRound before result after
+  TicksEnd : (f : WorldFault) → IsRun Does (ticks before.slots) before (Err f) after → result ≡ Err f → IsRound before result after
+  Goes : (refused : ℕ) (mid : WorldValue) → IsRun Does (ticks before.slots) before (Ok refused) mid → AreOffered most_offers mid result after → IsRound before result after

@@ -2,10 +2,9 @@
 
 ghost use Rattle.std.specs.Prelude.{◌≡◌, ◌<◌, ◌+◌, ◌++◌, Some, length, slice_get, slice_set};
 ghost use Rattle.ospf_slots.specs.Slots.{SlotSteps, SlotValue, router_in};
-ghost use Rattle.ospf_router.specs.Steps.{is_dropped};
-ghost use Rattle.ospf_headline.specs.World.{Comes};
+ghost use Rattle.ospf_world.specs.Does.{Does};
 ghost use Rattle.ospf_world.specs.Ticks.{ticked_by};
-ghost use Rattle.ospf_world.specs.Worlds.{Adds, Lends, LendsSlot, Opens, SameSettings, place_in, world_of};
+ghost use Rattle.ospf_world.specs.Worlds.{Adds, Lends, LendsSlot, Opens, place_in, world_of};
 
 use crate::ticks::{Ticked, step_slot};
 use ospf_base::RouterId;
@@ -143,9 +142,7 @@ impl Parts {
 
     /// What an event comes to.
     pub(crate) fn step(&mut self, event: &WorldEvent, alloc: Global) -> Result<(), WorldFault>
-        ensures comes { Comes is_dropped event.now (world_of self.old) result (world_of self.new) }
-        ensures same { SameSettings self.old self.new }
-        ensures ticks { self.new.ticks ≡ self.old.ticks ++ ticked_by event.now result (length self.old.logs.datagrams) }
+        ensures { Does event.now self.old result self.new }
     {
         match place(&self.places, router_of(event)) {
             Some(place) => step_at(

@@ -37,7 +37,7 @@ impl World {
 
     // Meets an event, where there is one: passes over a refusal, unless memory ran out.
     fn meet(&mut self, event: Option<WorldEvent>, alloc: Global) -> Result<(), WorldFault>
-        ensures meets { Meets event (world_of self.old) result (world_of self.new) }
+        ensures meets { Meets event self.old result self.new }
         ensures same { SameSettings self.old self.new }
         ensures ticks { TicksOn (world_of self.old) self.old.ticks (world_of self.new) self.new.ticks }
     {
@@ -66,7 +66,7 @@ impl World {
         count: u64,
         alloc: Global,
     ) -> Result<(), WorldFault>
-        ensures random { IsRandom count generator.old (world_of self.old) result (world_of self.new) }
+        ensures random { IsRandom count generator.old self.old result self.new }
         ensures drawn { OnOk result (generator.new ≡ drawn_past count generator.old) }
         ensures same { SameSettings self.old self.new }
         ensures reached { IsReached is_dropped (world_of self.new) }
@@ -92,7 +92,7 @@ impl World {
     ///
     /// `Memory` where memory runs out, which ends it.
     pub fn random(&mut self, number: u64, count: u64, alloc: Global) -> Result<(), WorldFault>
-        ensures random { IsRandom count (started 64 multiplier_64 number (increment_of 64 0)) (world_of self.old) result (world_of self.new) }
+        ensures random { IsRandom count (started 64 multiplier_64 number (increment_of 64 0)) self.old result self.new }
         ensures same { SameSettings self.old self.new }
         ensures reached { IsReached is_dropped (world_of self.new) }
         ensures headline { Headline (world_of self.old) (world_of self.new) }

@@ -30,7 +30,7 @@ pub struct Walk {
 }
 
 /// What a walk does at one router.
-#[derive(Clone, Copy, Debug)]
+#[derive(Clone, Copy)]
 pub(crate) enum Leg {
     /// It ends, at this cost.
     Ends { cost: u64, end: WalkEnd },

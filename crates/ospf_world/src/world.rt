@@ -6,6 +6,7 @@ ghost use Rattle.ospf_headline.specs.Runs.{IsRun, is_memory};
 ghost use Rattle.ospf_headline.specs.Sound.{IsSound};
 ghost use Rattle.ospf_headline.specs.World.{Comes};
 ghost use Rattle.ospf_router.specs.Steps.{is_dropped};
+ghost use Rattle.ospf_world.specs.Does.{Does};
 ghost use Rattle.ospf_world.specs.Sounds.{IsSoundBetween};
 ghost use Rattle.ospf_world.specs.Ticks.{TicksOn, ticked_by};
 ghost use Rattle.ospf_world.specs.Worlds.{Lends, Opens, SameSettings, world_of};
@@ -58,13 +59,14 @@ impl World {
         Ok(World { parts })
     }
 
-    /// What an event comes to.
+    /// What an event names happens to the router that it names.
     ///
     /// The first fault that holds: `NoRouter`, `NoLink`, `NoDatagram`, `Running` for the start of a running router,
     /// `NotRunning` for any other event of one that does not run, and `Floor` for a start where no number is above the floor;
     /// then nothing is changed. `Memory` where memory runs out: nothing is changed, or else, where `stopped`, the router is
     /// stopped and no log has grown.
     pub fn step(&mut self, event: WorldEvent, alloc: Global) -> Result<(), WorldFault>
+        ensures does { Does event self.old result self.new }
         ensures comes { Comes is_dropped event (world_of self.old) result (world_of self.new) }
         ensures same { SameSettings self.old self.new }
         ensures reached { IsReached is_dropped (world_of self.new) }
@@ -81,7 +83,7 @@ impl World {
     ///
     /// `WorldFault::Memory` where memory runs out for one: that is the last.
     pub fn run(&mut self, events: &[WorldEvent], alloc: Global) -> Result<usize, WorldFault>
-        ensures run { IsRun is_dropped events.now (world_of self.old) result (world_of self.new) }
+        ensures run { IsRun Does events.now self.old result self.new }
         ensures same { SameSettings self.old self.new }
         ensures reached { IsReached is_dropped (world_of self.new) }
         ensures headline { Headline (world_of self.old) (world_of self.new) }

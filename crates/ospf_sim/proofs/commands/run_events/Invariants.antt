@@ -1,6 +1,5 @@
 use Rattle.std.proofs.Common.{◌≤◌, ◌-◌}
 use Rattle.ospf_sim.proofs.Chances.{LeadsOn}
-use Rattle.ospf_world.specs.Worlds.{SameSettings, world_of}
 use Rattle.rand_pcg.specs.Lcg.{increment_of, started}
 use Rattle.rand_pcg.specs.Pcg.{multiplier_64}
 use Rattle.ospf_sim.proofs.commands.run_events.Given as goal
@@ -9,8 +8,7 @@ use Rattle.ospf_sim.proofs.commands.run_events.Given as goal
 abbrev pub invariant-loop-done : goal.invariant-loop-done
 invariant-loop-done g l = record {
   within : l.done ≤ l.count;
-  leads : LeadsOn l.count l.done (started 64 multiplier_64 l.number (increment_of 64 0)) l.generator (world_of l.fn.world) (world_of l.world);
-  same : SameSettings l.fn.world l.world;
+  leads : LeadsOn l.count l.done (started 64 multiplier_64 l.number (increment_of 64 0)) l.generator l.fn.world l.world;
 }
 
 abbrev pub decreases-loop-done : goal.decreases-loop-done

@@ -1,6 +1,5 @@
-use Rattle.std.proofs.Common.{Err, Ok, refl, rules, subst, arith}
+use Rattle.std.proofs.Common.{Err, Ok, refl, rules, arith}
 use Rattle.ospf_router.specs.Steps.{is_dropped}
-use Rattle.ospf_world.specs.Random.{IsRandom}
 use Rattle.ospf_world.specs.Worlds.{world_of}
 use Rattle.ospf_world.proofs.RandomFacts.{drawn_all, drawn_more, random_done, random_ends, random_leads, random_more, reached_on, same_on}
 use Rattle.ospf_world.proofs.TickFacts.{sound_between, ticks_further, ticks_nowhere}
@@ -8,22 +7,21 @@ use Rattle.ospf_world.proofs.world.World.draw_events.Goals as goal
 
 pub returns-in-Err-clause-random : goal.returns-in-Err-clause-random
 returns-in-Err-clause-random c =
-    let before = world_of c.args.self.now in
-    random_ends c.args.count c.loop-i.i c.args.generator.now c.loop-i.generator c.draw-words.new.generator c.draw-words.result c.draw_event-event.result c.meet.result before (world_of c.loop-i.self) (world_of c.meet.new.self)
+    random_ends c.args.count c.loop-i.i c.args.generator.now c.loop-i.generator c.draw-words.new.generator c.draw-words.result c.draw_event-event.result c.meet.result c.args.self.now c.loop-i.self c.meet.new.self
     c.in-Err.fault c.loop-i-test.true c.draw-words.ensures c.draw_event-event.ensures c.meet.ensures.meets c.in-Err.is c.loop-i.invariant.comes
 
 pub returns-in-Err-clause-reached : goal.returns-in-Err-clause-reached
 returns-in-Err-clause-reached c =
-    reached_on (world_of c.args.self.now) (world_of c.meet.new.self) c.reached.ensures (random_leads c.args.count _ (world_of c.args.self.now) (world_of c.meet.new.self) (Err c.in-Err.fault) (returns-in-Err-clause-random c))
+    reached_on (world_of c.args.self.now) (world_of c.meet.new.self) c.reached.ensures (random_leads c.args.count _ c.args.self.now c.meet.new.self (Err c.in-Err.fault) (returns-in-Err-clause-random c))
 
 pub returns-in-Err-clause-headline : goal.returns-in-Err-clause-headline
 returns-in-Err-clause-headline c =
-    let leads = random_leads c.args.count _ (world_of c.args.self.now) (world_of c.meet.new.self) (Err c.in-Err.fault) (returns-in-Err-clause-random c) in
+    let leads = random_leads c.args.count _ c.args.self.now c.meet.new.self (Err c.in-Err.fault) (returns-in-Err-clause-random c) in
     c.headline.ensures is_dropped leads.0 (world_of c.args.self.now) (world_of c.meet.new.self) c.reached.ensures leads.1
 
 pub loop-i-preserved : goal.loop-i-preserved
 loop-i-preserved c = record {
-  comes = random_more c.args.count c.loop-i.i c.args.generator.now c.loop-i.generator c.draw-words.new.generator c.draw-words.result c.draw_event-event.result c.meet.result (world_of c.args.self.now) (world_of c.loop-i.self) (world_of c.meet.new.self)
+  comes = random_more c.args.count c.loop-i.i c.args.generator.now c.loop-i.generator c.draw-words.new.generator c.draw-words.result c.draw_event-event.result c.meet.result c.args.self.now c.loop-i.self c.meet.new.self
       c.loop-i-test.true c.draw-words.ensures c.draw_event-event.ensures c.meet.ensures.meets c.in-Ok.is c.loop-i.invariant.comes;
   drawn = drawn_more c.loop-i.i c.args.generator.now c.loop-i.generator c.draw-words.new.generator c.draw-words.result c.draw-words.ensures c.loop-i.invariant.drawn;
   same = same_on c.args.self.now c.loop-i.self c.meet.new.self c.loop-i.invariant.same c.meet.ensures.same;
@@ -32,21 +30,21 @@ loop-i-preserved c = record {
 
 pub returns-clause-random : goal.returns-clause-random
 returns-clause-random c =
-    random_done c.args.count c.loop-i.i c.args.generator.now c.loop-i.generator (world_of c.args.self.now) (world_of c.loop-i.self) (omega arith) c.loop-i.invariant.comes
+    random_done c.args.count c.loop-i.i c.args.generator.now c.loop-i.generator c.args.self.now c.loop-i.self (omega arith) c.loop-i.invariant.comes
 
 pub returns-clause-reached : goal.returns-clause-reached
 returns-clause-reached c =
-    reached_on (world_of c.args.self.now) (world_of c.loop-i.self) c.reached.ensures (random_leads c.args.count _ (world_of c.args.self.now) (world_of c.loop-i.self) (Ok tt) (returns-clause-random c))
+    reached_on (world_of c.args.self.now) (world_of c.loop-i.self) c.reached.ensures (random_leads c.args.count _ c.args.self.now c.loop-i.self (Ok tt) (returns-clause-random c))
 
 pub returns-clause-headline : goal.returns-clause-headline
 returns-clause-headline c =
-    let leads = random_leads c.args.count _ (world_of c.args.self.now) (world_of c.loop-i.self) (Ok tt) (returns-clause-random c) in
+    let leads = random_leads c.args.count _ c.args.self.now c.loop-i.self (Ok tt) (returns-clause-random c) in
     c.headline.ensures is_dropped leads.0 (world_of c.args.self.now) (world_of c.loop-i.self) c.reached.ensures leads.1
 
 pub returns-in-Err-clause-sound : goal.returns-in-Err-clause-sound
 returns-in-Err-clause-sound c =
     sound_between (λ event before after reached happens. c.soundness.ensures is_dropped event before after reached happens) (world_of c.args.self.now) (world_of c.meet.new.self) c.reached.ensures
-    (random_leads c.args.count _ (world_of c.args.self.now) (world_of c.meet.new.self) (Err c.in-Err.fault) (returns-in-Err-clause-random c))
+    (random_leads c.args.count _ c.args.self.now c.meet.new.self (Err c.in-Err.fault) (returns-in-Err-clause-random c))
 
 pub returns-in-Err-clause-ticks : goal.returns-in-Err-clause-ticks
 returns-in-Err-clause-ticks c = ticks_further _ _ _ _ _ _ c.loop-i.invariant.ticks c.meet.ensures.ticks
@@ -54,7 +52,7 @@ returns-in-Err-clause-ticks c = ticks_further _ _ _ _ _ _ c.loop-i.invariant.tic
 pub returns-clause-sound : goal.returns-clause-sound
 returns-clause-sound c =
     sound_between (λ event before after reached happens. c.soundness.ensures is_dropped event before after reached happens) (world_of c.args.self.now) (world_of c.loop-i.self) c.reached.ensures
-    (random_leads c.args.count _ (world_of c.args.self.now) (world_of c.loop-i.self) (Ok tt) (returns-clause-random c))
+    (random_leads c.args.count _ c.args.self.now c.loop-i.self (Ok tt) (returns-clause-random c))
 
 pub loop-i-init : goal.loop-i-init
 loop-i-init c = record {

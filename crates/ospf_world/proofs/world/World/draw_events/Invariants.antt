@@ -7,7 +7,7 @@ use Rattle.ospf_world.proofs.world.World.draw_events.Given as goal
 
 abbrev pub invariant-loop-i : goal.invariant-loop-i
 invariant-loop-i l = record {
-  comes : Comes_to l.count l.initial.generator (world_of l.initial.self) (l.count - l.i) l.generator (world_of l.self);
+  comes : Comes_to l.count l.initial.generator l.initial.self (l.count - l.i) l.generator l.self;
   drawn : l.generator ≡ drawn_past l.i l.initial.generator;
   same : SameSettings l.initial.self l.self;
   ticks : TicksOn (world_of l.initial.self) l.initial.self.ticks (world_of l.self) l.self.ticks;

@@ -1,17 +1,16 @@
 use Rattle.std.proofs.Common.{refl, sym, ◌∙◌}
-use Rattle.ospf_world.specs.Worlds.{world_of}
 use Rattle.ospf_world.proofs.RandomFacts.{meets_ended, meets_passed, meets_taken}
 use Rattle.ospf_world.proofs.TickFacts.{ticks_nowhere, ticks_once}
 use Rattle.ospf_world.proofs.world.World.meet.Goals as goal
 
 pub returns-in-Ok-clause-meets : goal.returns-in-Ok-clause-meets
-returns-in-Ok-clause-meets c = meets_taken c.args.event c.in-Some.event c.step.result (world_of c.args.self.now) (world_of c.step.new.self) c.in-Some.is c.step.ensures.comes c.in-Ok.is
+returns-in-Ok-clause-meets c = meets_taken c.args.event c.in-Some.event c.step.result c.args.self.now c.step.new.self c.in-Some.is c.step.ensures.does c.in-Ok.is
 
 pub returns-then-is_memory-clause-meets : goal.returns-then-is_memory-clause-meets
-returns-then-is_memory-clause-meets c = meets_ended c.args.event c.in-Some.event c.step.result c.in-Err.fault (world_of c.args.self.now) (world_of c.step.new.self) c.in-Some.is c.step.ensures.comes c.in-Err.is (sym c.is_memory.ensures ∙ c.if-is_memory.true)
+returns-then-is_memory-clause-meets c = meets_ended c.args.event c.in-Some.event c.step.result c.in-Err.fault c.args.self.now c.step.new.self c.in-Some.is c.step.ensures.does c.in-Err.is (sym c.is_memory.ensures ∙ c.if-is_memory.true)
 
 pub returns-else-is_memory-clause-meets : goal.returns-else-is_memory-clause-meets
-returns-else-is_memory-clause-meets c = meets_passed c.args.event c.in-Some.event c.step.result c.in-Err.fault (world_of c.args.self.now) (world_of c.step.new.self) c.in-Some.is c.step.ensures.comes c.in-Err.is (sym c.is_memory.ensures ∙ c.if-is_memory.false)
+returns-else-is_memory-clause-meets c = meets_passed c.args.event c.in-Some.event c.step.result c.in-Err.fault c.args.self.now c.step.new.self c.in-Some.is c.step.ensures.does c.in-Err.is (sym c.is_memory.ensures ∙ c.if-is_memory.false)
 
 pub returns-in-Ok-clause-ticks : goal.returns-in-Ok-clause-ticks
 returns-in-Ok-clause-ticks c = ticks_once c.in-Some.event c.step.result _ _ _ _ c.step.ensures.comes c.step.ensures.ticks

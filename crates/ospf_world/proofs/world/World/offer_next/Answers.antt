@@ -1,7 +1,7 @@
 use Rattle.std.proofs.Common.{subst, List}
 use Rattle.ospf_headline.specs.declared.event.WorldEvent.{WorldEvent}
 use Rattle.ospf_headline.specs.Runs.{IsRun}
-use Rattle.ospf_router.specs.Steps.{is_dropped}
+use Rattle.ospf_world.specs.Does.{Does}
 use Rattle.ospf_world.specs.Ticks.{TicksOn}
 use Rattle.ospf_world.specs.Worlds.{WorldValue, world_of}
 use Rattle.ospf_world.proofs.RoundFacts.{next_ends, next_taken}
@@ -9,13 +9,13 @@ use Rattle.ospf_world.proofs.world.World.offer_next.Goals as goal
 
 pub returns-in-Ok-clause-offers : goal.returns-in-Ok-clause-offers
 returns-in-Ok-clause-offers c =
-    let run = subst (λ (es : List WorldEvent). IsRun is_dropped es (world_of c.pass_one.new.self) c.run.result (world_of c.run.new.self)) c.deref.ensures.value c.run.ensures.run in
-    next_taken c.args.self.now c.pass_one.new.self c.run.new.self c.in-Ok-Some.offers.items c.run.result c.in-Ok._refused (rw c.in-Ok-Some.field-0-is at c.in-Ok-Some.ensures) c.pass_one.ensures run c.run.ensures.same c.in-Ok.is
+    let run = subst (λ (es : List WorldEvent). IsRun Does es c.pass_one.new.self c.run.result c.run.new.self) c.deref.ensures.value c.run.ensures.run in
+    next_taken c.args.self.now c.pass_one.new.self c.run.new.self c.in-Ok-Some.offers.items c.run.result c.in-Ok._refused (rw c.in-Ok-Some.field-0-is at c.in-Ok-Some.ensures) c.pass_one.ensures run c.in-Ok.is
 
 pub returns-in-Ok-Some-clause-offers : goal.returns-in-Ok-Some-clause-offers
 returns-in-Ok-Some-clause-offers c =
-    let run = subst (λ (es : List WorldEvent). IsRun is_dropped es (world_of c.pass_one.new.self) c.run.result (world_of c.run.new.self)) c.deref.ensures.value c.run.ensures.run in
-    next_ends c.args.self.now c.pass_one.new.self c.run.new.self c.in-Ok-Some.offers.items c.run.result c.in-Err-run.fault (rw c.in-Ok-Some.field-0-is at c.in-Ok-Some.ensures) c.pass_one.ensures run c.run.ensures.same c.in-Err-run.is
+    let run = subst (λ (es : List WorldEvent). IsRun Does es c.pass_one.new.self c.run.result c.run.new.self) c.deref.ensures.value c.run.ensures.run in
+    next_ends c.args.self.now c.pass_one.new.self c.run.new.self c.in-Ok-Some.offers.items c.run.result c.in-Err-run.fault (rw c.in-Ok-Some.field-0-is at c.in-Ok-Some.ensures) c.pass_one.ensures run c.in-Err-run.is
 
 pub returns-in-Ok-clause-ticks : goal.returns-in-Ok-clause-ticks
 returns-in-Ok-clause-ticks c = subst (λ (v : WorldValue). TicksOn (world_of v) v.ticks (world_of c.run.new.self) c.run.new.self.ticks) c.pass_one.ensures c.run.ensures.ticks

@@ -13,7 +13,7 @@ returns-in_default-clause-headline c = c.headline.ensures is_dropped [] (world_o
 pub returns-in-Ok-run-clause-round : goal.returns-in-Ok-run-clause-round
 returns-in-Ok-run-clause-round c =
     let events_are : c.deref.result.now ≡ ticks c.args.self.now.slots = c.deref.ensures.value ∙ c.in-Ok.ensures ∙ ap ticks c.slots.ensures in
-    round_goes c.args.self.now c.run.new.self c.offer.new.self c.deref.result.now c.run.result c.in-Ok-run._refused c.offer.result events_are c.run.ensures.run c.in-Ok-run.is c.run.ensures.same c.offer.ensures.offered
+    round_goes c.args.self.now c.run.new.self c.offer.new.self c.deref.result.now c.run.result c.in-Ok-run._refused c.offer.result events_are c.run.ensures.run c.in-Ok-run.is c.offer.ensures.offered
 
 pub returns-in-Ok-run-clause-reached : goal.returns-in-Ok-run-clause-reached
 returns-in-Ok-run-clause-reached c =
@@ -27,7 +27,7 @@ returns-in-Ok-run-clause-headline c =
 pub returns-clause-round : goal.returns-clause-round
 returns-clause-round c =
     let events_are : c.deref.result.now ≡ ticks c.args.self.now.slots = c.deref.ensures.value ∙ c.in-Ok.ensures ∙ ap ticks c.slots.ensures in
-    round_ticks_end c.args.self.now c.run.new.self c.deref.result.now c.run.result c.in-Err.fault events_are c.run.ensures.run c.in-Err.is c.run.ensures.same
+    round_ticks_end c.args.self.now c.run.new.self c.deref.result.now c.run.result c.in-Err.fault events_are c.run.ensures.run c.in-Err.is
 
 pub returns-in_default-clause-sound : goal.returns-in_default-clause-sound
 returns-in_default-clause-sound c =

@@ -2,24 +2,24 @@ use Rattle.std.proofs.Common.{refl, sym, subst, ◌∙◌, arith}
 use Rattle.ospf_headline.specs.Headline.{IsReached}
 use Rattle.ospf_router.specs.Steps.{is_dropped}
 use Rattle.ospf_world.specs.Worlds.{world_of}
-use Rattle.ospf_world.proofs.RunFacts.{done, ends_early, goes_err, goes_ok, run_headline, run_reached, same_on}
+use Rattle.ospf_world.proofs.RunFacts.{done, ends_early, goes_err, goes_ok, run_comes, run_headline, run_reached, same_on}
 use Rattle.ospf_world.proofs.TickFacts.{sound_between, ticks_further, ticks_nowhere, ticks_once}
 use Rattle.ospf_world.proofs.world.World.run.Goals.{in-Ok, in-Err+else-is_memory}
 use Rattle.ospf_world.proofs.world.World.run.Goals as goal
 
 pub returns-then-is_memory-clause-run : goal.returns-then-is_memory-clause-run
-returns-then-is_memory-clause-run c = ends_early _ _ _ _ _ _ _ _ _ c.loop-event-test.true c.loop-event.invariant.0 c.step.ensures.comes c.in-Err.is (sym c.is_memory.ensures ∙ c.if-is_memory.true)
+returns-then-is_memory-clause-run c = ends_early _ _ _ _ _ _ _ _ _ c.loop-event-test.true c.loop-event.invariant.0 c.step.ensures.does c.in-Err.is (sym c.is_memory.ensures ∙ c.if-is_memory.true)
 
 pub returns-then-is_memory-clause-same : goal.returns-then-is_memory-clause-same
 returns-then-is_memory-clause-same c = same_on _ _ _ c.loop-event.invariant.2 c.step.ensures.same
 
 pub returns-then-is_memory-clause-headline : goal.returns-then-is_memory-clause-headline
-returns-then-is_memory-clause-headline c = run_headline _ _ _ _ (ends_early _ _ _ _ _ _ _ _ _ c.loop-event-test.true c.loop-event.invariant.0 c.step.ensures.comes c.in-Err.is (sym c.is_memory.ensures ∙ c.if-is_memory.true)) (subst (λ v. IsReached is_dropped (world_of v)) c.self.view_is c.self.invariant) (λ run. c.runs_lead_on.ensures is_dropped _ _ _ _ run) (λ later reached runs. c.headline.ensures is_dropped later _ _ reached runs)
+returns-then-is_memory-clause-headline c = run_headline _ _ _ _ (run_comes _ _ _ _ (returns-then-is_memory-clause-run c)) (subst (λ v. IsReached is_dropped (world_of v)) c.self.view_is c.self.invariant) (λ run. c.runs_lead_on.ensures is_dropped _ _ _ _ run) (λ later reached runs. c.headline.ensures is_dropped later _ _ reached runs)
 
 pub loop-event-preserved : goal.loop-event-preserved
 loop-event-preserved c = elim c.match-step.branch [
-  | in-Ok w ↦ (goes_ok _ _ _ _ _ _ _ _ _ c.loop-event-test.true c.loop-event.invariant.0 c.step.ensures.comes w.in-Ok.is w.refused-is, (let h = c.loop-event.invariant.1 in omega arith), same_on _ _ _ c.loop-event.invariant.2 c.step.ensures.same, ticks_further _ _ _ _ _ _ c.loop-event.invariant.3 (ticks_once _ _ _ _ _ _ c.step.ensures.comes c.step.ensures.ticks))
-  | in-Err+else-is_memory w ↦ (goes_err _ _ _ _ _ _ _ _ _ _ c.loop-event-test.true c.loop-event.invariant.0 c.step.ensures.comes w.in-Err.is (sym w.is_memory.ensures ∙ w.if-is_memory.false) w.refused-is, (let h = c.loop-event.invariant.1 in omega arith), same_on _ _ _ c.loop-event.invariant.2 c.step.ensures.same, ticks_further _ _ _ _ _ _ c.loop-event.invariant.3 (ticks_once _ _ _ _ _ _ c.step.ensures.comes c.step.ensures.ticks))
+  | in-Ok w ↦ (goes_ok _ _ _ _ _ _ _ _ _ c.loop-event-test.true c.loop-event.invariant.0 c.step.ensures.does w.in-Ok.is w.refused-is, (let h = c.loop-event.invariant.1 in omega arith), same_on _ _ _ c.loop-event.invariant.2 c.step.ensures.same, ticks_further _ _ _ _ _ _ c.loop-event.invariant.3 (ticks_once _ _ _ _ _ _ c.step.ensures.comes c.step.ensures.ticks))
+  | in-Err+else-is_memory w ↦ (goes_err _ _ _ _ _ _ _ _ _ _ c.loop-event-test.true c.loop-event.invariant.0 c.step.ensures.does w.in-Err.is (sym w.is_memory.ensures ∙ w.if-is_memory.false) w.refused-is, (let h = c.loop-event.invariant.1 in omega arith), same_on _ _ _ c.loop-event.invariant.2 c.step.ensures.same, ticks_further _ _ _ _ _ _ c.loop-event.invariant.3 (ticks_once _ _ _ _ _ _ c.step.ensures.comes c.step.ensures.ticks))
 ]
 
 pub returns-clause-run : goal.returns-clause-run
@@ -29,15 +29,15 @@ pub returns-clause-same : goal.returns-clause-same
 returns-clause-same c = c.loop-event.invariant.2
 
 pub returns-clause-headline : goal.returns-clause-headline
-returns-clause-headline c = run_headline _ _ _ _ (done _ _ _ _ _ (omega arith) c.loop-event.invariant.0) (subst (λ v. IsReached is_dropped (world_of v)) c.self.view_is c.self.invariant) (λ run. c.runs_lead_on.ensures is_dropped _ _ _ _ run) (λ later reached runs. c.headline.ensures is_dropped later _ _ reached runs)
+returns-clause-headline c = run_headline _ _ _ _ (run_comes _ _ _ _ (returns-clause-run c)) (subst (λ v. IsReached is_dropped (world_of v)) c.self.view_is c.self.invariant) (λ run. c.runs_lead_on.ensures is_dropped _ _ _ _ run) (λ later reached runs. c.headline.ensures is_dropped later _ _ reached runs)
 
 pub returns-clause-reached : goal.returns-clause-reached
-returns-clause-reached c = run_reached _ _ _ _ (done _ _ _ _ _ (omega arith) c.loop-event.invariant.0) (subst (λ v. IsReached is_dropped (world_of v)) c.self.view_is c.self.invariant) (λ run. c.runs_lead_on.ensures is_dropped _ _ _ _ run)
+returns-clause-reached c = run_reached _ _ _ _ (run_comes _ _ _ _ (returns-clause-run c)) (subst (λ v. IsReached is_dropped (world_of v)) c.self.view_is c.self.invariant) (λ run. c.runs_lead_on.ensures is_dropped _ _ _ _ run)
 
 pub returns-then-is_memory-clause-sound : goal.returns-then-is_memory-clause-sound
 returns-then-is_memory-clause-sound c =
     sound_between (λ event before after reached happens. c.soundness.ensures is_dropped event before after reached happens) _ _ (subst (λ v. IsReached is_dropped (world_of v)) c.self.view_is c.self.invariant)
-    (c.runs_lead_on.ensures is_dropped _ _ _ _ (returns-then-is_memory-clause-run c))
+    (c.runs_lead_on.ensures is_dropped _ _ _ _ (run_comes _ _ _ _ (returns-then-is_memory-clause-run c)))
 
 pub returns-then-is_memory-clause-ticks : goal.returns-then-is_memory-clause-ticks
 returns-then-is_memory-clause-ticks c = ticks_further _ _ _ _ _ _ c.loop-event.invariant.3 (ticks_once _ _ _ _ _ _ c.step.ensures.comes c.step.ensures.ticks)
@@ -45,7 +45,7 @@ returns-then-is_memory-clause-ticks c = ticks_further _ _ _ _ _ _ c.loop-event.i
 pub returns-clause-sound : goal.returns-clause-sound
 returns-clause-sound c =
     sound_between (λ event before after reached happens. c.soundness.ensures is_dropped event before after reached happens) _ _ (subst (λ v. IsReached is_dropped (world_of v)) c.self.view_is c.self.invariant)
-    (c.runs_lead_on.ensures is_dropped _ _ _ _ (returns-clause-run c))
+    (c.runs_lead_on.ensures is_dropped _ _ _ _ (run_comes _ _ _ _ (returns-clause-run c)))
 
 pub returns-clause-ticks : goal.returns-clause-ticks
 returns-clause-ticks c = c.loop-event.invariant.3
