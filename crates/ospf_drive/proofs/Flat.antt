@@ -1,5 +1,5 @@
 -- A whole call of a driver, from its turns.
-use Rattle.std.proofs.Common.{◌≡◌, ◌++◌, ◌+◌, ℕ, List, [], ◌∷◌, Option, Some, Ok, Err, option_map, take, refl, ap, sym, subst, ◌∙◌}
+use Rattle.std.proofs.Common.{◌≡◌, ◌++◌, ◌+◌, ℕ, List, [], ◌∷◌, Option, Some, Ok, Err, take, refl, ap, sym, subst, ◌∙◌, arith}
 use Rattle.std.proofs.lemmas.List.{append-nil}
 use Rattle.ospf_area.specs.Outputs.{SentValue}
 use Rattle.ospf_laws.specs.Step.{Event}
@@ -10,27 +10,28 @@ use Rattle.ospf_drive.proofs.Going.{chain-append, events_done-append, events_of-
 use Rattle.ospf_drive.proofs.Turning.{events_of-some, not_end-of}
 use Rattle.ospf_drive.specs.Drives.{Ended, FailsToHear, FailsToPublish, FailsToSend, GoesOn, Stops, last_told}
 use Rattle.ospf_drive.specs.Moments.{Moment, Done, HasNoEnd, IsChain, event_of, events_done, events_of, sent_by, tables_of}
-use Rattle.ospf_drive.specs.Traffic.{Heard, Traffic, and_goes}
+use Rattle.ospf_drive.specs.Traffic.{Heard, Carried, IsOver, and_goes, ticks_in}
+use Rattle.ospf_drive.specs.Traffic.Carried.{Ticks}
 use Rattle.ospf_drive.specs.Traffic.Heard.{End}
-use Rattle.ospf_drive.specs.Whole.{Whole, DrivesAreWhole}
+use Rattle.ospf_drive.specs.Whole.{AllTicksAreTaken, Whole, DrivesAreWhole}
 use Rattle.ospf_drive.specs.declared.fault.DriveFault.TheVariants as fault
 
 -- and then this arrival, and these datagrams
-goes_then : {a m : Moment} {t : Option Traffic} {told : Option Known} (x : GoesOn a m told) (h : Heard) (sent : List SentValue) → t ≡ option_map (and_goes (h ∷ []) sent) m.traffic → t ≡ option_map (and_goes (x.taken ++ h ∷ []) (sent_by x.steps ++ sent)) a.traffic
+goes_then : {a m : Moment} {t : Carried} {told : Option Known} (x : GoesOn a m told) (h : Heard) (sent : List SentValue) → t ≡ and_goes (h ∷ []) sent m.traffic → t ≡ and_goes (x.taken ++ h ∷ []) (sent_by x.steps ++ sent) a.traffic
 goes_then {a} {m} {t} {told} x h sent goes =
-    goes ∙ ap (option_map (and_goes (h ∷ []) sent)) x.traffic ∙ goes-append x.taken (h ∷ []) (sent_by x.steps) sent a.traffic
+    goes ∙ ap (and_goes (h ∷ []) sent) x.traffic ∙ goes-append x.taken (h ∷ []) (sent_by x.steps) sent a.traffic
 
 -- and then this arrival, and nothing is sent
-goes_quietly : {a m : Moment} {t : Option Traffic} {told : Option Known} (x : GoesOn a m told) (h : Heard) → t ≡ option_map (and_goes (h ∷ []) []) m.traffic → t ≡ option_map (and_goes (x.taken ++ h ∷ []) (sent_by x.steps)) a.traffic
+goes_quietly : {a m : Moment} {t : Carried} {told : Option Known} (x : GoesOn a m told) (h : Heard) → t ≡ and_goes (h ∷ []) [] m.traffic → t ≡ and_goes (x.taken ++ h ∷ []) (sent_by x.steps) a.traffic
 goes_quietly {a} {m} {t} {told} x h goes =
-    goes_then x h [] goes ∙ ap (λ s. option_map (and_goes (x.taken ++ h ∷ []) s) a.traffic) (append-nil (sent_by x.steps))
+    goes_then x h [] goes ∙ ap (λ s. and_goes (x.taken ++ h ∷ []) s a.traffic) (append-nil (sent_by x.steps))
 
 -- and then nothing more
-goes_no_more : {a m : Moment} {t : Option Traffic} {told : Option Known} (x : GoesOn a m told) → t ≡ option_map (and_goes [] []) m.traffic → t ≡ option_map (and_goes x.taken (sent_by x.steps)) a.traffic
+goes_no_more : {a m : Moment} {t : Carried} {told : Option Known} (x : GoesOn a m told) → t ≡ and_goes [] [] m.traffic → t ≡ and_goes x.taken (sent_by x.steps) a.traffic
 goes_no_more {a} {m} {t} {told} x goes =
-    goes ∙ ap (option_map (and_goes [] [])) x.traffic ∙ goes-append x.taken [] (sent_by x.steps) [] a.traffic
-    ∙ ap (λ hs. option_map (and_goes hs (sent_by x.steps ++ [])) a.traffic) (append-nil x.taken)
-    ∙ ap (λ s. option_map (and_goes x.taken s) a.traffic) (append-nil (sent_by x.steps))
+    goes ∙ ap (and_goes [] []) x.traffic ∙ goes-append x.taken [] (sent_by x.steps) [] a.traffic
+    ∙ ap (λ hs. and_goes hs (sent_by x.steps ++ []) a.traffic) (append-nil x.taken)
+    ∙ ap (λ s. and_goes x.taken s a.traffic) (append-nil (sent_by x.steps))
 
 -- the events with one more
 events_then : {a m : Moment} {told : Option Known} (x : GoesOn a m told) (h : Heard) (e : Event) → event_of m.router.links h ≡ Some e → events_done x.steps ++ e ∷ [] ≡ events_of a.router.links (x.taken ++ h ∷ [])
@@ -64,6 +65,7 @@ well {a} {m} {b} {told} {last} x e is = record {
   published = ap (λ k. k.tables) e.known ∙ x.tables;
   ends = record {
     ended = record { before = x.taken; no_end = x.no_end; is = refl };
+    over = e.over;
     events = x.events ∙ sym (append-nil (events_of a.router.links x.taken)) ∙ sym (events_of-append a.router.links x.taken (End ∷ []));
     router = e.router ∙ x.router;
     all_out = refl;
@@ -148,7 +150,7 @@ unpublished {a} {m} {b} {told} x e = record {
   chain = chain_then x e.step e.steps;
   traffic =
       goes_then x e.arrival e.step.gives.out.sent e.traffic
-      ∙ ap (λ s. option_map (and_goes (x.taken ++ e.arrival ∷ []) s) a.traffic) (ap (λ s. sent_by x.steps ++ s) (sym (append-nil e.step.gives.out.sent)) ∙ sym (sent_by-append x.steps (e.step ∷ [])));
+      ∙ ap (λ s. and_goes (x.taken ++ e.arrival ∷ []) s a.traffic) (ap (λ s. sent_by x.steps ++ s) (sym (append-nil e.step.gives.out.sent)) ∙ sym (sent_by-append x.steps (e.step ∷ [])));
   fib = ap (λ k. k.fib) e.known ∙ x.fib;
   published = ap (λ k. k.tables) e.known ∙ x.tables;
   ends = record {
@@ -173,3 +175,12 @@ whole a b (Err fault.Send) d = unsent d.goes_on d.ends
 whole a b (Err fault.Stopped) d = stands_still d.goes_on d.ends
 whole a b (Err fault.Publish) d = unpublished d.goes_on d.ends
 whole a b (Err fault.Thread) d = absurd d.ends
+
+-- all ticks that were counted are taken
+pub all_ticks : AllTicksAreTaken
+all_ticks a b told handed count d counted =
+    let goes : b.traffic ≡ and_goes (End ∷ []) [] (and_goes d.goes_on.taken (sent_by d.goes_on.steps) a.traffic) = d.ends.0.traffic ∙ ap (and_goes (End ∷ []) []) d.goes_on.traffic in
+    let there : b.traffic ≡ and_goes (End ∷ []) [] (and_goes d.goes_on.taken (sent_by d.goes_on.steps) (Ticks handed count)) = goes ∙ ap (λ (t : Carried). and_goes (End ∷ []) [] (and_goes d.goes_on.taken (sent_by d.goes_on.steps) t)) counted in
+    let over : IsOver (and_goes (End ∷ []) [] (and_goes d.goes_on.taken (sent_by d.goes_on.steps) (Ticks handed count))) = subst (λ (t : Carried). IsOver t) there d.ends.0.over in
+    let same : (handed + ticks_in d.goes_on.taken) + (0 + 0) ≡ count = over in
+    omega (arith, same)

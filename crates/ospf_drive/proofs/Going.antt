@@ -1,5 +1,5 @@
 -- A driver that goes on, turn by turn.
-use Rattle.std.proofs.Common.{◌≡◌, ◌++◌, ℕ, List, [], ◌∷◌, Option, None, Some, option_map, refl, ap, sym, subst, ◌∙◌, append_assoc}
+use Rattle.std.proofs.Common.{◌≡◌, ◌++◌, ℕ, List, [], ◌∷◌, Option, None, Some, refl, ap, sym, subst, ◌∙◌, append_assoc, ◌+◌, arith}
 use Rattle.std.proofs.lemmas.List.{append-nil}
 use Rattle.ospf_published.specs.Known.{Known, Table}
 use Rattle.ospf_area.specs.Outputs.{SentValue}
@@ -8,7 +8,8 @@ use Rattle.ospf_router.specs.Routers.{RouterValue}
 use Rattle.ospf_drive.proofs.Turning.{same_known}
 use Rattle.ospf_drive.specs.Drives.{GoesOn, last_told}
 use Rattle.ospf_drive.specs.Moments.{at, Moment, Done, HasNoEnd, IsChain, event_of, events_of, events_done, left_by, sent_by, table_of, tables_of}
-use Rattle.ospf_drive.specs.Traffic.{Heard, Traffic, and_goes}
+use Rattle.ospf_drive.specs.Traffic.{Heard, Carried, and_goes, ticks_in}
+use Rattle.ospf_drive.specs.Traffic.Carried.{Full, Ticks, Untold}
 use Rattle.ospf_drive.specs.Turns.{Turns}
 use Rattle.ospf_drive.specs.declared.turn.Course.{Course}
 use Rattle.ospf_drive.specs.declared.turn.Course.TheVariants.{On}
@@ -47,13 +48,22 @@ tables_of-append [] ys = refl
 tables_of-append (x ∷ xs) ys =
     ap (λ s. table_of x ++ s) (tables_of-append xs ys) ∙ sym (append_assoc (table_of x) (tables_of xs) (tables_of ys))
 
-pub goes-append : (hs hs' : List Heard) (s s' : List SentValue) (t : Option Traffic) → option_map (and_goes hs' s') (option_map (and_goes hs s) t) ≡ option_map (and_goes (hs ++ hs') (s ++ s')) t
-goes-append hs hs' s s' None = refl
-goes-append hs hs' s s' (Some t) = simp append_assoc
+ticks_in-append : (xs ys : List Heard) → ticks_in (xs ++ ys) ≡ ticks_in xs + ticks_in ys
+ticks_in-append [] ys = let none : ticks_in ys ≡ 0 + ticks_in ys = omega arith in none
+ticks_in-append (x ∷ xs) ys = let h = ticks_in-append xs ys in omega (arith, h)
 
-goes-none : (t : Option Traffic) → t ≡ option_map (and_goes [] []) t
-goes-none None = refl
-goes-none (Some t) = simp append-nil
+pub goes-append : (hs hs' : List Heard) (s s' : List SentValue) (t : Carried) → and_goes hs' s' (and_goes hs s t) ≡ and_goes (hs ++ hs') (s ++ s') t
+goes-append hs hs' s s' (Full t) = simp append_assoc
+goes-append hs hs' s s' (Ticks n count) =
+    let sum : ticks_in (hs ++ hs') ≡ ticks_in hs + ticks_in hs' = ticks_in-append hs hs' in
+    let all : (n + ticks_in hs) + ticks_in hs' ≡ n + ticks_in (hs ++ hs') = omega (arith, sum) in
+    ap (λ (m : ℕ). Ticks m count) all
+goes-append hs hs' s s' Untold = refl
+
+goes-none : (t : Carried) → t ≡ and_goes [] [] t
+goes-none (Full t) = simp append-nil
+goes-none (Ticks n count) = let none : n ≡ n + 0 = omega arith in ap (λ (m : ℕ). Ticks m count) none
+goes-none Untold = refl
 
 -- a writer's known tables, where none was published
 none_published : (k k' : Known) (tables : List Table) → k'.fib ≡ k.fib → k'.tables ≡ k.tables ++ tables → None ≡ last_told tables k' → k' ≡ k
@@ -74,7 +84,7 @@ told-later (z ∷ xs) [] k' x told = cc
 told-later (z ∷ xs) (y ∷ ys) k' x told = told
 
 -- it has not begun
-pub goes_none : {r : RouterValue} {t : Option Traffic} {f : ℕ} {k : Known} → GoesOn (at r t f k) (at r t f k) None
+pub goes_none : {r : RouterValue} {t : Carried} {f : ℕ} {k : Known} → GoesOn (at r t f k) (at r t f k) None
 goes_none {r} {t} {f} {k} = record {
   taken = [];
   steps = [];
@@ -105,9 +115,9 @@ both {a} {m} {b} {told} {told'} x y last tells = record {
   router = y.router ∙ ap (λ r. left_by r y.steps) x.router ∙ sym (left_by-append a.router x.steps y.steps);
   links = y.links ∙ x.links;
   traffic =
-      y.traffic ∙ ap (option_map (and_goes y.taken (sent_by y.steps))) x.traffic
+      y.traffic ∙ ap (and_goes y.taken (sent_by y.steps)) x.traffic
       ∙ goes-append x.taken y.taken (sent_by x.steps) (sent_by y.steps) a.traffic
-      ∙ ap (λ s. option_map (and_goes (x.taken ++ y.taken) s) a.traffic) (sym (sent_by-append x.steps y.steps));
+      ∙ ap (λ s. and_goes (x.taken ++ y.taken) s a.traffic) (sym (sent_by-append x.steps y.steps));
   failed = y.failed ∙ x.failed;
   fib = y.fib ∙ x.fib;
   tables =

@@ -1,15 +1,18 @@
 -- Datagrams that go out one after another.
-use Rattle.std.proofs.Common.{◌≡◌, ◌++◌, List, [], Option, None, Some, option_map, refl, append_assoc}
+use Rattle.std.proofs.Common.{◌≡◌, ◌++◌, List, [], Option, None, Some, refl, append_assoc}
 use Rattle.std.proofs.lemmas.List.{append-nil}
 use Rattle.ospf_area.specs.Outputs.{SentValue}
-use Rattle.ospf_drive.specs.Traffic.{Traffic, and_sends}
+use Rattle.ospf_drive.specs.Traffic.{Carried, and_sends}
+use Rattle.ospf_drive.specs.Traffic.Carried.{Full, Ticks, Untold}
 
 -- nothing went out
-pub sends_none : (t : Option Traffic) → t ≡ option_map (and_sends []) t
-sends_none None = refl
-sends_none (Some t) = simp append-nil
+pub sends_none : (t : Carried) → t ≡ and_sends [] t
+sends_none (Full t) = simp append-nil
+sends_none (Ticks n count) = refl
+sends_none Untold = refl
 
 -- and then one more
-pub sends_more : (xs ys : List SentValue) (t : Option Traffic) → option_map (and_sends ys) (option_map (and_sends xs) t) ≡ option_map (and_sends (xs ++ ys)) t
-sends_more xs ys None = refl
-sends_more xs ys (Some t) = simp append_assoc
+pub sends_more : (xs ys : List SentValue) (t : Carried) → and_sends ys (and_sends xs t) ≡ and_sends (xs ++ ys) t
+sends_more xs ys (Full t) = simp append_assoc
+sends_more xs ys (Ticks n count) = refl
+sends_more xs ys Untold = refl

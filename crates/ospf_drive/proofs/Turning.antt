@@ -1,5 +1,5 @@
 -- One turn of a driver, from what its calls say.
-use Rattle.std.proofs.Common.{◌≡◌, ◌++◌, ◌+◌, ◌<◌, ℕ, List, [], ◌∷◌, true, false, Option, None, Some, option_map, take, length, refl, ap, sym, ◌∙◌}
+use Rattle.std.proofs.Common.{◌≡◌, ◌++◌, ◌+◌, ◌<◌, ℕ, List, [], ◌∷◌, true, false, Option, None, Some, take, length, refl, ap, sym, ◌∙◌, arith}
 use Rattle.std.proofs.lemmas.List.{append-nil}
 use Rattle.logbook.specs.Pages.{Book}
 use Rattle.ospf_published.specs.Known.{Known, Table}
@@ -10,7 +10,8 @@ use Rattle.ospf_router.specs.Steps.{Steps}
 use Rattle.ospf_router.specs.declared.router.Step.{Step}
 use Rattle.ospf_drive.specs.Drives.{GoesOn, FailsToSend, FailsToPublish, last_told}
 use Rattle.ospf_drive.specs.Moments.{at, Done, event_of, events_of, is_end, table_of}
-use Rattle.ospf_drive.specs.Traffic.{Heard, Traffic, heard, and_hears, and_sends, and_goes}
+use Rattle.ospf_drive.specs.Traffic.{Heard, Carried, heard, and_hears, and_sends, and_goes, tick_in}
+use Rattle.ospf_drive.specs.Traffic.Carried.{Full, Ticks, Untold}
 use Rattle.ospf_drive.specs.declared.wire.Arrival.{Arrival}
 use Rattle.ospf_drive.specs.declared.wire.Arrival.TheVariants as arrival
 
@@ -23,14 +24,16 @@ is_end-heard (arrival.LinkDown link) buffer not = refl
 is_end-heard arrival.End buffer not = absurd (not refl)
 
 -- an arrival was heard, and nothing went out
-pub goes-heard : (h : Heard) (t : Option Traffic) → option_map (and_hears h) t ≡ option_map (and_goes (h ∷ []) []) t
-goes-heard h None = refl
-goes-heard h (Some t) = simp append-nil
+pub goes-heard : (h : Heard) (t : Carried) → and_hears h t ≡ and_goes (h ∷ []) [] t
+goes-heard h (Full t) = simp append-nil
+goes-heard h (Ticks n count) = let one : n + tick_in h ≡ n + (tick_in h + 0) = omega arith in ap (λ (m : ℕ). Ticks m count) one
+goes-heard h Untold = refl
 
 -- an arrival was heard, and these datagrams went out
-pub goes-sent : (h : Heard) (sent : List SentValue) (t : Option Traffic) → option_map (and_sends sent) (option_map (and_hears h) t) ≡ option_map (and_goes (h ∷ []) sent) t
-goes-sent h sent None = refl
-goes-sent h sent (Some t) = refl
+pub goes-sent : (h : Heard) (sent : List SentValue) (t : Carried) → and_sends sent (and_hears h t) ≡ and_goes (h ∷ []) sent t
+goes-sent h sent (Full t) = refl
+goes-sent h sent (Ticks n count) = let one : n + tick_in h ≡ n + (tick_in h + 0) = omega arith in ap (λ (m : ℕ). Ticks m count) one
+goes-sent h sent Untold = refl
 
 -- an arrival of no event
 events_of-none : (links : ℕ) (h : Heard) → event_of links h ≡ None → events_of links (h ∷ []) ≡ []
@@ -48,7 +51,7 @@ not_end-of links Heard.End e some = cc
 pub events_of-some : (links : ℕ) (h : Heard) (e : Event) → event_of links h ≡ Some e → events_of links (h ∷ []) ≡ e ∷ []
 events_of-some links h e is = rw (is, events_of)
 
-pub passed_over : (h : Heard) {r : RouterValue} {t t' : Option Traffic} {f f' : ℕ} {k : Known} → is_end h ≡ false → event_of r.links h ≡ None → t' ≡ option_map (and_hears h) t → f' ≡ f → GoesOn (at r t f k) (at r t' f' k) None
+pub passed_over : (h : Heard) {r : RouterValue} {t t' : Carried} {f f' : ℕ} {k : Known} → is_end h ≡ false → event_of r.links h ≡ None → t' ≡ and_hears h t → f' ≡ f → GoesOn (at r t f k) (at r t' f' k) None
 passed_over h {r} {t} {t'} {f} {f'} {k} not none took same = record {
   taken = h ∷ [];
   steps = [];
@@ -64,7 +67,7 @@ passed_over h {r} {t} {t'} {f} {f'} {k} not none took same = record {
   tells = refl;
 }
 
-pub stepped : (h : Heard) (e : Event) (g : Step) {r r' : RouterValue} {t t₁ t₂ : Option Traffic} {f f' : ℕ} {k k' : Known} {told : Option Known} → is_end h ≡ false → event_of r.links h ≡ Some e → t₁ ≡ option_map (and_hears h) t → Steps e r g r' → t₂ ≡ option_map (and_sends g.out.sent) t₁ → f' ≡ f → k'.fib ≡ k.fib → k'.tables ≡ k.tables ++ table_of (record { event = e; gives = g; after = r' }) → told ≡ last_told (table_of (record { event = e; gives = g; after = r' })) k' → GoesOn (at r t f k) (at r' t₂ f' k') told
+pub stepped : (h : Heard) (e : Event) (g : Step) {r r' : RouterValue} {t t₁ t₂ : Carried} {f f' : ℕ} {k k' : Known} {told : Option Known} → is_end h ≡ false → event_of r.links h ≡ Some e → t₁ ≡ and_hears h t → Steps e r g r' → t₂ ≡ and_sends g.out.sent t₁ → f' ≡ f → k'.fib ≡ k.fib → k'.tables ≡ k.tables ++ table_of (record { event = e; gives = g; after = r' }) → told ≡ last_told (table_of (record { event = e; gives = g; after = r' })) k' → GoesOn (at r t f k) (at r' t₂ f' k') told
 stepped h e g {r} {r'} {t} {t₁} {t₂} {f} {f'} {k} {k'} {told} not some took steps sent same fib tables tells =
     let d : Done = record { event = e; gives = g; after = r' } in
     record {
@@ -75,14 +78,14 @@ stepped h e g {r} {r'} {t} {t₁} {t₂} {f} {f'} {k} {k'} {told} not some took 
       chain = (steps, tt);
       router = refl;
       links = steps.same_links;
-      traffic = sent ∙ ap (option_map (and_sends g.out.sent)) took ∙ goes-sent h g.out.sent t ∙ ap (λ s. option_map (and_goes (h ∷ []) s) t) (sym (append-nil g.out.sent));
+      traffic = sent ∙ ap (and_sends g.out.sent) took ∙ goes-sent h g.out.sent t ∙ ap (λ s. and_goes (h ∷ []) s t) (sym (append-nil g.out.sent));
       failed = same;
       fib = fib;
       tables = tables ∙ ap (λ s. k.tables ++ s) (sym (append-nil (table_of d)));
       tells = tells ∙ ap (λ s. last_told s k') (sym (append-nil (table_of d)));
     }
 
-pub failed_to_send : (h : Heard) (e : Event) (g : Step) (count : ℕ) {r r' : RouterValue} {t t₁ t₂ : Option Traffic} {f f' : ℕ} {k : Known} → event_of r.links h ≡ Some e → t₁ ≡ option_map (and_hears h) t → Steps e r g r' → count < length g.out.sent → t₂ ≡ option_map (and_sends (take count g.out.sent)) t₁ → f' ≡ f + 1 → FailsToSend (at r t f k) (at r' t₂ f' k)
+pub failed_to_send : (h : Heard) (e : Event) (g : Step) (count : ℕ) {r r' : RouterValue} {t t₁ t₂ : Carried} {f f' : ℕ} {k : Known} → event_of r.links h ≡ Some e → t₁ ≡ and_hears h t → Steps e r g r' → count < length g.out.sent → t₂ ≡ and_sends (take count g.out.sent) t₁ → f' ≡ f + 1 → FailsToSend (at r t f k) (at r' t₂ f' k)
 failed_to_send h e g count {r} {r'} {t} {t₁} {t₂} {f} {f'} {k} some took steps short sent more = record {
   arrival = h;
   step = record { event = e; gives = g; after = r' };
@@ -91,12 +94,12 @@ failed_to_send h e g count {r} {r'} {t} {t₁} {t₂} {f} {f'} {k} some took ste
   steps = steps;
   router = refl;
   short = short;
-  traffic = sent ∙ ap (option_map (and_sends (take count g.out.sent))) took ∙ goes-sent h (take count g.out.sent) t;
+  traffic = sent ∙ ap (and_sends (take count g.out.sent)) took ∙ goes-sent h (take count g.out.sent) t;
   failed = more;
   known = refl;
 }
 
-pub failed_to_publish : (h : Heard) (e : Event) (g : Step) {r r' : RouterValue} {t t₁ t₂ : Option Traffic} {f f' : ℕ} {k k' : Known} → event_of r.links h ≡ Some e → t₁ ≡ option_map (and_hears h) t → Steps e r g r' → t₂ ≡ option_map (and_sends g.out.sent) t₁ → f' ≡ f → g.table_changed ≡ true → k' ≡ k → FailsToPublish (at r t f k) (at r' t₂ f' k')
+pub failed_to_publish : (h : Heard) (e : Event) (g : Step) {r r' : RouterValue} {t t₁ t₂ : Carried} {f f' : ℕ} {k k' : Known} → event_of r.links h ≡ Some e → t₁ ≡ and_hears h t → Steps e r g r' → t₂ ≡ and_sends g.out.sent t₁ → f' ≡ f → g.table_changed ≡ true → k' ≡ k → FailsToPublish (at r t f k) (at r' t₂ f' k')
 failed_to_publish h e g {r} {r'} {t} {t₁} {t₂} {f} {f'} {k} {k'} some took steps sent same changed known = record {
   arrival = h;
   step = record { event = e; gives = g; after = r' };
@@ -104,13 +107,13 @@ failed_to_publish h e g {r} {r'} {t} {t₁} {t₂} {f} {f'} {k} {k'} some took s
   steps = steps;
   changed = changed;
   router = refl;
-  traffic = sent ∙ ap (option_map (and_sends g.out.sent)) took ∙ goes-sent h g.out.sent t;
+  traffic = sent ∙ ap (and_sends g.out.sent) took ∙ goes-sent h g.out.sent t;
   failed = same;
   known = known;
 }
 
 -- a step that left the table as it was
-pub stepped_quietly : (h : Heard) (e : Event) (g : Step) {r r' : RouterValue} {t t₁ t₂ : Option Traffic} {f f₁ f' : ℕ} {k : Known} → is_end h ≡ false → event_of r.links h ≡ Some e → t₁ ≡ option_map (and_hears h) t → Steps e r g r' → t₂ ≡ option_map (and_sends g.out.sent) t₁ → f₁ ≡ f → f' ≡ f₁ → g.table_changed ≡ false → GoesOn (at r t f k) (at r' t₂ f' k) None
+pub stepped_quietly : (h : Heard) (e : Event) (g : Step) {r r' : RouterValue} {t t₁ t₂ : Carried} {f f₁ f' : ℕ} {k : Known} → is_end h ≡ false → event_of r.links h ≡ Some e → t₁ ≡ and_hears h t → Steps e r g r' → t₂ ≡ and_sends g.out.sent t₁ → f₁ ≡ f → f' ≡ f₁ → g.table_changed ≡ false → GoesOn (at r t f k) (at r' t₂ f' k) None
 stepped_quietly h e g {r} {r'} {t} {t₁} {t₂} {f} {f₁} {f'} {k} not some took steps sent heard_same sent_same changed =
     let none : table_of (record { event = e; gives = g; after = r' }) ≡ [] = rw changed in
     stepped h e g not some took steps sent (sent_same ∙ heard_same) refl
@@ -118,7 +121,7 @@ stepped_quietly h e g {r} {r'} {t} {t₁} {t₂} {f} {f₁} {f'} {k} not some to
     (ap (λ s. last_told s k) (sym none))
 
 -- a step whose table was published
-pub stepped_published : (h : Heard) (e : Event) (g : Step) {r r' : RouterValue} {t t₁ t₂ : Option Traffic} {f f₁ f' : ℕ} {k k' told : Known} {table : Table} → is_end h ≡ false → event_of r.links h ≡ Some e → t₁ ≡ option_map (and_hears h) t → Steps e r g r' → t₂ ≡ option_map (and_sends g.out.sent) t₁ → f₁ ≡ f → f' ≡ f₁ → g.table_changed ≡ true → table ≡ r'.table → k'.fib ≡ k.fib → k'.tables ≡ k.tables ++ table ∷ [] → told ≡ k' → GoesOn (at r t f k) (at r' t₂ f' k') (Some told)
+pub stepped_published : (h : Heard) (e : Event) (g : Step) {r r' : RouterValue} {t t₁ t₂ : Carried} {f f₁ f' : ℕ} {k k' told : Known} {table : Table} → is_end h ≡ false → event_of r.links h ≡ Some e → t₁ ≡ and_hears h t → Steps e r g r' → t₂ ≡ and_sends g.out.sent t₁ → f₁ ≡ f → f' ≡ f₁ → g.table_changed ≡ true → table ≡ r'.table → k'.fib ≡ k.fib → k'.tables ≡ k.tables ++ table ∷ [] → told ≡ k' → GoesOn (at r t f k) (at r' t₂ f' k') (Some told)
 stepped_published h e g {r} {r'} {t} {t₁} {t₂} {f} {f₁} {f'} {k} {k'} {told} {table} not some took steps sent heard_same sent_same changed same_table fib tables tells =
     let one : table_of (record { event = e; gives = g; after = r' }) ≡ r'.table ∷ [] = rw changed in
     stepped h e g not some took steps sent (sent_same ∙ heard_same) fib

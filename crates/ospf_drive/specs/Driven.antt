@@ -4,7 +4,7 @@ use Rattle.ospf_published.specs.Known.{Known}
 use Rattle.ospf_router.specs.Routers.{RouterValue}
 use Rattle.ospf_drive.specs.Drives.{Drives}
 use Rattle.ospf_drive.specs.Moments.{Moment, at}
-use Rattle.ospf_drive.specs.Traffic.{Traffic}
+use Rattle.ospf_drive.specs.Traffic.{Carried}
 use Rattle.ospf_drive.specs.declared.fault.DriveFault.{DriveFault}
 use Rattle.ospf_drive.specs.declared.fault.DriveFault.TheVariants as fault
 
@@ -14,7 +14,7 @@ Outcome = Result (RouterValue × Known × Option Known) DriveFault
 
 -- the driver came to the end of what its wire handed over, with these
 pub record DrivesToEnd (a : Moment) (router : RouterValue) (known : Known) (told : Option Known) : Type 0 where
-  pub traffic : Option Traffic
+  pub traffic : Carried
   pub failed : ℕ
   pub drives : Drives a (at router traffic failed known) (Ok told)
 

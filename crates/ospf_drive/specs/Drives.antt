@@ -1,12 +1,12 @@
 -- What a driver does.
-use Rattle.std.specs.Prelude.{◌≡◌, ◌+◌, ◌<◌, ◌++◌, ℕ, List, [], ◌∷◌, true, Option, None, Some, Result, Ok, Err, option_map, take, length}
+use Rattle.std.specs.Prelude.{◌≡◌, ◌+◌, ◌<◌, ◌++◌, ℕ, List, [], ◌∷◌, true, Option, None, Some, Result, Ok, Err, take, length}
 use Rattle.ospf_published.specs.Known.{Known, Table}
 use Rattle.ospf_area.specs.Outputs.{SentValue}
 use Rattle.ospf_laws.specs.Step.{Event}
 use Rattle.ospf_router.specs.Routers.{stopped}
 use Rattle.ospf_router.specs.Steps.{Steps}
 use Rattle.ospf_drive.specs.Moments.{Moment, Done, event_of, events_of, events_done, HasNoEnd, IsChain, left_by, sent_by, tables_of}
-use Rattle.ospf_drive.specs.Traffic.{Heard, and_goes}
+use Rattle.ospf_drive.specs.Traffic.{Heard, IsOver, and_goes}
 use Rattle.ospf_drive.specs.Traffic.Heard.{End}
 use Rattle.ospf_drive.specs.declared.fault.DriveFault.{DriveFault}
 use Rattle.ospf_drive.specs.declared.fault.DriveFault.TheVariants as fault
@@ -26,7 +26,7 @@ pub record GoesOn (a b : Moment) (told : Option Known) : Type 0 where
   pub chain : IsChain a.router steps
   pub router : b.router ≡ left_by a.router steps
   pub links : b.router.links ≡ a.router.links
-  pub traffic : b.traffic ≡ option_map (and_goes taken (sent_by steps)) a.traffic
+  pub traffic : b.traffic ≡ and_goes taken (sent_by steps) a.traffic
   pub failed : b.failed ≡ a.failed
   pub fib : b.known.fib ≡ a.known.fib
   pub tables : b.known.tables ≡ a.known.tables ++ tables_of steps
@@ -34,12 +34,13 @@ pub record GoesOn (a b : Moment) (told : Option Known) : Type 0 where
 
 -- the arrivals taken and the datagrams sent are these and no others
 abbrev pub Goes : Moment → List Heard → List SentValue → Moment → Type 0
-Goes a taken out b = b.traffic ≡ option_map (and_goes taken out) a.traffic
+Goes a taken out b = b.traffic ≡ and_goes taken out a.traffic
 
--- the end came, and nothing else
+-- the end came, and nothing else: where the wire counts its ticks, after the last of them
 pub record Ended (a b : Moment) : Type 0 where
   pub router : b.router ≡ a.router
   pub traffic : Goes a (End ∷ []) [] b
+  pub over : IsOver b.traffic
   pub failed : b.failed ≡ a.failed
   pub known : b.known ≡ a.known
 

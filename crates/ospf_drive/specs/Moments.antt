@@ -6,17 +6,17 @@ use Rattle.ospf_laws.specs.Step.{Event}
 use Rattle.ospf_router.specs.Routers.{RouterValue}
 use Rattle.ospf_router.specs.Steps.{Steps}
 use Rattle.ospf_router.specs.declared.router.Step.{Step}
-use Rattle.ospf_drive.specs.Traffic.{Heard, Traffic}
+use Rattle.ospf_drive.specs.Traffic.{Heard, Carried}
 use Rattle.ospf_drive.specs.Traffic.Heard.{Datagram, Tick, LinkUp, LinkDown, End}
 
 -- the router, the wire's traffic where it is told, how often the wire has failed, and what the writer has published
 pub record Moment : Type 0 where
   pub router : RouterValue
-  pub traffic : Option Traffic
+  pub traffic : Carried
   pub failed : ℕ
   pub known : Known
 
-abbrev pub at : RouterValue → Option Traffic → ℕ → Known → Moment
+abbrev pub at : RouterValue → Carried → ℕ → Known → Moment
 at router traffic failed known =
     record { router = router; traffic = traffic; failed = failed; known = known }
 

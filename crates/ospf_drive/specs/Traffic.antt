@@ -1,5 +1,5 @@
 -- What a wire has handed over and sent.
-use Rattle.std.specs.Prelude.{ℕ, List, [], ◌∷◌, ◌++◌, take}
+use Rattle.std.specs.Prelude.{⊤, ◌≡◌, ◌+◌, ℕ, List, [], ◌∷◌, ◌++◌, take}
 use Rattle.ospf_base.specs.declared.ids.Addr.{Addr}
 use Rattle.ospf_area.specs.Outputs.{SentValue}
 use Rattle.ospf_drive.specs.declared.wire.Arrival.{Arrival}
@@ -27,14 +27,41 @@ pub record Traffic : Type 0 where
   pub taken : List Heard
   pub out : List SentValue
 
+-- what a wire tells of that: all of it; only how many ticks it has handed over, of so many before the end; or nothing
+pub data Carried : Type 0 where
+  Full : Traffic → Carried
+  Ticks : (handed count : ℕ) → Carried
+  Untold : Carried
+
+-- how many ticks an arrival is
+abbrev pub tick_in : Heard → ℕ
+tick_in Tick = 1
+tick_in _ = 0
+
+-- and how many are among arrivals
+abbrev pub ticks_in : List Heard → ℕ
+ticks_in [] = 0
+ticks_in (h ∷ hs) = tick_in h + ticks_in hs
+
 -- and then this arrival
-abbrev pub and_hears : Heard → Traffic → Traffic
-and_hears h t = record { taken = t.taken ++ h ∷ []; out = t.out }
+abbrev pub and_hears : Heard → Carried → Carried
+and_hears h (Full t) = Full (record { taken = t.taken ++ h ∷ []; out = t.out })
+and_hears h (Ticks handed count) = Ticks (handed + tick_in h) count
+and_hears h Untold = Untold
 
 -- and then these datagrams
-abbrev pub and_sends : List SentValue → Traffic → Traffic
-and_sends sent t = record { taken = t.taken; out = t.out ++ sent }
+abbrev pub and_sends : List SentValue → Carried → Carried
+and_sends sent (Full t) = Full (record { taken = t.taken; out = t.out ++ sent })
+and_sends sent (Ticks handed count) = Ticks handed count
+and_sends sent Untold = Untold
 
 -- and then these arrivals and these datagrams
-abbrev pub and_goes : List Heard → List SentValue → Traffic → Traffic
-and_goes taken out t = record { taken = t.taken ++ taken; out = t.out ++ out }
+abbrev pub and_goes : List Heard → List SentValue → Carried → Carried
+and_goes taken out (Full t) = Full (record { taken = t.taken ++ taken; out = t.out ++ out })
+and_goes taken out (Ticks handed count) = Ticks (handed + ticks_in taken) count
+and_goes taken out Untold = Untold
+
+-- where the ticks are counted, all have been handed over
+abbrev pub IsOver : Carried → Type 0
+IsOver (Ticks handed count) = handed ≡ count
+IsOver _ = ⊤

@@ -1,12 +1,13 @@
 -- A whole call of a driver: the arrivals that it took, and one list of steps.
-use Rattle.std.specs.Prelude.{◌≡◌, ◌+◌, ◌<◌, ◌++◌, ℕ, List, [], ◌∷◌, true, Option, Result, Ok, Err, option_map, take, length}
+use Rattle.std.specs.Prelude.{◌≡◌, ◌+◌, ◌<◌, ◌++◌, ℕ, List, [], ◌∷◌, true, Option, Result, Ok, Err, take, length}
 use Rattle.ospf_area.specs.Outputs.{SentValue}
 use Rattle.ospf_laws.specs.Step.{Event}
 use Rattle.ospf_published.specs.Known.{Known, Table}
 use Rattle.ospf_router.specs.Routers.{stopped}
 use Rattle.ospf_drive.specs.Drives.{Drives, last_told}
 use Rattle.ospf_drive.specs.Moments.{Moment, Done, HasNoEnd, IsChain, events_done, events_of, left_by, sent_by, tables_of}
-use Rattle.ospf_drive.specs.Traffic.{Heard, and_goes}
+use Rattle.ospf_drive.specs.Traffic.{Heard, IsOver, and_goes, ticks_in}
+use Rattle.ospf_drive.specs.Traffic.Carried.{Ticks}
 use Rattle.ospf_drive.specs.Traffic.Heard.{End}
 use Rattle.ospf_drive.specs.declared.fault.DriveFault.{DriveFault}
 use Rattle.ospf_drive.specs.declared.fault.DriveFault.TheVariants as fault
@@ -21,10 +22,11 @@ pub record EndsInEnd (taken : List Heard) : Type 0 where
 pub record IsLast (steps before : List Done) (last : Done) : Type 0 where
   pub is : steps ≡ before ++ last ∷ []
 
--- the end came last: each arrival that is not passed over was a step, all that these sent went out, and each table that one
+-- the end came last, where the wire counts its ticks after the last of them: each arrival that is not passed over was a step, all that these sent went out, and each table that one
 -- of them changed was published. The last of these publishes is told
 pub record EndsWell (a b : Moment) (taken : List Heard) (steps : List Done) (out : List SentValue) (tables : List Table) (told : Option Known) : Type 0 where
   pub ended : EndsInEnd taken
+  pub over : IsOver b.traffic
   pub events : events_done steps ≡ events_of a.router.links taken
   pub router : b.router ≡ left_by a.router steps
   pub all_out : out ≡ sent_by steps
@@ -94,7 +96,7 @@ pub record Whole (a b : Moment) (result : Result (Option Known) DriveFault) : Ty
   pub out : List SentValue
   pub tables : List Table
   pub chain : IsChain a.router steps
-  pub traffic : b.traffic ≡ option_map (and_goes taken out) a.traffic
+  pub traffic : b.traffic ≡ and_goes taken out a.traffic
   pub fib : b.known.fib ≡ a.known.fib
   pub published : b.known.tables ≡ a.known.tables ++ tables
   pub ends : EndsAs a b taken steps out tables result
@@ -102,3 +104,7 @@ pub record Whole (a b : Moment) (result : Result (Option Known) DriveFault) : Ty
 -- what a driver does turn by turn is that
 abbrev pub DrivesAreWhole : Type 0
 DrivesAreWhole = (a b : Moment) (result : Result (Option Known) DriveFault) → Drives a b result → Whole a b result
+
+-- where the wire counts its ticks, a driver that comes to the end has taken all of them, and no more
+abbrev pub AllTicksAreTaken : Type 0
+AllTicksAreTaken = (a b : Moment) (told : Option Known) (handed count : ℕ) (drives : Drives a b (Ok told)) → a.traffic ≡ Ticks handed count → handed + ticks_in drives.goes_on.taken ≡ count

@@ -12,7 +12,7 @@ mod wire;
 pub use crate::all::{Driven, Job, drive_all};
 pub use crate::driver::drive;
 pub use crate::fault::DriveFault;
-pub use crate::laws::drives_are_whole;
+pub use crate::laws::{all_ticks_are_taken, drives_are_whole};
 pub use crate::memory::{MemoryWire, Scripted};
 pub use crate::wire::{Arrival, LONGEST, Wire, WireFault};
 pub use ospf_router::{Router, Sent};

@@ -141,10 +141,10 @@ impl MemoryWire {
 }
 
 impl Wire for MemoryWire {
-    ghost use Rattle.std.specs.Prelude.{Some};
     ghost use Rattle.ospf_drive.specs.Scripts.{told_by_script};
+    ghost use Rattle.ospf_drive.specs.Traffic.Carried.{Full};
 
-    ghost traffic = { λ w. Some (told_by_script w.arrivals w.taken w.out) };
+    ghost traffic = { λ w. Full (told_by_script w.arrivals w.taken w.out) };
 
     ghost failed = { λ w. w.failed };
 
@@ -159,8 +159,6 @@ impl Wire for MemoryWire {
         self.taken += 1;
         Ok(arrival)
     }
-
-    fn sees(&mut self, _router: &Router) {}
 
     fn send(&mut self, sent: &Sent) -> Result<(), WireFault> {
         let (fails, good) = count_down(self.good_sends);

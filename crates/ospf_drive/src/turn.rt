@@ -1,6 +1,6 @@
 //! One turn of a driver: one arrival, and all that follows from it.
 
-ghost use Rattle.std.specs.Prelude.{◌≡◌, ◌+◌, ◌<◌, ◌^◌, ◌∷◌, [], ℕ, IfOk, IfErr, OnOk, OnErr, IfSome, IfNone, Some, None, option_map, take, length};
+ghost use Rattle.std.specs.Prelude.{◌≡◌, ◌+◌, ◌<◌, ◌^◌, ◌∷◌, [], ℕ, IfOk, IfErr, OnOk, OnErr, IfSome, IfNone, Some, None, take, length};
 ghost use Rattle.ospf_router.specs.Steps.{happening};
 ghost use Rattle.ospf_drive.specs.Traffic.{heard, and_sends};
 ghost use Rattle.ospf_drive.specs.Moments.{at, event_of};
@@ -68,9 +68,9 @@ fn event_at<'a>(router: &Router, arrival: Arrival, buffer: &'a [u8; LONGEST]) ->
 // Sends them in order, up to a failure.
 fn send_all<W: Wire>(wire: &mut W, sent: &[Sent]) -> Result<(), WireFault>
     requires { W.failed wire.old + 1 < 2 ^ 64 }
-    ensures out { OnOk result (W.traffic wire.new ≡ option_map (and_sends sent.now) (W.traffic wire.old)) }
+    ensures out { OnOk result (W.traffic wire.new ≡ and_sends sent.now (W.traffic wire.old)) }
     ensures out_failures { OnOk result (W.failed wire.new ≡ W.failed wire.old) }
-    ensures some_out { OnErr result ((count : ℕ) × (count < length sent.now) × (W.traffic wire.new ≡ option_map (and_sends (take count sent.now)) (W.traffic wire.old))) }
+    ensures some_out { OnErr result ((count : ℕ) × (count < length sent.now) × (W.traffic wire.new ≡ and_sends (take count sent.now) (W.traffic wire.old))) }
     ensures some_failures { OnErr result (W.failed wire.new ≡ W.failed wire.old + 1) }
 {
     for one in sent {
@@ -82,9 +82,9 @@ fn send_all<W: Wire>(wire: &mut W, sent: &[Sent]) -> Result<(), WireFault>
 // Shows the wire what became of the router, and sends what its step puts out.
 fn show_and_send<W: Wire>(wire: &mut W, router: &Router, sent: &[Sent]) -> Result<(), WireFault>
     requires { W.failed wire.old + 1 < 2 ^ 64 }
-    ensures out { OnOk result (W.traffic wire.new ≡ option_map (and_sends sent.now) (W.traffic wire.old)) }
+    ensures out { OnOk result (W.traffic wire.new ≡ and_sends sent.now (W.traffic wire.old)) }
     ensures out_failures { OnOk result (W.failed wire.new ≡ W.failed wire.old) }
-    ensures some_out { OnErr result ((count : ℕ) × (count < length sent.now) × (W.traffic wire.new ≡ option_map (and_sends (take count sent.now)) (W.traffic wire.old))) }
+    ensures some_out { OnErr result ((count : ℕ) × (count < length sent.now) × (W.traffic wire.new ≡ and_sends (take count sent.now) (W.traffic wire.old))) }
     ensures some_failures { OnErr result (W.failed wire.new ≡ W.failed wire.old + 1) }
 {
     wire.sees(router);

@@ -1,6 +1,6 @@
 -- Lists that go along with each other.
-use Rattle.std.proofs.Common.{◌≡◌, ◌∙◌, ap, sym, subst, refl, ◌+◌, ◌<◌, ◌≤◌, ℕ, ℤ, suc, List, [], ◌∷◌, ◌++◌, All, length, take, drop, get_or, arith, add-one, length-append}
-use Rattle.std.proofs.lemmas.List.{take_more, append-nil, take_all}
+use Rattle.std.proofs.Common.{◌≡◌, ◌∙◌, ap, sym, subst, refl, ◌+◌, ◌<◌, ◌≤◌, ℕ, suc, List, [], ◌∷◌, ◌++◌, All, length, take, drop, get_or, arith, add-one, length-append, map, append_assoc}
+use Rattle.std.proofs.lemmas.List.{take_more, append-nil, take_all, map-append}
 use Rattle.std.proofs.lemmas.List.Elements.{All-cons, All-drop, All-get_or, All-nil, All-append}
 use Rattle.std.proofs.Math.Seq.{drop-cons}
 use Rattle.std.proofs.lemmas.List.{flat_map_more}
@@ -9,6 +9,7 @@ use Rattle.std.specs.Prelude.{Option, flat_map}
 use Rattle.ospf_config.specs.declared.config.Config.{Config}
 use Rattle.ospf_drive.specs.Driven.{IsDriven, Outcome as Driven, Pairs}
 use Rattle.ospf_drive.specs.Moments.{Moment}
+use Rattle.ospf_drive.specs.Traffic.Carried.{Ticks}
 use Rattle.ospf_drive.proofs.Jobs.{of_first, of_later}
 use Rattle.ospf_drive.proofs.Joined.{pairs_then}
 use Rattle.ospf_base.specs.declared.ids.Addr.{Addr}
@@ -16,7 +17,7 @@ use Rattle.ospf_files.specs.declared.files.NamedFile.{NamedFile}
 use Rattle.ospf_files.proofs.Written.{both_written}
 use Rattle.ospf_published.specs.Known.{Known}
 use Rattle.ospf_run.specs.Lookers.{IsFrom}
-use Rattle.ospf_run.specs.Runs.{AreOutcomes, Begins, IsOutcome, Trio, Trios}
+use Rattle.ospf_run.specs.Runs.{AreOutcomes, Begins, IsOutcome, Terms, Trio, Trios}
 use Rattle.ospf_run.specs.declared.finish.Outcome.{Outcome}
 use Rattle.ospf_run.specs.declared.look.Looker.{Looker}
 
@@ -65,46 +66,67 @@ all_paired R P Q (x ∷ xs) [] then pairs all = absurd pairs
 all_paired R P Q (x ∷ xs) (y ∷ ys) then pairs all =
     All-cons Q y ys (then x y pairs.0 (of_first P (x ∷ xs) x refl (omega (arith)) all)) (all_paired R P Q xs ys then pairs.1 (of_later P (x ∷ xs) xs refl all))
 
+-- what has begun is over the first of what there is, and the rest is left
+pub over_more : {J W : Type 0} (f : J → W) (all : List W) (jobs more : List J) (left later : List W) (job : J) (wire : W) → map f jobs ++ left ≡ all → 0 < length left
+    → wire ≡ get_or left 0 wire → later ≡ take 0 left ++ drop (0 + 1) left → f job ≡ wire → more ≡ jobs ++ job ∷ [] → map f more ++ later ≡ all
+over_more {J} {W} f all jobs more [] later job wire over some first after same more_is = let no : ⊥ = omega (arith, some) in absurd no
+over_more {J} {W} f all jobs more (w ∷ left) later job wire over some first after same more_is =
+    ap (λ (xs : List J). map f xs ++ later) more_is ∙ ap (λ (xs : List W). xs ++ later) (map-append f jobs (job ∷ []))
+    ∙ append_assoc (map f jobs) (f job ∷ []) later ∙ ap (λ (x : W). map f jobs ++ x ∷ later) (same ∙ first) ∙ ap (λ (xs : List W). map f jobs ++ w ∷ xs) after ∙ over
+
+-- and all of it, where nothing is left
+pub over_all : {J W : Type 0} (f : J → W) (all : List W) (jobs : List J) (left : List W) → map f jobs ++ left ≡ all → length left ≡ 0 → map f jobs ≡ all
+over_all f all jobs [] over none = sym (append-nil (map f jobs)) ∙ over
+over_all f all jobs (w ∷ left) over none = cc
+
+-- what holds of all wires holds of the wires of all jobs
+pub all_over : {J W : Type 0} (f : J → W) (P : W → Type 0) (jobs : List J) (wires : List W) → map f jobs ≡ wires → All P wires → All (λ job. P (f job)) jobs
+all_over {J} {W} f P jobs wires over all = go jobs (subst (λ (ws : List W). All P ws) (sym over) all)
+  where
+    go : (js : List J) → All P (map f js) → All (λ job. P (f job)) js
+    go [] h = All-nil (λ job. P (f job))
+    go (j ∷ js) h = All-cons (λ job. P (f job)) j js (of_first P (f j ∷ map f js) (f j) refl (omega (arith)) h) (go js (of_later P (f j ∷ map f js) (map f js) refl h))
+
 -- what began and what came of it, router by router
-pub trios_of : {J : Type 0} (begins : J → Moment) (floor : ℤ) (configs : List Config) (jobs : List J) (drivens : List Driven) (seats : List Known) (lookers : List Looker)
-    → Pairs (λ config job. Begins floor config (begins job).router (begins job).known) configs jobs → Pairs (λ job driven. IsDriven (begins job) driven) jobs drivens
-    → Pairs (λ job seat. seat ≡ (begins job).known) jobs seats → Pairs IsFrom seats lookers → Trios floor configs drivens lookers
-trios_of begins floor [] [] [] [] [] p q r s = tt
-trios_of begins floor [] [] [] [] (l ∷ ls) p q r s = absurd s
-trios_of begins floor [] [] [] (k ∷ ks) ls p q r s = absurd r
-trios_of begins floor [] [] (d ∷ ds) ks ls p q r s = absurd q
-trios_of begins floor [] (j ∷ js) ds ks ls p q r s = absurd p
-trios_of begins floor (c ∷ cs) [] ds ks ls p q r s = absurd p
-trios_of begins floor (c ∷ cs) (j ∷ js) [] ks ls p q r s = absurd q
-trios_of begins floor (c ∷ cs) (j ∷ js) (d ∷ ds) [] ls p q r s = absurd r
-trios_of begins floor (c ∷ cs) (j ∷ js) (d ∷ ds) (k ∷ ks) [] p q r s = absurd s
-trios_of begins floor (c ∷ cs) (j ∷ js) (d ∷ ds) (k ∷ ks) (l ∷ ls) p q r s =
-    (record { a = begins j; begins = p.0; ended = q.0; looks = subst (λ (known : Known). IsFrom known l) r.0 s.0 }, trios_of begins floor cs js ds ks ls p.1 q.1 r.1 s.1)
+pub trios_of : {J : Type 0} (begins : J → Moment) (terms : Terms) (configs : List Config) (jobs : List J) (drivens : List Driven) (seats : List Known) (lookers : List Looker)
+    → Pairs (λ config job. Begins terms.floor config (begins job).router (begins job).known) configs jobs → All (λ job. (begins job).traffic ≡ Ticks 0 terms.ticks) jobs → Pairs (λ job driven. IsDriven (begins job) driven) jobs drivens
+    → Pairs (λ job seat. seat ≡ (begins job).known) jobs seats → Pairs IsFrom seats lookers → Trios terms configs drivens lookers
+trios_of begins terms [] [] [] [] [] p n q r s = tt
+trios_of begins terms [] [] [] [] (l ∷ ls) p n q r s = absurd s
+trios_of begins terms [] [] [] (k ∷ ks) ls p n q r s = absurd r
+trios_of begins terms [] [] (d ∷ ds) ks ls p n q r s = absurd q
+trios_of begins terms [] (j ∷ js) ds ks ls p n q r s = absurd p
+trios_of begins terms (c ∷ cs) [] ds ks ls p n q r s = absurd p
+trios_of begins terms (c ∷ cs) (j ∷ js) [] ks ls p n q r s = absurd q
+trios_of begins terms (c ∷ cs) (j ∷ js) (d ∷ ds) [] ls p n q r s = absurd r
+trios_of begins terms (c ∷ cs) (j ∷ js) (d ∷ ds) (k ∷ ks) [] p n q r s = absurd s
+trios_of begins terms (c ∷ cs) (j ∷ js) (d ∷ ds) (k ∷ ks) (l ∷ ls) p n q r s =
+    (record { a = begins j; begins = p.0; counted = of_first (λ job. (begins job).traffic ≡ Ticks 0 terms.ticks) (j ∷ js) j refl (omega (arith)) n; ended = q.0; looks = subst (λ (known : Known). IsFrom known l) r.0 s.0 }, trios_of begins terms cs js ds ks ls p.1 (of_later (λ job. (begins job).traffic ≡ Ticks 0 terms.ticks) (j ∷ js) js refl n) q.1 r.1 s.1)
 
 -- the first of those that are left
-pub record HasFirst (floor : ℤ) (config : Config) (configs : List Config) (drivens : List Driven) (lookers : List Looker) : Type 0 where
+pub record HasFirst (terms : Terms) (config : Config) (configs : List Config) (drivens : List Driven) (lookers : List Looker) : Type 0 where
   pub driven : Driven
   pub looker : Looker
   pub later_drivens : List Driven
   pub later_lookers : List Looker
   pub drivens_are : drivens ≡ driven ∷ later_drivens
   pub lookers_are : lookers ≡ looker ∷ later_lookers
-  pub first : Trio floor config driven looker
-  pub later : Trios floor configs later_drivens later_lookers
+  pub first : Trio terms config driven looker
+  pub later : Trios terms configs later_drivens later_lookers
 
-first_of : (floor : ℤ) (config : Config) (configs : List Config) (drivens : List Driven) (lookers : List Looker) → Trios floor (config ∷ configs) drivens lookers
-    → HasFirst floor config configs drivens lookers
-first_of floor config configs [] ls trios = absurd trios
-first_of floor config configs (d ∷ ds) [] trios = absurd trios
-first_of floor config configs (d ∷ ds) (l ∷ ls) trios =
+first_of : (terms : Terms) (config : Config) (configs : List Config) (drivens : List Driven) (lookers : List Looker) → Trios terms (config ∷ configs) drivens lookers
+    → HasFirst terms config configs drivens lookers
+first_of terms config configs [] ls trios = absurd trios
+first_of terms config configs (d ∷ ds) [] trios = absurd trios
+first_of terms config configs (d ∷ ds) (l ∷ ls) trios =
     record { driven = d; looker = l; later_drivens = ds; later_lookers = ls; drivens_are = refl; lookers_are = refl; first = trios.0; later = trios.1 }
 
-pub first_left : (floor : ℤ) (configs : List Config) (i : ℕ) (config : Config) (drivens : List Driven) (lookers : List Looker) → i < length configs
-    → config ≡ get_or configs i config → Trios floor (drop i configs) drivens lookers → HasFirst floor config (drop (i + 1) configs) drivens lookers
-first_left floor configs i config ds ls within is trios =
+pub first_left : (terms : Terms) (configs : List Config) (i : ℕ) (config : Config) (drivens : List Driven) (lookers : List Looker) → i < length configs
+    → config ≡ get_or configs i config → Trios terms (drop i configs) drivens lookers → HasFirst terms config (drop (i + 1) configs) drivens lookers
+first_left terms configs i config ds ls within is trios =
     let split : drop i configs ≡ config ∷ drop (i + 1) configs =
     drop-cons configs i config within ∙ ap (λ x. x ∷ drop (suc i) configs) (sym is) ∙ ap (λ n. config ∷ drop n configs) (sym (add-one i)) in
-    first_of floor config (drop (i + 1) configs) ds ls (subst (λ (cs : List Config). Trios floor cs ds ls) split trios)
+    first_of terms config (drop (i + 1) configs) ds ls (subst (λ (cs : List Config). Trios terms cs ds ls) split trios)
 
 -- what is taken off a list, and what is left
 pub taken_off : {A : Type 0} (xs : List A) (x y : A) (ys rest : List A) → xs ≡ x ∷ ys → y ≡ get_or xs 0 y → rest ≡ take 0 xs ++ drop (0 + 1) xs → (y ≡ x) × (rest ≡ ys)
@@ -112,23 +134,23 @@ taken_off [] x y ys rest is first after = absurd (cc is)
 taken_off (z ∷ zs) x y ys rest is first after =
     let heads : z ≡ x = cc (is) in let tails : zs ≡ ys = cc (is) in (first ∙ heads, after ∙ tails)
 
-outcomes_then : (lookup : Option Addr) (floor : ℤ) (files : List NamedFile) (configs : List Config) (outcomes : List Outcome) (file : NamedFile) (config : Config) (outcome : Outcome)
-    → AreOutcomes lookup floor files configs outcomes → IsOutcome lookup floor file config outcome
-    → AreOutcomes lookup floor (files ++ file ∷ []) (configs ++ config ∷ []) (outcomes ++ outcome ∷ [])
-outcomes_then lookup floor [] [] [] file config outcome are is = (is, tt)
-outcomes_then lookup floor [] [] (o ∷ os) file config outcome are is = absurd are
-outcomes_then lookup floor [] (c ∷ cs) os file config outcome are is = absurd are
-outcomes_then lookup floor (f ∷ fs) [] os file config outcome are is = absurd are
-outcomes_then lookup floor (f ∷ fs) (c ∷ cs) [] file config outcome are is = absurd are
-outcomes_then lookup floor (f ∷ fs) (c ∷ cs) (o ∷ os) file config outcome are is = (are.0, outcomes_then lookup floor fs cs os file config outcome are.1 is)
+outcomes_then : (lookup : Option Addr) (terms : Terms) (files : List NamedFile) (configs : List Config) (outcomes : List Outcome) (file : NamedFile) (config : Config) (outcome : Outcome)
+    → AreOutcomes lookup terms files configs outcomes → IsOutcome lookup terms file config outcome
+    → AreOutcomes lookup terms (files ++ file ∷ []) (configs ++ config ∷ []) (outcomes ++ outcome ∷ [])
+outcomes_then lookup terms [] [] [] file config outcome are is = (is, tt)
+outcomes_then lookup terms [] [] (o ∷ os) file config outcome are is = absurd are
+outcomes_then lookup terms [] (c ∷ cs) os file config outcome are is = absurd are
+outcomes_then lookup terms (f ∷ fs) [] os file config outcome are is = absurd are
+outcomes_then lookup terms (f ∷ fs) (c ∷ cs) [] file config outcome are is = absurd are
+outcomes_then lookup terms (f ∷ fs) (c ∷ cs) (o ∷ os) file config outcome are is = (are.0, outcomes_then lookup terms fs cs os file config outcome are.1 is)
 
 -- one outcome more
-pub outcomes_more : (lookup : Option Addr) (floor : ℤ) (files : List NamedFile) (configs : List Config) (outcomes more : List Outcome) (i : ℕ) (file : NamedFile) (config : Config)
+pub outcomes_more : (lookup : Option Addr) (terms : Terms) (files : List NamedFile) (configs : List Config) (outcomes more : List Outcome) (i : ℕ) (file : NamedFile) (config : Config)
     (outcome : Outcome) → i < length files → file ≡ get_or files i file → i < length configs → config ≡ get_or configs i config
-    → AreOutcomes lookup floor (take i files) (take i configs) outcomes → IsOutcome lookup floor file config outcome → more ≡ outcomes ++ outcome ∷ []
-    → AreOutcomes lookup floor (take (i + 1) files) (take (i + 1) configs) more
-outcomes_more lookup floor files configs outcomes more i file config outcome in_files file_is in_configs config_is are is more_is =
-    subst (λ (os : List Outcome). AreOutcomes lookup floor (take (i + 1) files) (take (i + 1) configs) os) (sym more_is)
-    (subst (λ (cs : List Config). AreOutcomes lookup floor (take (i + 1) files) cs (outcomes ++ outcome ∷ [])) (sym (front_more configs i config in_configs config_is))
-    (subst (λ (fs : List NamedFile). AreOutcomes lookup floor fs (take i configs ++ config ∷ []) (outcomes ++ outcome ∷ [])) (sym (front_more files i file in_files file_is))
-    (outcomes_then lookup floor (take i files) (take i configs) outcomes file config outcome are is)))
+    → AreOutcomes lookup terms (take i files) (take i configs) outcomes → IsOutcome lookup terms file config outcome → more ≡ outcomes ++ outcome ∷ []
+    → AreOutcomes lookup terms (take (i + 1) files) (take (i + 1) configs) more
+outcomes_more lookup terms files configs outcomes more i file config outcome in_files file_is in_configs config_is are is more_is =
+    subst (λ (os : List Outcome). AreOutcomes lookup terms (take (i + 1) files) (take (i + 1) configs) os) (sym more_is)
+    (subst (λ (cs : List Config). AreOutcomes lookup terms (take (i + 1) files) cs (outcomes ++ outcome ∷ [])) (sym (front_more configs i config in_configs config_is))
+    (subst (λ (fs : List NamedFile). AreOutcomes lookup terms fs (take i configs ++ config ∷ []) (outcomes ++ outcome ∷ [])) (sym (front_more files i file in_files file_is))
+    (outcomes_then lookup terms (take i files) (take i configs) outcomes file config outcome are is)))

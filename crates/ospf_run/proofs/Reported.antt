@@ -7,7 +7,7 @@ use Rattle.ospf_files.specs.declared.status.Status.{Status}
 use Rattle.ospf_files.specs.declared.status.Status.TheVariants as status
 use Rattle.ospf_run.specs.Printed.{IsReported}
 use Rattle.ospf_run.specs.Plans.{IsPlan, Prepares}
-use Rattle.ospf_run.specs.Runs.{AreOutcomes, Comes, Reports, ran, refused}
+use Rattle.ospf_run.specs.Runs.{AreOutcomes, Comes, Reports, Terms, ran, refused}
 use Rattle.ospf_run.specs.declared.finish.Outcome.{Outcome}
 use Rattle.ospf_run.specs.declared.plan.Prepared.{Prepared}
 use Rattle.ospf_run.specs.declared.plan.Prepared.TheVariants as prepared
@@ -17,22 +17,22 @@ mapped f None = refl
 mapped f (Some a) = refl
 
 -- what came of routers, and what is reported of that
-pub reports : (lookup : Option Addr) (floors floors' : Bool) (least : ℤ) (files : List NamedFile) (configs configs' : List Config) (outcomes outcomes' : List Outcome) (s : Status)
-    (oo on eo en : Option (List ℕ)) → floors' ≡ floors → configs' ≡ configs → outcomes' ≡ outcomes → AreOutcomes lookup least files configs' outcomes
-    → IsReported floors' outcomes' s oo on eo en → Reports lookup floors least files configs s oo on eo en
-reports lookup floors floors' least files configs configs' outcomes outcomes' s oo on eo en floors_are configs_are outcomes_are are reported = record {
+pub reports : (lookup : Option Addr) (floors floors' : Bool) (terms : Terms) (files : List NamedFile) (configs configs' : List Config) (outcomes outcomes' : List Outcome) (s : Status)
+    (oo on eo en : Option (List ℕ)) → floors' ≡ floors → configs' ≡ configs → outcomes' ≡ outcomes → AreOutcomes lookup terms files configs' outcomes
+    → IsReported floors' outcomes' s oo on eo en → Reports lookup floors terms files configs s oo on eo en
+reports lookup floors floors' terms files configs configs' outcomes outcomes' s oo on eo en floors_are configs_are outcomes_are are reported = record {
   outcomes = outcomes;
-  are = subst (λ (cs : List Config). AreOutcomes lookup least files cs outcomes) configs_are are;
+  are = subst (λ (cs : List Config). AreOutcomes lookup terms files cs outcomes) configs_are are;
   reported = subst (λ (b : Bool). IsReported b outcomes s oo on eo en) floors_are (subst (λ (os : List Outcome). IsReported floors' os s oo on eo en) outcomes_are reported);
 }
 
 -- a plan that was run over wires
-pub has_run : (lookup : Option Addr) (floor : Option (List ℕ)) (least : ℤ) (files : List NamedFile) (configs : List Config) (s : Status) (oo on eo em en : Option (List ℕ))
-    → IsPlan floor files configs least → em ≡ eo → Reports lookup (is_some floor) least files configs s oo on em en → Comes lookup floor files s oo on eo en
-has_run lookup floor least files configs s oo on eo em en plan same reported =
-    ran (record { configs = configs; least = least; plan = plan; reports = subst (λ (e : Option (List ℕ)). Reports lookup (is_some floor) least files configs s oo on e en) same reported })
+pub has_run : (lookup : Option Addr) (ticks : ℕ) (floor : Option (List ℕ)) (least : ℤ) (files : List NamedFile) (configs : List Config) (s : Status) (oo on eo em en : Option (List ℕ))
+    → IsPlan floor files configs least → em ≡ eo → Reports lookup (is_some floor) (record { ticks = ticks; floor = least }) files configs s oo on em en → Comes lookup ticks floor files s oo on eo en
+has_run lookup ticks floor least files configs s oo on eo em en plan same reported =
+    ran (record { configs = configs; least = least; plan = plan; reports = subst (λ (e : Option (List ℕ)). Reports lookup (is_some floor) (record { ticks = ticks; floor = least }) files configs s oo on e en) same reported })
 
 -- what is refused
-pub refused_comes : (lookup : Option Addr) (floor : Option (List ℕ)) (files : List NamedFile) (p : Prepared) (oo eo en : Option (List ℕ)) → p ≡ prepared.Refused
-    → Prepares floor files p eo en → Comes lookup floor files status.Refused oo oo eo en
-refused_comes lookup floor files p oo eo en is prepares = refused refl (subst (λ (q : Prepared). Prepares floor files q eo en) is prepares) refl
+pub refused_comes : (lookup : Option Addr) (ticks : ℕ) (floor : Option (List ℕ)) (files : List NamedFile) (p : Prepared) (oo eo en : Option (List ℕ)) → p ≡ prepared.Refused
+    → Prepares floor files p eo en → Comes lookup ticks floor files status.Refused oo oo eo en
+refused_comes lookup ticks floor files p oo eo en is prepares = refused refl (subst (λ (q : Prepared). Prepares floor files q eo en) is prepares) refl

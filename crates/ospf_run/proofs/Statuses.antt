@@ -45,38 +45,38 @@ not_words true b is = absurd (cc is)
 not_words false true is = absurd (cc is)
 not_words false false is = absurd (cc is)
 
-run_not_refused : (lookup : Option Addr) (floor : Option (List ℕ)) (files : List NamedFile) (s : Status) (oo on eo en : Option (List ℕ))
-    → IsRun lookup floor files s oo on eo en → s ≡ status.Refused → ⊥
-run_not_refused lookup floor files s oo on eo en run is =
+run_not_refused : (lookup : Option Addr) (ticks : ℕ) (floor : Option (List ℕ)) (files : List NamedFile) (s : Status) (oo on eo en : Option (List ℕ))
+    → IsRun lookup ticks floor files s oo on eo en → s ≡ status.Refused → ⊥
+run_not_refused lookup ticks floor files s oo on eo en run is =
     let outcomes : List Outcome = run.reports.outcomes in
     not_refused (list_any is_failed outcomes) (list_any is_early outcomes) (sym run.reports.reported.status_is ∙ is)
 
-run_not_words : (lookup : Option Addr) (floor : Option (List ℕ)) (files : List NamedFile) (s : Status) (oo on eo en : Option (List ℕ))
-    → IsRun lookup floor files s oo on eo en → s ≡ status.Words → ⊥
-run_not_words lookup floor files s oo on eo en run is =
+run_not_words : (lookup : Option Addr) (ticks : ℕ) (floor : Option (List ℕ)) (files : List NamedFile) (s : Status) (oo on eo en : Option (List ℕ))
+    → IsRun lookup ticks floor files s oo on eo en → s ≡ status.Words → ⊥
+run_not_words lookup ticks floor files s oo on eo en run is =
     let outcomes : List Outcome = run.reports.outcomes in
     not_words (list_any is_failed outcomes) (list_any is_early outcomes) (sym run.reports.reported.status_is ∙ is)
 
 -- where all is done, all has run
-pub done_runs : (lookup : Option Addr) (floor : Option (List ℕ)) (files : List NamedFile) (s : Status) (oo on eo en : Option (List ℕ))
-    → Comes lookup floor files s oo on eo en → s ≡ status.Done → IsRun lookup floor files status.Done oo on eo en
-done_runs lookup floor files s oo on eo en (refused is told same) done = absurd (cc (is, done))
-done_runs lookup floor files s oo on eo en (unread is told same) done = absurd (cc (is, done))
-done_runs lookup floor files s oo on eo en (no_socket is configs least plan told same) done = absurd (cc (is, done))
-done_runs lookup floor files s oo on eo en (ran run) done = subst (λ (t : Status). IsRun lookup floor files t oo on eo en) done run
+pub done_runs : (lookup : Option Addr) (ticks : ℕ) (floor : Option (List ℕ)) (files : List NamedFile) (s : Status) (oo on eo en : Option (List ℕ))
+    → Comes lookup ticks floor files s oo on eo en → s ≡ status.Done → IsRun lookup ticks floor files status.Done oo on eo en
+done_runs lookup ticks floor files s oo on eo en (refused is told same) done = absurd (cc (is, done))
+done_runs lookup ticks floor files s oo on eo en (unread is told same) done = absurd (cc (is, done))
+done_runs lookup ticks floor files s oo on eo en (no_socket is configs least plan told same) done = absurd (cc (is, done))
+done_runs lookup ticks floor files s oo on eo en (ran run) done = subst (λ (t : Status). IsRun lookup ticks floor files t oo on eo en) done run
 
 -- what is refused is told, and nothing is written
-pub refused_told : (lookup : Option Addr) (floor : Option (List ℕ)) (files : List NamedFile) (s : Status) (oo on eo en : Option (List ℕ))
-    → Comes lookup floor files s oo on eo en → s ≡ status.Refused → IsRefused floor files eo en × (on ≡ oo)
-refused_told lookup floor files s oo on eo en (refused is told same) so = (told, same)
-refused_told lookup floor files s oo on eo en (unread is told same) so = absurd (cc (is, so))
-refused_told lookup floor files s oo on eo en (no_socket is configs least plan told same) so = absurd (cc (is, so))
-refused_told lookup floor files s oo on eo en (ran run) so = absurd (run_not_refused lookup floor files s oo on eo en run so)
+pub refused_told : (lookup : Option Addr) (ticks : ℕ) (floor : Option (List ℕ)) (files : List NamedFile) (s : Status) (oo on eo en : Option (List ℕ))
+    → Comes lookup ticks floor files s oo on eo en → s ≡ status.Refused → IsRefused floor files eo en × (on ≡ oo)
+refused_told lookup ticks floor files s oo on eo en (refused is told same) so = (told, same)
+refused_told lookup ticks floor files s oo on eo en (unread is told same) so = absurd (cc (is, so))
+refused_told lookup ticks floor files s oo on eo en (no_socket is configs least plan told same) so = absurd (cc (is, so))
+refused_told lookup ticks floor files s oo on eo en (ran run) so = absurd (run_not_refused lookup ticks floor files s oo on eo en run so)
 
 -- no run ends for its words
-pub comes_not_words : (lookup : Option Addr) (floor : Option (List ℕ)) (files : List NamedFile) (s : Status) (oo on eo en : Option (List ℕ))
-    → Comes lookup floor files s oo on eo en → s ≡ status.Words → ⊥
-comes_not_words lookup floor files s oo on eo en (refused is told same) so = absurd (cc (is, so))
-comes_not_words lookup floor files s oo on eo en (unread is told same) so = absurd (cc (is, so))
-comes_not_words lookup floor files s oo on eo en (no_socket is configs least plan told same) so = absurd (cc (is, so))
-comes_not_words lookup floor files s oo on eo en (ran run) so = run_not_words lookup floor files s oo on eo en run so
+pub comes_not_words : (lookup : Option Addr) (ticks : ℕ) (floor : Option (List ℕ)) (files : List NamedFile) (s : Status) (oo on eo en : Option (List ℕ))
+    → Comes lookup ticks floor files s oo on eo en → s ≡ status.Words → ⊥
+comes_not_words lookup ticks floor files s oo on eo en (refused is told same) so = absurd (cc (is, so))
+comes_not_words lookup ticks floor files s oo on eo en (unread is told same) so = absurd (cc (is, so))
+comes_not_words lookup ticks floor files s oo on eo en (no_socket is configs least plan told same) so = absurd (cc (is, so))
+comes_not_words lookup ticks floor files s oo on eo en (ran run) so = run_not_words lookup ticks floor files s oo on eo en run so

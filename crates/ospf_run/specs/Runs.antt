@@ -1,9 +1,11 @@
 -- Routers that run: how they begin, and what comes of them.
-use Rattle.std.specs.Prelude.{⊤, ◌≡◌, ℕ, ℤ, Bool, List, [], ◌∷◌, Option, None, Some, Result, Ok, Err, is_some}
+use Rattle.std.specs.Prelude.{⊤, ◌≡◌, ◌+◌, ℕ, ℤ, Bool, List, [], ◌∷◌, Option, None, Some, Result, Ok, Err, is_some}
 use Rattle.ospf_base.specs.declared.ids.Addr.{Addr}
 use Rattle.ospf_config.specs.declared.config.Config.{Config}
 use Rattle.ospf_drive.specs.Driven.{DrivesToEnd, IsDriven, Outcome as Driven}
 use Rattle.ospf_drive.specs.Moments.{Moment}
+use Rattle.ospf_drive.specs.Traffic.{ticks_in}
+use Rattle.ospf_drive.specs.Traffic.Carried.{Ticks}
 use Rattle.ospf_drive.specs.declared.fault.DriveFault.{DriveFault}
 use Rattle.ospf_fib.specs.Answers.{IsAnswerOfLast}
 use Rattle.ospf_files.specs.Status.{failure_status}
@@ -28,17 +30,24 @@ pub record Begins (floor : ℤ) (config : Config) (router : RouterValue) (known 
   pub started : IsStarted config 1 floor router
   pub opened : known.tables ≡ opening
 
+-- what routers begin with beside their configurations: how many ticks come before the end, and the floor of their numbers
+pub record Terms : Type 0 where
+  pub ticks : ℕ
+  pub floor : ℤ
+
 -- what a lookup in the table that was published last finds, if an address was asked for
 abbrev pub IsLookedUp : Option Addr → List Table → Option Looked → Type 0
 IsLookedUp None tables None = ⊤
 IsLookedUp (Some address) tables (Some looked) = (looked.address ≡ address) × IsAnswerOfLast tables address 0 looked.answer
 IsLookedUp _ tables _ = ⊥
 
--- a driver that began there came to the end, with this router, and the lookup is in the table that it published last
+-- a driver that began there came to the end, with this router, when all ticks were taken that its wire counts, and the lookup is
+-- in the table that it published last
 pub record ComesToEnd (lookup : Option Addr) (a : Moment) (shown : Shown) : Type 0 where
   pub known : Known
   pub told : Option Known
   pub drives : DrivesToEnd a shown.router known told
+  pub ticked : (handed count : ℕ) → a.traffic ≡ Ticks handed count → handed + ticks_in drives.drives.goes_on.taken ≡ count
   pub looked : IsLookedUp lookup known.tables shown.looked
 
 -- what came of a router whose driver began there
@@ -46,20 +55,21 @@ abbrev pub Came : Option Addr → Moment → Result Shown DriveFault → Type 0
 Came lookup a (Ok shown) = ComesToEnd lookup a shown
 Came lookup a (Err f) = IsDriven a (Err f)
 
--- the router of a configuration begins, and this came of it
-pub record IsOutcome (lookup : Option Addr) (floor : ℤ) (file : NamedFile) (config : Config) (outcome : Outcome) : Type 0 where
+-- the router of a configuration begins over a wire of so many ticks, and this came of it
+pub record IsOutcome (lookup : Option Addr) (terms : Terms) (file : NamedFile) (config : Config) (outcome : Outcome) : Type 0 where
   pub file_is : outcome.file.now ≡ file
   pub router_is : outcome.router ≡ config.router_id
   pub a : Moment
-  pub begins : Begins floor config a.router a.known
+  pub begins : Begins terms.floor config a.router a.known
+  pub counted : a.traffic ≡ Ticks 0 terms.ticks
   pub came : Came lookup a outcome.came
 
 -- what came of the routers of files, in their order
-abbrev pub AreOutcomes : Option Addr → ℤ → List NamedFile → List Config → List Outcome → Type 0
-AreOutcomes lookup floor [] [] [] = ⊤
-AreOutcomes lookup floor (file ∷ files) (config ∷ configs) (outcome ∷ outcomes) =
-    IsOutcome lookup floor file config outcome × AreOutcomes lookup floor files configs outcomes
-AreOutcomes lookup floor _ _ _ = ⊥
+abbrev pub AreOutcomes : Option Addr → Terms → List NamedFile → List Config → List Outcome → Type 0
+AreOutcomes lookup terms [] [] [] = ⊤
+AreOutcomes lookup terms (file ∷ files) (config ∷ configs) (outcome ∷ outcomes) =
+    IsOutcome lookup terms file config outcome × AreOutcomes lookup terms files configs outcomes
+AreOutcomes lookup terms _ _ _ = ⊥
 
 -- ---- on the way
 
@@ -75,41 +85,42 @@ pub record Ran (a : Moment) (driven : Driven) (looker : Looker) : Type 0 where
   pub looks : IsFrom a.known looker
 
 -- the router of a configuration began, and this came of its driver and of what looks up beside it
-pub record Trio (floor : ℤ) (config : Config) (driven : Driven) (looker : Looker) : Type 0 where
+pub record Trio (terms : Terms) (config : Config) (driven : Driven) (looker : Looker) : Type 0 where
   pub a : Moment
-  pub begins : Begins floor config a.router a.known
+  pub begins : Begins terms.floor config a.router a.known
+  pub counted : a.traffic ≡ Ticks 0 terms.ticks
   pub ended : IsDriven a driven
   pub looks : IsFrom a.known looker
 
-abbrev pub Trios : ℤ → List Config → List Driven → List Looker → Type 0
-Trios floor [] [] [] = ⊤
-Trios floor (config ∷ configs) (driven ∷ drivens) (looker ∷ lookers) = Trio floor config driven looker × Trios floor configs drivens lookers
-Trios floor _ _ _ = ⊥
+abbrev pub Trios : Terms → List Config → List Driven → List Looker → Type 0
+Trios terms [] [] [] = ⊤
+Trios terms (config ∷ configs) (driven ∷ drivens) (looker ∷ lookers) = Trio terms config driven looker × Trios terms configs drivens lookers
+Trios terms _ _ _ = ⊥
 
 -- what came of the routers of a plan is printed and told
-pub record Reports (lookup : Option Addr) (floors : Bool) (least : ℤ) (files : List NamedFile) (configs : List Config) (status : Status) (out_old out_new err_old err_new : Option (List ℕ)) : Type 0 where
+pub record Reports (lookup : Option Addr) (floors : Bool) (terms : Terms) (files : List NamedFile) (configs : List Config) (status : Status) (out_old out_new err_old err_new : Option (List ℕ)) : Type 0 where
   pub outcomes : List Outcome
-  pub are : AreOutcomes lookup least files configs outcomes
+  pub are : AreOutcomes lookup terms files configs outcomes
   pub reported : IsReported floors outcomes status out_old out_new err_old err_new
 
 -- ---- runs
 
--- the plan of the files was run: what came of each router is printed and told
-pub record IsRun (lookup : Option Addr) (floor : Option (List ℕ)) (files : List NamedFile) (status : Status) (out_old out_new err_old err_new : Option (List ℕ)) : Type 0 where
+-- the plan of the files was run, with so many ticks: what came of each router is printed and told
+pub record IsRun (lookup : Option Addr) (ticks : ℕ) (floor : Option (List ℕ)) (files : List NamedFile) (status : Status) (out_old out_new err_old err_new : Option (List ℕ)) : Type 0 where
   pub configs : List Config
   pub least : ℤ
   pub plan : IsPlan floor files configs least
-  pub reports : Reports lookup (is_some floor) least files configs status out_old out_new err_old err_new
+  pub reports : Reports lookup (is_some floor) (record { ticks = ticks; floor = least }) files configs status out_old out_new err_old err_new
 
 -- how a run comes to its end: it is refused, a file could not be read, a socket could not be made, or it was run
-pub data Comes (lookup : Option Addr) (floor : Option (List ℕ)) (files : List NamedFile) (status : Status) (out_old out_new err_old err_new : Option (List ℕ)) : Type 0 where
-  refused : status ≡ Refused → IsRefused floor files err_old err_new → out_new ≡ out_old → Comes lookup floor files status out_old out_new err_old err_new
-  unread : status ≡ Stream → IsUnreadTold floor files err_old err_new → out_new ≡ out_old → Comes lookup floor files status out_old out_new err_old err_new
+pub data Comes (lookup : Option Addr) (ticks : ℕ) (floor : Option (List ℕ)) (files : List NamedFile) (status : Status) (out_old out_new err_old err_new : Option (List ℕ)) : Type 0 where
+  refused : status ≡ Refused → IsRefused floor files err_old err_new → out_new ≡ out_old → Comes lookup ticks floor files status out_old out_new err_old err_new
+  unread : status ≡ Stream → IsUnreadTold floor files err_old err_new → out_new ≡ out_old → Comes lookup ticks floor files status out_old out_new err_old err_new
   no_socket : status ≡ Stream → (configs : List Config) (least : ℤ) → IsPlan floor files configs least → IsSocketTold files err_old err_new
-      → out_new ≡ out_old → Comes lookup floor files status out_old out_new err_old err_new
-  ran : IsRun lookup floor files status out_old out_new err_old err_new → Comes lookup floor files status out_old out_new err_old err_new
+      → out_new ≡ out_old → Comes lookup ticks floor files status out_old out_new err_old err_new
+  ran : IsRun lookup ticks floor files status out_old out_new err_old err_new → Comes lookup ticks floor files status out_old out_new err_old err_new
 
 -- how the program ends: a run comes to its end, or memory ran out, a stream failed or a table was closed on the way
-pub data Ends (lookup : Option Addr) (floor : Option (List ℕ)) (files : List NamedFile) (status : Status) (out_old out_new err_old err_new : Option (List ℕ)) : Type 0 where
-  comes : Comes lookup floor files status out_old out_new err_old err_new → Ends lookup floor files status out_old out_new err_old err_new
-  fails : (failure : Failure) → status ≡ failure_status failure → Ends lookup floor files status out_old out_new err_old err_new
+pub data Ends (lookup : Option Addr) (ticks : ℕ) (floor : Option (List ℕ)) (files : List NamedFile) (status : Status) (out_old out_new err_old err_new : Option (List ℕ)) : Type 0 where
+  comes : Comes lookup ticks floor files status out_old out_new err_old err_new → Ends lookup ticks floor files status out_old out_new err_old err_new
+  fails : (failure : Failure) → status ≡ failure_status failure → Ends lookup ticks floor files status out_old out_new err_old err_new

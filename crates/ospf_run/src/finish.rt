@@ -1,17 +1,17 @@
 //! Routers whose drivers have ended.
 
-ghost use Rattle.std.specs.Prelude.{◌≡◌, ℤ, IfOk, IfSome, length};
+ghost use Rattle.std.specs.Prelude.{◌≡◌, IfOk, IfSome, length};
 ghost use mathlib.Core.List.{IsPrefix};
 ghost use Rattle.ospf_drive.specs.Moments.{Moment};
 ghost use Rattle.ospf_fib.specs.Answers.{IsAnswerOfLast};
 ghost use Rattle.ospf_published.specs.Known.{opening};
-ghost use Rattle.ospf_run.specs.Runs.{AreOutcomes, Came, IsLookedUp, IsTold, Ran, Trios};
+ghost use Rattle.ospf_run.specs.Runs.{AreOutcomes, Came, IsLookedUp, IsTold, Ran, Terms, Trios};
 
 use crate::look::Looker;
 use crate::tell::put;
 use ospf_base::{Addr, RouterId};
 use ospf_config::Config;
-use ospf_drive::{DriveFault, Driven};
+use ospf_drive::{DriveFault, Driven, all_ticks_are_taken};
 use ospf_fib::{Answer, Closed, Seat, Told, Writer};
 use ospf_files::{Failure, NamedFile};
 use ospf_router::Router;
@@ -104,6 +104,7 @@ fn finish<R: Wait + Drop, S: Threads>(
     requires { (a : Moment) × Ran a driven looker }
     ensures { (a : Moment) → Ran a driven looker → IfOk result (Came lookup a) }
 {
+    all_ticks_are_taken();
     let (router, writer, told) = match driven {
         Ok(driven) => driven,
         Err(fault) => return Ok(Err(fault)),
@@ -145,8 +146,8 @@ pub(crate) fn finish_all<'a, R: Wait + Drop, S: Threads>(
     lookup: Option<Addr>,
 ) -> Result<Vec<Outcome<'a>>, Failure>
     requires files { length files.now ≡ length configs.now }
-    requires ended { (floor : ℤ) × Trios floor configs.now driven.items lookers.items }
-    ensures { (floor : ℤ) → Trios floor configs.now driven.items lookers.items → IfOk result (λ outcomes. AreOutcomes lookup floor files.now configs.now outcomes.items) }
+    requires ended { (terms : Terms) × Trios terms configs.now driven.items lookers.items }
+    ensures { (terms : Terms) → Trios terms configs.now driven.items lookers.items → IfOk result (λ outcomes. AreOutcomes lookup terms files.now configs.now outcomes.items) }
 {
     let mut outcomes = Vec::with_capacity(alloc, configs.len())?;
     for (place, config) in configs.iter().enumerate() {

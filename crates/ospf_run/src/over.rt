@@ -1,12 +1,13 @@
 //! Runs of a plan over wires.
 
-ghost use Rattle.std.specs.Prelude.{◌≡◌, ◌≢◌, ◌+◌, ◌<◌, ◌≤◌, ◌^◌, [], ℤ, List, All, IfOk, is_some, length, option_map, string_bytes, vec_capacity, vec_len};
+ghost use Rattle.std.specs.Prelude.{◌≡◌, ◌≢◌, ◌+◌, ◌<◌, ◌≤◌, ◌^◌, [], List, All, IfOk, is_some, length, option_map, string_bytes, vec_capacity, vec_len};
 ghost use Rattle.ospf_config.specs.declared.config.Config.{Config};
 ghost use Rattle.ospf_drive.specs.Driven.{IsDriven, Pairs};
 ghost use Rattle.ospf_drive.specs.Moments.{at};
 ghost use Rattle.ospf_flood.specs.Rules.{max_sequence_number};
 ghost use Rattle.ospf_run.specs.Lookers.{IsFrom};
-ghost use Rattle.ospf_run.specs.Runs.{Begins, Reports, Trios};
+ghost use Rattle.ospf_run.specs.Runs.{Begins, Reports, Terms, Trios};
+ghost use Rattle.ospf_drive.specs.Traffic.Carried.{Ticks};
 
 use crate::begin::begin_all;
 use crate::finish::finish_all;
@@ -72,7 +73,7 @@ fn drive_and_look<
     lookup: Option<Addr>,
 ) -> Result<(Vec<Driven<R>>, Vec<Looker>), Failure>
     requires { All (λ job. W.failed job.1 + 1 < 2 ^ 64) jobs.items }
-    ensures { (floor : ℤ) (configs : List Config) → Pairs (λ config job. Begins floor config job.0 job.2) configs jobs.items → Pairs (λ job seat. seat ≡ job.2) jobs.items seats.items → IfOk result (λ ended. Trios floor configs ended.0.items ended.1.items) }
+    ensures { (terms : Terms) (configs : List Config) → Pairs (λ config job. Begins terms.floor config job.0 job.2) configs jobs.items → All (λ job. W.traffic job.1 ≡ Ticks 0 terms.ticks) jobs.items → Pairs (λ job seat. seat ≡ job.2) jobs.items seats.items → IfOk result (λ ended. Trios terms configs ended.0.items ended.1.items) }
 {
     let done = Arc::new(alloc, AtomicBool::new(false)).map_err(AllocError::from)?;
     let mut lookers = Vec::with_capacity(alloc, seats.len())?;
@@ -101,7 +102,8 @@ fn run_over<
     requires files { length files.now ≡ length plan.now.configs.items }
     requires wires { length wires.items ≡ length plan.now.configs.items }
     requires fresh { All (λ wire. W.failed wire + 1 < 2 ^ 64) wires.items }
-    ensures { IfOk result (λ status. Reports settings.now.lookup (is_some (option_map string_bytes settings.now.floor)) plan.now.floor files.now plan.now.configs.items status (O.contents out.old) (O.contents out.new) (E.contents err.old) (E.contents err.new)) }
+    requires counted { All (λ wire. W.traffic wire ≡ Ticks 0 settings.now.ticks) wires.items }
+    ensures { IfOk result (λ status. Reports settings.now.lookup (is_some (option_map string_bytes settings.now.floor)) (record { ticks = settings.now.ticks; floor = plan.now.floor }) files.now plan.now.configs.items status (O.contents out.old) (O.contents out.new) (E.contents err.old) (E.contents err.new)) }
 {
     let (jobs, seats) = begin_all(*rt, alloc, &plan.configs, plan.floor, wires)?;
     let (driven, lookers) = drive_and_look(rt, alloc, jobs, seats, settings.lookup)?;
@@ -139,7 +141,8 @@ pub(crate) fn run_tapped<
     requires files { length files.now ≡ length plan.now.configs.items }
     requires wires { length wires.items ≡ length plan.now.configs.items }
     requires fresh { All (λ wire. W.failed wire + 1 < 2 ^ 64) wires.items }
-    ensures { IfOk result (λ status. Reports settings.now.lookup (is_some (option_map string_bytes settings.now.floor)) plan.now.floor files.now plan.now.configs.items status (O.contents out.old) (O.contents out.new) (E.contents err.old) (E.contents err.new)) }
+    requires counted { All (λ wire. W.traffic wire ≡ Ticks 0 settings.now.ticks) wires.items }
+    ensures { IfOk result (λ status. Reports settings.now.lookup (is_some (option_map string_bytes settings.now.floor)) (record { ticks = settings.now.ticks; floor = plan.now.floor }) files.now plan.now.configs.items status (O.contents out.old) (O.contents out.new) (E.contents err.old) (E.contents err.new)) }
 {
     let wires = tap_all(alloc, wires, tap)?;
     run_over(rt, alloc, settings, files, plan, wires, out, err)

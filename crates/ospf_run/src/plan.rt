@@ -19,7 +19,7 @@ use std::io::{self, Write};
 const NO_FLOOR: i32 = i32::MIN;
 
 /// The routers that are to run.
-#[derive(Debug, Drop)]
+#[derive(Drop)]
 pub(crate) struct Plan {
     /// Of one Router ID each, and with a port at each interface.
     pub configs: Vec<Config>,
@@ -28,7 +28,7 @@ pub(crate) struct Plan {
 }
 
 /// What comes of the settings and the files.
-#[derive(Debug, Drop)]
+#[derive(Drop)]
 pub(crate) enum Prepared {
     Ready(Plan),
     /// Something is refused, of which it is told.

@@ -34,7 +34,7 @@ fn run_plan<
     err: &mut E,
 ) -> Result<Status, Failure>
     requires { IsPlan (option_map string_bytes settings.now.floor) files.now plan.now.configs.items plan.now.floor }
-    ensures { IfOk result (λ status. Comes settings.now.lookup (option_map string_bytes settings.now.floor) files.now status (O.contents out.old) (O.contents out.new) (E.contents err.old) (E.contents err.new)) }
+    ensures { IfOk result (λ status. Comes settings.now.lookup settings.now.ticks (option_map string_bytes settings.now.floor) files.now status (O.contents out.old) (O.contents out.new) (E.contents err.old) (E.contents err.new)) }
 {
     match open_wires(rt, *rt, alloc, settings, files, &plan.configs, err)? {
         Some(wires) => run_tapped(rt, alloc, settings, files, plan, wires, tap, out, err),
@@ -57,7 +57,7 @@ fn run<
     out: &mut O,
     err: &mut E,
 ) -> Result<Status, Failure>
-    ensures { IfOk result (λ status. Comes settings.now.lookup (option_map string_bytes settings.now.floor) files.now status (O.contents out.old) (O.contents out.new) (E.contents err.old) (E.contents err.new)) }
+    ensures { IfOk result (λ status. Comes settings.now.lookup settings.now.ticks (option_map string_bytes settings.now.floor) files.now status (O.contents out.old) (O.contents out.new) (E.contents err.old) (E.contents err.new)) }
 {
     match prepare(alloc, &settings.floor, files, err)? {
         Prepared::Ready(plan) => run_plan(rt, alloc, settings, files, &plan, tap, out, err),
@@ -93,11 +93,11 @@ pub fn run_text<
     out: &mut O,
     err: &mut E,
 ) -> Status
-    ensures done { result ≡ Status.Done → IsRun settings.now.lookup (option_map string_bytes settings.now.floor) files.now Status.Done (O.contents out.old) (O.contents out.new) (E.contents err.old) (E.contents err.new) }
+    ensures done { result ≡ Status.Done → IsRun settings.now.lookup settings.now.ticks (option_map string_bytes settings.now.floor) files.now Status.Done (O.contents out.old) (O.contents out.new) (E.contents err.old) (E.contents err.new) }
     ensures refused { result ≡ Status.Refused → IsRefused (option_map string_bytes settings.now.floor) files.now (E.contents err.old) (E.contents err.new) }
     ensures unwritten { result ≡ Status.Refused → O.contents out.new ≡ O.contents out.old }
     ensures not_words { result ≢ Status.Words }
-    ensures ended { Ends settings.now.lookup (option_map string_bytes settings.now.floor) files.now result (O.contents out.old) (O.contents out.new) (E.contents err.old) (E.contents err.new) }
+    ensures ended { Ends settings.now.lookup settings.now.ticks (option_map string_bytes settings.now.floor) files.now result (O.contents out.old) (O.contents out.new) (E.contents err.old) (E.contents err.new) }
 {
     match run(rt, alloc, settings, files, tap, out, err) {
         Ok(status) => status,

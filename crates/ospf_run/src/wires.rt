@@ -33,7 +33,7 @@ fn open_wire<N: Net, C: Clock + Drop, E: Write>(
     config: &Config,
     err: &mut E,
 ) -> Result<Option<UdpWire<C>>, Failure>
-    ensures { IfOk result (λ wire. WireComes file.now wire (E.contents err.old) (E.contents err.new)) }
+    ensures { IfOk result (λ wire. WireComes settings.now.ticks file.now wire (E.contents err.old) (E.contents err.new)) }
 {
     let period = Duration::from_millis(settings.milliseconds);
     match UdpWire::open(net, alloc, clock, config, period, settings.ticks) {
@@ -57,7 +57,7 @@ pub(crate) fn open_wires<N: Net, C: Clock + Copy + Drop, E: Write>(
     err: &mut E,
 ) -> Result<Option<Vec<UdpWire<C>>>, Failure>
     requires { length files.now ≡ length configs.now }
-    ensures { IfOk result (λ wires. WiresCome files.now (length configs.now) (option_map (λ all. all.items) wires) (E.contents err.old) (E.contents err.new)) }
+    ensures { IfOk result (λ wires. WiresCome settings.now.ticks files.now (length configs.now) (option_map (λ all. all.items) wires) (E.contents err.old) (E.contents err.new)) }
 {
     let mut wires = Vec::with_capacity(alloc, configs.len())?;
     for (place, config) in configs.iter().enumerate() {

@@ -1,5 +1,9 @@
 //! The sockets of the links.
 
+ghost use Rattle.std.specs.Prelude.{◌≡◌, ◌+◌, IfOk, IfSome, OnErr, Some};
+ghost use Rattle.ospf_drive.specs.declared.wire.Arrival.TheVariants as arrivals;
+ghost use Rattle.ospf_udp.specs.Handed.{AreFromOutside, IsFromOutside, tick_next, tick_of};
+
 use crate::fault::OpenFault;
 use crate::frame::{Frame, read_frame, write_frame};
 use crate::ticks::{Beat, Ticks};
@@ -25,7 +29,7 @@ pub(crate) struct Sockets<C: Clock + Drop> {
     poll: Poll,
     events: Events,
     outlets: Vec<Outlet>,
-    ticks: Ticks<C>,
+    pub(crate) ticks: Ticks<C>,
     // How many links have come up.
     up: usize,
     // The link that is read first.
@@ -121,7 +125,9 @@ impl<C: Clock + Drop> Sockets<C> {
         config: &Config,
         period: Duration,
         count: u64,
-    ) -> Result<Sockets<C>, OpenFault> {
+    ) -> Result<Sockets<C>, OpenFault>
+        ensures { IfOk result (λ sockets. (sockets.ticks.taken ≡ 0) × (sockets.ticks.count ≡ count)) }
+    {
         let poll = match Poll::new(net) {
             Ok(poll) => poll,
             Err(error) => return Err(socket_fault(&error)),
@@ -144,7 +150,10 @@ impl<C: Clock + Drop> Sockets<C> {
     }
 
     // Looks at each socket once, from the one that is first.
-    fn look(&mut self, buffer: &mut [u8; LONGEST]) -> io::Result<Looked> {
+    fn look(&mut self, buffer: &mut [u8; LONGEST]) -> io::Result<Looked>
+        ensures ticks { self.new.ticks ≡ self.old.ticks }
+        ensures outside { IfOk result AreFromOutside }
+    {
         let count = self.outlets.len();
         for step in 0..count {
             let link = self.first.wrapping_add(step) % count;
@@ -175,7 +184,10 @@ impl<C: Clock + Drop> Sockets<C> {
     }
 
     // The next link that comes up, if one does.
-    fn next_up(&mut self) -> Option<Arrival> {
+    fn next_up(&mut self) -> Option<Arrival>
+        ensures ticks { self.new.ticks ≡ self.old.ticks }
+        ensures outside { IfSome result IsFromOutside }
+    {
         let link = self.up;
         if link < self.outlets.len() {
             self.up = link + 1;
@@ -186,7 +198,12 @@ impl<C: Clock + Drop> Sockets<C> {
     }
 
     // The next tick, or what the sockets have; `None` where all is to be looked at again.
-    fn try_next(&mut self, buffer: &mut [u8; LONGEST]) -> io::Result<Option<Arrival>> {
+    fn try_next(&mut self, buffer: &mut [u8; LONGEST]) -> io::Result<Option<Arrival>>
+        ensures handed { IfOk result (λ next. self.new.ticks.taken ≡ self.old.ticks.taken + tick_next next) }
+        ensures over { IfOk result (λ next. next ≡ Some arrivals.End → self.new.ticks.taken ≡ self.new.ticks.count) }
+        ensures count { self.new.ticks.count ≡ self.old.ticks.count }
+        ensures none { OnErr result (self.new.ticks.taken ≡ self.old.ticks.taken) }
+    {
         let wait = match self.ticks.beat()? {
             Beat::Over => return Ok(Some(Arrival::End)),
             Beat::Due if !self.ticked => {
@@ -209,7 +226,12 @@ impl<C: Clock + Drop> Sockets<C> {
     }
 
     /// Waits for what comes next: first the links come up, then come ticks and datagrams, and after the last tick the end.
-    pub(crate) fn next_arrival(&mut self, buffer: &mut [u8; LONGEST]) -> io::Result<Arrival> {
+    pub(crate) fn next_arrival(&mut self, buffer: &mut [u8; LONGEST]) -> io::Result<Arrival>
+        ensures handed { IfOk result (λ arrival. self.new.ticks.taken ≡ self.old.ticks.taken + tick_of arrival) }
+        ensures over { IfOk result (λ arrival. arrival ≡ arrivals.End → self.new.ticks.taken ≡ self.new.ticks.count) }
+        ensures count { self.new.ticks.count ≡ self.old.ticks.count }
+        ensures none { OnErr result (self.new.ticks.taken ≡ self.old.ticks.taken) }
+    {
         if let Some(arrival) = self.next_up() {
             return Ok(arrival);
         }
@@ -218,11 +240,13 @@ impl<C: Clock + Drop> Sockets<C> {
                 return Ok(arrival);
             }
         }
-        Ok(Arrival::End)
+        Err(io::Error::from(ErrorKind::TimedOut))
     }
 
     /// Sends to each peer of the link. What finds no room or no listener is lost, as on any network.
-    pub(crate) fn send_to_peers(&mut self, sent: &Sent) -> io::Result<()> {
+    pub(crate) fn send_to_peers(&mut self, sent: &Sent) -> io::Result<()>
+        ensures { self.new.ticks ≡ self.old.ticks }
+    {
         write_frame(&mut self.datagram, sent)?;
         let Some(outlet) = self.outlets.get(sent.link) else {
             return Ok(());

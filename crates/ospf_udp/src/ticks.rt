@@ -1,6 +1,7 @@
 //! Ticks of a steady clock.
 
-ghost use Rattle.std.specs.Prelude.{◌≡◌, ◌+◌, IfSome, IfNone};
+ghost use Rattle.std.specs.Prelude.{◌≡◌, ◌+◌, ◌<◌, ◌≤◌, IfOk, OnErr, OnOk};
+ghost use Rattle.ospf_udp.specs.declared.ticks.Beat.TheVariants as beats;
 
 use std::io::{self, ErrorKind};
 use std::time::{Clock, Duration, Instant};
@@ -12,8 +13,11 @@ pub(crate) struct Ticks<C: Clock + Drop> {
     period: Duration,
     // When the next tick is due, once the first was asked for.
     due: Option<Instant>,
-    // How many are to come.
-    left: u64,
+    // How many were taken.
+    pub(crate) taken: u64,
+    // How many there are in all.
+    pub(crate) count: u64,
+    ghost within: { taken ≤ count },
 }
 
 /// What the clock says.
@@ -28,17 +32,24 @@ pub(crate) enum Beat {
 
 impl<C: Clock + Drop> Ticks<C> {
     /// So many ticks, one a period.
-    pub(crate) fn new(clock: C, period: Duration, count: u64) -> Ticks<C> {
+    pub(crate) fn new(clock: C, period: Duration, count: u64) -> Ticks<C>
+        ensures taken { result.taken ≡ 0 }
+        ensures count { result.count ≡ count }
+    {
         Ticks {
             clock,
             period,
             due: None,
-            left: count,
+            taken: 0,
+            count,
         }
     }
 
     // When the next tick is due: a period from now, where none was asked for before.
-    fn next(&mut self, now: Instant) -> io::Result<Instant> {
+    fn next(&mut self, now: Instant) -> io::Result<Instant>
+        ensures taken { self.new.taken ≡ self.old.taken }
+        ensures count { self.new.count ≡ self.old.count }
+    {
         if let Some(due) = self.due {
             return Ok(due);
         }
@@ -47,9 +58,14 @@ impl<C: Clock + Drop> Ticks<C> {
         Ok(due)
     }
 
-    /// Whether a tick is due.
-    pub(crate) fn beat(&mut self) -> io::Result<Beat> {
-        if self.left == 0 {
+    /// Whether a tick is due. None is any more where all were taken.
+    pub(crate) fn beat(&mut self) -> io::Result<Beat>
+        ensures taken { self.new.taken ≡ self.old.taken }
+        ensures count { self.new.count ≡ self.old.count }
+        ensures due { IfOk result (λ beat. beat ≡ beats.Due → self.new.taken < self.new.count) }
+        ensures over { IfOk result (λ beat. beat ≡ beats.Over → self.new.taken ≡ self.new.count) }
+    {
+        if self.taken == self.count {
             return Ok(Beat::Over);
         }
         let now = Instant::now(&self.clock)?;
@@ -62,11 +78,16 @@ impl<C: Clock + Drop> Ticks<C> {
     }
 
     /// A tick that is due is taken.
-    pub(crate) fn take(&mut self) -> io::Result<()> {
+    pub(crate) fn take(&mut self) -> io::Result<()>
+        requires { self.old.taken < self.old.count }
+        ensures taken { OnOk result (self.new.taken ≡ self.old.taken + 1) }
+        ensures count { self.new.count ≡ self.old.count }
+        ensures none { OnErr result (self.new.taken ≡ self.old.taken) }
+    {
         if let Some(due) = self.due {
             self.due = Some(after(due, self.period)?);
         }
-        self.left = self.left.saturating_sub(1);
+        self.taken += 1;
         Ok(())
     }
 }

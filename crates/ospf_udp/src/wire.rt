@@ -5,7 +5,7 @@ ghost use Rattle.std.specs.Prelude.{◌≡◌, IfOk};
 use crate::fault::OpenFault;
 use crate::sockets::Sockets;
 use ospf_config::Config;
-use ospf_drive::{Arrival, LONGEST, Router, Sent, Wire, WireFault};
+use ospf_drive::{Arrival, LONGEST, Sent, Wire, WireFault};
 use std::alloc::Global;
 use std::marker::Model;
 use std::net::Net;
@@ -15,8 +15,8 @@ use std::time::{Clock, Duration};
 /// one that is shorter than the addresses, or longer than any packet, is passed over. First the links come up; a tick comes each
 /// period, and none is lost where a step was slow; after the last tick comes the end.
 ///
-/// It waits by the system, and takes no processor while nothing comes. It does not tell its traffic: nobody can say what a socket
-/// carries.
+/// It waits by the system, and takes no processor while nothing comes. It tells how many ticks it has handed over, of how many, and
+/// nothing else of its traffic: nobody can say what a socket carries.
 #[derive(Drop)]
 pub struct UdpWire<C: Clock + Drop> {
     sockets: Sockets<C>,
@@ -28,7 +28,7 @@ impl<C: Clock + Drop> Model for UdpWire<C> {
 
     ghost Value = { UdpValue };
 
-    ghost view = { λ w. record { failed = w.failed } };
+    ghost view = { λ w. record { failed = w.failed; handed = w.sockets.ticks.taken; count = w.sockets.ticks.count } };
 }
 
 impl<C: Clock + Drop> UdpWire<C> {
@@ -44,7 +44,7 @@ impl<C: Clock + Drop> UdpWire<C> {
         period: Duration,
         count: u64,
     ) -> Result<UdpWire<C>, OpenFault>
-        ensures { IfOk result (λ wire. wire.failed ≡ 0) }
+        ensures { IfOk result (λ wire. wire ≡ record { failed = 0; handed = 0; count = count }) }
     {
         let sockets = Sockets::open(net, alloc, clock, config, period, count)?;
         Ok(UdpWire { sockets, failed: 0 })
@@ -52,9 +52,9 @@ impl<C: Clock + Drop> UdpWire<C> {
 }
 
 impl<C: Clock + Drop> Wire for UdpWire<C> {
-    ghost use Rattle.std.specs.Prelude.{None};
+    ghost use Rattle.ospf_drive.specs.Traffic.Carried.{Ticks};
 
-    ghost traffic = { λ _. None };
+    ghost traffic = { λ wire. Ticks wire.handed wire.count };
 
     ghost failed = { λ wire. wire.failed };
 
@@ -67,8 +67,6 @@ impl<C: Clock + Drop> Wire for UdpWire<C> {
             }
         }
     }
-
-    fn sees(&mut self, _router: &Router) {}
 
     fn send(&mut self, sent: &Sent) -> Result<(), WireFault> {
         match self.sockets.send_to_peers(sent) {

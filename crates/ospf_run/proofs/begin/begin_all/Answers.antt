@@ -2,7 +2,7 @@ use Rattle.std.proofs.Common.{rules, ◌≡◌, ◌+◌, ◌<◌, ◌^◌, ℤ, 
 use Rattle.std.proofs.lemmas.List.{take_all}
 use Rattle.ospf_drive.proofs.Jobs.{of_first, of_later}
 use Rattle.ospf_drive.specs.Driven.{Pairs}
-use Rattle.ospf_run.proofs.Lists.{all_more, pairs_both, pairs_more}
+use Rattle.ospf_run.proofs.Lists.{all_more, over_all, over_more, pairs_both, pairs_more}
 use Rattle.ospf_run.specs.Runs.{Begins}
 use Rattle.ospf_run.proofs.begin.begin_all.Goals as goal
 
@@ -16,6 +16,7 @@ loop-config-preserved g c =
     record {
       left = omega (arith, c.remove-wire.ensures.len, c.loop-config.invariant.left);
       fresh = of_later (λ wire. g.W.Wire.failed wire + 1 < 2 ^ 64) c.loop-config.wires.items c.remove-wire.new.self.items c.remove-wire.ensures.by_index.2 c.loop-config.invariant.fresh;
+      over = over_more (λ job. job.1) c.args.wires.items c.loop-config.jobs.items c.put.new.list.items c.loop-config.wires.items c.remove-wire.new.self.items c.in_ok-job.job c.remove-wire.result c.loop-config.invariant.over some c.remove-wire.ensures.value c.remove-wire.ensures.by_index.2 c.in_ok-job.ensures.wire jobs;
       begins = pairs_more _ c.args.configs.now c.loop-config.config-index c.config-item.result c.loop-config.jobs.items c.put.new.list.items c.in_ok-job.job c.loop-config-test.true c.config-item.is c.loop-config.invariant.begins c.in_ok-job.ensures.begins jobs;
       jobs_fresh = all_more (λ job. g.W.Wire.failed job.1 + 1 < 2 ^ 64) c.loop-config.jobs.items c.put.new.list.items c.in_ok-job.job c.loop-config.invariant.jobs_fresh (subst (λ wire. g.W.Wire.failed wire + 1 < 2 ^ 64) (sym c.in_ok-job.ensures.wire) fresh) jobs;
       seats = pairs_both _ c.loop-config.jobs.items c.put.new.list.items c.loop-config.seats.items c.put-in-loop-config.new.list.items c.in_ok-job.job c.in_ok-job.seat c.loop-config.invariant.seats c.in_ok-job.ensures.seat jobs seats;
@@ -26,3 +27,8 @@ returns-clause-begins g c =
     let same : to_z w32 (of_z w32 c.args.floor) ≡ c.args.floor = search (rules) in
     let all = subst (λ configs. Pairs (λ config job. Begins (to_z w32 (of_z w32 c.args.floor)) config job.0 job.2) configs c.loop-config.jobs.items) (take_all c.loop-config.config-index c.args.configs.now c.loop-config-test.false) c.loop-config.invariant.begins in
     subst (λ (z : ℤ). Pairs (λ config job. Begins z config job.0 job.2) c.args.configs.now c.loop-config.jobs.items) same all
+
+pub returns-clause-over : goal.returns-clause-over
+returns-clause-over g c =
+    let left = c.loop-config.invariant.left in
+    over_all (λ job. job.1) c.args.wires.items c.loop-config.jobs.items c.loop-config.wires.items c.loop-config.invariant.over (omega (arith, left, c.loop-config-test.false, c.requires.wires))

@@ -1,8 +1,8 @@
-use Rattle.std.proofs.Common.{◌+◌, ◌<◌, ℤ, arith, drop, length, subst, sym, Result}
+use Rattle.std.proofs.Common.{◌+◌, ◌<◌, arith, drop, length, subst, sym, Result}
 use Rattle.ospf_run.proofs.Finished.{outcome_of, ran_taken, trios_on}
 use Rattle.ospf_run.proofs.Lists.{HasFirst, first_left, outcomes_more}
 use Rattle.ospf_drive.specs.declared.fault.DriveFault.{DriveFault}
-use Rattle.ospf_run.specs.Runs.{Came, Trios}
+use Rattle.ospf_run.specs.Runs.{Came, Terms, Trios}
 use Rattle.ospf_run.specs.declared.finish.Shown.{Shown}
 use Rattle.ospf_run.specs.declared.finish.Outcome.{Outcome}
 use Rattle.ospf_run.proofs.finish.finish_all.Goals as goal
@@ -12,24 +12,24 @@ loop-place-preserved g c =
     let within : c.loop-place.place < length c.args.files.now = omega (arith, c.requires.files, c.loop-place-test.true) in
     let outcome : Outcome = c.outcome_of-outcome.result in
     let items = c.in_ok-put.ensures in
-    let first = λ (floor : ℤ) (left : Trios floor (drop c.loop-place.place c.args.configs.now) c.loop-place.driven.items c.loop-place.lookers.items).
-    first_left floor c.args.configs.now c.loop-place.place c.index-configs-place.result c.loop-place.driven.items c.loop-place.lookers.items c.loop-place-test.true c.index-configs-place.is left in
-    let on = λ (floor : ℤ) (h : HasFirst floor c.index-configs-place.result (drop (c.loop-place.place + 1) c.args.configs.now) c.loop-place.driven.items c.loop-place.lookers.items).
-    trios_on floor c.index-configs-place.result (drop (c.loop-place.place + 1) c.args.configs.now) c.loop-place.driven.items c.loop-place.lookers.items h c.remove-ended.result c.remove-looker.result
+    let first = λ (terms : Terms) (left : Trios terms (drop c.loop-place.place c.args.configs.now) c.loop-place.driven.items c.loop-place.lookers.items).
+    first_left terms c.args.configs.now c.loop-place.place c.index-configs-place.result c.loop-place.driven.items c.loop-place.lookers.items c.loop-place-test.true c.index-configs-place.is left in
+    let on = λ (terms : Terms) (h : HasFirst terms c.index-configs-place.result (drop (c.loop-place.place + 1) c.args.configs.now) c.loop-place.driven.items c.loop-place.lookers.items).
+    trios_on terms c.index-configs-place.result (drop (c.loop-place.place + 1) c.args.configs.now) c.loop-place.driven.items c.loop-place.lookers.items h c.remove-ended.result c.remove-looker.result
     c.remove-ended.new.self.items c.remove-looker.new.self.items c.remove-ended.ensures.value c.remove-ended.ensures.by_index.2 c.remove-looker.ensures.value c.remove-looker.ensures.by_index.2 in
-    let ran = λ (floor : ℤ) (h : HasFirst floor c.index-configs-place.result (drop (c.loop-place.place + 1) c.args.configs.now) c.loop-place.driven.items c.loop-place.lookers.items).
-    ran_taken floor c.index-configs-place.result (drop (c.loop-place.place + 1) c.args.configs.now) c.loop-place.driven.items c.loop-place.lookers.items h c.remove-ended.result c.remove-looker.result
+    let ran = λ (terms : Terms) (h : HasFirst terms c.index-configs-place.result (drop (c.loop-place.place + 1) c.args.configs.now) c.loop-place.driven.items c.loop-place.lookers.items).
+    ran_taken terms c.index-configs-place.result (drop (c.loop-place.place + 1) c.args.configs.now) c.loop-place.driven.items c.loop-place.lookers.items h c.remove-ended.result c.remove-looker.result
     c.remove-ended.new.self.items c.remove-looker.new.self.items c.remove-ended.ensures.value c.remove-ended.ensures.by_index.2 c.remove-looker.ensures.value c.remove-looker.ensures.by_index.2 in
     record {
       some = (let left = c.loop-place.invariant.some in (left.0, on left.0 (first left.0 left.1)));
-      so_far = λ floor trios.
-          let before = c.loop-place.invariant.so_far floor trios in
-          let h = first floor before.0 in (
-            on floor h,
-            outcomes_more c.args.lookup floor c.args.files.now c.args.configs.now c.loop-place.outcomes.items c.put.new.list.items c.loop-place.place c.index-files-place.result c.index-configs-place.result
+      so_far = λ terms trios.
+          let before = c.loop-place.invariant.so_far terms trios in
+          let h = first terms before.0 in (
+            on terms h,
+            outcomes_more c.args.lookup terms c.args.files.now c.args.configs.now c.loop-place.outcomes.items c.put.new.list.items c.loop-place.place c.index-files-place.result c.index-configs-place.result
                 outcome within c.index-files-place.is c.loop-place-test.true c.index-configs-place.is before.1
-                (outcome_of c.args.lookup floor c.index-files-place.result c.index-configs-place.result (drop (c.loop-place.place + 1) c.args.configs.now) c.loop-place.driven.items c.loop-place.lookers.items h
-                c.remove-ended.result c.remove-looker.result outcome c.outcome_of-outcome.ensures.file c.outcome_of-outcome.ensures.router (ran floor h)
+                (outcome_of c.args.lookup terms c.index-files-place.result c.index-configs-place.result (drop (c.loop-place.place + 1) c.args.configs.now) c.loop-place.driven.items c.loop-place.lookers.items h
+                c.remove-ended.result c.remove-looker.result outcome c.outcome_of-outcome.ensures.file c.outcome_of-outcome.ensures.router (ran terms h)
                 (λ a has. subst (λ (came : Result Shown DriveFault). Came c.args.lookup a came) (sym c.outcome_of-outcome.ensures.came) (c.in_ok-came.ensures a has))) items,
           );
     }

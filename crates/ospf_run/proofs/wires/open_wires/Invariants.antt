@@ -5,6 +5,6 @@ use Rattle.ospf_run.proofs.wires.open_wires.Given as goal
 abbrev pub invariant-loop-place : goal.invariant-loop-place
 invariant-loop-place g l = record {
   count : length l.wires.items ≡ l.place;
-  fresh : All (λ wire. wire.failed ≡ 0) l.wires.items;
+  fresh : All (λ wire. wire ≡ record { failed = 0; handed = 0; count = l.settings.ticks }) l.wires.items;
   quiet : g.E.Write.contents l.err ≡ g.E.Write.contents l.fn.err;
 }

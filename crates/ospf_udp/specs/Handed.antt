@@ -1,0 +1,27 @@
+-- What is handed over, and how many ticks that is.
+use Rattle.std.specs.Prelude.{⊤, ℕ, Option, None, Some}
+use Rattle.ospf_drive.specs.declared.wire.Arrival.{Arrival}
+use Rattle.ospf_drive.specs.declared.wire.Arrival.TheVariants as arrival
+use Rattle.ospf_udp.specs.declared.sockets.Looked.{Looked}
+use Rattle.ospf_udp.specs.declared.sockets.Looked.TheVariants as looked
+
+-- how many ticks an arrival is
+abbrev pub tick_of : Arrival → ℕ
+tick_of arrival.Tick = 1
+tick_of _ = 0
+
+-- and what is next, if it is anything
+abbrev pub tick_next : Option Arrival → ℕ
+tick_next None = 0
+tick_next (Some a) = tick_of a
+
+-- an arrival from outside: no tick and no end
+abbrev pub IsFromOutside : Arrival → Type 0
+IsFromOutside arrival.Tick = ⊥
+IsFromOutside arrival.End = ⊥
+IsFromOutside _ = ⊤
+
+-- what the sockets gave comes from outside
+abbrev pub AreFromOutside : Looked → Type 0
+AreFromOutside (looked.Arrived a) = IsFromOutside a
+AreFromOutside _ = ⊤
