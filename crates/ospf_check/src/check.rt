@@ -14,7 +14,7 @@ use std::alloc::{AllocError, Global};
 use std::io::{self, Write};
 
 // Why a check ends early.
-#[derive(Debug, Drop)]
+#[derive(Drop)]
 enum CheckFault {
     NotRead,
     Failure(Failure),

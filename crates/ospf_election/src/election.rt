@@ -8,7 +8,7 @@ use crate::candidate::{Candidate, Elected};
 use ospf_base::{Addr, RouterId};
 
 // What a candidate has to be to be chosen.
-#[derive(Clone, Copy, Debug, PartialEq, Eq)]
+#[derive(Clone, Copy)]
 enum Standing {
     DeclaresDr,
     DeclaresBackup,

@@ -18,6 +18,7 @@ use ospf_index::IndexedTable;
 use ospf_published::{Opened, Published};
 use ospf_spf::RouteTable;
 use std::alloc::{AllocError, AllocFailed, Global};
+use std::fmt::{self, Display, Formatter, Write};
 use std::sync::atomic::AtomicU64;
 use std::sync::{Arc, Wait};
 
@@ -29,8 +30,19 @@ pub struct Fib;
 
 /// Memory ran out, or there was no place for a seat.
 #[derive(Clone, Copy, Debug, PartialEq, Eq, thiserror::Error)]
-#[error("no memory or no place for a forwarding table")]
 pub struct OpenRefused;
+
+/// Its name: `OpenRefused`.
+impl Display for OpenRefused {
+    ghost use Rattle.std.specs.Prelude.{Some};
+    ghost use Rattle.ospf_fib.specs.Text.{open_refused_text};
+
+    ghost output = { λ _. Some open_refused_text };
+
+    fn fmt<W: Write>(&self, f: &mut Formatter<W>) -> fmt::Result {
+        f.write_str("OpenRefused")
+    }
+}
 
 impl From<AllocError> for OpenRefused {
     fn from(_error: AllocError) -> OpenRefused {

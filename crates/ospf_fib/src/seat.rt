@@ -13,12 +13,24 @@ use core::mem::replace_with;
 use left_right::reader::Reader;
 use ospf_base::Addr;
 use ospf_published::Published;
+use std::fmt::{self, Display, Formatter, Write};
 use std::marker::Model;
 
 /// The writer is gone.
 #[derive(Clone, Copy, Debug, PartialEq, Eq, thiserror::Error)]
-#[error("the forwarding table is closed")]
 pub struct Closed;
+
+/// Its name: `Closed`.
+impl Display for Closed {
+    ghost use Rattle.std.specs.Prelude.{Some};
+    ghost use Rattle.ospf_fib.specs.Text.{closed_text};
+
+    ghost output = { λ _. Some closed_text };
+
+    fn fmt<W: Write>(&self, f: &mut Formatter<W>) -> fmt::Result {
+        f.write_str("Closed")
+    }
+}
 
 /// What a publish tells: the tables that were published by then.
 #[derive(Drop)]

@@ -72,7 +72,7 @@ fn take_hello(
 }
 
 // What an election looks at in a neighbour.
-#[derive(Clone, Copy, Debug, PartialEq, Eq)]
+#[derive(Clone, Copy)]
 pub(crate) struct Bearing {
     two_way: bool,
     priority: u8,

@@ -9,7 +9,7 @@ use std::alloc::Global;
 
 /// What a range's route says: its prefix, its cost, and the number of its set of hops. Where no route answers for
 /// the range, that is the set of no hop.
-#[derive(Clone, Copy, Debug)]
+#[derive(Clone, Copy)]
 pub(crate) struct Entry {
     pub prefix: Prefix,
     pub cost: u64,

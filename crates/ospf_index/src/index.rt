@@ -31,7 +31,7 @@ const ADDRESS_BITS: u32 = 32;
 
 /// Where the ranges of a table's routes begin, what each of them answers, with the sets of hops, and for each block
 /// of addresses, and for what stands behind the last one, the range in which it begins.
-#[derive(Debug, Drop)]
+#[derive(Drop)]
 pub(crate) struct Index {
     pub starts: Vec<u32>,
     pub entries: Vec<Entry>,
@@ -40,7 +40,7 @@ pub(crate) struct Index {
 }
 
 /// All the memory that an index takes.
-#[derive(Debug, Drop)]
+#[derive(Drop)]
 pub(crate) struct IndexRoom {
     pub sweep: Sweep,
     pub numbering: Numbering,

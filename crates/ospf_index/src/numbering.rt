@@ -11,7 +11,7 @@ use std::alloc::{AllocError, Global};
 const MIXER: u32 = 0x9e37_79b1;
 
 /// The sets that were found so far, and what finds them again: chains of those whose hops mix to the same.
-#[derive(Debug, Drop)]
+#[derive(Drop)]
 pub(crate) struct Numbering {
     pub sets: HopSets,
     // One more than the number of the last set of each chain; 0 where it has none.

@@ -4,7 +4,7 @@ use std::alloc::Global;
 
 /// Ranges of addresses: where each begins, and the place of the route that answers for it. Where none does, the
 /// place is behind the last route.
-#[derive(Debug, Drop)]
+#[derive(Drop)]
 pub(crate) struct Ranges {
     pub starts: Vec<u32>,
     pub places: Vec<usize>,

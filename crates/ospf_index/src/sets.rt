@@ -7,14 +7,14 @@ use ospf_graph::NextHop;
 use std::alloc::Global;
 
 /// Where a set stands in the list of the hops of all sets.
-#[derive(Clone, Copy, Debug)]
+#[derive(Clone, Copy)]
 pub(crate) struct HopSet {
     pub first: usize,
     pub count: usize,
 }
 
 /// Sets of hops by their numbers. That of number 0 has no hop.
-#[derive(Debug, Drop)]
+#[derive(Drop)]
 pub(crate) struct HopSets {
     pub hops: Vec<NextHop>,
     pub sets: Vec<HopSet>,

@@ -12,7 +12,7 @@ use ospf_graph::Route;
 use std::alloc::{AllocError, Global};
 
 /// How far a sweep has come: the ranges that have begun, and the places of the routes that have not ended.
-#[derive(Debug, Drop)]
+#[derive(Drop)]
 pub(crate) struct Sweep {
     pub ranges: Ranges,
     pub opened: Vec<usize>,

@@ -18,7 +18,7 @@ use std::alloc::{AllocError, Global};
 use std::marker::Model;
 
 /// A routing table that is looked up through its index. Proofs see it as its routes.
-#[derive(Debug, Drop)]
+#[derive(Drop)]
 pub struct IndexedTable {
     table: RouteTable,
     index: Index,

@@ -9,6 +9,7 @@ ghost use Rattle.ospf_neighbour.specs.declared.neighbours.NeighbourFault.TheVari
 use crate::neighbour::Neighbour;
 use ospf_base::{Addr, LsaKey, RouterId};
 use std::alloc::Global;
+use std::fmt::{self, Display, Formatter, Write};
 use std::marker::Model;
 use thiserror::Error;
 
@@ -17,7 +18,6 @@ pub const MAX_NEIGHBOURS: usize = 255;
 
 /// Why a neighbour was not added.
 #[derive(Clone, Copy, Debug, PartialEq, Eq, Error)]
-#[error("{text}", text = self.text())]
 pub enum NeighbourFault {
     /// The interface has `MAX_NEIGHBOURS`.
     Full,
@@ -37,6 +37,18 @@ impl NeighbourFault {
             NeighbourFault::Full => "N1 Full",
             NeighbourFault::Memory => "N2 Memory",
         }
+    }
+}
+
+/// The number and the name, as `N1 Full`.
+impl Display for NeighbourFault {
+    ghost use Rattle.std.specs.Prelude.{Some};
+    ghost use Rattle.ospf_neighbour.specs.Text.{neighbour_fault_text};
+
+    ghost output = { λ fault. Some (neighbour_fault_text fault) };
+
+    fn fmt<W: Write>(&self, f: &mut Formatter<W>) -> fmt::Result {
+        f.write_str(self.text())
     }
 }
 

@@ -1,7 +1,7 @@
 //! The words that commands begin with.
 
 // The word that a command begins with.
-#[derive(Clone, Copy, Debug, PartialEq, Eq)]
+#[derive(Clone, Copy)]
 pub(crate) enum Name {
     Start,
     Stop,

@@ -10,11 +10,11 @@ ghost use Rattle.ospf_table.specs.Line.{HasFirstFault, IsBlank, text_of};
 use hex::FromHexError;
 use ospf_lsa::{Lsa, LsaFault, LsaView};
 use std::alloc::Global;
+use std::fmt::{self, Display, Formatter, Write};
 use thiserror::Error;
 
 /// Why a line is no LSA.
 #[derive(Clone, Copy, Debug, PartialEq, Eq, Error)]
-#[error("{text}", text = self.text())]
 pub enum LineFault {
     /// The text is not hexadecimal digits, two by two.
     NotHex,
@@ -34,6 +34,18 @@ impl LineFault {
             LineFault::NotHex => "not hex",
             LineFault::Lsa(fault) => fault.text(),
         }
+    }
+}
+
+/// `not hex`, or what is printed of the LSA's fault.
+impl Display for LineFault {
+    ghost use Rattle.std.specs.Prelude.{Some};
+    ghost use Rattle.ospf_table.specs.Refusal.{line_fault_text};
+
+    ghost output = { λ fault. Some (line_fault_text fault) };
+
+    fn fmt<W: Write>(&self, f: &mut Formatter<W>) -> fmt::Result {
+        f.write_str(self.text())
     }
 }
 

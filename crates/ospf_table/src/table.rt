@@ -55,7 +55,7 @@ impl EntryFault {
 }
 
 // Why there is no table.
-#[derive(Debug, Drop)]
+#[derive(Drop)]
 pub(crate) enum TableFault {
     Entry { number: u64, fault: EntryFault },
     Failure(Failure),
