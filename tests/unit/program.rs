@@ -1,8 +1,8 @@
 //! Whole answers to words and input.
 
 use super::failing::Failing;
-use crate::jobs::{CheckJob, Job};
-use crate::words::{job, not_text};
+use ospf_words::{CheckJob, Job};
+use ospf_words::{job, not_text};
 use ospf_base::Addr;
 use ospf_check::check_text;
 use ospf_files::{Failure, NamedFile, Status};
@@ -433,7 +433,7 @@ static WORDS: [(&str, &str, u8, &str, &str); 22] = [
         "",
         "10.0.0.01: not an address\n",
     ),
-    ("version", "--version", 0, "ospfd 0.1.0\n", ""),
+    ("version", "--version", 0, "ospfd 0.2.0 (proved)\n", ""),
     ("no command", "", 2, "", "error: "),
     ("no words", "table", 2, "", "error: "),
     ("no file", "check", 2, "", "error: "),

@@ -140,9 +140,9 @@ impl<'a, R: Wait> GatedWire<'a, R> {
 }
 
 impl<'a, R: Wait> Wire for GatedWire<'a, R> {
-    ghost use Rattle.std.specs.Prelude.{None};
+    ghost use Rattle.ospf_drive.specs.Traffic.Carried.{Untold};
 
-    ghost traffic = { λ _. None };
+    ghost traffic = { λ _. Untold };
 
     ghost failed = { λ wire. wire.failed };
 
@@ -156,8 +156,6 @@ impl<'a, R: Wait> Wire for GatedWire<'a, R> {
             }
         }
     }
-
-    fn sees(&mut self, _router: &Router) {}
 
     fn send(&mut self, sent: &Sent) -> Result<(), WireFault> {
         match self.pass_on(sent) {
