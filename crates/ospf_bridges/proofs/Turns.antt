@@ -1,5 +1,5 @@
 -- Database Descriptions, Requests and repeats are parts.
-use Rattle.std.proofs.Common.{◌≡◌, ◌⊎◌, inl, inr, ◌==◌, ◌<◌, ℕ, zero, suc, Bool, true, false, cond, List, [], ◌∷◌, map, Option, None, Some, slice_get, refl, sym, ap, subst, if◌then◌else◌, ◌∙◌, arith}
+use Rattle.std.proofs.Common.{◌≡◌, ◌⊎◌, inl, inr, ◌==◌, ◌&&◌, ◌<◌, ℕ, zero, suc, Bool, true, false, cond, List, [], ◌∷◌, map, Option, None, Some, slice_get, refl, sym, ap, subst, if◌then◌else◌, ◌∙◌, arith}
 use Rattle.std.specs.List.{AllByRecursion, Contains, flat_map}
 use Rattle.std.proofs.lemmas.Bool.{cases_Bool, cond-true, cond-false, eqb-true}
 use Rattle.std.proofs.lemmas.Option.{none-some, same_Some}
@@ -65,10 +65,10 @@ at_one P m r ns is here others q = subst (λ o. P q o) (sym (puts_one m ns q)) (
         subst (λ o. P q o) (sym (cond-true _ _ _ same)) (subst (λ q. P q (Some m)) one here)
     go (inr other) = subst (λ o. P q o) (sym (cond-false _ _ _ other)) (others q)
 
-one_goes_on : (s : AreaValue) (heard : Option Meaning) (n m : NeighbourValue) (r : RouterId) (ns : List NeighbourValue) → neighbour_of ns r ≡ Some n → m.router ≡ r → GoesOn s (told_by heard r) n m → (q : RouterId) → Goes s (told_by heard q) (neighbour_of ns q) (neighbour_of (put m ns) q)
-one_goes_on s heard n m r ns found is goes =
-    at_one (λ q o. Goes s (told_by heard q) (neighbour_of ns q) o) m r ns is
-    (subst (λ o. Goes s (told_by heard r) o (Some m)) (sym found) goes) (λ q. goes_same s (told_by heard q) (neighbour_of ns q))
+one_goes_on : (s : AreaValue) (told : RouterId → List LsaHeader) (n m : NeighbourValue) (r : RouterId) (ns : List NeighbourValue) → neighbour_of ns r ≡ Some n → m.router ≡ r → GoesOn s (told r) n m → (q : RouterId) → Goes s (told q) (neighbour_of ns q) (neighbour_of (put m ns) q)
+one_goes_on s told n m r ns found is goes =
+    at_one (λ q o. Goes s (told q) (neighbour_of ns q) o) m r ns is
+    (subst (λ o. Goes s (told r) o (Some m)) (sym found) goes) (λ q. goes_same s (told q) (neighbour_of ns q))
 
 one_enters_not : (n m : NeighbourValue) (r : RouterId) (ns : List NeighbourValue) → neighbour_of ns r ≡ Some n → m.router ≡ r → EntersNot (Some n) (Some m) → (q : RouterId) → EntersNot (neighbour_of ns q) (neighbour_of (put m ns) q)
 one_enters_not n m r ns found is enters =
@@ -84,20 +84,20 @@ module _ (f : Origin) (p : Meaning) (d : Description) (s t : AreaValue) (is : Is
   after : LinkValue → Option NeighbourValue → Neighbourhood
   after link o = description_by o link.iface (local_of (own_of s) link) f.router d (dd_headers_in p) s.database (neighbourhood_of link s.next_dd)
 
-  described : (link : LinkValue) (o : Option NeighbourValue) → neighbour_of link.neighbours f.router ≡ o → OnOneLink f.link link (with_neighbourhood (after link o) link) (posted_all (own_of s) f.link link.iface (after link o).sent) s (sends (posted_all (own_of s) f.link link.iface (after link o).sent)) t → NeighboursGo (Some p) s (sends (posted_all (own_of s) f.link link.iface (after link o).sent)) t
+  described : (link : LinkValue) (o : Option NeighbourValue) → neighbour_of link.neighbours f.router ≡ o → OnOneLink f.link link (with_neighbourhood (after link o) link) (posted_all (own_of s) f.link link.iface (after link o).sent) s (sends (posted_all (own_of s) f.link link.iface (after link o).sent)) t → NeighboursGo (Some (record { link = f.link; packet = p })) s (sends (posted_all (own_of s) f.link link.iface (after link o).sent)) t
   unfolding after
-  described link None found one = one_goes (Some p) f.link link link [] s _ t one (link_same s (Some p) link) (none_known s)
+  described link None found one = one_goes (Some (record { link = f.link; packet = p })) f.link link link [] s _ t one (link_same s (told_by (Some (record { link = f.link; packet = p })) f.link) link) (none_known s)
   described link (Some n) found one =
       let local = local_of (own_of s) link in
       let turn = turn_of n (neighbourhood_of link s.next_dd) in
       let u = description_turn link.iface local f.router d (dd_headers_in p) s.database turn in
       let at : neighbour s f.link f.router ≡ Some n = of_area s f.link link f.router n one.at found in
       let same : u.neighbour.router ≡ f.router = (description_keeps_router link.iface local f.router d (dd_headers_in p) s.database turn).router ∙ neighbour-router s f.link f.router n at in
-      let told : told_by (Some p) f.router ≡ dd_headers_in p = cond-true _ _ _ (ap (λ (r : RouterId). r.0 == f.router.0) sender ∙ same_id f.router.0) in
+      let told : told_by (Some (record { link = f.link; packet = p })) f.link f.router ≡ dd_headers_in p = cond-true _ _ _ (ap (λ b. b && (p.router.0 == f.router.0)) (same_id f.link) ∙ (ap (λ (r : RouterId). r.0 == f.router.0) sender ∙ same_id f.router.0)) in
       let goes = goes_on s (dd_headers_in p) n u.neighbour is (description_goes link.iface local f.router d (dd_headers_in p) s.database turn (below n at)) in
-      one_goes (Some p) f.link link (with_neighbourhood (after link (Some n)) link) (posted_all (own_of s) f.link link.iface u.sent) s _ t one
+      one_goes (Some (record { link = f.link; packet = p })) f.link link (with_neighbourhood (after link (Some n)) link) (posted_all (own_of s) f.link link.iface u.sent) s _ t one
       (record {
-        goes = one_goes_on s (Some p) n u.neighbour f.router link.neighbours found same (subst (λ hs. GoesOn s hs n u.neighbour) (sym told) goes);
+        goes = one_goes_on s (told_by (Some (record { link = f.link; packet = p })) f.link) n u.neighbour f.router link.neighbours found same (subst (λ hs. GoesOn s hs n u.neighbour) (sym told) goes);
         waiting = λ h c. c;
       })
       (posted_known s f.link link.iface u.sent (λ q inside. says q (description_says_only link.iface local f.router d (dd_headers_in p) s.database turn q inside) at))
@@ -106,14 +106,14 @@ module _ (f : Origin) (p : Meaning) (d : Description) (s t : AreaValue) (is : Is
       says q (inl none) at = absurd (Contains-nil q none)
       says q (inr only) at = says_known s f.link f.router n at is q.body only
 
-pub description_puts : (f : Origin) (p : Meaning) (d : Description) (s t : AreaValue) (out out' : OutputsValue) → IsDatabase s.database → NoneWaitsBelow s f.link f.router → p.router ≡ f.router → AreRead out'.sent → t ≡ worked (description_part (own_of s) f d (dd_headers_in p) s.database s.next_dd) f.link s → out' ≡ and_sends out (work_sent (description_part (own_of s) f d (dd_headers_in p) s.database s.next_dd) (own_of s) f.link s.links) → PutsOut (λ o. NeighboursGo (Some p) s o t) out out'
+pub description_puts : (f : Origin) (p : Meaning) (d : Description) (s t : AreaValue) (out out' : OutputsValue) → IsDatabase s.database → NoneWaitsBelow s f.link f.router → p.router ≡ f.router → AreRead out'.sent → t ≡ worked (description_part (own_of s) f d (dd_headers_in p) s.database s.next_dd) f.link s → out' ≡ and_sends out (work_sent (description_part (own_of s) f d (dd_headers_in p) s.database s.next_dd) (own_of s) f.link s.links) → PutsOut (λ o. NeighboursGo (Some (record { link = f.link; packet = p })) s o t) out out'
 unfolding after
 description_puts f p d s t out out' is below sender read state outputs =
-    work_puts (λ o. NeighboursGo (Some p) s o t) (description_part (own_of s) f d (dd_headers_in p) s.database s.next_dd) f.link s.sent s t out out' state outputs read (λ same. same_go (Some p) s t same)
+    work_puts (λ o. NeighboursGo (Some (record { link = f.link; packet = p })) s o t) (description_part (own_of s) f d (dd_headers_in p) s.database s.next_dd) f.link s.sent s t out out' state outputs read (λ same. same_go (Some (record { link = f.link; packet = p })) s t same)
     (λ link one. described f p d s t is below sender link (neighbour_of link.neighbours f.router) refl one)
 
 -- of these headers, which the packet tells
-pub description_told : (f : Origin) (p : Meaning) (d : Description) (headers : List LsaHeader) (s t : AreaValue) (out out' : OutputsValue) → IsDatabase s.database → NoneWaitsBelow s f.link f.router → p.router ≡ f.router → headers ≡ dd_headers_in p → AreRead out'.sent → t ≡ worked (description_part (own_of s) f d headers s.database s.next_dd) f.link s → out' ≡ and_sends out (work_sent (description_part (own_of s) f d headers s.database s.next_dd) (own_of s) f.link s.links) → PutsOut (λ o. NeighboursGo (Some p) s o t) out out'
+pub description_told : (f : Origin) (p : Meaning) (d : Description) (headers : List LsaHeader) (s t : AreaValue) (out out' : OutputsValue) → IsDatabase s.database → NoneWaitsBelow s f.link f.router → p.router ≡ f.router → headers ≡ dd_headers_in p → AreRead out'.sent → t ≡ worked (description_part (own_of s) f d headers s.database s.next_dd) f.link s → out' ≡ and_sends out (work_sent (description_part (own_of s) f d headers s.database s.next_dd) (own_of s) f.link s.links) → PutsOut (λ o. NeighboursGo (Some (record { link = f.link; packet = p })) s o t) out out'
 description_told f p d headers s t out out' is below sender told read state outputs =
     description_puts f p d s t out out' is below sender read (state ∙ ap (λ hs. worked (description_part (own_of s) f d hs s.database s.next_dd) f.link s) told)
     (outputs ∙ ap (λ hs. and_sends out (work_sent (description_part (own_of s) f d hs s.database s.next_dd) (own_of s) f.link s.links)) told)
@@ -167,7 +167,7 @@ module _ (f : Origin) (entries : List RequestEntry) (s t : AreaValue) (is : IsDa
       one_quiet f.link link (with_neighbourhood (answered link (Some n)) link) (posted_all (own_of s) f.link link.iface u.sent) s _ t one
       (record {
         link = record {
-          goes = one_goes_on s None n u.neighbour f.router link.neighbours found same (goes_on s [] n u.neighbour is (quiet.goes []));
+          goes = one_goes_on s (λ q. []) n u.neighbour f.router link.neighbours found same (goes_on s [] n u.neighbour is (quiet.goes []));
           waiting = λ h c. c;
         };
         enters = one_enters_not n u.neighbour f.router link.neighbours found same quiet.enters;

@@ -1,13 +1,13 @@
 -- What the calls of a step say of a link, or of all, and the parts of the step.
 use Rattle.std.proofs.Common.{◌≡◌, ℕ, List, [], map, Option, None, Some, set, slice_get, refl, sym, ap, subst, ◌∙◌}
 use Rattle.ospf_base.specs.declared.ids.LsaKey.{LsaKey}
-use Rattle.ospf_packet.specs.Meaning.{Meaning}
 use Rattle.ospf_hello.specs.Heard.{Neighbourhood}
 use Rattle.ospf_area.specs.Outputs.{AreRead, OutputsValue, SentValue, no_outputs, sends}
 use Rattle.ospf_area.specs.Sending.{and_sends, own_of}
 use Rattle.ospf_area.specs.State.{AreaValue, LinkValue}
 use Rattle.ospf_laws.specs.Links.{AllEach, AreKnown, ChangesLinks, LinkQuiet, OnOneLink}
-use Rattle.ospf_laws.specs.Neighbours.{NeighboursGo, Quiet}
+use Rattle.ospf_laws.specs.Neighbours.{NeighboursGo, Quiet, told_by}
+use Rattle.ospf_laws.specs.Packets.{Received}
 use Rattle.ospf_laws.specs.Puts.{PutsOut}
 use Rattle.ospf_laws.proofs.Accountable.{AreRead-right, each_read, then_nothing}
 use Rattle.ospf_laws.proofs.Chains.{then_sends}
@@ -39,10 +39,10 @@ marks_quiet s t keys state =
     subst (λ t. Quiet s no_outputs t) (sym state)
     (part_quiet s (record s { sent = keys }) no_outputs [] refl refl nothing_read (λ l. each_same (LinkQuiet s) (quiet_same s) (slice_get s.links l)) (none_known s))
 
-pub same_go : (heard : Option Meaning) (s t : AreaValue) → t ≡ s → NeighboursGo heard s no_outputs t
+pub same_go : (heard : Option Received) (s t : AreaValue) → t ≡ s → NeighboursGo heard s no_outputs t
 same_go heard s t state =
     subst (λ t. NeighboursGo heard s no_outputs t) (sym state)
-    (part_goes heard s s no_outputs [] refl refl nothing_read (λ l. each_same _ (link_same s heard) (slice_get s.links l)) (none_known s))
+    (part_goes heard s s no_outputs [] refl refl nothing_read (λ l. each_same _ (link_same s (told_by heard l)) (slice_get s.links l)) (none_known s))
 
 -- a part that puts out nothing
 pub puts_nothing : (R : OutputsValue → Type 0) (out : OutputsValue) → R no_outputs → PutsOut R out out

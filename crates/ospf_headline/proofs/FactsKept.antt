@@ -10,19 +10,20 @@ use Rattle.ospf_base.specs.declared.ids.Instance.{Instance}
 use Rattle.ospf_base.specs.declared.ids.LsaKey.{LsaKey}
 use Rattle.ospf_base.specs.declared.ids.RouterId.{RouterId}
 use Rattle.ospf_lsa.specs.Lsa.{key_of, instance_of}
-use Rattle.ospf_packet.specs.Meaning.{Meaning}
+use Rattle.ospf_lsa.specs.declared.header.LsaHeader.{LsaHeader}
+use Rattle.ospf_packet.specs.Meaning.{BodyMeaning, hello, description, request, update, acknowledgment, Meaning}
 use Rattle.ospf_packet.specs.PacketOf.{packet_of}
 use Rattle.ospf_area.specs.Outputs.{OutputsValue, SentValue}
 use Rattle.ospf_area.specs.State.{AreaValue, kept_number}
 use Rattle.ospf_laws.specs.Headers.{Lists}
-use Rattle.ospf_laws.specs.Packets.{lsas_in, headers_in}
+use Rattle.ospf_laws.specs.Packets.{Received, lsas_in, headers_in, headers_of, dd_headers_in, dd_headers_of, acknowledging_headers_in, acknowledging_headers_of}
 use Rattle.ospf_laws.specs.Words.{CanName, HasCopy, Asks, Brings, IsSoundState}
 use Rattle.ospf_lsdb.specs.Moments.{among}
 use Rattle.ospf_update.specs.Removal.{lowest_number}
-use Rattle.ospf_laws.specs.Accounts.{Accounts, Has, Hears, Sends}
+use Rattle.ospf_laws.specs.Accounts.{Accounts, Has, Hears, IsAcknowledged, IsDescribed, Sends}
 use Rattle.ospf_laws.specs.Step.{Event, heard_in}
 use Rattle.ospf_laws.proofs.StateFacts.{same_router}
-use Rattle.ospf_laws.proofs.ListFacts.{slice_get-append_right, Contains-map_cases, Contains-map, slice_get-append_cases, slice_get-append_left, slice_get-map_cases, Contains-from_slice_get, slice_get-from_Contains}
+use Rattle.ospf_laws.proofs.ListFacts.{Contains-nil, slice_get-append_right, Contains-map_cases, Contains-map, slice_get-append_cases, slice_get-append_left, slice_get-map_cases, Contains-from_slice_get, slice_get-from_Contains}
 use Rattle.ospf_laws.proofs.StepAccounts.{StepLaws-accounts, StepLaws-sound}
 use Rattle.ospf_headline.specs.World.{World, Issued, Datagram, Holding, Running, router_at, run_of, Steps, Becomes, HasItsTable}
 use Rattle.ospf_headline.specs.Sound.{WasIssued, IssuedAt, number_in}
@@ -50,9 +51,24 @@ which_router before after r o q y b at = go (cases_eq q.0 r.0)
 pub WasIssued-more : (issued more : List Issued) (content : List ℕ) → WasIssued issued content → WasIssued (issued ++ more) content
 WasIssued-more issued more content was = record { place = was.place; entry = was.entry; at = slice_get-append_left issued more was.place was.entry was.at; is = was.is }
 
+-- the headers by which a packet describes and acknowledges are among those by which it names instances
+dd_named : (b : BodyMeaning) (h : LsaHeader) → Contains (dd_headers_of b) h → Contains (headers_of b) h
+dd_named (hello fields neighbours) h c = c
+dd_named (description fields headers) h c = c
+dd_named (request entries) h c = c
+dd_named (update lsas) h c = absurd (Contains-nil h c)
+dd_named (acknowledgment headers) h c = absurd (Contains-nil h c)
+
+acknowledged_named : (b : BodyMeaning) (h : LsaHeader) → Contains (acknowledging_headers_of b) h → Contains (headers_of b) h
+acknowledged_named (hello fields neighbours) h c = c
+acknowledged_named (description fields headers) h c = absurd (Contains-nil h c)
+acknowledged_named (request entries) h c = c
+acknowledged_named (update lsas) h c = c
+acknowledged_named (acknowledgment headers) h c = c
+
 -- a packet that is heard was sent
-abbrev pub WasSent : World → Option Meaning → Type 0
-WasSent w heard = (p : Meaning) → heard ≡ Some p → (g : Datagram) × Contains w.datagrams g × (packet_of g.sent.bytes ≡ Some p)
+abbrev pub WasSent : World → Option Received → Type 0
+WasSent w heard = (r : Received) → heard ≡ Some r → (g : Datagram) × Contains w.datagrams g × (packet_of g.sent.bytes ≡ Some r.packet)
 
 module _ {is_dropped : Event → AreaValue → Bool} (w w' : World) (r : RouterId) (event : Event) (x x' : Running) (out : OutputsValue) (facts : Facts w) (step : Steps is_dropped w w' r event x x' out) (was_sent : WasSent w (heard_in event)) where
   laws : Accounts (heard_in event) x.state out x'.state
@@ -67,9 +83,9 @@ module _ {is_dropped : Event → AreaValue → Bool} (w w' : World) (r : RouterI
 
   pub has_issued : (content : List ℕ) → Has (heard_in event) x.state out content → WasIssued w'.issued content
   has_issued content (Has.Held lsa c e) = was_issued content (subst (λ k. WasIssued w.issued k) e (facts.database r x lsa step.was c))
-  has_issued content (Has.Heard p lsa h c e) =
-      let (g, sent, reads) = was_sent p h in
-      was_issued content (subst (λ k. WasIssued w.issued k) e (facts.updates g p lsa sent reads c))
+  has_issued content (Has.Heard received lsa h c e) =
+      let (g, sent, reads) = was_sent received h in
+      was_issued content (subst (λ k. WasIssued w.issued k) e (facts.updates g received.packet lsa sent reads c))
   has_issued content (Has.Issued lsa c e) =
       let (k, at) = slice_get-from_Contains _ _ (Contains-map (λ lsa. record { lsa = lsa; run = run_of x (key_of lsa) }) out.issued lsa c) in
       record {
@@ -95,14 +111,21 @@ module _ {is_dropped : Event → AreaValue → Bool} (w w' : World) (r : RouterI
   names_held i (inl n) = was_held _ (facts.names r x i step.was n)
   names_held i (inr b) = brings_held i b
 
-  pub hears_held : (q : RouterId) (i : Instance) → Hears (heard_in event) q i → Contains w'.held (record { router = q; instance = i })
-  hears_held q i h =
-      let (g, sent, reads) = was_sent h.packet h.is_heard in
-      was_held _ (subst (λ q. Contains w.held (record { router = q; instance = i })) h.from (facts.named g h.packet i sent reads h.named))
+  hears_by : (headers : Meaning → List LsaHeader) → ((p : Meaning) (h : LsaHeader) → Contains (headers p) h → Contains (headers_in p) h) → (l : ℕ) (q : RouterId) (i : Instance) → Hears headers (heard_in event) l q i → Contains w'.held (record { router = q; instance = i })
+  hears_by headers among_all l q i h =
+      let (g, sent, reads) = was_sent h.received h.is_heard in
+      let (header, c, is) = h.named in
+      was_held _ (subst (λ q. Contains w.held (record { router = q; instance = i })) h.from (facts.named g h.received.packet i sent reads (header, among_all h.received.packet header c, is)))
 
-  pub asks_held : (l : ℕ) (q : RouterId) (i : Instance) → Asks x.state l q i ⊎ Hears (heard_in event) q i → Contains w'.held (record { router = q; instance = i })
+  pub described_held : (l : ℕ) (q : RouterId) (i : Instance) → IsDescribed (heard_in event) l q i → Contains w'.held (record { router = q; instance = i })
+  described_held l q i h = hears_by dd_headers_in (λ p header c. dd_named p.body header c) l q i h
+
+  pub acknowledged_held : (l : ℕ) (q : RouterId) (i : Instance) → IsAcknowledged (heard_in event) l q i → Contains w'.held (record { router = q; instance = i })
+  acknowledged_held l q i h = hears_by acknowledging_headers_in (λ p header c. acknowledged_named p.body header c) l q i h
+
+  pub asks_held : (l : ℕ) (q : RouterId) (i : Instance) → Asks x.state l q i ⊎ IsDescribed (heard_in event) l q i → Contains w'.held (record { router = q; instance = i })
   asks_held l q i (inl c) = was_held _ (facts.asked r x l q i step.was c)
-  asks_held l q i (inr e) = hears_held q i e
+  asks_held l q i (inr e) = described_held l q i e
 
   -- a datagram of the world after the step was there before, or is one of the step's
   pub datagram_cases : (g : Datagram) → Contains w'.datagrams g → Contains w.datagrams g ⊎ ((s : SentValue) × Contains out.sent s × (◌≡◌ {A = Datagram} (record { router = r; sent = s }) g))

@@ -1,4 +1,4 @@
-use Rattle.std.proofs.Common.{◌≡◌, ◌⊎◌, ◌<◌, ◌≤◌, ◌++◌, ℕ, ℤ, false, List, [], ◌∷◌, length, Option, None, Some, refl, sym, ap, subst, inl, inr, arith, ◌∙◌, append-nil, append_assoc, Bool}
+use Rattle.std.proofs.Common.{◌≡◌, ◌≢◌, ◌⊎◌, ◌<◌, ◌≤◌, ◌++◌, ℕ, ℤ, false, List, [], ◌∷◌, length, Option, None, Some, refl, sym, ap, subst, inl, inr, arith, ◌∙◌, append-nil, append_assoc, Bool}
 use Rattle.std.specs.Prelude.{◌<ℤ◌, ◌≤ℤ◌}
 use Rattle.std.specs.List.{Contains, slice_get}
 use Rattle.std.specs.Option.{option_map}
@@ -11,12 +11,14 @@ use Rattle.ospf_base.specs.declared.ids.Instance.{Instance}
 use Rattle.ospf_base.specs.declared.ids.LsaKey.{LsaKey}
 use Rattle.ospf_base.specs.declared.ids.RouterId.{RouterId}
 use Rattle.ospf_lsa.specs.Lsa.{key_of, instance_of}
+use Rattle.ospf_packet.specs.Meaning.{Meaning}
 use Rattle.ospf_packet.specs.PacketOf.{packet_of}
 use Rattle.ospf_neighbour.specs.Machine.{is_exchanging}
 use Rattle.ospf_area.specs.Outputs.{OutputsValue}
 use Rattle.ospf_area.specs.State.{AreaValue, Awaits, state_of, kept_number}
 use Rattle.ospf_laws.specs.Words.{CanName, HasCopy, Asks, IsSoundState}
-use Rattle.ospf_laws.specs.Accounts.{Hears, HasWord, MayLeave, IsReplaced}
+use Rattle.ospf_laws.specs.Accounts.{IsAcknowledged, HasWord, MayLeave, IsReplaced, WaitsOn}
+use Rattle.ospf_laws.specs.Packets.{Received}
 use Rattle.ospf_laws.specs.Step.{Event, heard_in}
 use Rattle.ospf_laws.proofs.LsaFacts.{same_contents}
 use Rattle.ospf_laws.proofs.ListFacts.{Contains-nil, Contains-from_slice_get}
@@ -26,20 +28,28 @@ use Rattle.ospf_headline.specs.World.{Comes, World, WorldEvent, Issued, Datagram
 use Rattle.ospf_headline.specs.declared.event.WorldEvent.TheVariants.{Start, Stop, Tick as TickOf, LinkUp as LinkUpOf, LinkDown as LinkDownOf, Deliver}
 use Rattle.ospf_headline.specs.Sound.{WasIssued, HeldAnywhere, IssuedAgain, AgreeUnlessIssuedAgain, NoCollision, BasesAreHigh, IssuedAt, number_in, HasToldOf, IsSoundFor, SoundFor, IsSound}
 use Rattle.ospf_headline.proofs.Facts.{Facts, IsAfter, IsKnownTo}
-use Rattle.ospf_headline.proofs.FactsKept.{IsThat, which_router, WasSent, Facts-stepped, WasIssued-more, hears_held, was_held}
+use Rattle.ospf_headline.proofs.FactsKept.{IsThat, which_router, WasSent, Facts-stepped, WasIssued-more, acknowledged_held, described_held, was_held}
 
 -- what a world event brings to a router was sent
 pub was_sent_by : (w : World) (event : WorldEvent) (r : RouterId) (e : Event) → stepped_by w event ≡ Some (r, e) → WasSent w (heard_in e)
-was_sent_by w (Start q dd floor) r e by p h = absurd (none-some (r, e) by)
-was_sent_by w (Stop q) r e by p h = absurd (none-some (r, e) by)
-was_sent_by w (TickOf q) r e by p h = absurd (none-some p (subst (λ e. heard_in e ≡ Some p) (sym (ap (λ z. z.1) (same_Some (q, Tick) (r, e) by))) h))
-was_sent_by w (LinkUpOf q l) r e by p h = absurd (none-some p (subst (λ e. heard_in e ≡ Some p) (sym (ap (λ z. z.1) (same_Some (q, LinkUp l) (r, e) by))) h))
-was_sent_by w (LinkDownOf q l) r e by p h = absurd (none-some p (subst (λ e. heard_in e ≡ Some p) (sym (ap (λ z. z.1) (same_Some (q, LinkDown l) (r, e) by))) h))
-was_sent_by w (Deliver d q l) r e by p h = go (slice_get w.datagrams d) refl by
+was_sent_by w (Start q dd floor) r e by received h = absurd (none-some (r, e) by)
+was_sent_by w (Stop q) r e by received h = absurd (none-some (r, e) by)
+was_sent_by w (TickOf q) r e by received h = absurd (none-some received (subst (λ e. heard_in e ≡ Some received) (sym (ap (λ z. z.1) (same_Some (q, Tick) (r, e) by))) h))
+was_sent_by w (LinkUpOf q l) r e by received h = absurd (none-some received (subst (λ e. heard_in e ≡ Some received) (sym (ap (λ z. z.1) (same_Some (q, LinkUp l) (r, e) by))) h))
+was_sent_by w (LinkDownOf q l) r e by received h = absurd (none-some received (subst (λ e. heard_in e ≡ Some received) (sym (ap (λ z. z.1) (same_Some (q, LinkDown l) (r, e) by))) h))
+was_sent_by w (Deliver d q l) r e by received h = go (slice_get w.datagrams d) refl by
   where
-    go : (o : Option Datagram) → slice_get w.datagrams d ≡ o → option_map {U = RouterId × Event} (λ g. (q, Event.Datagram l g.sent.source g.sent.destination g.sent.bytes)) o ≡ Some (r, e) → (g : Datagram) × Contains w.datagrams g × (packet_of g.sent.bytes ≡ Some p)
+    reads : (o : Option Meaning) → option_map {U = Received} (λ p. record { link = l; packet = p }) o ≡ Some received → o ≡ Some received.packet
+    reads None is = absurd (none-some received is)
+    reads (Some p) is = ap (λ (r : Received). Some r.packet) (same_Some (record { link = l; packet = p }) received is)
+
+    go : (o : Option Datagram) → slice_get w.datagrams d ≡ o → option_map {U = RouterId × Event} (λ g. (q, Event.Datagram l g.sent.source g.sent.destination g.sent.bytes)) o ≡ Some (r, e) → (g : Datagram) × Contains w.datagrams g × (packet_of g.sent.bytes ≡ Some received.packet)
     go None at by = absurd (none-some (r, e) by)
-    go (Some g) at by = (g, Contains-from_slice_get w.datagrams d g at, subst (λ e. heard_in e ≡ Some p) (sym (ap (λ z. z.1) (same_Some (q, Event.Datagram l g.sent.source g.sent.destination g.sent.bytes) (r, e) by))) h)
+    go (Some g) at by = (
+      g,
+      Contains-from_slice_get w.datagrams d g at,
+      reads (packet_of g.sent.bytes) (subst (λ e. heard_in e ≡ Some received) (sym (ap (λ z. z.1) (same_Some (q, Event.Datagram l g.sent.source g.sent.destination g.sent.bytes) (r, e) by))) h),
+    )
 
 -- what the facts say of one running router
 pub record FactsOf (w : World) (r : RouterId) (x : Running) : Type 0 where
@@ -230,7 +240,7 @@ no_collision w facts high i j e f ate atf same = go (agree w e.lsa f.lsa facts (
 pub covers_itself : (i : Instance) → Covers i i
 covers_itself i = (refl, inr (refl, omega arith))
 
-pub sound_step : {is_dropped : Event → AreaValue → Bool} (w w' : World) (r : RouterId) (e : Event) (x x' : Running) (out : OutputsValue) → Facts w → Steps is_dropped w w' r e x x' out → WasSent w (heard_in e) → IsSoundFor w' x.state out x'.state
+pub sound_step : {is_dropped : Event → AreaValue → Bool} (w w' : World) (r : RouterId) (e : Event) (x x' : Running) (out : OutputsValue) → Facts w → Steps is_dropped w w' r e x x' out → WasSent w (heard_in e) → IsSoundFor w' e x.state out x'.state
 sound_step w w' r e x x' out facts step sent = record {
   left = λ l q i before. by_leave l q i ((StepLaws-accounts _ e x.state out x'.state (facts.sound r x step.was) step.laws).leaves l q i before);
   listed = λ l q i brings holds exchanging. by_word l q i ((StepLaws-accounts _ e x.state out x'.state (facts.sound r x step.was) step.laws).listed l q i brings holds exchanging);
@@ -239,43 +249,54 @@ sound_step w w' r e x x' out facts step sent = record {
     told : (q : RouterId) (j i : Instance) → Contains w'.held (record { router = q; instance = j }) → Covers j i → HasToldOf w' q i
     told q j i c covers = record { held = j; told = c; covers = covers }
 
-    heard : (q : RouterId) (j i : Instance) → Hears (heard_in e) q j → Covers j i → HasToldOf w' q i
-    heard q j i h covers = told q j i (hears_held w w' r e x x' out facts step sent q j h) covers
+    acknowledged : (l : ℕ) (q : RouterId) (i : Instance) → IsAcknowledged (heard_in e) l q i → HasToldOf w' q i
+    acknowledged l q i h = told q i i (acknowledged_held w w' r e x x' out facts step sent l q i h) (covers_itself i)
 
     by_word : (l : ℕ) (q : RouterId) (i : Instance) → Awaits x'.state l q i ⊎ HasWord (heard_in e) x.state l q i → Awaits x'.state l q i ⊎ HasToldOf w' q i
     by_word l q i (inl awaits) = inl awaits
-    by_word l q i (inr (HasWord.Named j h covers)) = inr (heard q j i h covers)
+    by_word l q i (inr (HasWord.Acknowledged h)) = inr (acknowledged l q i h)
+    by_word l q i (inr (HasWord.Described j h covers)) = inr (told q j i (described_held w w' r e x x' out facts step sent l q j h) covers)
     by_word l q i (inr (HasWord.Requested j c covers)) = inr (told q j i (was_held w w' r e x x' out facts step sent _ (facts.asked r x l q j step.was c)) covers)
 
-    by_leave : (l : ℕ) (q : RouterId) (i : Instance) → Awaits x'.state l q i ⊎ MayLeave (heard_in e) out x'.state l q i → Awaits x'.state l q i ⊎ (HasToldOf w' q i ⊎ (((j : Instance) × IsReplaced out i j) ⊎ (is_exchanging (state_of x'.state l q) ≡ false)))
-    by_leave l q i (inl awaits) = inl awaits
-    by_leave l q i (inr (MayLeave.Acknowledged h)) = inr (inl (heard q i i h (covers_itself i)))
-    by_leave l q i (inr (MayLeave.Replaced j r again)) = inr (inr (inl (j, r)))
+    by_leave : (l : ℕ) (q : RouterId) (i : Instance) → WaitsOn (heard_in e) x.state x'.state l q i ⊎ MayLeave (heard_in e) x.state out x'.state l q i → Awaits x'.state l q i ⊎ (HasToldOf w' q i ⊎ (IsReplaced (heard_in e) x.state out i ⊎ (is_exchanging (state_of x'.state l q) ≡ false)))
+    by_leave l q i (inl waits) = inl waits.awaits
+    by_leave l q i (inr (MayLeave.Acknowledged h)) = inr (inl (acknowledged l q i h))
+    by_leave l q i (inr (MayLeave.Replaced r again)) = inr (inr (inl r))
     by_leave l q i (inr (MayLeave.Fell fell)) = inr (inr (inr fell))
 
-pub sound : {is_dropped : Event → AreaValue → Bool} (event : WorldEvent) (w w' : World) → Facts w → Happens is_dropped event w w' → IsSound w w'
-sound event w w' facts (result, Comes.Refused why is told same) r x x' at at' = SoundFor.NotStepped (same_Some x' x (sym at' ∙ (ap (λ w. router_at w r) same ∙ at)))
-sound event w w' facts (result, Comes.NotDone ok told same) r x x' at at' = SoundFor.NotStepped (same_Some x' x (sym at' ∙ (ap (λ w. router_at w r) same ∙ at)))
+-- which router an event steps
+not_of : (w : World) (event : WorldEvent) (q r : RouterId) (e : Event) → stepped_by w event ≡ Some (q, e) → r ≢ q → (f : Event) → stepped_by w event ≢ Some (r, f)
+not_of w event q r e by other f is = other (ap (λ z. z.0) (same_Some (r, f) (q, e) (sym is ∙ by)))
+
+none_of : (w : World) (event : WorldEvent) (r : RouterId) → stepped_by w event ≡ None → (f : Event) → stepped_by w event ≢ Some (r, f)
+none_of w event r none f is = none-some (r, f) (sym none ∙ is)
+
+pub sound : {is_dropped : Event → AreaValue → Bool} (event : WorldEvent) (w w' : World) → Facts w → Happens is_dropped event w w' → IsSound event w w'
+sound event w w' facts (result, Comes.Refused why is told same) r x x' at at' = SoundFor.NothingDone same
+sound event w w' facts (result, Comes.NotDone ok told same) r x x' at at' = SoundFor.NothingDone same
 sound event w w' facts (result, Comes.Starts ok told q dd floor y is none b s logs) r x x' at at' = go (which_router w w' q (Some y) r x' b at')
   where
-    go : IsThat w q (Some y) r x' → SoundFor w w' r x x'
+    go : IsThat w q (Some y) r x' → SoundFor event w w' r x x'
     go (IsThat.TheOne e o) = absurd (none-some x (sym none ∙ (ap (router_at w) (sym e) ∙ at)))
-    go (IsThat.Another n o) = SoundFor.NotStepped (same_Some x' x (sym o ∙ at))
+    go (IsThat.Another n o) = SoundFor.OfAnother (none_of w event r (ap (stepped_by w) is)) (same_Some x' x (sym o ∙ at))
 sound event w w' facts (result, Comes.Stops ok told q is b logs) r x x' at at' = go (which_router w w' q None r x' b at')
   where
-    go : IsThat w q None r x' → SoundFor w w' r x x'
+    go : IsThat w q None r x' → SoundFor event w w' r x x'
     go (IsThat.TheOne e o) = absurd (none-some x' o)
-    go (IsThat.Another n o) = SoundFor.NotStepped (same_Some x' x (sym o ∙ at))
+    go (IsThat.Another n o) = SoundFor.OfAnother (none_of w event r (ap (stepped_by w) is)) (same_Some x' x (sym o ∙ at))
 sound event w w' facts (result, Comes.MemoryStops ok told q e by b logs) r x x' at at' = go (which_router w w' q None r x' b at')
   where
-    go : IsThat w q None r x' → SoundFor w w' r x x'
-    go (IsThat.TheOne e o) = absurd (none-some x' o)
-    go (IsThat.Another n o) = SoundFor.NotStepped (same_Some x' x (sym o ∙ at))
+    go : IsThat w q None r x' → SoundFor event w w' r x x'
+    go (IsThat.TheOne same o) = absurd (none-some x' o)
+    go (IsThat.Another n o) = SoundFor.OfAnother (not_of w event q r e by n) (same_Some x' x (sym o ∙ at))
 sound event w w' facts (result, Comes.Stepped ok told q e y y' out by step) r x x' at at' = go (which_router w w' q (Some y') r x' step.changes at')
   where
-    go : IsThat w q (Some y') r x' → SoundFor w w' r x x'
+    stepped : SoundFor event w w' q y y'
+    stepped = SoundFor.SteppedWith e out by step.logs (sound_step w w' q e y y' out facts step (was_sent_by w event q e by))
+
+    go : IsThat w q (Some y') r x' → SoundFor event w w' r x x'
     go (IsThat.TheOne same o) =
         let was : y ≡ x = same_Some y x (sym step.was ∙ (ap (router_at w) (sym same) ∙ at)) in
         let is : y' ≡ x' = same_Some y' x' o in
-        subst (λ x'. SoundFor w w' r x x') is (subst (λ x. SoundFor w w' r x y') was (subst (λ r. SoundFor w w' r y y') (sym same) (SoundFor.SteppedWith out step.logs (sound_step w w' q e y y' out facts step (was_sent_by w event q e by)))))
-    go (IsThat.Another n o) = SoundFor.NotStepped (same_Some x' x (sym o ∙ at))
+        subst (λ x'. SoundFor event w w' r x x') is (subst (λ x. SoundFor event w w' r x y') was (subst (λ r. SoundFor event w w' r y y') (sym same) stepped))
+    go (IsThat.Another n o) = SoundFor.OfAnother (not_of w event q r e by n) (same_Some x' x (sym o ∙ at))

@@ -1,5 +1,5 @@
 -- What is held anywhere and what was issued, and sound acknowledgement.
-use Rattle.std.specs.Prelude.{◌≡◌, ◌≢◌, ◌⊎◌, ◌<◌, ◌<ℤ◌, ◌≤ℤ◌, ℕ, List, Some, Contains, slice_get, ℤ, true, false}
+use Rattle.std.specs.Prelude.{◌≡◌, ◌≢◌, ◌⊎◌, ◌++◌, ◌∷◌, ◌<◌, ◌<ℤ◌, ◌≤ℤ◌, ℕ, Bool, List, Ok, Some, Contains, slice_get, ℤ, true, false}
 use Rattle.ospf_base.specs.Instances.{Covers}
 use Rattle.ospf_base.specs.Sums.{contents}
 use Rattle.ospf_base.specs.declared.ids.Instance.{Instance}
@@ -14,8 +14,9 @@ use Rattle.ospf_laws.specs.Packets.{lsas_in}
 use Rattle.ospf_laws.specs.Words.{Holds, HasCopy, Brings}
 use Rattle.ospf_flood.specs.Rules.{max_sequence_number}
 use Rattle.ospf_laws.specs.Accounts.{IsReplaced}
+use Rattle.ospf_laws.specs.Step.{Event, heard_in}
 use Rattle.ospf_headline.specs.declared.event.WorldEvent.TheVariants.{Start}
-use Rattle.ospf_headline.specs.World.{World, WorldEvent, Issued, Datagram, Running, router_at, LogsGrow}
+use Rattle.ospf_headline.specs.World.{World, WorldEvent, Issued, Datagram, Run, Running, router_at, stepped_by, Comes, Runs, LogsGrow}
 
 -- the number that it was issued with
 abbrev pub number_in : Issued → ℤ
@@ -73,18 +74,28 @@ NoCollision issued = (i j : ℕ) (e f : Issued) → IssuedAt issued i e → Issu
 abbrev pub BasesAreHigh : List Issued → Type 0
 BasesAreHigh issued = (i j : ℕ) (e f : Issued) → IssuedAt issued i e → IssuedAt issued j f → i < f.run.name → (key_of e.lsa).router ≡ (key_of f.lsa).router → (instance_of e.lsa).number ≤ℤ f.run.base
 
--- the router was started with this floor
-pub record HasStarted (events : List WorldEvent) (r : RouterId) (floor : ℤ) : Type 0 where
+-- the run began at one of the events that led here: at a start of the router that was done, with the run's base as floor
+pub record HasBegun (is_dropped : Event → AreaValue → Bool) (start : World) (events : List WorldEvent) (end : World) (r : RouterId) (run : Run) : Type 0 where
+  pub earlier : List WorldEvent
+  pub later : List WorldEvent
   pub dd_start : ℕ
-  pub started : Contains events (Start r dd_start floor)
+  pub at : events ≡ earlier ++ Start r dd_start run.base ∷ later
+  pub before : World
+  pub after : World
+  pub started : Running
+  pub leads : Runs is_dropped earlier start before
+  pub starts : Comes is_dropped (Start r dd_start run.base) before (Ok tt) after
+  pub runs : router_at after r ≡ Some started
+  pub run_is : started.first ≡ run
+  pub goes_on : Runs is_dropped later after end
 
 -- MaxSequenceNumber was never issued
 abbrev pub NoneLargest : List Issued → Type 0
 NoneLargest issued = (k : ℕ) (e : Issued) → IssuedAt issued k e → number_in e ≢ max_sequence_number
 
--- the base of each run is the floor of a start of its router
-abbrev pub BasesAreFloors : List WorldEvent → List Issued → Type 0
-BasesAreFloors events issued = (k : ℕ) (e : Issued) → IssuedAt issued k e → HasStarted events (key_of e.lsa).router e.run.base
+-- the base of each run is the floor of the very start at which it began
+abbrev pub BasesAreFloors : (Event → AreaValue → Bool) → World → List WorldEvent → World → Type 0
+BasesAreFloors is_dropped start events end = (k : ℕ) (e : Issued) → IssuedAt end.issued k e → HasBegun is_dropped start events end (key_of e.lsa).router e.run
 
 -- some router named q as holding an instance that covers i
 pub record HasToldOf (w : World) (q : RouterId) (i : Instance) : Type 0 where
@@ -92,18 +103,19 @@ pub record HasToldOf (w : World) (q : RouterId) (i : Instance) : Type 0 where
   pub told : Contains w.held (record { router = q; instance = held })
   pub covers : Covers held i
 
--- sound acknowledgement, for a router that went from s to s' with these outputs: what it no longer waits for, and
--- what it never waited for, the neighbour told of
-pub record IsSoundFor (after : World) (s : AreaValue) (out : OutputsValue) (s' : AreaValue) : Type 0 where
-  pub left : (l : ℕ) (q : RouterId) (i : Instance) → Awaits s l q i → Awaits s' l q i ⊎ (HasToldOf after q i ⊎ (((j : Instance) × IsReplaced out i j) ⊎ (is_exchanging (state_of s' l q) ≡ false)))
+-- sound acknowledgement, for a router that went from s to s' by this event with these outputs: what it no longer waits
+-- for, and what it never waited for, the neighbour told of, unless a newer LSA took the place of what had waited
+pub record IsSoundFor (after : World) (e : Event) (s : AreaValue) (out : OutputsValue) (s' : AreaValue) : Type 0 where
+  pub left : (l : ℕ) (q : RouterId) (i : Instance) → Awaits s l q i → Awaits s' l q i ⊎ (HasToldOf after q i ⊎ (IsReplaced (heard_in e) s out i ⊎ (is_exchanging (state_of s' l q) ≡ false)))
   pub listed : (l : ℕ) (q : RouterId) (i : Instance) → Brings out i → Holds s' i → is_exchanging (state_of s' l q) ≡ true → Awaits s' l q i ⊎ HasToldOf after q i
 
--- router r, running as x before and as x' after, was not stepped, or its acknowledgements are sound for the outputs by
--- which the logs grew
-pub data SoundFor (before after : World) (r : RouterId) (x x' : Running) : Type 0 where
-  NotStepped : x' ≡ x → SoundFor before after r x x'
-  SteppedWith : (out : OutputsValue) → LogsGrow before after r x out → IsSoundFor after x.state out x'.state → SoundFor before after r x x'
+-- nothing was done; or the event steps another router than r, or none, and r, running as x before, runs on so; or it
+-- stepped r, which runs as x' after, and r's acknowledgements are sound for the outputs by which the logs grew
+pub data SoundFor (event : WorldEvent) (before after : World) (r : RouterId) (x x' : Running) : Type 0 where
+  NothingDone : after ≡ before → SoundFor event before after r x x'
+  OfAnother : ((e : Event) → stepped_by before event ≢ Some (r, e)) → x' ≡ x → SoundFor event before after r x x'
+  SteppedWith : (e : Event) (out : OutputsValue) → stepped_by before event ≡ Some (r, e) → LogsGrow before after r x out → IsSoundFor after e x.state out x'.state → SoundFor event before after r x x'
 
--- sound acknowledgement, of each router that runs before and after
-abbrev pub IsSound : World → World → Type 0
-IsSound before after = (r : RouterId) (x x' : Running) → router_at before r ≡ Some x → router_at after r ≡ Some x' → SoundFor before after r x x'
+-- sound acknowledgement at an event, of each router that runs before and after
+abbrev pub IsSound : WorldEvent → World → World → Type 0
+IsSound event before after = (r : RouterId) (x x' : Running) → router_at before r ≡ Some x → router_at after r ≡ Some x' → SoundFor event before after r x x'

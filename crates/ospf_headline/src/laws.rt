@@ -59,16 +59,17 @@ pub fn high_floors_exclude_collisions()
         IsNew start → Runs is_dropped events start end → BasesAreHigh end.issued → NoCollision end.issued }
 {}
 
-/// Where MaxSequenceNumber was never issued, the base of each run is the floor of a start.
+/// Where MaxSequenceNumber was never issued, the base of each run is the floor of the start at which it began.
 pub fn bases_are_floors()
     ensures { (is_dropped : Event → AreaValue → Bool) (events : List WorldEvent) (start end : World) →
-        IsNew start → Runs is_dropped events start end → NoneLargest end.issued → BasesAreFloors events end.issued }
+        IsNew start → Runs is_dropped events start end → NoneLargest end.issued → BasesAreFloors is_dropped start events end }
 {}
 
-/// A neighbour that a router no longer waits for has told of the instance, or a later one, to somebody.
+/// A neighbour that a router no longer waits for has told of the instance, or a later one, to somebody, unless a newer
+/// LSA took the instance's place or the neighbour is below Exchange.
 pub fn acknowledgement_is_sound()
     ensures { (is_dropped : Event → AreaValue → Bool) (events : List WorldEvent) (event : WorldEvent) (start before after : World) →
-        IsNew start → Runs is_dropped events start before → Happens is_dropped event before after → IsSound before after }
+        IsNew start → Runs is_dropped events start before → Happens is_dropped event before after → IsSound event before after }
 {}
 
 /// The headline holds of every world that was reached, and of every one that it goes on to.
@@ -87,7 +88,7 @@ pub fn headline()
 /// Acknowledgement is sound at each event of a world that was reached.
 pub fn soundness()
     ensures { (is_dropped : Event → AreaValue → Bool) (event : WorldEvent) (before after : World) →
-        IsReached is_dropped before → Happens is_dropped event before after → IsSound before after }
+        IsReached is_dropped before → Happens is_dropped event before after → IsSound event before after }
 {
     acknowledgement_is_sound()
 }

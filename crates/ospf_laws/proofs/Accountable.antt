@@ -6,6 +6,7 @@ use Rattle.ospf_area.specs.Outputs.{OutputsValue, SentValue, no_outputs, then_ou
 use Rattle.ospf_area.specs.State.{AreaValue, state_of}
 use Rattle.ospf_base.specs.declared.ids.Instance.{Instance}
 use Rattle.ospf_base.specs.declared.ids.LsaKey.{LsaKey}
+use Rattle.ospf_laws.specs.Packets.{Received}
 use Rattle.ospf_laws.specs.Unchanged.{DoesNothing}
 use Rattle.ospf_laws.specs.Words.{IsSoundState}
 use Rattle.ospf_laws.specs.Accounts.{Accounts, Adjusts, NoneEntersExchange, Sends}
@@ -15,13 +16,13 @@ use Rattle.std.proofs.lemmas.List.Elements.{All-contains, Contains-append_left, 
 use Rattle.std.specs.List.{Contains}
 use Rattle.ospf_neighbour.specs.Machine.{is_exchanging}
 
-pub record IsAccountable (heard : Option Meaning) (before : AreaValue) (out : OutputsValue) (after : AreaValue) : Type 0 where
+pub record IsAccountable (heard : Option Received) (before : AreaValue) (out : OutputsValue) (after : AreaValue) : Type 0 where
   pub accounts : IsSoundState before → Accounts heard before out after
   pub sound : IsSoundState before → IsSoundState after
   pub none_enters : NoneEntersExchange before after
   pub none_ended : out.ended ≡ []
 
-pub Adjusts-accountable : (heard : Option Meaning) (before : AreaValue) (out : OutputsValue) (after : AreaValue) → Adjusts heard before out after → NoneEntersExchange before after → out.ended ≡ [] → IsAccountable heard before out after
+pub Adjusts-accountable : (heard : Option Received) (before : AreaValue) (out : OutputsValue) (after : AreaValue) → Adjusts heard before out after → NoneEntersExchange before after → out.ended ≡ [] → IsAccountable heard before out after
 Adjusts-accountable heard before out after a none_enters none_ended = record {
   accounts = λ sound. Adjusts-accounts heard before out after a;
   sound = Adjusts-sound heard before out after a;
@@ -29,13 +30,13 @@ Adjusts-accountable heard before out after a none_enters none_ended = record {
   none_ended = none_ended;
 }
 
-pub Unchanged-accountable : (heard : Option Meaning) (before : AreaValue) (out : OutputsValue) (after : AreaValue) → DoesNothing before out after → IsAccountable heard before out after
+pub Unchanged-accountable : (heard : Option Received) (before : AreaValue) (out : OutputsValue) (after : AreaValue) → DoesNothing before out after → IsAccountable heard before out after
 Unchanged-accountable heard before out after u =
     Adjusts-accountable heard before out after (Unchanged-adjusts heard before out after u)
     (λ l q up. subst (λ s. is_exchanging (state_of s l q) ≡ true) u.state up)
     (ap (λ o. o.ended) u.outputs)
 
-pub both-accountable : (heard : Option Meaning) (s t u : AreaValue) (a b : OutputsValue) → IsAccountable heard s a t → IsAccountable heard t b u → IsAccountable heard s (then_outputs a b) u
+pub both-accountable : (heard : Option Received) (s t u : AreaValue) (a b : OutputsValue) → IsAccountable heard s a t → IsAccountable heard t b u → IsAccountable heard s (then_outputs a b) u
 both-accountable heard s t u a b first next = record {
   accounts = λ sound. Accounts-then heard s t u a b (first.accounts sound) (next.accounts (first.sound sound)) next.none_enters first.none_ended;
   sound = λ sound. next.sound (first.sound sound);

@@ -1,4 +1,4 @@
-use Rattle.std.proofs.Common.{◌≡◌, ◌⊎◌, ◌+◌, ◌-◌, ◌<◌, ◌≤◌, ◌++◌, ℕ, true, false, List, [], length, get_or, Option, refl, sym, ap, subst, inl, inr, arith, ◌∙◌, length-append}
+use Rattle.std.proofs.Common.{◌≡◌, ◌⊎◌, ◌+◌, ◌-◌, ◌<◌, ◌≤◌, ◌++◌, ℕ, true, false, List, [], length, get_or, Option, None, refl, sym, ap, subst, inl, inr, arith, ◌∙◌, length-append}
 use Rattle.std.specs.Prelude.{◌<ℤ◌, ◌≤ℤ◌}
 use Rattle.std.specs.List.{Contains, AllPairs}
 use Rattle.std.proofs.lemmas.Bool.{false≢true, cases_Bool, cases_lt}
@@ -6,18 +6,25 @@ use Rattle.std.proofs.lemmas.Int.{ints}
 use Rattle.std.proofs.lemmas.List.Elements.{Contains-append_cases, Contains-append_left, Contains-append_right, Contains-get_or}
 use Rattle.std.proofs.Math.ListN.{get_or-append}
 use Rattle.std.proofs.lemmas.List.{get_or-append_right}
+use Rattle.std.proofs.lemmas.Option.{none-some}
+use Rattle.ospf_base.specs.Constants.{max_age}
 use Rattle.ospf_base.specs.Sums.{contents}
 use Rattle.ospf_base.specs.declared.ids.Instance.{Instance}
 use Rattle.ospf_base.specs.declared.ids.LsaKey.{LsaKey}
 use Rattle.ospf_base.specs.declared.ids.RouterId.{RouterId}
+use Rattle.ospf_lsa.specs.Header.{header_of}
 use Rattle.ospf_lsa.specs.Lsa.{key_of, instance_of}
+use Rattle.ospf_lsa.specs.Recency.{recency}
+use Rattle.ospf_lsa.specs.declared.recency.Recency.TheVariants.{Newer}
 use Rattle.ospf_packet.specs.Meaning.{Meaning}
 use Rattle.ospf_neighbour.specs.Machine.{is_exchanging}
 use Rattle.ospf_area.specs.Outputs.{OutputsValue, then_outputs}
-use Rattle.ospf_area.specs.State.{AreaValue, Awaits, state_of, kept_number}
+use Rattle.ospf_area.specs.State.{AreaValue, state_of, kept_number, Awaits}
+use Rattle.ospf_laws.specs.Packets.{Received}
 use Rattle.ospf_laws.specs.Words.{CanName, Holds, Asks, Brings}
 use Rattle.ospf_lsdb.specs.Moments.{among}
-use Rattle.ospf_laws.specs.Accounts.{Accounts, Numbers, Has, Hears, Sends, HasWord, MayLeave, NoneEntersExchange}
+use Rattle.ospf_laws.specs.Accounts.{Accounts, Numbers, Has, IsDescribed, IsReplaced, IsStored, Sends, HasWord, MayLeave, WaitsOn, WasKept, NoneEntersExchange}
+use Rattle.ospf_laws.proofs.LsaFacts.{greater_is_newer, newer_than_expired, same_contents}
 
 -- R holds of each pair of a list joined from two: within either, and across
 AllPairs-append : {X : Type 0} (R : X → X → Type 0) (xs ys : List X) → AllPairs R xs → AllPairs R ys → ((x y : X) → Contains xs x → Contains ys y → R x y) → AllPairs R (xs ++ ys)
@@ -59,7 +66,7 @@ Sends-cases : (a b : OutputsValue) (p : Meaning) → Sends (then_outputs a b) p 
 Sends-cases a b p s = elim (Contains-append_cases a.sent b.sent s.datagram s.sent) [ inl x ↦ inl (record { datagram = s.datagram; sent = x; reads = s.reads }) | inr y ↦ inr (record { datagram = s.datagram; sent = y; reads = s.reads }) ]
 
 -- what one part answers for and then the next, the two answer for together
-module _ (heard : Option Meaning) (s t u : AreaValue) (a b : OutputsValue) (first : Accounts heard s a t) (next : Accounts heard t b u) (none_enters : NoneEntersExchange t u) (none_ended : a.ended ≡ []) where
+module _ (heard : Option Received) (s t u : AreaValue) (a b : OutputsValue) (first : Accounts heard s a t) (next : Accounts heard t b u) (none_enters : NoneEntersExchange t u) (none_ended : a.ended ≡ []) where
   has_first : (content : List ℕ) → Has heard s a content → Has heard s (then_outputs a b) content
   has_first content (Has.Held lsa c e) = Has.Held lsa c e
   has_first content (Has.Heard p lsa h c e) = Has.Heard p lsa h c e
@@ -82,22 +89,72 @@ module _ (heard : Option Meaning) (s t u : AreaValue) (a b : OutputsValue) (firs
   holds_next i (inl n) = elim (first.holds i n) [ inl o ↦ inl o | inr x ↦ inr (Brings-left a b i x) ]
   holds_next i (inr x) = inr (Brings-right a b i x)
 
-  asks_next : (l : ℕ) (q : RouterId) (i : Instance) → Asks t l q i ⊎ Hears heard q i → Asks s l q i ⊎ Hears heard q i
+  asks_next : (l : ℕ) (q : RouterId) (i : Instance) → Asks t l q i ⊎ IsDescribed heard l q i → Asks s l q i ⊎ IsDescribed heard l q i
   asks_next l q i (inl c) = first.asks l q i c
   asks_next l q i (inr e) = inr e
 
   word_next : (l : ℕ) (q : RouterId) (i : Instance) → HasWord heard t l q i → HasWord heard s l q i
-  word_next l q i (HasWord.Named j h covers) = HasWord.Named j h covers
-  word_next l q i (HasWord.Requested j c covers) = elim (first.asks l q j c) [ inl o ↦ HasWord.Requested j o covers | inr e ↦ HasWord.Named j e covers ]
+  word_next l q i (HasWord.Acknowledged h) = HasWord.Acknowledged h
+  word_next l q i (HasWord.Described j h covers) = HasWord.Described j h covers
+  word_next l q i (HasWord.Requested j c covers) = elim (first.asks l q j c) [ inl o ↦ HasWord.Requested j o covers | inr e ↦ HasWord.Described j e covers ]
 
   word_first : (l : ℕ) (q : RouterId) (i : Instance) → HasWord heard s l q i → HasWord heard s l q i
   word_first l q i w = w
 
+  -- what took a copy's place in either part took it in both
+  stored_first : (old new : List ℕ) → IsStored heard a old new → IsStored heard (then_outputs a b) old new
+  stored_first old new (IsStored.Installed p h c taken) = IsStored.Installed p h c (Contains-append_left a.taken b.taken (instance_of new) taken)
+  stored_first old new (IsStored.Issued c more) = IsStored.Issued (Contains-append_left a.issued b.issued new c) more
+
+  stored_next : (old was new : List ℕ) → instance_of was ≡ instance_of old → IsStored heard b old new → IsStored heard (then_outputs a b) was new
+  stored_next old was new same (IsStored.Installed p h c taken) = IsStored.Installed p h c (Contains-append_right a.taken b.taken (instance_of new) taken)
+  stored_next old was new same (IsStored.Issued c more) = IsStored.Issued (Contains-append_right a.issued b.issued new c) (subst (λ i. i.number <ℤ (instance_of new).number) (sym same) more)
+
+  -- an LSA that is newer than a copy that was kept is newer than the copy was
+  newer_than_kept : (old new : List ℕ) (k : WasKept heard s old) → recency (header_of new) (header_of old) ≡ Newer → IsStored heard b old new → recency (header_of new) (header_of k.old) ≡ Newer
+  newer_than_kept old new k newer stored = by k.age stored
+    where
+      same : instance_of k.old ≡ instance_of old
+      same = same_contents k.old old k.same
+
+      by : (k.old ≡ old) ⊎ ((heard ≡ None) ⊎ ((header_of old).age ≡ max_age)) → IsStored heard b old new → recency (header_of new) (header_of k.old) ≡ Newer
+      by (inl it) stored = subst (λ l. recency (header_of new) (header_of l) ≡ Newer) (sym it) newer
+      by (inr (inl silent)) (IsStored.Installed p h c taken) = absurd (none-some p (sym silent ∙ h))
+      by (inr (inl silent)) (IsStored.Issued c more) = greater_is_newer (header_of new) (header_of k.old) (subst (λ i. i.number <ℤ (instance_of new).number) (sym same) more)
+      by (inr (inr expired)) stored = newer_than_expired (header_of new) (header_of old) (header_of k.old) expired (ap (λ i. i.number) same) (ap (λ i. i.sum) same) newer
+
+  replaced_since : (i : Instance) (r : IsReplaced heard t b i) → WasKept heard s r.old → IsReplaced heard s (then_outputs a b) i
+  replaced_since i r k = record {
+    old = k.old;
+    new = r.new;
+    copy = k.copy;
+    old_is = same_contents k.old r.old k.same ∙ r.old_is;
+    same_key = r.same_key;
+    newer = newer_than_kept r.old r.new k r.newer r.stored;
+    stored = stored_next r.old k.old r.new (same_contents k.old r.old k.same) r.stored;
+  }
+
+  -- a copy that was kept over both parts
+  kept_both : (lsa : List ℕ) (k : WasKept heard t lsa) → WasKept heard s k.old → WasKept heard s lsa
+  kept_both lsa k was = record { old = was.old; copy = was.copy; same = was.same ∙ k.same; age = by k.age was.age }
+    where
+      by : (k.old ≡ lsa) ⊎ ((heard ≡ None) ⊎ ((header_of lsa).age ≡ max_age)) → (was.old ≡ k.old) ⊎ ((heard ≡ None) ⊎ ((header_of k.old).age ≡ max_age)) → (was.old ≡ lsa) ⊎ ((heard ≡ None) ⊎ ((header_of lsa).age ≡ max_age))
+      by (inl it) (inl that) = inl (that ∙ it)
+      by (inl it) (inr (inl silent)) = inr (inl silent)
+      by (inl it) (inr (inr expired)) = inr (inr (subst (λ l. (header_of l).age ≡ max_age) it expired))
+      by (inr aged) that = inr aged
+
+  waits_both : (l : ℕ) (q : RouterId) (i : Instance) → WaitsOn heard s t l q i → WaitsOn heard t u l q i → WaitsOn heard s u l q i
+  waits_both l q i one two = record {
+    awaits = two.awaits;
+    kept = λ lsa c is. (let k = two.kept lsa c is in kept_both lsa k (one.kept k.old k.copy (same_contents k.old lsa k.same ∙ is)));
+  }
+
   -- what may have left a list in the first part may have left it in both
-  leave_first : (l : ℕ) (q : RouterId) (i : Instance) → MayLeave heard a t l q i → MayLeave heard (then_outputs a b) u l q i
+  leave_first : (l : ℕ) (q : RouterId) (i : Instance) → MayLeave heard s a t l q i → MayLeave heard s (then_outputs a b) u l q i
   leave_first l q i (MayLeave.Acknowledged h) = MayLeave.Acknowledged h
-  leave_first l q i (MayLeave.Replaced j r again) =
-      MayLeave.Replaced j (record { copy = r.copy; new = r.new; copy_is = r.copy_is; new_is = r.new_is; same_key = r.same_key; newer = r.newer; brought = Brings-left a b j r.brought })
+  leave_first l q i (MayLeave.Replaced r again) =
+      MayLeave.Replaced (record { old = r.old; new = r.new; copy = r.copy; old_is = r.old_is; same_key = r.same_key; newer = r.newer; stored = stored_first r.old r.new r.stored })
       (λ holds. elim (next.holds i holds) [ inl there ↦ Brings-left a b i (again there) | inr now ↦ Brings-right a b i now ])
   leave_first l q i (MayLeave.Fell fell) = MayLeave.Fell (still (cases_Bool (is_exchanging (state_of u l q))))
     where
@@ -105,22 +162,20 @@ module _ (heard : Option Meaning) (s t u : AreaValue) (a b : OutputsValue) (firs
       still (inl up) = absurd (false≢true (sym fell ∙ none_enters l q up))
       still (inr down) = down
 
-  leave_next : (l : ℕ) (q : RouterId) (i : Instance) → MayLeave heard b u l q i → MayLeave heard (then_outputs a b) u l q i
-  leave_next l q i (MayLeave.Acknowledged h) = MayLeave.Acknowledged h
-  leave_next l q i (MayLeave.Replaced j r again) =
-      MayLeave.Replaced j (record { copy = r.copy; new = r.new; copy_is = r.copy_is; new_is = r.new_is; same_key = r.same_key; newer = r.newer; brought = Brings-right a b j r.brought })
-      (λ holds. Brings-right a b i (again holds))
-  leave_next l q i (MayLeave.Fell fell) = MayLeave.Fell fell
+  leave_next : (l : ℕ) (q : RouterId) (i : Instance) → WaitsOn heard s t l q i → MayLeave heard t b u l q i → MayLeave heard s (then_outputs a b) u l q i
+  leave_next l q i waits (MayLeave.Acknowledged h) = MayLeave.Acknowledged h
+  leave_next l q i waits (MayLeave.Replaced r again) = MayLeave.Replaced (replaced_since i r (waits.kept r.old r.copy r.old_is)) (λ holds. Brings-right a b i (again holds))
+  leave_next l q i waits (MayLeave.Fell fell) = MayLeave.Fell fell
 
-  leaves_both : (l : ℕ) (q : RouterId) (i : Instance) → Awaits s l q i → Awaits u l q i ⊎ MayLeave heard (then_outputs a b) u l q i
+  leaves_both : (l : ℕ) (q : RouterId) (i : Instance) → Awaits s l q i → WaitsOn heard s u l q i ⊎ MayLeave heard s (then_outputs a b) u l q i
   leaves_both l q i before = by_first (first.leaves l q i before)
     where
-      by_next : Awaits u l q i ⊎ MayLeave heard b u l q i → Awaits u l q i ⊎ MayLeave heard (then_outputs a b) u l q i
-      by_next (inl awaits) = inl awaits
-      by_next (inr may) = inr (leave_next l q i may)
+      by_next : WaitsOn heard s t l q i → WaitsOn heard t u l q i ⊎ MayLeave heard t b u l q i → WaitsOn heard s u l q i ⊎ MayLeave heard s (then_outputs a b) u l q i
+      by_next one (inl two) = inl (waits_both l q i one two)
+      by_next one (inr may) = inr (leave_next l q i one may)
 
-      by_first : Awaits t l q i ⊎ MayLeave heard a t l q i → Awaits u l q i ⊎ MayLeave heard (then_outputs a b) u l q i
-      by_first (inl awaits) = by_next (next.leaves l q i awaits)
+      by_first : WaitsOn heard s t l q i ⊎ MayLeave heard s a t l q i → WaitsOn heard s u l q i ⊎ MayLeave heard s (then_outputs a b) u l q i
+      by_first (inl one) = by_next one (next.leaves l q i one.awaits)
       by_first (inr may) = inr (leave_first l q i may)
 
   listed_both : (l : ℕ) (q : RouterId) (i : Instance) → Brings (then_outputs a b) i → Holds u i → is_exchanging (state_of u l q) ≡ true → Awaits u l q i ⊎ HasWord heard s l q i
@@ -129,10 +184,10 @@ module _ (heard : Option Meaning) (s t u : AreaValue) (a b : OutputsValue) (firs
       by_second : Brings b i → Awaits u l q i ⊎ HasWord heard s l q i
       by_second x = elim (next.listed l q i x holds up) [ inl awaits ↦ inl awaits | inr word ↦ inr (word_next l q i word) ]
 
-      by_leave : Awaits u l q i ⊎ MayLeave heard b u l q i → Awaits u l q i ⊎ HasWord heard s l q i
-      by_leave (inl awaits) = inl awaits
-      by_leave (inr (MayLeave.Acknowledged h)) = inr (HasWord.Named i h (refl, inr (refl, omega arith)))
-      by_leave (inr (MayLeave.Replaced j r again)) = by_second (again holds)
+      by_leave : WaitsOn heard t u l q i ⊎ MayLeave heard t b u l q i → Awaits u l q i ⊎ HasWord heard s l q i
+      by_leave (inl waits) = inl waits.awaits
+      by_leave (inr (MayLeave.Acknowledged h)) = inr (HasWord.Acknowledged h)
+      by_leave (inr (MayLeave.Replaced r again)) = by_second (again holds)
       by_leave (inr (MayLeave.Fell fell)) = absurd (false≢true (sym fell ∙ up))
 
       by_mid : Awaits t l q i ⊎ HasWord heard s l q i → Awaits u l q i ⊎ HasWord heard s l q i

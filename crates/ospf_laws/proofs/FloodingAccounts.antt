@@ -6,6 +6,7 @@ use Rattle.std.specs.List.{Contains, slice_get}
 use Rattle.std.specs.Option.{option_map}
 use Rattle.std.proofs.lemmas.Option.{same_Some}
 use Rattle.std.proofs.lemmas.Bool.{false≢true, cases_Bool, cond-true, cond-false}
+use Rattle.ospf_base.specs.Constants.{max_age}
 use Rattle.ospf_base.specs.Instances.{Covers}
 use Rattle.ospf_base.specs.Sums.{contents}
 use Rattle.ospf_base.specs.declared.ids.Instance.{Instance}
@@ -26,13 +27,14 @@ use Rattle.ospf_neighbour.specs.Neighbour.{NeighbourValue}
 use Rattle.ospf_area.specs.Outputs.{OutputsValue}
 use Rattle.ospf_area.specs.State.{AreaValue, LinkValue, neighbour, state_of, state_in, entry_of, copy_of, copy_in, kept_number, Awaits, WaitsIn}
 use Rattle.ospf_laws.specs.Headers.{IsOf, Lists}
-use Rattle.ospf_laws.specs.Packets.{lsas_in, headers_in}
+use Rattle.ospf_laws.specs.Packets.{Received, lsas_in, headers_in}
 use Rattle.ospf_area.specs.Places.{map_from}
 use Rattle.ospf_laws.specs.Words.{CanName, Holds, HasCopy, Asks, Brings, ListsAreHeld, IsSoundState, delayed, delayed_in, list_in}
 use Rattle.ospf_lsdb.specs.Moments.{among}
-use Rattle.ospf_laws.specs.Accounts.{Accounts, Numbers, Has, Hears, Sends, HasWord, MayLeave, NoneEntersExchange}
+use Rattle.ospf_laws.specs.Accounts.{Accounts, Numbers, Has, IsAcknowledged, IsDescribed, IsStored, Sends, HasWord, MayLeave, WaitsOn, WasKept, NoneEntersExchange}
 use Rattle.ospf_laws.proofs.ListFacts.{Contains-nil}
-use Rattle.ospf_laws.proofs.LsaFacts.{header_is_of}
+use Rattle.ospf_laws.proofs.LsaFacts.{same_contents}
+use Rattle.ospf_laws.proofs.QuietAccounts.{kept_same}
 use Rattle.ospf_laws.proofs.StateFacts.{neighbour-changed, link-changed, neighbour-router, list-changed, held_agree, key_of-lsa_of, copy_of-has}
 
 -- a neighbour in Exchange or above gets the LSA on its list, or sent it, or asked for it or a later one
@@ -67,21 +69,21 @@ pub record IsFlooded (e : Entry) (came : ℕ → NeighbourValue → Bool) (acks 
   pub same_router : after.router ≡ before.router
   pub direct : (h : LsaHeader) → Contains after.direct h → Contains before.direct h
 
--- why instances of the key may leave lists: the LSA is newer than the copy, and is brought; or it is of the copy's
--- instance, which stays where it was
-pub data Replaces (out : OutputsValue) (e : Entry) (g : ℕ → NeighbourValue → NeighbourValue) (copy : List ℕ) : Type 0 where
-  ByNewer : recency (header_of (lsa_of e)) (header_of copy) ≡ Newer → Brings out (instance_at e) → Replaces out e g copy
-  ByItself : instance_of copy ≡ instance_at e → ((l : ℕ) (n : NeighbourValue) → Waits n (instance_at e) → Waits (g l n) (instance_at e)) → Replaces out e g copy
+-- why instances of the key may leave lists: the LSA is newer than the copy, and takes its place; or it is the copy at
+-- MaxAge, which stays where it was
+pub data Replaces (heard : Option Received) (out : OutputsValue) (e : Entry) (g : ℕ → NeighbourValue → NeighbourValue) (copy : List ℕ) : Type 0 where
+  ByNewer : (new : List ℕ) → instance_of new ≡ instance_at e → recency (header_of new) (header_of copy) ≡ Newer → IsStored heard out copy new → Replaces heard out e g copy
+  ByItself : contents copy ≡ e.contents → (header_of (lsa_of e)).age ≡ max_age → ((l : ℕ) (n : NeighbourValue) → Waits n (instance_at e) → Waits (g l n) (instance_at e)) → Replaces heard out e g copy
 
 -- what is known beside the flooding itself
-pub record IsAccounted (heard : Option Meaning) (before : AreaValue) (out : OutputsValue) (after : AreaValue) (e : Entry) (came : ℕ → NeighbourValue → Bool) (acks : ℕ → List LsaHeader) (g : ℕ → NeighbourValue → NeighbourValue) : Type 0 where
+pub record IsAccounted (heard : Option Received) (before : AreaValue) (out : OutputsValue) (after : AreaValue) (e : Entry) (came : ℕ → NeighbourValue → Bool) (acks : ℕ → List LsaHeader) (g : ℕ → NeighbourValue → NeighbourValue) : Type 0 where
   pub is_lsa : IsLsa (lsa_of e)
-  pub replaces : (copy : List ℕ) → copy_of before (key_in e.contents) ≡ Some copy → Replaces out e g copy
+  pub replaces : (copy : List ℕ) → copy_of before (key_in e.contents) ≡ Some copy → Replaces heard out e g copy
   pub known : CanName before (instance_at e) ⊎ Brings out (instance_at e)
   pub holds : Holds before (instance_at e) ⊎ Brings out (instance_at e)
   pub has : Has heard before out e.contents
   pub brings_only : (i : Instance) → Brings out i → i ≡ instance_at e
-  pub told : (l : ℕ) (n : NeighbourValue) → came l n ≡ true → Hears heard n.router (instance_at e)
+  pub told : (l : ℕ) (n : NeighbourValue) → came l n ≡ true → IsAcknowledged heard l n.router (instance_at e)
   pub acknowledged : (l : ℕ) (h : LsaHeader) (i : Instance) → Contains (acks l) h → IsOf h i → i ≡ instance_at e
   pub bears : (p : Meaning) → Sends out p → p.router ≡ before.router
   pub sends : (p : Meaning) (lsa : List ℕ) → Sends out p → Contains (lsas_in p) lsa → contents lsa ≡ e.contents
@@ -98,7 +100,7 @@ exchanging_in : (o : Option NeighbourValue) (g : NeighbourValue → NeighbourVal
 exchanging_in None g up = absurd (false≢true up)
 exchanging_in (Some n) g up = (n, refl, up)
 
-module _ (heard : Option Meaning) (before : AreaValue) (out : OutputsValue) (after : AreaValue) (e : Entry) (came : ℕ → NeighbourValue → Bool) (acks : ℕ → List LsaHeader) (f : ℕ → LinkValue → LinkValue) (g : ℕ → NeighbourValue → NeighbourValue) (fl : IsFlooded e came acks f g before after) (a : IsAccounted heard before out after e came acks g) where
+module _ (heard : Option Received) (before : AreaValue) (out : OutputsValue) (after : AreaValue) (e : Entry) (came : ℕ → NeighbourValue → Bool) (acks : ℕ → List LsaHeader) (f : ℕ → LinkValue → LinkValue) (g : ℕ → NeighbourValue → NeighbourValue) (fl : IsFlooded e came acks f g before after) (a : IsAccounted heard before out after e came acks g) where
   this : Instance
   this = instance_at e
 
@@ -192,7 +194,7 @@ module _ (heard : Option Meaning) (before : AreaValue) (out : OutputsValue) (aft
       elim (delayed_after l h c) [ inl there ↦ inl (CanName.ToAcknowledge l (h, there, is)) | inr new ↦ known_as i (a.acknowledged l h i new is) ]
   names_accounted i (CanName.ToAcknowledgeNow (h, c, is)) = inl (CanName.ToAcknowledgeNow (h, fl.direct h c, is))
 
-  asks_accounted : (l : ℕ) (q : RouterId) (i : Instance) → Asks after l q i → Asks before l q i ⊎ Hears heard q i
+  asks_accounted : (l : ℕ) (q : RouterId) (i : Instance) → Asks after l q i → Asks before l q i ⊎ IsDescribed heard l q i
   asks_accounted l q i (h, c, is) =
       let (n, at, m) = list_after (λ n. n.requests) l q h c in
       inl (h, list_before (λ n. n.requests) l q n h at ((fl.floods l n).requests h m), is)
@@ -219,35 +221,59 @@ module _ (heard : Option Meaning) (before : AreaValue) (out : OutputsValue) (aft
             ])
       ]
 
-  leaves_accounted : IsSoundState before → (l : ℕ) (q : RouterId) (i : Instance) → Awaits before l q i → Awaits after l q i ⊎ MayLeave heard out after l q i
+  stored_brings : (old new : List ℕ) → IsStored heard out old new → Brings out (instance_of new)
+  stored_brings old new (IsStored.Installed r h c taken) = Brings.Takes taken
+  stored_brings old new (IsStored.Issued c more) = Brings.Issues new c refl
+
+  leaves_accounted : IsSoundState before → (l : ℕ) (q : RouterId) (i : Instance) → Awaits before l q i → WaitsOn heard before after l q i ⊎ MayLeave heard before out after l q i
   unfolding this
-  leaves_accounted sound l q i w = go (waits_in (neighbour before l q) i w)
+  leaves_accounted sound l q i w = go (waits_in (neighbour before l q) i w) (cases_Bool (same_key (key_in e.contents) i.key))
     where
       brings_again : Brings out this → i.key ≡ this.key → Holds after i → Brings out i
       brings_again brings key holds = subst (λ i. Brings out i) (held_agree after this i holds_this holds (sym key)) brings
 
-      left : (n : NeighbourValue) → neighbour before l q ≡ Some n → Waits n i → i.key ≡ this.key → (copy : List ℕ) → copy_of before (key_in e.contents) ≡ Some copy → instance_of copy ≡ i → Replaces out e g copy → Awaits after l q i ⊎ MayLeave heard out after l q i
-      left n at waits key copy is same (Replaces.ByNewer newer brings) =
-          inr (MayLeave.Replaced this (record {
-            copy = header_of copy;
-            new = header_of (lsa_of e);
-            copy_is = subst (λ i. IsOf (header_of copy) i) same (header_is_of copy (sound.lsas copy (copy_of-has before (key_in e.contents) copy is)));
-            new_is = header_is_of (lsa_of e) a.is_lsa;
-            same_key = sym key;
-            newer = newer;
-            brought = brings;
-          }) (brings_again brings key))
-      left n at waits key copy is same (Replaces.ByItself one stays) =
-          let i_is : i ≡ this = sym same ∙ one in
-          inl (subst (λ i. Awaits after l q i) (sym i_is) (to_after l q n this at (stays l n (subst (λ i. Waits n i) i_is waits))))
+      kept_there : (copy : List ℕ) → HasCopy before copy → contents copy ≡ e.contents → (header_of (lsa_of e)).age ≡ max_age → (lsa : List ℕ) → HasCopy after lsa → WasKept heard before lsa
+      kept_there copy has same expired lsa c = elim (copy_after lsa c) [
+        | inl there ↦ kept_same heard before lsa there
+        | inr new ↦ subst (λ lsa. WasKept heard before lsa) new (record { old = copy; copy = has; same = same; age = inr (inr expired) })
+      ]
 
-      go : (n : NeighbourValue) × (neighbour before l q ≡ Some n) × Waits n i → Awaits after l q i ⊎ MayLeave heard out after l q i
-      go (n, at, waits) = elim ((fl.floods l n).leaves i waits) [
-        | inl stays ↦ inl (to_after l q n i at stays)
-        | inr key ↦ (
-            let (copy, has, same) = sound.lists l q i w in
-            let is : copy_of before (key_in e.contents) ≡ Some copy = ap (copy_of before) (sym this_key ∙ (sym key ∙ sym (ap (λ i. i.key) same))) ∙ has in
-            left n at waits key copy is same (a.replaces copy is))
+      of_key : (n : NeighbourValue) → neighbour before l q ≡ Some n → Waits n i → i.key ≡ this.key → (copy : List ℕ) → copy_of before (key_in e.contents) ≡ Some copy → instance_of copy ≡ i → Replaces heard out e g copy → WaitsOn heard before after l q i ⊎ MayLeave heard before out after l q i
+      of_key n at waits key copy is same (Replaces.ByNewer new new_is newer stored) =
+          inr (MayLeave.Replaced (record {
+            old = copy;
+            new = new;
+            copy = copy_of-has before (key_in e.contents) copy is;
+            old_is = same;
+            same_key = ap (λ i. i.key) new_is ∙ sym key;
+            newer = newer;
+            stored = stored;
+          }) (brings_again (subst (λ i. Brings out i) new_is (stored_brings copy new stored)) key))
+      of_key n at waits key copy is same (Replaces.ByItself one expired stays) =
+          let i_is : i ≡ this = sym same ∙ same_contents copy (lsa_of e) one in
+          inl (record {
+            awaits = subst (λ i. Awaits after l q i) (sym i_is) (to_after l q n this at (stays l n (subst (λ i. Waits n i) i_is waits)));
+            kept = λ lsa c its. kept_there copy (copy_of-has before (key_in e.contents) copy is) one expired lsa c;
+          })
+
+      its_key : i.key ≡ this.key → same_key (key_in e.contents) i.key ≡ true
+      its_key key = subst (λ k. same_key (key_in e.contents) k ≡ true) (sym this_key ∙ sym key) (same_key-refl (key_in e.contents))
+
+      of_other : (lsa : List ℕ) → same_key (key_in e.contents) i.key ≡ false → HasCopy after lsa → instance_of lsa ≡ i → WasKept heard before lsa
+      of_other lsa other c its = elim (copy_after lsa c) [
+        | inl there ↦ kept_same heard before lsa there
+        | inr new ↦ absurd (false≢true (sym other ∙ its_key (ap (λ i. i.key) (sym (ap instance_of new ∙ its)))))
+      ]
+
+      go : (n : NeighbourValue) × (neighbour before l q ≡ Some n) × Waits n i → (same_key (key_in e.contents) i.key ≡ true) ⊎ (same_key (key_in e.contents) i.key ≡ false) → WaitsOn heard before after l q i ⊎ MayLeave heard before out after l q i
+      go (n, at, waits) (inl here) =
+          let key : i.key ≡ this.key = sym (same_key-eq (key_in e.contents) i.key here) ∙ sym this_key in
+          let (copy, has, same) = sound.lists l q i w in
+          let is : copy_of before (key_in e.contents) ≡ Some copy = ap (copy_of before) (sym this_key ∙ (sym key ∙ sym (ap (λ i. i.key) same))) ∙ has in
+          of_key n at waits key copy is same (a.replaces copy is)
+      go (n, at, waits) (inr other) = elim ((fl.floods l n).leaves i waits) [
+        | inl stays ↦ inl (record { awaits = to_after l q n i at stays; kept = λ lsa c its. of_other lsa other c its })
+        | inr key ↦ absurd (false≢true (sym other ∙ its_key key))
       ]
 
   listed_accounted : (l : ℕ) (q : RouterId) (i : Instance) → Brings out i → Holds after i → is_exchanging (state_of after l q) ≡ true → Awaits after l q i ⊎ HasWord heard before l q i
@@ -259,7 +285,7 @@ module _ (heard : Option Meaning) (before : AreaValue) (out : OutputsValue) (aft
 
       reached : (n : NeighbourValue) → neighbour before l q ≡ Some n → Reached this (came l n) n (g l n) → Awaits after l q i ⊎ HasWord heard before l q i
       reached n at (Reached.IsListed lists) = inl (subst (λ i. Awaits after l q i) (sym it_is) (to_after l q n this at lists))
-      reached n at (Reached.SentIt from) = inr (HasWord.Named i (subst (λ i. Hears heard q i) (sym it_is) (subst (λ q. Hears heard q this) (neighbour-router before l q n at) (a.told l n from))) (refl, inr (refl, omega arith)))
+      reached n at (Reached.SentIt from) = inr (HasWord.Acknowledged (subst (λ i. IsAcknowledged heard l q i) (sym it_is) (subst (λ q. IsAcknowledged heard l q this) (neighbour-router before l q n at) (a.told l n from))))
       reached n at (Reached.AskedFor h j m is covers) = inr (HasWord.Requested j (h, list_before (λ n. n.requests) l q n h at m, is) (subst (λ i. Covers j i) (sym it_is) covers))
 
       go : (n : NeighbourValue) × (neighbour before l q ≡ Some n) × (is_exchanging (g l n).state ≡ true) → Awaits after l q i ⊎ HasWord heard before l q i

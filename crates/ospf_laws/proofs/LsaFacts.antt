@@ -1,9 +1,10 @@
 -- What headers name, and what recency says of instances.
 use Rattle.std.proofs.Common.{◌≡◌, ◌⊎◌, ◌≤◌, ◌==◌, ℕ, ℤ, Bool, true, false, cond, List, [], ◌∷◌, None, Some, refl, sym, ap, subst, inl, inr, arith, ◌∙◌}
 use Rattle.std.specs.Prelude.{◌<ℤ◌, int_lt, nat_lt}
-use Rattle.std.proofs.lemmas.Bool.{eqb-true, ltb-false}
+use Rattle.std.proofs.lemmas.Bool.{cond-true, eqb-true, ltb-false}
 use Rattle.std.proofs.lemmas.Int.{ints}
 use Rattle.std.proofs.lemmas.Option.{none-some, same_Some}
+use Rattle.ospf_base.specs.Constants.{max_age}
 use Rattle.ospf_base.specs.Instances.{Covers}
 use Rattle.ospf_base.specs.Sums.{contents}
 use Rattle.ospf_base.specs.declared.ids.Instance.{Instance}
@@ -125,3 +126,40 @@ recency-same a b i j is_a is_b same e =
     let below : b.sum ≤ a.sum = ltb-false a.sum b.sum t4 in
     let sums : a.sum ≡ b.sum = omega arith in
     instance_from_parts i j same (sym is_a.number ∙ (neither_less a.number b.number t2 t1 ∙ is_b.number)) (sym is_a.sum ∙ (sums ∙ is_b.sum))
+
+is_less : (a b : ℤ) → a <ℤ b → int_lt a b ≡ true
+is_less a b lt = grind (arith, ints)
+
+-- an LSA of a greater number is newer, whatever the ages
+pub greater_is_newer : (a b : LsaHeader) → b.number <ℤ a.number → recency a b ≡ Newer
+greater_is_newer a b lt = cond-true (int_lt b.number a.number) _ _ (is_less b.number a.number lt)
+
+tests : Bool → Bool → Bool → Bool → Recency → Recency
+tests t1 t2 t3 t4 x = cond t1 Newer (cond t2 Older (cond t3 Newer (cond t4 Older x)))
+
+newer_by_tests : (t1 t2 t3 t4 : Bool) (x y : Recency) → (x ≡ Newer → ⊥) → tests t1 t2 t3 t4 x ≡ Newer → tests t1 t2 t3 t4 y ≡ Newer
+unfolding tests
+newer_by_tests true t2 t3 t4 x y never e = refl
+newer_by_tests false true t3 t4 x y never e = absurd (cc)
+newer_by_tests false false true t4 x y never e = refl
+newer_by_tests false false false true x y never e = absurd (cc)
+newer_by_tests false false false false x y never e = absurd (never e)
+
+not_by_age : (age : ℕ) → recency_by_age age max_age ≡ Newer → ⊥
+not_by_age age e = go (age == max_age) e
+  where
+    go : (b : Bool) → cond b Same (cond b Newer Older) ≡ Newer → ⊥
+    go true e = absurd (cc)
+    go false e = absurd (cc)
+
+over : LsaHeader → ℤ → ℕ → Recency → Recency
+over a number sum x = tests (int_lt number a.number) (int_lt a.number number) (nat_lt sum a.sum) (nat_lt a.sum sum) x
+
+-- what is newer than a copy at MaxAge is newer than it was at any age
+pub newer_than_expired : (a b c : LsaHeader) → b.age ≡ max_age → c.number ≡ b.number → c.sum ≡ b.sum → recency a b ≡ Newer → recency a c ≡ Newer
+unfolding over tests
+newer_than_expired a b c expired number sum newer =
+    subst (λ n. over a n c.sum (recency_by_age a.age c.age) ≡ Newer) (sym number)
+    (subst (λ s. over a b.number s (recency_by_age a.age c.age) ≡ Newer) (sym sum)
+    (newer_by_tests (int_lt b.number a.number) (int_lt a.number b.number) (nat_lt b.sum a.sum) (nat_lt a.sum b.sum) (recency_by_age a.age b.age) (recency_by_age a.age c.age)
+    (λ e. not_by_age a.age (ap (λ age. recency_by_age a.age age) (sym expired) ∙ e)) newer))

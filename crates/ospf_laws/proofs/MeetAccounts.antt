@@ -40,10 +40,10 @@ use Rattle.ospf_area.specs.declared.changes.Change.TheVariants as change
 use Rattle.ospf_area.specs.declared.flooding.Origin.{Origin}
 use Rattle.ospf_laws.specs.Links.{AreKnown, IsKnownPacket}
 use Rattle.ospf_laws.specs.Headers.{IsOf}
-use Rattle.ospf_laws.specs.Packets.{lsas_in, headers_in, lsas_of, headers_of}
+use Rattle.ospf_laws.specs.Packets.{Received, lsas_in, lsas_of, acknowledging_headers_in, acknowledging_headers_of}
 use Rattle.ospf_laws.specs.Parts.{LsaPart, HeaderPart}
 use Rattle.ospf_laws.specs.Words.{CanName, Holds, HasCopy, Brings, IsSoundState}
-use Rattle.ospf_laws.specs.Accounts.{Has, Hears, Sends, Numbers}
+use Rattle.ospf_laws.specs.Accounts.{Has, IsAcknowledged, IsStored, Sends, Numbers}
 use Rattle.ospf_laws.proofs.Accountable.{IsAccountable, Unchanged-accountable, both-accountable, then_nothing, sent_packet}
 use Rattle.ospf_laws.proofs.ListFacts.{Contains-nil, Contains-map}
 use Rattle.ospf_laws.proofs.LsaFacts.{same_contents, header_is_of, header_names, recency-same}
@@ -109,7 +109,7 @@ sends_nothing s = record {
 }
 
 -- a state that differs in its links, direct acknowledgements and what no law reads
-shrink_by : (heard : Option Meaning) (out : OutputsValue) (s after : AreaValue) (f : ℕ → LinkValue → LinkValue) (g : ℕ → NeighbourValue → NeighbourValue) → after.links ≡ map_from f 0 s.links → after.router ≡ s.router → after.database ≡ s.database → after.numbering ≡ s.numbering → after.floor ≡ s.floor → ((h : LsaHeader) → Contains after.direct h → Contains s.direct h ⊎ IsNamed s out h) → ((l : ℕ) (link : LinkValue) → (f l link).neighbours ≡ map (g l) link.neighbours) → ((l : ℕ) (link : LinkValue) (h : LsaHeader) → Contains (f l link).delayed h → Contains link.delayed h ⊎ IsNamed s out h) → ((l : ℕ) (n : NeighbourValue) → ShrinksTo heard n (g l n)) → ShrinkBy heard s out f g after
+shrink_by : (heard : Option Received) (out : OutputsValue) (s after : AreaValue) (f : ℕ → LinkValue → LinkValue) (g : ℕ → NeighbourValue → NeighbourValue) → after.links ≡ map_from f 0 s.links → after.router ≡ s.router → after.database ≡ s.database → after.numbering ≡ s.numbering → after.floor ≡ s.floor → ((h : LsaHeader) → Contains after.direct h → Contains s.direct h ⊎ IsNamed s out h) → ((l : ℕ) (link : LinkValue) → (f l link).neighbours ≡ map (g l) link.neighbours) → ((l : ℕ) (link : LinkValue) (h : LsaHeader) → Contains (f l link).delayed h → Contains link.delayed h ⊎ IsNamed s out h) → ((l : ℕ) (n : NeighbourValue) → ShrinksTo heard l n (g l n)) → ShrinkBy heard s out f g after
 shrink_by heard out s after f g links router database numbering floor direct each waiting shrinks = record {
   links = links;
   same_router = router;
@@ -122,7 +122,7 @@ shrink_by heard out s after f g links router database numbering floor direct eac
 }
 
 -- the header is acknowledged, and a key may be noted to be answered
-ack-accountable : (heard : Option Meaning) (out : OutputsValue) (a : Acknowledgement) (f : Origin) (h : LsaHeader) (key : LsaKey) (noted : Bool) (s : AreaValue) → OnlySendsKnown s out → IsNamed s out h → IsAccountable heard s out (cond noted (record (acknowledging a f h s) { heard = (acknowledging a f h s).heard ++ key ∷ [] }) (acknowledging a f h s))
+ack-accountable : (heard : Option Received) (out : OutputsValue) (a : Acknowledgement) (f : Origin) (h : LsaHeader) (key : LsaKey) (noted : Bool) (s : AreaValue) → OnlySendsKnown s out → IsNamed s out h → IsAccountable heard s out (cond noted (record (acknowledging a f h s) { heard = (acknowledging a f h s).heard ++ key ∷ [] }) (acknowledging a f h s))
 ack-accountable heard out a f h key noted s sends known = by a noted
   where
     still : ℕ → LinkValue → LinkValue
@@ -141,19 +141,19 @@ ack-accountable heard out a f h key noted s sends known = by a noted
     quiet after fl sh = Shrinks-accountable heard s out after fl alone sh sends
 
     by : (a : Acknowledgement) (noted : Bool) → IsAccountable heard s out (cond noted (record (acknowledging a f h s) { heard = (acknowledging a f h s).heard ++ key ∷ [] }) (acknowledging a f h s))
-    by answer.None true = quiet _ still (shrink_by heard out s (record s { heard = s.heard ++ key ∷ [] }) still alone (map_from-id 0 s.links) refl refl refl refl (λ x c. inl c) (λ l link. map-id link.neighbours) (λ l link x c. inl c) (λ l n. same-shrinks heard n))
-    by answer.None false = quiet _ still (shrink_by heard out s s still alone (map_from-id 0 s.links) refl refl refl refl (λ x c. inl c) (λ l link. map-id link.neighbours) (λ l link x c. inl c) (λ l n. same-shrinks heard n))
-    by answer.Direct true = quiet _ still (shrink_by heard out s (record s { direct = s.direct ++ h ∷ []; heard = s.heard ++ key ∷ [] }) still alone (map_from-id 0 s.links) refl refl refl refl now (λ l link. map-id link.neighbours) (λ l link x c. inl c) (λ l n. same-shrinks heard n))
-    by answer.Direct false = quiet _ still (shrink_by heard out s (record s { direct = s.direct ++ h ∷ [] }) still alone (map_from-id 0 s.links) refl refl refl refl now (λ l link. map-id link.neighbours) (λ l link x c. inl c) (λ l n. same-shrinks heard n))
-    by answer.Delayed true = quiet _ (delayed_on f.link h) (shrink_by heard out s (record (acknowledging answer.Delayed f h s) { heard = s.heard ++ key ∷ [] }) (delayed_on f.link h) alone refl refl refl refl refl (λ x c. inl c) (delay-each f.link h) later (λ l n. same-shrinks heard n))
-    by answer.Delayed false = quiet _ (delayed_on f.link h) (shrink_by heard out s (acknowledging answer.Delayed f h s) (delayed_on f.link h) alone refl refl refl refl refl (λ x c. inl c) (delay-each f.link h) later (λ l n. same-shrinks heard n))
+    by answer.None true = quiet _ still (shrink_by heard out s (record s { heard = s.heard ++ key ∷ [] }) still alone (map_from-id 0 s.links) refl refl refl refl (λ x c. inl c) (λ l link. map-id link.neighbours) (λ l link x c. inl c) (λ l n. same-shrinks heard l n))
+    by answer.None false = quiet _ still (shrink_by heard out s s still alone (map_from-id 0 s.links) refl refl refl refl (λ x c. inl c) (λ l link. map-id link.neighbours) (λ l link x c. inl c) (λ l n. same-shrinks heard l n))
+    by answer.Direct true = quiet _ still (shrink_by heard out s (record s { direct = s.direct ++ h ∷ []; heard = s.heard ++ key ∷ [] }) still alone (map_from-id 0 s.links) refl refl refl refl now (λ l link. map-id link.neighbours) (λ l link x c. inl c) (λ l n. same-shrinks heard l n))
+    by answer.Direct false = quiet _ still (shrink_by heard out s (record s { direct = s.direct ++ h ∷ [] }) still alone (map_from-id 0 s.links) refl refl refl refl now (λ l link. map-id link.neighbours) (λ l link x c. inl c) (λ l n. same-shrinks heard l n))
+    by answer.Delayed true = quiet _ (delayed_on f.link h) (shrink_by heard out s (record (acknowledging answer.Delayed f h s) { heard = s.heard ++ key ∷ [] }) (delayed_on f.link h) alone refl refl refl refl refl (λ x c. inl c) (delay-each f.link h) later (λ l n. same-shrinks heard l n))
+    by answer.Delayed false = quiet _ (delayed_on f.link h) (shrink_by heard out s (acknowledging answer.Delayed f h s) (delayed_on f.link h) alone refl refl refl refl refl (λ x c. inl c) (delay-each f.link h) later (λ l n. same-shrinks heard l n))
 
 -- ---- changes of the sender
 
 abbrev changed_area : Origin → Change → AreaValue → AreaValue
 changed_area f c s = record s { links = map_from (changed_on f c s.tick) 0 s.links }
 
-change_by : (heard : Option Meaning) (out : OutputsValue) (f : Origin) (c : Change) (s after : AreaValue) → after.links ≡ map_from (changed_on f c s.tick) 0 s.links → after.router ≡ s.router → after.database ≡ s.database → after.numbering ≡ s.numbering → after.floor ≡ s.floor → after.direct ≡ s.direct → ((n : NeighbourValue) → n.router ≡ f.router → IsTold heard n c) → ShrinkBy heard s out (changed_on f c s.tick) (change_of f c s.tick) after
+change_by : (heard : Option Received) (out : OutputsValue) (f : Origin) (c : Change) (s after : AreaValue) → after.links ≡ map_from (changed_on f c s.tick) 0 s.links → after.router ≡ s.router → after.database ≡ s.database → after.numbering ≡ s.numbering → after.floor ≡ s.floor → after.direct ≡ s.direct → ((n : NeighbourValue) → n.router ≡ f.router → IsTold heard f.link n c) → ShrinkBy heard s out (changed_on f c s.tick) (change_of f c s.tick) after
 change_by heard out f c s after links router database numbering floor direct told =
     shrink_by heard out s after (changed_on f c s.tick) (change_of f c s.tick) links router database numbering floor
     (λ h x. inl (subst (λ hs. Contains hs h) direct x))
@@ -191,30 +191,34 @@ holds_copy : (s : AreaValue) (key : LsaKey) (copy : Entry) → entry_of s key �
 holds_copy s key copy at = (lsa_of copy, has_entry s key copy at, refl)
 
 -- an LSA heard names its instance
-Hears-lsa : (heard : Option Meaning) (p : Meaning) (lsa : List ℕ) → heard ≡ Some p → Contains (lsas_in p) lsa → IsLsa lsa → Hears heard p.router (instance_of lsa)
-Hears-lsa heard p lsa h c is = record { packet = p; is_heard = h; from = refl; named = (header_of lsa, by p.body c, header_is_of lsa is) }
+names-lsa : (heard : Option Received) (r : Received) (lsa : List ℕ) → heard ≡ Some r → Contains (lsas_in r.packet) lsa → IsLsa lsa → IsAcknowledged heard r.link r.packet.router (instance_of lsa)
+names-lsa heard r lsa h c is = record { received = r; is_heard = h; link = refl; from = refl; named = (header_of lsa, by r.packet.body c, header_is_of lsa is) }
   where
-    by : (b : BodyMeaning) → Contains (lsas_of b) lsa → Contains (headers_of b) (header_of lsa)
+    by : (b : BodyMeaning) → Contains (lsas_of b) lsa → Contains (acknowledging_headers_of b) (header_of lsa)
     by (hello fields neighbours) c = absurd (Contains-nil lsa c)
     by (description fields headers) c = absurd (Contains-nil lsa c)
     by (request entries) c = absurd (Contains-nil lsa c)
     by (update lsas) c = Contains-map header_of lsas lsa c
     by (acknowledgment headers) c = absurd (Contains-nil lsa c)
 
-as_outputs : (heard : Option Meaning) (s t : AreaValue) (a b : OutputsValue) → a ≡ b → IsAccountable heard s b t → IsAccountable heard s a t
+as_outputs : (heard : Option Received) (s t : AreaValue) (a b : OutputsValue) → a ≡ b → IsAccountable heard s b t → IsAccountable heard s a t
 as_outputs heard s t a b same x = subst (λ o. IsAccountable heard s o t) (sym same) x
 
-as_state : (heard : Option Meaning) (s t u : AreaValue) (a : OutputsValue) → t ≡ u → IsAccountable heard s a u → IsAccountable heard s a t
+as_state : (heard : Option Received) (s t u : AreaValue) (a : OutputsValue) → t ≡ u → IsAccountable heard s a u → IsAccountable heard s a t
 as_state heard s t u a same x = subst (λ v. IsAccountable heard s a v) (sym same) x
 
 -- ---- the rules of an Update
 
-module _ (heard : Option Meaning) (p : Meaning) (f : Origin) (lsa : List ℕ) (before : AreaValue) (out : OutputsValue) (after : AreaValue) (is_lsa : IsLsa lsa) (sound : IsSoundState before) (hears : heard ≡ Some p) (from : p.router ≡ f.router) (in_p : Contains (lsas_in p) lsa) (read : AreRead out.sent) where
-  told : Hears heard f.router (instance_of lsa)
-  told = subst (λ q. Hears heard q (instance_of lsa)) from (Hears-lsa heard p lsa hears in_p is_lsa)
+module _ (heard : Option Received) (p : Meaning) (f : Origin) (lsa : List ℕ) (before : AreaValue) (out : OutputsValue) (after : AreaValue) (is_lsa : IsLsa lsa) (sound : IsSoundState before) (hears : heard ≡ Some (record { link = f.link; packet = p })) (from : p.router ≡ f.router) (in_p : Contains (lsas_in p) lsa) (read : AreRead out.sent) where
+  received : Received
+  received = record { link = f.link; packet = p }
 
-  told_by : (n : NeighbourValue) → n.router ≡ f.router → Hears heard n.router (instance_of lsa)
-  told_by n same = subst (λ q. Hears heard q (instance_of lsa)) (sym same) told
+  told : IsAcknowledged heard f.link f.router (instance_of lsa)
+  unfolding received
+  told = subst (λ q. IsAcknowledged heard f.link q (instance_of lsa)) from (names-lsa heard received lsa hears in_p is_lsa)
+
+  told_by : (n : NeighbourValue) → n.router ≡ f.router → IsAcknowledged heard f.link n.router (instance_of lsa)
+  told_by n same = subst (λ q. IsAcknowledged heard f.link q (instance_of lsa)) (sym same) told
 
   named : (s : AreaValue) (o : OutputsValue) → CanName s (instance_of lsa) ⊎ Brings o (instance_of lsa) → IsNamed s o (header_of lsa)
   named s o known i is = subst (λ i. CanName s i ⊎ Brings o i) (header_names lsa i is) known
@@ -238,8 +242,8 @@ module _ (heard : Option Meaning) (p : Meaning) (f : Origin) (lsa : List ℕ) (b
           go None at is = absurd (none-some copy is)
           go (Some e) at is = subst (λ l. recency (header_of lsa) (header_of l) ≡ Newer) (same_Some (lsa_of e) copy is) (newer e at)
 
-      brings : Brings out (instance_of lsa)
-      brings = Brings.Takes (subst (λ o. Contains o.taken (instance_of lsa)) (sym a.outputs) (0, omega arith, refl))
+      taken : Contains out.taken (instance_of lsa)
+      taken = subst (λ o. Contains o.taken (instance_of lsa)) (sym a.outputs) (0, omega arith, refl)
 
       only : (i : Instance) → Brings out i → i ≡ instance_of lsa
       only i (Brings.Takes c) = one_of (instance_of lsa) i (subst (λ o. Contains o.taken i) a.outputs c)
@@ -255,9 +259,9 @@ module _ (heard : Option Meaning) (p : Meaning) (f : Origin) (lsa : List ℕ) (b
           (λ key ends. absurd (none_ended out key ends_none ends))
 
       stored : IsAccountable heard before out a.mid
-      stored = Stores-accountable heard lsa (Some f) true before out a.mid (Stores-by lsa (Some f) before a.mid a.stores) is_lsa newer_copy brings only
-          (Has.Heard p lsa hears in_p refl)
-          (λ g same. subst (λ g. Hears heard g.router (instance_of lsa)) (same_Some f g same) told)
+      stored = Stores-accountable heard lsa (Some f) true before out a.mid (Stores-by lsa (Some f) before a.mid a.stores) is_lsa newer_copy (λ copy is. IsStored.Installed (record { link = f.link; packet = p }) hears in_p taken) (Brings.Takes taken) only
+          (Has.Heard (record { link = f.link; packet = p }) lsa hears in_p refl)
+          (λ g same. subst (λ g. IsAcknowledged heard g.link g.router (instance_of lsa)) (same_Some f g same) told)
           (ap (λ o. o.sent) a.outputs) read numbers (Stores-known lsa (Some f) before a.mid a.stores) ends_none
 
       acknowledged : IsAccountable heard a.mid no_outputs (heard_by (key_of lsa) (acknowledging how f (header_of lsa) a.mid))
@@ -392,7 +396,7 @@ module _ (heard : Option Meaning) (p : Meaning) (f : Origin) (lsa : List ℕ) (b
 
 -- ---- a header of an Acknowledgment
 
-module _ (heard : Option Meaning) (p : Meaning) (f : Origin) (h : LsaHeader) (before : AreaValue) (out : OutputsValue) (after : AreaValue) (sound : IsSoundState before) (hears : heard ≡ Some p) (from : p.router ≡ f.router) (in_p : Contains (headers_in p) h) where
+module _ (heard : Option Received) (p : Meaning) (f : Origin) (h : LsaHeader) (before : AreaValue) (out : OutputsValue) (after : AreaValue) (sound : IsSoundState before) (hears : heard ≡ Some (record { link = f.link; packet = p })) (from : p.router ≡ f.router) (in_p : Contains (acknowledging_headers_in p) h) where
   -- where it is the same as the copy, it names the copy's instance
   names_copy : (o : Option LsaKey) → key_of_header h ≡ o → (copy : Entry) → exchange.copy_of before.database o ≡ Some copy → recency h (header_at copy) ≡ Same → IsOf h (instance_at copy)
   names_copy None key copy at same = absurd (none-some copy at)
@@ -400,8 +404,8 @@ module _ (heard : Option Meaning) (p : Meaning) (f : Origin) (h : LsaHeader) (be
       let its : IsOf h (record { key = k; number = h.number; sum = h.sum }) = record { key = key; number = refl; sum = refl } in
       subst (λ i. IsOf h i) (recency-same h (header_at copy) (record { key = k; number = h.number; sum = h.sum }) (instance_at copy) its (copy_is_of before k copy sound at) (sym (entry_instance before k copy at)) same) its
 
-  told_of : (i : Instance) → IsOf h i → (n : NeighbourValue) → n.router ≡ f.router → Hears heard n.router i
-  told_of i is n same = record { packet = p; is_heard = hears; from = from ∙ sym same; named = (h, in_p, is) }
+  told_of : (i : Instance) → IsOf h i → (n : NeighbourValue) → n.router ≡ f.router → IsAcknowledged heard f.link n.router i
+  told_of i is n same = record { received = record { link = f.link; packet = p }; is_heard = hears; link = refl; from = from ∙ sym same; named = (h, in_p, is) }
 
   taken_off_by : (o : Option Instance) → ((i : Instance) → o ≡ Some i → IsOf h i) → after ≡ taken_off f o before → out ≡ no_outputs → IsAccountable heard before out after
   taken_off_by None is state outputs = Unchanged-accountable heard before out after (record { state = state; outputs = outputs })
@@ -425,6 +429,6 @@ module _ (heard : Option Meaning) (p : Meaning) (f : Origin) (h : LsaHeader) (be
   HeaderPart-accountable m = taken_off_by (named_by h (exchange.copy_of before.database (key_of_header h))) (is_named (exchange.copy_of before.database (key_of_header h)) refl) m.state m.outputs
 
 -- one LSA of an Update, or what is passed over
-pub LsaPart-accountable : (heard : Option Meaning) (p : Meaning) (f : Origin) (lsa : List ℕ) (before : AreaValue) (out : OutputsValue) (after : AreaValue) → IsSoundState before → heard ≡ Some p → p.router ≡ f.router → Contains (lsas_in p) lsa → AreRead out.sent → LsaPart f lsa before out after → IsAccountable heard before out after
+pub LsaPart-accountable : (heard : Option Received) (p : Meaning) (f : Origin) (lsa : List ℕ) (before : AreaValue) (out : OutputsValue) (after : AreaValue) → IsSoundState before → heard ≡ Some (record { link = f.link; packet = p }) → p.router ≡ f.router → Contains (lsas_in p) lsa → AreRead out.sent → LsaPart f lsa before out after → IsAccountable heard before out after
 LsaPart-accountable heard p f lsa before out after sound hears from in_p read (LsaPart.Meets is m) = MeetsLsa-accountable heard p f lsa before out after is sound hears from in_p read m
 LsaPart-accountable heard p f lsa before out after sound hears from in_p read (LsaPart.PassedOver not_one u) = Unchanged-accountable heard before out after u

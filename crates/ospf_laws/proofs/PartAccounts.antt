@@ -1,6 +1,6 @@
 -- Direct acknowledgements, own LSAs, ages and removals.
-use Rattle.std.proofs.Common.{◌≡◌, inl, ◌==◌, ◌&&◌, ◌<◌, ℕ, ℤ, zero, suc, Bool, true, false, cond, not, List, [], ◌∷◌, length, Option, None, Some, refl, sym, ap, subst, ◌∙◌, arith}
-use Rattle.std.specs.Prelude.{◌≤ℤ◌, ◌<ℤ◌, ◌+ℤ◌, ◌+◌, ◌||◌, nat_lt, int_lt, pos, if◌then◌else◌}
+use Rattle.std.proofs.Common.{◌≡◌, inl, inr, ◌==◌, ◌&&◌, ◌<◌, ℕ, zero, suc, Bool, true, false, cond, not, List, [], ◌∷◌, length, Option, None, Some, refl, sym, ap, subst, ◌∙◌, arith}
+use Rattle.std.specs.Prelude.{◌≤ℤ◌, ◌<ℤ◌, ◌+ℤ◌, ◌+◌, ◌||◌, nat_lt, pos, if◌then◌else◌}
 use Rattle.std.specs.List.{Contains, list_any, slice_get}
 use Rattle.std.specs.Option.{option_map}
 use Rattle.std.proofs.lemmas.Bool.{false≢true, cond-true, cond-false, and_parts}
@@ -35,22 +35,22 @@ use Rattle.ospf_area.specs.Outputs.{OutputsValue, SentValue, no_outputs, sends, 
 use Rattle.ospf_area.specs.State.{AreaValue, LinkValue, neighbour, neighbours_in, state_in, entry_of, copy_in, copy_of, kept_number, some_link_loading, Awaits, WaitsIn}
 use Rattle.ospf_area.specs.declared.flooding.Origin.{Origin}
 use Rattle.ospf_laws.specs.Headers.{IsOf, Lists}
-use Rattle.ospf_laws.specs.Packets.{lsas_in, headers_in}
+use Rattle.ospf_laws.specs.Packets.{Received, lsas_in, headers_in}
 use Rattle.ospf_laws.specs.Parts.{DirectPart, IssuePart, ExpiryPart, AgesPart, AnswersAll, RemovalPart, at_max_age, leaves_if, ends_if}
 use Rattle.ospf_update.specs.Removal.{some_awaits, lowest_number, is_last}
 use Rattle.ospf_area.specs.Numbers.{is_own}
 use Rattle.ospf_laws.specs.Words.{CanName, Holds, HasCopy, Brings, IsSoundState, ListsAreHeld, delayed_in, list_in}
 use Rattle.ospf_lsdb.specs.Moments.{among}
 use Rattle.ospf_flood.specs.Rules.{max_sequence_number}
-use Rattle.ospf_laws.specs.Accounts.{Adjusts, Has, HasLargest, Sends, WasHeld, Numbers, NoneEntersExchange}
+use Rattle.ospf_laws.specs.Accounts.{Adjusts, Has, HasLargest, IsStored, Sends, WasHeld, WasKept, Numbers, NoneEntersExchange}
 use Rattle.ospf_laws.proofs.Accountable.{IsAccountable, Adjusts-accountable, sent_packet}
 use Rattle.ospf_laws.proofs.AckFacts.{direct-packets}
 use Rattle.ospf_laws.proofs.FloodingAccounts as flooding
 use Rattle.ospf_laws.proofs.FloodingAccounts.{FloodsTo, IsFlooded, IsAccounted, Replaces}
 use Rattle.ospf_laws.proofs.ListFacts.{Contains-nil, Contains-map_cases, Contains-from_slice_get, find-some}
-use Rattle.ospf_laws.proofs.LsaFacts.{header_is_of, header_names, same_contents}
+use Rattle.ospf_laws.proofs.LsaFacts.{greater_is_newer, header_is_of, header_names, same_contents}
 use Rattle.ospf_laws.proofs.OfferFacts.{floods_to, stays_itself}
-use Rattle.ospf_laws.proofs.QuietAccounts.{brings_none, none_ended, Numbers-none_issued}
+use Rattle.ospf_laws.proofs.QuietAccounts.{brings_none, kept_same, none_ended, Numbers-none_issued}
 use Rattle.ospf_laws.specs.Links.{IsKnownPacket}
 use Rattle.ospf_laws.proofs.MeetAccounts.{sends_known, sends_nothing}
 use Rattle.ospf_laws.proofs.SentFacts.{IsUpdateOf, flooding-packets}
@@ -66,7 +66,7 @@ one_of x y (suc k, within, is) = absurd (omega arith)
 
 -- ---- direct acknowledgements
 
-pub DirectPart-accountable : (heard : Option Meaning) (f : Origin) (before : AreaValue) (out : OutputsValue) (after : AreaValue) → AreRead out.sent → DirectPart f before out after → IsAccountable heard before out after
+pub DirectPart-accountable : (heard : Option Received) (f : Origin) (before : AreaValue) (out : OutputsValue) (after : AreaValue) → AreRead out.sent → DirectPart f before out after → IsAccountable heard before out after
 DirectPart-accountable heard f before out after read d =
     subst (λ o. IsAccountable heard before o after) (sym d.outputs)
     (subst (λ s. IsAccountable heard before (sends (direct_out f before)) s) (sym d.state)
@@ -82,7 +82,7 @@ DirectPart-accountable heard f before out after read d =
       direct = λ h c. absurd (Contains-nil h c);
       each = λ l link. map-id link.neighbours;
       waiting = λ l link h c. inl c;
-      shrinks = λ l n. same-shrinks heard n;
+      shrinks = λ l n. same-shrinks heard l n;
     }
 
     known : (x : SentValue) → Contains (direct_out f before) x → IsKnownPacket before x.packet
@@ -96,23 +96,22 @@ DirectPart-accountable heard f before out after read d =
 
 -- ---- an own LSA is issued
 
-is_less : (a b : ℤ) → a <ℤ b → int_lt a b ≡ true
-is_less a b lt = grind (arith, ints)
-
-pub IssuePart-accountable : (heard : Option Meaning) (lsa : List ℕ) (before : AreaValue) (out : OutputsValue) (after : AreaValue) → IsSoundState before → AreRead out.sent → IssuePart lsa before out after → IsAccountable heard before out after
+pub IssuePart-accountable : (heard : Option Received) (lsa : List ℕ) (before : AreaValue) (out : OutputsValue) (after : AreaValue) → IsSoundState before → AreRead out.sent → IssuePart lsa before out after → IsAccountable heard before out after
 IssuePart-accountable heard lsa before out after sound read issue =
     Stores-accountable heard lsa None false before out after
     (record { database = issue.stores.database; links = issue.stores.links; same_router = issue.stores.same_router; same_direct = issue.stores.same_direct })
-    issue.is_lsa newer brings only (Has.Issued lsa in_issued refl) (λ g is. absurd (none-some g is)) issue.sent read numbers (λ own. issue.known) issue.ended
+    issue.is_lsa newer (λ copy is. IsStored.Issued in_issued (more copy is)) brings only (Has.Issued lsa in_issued refl) (λ g is. absurd (none-some g is)) issue.sent read numbers (λ own. issue.known) issue.ended
   where
     -- the copy's number is at most the kept one
-    newer : (copy : List ℕ) → copy_of before (key_of lsa) ≡ Some copy → recency (header_of lsa) (header_of copy) ≡ Newer
-    newer copy is =
+    more : (copy : List ℕ) → copy_of before (key_of lsa) ≡ Some copy → (instance_of copy).number <ℤ (instance_of lsa).number
+    more copy is =
         let key : key_of copy ≡ key_of lsa = copy_of-key before (key_of lsa) copy is in
         let upto : (instance_of copy).number ≤ℤ kept_number before (key_of lsa) = subst (λ k. (instance_of copy).number ≤ℤ kept_number before k) key (sound.numbers copy (copy_of-has before (key_of lsa) copy is) (ap (λ k. k.router) key ∙ issue.own)) in
         let next : (instance_of lsa).number ≡ kept_number before (key_of lsa) +ℤ pos 1 = issue.number in
-        let more : (instance_of copy).number <ℤ (instance_of lsa).number = omega (arith, ints) in
-        cond-true (int_lt (header_of copy).number (header_of lsa).number) _ _ (is_less (header_of copy).number (header_of lsa).number more)
+        omega (arith, ints)
+
+    newer : (copy : List ℕ) → copy_of before (key_of lsa) ≡ Some copy → recency (header_of lsa) (header_of copy) ≡ Newer
+    newer copy is = greater_is_newer (header_of lsa) (header_of copy) (more copy is)
 
     in_issued : Contains out.issued lsa
     in_issued = subst (λ lsas. Contains lsas lsa) (sym issue.issued) (0, omega arith, refl)
@@ -143,7 +142,7 @@ IssuePart-accountable heard lsa before out after sound read issue =
 
 -- ---- a copy comes to MaxAge
 
-module _ (heard : Option Meaning) (key : LsaKey) (copy : Entry) (before : AreaValue) (out : OutputsValue) (after : AreaValue) (sound : IsSoundState before) (read : AreRead out.sent) (x : ExpiryPart key copy before out after) where
+module _ (heard : Option Received) (key : LsaKey) (copy : Entry) (before : AreaValue) (out : OutputsValue) (after : AreaValue) (sound : IsSoundState before) (read : AreRead out.sent) (x : ExpiryPart key copy before out after) where
   e : Entry
   e = at_max_age copy
 
@@ -210,7 +209,8 @@ module _ (heard : Option Meaning) (key : LsaKey) (copy : Entry) (before : AreaVa
   is_accounted = record {
     is_lsa = is_lsa;
     replaces = λ other is. Replaces.ByItself
-        (ap instance_of (sym (same_Some (lsa_of copy) other (sym (ap copy_in x.at) ∙ (ap (copy_of before) (sym its_key) ∙ is)))) ∙ copy_instance)
+        (ap contents (sym (same_Some (lsa_of copy) other (sym (ap copy_in x.at) ∙ (ap (copy_of before) (sym its_key) ∙ is)))))
+        refl
         (λ l n w. subst (λ i. Waits (past l n) i) whole (stays_itself key (header_of (lsa_of (at_max_age copy))) false before.tick n is_of (subst (λ i. Waits n i) (sym whole) w)));
     known = inl (CanName.InDatabase holds);
     holds = inl holds;
@@ -239,7 +239,7 @@ module _ (heard : Option Meaning) (key : LsaKey) (copy : Entry) (before : AreaVa
 
 -- ---- only the database changes
 
-module _ (heard : Option Meaning) (before : AreaValue) (out : OutputsValue) (after : AreaValue) (same_links : after.links ≡ before.links) (same_router : after.router ≡ before.router) (same_direct : after.direct ≡ before.direct) (none_sent : out.sent ≡ []) (none_taken : out.taken ≡ []) (none_issued : out.issued ≡ []) (copies : (lsa : List ℕ) → HasCopy after lsa → WasHeld before (contents lsa)) (stays : ListsAreHeld before → ListsAreHeld after) (kept : (key : LsaKey) → among out.ended key ≡ false → kept_number after key ≡ kept_number before key) (again : (key : LsaKey) → among out.ended key ≡ true → kept_number after key ≡ lowest_number) (gone : (key : LsaKey) → among out.ended key ≡ true → copy_of after key ≡ None) (ends : (key : LsaKey) → among out.ended key ≡ true → HasLargest heard before out) where
+module _ (heard : Option Received) (before : AreaValue) (out : OutputsValue) (after : AreaValue) (same_links : after.links ≡ before.links) (same_router : after.router ≡ before.router) (same_direct : after.direct ≡ before.direct) (none_sent : out.sent ≡ []) (none_taken : out.taken ≡ []) (none_issued : out.issued ≡ []) (copies : (lsa : List ℕ) → HasCopy after lsa → WasKept heard before lsa) (stays : ListsAreHeld before → ListsAreHeld after) (kept : (key : LsaKey) → among out.ended key ≡ false → kept_number after key ≡ kept_number before key) (again : (key : LsaKey) → among out.ended key ≡ true → kept_number after key ≡ lowest_number) (gone : (key : LsaKey) → among out.ended key ≡ true → copy_of after key ≡ None) (ends : (key : LsaKey) → among out.ended key ≡ true → HasLargest heard before out) where
   neighbour-same : (l : ℕ) (q : RouterId) → neighbour after l q ≡ neighbour before l q
   neighbour-same l q = ap (λ ls. neighbour_of (neighbours_in (slice_get ls l)) q) same_links
 
@@ -250,7 +250,7 @@ module _ (heard : Option Meaning) (before : AreaValue) (out : OutputsValue) (aft
   not_sent p s = Contains-nil s.datagram (subst (λ ds. Contains ds s.datagram) none_sent s.sent)
 
   names-same : (i : Instance) → CanName after i → CanName before i
-  names-same i (CanName.InDatabase (lsa, c, is)) = let was = copies lsa c in CanName.InDatabase (was.lsa, was.copy, same_contents was.lsa lsa was.same ∙ is)
+  names-same i (CanName.InDatabase (lsa, c, is)) = let was = copies lsa c in CanName.InDatabase (was.old, was.copy, same_contents was.old lsa was.same ∙ is)
   names-same i (CanName.OnRetransmissionList l q w) = CanName.OnRetransmissionList l q (subst (λ o. WaitsIn o i) (neighbour-same l q) w)
   names-same i (CanName.OnSummaryList l q (h, c, is)) = CanName.OnSummaryList l q (h, list-same (λ n. n.summary) l q h c, is)
   names-same i (CanName.InLastDd l q (h, c, is)) = CanName.InLastDd l q (h, list-same (λ n. n.last_dd) l q h c, is)
@@ -315,11 +315,12 @@ still_held before after database i (lsa, c, is) = go (entry_of before (key_of ls
           same_contents (lsa_of (aged e)) (lsa_of e) (aged_same e) ∙ (ap instance_of (same_Some (lsa_of e) lsa is') ∙ is),
         )
 
-pub AgesPart-accountable : (heard : Option Meaning) (before : AreaValue) (out : OutputsValue) (after : AreaValue) → AgesPart before out after → IsAccountable heard before out after
-AgesPart-accountable heard before out after a =
+-- they rise where no packet was heard
+pub AgesPart-accountable : (heard : Option Received) (before : AreaValue) (out : OutputsValue) (after : AreaValue) → heard ≡ None → AgesPart before out after → IsAccountable heard before out after
+AgesPart-accountable heard before out after silent a =
     Adjusts-accountable heard before out after
     (OnlyDatabase-adjusts heard before out after (ap (λ s. s.links) a.rise.rest) (ap (λ s. s.router) a.rise.rest) (ap (λ s. s.direct) a.rise.rest) (ap (λ o. o.sent) a.outputs) (ap (λ o. o.taken) a.outputs) (ap (λ o. o.issued) a.outputs)
-    (copies_older before after entries)
+    (λ lsa c. let was = copies_older before after entries lsa c in record { old = was.lsa; copy = was.copy; same = was.same; age = inr (inl silent) })
     (λ held l q i w. still_held before after entries i (held l q i (subst (λ o. WaitsIn o i) (neighbours_same l q) w)))
     (λ key goes_on. ap (λ s. kept_number s key) a.rise.rest)
     (λ key ends. absurd (none_ended out key (ap (λ o. o.ended) a.outputs) ends))
@@ -336,7 +337,7 @@ AgesPart-accountable heard before out after a =
 
 -- ---- what was to be answered
 
-pub AnswersAll-accountable : (heard : Option Meaning) (before : AreaValue) (out : OutputsValue) (after : AreaValue) → AnswersAll before out after → IsAccountable heard before out after
+pub AnswersAll-accountable : (heard : Option Received) (before : AreaValue) (out : OutputsValue) (after : AreaValue) → AnswersAll before out after → IsAccountable heard before out after
 AnswersAll-accountable heard before out after a =
     subst (λ o. IsAccountable heard before o after) (sym a.outputs)
     (subst (λ s. IsAccountable heard before no_outputs s) (sym a.state)
@@ -351,7 +352,7 @@ AnswersAll-accountable heard before out after a =
       direct = λ h c. inl c;
       each = λ l link. map-id link.neighbours;
       waiting = λ l link h c. inl c;
-      shrinks = λ l n. same-shrinks heard n;
+      shrinks = λ l n. same-shrinks heard l n;
     }
 
 -- ---- removals
@@ -395,7 +396,7 @@ stays_if s e waits = ap (λ b. not (some_link_loading s.links) && ((e.age == max
     go true false = refl
     go false b = refl
 
-pub RemovalPart-adjusts : (heard : Option Meaning) (before : AreaValue) (out : OutputsValue) (after : AreaValue) → RemovalPart before out after → Adjusts heard before out after × NoneEntersExchange before after
+pub RemovalPart-adjusts : (heard : Option Received) (before : AreaValue) (out : OutputsValue) (after : AreaValue) → RemovalPart before out after → Adjusts heard before out after × NoneEntersExchange before after
 RemovalPart-adjusts heard before out after r = (
   OnlyDatabase-adjusts heard before out after r.same_links r.same_router r.same_direct r.sent r.taken r.issued copies stays (λ key goes_on. r.numbering key ∙ cond-false _ _ _ goes_on) (λ key ends. r.numbering key ∙ cond-true _ _ _ ends) (λ key ends. ap copy_in (r.database key ∙ left key (entry_of before key) (sym (r.ended key) ∙ ends))) (λ key ends. by key (entry_of before key) refl (sym (r.ended key) ∙ ends)),
   λ l q up. ap (λ o. is_exchanging (state_in o)) (sym (neighbours_same l q)) ∙ up,
@@ -411,8 +412,8 @@ RemovalPart-adjusts heard before out after r = (
         go true e = absurd (none-some lsa e)
         go false e = e
 
-    copies : (lsa : List ℕ) → HasCopy after lsa → WasHeld before (contents lsa)
-    copies lsa c = record { lsa = lsa; copy = copy_before lsa c; same = refl }
+    copies : (lsa : List ℕ) → HasCopy after lsa → WasKept heard before lsa
+    copies lsa c = kept_same heard before lsa (copy_before lsa c)
 
     stays : ListsAreHeld before → ListsAreHeld after
     stays held l q i w = go (held l q i waits)

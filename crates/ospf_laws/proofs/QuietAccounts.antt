@@ -21,13 +21,13 @@ use Rattle.ospf_neighbour.specs.Neighbour.{NeighbourValue}
 use Rattle.ospf_area.specs.Outputs.{OutputsValue, no_outputs}
 use Rattle.ospf_area.specs.State.{AreaValue, LinkValue, neighbour, state_of, state_in, entry_of, copy_in, kept_number, Awaits, WaitsIn}
 use Rattle.ospf_laws.specs.Headers.{IsOf, Lists}
-use Rattle.ospf_laws.specs.Packets.{lsas_in, headers_in}
+use Rattle.ospf_laws.specs.Packets.{Received, lsas_in, headers_in, dd_headers_in, acknowledging_headers_in}
 use Rattle.ospf_area.specs.Places.{map_from}
 use Rattle.ospf_laws.specs.Unchanged.{DoesNothing}
 use Rattle.ospf_laws.specs.Words.{CanName, Holds, HasCopy, Brings, IsSoundState, delayed, delayed_in, list_in}
 use Rattle.ospf_update.specs.Removal.{lowest_number}
 use Rattle.ospf_lsdb.specs.Moments.{among}
-use Rattle.ospf_laws.specs.Accounts.{Accounts, Adjusts, WasHeld, HasLargest, Numbers, Has, Hears, Sends, MayLeave}
+use Rattle.ospf_laws.specs.Accounts.{Accounts, Adjusts, WasHeld, WasKept, HasLargest, Numbers, Has, Hears, IsAcknowledged, Sends, MayLeave}
 use Rattle.ospf_laws.proofs.ListFacts.{Contains-nil}
 use Rattle.ospf_laws.proofs.LsaFacts.{same_contents}
 use Rattle.ospf_laws.proofs.StateFacts.{neighbour-changed, link-changed, neighbour-router, list-changed}
@@ -40,7 +40,7 @@ pub none_ended : (out : OutputsValue) (key : LsaKey) → out.ended ≡ [] → am
 none_ended out key none ends = false≢true (sym (ap (λ keys. among keys key) none) ∙ ends)
 
 -- numbers where nothing is issued
-pub Numbers-none_issued : (heard : Option Meaning) (before : AreaValue) (out : OutputsValue) (after : AreaValue) → out.issued ≡ [] → ((key : LsaKey) → among out.ended key ≡ false → kept_number before key ≤ℤ kept_number after key) → ((key : LsaKey) → among out.ended key ≡ true → kept_number after key ≡ lowest_number) → ((key : LsaKey) → among out.ended key ≡ true → HasLargest heard before out) → Numbers heard before out after
+pub Numbers-none_issued : (heard : Option Received) (before : AreaValue) (out : OutputsValue) (after : AreaValue) → out.issued ≡ [] → ((key : LsaKey) → among out.ended key ≡ false → kept_number before key ≤ℤ kept_number after key) → ((key : LsaKey) → among out.ended key ≡ true → kept_number after key ≡ lowest_number) → ((key : LsaKey) → among out.ended key ≡ true → HasLargest heard before out) → Numbers heard before out after
 Numbers-none_issued heard before out after none kept again ends = record {
   own = λ lsa c. absurd (never lsa c);
   above = λ lsa c. absurd (never lsa c);
@@ -57,18 +57,22 @@ Numbers-none_issued heard before out after none kept again ends = record {
     nothing_within : (j : ℕ) → j < length out.issued → ⊥
     nothing_within j within = let empty : length out.issued ≡ 0 = ap length none in omega arith
 
+-- a copy that is as it was
+pub kept_same : (heard : Option Received) (before : AreaValue) (lsa : List ℕ) → HasCopy before lsa → WasKept heard before lsa
+kept_same heard before lsa c = record { old = lsa; copy = c; same = refl; age = inl refl }
+
 -- what only adjusts accounts for all
-pub Adjusts-accounts : (heard : Option Meaning) (before : AreaValue) (out : OutputsValue) (after : AreaValue) → Adjusts heard before out after → Accounts heard before out after
+pub Adjusts-accounts : (heard : Option Received) (before : AreaValue) (out : OutputsValue) (after : AreaValue) → Adjusts heard before out after → Accounts heard before out after
 Adjusts-accounts heard before out after a = record {
   same_router = a.same_router;
   bears = a.bears;
-  database = λ lsa c. let was = a.copies lsa c in Has.Held was.lsa was.copy was.same;
+  database = λ lsa c. let was = a.copies lsa c in Has.Held was.old was.copy was.same;
   updates = λ p lsa sends c. let was = a.updates p lsa sends c in Has.Held was.lsa was.copy was.same;
   names = a.names;
   named = λ p i sends c. inl (a.named p i sends c);
-  holds = λ i h. let (lsa, copy, is) = h in let was = a.copies lsa copy in inl (was.lsa, was.copy, same_contents was.lsa lsa was.same ∙ is);
+  holds = λ i h. let (lsa, copy, is) = h in let was = a.copies lsa copy in inl (was.old, was.copy, same_contents was.old lsa was.same ∙ is);
   asks = a.asks;
-  leaves = λ l q i c. elim (a.leaves l q i c) [ inl stays ↦ inl stays | inr left ↦ inr (elim left [ inl heard ↦ MayLeave.Acknowledged heard | inr fell ↦ MayLeave.Fell fell ]) ];
+  leaves = λ l q i c. elim (a.leaves l q i c) [ inl stays ↦ inl (record { awaits = stays; kept = λ lsa c is. a.copies lsa c }) | inr left ↦ inr (elim left [ inl heard ↦ MayLeave.Acknowledged heard | inr fell ↦ MayLeave.Fell fell ]) ];
   listed = λ l q i brings holds up. absurd (a.unheld i brings holds);
   numbers = Numbers-none_issued heard before out after a.issues_none (λ key goes_on. subst (λ n. kept_number before key ≤ℤ n) (sym (a.kept key goes_on)) (omega (arith, ints))) a.again a.ends;
 }
@@ -87,9 +91,9 @@ copy_long s lsa c = go (entry_of s (key_of lsa)) c
     go None e = absurd (none-some lsa e)
     go (Some e) is = subst (λ l. 2 ≤ length l) (same_Some (lsa_of e) lsa is) (omega arith)
 
-pub Adjusts-sound : (heard : Option Meaning) (before : AreaValue) (out : OutputsValue) (after : AreaValue) → Adjusts heard before out after → IsSoundState before → IsSoundState after
+pub Adjusts-sound : (heard : Option Received) (before : AreaValue) (out : OutputsValue) (after : AreaValue) → Adjusts heard before out after → IsSoundState before → IsSoundState after
 Adjusts-sound heard before out after a sound = record {
-  lsas = λ lsa c. let was = a.copies lsa c in same_lsa was.lsa lsa was.same (copy_long after lsa c) (sound.lsas was.lsa was.copy);
+  lsas = λ lsa c. let was = a.copies lsa c in same_lsa was.old lsa was.same (copy_long after lsa c) (sound.lsas was.old was.copy);
   numbers = λ lsa c own. by_end lsa c own (cases_Bool (among out.ended (key_of lsa)));
   lists = a.lists sound.lists;
 }
@@ -98,18 +102,18 @@ Adjusts-sound heard before out after a sound = record {
     by_end lsa c own (inl ends) = absurd (none-some lsa (sym (a.gone (key_of lsa) ends) ∙ c))
     by_end lsa c own (inr goes_on) =
         let was = a.copies lsa c in
-        let one : instance_of was.lsa ≡ instance_of lsa = same_contents was.lsa lsa was.same in
-        let own_before : (key_of was.lsa).router ≡ before.router = ap (λ i. i.key.router) one ∙ (own ∙ a.same_router) in
+        let one : instance_of was.old ≡ instance_of lsa = same_contents was.old lsa was.same in
+        let own_before : (key_of was.old).router ≡ before.router = ap (λ i. i.key.router) one ∙ (own ∙ a.same_router) in
         subst (λ n. (instance_of lsa).number ≤ℤ n) (sym (a.kept (key_of lsa) goes_on))
-        (subst (λ i. i.number ≤ℤ kept_number before i.key) one (sound.numbers was.lsa was.copy own_before))
+        (subst (λ i. i.number ≤ℤ kept_number before i.key) one (sound.numbers was.old was.copy own_before))
 
 -- nothing happens
-pub Unchanged-adjusts : (heard : Option Meaning) (before : AreaValue) (out : OutputsValue) (after : AreaValue) → DoesNothing before out after → Adjusts heard before out after
+pub Unchanged-adjusts : (heard : Option Received) (before : AreaValue) (out : OutputsValue) (after : AreaValue) → DoesNothing before out after → Adjusts heard before out after
 Unchanged-adjusts heard before out after u =
     subst (λ after. Adjusts heard before out after) (sym u.state) (subst (λ out. Adjusts heard before out before) (sym u.outputs) (record {
       same_router = refl;
       bears = λ p sends. absurd (nothing p sends);
-      copies = λ lsa c. record { lsa = lsa; copy = c; same = refl };
+      copies = kept_same heard before;
       updates = λ p lsa sends c. absurd (nothing p sends);
       names = λ i n. inl n;
       named = λ p i sends c. absurd (nothing p sends);
@@ -127,12 +131,12 @@ Unchanged-adjusts heard before out after u =
     nothing : (p : Meaning) → Sends no_outputs p → ⊥
     nothing p sends = Contains-nil sends.datagram sends.sent
 
--- what is so with no packet heard is so with any
-pub Adjusts-with_packet : (heard : Option Meaning) (before : AreaValue) (out : OutputsValue) (after : AreaValue) → Adjusts None before out after → Adjusts heard before out after
-Adjusts-with_packet heard before out after a = record {
+-- what is so with no packet heard is so with any, where no copy changes its age
+pub Adjusts-with_packet : (heard : Option Received) (before : AreaValue) (out : OutputsValue) (after : AreaValue) → ((lsa : List ℕ) → HasCopy after lsa → HasCopy before lsa) → Adjusts None before out after → Adjusts heard before out after
+Adjusts-with_packet heard before out after same a = record {
   same_router = a.same_router;
   bears = a.bears;
-  copies = a.copies;
+  copies = λ lsa c. kept_same heard before lsa (same lsa c);
   updates = a.updates;
   names = a.names;
   named = a.named;
@@ -143,8 +147,8 @@ Adjusts-with_packet heard before out after a = record {
   again = a.again;
   gone = a.gone;
   ends = λ key e. let largest = a.ends key e in record { lsa = largest.lsa; has = hear (contents largest.lsa) largest.has; number = largest.number };
-  asks = λ l q i c. elim (a.asks l q i c) [ inl there ↦ inl there | inr e ↦ absurd (deaf q i e) ];
-  leaves = λ l q i c. elim (a.leaves l q i c) [ inl stays ↦ inl stays | inr left ↦ inr (elim left [ inl e ↦ absurd (deaf q i e) | inr fell ↦ inr fell ]) ];
+  asks = λ l q i c. elim (a.asks l q i c) [ inl there ↦ inl there | inr e ↦ absurd (deaf dd_headers_in l q i e) ];
+  leaves = λ l q i c. elim (a.leaves l q i c) [ inl stays ↦ inl stays | inr left ↦ inr (elim left [ inl e ↦ absurd (deaf acknowledging_headers_in l q i e) | inr fell ↦ inr fell ]) ];
 }
   where
     hear : (content : List ℕ) → Has None before out content → Has heard before out content
@@ -152,15 +156,15 @@ Adjusts-with_packet heard before out after a = record {
     hear content (Has.Heard p lsa h c e) = absurd (none-some p h)
     hear content (Has.Issued lsa c e) = Has.Issued lsa c e
 
-    deaf : (q : RouterId) (i : Instance) → Hears None q i → ⊥
-    deaf q i e = none-some e.packet e.is_heard
+    deaf : (headers : Meaning → List LsaHeader) (l : ℕ) (q : RouterId) (i : Instance) → Hears headers None l q i → ⊥
+    deaf headers l q i e = none-some e.received e.is_heard
 
 -- the header is of what the router can name, or takes now
 abbrev pub IsNamed : AreaValue → OutputsValue → LsaHeader → Type 0
 IsNamed s out h = (i : Instance) → IsOf h i → CanName s i ⊎ Brings out i
 
 -- a change of neighbours that only shrinks their lists. The database, the numbers and the Router ID stay
-pub record OnlyShrinks (heard : Option Meaning) (before : AreaValue) (out : OutputsValue) (f : ℕ → LinkValue → LinkValue) (g : ℕ → NeighbourValue → NeighbourValue) (after : AreaValue) : Type 0 where
+pub record OnlyShrinks (heard : Option Received) (before : AreaValue) (out : OutputsValue) (f : ℕ → LinkValue → LinkValue) (g : ℕ → NeighbourValue → NeighbourValue) (after : AreaValue) : Type 0 where
   pub links : after.links ≡ map_from f 0 before.links
   pub same_router : after.router ≡ before.router
   pub database : (key : LsaKey) → entry_of after key ≡ entry_of before key
@@ -173,7 +177,7 @@ pub record OnlyShrinks (heard : Option Meaning) (before : AreaValue) (out : Outp
   pub summary : (l : ℕ) (n : NeighbourValue) (h : LsaHeader) → Contains (g l n).summary h → Contains n.summary h
   pub last_dd : (l : ℕ) (n : NeighbourValue) (h : LsaHeader) → Contains (g l n).last_dd h → Contains n.last_dd h
   pub waiting : (l : ℕ) (link : LinkValue) (h : LsaHeader) → Contains (f l link).delayed h → Contains link.delayed h ⊎ IsNamed before out h
-  pub leaves : (l : ℕ) (n : NeighbourValue) (i : Instance) → Waits n i → Waits (g l n) i ⊎ (Hears heard n.router i ⊎ (is_exchanging (g l n).state ≡ false))
+  pub leaves : (l : ℕ) (n : NeighbourValue) (i : Instance) → Waits n i → Waits (g l n) i ⊎ (IsAcknowledged heard l n.router i ⊎ (is_exchanging (g l n).state ≡ false))
 
 -- the outputs install, issue and end nothing, and their packets have copies, and name what the router can name
 pub record OnlySendsKnown (before : AreaValue) (out : OutputsValue) : Type 0 where
@@ -188,7 +192,7 @@ waits_in : (o : Option NeighbourValue) (i : Instance) → WaitsIn o i → (n : N
 waits_in None i w = absurd w
 waits_in (Some n) i w = (n, refl, w)
 
-module _ (heard : Option Meaning) (before : AreaValue) (out : OutputsValue) (after : AreaValue) (f : ℕ → LinkValue → LinkValue) (g : ℕ → NeighbourValue → NeighbourValue) (shrinks : OnlyShrinks heard before out f g after) (sends : OnlySendsKnown before out) where
+module _ (heard : Option Received) (before : AreaValue) (out : OutputsValue) (after : AreaValue) (f : ℕ → LinkValue → LinkValue) (g : ℕ → NeighbourValue → NeighbourValue) (shrinks : OnlyShrinks heard before out f g after) (sends : OnlySendsKnown before out) where
   shrunk : (l : ℕ) (q : RouterId) → neighbour after l q ≡ option_map (g l) (neighbour before l q)
   shrunk l q = neighbour-changed f g before after shrinks.links shrinks.each shrinks.router l q
 
@@ -225,14 +229,14 @@ module _ (heard : Option Meaning) (before : AreaValue) (out : OutputsValue) (aft
   names_shrunk i (CanName.ToAcknowledge l (h, c, is)) = elim (delayed_shrunk l h c) [ inl there ↦ inl (CanName.ToAcknowledge l (h, there, is)) | inr known ↦ known i is ]
   names_shrunk i (CanName.ToAcknowledgeNow (h, c, is)) = elim (shrinks.direct h c) [ inl there ↦ inl (CanName.ToAcknowledgeNow (h, there, is)) | inr known ↦ known i is ]
 
-  leaves_shrunk : (l : ℕ) (q : RouterId) (i : Instance) → Awaits before l q i → Awaits after l q i ⊎ (Hears heard q i ⊎ (is_exchanging (state_of after l q) ≡ false))
+  leaves_shrunk : (l : ℕ) (q : RouterId) (i : Instance) → Awaits before l q i → Awaits after l q i ⊎ (IsAcknowledged heard l q i ⊎ (is_exchanging (state_of after l q) ≡ false))
   leaves_shrunk l q i c =
       let (n, at, waits) = waits_in (neighbour before l q) i c in
       let now : neighbour after l q ≡ Some (g l n) = shrunk l q ∙ ap (option_map (g l)) at in
       elim (shrinks.leaves l n i waits) [
         | inl stays ↦ inl (subst (λ o. WaitsIn o i) (sym now) stays)
         | inr left ↦ inr (elim left [
-          | inl named ↦ inl (subst (λ q. Hears heard q i) (neighbour-router before l q n at) named)
+          | inl named ↦ inl (subst (λ q. IsAcknowledged heard l q i) (neighbour-router before l q n at) named)
           | inr fell ↦ inr (ap (λ o. is_exchanging (state_in o)) now ∙ fell)
         ])
       ]
@@ -241,7 +245,7 @@ module _ (heard : Option Meaning) (before : AreaValue) (out : OutputsValue) (aft
   Shrinks-adjusts = record {
     same_router = shrinks.same_router;
     bears = sends.bears;
-    copies = λ lsa c. record { lsa = lsa; copy = same_copy lsa c; same = refl };
+    copies = λ lsa c. kept_same heard before lsa (same_copy lsa c);
     updates = sends.updates;
     names = names_shrunk;
     named = sends.named;

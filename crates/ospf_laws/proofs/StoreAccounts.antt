@@ -6,7 +6,7 @@ use Rattle.std.proofs.lemmas.Bool.{false≢true, eqb-true, cond-true}
 use Rattle.ospf_base.specs.Sums.{contents}
 use Rattle.ospf_base.specs.declared.ids.Instance.{Instance}
 use Rattle.ospf_base.specs.declared.ids.LsaKey.{LsaKey}
-use Rattle.ospf_lsa.proofs.Aging.{IsLsa-with_age, header_of-with_age}
+use Rattle.ospf_lsa.proofs.Aging.{IsLsa-with_age}
 use Rattle.ospf_lsa.specs.Header.{header_of}
 use Rattle.ospf_lsa.specs.Lsa.{IsLsa, key_of, instance_of, with_age}
 use Rattle.ospf_lsa.specs.Recency.{recency}
@@ -28,9 +28,9 @@ use Rattle.ospf_area.specs.Places.{map_from}
 use Rattle.ospf_area.specs.State.{AreaValue, LinkValue, entry_of, copy_in, copy_of, kept_number}
 use Rattle.ospf_area.specs.declared.flooding.Origin.{Origin}
 use Rattle.ospf_laws.specs.Headers.{IsOf, Lists}
-use Rattle.ospf_laws.specs.Packets.{lsas_in, headers_in}
+use Rattle.ospf_laws.specs.Packets.{Received, lsas_in, headers_in}
 use Rattle.ospf_laws.specs.Words.{Holds, Brings}
-use Rattle.ospf_laws.specs.Accounts.{Has, Hears, Sends, Numbers}
+use Rattle.ospf_laws.specs.Accounts.{Has, IsAcknowledged, IsStored, Sends, Numbers}
 use Rattle.ospf_laws.proofs.Accountable.{IsAccountable, sent_packet}
 use Rattle.ospf_laws.proofs.FloodingAccounts as flooding
 use Rattle.ospf_laws.proofs.FloodingAccounts.{FloodsTo, IsFlooded, IsAccounted, Replaces}
@@ -74,9 +74,6 @@ stored_contents : (lsa : List ℕ) (tick : ℕ) (b : Bool) → (entry_from lsa t
 unfolding entry_from
 stored_contents lsa tick b = refl
 
-stored_header : (lsa : List ℕ) (tick : ℕ) (b : Bool) → IsLsa lsa → header_of (lsa_of (entry_from lsa tick b)) ≡ header_of lsa
-stored_header lsa tick b is = ap header_of (stored_is lsa tick b) ∙ header_of-with_age (header_of lsa).age lsa (long lsa is) (omega arith)
-
 stored_instance : (lsa : List ℕ) (tick : ℕ) (b : Bool) → instance_at (entry_from lsa tick b) ≡ instance_of lsa
 stored_instance lsa tick b = ap instance_of (stored_is lsa tick b) ∙ same_contents (with_age (header_of lsa).age lsa) lsa refl
 
@@ -99,7 +96,7 @@ Stores-by lsa from before after stores = record {
   same_direct = ap (λ s. s.direct) stores.rest;
 }
 
-module _ (heard : Option Meaning) (lsa : List ℕ) (from : Option Origin) (by_flooding : Bool) (before : AreaValue) (out : OutputsValue) (after : AreaValue) (stores : StoresBy lsa from by_flooding before after) (is_lsa : IsLsa lsa) (newer : (copy : List ℕ) → copy_of before (key_of lsa) ≡ Some copy → recency (header_of lsa) (header_of copy) ≡ Newer) (brings : Brings out (instance_of lsa)) (brings_only : (i : Instance) → Brings out i → i ≡ instance_of lsa) (has : Has heard before out (contents lsa)) (told : (f : Origin) → from ≡ Some f → Hears heard f.router (instance_of lsa)) (sent : out.sent ≡ store_updates lsa from before) (read : AreRead out.sent) (numbers : Numbers heard before out after) (counted : (key_of lsa).router ≡ before.router → (instance_of lsa).number ≤ℤ kept_number after (key_of lsa)) (none_ended : out.ended ≡ []) where
+module _ (heard : Option Received) (lsa : List ℕ) (from : Option Origin) (by_flooding : Bool) (before : AreaValue) (out : OutputsValue) (after : AreaValue) (stores : StoresBy lsa from by_flooding before after) (is_lsa : IsLsa lsa) (newer : (copy : List ℕ) → copy_of before (key_of lsa) ≡ Some copy → recency (header_of lsa) (header_of copy) ≡ Newer) (stored : (copy : List ℕ) → copy_of before (key_of lsa) ≡ Some copy → IsStored heard out copy lsa) (brings : Brings out (instance_of lsa)) (brings_only : (i : Instance) → Brings out i → i ≡ instance_of lsa) (has : Has heard before out (contents lsa)) (told : (f : Origin) → from ≡ Some f → IsAcknowledged heard f.link f.router (instance_of lsa)) (sent : out.sent ≡ store_updates lsa from before) (read : AreRead out.sent) (numbers : Numbers heard before out after) (counted : (key_of lsa).router ≡ before.router → (instance_of lsa).number ≤ℤ kept_number after (key_of lsa)) (none_ended : out.ended ≡ []) where
   key : LsaKey
   key = key_of lsa
 
@@ -140,13 +137,15 @@ module _ (heard : Option Meaning) (lsa : List ℕ) (from : Option Origin) (by_fl
     direct = λ h c. subst (λ hs. Contains hs h) stores.same_direct c;
   }
 
-  from_told : (l : ℕ) (n : NeighbourValue) (o : Option Origin) → from ≡ o → came_from (on_link o l) n ≡ true → Hears heard n.router (instance_of lsa)
+  from_told : (l : ℕ) (n : NeighbourValue) (o : Option Origin) → from ≡ o → came_from (on_link o l) n ≡ true → IsAcknowledged heard l n.router (instance_of lsa)
   from_told l n None is c = absurd (false≢true c)
-  from_told l n (Some f) is c = go (f.link == l) c
+  from_told l n (Some f) is c = go (f.link == l) refl c
     where
-      go : (b : Bool) → came_from (cond b (Some f) None) n ≡ true → Hears heard n.router (instance_of lsa)
-      go false c = absurd (false≢true c)
-      go true c = subst (λ q. Hears heard q (instance_of lsa)) (same_router f.router n.router (eqb-true f.router.0 n.router.0 c)) (told f is)
+      go : (b : Bool) → (f.link == l) ≡ b → came_from (cond b (Some f) None) n ≡ true → IsAcknowledged heard l n.router (instance_of lsa)
+      go false here c = absurd (false≢true c)
+      go true here c =
+          subst (λ k. IsAcknowledged heard k n.router (instance_of lsa)) (eqb-true f.link l here)
+          (subst (λ q. IsAcknowledged heard f.link q (instance_of lsa)) (same_router f.router n.router (eqb-true f.router.0 n.router.0 c)) (told f is))
 
   an_update : (p : Meaning) → Sends out p → IsUpdateOf (own_of before) lsa p
   an_update p s = subst (λ m. IsUpdateOf (own_of before) lsa m) (sent_packet out p read s) (flooding-packets (own_of before) lsa from (released (key_of lsa) before.links) s.datagram (subst (λ ds. Contains ds s.datagram) sent s.sent))
@@ -155,14 +154,14 @@ module _ (heard : Option Meaning) (lsa : List ℕ) (from : Option Origin) (by_fl
   unfolding e came no_acks
   is_accounted = record {
     is_lsa = subst (λ l. IsLsa l) (sym (stored_is lsa before.tick by_flooding)) (IsLsa-with_age (header_of lsa).age lsa is_lsa);
-    replaces = λ copy is. Replaces.ByNewer
-        (subst (λ h. recency h (header_of copy) ≡ Newer) (sym (stored_header lsa before.tick by_flooding is_lsa)) (newer copy (ap (copy_of before) (sym (stored_key lsa before.tick by_flooding)) ∙ is)))
-        (subst (λ i. Brings out i) (sym (stored_instance lsa before.tick by_flooding)) brings);
+    replaces = λ copy is. Replaces.ByNewer lsa (sym (stored_instance lsa before.tick by_flooding))
+        (newer copy (ap (copy_of before) (sym (stored_key lsa before.tick by_flooding)) ∙ is))
+        (stored copy (ap (copy_of before) (sym (stored_key lsa before.tick by_flooding)) ∙ is));
     known = inr (subst (λ i. Brings out i) (sym (stored_instance lsa before.tick by_flooding)) brings);
     holds = inr (subst (λ i. Brings out i) (sym (stored_instance lsa before.tick by_flooding)) brings);
     has = subst (λ c. Has heard before out c) (sym (stored_contents lsa before.tick by_flooding)) has;
     brings_only = λ i b. brings_only i b ∙ sym (stored_instance lsa before.tick by_flooding);
-    told = λ l n c. subst (λ i. Hears heard n.router i) (sym (stored_instance lsa before.tick by_flooding)) (from_told l n from refl c);
+    told = λ l n c. subst (λ i. IsAcknowledged heard l n.router i) (sym (stored_instance lsa before.tick by_flooding)) (from_told l n from refl c);
     acknowledged = λ l h i c. absurd (Contains-nil h c);
     bears = λ p s. ap (λ m. m.router) (an_update p s).packet;
     sends = λ p one s c. sent_one out before lsa p (an_update p s) one c ∙ sym (stored_contents lsa before.tick by_flooding);

@@ -1,5 +1,5 @@
 -- Parts of a step that change one link of the area, or go over all.
-use Rattle.std.specs.Prelude.{◌≡◌, ℕ, true, List, Option, None, Some, Contains, set, slice_get}
+use Rattle.std.specs.Prelude.{◌≡◌, ℕ, true, List, [], Option, None, Some, Contains, set, slice_get}
 use Rattle.ospf_base.specs.Sums.{contents}
 use Rattle.ospf_base.specs.declared.ids.Instance.{Instance}
 use Rattle.ospf_base.specs.declared.ids.RouterId.{RouterId}
@@ -11,7 +11,7 @@ use Rattle.ospf_neighbour.specs.Neighbours.{neighbour_of}
 use Rattle.ospf_area.specs.Outputs.{AreRead, OutputsValue, SentValue, sends}
 use Rattle.ospf_area.specs.State.{AreaValue, LinkValue, state_in}
 use Rattle.ospf_laws.specs.Headers.{Lists}
-use Rattle.ospf_laws.specs.Packets.{lsas_in, headers_in}
+use Rattle.ospf_laws.specs.Packets.{Received, lsas_in, headers_in}
 use Rattle.ospf_laws.specs.Words.{CanName}
 use Rattle.ospf_laws.specs.Accounts.{WasHeld}
 use Rattle.ospf_laws.specs.Neighbours.{Goes, told_by}
@@ -44,14 +44,14 @@ AreKnown s ds = (d : SentValue) → Contains ds d → IsKnownPacket s d.packet
 abbrev pub EntersNot : Option NeighbourValue → Option NeighbourValue → Type 0
 EntersNot o o' = is_exchanging (state_in o') ≡ true → is_exchanging (state_in o) ≡ true
 
--- neighbours of a link go on, come and leave, and no acknowledgement is delayed
-pub record LinkGoes (s : AreaValue) (heard : Option Meaning) (b a : LinkValue) : Type 0 where
-  pub goes : (q : RouterId) → Goes s (told_by heard q) (neighbour_of b.neighbours q) (neighbour_of a.neighbours q)
+-- neighbours of a link go on, come and leave, by what is told of them, and no acknowledgement is delayed
+pub record LinkGoes (s : AreaValue) (told : RouterId → List LsaHeader) (b a : LinkValue) : Type 0 where
+  pub goes : (q : RouterId) → Goes s (told q) (neighbour_of b.neighbours q) (neighbour_of a.neighbours q)
   pub waiting : (h : LsaHeader) → Contains a.delayed h → Contains b.delayed h
 
 -- and none comes into Exchange
 pub record LinkQuiet (s : AreaValue) (b a : LinkValue) : Type 0 where
-  pub link : LinkGoes s None b a
+  pub link : LinkGoes s (λ q. []) b a
   pub enters : (q : RouterId) → EntersNot (neighbour_of b.neighbours q) (neighbour_of a.neighbours q)
 
 -- a link that may not be there has become another
@@ -64,6 +64,10 @@ Each P (Some b) (Some a) = P b a
 -- all links have
 abbrev pub AllEach : (LinkValue → LinkValue → Type 0) → List LinkValue → List LinkValue → Type 0
 AllEach P bs cs = (l : ℕ) → Each P (slice_get bs l) (slice_get cs l)
+
+-- all links go by what is told on them
+abbrev pub AllGo : AreaValue → Option Received → List LinkValue → List LinkValue → Type 0
+AllGo s heard bs cs = (l : ℕ) → Each (LinkGoes s (told_by heard l)) (slice_get bs l) (slice_get cs l)
 
 -- a link of the area
 abbrev pub IsIn : AreaValue → LinkValue → Type 0

@@ -1,5 +1,5 @@
 -- What the parts of a step that touch neighbours alone leave as it was (RFC 2328, sections 9 and 10).
-use Rattle.std.specs.Prelude.{◌≡◌, ◌⊎◌, ◌==◌, ℕ, List, [], false, Option, None, Some, Contains, ⊤, if◌then◌else◌}
+use Rattle.std.specs.Prelude.{◌≡◌, ◌⊎◌, ◌==◌, ◌&&◌, ℕ, List, [], false, Option, None, Some, Contains, ⊤, if◌then◌else◌}
 use Rattle.ospf_base.specs.Sums.{contents}
 use Rattle.ospf_base.specs.declared.ids.Instance.{Instance}
 use Rattle.ospf_base.specs.declared.ids.LsaKey.{LsaKey}
@@ -12,14 +12,14 @@ use Rattle.ospf_neighbour.specs.Neighbour.{NeighbourValue}
 use Rattle.ospf_area.specs.Outputs.{OutputsValue}
 use Rattle.ospf_area.specs.State.{AreaValue, neighbour, entry_of, kept_number}
 use Rattle.ospf_laws.specs.Headers.{IsOf, Lists}
-use Rattle.ospf_laws.specs.Packets.{lsas_in, headers_in, dd_headers_in}
+use Rattle.ospf_laws.specs.Packets.{Received, lsas_in, headers_in, dd_headers_in}
 use Rattle.ospf_laws.specs.Words.{Holds, CanName, delayed}
 use Rattle.ospf_laws.specs.Accounts.{Sends, WasHeld, NoneEntersExchange}
 
--- the headers that the packet heard, a DD packet of q, tells
-abbrev pub told_by : Option Meaning → RouterId → List LsaHeader
-told_by None q = []
-told_by (Some p) q = if p.router.0 == q.0 then dd_headers_in p else []
+-- the headers that the packet heard, a DD packet that came in on link l from q, tells
+abbrev pub told_by : Option Received → ℕ → RouterId → List LsaHeader
+told_by None l q = []
+told_by (Some r) l q = if (r.link == l) && (r.packet.router.0 == q.0) then dd_headers_in r.packet else []
 
 -- a header stands where it stood, or is of a copy of the database
 abbrev pub IsOldOrHeld : AreaValue → List LsaHeader → LsaHeader → Type 0
@@ -50,8 +50,8 @@ Goes s told (Some n) (Some n') = GoesOn s told n n'
 
 -- neighbours go on, come and leave, and nothing else changes. The packets sent have copies of the database, and name
 -- what the router can name
-pub record NeighboursGo (heard : Option Meaning) (before : AreaValue) (out : OutputsValue) (after : AreaValue) : Type 0 where
-  pub goes : (l : ℕ) (q : RouterId) → Goes before (told_by heard q) (neighbour before l q) (neighbour after l q)
+pub record NeighboursGo (heard : Option Received) (before : AreaValue) (out : OutputsValue) (after : AreaValue) : Type 0 where
+  pub goes : (l : ℕ) (q : RouterId) → Goes before (told_by heard l q) (neighbour before l q) (neighbour after l q)
   pub waiting : (l : ℕ) (h : LsaHeader) → Contains (delayed after l) h → Contains (delayed before l) h
   pub same_direct : after.direct ≡ before.direct
   pub same_router : after.router ≡ before.router

@@ -28,6 +28,14 @@ headers_of (acknowledgment headers) = headers
 headers_of (hello fields neighbours) = []
 headers_of (request entries) = []
 
+-- the headers by which it acknowledges: of an Acknowledgment, and of an Update (13.7; 13, step 7a)
+abbrev pub acknowledging_headers_of : BodyMeaning → List LsaHeader
+acknowledging_headers_of (update lsas) = map header_of lsas
+acknowledging_headers_of (acknowledgment headers) = headers
+acknowledging_headers_of (hello fields neighbours) = []
+acknowledging_headers_of (description fields headers) = []
+acknowledging_headers_of (request entries) = []
+
 -- and so of a packet, by its body
 abbrev pub lsas_in : Meaning → List (List ℕ)
 lsas_in p = lsas_of p.body
@@ -37,3 +45,11 @@ dd_headers_in p = dd_headers_of p.body
 
 abbrev pub headers_in : Meaning → List LsaHeader
 headers_in p = headers_of p.body
+
+abbrev pub acknowledging_headers_in : Meaning → List LsaHeader
+acknowledging_headers_in p = acknowledging_headers_of p.body
+
+-- a packet that came in on a link
+pub record Received : Type 0 where
+  pub link : ℕ
+  pub packet : Meaning

@@ -1,5 +1,5 @@
 -- A step of a router: a chain of parts.
-use Rattle.std.specs.Prelude.{◌≡◌, ◌++◌, ℕ, zero, suc, Bool, true, false, List, [], ◌∷◌, Option, None, Some, map}
+use Rattle.std.specs.Prelude.{◌≡◌, ◌++◌, ℕ, zero, suc, Bool, true, false, List, [], ◌∷◌, Option, None, Some, map, option_map}
 use Rattle.ospf_base.specs.declared.ids.Addr.{Addr}
 use Rattle.ospf_base.specs.declared.ids.LsaKey.{LsaKey}
 use Rattle.ospf_lsa.specs.declared.header.LsaHeader.{LsaHeader}
@@ -10,6 +10,7 @@ use Rattle.ospf_area.specs.Outputs.{OutputsValue, then_outputs, AreRead}
 use Rattle.ospf_area.specs.State.{AreaValue}
 use Rattle.ospf_area.specs.declared.flooding.Origin.{Origin}
 use Rattle.ospf_laws.specs.Neighbours.{NeighboursGo, Quiet}
+use Rattle.ospf_laws.specs.Packets.{Received}
 use Rattle.ospf_laws.specs.Parts.{LsaPart, HeaderPart, DirectPart, IssuePart, ExpiryPart, AgesPart, AnswersAll, RemovalPart}
 use Rattle.ospf_laws.specs.Unchanged.{DoesNothing}
 
@@ -20,9 +21,9 @@ pub data Event : Type 0 where
   LinkUp : (link : ℕ) → Event
   LinkDown : (link : ℕ) → Event
 
--- the packet that an event brings
-abbrev pub heard_in : Event → Option Meaning
-heard_in (Datagram link source destination bytes) = packet_of bytes
+-- the packet that an event brings, and its link
+abbrev pub heard_in : Event → Option Received
+heard_in (Datagram link source destination bytes) = option_map (λ p. record { link = link; packet = p }) (packet_of bytes)
 heard_in Tick = None
 heard_in (LinkUp link) = None
 heard_in (LinkDown link) = None
@@ -79,7 +80,7 @@ pub record ExpiryStep (before : AreaValue) (out : OutputsValue) (after : AreaVal
 abbrev pub IsPart : Part → AreaValue → OutputsValue → AreaValue → Type 0
 IsPart (HelloComes f p) before out after = Quiet before out after
 -- here alone a neighbour may come into Exchange, and here alone requests are noted
-IsPart (DdComes f p) before out after = NeighboursGo (Some p) before out after
+IsPart (DdComes f p) before out after = NeighboursGo (Some (record { link = f.link; packet = p })) before out after
 IsPart (RequestComes f p) before out after = Quiet before out after
 IsPart (LsaComes f lsa) before out after = LsaPart f lsa before out after
 IsPart (HeaderComes f h) before out after = HeaderPart f h before out after

@@ -4,6 +4,7 @@ ghost use Rattle.std.specs.Prelude.{◌≡◌, [], Bool, false, Option};
 ghost use Rattle.ospf_packet.specs.Meaning.{Meaning};
 ghost use Rattle.ospf_area.specs.Outputs.{OutputsValue, then_outputs};
 ghost use Rattle.ospf_area.specs.State.{AreaValue};
+ghost use Rattle.ospf_laws.specs.Packets.{Received};
 ghost use Rattle.ospf_laws.specs.Accounts.{Accounts, NoneEntersExchange};
 ghost use Rattle.ospf_laws.specs.Neighbours.{NeighboursGo};
 ghost use Rattle.ospf_laws.specs.Step.{Event, StepLaws, heard_in};
@@ -11,13 +12,13 @@ ghost use Rattle.ospf_laws.specs.Words.{IsSoundState};
 
 /// What one part answers for and then the next, the two answer for together.
 pub fn accounts_add_up()
-    ensures { (heard : Option Meaning) (s t u : AreaValue) (a b : OutputsValue) →
+    ensures { (heard : Option Received) (s t u : AreaValue) (a b : OutputsValue) →
         Accounts heard s a t → Accounts heard t b u → NoneEntersExchange t u → a.ended ≡ [] → Accounts heard s (then_outputs a b) u }
 {}
 
 /// A part that touches neighbours alone answers for all.
 pub fn quiet_parts_account()
-    ensures { (heard : Option Meaning) (before : AreaValue) (out : OutputsValue) (after : AreaValue) →
+    ensures { (heard : Option Received) (before : AreaValue) (out : OutputsValue) (after : AreaValue) →
         NeighboursGo heard before out after → Accounts heard before out after }
 {}
 

@@ -79,7 +79,7 @@ ticks_once event result w w' ts ts' comes log = (event ∷ [], (w', result, come
 
 -- the law of one event
 abbrev pub SoundEach : Type 0
-SoundEach = (event : WorldEvent) (before after : World) → IsReached is_dropped before → Happens is_dropped event before after → IsSound before after
+SoundEach = (event : WorldEvent) (before after : World) → IsReached is_dropped before → Happens is_dropped event before after → IsSound event before after
 
 pub sound_between : SoundEach → (w w' : World) → IsReached is_dropped w → LeadsOn w w' → IsSoundBetween w w'
 sound_between law w w' reached leads = record {

@@ -9,4 +9,4 @@ use Rattle.ospf_router.specs.Steps.{is_dropped}
 pub record IsSoundBetween (before after : World) : Type 0 where
   pub leads : (events : List WorldEvent) × Runs is_dropped events before after
   pub each : (earlier later : List WorldEvent) (event : WorldEvent) (mid next : World) →
-      Runs is_dropped earlier before mid → Happens is_dropped event mid next → Runs is_dropped later next after → IsSound mid next
+      Runs is_dropped earlier before mid → Happens is_dropped event mid next → Runs is_dropped later next after → IsSound event mid next

@@ -71,7 +71,7 @@ impl World {
         ensures same { SameSettings self.old self.new }
         ensures reached { IsReached is_dropped (world_of self.new) }
         ensures headline { Headline (world_of self.old) (world_of self.new) }
-        ensures sound { IsSound (world_of self.old) (world_of self.new) }
+        ensures sound { IsSound event (world_of self.old) (world_of self.new) }
         ensures ticks { self.new.ticks ≡ self.old.ticks ++ ticked_by event result (length self.old.logs.datagrams) }
     {
         headline();
