@@ -262,7 +262,7 @@ fn tells_of_failed_writes(rt: HostRuntime) -> Result<(), Fail> {
     let alloc = rt.alloc();
     for (text, status) in [(GOOD, Status::Done), (BAD, Status::Refused)] {
         let files = [named(alloc, "a.toml", Some(text.as_bytes()))?];
-        for left in 0..3 {
+        for left in 0..2 {
             let mut out = Failing { left };
             let mut err = Failing { left };
             let failed = check_text(alloc, &files, false, &mut out, &mut err);

@@ -5,7 +5,7 @@ use ospf_words::{CheckJob, Job};
 use ospf_words::{job, not_text};
 use ospf_base::Addr;
 use ospf_check::check_text;
-use ospf_files::{Failure, NamedFile, Status};
+use ospf_files::{FailedStreams, Failure, NamedFile, Status};
 use ospf_sim::{Watch, sim_text};
 use ospf_table::table_text;
 use std::alloc::{AllocError, Global};
@@ -604,7 +604,7 @@ fn tells_each_failure(rt: HostRuntime) -> Result<(), Fail> {
         (Failure::Closed, 5, "the published table is closed\n"),
     ] {
         let mut err = Vec::new(rt.alloc());
-        assert_eq!(rt; failure.tell(&mut err).code(), status, "{text}");
+        assert_eq!(rt; failure.tell(&mut err, &mut FailedStreams::none()).code(), status, "{text}");
         assert_eq!(rt; err.as_slice(), text.as_bytes());
     }
     let mut err = Vec::new(rt.alloc());

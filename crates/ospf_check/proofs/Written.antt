@@ -1,11 +1,19 @@
 -- What is told of files, one after the other.
-use Rattle.std.proofs.Common.{◌≡◌, ◌∙◌, ◌&&◌, Bool, true, false, ap, sym, subst, ◌+◌, ◌<◌, ℕ, List, [], ◌∷◌, ◌++◌, length, take, get_or, flat_map, Option, append_assoc, append-nil, refl}
+use Rattle.std.proofs.Common.{◌≡◌, ◌∙◌, ◌&&◌, Bool, true, false, ap, sym, subst, ◌+◌, ◌<◌, ℕ, suc, List, [], ◌∷◌, ◌++◌, length, take, drop, get_or, flat_map, Option, Some, ◌⊎◌, inl, append_assoc, append-nil, refl}
 use Rattle.std.proofs.lemmas.List.{take_more, flat_map_more}
-use Rattle.std.specs.Io.KnownBytes.{Appends}
-use Rattle.ospf_explain.specs.Explained.{explained_text}
 use Rattle.ospf_explain.specs.declared.explained.Explained.{Explained}
+use Rattle.ospf_files.proofs.Listed.{files_split}
 use Rattle.ospf_files.proofs.Written.{both_written, nothing_written}
-use Rattle.ospf_check.specs.Checked.{AreTold, IsTold, IsWritten, IsWrittenOf, no_file, one_file, place_line, said_line}
+use Rattle.ospf_config.specs.declared.fault.ConfigFault.{ConfigFault}
+use Rattle.ospf_files.specs.Files.{IsRefusedFor, bytes_of, refused_line}
+use Rattle.ospf_files.specs.Streams.{IsBegun, with_error, with_output}
+use Rattle.ospf_files.specs.declared.status.Failure.{Failure}
+use Rattle.ospf_files.specs.declared.status.Failure.TheVariants as failure
+use Rattle.std.specs.Io.KnownBytes.{Appends}
+use Rattle.ospf_files.specs.declared.streams.FailedStreams.{FailedStreams}
+use Rattle.ospf_check.specs.declared.check.CheckFault.{CheckFault}
+use Rattle.ospf_check.specs.declared.check.CheckFault.TheVariants as fault
+use Rattle.ospf_check.specs.Checked.{AreTold, EndsIn, IsAccepted, IsCutIn, IsExplanation, IsTold, IsWritten, IsWrittenOf, accepted_line, accepted_told, no_error, no_file, no_output, one_file, place_line, refused_told}
 use Rattle.ospf_files.specs.declared.files.NamedFile.{NamedFile}
 
 and_assoc : (a b c : Bool) → ((a && b) && c) ≡ (a && (b && c))
@@ -41,9 +49,63 @@ file_written explain a b c x y z files i file all accepted within at so_far next
     }
 
 -- the line of one place more
-pub place_written : (a b c : Option (List ℕ)) (places : List Explained) (i : ℕ) (place : Explained) (text : List ℕ) → i < length places → place ≡ get_or places i place
-    → text ≡ explained_text place → Appends a b (flat_map place_line (take i places)) → Appends b c (said_line text) → Appends a c (flat_map place_line (take (i + 1) places))
-place_written a b c places i place text within is shown so_far next =
-    let more = flat_map_more place_line [] (take i places) (get_or places i place) ∙ ap (flat_map place_line) (sym (take_more places i place within)) in
-    let line : Appends b c (place_line place) = subst (λ shown. Appends b c (said_line shown)) shown next in
-    subst (Appends a c) more (both_written a b c _ _ so_far (subst (λ q. Appends b c (place_line q)) is line))
+pub lines_more : (places : List Explained) (i : ℕ) (place : Explained) (line so_far lines : List ℕ) → i < length places → place ≡ get_or places i place → line ≡ place_line place
+    → so_far ≡ flat_map place_line (take i places) → lines ≡ so_far ++ line → lines ≡ flat_map place_line (take (i + 1) places)
+lines_more places i place line so_far lines within is shown front all =
+    all ∙ ap (λ l. so_far ++ l) shown ∙ ap (λ l. l ++ place_line place) front ∙ ap (λ p. flat_map place_line (take i places) ++ place_line p) is
+    ∙ flat_map_more place_line [] (take i places) (get_or places i place) ∙ ap (flat_map place_line) (sym (take_more places i place within))
+
+-- a check that ended in a file, behind files that were told
+pub cut_in : (explain : Bool) (a b c x y z : Option (List ℕ)) (files : List NamedFile) (i : ℕ) (file : NamedFile) (all : Bool) (failed : FailedStreams) (cause : CheckFault) → i < length files
+    → file ≡ get_or files i file → IsWritten explain (take i files) all a b x y → EndsIn explain file failed b c y z cause → IsCutIn explain files failed a c x z cause
+cut_in explain a b c x y z files i file all failed cause within at so_far ends = record {
+  before = take i files;
+  file = file;
+  after = drop (suc i) files;
+  files_are = files_split files i file within at;
+  all = all;
+  out = so_far.out;
+  err = so_far.err;
+  told = so_far.told;
+  out_then = b;
+  err_then = y;
+  out_written = so_far.out_written;
+  err_written = so_far.err_written;
+  ends = ends;
+}
+
+-- an accepted file
+pub accepted_verdict : (explain : Bool) (file : NamedFile) (bytes line : List ℕ) → bytes_of file ≡ Some bytes → IsAccepted bytes → line ≡ accepted_line file
+    → IsTold explain file true line []
+accepted_verdict explain file bytes line held is text = subst (λ t. IsTold explain file true t []) (sym text) (accepted_told bytes held is)
+
+-- a refused file
+pub refused_verdict : (explain : Bool) (file : NamedFile) (bytes : List ℕ) (fault : ConfigFault) (lines more : List ℕ) → bytes_of file ≡ Some bytes → IsRefusedFor bytes fault → IsExplanation explain bytes fault more
+    → lines ≡ refused_line file fault ++ more → IsTold explain file false [] lines
+refused_verdict explain file bytes fault lines more held is because text = subst (λ t. IsTold explain file false [] t) (sym text) (refused_told bytes fault more held is because)
+
+-- standard output failed at the line of an accepted file
+pub output_ends : (explain : Bool) (file : NamedFile) (before failed : FailedStreams) (a b x : Option (List ℕ)) (f : Failure) (line text : List ℕ)
+    → IsTold explain file true line [] → text ≡ line → (f ≡ failure.Memory) ⊎ (f ≡ failure.Output) → failed ≡ with_output before → IsBegun a b text
+    → EndsIn explain file failed a b x x (fault.Failure f)
+output_ends explain file before failed a b x f line text told is why failed_is begun =
+    no_output f line why (ap (λ (s : FailedStreams). s.output) failed_is) told (subst (IsBegun a b) is begun) refl
+
+-- standard error failed at the lines of a refused file
+pub error_ends : (explain : Bool) (file : NamedFile) (before failed : FailedStreams) (a x y : Option (List ℕ)) (f : Failure) (lines text : List ℕ)
+    → IsTold explain file false [] lines → text ≡ lines → (f ≡ failure.Memory) ⊎ (f ≡ failure.Error) → failed ≡ with_error before → IsBegun x y text
+    → EndsIn explain file failed a a x y (fault.Failure f)
+error_ends explain file before failed a x y f lines text told is why failed_is begun =
+    no_error f lines why (ap (λ (s : FailedStreams). s.error) failed_is) (inl told) refl (subst (IsBegun x y) is begun)
+
+-- the line of an accepted file is written
+pub accepted_written : (explain : Bool) (file : NamedFile) (a b x : Option (List ℕ)) (line text : List ℕ) → IsTold explain file true line [] → text ≡ line
+    → Appends a b text → IsWrittenOf explain file true a b x x
+accepted_written explain file a b x line text told is written =
+    record { out = line; err = []; told = told; out_written = subst (Appends a b) is written; err_written = nothing_written x }
+
+-- the lines of a refused file are written
+pub refused_written : (explain : Bool) (file : NamedFile) (a x y : Option (List ℕ)) (lines text : List ℕ) → IsTold explain file false [] lines → text ≡ lines
+    → Appends x y text → IsWrittenOf explain file false a a x y
+refused_written explain file a x y lines text told is written =
+    record { out = []; err = lines; told = told; out_written = nothing_written a; err_written = subst (Appends x y) is written }

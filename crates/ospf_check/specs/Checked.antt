@@ -1,12 +1,23 @@
 -- What the program says of configurations that it checks.
-use Rattle.std.specs.Prelude.{◌≡◌, ◌&&◌, ℕ, Bool, true, false, List, [], ◌∷◌, ◌++◌, flat_map, IsUtf8, Option, Some, codes, string_bytes}
+use Rattle.std.specs.Prelude.{◌≡◌, ◌⊎◌, ◌&&◌, ℕ, Bool, true, false, List, [], ◌∷◌, ◌++◌, flat_map, IsUtf8, Option, None, Some, codes, string_bytes}
 use Rattle.std.specs.Io.KnownBytes.{Appends}
 use Rattle.ospf_explain.specs.Explained.{IsExplained, explained_text}
 use Rattle.ospf_config.specs.declared.config.Config.{Config}
 use Rattle.ospf_explain.specs.declared.explained.Explained.{Explained}
 use Rattle.ospf_config.specs.declared.fault.ConfigFault.{ConfigFault}
-use Rattle.ospf_files.specs.Files.{IsConfigIn, IsRefusedFor, bytes_of, refused_line}
+use Rattle.ospf_files.specs.Files.{IsConfigIn, IsRefusedFor, bytes_of, refused_line, unread_line}
+use Rattle.ospf_files.specs.Status.{failure_line, failure_status}
+use Rattle.ospf_files.specs.Streams.{IsBegun, IsErrorFailed, IsOutputFailed, IsTold as IsFailureTold}
 use Rattle.ospf_files.specs.declared.files.NamedFile.{NamedFile}
+use Rattle.ospf_files.specs.declared.status.Failure.{Failure}
+use Rattle.ospf_files.specs.declared.status.Failure.TheVariants as failure
+use Rattle.ospf_files.specs.declared.status.Status.{Status}
+use Rattle.ospf_files.specs.declared.status.Status.TheVariants as status
+use Rattle.ospf_files.specs.declared.streams.FailedStreams.{FailedStreams}
+use Rattle.ospf_check.specs.declared.check.CheckFault.{CheckFault}
+use Rattle.ospf_check.specs.declared.check.CheckFault.TheVariants as fault
+use Rattle.ospf_check.specs.declared.check.Verdict.{Verdict}
+use Rattle.ospf_check.specs.declared.check.Verdict.TheVariants as verdict
 
 -- the bytes are a configuration
 abbrev pub IsAccepted : List ℕ → Type 0
@@ -61,3 +72,56 @@ pub record IsWritten (explain : Bool) (files : List NamedFile) (all : Bool) (out
   pub told : AreTold explain files all out err
   pub out_written : Appends out_old out_new out
   pub err_written : Appends err_old err_new err
+
+-- the text that a verdict has is what is told of the file
+abbrev pub IsVerdict : Bool → NamedFile → Verdict → Type 0
+IsVerdict explain file (verdict.Accepted text) = IsTold explain file true (string_bytes text) []
+IsVerdict explain file (verdict.Refused text) = IsTold explain file false [] (string_bytes text)
+
+-- what is told on standard error of a file that is not accepted
+abbrev pub IsToldOnError : Bool → NamedFile → List ℕ → Type 0
+IsToldOnError explain file text = IsTold explain file false [] text ⊎ ((bytes_of file ≡ None) × (text ≡ unread_line file))
+
+-- a check ended in a file: what of it was written until then, and which stream failed
+pub data EndsIn (explain : Bool) (file : NamedFile) (failed : FailedStreams) (out_old out_new err_old err_new : Option (List ℕ)) : CheckFault → Type 0 where
+  not_read : bytes_of file ≡ None → out_new ≡ out_old → Appends err_old err_new (unread_line file) → EndsIn explain file failed out_old out_new err_old err_new fault.NotRead
+  no_memory : out_new ≡ out_old → err_new ≡ err_old → EndsIn explain file failed out_old out_new err_old err_new (fault.Failure failure.Memory)
+  no_output : (f : Failure) (text : List ℕ) → (f ≡ failure.Memory) ⊎ (f ≡ failure.Output) → IsOutputFailed failed → IsTold explain file true text [] → IsBegun out_old out_new text → err_new ≡ err_old
+      → EndsIn explain file failed out_old out_new err_old err_new (fault.Failure f)
+  no_error : (f : Failure) (text : List ℕ) → (f ≡ failure.Memory) ⊎ (f ≡ failure.Error) → IsErrorFailed failed → IsToldOnError explain file text → out_new ≡ out_old → IsBegun err_old err_new text
+      → EndsIn explain file failed out_old out_new err_old err_new (fault.Failure f)
+
+-- a check ended in one of the files, for this cause; of those before it all was told
+pub record IsCutIn (explain : Bool) (files : List NamedFile) (failed : FailedStreams) (out_old out_new err_old err_new : Option (List ℕ)) (cause : CheckFault) : Type 0 where
+  pub before : List NamedFile
+  pub file : NamedFile
+  pub after : List NamedFile
+  pub files_are : files ≡ before ++ file ∷ after
+  pub all : Bool
+  pub out : List ℕ
+  pub err : List ℕ
+  pub told : AreTold explain before all out err
+  pub out_then : Option (List ℕ)
+  pub err_then : Option (List ℕ)
+  pub out_written : Appends out_old out_then out
+  pub err_written : Appends err_old err_then err
+  pub ends : EndsIn explain file failed out_then out_new err_then err_new cause
+
+-- the status that a check ends with in a file
+abbrev pub status_of : CheckFault → Status
+status_of fault.NotRead = status.Stream
+status_of (fault.Failure f) = failure_status f
+
+-- what is told last: of a failure its line
+abbrev pub IsLastTold : FailedStreams → FailedStreams → Option (List ℕ) → Option (List ℕ) → CheckFault → Type 0
+IsLastTold before after old new fault.NotRead = (after ≡ before) × (new ≡ old)
+IsLastTold before after old new (fault.Failure f) = IsFailureTold before after old new (failure_line f)
+
+-- a check ended in one of the files: of those before it all was told, of that one a beginning, and then what failed, as far as that could be told
+pub record IsCutShort (explain : Bool) (files : List NamedFile) (failed : FailedStreams) (out_old out_new err_old err_new : Option (List ℕ)) (status : Status) : Type 0 where
+  pub cause : CheckFault
+  pub failed_then : FailedStreams
+  pub err_then : Option (List ℕ)
+  pub cut : IsCutIn explain files failed_then out_old out_new err_old err_then cause
+  pub last : IsLastTold failed_then failed err_then err_new cause
+  pub status_is : status ≡ status_of cause

@@ -1,17 +1,16 @@
 //! Configurations that are checked.
 
-ghost use Rattle.std.specs.Prelude.{◌≡◌, ◌≢◌, ◌⊎◌, ◌++◌, ℕ, List, true, false, codes, flat_map, IfOk, IfErr, OnOk};
-ghost use Rattle.ospf_explain.specs.Explained.{explained_text};
+ghost use Rattle.std.specs.Prelude.{◌≡◌, ◌≢◌, ◌⊎◌, ◌++◌, ℕ, List, Option, Bool, Some, None, true, false, flat_map, IfOk, IfErr, string_bytes};
 ghost use Rattle.ospf_config.specs.declared.fault.ConfigFault.{ConfigFault};
-ghost use Rattle.ospf_files.specs.Files.{IsRefusedFor, refused_line};
-ghost use Rattle.std.specs.Io.KnownBytes.{Appends};
-ghost use Rattle.ospf_check.specs.Checked.{IsExplanation, IsSaid, IsWritten, IsWrittenOf, accepted_line, place_line, said_line};
+ghost use Rattle.ospf_files.specs.Files.{IsRefusedFor, bytes_of, refused_line};
+ghost use Rattle.ospf_files.specs.declared.streams.FailedStreams.{FailedStreams};
+ghost use Rattle.ospf_check.specs.Checked.{EndsIn, IsCutIn, IsCutShort, IsExplanation, IsLastTold, IsSaid, IsVerdict, IsWritten, IsWrittenOf, place_line, status_of};
 
 use ospf_config::ConfigFault;
 use ospf_explain::{Explained, explain};
-use ospf_files::{Failure, NamedFile, Status, config_in, tell_refused, tell_unread};
+use ospf_files::{FailedStreams, Failure, NamedFile, Status, config_in};
 use std::alloc::{AllocError, Global};
-use std::io::{self, Write};
+use std::io::Write;
 
 // Why a check ends early.
 #[derive(Drop)]
@@ -20,91 +19,94 @@ enum CheckFault {
     Failure(Failure),
 }
 
-impl CheckFault {
-    // Why a check ends where standard output could not be written.
-    fn of_writing(error: io::Error) -> CheckFault {
-        CheckFault::Failure(Failure::of(&error, Failure::Output))
-    }
-
-    // Why a check ends where standard error could not be written.
-    fn of_telling(error: io::Error) -> CheckFault {
-        CheckFault::Failure(Failure::of(&error, Failure::Error))
-    }
+// Whether a file is accepted, and the lines that tell so.
+#[derive(Drop)]
+enum Verdict {
+    Accepted(String),
+    Refused(String),
 }
 
-impl From<AllocError> for CheckFault {
-    fn from(_error: AllocError) -> CheckFault {
-        CheckFault::Failure(Failure::Memory)
-    }
-}
-
-// Tells that a file is accepted.
-fn tell_accepted<O: Write>(file: &NamedFile, out: &mut O) -> io::Result<()>
-    ensures { OnOk result (Appends (O.contents out.old) (O.contents out.new) (accepted_line file.now)) }
+// What to do about the places that are wrong, in lines.
+fn lines_of(alloc: Global, places: &[Explained]) -> Result<String, AllocError>
+    ensures { IfOk result (λ lines. string_bytes lines ≡ flat_map place_line places.now) }
 {
-    writeln!(out, "{}: ok", file.name)?;
-    out.flush()?;
-    Ok(())
-}
-
-// Says one thing about a file that is refused.
-fn tell_place<E: Write>(text: &str, err: &mut E) -> io::Result<()>
-    ensures { OnOk result (Appends (E.contents err.old) (E.contents err.new) (said_line text.now)) }
-{
-    writeln!(err, "  {text}")?;
-    err.flush()?;
-    Ok(())
-}
-
-// Says what to do about the places that are wrong.
-fn tell_places<E: Write>(alloc: Global, places: &[Explained], err: &mut E) -> Result<(), CheckFault>
-    ensures { OnOk result (Appends (E.contents err.old) (E.contents err.new) (flat_map place_line places.now)) }
-{
+    let mut lines = String::new(alloc);
     for place in places {
-        let text = format!(in alloc; "{place}")?;
-        match tell_place(&text, err) {
-            Ok(()) => {}
-            Err(error) => return Err(CheckFault::of_telling(error)),
-        }
+        lines.push_str(&format!(in alloc; "  {place}\n")?)?;
     }
-    Ok(())
+    Ok(lines)
 }
 
-// Says what to do about a file that is refused.
-fn explain_file<E: Write>(alloc: Global, bytes: &[u8], err: &mut E) -> Result<(), CheckFault>
-    ensures { (fault : ConfigFault) → IsRefusedFor bytes.now fault → OnOk result ((more : List ℕ) × IsSaid bytes.now fault more × Appends (E.contents err.old) (E.contents err.new) more) }
+// What to do about bytes that are refused, in lines.
+fn explanation(alloc: Global, bytes: &[u8]) -> Result<String, AllocError>
+    ensures { (fault : ConfigFault) → IsRefusedFor bytes.now fault → IfOk result (λ lines. IsSaid bytes.now fault (string_bytes lines)) }
 {
     match str::from_utf8(bytes) {
         Ok(text) => {
             let places = explain(alloc, text)?;
-            tell_places(alloc, &places, err)
+            lines_of(alloc, &places)
         }
-        Err(_) => match tell_place("the file is not UTF-8", err) {
-            Ok(()) => Ok(()),
-            Err(error) => Err(CheckFault::of_telling(error)),
-        },
+        Err(_) => String::from_str(alloc, "  the file is not UTF-8\n"),
     }
 }
 
-// Tells the fault of a file, and what to do about it where that is wanted.
-fn refuse_file<E: Write>(
+// The lines of a file that is refused: the fault, and what to do about it where that is wanted.
+fn refusal(
     alloc: Global,
     file: &NamedFile,
     bytes: &[u8],
     fault: ConfigFault,
     explain: bool,
-    err: &mut E,
-) -> Result<(), CheckFault>
-    ensures { IsRefusedFor bytes.now fault → OnOk result ((more : List ℕ) × IsExplanation explain bytes.now fault more × Appends (E.contents err.old) (E.contents err.new) (refused_line file.now fault ++ more)) }
+) -> Result<String, AllocError>
+    ensures { IsRefusedFor bytes.now fault → IfOk result (λ lines. (more : List ℕ) × IsExplanation explain bytes.now fault more × (string_bytes lines ≡ refused_line file.now fault ++ more)) }
 {
-    match tell_refused(file, fault, err) {
-        Ok(()) => {}
-        Err(error) => return Err(CheckFault::of_telling(error)),
+    let mut lines = format!(in alloc; "{}: {}\n", file.name, fault.text())?;
+    if !explain {
+        return Ok(lines);
     }
-    if explain {
-        explain_file(alloc, bytes, err)?;
+    let more = explanation(alloc, bytes)?;
+    lines.push_str(&more)?;
+    Ok(lines)
+}
+
+// The verdict on a file that holds these bytes.
+fn judge(
+    alloc: Global,
+    file: &NamedFile,
+    bytes: &[u8],
+    explain: bool,
+) -> Result<Verdict, AllocError>
+    ensures { bytes_of file.now ≡ Some bytes.now → IfOk result (IsVerdict explain file.now) }
+{
+    match config_in(alloc, bytes) {
+        Ok(_) => {
+            let line = format!(in alloc; "{}: ok\n", file.name)?;
+            Ok(Verdict::Accepted(line))
+        }
+        Err(ConfigFault::Memory) => Err(AllocError),
+        Err(fault) => {
+            let lines = refusal(alloc, file, bytes, fault, explain)?;
+            Ok(Verdict::Refused(lines))
+        }
     }
-    Ok(())
+}
+
+// Tells of a file that was not read. The answer is why the check ends.
+fn tell_unread<E: Write>(
+    alloc: Global,
+    file: &NamedFile,
+    err: &mut E,
+    streams: &mut FailedStreams,
+) -> CheckFault
+    ensures { (explain : Bool) (out : Option (List ℕ)) → bytes_of file.now ≡ None → EndsIn explain file.now streams.new out out (E.contents err.old) (E.contents err.new) result }
+{
+    let Ok(line) = format!(in alloc; "{}: not read\n", file.name) else {
+        return CheckFault::Failure(Failure::Memory);
+    };
+    match streams.tell(err, &line) {
+        Ok(()) => CheckFault::NotRead,
+        Err(failure) => CheckFault::Failure(failure),
+    }
 }
 
 // Tells of one file. The answer is whether it is accepted.
@@ -114,25 +116,24 @@ fn check_file<O: Write, E: Write>(
     explain: bool,
     out: &mut O,
     err: &mut E,
+    streams: &mut FailedStreams,
 ) -> Result<bool, CheckFault>
-    ensures { IfOk result (λ accepted. IsWrittenOf explain file.now accepted (O.contents out.old) (O.contents out.new) (E.contents err.old) (E.contents err.new)) }
+    ensures told { IfOk result (λ accepted. (streams.new ≡ streams.old) × IsWrittenOf explain file.now accepted (O.contents out.old) (O.contents out.new) (E.contents err.old) (E.contents err.new)) }
+    ensures ended { IfErr result (EndsIn explain file.now streams.new (O.contents out.old) (O.contents out.new) (E.contents err.old) (E.contents err.new)) }
 {
     let Some(bytes) = &file.bytes else {
-        return match tell_unread(file, err) {
-            Ok(()) => Err(CheckFault::NotRead),
-            Err(error) => Err(CheckFault::of_telling(error)),
-        };
+        return Err(tell_unread(alloc, file, err, streams));
     };
-    match config_in(alloc, bytes) {
-        Ok(_) => match tell_accepted(file, out) {
+    match judge(alloc, file, bytes, explain) {
+        Ok(Verdict::Accepted(line)) => match streams.print(out, &line) {
             Ok(()) => Ok(true),
-            Err(error) => Err(CheckFault::of_writing(error)),
+            Err(failure) => Err(CheckFault::Failure(failure)),
         },
-        Err(ConfigFault::Memory) => Err(CheckFault::Failure(Failure::Memory)),
-        Err(fault) => {
-            refuse_file(alloc, file, bytes, fault, explain, err)?;
-            Ok(false)
-        }
+        Ok(Verdict::Refused(lines)) => match streams.tell(err, &lines) {
+            Ok(()) => Ok(false),
+            Err(failure) => Err(CheckFault::Failure(failure)),
+        },
+        Err(AllocError) => Err(CheckFault::Failure(Failure::Memory)),
     }
 }
 
@@ -143,14 +144,51 @@ fn check_files<O: Write, E: Write>(
     explain: bool,
     out: &mut O,
     err: &mut E,
+    streams: &mut FailedStreams,
 ) -> Result<bool, CheckFault>
-    ensures { IfOk result (λ all. IsWritten explain files.now all (O.contents out.old) (O.contents out.new) (E.contents err.old) (E.contents err.new)) }
+    ensures told { IfOk result (λ all. IsWritten explain files.now all (O.contents out.old) (O.contents out.new) (E.contents err.old) (E.contents err.new)) }
+    ensures cut { IfErr result (IsCutIn explain files.now streams.new (O.contents out.old) (O.contents out.new) (E.contents err.old) (E.contents err.new)) }
 {
     let mut all = true;
     for file in files {
-        all &= check_file(alloc, file, explain, out, err)?;
+        match check_file(alloc, file, explain, out, err, streams) {
+            Ok(accepted) => all &= accepted,
+            Err(cause) => return Err(cause),
+        }
     }
     Ok(all)
+}
+
+// Tells why a check ended early, where that is not told yet. The answer is the status to end with.
+fn tell_last<E: Write>(cause: CheckFault, err: &mut E, streams: &mut FailedStreams) -> Status
+    ensures status { result ≡ status_of cause }
+    ensures last { IsLastTold streams.old streams.new (E.contents err.old) (E.contents err.new) cause }
+{
+    match cause {
+        CheckFault::NotRead => Status::Stream,
+        CheckFault::Failure(failure) => failure.tell(err, streams),
+    }
+}
+
+// Checks configurations, as `check_text`, and notes which streams fail.
+fn check_noted<O: Write, E: Write>(
+    alloc: Global,
+    files: &[NamedFile],
+    explain: bool,
+    out: &mut O,
+    err: &mut E,
+    streams: &mut FailedStreams,
+) -> Status
+    ensures done { result ≡ Status.Done → IsWritten explain files.now true (O.contents out.old) (O.contents out.new) (E.contents err.old) (E.contents err.new) }
+    ensures refused { result ≡ Status.Refused → IsWritten explain files.now false (O.contents out.old) (O.contents out.new) (E.contents err.old) (E.contents err.new) }
+    ensures cut { (result ≡ Status.Memory) ⊎ (result ≡ Status.Stream) → IsCutShort explain files.now streams.new (O.contents out.old) (O.contents out.new) (E.contents err.old) (E.contents err.new) result }
+    ensures not_words { result ≢ Status.Words }
+{
+    match check_files(alloc, files, explain, out, err, streams) {
+        Ok(true) => Status::Done,
+        Ok(false) => Status::Refused,
+        Err(cause) => tell_last(cause, err, streams),
+    }
 }
 
 /// Checks configurations, and tells of each file in order: on `out` that it is accepted, or on `err`
@@ -159,7 +197,7 @@ fn check_files<O: Write, E: Write>(
 /// A file that is not UTF-8 is no TOML. The status is `Refused` where a file was refused. The check ends
 /// at a file that could not be read, which is told on `err`, and where a write fails, with status
 /// `Stream`; and with status `Memory` where memory ran out. What failed is told on `err`, as far as that can
-/// be written.
+/// be written: then of the files before all is written, and of that one no more than a beginning.
 pub fn check_text<O: Write, E: Write>(
     alloc: Global,
     files: &[NamedFile],
@@ -169,12 +207,8 @@ pub fn check_text<O: Write, E: Write>(
 ) -> Status
     ensures done { result ≡ Status.Done → IsWritten explain files.now true (O.contents out.old) (O.contents out.new) (E.contents err.old) (E.contents err.new) }
     ensures refused { result ≡ Status.Refused → IsWritten explain files.now false (O.contents out.old) (O.contents out.new) (E.contents err.old) (E.contents err.new) }
+    ensures cut { (result ≡ Status.Memory) ⊎ (result ≡ Status.Stream) → (failed : FailedStreams) × IsCutShort explain files.now failed (O.contents out.old) (O.contents out.new) (E.contents err.old) (E.contents err.new) result }
     ensures not_words { result ≢ Status.Words }
 {
-    match check_files(alloc, files, explain, out, err) {
-        Ok(true) => Status::Done,
-        Ok(false) => Status::Refused,
-        Err(CheckFault::NotRead) => Status::Stream,
-        Err(CheckFault::Failure(failure)) => failure.tell(err),
-    }
+    check_noted(alloc, files, explain, out, err, &mut FailedStreams::none())
 }

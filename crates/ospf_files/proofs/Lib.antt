@@ -1,2 +1,2 @@
 pub mod Written
-mod Listed
+pub mod Listed

@@ -1,6 +1,5 @@
 -- Files that were named, the configurations in them, and what is told of one that is not taken.
 use Rattle.std.specs.Prelude.{◌≡◌, ◌⊎◌, ℕ, List, [], ◌++◌, Option, IsSome, IsUtf8, codes, option_map, string_bytes, unwrap_or}
-use Rattle.std.specs.List.{All}
 use Rattle.ospf_config.specs.Configs.{IsReading, TextHasFault}
 use Rattle.ospf_config.specs.Fault.{IsLeast, fault_text}
 use Rattle.ospf_config.specs.declared.config.Config.{Config}

@@ -1,5 +1,5 @@
 -- Exit statuses, and why the program ends early.
-use Rattle.std.specs.Prelude.{ℕ, List, codes}
+use Rattle.std.specs.Prelude.{ℕ, List, ◌++◌, codes}
 use Rattle.ospf_files.specs.declared.status.Failure.{Failure}
 use Rattle.ospf_files.specs.declared.status.Failure.TheVariants as failure
 use Rattle.ospf_files.specs.declared.status.Status.{Status}
@@ -24,3 +24,7 @@ failure_text failure.Input = codes "standard input: not read"
 failure_text failure.Output = codes "standard output: not written"
 failure_text failure.Error = codes "standard error: not written"
 failure_text failure.Closed = codes "the published table is closed"
+
+-- the line of a failure
+abbrev pub failure_line : Failure → List ℕ
+failure_line failure = failure_text failure ++ codes "\n"

@@ -1,8 +1,6 @@
 //! How a program ends.
 
-ghost use Rattle.std.specs.Prelude.{◌++◌, OnOk, codes};
-ghost use Rattle.std.specs.Io.KnownBytes.{Appends};
-
+use crate::streams::{FailedStreams, write_line};
 use std::alloc::AllocError;
 use std::io::{self, ErrorKind, Write};
 use std::process::ExitCode;
@@ -68,10 +66,11 @@ pub enum Failure {
 }
 
 impl Failure {
-    ghost use Rattle.std.specs.Prelude.{◌≡◌, ◌≢◌};
+    ghost use Rattle.std.specs.Prelude.{◌≡◌, ◌≢◌, ◌++◌, codes};
     ghost use Rattle.std.specs.IoError.{error_kind};
     ghost use Rattle.std.specs.declared.io.ErrorKind.TheVariants as kind;
-    ghost use Rattle.ospf_files.specs.Status.{failure_status, failure_text};
+    ghost use Rattle.ospf_files.specs.Status.{failure_line, failure_status, failure_text};
+    ghost use Rattle.ospf_files.specs.Streams.{IsTold};
 
     /// What an error of a stream is: want of memory, or else this failure of the stream.
     pub fn of(error: &io::Error, stream: Failure) -> Failure
@@ -108,11 +107,15 @@ impl Failure {
         }
     }
 
-    /// Tells the failure on `err`, as far as that can be written. The answer is the status to end with.
-    pub fn tell<E: Write>(self, err: &mut E) -> Status
-        ensures { result ≡ failure_status self }
+    /// Tells the failure on `err`, as far as that can be written, and notes in `streams` where it cannot. The answer is
+    /// the status to end with.
+    pub fn tell<E: Write>(self, err: &mut E, streams: &mut FailedStreams) -> Status
+        ensures status { result ≡ failure_status self }
+        ensures told { IsTold streams.old streams.new (E.contents err.old) (E.contents err.new) (failure_line self) }
     {
-        let _ = write_line(err, self.text());
+        if write_line(err, self.text()).is_err() {
+            streams.error = true;
+        }
         self.status()
     }
 }
@@ -126,13 +129,4 @@ impl From<AllocError> for Failure {
     fn from(_error: AllocError) -> Failure {
         Failure::Memory
     }
-}
-
-/// Writes a text as a line, and flushes.
-pub fn write_line<W: Write>(writer: &mut W, text: &str) -> io::Result<()>
-    ensures { OnOk result (Appends (W.contents writer.old) (W.contents writer.new) (text.now ++ codes "\n")) }
-{
-    writeln!(writer, "{text}")?;
-    writer.flush()?;
-    Ok(())
 }

@@ -9,7 +9,7 @@ use crate::plan::{Plan, Prepared, prepare};
 use crate::settings::Settings;
 use crate::tap::Tap;
 use crate::wires::open_wires;
-use ospf_files::{Failure, NamedFile, Status};
+use ospf_files::{FailedStreams, Failure, NamedFile, Status};
 use std::alloc::Global;
 use std::io::Write;
 use std::net::Net;
@@ -101,6 +101,6 @@ pub fn run_text<
 {
     match run(rt, alloc, settings, files, tap, out, err) {
         Ok(status) => status,
-        Err(failure) => failure.tell(err),
+        Err(failure) => failure.tell(err, &mut FailedStreams::none()),
     }
 }

@@ -13,7 +13,7 @@ use crate::line::{LineFault, is_blank, lsa_of_line, without_end};
 use crate::lookup::{publish_once, write_lookups};
 use ospf_base::{Addr, Kind, LsaKey, MAX_AGE, RouterId};
 use ospf_fib::{Closed, OpenRefused};
-use ospf_files::{Failure, Status};
+use ospf_files::{FailedStreams, Failure, Status};
 use ospf_lsa::{Listing, ListingFault, LsaFault};
 use ospf_shown::write_routes;
 use ospf_spf::RouteTable;
@@ -309,6 +309,6 @@ fn tell<E: Write>(fault: &TableFault, err: &mut E) -> Status
             Ok(()) => Status::Refused,
             Err(error) => Failure::of(&error, Failure::Error).status(),
         },
-        TableFault::Failure(failure) => failure.tell(err),
+        TableFault::Failure(failure) => failure.tell(err, &mut FailedStreams::none()),
     }
 }

@@ -6,7 +6,7 @@ ghost use Rattle.ospf_words.specs.Job.{address_line};
 
 use clap::error::ErrorKind;
 use ospf_base::Addr;
-use ospf_files::{Failure, Status};
+use ospf_files::{FailedStreams, Failure, Status};
 use ospf_table::TableJob;
 use std::alloc::AllocError;
 use std::io::{self, Write};
@@ -133,13 +133,13 @@ impl JobFault {
             },
             JobFault::Words(error) => match write_text(out, error) {
                 Ok(()) => Status::Done,
-                Err(error) => Failure::of(&error, Failure::Output).tell(err),
+                Err(error) => Failure::of(&error, Failure::Output).tell(err, &mut FailedStreams::none()),
             },
             JobFault::Address(word) => match write_no_address(err, word) {
                 Ok(()) => Status::Words,
                 Err(error) => Failure::of(&error, Failure::Error).status(),
             },
-            JobFault::Memory => Failure::Memory.tell(err),
+            JobFault::Memory => Failure::Memory.tell(err, &mut FailedStreams::none()),
         }
     }
 }

@@ -5,7 +5,9 @@ mod screen;
 
 use crate::screen::Screen;
 use ospf_check::check_text;
-use ospf_files::{Failure, NamedFile, Status, read_file, read_files, tell_unwritten};
+use ospf_files::{
+    FailedStreams, Failure, NamedFile, Status, read_file, read_files, tell_unwritten,
+};
 use ospf_notes::Notes;
 use ospf_records::write_records;
 use ospf_run::{Settings, run_text};
@@ -187,6 +189,6 @@ fn main(rt: HostRuntime) -> ExitCode {
     let terminal = if err.is_terminal() { Some(err) } else { None };
     match run(&rt, &mut rt.stderr(), terminal) {
         Ok(status) => ExitCode::from(status),
-        Err(_) => ExitCode::from(Failure::Memory.tell(&mut rt.stderr())),
+        Err(_) => ExitCode::from(Failure::Memory.tell(&mut rt.stderr(), &mut FailedStreams::none())),
     }
 }

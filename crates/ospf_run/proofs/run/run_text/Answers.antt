@@ -9,4 +9,4 @@ pub returns-in-Ok-clause-ended : goal.returns-in-Ok-clause-ended
 returns-in-Ok-clause-ended g c = Ends.comes c.in-Ok.ensures
 
 pub returns-in-Err-clause-ended : goal.returns-in-Err-clause-ended
-returns-in-Err-clause-ended g c = Ends.fails c.in-Err.failure c.tell.ensures
+returns-in-Err-clause-ended g c = Ends.fails c.in-Err.failure c.tell.ensures.status

@@ -1,0 +1,99 @@
+//! The streams that a program writes to, and which of them have failed.
+
+ghost use Rattle.std.specs.Prelude.{◌≡◌, ◌⊎◌, ◌++◌, Bool, true, false, OnErr, OnOk, IfErr, codes};
+ghost use Rattle.std.specs.Io.KnownBytes.{Appends};
+ghost use Rattle.ospf_files.specs.Streams.{IsBegun, IsErrorFailed, IsOutputFailed, with_error, with_output};
+
+use crate::status::Failure;
+use std::io::{self, ErrorKind, Write};
+
+/// Which of a program's two streams a write or a flush has failed at.
+#[derive(Clone, Copy, Debug, PartialEq, Eq)]
+pub struct FailedStreams {
+    pub(crate) output: bool,
+    pub(crate) error: bool,
+}
+
+impl FailedStreams {
+    /// Neither.
+    pub fn none() -> FailedStreams
+        ensures output { IsOutputFailed result → ⊥ }
+        ensures error { IsErrorFailed result → ⊥ }
+    {
+        FailedStreams {
+            output: false,
+            error: false,
+        }
+    }
+
+    /// Writes a text to standard output, and flushes.
+    pub fn print<O: Write>(&mut self, out: &mut O, text: &str) -> Result<(), Failure>
+        ensures printed { OnOk result ((self.new ≡ self.old) × Appends (O.contents out.old) (O.contents out.new) text.now) }
+        ensures begun { OnErr result (IsBegun (O.contents out.old) (O.contents out.new) text.now) }
+        ensures failed { OnErr result (self.new ≡ with_output self.old) }
+        ensures failure { IfErr result (λ failure. (failure ≡ Failure.Memory) ⊎ (failure ≡ Failure.Output)) }
+    {
+        match write_text(out, text) {
+            Ok(()) => Ok(()),
+            Err(error) => {
+                self.output = true;
+                Err(Failure::of(&error, Failure::Output))
+            }
+        }
+    }
+
+    /// Writes a text to standard error, and flushes.
+    pub fn tell<E: Write>(&mut self, err: &mut E, text: &str) -> Result<(), Failure>
+        ensures told { OnOk result ((self.new ≡ self.old) × Appends (E.contents err.old) (E.contents err.new) text.now) }
+        ensures begun { OnErr result (IsBegun (E.contents err.old) (E.contents err.new) text.now) }
+        ensures failed { OnErr result (self.new ≡ with_error self.old) }
+        ensures failure { IfErr result (λ failure. (failure ≡ Failure.Memory) ⊎ (failure ≡ Failure.Error)) }
+    {
+        match write_text(err, text) {
+            Ok(()) => Ok(()),
+            Err(error) => {
+                self.error = true;
+                Err(Failure::of(&error, Failure::Error))
+            }
+        }
+    }
+}
+
+// Writes all bytes.
+fn put<W: Write>(writer: &mut W, bytes: &[u8]) -> io::Result<()>
+    ensures ok { OnOk result (Appends (W.contents writer.old) (W.contents writer.new) bytes.now) }
+    ensures err { OnErr result (IsBegun (W.contents writer.old) (W.contents writer.new) bytes.now) }
+{
+    let mut written = 0;
+    for _ in 0..u64::MAX {
+        if written == bytes.len() {
+            return Ok(());
+        }
+        match writer.write(&bytes[written..]) {
+            Ok(0) => return Err(io::Error::from(ErrorKind::WriteZero)),
+            Ok(count) => written += count,
+            Err(error) if error.kind() == ErrorKind::Interrupted => {}
+            Err(error) => return Err(error),
+        }
+    }
+    Err(io::Error::from(ErrorKind::Interrupted))
+}
+
+/// Writes a text, and flushes. Where that fails, a beginning of it was written.
+pub fn write_text<W: Write>(writer: &mut W, text: &str) -> io::Result<()>
+    ensures ok { OnOk result (Appends (W.contents writer.old) (W.contents writer.new) text.now) }
+    ensures err { OnErr result (IsBegun (W.contents writer.old) (W.contents writer.new) text.now) }
+{
+    put(writer, text.as_bytes())?;
+    writer.flush()
+}
+
+/// Writes a text as a line, and flushes. Where that fails, a beginning of the line was written.
+pub fn write_line<W: Write>(writer: &mut W, text: &str) -> io::Result<()>
+    ensures ok { OnOk result (Appends (W.contents writer.old) (W.contents writer.new) (text.now ++ codes "\n")) }
+    ensures err { OnErr result (IsBegun (W.contents writer.old) (W.contents writer.new) (text.now ++ codes "\n")) }
+{
+    put(writer, text.as_bytes())?;
+    put(writer, b"\n")?;
+    writer.flush()
+}
