@@ -51,6 +51,23 @@ fn interfaces(alloc: Global, count: u8) -> Result<String, ConfigFault> {
     Ok(text)
 }
 
+// A text at the top says what is the default.
+#[test]
+fn no_stub_router_is_the_default(rt: HostRuntime) -> Result<(), Fail> {
+    let alloc = rt.alloc();
+    let without = joined(alloc, TOP, INTERFACE, "")?;
+    let with = joined(alloc, "stub_router = false\n", TOP, INTERFACE)?;
+    let other = joined(alloc, "stub_router = true\n", TOP, INTERFACE)?;
+    let mut shown = Vec::new(alloc);
+    for text in [&without, &with, &other] {
+        let config = Config::from_text(alloc, text.as_str())?;
+        shown.push(format!(in alloc; "{config:?}")?)?;
+    }
+    assert_eq!(rt; shown[0].as_str(), shown[1].as_str());
+    assert!(rt; shown[0].as_str() != shown[2].as_str());
+    Ok(())
+}
+
 #[test]
 fn accepted(rt: HostRuntime) -> Result<(), Fail> {
     let text = joined(rt.alloc(), TOP, INTERFACE, "")?;

@@ -3,14 +3,17 @@
 use super::given::{CONFIG, HELLO, NO_FLOOR};
 use ospf_base::Addr;
 use ospf_config::Config;
-use ospf_drive::{DriveFault, MemoryWire, Scripted, Wire, drive};
+use ospf_drive::{DriveFault, MemoryWire, Scripted, Wire, WireFault, drive};
 use ospf_fib::Fib;
 use ospf_router::Router;
 use std::alloc::{AllocError, Global};
 use std::sync::Wait;
 use std::test::Fail;
 
+mod all;
+mod arrivals;
 mod beside;
+mod fails;
 
 // The link goes up, a second passes, and the Hello comes; with an end or without.
 fn script(alloc: Global, ends: bool) -> Result<Vec<Scripted>, AllocError> {
@@ -68,5 +71,23 @@ fn each_receive_fails_once(rt: HostRuntime) -> Result<(), Fail> {
         let wire = MemoryWire::new(alloc, script(alloc, ends)?, good, None);
         assert!(rt; play(&rt, alloc, wire)? == (Err(DriveFault::Recv), sent, 1));
     }
+    Ok(())
+}
+
+#[test]
+fn faults_are_printed(rt: HostRuntime) -> Result<(), Fail> {
+    let alloc = rt.alloc();
+    for (fault, text) in [
+        (DriveFault::Recv, "U1 Recv"),
+        (DriveFault::Send, "U2 Send"),
+        (DriveFault::Stopped, "U3 Stopped"),
+        (DriveFault::Publish, "U4 Publish"),
+        (DriveFault::Thread, "U5 Thread"),
+    ] {
+        let printed = format!(in alloc; "{fault}")?;
+        assert_eq!(rt; printed.as_str(), text);
+    }
+    let printed = format!(in alloc; "{WireFault}")?;
+    assert_eq!(rt; printed.as_str(), "the wire failed");
     Ok(())
 }

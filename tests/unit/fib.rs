@@ -41,11 +41,10 @@ fn closed_by_the_writers_end(rt: HostRuntime) -> Result<(), Fail> {
 }
 
 #[test]
-fn refusals_as_text(rt: HostRuntime) -> Result<(), Fail> {
+fn refusals_are_printed(rt: HostRuntime) -> Result<(), Fail> {
     let mut text = String::new(rt.alloc());
     write!(text, "{OpenRefused}; {Closed}")?;
-    let expected = "no memory or no place for a forwarding table; the forwarding table is closed";
-    assert!(rt; text.as_str() == expected);
+    assert_eq!(rt; text.as_str(), "OpenRefused; Closed");
     Ok(())
 }
 

@@ -263,6 +263,14 @@ fn at_most_255_neighbours_in_order(rt: HostRuntime) -> Result<(), Fail> {
     Ok(())
 }
 
+#[test]
+fn refusals_are_printed(rt: HostRuntime) -> Result<(), Fail> {
+    let mut text = String::new(rt.alloc());
+    write!(text, "{}; {}", NeighbourFault::Full, NeighbourFault::Memory)?;
+    assert_eq!(rt; text.as_str(), "N1 Full; N2 Memory");
+    Ok(())
+}
+
 // A neighbour in Exchange.
 fn in_exchange(alloc: Global, id: u32) -> Neighbour {
     let mut neighbour = neighbour(alloc, id);

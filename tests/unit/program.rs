@@ -1,13 +1,12 @@
 //! Whole answers to words and input.
 
 use super::failing::Failing;
-use ospf_words::{CheckJob, Job};
-use ospf_words::{job, not_text};
 use ospf_base::Addr;
 use ospf_check::check_text;
 use ospf_files::{FailedStreams, Failure, NamedFile, Status};
 use ospf_sim::{Watch, sim_text};
 use ospf_table::table_text;
+use ospf_words::{CheckJob, Job, JobFault, job, not_text};
 use std::alloc::{AllocError, Global};
 use std::io::{self, BufReader, BufWriter, ErrorKind, Read, Write};
 use std::sync::Wait;
@@ -319,7 +318,7 @@ fn unread(alloc: Global, names: Vec<String>) -> Result<Vec<NamedFile>, AllocErro
 
 // Nobody is told how far a simulation has come.
 #[derive(Drop)]
-struct Nobody;
+pub(crate) struct Nobody;
 
 impl Watch for Nobody {
     fn begins_round(&mut self, _done: u64, _count: u64) {}
@@ -590,6 +589,19 @@ fn flushes_what_it_writes(rt: HostRuntime) -> Result<(), Fail> {
             0,
             "{words}"
         );
+    }
+    Ok(())
+}
+
+#[test]
+fn refused_words_are_printed(rt: HostRuntime) -> Result<(), Fail> {
+    let alloc = rt.alloc();
+    let word = String::from_str(alloc, "10.0.0.256")?;
+    for (fault, text) in [
+        (JobFault::Address(word), "10.0.0.256: not an address"),
+        (JobFault::Memory, "J3 Memory"),
+    ] {
+        assert_eq!(rt; format!(in alloc; "{fault}")?.as_str(), text);
     }
     Ok(())
 }

@@ -1,7 +1,10 @@
 //! Two routers on a link, whose datagrams are passed by hand; what is dropped; one that stops.
 
+mod answers;
 mod crafted;
+mod hostile;
 
+use answers::{Answers, is_silent};
 use hex::decode;
 use ospf_base::{Addr, RouterId};
 use ospf_config::Config;
@@ -9,6 +12,7 @@ use ospf_neighbour::NeighbourState;
 use ospf_router::{Dropped, Event, Outputs, Router, Sent, StartFault, Step, Stopped};
 use std::alloc::Global;
 use std::collections::VecDeque;
+use std::fmt::Write;
 use std::test::Fail;
 
 const FIRST: &str =
@@ -207,6 +211,39 @@ fn a_link_goes_up(rt: HostRuntime) -> Result<(), Fail> {
     Ok(())
 }
 
+// The Hello comes back to the router that sent it.
+#[test]
+fn its_own_hello_is_dropped(rt: HostRuntime) -> Result<(), Fail> {
+    let alloc = rt.alloc();
+    let mut router = start(FIRST, 100, alloc)?;
+    let mut went = step(&mut router, Event::LinkUp { link: 0 }, alloc)?;
+    let hello = went.out.sent.pop().ok_or("a Hello")?;
+    let before = Answers::of(&router, alloc)?;
+    let event = Event::Datagram {
+        link: 0,
+        source: hello.source,
+        destination: hello.destination,
+        bytes: &hello.bytes,
+    };
+    let heard = step(&mut router, event, alloc)?;
+    assert_eq!(rt; heard.dropped, Some(Dropped::OwnPacket));
+    assert!(rt; is_silent(&heard) && Answers::of(&router, alloc)? == before);
+    Ok(())
+}
+
+#[test]
+fn refusals_are_printed(rt: HostRuntime) -> Result<(), Fail> {
+    let mut text = String::new(rt.alloc());
+    write!(
+        text,
+        "{Stopped}; {}; {}",
+        StartFault::Floor,
+        StartFault::Memory
+    )?;
+    assert_eq!(rt; text.as_str(), "S1 Stopped; S2 Floor; S3 Memory");
+    Ok(())
+}
+
 const LAN: &str =
     "router_id = \"2.2.2.2\"\narea = \"0.0.0.0\"\n[[interface]]\nkind = \"broadcast\"\naddress = \"10.1.0.2/24\"\ncost = 10\n";
 
@@ -297,20 +334,16 @@ const CASES: [Case; 10] = [
 // Whether the datagram is dropped as it is to be, and then changes no answer and puts nothing out.
 fn is_judged(router: &mut Router, case: &Case, alloc: Global) -> Result<bool, Fail> {
     let bytes = decode(alloc, case.bytes)?;
-    let known = router.neighbours(0).len();
+    let before = Answers::of(router, alloc)?;
     let event = Event::Datagram {
         link: 0,
         source: Addr(case.source),
         destination: Addr(case.destination),
         bytes: &bytes,
     };
-    let Step {
-        out,
-        dropped,
-        table_changed,
-    } = step(router, event, alloc)?;
-    let silent = out.sent().is_empty() && !table_changed && router.neighbours(0).len() == known;
-    Ok(dropped == case.dropped && (dropped.is_none() || silent))
+    let went = step(router, event, alloc)?;
+    let is_same = is_silent(&went) && Answers::of(router, alloc)? == before;
+    Ok(went.dropped == case.dropped && (went.dropped.is_none() || is_same))
 }
 
 #[test]

@@ -5,6 +5,7 @@ use ospf_config::Config;
 use ospf_drive::{Arrival, LONGEST, Wire, WireFault};
 use ospf_udp::{OpenFault, UdpWire};
 use std::alloc::Global;
+use std::fmt::Write;
 use std::io;
 use std::net::{Net, UdpSocket};
 use std::test::Fail;
@@ -78,5 +79,15 @@ fn wires_that_are_not_opened(rt: HostRuntime) -> Result<(), Fail> {
             Err(fault) => assert_eq!(rt; fault, expected),
         }
     }
+    Ok(())
+}
+
+#[test]
+fn refusals_are_printed(rt: HostRuntime) -> Result<(), Fail> {
+    let mut text = String::new(rt.alloc());
+    for fault in [OpenFault::NoPort, OpenFault::Socket, OpenFault::Memory] {
+        write!(text, "{fault}; ")?;
+    }
+    assert_eq!(rt; text.as_str(), "no port; socket; out of memory; ");
     Ok(())
 }

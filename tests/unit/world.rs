@@ -1,51 +1,30 @@
 //! Two routers on a link, stepped by world events that are written by hand.
 
+mod acknowledged;
+mod collisions;
+mod random;
+mod restarts;
+
+use super::given::{CONFIG, FIRST, SECOND};
+use super::worlds::{start, two_on_a_link, two_that_run};
 use ospf_base::RouterId;
 use ospf_config::Config;
 use ospf_world::{World, WorldEvent, WorldFault};
 use std::alloc::Global;
 use std::test::Fail;
 
-const FIRST: &str =
-    "router_id = \"1.1.1.1\"\narea = \"0.0.0.0\"\n[[interface]]\nkind = \"point-to-point\"\naddress = \"10.0.0.1/30\"\ncost = 10\n";
-
-const SECOND: &str =
-    "router_id = \"2.2.2.2\"\narea = \"0.0.0.0\"\n[[interface]]\nkind = \"point-to-point\"\naddress = \"10.0.0.2/30\"\ncost = 10\n";
-
-const ONE: RouterId = RouterId(0x0101_0101);
-
-const TWO: RouterId = RouterId(0x0202_0202);
-
 const NOBODY: RouterId = RouterId(0x0909_0909);
-
-// No number is below it.
-const NO_FLOOR: i32 = -0x8000_0000;
-
-fn world(alloc: Global) -> Result<World, Fail> {
-    let mut configs = Vec::new(alloc);
-    configs.push(Config::from_text(alloc, FIRST)?)?;
-    configs.push(Config::from_text(alloc, SECOND)?)?;
-    Ok(World::new(configs, alloc)?)
-}
-
-fn start(router: RouterId, dd_start: u32) -> WorldEvent {
-    WorldEvent::Start {
-        router,
-        dd_start,
-        floor: NO_FLOOR,
-    }
-}
 
 // Each with what it is answered in a new world, in this order.
 fn six() -> [(WorldEvent, Result<(), WorldFault>); 6] {
     [
         (
-            WorldEvent::Tick { router: ONE },
+            WorldEvent::Tick { router: FIRST },
             Err(WorldFault::NotRunning),
         ),
         (
             WorldEvent::LinkUp {
-                router: ONE,
+                router: FIRST,
                 link: 1,
             },
             Err(WorldFault::NoLink),
@@ -53,7 +32,7 @@ fn six() -> [(WorldEvent, Result<(), WorldFault>); 6] {
         (
             WorldEvent::Deliver {
                 datagram: 0,
-                router: ONE,
+                router: FIRST,
                 link: 0,
             },
             Err(WorldFault::NoDatagram),
@@ -62,27 +41,27 @@ fn six() -> [(WorldEvent, Result<(), WorldFault>); 6] {
             WorldEvent::Tick { router: NOBODY },
             Err(WorldFault::NoRouter),
         ),
-        (start(ONE, 1), Ok(())),
-        (start(ONE, 2), Err(WorldFault::Running)),
+        (start(FIRST, 1), Ok(())),
+        (start(FIRST, 2), Err(WorldFault::Running)),
     ]
 }
 
 #[test]
 fn the_first_fault_is_answered(rt: HostRuntime) -> Result<(), Fail> {
     let alloc = rt.alloc();
-    let mut world = world(alloc)?;
+    let mut world = two_on_a_link(alloc)?;
     for (event, answer) in six() {
         assert!(rt; world.step(event, alloc) == answer);
     }
-    assert!(rt; world.router(ONE).is_ok());
-    assert!(rt; world.router(TWO).is_err());
+    assert!(rt; world.router(FIRST).is_ok());
+    assert!(rt; world.router(SECOND).is_err());
     Ok(())
 }
 
 #[test]
 fn refused_events_are_counted(rt: HostRuntime) -> Result<(), Fail> {
     let alloc = rt.alloc();
-    let mut world = world(alloc)?;
+    let mut world = two_on_a_link(alloc)?;
     let mut events = Vec::new(alloc);
     for (event, _) in six() {
         events.push(event)?;
@@ -95,8 +74,8 @@ fn refused_events_are_counted(rt: HostRuntime) -> Result<(), Fail> {
 fn two_of_one_router_id_are_refused(rt: HostRuntime) -> Result<(), Fail> {
     let alloc = rt.alloc();
     let mut configs = Vec::new(alloc);
-    configs.push(Config::from_text(alloc, FIRST)?)?;
-    configs.push(Config::from_text(alloc, FIRST)?)?;
+    configs.push(Config::from_text(alloc, CONFIG)?)?;
+    configs.push(Config::from_text(alloc, CONFIG)?)?;
     match World::new(configs, alloc) {
         Ok(_) => Err(Fail::from("two of one Router ID")),
         Err(fault) => {
@@ -113,7 +92,11 @@ fn pass(world: &mut World, passed: usize, alloc: Global) -> Result<usize, Fail> 
         let Some(datagram) = world.datagrams().get(next) else {
             return Ok(next);
         };
-        let router = if datagram.router == ONE { TWO } else { ONE };
+        let router = if datagram.router == FIRST {
+            SECOND
+        } else {
+            FIRST
+        };
         world.step(
             WorldEvent::Deliver {
                 datagram: next,
@@ -130,19 +113,15 @@ fn pass(world: &mut World, passed: usize, alloc: Global) -> Result<usize, Fail> 
 #[test]
 fn two_routers_agree(rt: HostRuntime) -> Result<(), Fail> {
     let alloc = rt.alloc();
-    let mut world = world(alloc)?;
-    for (router, dd_start) in [(ONE, 100), (TWO, 200)] {
-        world.step(start(router, dd_start), alloc)?;
-        world.step(WorldEvent::LinkUp { router, link: 0 }, alloc)?;
-    }
+    let mut world = two_that_run(alloc)?;
     let mut passed = 0;
     for _ in 0..20u32 {
-        world.step(WorldEvent::Tick { router: ONE }, alloc)?;
-        world.step(WorldEvent::Tick { router: TWO }, alloc)?;
+        world.step(WorldEvent::Tick { router: FIRST }, alloc)?;
+        world.step(WorldEvent::Tick { router: SECOND }, alloc)?;
         passed = pass(&mut world, passed, alloc)?;
     }
-    let mine = world.router(ONE)?.listing(alloc)?;
-    let other = world.router(TWO)?.listing(alloc)?;
+    let mine = world.router(FIRST)?.listing(alloc)?;
+    let other = world.router(SECOND)?.listing(alloc)?;
     for listing in [&mine, &other] {
         let lsa = listing.lsas().get(1).ok_or("two LSAs")?;
         let instance = lsa.view().instance();

@@ -32,7 +32,7 @@ fn agreed(alloc: Global) -> Result<Router, Fail> {
 }
 
 // 1.1.1.1 gets these bytes from 2.2.2.2.
-fn hear(router: &mut Router, bytes: &[u8], alloc: Global) -> Result<Step, Fail> {
+pub(crate) fn hear(router: &mut Router, bytes: &[u8], alloc: Global) -> Result<Step, Fail> {
     let event = Event::Datagram {
         link: 0,
         source: Addr(0x0a00_0002),
@@ -232,7 +232,7 @@ fn held_back(second: &mut Router, alloc: Global) -> Result<Sent, Fail> {
 }
 
 // 1.1.1.1, 15 seconds after the link went up, and the Acknowledgment, which has not come.
-fn first_and_held(alloc: Global) -> Result<(Router, Sent), Fail> {
+pub(crate) fn first_and_held(alloc: Global) -> Result<(Router, Sent), Fail> {
     let (first, mut second) = two_after(15, alloc)?;
     let held = held_back(&mut second, alloc)?;
     Ok((first, held))
