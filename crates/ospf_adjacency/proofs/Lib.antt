@@ -5,3 +5,4 @@ pub mod MemberLemmas
 pub mod LawLemmas
 pub mod SayLemmas
 pub mod SameLemmas
+pub mod FillLemmas

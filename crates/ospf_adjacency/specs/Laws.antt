@@ -1,6 +1,7 @@
 -- What every part of a step keeps of a neighbour: it may only fall below Exchange, but for a Database Description, and what is new
 -- on its lists are copies of the database and, on the request list, what it told (RFC 2328, sections 10.3 and 10.6 to 10.9).
-use Rattle.std.specs.Prelude.{⊤, ◌≡◌, ◌⊎◌, ℕ, List, [], true, false, Contains, length}
+use Rattle.std.specs.Prelude.{⊤, ◌≡◌, ◌⊎◌, ◌+◌, ◌≤◌, ℕ, List, [], true, false, Contains, length}
+use Rattle.ospf_base.specs.Constants.{ip_header, packet_header}
 use Rattle.ospf_base.specs.declared.ids.Instance.{Instance}
 use Rattle.ospf_base.specs.declared.ids.RouterId.{RouterId}
 use Rattle.ospf_iface.specs.declared.machine.Iface.{Iface}
@@ -13,11 +14,15 @@ use Rattle.ospf_neighbour.specs.declared.machine.NbrEvent.{NbrEvent}
 use Rattle.ospf_neighbour.specs.declared.machine.NbrEvent.TheVariants.{NegotiationDone}
 use Rattle.ospf_packet.specs.Meaning.{BodyMeaning, hello, description, request, update, acknowledgment}
 use Rattle.ospf_packet.specs.declared.body.Description.{Description}
+use Rattle.ospf_exchange.specs.Exchange.{dd_fields, describes}
 use Rattle.ospf_exchange.specs.Laws.{HasHeader, HasInstance, KeepsRouter}
 use Rattle.ospf_exchange.specs.declared.rule.Local.{Local}
 use Rattle.ospf_adjacency.specs.Adjacency.{event_taken}
 use Rattle.ospf_adjacency.specs.Descriptions.{Turn, event_turn, request_turn, description_turn, dd_dropped}
-use Rattle.ospf_adjacency.specs.Packets.{Parcel}
+use Rattle.ospf_area.specs.Packing.{IsFilled}
+use Rattle.ospf_area.specs.Sending.{packet_of}
+use Rattle.ospf_area.specs.declared.sending.Own.{Own}
+use Rattle.ospf_adjacency.specs.Packets.{Parcel, dd_body}
 
 -- a neighbour goes on: new on its lists are copies of the database and, on the request list, what it told; a list is left only
 -- below Exchange
@@ -120,3 +125,12 @@ DescriptionSaysOnly = (i : Iface) (local : Local) (sender : RouterId) (d : Descr
 abbrev pub DescriptionKeepsRouter : Type 0
 DescriptionKeepsRouter = (i : Iface) (local : Local) (sender : RouterId) (d : Description) (headers : List LsaHeader) (db : List Held) (t : Turn)
     → KeepsRouter t.neighbour (description_turn i local sender d headers db t).neighbour
+
+-- ---- how Database Descriptions are filled
+
+-- a Database Description of the exchange has the first headers of the summary list, as many as fit the MTU, and the others stay on the
+-- list (10.8)
+abbrev pub DescriptionsAreFilled : Type 0
+DescriptionsAreFilled = (own : Own) (local : Local) (number : ℕ) (n : NeighbourValue) → ip_header + packet_header + dd_fields ≤ local.mtu
+    → (fields : Description) × (dd_body local.mtu (describes local number n) ≡ description fields (describes local number n).last_dd)
+    × IsFilled (λ headers. packet_of own (description fields headers)) local.mtu n.summary (describes local number n).last_dd (describes local number n).summary

@@ -15,9 +15,9 @@ pub use crate::adjacency::{is_broadcast, take_event, wants_adjacency};
 pub use crate::descriptions::{is_dropped, request_turn, take_description};
 pub use crate::elections::elect_on;
 pub use crate::laws::{
-    description_goes_on, description_keeps_router, description_says_only, dropped_is_unchanged,
-    events_keep_lists, events_keep_routers, events_say_only, kept_goes_on, only_negotiation_enters,
-    requests_keep_lists, requests_never_enter, requests_say_only,
+    description_goes_on, description_keeps_router, description_says_only, descriptions_are_filled,
+    dropped_is_unchanged, events_keep_lists, events_keep_routers, events_say_only, kept_goes_on,
+    only_negotiation_enters, requests_keep_lists, requests_never_enter, requests_say_only,
 };
 pub use crate::outbox::Outbox;
 pub use crate::packets::{send_dd, send_request};

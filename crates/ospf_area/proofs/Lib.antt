@@ -5,3 +5,4 @@ pub mod LawLemmas
 pub mod NumberLemmas
 pub mod WaitLemmas
 pub mod ShortLemmas
+pub mod PackLemmas

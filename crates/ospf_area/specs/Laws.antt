@@ -1,7 +1,7 @@
 -- Laws: what is read of a router's neighbours after changes of all links, of its numbers, of its marks and of what it sends.
-use Rattle.std.specs.Prelude.{◌≡◌, ◌==◌, ◌+◌, ◌&&◌, ◌⊎◌, ◌↔◌, ◌≤◌, ℕ, ℤ, Bool, true, false, Option, None, Some, List, [], ◌∷◌, length, option_map, slice_get, if◌then◌else◌}
+use Rattle.std.specs.Prelude.{◌≡◌, ◌==◌, ◌+◌, ◌&&◌, ◌⊎◌, ◌↔◌, ◌≤◌, ℕ, ℤ, Bool, true, false, Option, None, Some, List, [], ◌∷◌, length, map, option_map, slice_get, if◌then◌else◌}
 use Rattle.std.specs.Int.{int_max}
-use Rattle.ospf_base.specs.Constants.{largest_lsa, largest_packet}
+use Rattle.ospf_base.specs.Constants.{ip_header, largest_lsa, largest_packet, packet_header}
 use Rattle.ospf_base.specs.Keys.{same_key}
 use Rattle.ospf_base.specs.declared.ids.Instance.{Instance}
 use Rattle.ospf_base.specs.declared.ids.LsaKey.{LsaKey}
@@ -16,12 +16,14 @@ use Rattle.ospf_neighbour.specs.Lists.{is_key_listed, key_unlisted, request_of}
 use Rattle.ospf_neighbour.specs.Machine.{is_exchanging}
 use Rattle.ospf_neighbour.specs.Neighbour.{NeighbourValue}
 use Rattle.ospf_packet.specs.Meaning as meaning
-use Rattle.ospf_packet.specs.Meaning.{Meaning, packet_bytes}
-use Rattle.ospf_area.specs.Asking.{turned, turned_links}
+use Rattle.ospf_exchange.specs.Requests.{asked_next}
+use Rattle.ospf_packet.specs.Meaning.{BodyMeaning, Meaning, packet_bytes}
+use Rattle.ospf_area.specs.Asking.{entry_for, request_body, turned, turned_links}
 use Rattle.ospf_area.specs.Changes.{changed_at, changed_if, delayed_at}
 use Rattle.ospf_area.specs.Flooding.{came_from, flooded_links, flooded_neighbour, on_link, released}
 use Rattle.ospf_area.specs.Numbers.{counts, is_own, marked}
 use Rattle.ospf_area.specs.Outputs.{SentValue}
+use Rattle.ospf_area.specs.Packing.{IsFilled}
 use Rattle.ospf_area.specs.Sending.{datagrams, packet_of, update_out}
 use Rattle.ospf_area.specs.State.{AreaValue, LinkValue, WaitsIn, kept_in, kept_number, neighbour_at, numbering_of, was_sent}
 use Rattle.ospf_area.specs.declared.changes.Change.{Change}
@@ -119,6 +121,17 @@ ShortAreSent = (way : Way) (m : Meaning) → length (packet_bytes m) ≤ largest
 abbrev pub LsasAreSent : Type 0
 LsasAreSent = (own : Own) (way : Way) (lsa : List ℕ) → length lsa ≤ largest_lsa
     → update_out own way (lsa ∷ []) ≡ sent_as way (packet_of own (meaning.update (lsa ∷ []))) ∷ []
+
+-- ---- how Requests are filled
+
+abbrev pub request_for : List LsaHeader → BodyMeaning
+request_for headers = meaning.request (map entry_for headers)
+
+-- a Request asks for the first headers of the request list, as many as fit the MTU (10.9)
+abbrev pub RequestsAreFilled : Type 0
+RequestsAreFilled = (own : Own) (mtu tick : ℕ) (n : NeighbourValue) → ip_header + packet_header ≤ mtu
+    → (named rest : List LsaHeader) × (request_body (asked_next mtu tick n) ≡ request_for named)
+    × IsFilled (λ headers. packet_of own (request_for headers)) mtu n.requests named rest
 
 -- ---- how long the LSAs of a database are
 

@@ -7,4 +7,5 @@ pub mod Changes
 pub mod Asking
 pub mod Numbers
 pub mod Standing
+pub mod Packing
 pub mod Laws

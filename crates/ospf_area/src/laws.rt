@@ -1,6 +1,6 @@
 //! Laws: each holds of all routers.
 
-ghost use Rattle.ospf_area.specs.Laws.{ChangesOne, DelayedNeighbours, FloodReaches, FloodTakesItsKey, FloodedNeighbours, KeepsGreatest, LsasAreSent, MarksOne, ReleaseTakesItsKey, ReleasedNeighbours, ShortAreSent, StayShort, TurnedNeighbours, TurnsTakeNothing};
+ghost use Rattle.ospf_area.specs.Laws.{ChangesOne, DelayedNeighbours, FloodReaches, FloodTakesItsKey, FloodedNeighbours, KeepsGreatest, LsasAreSent, MarksOne, ReleaseTakesItsKey, ReleasedNeighbours, RequestsAreFilled, ShortAreSent, StayShort, TurnedNeighbours, TurnsTakeNothing};
 
 /// What a release does to each neighbour.
 pub fn released_neighbours()
@@ -65,6 +65,11 @@ pub fn short_are_sent()
 /// An LSA of at most `ospf_base::LARGEST_LSA` bytes goes out in an Update of its own.
 pub fn lsas_are_sent()
     ensures { LsasAreSent }
+{}
+
+/// A Request asks for as many headers as fit the MTU.
+pub fn requests_are_filled()
+    ensures { RequestsAreFilled }
 {}
 
 /// What happens to a database leaves each of its LSAs at most `ospf_base::LARGEST_LSA` bytes long, if what is installed is.

@@ -19,7 +19,7 @@ pub use crate::flooding::{Flooded, Origin, flood};
 pub use crate::laws::{
     changes_one, delayed_neighbours, flood_reaches, flood_takes_its_key, flooded_neighbours,
     keeps_greatest, lsas_are_sent, marks_one, release_takes_its_key, released_neighbours,
-    short_are_sent, stay_short, turned_neighbours, turns_take_nothing,
+    requests_are_filled, short_are_sent, stay_short, turned_neighbours, turns_take_nothing,
 };
 pub use crate::lists::release;
 pub use crate::numbers::{count_number, is_numbered, is_own, is_self_originated, mark, was_sent};

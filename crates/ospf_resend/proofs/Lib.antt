@@ -3,3 +3,4 @@ pub mod KeyLists
 pub mod DueLemmas
 pub mod QuietLemmas
 pub mod SendLemmas
+pub mod FillLemmas

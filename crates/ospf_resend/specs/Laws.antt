@@ -1,20 +1,25 @@
 -- What the answers to Requests and the repeats keep of a neighbour, and what they send (RFC 2328, sections 10.7 and 13.6).
-use Rattle.std.specs.Prelude.{◌≡◌, ◌⊎◌, ℕ, List, Some, Contains}
+use Rattle.std.specs.Prelude.{◌≡◌, ◌⊎◌, ℕ, List, Some, Contains, map}
+use Rattle.ospf_base.specs.declared.ids.Addr.{Addr}
 use Rattle.ospf_base.specs.declared.ids.LsaKey.{LsaKey}
 use Rattle.ospf_iface.specs.declared.machine.Iface.{Iface}
 use Rattle.ospf_lsa.specs.declared.header.LsaHeader.{LsaHeader}
-use Rattle.ospf_lsdb.specs.Database.{Entry, Held, entry_of, lsa_of}
+use Rattle.ospf_lsdb.specs.Database.{Entry, Held, IsDatabase, entry_of, lsa_of}
+use Rattle.ospf_lsdb.specs.Timers.{KeysRise}
 use Rattle.ospf_neighbour.specs.Neighbour.{NeighbourValue}
 use Rattle.ospf_packet.specs.Meaning.{BodyMeaning, hello, description, request, update, acknowledgment}
 use Rattle.ospf_packet.specs.declared.entry.RequestEntry.{RequestEntry}
 use Rattle.ospf_exchange.specs.declared.rule.Local.{Local}
-use Rattle.ospf_area.specs.Sending.{sent_lsa}
+use Rattle.ospf_area.specs.Packing.{ArePacked}
+use Rattle.ospf_area.specs.Sending.{packet_of, sent_lsa}
+use Rattle.ospf_area.specs.declared.sending.Own.{Own}
 use Rattle.ospf_adjacency.specs.Descriptions.{Turn}
 use Rattle.ospf_adjacency.specs.Laws.{GoesOn, NeverEnters, SaysOnly}
 use Rattle.ospf_exchange.specs.Laws.{KeepsRouter}
 use Rattle.ospf_adjacency.specs.Packets.{Parcel}
-use Rattle.ospf_resend.specs.Answers.{answer_turn}
-use Rattle.ospf_resend.specs.Repeats.{repeats_turn}
+use Rattle.ospf_resend.specs.Answers.{answer_turn, answered_keys}
+use Rattle.ospf_resend.specs.Packing.{copies_of, update_to, updates_of}
+use Rattle.ospf_resend.specs.Repeats.{due_keys, repeats_turn}
 
 -- the LSA is a copy of the database, InfTransDelay older
 abbrev pub IsCopy : List Held → ℕ → List ℕ → Type 0
@@ -42,3 +47,17 @@ AnswersAreQuiet = (i : Iface) (local : Local) (delay : ℕ) (db : List Held) (es
 -- what is sent again
 abbrev pub RepeatsAreQuiet : Type 0
 RepeatsAreQuiet = (i : Iface) (local : Local) (retransmit delay : ℕ) (db : List Held) (t : Turn) → IsQuiet db delay t (repeats_turn i local retransmit delay db t)
+
+-- ---- how copies are packed
+
+-- the Updates with the copies of these keys: they have the copies in the order of the keys, as many in each as fit the MTU, and an LSA
+-- that does not fit has an Update of its own (10.7, 13.6)
+abbrev pub UpdatesArePacked : Type 0
+UpdatesArePacked = (own : Own) (destination : Addr) (mtu delay : ℕ) (db : List Held) (keys : List LsaKey)
+    → (packets : List (List (List ℕ))) × (updates_of destination mtu delay db keys ≡ map (update_to destination) packets)
+    × ArePacked (λ lsas. packet_of own (update lsas)) mtu (copies_of db delay keys) packets
+
+-- the keys whose copies answer a Request, and of those that go again, each once and in their order (10.7, 13.6)
+pub record KeysGoInOrder : Type 0 where
+  pub answered : (db : List Held) (entries : List RequestEntry) → IsDatabase db → KeysRise (answered_keys db entries)
+  pub again : (retransmit tick : ℕ) (db : List Held) (n : NeighbourValue) → IsDatabase db → KeysRise (due_keys retransmit tick db n)

@@ -11,6 +11,6 @@ mod packing;
 mod repeating;
 
 pub use crate::answering::take_request;
-pub use crate::laws::{answers_are_quiet, repeats_are_quiet};
+pub use crate::laws::{answers_are_quiet, keys_go_in_order, repeats_are_quiet, updates_are_packed};
 pub use crate::packing::send_copies;
 pub use crate::repeating::repeat;

@@ -10,3 +10,4 @@ pub mod NumberLemmas
 pub mod BringLemmas
 pub mod ReachLemmas
 pub mod TurnLemmas
+pub mod PackLemmas

@@ -1,5 +1,5 @@
 -- A list that a stable sort made is what the insertion sort makes.
-use Rattle.std.proofs.Common.{◌≡◌, ◌<◌, ◌≤◌, ◌⊎◌, ℕ, suc, Bool, true, false, cond, not, ◌&&◌, ◌||◌, nat_lt, ◌==◌, if◌then◌else◌, List, [], ◌∷◌, ◌++◌, length, drop, get_or, filter, refl, sym, ap, ap₂, subst, ◌∙◌, arith, append_assoc, append-nil, inl, inr, nat_cmp, is_lt, Ordering, Less, Equal, Greater, true≢false}
+use Rattle.std.proofs.Common.{◌≡◌, ◌<◌, ◌≤◌, ◌⊎◌, ℕ, zero, suc, Bool, true, false, cond, not, ◌&&◌, ◌||◌, nat_lt, ◌==◌, if◌then◌else◌, List, [], ◌∷◌, ◌++◌, length, drop, get_or, filter, refl, sym, ap, ap₂, subst, ◌∙◌, arith, append_assoc, append-nil, inl, inr, nat_cmp, is_lt, Ordering, Less, Equal, Greater, true≢false, add-one}
 use Rattle.std.specs.Cmp.{IsStrictWeakOrder, IsTotalOrder}
 use Rattle.std.specs.List.{AllByRecursion}
 use Rattle.std.specs.List.Sorted.{IsSortedBy, IsStableBy, ties}
@@ -205,3 +205,21 @@ put_all_is (h ∷ hs) sorted = put_all_is hs (put header_precedes h sorted) ∙ 
 
 pub sorted_is_in_order : (xs ys : List LsaHeader) → IsSortedBy header_precedes ys → IsStableBy header_precedes xs ys → ys ≡ in_order xs
 sorted_is_in_order xs ys up stable = is_put_all header_precedes header_order xs ys up stable ∙ put_all_is xs []
+
+-- ---- and rises, with ties as they came
+
+module _ {X : Type 0} (lt : X → X → Bool) where
+  next_not_below : (xs : List X) → Rises lt xs → (k : ℕ) (d : X) → suc k < length xs → lt (get_or xs (suc k) d) (get_or xs k d) ≡ false
+  next_not_below [] up k d lt' = absurd (omega arith)
+  next_not_below (x ∷ []) up k d lt' = absurd (omega arith)
+  next_not_below (x ∷ y ∷ ys) up zero d lt' = up.0.0
+  next_not_below (x ∷ y ∷ ys) up (suc k) d lt' = next_not_below (y ∷ ys) up.1 k d (omega arith)
+
+  sorted_by : (xs : List X) → Rises lt xs → IsSortedBy lt xs
+  sorted_by xs up k d from to = rw add-one (next_not_below xs up k d (omega arith))
+
+pub in_order_rises : (hs : List LsaHeader) → IsSortedBy header_precedes (in_order hs)
+in_order_rises hs = subst (λ (l : List LsaHeader). IsSortedBy header_precedes l) (put_all_is hs []) (sorted_by header_precedes (put_all header_precedes hs []) (put_all_rises header_precedes header_order hs [] tt))
+
+pub in_order_stable : (hs : List LsaHeader) → IsStableBy header_precedes hs (in_order hs)
+in_order_stable hs q = ap (λ (l : List LsaHeader). filter (ties header_precedes q) l) (sym (put_all_is hs [])) ∙ put_all_keeps header_precedes header_order q hs [] tt

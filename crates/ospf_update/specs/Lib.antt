@@ -4,3 +4,4 @@ pub mod Aging
 pub mod Removal
 pub mod Updates
 pub mod Laws
+pub mod AckLaws

@@ -1,5 +1,6 @@
 //! Laws: each holds of all routers.
 
+ghost use Rattle.ospf_update.specs.AckLaws.{AcknowledgementsAreOrdered, AcknowledgementsArePacked};
 ghost use Rattle.ospf_update.specs.Laws.{AreaStaysShort, CopiesReach, CopiesStay, NumbersAreKept, StoredNeighbours, StoredEntry, StoredNumbers, StoredStays, StoredReaches, RemovedEntries, UpdatesBringShort};
 
 /// What storing an LSA does to each neighbour.
@@ -55,4 +56,14 @@ pub fn updates_bring_short()
 /// Each call leaves each LSA of the database at most so long, if what is stored is.
 pub fn area_stays_short()
     ensures { AreaStaysShort }
+{}
+
+/// Headers are acknowledged in order of key, those of one key as they came.
+pub fn acknowledgements_are_ordered()
+    ensures { AcknowledgementsAreOrdered }
+{}
+
+/// As many of them go in a packet as fit the MTU.
+pub fn acknowledgements_are_packed()
+    ensures { AcknowledgementsArePacked }
 {}

@@ -12,8 +12,9 @@ mod updates;
 pub use crate::acks::{send_acks, send_delayed, send_direct};
 pub use crate::aging::{age, flush, send_copy, turn_in};
 pub use crate::laws::{
-    area_stays_short, copies_reach, copies_stay, numbers_are_kept, removed_entries, stored_entry,
-    stored_neighbours, stored_numbers, stored_reaches, stored_stays, updates_bring_short,
+    acknowledgements_are_ordered, acknowledgements_are_packed, area_stays_short, copies_reach,
+    copies_stay, numbers_are_kept, removed_entries, stored_entry, stored_neighbours,
+    stored_numbers, stored_reaches, stored_stays, updates_bring_short,
 };
 pub use crate::meeting::{flood_in, on_header, on_lsa, restart, rule_met, store};
 pub use crate::removal::{remove, some_awaits};

@@ -1,0 +1,4 @@
+pub mod Config
+pub mod States
+pub mod Steps
+pub mod Works
