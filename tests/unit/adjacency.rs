@@ -45,6 +45,7 @@ fn local(mtu: u16) -> Local {
         router: OWN,
         mtu,
         tick: 7,
+        passes_over: false,
     }
 }
 
@@ -54,6 +55,7 @@ fn outbox(alloc: Global) -> Outbox {
         router: OWN,
         area: AreaId(0),
         tick: 7,
+        passes_over: false,
     };
     let link = iface(InterfaceKind::Broadcast, IfaceState::DrOther);
     Outbox::new(Outputs::new(alloc), own, 4, &link)
@@ -425,6 +427,7 @@ fn outputs_are_kept(rt: HostRuntime) -> Result<(), Fail> {
         router: RouterId(5),
         area: AreaId(3),
         tick: 8,
+        passes_over: false,
     };
     let link = iface(InterfaceKind::PointToPoint, IfaceState::PointToPoint);
     let mut next = Outbox::new(out.into_outputs(), own, 6, &link);

@@ -121,6 +121,7 @@ fn area(alloc: Global, described: &[LsaHeader]) -> Result<Area, Fail> {
         router: OWN,
         area: AreaId(0),
         stub_router: false,
+        passes_over: false,
         links,
         database: Lsdb::new(alloc),
         direct: Vec::new(alloc),

@@ -75,6 +75,7 @@ fn accepted(rt: HostRuntime) -> Result<(), Fail> {
     assert_eq!(rt; config.router_id, RouterId(0x0101_0101));
     assert_eq!(rt; config.area, AreaId(0));
     assert!(rt; !config.stub_router);
+    assert!(rt; !config.passes_over);
     assert_eq!(rt; config.interfaces.len(), 1);
     let interface = &config.interfaces[0];
     assert_eq!(rt; interface.kind, InterfaceKind::PointToPoint);
@@ -97,7 +98,7 @@ fn accepted(rt: HostRuntime) -> Result<(), Fail> {
 fn every_key(rt: HostRuntime) -> Result<(), Fail> {
     let text = joined(
         rt.alloc(),
-        "router_id = \"9.8.7.6\"\narea = \"0.0.0.1\"\nstub_router = true\n\n[[interface]]\nkind = \"broadcast\"\naddress = \"192.168.7.3/24\"\ncost = 65535\npriority = 0\nhello = 1\ndead = 2\n",
+        "router_id = \"9.8.7.6\"\narea = \"0.0.0.1\"\nstub_router = true\nother_lsas = \"pass over\"\n\n[[interface]]\nkind = \"broadcast\"\naddress = \"192.168.7.3/24\"\ncost = 65535\npriority = 0\nhello = 1\ndead = 2\n",
         "retransmit = 65535\ntransmit_delay = 3600\nmtu = 9000\nport = 1024\npeers = [65535, 1024]\n",
         "",
     )?;
@@ -105,6 +106,7 @@ fn every_key(rt: HostRuntime) -> Result<(), Fail> {
     assert_eq!(rt; config.router_id, RouterId(0x0908_0706));
     assert_eq!(rt; config.area, AreaId(1));
     assert!(rt; config.stub_router);
+    assert!(rt; config.passes_over);
     assert_eq!(rt; config.interfaces.len(), 1);
     let interface = &config.interfaces[0];
     assert_eq!(rt; interface.kind, InterfaceKind::Broadcast);
@@ -139,7 +141,7 @@ fn two_interfaces_in_order(rt: HostRuntime) -> Result<(), Fail> {
 
 #[test]
 fn refused_at_the_top(rt: HostRuntime) -> Result<(), Fail> {
-    let cases: [(&str, Option<ConfigFault>, &str); 9] = [
+    let cases: [(&str, Option<ConfigFault>, &str); 12] = [
         ("", Some(ConfigFault::Missing), "empty"),
         ("x", Some(ConfigFault::NotToml), "not-toml"),
         (
@@ -172,6 +174,21 @@ fn refused_at_the_top(rt: HostRuntime) -> Result<(), Fail> {
             "router_id = \"1.1.1.1\"\narea = \"0.0.0.0\"\nstub_router = 1\ninterface = [{kind = \"broadcast\", address = \"10.0.0.1/30\", cost = 1}]\n",
             Some(ConfigFault::Type),
             "a stub router that is a number",
+        ),
+        (
+            "router_id = \"1.1.1.1\"\narea = \"0.0.0.0\"\nother_lsas = 3\ninterface = [{kind = \"broadcast\", address = \"10.0.0.1/30\", cost = 1}]\n",
+            Some(ConfigFault::Type),
+            "what becomes of other LSAs is a number",
+        ),
+        (
+            "router_id = \"1.1.1.1\"\narea = \"0.0.0.0\"\nother_lsas = \"maybe\"\ninterface = [{kind = \"broadcast\", address = \"10.0.0.1/30\", cost = 1}]\n",
+            Some(ConfigFault::Range),
+            "what becomes of other LSAs is neither",
+        ),
+        (
+            "router_id = \"1.1.1.1\"\narea = \"0.0.0.0\"\nother_lsas = \"refuse\"\ninterface = [{kind = \"broadcast\", address = \"10.0.0.1/30\", cost = 1}]\n",
+            None,
+            "other LSAs are refused",
         ),
     ];
     for (text, fault, name) in cases {
@@ -425,6 +442,9 @@ fn explains_the_top(rt: HostRuntime) -> Result<(), Fail> {
     )?;
     let wanted =
         "router_id: a dotted text, as \"10.0.0.1\", other than \"0.0.0.0\", wanted, 5 found\n";
+    assert_eq!(rt; told.as_str(), wanted);
+    let told = explained(alloc, TOP, "other_lsas = \"maybe\"\n", INTERFACE)?;
+    let wanted = "other_lsas: \"refuse\" or \"pass over\" wanted, \"maybe\" found\n";
     assert_eq!(rt; told.as_str(), wanted);
     let told = explained(alloc, "stub_router = 1\n", "", "")?;
     let wanted =

@@ -87,7 +87,12 @@ fn starting(alloc: Global, router: RouterId, number: u32) -> Neighbour {
 }
 
 fn at_tick(router: RouterId, mtu: u16, tick: u64) -> Local {
-    Local { router, mtu, tick }
+    Local {
+        router,
+        mtu,
+        tick,
+        passes_over: false,
+    }
 }
 
 fn description(mtu: u16, flags: u8, number: u32) -> Description {
@@ -534,6 +539,42 @@ fn hear_other_type(
     }];
     let heard = hear_slave(neighbour, 0, HIGH_NUMBER, &told, database, alloc)?;
     Ok((heard, neighbour.state()))
+}
+
+// What a slave's packet of an LS type answers a master that passes over summaries and externals, the state then, and how
+// many LSAs are requested.
+fn hear_type_passed_over(kind: u8, alloc: Global) -> Result<(Heard, NeighbourState, usize), Fail> {
+    let database = filled(alloc, 0, 2)?;
+    let mut neighbour = starting(alloc, LOW, HIGH_NUMBER);
+    let other = LsaHeader {
+        kind,
+        ..header_of(alloc, 8, FIRST_NUMBER)?
+    };
+    let told = [other, header_of(alloc, 9, FIRST_NUMBER)?];
+    let local = Local {
+        passes_over: true,
+        ..at_tick(HIGH, 576, 11)
+    };
+    let next = description(576, 0, HIGH_NUMBER);
+    let heard = hear(&mut neighbour, next, &told, &database, local, alloc)?;
+    Ok((heard, neighbour.state(), neighbour.requests().len()))
+}
+
+#[test]
+fn summaries_and_externals_are_passed_over(rt: HostRuntime) -> Result<(), Fail> {
+    for kind in [3, 4, 5] {
+        let passed = (Ok(DdAnswer::Sends), NeighbourState::Exchange, 1);
+        assert_eq!(rt; hear_type_passed_over(kind, rt.alloc())?, passed);
+    }
+    for kind in [0, 6, 7, 9, 10, 11] {
+        let refused = (
+            Err(ExchangeFault::Mismatch),
+            NeighbourState::Exchange,
+            0,
+        );
+        assert_eq!(rt; hear_type_passed_over(kind, rt.alloc())?, refused);
+    }
+    Ok(())
 }
 
 // The state after SeqNumberMismatch, and how many headers are still to be described.

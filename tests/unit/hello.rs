@@ -39,6 +39,7 @@ const LOCAL: Local = Local {
     router: OWN,
     mtu: 1500,
     tick: 7,
+    passes_over: false,
 };
 
 fn hello(priority: u8, dr: Addr, backup: Addr) -> Hello {
@@ -59,6 +60,7 @@ fn outbox(alloc: Global, link: &Iface) -> Outbox {
         router: OWN,
         area: AreaId(0),
         tick: LOCAL.tick,
+        passes_over: false,
     };
     Outbox::new(Outputs::new(alloc), own, 0, link)
 }

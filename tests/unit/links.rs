@@ -87,6 +87,7 @@ fn router_of(
         router: settings.router,
         area: AreaId(0),
         stub_router: false,
+        passes_over: false,
         links,
         database: Lsdb::new(alloc),
         direct: Vec::new(alloc),

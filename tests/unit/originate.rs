@@ -141,6 +141,7 @@ fn area(alloc: Global, own: End, stub_router: bool, floor: i32, links: Vec<AreaL
         router: own.router,
         area: AreaId(0),
         stub_router,
+        passes_over: false,
         links,
         database: Lsdb::new(alloc),
         direct: Vec::new(alloc),

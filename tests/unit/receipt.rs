@@ -43,6 +43,7 @@ const LOCAL: Local = Local {
     router: OWN,
     mtu: 1500,
     tick: 7,
+    passes_over: false,
 };
 
 // Router 2 in 2-Way, at its address.

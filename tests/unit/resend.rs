@@ -26,6 +26,7 @@ const LOCAL: Local = Local {
     router: RouterId(9),
     mtu: MTU,
     tick: 7,
+    passes_over: false,
 };
 
 fn require(holds: bool) -> Result<(), Fail> {
@@ -63,6 +64,7 @@ fn outbox(alloc: Global) -> Outbox {
         router: LOCAL.router,
         area: AreaId(0),
         tick: LOCAL.tick,
+        passes_over: false,
     };
     Outbox::new(Outputs::new(alloc), own, 0, &iface())
 }

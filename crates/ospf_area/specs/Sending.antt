@@ -17,7 +17,7 @@ use Rattle.ospf_area.specs.declared.sending.Way.{Way}
 
 -- what a call needs to know of the router
 abbrev pub own_of : AreaValue → Own
-own_of s = record { router = s.router; area = s.area; tick = s.tick }
+own_of s = record { router = s.router; area = s.area; tick = s.tick; passes_over = s.passes_over }
 
 -- the outputs, and then these datagrams
 abbrev pub and_sends : OutputsValue → List SentValue → OutputsValue

@@ -38,6 +38,7 @@ pub record AreaValue : Type 0 where
   pub router : RouterId
   pub area : AreaId
   pub stub_router : Bool
+  pub passes_over : Bool
   pub links : List LinkValue
   pub database : List Held
   pub direct : List LsaHeader

@@ -20,6 +20,8 @@ pub struct Own {
     pub area: AreaId,
     /// The present tick.
     pub tick: u64,
+    /// Whether LSAs of LS types 3, 4 and 5 are passed over.
+    pub passes_over: bool,
 }
 
 /// What a call needs to know of the router.
@@ -30,6 +32,7 @@ pub fn own_of(area: &Area) -> Own
         router: area.router,
         area: area.area,
         tick: area.tick,
+        passes_over: area.passes_over,
     }
 }
 

@@ -7,9 +7,9 @@ use Rattle.ospf_config.specs.declared.fault.ConfigFault.TheVariants as fault
 use Rattle.ospf_config.specs.Fault.{fault_number, IsLeast}
 use Rattle.ospf_config.proofs.Least.{least_number, least_of}
 use Rattle.ospf_config.specs.Reading.{ReadsValue, Required, Optional, IsNumberIn, as_integers}
-use Rattle.ospf_config.specs.Texts.{IsRouterIdText, IsAreaText, IsKindText, IsAddressText}
+use Rattle.ospf_config.specs.Texts.{IsRouterIdText, IsAreaText, IsOtherLsasText, IsKindText, IsAddressText}
 use Rattle.ospf_config.specs.Keys.{ReadsCostValue, ReadsCostAt, IsPortNumber, ArePortNumbers}
-use Rattle.ospf_config.specs.Tables.{HasTopFault, in_router_id, in_area, in_stub_router, in_interface, HasInterfaceFault, in_kind, in_address, in_cost, in_priority, in_hello, in_dead, in_retransmit, in_transmit_delay, in_mtu, in_port, in_peers, HaveSamePrefix, IsDeadNotOverHello, HasOtherKey, HasKeyFault, HasFault, AreInterfaceTables, as_tables, interface_tables, top_keys, interface_keys}
+use Rattle.ospf_config.specs.Tables.{HasTopFault, in_router_id, in_area, in_stub_router, in_other_lsas, in_interface, HasInterfaceFault, in_kind, in_address, in_cost, in_priority, in_hello, in_dead, in_retransmit, in_transmit_delay, in_mtu, in_port, in_peers, HaveSamePrefix, IsDeadNotOverHello, HasOtherKey, HasKeyFault, HasFault, AreInterfaceTables, as_tables, interface_tables, top_keys, interface_keys}
 
 abbrev error : (T : Type 0) → ConfigFault → Result T ConfigFault
 error T f = Err f
@@ -53,6 +53,7 @@ top_low : (t : Members) (f : ConfigFault) → HasTopFault t f → fault_number f
 top_low t f (in_router_id h) = required_low IsRouterIdText as_str (get_member (codes "router_id") t) f h
 top_low t f (in_area h) = required_low IsAreaText as_str (get_member (codes "area") t) f h
 top_low t f (in_stub_router h) = optional_low (λ b c. b ≡ c) as_bool false (get_member (codes "stub_router") t) f h
+top_low t f (in_other_lsas h) = optional_low IsOtherLsasText as_str false (get_member (codes "other_lsas") t) f h
 top_low t f (in_interface h) = required_low AreInterfaceTables as_tables (get_member (codes "interface") t) f h
 
 interface_low : (t : Members) (f : ConfigFault) → HasInterfaceFault t f → fault_number f ≤ 5
@@ -95,6 +96,7 @@ top_high : (t : Members) (f : ConfigFault) → HasTopFault t f → 2 ≤ fault_n
 top_high t f (in_router_id h) = required_high IsRouterIdText as_str (get_member (codes "router_id") t) f h
 top_high t f (in_area h) = required_high IsAreaText as_str (get_member (codes "area") t) f h
 top_high t f (in_stub_router h) = optional_high (λ b c. b ≡ c) as_bool false (get_member (codes "stub_router") t) f h
+top_high t f (in_other_lsas h) = optional_high IsOtherLsasText as_str false (get_member (codes "other_lsas") t) f h
 top_high t f (in_interface h) = required_high AreInterfaceTables as_tables (get_member (codes "interface") t) f h
 
 interface_high : (t : Members) (f : ConfigFault) → HasInterfaceFault t f → 2 ≤ fault_number f

@@ -2,8 +2,8 @@
 use Rattle.std.proofs.Common.{◌≡◌, false, None, [], codes}
 use Rattle.toml.specs.Data.{Members, get_member, as_str, as_bool, as_integer}
 use Rattle.ospf_config.specs.Reading.{IsNumberIn, as_integers}
-use Rattle.ospf_config.specs.Texts.{IsRouterIdText, IsAreaText, IsKindText, IsAddressText}
-use Rattle.ospf_config.specs.Keys.{ReadsRouterId, ReadsArea, ReadsStubRouter, ReadsKind, ReadsAddress, ReadsCost, ReadsPriority, ReadsHello, ReadsDead, ReadsRetransmit, ReadsTransmitDelay, ReadsMtu, ReadsPort, ReadsPeers, IsPortNumber, ArePortNumbers}
+use Rattle.ospf_config.specs.Texts.{IsRouterIdText, IsAreaText, IsOtherLsasText, other_lsas_text, IsKindText, IsAddressText}
+use Rattle.ospf_config.specs.Keys.{ReadsRouterId, ReadsArea, ReadsStubRouter, ReadsOtherLsas, ReadsKind, ReadsAddress, ReadsCost, ReadsPriority, ReadsHello, ReadsDead, ReadsRetransmit, ReadsTransmitDelay, ReadsMtu, ReadsPort, ReadsPeers, IsPortNumber, ArePortNumbers}
 use Rattle.ospf_config.specs.Tables.{ReadsInterfaces, AreInterfaceTables, as_tables}
 use Rattle.ospf_config.proofs.Least.{IsSingle, required_single, optional_single, cost_single}
 
@@ -16,6 +16,9 @@ module _ (t : Members) where
 
   pub stub_router_single : IsSingle (ReadsStubRouter t)
   stub_router_single = optional_single (λ b c. b ≡ c) as_bool false (get_member (codes "stub_router") t)
+
+  pub other_lsas_single : IsSingle (ReadsOtherLsas t)
+  other_lsas_single = optional_single IsOtherLsasText as_str false (get_member (codes "other_lsas") t)
 
   pub interface_single : IsSingle (ReadsInterfaces t)
   interface_single = required_single AreInterfaceTables as_tables (get_member (codes "interface") t)

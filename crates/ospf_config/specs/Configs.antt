@@ -5,7 +5,7 @@ use Rattle.toml.specs.Parse.{parse_document}
 use Rattle.ospf_config.specs.declared.config.Config.{Config}
 use Rattle.ospf_config.specs.declared.fault.ConfigFault.{ConfigFault}
 use Rattle.ospf_config.specs.declared.fault.ConfigFault.TheVariants as fault
-use Rattle.ospf_config.specs.Keys.{ReadsRouterId, ReadsArea, ReadsStubRouter}
+use Rattle.ospf_config.specs.Keys.{ReadsRouterId, ReadsArea, ReadsStubRouter, ReadsOtherLsas}
 use Rattle.ospf_config.specs.Interfaces.{IsInterfaceOf}
 use Rattle.ospf_config.specs.Pairs.{EachPair}
 use Rattle.ospf_config.specs.Tables.{HasFault, interface_tables}
@@ -15,6 +15,7 @@ pub record IsConfigOf (t : Members) (c : Config) : Type 0 where
   pub router_id : ReadsRouterId t (Ok c.router_id)
   pub area : ReadsArea t (Ok c.area)
   pub stub_router : ReadsStubRouter t (Ok c.stub_router)
+  pub passes_over : ReadsOtherLsas t (Ok c.passes_over)
   pub interfaces : EachPair IsInterfaceOf (interface_tables t) c.interfaces.items
 
 -- the text has the fault: it is no TOML, or its table has the fault

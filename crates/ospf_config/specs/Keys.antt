@@ -10,7 +10,7 @@ use Rattle.ospf_config.specs.declared.interface.Port.{Port}
 use Rattle.ospf_config.specs.declared.fault.ConfigFault.{ConfigFault}
 use Rattle.ospf_config.specs.declared.fault.ConfigFault.TheVariants as fault
 use Rattle.ospf_config.specs.Reading.{ReadsValue, Required, Optional, IsNumberIn, as_integers}
-use Rattle.ospf_config.specs.Texts.{IsRouterIdText, IsAreaText, IsKindText, IsAddressText}
+use Rattle.ospf_config.specs.Texts.{IsRouterIdText, IsAreaText, IsOtherLsasText, IsKindText, IsAddressText}
 
 -- ---- at the top
 
@@ -22,6 +22,9 @@ ReadsArea t r = Required as_str IsAreaText (get_member (codes "area") t) r
 
 abbrev pub ReadsStubRouter : Members → Result Bool ConfigFault → Type 0
 ReadsStubRouter t r = Optional as_bool (λ b c. b ≡ c) false (get_member (codes "stub_router") t) r
+
+abbrev pub ReadsOtherLsas : Members → Result Bool ConfigFault → Type 0
+ReadsOtherLsas t r = Optional as_str IsOtherLsasText false (get_member (codes "other_lsas") t) r
 
 -- ---- of an interface (RFC 2328, appendix C.3)
 

@@ -6,7 +6,7 @@ use Rattle.ospf_config.specs.declared.address.InterfaceAddress.{InterfaceAddress
 use Rattle.ospf_config.specs.declared.fault.ConfigFault.{ConfigFault}
 use Rattle.ospf_config.specs.declared.fault.ConfigFault.TheVariants as fault
 use Rattle.ospf_config.specs.Reading.{Required}
-use Rattle.ospf_config.specs.Keys.{ReadsRouterId, ReadsArea, ReadsStubRouter, ReadsKind, ReadsAddress, ReadsCost, ReadsPriority, ReadsHello, ReadsDead, ReadsRetransmit, ReadsTransmitDelay, ReadsMtu, ReadsPort, ReadsPeers}
+use Rattle.ospf_config.specs.Keys.{ReadsRouterId, ReadsArea, ReadsStubRouter, ReadsOtherLsas, ReadsKind, ReadsAddress, ReadsCost, ReadsPriority, ReadsHello, ReadsDead, ReadsRetransmit, ReadsTransmitDelay, ReadsMtu, ReadsPort, ReadsPeers}
 use Rattle.ospf_config.specs.Conflicts.{Conflict}
 
 -- ---- the tables of the interfaces
@@ -45,6 +45,7 @@ pub data HasTopFault (t : Members) (f : ConfigFault) : Type 0 where
   in_router_id : ReadsRouterId t (Err f) → HasTopFault t f
   in_area : ReadsArea t (Err f) → HasTopFault t f
   in_stub_router : ReadsStubRouter t (Err f) → HasTopFault t f
+  in_other_lsas : ReadsOtherLsas t (Err f) → HasTopFault t f
   in_interface : ReadsInterfaces t (Err f) → HasTopFault t f
 
 -- a key of the interface has the fault
@@ -93,7 +94,7 @@ keys_of no_members = []
 keys_of (member k d ms) = k ∷ keys_of ms
 
 abbrev pub top_keys : List (List ℕ)
-top_keys = codes "router_id" ∷ codes "area" ∷ codes "stub_router" ∷ codes "interface" ∷ []
+top_keys = codes "router_id" ∷ codes "area" ∷ codes "stub_router" ∷ codes "other_lsas" ∷ codes "interface" ∷ []
 
 abbrev pub interface_keys : List (List ℕ)
 interface_keys =

@@ -1,5 +1,5 @@
 -- The texts that stand for Router IDs, areas, kinds and addresses of interfaces.
-use Rattle.std.specs.Prelude.{◌≡◌, ℕ, ◌^◌, ◌<◌, List, ◌++◌, codes, decimal}
+use Rattle.std.specs.Prelude.{◌≡◌, ℕ, ◌^◌, ◌<◌, Bool, true, false, List, ◌++◌, codes, decimal}
 use Rattle.ospf_base.specs.Text.{IsDottedNumber}
 use Rattle.ospf_base.specs.declared.ids.RouterId.{RouterId}
 use Rattle.ospf_base.specs.declared.ids.AreaId.{AreaId}
@@ -23,6 +23,14 @@ kind_text Broadcast = codes "broadcast"
 
 abbrev pub IsKindText : List ℕ → InterfaceKind → Type 0
 IsKindText text kind = text ≡ kind_text kind
+
+abbrev pub other_lsas_text : Bool → List ℕ
+other_lsas_text false = codes "refuse"
+other_lsas_text true = codes "pass over"
+
+-- the word for it that LSAs of LS types 3, 4 and 5 are passed over, or refused
+abbrev pub IsOtherLsasText : List ℕ → Bool → Type 0
+IsOtherLsasText text passes_over = text ≡ other_lsas_text passes_over
 
 -- a dotted number, a slash and a decimal number without leading zeros
 pub record IsPrefixText (text : List ℕ) (address prefix_length : ℕ) : Type 0 where

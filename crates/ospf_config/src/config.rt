@@ -14,6 +14,8 @@ pub struct Config {
     pub area: AreaId,
     /// Whether the router is a stub router (RFC 6987).
     pub stub_router: bool,
+    /// Whether LSAs of LS types 3, 4 and 5 are passed over: else their headers are refused.
+    pub passes_over: bool,
     /// One to 32 interfaces, of which no two have one prefix or one address. A link's number is its
     /// place here.
     pub interfaces: Vec<Interface>,

@@ -13,7 +13,7 @@ use crate::keys::{
     transmit_delay_at, value_at,
 };
 use crate::peers::peers_fault;
-use crate::top::{area_at, router_id_at, stub_router_at};
+use crate::top::{area_at, other_lsas_at, router_id_at, stub_router_at};
 use toml::{Table, Value};
 
 // The least fault of the keys of an interface.
@@ -101,7 +101,8 @@ fn top_fault(table: &Table) -> Option<ConfigFault>
     ensures { IsLeastIfAny (HasTopFault (table_view table.now)) result }
 {
     let ids = earlier(router_id_at(table).err(), area_at(table).err());
-    let others = earlier(stub_router_at(table).err(), list_fault(table));
+    let ways = earlier(stub_router_at(table).err(), other_lsas_at(table).err());
+    let others = earlier(ways, list_fault(table));
     earlier(ids, others)
 }
 

@@ -23,4 +23,4 @@ pub use crate::keys::{
 };
 pub use crate::peers::peers_fault;
 pub use crate::rules::{interface_names, is_dead_not_over_hello, is_other, table_in, top_names};
-pub use crate::top::{area_at, router_id_at, stub_router_at};
+pub use crate::top::{area_at, other_lsas_at, router_id_at, stub_router_at};

@@ -21,7 +21,7 @@ use crate::keys::{
 };
 use crate::peers::peers_at;
 use crate::rules::{addresses_of, has_conflict, is_any_dead, is_any_unknown, table_in};
-use crate::top::{area_at, router_id_at, stub_router_at};
+use crate::top::{area_at, other_lsas_at, router_id_at, stub_router_at};
 use std::alloc::Global;
 use toml::{Table, Value};
 
@@ -82,11 +82,13 @@ fn config_at(alloc: Global, table: &Table, values: &[Value]) -> Result<Config, C
     let router_id = router_id_at(table)?;
     let area = area_at(table)?;
     let stub_router = stub_router_at(table)?;
+    let passes_over = other_lsas_at(table)?;
     let interfaces = interfaces_of(alloc, values)?;
     Ok(Config {
         router_id,
         area,
         stub_router,
+        passes_over,
         interfaces,
     })
 }

@@ -166,10 +166,16 @@ fn has_any_unknown_key(values: &[Value]) -> bool
 }
 
 /// The keys at the top.
-pub fn top_names() -> [&'static str; 4]
+pub fn top_names() -> [&'static str; 5]
     ensures { map (λ k. k.now) result ≡ top_keys }
 {
-    ["router_id", "area", "stub_router", "interface"]
+    [
+        "router_id",
+        "area",
+        "stub_router",
+        "other_lsas",
+        "interface",
+    ]
 }
 
 // Whether a key is not known.

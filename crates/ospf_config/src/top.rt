@@ -3,8 +3,8 @@
 ghost use Rattle.std.specs.Prelude.{◌≡◌, ◌<◌, IfOk, option_copied};
 ghost use Rattle.toml.specs.View.{table_view};
 ghost use Rattle.ospf_config.specs.Reading.{ReadsValue};
-ghost use Rattle.ospf_config.specs.Texts.{IsRouterIdText, IsAreaText};
-ghost use Rattle.ospf_config.specs.Keys.{ReadsRouterId, ReadsArea, ReadsStubRouter};
+ghost use Rattle.ospf_config.specs.Texts.{IsRouterIdText, IsAreaText, IsOtherLsasText};
+ghost use Rattle.ospf_config.specs.Keys.{ReadsRouterId, ReadsArea, ReadsStubRouter, ReadsOtherLsas};
 
 use crate::address::dotted_number;
 use crate::fault::ConfigFault;
@@ -67,5 +67,28 @@ pub fn stub_router_at(table: &Table) -> Result<bool, ConfigFault>
     match value_at(table, "stub_router") {
         None => Ok(false),
         Some(value) => value.as_bool().ok_or(ConfigFault::Type),
+    }
+}
+
+// Whether LSAs of LS types 3, 4 and 5 are passed over, as a text says.
+fn other_lsas_of(text: Option<&str>) -> Result<bool, ConfigFault>
+    ensures { ReadsValue IsOtherLsasText (option_copied text.entry) result }
+{
+    match text {
+        None => Err(ConfigFault::Type),
+        Some("refuse") => Ok(false),
+        Some("pass over") => Ok(true),
+        Some(_) => Err(ConfigFault::Range),
+    }
+}
+
+/// Whether LSAs of LS types 3, 4 and 5 are passed over, at the key `other_lsas`: not where nothing is there; or the fault
+/// of the key.
+pub fn other_lsas_at(table: &Table) -> Result<bool, ConfigFault>
+    ensures { ReadsOtherLsas (table_view table.now) result }
+{
+    match value_at(table, "other_lsas") {
+        None => Ok(false),
+        Some(value) => other_lsas_of(value.as_str()),
     }
 }

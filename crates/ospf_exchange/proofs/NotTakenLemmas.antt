@@ -8,7 +8,7 @@ use Rattle.ospf_neighbour.specs.Neighbour.{NeighbourValue}
 use Rattle.ospf_neighbour.specs.declared.neighbour.Exchanging.{Exchanging}
 use Rattle.ospf_exchange.specs.Exchange.{after_rule, after_dd, all_told, answer_to, dd_answer}
 use Rattle.ospf_exchange.specs.Laws.{NotTakenIsUnchanged, is_not_taken}
-use Rattle.ospf_exchange.specs.Rules.{all_known, dd_rule, rule_by_fields, rule_with, skips}
+use Rattle.ospf_exchange.specs.Rules.{all_known, dd_rule, considered, rule_by_fields, rule_with, skips}
 use Rattle.ospf_exchange.specs.declared.description.DdAnswer.TheVariants as answer
 use Rattle.ospf_exchange.specs.declared.fault.ExchangeFault.TheVariants as fault
 use Rattle.ospf_exchange.specs.declared.rule.Local.{Local}
@@ -37,7 +37,7 @@ not_taken_rule Next local d headers db n is = absurd (taken_is_taken (n.exchangi
 -- one that is not taken changes nothing
 pub not_taken : NotTakenIsUnchanged
 unfolding dd_answer after_dd
-not_taken local sender d headers db n is = not_taken_rule (dd_rule local sender d headers n) local d headers db n is
+not_taken local sender d headers db n is = not_taken_rule (dd_rule local sender d headers n) local d (considered local.passes_over headers) db n is
 
 -- ---- by its rule
 
@@ -56,19 +56,19 @@ next_taken false d headers x = refl
 some_header : (n : ℕ) → not (suc n == 0) ≡ true
 some_header n = let apart : suc n == 0 ≡ false = grind arith in ap not apart
 
-skipped_rule : (rule : DdRule) (d : Description) (headers : List LsaHeader) (x : Exchanging) → skips rule headers ≡ is_not_taken (answer_to (rule_with rule headers) d headers x)
-skipped_rule TooLong d headers x = refl
-skipped_rule NotTaken d headers x = refl
-skipped_rule MakesSlave d [] x = refl
-skipped_rule MakesSlave d (h ∷ headers) x = some_header (length headers)
-skipped_rule MakesMaster d headers x = sym (master_taken (all_known headers) (true && all_told x d))
-skipped_rule PassedOver d headers x = refl
-skipped_rule Repeats d headers x = refl
-skipped_rule Mismatch d headers x = refl
-skipped_rule Next d headers x = sym (next_taken (all_known headers) d headers x)
+skipped_rule : (passes_over : Bool) (rule : DdRule) (d : Description) (headers : List LsaHeader) (x : Exchanging) → skips rule headers ≡ is_not_taken (answer_to (rule_with passes_over rule headers) d (considered passes_over headers) x)
+skipped_rule passes_over TooLong d headers x = refl
+skipped_rule passes_over NotTaken d headers x = refl
+skipped_rule passes_over MakesSlave d [] x = refl
+skipped_rule passes_over MakesSlave d (h ∷ headers) x = some_header (length headers)
+skipped_rule passes_over MakesMaster d headers x = sym (master_taken (all_known (considered passes_over headers)) (true && all_told x d))
+skipped_rule passes_over PassedOver d headers x = refl
+skipped_rule passes_over Repeats d headers x = refl
+skipped_rule passes_over Mismatch d headers x = refl
+skipped_rule passes_over Next d headers x = sym (next_taken (all_known (considered passes_over headers)) d (considered passes_over headers) x)
 
 pub skipped : (local : Local) (sender : RouterId) (d : Description) (headers : List LsaHeader) (n : NeighbourValue) (rule : DdRule)
     → rule ≡ rule_by_fields local sender d n.state n.exchanging → skips rule headers ≡ is_not_taken (dd_answer local sender d headers n)
 unfolding dd_answer dd_rule
 skipped local sender d headers n rule is =
-    ap (λ (r : DdRule). skips r headers) is ∙ skipped_rule (rule_by_fields local sender d n.state n.exchanging) d headers n.exchanging
+    ap (λ (r : DdRule). skips r headers) is ∙ skipped_rule local.passes_over (rule_by_fields local sender d n.state n.exchanging) d headers n.exchanging

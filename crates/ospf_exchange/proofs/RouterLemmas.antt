@@ -7,7 +7,7 @@ use Rattle.ospf_neighbour.specs.Neighbour.{NeighbourValue}
 use Rattle.ospf_exchange.specs.Exchange.{begun, told, describes, ends, all_told, turn_of_master, turn_of_slave, taken, after_rule, after_dd}
 use Rattle.ospf_exchange.specs.Headers.{wanted}
 use Rattle.ospf_exchange.specs.Laws.{DescriptionsKeepRouters, KeepsRouter}
-use Rattle.ospf_exchange.specs.Rules.{all_known, dd_rule}
+use Rattle.ospf_exchange.specs.Rules.{all_known, dd_rule, considered}
 use Rattle.ospf_exchange.specs.declared.rule.Local.{Local}
 use Rattle.ospf_exchange.specs.declared.rule.DdRule.{DdRule}
 use Rattle.ospf_exchange.specs.declared.rule.DdRule.TheVariants.{TooLong, NotTaken, MakesSlave, MakesMaster, PassedOver, Repeats, Mismatch, Next}
@@ -68,4 +68,4 @@ by_rule MakesMaster local d headers db n =
 
 pub keep_routers : DescriptionsKeepRouters
 unfolding after_dd
-keep_routers local sender d headers db n = by_rule (dd_rule local sender d headers n) local d headers db n
+keep_routers local sender d headers db n = by_rule (dd_rule local sender d headers n) local d (considered local.passes_over headers) db n

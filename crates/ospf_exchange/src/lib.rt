@@ -20,5 +20,5 @@ pub use crate::laws::{
     lists_are_copies, not_taken_is_unchanged, requests_are_told,
 };
 pub use crate::request::{is_request_due, next_request, on_request};
-pub use crate::rule::Local;
+pub use crate::rule::{Local, is_other};
 pub use crate::timers::{begin, dd_sent, is_dd_due, is_request_repeat_due};

@@ -17,13 +17,13 @@ use Rattle.ospf_config.specs.declared.fault.ConfigFault.{ConfigFault}
 use Rattle.ospf_config.specs.declared.fault.ConfigFault.TheVariants as fault
 use Rattle.ospf_explain.specs.declared.rows.Row.{Row}
 use Rattle.ospf_config.specs.Configs.{TextHasFault}
-use Rattle.ospf_explain.specs.Explained.{KnownKey, KeyHas, key_name, item_number, IsValueText, IsFound, IsKeyPlace, IsKnownPlace, ArePlacesOf, no_key, taken, passed, IsPlaceWhere, told, not_told, AreTopPlaces, AreInConflict, AreInterfacePlaces, AreAllPlaces, one_more, IsLineIn, IsExplained, keys_at_top, keys_of_interface, router_id_key, area_key, stub_router_key, interface_key, kind_key, address_key, cost_key, priority_key, hello_key, dead_key, retransmit_key, transmit_delay_key, mtu_key, port_key, peers_key}
+use Rattle.ospf_explain.specs.Explained.{KnownKey, KeyHas, key_name, item_number, IsValueText, IsFound, IsKeyPlace, IsKnownPlace, ArePlacesOf, no_key, taken, passed, IsPlaceWhere, told, not_told, AreTopPlaces, AreInConflict, AreInterfacePlaces, AreAllPlaces, one_more, IsLineIn, IsExplained, keys_at_top, keys_of_interface, router_id_key, area_key, stub_router_key, other_lsas_key, interface_key, kind_key, address_key, cost_key, priority_key, hello_key, dead_key, retransmit_key, transmit_delay_key, mtu_key, port_key, peers_key}
 use Rattle.ospf_config.specs.Pairs.{EachPair}
 use Rattle.ospf_explain.specs.Rows.{IsRowOf, Adds}
 use Rattle.ospf_config.specs.Tables.{IsDeadNotOverHello, IsTableWith, keys_of, tables_of}
 use Rattle.ospf_config.proofs.Least.{IsSingle}
 use Rattle.ospf_config.proofs.PeerLists.{none_is_some}
-use Rattle.ospf_config.proofs.Singles.{router_id_single, area_single, stub_router_single, interface_single, kind_single, address_single, hello_single, dead_single, retransmit_single, transmit_delay_single, only_cost, priority_single, mtu_single, port_single, peers_single}
+use Rattle.ospf_config.proofs.Singles.{router_id_single, area_single, stub_router_single, other_lsas_single, interface_single, kind_single, address_single, hello_single, dead_single, retransmit_single, transmit_delay_single, only_cost, priority_single, mtu_single, port_single, peers_single}
 use Rattle.ospf_config.proofs.TableLists.{any_table, any_value, tables_push}
 
 -- ---- lists that grow
@@ -94,6 +94,7 @@ module _ (t : Members) where
   one_fault router_id_key f g a b = (router_id_single t).one f g a b
   one_fault area_key f g a b = (area_single t).one f g a b
   one_fault stub_router_key f g a b = (stub_router_single t).one f g a b
+  one_fault other_lsas_key f g a b = (other_lsas_single t).one f g a b
   one_fault interface_key f g a b = (interface_single t).one f g a b
   one_fault kind_key f g a b = (kind_single t).one f g a b
   one_fault address_key f g a b = (address_single t).one f g a b

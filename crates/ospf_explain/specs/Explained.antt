@@ -11,7 +11,7 @@ use Rattle.ospf_explain.specs.declared.explained.KeyExplained.{KeyExplained}
 use Rattle.ospf_config.specs.declared.fault.ConfigFault.{ConfigFault}
 use Rattle.ospf_config.specs.declared.fault.ConfigFault.TheVariants as fault
 use Rattle.ospf_config.specs.Conflicts.{Conflict}
-use Rattle.ospf_config.specs.Keys.{ReadsRouterId, ReadsArea, ReadsStubRouter, ReadsKind, ReadsAddress, ReadsCost, ReadsPriority, ReadsHello, ReadsDead, ReadsRetransmit, ReadsTransmitDelay, ReadsMtu, ReadsPort, ReadsPeers}
+use Rattle.ospf_config.specs.Keys.{ReadsRouterId, ReadsArea, ReadsStubRouter, ReadsOtherLsas, ReadsKind, ReadsAddress, ReadsCost, ReadsPriority, ReadsHello, ReadsDead, ReadsRetransmit, ReadsTransmitDelay, ReadsMtu, ReadsPort, ReadsPeers}
 use Rattle.ospf_config.specs.Tables.{ReadsInterfaces, IsDeadNotOverHello, IsOther, interface_tables, keys_of, top_keys, interface_keys}
 
 -- ---- the keys
@@ -20,6 +20,7 @@ pub data KnownKey : Type 0 where
   router_id_key : KnownKey
   area_key : KnownKey
   stub_router_key : KnownKey
+  other_lsas_key : KnownKey
   interface_key : KnownKey
   kind_key : KnownKey
   address_key : KnownKey
@@ -35,7 +36,7 @@ pub data KnownKey : Type 0 where
 
 -- the keys at the top, in the order in which they are told
 abbrev pub keys_at_top : List KnownKey
-keys_at_top = router_id_key ∷ area_key ∷ stub_router_key ∷ interface_key ∷ []
+keys_at_top = router_id_key ∷ area_key ∷ stub_router_key ∷ other_lsas_key ∷ interface_key ∷ []
 
 -- the keys of an interface, in the order in which they are told
 abbrev pub keys_of_interface : List KnownKey
@@ -47,6 +48,7 @@ abbrev pub key_name : KnownKey → List ℕ
 key_name router_id_key = codes "router_id"
 key_name area_key = codes "area"
 key_name stub_router_key = codes "stub_router"
+key_name other_lsas_key = codes "other_lsas"
 key_name interface_key = codes "interface"
 key_name kind_key = codes "kind"
 key_name address_key = codes "address"
@@ -65,6 +67,7 @@ abbrev pub wanted_at : KnownKey → List ℕ
 wanted_at router_id_key = codes "a dotted text, as \"10.0.0.1\", other than \"0.0.0.0\","
 wanted_at area_key = codes "a dotted text, as \"0.0.0.1\","
 wanted_at stub_router_key = codes "true or false"
+wanted_at other_lsas_key = codes "\"refuse\" or \"pass over\""
 wanted_at interface_key = codes "1 to 32 tables [[interface]]"
 wanted_at kind_key = codes "\"point-to-point\" or \"broadcast\""
 wanted_at address_key = codes "a host's address with the length of its prefix, 1 to 30, as \"10.0.0.1/30\","
@@ -83,6 +86,7 @@ abbrev pub KeyHas : Members → ConfigFault → KnownKey → Type 0
 KeyHas t f router_id_key = ReadsRouterId t (Err f)
 KeyHas t f area_key = ReadsArea t (Err f)
 KeyHas t f stub_router_key = ReadsStubRouter t (Err f)
+KeyHas t f other_lsas_key = ReadsOtherLsas t (Err f)
 KeyHas t f interface_key = ReadsInterfaces t (Err f)
 KeyHas t f kind_key = ReadsKind t (Err f)
 KeyHas t f address_key = ReadsAddress t (Err f)

@@ -8,7 +8,7 @@ ghost use Rattle.ospf_explain.specs.Rows.{IsRowOf};
 
 use ospf_config::{
     ConfigFault, address_at, area_at, cost_at, dead_at, hello_at, kind_at, list_fault, mtu_at,
-    peers_fault, port_at, priority_at, retransmit_at, router_id_at, stub_router_at,
+    other_lsas_at, peers_fault, port_at, priority_at, retransmit_at, router_id_at, stub_router_at,
     transmit_delay_at,
 };
 use toml::Table;
@@ -30,7 +30,7 @@ fn key_row(key: &'static str, fault: Option<ConfigFault>, wanted: &'static str) 
 }
 
 // The keys at the top.
-pub(crate) fn top_rows(table: &Table) -> [Row; 4]
+pub(crate) fn top_rows(table: &Table) -> [Row; 5]
     ensures { EachPair (IsRowOf (table_view table.now)) keys_at_top result }
 {
     let dotted = "a dotted text, as \"10.0.0.1\", other than \"0.0.0.0\",";
@@ -42,6 +42,11 @@ pub(crate) fn top_rows(table: &Table) -> [Row; 4]
             "a dotted text, as \"0.0.0.1\",",
         ),
         key_row("stub_router", stub_router_at(table).err(), "true or false"),
+        key_row(
+            "other_lsas",
+            other_lsas_at(table).err(),
+            "\"refuse\" or \"pass over\"",
+        ),
         key_row(
             "interface",
             list_fault(table),

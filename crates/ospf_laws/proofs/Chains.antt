@@ -104,10 +104,10 @@ slice_put f bytes parts s t u out mid_out out' read (TakesSlice.Met is m) next =
     let met = lsa_puts f bytes s out m.so_far m.mid m.meets in
     puts_more (LsaComes f bytes) (Requests ∷ parts) s m.mid u out m.so_far out' (record { own = met.own; is = LsaPart.Meets is met.is; behind = met.behind })
     (puts_more Requests parts m.mid t u m.so_far mid_out out' (requests_put m.mid t m.so_far mid_out m.state m.outputs read) next)
-slice_put f bytes parts s t u out mid_out out' read (TakesSlice.PassedOver not_one same) next =
-    let here : PutsOut (λ o. Chain parts s o u) out out' = subst (λ o. PutsOut (λ x. Chain parts s x u) o out') same.outputs (subst (λ t. PutsOut (λ x. Chain parts t x u) mid_out out') same.state next) in
-    puts_more (LsaComes f bytes) (Requests ∷ parts) s s u out out out' (record { own = no_outputs; is = LsaPart.PassedOver not_one (record { state = refl; outputs = refl }); behind = sym (then_nothing out) })
-    (puts_more Requests parts s s u out out out' (record { own = no_outputs; is = nothing-quiet s; behind = sym (then_nothing out) }) here)
+slice_put f bytes parts s t u out mid_out out' read (TakesSlice.PassedOver not_one passes outputs) next =
+    let here : PutsOut (λ o. Chain parts t o u) out out' = subst (λ o. PutsOut (λ x. Chain parts t x u) o out') outputs next in
+    puts_more (LsaComes f bytes) (Requests ∷ parts) s t u out out out' (record { own = no_outputs; is = LsaPart.PassedOver not_one passes refl; behind = sym (then_nothing out) })
+    (puts_more Requests parts t t u out out out' (record { own = no_outputs; is = nothing-quiet t; behind = sym (then_nothing out) }) here)
 
 slices_put : (f : Origin) (slices : List (List ℕ)) (rest : List Part) (s t u : AreaValue) (out mid_out out' : OutputsValue) → AreRead out'.sent → TakesSlices f slices s out mid_out t → PutsOut (λ o. Chain rest t o u) mid_out out' → PutsOut (λ o. Chain (lsa_parts f slices ++ rest) s o u) out out'
 slices_put f [] rest s t u out mid_out out' read same next =

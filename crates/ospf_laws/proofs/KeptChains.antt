@@ -20,6 +20,7 @@ use Rattle.ospf_laws.specs.Parts.{AgesPart, AnswersAll, ExpiryPart, HeaderPart, 
 use Rattle.ospf_laws.specs.Step.{AndRequests, Chain, Event, ExpiryStep, IsPart, OwnStep, Part, StepLaws, Then, Times}
 use Rattle.ospf_laws.specs.Step.Part.{HelloComes, DdComes, RequestComes, LsaComes, HeaderComes, DirectAcknowledgements, LinkChanges, Ages, Timers, Hellos, Acknowledgements, Repeats, Requests, Elections, OwnLsas, Removals}
 use Rattle.ospf_laws.specs.Unchanged.{DoesNothing}
+use Rattle.ospf_update.proofs.PassLemmas.{passed}
 
 -- each entry below MaxAge stood there before, with the same contents
 abbrev pub Keeps : AreaValue → AreaValue → Type 0
@@ -128,7 +129,7 @@ rule_keeps (Some rule.Stale) f lsa s out t is none = by_database s t (ap databas
 
 lsa_keeps : (f : Origin) (lsa : List ℕ) (s : AreaValue) (out : OutputsValue) (t : AreaValue) → LsaPart f lsa s out t → BringsNone out → Keeps s t
 lsa_keeps f lsa s out t (LsaPart.Meets is_lsa meets) none = rule_keeps (rule_met s f lsa) f lsa s out t meets none
-lsa_keeps f lsa s out t (LsaPart.PassedOver other nothing) none = by_state s t nothing.state
+lsa_keeps f lsa s out t (LsaPart.PassedOver other passes outputs) none = by_database s t (ap (λ (x : AreaValue). x.database) (passed s.passes_over f lsa s t passes).state)
 
 ages_keep : (s : AreaValue) (out : OutputsValue) (t : AreaValue) → AgesPart s out t → Keeps s t
 unfolding aged

@@ -47,6 +47,7 @@ use Rattle.ospf_laws.specs.Accounts.{Has, IsAcknowledged, IsStored, Sends, Numbe
 use Rattle.ospf_laws.proofs.Accountable.{IsAccountable, Unchanged-accountable, both-accountable, then_nothing, sent_packet}
 use Rattle.ospf_laws.proofs.ListFacts.{Contains-nil, Contains-map}
 use Rattle.ospf_laws.proofs.LsaFacts.{same_contents, header_is_of, header_names, recency-same}
+use Rattle.ospf_update.proofs.PassLemmas.{Passes, passed}
 use Rattle.ospf_laws.proofs.QuietAccounts.{brings_none, OnlySendsKnown, IsNamed, Numbers-none_issued, none_ended}
 use Rattle.ospf_laws.proofs.SentFacts.{datagrams-packet}
 use Rattle.ospf_laws.proofs.ShrinkAccounts.{ShrinksTo, ShrinkBy, Shrinks-accountable, same-shrinks, map_from-id, map-id, change_of, change-each, change-waiting, change-shrinks, delay-each, delay-waiting, IsTold}
@@ -428,7 +429,27 @@ module _ (heard : Option Received) (p : Meaning) (f : Origin) (h : LsaHeader) (b
   pub HeaderPart-accountable : HeaderPart f h before out after → IsAccountable heard before out after
   HeaderPart-accountable m = taken_off_by (named_by h (exchange.copy_of before.database (key_of_header h))) (is_named (exchange.copy_of before.database (key_of_header h)) refl) m.state m.outputs
 
+-- what is passed over: a new acknowledgement is of no instance
+passed-accountable : (heard : Option Received) (s t : AreaValue) → Passes s t → IsAccountable heard s no_outputs t
+passed-accountable heard s t p = subst (λ x. IsAccountable heard s no_outputs x) (sym p.state) (Shrinks-accountable heard s no_outputs after still alone shrinks (sends_nothing s))
+  where
+    after : AreaValue
+    after = record s { direct = p.direct }
+
+    still : ℕ → LinkValue → LinkValue
+    still l link = link
+
+    alone : ℕ → NeighbourValue → NeighbourValue
+    alone l n = n
+
+    now : (x : LsaHeader) → Contains p.direct x → Contains s.direct x ⊎ IsNamed s no_outputs x
+    now x c = elim (p.nameless x c) [ inl there ↦ inl there | inr none ↦ inr (λ i is. absurd (none-some i.key (sym none ∙ is.key))) ]
+
+    shrinks : ShrinkBy heard s no_outputs still alone after
+    shrinks = shrink_by heard no_outputs s after still alone (map_from-id 0 s.links) refl refl refl refl now (λ l link. map-id link.neighbours) (λ l link x c. inl c) (λ l n. same-shrinks heard l n)
+
 -- one LSA of an Update, or what is passed over
 pub LsaPart-accountable : (heard : Option Received) (p : Meaning) (f : Origin) (lsa : List ℕ) (before : AreaValue) (out : OutputsValue) (after : AreaValue) → IsSoundState before → heard ≡ Some (record { link = f.link; packet = p }) → p.router ≡ f.router → Contains (lsas_in p) lsa → AreRead out.sent → LsaPart f lsa before out after → IsAccountable heard before out after
 LsaPart-accountable heard p f lsa before out after sound hears from in_p read (LsaPart.Meets is m) = MeetsLsa-accountable heard p f lsa before out after is sound hears from in_p read m
-LsaPart-accountable heard p f lsa before out after sound hears from in_p read (LsaPart.PassedOver not_one u) = Unchanged-accountable heard before out after u
+LsaPart-accountable heard p f lsa before out after sound hears from in_p read (LsaPart.PassedOver not_one passes outputs) =
+    subst (λ o. IsAccountable heard before o after) (sym outputs) (passed-accountable heard before after (passed before.passes_over f lsa before after passes))

@@ -18,6 +18,7 @@ at_tick t = record {
   router = record { 0 = 1 };
   area = record { 0 = 0 };
   stub_router = false;
+  passes_over = false;
   links = [];
   database = [];
   direct = [];

@@ -18,14 +18,14 @@ use Rattle.ospf_update.specs.Acks.{direct_out}
 use Rattle.ospf_update.specs.Aging.{AgesRise}
 use Rattle.ospf_update.specs.Meets.{MeetsLsa, header_met}
 use Rattle.ospf_update.specs.Removal.{is_last, is_leaving, lowest_number}
-use Rattle.ospf_laws.specs.Unchanged.{DoesNothing}
+use Rattle.ospf_update.specs.Updates.{PassesOver}
 
 -- ---- Updates and Acknowledgments
 
--- one LSA of an Update meets its rule (13). What is not an LSA is passed over
+-- one LSA of an Update meets its rule (13). What is no LSA of LS type 1 or 2 is passed over
 pub data LsaPart (f : Origin) (lsa : List ℕ) (before : AreaValue) (out : OutputsValue) (after : AreaValue) : Type 0 where
   Meets : IsLsa lsa → MeetsLsa f lsa before no_outputs out after → LsaPart f lsa before out after
-  PassedOver : (IsLsa lsa → ⊥) → DoesNothing before out after → LsaPart f lsa before out after
+  PassedOver : (IsLsa lsa → ⊥) → PassesOver before.passes_over f lsa before after → out ≡ no_outputs → LsaPart f lsa before out after
 
 -- one header of an Acknowledgment (13.7)
 pub record HeaderPart (f : Origin) (h : LsaHeader) (before : AreaValue) (out : OutputsValue) (after : AreaValue) : Type 0 where

@@ -27,7 +27,7 @@ use Rattle.ospf_adjacency.specs.Posting.{OutboxValue, and_parcels, posted_all}
 
 -- what a part needs to know of the router and of a link
 abbrev pub local_by : Own → LinkSettings → Local
-local_by own settings = record { router = own.router; mtu = settings.mtu; tick = own.tick }
+local_by own settings = record { router = own.router; mtu = settings.mtu; tick = own.tick; passes_over = own.passes_over }
 
 abbrev pub local_of : Own → LinkValue → Local
 local_of own link = local_by own link.settings

@@ -68,6 +68,7 @@ pub(crate) fn local_by(own: Own, settings: LinkSettings) -> Local
         router: own.router,
         mtu: settings.mtu,
         tick: own.tick,
+        passes_over: own.passes_over,
     }
 }
 

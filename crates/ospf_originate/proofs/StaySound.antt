@@ -45,6 +45,7 @@ use Rattle.ospf_update.specs.Aging.{Flushes, TickAges, copies_sent, copy_flooded
 use Rattle.ospf_update.specs.Meets.{MeetsLsa, MeetsRule, RestartsExchange, Stores, flooded_area, header_met, heard_by, named_by, replied, reply_to, rule_met, taken_off}
 use Rattle.ospf_update.specs.Updates.{MeetsAndTurns, TakesSlice, TakesSlices, TakesUpdate}
 use Rattle.ospf_update.specs.Updates.TakesSlice.{Met, PassedOver}
+use Rattle.ospf_update.proofs.PassLemmas.{passed}
 use Rattle.ospf_originate.specs.Laws.{LinksStaySetUp, PartsStaySound}
 use Rattle.ospf_originate.specs.Sound.{AreApart, AreSetUp, IsSetUp, IsSound, max_links}
 use Rattle.ospf_originate.proofs.SoundLemmas.{Numbers, contents-entry_from, counted_numbers, counts_in, fewer, greatest_in, known, number_of-contents, numbers_of, sound_of, stored_numbers}
@@ -216,7 +217,9 @@ met_sound f lsa s o o' s' is sound = along (turned_area is.mid) s' is.state (tur
 
 slice_sound : (f : Origin) (bytes : List ℕ) (s : AreaValue) (o o' : OutputsValue) (s' : AreaValue) → TakesSlice f bytes s o o' s' → IsSound s → IsSound s'
 slice_sound f bytes s o o' s' (Met is meets) sound = met_sound f bytes s o o' s' meets sound
-slice_sound f bytes s o o' s' (PassedOver is_not unchanged) sound = along s s' unchanged.state sound
+slice_sound f bytes s o o' s' (PassedOver is_not passes outputs) sound =
+    let p = passed s.passes_over f bytes s s' passes in
+    along (record s { direct = p.direct }) s' p.state (rest s s.links p.direct s.tick s.next_dd s.sent s.heard sound.links sound)
 
 slices_sound : (f : Origin) (slices : List (List ℕ)) (s : AreaValue) (o o' : OutputsValue) (s' : AreaValue) → TakesSlices f slices s o o' s' → IsSound s → IsSound s'
 slices_sound f [] s o o' s' unchanged sound = along s s' unchanged.state sound

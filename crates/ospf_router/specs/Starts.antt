@@ -45,6 +45,7 @@ area_of config dd_start floor links = record {
   router = config.router_id;
   area = config.area;
   stub_router = config.stub_router;
+  passes_over = config.passes_over;
   links = links;
   database = [];
   direct = [];

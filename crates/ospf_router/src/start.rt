@@ -83,6 +83,7 @@ pub(crate) fn area_of(
         router: config.router_id,
         area: config.area,
         stub_router: config.stub_router,
+        passes_over: config.passes_over,
         links,
         database: Lsdb::new(alloc),
         direct: Vec::new(alloc),

@@ -32,6 +32,7 @@ use Rattle.ospf_update.specs.Meets.{MeetsRule, Stores, flooded_area, header_met,
 use Rattle.ospf_update.specs.Removal.{Removes, RemovesAll, leaving}
 use Rattle.ospf_update.specs.Updates.{TakesSlice, TakesSlices, TakesUpdate}
 use Rattle.ospf_update.specs.Updates.TakesSlice.{Met, PassedOver}
+use Rattle.ospf_update.proofs.PassLemmas.{passed}
 use Rattle.ospf_laws.specs.Puts.{headers_met}
 use Rattle.ospf_originate.specs.Steps.{Acts, ActsInTurn, Issues, IssuesIf, OwnLsas, wants}
 use Rattle.ospf_originate.specs.Wanted.{WantedValue, wanted_of}
@@ -110,7 +111,9 @@ module _ (r : RouterId) where
 
   slice_for : (f : Origin) (bytes : List ℕ) (s : AreaValue) (o o' : OutputsValue) (s' : AreaValue) → TakesSlice f bytes s o o' s' → IsFor r s → IsFor r s'
   slice_for f bytes s o o' s' (Met is meets) fit = along r (turned_area meets.mid) s' meets.state (turned_for meets.mid (rule_for (rule_met s f bytes) f bytes s o meets.so_far meets.mid meets.meets fit))
-  slice_for f bytes s o o' s' (PassedOver is_not unchanged) fit = along r s s' unchanged.state fit
+  slice_for f bytes s o o' s' (PassedOver is_not passes outputs) fit =
+      let p = passed s.passes_over f bytes s s' passes in
+      along r (record s { direct = p.direct }) s' p.state (record { own = fit.own; links = fit.links })
 
   slices_for : (f : Origin) (slices : List (List ℕ)) (s : AreaValue) (o o' : OutputsValue) (s' : AreaValue) → TakesSlices f slices s o o' s' → IsFor r s → IsFor r s'
   slices_for f [] s o o' s' unchanged fit = along r s s' unchanged.state fit

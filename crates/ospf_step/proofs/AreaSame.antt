@@ -31,6 +31,7 @@ use Rattle.ospf_update.specs.Meets.{MeetsRule, Stores, flooded_area, header_met,
 use Rattle.ospf_update.specs.Removal.{Removes, RemovesAll, leaving}
 use Rattle.ospf_update.specs.Updates.{TakesSlice, TakesSlices, TakesUpdate}
 use Rattle.ospf_update.specs.Updates.TakesSlice.{Met, PassedOver}
+use Rattle.ospf_update.proofs.PassLemmas.{passed}
 use Rattle.ospf_laws.specs.Puts.{headers_met}
 use Rattle.ospf_originate.specs.Steps.{Acts, ActsInTurn, Issues, IssuesIf, OwnLsas, wants}
 use Rattle.ospf_originate.specs.Wanted.{WantedValue, wanted_of}
@@ -89,7 +90,9 @@ module _ (r : RouterId) (n : ℕ) where
 
   slice_as : (f : Origin) (bytes : List ℕ) (s : AreaValue) (o o' : OutputsValue) (s' : AreaValue) → TakesSlice f bytes s o o' s' → IsAs r n s → IsAs r n s'
   slice_as f bytes s o o' s' (Met is meets) as_was = along r n (turned_area meets.mid) s' meets.state (turned_as meets.mid (rule_as (rule_met s f bytes) f bytes s o meets.so_far meets.mid meets.meets as_was))
-  slice_as f bytes s o o' s' (PassedOver is_not unchanged) as_was = along r n s s' unchanged.state as_was
+  slice_as f bytes s o o' s' (PassedOver is_not passes outputs) as_was =
+      let p = passed s.passes_over f bytes s s' passes in
+      along r n (record s { direct = p.direct }) s' p.state (record { own = as_was.own; many = as_was.many })
 
   slices_as : (f : Origin) (slices : List (List ℕ)) (s : AreaValue) (o o' : OutputsValue) (s' : AreaValue) → TakesSlices f slices s o o' s' → IsAs r n s → IsAs r n s'
   slices_as f [] s o o' s' unchanged as_was = along r n s s' unchanged.state as_was

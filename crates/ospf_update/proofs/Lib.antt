@@ -11,3 +11,4 @@ pub mod BringLemmas
 pub mod ReachLemmas
 pub mod TurnLemmas
 pub mod PackLemmas
+pub mod PassLemmas

@@ -29,6 +29,7 @@ use Rattle.ospf_update.specs.Updates.{TakesSlice, TakesSlices, TakesUpdate}
 use Rattle.ospf_update.specs.Updates.TakesSlice.{Met, PassedOver}
 use Rattle.ospf_update.proofs.CopyLemmas.{copies_keep, copy_keeps}
 use Rattle.ospf_update.proofs.MeetLemmas.{header_keeps, met_cases}
+use Rattle.ospf_update.proofs.PassLemmas.{passed}
 
 -- ---- an LSA of an Update, and a header of an Acknowledgment
 
@@ -63,7 +64,7 @@ slice_numbers : (f : Origin) (bytes : List ℕ) (s : AreaValue) (o o' : OutputsV
 slice_numbers f bytes s o o' t (Met is takes) key =
     no_less (is_installed (rule_met s f bytes) && (same_key (key_of bytes) key && is_own s.router key)) (kept_number s key) (kept_number t key) (header_of bytes).number
     (ap (λ (x : AreaValue). kept_number x key) takes.state ∙ met_numbers f bytes s o takes.so_far takes.mid takes.meets key)
-slice_numbers f bytes s o o' t (PassedOver not_lsa is) key = no_less false (kept_number s key) (kept_number t key) (kept_number s key) (ap (λ (x : AreaValue). kept_number x key) is.state)
+slice_numbers f bytes s o o' t (PassedOver not_lsa is outputs) key = no_less false (kept_number s key) (kept_number t key) (kept_number s key) (ap (λ (x : AreaValue). kept_number x key) (passed s.passes_over f bytes s t is).state)
 
 slices_numbers : (f : Origin) (slices : List (List ℕ)) (s : AreaValue) (o o' : OutputsValue) (t : AreaValue) → TakesSlices f slices s o o' t → (key : LsaKey) → kept_number s key ≤ℤ kept_number t key
 slices_numbers f [] s o o' t is key = no_less false (kept_number s key) (kept_number t key) (kept_number s key) (ap (λ (x : AreaValue). kept_number x key) is.state)

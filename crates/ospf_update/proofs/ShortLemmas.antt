@@ -20,6 +20,7 @@ use Rattle.ospf_update.specs.Updates.{TakesSlice, TakesSlices, TakesUpdate}
 use Rattle.ospf_update.specs.Updates.TakesSlice.{Met, PassedOver}
 use Rattle.ospf_update.proofs.CopyLemmas.{copies_keep, copy_keeps}
 use Rattle.ospf_update.proofs.MeetLemmas.{header_keeps, met_cases}
+use Rattle.ospf_update.proofs.PassLemmas.{passed}
 
 -- the database of another state is the same
 same : (s t : AreaValue) → t.database ≡ s.database → AreShort s.database → AreShort t.database
@@ -40,7 +41,7 @@ met_short f lsa s o o' t meets short old = elim (met_cases f lsa s o o' t meets)
 
 slice_short : (f : Origin) (bytes : List ℕ) (s : AreaValue) (o o' : OutputsValue) (t : AreaValue) → TakesSlice f bytes s o o' t → IsShortLsa bytes → AreShort s.database → AreShort t.database
 slice_short f bytes s o o' t (Met is takes) short old = same takes.mid t (ap (λ (x : AreaValue). x.database) takes.state) (met_short f bytes s o takes.so_far takes.mid takes.meets short old)
-slice_short f bytes s o o' t (PassedOver not_lsa is) short old = same s t (ap (λ (x : AreaValue). x.database) is.state) old
+slice_short f bytes s o o' t (PassedOver not_lsa is outputs) short old = same s t (ap (λ (x : AreaValue). x.database) (passed s.passes_over f bytes s t is).state) old
 
 slices_short : (f : Origin) (slices : List (List ℕ)) (s : AreaValue) (o o' : OutputsValue) (t : AreaValue) → TakesSlices f slices s o o' t → AllByRecursion IsShortLsa slices
     → AreShort s.database → AreShort t.database

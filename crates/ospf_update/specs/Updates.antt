@@ -1,14 +1,20 @@
 -- A Link State Update (RFC 2328, section 13).
-use Rattle.std.specs.Prelude.{◌≡◌, ℕ, Bool, true, false, Option, Some, List, [], ◌∷◌}
+use Rattle.std.specs.Prelude.{◌≡◌, ◌≤◌, ◌++◌, ℕ, Bool, true, false, length, Option, Some, List, [], ◌∷◌}
 use Rattle.ospf_flood.specs.declared.rule.LsaRule.{LsaRule}
 use Rattle.ospf_flood.specs.declared.rule.LsaRule.TheVariants.{BadRequest, Installs}
-use Rattle.ospf_lsa.specs.Lsa.{IsLsa}
+use Rattle.ospf_base.specs.Bytes.{number_at}
+use Rattle.ospf_base.specs.Constants.{lsa_header}
+use Rattle.ospf_base.specs.Sums.{HasRightSum}
+use Rattle.ospf_exchange.specs.Rules.{is_other}
+use Rattle.ospf_lsa.specs.Header.{header_of}
+use Rattle.ospf_lsa.specs.Lsa.{IsLsa, type_of}
 use Rattle.ospf_update.specs.Acks.{direct_out}
 use Rattle.ospf_update.specs.Aging.{turned_area, turn_out}
 use Rattle.ospf_update.specs.Meets.{MeetsLsa, Unchanged}
 use Rattle.ospf_area.specs.Asking.{turn_requests, turned_links}
 use Rattle.ospf_area.specs.Outputs.{OutputsValue}
 use Rattle.ospf_area.specs.Sending.{and_sends, own_of}
+use Rattle.ospf_area.specs.Standing.{is_taken_in, origin_of}
 use Rattle.ospf_area.specs.State.{AreaValue, LinkValue}
 use Rattle.ospf_area.specs.declared.flooding.Origin.{Origin}
 use Rattle.ospf_area.specs.declared.sending.Own.{Own}
@@ -21,10 +27,33 @@ pub record MeetsAndTurns (f : Origin) (lsa : List ℕ) (before : AreaValue) (out
   pub state : after ≡ turned_area mid
   pub outputs : out' ≡ and_sends so_far (turn_out mid)
 
+-- the bytes are an LSA of LS type 3, 4 or 5, as far as that is looked at: they are as long as it says, and its checksum
+-- holds (13, step 1)
+pub record IsOtherLsa (bytes : List ℕ) : Type 0 where
+  pub long : lsa_header ≤ length bytes
+  pub length_is : number_at 18 2 bytes ≡ length bytes
+  pub kind : is_other (type_of bytes) ≡ true
+  pub sum : HasRightSum bytes
+
+-- one that comes from a neighbour in Exchange or above
+pub record ComesToBePassed (f : Origin) (bytes : List ℕ) (s : AreaValue) : Type 0 where
+  pub taken : is_taken_in (origin_of s.links f) ≡ true
+  pub lsa : IsOtherLsa bytes
+
+-- it is acknowledged to its sender (13.5), and nothing else
+pub data AnswersOther (f : Origin) (bytes : List ℕ) (before after : AreaValue) : Type 0 where
+  Acknowledged : ComesToBePassed f bytes before → after ≡ record before { direct = before.direct ++ header_of bytes ∷ [] } → AnswersOther f bytes before after
+  LeftAlone : (ComesToBePassed f bytes before → ⊥) → after ≡ before → AnswersOther f bytes before after
+
+-- a slice that is no LSA of a known LS type: nothing happens, but where those of LS types 3, 4 and 5 are passed over
+abbrev pub PassesOver : Bool → Origin → List ℕ → AreaValue → AreaValue → Type 0
+PassesOver false f bytes before after = after ≡ before
+PassesOver true f bytes before after = AnswersOther f bytes before after
+
 -- a slice is an LSA, or is passed over (13, steps 1 to 3)
 pub data TakesSlice (f : Origin) (bytes : List ℕ) (before : AreaValue) (out out' : OutputsValue) (after : AreaValue) : Type 0 where
   Met : IsLsa bytes → MeetsAndTurns f bytes before out out' after → TakesSlice f bytes before out out' after
-  PassedOver : (IsLsa bytes → ⊥) → Unchanged before out out' after → TakesSlice f bytes before out out' after
+  PassedOver : (IsLsa bytes → ⊥) → PassesOver before.passes_over f bytes before after → out' ≡ out → TakesSlice f bytes before out out' after
 
 -- one after the other
 abbrev pub TakesSlices : Origin → List (List ℕ) → AreaValue → OutputsValue → OutputsValue → AreaValue → Type 0

@@ -1,17 +1,19 @@
 //! Link State Updates.
 
-ghost use Rattle.std.specs.Prelude.{◌≡◌, IfOk, OnOk, true};
+ghost use Rattle.std.specs.Prelude.{◌≡◌, ◌↔◌, IfOk, IsTrue, OnOk, true};
 ghost use Rattle.ospf_area.specs.Sending.{and_sends};
 ghost use Rattle.ospf_neighbour.specs.Neighbour.{is_empty};
 ghost use Rattle.ospf_update.specs.Aging.{turned_area, turn_out};
-ghost use Rattle.ospf_update.specs.Updates.{IsTurned, leaves_turned, MeetsAndTurns, TakesSlice, TakesSlices, TakesUpdate};
+ghost use Rattle.ospf_update.specs.Updates.{IsOtherLsa, IsTurned, leaves_turned, MeetsAndTurns, PassesOver, TakesSlice, TakesSlices, TakesUpdate};
 
 use crate::acks::send_direct;
 use crate::aging::turn_in;
 use crate::meeting::{follow, rule_met};
-use ospf_area::{Area, Origin, Outputs};
+use ospf_area::{Area, Origin, Outputs, is_taken};
+use ospf_base::{LSA_HEADER, lsa_sum_holds, u16_at};
+use ospf_exchange::is_other;
 use ospf_flood::LsaRule;
-use ospf_lsa::LsaView;
+use ospf_lsa::{LsaHeader, LsaView};
 use ospf_packet::Lsas;
 use std::alloc::{AllocError, Global};
 
@@ -55,6 +57,28 @@ fn take_lsa(
     turn_and_tell(area, out, alloc)
 }
 
+// Whether bytes are an LSA of LS type 3, 4 or 5, as far as that is looked at: they are as long as it says, and its
+// checksum holds.
+fn is_other_lsa(bytes: &[u8]) -> bool
+    ensures { IsTrue result ↔ IsOtherLsa bytes.now }
+{
+    bytes.len() >= LSA_HEADER
+        && usize::from(u16_at(bytes, 18)) == bytes.len()
+        && is_other(bytes[3])
+        && lsa_sum_holds(bytes)
+}
+
+// A slice that is no LSA of a known LS type. Where LSAs of LS types 3, 4 and 5 are passed over, one of these is acknowledged
+// to its sender.
+fn pass_over(area: &mut Area, from: Origin, bytes: &[u8]) -> Result<(), AllocError>
+    ensures { OnOk result (PassesOver area.old.passes_over from bytes.now area.old area.new) }
+{
+    if area.passes_over && is_taken(&area.links, from) && is_other_lsa(bytes) {
+        area.direct.push(LsaHeader::read(bytes))?;
+    }
+    Ok(())
+}
+
 fn take_slice(
     area: &mut Area,
     from: Origin,
@@ -69,7 +93,10 @@ fn take_slice(
 {
     match LsaView::read(bytes) {
         Ok(lsa) => take_lsa(area, from, &lsa, is_turned, out, alloc),
-        Err(_) => Ok(is_turned),
+        Err(_) => {
+            pass_over(area, from, bytes)?;
+            Ok(is_turned)
+        }
     }
 }
 

@@ -60,6 +60,7 @@ config = record {
   router_id = it;
   area = record { 0 = 0 };
   stub_router = false;
+  passes_over = false;
   interfaces = vec_of (interface ∷ []) (lit< tt);
   router_id_not_zero = lit< tt;
   some_interface = lit≤ tt;

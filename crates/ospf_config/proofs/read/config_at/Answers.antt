@@ -4,7 +4,7 @@ use Rattle.toml.specs.View.{table_view}
 use Rattle.toml.specs.Data.{get_member}
 use Rattle.ospf_config.specs.declared.fault.ConfigFault.TheVariants as fault
 use Rattle.ospf_config.specs.Interfaces.{IsInterfaceOf}
-use Rattle.ospf_config.specs.Tables.{IsDeadNotOverHello, in_router_id, in_area, in_stub_router, in_interface}
+use Rattle.ospf_config.specs.Tables.{IsDeadNotOverHello, in_router_id, in_area, in_stub_router, in_other_lsas, in_interface}
 use Rattle.ospf_config.proofs.ConflictLists.{interfaces_apart, pairs_length}
 use Rattle.ospf_config.proofs.FaultLemmas.{key_has}
 use Rattle.ospf_config.proofs.TableLists.{any_table, in_number}
@@ -24,6 +24,11 @@ pub returns-in_err-stub_router-clause-fault : goal.returns-in_err-stub_router-cl
 returns-in_err-stub_router-clause-fault c =
     let p = err_from_is_err_and c.from_residual-in_err-stub_router.result c.from_residual-in_err-stub_router.ensures.1 in
     rw (p.1, p.2) (absurd (c.requires.free _ (key_has (table_view c.args.table.now) _ (inl (in_stub_router c.in_err-stub_router.ensures)))))
+
+pub returns-in_err-passes_over-clause-fault : goal.returns-in_err-passes_over-clause-fault
+returns-in_err-passes_over-clause-fault c =
+    let p = err_from_is_err_and c.from_residual-in_err-passes_over.result c.from_residual-in_err-passes_over.ensures.1 in
+    rw (p.1, p.2) (absurd (c.requires.free _ (key_has (table_view c.args.table.now) _ (inl (in_other_lsas c.in_err-passes_over.ensures)))))
 
 pub returns-in_err-interfaces-clause-fault : goal.returns-in_err-interfaces-clause-fault
 returns-in_err-interfaces-clause-fault c =
