@@ -15,7 +15,8 @@ static int refused(void) {
         const char *text = getenv("REFUSE_PLACE");
         place = text ? atol(text) : 0;
     }
-    return ++asked == place;
+    // Threads may ask at one time.
+    return __atomic_add_fetch(&asked, 1, __ATOMIC_RELAXED) == place;
 }
 
 void *malloc(size_t size) {

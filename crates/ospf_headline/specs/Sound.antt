@@ -104,7 +104,8 @@ pub record HasToldOf (w : World) (q : RouterId) (i : Instance) : Type 0 where
   pub covers : Covers held i
 
 -- sound acknowledgement, for a router that went from s to s' by this event with these outputs: what it no longer waits
--- for, and what it never waited for, the neighbour told of, unless a newer LSA took the place of what had waited
+-- for, and what it never waited for, the neighbour told of, unless a newer LSA took the place of what had waited, or the
+-- neighbour is below Exchange
 pub record IsSoundFor (after : World) (e : Event) (s : AreaValue) (out : OutputsValue) (s' : AreaValue) : Type 0 where
   pub left : (l : ℕ) (q : RouterId) (i : Instance) → Awaits s l q i → Awaits s' l q i ⊎ (HasToldOf after q i ⊎ (IsReplaced (heard_in e) s out i ⊎ (is_exchanging (state_of s' l q) ≡ false)))
   pub listed : (l : ℕ) (q : RouterId) (i : Instance) → Brings out i → Holds s' i → is_exchanging (state_of s' l q) ≡ true → Awaits s' l q i ⊎ HasToldOf after q i

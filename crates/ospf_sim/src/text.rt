@@ -9,7 +9,9 @@ ghost use Rattle.ospf_sim.specs.Simulations.{Comes, IsRefused, IsSimulated, Open
 use crate::script::run_script;
 use crate::watch::Watch;
 use ospf_config::Config;
-use ospf_files::{FailedStreams, Failure, NamedFile, Status, first_unread, read_configs, tell_unread, write_line};
+use ospf_files::{
+    FailedStreams, Failure, NamedFile, Status, first_unread, read_configs, tell_unread, write_line,
+};
 use ospf_world::{World, WorldFault};
 use std::alloc::Global;
 use std::io::{self, Write};

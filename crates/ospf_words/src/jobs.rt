@@ -126,6 +126,7 @@ impl JobFault {
         ensures err { result ≡ Status.Done → E.contents err.new ≡ E.contents err.old }
         ensures told { result ≡ Status.Words → IsToldOf self.now (E.contents err.old) (E.contents err.new) }
     {
+        let mut streams = FailedStreams::none();
         match self {
             JobFault::Words(error) if error.use_stderr() => match write_text(err, error) {
                 Ok(()) => Status::Words,
@@ -133,13 +134,13 @@ impl JobFault {
             },
             JobFault::Words(error) => match write_text(out, error) {
                 Ok(()) => Status::Done,
-                Err(error) => Failure::of(&error, Failure::Output).tell(err, &mut FailedStreams::none()),
+                Err(error) => Failure::of(&error, Failure::Output).tell(err, &mut streams),
             },
             JobFault::Address(word) => match write_no_address(err, word) {
                 Ok(()) => Status::Words,
                 Err(error) => Failure::of(&error, Failure::Error).status(),
             },
-            JobFault::Memory => Failure::Memory.tell(err, &mut FailedStreams::none()),
+            JobFault::Memory => Failure::Memory.tell(err, &mut streams),
         }
     }
 }

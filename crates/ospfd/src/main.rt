@@ -189,6 +189,9 @@ fn main(rt: HostRuntime) -> ExitCode {
     let terminal = if err.is_terminal() { Some(err) } else { None };
     match run(&rt, &mut rt.stderr(), terminal) {
         Ok(status) => ExitCode::from(status),
-        Err(_) => ExitCode::from(Failure::Memory.tell(&mut rt.stderr(), &mut FailedStreams::none())),
+        Err(_) => ExitCode::from(Failure::Memory.tell(
+            &mut rt.stderr(),
+            &mut FailedStreams::none(),
+        )),
     }
 }

@@ -28,10 +28,10 @@ use Rattle.ospf_update.specs.Removal.{lowest_number}
 use Rattle.ospf_world.specs.Does.{Does}
 use Rattle.ospf_world.specs.Worlds.{WorldValue, new_world, no_logs}
 use Rattle.ospf_world.specs.declared.ticks.Ticked.{Ticked}
-use Rattle.ospf_witness.proofs.Config.{config, it, its_address}
-use Rattle.ospf_witness.proofs.States.{begun, down_link, has_issued, header_fits, is_area, is_lsa, is_table, issuing_out, linked, linked_out, own_lsa}
-use Rattle.ospf_witness.proofs.Steps.{hello_fits, hello_said, issued_database, tick_lawful, up_lawful}
-use Rattle.ospf_witness.specs.Works.{SomeRouterWorks}
+use Rattle.ospf_world_laws.proofs.Config.{config, it, its_address}
+use Rattle.ospf_world_laws.proofs.States.{begun, down_link, has_issued, header_fits, is_area, is_lsa, is_table, issuing_out, linked, linked_out, own_lsa}
+use Rattle.ospf_world_laws.proofs.Steps.{hello_fits, hello_said, issued_database, tick_lawful, up_lawful}
+use Rattle.ospf_world_laws.specs.Works.{SomeRouterWorks}
 
 -- ---- the networks
 

@@ -1,5 +1,5 @@
 -- A router with one point-to-point link, as it is configured.
-use Rattle.std.proofs.Common.{◌<◌, ◌≤◌, ◌^◌, List, [], ◌∷◌, None, false, length, refl, arith, lit<, lit≤}
+use Rattle.std.proofs.Common.{◌<◌, ◌^◌, List, [], ◌∷◌, None, false, length, refl, arith, lit<, lit≤}
 use Rattle.std.specs.Global.{Vec}
 use denote.RawPtr.{null_ptr}
 use Rattle.ospf_base.specs.declared.ids.Addr.{Addr}

@@ -1,5 +1,5 @@
 -- The router-LSA of a router whose links are down, and the router's area as it starts, ticks and goes up.
-use Rattle.std.proofs.Common.{◌≡◌, ◌≤◌, inl, ℕ, zero, suc, negsuc, false, List, [], ◌∷◌, None, Some, refl, subst, arith, lit<, lit≤}
+use Rattle.std.proofs.Common.{◌≡◌, inl, ℕ, zero, suc, negsuc, false, List, [], ◌∷◌, None, Some, refl, subst, arith, lit<, lit≤}
 use Rattle.std.specs.List.{All, Contains}
 use Rattle.ospf_area.specs.Outputs.{OutputsValue, no_outputs}
 use Rattle.ospf_area.specs.Sending.{and_sends, own_of}
@@ -32,7 +32,7 @@ use Rattle.ospf_update.specs.Meets.{store_updates}
 use Rattle.ospf_update.specs.Removal.{lowest_number}
 use Rattle.ospf_wanted.specs.Made.{lsa_value}
 use Rattle.ospf_wanted.specs.Wanted.{WantedValue}
-use Rattle.ospf_witness.proofs.Config.{config, interface, it}
+use Rattle.ospf_world_laws.proofs.Config.{config, interface, it}
 
 -- ---- the LSA
 

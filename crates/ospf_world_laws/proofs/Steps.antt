@@ -1,5 +1,5 @@
 -- The steps of the router: a tick, by which its LSA is issued, and its link that goes up, by which a Hello is sent.
-use Rattle.std.proofs.Common.{◌≡◌, ◌≢◌, ◌≤◌, ◌||◌, ℕ, zero, suc, negsuc, Bool, true, false, List, [], ◌∷◌, None, Some, is_some, slice_get, if◌then◌else◌, refl, sym, ap, subst, ◌∙◌, arith, lit<, lit≤}
+use Rattle.std.proofs.Common.{◌≡◌, ◌||◌, ℕ, zero, suc, negsuc, Bool, true, false, List, [], ◌∷◌, None, Some, is_some, slice_get, if◌then◌else◌, refl, sym, ap, subst, ◌∙◌, arith, lit<, lit≤}
 use Rattle.std.specs.Option.{option_map}
 use Rattle.std.proofs.lemmas.Bool.{false≢true}
 use Rattle.std.proofs.lemmas.Option.{none-some, same_Some}
@@ -39,7 +39,7 @@ use Rattle.ospf_step.specs.Takes.{TakesTick}
 use Rattle.ospf_update.specs.Acks.{cut}
 use Rattle.ospf_wanted.specs.Made.{says}
 use Rattle.ospf_wanted.specs.Wanted.{links_at, networks_at, wanted}
-use Rattle.ospf_witness.proofs.States.{begun, down_link, has_issued, is_lsa, is_made, issuing, issuing_out, linked, linked_out, own_key, own_lsa, stored, stored_lsa, ticked}
+use Rattle.ospf_world_laws.proofs.States.{begun, down_link, has_issued, is_lsa, is_made, issuing, issuing_out, linked, linked_out, own_key, own_lsa, stored, stored_lsa, ticked}
 
 -- ---- a tick
 
