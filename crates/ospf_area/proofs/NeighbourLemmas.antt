@@ -1,7 +1,5 @@
 -- The neighbours of a link stay in their order while their lists change.
-use Rattle.std.proofs.Common.{◌≡◌, ℕ, zero, suc, ◌<◌, ◌≤◌, ◌==◌, Bool, true, false, if◌then◌else◌, List, [], ◌∷◌, ◌++◌, length, map, take, drop, get_or, set, refl, sym, ap, subst, ◌∙◌}
-use Rattle.std.proofs.lemmas.List.{take_at}
-use Rattle.std.specs.List.{AllByRecursion}
+use Rattle.std.proofs.Common.{◌≡◌, ℕ, ◌==◌, Bool, true, false, if◌then◌else◌, refl}
 use Rattle.ospf_base.specs.declared.ids.LsaKey.{LsaKey}
 use Rattle.ospf_base.specs.declared.ids.RouterId.{RouterId}
 use Rattle.ospf_flood.specs.Offers.{flooded, after_offer, offer_to}
@@ -19,7 +17,6 @@ use Rattle.ospf_area.specs.Asking.{turned, loaded}
 use Rattle.ospf_area.specs.Changes.{after_event, changed, changed_if}
 use Rattle.ospf_area.specs.declared.changes.Change.{Change}
 use Rattle.ospf_area.specs.declared.changes.Change.TheVariants.{Acknowledges, IsSent, Restarts}
-use Rattle.ospf_neighbour.specs.Neighbours.{AreNeighbours, IsRising}
 
 after_offer-router : (o : Offer) (key : LsaKey) (h : LsaHeader) (tick : ℕ) (n : NeighbourValue) → (after_offer o key h tick n).router ≡ n.router
 after_offer-router PassesOver key h tick n = refl

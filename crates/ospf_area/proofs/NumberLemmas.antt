@@ -1,5 +1,5 @@
 -- Kept numbers, and marks, key by key.
-use Rattle.std.proofs.Common.{◌≡◌, ◌==◌, ◌&&◌, ◌||◌, ℤ, Bool, true, false, true≢false, cond, if◌then◌else◌, Option, None, Some, List, [], ◌∷◌, ◌++◌, filter, map, not, refl, sym, ap, subst, ◌∙◌, Ordering, Less, Equal, Greater}
+use Rattle.std.proofs.Common.{◌≡◌, ◌==◌, ◌&&◌, ◌||◌, ℤ, Bool, true, false, true≢false, cond, if◌then◌else◌, Option, None, Some, List, [], ◌∷◌, ◌++◌, map, not, refl, sym, ap, subst, ◌∙◌, Ordering, Less, Equal, Greater}
 use Rattle.std.specs.BTreeSet.{insert_key}
 use Rattle.std.specs.Int.{int_max}
 use Rattle.std.specs.List.{list_any}

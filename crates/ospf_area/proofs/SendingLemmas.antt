@@ -4,7 +4,7 @@ use Rattle.ospf_packet.proofs.PacketLaws.{packet_decided, packet_of-is, packet_o
 use Rattle.ospf_packet.specs.Packet.{meaning_of}
 use Rattle.std.proofs.lemmas.Option.{none-some, same_Some}
 use Rattle.std.proofs.Common.{sym, subst, ◌∙◌, inl, inr, Some}
-use Rattle.std.proofs.Common.{◌≡◌, ◌<◌, ◌≤◌, refl, ◌+◌, ◌++◌, ℕ, List, [], ◌∷◌, length, take, get_or, sym, ap, ◌∙◌, arith, append-nil, append_assoc}
+use Rattle.std.proofs.Common.{◌≡◌, ◌<◌, ◌≤◌, ◌+◌, ◌++◌, ℕ, List, [], ◌∷◌, length, take, get_or, sym, ap, ◌∙◌, arith, append-nil, append_assoc}
 use Rattle.std.proofs.lemmas.Bool.Decides.{nat_tests}
 use Rattle.ospf_packet.specs.Meaning.{Meaning, packet_bytes}
 use Rattle.ospf_base.specs.Constants.{largest_lsa, largest_packet}

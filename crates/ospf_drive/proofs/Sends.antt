@@ -1,5 +1,5 @@
 -- Datagrams that go out one after another.
-use Rattle.std.proofs.Common.{◌≡◌, ◌++◌, List, [], Option, None, Some, refl, append_assoc}
+use Rattle.std.proofs.Common.{◌≡◌, ◌++◌, List, [], refl, append_assoc}
 use Rattle.std.proofs.lemmas.List.{append-nil}
 use Rattle.ospf_area.specs.Outputs.{SentValue}
 use Rattle.ospf_drive.specs.Traffic.{Carried, and_sends}

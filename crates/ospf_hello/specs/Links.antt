@@ -1,5 +1,5 @@
 -- Links that go up and down, their timers, and the Hellos that they send (RFC 2328, sections 9.3, 9.5 and 10.3).
-use Rattle.std.specs.Prelude.{◌==◌, ◌&&◌, ◌||◌, ◌-◌, not, nat_le, List, Bool, true, false, map, filter, if◌then◌else◌}
+use Rattle.std.specs.Prelude.{◌==◌, ◌&&◌, ◌||◌, ◌-◌, not, nat_le, List, Bool, map, filter, if◌then◌else◌}
 use Rattle.std.specs.List.{list_any}
 use Rattle.ospf_base.specs.Addresses.{all_spf_routers, nowhere}
 use Rattle.ospf_base.specs.Constants.{router_options}

@@ -1,5 +1,5 @@
 -- What is below MaxAge after a step that takes and issues no LSA was so before, with the same contents.
-use Rattle.std.proofs.Common.{◌≡◌, ◌++◌, ◌∷◌, ℕ, zero, suc, Bool, true, false, List, [], Option, None, Some, option_map, refl, sym, ap, subst, ◌∙◌}
+use Rattle.std.proofs.Common.{◌≡◌, ◌++◌, ◌∷◌, ℕ, zero, suc, Bool, true, false, List, [], Option, None, Some, option_map, refl, sym, ap, ◌∙◌}
 use Rattle.ospf_base.specs.Keys.{same_key}
 use Rattle.ospf_base.specs.declared.ids.LsaKey.{LsaKey}
 use Rattle.ospf_flood.specs.declared.acknowledgement.Acknowledgement.{Acknowledgement}
@@ -10,16 +10,14 @@ use Rattle.ospf_base.specs.declared.ids.Instance.{Instance}
 use Rattle.ospf_lsa.specs.declared.header.LsaHeader.{LsaHeader}
 use Rattle.ospf_lsdb.specs.Database.{Entry, Held, aged, is_fresh}
 use Rattle.ospf_lsdb.proofs.MapLaws.{ages}
-use Rattle.ospf_lsdb.proofs.MapLemmas.{bool_cases}
 use Rattle.ospf_area.specs.Outputs.{OutputsValue, no_outputs, then_outputs}
 use Rattle.ospf_area.specs.Standing.{acknowledging}
 use Rattle.ospf_area.specs.State.{AreaValue, entry_of}
 use Rattle.ospf_area.specs.declared.flooding.Origin.{Origin}
 use Rattle.ospf_update.specs.Meets.{MeetsRule, replied, rule_met, taken_off}
-use Rattle.ospf_laws.specs.Parts.{AgesPart, AnswersAll, ExpiryPart, HeaderPart, LsaPart, RemovalPart, leaves_if}
+use Rattle.ospf_laws.specs.Parts.{AgesPart, AnswersAll, ExpiryPart, LsaPart, RemovalPart, leaves_if}
 use Rattle.ospf_laws.specs.Step.{AndRequests, Chain, Event, ExpiryStep, IsPart, OwnStep, Part, StepLaws, Then, Times}
 use Rattle.ospf_laws.specs.Step.Part.{HelloComes, DdComes, RequestComes, LsaComes, HeaderComes, DirectAcknowledgements, LinkChanges, Ages, Timers, Hellos, Acknowledgements, Repeats, Requests, Elections, OwnLsas, Removals}
-use Rattle.ospf_laws.specs.Unchanged.{DoesNothing}
 use Rattle.ospf_update.proofs.PassLemmas.{passed}
 
 -- each entry below MaxAge stood there before, with the same contents

@@ -1,5 +1,5 @@
 -- What is issued is short, and so the LSAs of the database stay.
-use Rattle.std.proofs.Common.{◌≡◌, ◌≢◌, ◌≤◌, ℕ, ℤ, pos, List, [], ◌∷◌, Option, None, Some, length, sym, ap, subst, arith, ◌∙◌}
+use Rattle.std.proofs.Common.{◌≡◌, ◌≢◌, ◌≤◌, ℕ, ℤ, pos, List, [], ◌∷◌, Option, None, Some, sym, ap, subst, arith}
 use Rattle.std.proofs.lemmas.Int.{ints}
 use Rattle.ospf_base.specs.Constants.{largest_lsa}
 use Rattle.ospf_base.specs.declared.ids.LsaKey.{LsaKey}

@@ -1,5 +1,5 @@
 -- Which datagrams are dropped, and why (RFC 2328, sections 8.2, 10.5 to 10.7, 13 and 13.7).
-use Rattle.std.specs.Prelude.{◌==◌, ◌&&◌, ◌||◌, not, nat_lt, Bool, true, false, List, Option, None, Some, length, is_some, bit_and, if◌then◌else◌}
+use Rattle.std.specs.Prelude.{◌==◌, ◌&&◌, ◌||◌, not, nat_lt, Bool, List, Option, None, Some, length, is_some, bit_and, if◌then◌else◌}
 use Rattle.ospf_base.specs.Addresses.{all_d_routers, all_spf_routers}
 use Rattle.ospf_base.specs.Constants.{router_options}
 use Rattle.ospf_base.specs.declared.ids.Addr.{Addr}

@@ -1,5 +1,5 @@
 -- What a driver that came to its end leaves.
-use Rattle.std.proofs.Common.{◌≡◌, ◌∙◌, ap, sym, subst, refl, List, [], ◌∷◌, ◌++◌, Option, None, Some, Result, Ok, Err, IfSome}
+use Rattle.std.proofs.Common.{◌≡◌, ◌∙◌, ap, sym, subst, List, [], ◌∷◌, ◌++◌, Option, None, Some, Ok, IfSome}
 use Rattle.std.proofs.lemmas.List.{append-nil}
 use mathlib.Core.List.{IsPrefix}
 use Rattle.ospf_drive.specs.Driven.{DrivesToEnd, IsDriven, Outcome as Driven}

@@ -1,12 +1,12 @@
 -- Configurations that can run beside each other.
-use Rattle.std.proofs.Common.{◌≡◌, refl, ap, sym, subst, ◌+◌, ◌<◌, ◌≤◌, ℕ, suc, List, [], ◌∷◌, length, take, get_or, Some, All, arith, slice_get, below_more, ◌∙◌, ◌==◌, Bool, true, false, eqb-true, eq-eqb, length-take, Result, Ok, Err, OnOk, IsOk}
+use Rattle.std.proofs.Common.{◌≡◌, refl, ap, sym, subst, ◌+◌, ◌<◌, ◌≤◌, ℕ, suc, List, [], ◌∷◌, length, take, get_or, Some, All, arith, slice_get, below_more, ◌∙◌, ◌==◌, true, false, eqb-true, eq-eqb, length-take, Result, Ok, Err, OnOk, IsOk}
 use Rattle.std.proofs.lemmas.Option.{get_or_from_slice_get, slice_get-get_or, slice_get_read, slice_get_within}
 use Rattle.std.proofs.lemmas.List.{get_or-take}
 use Rattle.ospf_base.specs.declared.ids.RouterId.{RouterId}
 use Rattle.ospf_config.specs.declared.config.Config.{Config}
 use Rattle.ospf_files.specs.Listed.{AreConfigs}
 use Rattle.ospf_files.specs.declared.files.NamedFile.{NamedFile}
-use Rattle.ospf_run.specs.Plans.{HasPorts, IsAmong}
+use Rattle.ospf_run.specs.Plans.{IsAmong}
 
 pub at_item : {A : Type 0} (xs : List A) (i : ℕ) (x : A) → i < length xs → x ≡ get_or xs i x → slice_get xs i ≡ Some x
 at_item xs i x within is = slice_get_read xs (length xs) i x refl within is

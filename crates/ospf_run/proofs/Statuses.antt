@@ -9,7 +9,7 @@ use Rattle.ospf_files.specs.declared.status.Status.{Status}
 use Rattle.ospf_files.specs.declared.status.Status.TheVariants as status
 use Rattle.std.specs.List.{list_any}
 use Rattle.ospf_run.specs.Plans.{IsRefused}
-use Rattle.ospf_run.specs.Printed.{is_early, is_failed, status_for}
+use Rattle.ospf_run.specs.Printed.{is_early, is_failed}
 use Rattle.ospf_run.specs.Runs.{Comes, IsRun, refused, unread, no_socket, ran}
 use Rattle.ospf_run.specs.declared.finish.Outcome.{Outcome}
 

@@ -1,5 +1,5 @@
 -- What is found before any socket is made: the floor, the files, the configurations in them, and their ports.
-use Rattle.std.specs.Prelude.{◌≡◌, ◌≢◌, ◌<◌, ℕ, ℤ, List, ◌++◌, All, Option, None, Some, IsSome, codes, option_map, slice_get, string_bytes}
+use Rattle.std.specs.Prelude.{◌≡◌, ◌≢◌, ◌<◌, ℕ, ℤ, List, ◌++◌, All, Option, None, Some, IsSome, codes, slice_get, string_bytes}
 use Rattle.std.specs.Io.KnownBytes.{Appends}
 use Rattle.ospf_base.specs.declared.ids.RouterId.{RouterId}
 use Rattle.ospf_config.specs.declared.config.Config.{Config}
@@ -9,7 +9,6 @@ use Rattle.ospf_files.specs.declared.files.NamedFile.{NamedFile}
 use Rattle.ospf_flood.specs.Rules.{max_sequence_number}
 use Rattle.ospf_script.specs.Commands.{no_floor}
 use Rattle.ospf_script.specs.Values.{IsFloor}
-use Rattle.ospf_run.specs.declared.plan.Plan.{Plan}
 use Rattle.ospf_run.specs.declared.plan.Prepared.{Prepared}
 use Rattle.ospf_run.specs.declared.plan.Prepared.TheVariants.{Ready, Refused, Unread}
 

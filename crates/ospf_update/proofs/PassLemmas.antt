@@ -1,5 +1,5 @@
 -- An LSA that is passed over.
-use Rattle.std.proofs.Common.{◌≡◌, ◌==◌, ◌||◌, ◌++◌, ◌⊎◌, inl, inr, ℕ, Bool, true, false, List, [], ◌∷◌, Option, None, refl, ap, sym, subst, ◌∙◌}
+use Rattle.std.proofs.Common.{◌≡◌, ◌==◌, ◌||◌, ◌++◌, ◌⊎◌, inl, inr, ℕ, Bool, true, false, List, [], ◌∷◌, None, refl, subst}
 use Rattle.std.proofs.lemmas.List.Elements.{Contains-push_cases}
 use Rattle.std.proofs.lemmas.Bool.{eqb-true}
 use Rattle.std.specs.List.{Contains}
@@ -11,7 +11,7 @@ use Rattle.ospf_lsa.specs.Lsa.{type_of}
 use Rattle.ospf_lsa.specs.declared.header.LsaHeader.{LsaHeader}
 use Rattle.ospf_area.specs.State.{AreaValue}
 use Rattle.ospf_area.specs.declared.flooding.Origin.{Origin}
-use Rattle.ospf_update.specs.Updates.{AnswersOther, PassesOver}
+use Rattle.ospf_update.specs.Updates.{PassesOver}
 use Rattle.ospf_update.specs.Updates.AnswersOther.{Acknowledged, LeftAlone}
 
 -- LS types 3, 4 and 5 have no key

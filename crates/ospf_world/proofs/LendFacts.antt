@@ -1,5 +1,5 @@
 -- The router of a Router ID.
-use Rattle.std.proofs.Common.{◌≡◌, ◌∙◌, ℕ, Option, None, Some, sym, ap, Result, get_or, option_map, Bor, refl}
+use Rattle.std.proofs.Common.{◌≡◌, ◌∙◌, ℕ, None, Some, sym, ap, Result, get_or, option_map, Bor, refl}
 use Rattle.std.proofs.lemmas.Option.{slice_get-get_or}
 use Rattle.ospf_base.specs.declared.ids.RouterId.{RouterId}
 use Rattle.ospf_headline.specs.World.{member}

@@ -1,5 +1,5 @@
 -- Where a router stands.
-use Rattle.std.proofs.Common.{Bool, ◌≡◌, ℕ, zero, suc, List, [], ◌∷◌, ◌++◌, Option, None, Some, find, refl, sym, ap, subst, ◌∙◌, cond, true, false, ◌==◌, ◌+◌, ◌<◌, slice_get, set, length, arith}
+use Rattle.std.proofs.Common.{Bool, ◌≡◌, ℕ, zero, suc, List, [], ◌∷◌, None, Some, find, refl, sym, ap, subst, ◌∙◌, cond, true, false, ◌==◌, ◌+◌, ◌<◌, slice_get, set, length, arith}
 use Rattle.std.proofs.lemmas.Option.{same_Some}
 use Rattle.std.proofs.lemmas.Bool.{cond-true, cond-false}
 use Rattle.ospf_config.specs.declared.config.Config.{Config}

@@ -1,11 +1,11 @@
 -- Worlds in code: a slot for each router, and the logs.
-use Rattle.std.specs.Prelude.{◌≡◌, ◌≢◌, ◌<◌, ◌==◌, ◌+◌, ◌++◌, ℕ, Bool, List, [], ◌∷◌, Option, None, Some, Result, Ok, Err, false, cond, length, map, slice_get}
+use Rattle.std.specs.Prelude.{◌≡◌, ◌<◌, ◌==◌, ◌+◌, ◌++◌, ℕ, Bool, List, [], ◌∷◌, Option, None, Some, Result, Ok, Err, false, cond, length, map, slice_get}
 use Rattle.std.specs.Borrow.{Bor}
 use Rattle.std.specs.BTreeMap as tree
 use Rattle.std.specs.Ordering.{nat_cmp}
 use Rattle.ospf_base.specs.declared.ids.RouterId.{RouterId}
 use Rattle.ospf_config.specs.declared.config.Config.{Config}
-use Rattle.ospf_headline.specs.World.{Member, Running, World, member}
+use Rattle.ospf_headline.specs.World.{Member, World, member}
 use Rattle.ospf_headline.specs.declared.event.WorldFault.{WorldFault}
 use Rattle.ospf_headline.specs.declared.event.WorldFault.TheVariants as fault
 use Rattle.ospf_slots.specs.Logs.{LogsValue}

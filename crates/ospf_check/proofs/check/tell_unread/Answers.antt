@@ -1,4 +1,5 @@
-use Rattle.std.proofs.Common.{◌∙◌, ap, inr, refl, subst}
+use Rattle.std.proofs.Common.{rules, ◌≡◌, ◌∙◌, ap, inr, refl, subst}
+use Rattle.ospf_files.specs.Files.{unread_line}
 use Rattle.std.specs.Io.KnownBytes.{Appends}
 use Rattle.ospf_files.specs.declared.streams.FailedStreams.{FailedStreams}
 use Rattle.ospf_check.specs.Checked.{no_error, no_memory, not_read}
@@ -9,8 +10,10 @@ returns-in_default g c explain out unread = no_memory refl refl
 
 pub returns-in-Ok-tell : goal.returns-in-Ok-tell
 returns-in-Ok-tell g c explain out unread =
-    not_read unread refl (subst (Appends _ _) (c.deref.ensures ∙ c.in-Ok.ensures.ok) c.in-Ok-tell.ensures.told.1)
+    let shown : c.deref.result.now ≡ unread_line c.args.file.now = search (rules, c.deref.ensures ∙ c.in-Ok.ensures.ok) in
+    not_read unread refl (subst (Appends _ _) shown c.in-Ok-tell.ensures.told.1)
 
 pub returns : goal.returns
 returns g c explain out unread =
-    no_error c.in-Err.failure c.deref.result.now c.in-Err.ensures.failure (ap (λ (s : FailedStreams). s.error) c.in-Err.ensures.failed) (inr (unread, c.deref.ensures ∙ c.in-Ok.ensures.ok)) refl c.in-Err.ensures.begun
+    let shown : c.deref.result.now ≡ unread_line c.args.file.now = search (rules, c.deref.ensures ∙ c.in-Ok.ensures.ok) in
+    no_error c.in-Err.failure c.deref.result.now c.in-Err.ensures.failure (ap (λ (s : FailedStreams). s.error) c.in-Err.ensures.failed) (inr (unread, shown)) refl c.in-Err.ensures.begun

@@ -1,4 +1,4 @@
-use Rattle.std.proofs.Common.{not, ap, sym, ◌∙◌}
+use Rattle.std.proofs.Common.{not, ap, ◌∙◌}
 use Rattle.ospf_exchange.proofs.KeyLemmas.{held_more}
 use Rattle.ospf_exchange.proofs.request.are_held.Goals as goal
 

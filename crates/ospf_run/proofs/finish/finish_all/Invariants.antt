@@ -1,4 +1,4 @@
-use Rattle.std.proofs.Common.{◌≡◌, drop, take}
+use Rattle.std.proofs.Common.{drop, take}
 use Rattle.ospf_run.specs.Runs.{AreOutcomes, Terms, Trios}
 use Rattle.ospf_run.proofs.finish.finish_all.Given as goal
 

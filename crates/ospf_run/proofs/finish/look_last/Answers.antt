@@ -1,4 +1,4 @@
-use Rattle.std.proofs.Common.{◌≡◌, ◌∙◌, subst}
+use Rattle.std.proofs.Common.{◌∙◌, subst}
 use mathlib.Core.List.{IsPrefix}
 use Rattle.ospf_fib.specs.Answers.{IsAnswerOfLast}
 use Rattle.ospf_published.specs.Known.{Known}

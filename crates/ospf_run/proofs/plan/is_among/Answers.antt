@@ -1,7 +1,6 @@
-use Rattle.std.proofs.Common.{◌≡◌, ◌<◌, ℕ, Some, slice_get, length, refl, arith, sym, ◌∙◌}
+use Rattle.std.proofs.Common.{◌≡◌, ◌<◌, length, refl, arith, sym, ◌∙◌}
 use Rattle.ospf_run.proofs.Planned.{at_item, more_at, other_router, same_router}
 use Rattle.std.proofs.lemmas.Option.{slice_get_within}
-use Rattle.ospf_run.specs.Plans.{IsAmong}
 use Rattle.ospf_run.proofs.plan.is_among.Goals as goal
 
 pub returns-then-eq : goal.returns-then-eq

@@ -1,4 +1,4 @@
-use Rattle.std.proofs.Common.{◌≡◌, sym, subst, option_map}
+use Rattle.std.proofs.Common.{subst, option_map}
 use Rattle.ospf_files.specs.Listed.{ConfigsCome}
 use Rattle.ospf_run.specs.Plans.{no_config}
 use Rattle.ospf_run.proofs.plan.plan_in.Goals as goal

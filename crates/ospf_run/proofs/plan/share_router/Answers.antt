@@ -1,6 +1,6 @@
-use Rattle.std.proofs.Common.{◌≡◌, ◌<◌, ◌∙◌, ℕ, Some, slice_get, length, refl, sym, arith, false, true}
+use Rattle.std.proofs.Common.{◌≡◌, ◌<◌, ◌∙◌, length, refl, sym, arith, false, true}
 use Rattle.std.proofs.lemmas.Option.{slice_get_within}
-use Rattle.ospf_run.proofs.Planned.{at_item, behind_at, front_at, twins_more}
+use Rattle.ospf_run.proofs.Planned.{at_item, front_at, twins_more}
 use Rattle.ospf_run.specs.Plans.{IsAmong, ShareRouter}
 use Rattle.ospf_run.proofs.plan.share_router.Goals as goal
 

@@ -1,4 +1,4 @@
-use Rattle.std.proofs.Common.{◌≡◌, ◌+◌, ◌<◌, ◌++◌, ◌∷◌, [], arith, length, vec_len, subst, sym}
+use Rattle.std.proofs.Common.{◌≡◌, ◌<◌, ◌++◌, ◌∷◌, [], arith, length, vec_len, subst, sym}
 use Rattle.ospf_drive.proofs.Joined.{first_taken, pairs_then, all_gone}
 use Rattle.ospf_drive.specs.Driven.{Pairs}
 use Rattle.ospf_run.proofs.tap.tap_all.Goals as goal
