@@ -4,7 +4,7 @@
 usage: tests/kit.py WORD..        as rt WORD..
 
 A crate's stamp is a sum of its sources and of the stamps of the crates that it stands on. `rt` makes each of those anew wherever it
-is asked for: for the program, over its fifty crates, those of 64,000 crates, five minutes long. Here a call remembers the stamps that
+is asked for: for the program, over its fifty crates, those of 64,000 crates. Here a call remembers the stamps that
 it has made, for as long as it lasts; the next one makes its own. So every stamp is the same, and nothing else is changed.
 """
 import importlib.machinery
