@@ -10,7 +10,7 @@ use crate::logs::Logs;
 use ospf_area::Outputs;
 use ospf_base::{LsaKey, RouterId};
 use ospf_config::Config;
-use ospf_headline::Run;
+use ospf_headline::{Datagram, Run};
 use ospf_router::{Event, Router, StartFault, Step, Stopped};
 use std::alloc::Global;
 use std::marker::Model;
@@ -118,14 +118,20 @@ impl RunningRouter {
         ensures fed { IfOk result (λ x. IfSome (slice_get logs.old.datagrams place) (λ g. Fed router (delivery link g) self logs.old x logs.new)) }
         ensures none { OnErr result (logs.new ≡ logs.old) }
     {
-        let datagram = &logs.datagrams()[place];
-        let event = Event::Datagram {
-            link,
-            source: datagram.sent.source,
-            destination: datagram.sent.destination,
-            bytes: &datagram.sent.bytes,
-        };
+        let event = arrival(&logs.datagrams()[place], link);
         let (running, outputs) = self.step(event, alloc)?;
         running.settle(outputs, logs, router)
+    }
+}
+
+// A datagram that was sent, as it comes in on a link.
+fn arrival(datagram: &Datagram, link: usize) -> Event<'_>
+    ensures { happening result ≡ delivery link datagram.now }
+{
+    Event::Datagram {
+        link,
+        source: datagram.sent.source,
+        destination: datagram.sent.destination,
+        bytes: &datagram.sent.bytes,
     }
 }
