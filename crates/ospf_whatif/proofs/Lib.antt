@@ -1,0 +1,7 @@
+pub mod WithoutLemmas
+pub mod LessLemmas
+pub mod SingleLemmas
+pub mod ToldLemmas
+pub mod EffectLemmas
+pub mod NameLemmas
+pub mod FailureOrder

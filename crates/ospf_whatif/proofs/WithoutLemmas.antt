@@ -1,0 +1,174 @@
+-- An area without what a failure takes.
+use Rattle.std.proofs.Common.{◌≡◌, ◌+◌, ◌*◌, ◌<◌, ◌≤◌, ◌⊎◌, ℕ, ℤ, suc, Bool, true, false, cond, inl, inr, arith, filter, List, [], ◌∷◌, ◌++◌, map, take, drop, length, get_or, slice_index, refl, sym, ap, ◌∙◌, subst, append-nil, not, Result, Ok, Err, IfOk, IfErr}
+use Rattle.std.specs.List.{AllByRecursion, Contains}
+use Rattle.std.proofs.lemmas.List.Elements.{filter-append}
+use Rattle.std.proofs.lemmas.List.{drop_more, take_more, take-append-drop, map-append}
+use Rattle.ospf_base.specs.declared.ids.LsaKey.{LsaKey}
+use Rattle.ospf_base.specs.declared.ids.RouterId.{RouterId}
+use Rattle.ospf_base.specs.Keys.{Precedes}
+use Rattle.ospf_base.proofs.KeyOrder.{Precedes-trans, Precedes-irrefl}
+use Rattle.ospf_base.specs.Bytes.{number_at}
+use Rattle.ospf_lsa.specs.Lsa.{IsLsa, IsRouterLsa, IsNetworkLsa, key_of, kind_of, links_of}
+use Rattle.ospf_lsa.specs.Link.{LinkEntry, entries_in, plain}
+use Rattle.ospf_lsa.specs.Listing as listings
+use Rattle.ospf_lsa.specs.declared.fault.LsaFault.TheVariants as fault
+use Rattle.ospf_lsa.proofs.ListingLemmas.{AllBefore, before_it}
+use Rattle.ospf_lsa.specs.Value.{IsMade, IsUnmade, RouterNeeds, router_value, LsaValue, router_body}
+use Rattle.ospf_lsa.specs.declared.link.Link.{Link}
+use Rattle.ospf_graph.specs.Advertisements.{router_lsa}
+use Rattle.ospf_edges.specs.Listed.{advertisement_of}
+use Rattle.ospf_graph.proofs.ListLemmas.{member_to_map}
+use Rattle.ospf_edges.proofs.ListedLemmas.{router_of, network_of}
+use Rattle.ospf_whatif.specs.Failure.{HasLarge, IsLarge, kept, kept_links, takes}
+use Rattle.ospf_whatif.specs.declared.failure.Failure.{Failure}
+
+pub kept_links-append : (f : Failure) (r : RouterId) (xs ys : List Link) → kept_links f r (xs ++ ys) ≡ kept_links f r xs ++ kept_links f r ys
+kept_links-append f r xs ys = filter-append (λ l. not (takes f r l)) xs ys
+
+-- a link that is not taken is kept
+pub kept_one : (f : Failure) (r : RouterId) (l : Link) → takes f r l ≡ false → kept_links f r (l ∷ []) ≡ l ∷ []
+kept_one f r l stays = rw stays refl
+
+pub taken_one : (f : Failure) (r : RouterId) (l : Link) → takes f r l ≡ true → kept_links f r (l ∷ []) ≡ []
+taken_one f r l goes = rw goes refl
+
+-- ---- an LSA behind all others
+
+all_back : {X : Type 0} (P : X → Type 0) (xs ys : List X) → AllByRecursion P (xs ++ ys) → AllByRecursion P ys
+all_back P [] ys p = p
+all_back P (x ∷ xs) ys p = all_back P xs ys p.1
+
+-- nothing stands behind what all others stand before
+behind_last : (lsa : List ℕ) (xs ys : List (List ℕ)) → listings.IsRising (xs ++ lsa ∷ ys) → AllByRecursion (λ l. Precedes (key_of l) (key_of lsa)) ys → ys ≡ []
+behind_last lsa [] [] rises below = refl
+behind_last lsa [] (y ∷ ys) rises below = absurd (Precedes-irrefl (key_of lsa) (Precedes-trans (key_of lsa) (key_of y) (key_of lsa) rises.0.0 below.0))
+behind_last lsa (x ∷ xs) ys rises below = behind_last lsa xs ys rises.1 below
+
+-- an LSA that stands behind all others is put in at the end
+pub inserted_last : (lsa : List ℕ) (old new : List (List ℕ)) → listings.IsInserted lsa old new → listings.IsRising new → AllByRecursion (λ l. Precedes (key_of l) (key_of lsa)) old → new ≡ old ++ lsa ∷ []
+inserted_last lsa old new put rises below =
+    let none : put.after ≡ [] = behind_last lsa put.before put.after (subst (λ (l : List (List ℕ)). listings.IsRising l) put.new_is rises) (all_back (λ l. Precedes (key_of l) (key_of lsa)) put.before put.after (subst (λ (l : List (List ℕ)). AllByRecursion (λ o. Precedes (key_of o) (key_of lsa)) l) put.old_is below)) in
+    let front : old ≡ put.before = put.old_is ∙ ap (λ (t : List (List ℕ)). put.before ++ t) none ∙ append-nil put.before in
+    put.new_is ∙ ap (λ (t : List (List ℕ)). put.before ++ lsa ∷ t) none ∙ ap (λ (t : List (List ℕ)). t ++ lsa ∷ []) (sym front)
+
+-- ---- a router-LSA that is made
+
+plain_links : (links : List Link) → map (λ (e : LinkEntry). e.link) (map plain links) ≡ links
+plain_links [] = refl
+plain_links (l ∷ rest) = ap (λ more. l ∷ more) (plain_links rest)
+
+module _ (r : RouterId) (number : ℤ) (links : List Link) (left : List ℕ) (made : IsMade (router_value r number links) left) where
+  is_router : IsRouterLsa left
+  is_router = ap (λ (v : LsaValue). v.header.kind) made.read
+
+  names : (let named : RouterId = record { 0 = number_at 8 4 left } in named) ≡ r
+  names = ap (λ (v : LsaValue). v.header.router) made.read
+
+  id_is : number_at 4 4 left ≡ r.0
+  id_is = ap (λ (v : LsaValue). v.header.id) made.read
+
+  entries_are : entries_in (number_at 22 2 left) (drop 24 left) ≡ map plain links
+  entries_are =
+      let body : router_body (slice_index left 20) (slice_index left 21) (entries_in (number_at 22 2 left) (drop 24 left)) ≡ router_body 0 0 (map plain links) =
+      rw is_router at (ap (λ (v : LsaValue). v.body) made.read) in
+      cc
+
+  links_are : links_of left ≡ links
+  links_are = ap (λ es. map (λ (e : LinkEntry). e.link) es) entries_are ∙ plain_links links
+
+  pub made_says : advertisement_of left ≡ router_lsa r links
+  made_says = router_of left is_router ∙ (λ i. router_lsa (names i) (links_are i))
+
+  -- the key of a router-LSA that bears its Router ID
+  pub made_key : (lsa : List ℕ) → IsRouterLsa lsa → IsLsa lsa → r ≡ record { 0 = number_at 8 4 lsa } → key_of left ≡ key_of lsa
+  made_key lsa is valid same =
+      let kinds : kind_of left ≡ kind_of lsa = rw (is_router, is) refl in
+      let other : number_at 4 4 lsa ≡ number_at 8 4 lsa = valid fault.IdMismatch is in
+      let ids : number_at 4 4 left ≡ number_at 4 4 lsa = id_is ∙ ap (λ (x : RouterId). x.0) same ∙ sym other in
+      let routers : (let named : RouterId = record { 0 = number_at 8 4 left } in named) ≡ record { 0 = number_at 8 4 lsa } = names ∙ same in
+      λ i. record { kind = kinds i; id = ids i; router = routers i }
+
+  pub made_kept : (f : Failure) (lsa : List ℕ) → IsRouterLsa lsa → r ≡ record { 0 = number_at 8 4 lsa } → links ≡ kept_links f r (links_of lsa)
+      → advertisement_of left ≡ kept f (advertisement_of lsa)
+  made_kept f lsa is same are =
+      made_says ∙ ap (λ ls. router_lsa r ls) are ∙ ap (λ (x : RouterId). router_lsa x (kept_links f x (links_of lsa))) same ∙ sym (ap (kept f) (router_of lsa is))
+
+-- ---- an LSA that stays
+
+pub router_kept : (f : Failure) (lsa : List ℕ) → IsRouterLsa lsa → kept_links f (record { 0 = number_at 8 4 lsa }) (links_of lsa) ≡ links_of lsa
+    → advertisement_of lsa ≡ kept f (advertisement_of lsa)
+router_kept f lsa is all =
+    router_of lsa is ∙ ap (λ ls. router_lsa (record { 0 = number_at 8 4 lsa }) ls) (sym all) ∙ sym (ap (kept f) (router_of lsa is))
+
+pub network_kept : (f : Failure) (lsa : List ℕ) → IsNetworkLsa lsa → advertisement_of lsa ≡ kept f (advertisement_of lsa)
+network_kept f lsa is = network_of lsa is ∙ sym (ap (kept f) (network_of lsa is))
+
+pub IfOk-map : {X E : Type 0} (r : Result X E) (P Q : X → Type 0) → IfOk r P → ((x : X) → P x → Q x) → IfOk r Q
+IfOk-map (Ok x) P Q p to = to x p
+IfOk-map (Err e) P Q p to = tt
+
+pub err_at : {X E : Type 0} (r : Result X E) (P : E → Type 0) (e : E) → IfErr r P → r ≡ Err e → P e
+err_at r P e h is = let there = subst (λ (q : Result _ _). IfErr q P) is h in there
+
+-- ---- all LSAs, one after the other
+
+keyed_before : (key : LsaKey) (xs ys : List (List ℕ)) → map key_of xs ≡ map key_of ys → AllBefore key ys → AllBefore key xs
+keyed_before key [] ys same below = tt
+keyed_before key (x ∷ xs) [] same below = absurd (cc)
+keyed_before key (x ∷ xs) (y ∷ ys) same below =
+    let first : key_of y ≡ key_of x = cc in
+    let rest : map key_of xs ≡ map key_of ys = cc in
+    (subst (λ k. Precedes k key) first below.0, keyed_before key xs ys rest below.1)
+
+module _ (lsas : List (List ℕ)) (i : ℕ) (x : List ℕ) (within : i < length lsas) (is : x ≡ get_or lsas i x) where
+  -- what stands in front of it, by keys
+  pub keys_before : listings.IsRising lsas → (left : List (List ℕ)) (new : List ℕ) → map key_of left ≡ map key_of (take i lsas) → key_of new ≡ key_of x
+      → AllBefore (key_of new) left
+  keys_before rises left new same key =
+      let split : take i lsas ++ x ∷ drop (i + 1) lsas ≡ lsas =
+      ap (λ t. take i lsas ++ t) (ap (λ (l : List ℕ). l ∷ drop (i + 1) lsas) is ∙ sym (drop_more lsas i x within)) ∙ take-append-drop i lsas in
+      let below : AllBefore (key_of x) (take i lsas) = before_it (take i lsas) x (drop (i + 1) lsas) (subst (λ l. listings.IsRising l) (sym split) rises) in
+      keyed_before (key_of new) left (take i lsas) same (subst (λ k. AllBefore k (take i lsas)) (sym key) below)
+
+  next : take (i + 1) lsas ≡ take i lsas ++ x ∷ []
+  next = take_more lsas i x within ∙ ap (λ l. take i lsas ++ l ∷ []) (sym is)
+
+  pub keys_next : (left : List (List ℕ)) (new : List ℕ) → map key_of left ≡ map key_of (take i lsas) → key_of new ≡ key_of x
+      → map key_of (left ++ new ∷ []) ≡ map key_of (take (i + 1) lsas)
+  keys_next left new same key =
+      map-append key_of left (new ∷ []) ∙ (λ j. same j ++ key j ∷ []) ∙ sym (ap (map key_of) next ∙ map-append key_of (take i lsas) (x ∷ []))
+
+  pub told_next : (f : Failure) (left : List (List ℕ)) (new : List ℕ) → map advertisement_of left ≡ map (kept f) (map advertisement_of (take i lsas))
+      → advertisement_of new ≡ kept f (advertisement_of x) → map advertisement_of (left ++ new ∷ []) ≡ map (kept f) (map advertisement_of (take (i + 1) lsas))
+  told_next f left new same told =
+      map-append advertisement_of left (new ∷ []) ∙ (λ j. same j ++ told j ∷ [])
+      ∙ sym (ap (λ l. map (kept f) (map advertisement_of l)) next ∙ ap (map (kept f)) (map-append advertisement_of (take i lsas) (x ∷ [])) ∙ map-append (kept f) (map advertisement_of (take i lsas)) (advertisement_of x ∷ []))
+
+-- ---- what cannot be made anew
+
+-- a filter keeps no more than there is
+kept_length : {X : Type 0} (p : X → Bool) (xs : List X) → length (filter p xs) ≤ length xs
+kept_length p [] = omega arith
+kept_length p (x ∷ xs) = go (p x) (kept_length p xs)
+  where
+    go : (b : Bool) → length (filter p xs) ≤ length xs → length (cond b (x ∷ filter p xs) (filter p xs)) ≤ suc (length xs)
+    go true h = omega arith
+    go false h = omega arith
+
+-- a router-LSA that keeps too many has too many
+pub large_before : (f : Failure) (r : RouterId) (number : ℤ) (links : List Link) (lsa : List ℕ) → IsRouterLsa lsa → links ≡ kept_links f r (links_of lsa)
+    → IsUnmade (RouterNeeds number links) fault.Length → IsLarge (advertisement_of lsa)
+large_before f r number links lsa is are (inl memory) = let e : fault.Length ≡ fault.Memory = memory.0 in cc
+large_before f r number links lsa is are (inr first) =
+    let more : 1361 < length links = go first.broken in
+    let all : length links ≤ length (links_of lsa) = subst (λ (l : List Link). length l ≤ length (links_of lsa)) (sym are) (kept_length (λ l. not (takes f r l)) (links_of lsa)) in
+    let large : 1361 < length (links_of lsa) = omega arith in
+    subst IsLarge (sym (router_of lsa is)) large
+  where
+    go : (24 + 12 * length links ≤ 16356 → ⊥) → 1361 < length links
+    go long = omega (arith, long)
+
+-- one of a listing
+pub large_in : (items listing : List (List ℕ)) (lsa : List ℕ) → items ≡ listing → Contains items lsa → IsLarge (advertisement_of lsa) → HasLarge (map advertisement_of listing)
+large_in items listing lsa same here large =
+    (advertisement_of lsa, member_to_map advertisement_of listing lsa (subst (λ (l : List (List ℕ)). Contains l lsa) same here), large)

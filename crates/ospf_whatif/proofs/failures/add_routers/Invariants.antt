@@ -1,0 +1,8 @@
+use Rattle.std.proofs.Common.{take}
+use Rattle.ospf_edges.specs.Given.{Adds}
+use Rattle.ospf_whatif.specs.Single.{GivenBy, RouterGiven}
+use Rattle.ospf_edges.specs.Listed.{advertisement_of}
+use Rattle.ospf_whatif.proofs.failures.add_routers.Given as goal
+
+abbrev pub invariant-loop-lsa : goal.invariant-loop-lsa
+invariant-loop-lsa l = Adds (GivenBy (λ lsa. RouterGiven (advertisement_of lsa)) (take l.lsa-index l.lsa-items)) l.initial.failures.items l.failures.items

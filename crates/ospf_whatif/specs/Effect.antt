@@ -1,0 +1,48 @@
+-- What a failure changes in a routing table.
+use Rattle.std.specs.Prelude.{◌≡◌, ◌<◌, ◌≤◌, ◌↔◌, ◌⊎◌, ℕ, List, All, AllPairs, Contains}
+use Rattle.ospf_base.specs.declared.ids.RouterId.{RouterId}
+use Rattle.ospf_graph.specs.Advertisements.{Advertisement}
+use Rattle.ospf_graph.specs.Routes.{IsRouteBefore, IsTable}
+use Rattle.ospf_graph.specs.declared.route.Route.{Route}
+use Rattle.ospf_spf.specs.Changes.{Reaches, prefix_of}
+use Rattle.ospf_spf.specs.declared.changes.Change.{Change}
+use Rattle.ospf_spf.specs.declared.changes.Change.TheVariants as change
+use Rattle.ospf_whatif.specs.Failure.{without}
+use Rattle.ospf_whatif.specs.Told.{IsTold, place_of}
+use Rattle.ospf_whatif.specs.declared.effect.Loss.{Loss}
+use Rattle.ospf_whatif.specs.declared.effect.Loss.TheVariants.{Cut, Dearer, Gone, Moved}
+use Rattle.ospf_whatif.specs.declared.effect.RouteChange.{RouteChange}
+use Rattle.ospf_whatif.specs.declared.failure.Failure.{Failure}
+
+-- what becomes of a route where the area is left as `left`, and the table as `after`: no route to its prefix, which nobody tells or somebody does; or one that
+-- costs more, or the same over other next hops
+abbrev pub IsLoss : List Advertisement → List Route → Route → Loss → Type 0
+IsLoss left after route Gone = (Reaches after route.prefix → ⊥) × (IsTold left route.prefix → ⊥)
+IsLoss left after route Cut = (Reaches after route.prefix → ⊥) × IsTold left route.prefix
+IsLoss left after route (Dearer new) = Contains after new × (new.prefix ≡ route.prefix) × (route.cost < new.cost)
+IsLoss left after route (Moved new) = Contains after new × (new.prefix ≡ route.prefix) × (new.cost ≡ route.cost) × (new.hops ≡ route.hops → ⊥)
+
+-- the order of changes: by the prefixes of their routes
+abbrev pub IsRouteChangeBefore : RouteChange → RouteChange → Type 0
+IsRouteChangeBefore c d = IsRouteBefore c.before d.before
+
+-- what becomes of the routes of a table where something fails: in order, so each once, exactly those that the table of what is left does not have
+pub record IsEffect (adverts : List Advertisement) (root : RouterId) (failure : Failure) (before : List Route) (effect : List RouteChange) : Type 0 where
+  pub after : List Route
+  pub is_after : IsTable (without failure adverts) root after
+  pub in_order : AllPairs IsRouteChangeBefore effect
+  pub listed : (route : Route) → ((loss : Loss) × Contains effect (record { before = route; loss = loss })) ↔ (Contains before route × (Contains after route → ⊥))
+  pub losses : All (λ c. IsLoss (without failure adverts) after c.before c.loss) effect
+
+-- ---- by the change at a prefix
+
+-- what becomes of a route where the change is at its prefix, and these are the places of the prefixes that are lost and told
+abbrev pub IsLossBy : List ℕ → Route → Change → Loss → Type 0
+IsLossBy told route (change.Put new) loss = ((route.cost < new.cost) × (loss ≡ Dearer new)) ⊎ ((new.cost ≤ route.cost) × (loss ≡ Moved new))
+IsLossBy told route (change.Gone prefix) loss = (Contains told (place_of prefix) × (loss ≡ Cut)) ⊎ ((Contains told (place_of prefix) → ⊥) × (loss ≡ Gone))
+
+-- the route at its prefix, and what becomes of it
+pub record IsChangeBy (routes : List Route) (told : List ℕ) (c : Change) (here : RouteChange) : Type 0 where
+  pub before_in : Contains routes here.before
+  pub prefix_is : here.before.prefix ≡ prefix_of c
+  pub loss_is : IsLossBy told here.before c here.loss

@@ -1,0 +1,6 @@
+pub mod Failure
+pub mod Effect
+pub mod Single
+pub mod Laws
+pub mod Told
+pub mod Name

@@ -1,0 +1,155 @@
+//! The listing of an area after a failure.
+
+ghost use Rattle.std.specs.Prelude.{◌≡◌, ◌≤◌, ◌++◌, ◌<◌, ◌∷◌, [], Err, IfOk, IfErr, OnOk, IsTrue};
+ghost use Rattle.std.specs.List.{AllByRecursion};
+ghost use Rattle.ospf_base.specs.Keys.{Precedes};
+ghost use Rattle.ospf_lsa.specs.Header.{header_of};
+ghost use Rattle.ospf_lsa.specs.Lsa.{key_of, IsRouterLsa, links_of};
+ghost use Rattle.ospf_lsa.specs.Listing.{IsListed};
+ghost use Rattle.ospf_edges.specs.Listed.{advertisement_of, advertisements_of};
+ghost use Rattle.ospf_whatif.specs.Failure.{HasLarge, IsLarge, kept, kept_links, takes, without};
+
+use crate::failure::Failure;
+use ospf_base::{Kind, RouterId};
+use ospf_lsa::{Link, Links, Listing, Lsa, LsaFault, LsaView};
+use std::alloc::{AllocError, Global};
+
+/// Why there is no listing of the area after a failure.
+#[derive(Clone, Copy, Debug, PartialEq, Eq)]
+pub enum WithoutFault {
+    /// Memory ran out.
+    Memory,
+    /// A router-LSA that the failure changes keeps more links than an LSA that is made may have.
+    Links,
+}
+
+impl From<AllocError> for WithoutFault {
+    ghost use Rattle.std.specs.Prelude.{◌≡◌};
+    ghost use Rattle.ospf_whatif.specs.declared.area.WithoutFault.TheVariants as fault;
+
+    ghost from_gives = { λ _ f. f ≡ fault.Memory };
+
+    fn from(_error: AllocError) -> WithoutFault {
+        WithoutFault::Memory
+    }
+}
+
+impl From<LsaFault> for WithoutFault {
+    ghost use Rattle.std.specs.Prelude.{◌≡◌};
+    ghost use Rattle.ospf_lsa.specs.declared.fault.LsaFault.TheVariants as lsa_fault;
+    ghost use Rattle.ospf_whatif.specs.declared.area.WithoutFault.TheVariants as fault;
+
+    ghost from_gives = { λ lsa f. f ≡ fault.Links → lsa ≡ lsa_fault.Length };
+
+    fn from(fault: LsaFault) -> WithoutFault {
+        match fault {
+            LsaFault::Length => WithoutFault::Links,
+            _ => WithoutFault::Memory,
+        }
+    }
+}
+
+// Adds a link, if the router keeps it.
+fn push_kept(
+    failure: &Failure,
+    router: RouterId,
+    link: Link,
+    kept: &mut Vec<Link>,
+) -> Result<(), AllocError>
+    ensures { OnOk result (kept.new.items ≡ kept.old.items ++ kept_links failure.now router (link ∷ [])) }
+{
+    if !failure.takes(router, link) {
+        kept.push(link)?;
+    }
+    Ok(())
+}
+
+// The links that a router keeps.
+fn kept_links(
+    alloc: Global,
+    failure: &Failure,
+    router: RouterId,
+    links: Links,
+) -> Result<Vec<Link>, AllocError>
+    ensures { IfOk result (λ kept. kept.items ≡ kept_links failure.now router links.entry) }
+{
+    let mut kept = Vec::new(alloc);
+    for link in links {
+        push_kept(failure, router, link, &mut kept)?;
+    }
+    Ok(kept)
+}
+
+// Whether a router keeps all links.
+fn keeps_all(failure: &Failure, router: RouterId, links: Links) -> bool
+    ensures { IsTrue result → kept_links failure.now router links.entry ≡ links.entry }
+{
+    for link in links {
+        if failure.takes(router, link) {
+            return false;
+        }
+    }
+    true
+}
+
+// A router-LSA after the failure: the same where it keeps all links.
+fn router_without(alloc: Global, failure: &Failure, lsa: &LsaView) -> Result<Lsa, LsaFault>
+    requires router { IsRouterLsa lsa.now }
+    requires listed { IsListed lsa.now }
+    ensures advertisement { IfOk result (λ left. advertisement_of left ≡ kept failure.now (advertisement_of lsa.now)) }
+    ensures key { IfOk result (λ left. key_of left ≡ key_of lsa.now) }
+    ensures young { IfOk result (λ left. (header_of left).age < 3600) }
+    ensures large { result ≡ Err LsaFault.Length → IsLarge (advertisement_of lsa.now) }
+{
+    let router = lsa.key().router;
+    if keeps_all(failure, router, lsa.links()) {
+        return Lsa::copy(alloc, lsa);
+    }
+    match kept_links(alloc, failure, router, lsa.links()) {
+        Ok(links) => Lsa::router(alloc, router, lsa.header().number, &links),
+        Err(_) => Err(LsaFault::Memory),
+    }
+}
+
+// An LSA after the failure.
+fn lsa_without(alloc: Global, failure: &Failure, lsa: &LsaView) -> Result<Lsa, LsaFault>
+    requires listed { IsListed lsa.now }
+    ensures advertisement { IfOk result (λ left. advertisement_of left ≡ kept failure.now (advertisement_of lsa.now)) }
+    ensures key { IfOk result (λ left. key_of left ≡ key_of lsa.now) }
+    ensures young { IfOk result (λ left. (header_of left).age < 3600) }
+    ensures large { result ≡ Err LsaFault.Length → IsLarge (advertisement_of lsa.now) }
+{
+    match lsa.kind() {
+        Kind::Router => router_without(alloc, failure, lsa),
+        Kind::Network => Lsa::copy(alloc, lsa),
+    }
+}
+
+// Adds an LSA below `MAX_AGE` whose key stands behind those of a listing.
+fn append(listing: &mut Listing, lsa: Lsa) -> Result<(), AllocError>
+    requires last { AllByRecursion (λ other. Precedes (key_of other) (key_of lsa)) listing.old }
+    ensures { OnOk result (listing.new ≡ listing.old ++ lsa ∷ []) }
+{
+    let Ok(_added) = listing.add(lsa) else {
+        return Err(AllocError);
+    };
+    let _in_order = listing.lsas();
+    Ok(())
+}
+
+/// The LSAs of an area after a failure, once its routers have told of it: those of the same keys, without the links
+/// that the failure takes. What it does not touch stays byte for byte; a changed router-LSA has its number and age 0.
+///
+/// `Links` where a changed router-LSA keeps more links than can be told in one of `LARGEST_LSA` bytes, which are 1,361; else
+/// `Memory`.
+pub fn without(alloc: Global, listing: &Listing, failure: &Failure) -> Result<Listing, WithoutFault>
+    ensures left { IfOk result (λ left. advertisements_of left ≡ without failure.now (advertisements_of listing.now)) }
+    ensures large { result ≡ Err WithoutFault.Links → HasLarge (advertisements_of listing.now) }
+{
+    let mut left = Listing::new(alloc);
+    for lsa in listing.lsas() {
+        let kept = lsa_without(alloc, failure, &lsa.view())?;
+        append(&mut left, kept)?;
+    }
+    Ok(left)
+}

@@ -1,0 +1,107 @@
+//! Failures, and which links they take out of router-LSAs.
+
+ghost use Rattle.std.specs.Prelude.{◌≡◌};
+ghost use Rattle.ospf_whatif.specs.Failure.{is_link_to, is_on, is_stub_of, is_transit_of, is_wire_end};
+
+use ospf_base::{Prefix, RouterId, mask_of};
+use ospf_lsa::{Link, LinkKind};
+
+/// What fails in an area.
+///
+/// Failures are in the order of their variants, and those of a variant in that of its fields, the first first.
+#[derive(Clone, Copy, Debug, PartialEq, Eq, PartialOrd, Ord)]
+pub enum Failure {
+    /// A point-to-point link: that of two routers in one subnet. The interfaces at both ends go down.
+    Link {
+        a: RouterId,
+        b: RouterId,
+        subnet: Prefix,
+    },
+    /// All point-to-point links between two routers, of which no subnet is known: the adjacencies end.
+    Links {
+        a: RouterId,
+        b: RouterId,
+    },
+    /// A router's interface to a transit network, by its Link State ID: the interface goes down.
+    Attachment {
+        router: RouterId,
+        network: u32,
+    },
+    /// A transit network: the interfaces of all routers to it go down.
+    Network(u32),
+    /// A router: it stops, and its neighbours' interfaces stay up.
+    Router(RouterId),
+}
+
+// Whether it is a type 1 link to a router.
+fn is_link_to(link: Link, router: RouterId) -> bool
+    ensures { result ≡ is_link_to link router }
+{
+    match link.kind {
+        LinkKind::PointToPoint => link.id == router.0,
+        LinkKind::Transit | LinkKind::Stub | LinkKind::Virtual => false,
+    }
+}
+
+// Whether it is a type 2 link to a transit network.
+fn is_transit_of(link: Link, network: u32) -> bool
+    ensures { result ≡ is_transit_of link network }
+{
+    match link.kind {
+        LinkKind::Transit => link.id == network,
+        LinkKind::PointToPoint | LinkKind::Stub | LinkKind::Virtual => false,
+    }
+}
+
+// Whether it is a type 3 link to a prefix.
+fn is_stub_of(link: Link, prefix: Prefix) -> bool
+    ensures { result ≡ is_stub_of link prefix }
+{
+    match link.kind {
+        LinkKind::Stub => {
+            let mask = mask_of(prefix.length);
+            link.link_data == mask && link.id & mask == prefix.address.0
+        }
+        LinkKind::PointToPoint | LinkKind::Transit | LinkKind::Virtual => false,
+    }
+}
+
+// Whether a link's own address lies in a prefix.
+fn is_on(link: Link, prefix: Prefix) -> bool
+    ensures { result ≡ is_on link prefix }
+{
+    link.link_data & mask_of(prefix.length) == prefix.address.0
+}
+
+// Whether it is a link of the end of a point-to-point link in a subnet whose other end is a router.
+fn is_wire_end(link: Link, router: RouterId, subnet: Prefix) -> bool
+    ensures { result ≡ is_wire_end link router subnet }
+{
+    (is_link_to(link, router) && is_on(link, subnet)) || is_stub_of(link, subnet)
+}
+
+impl Failure {
+    ghost use Rattle.std.specs.Prelude.{◌≡◌};
+    ghost use Rattle.ospf_whatif.specs.Failure.{takes};
+
+    /// Whether a router's router-LSA has lost a link after the failure.
+    pub fn takes(&self, router: RouterId, link: Link) -> bool
+        ensures { result ≡ takes self.now router link }
+    {
+        match *self {
+            Failure::Link { a, b, subnet } => {
+                (router.0 == a.0 && is_wire_end(link, b, subnet))
+                    || (router.0 == b.0 && is_wire_end(link, a, subnet))
+            }
+            Failure::Links { a, b } => {
+                (router.0 == a.0 && is_link_to(link, b)) || (router.0 == b.0 && is_link_to(link, a))
+            }
+            Failure::Attachment {
+                router: attached,
+                network,
+            } => router.0 == attached.0 && is_transit_of(link, network),
+            Failure::Network(network) => is_transit_of(link, network),
+            Failure::Router(gone) => router.0 == gone.0 || is_link_to(link, gone),
+        }
+    }
+}

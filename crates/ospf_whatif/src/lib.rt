@@ -1,0 +1,19 @@
+//! What an area comes to without a link, an attachment, a network or a router of it: the LSAs that its routers would
+//! have after the failure, and what changes in a routing table (RFC 2328, sections 12.4.1 and 16.1).
+#![tactic(auto)]
+
+mod area;
+mod effect;
+mod failure;
+mod failures;
+mod laws;
+mod name;
+mod same;
+mod told;
+
+pub use crate::area::{WithoutFault, without};
+pub use crate::effect::{Loss, RouteChange, effect_of};
+pub use crate::failure::Failure;
+pub use crate::failures::single_failures;
+pub use crate::laws::{failures_make_no_edge, failures_take_away, trees_stay};
+pub use crate::name::find_failure;

@@ -1,0 +1,132 @@
+//! Names of failures, one word each.
+
+ghost use Rattle.std.specs.Prelude.{◌≡◌, ◌↔◌, false, Contains, IsTrue, IfOk, IfSome, IfNone};
+ghost use Rattle.ospf_whatif.specs.declared.failure.Failure.{Failure};
+ghost use Rattle.ospf_whatif.specs.Name.{HasName, HasOther, IsIn, IsNamed, IsOnlyIn, failure_text};
+
+use crate::failure::Failure;
+use crate::same::is_same;
+use ospf_base::Addr;
+use std::alloc::{AllocError, Global};
+use std::fmt::{self, Display, Formatter, Write};
+
+/// As `1.1.1.1-2.2.2.2@10.0.0.0/30` a link, `1.1.1.1-2.2.2.2` all links between two routers of which no subnet is known,
+/// `3.3.3.3@10.1.0.3` a router's interface to the network of that Link State ID, `@10.1.0.3` that network, `3.3.3.3` a
+/// router.
+impl Display for Failure {
+    ghost use Rattle.std.specs.Prelude.{Some};
+    ghost use Rattle.ospf_whatif.specs.Name.{failure_text};
+
+    ghost output = { λ failure. Some (failure_text failure) };
+
+    fn fmt<W: Write>(&self, f: &mut Formatter<W>) -> fmt::Result {
+        match self {
+            Failure::Link { a, b, subnet } => write!(f, "{a}-{b}@{subnet}"),
+            Failure::Links { a, b } => write!(f, "{a}-{b}"),
+            Failure::Attachment { router, network } => write!(f, "{router}@{}", Addr(*network)),
+            Failure::Network(network) => write!(f, "@{}", Addr(*network)),
+            Failure::Router(router) => write!(f, "{router}"),
+        }
+    }
+}
+
+// Whether a word is the name of a failure.
+fn has_name(alloc: Global, failure: &Failure, word: &str) -> Result<bool, AllocError>
+    ensures { IfOk result (λ has. IsTrue has ↔ (failure_text failure.now ≡ word.now)) }
+{
+    let name = format!(in alloc; "{failure}")?;
+    Ok(name.as_str() == word)
+}
+
+// Whether a failure is a link in the subnet that a word is.
+fn is_in(alloc: Global, failure: &Failure, word: &str) -> Result<bool, AllocError>
+    ensures { IfOk result (λ is. IsTrue is ↔ IsIn word.now failure.now) }
+{
+    match failure {
+        Failure::Link { subnet, .. } => {
+            let text = format!(in alloc; "{subnet}")?;
+            Ok(text.as_str() == word)
+        }
+        Failure::Links { .. }
+        | Failure::Attachment { .. }
+        | Failure::Network(_)
+        | Failure::Router(_) => Ok(false),
+    }
+}
+
+// The failure whose name a word is.
+fn by_name(alloc: Global, failures: &[Failure], word: &str) -> Result<Option<Failure>, AllocError>
+    ensures some { IfOk result (λ found. IfSome found (HasName failures.now word.now)) }
+    ensures none { IfOk result (λ found. IfNone found ((failure : Failure) → HasName failures.now word.now failure → ⊥)) }
+{
+    for failure in failures {
+        if has_name(alloc, failure, word)? {
+            return Ok(Some(*failure));
+        }
+    }
+    Ok(None)
+}
+
+// The first link in the subnet that a word is.
+fn first_in(alloc: Global, failures: &[Failure], word: &str) -> Result<Option<Failure>, AllocError>
+    ensures some { IfOk result (λ found. IfSome found (λ failure. Contains failures.now failure × IsIn word.now failure)) }
+    ensures none { IfOk result (λ found. IfNone found ((failure : Failure) → Contains failures.now failure → IsIn word.now failure → ⊥)) }
+{
+    for failure in failures {
+        if is_in(alloc, failure, word)? {
+            return Ok(Some(*failure));
+        }
+    }
+    Ok(None)
+}
+
+// Whether there is no other link in the subnet that a word is.
+fn is_alone(
+    alloc: Global,
+    failures: &[Failure],
+    word: &str,
+    first: &Failure,
+) -> Result<bool, AllocError>
+    ensures alone { IfOk result (λ alone. IsTrue alone → (other : Failure) → Contains failures.now other → IsIn word.now other → other ≡ first.now) }
+    ensures other { IfOk result (λ alone. alone ≡ false → HasOther failures.now word.now first.now) }
+{
+    for failure in failures {
+        if is_in(alloc, failure, word)? && !is_same(failure, first) {
+            return Ok(false);
+        }
+    }
+    Ok(true)
+}
+
+// The only link in the subnet that a word is.
+fn by_subnet(alloc: Global, failures: &[Failure], word: &str) -> Result<Option<Failure>, AllocError>
+    ensures some { IfOk result (λ found. IfSome found (IsOnlyIn failures.now word.now)) }
+    ensures none { IfOk result (λ found. IfNone found ((failure : Failure) → IsOnlyIn failures.now word.now failure → ⊥)) }
+{
+    let Some(first) = first_in(alloc, failures, word)? else {
+        return Ok(None);
+    };
+    if is_alone(alloc, failures, word, &first)? {
+        Ok(Some(first))
+    } else {
+        Ok(None)
+    }
+}
+
+/// The failure of a list that a word names: by its name, or where no failure has it as its name, the link in the subnet
+/// that the word is, where no other link of the list is in that subnet. `None` where the word names none.
+///
+/// `AllocError` where memory runs out.
+pub fn find_failure(
+    alloc: Global,
+    failures: &[Failure],
+    word: &str,
+) -> Result<Option<Failure>, AllocError>
+    ensures some { IfOk result (λ found. IfSome found (IsNamed failures.now word.now)) }
+    ensures none { IfOk result (λ found. IfNone found ((failure : Failure) → IsNamed failures.now word.now failure → ⊥)) }
+{
+    match by_name(alloc, failures, word)? {
+        Some(failure) => Ok(Some(failure)),
+        None => by_subnet(alloc, failures, word),
+    }
+}

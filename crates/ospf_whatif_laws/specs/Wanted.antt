@@ -1,0 +1,66 @@
+-- What routers want after a failure (RFC 2328, section 12.4.1).
+use Rattle.std.specs.Prelude.{◌≡◌, ◌≢◌, ◌++◌, ◌∷◌, [], ℕ, Bool, true, false, List}
+use Rattle.std.specs.List.{AllByRecursion, flat_map}
+use Rattle.ospf_base.specs.Prefixes.{IsPrefixOf}
+use Rattle.ospf_base.specs.declared.ids.RouterId.{RouterId}
+use Rattle.ospf_base.specs.declared.interface.InterfaceKind.TheVariants as kind
+use Rattle.ospf_base.specs.declared.prefix.Prefix.{Prefix}
+use Rattle.ospf_lsa.specs.declared.link.Link.{Link}
+use Rattle.ospf_area.specs.State.{LinkValue}
+use Rattle.ospf_iface.specs.Machine.{is_down}
+use Rattle.ospf_wanted.specs.Wanted.{is_transit, links_at}
+use Rattle.ospf_whatif.specs.Failure.{kept_links, takes}
+use Rattle.ospf_whatif.specs.declared.failure.Failure.{Failure}
+use Rattle.ospf_whatif.specs.declared.failure.Failure.TheVariants as fails
+
+-- the links of the router-LSA that a router of these interfaces wants
+abbrev pub wanted_links : Bool → List LinkValue → List Link
+wanted_links stub_router links = flat_map (links_at stub_router) links
+
+-- the failure takes none of the links that these interfaces make
+abbrev pub AreSpared : Failure → RouterId → Bool → List LinkValue → Type 0
+AreSpared f router stub_router links = AllByRecursion (λ l. takes f router l ≡ false) (wanted_links stub_router links)
+
+-- the router wants what the failure leaves of what it wanted, where one of its interfaces has changed
+abbrev pub IsLeft : Failure → RouterId → Bool → (front : List LinkValue) (before after : LinkValue) (back : List LinkValue) → Type 0
+IsLeft f router stub_router front before after back =
+    kept_links f router (wanted_links stub_router (front ++ before ∷ back)) ≡ wanted_links stub_router (front ++ after ∷ back)
+
+-- an interface of a point-to-point link that is up, in this subnet, with no neighbour but this router
+pub record IsWireUp (l : LinkValue) (other : RouterId) (subnet : Prefix) : Type 0 where
+  pub up : is_down l.iface.state ≡ false
+  pub kind_is : l.iface.settings.kind ≡ kind.PointToPoint
+  pub in_subnet : IsPrefixOf l.iface.settings.address.0 l.iface.settings.mask subnet
+  pub alone : AllByRecursion (λ n. n.router ≡ other) l.neighbours
+
+-- the interface goes down
+abbrev pub LinksGoDown : Type 0
+LinksGoDown =
+    (router other : RouterId) (subnet : Prefix) (stub_router : Bool) (front back : List LinkValue) (before after : LinkValue) →
+    IsWireUp before other subnet → is_down after.iface.state ≡ true →
+    AreSpared (fails.Link router other subnet) router stub_router front → AreSpared (fails.Link router other subnet) router stub_router back →
+    IsLeft (fails.Link router other subnet) router stub_router front before after back
+
+-- the failure of a router's attachment to a network, or of the network
+abbrev pub IsOfNetwork : Failure → RouterId → ℕ → Type 0
+IsOfNetwork (fails.Attachment q n) router network = (q ≡ router) × (n ≡ network)
+IsOfNetwork (fails.Network n) router network = n ≡ network
+IsOfNetwork (fails.Link _ _ _) _ _ = ⊥
+IsOfNetwork (fails.Links _ _) _ _ = ⊥
+IsOfNetwork (fails.Router _) _ _ = ⊥
+
+-- an interface to a transit network goes down
+abbrev pub InterfacesGoDown : Type 0
+InterfacesGoDown =
+    (router : RouterId) (stub_router : Bool) (front back : List LinkValue) (before after : LinkValue) →
+    is_down before.iface.state ≡ false → before.iface.settings.kind ≡ kind.Broadcast → is_transit before ≡ true → is_down after.iface.state ≡ true →
+    (f : Failure) → IsOfNetwork f router before.iface.dr.0 →
+    AreSpared f router stub_router front → AreSpared f router stub_router back → IsLeft f router stub_router front before after back
+
+-- the neighbour on a point-to-point link is heard no more, and the interface stays up
+abbrev pub RoutersStop : Type 0
+RoutersStop =
+    (router gone : RouterId) (subnet : Prefix) (stub_router : Bool) (front back : List LinkValue) (before after : LinkValue) →
+    router.0 ≢ gone.0 → IsWireUp before gone subnet → after.iface ≡ before.iface → after.settings ≡ before.settings → after.neighbours ≡ [] →
+    AreSpared (fails.Router gone) router stub_router front → AreSpared (fails.Router gone) router stub_router back →
+    IsLeft (fails.Router gone) router stub_router front before after back

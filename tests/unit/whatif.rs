@@ -1,0 +1,174 @@
+//! What failures do to the tables of a small area.
+
+use ospf_base::{Addr, Prefix, RouterId};
+use ospf_graph::{NextHop, Route};
+use ospf_lsa::{Link, LinkKind, Listing, Lsa};
+use ospf_spf::RouteTable;
+use ospf_whatif::{Failure, Loss, RouteChange, effect_of, single_failures, without};
+use std::alloc::Global;
+use std::test::Fail;
+
+// The number that a router uses first.
+const FIRST_NUMBER: i32 = -0x7fff_ffff;
+
+const FIRST: RouterId = RouterId(0x0101_0101);
+const SECOND: RouterId = RouterId(0x0202_0202);
+const THIRD: RouterId = RouterId(0x0303_0303);
+const LAST: RouterId = RouterId(0x0404_0404);
+
+fn stub(address: u32, mask: u32, metric: u16) -> Link {
+    Link {
+        id: address,
+        link_data: mask,
+        kind: LinkKind::Stub,
+        metric,
+    }
+}
+
+// The type 1 link of an interface of cost 10.
+fn to(router: RouterId, own: u32) -> Link {
+    Link {
+        id: router.0,
+        link_data: own,
+        kind: LinkKind::PointToPoint,
+        metric: 10,
+    }
+}
+
+// The type 3 link of such an interface.
+fn subnet(own: u32) -> Link {
+    stub(own & 0xffff_fffc, 0xffff_fffc, 10)
+}
+
+fn prefix(address: u32, mask: u32) -> Result<Prefix, Fail> {
+    Ok(Prefix::under(Addr(address), mask).ok_or("a mask")?)
+}
+
+// A triangle of three routers and a fourth behind the third, all links at cost 10. Each router but the first has a
+// stub of its own; the first two both tell 10.0.0.0/8.
+fn listing(alloc: Global) -> Result<Listing, Fail> {
+    let first = [
+        to(SECOND, 0x0a00_0001),
+        subnet(0x0a00_0001),
+        to(THIRD, 0x0a00_0005),
+        subnet(0x0a00_0005),
+        stub(0x0a00_0000, 0xff00_0000, 100),
+    ];
+    let second = [
+        to(FIRST, 0x0a00_0002),
+        subnet(0x0a00_0002),
+        to(THIRD, 0x0a00_0009),
+        subnet(0x0a00_0009),
+        stub(0x0a00_0000, 0xff00_0000, 100),
+        stub(0xc0a8_0200, 0xffff_ff00, 5),
+    ];
+    let third = [
+        to(FIRST, 0x0a00_0006),
+        subnet(0x0a00_0006),
+        to(SECOND, 0x0a00_000a),
+        subnet(0x0a00_000a),
+        to(LAST, 0x0a00_000d),
+        subnet(0x0a00_000d),
+        stub(0xc0a8_0300, 0xffff_ff00, 5),
+    ];
+    let last = [
+        to(THIRD, 0x0a00_000e),
+        subnet(0x0a00_000e),
+        stub(0xac10_0400, 0xffff_ff00, 1),
+    ];
+    let mut listing = Listing::new(alloc);
+    listing.add(Lsa::router(alloc, FIRST, FIRST_NUMBER, &first)?)?;
+    listing.add(Lsa::router(alloc, SECOND, FIRST_NUMBER, &second)?)?;
+    listing.add(Lsa::router(alloc, THIRD, FIRST_NUMBER, &third)?)?;
+    listing.add(Lsa::router(alloc, LAST, FIRST_NUMBER, &last)?)?;
+    Ok(listing)
+}
+
+fn link(a: RouterId, b: RouterId, address: u32) -> Result<Failure, Fail> {
+    Ok(Failure::Link {
+        a,
+        b,
+        subnet: prefix(address, 0xffff_fffc)?,
+    })
+}
+
+// What becomes of the routes of the first router.
+fn effect(alloc: Global, failure: &Failure) -> Result<Vec<RouteChange>, Fail> {
+    let listing = listing(alloc)?;
+    let table = RouteTable::of(alloc, &listing, FIRST)?;
+    Ok(effect_of(alloc, &listing, FIRST, &table, failure)?)
+}
+
+fn is_to(route: &Route, address: u32, mask: u32, cost: u64) -> Result<bool, Fail> {
+    Ok(route.prefix == prefix(address, mask)? && route.cost == cost)
+}
+
+#[test]
+fn failures_stand_in_order(rt: HostRuntime) -> Result<(), Fail> {
+    let alloc = rt.alloc();
+    let failures = single_failures(alloc, &listing(alloc)?)?;
+    let wanted = [
+        link(FIRST, SECOND, 0x0a00_0000)?,
+        link(FIRST, THIRD, 0x0a00_0004)?,
+        link(SECOND, THIRD, 0x0a00_0008)?,
+        link(THIRD, LAST, 0x0a00_000c)?,
+        Failure::Router(FIRST),
+        Failure::Router(SECOND),
+        Failure::Router(THIRD),
+        Failure::Router(LAST),
+    ];
+    assert!(rt; failures.as_slice() == wanted.as_slice());
+    Ok(())
+}
+
+#[test]
+fn link_of_a_triangle(rt: HostRuntime) -> Result<(), Fail> {
+    let effect = effect(rt.alloc(), &link(FIRST, SECOND, 0x0a00_0000)?)?;
+    assert!(rt; effect.len() == 3);
+    assert!(rt; is_to(&effect[0].before, 0x0a00_0000, 0xffff_fffc, 10)?);
+    assert!(rt; matches!(&effect[0].loss, Loss::Gone));
+    assert!(rt; is_to(&effect[1].before, 0x0a00_0008, 0xffff_fffc, 20)?);
+    let over_third = [NextHop::PointToPoint {
+        local: Addr(0x0a00_0005),
+        router: THIRD,
+    }];
+    let Loss::Moved(moved) = &effect[1].loss else {
+        return Err("other hops".into());
+    };
+    assert!(rt; is_to(moved, 0x0a00_0008, 0xffff_fffc, 20)?);
+    assert!(rt; effect[1].before.hops.as_slice().len() == 2);
+    assert!(rt; moved.hops.as_slice() == over_third.as_slice());
+    assert!(rt; is_to(&effect[2].before, 0xc0a8_0200, 0xffff_ff00, 15)?);
+    let Loss::Dearer(dearer) = &effect[2].loss else {
+        return Err("a higher cost".into());
+    };
+    assert!(rt; is_to(dearer, 0xc0a8_0200, 0xffff_ff00, 25)?);
+    Ok(())
+}
+
+#[test]
+fn router_that_others_are_behind(rt: HostRuntime) -> Result<(), Fail> {
+    let effect = effect(rt.alloc(), &Failure::Router(THIRD))?;
+    assert!(rt; effect.len() == 4);
+    assert!(rt; is_to(&effect[0].before, 0x0a00_0008, 0xffff_fffc, 20)?);
+    assert!(rt; matches!(&effect[0].loss, Loss::Moved(_)));
+    assert!(rt; is_to(&effect[1].before, 0x0a00_000c, 0xffff_fffc, 20)?);
+    assert!(rt; matches!(&effect[1].loss, Loss::Cut));
+    assert!(rt; is_to(&effect[2].before, 0xac10_0400, 0xffff_ff00, 21)?);
+    assert!(rt; matches!(&effect[2].loss, Loss::Cut));
+    assert!(rt; is_to(&effect[3].before, 0xc0a8_0300, 0xffff_ff00, 15)?);
+    assert!(rt; matches!(&effect[3].loss, Loss::Gone));
+    Ok(())
+}
+
+#[test]
+fn two_failures_one_after_the_other(rt: HostRuntime) -> Result<(), Fail> {
+    let alloc = rt.alloc();
+    let before = listing(alloc)?;
+    let half = without(alloc, &before, &link(FIRST, SECOND, 0x0a00_0000)?)?;
+    let left = without(alloc, &half, &link(FIRST, THIRD, 0x0a00_0004)?)?;
+    let table = RouteTable::of(alloc, &left, FIRST)?;
+    assert!(rt; table.routes().len() == 1);
+    assert!(rt; is_to(&table.routes()[0], 0x0a00_0000, 0xff00_0000, 100)?);
+    Ok(())
+}
