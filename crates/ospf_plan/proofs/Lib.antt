@@ -1,0 +1,8 @@
+mod Steps
+mod Members
+mod FindingLemmas
+mod Order
+mod WireLemmas
+mod WireOrder
+mod Reach
+mod PartLemmas

@@ -1,0 +1,7 @@
+pub mod Ends
+pub mod Findings
+pub mod Shown
+pub mod Laws
+pub mod Wires
+pub mod Joins
+pub mod Parts

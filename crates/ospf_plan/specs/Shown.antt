@@ -1,0 +1,100 @@
+-- What is printed of findings.
+use Rattle.std.specs.Prelude.{ℕ, Bool, true, false, List, [], codes, decimal, ◌++◌}
+use Rattle.ospf_base.specs.Text.{number_text}
+use Rattle.ospf_config.specs.Texts.{kind_text}
+use Rattle.ospf_plan.specs.declared.ends.End.{End}
+use Rattle.ospf_plan.specs.declared.finding.Finding.{Finding}
+use Rattle.ospf_plan.specs.declared.told.Told.{Told}
+use Rattle.ospf_plan.specs.Ends.{port_of}
+use Rattle.ospf_plan.specs.declared.fault.AreaFault.{AreaFault}
+use Rattle.ospf_plan.specs.declared.fault.AreaFault.TheVariants as fault
+
+-- the number and the name of a fault
+abbrev pub fault_text : AreaFault → List ℕ
+fault_text fault.SameRouter = codes "A1 SameRouter"
+fault_text fault.SameAddress = codes "A2 SameAddress"
+fault_text fault.Area = codes "A3 Area"
+fault_text fault.Kind = codes "A4 Kind"
+fault_text fault.Hello = codes "A5 Hello"
+fault_text fault.Dead = codes "A6 Dead"
+fault_text fault.Mtu = codes "A7 Mtu"
+fault_text fault.Mask = codes "A8 Mask"
+fault_text fault.Crowded = codes "A9 Crowded"
+fault_text fault.NoDr = codes "A10 NoDr"
+fault_text fault.OneSided = codes "A11 OneSided"
+fault_text fault.Cost = codes "A12 Cost"
+fault_text fault.Alone = codes "A13 Alone"
+fault_text fault.Delay = codes "A14 Delay"
+fault_text fault.SamePort = codes "A15 SamePort"
+fault_text fault.Astray = codes "A16 Astray"
+fault_text (fault.Nowhere peer) = codes "A17 Nowhere"
+fault_text fault.Apart = codes "A18 Apart"
+
+-- what is a note, and no fault
+abbrev pub is_note : AreaFault → Bool
+is_note fault.Cost = true
+is_note fault.Alone = true
+is_note (fault.Nowhere peer) = true
+is_note _ = false
+
+-- what follows from a fault
+abbrev pub meaning_text : AreaFault → List ℕ
+meaning_text fault.SameRouter = codes "each drops the other's packets as its own, and each flushes the other's LSAs (RFC 2328, sections 8.2 and 13.4)"
+meaning_text fault.SameAddress = codes "what is sent to the address may come to either; as neighbours each is the other's next hop at its own address (section 16.1.1)"
+meaning_text fault.Area = codes "each drops the other's packets (section 8.2)"
+meaning_text fault.Kind = codes "one elects a Designated Router and the other does not: they become Full and no route leads over the network (sections 9.4 and 16.1)"
+meaning_text fault.Hello = codes "each drops the other's Hellos: they never become neighbours (section 10.5)"
+meaning_text fault.Dead = codes "each drops the other's Hellos: they never become neighbours (section 10.5)"
+meaning_text fault.Mtu = codes "the one of the smaller MTU drops the other's Database Descriptions: they never become Full (section 10.6)"
+meaning_text fault.Mask = codes "their networks overlap and are two: neither hears the other (sections 8.2 and 10.5)"
+meaning_text fault.Crowded = codes "each end takes the first router that it hears for its only neighbour (section 8.2)"
+meaning_text fault.NoDr = codes "no Designated Router is elected: nobody becomes adjacent (sections 9.4 and 10.4)"
+meaning_text fault.OneSided = codes "in `run` one hears the other and is not heard: they never pass Init (section 10.5)"
+meaning_text fault.Cost = codes "the ways there and back may differ"
+meaning_text fault.Alone = codes "the network is a stub"
+meaning_text fault.Delay = codes "what one sends comes back older than it is known: they never become Full, and send to each other without end (sections 13.1 and 13.3)"
+meaning_text fault.SamePort = codes "a port is opened once: `run` ends where it is opened again"
+meaning_text fault.Astray = codes "in `run` packets of another network are dropped (section 8.2)"
+meaning_text (fault.Nowhere peer) = codes "no router of these files hears what is sent there"
+meaning_text fault.Apart = codes "the area falls apart: what is here has no route there"
+
+-- a value of an interface that a fault is about, with the key that it stands at
+abbrev pub value_text : AreaFault → End → List ℕ
+value_text fault.SameRouter e = codes "router_id " ++ number_text e.router.0
+value_text fault.Apart e = codes "router_id " ++ number_text e.router.0
+value_text fault.Area e = codes "area " ++ number_text e.area.0
+value_text fault.Kind e = codes "kind " ++ kind_text e.kind
+value_text fault.Hello e = codes "hello " ++ decimal e.hello
+value_text fault.Dead e = codes "dead " ++ decimal e.dead
+value_text fault.Mtu e = codes "mtu " ++ decimal e.mtu
+value_text fault.NoDr e = codes "priority " ++ decimal e.priority
+value_text fault.OneSided e = codes "port " ++ decimal (port_of e)
+value_text fault.Cost e = codes "cost " ++ decimal e.cost
+value_text fault.Delay e = codes "transmit_delay " ++ decimal e.transmit_delay
+value_text fault.SamePort e = codes "port " ++ decimal (port_of e)
+value_text fault.Astray e = codes "port " ++ decimal (port_of e)
+value_text (fault.Nowhere peer) e = codes "peers " ++ decimal peer
+value_text _ e = codes "address " ++ number_text e.address.address.0 ++ codes "/" ++ decimal e.address.length
+
+-- where the value stands: at the top, or at an interface
+abbrev pub place_text : AreaFault → End → List ℕ
+place_text fault.SameRouter e = []
+place_text fault.Apart e = []
+place_text _ e = codes "interface " ++ decimal e.link ++ codes ": "
+
+-- what an interface has, and where
+abbrev pub side_text : AreaFault → End → List ℕ
+side_text f e = place_text f e ++ value_text f e
+
+-- what the other interface has, and nothing where there is none
+abbrev pub other_text : AreaFault → End → List ℕ → List ℕ
+other_text fault.Alone e name = []
+other_text (fault.Nowhere peer) e name = []
+other_text f e name = codes ", " ++ name ++ codes ": " ++ side_text f e
+
+-- as `b.toml: A5 Hello: interface 1: hello 5, a.toml: interface 0: hello 10`, by the names of the two files
+abbrev pub finding_text : Finding → (here other : List ℕ) → List ℕ
+finding_text f here other = (here ++ codes ": " ++ fault_text f.fault ++ codes ": ") ++ side_text f.fault f.here ++ other_text f.fault f.other other
+
+abbrev pub told_text : Told → List ℕ
+told_text t = finding_text t.finding t.here.now t.other.now

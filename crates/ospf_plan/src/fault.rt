@@ -1,0 +1,167 @@
+//! What can be wrong between the configurations of one area.
+
+ghost use Rattle.std.specs.Prelude.{◌≡◌};
+ghost use Rattle.ospf_plan.specs.Findings.{every_fault};
+
+use std::fmt::{self, Display, Formatter, Write};
+
+/// What is wrong between two interfaces, or with a network.
+#[derive(Clone, Copy, Debug, PartialEq, Eq)]
+pub enum AreaFault {
+    /// Two routers have one Router ID.
+    SameRouter,
+    /// Two interfaces have one address.
+    SameAddress,
+    /// Two interfaces of a network are in different areas.
+    Area,
+    /// Of two interfaces of a network one is point-to-point and the other broadcast.
+    Kind,
+    /// HelloInterval differs.
+    Hello,
+    /// RouterDeadInterval differs.
+    Dead,
+    /// The MTU differs.
+    Mtu,
+    /// A network lies within another of fewer bits.
+    Mask,
+    /// A point-to-point network has a third end.
+    Crowded,
+    /// A broadcast network has nobody who can be Designated Router.
+    NoDr,
+    /// An interface sends to another of its network, which does not send to it (`port` and `peers`).
+    OneSided,
+    /// The two ends of a point-to-point network have two costs. This is a note, and no fault.
+    Cost,
+    /// No other interface is on the network. This is a note, and no fault.
+    Alone,
+    /// Two interfaces of a network have an InfTransDelay over MaxAgeDiff.
+    Delay,
+    /// Two interfaces have one UDP port (`port`).
+    SamePort,
+    /// An interface sends to a UDP port of an interface that is not on its network (`peers`).
+    Astray,
+    /// An interface sends to this UDP port, which no interface has (`peers`). This is a note, and no fault.
+    Nowhere(u16),
+    /// No way of links on which interfaces agree leads to the router from the first.
+    Apart,
+}
+
+impl AreaFault {
+    ghost use Rattle.std.specs.Prelude.{◌≡◌};
+    ghost use Rattle.ospf_plan.specs.Shown.{fault_text, is_note, meaning_text};
+
+    /// The number and the name, as they are printed.
+    pub fn text(self) -> &'static str
+        ensures { result.now ≡ fault_text self }
+    {
+        match self {
+            AreaFault::SameRouter => "A1 SameRouter",
+            AreaFault::SameAddress => "A2 SameAddress",
+            AreaFault::Area => "A3 Area",
+            AreaFault::Kind => "A4 Kind",
+            AreaFault::Hello => "A5 Hello",
+            AreaFault::Dead => "A6 Dead",
+            AreaFault::Mtu => "A7 Mtu",
+            AreaFault::Mask => "A8 Mask",
+            AreaFault::Crowded => "A9 Crowded",
+            AreaFault::NoDr => "A10 NoDr",
+            AreaFault::OneSided => "A11 OneSided",
+            AreaFault::Cost => "A12 Cost",
+            AreaFault::Alone => "A13 Alone",
+            AreaFault::Delay => "A14 Delay",
+            AreaFault::SamePort => "A15 SamePort",
+            AreaFault::Astray => "A16 Astray",
+            AreaFault::Nowhere(_) => "A17 Nowhere",
+            AreaFault::Apart => "A18 Apart",
+        }
+    }
+
+    /// Whether it is a note, of which nothing follows but what was meant.
+    pub fn is_note(self) -> bool
+        ensures { result ≡ is_note self }
+    {
+        matches!(
+            self,
+            AreaFault::Cost | AreaFault::Alone | AreaFault::Nowhere(_)
+        )
+    }
+
+    /// What follows from it.
+    pub fn meaning(self) -> &'static str
+        ensures { result.now ≡ meaning_text self }
+    {
+        match self {
+            AreaFault::SameRouter => {
+                "each drops the other's packets as its own, and each flushes the other's LSAs (RFC 2328, sections 8.2 and 13.4)"
+            }
+            AreaFault::SameAddress => {
+                "what is sent to the address may come to either; as neighbours each is the other's next hop at its own address (section 16.1.1)"
+            }
+            AreaFault::Area => "each drops the other's packets (section 8.2)",
+            AreaFault::Kind => {
+                "one elects a Designated Router and the other does not: they become Full and no route leads over the network (sections 9.4 and 16.1)"
+            }
+            AreaFault::Hello | AreaFault::Dead => {
+                "each drops the other's Hellos: they never become neighbours (section 10.5)"
+            }
+            AreaFault::Mtu => {
+                "the one of the smaller MTU drops the other's Database Descriptions: they never become Full (section 10.6)"
+            }
+            AreaFault::Mask => {
+                "their networks overlap and are two: neither hears the other (sections 8.2 and 10.5)"
+            }
+            AreaFault::Crowded => {
+                "each end takes the first router that it hears for its only neighbour (section 8.2)"
+            }
+            AreaFault::NoDr => {
+                "no Designated Router is elected: nobody becomes adjacent (sections 9.4 and 10.4)"
+            }
+            AreaFault::OneSided => {
+                "in `run` one hears the other and is not heard: they never pass Init (section 10.5)"
+            }
+            AreaFault::Cost => "the ways there and back may differ",
+            AreaFault::Alone => "the network is a stub",
+            AreaFault::Delay => {
+                "what one sends comes back older than it is known: they never become Full, and send to each other without end (sections 13.1 and 13.3)"
+            }
+            AreaFault::SamePort => "a port is opened once: `run` ends where it is opened again",
+            AreaFault::Astray => "in `run` packets of another network are dropped (section 8.2)",
+            AreaFault::Nowhere(_) => "no router of these files hears what is sent there",
+            AreaFault::Apart => "the area falls apart: what is here has no route there",
+        }
+    }
+}
+
+/// The number and the name, as `A5 Hello`.
+impl Display for AreaFault {
+    ghost use Rattle.std.specs.Prelude.{Some};
+    ghost use Rattle.ospf_plan.specs.Shown.{fault_text};
+
+    ghost output = { λ fault. Some (fault_text fault) };
+
+    fn fmt<W: Write>(&self, f: &mut Formatter<W>) -> fmt::Result {
+        f.write_str(self.text())
+    }
+}
+
+// The faults that are looked for at each interface, in the order in which they are told.
+pub(crate) fn every_fault() -> [AreaFault; 14]
+    ensures { result ≡ every_fault }
+{
+    [
+        AreaFault::SameRouter,
+        AreaFault::SameAddress,
+        AreaFault::Area,
+        AreaFault::Kind,
+        AreaFault::Hello,
+        AreaFault::Dead,
+        AreaFault::Mtu,
+        AreaFault::Mask,
+        AreaFault::Crowded,
+        AreaFault::NoDr,
+        AreaFault::Cost,
+        AreaFault::Alone,
+        AreaFault::Delay,
+        AreaFault::SamePort,
+    ]
+}

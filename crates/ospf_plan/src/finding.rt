@@ -1,0 +1,201 @@
+//! What is found.
+
+ghost use Rattle.std.specs.Prelude.{◌≡◌, ◌++◌, List, IfOk, OnOk};
+ghost use Rattle.std.specs.Option.{option_to_list};
+ghost use Rattle.std.specs.List.{filter_map};
+ghost use Rattle.ospf_base.specs.declared.interface.InterfaceKind.TheVariants as kind;
+ghost use Rattle.ospf_plan.specs.Ends.{AreMaps, is_found, is_same};
+ghost use Rattle.ospf_plan.specs.Findings.{every_fault, found, found_at, found_in, is_wrong, other_of, same_kind};
+ghost use Rattle.ospf_plan.specs.Parts.{AreFindings};
+ghost use Rattle.ospf_plan.specs.declared.ends.End.{End};
+
+use crate::ends::{End, ends_of, is_slow};
+use crate::fault::{AreaFault, every_fault};
+use crate::maps::{Maps, maps_of};
+use crate::parts::push_apart;
+use crate::wires::{push_wire_faults, wires_of};
+use ospf_base::InterfaceKind;
+use ospf_config::Config;
+use std::alloc::{AllocError, Global};
+
+/// A fault, at an interface, and the other interface that it is about.
+#[derive(Clone, Copy, Debug, PartialEq, Eq)]
+pub struct Finding {
+    pub fault: AreaFault,
+    /// What the fault is about; `here` where there is none.
+    pub other: End,
+    pub here: End,
+}
+
+// What stands around an interface.
+#[derive(Clone, Copy)]
+pub(crate) struct Around {
+    // The first interface of a router with its Router ID.
+    pub(crate) router: Option<End>,
+    // The first interface with its address.
+    pub(crate) holder: Option<End>,
+    // The first three interfaces on its network.
+    pub(crate) first: Option<End>,
+    pub(crate) second: Option<End>,
+    pub(crate) third: Option<End>,
+    // The first on its network that can be elected.
+    pub(crate) elector: Option<End>,
+    // The first on its network whose InfTransDelay is over MaxAgeDiff.
+    pub(crate) slow: Option<End>,
+    // The first on the shortest network that holds its own.
+    pub(crate) wider: Option<End>,
+    // The first with its port, or without a port where it has none.
+    pub(crate) plug: Option<End>,
+}
+
+// Whether two are one interface.
+fn is_same(one: &End, other: &End) -> bool
+    ensures { result ≡ is_same one.now other.now }
+{
+    one.file == other.file && one.link == other.link
+}
+
+// Whether an interface is the first on its network.
+fn is_first(around: &Around, here: &End) -> bool
+    ensures { result ≡ is_found around.now.first here.now }
+{
+    match &around.first {
+        None => false,
+        Some(first) => is_same(first, here),
+    }
+}
+
+// Whether two kinds are one.
+fn same_kind(one: InterfaceKind, other: InterfaceKind) -> bool
+    ensures { result ≡ same_kind one other }
+{
+    match (one, other) {
+        (InterfaceKind::PointToPoint, InterfaceKind::PointToPoint) => true,
+        (InterfaceKind::Broadcast, InterfaceKind::Broadcast) => true,
+        (_, _) => false,
+    }
+}
+
+// The other interface of a fault.
+fn other_of(fault: AreaFault, around: &Around) -> Option<End>
+    ensures { result ≡ other_of fault around.now }
+{
+    match fault {
+        AreaFault::SameRouter => around.router,
+        AreaFault::SameAddress => around.holder,
+        AreaFault::Mask => around.wider,
+        AreaFault::Crowded => around.third,
+        AreaFault::NoDr => around.second,
+        AreaFault::Delay => around.slow,
+        AreaFault::SamePort => around.plug,
+        _ => around.first,
+    }
+}
+
+// Whether a fault is between the other interface and this one.
+fn is_wrong(fault: AreaFault, around: &Around, other: &End, here: &End) -> bool
+    ensures { result ≡ is_wrong fault around.now other.now here.now }
+{
+    match fault {
+        AreaFault::SameRouter => here.link == 0 && other.file != here.file,
+        AreaFault::SameAddress => !is_same(other, here),
+        AreaFault::Area => other.area.0 != here.area.0,
+        AreaFault::Kind => !same_kind(other.kind, here.kind),
+        AreaFault::Hello => other.hello != here.hello,
+        AreaFault::Dead => other.dead != here.dead,
+        AreaFault::Mtu => other.mtu != here.mtu,
+        AreaFault::Mask => true,
+        AreaFault::Crowded => {
+            is_first(around, here) && same_kind(here.kind, InterfaceKind::PointToPoint)
+        }
+        AreaFault::NoDr => {
+            is_first(around, here)
+                && same_kind(here.kind, InterfaceKind::Broadcast)
+                && around.elector.is_none()
+        }
+        AreaFault::OneSided | AreaFault::Astray | AreaFault::Nowhere(_) | AreaFault::Apart => false,
+        AreaFault::Cost => {
+            same_kind(here.kind, InterfaceKind::PointToPoint) && other.cost != here.cost
+        }
+        AreaFault::Alone => around.second.is_none(),
+        AreaFault::Delay => is_slow(here.transmit_delay) && !is_same(other, here),
+        AreaFault::SamePort => here.port.is_some() && !is_same(other, here),
+    }
+}
+
+// The finding of a fault at an interface, if there is one.
+fn found(fault: AreaFault, around: &Around, here: &End) -> Option<Finding>
+    ensures { result ≡ found around.now here.now fault }
+{
+    let other = other_of(fault, around)?;
+    if !is_wrong(fault, around, &other, here) {
+        return None;
+    }
+    let here = *here;
+    Some(Finding { fault, other, here })
+}
+
+// Adds a finding, if there is one.
+pub(crate) fn push_one(
+    findings: &mut Vec<Finding>,
+    found: Option<Finding>,
+) -> Result<(), AllocError>
+    ensures { OnOk result (findings.new.items ≡ findings.old.items ++ option_to_list found) }
+{
+    if let Some(finding) = found {
+        findings.push(finding)?;
+    }
+    Ok(())
+}
+
+// Adds what is found of some faults at an interface.
+fn push_each(
+    findings: &mut Vec<Finding>,
+    around: &Around,
+    here: &End,
+    faults: &[AreaFault],
+) -> Result<(), AllocError>
+    ensures { OnOk result (findings.new.items ≡ findings.old.items ++ filter_map (found around.now here.now) faults.now) }
+{
+    for fault in faults {
+        push_one(findings, found(*fault, around, here))?;
+    }
+    Ok(())
+}
+
+// Adds what is found at an interface.
+fn push_found(findings: &mut Vec<Finding>, around: &Around, here: &End) -> Result<(), AllocError>
+    ensures { OnOk result (findings.new.items ≡ findings.old.items ++ filter_map (found around.now here.now) every_fault) }
+{
+    push_each(findings, around, here, &every_fault())
+}
+
+// What is found, in the order of the interfaces.
+fn found_in(alloc: Global, ends: &[End], maps: &Maps) -> Result<Vec<Finding>, AllocError>
+    requires { AreMaps maps.now ends.now }
+    ensures { IfOk result (λ findings. findings.items ≡ found_in ends.now) }
+{
+    let mut findings = Vec::new(alloc);
+    for end in ends {
+        let around = maps.around(end);
+        push_found(&mut findings, &around, end)?;
+    }
+    Ok(findings)
+}
+
+/// What is wrong between the configurations of one area: in the order of the configurations and of their interfaces, and
+/// for each interface in the order of the faults; then, in the same order, of who sends to whom; and then which routers
+/// are not reached from the first.
+///
+/// `AllocError` where memory runs out.
+pub fn findings(alloc: Global, configs: &[Config]) -> Result<Vec<Finding>, AllocError>
+    ensures { IfOk result (λ findings. AreFindings configs.now findings.items) }
+{
+    let ends = ends_of(alloc, configs)?;
+    let maps = maps_of(alloc, &ends)?;
+    let wires = wires_of(alloc, configs)?;
+    let mut findings = found_in(alloc, &ends, &maps)?;
+    push_wire_faults(alloc, &mut findings, &maps.ports, &wires)?;
+    push_apart(alloc, &mut findings, &ends)?;
+    Ok(findings)
+}

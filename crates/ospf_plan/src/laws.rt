@@ -1,0 +1,34 @@
+//! Laws: each holds of all interfaces and findings.
+
+ghost use Rattle.ospf_plan.specs.Laws.{OthersTake, TellsExactly, TellsInOrder, TellsPartsInOrder, TellsWiresInOrder, ToldRefuse};
+
+/// What `findings` tells is exactly what holds.
+pub fn tells_exactly()
+    ensures { TellsExactly }
+{}
+
+/// What `findings` tells of interfaces stands in the order of the configurations, of their interfaces and of the faults,
+/// each once.
+pub fn tells_in_order()
+    ensures { TellsInOrder }
+{}
+
+/// What `findings` tells of who sends to whom stands in the order of the interfaces.
+pub fn tells_wires_in_order()
+    ensures { TellsWiresInOrder }
+{}
+
+/// What `findings` tells of the parts of the area stands in the order of the configurations, each once.
+pub fn tells_parts_in_order()
+    ensures { TellsPartsInOrder }
+{}
+
+/// Of two interfaces of which `A5 Hello` or `A6 Dead` is told, `Iface::agrees` refuses each Hello of the one at the other.
+pub fn told_refuse()
+    ensures { ToldRefuse }
+{}
+
+/// Of a network of which neither is told, `Iface::agrees` takes each Hello of one interface at each other.
+pub fn others_take()
+    ensures { OthersTake }
+{}

@@ -1,0 +1,22 @@
+//! What is wrong between the configurations of one area, before anything runs.
+#![tactic(auto)]
+
+mod ends;
+mod fault;
+mod finding;
+mod index;
+mod joins;
+mod laws;
+mod maps;
+mod parts;
+mod told;
+mod wires;
+
+pub use crate::ends::{End, is_slow};
+pub use crate::fault::AreaFault;
+pub use crate::finding::{Finding, findings};
+pub use crate::laws::{
+    others_take, tells_exactly, tells_in_order, tells_parts_in_order, tells_wires_in_order,
+    told_refuse,
+};
+pub use crate::told::Told;

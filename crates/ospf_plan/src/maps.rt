@@ -1,0 +1,89 @@
+//! What stands around an interface.
+
+ghost use Rattle.std.specs.Prelude.{◌≡◌, List, IfOk};
+ghost use Rattle.ospf_plan.specs.Ends.{AreFirsts, AreMaps, first_around};
+ghost use Rattle.ospf_plan.specs.Findings.{around_of};
+ghost use Rattle.ospf_plan.specs.declared.ends.End.{End};
+
+use crate::ends::{End, electors, port_of, slow_ends};
+use crate::finding::Around;
+use crate::index::{end_in, firsts, holder_in, holders, network_of, others, ports, routers};
+use ospf_base::mask_of;
+use ospf_config::InterfaceAddress;
+use std::alloc::{AllocError, Global};
+use std::collections::BTreeMap;
+
+// The first interfaces of an area, by Router ID, by address, by port and by network.
+#[derive(Drop)]
+pub(crate) struct Maps {
+    routers: BTreeMap<u32, End>,
+    holders: BTreeMap<u32, End>,
+    firsts: BTreeMap<(u8, u32), End>,
+    // Without the firsts, and without the firsts and the seconds.
+    seconds: BTreeMap<(u8, u32), End>,
+    thirds: BTreeMap<(u8, u32), End>,
+    // Of those that can be elected.
+    electors: BTreeMap<(u8, u32), End>,
+    // Of those that are slow.
+    slow: BTreeMap<(u8, u32), End>,
+    pub(crate) ports: BTreeMap<u32, End>,
+}
+
+// The maps of an area's interfaces.
+pub(crate) fn maps_of(alloc: Global, ends: &[End]) -> Result<Maps, AllocError>
+    ensures { IfOk result (λ m. AreMaps m ends.now) }
+{
+    let routers = routers(alloc, ends)?;
+    let holders = holders(alloc, ends)?;
+    let first = firsts(alloc, ends)?;
+    let rest = others(alloc, ends, &first)?;
+    let seconds = firsts(alloc, &rest)?;
+    let more = others(alloc, &rest, &seconds)?;
+    let thirds = firsts(alloc, &more)?;
+    let some = electors(alloc, ends)?;
+    let electors = firsts(alloc, &some)?;
+    let slow = firsts(alloc, &slow_ends(alloc, ends)?)?;
+    let ports = ports(alloc, ends)?;
+    Ok(Maps {
+        routers,
+        holders,
+        firsts: first,
+        seconds,
+        thirds,
+        electors,
+        slow,
+        ports,
+    })
+}
+
+// The first interface on the shortest network of fewer bits that holds an address.
+fn around(firsts: &BTreeMap<(u8, u32), End>, address: &InterfaceAddress) -> Option<End>
+    ensures { (ends : List End) → AreFirsts firsts.now ends → result ≡ first_around ends address.now address.now.length }
+{
+    let mut found = None;
+    for length in 0..address.length {
+        let network = (length, address.address.0 & mask_of(length));
+        found = found.or(end_in(firsts, network));
+    }
+    found
+}
+
+impl Maps {
+    // What stands around an interface.
+    pub(crate) fn around(&self, end: &End) -> Around
+        ensures { (ends : List End) → AreMaps self.now ends → result ≡ around_of ends end.now }
+    {
+        let network = network_of(&end.address);
+        Around {
+            router: holder_in(&self.routers, end.router.0),
+            holder: holder_in(&self.holders, end.address.address.0),
+            first: end_in(&self.firsts, network),
+            second: end_in(&self.seconds, network),
+            third: end_in(&self.thirds, network),
+            elector: end_in(&self.electors, network),
+            slow: end_in(&self.slow, network),
+            wider: around(&self.firsts, &end.address),
+            plug: holder_in(&self.ports, u32::from(port_of(end))),
+        }
+    }
+}

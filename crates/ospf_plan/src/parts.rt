@@ -1,0 +1,180 @@
+//! The parts that an area falls into.
+
+ghost use Rattle.std.specs.Prelude.{◌≡◌, ◌++◌, ℕ, Bool, List, IfOk, OnOk, Some, None, cond};
+ghost use Rattle.std.specs.Option.{option_or, option_to_list};
+ghost use Rattle.std.specs.List.{filter_map};
+ghost use Rattle.ospf_plan.specs.Joins.{has};
+ghost use Rattle.ospf_plan.specs.Parts.{AreLinks, AreReached, LinkKey, apart, apart_in, first_of_all, is_apart, join_at, joins_of, kind_number, link_of, linked_in, same_link};
+ghost use Rattle.ospf_plan.specs.declared.ends.End.{End};
+ghost use Rattle.ospf_plan.specs.declared.joins.Join.{Join};
+
+use crate::ends::End;
+use crate::fault::AreaFault;
+use crate::finding::{Finding, push_one};
+use crate::index::network_of;
+use crate::joins::{Join, joined_with};
+use ospf_base::InterfaceKind;
+use std::alloc::{AllocError, Global};
+use std::collections::{BTreeMap, BTreeSet};
+
+// A number of a kind, for keys.
+fn kind_number(kind: InterfaceKind) -> u8
+    ensures { result ≡ kind_number kind }
+{
+    match kind {
+        InterfaceKind::PointToPoint => 0,
+        InterfaceKind::Broadcast => 1,
+    }
+}
+
+// What an interface has in common with the others of its link.
+fn link_of(end: &End) -> (u8, u32, u32, u8, u16, u16, u16)
+    ensures { result ≡ link_of end.now }
+{
+    let (length, network) = network_of(&end.address);
+    let kind = kind_number(end.kind);
+    (
+        length, network, end.area.0, kind, end.hello, end.dead, end.mtu,
+    )
+}
+
+// Keeps an interface as the first of a link, unless there is one.
+fn add_linked(
+    links: &mut BTreeMap<(u8, u32, u32, u8, u16, u16, u16), End>,
+    link: (u8, u32, u32, u8, u16, u16, u16),
+    end: End,
+) -> Result<(), AllocError>
+    ensures { OnOk result ((k : LinkKey) → linked_in links.new k ≡ option_or (linked_in links.old k) (cond (same_link link k) (Some end) None)) }
+{
+    if links.contains_key(&link) {
+        return Ok(());
+    }
+    match links.insert(link, end) {
+        Ok(_) => Ok(()),
+        Err(_) => Err(AllocError),
+    }
+}
+
+// The first interface of each link.
+fn links_of(
+    alloc: Global,
+    ends: &[End],
+) -> Result<BTreeMap<(u8, u32, u32, u8, u16, u16, u16), End>, AllocError>
+    ensures { IfOk result (λ links. AreLinks links ends.now) }
+{
+    let mut links = BTreeMap::new(alloc);
+    for end in ends {
+        add_linked(&mut links, link_of(end), *end)?;
+    }
+    Ok(links)
+}
+
+// The join of an interface's file with that of the first of its link.
+fn join_at(links: &BTreeMap<(u8, u32, u32, u8, u16, u16, u16), End>, end: &End) -> Option<Join>
+    ensures { result ≡ join_at (linked_in links.now) end.now }
+{
+    let first = links.get(&link_of(end)).copied()?;
+    Some(Join {
+        one: first.file,
+        other: end.file,
+    })
+}
+
+// Adds a join, if there is one.
+fn push_join(joins: &mut Vec<Join>, join: Option<Join>) -> Result<(), AllocError>
+    ensures { OnOk result (joins.new.items ≡ joins.old.items ++ option_to_list join) }
+{
+    if let Some(join) = join {
+        joins.push(join)?;
+    }
+    Ok(())
+}
+
+// Adds the joins of some interfaces.
+fn push_joins(
+    joins: &mut Vec<Join>,
+    links: &BTreeMap<(u8, u32, u32, u8, u16, u16, u16), End>,
+    ends: &[End],
+) -> Result<(), AllocError>
+    ensures { OnOk result (joins.new.items ≡ joins.old.items ++ filter_map (join_at (linked_in links.now)) ends.now) }
+{
+    for end in ends {
+        push_join(joins, join_at(links, end))?;
+    }
+    Ok(())
+}
+
+// The joins of all interfaces.
+fn joins_of(alloc: Global, ends: &[End]) -> Result<Vec<Join>, AllocError>
+    ensures { IfOk result (λ joins. joins.items ≡ joins_of ends.now) }
+{
+    let links = links_of(alloc, ends)?;
+    let mut joins = Vec::new(alloc);
+    push_joins(&mut joins, &links, ends)?;
+    Ok(joins)
+}
+
+// The files that are reached from the first.
+fn reached_of(alloc: Global, ends: &[End]) -> Result<BTreeSet<usize>, AllocError>
+    ensures { IfOk result (λ reached. AreReached ends.now (has reached)) }
+{
+    let joins = joins_of(alloc, ends)?;
+    joined_with(alloc, 0, &joins)
+}
+
+// Whether an interface is the first of a file that is not reached.
+fn is_apart(reached: &BTreeSet<usize>, end: &End) -> bool
+    ensures { result ≡ is_apart (has reached.now) end.now }
+{
+    end.link == 0 && !reached.contains(&end.file)
+}
+
+// The finding that it is.
+fn apart(reached: &BTreeSet<usize>, first: Option<End>, here: &End) -> Option<Finding>
+    ensures { result ≡ apart (has reached.now) first here.now }
+{
+    let other = first?;
+    if !is_apart(reached, here) {
+        return None;
+    }
+    let here = *here;
+    let fault = AreaFault::Apart;
+    Some(Finding { fault, other, here })
+}
+
+// Adds those of some interfaces.
+fn push_each(
+    findings: &mut Vec<Finding>,
+    reached: &BTreeSet<usize>,
+    first: Option<End>,
+    ends: &[End],
+) -> Result<(), AllocError>
+    ensures { OnOk result (findings.new.items ≡ findings.old.items ++ filter_map (apart (has reached.now) first) ends.now) }
+{
+    for end in ends {
+        push_one(findings, apart(reached, first, end))?;
+    }
+    Ok(())
+}
+
+// The first interface of all.
+fn first_of_all(ends: &[End]) -> Option<End>
+    ensures { result ≡ first_of_all ends.now }
+{
+    match ends.first() {
+        None => None,
+        Some(first) => Some(*first),
+    }
+}
+
+// Adds the files that are not reached from the first.
+pub(crate) fn push_apart(
+    alloc: Global,
+    findings: &mut Vec<Finding>,
+    ends: &[End],
+) -> Result<(), AllocError>
+    ensures { OnOk result ((reached : ℕ → Bool) × AreReached ends.now reached × (findings.new.items ≡ findings.old.items ++ apart_in reached ends.now)) }
+{
+    let reached = reached_of(alloc, ends)?;
+    push_each(findings, &reached, first_of_all(ends), ends)
+}

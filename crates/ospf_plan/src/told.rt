@@ -1,0 +1,103 @@
+//! Findings as they are told.
+
+ghost use Rattle.std.specs.Prelude.{◌≡◌};
+ghost use Rattle.std.specs.Fmt.{WritesOnOk};
+ghost use Rattle.ospf_config.specs.Texts.{kind_text};
+ghost use Rattle.ospf_plan.specs.Shown.{other_text, place_text, side_text, value_text};
+
+use crate::ends::{End, port_of};
+use crate::fault::AreaFault;
+use crate::finding::Finding;
+use ospf_base::InterfaceKind;
+use std::fmt::{self, Display, Formatter, Write};
+
+/// A finding, and the names of the files that its interfaces are in.
+#[derive(Clone, Copy, Debug)]
+pub struct Told<'a> {
+    pub finding: Finding,
+    pub here: &'a str,
+    pub other: &'a str,
+}
+
+// A kind as it is written.
+fn kind_of(kind: InterfaceKind) -> &'static str
+    ensures { result.now ≡ kind_text kind }
+{
+    match kind {
+        InterfaceKind::PointToPoint => "point-to-point",
+        InterfaceKind::Broadcast => "broadcast",
+    }
+}
+
+// Writes where a value stands.
+fn write_place<W: Write>(f: &mut Formatter<W>, fault: AreaFault, end: &End) -> fmt::Result
+    ensures { WritesOnOk W.Write.write_str_gives f.old result (place_text fault end.now) f.new }
+{
+    match fault {
+        AreaFault::SameRouter | AreaFault::Apart => Ok(()),
+        _ => write!(f, "interface {}: ", end.link),
+    }
+}
+
+// Writes a value, with its key.
+fn write_value<W: Write>(f: &mut Formatter<W>, fault: AreaFault, end: &End) -> fmt::Result
+    ensures { WritesOnOk W.Write.write_str_gives f.old result (value_text fault end.now) f.new }
+{
+    match fault {
+        AreaFault::SameRouter | AreaFault::Apart => write!(f, "router_id {}", end.router),
+        AreaFault::Area => write!(f, "area {}", end.area),
+        AreaFault::Kind => write!(f, "kind {}", kind_of(end.kind)),
+        AreaFault::Hello => write!(f, "hello {}", end.hello),
+        AreaFault::Dead => write!(f, "dead {}", end.dead),
+        AreaFault::Mtu => write!(f, "mtu {}", end.mtu),
+        AreaFault::NoDr => write!(f, "priority {}", end.priority),
+        AreaFault::OneSided | AreaFault::SamePort | AreaFault::Astray => {
+            write!(f, "port {}", port_of(end))
+        }
+        AreaFault::Cost => write!(f, "cost {}", end.cost),
+        AreaFault::Delay => write!(f, "transmit_delay {}", end.transmit_delay),
+        AreaFault::Nowhere(peer) => write!(f, "peers {peer}"),
+        _ => write!(f, "address {}/{}", end.address.address, end.address.length),
+    }
+}
+
+// Writes what an interface has, and where.
+fn write_side<W: Write>(f: &mut Formatter<W>, fault: AreaFault, end: &End) -> fmt::Result
+    ensures { WritesOnOk W.Write.write_str_gives f.old result (side_text fault end.now) f.new }
+{
+    write_place(f, fault, end)?;
+    write_value(f, fault, end)
+}
+
+// Writes what the other interface has, where there is one.
+fn write_other<W: Write>(
+    f: &mut Formatter<W>,
+    fault: AreaFault,
+    end: &End,
+    name: &str,
+) -> fmt::Result
+    ensures { WritesOnOk W.Write.write_str_gives f.old result (other_text fault end.now name.now) f.new }
+{
+    match fault {
+        AreaFault::Alone | AreaFault::Nowhere(_) => Ok(()),
+        fault => {
+            write!(f, ", {name}: ")?;
+            write_side(f, fault, end)
+        }
+    }
+}
+
+/// As `b.toml: A5 Hello: interface 1: hello 5, a.toml: interface 0: hello 10`.
+impl<'a> Display for Told<'a> {
+    ghost use Rattle.std.specs.Prelude.{Some};
+    ghost use Rattle.ospf_plan.specs.Shown.{told_text};
+
+    ghost output = { λ told. Some (told_text told) };
+
+    fn fmt<W: Write>(&self, f: &mut Formatter<W>) -> fmt::Result {
+        let fault = self.finding.fault;
+        write!(f, "{}: {}: ", self.here, fault)?;
+        write_side(f, fault, &self.finding.here)?;
+        write_other(f, fault, &self.finding.other, self.other)
+    }
+}

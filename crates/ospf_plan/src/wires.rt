@@ -1,0 +1,161 @@
+//! Who sends to whom, by UDP ports.
+
+ghost use Rattle.std.specs.Prelude.{◌≡◌, ◌||◌, ◌++◌, List, ℕ, IfOk, OnOk};
+ghost use Rattle.std.specs.List.{filter_map};
+ghost use Rattle.ospf_plan.specs.Ends.{ArePorts, holder_in};
+ghost use Rattle.ospf_plan.specs.Wires.{AreHeard, fault_between, has_wire, is_beside, key_of, same_wire, wire_fault, wire_faults_in, wires_at, wires_from, wires_of};
+ghost use Rattle.ospf_plan.specs.declared.ends.End.{End};
+
+use crate::ends::{End, end_of, port_of};
+use crate::fault::AreaFault;
+use crate::finding::{Finding, push_one};
+use crate::index::{holder_in, network_of};
+use ospf_config::{Config, Interface};
+use std::alloc::{AllocError, Global};
+use std::collections::{BTreeMap, BTreeSet};
+
+/// An interface sends to a UDP port.
+#[derive(Clone, Copy, Debug, PartialEq, Eq)]
+pub struct Wire {
+    pub end: End,
+    pub peer: u16,
+}
+
+// Adds what an interface sends to.
+fn push_wires(wires: &mut Vec<Wire>, end: &End, interface: &Interface) -> Result<(), AllocError>
+    ensures { OnOk result (wires.new.items ≡ wires.old.items ++ wires_from end.now interface.now) }
+{
+    let end = *end;
+    for port in &interface.peers {
+        wires.push(Wire {
+            end,
+            peer: port.number,
+        })?;
+    }
+    Ok(())
+}
+
+// Adds what the interfaces of a configuration send to.
+fn push_all_wires(wires: &mut Vec<Wire>, file: usize, config: &Config) -> Result<(), AllocError>
+    ensures { OnOk result (wires.new.items ≡ wires.old.items ++ wires_at (file, config.now)) }
+{
+    for (link, interface) in config.interfaces.iter().enumerate() {
+        push_wires(wires, &end_of(file, config, link, interface), interface)?;
+    }
+    Ok(())
+}
+
+/// What the interfaces of configurations send to, in order.
+pub(crate) fn wires_of(alloc: Global, configs: &[Config]) -> Result<Vec<Wire>, AllocError>
+    ensures { IfOk result (λ wires. wires.items ≡ wires_of configs.now) }
+{
+    let mut wires = Vec::new(alloc);
+    for (file, config) in configs.iter().enumerate() {
+        push_all_wires(&mut wires, file, config)?;
+    }
+    Ok(wires)
+}
+
+// What tells wires apart: the interface by its numbers, and the port.
+fn key_of(end: &End, peer: u16) -> (usize, usize, u16)
+    ensures { result ≡ key_of end.now peer }
+{
+    (end.file, end.link, peer)
+}
+
+// Adds a wire.
+fn add_wire(
+    set: &mut BTreeSet<(usize, usize, u16)>,
+    key: (usize, usize, u16),
+) -> Result<(), AllocError>
+    ensures { OnOk result ((q : ℕ × ℕ × ℕ) → has_wire set.new q ≡ (has_wire set.old q || same_wire key q)) }
+{
+    match set.insert(key) {
+        Ok(_) => Ok(()),
+        Err(_) => Err(AllocError),
+    }
+}
+
+// The wires, to be looked up.
+fn heard(alloc: Global, wires: &[Wire]) -> Result<BTreeSet<(usize, usize, u16)>, AllocError>
+    ensures { IfOk result (λ set. AreHeard set wires.now) }
+{
+    let mut set = BTreeSet::new(alloc);
+    for wire in wires {
+        add_wire(&mut set, key_of(&wire.end, wire.peer))?;
+    }
+    Ok(set)
+}
+
+// Whether two interfaces are on one network.
+fn is_beside(one: &End, other: &End) -> bool
+    ensures { result ≡ is_beside one.now other.now }
+{
+    let (here, there) = (network_of(&one.address), network_of(&other.address));
+    here.0 == there.0 && here.1 == there.1
+}
+
+// What is wrong where an interface sends to another: that one is not on its network, or does not send to it.
+fn fault_between(
+    heard: &BTreeSet<(usize, usize, u16)>,
+    other: &End,
+    here: &End,
+) -> Option<AreaFault>
+    ensures { result ≡ fault_between (has_wire heard.now) other.now here.now }
+{
+    if !is_beside(other, here) {
+        Some(AreaFault::Astray)
+    } else if !heard.contains(&key_of(other, port_of(here))) {
+        Some(AreaFault::OneSided)
+    } else {
+        None
+    }
+}
+
+// What is wrong with a wire: nobody is where it leads, or one of another network, or one that does not send back.
+fn wire_fault(
+    ports: &BTreeMap<u32, End>,
+    heard: &BTreeSet<(usize, usize, u16)>,
+    wire: &Wire,
+) -> Option<Finding>
+    ensures { result ≡ wire_fault (holder_in ports.now) (has_wire heard.now) wire.now }
+{
+    let here = wire.end;
+    let Some(other) = holder_in(ports, u32::from(wire.peer)) else {
+        return Some(Finding {
+            fault: AreaFault::Nowhere(wire.peer),
+            other: here,
+            here,
+        });
+    };
+    let fault = fault_between(heard, &other, &here)?;
+    Some(Finding { fault, other, here })
+}
+
+// Adds what is wrong with the wires, in their order.
+pub(crate) fn push_wire_faults(
+    alloc: Global,
+    findings: &mut Vec<Finding>,
+    ports: &BTreeMap<u32, End>,
+    wires: &[Wire],
+) -> Result<(), AllocError>
+    ensures { (ends : List End) → ArePorts ports.now ends → OnOk result (findings.new.items ≡ findings.old.items ++ wire_faults_in ends wires.now) }
+{
+    let heard = heard(alloc, wires)?;
+    push_each(findings, ports, &heard, wires)
+}
+
+// Adds what is wrong with some wires.
+fn push_each(
+    findings: &mut Vec<Finding>,
+    ports: &BTreeMap<u32, End>,
+    heard: &BTreeSet<(usize, usize, u16)>,
+    wires: &[Wire],
+) -> Result<(), AllocError>
+    ensures { OnOk result (findings.new.items ≡ findings.old.items ++ filter_map (wire_fault (holder_in ports.now) (has_wire heard.now)) wires.now) }
+{
+    for wire in wires {
+        push_one(findings, wire_fault(ports, heard, wire))?;
+    }
+    Ok(())
+}
