@@ -1,7 +1,8 @@
 -- What is written behind what was written before.
-use Rattle.std.proofs.Common.{◌≡◌, ◌∙◌, ap, sym, refl, arith, ℕ, ◌+◌, ◌-◌, ◌≤◌, List, [], ◌++◌, length, take, drop, subst, Option, None, Some, Result, Ok, Err, OnErr, append-nil, append_assoc, length-drop, take-append-drop}
-use Rattle.std.proofs.Math.Seq.{take-add}
-use Rattle.std.proofs.lemmas.List.{take_rest}
+use Rattle.std.proofs.Common.{◌≡◌, ◌∙◌, ap, sym, refl, arith, ℕ, suc, ◌+◌, ◌-◌, ◌<◌, ◌≤◌, List, [], ◌∷◌, ◌++◌, flat_map, get_or, length, take, drop, subst, Option, None, Some, Result, Ok, Err, OnErr, append-nil, append_assoc, length-drop, take-append-drop}
+use Rattle.std.proofs.Math.Seq.{drop-cons, take-add}
+use Rattle.std.proofs.lemmas.Grind.{flat_map-append}
+use Rattle.std.proofs.lemmas.List.{flat_map_more, take_more, take_rest}
 use Rattle.std.specs.Io.KnownBytes.{Appends, Keeps}
 use Rattle.ospf_files.specs.Streams.{IsBegun}
 
@@ -68,3 +69,19 @@ more_within n m k xs within bound is =
 pub whatever : {T E P : Type 0} (r : Result T E) → P → OnErr r P
 whatever (Ok x) p = tt
 whatever (Err e) p = p
+
+-- the text of one element more
+pub piece_written : {X : Type 0} (f : X → List ℕ) (a b c : Option (List ℕ)) (xs : List X) (i : ℕ) (x : X) → i < length xs → x ≡ get_or xs i x
+    → Appends a b (flat_map f (take i xs)) → Appends b c (f x) → Appends a c (flat_map f (take (i + 1) xs))
+piece_written f a b c xs i x within is h k =
+    let more = flat_map_more f [] (take i xs) (get_or xs i x) ∙ ap (flat_map f) (sym (take_more xs i x within)) in
+    subst (Appends a c) more (both_written a b c _ _ h (subst (λ y. Appends b c (f y)) is k))
+
+-- a beginning of the text of one element more
+pub piece_begun : {X : Type 0} (f : X → List ℕ) (a b c : Option (List ℕ)) (xs : List X) (i : ℕ) (x : X) → i < length xs → x ≡ get_or xs i x
+    → Appends a b (flat_map f (take i xs)) → IsBegun b c (f x) → IsBegun a c (flat_map f xs)
+piece_begun f a b c xs i x within is h k =
+    let split : xs ≡ take i xs ++ x ∷ drop (suc i) xs =
+    sym (ap (λ y. take i xs ++ y ∷ drop (suc i) xs) is ∙ ap (λ rest. take i xs ++ rest) (sym (drop-cons xs i x within)) ∙ take-append-drop i xs) in
+    let text = ap (flat_map f) split ∙ flat_map-append f (take i xs) (x ∷ drop (suc i) xs) in
+    subst (IsBegun a c) (sym text) (rest_begun a b c _ _ h (front_begun b c (f x) (flat_map f (drop (suc i) xs)) k))

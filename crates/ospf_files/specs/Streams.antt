@@ -1,6 +1,8 @@
 -- What is written to streams, and which of them have failed.
 use Rattle.std.specs.Prelude.{◌≡◌, ◌⊎◌, ◌++◌, ℕ, true, List, Option}
 use Rattle.std.specs.Io.KnownBytes.{Appends}
+use Rattle.ospf_files.specs.declared.status.Failure.{Failure}
+use Rattle.ospf_files.specs.declared.status.Failure.TheVariants as failure
 use Rattle.ospf_files.specs.declared.streams.FailedStreams.{FailedStreams}
 
 -- a beginning of the text was written, or all of it
@@ -29,3 +31,25 @@ with_error streams = record streams { error = true }
 -- the text was told, or standard error failed behind a beginning of it
 abbrev pub IsTold : FailedStreams → FailedStreams → Option (List ℕ) → Option (List ℕ) → List ℕ → Type 0
 IsTold before after old new text = ((after ≡ before) × Appends old new text) ⊎ ((after ≡ with_error before) × IsBegun old new text)
+
+-- what a failed write to standard output, or a flush of it, is
+abbrev pub IsOfOutput : Failure → Type 0
+IsOfOutput f = (f ≡ failure.Memory) ⊎ (f ≡ failure.Output)
+
+-- what a failed write to standard error, or a flush of it, is
+abbrev pub IsOfError : Failure → Type 0
+IsOfError f = (f ≡ failure.Memory) ⊎ (f ≡ failure.Error)
+
+-- what a failed read of standard input is
+abbrev pub IsOfInput : Failure → Type 0
+IsOfInput f = (f ≡ failure.Memory) ⊎ (f ≡ failure.Input)
+
+-- why a text is not whole on standard output: memory ran out before a write, or standard output is noted as failed
+pub data IsOutputCut (failed : FailedStreams) : Failure → Type 0 where
+  no_room : IsOutputCut failed failure.Memory
+  no_output : {f : Failure} → IsOutputFailed failed → IsOfOutput f → IsOutputCut failed f
+
+-- why a text is not whole on standard error: memory ran out before a write, or standard error is noted as failed
+pub data IsErrorCut (failed : FailedStreams) : Failure → Type 0 where
+  no_text : IsErrorCut failed failure.Memory
+  no_error : {f : Failure} → IsErrorFailed failed → IsOfError f → IsErrorCut failed f

@@ -1,8 +1,8 @@
 //! The streams that a program writes to, and which of them have failed.
 
 ghost use Rattle.std.specs.Prelude.{◌≡◌, ◌⊎◌, ◌++◌, Bool, true, false, OnErr, OnOk, IfErr, codes};
-ghost use Rattle.std.specs.Io.KnownBytes.{Appends};
-ghost use Rattle.ospf_files.specs.Streams.{IsBegun, IsErrorFailed, IsOutputFailed, with_error, with_output};
+ghost use Rattle.std.specs.Io.KnownBytes.{Appends, Keeps};
+ghost use Rattle.ospf_files.specs.Streams.{IsBegun, IsErrorCut, IsErrorFailed, IsOutputCut, IsOutputFailed, with_error, with_output};
 
 use crate::status::Failure;
 use std::io::{self, ErrorKind, Write};
@@ -23,6 +23,39 @@ impl FailedStreams {
         FailedStreams {
             output: false,
             error: false,
+        }
+    }
+
+    /// Writes a text to standard output, which may keep it until it is flushed.
+    pub fn write<O: Write>(&mut self, out: &mut O, text: &str) -> Result<(), Failure>
+        ensures same { OnOk result (self.new ≡ self.old) }
+        ensures written { OnOk result (Appends (O.contents out.old) (O.contents out.new) text.now) }
+        ensures begun { OnErr result (IsBegun (O.contents out.old) (O.contents out.new) text.now) }
+        ensures failed { OnErr result (self.new ≡ with_output self.old) }
+        ensures cut { IfErr result (IsOutputCut self.new) }
+    {
+        match put(out, text.as_bytes()) {
+            Ok(()) => Ok(()),
+            Err(error) => {
+                self.output = true;
+                Err(Failure::of(&error, Failure::Output))
+            }
+        }
+    }
+
+    /// Flushes standard output.
+    pub fn flush<O: Write>(&mut self, out: &mut O) -> Result<(), Failure>
+        ensures same { OnOk result (self.new ≡ self.old) }
+        ensures bytes { Keeps (O.contents out.old) (O.contents out.new) }
+        ensures failed { OnErr result (self.new ≡ with_output self.old) }
+        ensures cut { IfErr result (IsOutputCut self.new) }
+    {
+        match out.flush() {
+            Ok(()) => Ok(()),
+            Err(error) => {
+                self.output = true;
+                Err(Failure::of(&error, Failure::Output))
+            }
         }
     }
 
@@ -48,6 +81,7 @@ impl FailedStreams {
         ensures begun { OnErr result (IsBegun (E.contents err.old) (E.contents err.new) text.now) }
         ensures failed { OnErr result (self.new ≡ with_error self.old) }
         ensures failure { IfErr result (λ failure. (failure ≡ Failure.Memory) ⊎ (failure ≡ Failure.Error)) }
+        ensures cut { IfErr result (IsErrorCut self.new) }
     {
         match write_text(err, text) {
             Ok(()) => Ok(()),

@@ -1,6 +1,6 @@
 -- Texts that are written one after the other.
-use Rattle.std.proofs.Common.{◌≡◌, sym, subst, ◌+◌, ◌<◌, ℕ, List, [], ◌∷◌, ◌++◌, length, take, get_or, Option, append_assoc, append-nil, refl}
-use Rattle.std.proofs.lemmas.List.{take_more}
+use Rattle.std.proofs.Common.{◌≡◌, sym, subst, ◌+◌, ◌<◌, ℕ, List, [], ◌∷◌, ◌++◌, length, take, drop, get_or, Option, append_assoc, append-nil, refl}
+use Rattle.std.proofs.lemmas.List.{take_more, take-append-drop}
 use Rattle.std.specs.Io.KnownBytes.{Appends, Keeps}
 use Rattle.ospf_base.specs.declared.ids.Addr.{Addr}
 use Rattle.ospf_base.specs.declared.ids.RouterId.{RouterId}
@@ -9,7 +9,9 @@ use Rattle.ospf_graph.specs.declared.route.Route.{Route}
 use Rattle.ospf_spf.specs.Listed.{advertisements_of}
 use Rattle.ospf_table.specs.Line.{Reads}
 use Rattle.ospf_shown.specs.Shown.{routes_text}
-use Rattle.ospf_files.proofs.Written.{both_written, kept_written, nothing_written}
+use Rattle.ospf_files.proofs.Written.{both_written, front_begun, kept_written, nothing_written, rest_begun, whole_begun}
+use Rattle.ospf_files.specs.Streams.{IsBegun}
+use Rattle.ospf_table.specs.Cut.{AreLookupsBegun, IsOutputBegun, IsWarned}
 use Rattle.ospf_table.specs.Output.{IsLookupLine, AreLookups, IsAnswered, IsOutput, IsWarning, no_more, one_more}
 
 -- the line of one address more
@@ -37,6 +39,73 @@ lookup_written a b c table addresses i d within so_far next =
       written = both_written a b c so_far.lines next.0 so_far.written next.2;
     }
 
+-- a beginning of the line of one address more
+pub lookup_begun : (a b c : Option (List ℕ)) (table : List Route) (addresses : List Addr) (i : ℕ) (d : Addr) → i < length addresses
+    → HasLookups a b table (take i addresses) → ((line : List ℕ) × IsLookupLine table (get_or addresses i d).0 line × IsBegun b c line)
+    → AreLookupsBegun table addresses a c
+lookup_begun a b c table addresses i d within so_far next =
+    record {
+      before = take (i + 1) addresses;
+      after = drop (i + 1) addresses;
+      addresses_are = sym (take-append-drop (i + 1) addresses);
+      lines = so_far.lines ++ next.0;
+      are = subst (λ front. AreLookups table front (so_far.lines ++ next.0)) (sym (take_more addresses i d within))
+          (more_lookups table (take i addresses) so_far.lines (get_or addresses i d) next.0 so_far.are next.1);
+      begun = rest_begun a b c so_far.lines next.0 so_far.written next.2;
+    }
+
+-- the lookups so far, and no more
+pub lookups_end : (a b : Option (List ℕ)) (table : List Route) (addresses : List Addr) (i : ℕ) → HasLookups a b table (take i addresses)
+    → AreLookupsBegun table addresses a b
+lookups_end a b table addresses i so_far = record {
+  before = take i addresses;
+  after = drop i addresses;
+  addresses_are = sym (take-append-drop i addresses);
+  lines = so_far.lines;
+  are = so_far.are;
+  begun = whole_begun a b so_far.lines so_far.written;
+}
+
+-- a beginning of the routes
+pub routes_begun : (a b : Option (List ℕ)) (table routes : List Route) (addresses : List Addr) → routes ≡ table → IsBegun a b (routes_text routes)
+    → IsOutputBegun table addresses a b
+routes_begun a b table routes addresses same h =
+    let front : IsBegun a b (routes_text table) = subst (λ rs. IsBegun a b (routes_text rs)) same h in
+    record {
+      before = [];
+      after = addresses;
+      addresses_are = refl;
+      text = routes_text table ++ [];
+      output = record { lookups = []; are_lookups = no_more; text_is = refl };
+      begun = front_begun a b (routes_text table) [] front;
+    }
+
+-- the routes, and a beginning of the lookups
+pub lookups_begun : (a b c : Option (List ℕ)) (table routes : List Route) (addresses : List Addr) → routes ≡ table → Appends a b (routes_text routes)
+    → AreLookupsBegun table addresses b c → IsOutputBegun table addresses a c
+lookups_begun a b c table routes addresses same h looked =
+    let front : Appends a b (routes_text table) = subst (λ rs. Appends a b (routes_text rs)) same h in
+    record {
+      before = looked.before;
+      after = looked.after;
+      addresses_are = looked.addresses_are;
+      text = routes_text table ++ looked.lines;
+      output = record { lookups = looked.lines; are_lookups = looked.are; text_is = refl };
+      begun = rest_begun a b c (routes_text table) looked.lines front looked.begun;
+    }
+
+-- all of it, which was not flushed
+pub output_begun : (a b : Option (List ℕ)) (table : List Route) (addresses : List Addr) → ((text : List ℕ) × IsOutput table addresses text × Appends a b text)
+    → IsOutputBegun table addresses a b
+output_begun a b table addresses h = record {
+  before = addresses;
+  after = [];
+  addresses_are = sym (append-nil addresses);
+  text = h.0;
+  output = h.1;
+  begun = whole_begun a b h.0 h.2;
+}
+
 pub no_lookups : (a : Option (List ℕ)) (table : List Route) → HasLookups a a table []
 no_lookups a table = record { lines = []; are = no_more; written = nothing_written a }
 
@@ -60,3 +129,8 @@ answered a b x y input listing root table addresses reads warned is_table writte
   out = written.2;
   err = warned.2;
 }
+
+-- the warning of the root
+pub is_warned : (x y : Option (List ℕ)) (listing : List (List ℕ)) (root : RouterId) → ((warning : List ℕ) × IsWarning listing root warning × Appends x y warning)
+    → IsWarned listing root x y
+is_warned x y listing root h = record { warning = h.0; warned = h.1; written = h.2 }

@@ -3,3 +3,4 @@ pub mod Line
 pub mod Fault
 pub mod Refusal
 pub mod Output
+pub mod Cut

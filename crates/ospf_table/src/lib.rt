@@ -9,4 +9,4 @@ mod lookup;
 mod table;
 
 pub use crate::line::{LineFault, lsa_line};
-pub use crate::table::{EntryFault, TableJob, table_text};
+pub use crate::table::{EntryFault, TableFault, TableJob, is_unlisted, read_listing, table_text};

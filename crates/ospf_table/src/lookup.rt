@@ -1,17 +1,17 @@
 //! Addresses that are looked up in a published table.
 
-ghost use Rattle.std.specs.Prelude.{◌≡◌, ◌++◌, ◌∷◌, ℕ, List, [], IfOk, IfErr, OnOk};
+ghost use Rattle.std.specs.Prelude.{◌≡◌, ◌++◌, ◌∷◌, ℕ, List, [], IfOk, IfErr, OnErr, OnOk};
 ghost use Rattle.std.specs.Io.KnownBytes.{Appends};
 ghost use Rattle.ospf_graph.specs.declared.route.Route.{Route};
 ghost use Rattle.ospf_published.specs.Known.{opening};
 ghost use Rattle.ospf_fib.specs.Answers.{IsAnswerOfLast};
-ghost use Rattle.ospf_table.specs.Fault.{IsRefusal};
+ghost use Rattle.ospf_table.specs.Cut.{AreLookupsBegun, IsLookupCut};
 ghost use Rattle.ospf_table.specs.Output.{AreLookups};
 
-use crate::table::TableFault;
 use ospf_base::Addr;
 use ospf_fib::{Answer, Closed, Fib, OpenRefused, Seat, Writer};
-use ospf_shown::write_lookup;
+use ospf_files::{FailedStreams, Failure};
+use ospf_shown::print_lookup;
 use ospf_spf::RouteTable;
 use std::alloc::Global;
 use std::io::Write;
@@ -48,20 +48,25 @@ fn look_up<W: Wait + Drop>(
     Ok(answer)
 }
 
-// Writes where the published table sends what is on its way to each address.
-pub(crate) fn write_lookups<W: Wait + Drop, O: Write>(
-    out: &mut O,
+// Prints where the published table sends what is on its way to each address.
+pub(crate) fn print_lookups<W: Wait + Drop, O: Write>(
+    alloc: Global,
     writer: &mut Writer<W>,
     seat: &mut Seat,
     addresses: &[Addr],
-) -> Result<(), TableFault>
+    out: &mut O,
+    streams: &mut FailedStreams,
+) -> Result<(), Failure>
     requires { seat.old ≡ writer.old }
     ensures lookups { (table : List Route) → writer.old.tables ≡ opening ++ table ∷ [] → OnOk result ((lines : List ℕ) × AreLookups table addresses.now lines × Appends (O.contents out.old) (O.contents out.new) lines) }
-    ensures fault { IfErr result (λ fault. IsRefusal fault → ⊥) }
+    ensures begun { (table : List Route) → writer.old.tables ≡ opening ++ table ∷ [] → OnErr result (AreLookupsBegun table addresses.now (O.contents out.old) (O.contents out.new)) }
+    ensures cut { IfErr result (IsLookupCut streams.new) }
 {
     for address in addresses {
-        let answer = look_up(writer, seat, *address)?;
-        write_lookup(out, *address, answer)?;
+        let Ok(answer) = look_up(writer, seat, *address) else {
+            return Err(Failure::Closed);
+        };
+        print_lookup(alloc, *address, answer, out, streams)?;
     }
     Ok(())
 }

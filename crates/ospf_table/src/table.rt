@@ -1,7 +1,12 @@
 //! Routing tables of the LSAs of a text.
 
-ghost use Rattle.std.specs.Prelude.{◌≡◌, ◌≢◌, ◌⊎◌, ◌↔◌, ℕ, List, [], Err, IfOk, IfErr, IfSome, IsTrue, OnOk, OnErr};
+ghost use Rattle.std.specs.Prelude.{◌≡◌, ◌≢◌, ◌⊎◌, ◌↔◌, ◌++◌, ◌∷◌, ℕ, List, [], Err, Ok, IfOk, IfErr, IfSome, IsTrue, OnOk, OnErr};
 ghost use Rattle.std.specs.Io.KnownBytes.{Appends};
+ghost use Rattle.ospf_files.specs.Streams.{IsBegun, IsErrorCut, IsOfInput};
+ghost use Rattle.ospf_files.specs.declared.status.Failure.{Failure};
+ghost use Rattle.ospf_files.specs.declared.streams.FailedStreams.{FailedStreams};
+ghost use Rattle.ospf_published.specs.Known.{opening};
+ghost use Rattle.ospf_table.specs.Cut.{IsAnswerCut, IsCutShort, IsLookupCut, IsOutputBegun, IsTableCut, IsWarningBegun};
 ghost use Rattle.ospf_table.specs.Fault.{IsMemoryFault, IsRefusal};
 ghost use Rattle.ospf_table.specs.declared.table.EntryFault.{EntryFault};
 ghost use Rattle.ospf_table.specs.Output.{IsAnswered, IsOutput, IsUnlisted, IsWarning};
@@ -10,12 +15,12 @@ ghost use Rattle.ospf_table.specs.Refusal.{IsRefusalTold, refusal_line};
 
 use crate::entries::Entries;
 use crate::line::{LineFault, is_blank, lsa_of_line, without_end};
-use crate::lookup::{publish_once, write_lookups};
+use crate::lookup::{print_lookups, publish_once};
 use ospf_base::{Addr, Kind, LsaKey, MAX_AGE, RouterId};
-use ospf_fib::{Closed, OpenRefused};
+use ospf_fib::{Seat, Writer};
 use ospf_files::{FailedStreams, Failure, Status};
 use ospf_lsa::{Listing, ListingFault, LsaFault};
-use ospf_shown::write_routes;
+use ospf_shown::print_routes;
 use ospf_spf::RouteTable;
 use std::alloc::{AllocError, Global};
 use std::io::{self, BufRead, Write};
@@ -43,8 +48,8 @@ impl EntryFault {
     ghost use Rattle.std.specs.Prelude.{◌≡◌};
     ghost use Rattle.ospf_table.specs.Refusal.{entry_fault_text};
 
-    // The fault as it is printed.
-    fn text(self) -> &'static str
+    /// The fault as it is printed.
+    pub fn text(self) -> &'static str
         ensures { result.now ≡ entry_fault_text self }
     {
         match self {
@@ -54,21 +59,26 @@ impl EntryFault {
     }
 }
 
-// Why there is no table.
+/// Why there is no listing of the lines, or no table of it.
 #[derive(Drop)]
-pub(crate) enum TableFault {
+pub enum TableFault {
+    /// The line of this number, from 1, was refused.
     Entry { number: u64, fault: EntryFault },
+    /// What it cannot go on without.
     Failure(Failure),
 }
 
 impl TableFault {
     ghost use Rattle.std.specs.Prelude.{◌≡◌};
+    ghost use Rattle.ospf_files.specs.Streams.{IsOfInput};
+    ghost use Rattle.ospf_files.specs.declared.status.Failure.{Failure};
     ghost use Rattle.ospf_table.specs.Fault.{IsMemoryFault, IsRefusal};
 
     // The fault of a line, which is no fault of the line where memory ran out.
     fn of_entry(number: u64, fault: EntryFault) -> TableFault
         ensures memory { IsMemoryFault fault → result ≡ TableFault.Failure Failure.Memory }
         ensures entry { (IsMemoryFault fault → ⊥) → result ≡ TableFault.Entry number fault }
+        ensures failure { (f : Failure) → result ≡ TableFault.Failure f → f ≡ Failure.Memory }
     {
         match fault {
             EntryFault::Line(LineFault::Lsa(LsaFault::Memory))
@@ -79,16 +89,10 @@ impl TableFault {
 
     // Why there is no table where reading the input failed.
     fn of_reading(error: io::Error) -> TableFault
-        ensures { IsRefusal result → ⊥ }
+        ensures refusal { IsRefusal result → ⊥ }
+        ensures failure { (f : Failure) → result ≡ TableFault.Failure f → IsOfInput f }
     {
         TableFault::Failure(Failure::of(&error, Failure::Input))
-    }
-
-    // Why there is no table where standard error could not be written.
-    fn of_telling(error: io::Error) -> TableFault
-        ensures { IsRefusal result → ⊥ }
-    {
-        TableFault::Failure(Failure::of(&error, Failure::Error))
     }
 }
 
@@ -104,38 +108,14 @@ impl From<AllocError> for TableFault {
     }
 }
 
-// What is written goes to standard output, but for what says so.
-impl From<io::Error> for TableFault {
-    ghost use Rattle.ospf_table.specs.Fault.{IsRefusal};
-
-    ghost from_gives = { λ _ f. IsRefusal f → ⊥ };
-
-    fn from(error: io::Error) -> TableFault {
-        TableFault::Failure(Failure::of(&error, Failure::Output))
-    }
-}
-
-impl From<OpenRefused> for TableFault {
+impl From<Failure> for TableFault {
     ghost use Rattle.std.specs.Prelude.{◌≡◌};
-    ghost use Rattle.ospf_files.specs.declared.status.Failure.TheVariants as failure;
     ghost use Rattle.ospf_table.specs.declared.table.TableFault.TheVariants as fault;
 
-    ghost from_gives = { λ _ f. f ≡ fault.Failure failure.Memory };
+    ghost from_gives = { λ failure f. f ≡ fault.Failure failure };
 
-    fn from(_refused: OpenRefused) -> TableFault {
-        TableFault::Failure(Failure::Memory)
-    }
-}
-
-impl From<Closed> for TableFault {
-    ghost use Rattle.std.specs.Prelude.{◌≡◌};
-    ghost use Rattle.ospf_files.specs.declared.status.Failure.TheVariants as failure;
-    ghost use Rattle.ospf_table.specs.declared.table.TableFault.TheVariants as fault;
-
-    ghost from_gives = { λ _ f. f ≡ fault.Failure failure.Closed };
-
-    fn from(_closed: Closed) -> TableFault {
-        TableFault::Failure(Failure::Closed)
+    fn from(failure: Failure) -> TableFault {
+        TableFault::Failure(failure)
     }
 }
 
@@ -165,6 +145,7 @@ fn take_entry(alloc: Global, entries: &mut Entries, text: &[u8]) -> Result<(), E
 fn read_entries<R: BufRead + Drop>(alloc: Global, mut input: R) -> Result<Entries, TableFault>
     ensures whole { IfOk result (λ entries. IfSome (R.remaining input) (λ bytes. Reads bytes [] entries)) }
     ensures refused { (n : ℕ) (f : EntryFault) → result ≡ Err (TableFault.Entry n f) → IfSome (R.remaining input) (λ bytes. Refuses bytes [] n f) }
+    ensures unread { (f : Failure) → result ≡ Err (TableFault.Failure f) → IsOfInput f }
 {
     let mut entries = Entries::new(alloc);
     let mut line = Vec::new(alloc);
@@ -182,10 +163,13 @@ fn read_entries<R: BufRead + Drop>(alloc: Global, mut input: R) -> Result<Entrie
     Err(TableFault::Failure(Failure::Input))
 }
 
-// The listing of the LSAs of the lines.
-fn read_listing<R: BufRead + Drop>(alloc: Global, input: R) -> Result<Listing, TableFault>
+/// The listing of the LSAs of the lines of an input, which are read as by `table_text`.
+///
+/// The error is the first line that is refused, or what was not read or had no room.
+pub fn read_listing<R: BufRead + Drop>(alloc: Global, input: R) -> Result<Listing, TableFault>
     ensures whole { IfOk result (λ listing. IfSome (R.remaining input) (λ bytes. Reads bytes [] listing)) }
     ensures refused { (n : ℕ) (f : EntryFault) → result ≡ Err (TableFault.Entry n f) → IfSome (R.remaining input) (λ bytes. Refuses bytes [] n f) }
+    ensures unread { (f : Failure) → result ≡ Err (TableFault.Failure f) → IsOfInput f }
 {
     let entries = read_entries(alloc, input)?;
     match entries.listing(alloc) {
@@ -194,8 +178,8 @@ fn read_listing<R: BufRead + Drop>(alloc: Global, input: R) -> Result<Listing, T
     }
 }
 
-// Whether LSAs are listed, and the router-LSA of the root is none of them.
-fn is_unlisted(listing: &Listing, root: RouterId) -> bool
+/// Whether LSAs are listed, and the router-LSA of the root is none of them.
+pub fn is_unlisted(listing: &Listing, root: RouterId) -> bool
     ensures { IsTrue result ↔ IsUnlisted listing.now root }
 {
     let key = LsaKey {
@@ -206,36 +190,92 @@ fn is_unlisted(listing: &Listing, root: RouterId) -> bool
     !listing.lsas().is_empty() && listing.get(&key).is_none()
 }
 
-// Says that the root's router-LSA is not listed, where that is so and others are.
-fn warn<E: Write>(listing: &Listing, root: RouterId, err: &mut E) -> io::Result<()>
-    ensures { OnOk result ((text : List ℕ) × IsWarning listing.now root text × Appends (E.contents err.old) (E.contents err.new) text) }
+// Tells that the root's router-LSA is not listed, where that is so and others are.
+fn warn<E: Write>(
+    alloc: Global,
+    listing: &Listing,
+    root: RouterId,
+    err: &mut E,
+    streams: &mut FailedStreams,
+) -> Result<(), Failure>
+    ensures told { OnOk result ((text : List ℕ) × IsWarning listing.now root text × Appends (E.contents err.old) (E.contents err.new) text) }
+    ensures begun { OnErr result (IsWarningBegun listing.now root (E.contents err.old) (E.contents err.new)) }
+    ensures cut { IfErr result (IsErrorCut streams.new) }
 {
-    if is_unlisted(listing, root) {
-        writeln!(err, "{root}: no router-LSA of this router")?;
-        err.flush()?;
+    if !is_unlisted(listing, root) {
+        return Ok(());
     }
-    Ok(())
+    let line = format!(in alloc; "{root}: no router-LSA of this router\n")?;
+    streams.tell(err, &line)
 }
 
-// Writes the routes of a table, and where a table that was published sends what is on its way to the addresses.
-fn write_answer<W: Wait + Drop, O: Write>(
+// Prints the routes of a table, and where a table that was published sends what is on its way to the addresses.
+fn print_table<W: Wait + Drop, O: Write>(
+    alloc: Global,
+    writer: &mut Writer<W>,
+    seat: &mut Seat,
+    table: &RouteTable,
+    addresses: &[Addr],
+    out: &mut O,
+    streams: &mut FailedStreams,
+) -> Result<(), Failure>
+    requires seat { seat.old ≡ writer.old }
+    requires published { writer.old.tables ≡ opening ++ table.now ∷ [] }
+    ensures output { OnOk result ((text : List ℕ) × IsOutput table.now addresses.now text × Appends (O.contents out.old) (O.contents out.new) text) }
+    ensures begun { OnErr result (IsOutputBegun table.now addresses.now (O.contents out.old) (O.contents out.new)) }
+    ensures cut { IfErr result (IsLookupCut streams.new) }
+{
+    print_routes(alloc, table.routes(), out, streams)?;
+    print_lookups(alloc, writer, seat, addresses, out, streams)?;
+    streams.flush(out)
+}
+
+// Publishes a table, and prints it, and what it says of the addresses.
+fn print_answer<W: Wait + Drop, O: Write>(
     alloc: Global,
     rt: W,
     table: &RouteTable,
     addresses: &[Addr],
     out: &mut O,
-) -> Result<(), TableFault>
+    streams: &mut FailedStreams,
+) -> Result<(), Failure>
     ensures output { OnOk result ((text : List ℕ) × IsOutput table.now addresses.now text × Appends (O.contents out.old) (O.contents out.new) text) }
-    ensures fault { IfErr result (λ fault. IsRefusal fault → ⊥) }
+    ensures begun { OnErr result (IsOutputBegun table.now addresses.now (O.contents out.old) (O.contents out.new)) }
+    ensures cut { IfErr result (IsLookupCut streams.new) }
 {
-    let (mut writer, mut seat) = publish_once(alloc, rt, table)?;
-    write_routes(out, table.routes())?;
-    write_lookups(out, &mut writer, &mut seat, addresses)?;
-    out.flush()?;
-    Ok(())
+    let Ok((mut writer, mut seat)) = publish_once(alloc, rt, table) else {
+        return Err(Failure::Memory);
+    };
+    print_table(
+        alloc,
+        &mut writer,
+        &mut seat,
+        table,
+        addresses,
+        out,
+        streams,
+    )
 }
 
-// Writes the table of the LSAs that are read, and what it says of the addresses.
+// Prints the table of a listing and what it says of the addresses, behind the warning of the root.
+fn answer_of<W: Wait + Drop, O: Write, E: Write>(
+    alloc: Global,
+    rt: W,
+    job: &TableJob,
+    listing: &Listing,
+    out: &mut O,
+    err: &mut E,
+    streams: &mut FailedStreams,
+) -> Result<(), Failure>
+    ensures answer { (bytes : List ℕ) → Reads bytes [] listing.now → OnOk result (IsAnswered bytes job.now.root job.now.addresses.items (O.contents out.old) (O.contents out.new) (E.contents err.old) (E.contents err.new)) }
+    ensures cut { IfErr result (IsTableCut listing.now job.now.root job.now.addresses.items streams.new (O.contents out.old) (O.contents out.new) (E.contents err.old) (E.contents err.new)) }
+{
+    warn(alloc, listing, job.root, err, streams)?;
+    let table = RouteTable::of(alloc, listing, job.root)?;
+    print_answer(alloc, rt, &table, &job.addresses, out, streams)
+}
+
+// Prints the table of the LSAs that are read, and what it says of the addresses.
 fn answer<W: Wait + Drop, R: BufRead + Drop, O: Write, E: Write>(
     alloc: Global,
     rt: W,
@@ -243,20 +283,81 @@ fn answer<W: Wait + Drop, R: BufRead + Drop, O: Write, E: Write>(
     input: R,
     out: &mut O,
     err: &mut E,
+    streams: &mut FailedStreams,
 ) -> Result<(), TableFault>
     ensures answer { OnOk result (IfSome (R.remaining input) (λ bytes. IsAnswered bytes job.now.root job.now.addresses.items (O.contents out.old) (O.contents out.new) (E.contents err.old) (E.contents err.new))) }
     ensures refused { (n : ℕ) (f : EntryFault) → result ≡ Err (TableFault.Entry n f) → IfSome (R.remaining input) (λ bytes. Refuses bytes [] n f) }
     ensures unwritten { (n : ℕ) (f : EntryFault) → result ≡ Err (TableFault.Entry n f) → O.contents out.new ≡ O.contents out.old }
     ensures untold { (n : ℕ) (f : EntryFault) → result ≡ Err (TableFault.Entry n f) → E.contents err.new ≡ E.contents err.old }
+    ensures cut { (f : Failure) → result ≡ Err (TableFault.Failure f) → IsAnswerCut (R.remaining input) job.now.root job.now.addresses.items streams.new (O.contents out.old) (O.contents out.new) (E.contents err.old) (E.contents err.new) f }
 {
     let listing = read_listing(alloc, input)?;
-    match warn(&listing, job.root, err) {
-        Ok(()) => {}
-        Err(error) => return Err(TableFault::of_telling(error)),
-    }
-    let table = RouteTable::of(alloc, &listing, job.root)?;
-    write_answer(alloc, rt, &table, &job.addresses, out)?;
+    answer_of(alloc, rt, job, &listing, out, err, streams)?;
     Ok(())
+}
+
+// Tells the number of a line that is refused, and its fault.
+fn tell_refusal<E: Write>(
+    alloc: Global,
+    number: u64,
+    fault: EntryFault,
+    err: &mut E,
+    streams: &mut FailedStreams,
+) -> Result<(), Failure>
+    ensures told { OnOk result (Appends (E.contents err.old) (E.contents err.new) (refusal_line number fault)) }
+    ensures begun { OnErr result (IsBegun (E.contents err.old) (E.contents err.new) (refusal_line number fault)) }
+    ensures cut { IfErr result (IsErrorCut streams.new) }
+{
+    let line = format!(in alloc; "line {number}: {}\n", fault.text())?;
+    streams.tell(err, &line)
+}
+
+// Prints the answer, or tells which line is refused. The answer is the status to end with.
+fn answer_or_refuse<W: Wait + Drop, R: BufRead + Drop, O: Write, E: Write>(
+    alloc: Global,
+    rt: W,
+    job: &TableJob,
+    input: R,
+    out: &mut O,
+    err: &mut E,
+    streams: &mut FailedStreams,
+) -> Result<Status, Failure>
+    ensures done { result ≡ Ok Status.Done → IfSome (R.remaining input) (λ bytes. IsAnswered bytes job.now.root job.now.addresses.items (O.contents out.old) (O.contents out.new) (E.contents err.old) (E.contents err.new)) }
+    ensures refused { result ≡ Ok Status.Refused → IfSome (R.remaining input) (λ bytes. IsRefusalTold bytes (E.contents err.old) (E.contents err.new)) }
+    ensures unwritten { result ≡ Ok Status.Refused → O.contents out.new ≡ O.contents out.old }
+    ensures ended { IfOk result (λ status. (status ≡ Status.Done) ⊎ (status ≡ Status.Refused)) }
+    ensures cut { IfErr result (IsAnswerCut (R.remaining input) job.now.root job.now.addresses.items streams.new (O.contents out.old) (O.contents out.new) (E.contents err.old) (E.contents err.new)) }
+{
+    match answer(alloc, rt, job, input, out, err, streams) {
+        Ok(()) => Ok(Status::Done),
+        Err(TableFault::Entry { number, fault }) => {
+            tell_refusal(alloc, number, fault, err, streams)?;
+            Ok(Status::Refused)
+        }
+        Err(TableFault::Failure(failure)) => Err(failure),
+    }
+}
+
+// Reads LSAs and prints a routing table, as `table_text`, and notes which streams fail.
+fn table_noted<W: Wait + Drop, R: BufRead + Drop, O: Write, E: Write>(
+    alloc: Global,
+    rt: W,
+    job: &TableJob,
+    input: R,
+    out: &mut O,
+    err: &mut E,
+    streams: &mut FailedStreams,
+) -> Status
+    ensures done { result ≡ Status.Done → IfSome (R.remaining input) (λ bytes. IsAnswered bytes job.now.root job.now.addresses.items (O.contents out.old) (O.contents out.new) (E.contents err.old) (E.contents err.new)) }
+    ensures refused { result ≡ Status.Refused → IfSome (R.remaining input) (λ bytes. IsRefusalTold bytes (E.contents err.old) (E.contents err.new)) }
+    ensures unwritten { result ≡ Status.Refused → O.contents out.new ≡ O.contents out.old }
+    ensures cut { (result ≡ Status.Memory) ⊎ (result ≡ Status.Stream) → IsCutShort (R.remaining input) job.now.root job.now.addresses.items streams.new (O.contents out.old) (O.contents out.new) (E.contents err.old) (E.contents err.new) result }
+    ensures not_words { result ≢ Status.Words }
+{
+    match answer_or_refuse(alloc, rt, job, input, out, err, streams) {
+        Ok(status) => status,
+        Err(failure) => failure.tell(err, streams),
+    }
 }
 
 /// Reads LSAs, one a line in hexadecimal, and writes the routing table of a router over them, and for
@@ -268,7 +369,8 @@ fn answer<W: Wait + Drop, R: BufRead + Drop, O: Write, E: Write>(
 /// LSAs are listed and the root's router-LSA is not among them, `err` says so. The first line that is refused is
 /// told on `err`, with status `Refused`. Status `Memory` says that memory ran out, or there was no place for the
 /// seat, and `Stream` that a read or a write failed, or the published table was closed; what it was is told on
-/// `err`, as far as that can be written.
+/// `err`, as far as that can be written. Then no more than a beginning of the table and the lookups is written, and
+/// nothing where the input was not read.
 pub fn table_text<W: Wait + Drop, R: BufRead + Drop, O: Write, E: Write>(
     alloc: Global,
     rt: W,
@@ -280,35 +382,8 @@ pub fn table_text<W: Wait + Drop, R: BufRead + Drop, O: Write, E: Write>(
     ensures done { result ≡ Status.Done → IfSome (R.remaining input) (λ bytes. IsAnswered bytes job.now.root job.now.addresses.items (O.contents out.old) (O.contents out.new) (E.contents err.old) (E.contents err.new)) }
     ensures refused { result ≡ Status.Refused → IfSome (R.remaining input) (λ bytes. IsRefusalTold bytes (E.contents err.old) (E.contents err.new)) }
     ensures unwritten { result ≡ Status.Refused → O.contents out.new ≡ O.contents out.old }
+    ensures cut { (result ≡ Status.Memory) ⊎ (result ≡ Status.Stream) → (failed : FailedStreams) × IsCutShort (R.remaining input) job.now.root job.now.addresses.items failed (O.contents out.old) (O.contents out.new) (E.contents err.old) (E.contents err.new) result }
     ensures not_words { result ≢ Status.Words }
 {
-    match answer(alloc, rt, job, input, out, err) {
-        Ok(()) => Status::Done,
-        Err(fault) => tell(&fault, err),
-    }
-}
-
-// Writes the number of a line that was refused, and its fault.
-fn write_refusal<E: Write>(err: &mut E, number: u64, fault: EntryFault) -> io::Result<()>
-    ensures { OnOk result (Appends (E.contents err.old) (E.contents err.new) (refusal_line number fault)) }
-{
-    writeln!(err, "line {number}: {}", fault.text())?;
-    err.flush()?;
-    Ok(())
-}
-
-// Tells why there is no table. The answer is the status to end with.
-fn tell<E: Write>(fault: &TableFault, err: &mut E) -> Status
-    ensures refused { result ≡ Status.Refused → IsRefusal fault.now }
-    ensures told { (n : ℕ) (f : EntryFault) → fault.now ≡ TableFault.Entry n f → result ≡ Status.Refused → Appends (E.contents err.old) (E.contents err.new) (refusal_line n f) }
-    ensures not_done { result ≢ Status.Done }
-    ensures not_words { result ≢ Status.Words }
-{
-    match fault {
-        TableFault::Entry { number, fault } => match write_refusal(err, *number, *fault) {
-            Ok(()) => Status::Refused,
-            Err(error) => Failure::of(&error, Failure::Error).status(),
-        },
-        TableFault::Failure(failure) => failure.tell(err, &mut FailedStreams::none()),
-    }
+    table_noted(alloc, rt, job, input, out, err, &mut FailedStreams::none())
 }

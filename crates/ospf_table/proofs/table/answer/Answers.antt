@@ -1,9 +1,8 @@
-use Rattle.std.proofs.Common.{◌≡◌, ℕ, List, rules, subst}
-use Rattle.std.specs.Io.KnownBytes.{Appends}
-use Rattle.ospf_table.specs.Output.{IsOutput}
-use Rattle.ospf_table.specs.declared.table.TableFault.TheVariants.{Entry}
+use Rattle.std.proofs.Common.{rules, ◌≡◌, refl, subst}
+use Rattle.ospf_files.specs.declared.status.Failure.{Failure as FailureOf}
+use Rattle.ospf_table.specs.Cut.{IsTableCut, in_input, in_table}
+use Rattle.ospf_table.specs.declared.table.TableFault.TheVariants.{Entry, Failure}
 use Rattle.ospf_table.proofs.Lines.{map_some}
-use Rattle.ospf_table.proofs.Written.{answered}
 use Rattle.ospf_table.proofs.table.answer.Goals as goal
 
 pub returns-in_err-listing-clause-refused : goal.returns-in_err-listing-clause-refused
@@ -11,11 +10,17 @@ returns-in_err-listing-clause-refused g c = λ n f e.
     let same : c.in_err-listing.field-0.0 ≡ Entry n f = search rules in
     c.in_err-listing.ensures.refused n f (cc)
 
+pub returns-in_err-listing-clause-cut : goal.returns-in_err-listing-clause-cut
+returns-in_err-listing-clause-cut g c = λ f e.
+    let same : c.in_err-listing.field-0.0 ≡ Failure f = search rules in
+    in_input (c.in_err-listing.ensures.unread f (cc)) refl refl
+
+pub returns-in_err-answer_of-clause-cut : goal.returns-in_err-answer_of-clause-cut
+returns-in_err-answer_of-clause-cut g c = λ f e.
+    let same : c.in_err-answer_of.field-0.0 ≡ f = search rules in
+    in_table c.in_ok-listing.listing c.in_ok-listing.ensures.whole
+    (subst (λ (cause : FailureOf). IsTableCut c.in_ok-listing.listing c.args.job.now.root c.args.job.now.addresses.items c.answer_of.new.streams (g.O.Write.contents c.args.out.now) (g.O.Write.contents c.answer_of.new.out) (g.E.Write.contents c.args.err.now) (g.E.Write.contents c.answer_of.new.err) cause) same c.in_err-answer_of.ensures.cut)
+
 pub returns-clause-answer : goal.returns-clause-answer
 returns-clause-answer g c =
-    map_some (g.R.Read.remaining c.args.input) _ _
-    (λ input reads. answered _ _ _ _ input c.in_ok-listing.listing c.args.job.now.root c.in_ok-table.table c.args.job.now.addresses.items reads
-    c.in-Ok.ensures (search (c.in_ok-table.ensures))
-    (subst (λ addresses. (text : List ℕ) × IsOutput c.in_ok-table.table addresses text × Appends (g.O.Write.contents c.args.out.now) (g.O.Write.contents c.write_answer.new.out) text)
-    c.deref.ensures.value c.in_ok-write_answer.ensures.output))
-    c.in_ok-listing.ensures.whole
+    map_some (g.R.Read.remaining c.args.input) _ _ (λ bytes reads. c.in_ok-answer_of.ensures.answer bytes reads) c.in_ok-listing.ensures.whole

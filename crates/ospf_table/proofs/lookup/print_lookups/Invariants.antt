@@ -1,7 +1,7 @@
 use Rattle.std.proofs.Common.{◌≡◌, ◌++◌, ◌∷◌, [], take}
 use Rattle.ospf_published.specs.Known.{Table, opening}
 use Rattle.ospf_table.proofs.Written.{HasLookups}
-use Rattle.ospf_table.proofs.lookup.write_lookups.Given as goal
+use Rattle.ospf_table.proofs.lookup.print_lookups.Given as goal
 
 -- the addresses so far are looked up, and the seat knows what was published
 abbrev pub invariant-loop-address : goal.invariant-loop-address

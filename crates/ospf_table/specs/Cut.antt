@@ -1,0 +1,90 @@
+-- What stands written where memory runs out, a stream fails or the published table is closed before all is written.
+use Rattle.std.specs.Prelude.{◌≡◌, ◌⊎◌, ℕ, List, [], ◌++◌, IfSome, Option}
+use Rattle.std.specs.Io.KnownBytes.{Appends}
+use Rattle.ospf_base.specs.declared.ids.Addr.{Addr}
+use Rattle.ospf_base.specs.declared.ids.RouterId.{RouterId}
+use Rattle.ospf_files.specs.Status.{failure_line, failure_status}
+use Rattle.ospf_files.specs.Streams.{IsBegun, IsErrorCut, IsOfInput, IsOutputCut, IsTold}
+use Rattle.ospf_files.specs.declared.status.Failure.{Failure}
+use Rattle.ospf_files.specs.declared.status.Failure.TheVariants as failure
+use Rattle.ospf_files.specs.declared.status.Status.{Status}
+use Rattle.ospf_files.specs.declared.streams.FailedStreams.{FailedStreams}
+use Rattle.ospf_graph.specs.Routes.{IsTable}
+use Rattle.ospf_graph.specs.declared.route.Route.{Route}
+use Rattle.ospf_spf.specs.Listed.{advertisements_of}
+use Rattle.ospf_table.specs.Line.{Reads, Refuses}
+use Rattle.ospf_table.specs.Output.{AreLookups, IsOutput, IsWarning}
+use Rattle.ospf_table.specs.Refusal.{refusal_line}
+use Rattle.ospf_table.specs.declared.table.EntryFault.{EntryFault}
+
+-- a beginning of the lookups of the first addresses was written
+pub record AreLookupsBegun (table : List Route) (addresses : List Addr) (old new : Option (List ℕ)) : Type 0 where
+  pub before : List Addr
+  pub after : List Addr
+  pub addresses_are : addresses ≡ before ++ after
+  pub lines : List ℕ
+  pub are : AreLookups table before lines
+  pub begun : IsBegun old new lines
+
+-- a beginning of the output for the first addresses was written
+pub record IsOutputBegun (table : List Route) (addresses : List Addr) (old new : Option (List ℕ)) : Type 0 where
+  pub before : List Addr
+  pub after : List Addr
+  pub addresses_are : addresses ≡ before ++ after
+  pub text : List ℕ
+  pub output : IsOutput table before text
+  pub begun : IsBegun old new text
+
+-- why the output is not whole: memory ran out, standard output is noted as failed, or the published table was closed
+abbrev pub IsLookupCut : FailedStreams → Failure → Type 0
+IsLookupCut failed f = IsOutputCut failed f ⊎ (f ≡ failure.Closed)
+
+-- the input makes this listing
+abbrev pub Makes : Option (List ℕ) → List (List ℕ) → Type 0
+Makes input listing = IfSome input (λ bytes. Reads bytes [] listing)
+
+-- a line of the input is refused, and a beginning of what is told of it was written
+pub record IsRefusalBegun (input old new : Option (List ℕ)) : Type 0 where
+  pub number : ℕ
+  pub fault : EntryFault
+  pub refused : IfSome input (λ bytes. Refuses bytes [] number fault)
+  pub begun : IsBegun old new (refusal_line number fault)
+
+-- a beginning of the warning of the root was written
+pub record IsWarningBegun (listing : List (List ℕ)) (root : RouterId) (old new : Option (List ℕ)) : Type 0 where
+  pub warning : List ℕ
+  pub warned : IsWarning listing root warning
+  pub begun : IsBegun old new warning
+
+-- the warning of the root was written
+pub record IsWarned (listing : List (List ℕ)) (root : RouterId) (old new : Option (List ℕ)) : Type 0 where
+  pub warning : List ℕ
+  pub warned : IsWarning listing root warning
+  pub written : Appends old new warning
+
+-- the table of a listing is cut: its warning, or it is want of memory before the output begins, or the output
+pub data IsTableCut (listing : List (List ℕ)) (root : RouterId) (addresses : List Addr) (failed : FailedStreams) (out_old out_new err_old err_new : Option (List ℕ)) : Failure → Type 0 where
+  in_warning : {f : Failure} → IsErrorCut failed f → IsWarningBegun listing root err_old err_new → out_new ≡ out_old
+      → IsTableCut listing root addresses failed out_old out_new err_old err_new f
+  no_table : IsWarned listing root err_old err_new → out_new ≡ out_old
+      → IsTableCut listing root addresses failed out_old out_new err_old err_new failure.Memory
+  in_output : {f : Failure} (table : List Route) → IsLookupCut failed f → IsWarned listing root err_old err_new
+      → IsTable (advertisements_of listing) root table → IsOutputBegun table addresses out_old out_new
+      → IsTableCut listing root addresses failed out_old out_new err_old err_new f
+
+-- the answer is cut: the input was not read, or what is told of a line that is refused, or the table
+pub data IsAnswerCut (input : Option (List ℕ)) (root : RouterId) (addresses : List Addr) (failed : FailedStreams) (out_old out_new err_old err_new : Option (List ℕ)) (f : Failure) : Type 0 where
+  in_input : IsOfInput f → out_new ≡ out_old → err_new ≡ err_old → IsAnswerCut input root addresses failed out_old out_new err_old err_new f
+  in_refusal : IsErrorCut failed f → IsRefusalBegun input err_old err_new → out_new ≡ out_old
+      → IsAnswerCut input root addresses failed out_old out_new err_old err_new f
+  in_table : (listing : List (List ℕ)) → Makes input listing → IsTableCut listing root addresses failed out_old out_new err_old err_new f
+      → IsAnswerCut input root addresses failed out_old out_new err_old err_new f
+
+-- the answer was cut by a failure, which was told last, as far as it could be, and of which the status is
+pub record IsCutShort (input : Option (List ℕ)) (root : RouterId) (addresses : List Addr) (failed : FailedStreams) (out_old out_new err_old err_new : Option (List ℕ)) (status : Status) : Type 0 where
+  pub cause : Failure
+  pub failed_then : FailedStreams
+  pub err_then : Option (List ℕ)
+  pub cut : IsAnswerCut input root addresses failed_then out_old out_new err_old err_then cause
+  pub last : IsTold failed_then failed err_then err_new (failure_line cause)
+  pub status_is : status ≡ failure_status cause
