@@ -1,5 +1,12 @@
 -- Files, one after another.
-use Rattle.std.proofs.Common.{ap, subst, List, [], ◌∷◌, ◌++◌, Option, None, Some, IfSome, IfNone}
+use Rattle.std.proofs.Common.{◌≡◌, ◌≢◌, ◌⊎◌, inl, inr, ap, subst, ℕ, List, [], ◌∷◌, ◌++◌, Option, None, Some, IfSome, IfNone, Result, Ok, Err, IfOk, OnOk}
+use Rattle.std.specs.Io.KnownBytes.{Appends}
+use Rattle.ospf_files.specs.Files.{unread_line}
+use Rattle.ospf_files.specs.declared.status.Failure.{Failure}
+use Rattle.ospf_files.specs.declared.status.Status.TheVariants as status
+use Rattle.ospf_files.specs.declared.streams.FailedStreams.{FailedStreams}
+use Rattle.ospf_sim.specs.Stopped.{IsStopped, IsUnreadTold, is_unread}
+use Rattle.ospf_sim.specs.declared.text.Simulated.{Simulated}
 use Rattle.ospf_files.specs.Files.{IsRead}
 use Rattle.ospf_files.specs.Listed.{AreRead, IsFirstUnread}
 use Rattle.ospf_files.specs.declared.files.NamedFile.{NamedFile}
@@ -29,3 +36,31 @@ map_some (Some a) P Q f h = f a h
 pub map_none : {A : Type 0} (o : Option A) (P Q : Type 0) → (P → Q) → IfNone o P → IfNone o Q
 map_none None P Q f h = f h
 map_none (Some a) P Q f h = h
+
+-- the first file that could not be read is told
+pub unread_told : (script : NamedFile) (files : List NamedFile) (file : NamedFile) (result : Result Simulated Failure) (a b x y : Option (List ℕ))
+    → IsFirstUnread file (script ∷ files) → b ≡ a → IfOk result (λ s. s.world ≡ None) → OnOk result (Appends x y (unread_line file))
+    → IfOk result (λ s. s.status ≡ status.Stream → IsUnreadTold script files s.world a b x y)
+unread_told script files file (Err failure) a b x y first same none told = tt
+unread_told script files file (Ok s) a b x y first same none told = λ _. record { file = file; first = first; told = told; none = none; same_out = same }
+
+-- what is done or refused did not end for memory, nor for a stream
+pub not_memory : (result : Result Simulated Failure) → IfOk result (λ s. (s.status ≡ status.Done) ⊎ (s.status ≡ status.Refused))
+    → IfOk result (λ s. s.status ≢ status.Memory)
+not_memory (Err failure) ended = tt
+not_memory (Ok s) (inl done) = λ is. absurd (cc (done, is))
+not_memory (Ok s) (inr refused) = λ is. absurd (cc (refused, is))
+
+pub ended_well : (script : NamedFile) (files : List NamedFile) (result : Result Simulated Failure) (a b x y : Option (List ℕ))
+    → IfOk result (λ s. (s.status ≡ status.Done) ⊎ (s.status ≡ status.Refused))
+    → IfOk result (λ s. s.status ≡ status.Stream → IsUnreadTold script files s.world a b x y)
+ended_well script files (Err failure) a b x y ended = tt
+ended_well script files (Ok s) a b x y (inl done) = λ is. absurd (cc (done, is))
+ended_well script files (Ok s) a b x y (inr refused) = λ is. absurd (cc (refused, is))
+
+-- a simulation that ends with status Stream, and that no failure ended, ended for a file
+pub stopped_unread : (script : NamedFile) (files : List NamedFile) (s : Simulated) (failed : FailedStreams) (a b x y : Option (List ℕ))
+    → s.status ≢ status.Memory → (s.status ≡ status.Stream → IsUnreadTold script files s.world a b x y)
+    → (s.status ≡ status.Memory) ⊎ (s.status ≡ status.Stream) → IsStopped script files s.world failed s.status a b x y
+stopped_unread script files s failed a b x y not told (inl memory) = absurd (not memory)
+stopped_unread script files s failed a b x y not told (inr stream) = is_unread stream (told stream)

@@ -3,3 +3,4 @@ pub mod Shown
 pub mod Commands
 pub mod Scripts
 pub mod Simulations
+pub mod Stopped

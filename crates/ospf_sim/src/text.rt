@@ -1,10 +1,13 @@
 //! Simulations.
 
-ghost use Rattle.std.specs.Prelude.{◌≡◌, ◌≢◌, ◌⊎◌, ◌∷◌, IfOk, IfSome, IfNone, OnOk};
+ghost use Rattle.std.specs.Prelude.{◌≡◌, ◌≢◌, ◌⊎◌, ◌∷◌, IfOk, IfSome, IfNone, None, OnOk};
 ghost use Rattle.std.specs.Io.KnownBytes.{Appends};
+ghost use Rattle.ospf_files.specs.Files.{unread_line};
 ghost use Rattle.ospf_files.specs.declared.files.NamedFile.{NamedFile};
+ghost use Rattle.ospf_files.specs.declared.streams.FailedStreams.{FailedStreams};
 ghost use Rattle.ospf_files.specs.Listed.{AreRead, IsFirstUnread};
 ghost use Rattle.ospf_sim.specs.Simulations.{Comes, IsRefused, IsSimulated, Opens, RunsTo, WorldComes, same_router_line, status_for};
+ghost use Rattle.ospf_sim.specs.Stopped.{IsStopped, IsUnreadTold};
 
 use crate::script::run_script;
 use crate::watch::Watch;
@@ -125,7 +128,9 @@ fn run_in_world<O: Write, E: Write, V: Watch>(
 
 // Tells that a file could not be read.
 fn end_unread<E: Write>(file: &NamedFile, err: &mut E) -> Result<Simulated, Failure>
-    ensures { IfOk result (λ s. s.status ≡ Status.Stream) }
+    ensures status { IfOk result (λ s. s.status ≡ Status.Stream) }
+    ensures world { IfOk result (λ s. s.world ≡ None) }
+    ensures told { OnOk result (Appends (E.contents err.old) (E.contents err.new) (unread_line file.now)) }
 {
     match tell_unread(file, err) {
         Ok(()) => Ok(Simulated {
@@ -147,12 +152,40 @@ fn simulate<O: Write, E: Write, V: Watch>(
 ) -> Result<Simulated, Failure>
     ensures comes { IfOk result (λ s. Comes s.status script.now files.now s.world (O.contents out.old) (O.contents out.new) (E.contents err.old) (E.contents err.new)) }
     ensures not_words { IfOk result (λ s. s.status ≢ Status.Words) }
+    ensures not_memory { IfOk result (λ s. s.status ≢ Status.Memory) }
+    ensures stream { IfOk result (λ s. s.status ≡ Status.Stream → IsUnreadTold script.now files.now s.world (O.contents out.old) (O.contents out.new) (E.contents err.old) (E.contents err.new)) }
     ensures unread { (file : NamedFile) → IsFirstUnread file (script.now ∷ files.now) → IfOk result (λ s. s.status ≡ Status.Stream) }
     ensures unwritten { (file : NamedFile) → IsFirstUnread file (script.now ∷ files.now) → O.contents out.new ≡ O.contents out.old }
 {
     match unread_of(script, files) {
         Some(file) => end_unread(file, err),
         None => run_in_world(alloc, script, files, out, err, watch),
+    }
+}
+
+// Runs a simulation, as `sim_text`, and notes which streams fail.
+fn sim_noted<O: Write, E: Write, V: Watch>(
+    alloc: Global,
+    script: &NamedFile,
+    files: &[NamedFile],
+    out: &mut O,
+    err: &mut E,
+    watch: &mut V,
+    streams: &mut FailedStreams,
+) -> Simulated
+    ensures done { result.status ≡ Status.Done → IsSimulated script.now files.now result.world (O.contents out.old) (O.contents out.new) (E.contents err.old) (E.contents err.new) }
+    ensures refused { result.status ≡ Status.Refused → IsRefused script.now files.now result.world (O.contents out.old) (O.contents out.new) (E.contents err.old) (E.contents err.new) }
+    ensures unread { (file : NamedFile) → IsFirstUnread file (script.now ∷ files.now) → (result.status ≡ Status.Stream) ⊎ (result.status ≡ Status.Memory) }
+    ensures unwritten { (file : NamedFile) → IsFirstUnread file (script.now ∷ files.now) → O.contents out.new ≡ O.contents out.old }
+    ensures stopped { (result.status ≡ Status.Memory) ⊎ (result.status ≡ Status.Stream) → IsStopped script.now files.now result.world streams.new result.status (O.contents out.old) (O.contents out.new) (E.contents err.old) (E.contents err.new) }
+    ensures not_words { result.status ≢ Status.Words }
+{
+    match simulate(alloc, script, files, out, err, watch) {
+        Ok(simulated) => simulated,
+        Err(failure) => Simulated {
+            status: failure.tell(err, streams),
+            world: None,
+        },
     }
 }
 
@@ -176,13 +209,16 @@ pub fn sim_text<O: Write, E: Write, V: Watch>(
     ensures refused { result.status ≡ Status.Refused → IsRefused script.now files.now result.world (O.contents out.old) (O.contents out.new) (E.contents err.old) (E.contents err.new) }
     ensures unread { (file : NamedFile) → IsFirstUnread file (script.now ∷ files.now) → (result.status ≡ Status.Stream) ⊎ (result.status ≡ Status.Memory) }
     ensures unwritten { (file : NamedFile) → IsFirstUnread file (script.now ∷ files.now) → O.contents out.new ≡ O.contents out.old }
+    ensures stopped { (result.status ≡ Status.Memory) ⊎ (result.status ≡ Status.Stream) → (failed : FailedStreams) × IsStopped script.now files.now result.world failed result.status (O.contents out.old) (O.contents out.new) (E.contents err.old) (E.contents err.new) }
     ensures not_words { result.status ≢ Status.Words }
 {
-    match simulate(alloc, script, files, out, err, watch) {
-        Ok(simulated) => simulated,
-        Err(failure) => Simulated {
-            status: failure.tell(err, &mut FailedStreams::none()),
-            world: None,
-        },
-    }
+    sim_noted(
+        alloc,
+        script,
+        files,
+        out,
+        err,
+        watch,
+        &mut FailedStreams::none(),
+    )
 }

@@ -1,0 +1,26 @@
+use Rattle.std.proofs.Common.{inl, refl, subst}
+use Rattle.ospf_sim.specs.Simulations.{Comes}
+use Rattle.ospf_sim.specs.Stopped.{is_failure}
+use Rattle.ospf_sim.proofs.Files.{stopped_unread}
+use Rattle.ospf_sim.proofs.text.sim_noted.Goals as goal
+
+pub returns-in-Ok-clause-done : goal.returns-in-Ok-clause-done
+returns-in-Ok-clause-done g c = λ is.
+    subst (λ status. Comes status c.args.script.now c.args.files.now c.in-Ok.simulated.world (g.O.Write.contents c.args.out.now) (g.O.Write.contents c.simulate.new.out) (g.E.Write.contents c.args.err.now) (g.E.Write.contents c.simulate.new.err))
+    is c.in-Ok.ensures.comes
+
+pub returns-in-Ok-clause-unread : goal.returns-in-Ok-clause-unread
+returns-in-Ok-clause-unread g c = λ file first. inl (c.in-Ok.ensures.unread file first)
+
+pub returns-in-Ok-clause-stopped : goal.returns-in-Ok-clause-stopped
+returns-in-Ok-clause-stopped g c = stopped_unread _ _ c.in-Ok.simulated _ _ _ _ _ c.in-Ok.ensures.not_memory c.in-Ok.ensures.stream
+
+pub returns-in-Err-clause-stopped : goal.returns-in-Err-clause-stopped
+returns-in-Err-clause-stopped g c = λ _.
+    is_failure refl (record {
+      cause = c.in-Err.failure;
+      failed_then = c.args.streams.now;
+      err_then = g.E.Write.contents c.simulate.new.err;
+      last = c.tell.ensures.told;
+      status_is = c.tell.ensures.status;
+    })
