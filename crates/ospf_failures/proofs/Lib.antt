@@ -1,0 +1,3 @@
+pub mod ReportLemmas
+pub mod AnswerLemmas
+pub mod LargeLemmas

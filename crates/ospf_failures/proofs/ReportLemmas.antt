@@ -1,0 +1,92 @@
+-- Reports of failures, one after the other.
+use Rattle.std.proofs.Common.{◌≡◌, ◌∙◌, ◌+◌, ◌<◌, ◌↔◌, ◌⊎◌, ◌==◌, ℕ, Bool, true, false, cond, not, List, [], ◌∷◌, ◌++◌, map, filter, take, length, get_or, ap, sym, refl, subst, inl, inr, arith, eq-eqb, eqb-true, All}
+use Rattle.std.proofs.lemmas.List.{take_more}
+use Rattle.std.proofs.lemmas.List.Kept.{AllPairs-filter}
+use Rattle.std.specs.List.{AllPairs, Contains}
+use Rattle.ospf_base.specs.declared.ids.RouterId.{RouterId}
+use Rattle.ospf_graph.specs.Advertisements.{Advertisement}
+use Rattle.ospf_graph.proofs.ListLemmas.{member_cases, member_head, member_later}
+use Rattle.ospf_whatif.specs.Single.{IsFailure, IsFailureBefore}
+use Rattle.ospf_whatif.specs.declared.failure.Failure.{Failure}
+use Rattle.ospf_whatif.specs.declared.failure.Failure.TheVariants.{Attachment, Link, Links, Network, Router}
+use Rattle.ospf_failures.specs.Reports.{AreReports, IsOther, ReportValue, is_of}
+use Rattle.ospf_graph.specs.declared.route.Route.{Route}
+use Rattle.ospf_whatif.specs.Effect.{IsEffect}
+
+-- ---- what a test lets through, and nothing else, stays in a filter
+
+kept_of : {X : Type 0} (p : X → Bool) (xs : List X) (x : X) → Contains (filter p xs) x → Contains xs x × (p x ≡ true)
+kept_of p [] x c = absurd (omega (arith, c.1))
+kept_of p (y ∷ xs) x c = go (p y) refl c (kept_of p xs x)
+  where
+    go : (b : Bool) → p y ≡ b → Contains (cond b (y ∷ filter p xs) (filter p xs)) x → (Contains (filter p xs) x → Contains xs x × (p x ≡ true)) → Contains (y ∷ xs) x × (p x ≡ true)
+    go false e c rec = let r = rec c in (member_later y xs x r.0, r.1)
+    go true e c rec = elim (member_cases y (filter p xs) x c) [
+      | inl is ↦ (subst (Contains (y ∷ xs)) is (member_head y xs), ap p (sym is) ∙ e)
+      | inr rest ↦ let r = rec rest in (member_later y xs x r.0, r.1)
+    ]
+
+of_kept : {X : Type 0} (p : X → Bool) (xs : List X) (x : X) → Contains xs x → p x ≡ true → Contains (filter p xs) x
+of_kept p [] x c t = absurd (omega (arith, c.1))
+of_kept p (y ∷ xs) x c t = go (p y) refl (member_cases y xs x c) (λ rest. of_kept p xs x rest t)
+  where
+    go : (b : Bool) → p y ≡ b → (y ≡ x) ⊎ Contains xs x → (Contains xs x → Contains (filter p xs) x) → Contains (cond b (y ∷ filter p xs) (filter p xs)) x
+    go true e (inl is) rec = subst (Contains (y ∷ filter p xs)) is (member_head y (filter p xs))
+    go true e (inr rest) rec = member_later y (filter p xs) x (rec rest)
+    go false e (inl is) rec = let f : false ≡ true = sym e ∙ ap p is ∙ t in cc
+    go false e (inr rest) rec = rec rest
+
+-- ---- failures but that of the root
+
+abbrev is_other : RouterId → Failure → Bool
+is_other root f = not (is_of root f)
+
+other_to : (root : RouterId) (f : Failure) → is_other root f ≡ true → f ≡ Router root → ⊥
+other_to root f e is =
+    let same : (root.0 == root.0) ≡ true = eq-eqb root.0 root.0 refl in
+    let here : is_other root (Router root) ≡ true = subst (λ (g : Failure). is_other root g ≡ true) is e in
+    let wrong : not true ≡ true = subst (λ (b : Bool). not b ≡ true) same here in
+    cc
+
+other_from : (root : RouterId) (f : Failure) → (f ≡ Router root → ⊥) → is_other root f ≡ true
+other_from root (Link a b subnet) differs = refl
+other_from root (Links a b) differs = refl
+other_from root (Attachment router network) differs = refl
+other_from root (Network network) differs = refl
+other_from root (Router gone) differs = go (gone.0 == root.0) refl
+  where
+    go : (b : Bool) → (gone.0 == root.0) ≡ b → not b ≡ true
+    go false e = refl
+    go true e = absurd (differs (ap (λ (n : ℕ). let r : RouterId = record { 0 = n } in Router r) (eqb-true gone.0 root.0 e)))
+
+pub others_are : (adverts : List Advertisement) (root : RouterId) (all kept : List Failure) → kept ≡ filter (λ f. not (is_of root f)) all
+    → ((f : Failure) → Contains all f ↔ IsFailure adverts f) → (f : Failure) → Contains kept f ↔ IsOther adverts root f
+others_are adverts root all kept is are f = (
+  λ m. let k = kept_of (is_other root) all f (subst (λ (l : List Failure). Contains l f) is m) in ((are f).0 k.0, other_to root f k.1),
+  λ o. subst (λ (l : List Failure). Contains l f) (sym is) (of_kept (is_other root) all f ((are f).1 o.0) (other_from root f o.1)),
+)
+
+pub others_rise : (root : RouterId) (all kept : List Failure) → kept ≡ filter (λ f. not (is_of root f)) all → AllPairs IsFailureBefore all → AllPairs IsFailureBefore kept
+others_rise root all kept is rise = subst (AllPairs IsFailureBefore) (sym is) (AllPairs-filter IsFailureBefore (is_other root) all rise)
+
+-- ---- one report more
+
+pub report_more : (failures : List Failure) (i : ℕ) (x : Failure) (reports : List ReportValue) (r : ReportValue) → i < length failures → x ≡ get_or failures i x → r.0 ≡ x
+    → map (λ r. r.0) reports ≡ take i failures → map (λ r. r.0) (reports ++ r ∷ []) ≡ take (i + 1) failures
+report_more failures i x reports r within is of_it before =
+    go reports ∙ ap (λ (l : List Failure). l ++ r.0 ∷ []) before ∙ ap (λ (f : Failure). take i failures ++ f ∷ []) (of_it ∙ is) ∙ sym (take_more failures i x within)
+  where
+    go : (rs : List ReportValue) → map (λ r. r.0) (rs ++ r ∷ []) ≡ map (λ r. r.0) rs ++ r.0 ∷ []
+    go [] = refl
+    go (q ∷ rs) = ap (λ (l : List Failure). q.0 ∷ l) (go rs)
+
+-- ---- all reports
+
+pub reports_are : (adverts : List Advertisement) (root : RouterId) (table : List Route) (failures : List Failure) (reports : List ReportValue)
+    → map (λ r. r.0) reports ≡ failures → ((f : Failure) → Contains failures f ↔ IsOther adverts root f) → AllPairs IsFailureBefore failures
+    → All (λ r. IsEffect adverts root r.0 table r.1) reports → AreReports adverts root table reports
+reports_are adverts root table failures reports named all rising changed = record {
+  whole = subst (λ (l : List Failure). (f : Failure) → Contains l f ↔ IsOther adverts root f) (sym named) all;
+  rising = subst (AllPairs IsFailureBefore) (sym named) rising;
+  changed = changed;
+}

@@ -1,0 +1,7 @@
+use Rattle.std.proofs.Common.{◌≡◌, flat_map, string_bytes, take}
+use Rattle.ospf_failures.specs.Lines.{change_line}
+use Rattle.ospf_failures.proofs.lines.change_lines.Given as goal
+
+-- the lines of the changes so far
+abbrev pub invariant-loop-change : goal.invariant-loop-change
+invariant-loop-change l = string_bytes l.lines ≡ flat_map (change_line l.failure) (take l.change-index l.changes)

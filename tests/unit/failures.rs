@@ -1,0 +1,443 @@
+//! What failures of small areas change, as it is printed.
+
+use super::failing::Failing;
+use ospf_base::{RouterId, lsa_sum};
+use ospf_failures::{FailuresJob, FailuresStatus, failures_text};
+use ospf_files::Status;
+use ospf_lsa::{Link, LinkKind, Listing, Lsa};
+use ospf_whatif::{Failure, find_failure, single_failures};
+use std::alloc::Global;
+use std::process::{Abort, ExitCode};
+use std::test::Fail;
+
+// The number that a router uses first.
+const FIRST_NUMBER: i32 = -0x7fff_ffff;
+
+const FIRST: RouterId = RouterId(0x0101_0101);
+const SECOND: RouterId = RouterId(0x0202_0202);
+const THIRD: RouterId = RouterId(0x0303_0303);
+
+// The mask of a link's subnet.
+const SUBNET: u32 = 0xffff_fffc;
+
+fn link(kind: LinkKind, id: u32, link_data: u32, metric: u16) -> Link {
+    Link {
+        id,
+        link_data,
+        kind,
+        metric,
+    }
+}
+
+fn to(router: RouterId, address: u32, metric: u16) -> Link {
+    link(LinkKind::PointToPoint, router.0, address, metric)
+}
+
+fn stub(prefix: u32, mask: u32, metric: u16) -> Link {
+    link(LinkKind::Stub, prefix, mask, metric)
+}
+
+fn router(alloc: Global, id: RouterId, links: &[Link]) -> Result<Lsa, Fail> {
+    Ok(Lsa::router(alloc, id, FIRST_NUMBER, links)?)
+}
+
+// Three routers, each with a link to each other: 10.0.0.0/30 between the first two and 10.0.0.4/30 between the last two at
+// cost 10, 10.0.0.8/30 between the first and the last at cost 30; and a stub of the last.
+fn ring(alloc: Global) -> Result<Vec<Lsa>, Fail> {
+    let mut lsas = Vec::new(alloc);
+    lsas.push(router(
+        alloc,
+        FIRST,
+        &[
+            to(SECOND, 0x0a00_0001, 10),
+            stub(0x0a00_0000, SUBNET, 10),
+            to(THIRD, 0x0a00_0009, 30),
+            stub(0x0a00_0008, SUBNET, 30),
+        ],
+    )?)?;
+    lsas.push(router(
+        alloc,
+        SECOND,
+        &[
+            to(FIRST, 0x0a00_0002, 10),
+            stub(0x0a00_0000, SUBNET, 10),
+            to(THIRD, 0x0a00_0005, 10),
+            stub(0x0a00_0004, SUBNET, 10),
+        ],
+    )?)?;
+    lsas.push(router(
+        alloc,
+        THIRD,
+        &[
+            to(SECOND, 0x0a00_0006, 10),
+            stub(0x0a00_0004, SUBNET, 10),
+            to(FIRST, 0x0a00_000a, 30),
+            stub(0x0a00_0008, SUBNET, 30),
+            stub(0xac10_0003, 0xffff_ffff, 1),
+        ],
+    )?)?;
+    Ok(lsas)
+}
+
+// Two routers with a link of which no subnet is told and the network 10.1.0.0/24 between them, at one cost, and a stub of the
+// second.
+fn pair(alloc: Global) -> Result<Vec<Lsa>, Fail> {
+    let network = 0x0a01_0002;
+    let mut lsas = Vec::new(alloc);
+    lsas.push(router(
+        alloc,
+        FIRST,
+        &[
+            to(SECOND, 0x0a00_0001, 10),
+            link(LinkKind::Transit, network, 0x0a01_0001, 10),
+        ],
+    )?)?;
+    lsas.push(router(
+        alloc,
+        SECOND,
+        &[
+            to(FIRST, 0x0a00_0002, 10),
+            link(LinkKind::Transit, network, network, 10),
+            stub(0xc0a8_0200, 0xffff_ff00, 5),
+        ],
+    )?)?;
+    lsas.push(Lsa::network(
+        alloc,
+        network,
+        SECOND,
+        FIRST_NUMBER,
+        0xffff_ff00,
+        &[FIRST, SECOND],
+    )?)?;
+    Ok(lsas)
+}
+
+// Two routers with the link 10.0.0.0/30 alone between them, and a stub of the second.
+fn chain(alloc: Global) -> Result<Vec<Lsa>, Fail> {
+    let mut lsas = Vec::new(alloc);
+    lsas.push(router(
+        alloc,
+        FIRST,
+        &[to(SECOND, 0x0a00_0001, 10), stub(0x0a00_0000, SUBNET, 10)],
+    )?)?;
+    lsas.push(router(
+        alloc,
+        SECOND,
+        &[
+            to(FIRST, 0x0a00_0002, 10),
+            stub(0x0a00_0000, SUBNET, 10),
+            stub(0xc0a8_0200, 0xffff_ff00, 5),
+        ],
+    )?)?;
+    Ok(lsas)
+}
+
+// LSAs as lines.
+fn lines(alloc: Global, lsas: &[Lsa]) -> Result<String, Fail> {
+    let mut text = String::new(alloc);
+    for lsa in lsas {
+        text.push_str(&hex::encode(alloc, lsa.view().as_bytes())?)?;
+        text.push_str("\n")?;
+    }
+    Ok(text)
+}
+
+fn listing(alloc: Global, lsas: Vec<Lsa>) -> Result<Listing, Fail> {
+    let mut listing = Listing::new(alloc);
+    for lsa in lsas {
+        listing.add(lsa)?;
+    }
+    Ok(listing)
+}
+
+// What is wanted of a job over an input.
+#[derive(Drop)]
+struct Case<'a> {
+    root: RouterId,
+    each: bool,
+    strict: bool,
+    input: &'a str,
+    status: FailuresStatus,
+    out: &'a str,
+    err: &'a str,
+}
+
+fn expect(rt: &impl Abort, alloc: Global, case: &Case<'_>) -> Result<(), Fail> {
+    let job = FailuresJob {
+        root: case.root,
+        each: case.each,
+        strict: case.strict,
+    };
+    let (mut out, mut err) = (Vec::new(alloc), Vec::new(alloc));
+    let status = failures_text(alloc, &job, case.input.as_bytes(), &mut out, &mut err);
+    assert_eq!(rt; str::from_utf8(&out)?, case.out);
+    assert_eq!(rt; str::from_utf8(&err)?, case.err);
+    assert_eq!(rt; status, case.status);
+    Ok(())
+}
+
+const DONE: FailuresStatus = FailuresStatus::Ended(Status::Done);
+
+#[test]
+fn prefixes_go_and_cost_more(rt: HostRuntime) -> Result<(), Fail> {
+    let alloc = rt.alloc();
+    let input = lines(alloc, &ring(alloc)?)?;
+    let totals = "1.1.1.1-2.2.2.2@10.0.0.0/30 cut 0 gone 1 cost 2 hops 0\n\
+        2.2.2.2-3.3.3.3@10.0.0.4/30 cut 0 gone 1 cost 1 hops 0\n\
+        1.1.1.1-3.3.3.3@10.0.0.8/30 cut 0 gone 1 cost 0 hops 0\n\
+        3.3.3.3 cut 0 gone 1 cost 0 hops 0\n\
+        2.2.2.2 cut 0 gone 0 cost 2 hops 0\n";
+    let each = "1.1.1.1-2.2.2.2@10.0.0.0/30 gone 10.0.0.0/30\n\
+        1.1.1.1-2.2.2.2@10.0.0.0/30 cost 10.0.0.4/30 20>40 10.0.0.9>3.3.3.3\n\
+        1.1.1.1-2.2.2.2@10.0.0.0/30 cost 172.16.0.3/32 21>31 10.0.0.9>3.3.3.3\n\
+        1.1.1.1-2.2.2.2@10.0.0.0/30 cut 0 gone 1 cost 2 hops 0\n\
+        2.2.2.2-3.3.3.3@10.0.0.4/30 gone 10.0.0.4/30\n\
+        2.2.2.2-3.3.3.3@10.0.0.4/30 cost 172.16.0.3/32 21>31 10.0.0.9>3.3.3.3\n\
+        2.2.2.2-3.3.3.3@10.0.0.4/30 cut 0 gone 1 cost 1 hops 0\n\
+        1.1.1.1-3.3.3.3@10.0.0.8/30 gone 10.0.0.8/30\n\
+        1.1.1.1-3.3.3.3@10.0.0.8/30 cut 0 gone 1 cost 0 hops 0\n\
+        3.3.3.3 gone 172.16.0.3/32\n\
+        3.3.3.3 cut 0 gone 1 cost 0 hops 0\n\
+        2.2.2.2 cost 10.0.0.4/30 20>40 10.0.0.9>3.3.3.3\n\
+        2.2.2.2 cost 172.16.0.3/32 21>31 10.0.0.9>3.3.3.3\n\
+        2.2.2.2 cut 0 gone 0 cost 2 hops 0\n";
+    for (wants_each, out) in [(false, totals), (true, each)] {
+        expect(
+            &rt,
+            alloc,
+            &Case {
+                root: FIRST,
+                each: wants_each,
+                strict: true,
+                input: &input,
+                status: DONE,
+                out,
+                err: "",
+            },
+        )?;
+    }
+    Ok(())
+}
+
+#[test]
+fn hops_change(rt: HostRuntime) -> Result<(), Fail> {
+    let alloc = rt.alloc();
+    let input = lines(alloc, &pair(alloc)?)?;
+    let out = "@10.1.0.2 gone 10.1.0.0/24\n\
+        @10.1.0.2 hops 192.168.2.0/24 15 10.0.0.1>2.2.2.2\n\
+        @10.1.0.2 cut 0 gone 1 cost 0 hops 1\n\
+        2.2.2.2 gone 192.168.2.0/24\n\
+        2.2.2.2 cut 0 gone 1 cost 0 hops 0\n\
+        1.1.1.1@10.1.0.2 cost 10.1.0.0/24 10>20 10.0.0.1>2.2.2.2\n\
+        1.1.1.1@10.1.0.2 hops 192.168.2.0/24 15 10.0.0.1>2.2.2.2\n\
+        1.1.1.1@10.1.0.2 cut 0 gone 0 cost 1 hops 1\n\
+        1.1.1.1-2.2.2.2 hops 192.168.2.0/24 15 10.1.0.1>2.2.2.2@10.1.0.2\n\
+        1.1.1.1-2.2.2.2 cut 0 gone 0 cost 0 hops 1\n\
+        2.2.2.2@10.1.0.2 hops 192.168.2.0/24 15 10.0.0.1>2.2.2.2\n\
+        2.2.2.2@10.1.0.2 cut 0 gone 0 cost 0 hops 1\n";
+    expect(
+        &rt,
+        alloc,
+        &Case {
+            root: FIRST,
+            each: true,
+            strict: false,
+            input: &input,
+            status: DONE,
+            out,
+            err: "",
+        },
+    )
+}
+
+#[test]
+fn what_is_cut_off_is_told_where_it_is_asked_for(rt: HostRuntime) -> Result<(), Fail> {
+    let alloc = rt.alloc();
+    let input = lines(alloc, &chain(alloc)?)?;
+    let out = "1.1.1.1-2.2.2.2@10.0.0.0/30 gone 10.0.0.0/30\n\
+        1.1.1.1-2.2.2.2@10.0.0.0/30 cut 192.168.2.0/24\n\
+        1.1.1.1-2.2.2.2@10.0.0.0/30 cut 1 gone 1 cost 0 hops 0\n\
+        2.2.2.2 gone 192.168.2.0/24\n\
+        2.2.2.2 cut 0 gone 1 cost 0 hops 0\n";
+    for (strict, status) in [(false, DONE), (true, FailuresStatus::CutOff)] {
+        expect(
+            &rt,
+            alloc,
+            &Case {
+                root: FIRST,
+                each: true,
+                strict,
+                input: &input,
+                status,
+                out,
+                err: "",
+            },
+        )?;
+    }
+    Ok(())
+}
+
+#[test]
+fn root_that_is_not_listed_is_told(rt: HostRuntime) -> Result<(), Fail> {
+    let alloc = rt.alloc();
+    let input = lines(alloc, &chain(alloc)?)?;
+    expect(
+        &rt,
+        alloc,
+        &Case {
+            root: THIRD,
+            each: true,
+            strict: true,
+            input: &input,
+            status: DONE,
+            out: "1.1.1.1-2.2.2.2@10.0.0.0/30 cut 0 gone 0 cost 0 hops 0\n\
+                1.1.1.1 cut 0 gone 0 cost 0 hops 0\n\
+                2.2.2.2 cut 0 gone 0 cost 0 hops 0\n",
+            err: "3.3.3.3: no router-LSA of this router\n",
+        },
+    )
+}
+
+#[test]
+fn line_that_is_no_lsa_is_refused(rt: HostRuntime) -> Result<(), Fail> {
+    let alloc = rt.alloc();
+    let mut input = lines(alloc, &chain(alloc)?)?;
+    input.push_str("zz\n")?;
+    expect(
+        &rt,
+        alloc,
+        &Case {
+            root: FIRST,
+            each: true,
+            strict: true,
+            input: &input,
+            status: FailuresStatus::Ended(Status::Refused),
+            out: "",
+            err: "line 3: not hex\n",
+        },
+    )
+}
+
+// The router-LSA of a router with so many stubs, each of another host.
+fn router_of_stubs(alloc: Global, id: RouterId, stubs: u16) -> Result<Vec<u8>, Fail> {
+    let size = 24 + 12 * stubs;
+    let mut bytes = Vec::new(alloc);
+    bytes.extend_from_slice(&[0, 0, 2, 1])?;
+    bytes.extend_from_slice(&id.0.to_be_bytes())?;
+    bytes.extend_from_slice(&id.0.to_be_bytes())?;
+    bytes.extend_from_slice(&FIRST_NUMBER.to_be_bytes())?;
+    bytes.extend_from_slice(&[0, 0])?;
+    bytes.extend_from_slice(&size.to_be_bytes())?;
+    bytes.extend_from_slice(&[0, 0])?;
+    bytes.extend_from_slice(&stubs.to_be_bytes())?;
+    for stub in 0..stubs {
+        bytes.extend_from_slice(&(0xac10_0000 + u32::from(stub)).to_be_bytes())?;
+        bytes.extend_from_slice(&[255, 255, 255, 255, 3, 0, 0, 1])?;
+    }
+    let sum = lsa_sum(&bytes).to_be_bytes();
+    bytes[16] = sum[0];
+    bytes[17] = sum[1];
+    Ok(bytes)
+}
+
+#[test]
+fn router_of_too_many_links_is_refused(rt: HostRuntime) -> Result<(), Fail> {
+    let alloc = rt.alloc();
+    for (stubs, status, out, err) in [
+        (
+            1361,
+            DONE,
+            "2.2.2.2 cut 0 gone 0 cost 0 hops 0\n",
+            "1.1.1.1: no router-LSA of this router\n",
+        ),
+        (
+            1362,
+            FailuresStatus::Ended(Status::Refused),
+            "",
+            "2.2.2.2: more than 1361 links\n",
+        ),
+    ] {
+        let input = hex::encode(alloc, &router_of_stubs(alloc, SECOND, stubs)?)?;
+        expect(
+            &rt,
+            alloc,
+            &Case {
+                root: FIRST,
+                each: false,
+                strict: false,
+                input: &input,
+                status,
+                out,
+                err,
+            },
+        )?;
+    }
+    Ok(())
+}
+
+#[test]
+fn failed_stream_is_told(rt: HostRuntime) -> Result<(), Fail> {
+    let alloc = rt.alloc();
+    let input = lines(alloc, &chain(alloc)?)?;
+    let job = FailuresJob {
+        root: FIRST,
+        each: false,
+        strict: true,
+    };
+    let mut err = Vec::new(alloc);
+    let mut out = Failing { left: 0 };
+    let status = failures_text(alloc, &job, input.as_bytes(), &mut out, &mut err);
+    assert_eq!(rt; status, FailuresStatus::Ended(Status::Stream));
+    assert_eq!(rt; str::from_utf8(&err)?, "standard output: not written\n");
+    Ok(())
+}
+
+#[test]
+fn statuses_are_exit_statuses(rt: HostRuntime) -> Result<(), Fail> {
+    assert_eq!(rt; FailuresStatus::CutOff.code(), 1);
+    assert_eq!(rt; DONE.code(), 0);
+    assert_eq!(rt; FailuresStatus::Ended(Status::Refused).code(), 3);
+    let _ = ExitCode::from(FailuresStatus::CutOff);
+    Ok(())
+}
+
+#[test]
+fn failures_are_found_by_name(rt: HostRuntime) -> Result<(), Fail> {
+    let alloc = rt.alloc();
+    let failures = single_failures(alloc, &listing(alloc, pair(alloc)?)?)?;
+    let found: [(&str, Option<Failure>); 6] = [
+        (
+            "1.1.1.1-2.2.2.2",
+            Some(Failure::Links {
+                a: FIRST,
+                b: SECOND,
+            }),
+        ),
+        (
+            "1.1.1.1@10.1.0.2",
+            Some(Failure::Attachment {
+                router: FIRST,
+                network: 0x0a01_0002,
+            }),
+        ),
+        ("@10.1.0.2", Some(Failure::Network(0x0a01_0002))),
+        ("2.2.2.2", Some(Failure::Router(SECOND))),
+        ("10.0.0.0/30", None),
+        ("2.2.2.2-1.1.1.1", None),
+    ];
+    for (word, failure) in found {
+        assert!(rt; find_failure(alloc, &failures, word)? == failure, "{word}");
+    }
+    Ok(())
+}
+
+#[test]
+fn links_are_found_by_subnet(rt: HostRuntime) -> Result<(), Fail> {
+    let alloc = rt.alloc();
+    let failures = single_failures(alloc, &listing(alloc, ring(alloc)?)?)?;
+    let by_name = find_failure(alloc, &failures, "1.1.1.1-3.3.3.3@10.0.0.8/30")?;
+    assert!(rt; by_name.is_some());
+    assert!(rt; find_failure(alloc, &failures, "10.0.0.8/30")? == by_name);
+    assert!(rt; find_failure(alloc, &failures, "10.0.0.8/29")?.is_none());
+    Ok(())
+}
