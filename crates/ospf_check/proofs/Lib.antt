@@ -1,1 +1,3 @@
 pub mod Written
+mod AreaWritten
+mod Numbered

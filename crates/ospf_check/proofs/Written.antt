@@ -2,10 +2,11 @@
 use Rattle.std.proofs.Common.{◌≡◌, ◌∙◌, ◌&&◌, Bool, true, false, ap, sym, subst, ◌+◌, ◌<◌, ℕ, suc, List, [], ◌∷◌, ◌++◌, length, take, drop, get_or, flat_map, Option, Some, ◌⊎◌, inl, append_assoc, append-nil, refl}
 use Rattle.std.proofs.lemmas.List.{take_more, flat_map_more}
 use Rattle.ospf_explain.specs.declared.explained.Explained.{Explained}
-use Rattle.ospf_files.proofs.Listed.{files_split}
+use Rattle.ospf_files.proofs.Listed.{config_read, files_split}
 use Rattle.ospf_files.proofs.Written.{both_written, nothing_written}
+use Rattle.ospf_config.specs.declared.config.Config.{Config}
 use Rattle.ospf_config.specs.declared.fault.ConfigFault.{ConfigFault}
-use Rattle.ospf_files.specs.Files.{IsRefusedFor, bytes_of, refused_line}
+use Rattle.ospf_files.specs.Files.{IsConfigIn, IsRefusedFor, bytes_of, refused_line}
 use Rattle.ospf_files.specs.Streams.{IsBegun, with_error, with_output}
 use Rattle.ospf_files.specs.declared.status.Failure.{Failure}
 use Rattle.ospf_files.specs.declared.status.Failure.TheVariants as failure
@@ -13,7 +14,7 @@ use Rattle.std.specs.Io.KnownBytes.{Appends}
 use Rattle.ospf_files.specs.declared.streams.FailedStreams.{FailedStreams}
 use Rattle.ospf_check.specs.declared.check.CheckFault.{CheckFault}
 use Rattle.ospf_check.specs.declared.check.CheckFault.TheVariants as fault
-use Rattle.ospf_check.specs.Checked.{AreTold, EndsIn, IsAccepted, IsCutIn, IsExplanation, IsTold, IsWritten, IsWrittenOf, accepted_line, accepted_told, no_error, no_file, no_output, one_file, place_line, refused_told}
+use Rattle.ospf_check.specs.Checked.{AreAllKept, AreTold, EndsIn, IsCutIn, IsExplanation, IsTold, IsWritten, IsWrittenOf, KeepsIf, accepted_line, accepted_told, no_error, no_file, no_output, one_file, place_line, refused_told, warnings}
 use Rattle.ospf_files.specs.declared.files.NamedFile.{NamedFile}
 
 and_assoc : (a b c : Bool) → ((a && b) && c) ≡ (a && (b && c))
@@ -75,9 +76,16 @@ cut_in explain a b c x y z files i file all failed cause within at so_far ends =
 }
 
 -- an accepted file
-pub accepted_verdict : (explain : Bool) (file : NamedFile) (bytes line : List ℕ) → bytes_of file ≡ Some bytes → IsAccepted bytes → line ≡ accepted_line file
-    → IsTold explain file true line []
-accepted_verdict explain file bytes line held is text = subst (λ t. IsTold explain file true t []) (sym text) (accepted_told bytes held is)
+pub accepted_verdict : (explain : Bool) (file : NamedFile) (bytes lines : List ℕ) (config : Config) → bytes_of file ≡ Some bytes → IsConfigIn bytes config
+    → lines ≡ accepted_line file ++ warnings explain config → IsTold explain file true lines []
+accepted_verdict explain file bytes lines config held is text = subst (λ t. IsTold explain file true t []) (sym text) (accepted_told bytes config held is)
+
+-- the configuration of one file more
+pub kept_more : (files : List NamedFile) (i : ℕ) (file : NamedFile) (old new : List Config) (all accepted : Bool) → i < length files → file ≡ get_or files i file
+    → AreAllKept (take i files) all old → KeepsIf accepted file old new → AreAllKept (take (i + 1) files) (all && accepted) new
+kept_more files i file old new true true within at are kept = config_read files i file old new kept.0 within at are kept.1 kept.2
+kept_more files i file old new true false within at are kept = tt
+kept_more files i file old new false accepted within at are kept = tt
 
 -- a refused file
 pub refused_verdict : (explain : Bool) (file : NamedFile) (bytes : List ℕ) (fault : ConfigFault) (lines more : List ℕ) → bytes_of file ≡ Some bytes → IsRefusedFor bytes fault → IsExplanation explain bytes fault more

@@ -1,11 +1,15 @@
 -- What the program says of configurations that it checks.
-use Rattle.std.specs.Prelude.{◌≡◌, ◌⊎◌, ◌&&◌, ℕ, Bool, true, false, List, [], ◌∷◌, ◌++◌, flat_map, IsUtf8, Option, None, Some, codes, string_bytes}
+use Rattle.std.specs.Prelude.{◌≡◌, ◌⊎◌, ◌&&◌, nat_lt, ⊤, ℕ, Bool, true, false, List, [], ◌∷◌, ◌++◌, flat_map, IsUtf8, Option, None, Some, codes, decimal, string_bytes, if◌then◌else◌}
+use Rattle.std.specs.List.{enumerate_from}
 use Rattle.std.specs.Io.KnownBytes.{Appends}
 use Rattle.ospf_explain.specs.Explained.{IsExplained, explained_text}
 use Rattle.ospf_config.specs.declared.config.Config.{Config}
+use Rattle.ospf_config.specs.declared.interface.Interface.{Interface}
 use Rattle.ospf_explain.specs.declared.explained.Explained.{Explained}
 use Rattle.ospf_config.specs.declared.fault.ConfigFault.{ConfigFault}
-use Rattle.ospf_files.specs.Files.{IsConfigIn, IsRefusedFor, bytes_of, refused_line, unread_line}
+use Rattle.ospf_files.specs.Files.{IsConfigIn, IsRefusedFor, bytes_of, refused_line, text_in, unread_line}
+use Rattle.ospf_files.specs.Listed.{AreConfigs}
+use Rattle.ospf_plan.specs.Ends.{is_slow}
 use Rattle.ospf_files.specs.Status.{failure_line, failure_status}
 use Rattle.ospf_files.specs.Streams.{IsBegun, IsErrorFailed, IsOutputFailed, IsTold as IsFailureTold}
 use Rattle.ospf_files.specs.declared.files.NamedFile.{NamedFile}
@@ -16,12 +20,12 @@ use Rattle.ospf_files.specs.declared.status.Status.TheVariants as status
 use Rattle.ospf_files.specs.declared.streams.FailedStreams.{FailedStreams}
 use Rattle.ospf_check.specs.declared.check.CheckFault.{CheckFault}
 use Rattle.ospf_check.specs.declared.check.CheckFault.TheVariants as fault
+use Rattle.ospf_check.specs.declared.warning.DelayShown.{DelayShown}
+use Rattle.ospf_check.specs.declared.warning.LeafShown.{LeafShown}
+use Rattle.ospf_base.specs.declared.interface.InterfaceKind.{InterfaceKind}
+use Rattle.ospf_base.specs.declared.interface.InterfaceKind.TheVariants as kind
 use Rattle.ospf_check.specs.declared.check.Verdict.{Verdict}
 use Rattle.ospf_check.specs.declared.check.Verdict.TheVariants as verdict
-
--- the bytes are a configuration
-abbrev pub IsAccepted : List ℕ → Type 0
-IsAccepted bytes = (config : Config) × IsConfigIn bytes config
 
 -- the line of a file that is accepted
 abbrev pub accepted_line : NamedFile → List ℕ
@@ -30,6 +34,56 @@ accepted_line file = string_bytes file.name ++ codes ": ok\n"
 -- a line of what is said about a file, behind two spaces
 abbrev pub said_line : List ℕ → List ℕ
 said_line text = codes "  " ++ (text ++ codes "\n")
+
+-- what follows from an InfTransDelay over MaxAgeDiff
+abbrev pub delay_meaning : List ℕ
+delay_meaning = codes "over 900, the acknowledgement of an LSA that is sent may be taken for one of another instance, and the LSA is sent again and again; where both ends of a link have that they never become Full (RFC 2328, sections 13.1 and 13.3)"
+
+-- where an interface stands, and its InfTransDelay
+abbrev pub link_text : ℕ → List ℕ
+link_text link = codes "interface " ++ decimal link ++ codes ": "
+
+abbrev pub value_text : ℕ → List ℕ
+value_text delay = codes "transmit_delay " ++ decimal delay ++ codes ": "
+
+-- what an interface is warned of: its InfTransDelay, by which an LSA becomes another instance as it is sent
+abbrev pub delay_text : DelayShown → List ℕ
+delay_text shown = link_text shown.link ++ value_text shown.delay ++ delay_meaning
+
+-- the line of the warning, where there is cause
+abbrev pub delay_line : ℕ × Interface → List ℕ
+delay_line i = if is_slow i.1.transmit_delay then said_line (delay_text (record { link = i.0; delay = i.1.transmit_delay })) else []
+
+-- what follows where a router that passes LSAs over can become Designated Router
+abbrev pub leaf_meaning : List ℕ
+leaf_meaning = codes "as Designated Router it would not flood the LSAs that it passes over (other_lsas), so the others of the network get them late or not at all; priority = 0 keeps it out of the election (RFC 2328, section 13.3)"
+
+abbrev pub priority_text : ℕ → List ℕ
+priority_text priority = codes "priority " ++ decimal priority ++ codes ": "
+
+-- what an interface is warned of: its router priority, by which the router can become Designated Router
+abbrev pub leaf_text : LeafShown → List ℕ
+leaf_text shown = link_text shown.link ++ priority_text shown.priority ++ leaf_meaning
+
+abbrev pub is_broadcast : InterfaceKind → Bool
+is_broadcast kind.Broadcast = true
+is_broadcast kind.PointToPoint = false
+
+-- the router can become Designated Router there, and passes LSAs over
+abbrev pub can_lead : Bool → Interface → Bool
+can_lead passes_over i = passes_over && (is_broadcast i.kind && nat_lt 0 i.priority)
+
+-- the line of the warning, where there is cause
+abbrev pub leaf_line : Bool → ℕ × Interface → List ℕ
+leaf_line passes_over i = if can_lead passes_over i.1 then said_line (leaf_text (record { link = i.0; priority = i.1.priority })) else []
+
+-- all that an interface is warned of
+abbrev pub warning_line : Bool → ℕ × Interface → List ℕ
+warning_line passes_over i = delay_line i ++ leaf_line passes_over i
+
+-- what is said behind the line of an accepted file: nothing, unless it is to be explained
+abbrev pub warnings : Bool → Config → List ℕ
+warnings explain config = if explain then flat_map (warning_line config.passes_over) (enumerate_from 0 config.interfaces.items) else []
 
 -- the line of a place
 abbrev pub place_line : Explained → List ℕ
@@ -47,7 +101,8 @@ IsExplanation true bytes fault more = IsSaid bytes fault more
 
 -- a file that was read, whether it is accepted, and what is told of it on standard output and on standard error
 pub data IsTold (explain : Bool) : NamedFile → Bool → List ℕ → List ℕ → Type 0 where
-  accepted_told : {file : NamedFile} (bytes : List ℕ) → bytes_of file ≡ Some bytes → IsAccepted bytes → IsTold explain file true (accepted_line file) []
+  accepted_told : {file : NamedFile} (bytes : List ℕ) (config : Config) → bytes_of file ≡ Some bytes → IsConfigIn bytes config
+      → IsTold explain file true (accepted_line file ++ warnings explain config) []
   refused_told : {file : NamedFile} (bytes : List ℕ) (fault : ConfigFault) (more : List ℕ) → bytes_of file ≡ Some bytes → IsRefusedFor bytes fault
       → IsExplanation explain bytes fault more → IsTold explain file false [] (refused_line file fault ++ more)
 
@@ -77,6 +132,29 @@ pub record IsWritten (explain : Bool) (files : List NamedFile) (all : Bool) (out
 abbrev pub IsVerdict : Bool → NamedFile → Verdict → Type 0
 IsVerdict explain file (verdict.Accepted text) = IsTold explain file true (string_bytes text) []
 IsVerdict explain file (verdict.Refused text) = IsTold explain file false [] (string_bytes text)
+
+-- the configuration of a file is kept behind the others
+abbrev pub IsKept : NamedFile → List Config → List Config → Type 0
+IsKept file old new = (config : Config) × IsConfigIn (text_in file) config × (new ≡ old ++ config ∷ [])
+
+-- a file that is accepted has its configuration kept
+abbrev pub KeepsBy : Verdict → NamedFile → List Config → List Config → Type 0
+KeepsBy (verdict.Accepted text) file old new = IsKept file old new
+KeepsBy (verdict.Refused text) file old new = ⊤
+
+abbrev pub KeepsIf : Bool → NamedFile → List Config → List Config → Type 0
+KeepsIf true file old new = IsKept file old new
+KeepsIf false file old new = ⊤
+
+-- where all files are accepted these are their configurations
+abbrev pub AreAllKept : List NamedFile → Bool → List Config → Type 0
+AreAllKept files true configs = AreConfigs files configs
+AreAllKept files false configs = ⊤
+
+-- the configurations that are handed on, where all files are accepted
+abbrev pub HoldConfigs : List NamedFile → Option (List Config) → Type 0
+HoldConfigs files None = ⊤
+HoldConfigs files (Some configs) = AreConfigs files configs
 
 -- what is told on standard error of a file that is not accepted
 abbrev pub IsToldOnError : Bool → NamedFile → List ℕ → Type 0

@@ -1,20 +1,23 @@
 //! Configurations that are checked.
 
-ghost use Rattle.std.specs.Prelude.{◌≡◌, ◌≢◌, ◌⊎◌, ◌++◌, ℕ, List, Option, Bool, Some, None, true, false, flat_map, IfOk, IfErr, string_bytes};
+ghost use Rattle.std.specs.Prelude.{◌≡◌, ◌≢◌, ◌⊎◌, ◌++◌, ℕ, List, Option, Bool, Some, None, true, false, flat_map, is_some, option_map, IfOk, IfErr, OnOk, string_bytes};
 ghost use Rattle.ospf_config.specs.declared.fault.ConfigFault.{ConfigFault};
 ghost use Rattle.ospf_files.specs.Files.{IsRefusedFor, bytes_of, refused_line};
 ghost use Rattle.ospf_files.specs.declared.streams.FailedStreams.{FailedStreams};
-ghost use Rattle.ospf_check.specs.Checked.{EndsIn, IsCutIn, IsCutShort, IsExplanation, IsLastTold, IsSaid, IsVerdict, IsWritten, IsWrittenOf, place_line, status_of};
+ghost use Rattle.ospf_check.specs.Checked.{EndsIn, HoldConfigs, IsCutIn, IsCutShort, IsExplanation, IsLastTold, IsSaid, IsVerdict, IsWritten, IsWrittenOf, KeepsBy, KeepsIf, accepted_line, can_lead, delay_line, leaf_line, place_line, status_of, warning_line, warnings};
 
-use ospf_config::ConfigFault;
+use crate::warning::{DelayShown, LeafShown};
+use ospf_base::InterfaceKind;
+use ospf_config::{Config, ConfigFault, Interface};
 use ospf_explain::{Explained, explain};
 use ospf_files::{FailedStreams, Failure, NamedFile, Status, config_in};
+use ospf_plan::is_slow;
 use std::alloc::{AllocError, Global};
 use std::io::Write;
 
 // Why a check ends early.
 #[derive(Drop)]
-enum CheckFault {
+pub(crate) enum CheckFault {
     NotRead,
     Failure(Failure),
 }
@@ -69,19 +72,115 @@ fn refusal(
     Ok(lines)
 }
 
-// The verdict on a file that holds these bytes.
+// Adds the warning of an InfTransDelay, where there is cause.
+fn push_delay(
+    alloc: Global,
+    lines: &mut String,
+    link: usize,
+    interface: &Interface,
+) -> Result<(), AllocError>
+    ensures { OnOk result (string_bytes lines.new ≡ string_bytes lines.old ++ delay_line (link, interface.now)) }
+{
+    if is_slow(interface.transmit_delay) {
+        let shown = DelayShown {
+            link,
+            delay: interface.transmit_delay,
+        };
+        lines.push_str(&format!(in alloc; "  {shown}\n")?)?;
+    }
+    Ok(())
+}
+
+// Whether a router that passes LSAs over can become Designated Router at an interface.
+fn can_lead(passes_over: bool, interface: &Interface) -> bool
+    ensures { result ≡ can_lead passes_over interface.now }
+{
+    let is_broadcast = match interface.kind {
+        InterfaceKind::Broadcast => true,
+        InterfaceKind::PointToPoint => false,
+    };
+    passes_over && is_broadcast && interface.priority > 0
+}
+
+// Adds the warning of a router priority, where there is cause.
+fn push_leaf(
+    alloc: Global,
+    lines: &mut String,
+    passes_over: bool,
+    link: usize,
+    interface: &Interface,
+) -> Result<(), AllocError>
+    ensures { OnOk result (string_bytes lines.new ≡ string_bytes lines.old ++ leaf_line passes_over (link, interface.now)) }
+{
+    if can_lead(passes_over, interface) {
+        let shown = LeafShown {
+            link,
+            priority: interface.priority,
+        };
+        lines.push_str(&format!(in alloc; "  {shown}\n")?)?;
+    }
+    Ok(())
+}
+
+// Adds what an interface is warned of.
+fn push_warning(
+    alloc: Global,
+    lines: &mut String,
+    passes_over: bool,
+    link: usize,
+    interface: &Interface,
+) -> Result<(), AllocError>
+    ensures { OnOk result (string_bytes lines.new ≡ string_bytes lines.old ++ warning_line passes_over (link, interface.now)) }
+{
+    push_delay(alloc, lines, link, interface)?;
+    push_leaf(alloc, lines, passes_over, link, interface)
+}
+
+// What the interfaces of a configuration are warned of, in lines.
+fn warnings(alloc: Global, config: &Config) -> Result<String, AllocError>
+    ensures { IfOk result (λ lines. string_bytes lines ≡ warnings true config.now) }
+{
+    let mut lines = String::new(alloc);
+    for (link, interface) in config.interfaces.iter().enumerate() {
+        push_warning(alloc, &mut lines, config.passes_over, link, interface)?;
+    }
+    Ok(lines)
+}
+
+// The lines of a file that is accepted, with what it is warned of where that is wanted.
+fn acceptance(
+    alloc: Global,
+    file: &NamedFile,
+    config: &Config,
+    explain: bool,
+) -> Result<String, AllocError>
+    ensures { IfOk result (λ lines. string_bytes lines ≡ accepted_line file.now ++ warnings explain config.now) }
+{
+    let mut lines = format!(in alloc; "{}: ok\n", file.name)?;
+    if !explain {
+        return Ok(lines);
+    }
+    let more = warnings(alloc, config)?;
+    lines.push_str(&more)?;
+    Ok(lines)
+}
+
+// The verdict on a file that holds these bytes. The configuration in them is kept.
 fn judge(
     alloc: Global,
     file: &NamedFile,
     bytes: &[u8],
     explain: bool,
+    configs: &mut Vec<Config>,
 ) -> Result<Verdict, AllocError>
-    ensures { bytes_of file.now ≡ Some bytes.now → IfOk result (IsVerdict explain file.now) }
+    ensures verdict { bytes_of file.now ≡ Some bytes.now → IfOk result (IsVerdict explain file.now) }
+    ensures kept { bytes_of file.now ≡ Some bytes.now → IfOk result (λ verdict. KeepsBy verdict file.now configs.old.items configs.new.items) }
 {
     match config_in(alloc, bytes) {
-        Ok(_) => {
-            let line = format!(in alloc; "{}: ok\n", file.name)?;
-            Ok(Verdict::Accepted(line))
+        Ok(config) => {
+            let lines = acceptance(alloc, file, &config, explain)?;
+            configs.push(config).map_err(AllocError::from)?;
+            Ok(Verdict::Accepted(lines))
         }
         Err(ConfigFault::Memory) => Err(AllocError),
         Err(fault) => {
@@ -109,23 +208,25 @@ fn tell_unread<E: Write>(
     }
 }
 
-// Tells of one file. The answer is whether it is accepted.
+// Tells of one file, and keeps its configuration. The answer is whether it is accepted.
 fn check_file<O: Write, E: Write>(
     alloc: Global,
     file: &NamedFile,
     explain: bool,
+    configs: &mut Vec<Config>,
     out: &mut O,
     err: &mut E,
     streams: &mut FailedStreams,
 ) -> Result<bool, CheckFault>
     ensures told { IfOk result (λ accepted. (streams.new ≡ streams.old) × IsWrittenOf explain file.now accepted (O.contents out.old) (O.contents out.new) (E.contents err.old) (E.contents err.new)) }
+    ensures kept { IfOk result (λ accepted. KeepsIf accepted file.now configs.old.items configs.new.items) }
     ensures ended { IfErr result (EndsIn explain file.now streams.new (O.contents out.old) (O.contents out.new) (E.contents err.old) (E.contents err.new)) }
 {
     let Some(bytes) = &file.bytes else {
         return Err(tell_unread(alloc, file, err, streams));
     };
-    match judge(alloc, file, bytes, explain) {
-        Ok(Verdict::Accepted(line)) => match streams.print(out, &line) {
+    match judge(alloc, file, bytes, explain, configs) {
+        Ok(Verdict::Accepted(lines)) => match streams.print(out, &lines) {
             Ok(()) => Ok(true),
             Err(failure) => Err(CheckFault::Failure(failure)),
         },
@@ -137,30 +238,36 @@ fn check_file<O: Write, E: Write>(
     }
 }
 
-// Tells of files in order. The answer is whether all are accepted.
-fn check_files<O: Write, E: Write>(
+// Tells of files in order. The answer is the configurations in them, where all are accepted.
+pub(crate) fn check_files<O: Write, E: Write>(
     alloc: Global,
     files: &[NamedFile],
     explain: bool,
     out: &mut O,
     err: &mut E,
     streams: &mut FailedStreams,
-) -> Result<bool, CheckFault>
-    ensures told { IfOk result (λ all. IsWritten explain files.now all (O.contents out.old) (O.contents out.new) (E.contents err.old) (E.contents err.new)) }
+) -> Result<Option<Vec<Config>>, CheckFault>
+    ensures told { IfOk result (λ found. IsWritten explain files.now (is_some found) (O.contents out.old) (O.contents out.new) (E.contents err.old) (E.contents err.new)) }
+    ensures configs { IfOk result (λ found. HoldConfigs files.now (option_map (λ configs. configs.items) found)) }
     ensures cut { IfErr result (IsCutIn explain files.now streams.new (O.contents out.old) (O.contents out.new) (E.contents err.old) (E.contents err.new)) }
 {
+    let mut configs = Vec::new(alloc);
     let mut all = true;
     for file in files {
-        match check_file(alloc, file, explain, out, err, streams) {
+        match check_file(alloc, file, explain, &mut configs, out, err, streams) {
             Ok(accepted) => all &= accepted,
             Err(cause) => return Err(cause),
         }
     }
-    Ok(all)
+    if all { Ok(Some(configs)) } else { Ok(None) }
 }
 
 // Tells why a check ended early, where that is not told yet. The answer is the status to end with.
-fn tell_last<E: Write>(cause: CheckFault, err: &mut E, streams: &mut FailedStreams) -> Status
+pub(crate) fn tell_last<E: Write>(
+    cause: CheckFault,
+    err: &mut E,
+    streams: &mut FailedStreams,
+) -> Status
     ensures status { result ≡ status_of cause }
     ensures last { IsLastTold streams.old streams.new (E.contents err.old) (E.contents err.new) cause }
 {
@@ -185,14 +292,15 @@ fn check_noted<O: Write, E: Write>(
     ensures not_words { result ≢ Status.Words }
 {
     match check_files(alloc, files, explain, out, err, streams) {
-        Ok(true) => Status::Done,
-        Ok(false) => Status::Refused,
+        Ok(Some(_)) => Status::Done,
+        Ok(None) => Status::Refused,
         Err(cause) => tell_last(cause, err, streams),
     }
 }
 
 /// Checks configurations, and tells of each file in order: on `out` that it is accepted, or on `err`
-/// the fault of least number that it has; with `explain`, what to do about it too, in lines behind two spaces.
+/// the fault of least number that it has; with `explain`, what to do about it too, and at an accepted one of what it is
+/// warned, in lines behind two spaces.
 ///
 /// A file that is not UTF-8 is no TOML. The status is `Refused` where a file was refused. The check ends
 /// at a file that could not be read, which is told on `err`, and where a write fails, with status

@@ -1,6 +1,9 @@
-//! Configurations that are checked: each is accepted or refused, and that is told.
+//! Configurations that are checked, each and together: what is accepted, refused and found is told.
 #![tactic(auto)]
 
+mod area;
 mod check;
+mod warning;
 
+pub use crate::area::check_area_text;
 pub use crate::check::check_text;

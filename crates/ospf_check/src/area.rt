@@ -1,0 +1,191 @@
+//! The configurations of one area, checked together.
+
+ghost use Rattle.std.specs.Prelude.{◌≡◌, ◌≢◌, ◌⊎◌, true, false, IfOk, IfErr, OnOk, string_bytes};
+ghost use Rattle.std.specs.Io.KnownBytes.{Appends};
+ghost use Rattle.ospf_files.specs.Listed.{AreConfigs};
+ghost use Rattle.ospf_files.specs.declared.status.Status.{Status};
+ghost use Rattle.ospf_files.specs.declared.streams.FailedStreams.{FailedStreams};
+ghost use Rattle.ospf_check.specs.Area.{EndsAt, IsAreaCut, IsAreaCutShort, IsAreaTold, IsCheckCut, IsChecked, IsCutAt, IsFindingsWritten, fault_lines, finding_lines, line_of, name_at, note_lines};
+
+use crate::check::{check_files, tell_last};
+use ospf_config::Config;
+use ospf_files::{FailedStreams, Failure, NamedFile, Status};
+use ospf_plan::{Finding, Told, findings};
+use std::alloc::{AllocError, Global};
+use std::io::Write;
+
+// The name of a file.
+fn name_at(files: &[NamedFile], number: usize) -> &str
+    ensures { result.now ≡ name_at files.now number }
+{
+    match files.get(number) {
+        None => "",
+        Some(file) => file.name.as_str(),
+    }
+}
+
+// A finding in words.
+fn line_of(alloc: Global, files: &[NamedFile], finding: &Finding) -> Result<String, AllocError>
+    ensures { IfOk result (λ text. string_bytes text ≡ line_of files.now finding.now) }
+{
+    let told = Told {
+        finding: *finding,
+        here: name_at(files, finding.here.file),
+        other: name_at(files, finding.other.file),
+    };
+    format!(in alloc; "{told}")
+}
+
+// A finding in words, and what follows from it where that is wanted, in lines.
+fn finding_lines(
+    alloc: Global,
+    files: &[NamedFile],
+    finding: &Finding,
+    explain: bool,
+) -> Result<String, AllocError>
+    ensures { IfOk result (λ lines. string_bytes lines ≡ finding_lines explain files.now finding.now) }
+{
+    let text = line_of(alloc, files, finding)?;
+    let mut lines = format!(in alloc; "{text}\n")?;
+    if explain {
+        lines.push_str(&format!(in alloc; "  {}\n", finding.fault.meaning())?)?;
+    }
+    Ok(lines)
+}
+
+// Tells a finding: a note on `out`, where it is to be explained, and a fault on `err`.
+fn tell_finding<O: Write, E: Write>(
+    alloc: Global,
+    files: &[NamedFile],
+    finding: &Finding,
+    explain: bool,
+    out: &mut O,
+    err: &mut E,
+    streams: &mut FailedStreams,
+) -> Result<(), Failure>
+    ensures same { OnOk result (streams.new ≡ streams.old) }
+    ensures out { OnOk result (Appends (O.contents out.old) (O.contents out.new) (note_lines explain files.now finding.now)) }
+    ensures err { OnOk result (Appends (E.contents err.old) (E.contents err.new) (fault_lines explain files.now finding.now)) }
+    ensures ended { IfErr result (EndsAt explain files.now streams.new finding.now (O.contents out.old) (O.contents out.new) (E.contents err.old) (E.contents err.new)) }
+{
+    let is_note = finding.fault.is_note();
+    if is_note && !explain {
+        return Ok(());
+    }
+    match finding_lines(alloc, files, finding, explain) {
+        Err(AllocError) => Err(Failure::Memory),
+        Ok(lines) => {
+            if is_note {
+                streams.print(out, &lines)
+            } else {
+                streams.tell(err, &lines)
+            }
+        }
+    }
+}
+
+// Tells findings in order. The answer is whether all are notes.
+fn tell_findings<O: Write, E: Write>(
+    alloc: Global,
+    files: &[NamedFile],
+    findings: &[Finding],
+    explain: bool,
+    out: &mut O,
+    err: &mut E,
+    streams: &mut FailedStreams,
+) -> Result<bool, Failure>
+    ensures told { IfOk result (λ sound. IsFindingsWritten explain files.now findings.now sound (O.contents out.old) (O.contents out.new) (E.contents err.old) (E.contents err.new)) }
+    ensures cut { IfErr result (IsCutAt explain files.now findings.now streams.new (O.contents out.old) (O.contents out.new) (E.contents err.old) (E.contents err.new)) }
+{
+    let mut sound = true;
+    for finding in findings {
+        match tell_finding(alloc, files, finding, explain, out, err, streams) {
+            Ok(()) => sound &= finding.fault.is_note(),
+            Err(failure) => return Err(failure),
+        }
+    }
+    Ok(sound)
+}
+
+// Tells what is wrong between configurations. The answer is whether nothing is but notes.
+fn tell_area<O: Write, E: Write>(
+    alloc: Global,
+    files: &[NamedFile],
+    configs: &[Config],
+    explain: bool,
+    out: &mut O,
+    err: &mut E,
+    streams: &mut FailedStreams,
+) -> Result<bool, Failure>
+    ensures told { AreConfigs files.now configs.now → IfOk result (λ sound. IsAreaTold explain files.now sound (O.contents out.old) (O.contents out.new) (E.contents err.old) (E.contents err.new)) }
+    ensures cut { IfErr result (IsAreaCut explain files.now configs.now streams.new (O.contents out.old) (O.contents out.new) (E.contents err.old) (E.contents err.new)) }
+{
+    match findings(alloc, configs) {
+        Ok(found) => tell_findings(alloc, files, &found, explain, out, err, streams),
+        Err(AllocError) => Err(Failure::Memory),
+    }
+}
+
+// Tells what is wrong between the configurations in files. The answer is the status to end with.
+fn check_together<O: Write, E: Write>(
+    alloc: Global,
+    files: &[NamedFile],
+    configs: &[Config],
+    explain: bool,
+    out: &mut O,
+    err: &mut E,
+    streams: &mut FailedStreams,
+) -> Status
+    ensures done { AreConfigs files.now configs.now → result ≡ Status.Done → IsAreaTold explain files.now true (O.contents out.old) (O.contents out.new) (E.contents err.old) (E.contents err.new) }
+    ensures refused { AreConfigs files.now configs.now → result ≡ Status.Refused → IsAreaTold explain files.now false (O.contents out.old) (O.contents out.new) (E.contents err.old) (E.contents err.new) }
+    ensures cut { (result ≡ Status.Memory) ⊎ (result ≡ Status.Stream) → IsAreaCutShort explain files.now configs.now streams.new (O.contents out.old) (O.contents out.new) (E.contents err.old) (E.contents err.new) result }
+    ensures not_words { result ≢ Status.Words }
+{
+    match tell_area(alloc, files, configs, explain, out, err, streams) {
+        Ok(true) => Status::Done,
+        Ok(false) => Status::Refused,
+        Err(failure) => failure.tell(err, streams),
+    }
+}
+
+// Checks the configurations of one area, as `check_area_text`, and notes which streams fail.
+fn check_area_noted<O: Write, E: Write>(
+    alloc: Global,
+    files: &[NamedFile],
+    explain: bool,
+    out: &mut O,
+    err: &mut E,
+    streams: &mut FailedStreams,
+) -> Status
+    ensures done { result ≡ Status.Done → IsChecked explain files.now true (O.contents out.old) (O.contents out.new) (E.contents err.old) (E.contents err.new) }
+    ensures refused { result ≡ Status.Refused → IsChecked explain files.now false (O.contents out.old) (O.contents out.new) (E.contents err.old) (E.contents err.new) }
+    ensures cut { (result ≡ Status.Memory) ⊎ (result ≡ Status.Stream) → IsCheckCut explain files.now streams.new (O.contents out.old) (O.contents out.new) (E.contents err.old) (E.contents err.new) result }
+    ensures not_words { result ≢ Status.Words }
+{
+    match check_files(alloc, files, explain, out, err, streams) {
+        Ok(Some(configs)) => check_together(alloc, files, &configs, explain, out, err, streams),
+        Ok(None) => Status::Refused,
+        Err(cause) => tell_last(cause, err, streams),
+    }
+}
+
+/// Checks the configurations of one area: each as `check_text` does, and where all are accepted what is wrong between
+/// them. Faults go to `err`; with `explain` notes go to `out`, and behind each fault and note a line of what follows.
+///
+/// The status is `Refused` where a file was refused or a fault was told, and `Done` where there are none but notes. The check
+/// ends early as `check_text` does, with status `Stream` or `Memory`: then all is written of the files before, and where
+/// it ended behind the files, of the findings before; of the one where it ended no more than a beginning.
+pub fn check_area_text<O: Write, E: Write>(
+    alloc: Global,
+    files: &[NamedFile],
+    explain: bool,
+    out: &mut O,
+    err: &mut E,
+) -> Status
+    ensures done { result ≡ Status.Done → IsChecked explain files.now true (O.contents out.old) (O.contents out.new) (E.contents err.old) (E.contents err.new) }
+    ensures refused { result ≡ Status.Refused → IsChecked explain files.now false (O.contents out.old) (O.contents out.new) (E.contents err.old) (E.contents err.new) }
+    ensures cut { (result ≡ Status.Memory) ⊎ (result ≡ Status.Stream) → (failed : FailedStreams) × IsCheckCut explain files.now failed (O.contents out.old) (O.contents out.new) (E.contents err.old) (E.contents err.new) result }
+    ensures not_words { result ≢ Status.Words }
+{
+    check_area_noted(alloc, files, explain, out, err, &mut FailedStreams::none())
+}
