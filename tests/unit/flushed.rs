@@ -8,7 +8,7 @@ use ospf_base::Addr;
 use ospf_check::check_text;
 use ospf_files::{NamedFile, Status};
 use ospf_router::{Router, Sent};
-use ospf_run::{Settings, Tap, run_text};
+use ospf_run::{Config, Settings, Tap, run_text};
 use ospf_sim::sim_text;
 use ospf_table::{TableJob, table_text};
 use std::alloc::{AllocError, Global};
@@ -37,11 +37,13 @@ enum Given {
 }
 
 impl Tap for Nobody {
-    fn another(&self) -> Result<Nobody, AllocError> {
+    fn another(&self, _file: &NamedFile, _config: &Config) -> Result<Nobody, AllocError> {
         Ok(Nobody)
     }
 
     fn ticks(&mut self) {}
+
+    fn hears(&mut self, _link: usize, _packet: &[u8]) {}
 
     fn sees(&mut self, _router: &Router) {}
 

@@ -1,4 +1,4 @@
-//! A line on a terminal that tells how far something has come.
+//! Standard error while something runs: messages, and on a terminal a line that tells how far it has come.
 
 use std::io::Write;
 use std::time::{Clock, Duration};
@@ -6,20 +6,23 @@ use std::time::{Clock, Duration};
 // How much time goes by between two lines, and before the first one, in milliseconds.
 const BETWEEN_LINES: u64 = 200;
 
-/// The line, each over the last. What it does not get written is lost.
+/// Standard error. On a terminal each line of how far something has come is written over the last. What is not written is
+/// lost.
 #[derive(Drop)]
 pub struct Line<T: Write + Drop> {
-    terminal: Option<T>,
+    stream: T,
+    is_terminal: bool,
     // When the next is due; `None` before the first is asked for.
     next: Option<Duration>,
     is_shown: bool,
 }
 
 impl<T: Write + Drop> Line<T> {
-    /// No line yet. Without a terminal there never is one.
-    pub fn new(terminal: Option<T>) -> Line<T> {
+    /// No line yet. Where the stream is no terminal there never is one.
+    pub fn new(stream: T, is_terminal: bool) -> Line<T> {
         Line {
-            terminal,
+            stream,
+            is_terminal,
             next: None,
             is_shown: false,
         }
@@ -27,7 +30,7 @@ impl<T: Write + Drop> Line<T> {
 
     /// Whether there can be a line.
     pub fn has_terminal(&self) -> bool {
-        self.terminal.is_some()
+        self.is_terminal
     }
 
     // Whether a line is due now. Then the next one is later.
@@ -51,7 +54,13 @@ impl<T: Write + Drop> Line<T> {
             return None;
         }
         self.is_shown = true;
-        self.terminal.as_mut()
+        Some(&mut self.stream)
+    }
+
+    /// Where to write a message, which ends in a line feed. A line that is shown goes first.
+    pub fn messages(&mut self) -> &mut T {
+        self.erase();
+        &mut self.stream
     }
 
     /// Takes the line away.
@@ -60,8 +69,6 @@ impl<T: Write + Drop> Line<T> {
             return;
         }
         self.is_shown = false;
-        if let Some(terminal) = &mut self.terminal {
-            let _ = write!(terminal, "\r\x1b[K");
-        }
+        let _ = write!(self.stream, "\r\x1b[K");
     }
 }

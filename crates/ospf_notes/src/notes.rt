@@ -1,9 +1,12 @@
-//! What is kept and shown of routers while they run: a capture of what they send, and a line on a terminal.
+//! What is kept and shown of routers while they run: a capture of what they send, a line on a terminal, and messages of
+//! neighbours whose LSAs a router refuses.
 
 use crate::line::Line;
+use crate::others::{Described, Others};
 use ospf_capture::{CaptureFault, Moment, write_datagram, write_header};
+use ospf_files::NamedFile;
 use ospf_neighbour::NeighbourState;
-use ospf_run::{Router, Sent, Tap};
+use ospf_run::{Config, Router, Sent, Tap};
 use std::alloc::{AllocError, Global};
 use std::io::{self, ErrorKind, Write};
 use std::sync::{Arc, Mutex, Wait};
@@ -25,6 +28,33 @@ struct Shared<F: Write + Drop, T: Write + Drop> {
     running: usize,
 }
 
+// What is told of one router: by the name of its file, and of LSAs of other types if it refuses them.
+#[derive(Drop)]
+struct Teller {
+    file: String,
+    others: Option<Others>,
+}
+
+impl Teller {
+    // The router of no file, of which nothing is told.
+    fn none(alloc: Global) -> Teller {
+        Teller {
+            file: String::new(alloc),
+            others: None,
+        }
+    }
+
+    fn new(alloc: Global, file: &NamedFile, config: &Config) -> Result<Teller, AllocError> {
+        let others = if config.passes_over {
+            None
+        } else {
+            Some(Others::new(alloc))
+        };
+        let file = String::from_str(alloc, &file.name)?;
+        Ok(Teller { file, others })
+    }
+}
+
 /// What is noted of one router. The notes of all routers of a run share a capture and a line.
 #[derive(Drop)]
 pub struct Notes<R: Wait + Clock + Copy + Drop, F: Write + Drop, T: Write + Drop> {
@@ -38,6 +68,7 @@ pub struct Notes<R: Wait + Clock + Copy + Drop, F: Write + Drop, T: Write + Drop
     ticks: u64,
     has_ticked: bool,
     full: usize,
+    teller: Teller,
 }
 
 // How many neighbours of a router are Full.
@@ -100,6 +131,21 @@ impl<F: Write + Drop, T: Write + Drop> Shared<F, T> {
         }
     }
 
+    // Tells that a neighbour of the router of this file describes an LSA that the router refuses.
+    fn tell(&mut self, file: &str, described: Described) {
+        let Described {
+            link,
+            neighbour,
+            kind,
+        } = described;
+        let messages = self.line.messages();
+        let _ = writeln!(
+            messages,
+            "{file}: link {link}: {neighbour} describes an LSA of type {kind}: this area has what this router does not take (other_lsas)"
+        );
+        let _ = messages.flush();
+    }
+
     // A router ends. With the last one the line goes.
     fn end(&mut self) {
         self.running = self.running.saturating_sub(1);
@@ -115,8 +161,8 @@ fn share<S: Drop>(shared: S, alloc: Global) -> Result<Arc<Mutex<S>, Global>, All
 }
 
 impl<R: Wait + Clock + Copy + Drop, F: Write + Drop, T: Write + Drop> Notes<R, F, T> {
-    /// What is noted of a run of so many ticks: what is sent in the file, if there is one, and how far the run has come on the
-    /// terminal, if there is one. The capture's head is written.
+    /// What is noted of a run of so many ticks: what is sent in the file, if there is one; on the line how far the run has come,
+    /// if it is on a terminal, and which neighbours describe what a router refuses. The capture's head is written.
     ///
     /// `AllocError` where memory runs out.
     pub fn new(
@@ -124,15 +170,15 @@ impl<R: Wait + Clock + Copy + Drop, F: Write + Drop, T: Write + Drop> Notes<R, F
         alloc: Global,
         of: u64,
         capture: Option<F>,
-        terminal: Option<T>,
+        line: Line<T>,
     ) -> Result<Notes<R, F, T>, AllocError> {
-        let (captures, shows) = (capture.is_some(), terminal.is_some());
+        let (captures, shows) = (capture.is_some(), line.has_terminal());
         let mut head = Vec::new(alloc);
         write_header(&mut head)?;
         let mut shared = Shared {
             capture,
             is_written: true,
-            line: Line::new(terminal),
+            line,
             ticks: 0,
             full: 0,
             running: 0,
@@ -149,6 +195,7 @@ impl<R: Wait + Clock + Copy + Drop, F: Write + Drop, T: Write + Drop> Notes<R, F
             ticks: 0,
             has_ticked: false,
             full: 0,
+            teller: Teller::none(alloc),
         })
     }
 
@@ -159,7 +206,8 @@ impl<R: Wait + Clock + Copy + Drop, F: Write + Drop, T: Write + Drop> Notes<R, F
 }
 
 impl<R: Wait + Clock + Copy + Drop, F: Write + Drop, T: Write + Drop> Tap for Notes<R, F, T> {
-    fn another(&self) -> Result<Notes<R, F, T>, AllocError> {
+    fn another(&self, file: &NamedFile, config: &Config) -> Result<Notes<R, F, T>, AllocError> {
+        let teller = Teller::new(self.alloc, file, config)?;
         let shared = Arc::try_clone(&self.shared)?;
         {
             let mut all = shared.lock(&self.rt);
@@ -175,6 +223,7 @@ impl<R: Wait + Clock + Copy + Drop, F: Write + Drop, T: Write + Drop> Tap for No
             ticks: 0,
             has_ticked: false,
             full: 0,
+            teller,
         })
     }
 
@@ -183,7 +232,21 @@ impl<R: Wait + Clock + Copy + Drop, F: Write + Drop, T: Write + Drop> Tap for No
         self.has_ticked = true;
     }
 
+    fn hears(&mut self, link: usize, packet: &[u8]) {
+        if let Some(others) = &mut self.teller.others {
+            others.hears(link, packet);
+        }
+    }
+
     fn sees(&mut self, router: &Router) {
+        let due = match &mut self.teller.others {
+            Some(others) => others.due(router),
+            None => None,
+        };
+        if let Some(described) = due {
+            let mut all = self.shared.lock(&self.rt);
+            all.tell(&self.teller.file, described);
+        }
         if !self.shows || !self.has_ticked {
             return;
         }

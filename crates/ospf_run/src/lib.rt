@@ -19,4 +19,5 @@ mod wires;
 pub use crate::run::run_text;
 pub use crate::settings::Settings;
 pub use crate::tap::Tap;
+pub use ospf_config::Config;
 pub use ospf_router::{Router, Sent};

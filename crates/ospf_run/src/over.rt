@@ -144,6 +144,6 @@ pub(crate) fn run_tapped<
     requires counted { All (λ wire. W.traffic wire ≡ Ticks 0 settings.now.ticks) wires.items }
     ensures { IfOk result (λ status. Reports settings.now.lookup (is_some (option_map string_bytes settings.now.floor)) (record { ticks = settings.now.ticks; floor = plan.now.floor }) files.now plan.now.configs.items status (O.contents out.old) (O.contents out.new) (E.contents err.old) (E.contents err.new)) }
 {
-    let wires = tap_all(alloc, wires, tap)?;
+    let wires = tap_all(alloc, files, &plan.configs, wires, tap)?;
     run_over(rt, alloc, settings, files, plan, wires, out, err)
 }

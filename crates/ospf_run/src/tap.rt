@@ -1,24 +1,28 @@
 //! What is told of routers while they run.
 
-ghost use Rattle.std.specs.Prelude.{◌≡◌, IfOk};
+ghost use Rattle.std.specs.Prelude.{◌≡◌, IfOk, length};
 ghost use Rattle.ospf_drive.specs.Driven.{Pairs};
 
 use crate::tell::put;
+use ospf_config::Config;
 use ospf_drive::{Arrival, LONGEST, Wire, WireFault};
-use ospf_files::Failure;
+use ospf_files::{Failure, NamedFile};
 use ospf_router::{Router, Sent};
 use std::alloc::{AllocError, Global};
 
 /// What is told of the routers while they run, each in a thread of its own. What a tap makes of it is its own affair: no router
 /// learns of it.
 pub trait Tap {
-    /// The tap of one more router.
+    /// The tap of the router of a file, with the configuration that the file holds.
     ///
     /// `AllocError` where memory runs out.
-    fn another(&self) -> Result<Self, AllocError>;
+    fn another(&self, file: &NamedFile, config: &Config) -> Result<Self, AllocError>;
 
     /// A tick of the router has come.
     fn ticks(&mut self);
+
+    /// A packet has come in on a link of the router, which takes it or not.
+    fn hears(&mut self, link: usize, packet: &[u8]);
 
     /// The router is so after a step.
     fn sees(&mut self, router: &Router);
@@ -45,6 +49,9 @@ impl<W: Wire + Drop, T: Tap + Drop> Wire for TappedWire<W, T> {
     fn recv(&mut self, buffer: &mut [u8; LONGEST]) -> Result<Arrival, WireFault> {
         let received = self.wire.recv(buffer);
         match received {
+            Ok(Arrival::Datagram { link, length, .. }) if length <= LONGEST => {
+                self.tap.hears(link, &buffer[..length]);
+            }
             Ok(Arrival::Tick) => self.tap.ticks(),
             Ok(Arrival::End) | Err(WireFault) => self.tap.ends(),
             Ok(_) => {}
@@ -72,25 +79,35 @@ impl<W: Wire + Drop, T: Tap + Drop> Wire for TappedWire<W, T> {
 }
 
 // A wire, and a tap of its own.
-fn tapped<W: Wire + Drop, T: Tap + Drop>(wire: W, tap: &T) -> Result<TappedWire<W, T>, AllocError>
+fn tapped<W: Wire + Drop, T: Tap + Drop>(
+    wire: W,
+    tap: &T,
+    file: &NamedFile,
+    config: &Config,
+) -> Result<TappedWire<W, T>, AllocError>
     ensures { IfOk result (λ it. it.wire ≡ wire) }
 {
-    let tap = tap.another()?;
+    let tap = tap.another(file, config)?;
     Ok(TappedWire { wire, tap })
 }
 
-/// The same wires, in the same order, of each of which a tap of its own is told.
+/// The same wires, in the same order, of each of which a tap of its own is told: that of the file and the configuration
+/// at its place.
 pub(crate) fn tap_all<W: Wire + Drop, T: Tap + Drop>(
     alloc: Global,
+    files: &[NamedFile],
+    configs: &[Config],
     mut wires: Vec<W>,
     tap: &T,
 ) -> Result<Vec<TappedWire<W, T>>, Failure>
+    requires files { length files.now ≡ length configs.now }
+    requires wires { length wires.items ≡ length configs.now }
     ensures { IfOk result (λ all. Pairs (λ wire it. it.wire ≡ wire) wires.items all.items) }
 {
     let mut all = Vec::with_capacity(alloc, wires.len())?;
-    while !wires.is_empty() {
+    for (place, config) in configs.iter().enumerate() {
         let wire = wires.remove(0);
-        put(&mut all, tapped(wire, tap)?)?;
+        put(&mut all, tapped(wire, tap, &files[place], config)?)?;
     }
     Ok(all)
 }

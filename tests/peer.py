@@ -1,0 +1,48 @@
+"""Packets of OSPF version 2 (RFC 2328, appendix A.3), as a neighbour of a router that runs here would send them over UDP."""
+import socket
+import struct
+
+HELLO, DESCRIPTION = 1, 2
+OPTIONS = 0x02
+INIT, MORE, MASTER = 4, 2, 1
+AT_RANDOM = 0x1234
+
+
+def number(dotted):
+    return int.from_bytes(socket.inet_aton(dotted), "big")
+
+
+def checksum(data):
+    """The one's complement sum of 16-bit words, complemented, as of an IP header."""
+    total = sum(struct.unpack(f">{len(data) // 2}H", data))
+    while total >> 16:
+        total = (total & 0xFFFF) + (total >> 16)
+    return ~total & 0xFFFF
+
+
+def packet(kind, router, body):
+    """A packet of the backbone with null authentication."""
+    head = struct.pack(">BBHIIHH", 2, kind, 24 + len(body), number(router), 0, 0, 0)
+    summed = checksum(head + body)
+    return head[:12] + struct.pack(">H", summed) + head[14:] + bytes(8) + body
+
+
+def hello(router, mask, heard):
+    """A Hello with the intervals of section C.3's samples, that has heard these routers."""
+    body = struct.pack(">IHBBIII", number(mask), 10, OPTIONS, 1, 40, 0, 0)
+    return packet(HELLO, router, body + b"".join(socket.inet_aton(one) for one in heard))
+
+
+def description(router, flags, sequence, headers=()):
+    body = struct.pack(">HBBI", 1500, OPTIONS, flags, sequence)
+    return packet(DESCRIPTION, router, body + b"".join(headers))
+
+
+def header(kind, link_state_id, router):
+    """The header of an LSA, new, of the least length that a header allows, with some checksum."""
+    return struct.pack(">HBBIIIHH", 1, OPTIONS, kind, number(link_state_id), number(router), 0x80000001, AT_RANDOM, 36)
+
+
+def frame(source, destination, sent):
+    """A packet as it goes over UDP: behind its addresses."""
+    return socket.inet_aton(source) + socket.inet_aton(destination) + sent
