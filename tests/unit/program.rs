@@ -2,7 +2,8 @@
 
 use super::failing::Failing;
 use ospf_base::Addr;
-use ospf_check::check_text;
+use ospf_check::{check_area_text, check_text};
+use ospf_failures::failures_text;
 use ospf_files::{FailedStreams, Failure, NamedFile, Status};
 use ospf_sim::{Watch, sim_text};
 use ospf_table::table_text;
@@ -336,23 +337,35 @@ fn status_of<R: Wait, O: Write, E: Write>(
     input: &[u8],
     out: &mut O,
     err: &mut E,
-) -> Result<Status, AllocError> {
+) -> Result<u8, AllocError> {
     let words: Vec<&str> = words.split_whitespace().collect(alloc)?;
-    match job(alloc, &words) {
-        Ok(Job::Table(table)) => Ok(table_text(alloc, rt, &table, input, out, err)),
+    let status = match job(alloc, &words) {
+        Ok(Job::Table(table)) => table_text(alloc, rt, &table, input, out, err),
+        Ok(Job::Failures(failures)) => {
+            return Ok(failures_text(alloc, &failures, input, out, err).code());
+        }
         Ok(Job::Check(check)) => {
-            let CheckJob { files, explain } = check;
+            let CheckJob {
+                files,
+                explain,
+                area,
+            } = check;
             let files = unread(alloc, files)?;
-            Ok(check_text(alloc, &files, explain, out, err))
+            if area {
+                check_area_text(alloc, &files, explain, out, err)
+            } else {
+                check_text(alloc, &files, explain, out, err)
+            }
         }
         Ok(Job::Sim(sim)) => {
             let script = unread_file(sim.script);
             let files = unread(alloc, sim.files)?;
-            Ok(sim_text(alloc, &script, &files, out, err, &mut Nobody).status)
+            sim_text(alloc, &script, &files, out, err, &mut Nobody).status
         }
-        Ok(Job::Run(_)) => Ok(Status::Words),
-        Err(fault) => Ok(fault.tell(out, err)),
-    }
+        Ok(Job::Run(_)) => Status::Words,
+        Err(fault) => fault.tell(out, err),
+    };
+    Ok(status.code())
 }
 
 fn outcome_of<R: Wait>(
@@ -367,7 +380,7 @@ fn outcome_of<R: Wait>(
     Ok(Outcome {
         out,
         err,
-        status: status.code(),
+        status,
     })
 }
 
@@ -396,7 +409,7 @@ fn refuses(rt: HostRuntime) -> Result<(), Fail> {
 }
 
 // Words by name, the exit status, and how standard output and standard error begin.
-static WORDS: [(&str, &str, u8, &str, &str); 22] = [
+static WORDS: [(&str, &str, u8, &str, &str); 29] = [
     ("help", "--help", 0, "OSPF version 2 for one area\n", ""),
     ("help word", "help", 0, "OSPF version 2 for one area\n", ""),
     ("help of table", "table --help", 0, "Computes a routing", ""),
@@ -406,6 +419,43 @@ static WORDS: [(&str, &str, u8, &str, &str); 22] = [
         0,
         "Checks configurations",
         "",
+    ),
+    (
+        "help of failures",
+        "failures --help",
+        0,
+        "Tells what each single failure",
+        "",
+    ),
+    ("failures of nobody", "failures", 2, "", "error: "),
+    (
+        "failures of no address",
+        "failures --each 1.1.1",
+        2,
+        "",
+        "1.1.1: not an address\n",
+    ),
+    (
+        "unknown option of failures",
+        "failures --all 1.1.1.1",
+        2,
+        "",
+        "error: unexpected argument",
+    ),
+    (
+        "failures of nothing",
+        "failures --each --strict 1.1.1.1",
+        0,
+        "",
+        "",
+    ),
+    ("no file of an area", "check --area", 2, "", "error: "),
+    (
+        "unread file of an area",
+        "check --area --explain a.toml",
+        5,
+        "",
+        "a.toml: not read\n",
     ),
     ("help of sim", "sim --help", 0, "Simulates an area", ""),
     ("help of run", "run --help", 0, "Runs a router", ""),
@@ -570,7 +620,7 @@ fn told_of_output<R: Wait>(
     Ok(Outcome {
         out: Vec::new(alloc),
         err,
-        status: status.code(),
+        status,
     })
 }
 
@@ -640,7 +690,7 @@ fn status_after<R: Wait>(
 ) -> Result<u8, AllocError> {
     let mut out = Failing { left };
     let mut err = Failing { left };
-    Ok(status_of(rt, alloc, words, input, &mut out, &mut err)?.code())
+    status_of(rt, alloc, words, input, &mut out, &mut err)
 }
 
 #[test]

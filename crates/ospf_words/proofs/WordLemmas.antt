@@ -136,46 +136,30 @@ wrong_value rows root w is_root first = inl (record { rows = rows; table = refl;
 
 -- what a run is to look up spells no address
 pub wrong_lookup : (rows : List Row) (w : List ℕ) → first_of (codes "lookup") rows ≡ Some w → IsNoAddress w → IsWrongValue (Some (codes "run", rows)) w
-wrong_lookup rows w has wrong = inr (record { rows = rows; run = refl; has_lookup = has; wrong = wrong })
+wrong_lookup rows w has wrong = inr (inr (record { rows = rows; run = refl; has_lookup = has; wrong = wrong }))
+
+-- the root after `failures` spells no address
+pub wrong_failing_root : (rows : List Row) (root w : List ℕ) → first_of (codes "root") rows ≡ Some root
+    → ((w ≡ root) × (e : AddrParseError) × ReadsRouterId root (Err e)) → IsWrongValue (Some (codes "failures", rows)) w
+wrong_failing_root rows root w has h = inr (inl (record {
+  rows = rows;
+  failures = refl;
+  has_root = has ∙ ap Some (sym h.0);
+  wrong = λ a is. h.2 (record { 0 = a.0 }) (subst (λ t. IsDottedNumber t a.0) h.0 is);
+}))
 
 -- ---- words that make no job
 
--- what is entered has one name
-abbrev name_of : Option (List ℕ × List Row) → List ℕ
-name_of entered = unwrap_or (option_map (λ (p : List ℕ × List Row). p.0) entered) []
+-- the first letter of the command that is entered
+abbrev letter_of : Option (List ℕ × List Row) → ℕ
+letter_of entered = slice_index (unwrap_or (option_map (λ (p : List ℕ × List Row). p.0) entered) []) 0
 
 abbrev entered_of : List ℕ → List Row → Option (List ℕ × List Row)
 entered_of name rows = Some (name, rows)
 
-one_name : (rows others : List Row) → entered_of (codes "table") rows ≡ entered_of (codes "check") others → ⊥
-one_name rows others same =
-    let first : 116 ≡ 99 = ap (λ entered. slice_index (name_of entered) 0) same in
-    omega (arith, first)
-
-table_is_no_sim : (rows others : List Row) → entered_of (codes "table") rows ≡ entered_of (codes "sim") others → ⊥
-table_is_no_sim rows others same =
-    let first : 116 ≡ 115 = ap (λ entered. slice_index (name_of entered) 0) same in
-    omega (arith, first)
-
-check_is_no_sim : (rows others : List Row) → entered_of (codes "check") rows ≡ entered_of (codes "sim") others → ⊥
-check_is_no_sim rows others same =
-    let first : 99 ≡ 115 = ap (λ entered. slice_index (name_of entered) 0) same in
-    omega (arith, first)
-
-table_is_no_run : (rows others : List Row) → entered_of (codes "table") rows ≡ entered_of (codes "run") others → ⊥
-table_is_no_run rows others same =
-    let first : 116 ≡ 114 = ap (λ entered. slice_index (name_of entered) 0) same in
-    omega (arith, first)
-
-check_is_no_run : (rows others : List Row) → entered_of (codes "check") rows ≡ entered_of (codes "run") others → ⊥
-check_is_no_run rows others same =
-    let first : 99 ≡ 114 = ap (λ entered. slice_index (name_of entered) 0) same in
-    omega (arith, first)
-
-sim_is_no_run : (rows others : List Row) → entered_of (codes "sim") rows ≡ entered_of (codes "run") others → ⊥
-sim_is_no_run rows others same =
-    let first : 115 ≡ 114 = ap (λ entered. slice_index (name_of entered) 0) same in
-    omega (arith, first)
+-- no two commands have one first letter
+other : {A : Type 0} (m n : List ℕ) (rows others : List Row) → (slice_index m 0 ≡ slice_index n 0 → ⊥) → entered_of m rows ≡ entered_of n others → A
+other m n rows others apart same = absurd (apart (ap letter_of same))
 
 same_rows : (name : List ℕ) (rows others : List Row) → entered_of name rows ≡ entered_of name others → rows ≡ others
 same_rows name rows others same = ap (λ entered. unwrap_or (option_map (λ (p : List ℕ × List Row). p.1) entered) rows) same
@@ -184,29 +168,42 @@ same_rows name rows others same = ap (λ entered. unwrap_or (option_map (λ (p :
 pub no_root : (rows : List Row) → first_of (codes "root") rows ≡ None → IsNoJob (Some (codes "table", rows))
 no_root rows none = record {
   no_table = λ others same. ap (first_of (codes "root")) (sym (same_rows (codes "table") rows others same)) ∙ none;
-  no_check = λ others same. absurd (one_name rows others same);
-  no_sim = λ others same. absurd (table_is_no_sim rows others same);
-  no_run = λ others same. absurd (table_is_no_run rows others same);
+  no_failures = λ others same. other (codes "table") (codes "failures") rows others (λ (e : 116 ≡ 102). omega (arith, e)) same;
+  no_check = λ others same. other (codes "table") (codes "check") rows others (λ (e : 116 ≡ 99). omega (arith, e)) same;
+  no_sim = λ others same. other (codes "table") (codes "sim") rows others (λ (e : 116 ≡ 115). omega (arith, e)) same;
+  no_run = λ others same. other (codes "table") (codes "run") rows others (λ (e : 116 ≡ 114). omega (arith, e)) same;
+}
+
+-- `failures` without a root
+pub no_failing_root : (rows : List Row) → first_of (codes "root") rows ≡ None → IsNoJob (Some (codes "failures", rows))
+no_failing_root rows none = record {
+  no_table = λ others same. other (codes "failures") (codes "table") rows others (λ (e : 102 ≡ 116). omega (arith, e)) same;
+  no_failures = λ others same. ap (first_of (codes "root")) (sym (same_rows (codes "failures") rows others same)) ∙ none;
+  no_check = λ others same. other (codes "failures") (codes "check") rows others (λ (e : 102 ≡ 99). omega (arith, e)) same;
+  no_sim = λ others same. other (codes "failures") (codes "sim") rows others (λ (e : 102 ≡ 115). omega (arith, e)) same;
+  no_run = λ others same. other (codes "failures") (codes "run") rows others (λ (e : 102 ≡ 114). omega (arith, e)) same;
 }
 
 -- `check` without files
 pub no_files : (rows : List Row) → all_of (codes "files") rows ≡ None → IsNoJob (Some (codes "check", rows))
 no_files rows none = record {
-  no_table = λ others same. absurd (one_name others rows (sym same));
+  no_table = λ others same. other (codes "check") (codes "table") rows others (λ (e : 99 ≡ 116). omega (arith, e)) same;
+  no_failures = λ others same. other (codes "check") (codes "failures") rows others (λ (e : 99 ≡ 102). omega (arith, e)) same;
   no_check = λ others same. ap (all_of (codes "files")) (sym (same_rows (codes "check") rows others same)) ∙ none;
-  no_sim = λ others same. absurd (check_is_no_sim rows others same);
-  no_run = λ others same. absurd (check_is_no_run rows others same);
+  no_sim = λ others same. other (codes "check") (codes "sim") rows others (λ (e : 99 ≡ 115). omega (arith, e)) same;
+  no_run = λ others same. other (codes "check") (codes "run") rows others (λ (e : 99 ≡ 114). omega (arith, e)) same;
 }
 
 -- `sim` without a script, or without files
 pub no_simulation : (rows : List Row) → (first_of (codes "script") rows ≡ None) ⊎ (all_of (codes "files") rows ≡ None) → IsNoJob (Some (codes "sim", rows))
 no_simulation rows none = record {
-  no_table = λ others same. absurd (table_is_no_sim others rows (sym same));
-  no_check = λ others same. absurd (check_is_no_sim others rows (sym same));
+  no_table = λ others same. other (codes "sim") (codes "table") rows others (λ (e : 115 ≡ 116). omega (arith, e)) same;
+  no_failures = λ others same. other (codes "sim") (codes "failures") rows others (λ (e : 115 ≡ 102). omega (arith, e)) same;
+  no_check = λ others same. other (codes "sim") (codes "check") rows others (λ (e : 115 ≡ 99). omega (arith, e)) same;
   no_sim = λ others same.
       let one : rows ≡ others = same_rows (codes "sim") rows others same in
       subst (λ found. (first_of (codes "script") found ≡ None) ⊎ (all_of (codes "files") found ≡ None)) one none;
-  no_run = λ others same. absurd (sim_is_no_run rows others same);
+  no_run = λ others same. other (codes "sim") (codes "run") rows others (λ (e : 115 ≡ 114). omega (arith, e)) same;
 }
 
 -- what `run` wants: two numbers, and files
@@ -216,9 +213,10 @@ RunWants rows = IsNoNumber (one_of (codes "ticks") rows) ⊎ IsNoNumber (one_of 
 -- `run` without one of them
 pub no_running : (rows : List Row) → RunWants rows → IsNoJob (Some (codes "run", rows))
 no_running rows none = record {
-  no_table = λ others same. absurd (table_is_no_run others rows (sym same));
-  no_check = λ others same. absurd (check_is_no_run others rows (sym same));
-  no_sim = λ others same. absurd (sim_is_no_run others rows (sym same));
+  no_table = λ others same. other (codes "run") (codes "table") rows others (λ (e : 114 ≡ 116). omega (arith, e)) same;
+  no_failures = λ others same. other (codes "run") (codes "failures") rows others (λ (e : 114 ≡ 102). omega (arith, e)) same;
+  no_check = λ others same. other (codes "run") (codes "check") rows others (λ (e : 114 ≡ 99). omega (arith, e)) same;
+  no_sim = λ others same. other (codes "run") (codes "sim") rows others (λ (e : 114 ≡ 115). omega (arith, e)) same;
   no_run = λ others same. subst RunWants (same_rows (codes "run") rows others same) none;
 }
 

@@ -31,6 +31,13 @@ pub record IsWrongInTable (entered : Option (Text × List Row)) (word : Text) : 
   pub has_root : first_of (codes "root") rows ≡ Some root
   pub first : IsFirstWrong (root ∷ unwrap_or (all_of (codes "addresses") rows) []) word
 
+-- the root after `failures` spells no address
+pub record IsWrongInFailures (entered : Option (Text × List Row)) (word : Text) : Type 0 where
+  pub rows : List Row
+  pub failures : entered ≡ Some (codes "failures", rows)
+  pub has_root : first_of (codes "root") rows ≡ Some word
+  pub wrong : IsNoAddress word
+
 -- what is to be looked up in a run spells no address
 pub record IsWrongInRun (entered : Option (Text × List Row)) (word : Text) : Type 0 where
   pub rows : List Row
@@ -40,15 +47,16 @@ pub record IsWrongInRun (entered : Option (Text × List Row)) (word : Text) : Ty
 
 -- the first word that is to be an address, and spells none
 abbrev pub IsWrongValue : Option (Text × List Row) → Text → Type 0
-IsWrongValue entered word = IsWrongInTable entered word ⊎ IsWrongInRun entered word
+IsWrongValue entered word = IsWrongInTable entered word ⊎ IsWrongInFailures entered word ⊎ IsWrongInRun entered word
 
 -- there is no text that is read as a number of 64 bits
 abbrev pub IsNoNumber : Option Text → Type 0
 IsNoNumber text = (t : Text) (number : ℕ) → text ≡ Some t → IsNumber t number → number < 2 ^ 64 → ⊥
 
--- what the words enter is no `table` with a root, no `check` with files, no `sim` with both, and no `run` with numbers and files
+-- what the words enter is no `table` and no `failures` with a root, no `check` with files, no `sim` with both, and no `run` with numbers and files
 pub record IsNoJob (entered : Option (Text × List Row)) : Type 0 where
   pub no_table : (rows : List Row) → entered ≡ Some (codes "table", rows) → first_of (codes "root") rows ≡ None
+  pub no_failures : (rows : List Row) → entered ≡ Some (codes "failures", rows) → first_of (codes "root") rows ≡ None
   pub no_check : (rows : List Row) → entered ≡ Some (codes "check", rows) → all_of (codes "files") rows ≡ None
   pub no_sim : (rows : List Row) → entered ≡ Some (codes "sim", rows) → (first_of (codes "script") rows ≡ None) ⊎ (all_of (codes "files") rows ≡ None)
   pub no_run : (rows : List Row) → entered ≡ Some (codes "run", rows)

@@ -8,6 +8,7 @@ use Rattle.clap.specs.Words.{App, Row, Rule, Text, all_of, first_of, one_of, new
 use Rattle.clap.specs.declared.builder.action.ArgAction.TheVariants.{Append, SetTrue}
 use Rattle.clap.specs.declared.builder.value_parser.ValueParser.TheVariants.{Unsigned}
 use Rattle.ospf_words.specs.declared.jobs.CheckJob.{CheckJob}
+use Rattle.ospf_failures.specs.declared.answer.FailuresJob.{FailuresJob}
 use Rattle.ospf_words.specs.declared.jobs.Job.{Job}
 use Rattle.ospf_words.specs.declared.jobs.Job.TheVariants as job
 use Rattle.ospf_words.specs.declared.jobs.RunJob.{RunJob}
@@ -39,13 +40,17 @@ files_rule = record (new_rule (codes "files")) {
   value_names = 1;
 }
 
--- a flag
-abbrev pub explain_rule : Rule
-explain_rule = record (new_rule (codes "explain")) { long = Some (codes "explain"); action = Some SetTrue }
+-- a flag of this name
+abbrev pub flag_rule : Text → Rule
+flag_rule name = record (new_rule name) { long = Some name; action = Some SetTrue }
 
--- the command `check`: a flag, and files
+-- the command `check`: two flags, and files
 abbrev pub check_app : App
-check_app = with_rule (with_rule (new_app (codes "check")) explain_rule) files_rule
+check_app = with_rule (with_rule (with_rule (new_app (codes "check")) (flag_rule (codes "explain"))) (flag_rule (codes "area"))) files_rule
+
+-- the command `failures`: a root, and two flags
+abbrev pub failures_app : App
+failures_app = with_rule (with_rule (with_rule (new_app (codes "failures")) root_rule) (flag_rule (codes "each"))) (flag_rule (codes "strict"))
 
 -- one word has to be there
 abbrev pub script_rule : Rule
@@ -82,7 +87,8 @@ ospfd_app = record (new_app (codes "ospfd")) {
 
 -- the program and its commands
 abbrev pub command_app : App
-command_app = with_subcommand (with_subcommand (with_subcommand (with_subcommand ospfd_app table_app.top) check_app.top) sim_app.top) run_app.top
+command_app =
+    with_subcommand (with_subcommand (with_subcommand (with_subcommand (with_subcommand ospfd_app table_app.top) failures_app.top) check_app.top) sim_app.top) run_app.top
 
 -- each text spells the address at its place
 abbrev pub Spell : List Text → List Addr → Type 0
@@ -103,12 +109,21 @@ pub record IsFlag (text : Option Text) (given : Bool) : Type 0 where
   pub set : text ≡ Some (codes "true") → given ≡ true
   pub unset : text ≡ Some (codes "false") → given ≡ false
 
--- the files that `clap` reads after `check`, and the flag
+-- the root that `clap` reads after `failures`, and the flags
+pub record IsFailuresJob (rows : List Row) (f : FailuresJob) : Type 0 where
+  pub text : Text
+  pub has_root : first_of (codes "root") rows ≡ Some text
+  pub root : ReadsRouterId text (Ok f.root)
+  pub each : IsFlag (one_of (codes "each") rows) f.each
+  pub strict : IsFlag (one_of (codes "strict") rows) f.strict
+
+-- the files that `clap` reads after `check`, and the flags
 pub record IsCheckJob (rows : List Row) (c : CheckJob) : Type 0 where
   pub texts : List Text
   pub has_files : all_of (codes "files") rows ≡ Some texts
   pub files : map string_bytes c.files.items ≡ texts
   pub explain : IsFlag (one_of (codes "explain") rows) c.explain
+  pub area : IsFlag (one_of (codes "area") rows) c.area
 
 -- the script, the files, and the files to be written that `clap` reads after `sim`
 pub record IsSimJob (rows : List Row) (s : SimJob) : Type 0 where
@@ -147,6 +162,7 @@ pub record IsRunJob (rows : List Row) (r : RunJob) : Type 0 where
 -- the job is that of the command that the words enter, with the values that they give it
 abbrev pub IsJobOf : Option (Text × List Row) → Job → Type 0
 IsJobOf entered (job.Table t) = (rows : List Row) × (entered ≡ Some (codes "table", rows)) × IsTableJob rows t
+IsJobOf entered (job.Failures f) = (rows : List Row) × (entered ≡ Some (codes "failures", rows)) × IsFailuresJob rows f
 IsJobOf entered (job.Check c) = (rows : List Row) × (entered ≡ Some (codes "check", rows)) × IsCheckJob rows c
 IsJobOf entered (job.Sim s) = (rows : List Row) × (entered ≡ Some (codes "sim", rows)) × IsSimJob rows s
 IsJobOf entered (job.Run r) = (rows : List Row) × (entered ≡ Some (codes "run", rows)) × IsRunJob rows r

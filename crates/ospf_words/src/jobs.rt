@@ -6,6 +6,7 @@ ghost use Rattle.ospf_words.specs.Job.{address_line};
 
 use clap::error::ErrorKind;
 use ospf_base::Addr;
+use ospf_failures::FailuresJob;
 use ospf_files::{FailedStreams, Failure, Status};
 use ospf_table::TableJob;
 use std::alloc::AllocError;
@@ -17,6 +18,8 @@ use thiserror::Error;
 pub enum Job {
     /// Computes the routing table of a router over the LSAs on standard input.
     Table(TableJob),
+    /// Tells what each failure does to the routing table of a router over the LSAs on standard input.
+    Failures(FailuresJob),
     /// Checks configurations.
     Check(CheckJob),
     /// Runs a script in a world of routers.
@@ -30,8 +33,10 @@ pub enum Job {
 pub struct CheckJob {
     /// The names of their files.
     pub files: Vec<String>,
-    /// Whether it is said what to do about those that are refused.
+    /// Whether it is said what to do about what is told.
     pub explain: bool,
+    /// Whether they are of one area, and are judged together.
+    pub area: bool,
 }
 
 /// A simulation that is asked for.

@@ -5,7 +5,7 @@ ghost use Rattle.std.specs.Prelude.{OnOk, [], ◌≡◌, ◌∷◌, false, map, 
 ghost use Rattle.clap.specs.Words.{app_of, found_of, rows_of, rule_of, subcommand_rows_of, with_subcommand};
 ghost use Rattle.ospf_words.specs.Job.{IsFaultOfNoValue, IsFaultOfValue, IsHelp};
 ghost use Rattle.ospf_words.specs.Unasked.{IsFirstWrong, IsJobIfAny, IsNoAddress, IsUnasked, IsWrongValue};
-ghost use Rattle.ospf_words.specs.Words.{IsAddressIfAny, IsAsked, Spell, addresses_rule, check_app, command_app, explain_rule, files_rule, option_rule, ospfd_app, root_rule, run_app, script_rule, sim_app, table_app, tick_rule, ticks_rule};
+ghost use Rattle.ospf_words.specs.Words.{IsAddressIfAny, IsAsked, Spell, addresses_rule, check_app, command_app, failures_app, files_rule, flag_rule, option_rule, ospfd_app, root_rule, run_app, script_rule, sim_app, table_app, tick_rule, ticks_rule};
 
 use crate::build::VERSION;
 use crate::jobs::{CheckJob, Job, JobFault, RunJob, SimJob};
@@ -13,6 +13,7 @@ use clap::builder::ValueParser;
 use clap::error::ErrorKind;
 use clap::{Arg, ArgAction, ArgMatches, Command};
 use ospf_base::Addr;
+use ospf_failures::FailuresJob;
 use ospf_table::TableJob;
 use std::alloc::{AllocError, Global};
 use std::str::FromStr;
@@ -49,6 +50,35 @@ Exit status:
 
 Example:
   ospfd table 1.1.1.1 192.168.2.9 < lsas.txt
+";
+
+// What `failures --help` says below its words.
+const FAILURES_HELP: &str = "Output:
+  FAILURE cut N gone N cost N hops N
+                              a line a failure, most cut first: how many prefixes
+                              are cut off, gone, dearer, or have other hops
+  with --each a line a route that changes, before the line of its failure:
+  FAILURE cut PREFIX          reached no more, though a router still tells it
+  FAILURE gone PREFIX         reached no more, and nobody tells it any more
+  FAILURE cost PREFIX OLD>NEW HOPS
+  FAILURE hops PREFIX COST HOPS
+A failure is one of
+  R-S@SUBNET                  the link of two routers
+  R-S                         all links of two routers that name no subnet
+  R@NETWORK                   a router's interface to a network
+  @NETWORK                    the network
+  R                           the router
+
+Exit status:
+  0  done
+  1  with --strict, a failure cuts a prefix off
+  2  the words fit no command, or ROOT is no address
+  3  a line was refused: its number and fault are on standard error
+  4  memory ran out
+  5  standard input was not read, or standard output not written
+
+Example:
+  ospfd failures 1.1.1.1 < lsas.txt
 ";
 
 // What `check --help` says below its words.
@@ -145,15 +175,48 @@ fn addresses_arg<'a>(alloc: Global) -> Arg<'a>
         .action(ArgAction::Append)
 }
 
+// Whether each route that changes is told.
+fn each_arg<'a>(alloc: Global) -> Arg<'a>
+    ensures rule { rule_of result ≡ flag_rule (codes "each") }
+    ensures local { result.global ≡ false }
+{
+    Arg::new(alloc, "each")
+        .long("each")
+        .action(ArgAction::SetTrue)
+        .help("Tells each route that a failure changes")
+}
+
+// Whether a failure that cuts a prefix off is an error.
+fn strict_arg<'a>(alloc: Global) -> Arg<'a>
+    ensures rule { rule_of result ≡ flag_rule (codes "strict") }
+    ensures local { result.global ≡ false }
+{
+    Arg::new(alloc, "strict")
+        .long("strict")
+        .action(ArgAction::SetTrue)
+        .help("Ends with status 1 where a failure cuts a prefix off")
+}
+
 // Whether it is said what to do about files that are refused.
 fn explain_arg<'a>(alloc: Global) -> Arg<'a>
-    ensures rule { rule_of result ≡ explain_rule }
+    ensures rule { rule_of result ≡ flag_rule (codes "explain") }
     ensures local { result.global ≡ false }
 {
     Arg::new(alloc, "explain")
         .long("explain")
         .action(ArgAction::SetTrue)
         .help("Says of each refused file which key is wrong, and what belongs there")
+}
+
+// Whether the files are judged together.
+fn area_arg<'a>(alloc: Global) -> Arg<'a>
+    ensures rule { rule_of result ≡ flag_rule (codes "area") }
+    ensures local { result.global ≡ false }
+{
+    Arg::new(alloc, "area")
+        .long("area")
+        .action(ArgAction::SetTrue)
+        .help("Judges the files together, as the routers of one area")
 }
 
 // The files of configurations.
@@ -273,6 +336,19 @@ fn with_table<'a>(program: Command<'a>, alloc: Global) -> Result<Command<'a>, Al
     program.subcommand(table)
 }
 
+// Adds the command `failures` and its words.
+fn with_failures<'a>(program: Command<'a>, alloc: Global) -> Result<Command<'a>, AllocError>
+    ensures { IfOk result (λ c. app_of c ≡ with_subcommand (app_of program.entry) failures_app.top) }
+{
+    let failures = Command::new(alloc, "failures")
+        .about("Tells what each single failure does to a routing table")
+        .after_help(FAILURES_HELP)
+        .arg(root_arg(alloc))?
+        .arg(each_arg(alloc))?
+        .arg(strict_arg(alloc))?;
+    program.subcommand(failures)
+}
+
 // Adds the command `check` and its words.
 fn with_check<'a>(program: Command<'a>, alloc: Global) -> Result<Command<'a>, AllocError>
     ensures { IfOk result (λ c. app_of c ≡ with_subcommand (app_of program.entry) check_app.top) }
@@ -281,6 +357,7 @@ fn with_check<'a>(program: Command<'a>, alloc: Global) -> Result<Command<'a>, Al
         .about("Checks configurations in TOML")
         .after_help(CHECK_HELP)
         .arg(explain_arg(alloc))?
+        .arg(area_arg(alloc))?
         .arg(files_arg(alloc))?;
     program.subcommand(check)
 }
@@ -320,6 +397,7 @@ fn command<'a>(alloc: Global) -> Result<Command<'a>, AllocError>
     ensures { IfOk result (λ c. app_of c ≡ command_app) }
 {
     let program = with_table(program(alloc)?, alloc)?;
+    let program = with_failures(program, alloc)?;
     let program = with_check(program, alloc)?;
     let program = with_sim(program, alloc)?;
     with_run(program, alloc)
@@ -367,6 +445,20 @@ fn table_job(alloc: Global, values: &ArgMatches<'_>) -> Result<Option<Job>, JobF
     })))
 }
 
+// The values of `failures`: its job, if they have a root.
+fn failures_job(alloc: Global, values: &ArgMatches<'_>) -> Result<Option<Job>, JobFault>
+    ensures ok { IfOk result (IsJobIfAny (Some (codes "failures", rows_of (found_of values.now)))) }
+    ensures fault { IfErr result (IsFaultOfValue (IsWrongValue (Some (codes "failures", rows_of (found_of values.now))))) }
+{
+    let Some(word) = values.get_str("root") else {
+        return Ok(None);
+    };
+    let root = parsed(alloc, word)?;
+    let each = values.get_flag("each");
+    let strict = values.get_flag("strict");
+    Ok(Some(Job::Failures(FailuresJob { root, each, strict })))
+}
+
 // The texts of words.
 fn owned(alloc: Global, words: &[&str]) -> Result<Vec<String>, AllocError>
     ensures { IfOk result (λ texts. map string_bytes texts.items ≡ map (λ w. w.now) words.now) }
@@ -387,7 +479,12 @@ fn check_job(alloc: Global, values: &ArgMatches<'_>) -> Result<Option<Job>, Allo
     };
     let files = owned(alloc, files)?;
     let explain = values.get_flag("explain");
-    Ok(Some(Job::Check(CheckJob { files, explain })))
+    let area = values.get_flag("area");
+    Ok(Some(Job::Check(CheckJob {
+        files,
+        explain,
+        area,
+    })))
 }
 
 // The text of a word, if there is one.
@@ -468,6 +565,9 @@ fn entered_job(alloc: Global, matches: &ArgMatches<'_>) -> Result<Option<Job>, J
 {
     if let Some(values) = matches.subcommand_matches("table") {
         return table_job(alloc, values);
+    }
+    if let Some(values) = matches.subcommand_matches("failures") {
+        return failures_job(alloc, values);
     }
     if let Some(values) = matches.subcommand_matches("check") {
         return Ok(check_job(alloc, values)?);

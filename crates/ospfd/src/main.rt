@@ -4,11 +4,12 @@
 mod screen;
 
 use crate::screen::Screen;
-use ospf_check::check_text;
+use ospf_check::{check_area_text, check_text};
+use ospf_failures::failures_text;
 use ospf_files::{
     FailedStreams, Failure, NamedFile, Status, read_file, read_files, tell_unwritten,
 };
-use ospf_notes::Notes;
+use ospf_notes::{Line, Notes};
 use ospf_records::write_records;
 use ospf_run::{Settings, run_text};
 use ospf_sim::{Simulated, sim_text};
@@ -43,13 +44,33 @@ fn job_of<R: Runtime + AllocGlobal>(rt: &R) -> io::Result<Result<Job, JobFault>>
     Ok(job(alloc, &words))
 }
 
+// Checks the configurations in the files of these names, together if they are of one area.
+fn run_check<R: Runtime + AllocGlobal, O: Write, E: Write>(
+    rt: &R,
+    job: CheckJob,
+    out: &mut O,
+    err: &mut E,
+) -> io::Result<Status> {
+    let CheckJob {
+        files,
+        explain,
+        area,
+    } = job;
+    let files = read_files(rt, files)?;
+    if area {
+        Ok(check_area_text(rt.alloc(), &files, explain, out, err))
+    } else {
+        Ok(check_text(rt.alloc(), &files, explain, out, err))
+    }
+}
+
 // Runs a simulation over the files of these names, and writes what is wanted of the world that it leaves.
 fn run_sim<R: Runtime + AllocGlobal + Clock + Copy + Drop, O: Write, E: Write, T: Write + Drop>(
     rt: &R,
     job: SimJob,
     out: &mut O,
     err: &mut E,
-    terminal: Option<T>,
+    line: Line<T>,
 ) -> io::Result<Status> {
     let SimJob {
         script,
@@ -59,7 +80,7 @@ fn run_sim<R: Runtime + AllocGlobal + Clock + Copy + Drop, O: Write, E: Write, T
     } = job;
     let script = read_file(rt, script)?;
     let files = read_files(rt, files)?;
-    let mut screen = Screen::new(*rt, terminal);
+    let mut screen = Screen::new(*rt, line);
     let Simulated { status, world } = sim_text(rt.alloc(), &script, &files, out, err, &mut screen);
     if let Some(world) = world {
         if !write_records(rt, &world, dot.as_deref(), pcap.as_deref(), err)? {
@@ -99,11 +120,11 @@ fn run_noted<
     pcap: Option<(String, F)>,
     out: &mut O,
     err: &mut E,
-    terminal: Option<T>,
+    line: Line<T>,
 ) -> io::Result<Status> {
     let alloc = rt.alloc();
     let (name, capture) = pcap.unzip();
-    let notes = Notes::new(*rt, alloc, settings.ticks, capture, terminal)?;
+    let notes = Notes::new(*rt, alloc, settings.ticks, capture, line)?;
     let status = run_text(rt, alloc, settings, files, &notes, out, err);
     match name {
         Some(name) if !notes.is_written() => {
@@ -120,7 +141,7 @@ fn run_routers<
     O: Write,
     E: Write,
     T: Write + Send + Drop + 'static,
->(rt: &R, job: RunJob, out: &mut O, err: &mut E, terminal: Option<T>) -> io::Result<Status>
+>(rt: &R, job: RunJob, out: &mut O, err: &mut E, line: Line<T>) -> io::Result<Status>
 where
     R::File: Send + 'static,
 {
@@ -140,55 +161,49 @@ where
         floor,
     };
     match pcap {
-        None => run_noted::<R, O, E, R::File, T>(rt, &settings, &files, None, out, err, terminal),
+        None => run_noted::<R, O, E, R::File, T>(rt, &settings, &files, None, out, err, line),
         Some(name) => match open_capture(rt, &name, err)? {
-            Some(file) => run_noted(
-                rt,
-                &settings,
-                &files,
-                Some((name, file)),
-                out,
-                err,
-                terminal,
-            ),
+            Some(file) => run_noted(rt, &settings, &files, Some((name, file)), out, err, line),
             None => Ok(Status::Stream),
         },
     }
 }
 
-// Does what the program's words say, and tells on the terminal, if standard error is one, how far it has come. Where it fails,
+// Does what the program's words say, and tells by the line how far it has come, if standard error is a terminal. Where it fails,
 // memory ran out.
 fn run<
     R: Runtime + AllocGlobal + Net + Threads + Wait + Clock + Copy + Send + Drop + 'static,
     E: Write,
     T: Write + Send + Drop + 'static,
->(rt: &R, err: &mut E, terminal: Option<T>) -> io::Result<Status>
+>(rt: &R, err: &mut E, line: Line<T>) -> io::Result<ExitCode>
 where
     R::File: Send + 'static,
 {
     let alloc = rt.alloc();
     let mut out = BufWriter::new(alloc, io::writer(rt))?;
-    match job_of(rt)? {
+    let status = match job_of(rt)? {
         Ok(Job::Table(table)) => {
             let input = BufReader::new(alloc, rt.reader())?;
-            Ok(table_text(alloc, rt, &table, input, &mut out, err))
+            table_text(alloc, rt, &table, input, &mut out, err)
         }
-        Ok(Job::Check(check)) => {
-            let CheckJob { files, explain } = check;
-            let files = read_files(rt, files)?;
-            Ok(check_text(alloc, &files, explain, &mut out, err))
+        Ok(Job::Failures(failures)) => {
+            let input = BufReader::new(alloc, rt.reader())?;
+            let status = failures_text(alloc, &failures, input, &mut out, err);
+            return Ok(ExitCode::from(status));
         }
-        Ok(Job::Sim(sim)) => run_sim(rt, sim, &mut out, err, terminal),
-        Ok(Job::Run(routers)) => run_routers(rt, routers, &mut out, err, terminal),
-        Err(fault) => Ok(fault.tell(&mut out, err)),
-    }
+        Ok(Job::Check(check)) => run_check(rt, check, &mut out, err)?,
+        Ok(Job::Sim(sim)) => run_sim(rt, sim, &mut out, err, line)?,
+        Ok(Job::Run(routers)) => run_routers(rt, routers, &mut out, err, line)?,
+        Err(fault) => fault.tell(&mut out, err),
+    };
+    Ok(ExitCode::from(status))
 }
 
 fn main(rt: HostRuntime) -> ExitCode {
     let err = rt.stderr();
-    let terminal = if err.is_terminal() { Some(err) } else { None };
-    match run(&rt, &mut rt.stderr(), terminal) {
-        Ok(status) => ExitCode::from(status),
+    let is_terminal = err.is_terminal();
+    match run(&rt, &mut rt.stderr(), Line::new(err, is_terminal)) {
+        Ok(code) => code,
         Err(_) => ExitCode::from(Failure::Memory.tell(
             &mut rt.stderr(),
             &mut FailedStreams::none(),

@@ -13,9 +13,8 @@ pub(crate) struct Screen<C: Clock + Drop, T: Write + Drop> {
 }
 
 impl<C: Clock + Drop, T: Write + Drop> Screen<C, T> {
-    /// Tells nothing without a terminal.
-    pub(crate) fn new(clock: C, terminal: Option<T>) -> Screen<C, T> {
-        let line = Line::new(terminal);
+    /// Tells nothing where the line is on no terminal.
+    pub(crate) fn new(clock: C, line: Line<T>) -> Screen<C, T> {
         Screen { clock, line }
     }
 }

@@ -23,5 +23,10 @@ returns c =
           set = λ e. c.get_flag-explain.ensures.value (one_text-rows found (codes "explain") ∙ e);
           unset = λ e. c.get_flag-explain.ensures.other (one_text-rows found (codes "explain") ∙ e);
         };
+        area = record {
+          none = λ e. c.get_flag-area.ensures.none (one_text-rows found (codes "area") ∙ e);
+          set = λ e. c.get_flag-area.ensures.value (one_text-rows found (codes "area") ∙ e);
+          unset = λ e. c.get_flag-area.ensures.other (one_text-rows found (codes "area") ∙ e);
+        };
       },
     )
