@@ -5,6 +5,7 @@ use ospf_lsa::{
     Link, LinkKind, Listing, ListingFault, Lsa, LsaFault, LsaHeader, LsaView, Recency, newer,
 };
 use std::alloc::Global;
+use std::collections::BTreeMap;
 use std::test::Fail;
 
 // The router-LSA of 1.1.1.1: a link to 2.2.2.2 and the stub network 10.0.0.0/30.
@@ -292,6 +293,125 @@ fn lists_no_other(rt: HostRuntime) -> Result<(), Fail> {
     twice.set_age(Age::new(3600));
     assert!(rt; listing.add(twice).err() == Some(ListingFault::Twice));
     assert!(rt; listing.lsas().len() == 1);
+    Ok(())
+}
+
+// The network-LSA of 10.0.0.1/24 of this key, with another number.
+fn network_again(alloc: Global, id: u32, router: u32, number: i32) -> Result<Lsa, LsaFault> {
+    Lsa::network(alloc, id, RouterId(router), number, 0xffff_ff00, &[])
+}
+
+// The keys of a listing's networks, by Link State ID and Advertising Router, with their numbers.
+fn listed_networks(alloc: Global, listing: &Listing) -> Result<Vec<(u32, u32, i32)>, Fail> {
+    let mut found = Vec::new(alloc);
+    for lsa in listing.lsas() {
+        let header = lsa.view().header();
+        found.push((header.id, header.router.0, header.number))?;
+    }
+    Ok(found)
+}
+
+#[test]
+fn puts_where_the_key_belongs(rt: HostRuntime) -> Result<(), Fail> {
+    let alloc = rt.alloc();
+    let mut listing = Listing::new(alloc);
+    // the first, in front of it, behind all, and in the middle
+    for (id, router) in [(5, 4), (5, 2), (7, 1), (5, 9)] {
+        listing.put(network_by(alloc, id, router)?)?;
+    }
+    let number = FIRST_NUMBER;
+    let want = [
+        (5, 2, number),
+        (5, 4, number),
+        (5, 9, number),
+        (7, 1, number),
+    ];
+    assert!(rt; listed_networks(alloc, &listing)?.as_slice() == want.as_slice());
+    Ok(())
+}
+
+#[test]
+fn puts_in_the_place_of_its_key(rt: HostRuntime) -> Result<(), Fail> {
+    let alloc = rt.alloc();
+    let mut listing = Listing::new(alloc);
+    for (id, router) in [(5, 2), (5, 4), (5, 9), (7, 1)] {
+        listing.put(network_by(alloc, id, router)?)?;
+    }
+    let number = FIRST_NUMBER;
+    for (id, router, at) in [(5, 2, 0), (5, 9, 2), (7, 1, 3)] {
+        let again = network_again(alloc, id, router, number + 1 + at)?;
+        listing.put(again)?;
+        assert!(rt; listing.lsas().len() == 4);
+        let key = LsaKey {
+            kind: Kind::Network,
+            id,
+            router: RouterId(router),
+        };
+        let there = listing.get(&key).map(|lsa| lsa.view().header().number);
+        assert!(rt; there == Some(number + 1 + at));
+    }
+    let want = [
+        (5, 2, number + 1),
+        (5, 4, number),
+        (5, 9, number + 3),
+        (7, 1, number + 4),
+    ];
+    assert!(rt; listed_networks(alloc, &listing)?.as_slice() == want.as_slice());
+    Ok(())
+}
+
+#[test]
+fn puts_none_that_leaves(rt: HostRuntime) -> Result<(), Fail> {
+    let alloc = rt.alloc();
+    let mut listing = Listing::new(alloc);
+    let mut old = Lsa::copy(alloc, &LsaView::read(&FIRST)?)?;
+    old.set_age(Age::new(3600));
+    assert!(rt; listing.put(old).err() == Some(ListingFault::MaxAge));
+    assert!(rt; listing.lsas().is_empty());
+    let mut young = Lsa::copy(alloc, &LsaView::read(&FIRST)?)?;
+    young.set_age(Age::new(3599));
+    listing.put(young)?;
+    let mut again = Lsa::copy(alloc, &LsaView::read(&FIRST)?)?;
+    again.set_age(Age::new(3600));
+    assert!(rt; listing.put(again).err() == Some(ListingFault::MaxAge));
+    assert!(rt; listing.lsas().len() == 1);
+    assert!(rt; listing.lsas()[0].view().header().age == Age::new(3599));
+    Ok(())
+}
+
+// The next number drawn.
+fn draw(drawn: &mut u64, below: u32) -> u32 {
+    *drawn = drawn
+        .wrapping_mul(6_364_136_223_846_793_005)
+        .wrapping_add(1_442_695_040_888_963_407);
+    (*drawn >> 33) as u32 % below
+}
+
+#[test]
+fn puts_as_a_map_does(rt: HostRuntime) -> Result<(), Fail> {
+    let alloc = rt.alloc();
+    let mut listing = Listing::new(alloc);
+    let mut plain: BTreeMap<LsaKey, i32> = BTreeMap::new(alloc);
+    let mut drawn = 11;
+    for k in 0..4000 {
+        let (id, router) = (draw(&mut drawn, 12), draw(&mut drawn, 9));
+        let number = FIRST_NUMBER + k;
+        let lsa = if draw(&mut drawn, 4) == 0 {
+            Lsa::router(alloc, RouterId(id), number, &[])?
+        } else {
+            network_again(alloc, id, router, number)?
+        };
+        plain.insert(lsa.view().key(), number)?;
+        listing.put(lsa)?;
+        assert!(rt; listing.lsas().len() == plain.len());
+        if k % 50 == 0 {
+            for (lsa, (key, number)) in listing.lsas().iter().zip(plain.iter()) {
+                let header = lsa.view().header();
+                assert!(rt; header.key() == Some(*key) && header.number == *number);
+            }
+        }
+    }
+    assert!(rt; plain.len() == 12 + 12 * 9);
     Ok(())
 }
 

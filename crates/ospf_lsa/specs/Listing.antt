@@ -1,5 +1,5 @@
 -- The LSAs that a database lists (RFC 2328, section 12.2; those of age MaxAge take no part, section 14).
-use Rattle.std.specs.Prelude.{◌≡◌, ℕ, ◌<◌, ◌≤◌, List, [], ◌∷◌, ◌++◌, length, take, drop, slice_index_or}
+use Rattle.std.specs.Prelude.{◌≡◌, ◌≢◌, ◌↔◌, ◌⊎◌, ℕ, ◌<◌, ◌≤◌, List, [], ◌∷◌, ◌++◌, length, take, drop, slice_index_or}
 use Rattle.std.specs.List.{Any, AllByRecursion, Contains}
 use Rattle.ospf_base.specs.Bytes.{number_at}
 use Rattle.ospf_base.specs.declared.ids.LsaKey.{LsaKey}
@@ -31,6 +31,10 @@ pub record IsInserted (lsa : List ℕ) (old new : List (List ℕ)) : Type 0 wher
   pub after : List (List ℕ)
   pub old_is : old ≡ before ++ after
   pub new_is : new ≡ before ++ lsa ∷ after
+
+-- the new list has this LSA, and of the others those of another key
+abbrev pub IsPut : List ℕ → List (List ℕ) → List (List ℕ) → Type 0
+IsPut lsa old new = (x : List ℕ) → Contains new x ↔ ((x ≡ lsa) ⊎ (Contains old x × (key_of x ≢ key_of lsa)))
 
 -- an LSA of this key belongs in front of place `at`
 pub record IsPlace (lsas : List (List ℕ)) (key : LsaKey) (at : ℕ) : Type 0 where

@@ -1,14 +1,14 @@
 //! The LSAs that a database lists.
 
-ghost use Rattle.std.specs.Prelude.{◌≡◌, ◌<◌, ◌↔◌, ℕ, List, [], IsTrue, OnOk, OnErr, Err, IfOk, IfErr, IfSome, IfNone, Contains, length, slice_index_or};
+ghost use Rattle.std.specs.Prelude.{◌≡◌, ◌<◌, ◌↔◌, ◌⊎◌, ℕ, List, [], IsTrue, OnOk, OnErr, Err, IfOk, IfErr, IfSome, IfNone, Contains, length, slice_index_or};
 ghost use Rattle.ospf_lsa.specs.Header.{header_of};
 ghost use Rattle.ospf_lsa.specs.Lsa.{key_of};
-ghost use Rattle.ospf_lsa.specs.Listing.{IsListing, IsRising, HasKey, IsPlace, IsInserted, IsCount, IsNetworkOf, IsOfNetwork};
+ghost use Rattle.ospf_lsa.specs.Listing.{IsListing, IsListed, IsRising, HasKey, IsPlace, IsInserted, IsPut, IsCount, IsNetworkOf, IsOfNetwork};
 ghost use Rattle.ospf_lsa.specs.declared.listing.ListingFault.TheVariants as fault;
 
 use crate::lsa::Lsa;
 use ospf_base::{Kind, LsaKey, MAX_AGE, RouterId};
-use std::alloc::Global;
+use std::alloc::{AllocError, Global};
 use std::fmt::{self, Display, Formatter, Write};
 use std::marker::Model;
 use thiserror::Error;
@@ -130,6 +130,28 @@ impl Listing {
         }
         Ok(())
     }
+
+    /// Puts an LSA in the place of the one of its key, or in where its key belongs if none is
+    /// listed (RFC 2328, section 12.2).
+    ///
+    /// `MaxAge` where its age is `MAX_AGE`, else `Memory` where none of its key is listed and memory
+    /// runs out. The listing is unchanged by each.
+    pub fn put(&mut self, lsa: Lsa) -> Result<(), ListingFault>
+        ensures ok { OnOk result (IsPut lsa self.old self.new) }
+        ensures err { OnErr result (self.new ≡ self.old) }
+        ensures faults { IfErr result (λ f. (f ≡ fault.MaxAge) ⊎ (f ≡ fault.Memory)) }
+        ensures max_age { (result ≡ Err fault.MaxAge) ↔ ((header_of lsa).age ≡ 3600) }
+        ensures memory { result ≡ Err fault.Memory → HasKey self.old (key_of lsa) → ⊥ }
+    {
+        let age = lsa.view().header().age;
+        if age.ticks() == MAX_AGE {
+            return Err(ListingFault::MaxAge);
+        }
+        if put_in(&mut self.lsas, lsa).is_err() {
+            return Err(ListingFault::Memory);
+        }
+        Ok(())
+    }
 }
 
 // How many LSAs have keys that do not stand after this one.
@@ -176,6 +198,27 @@ fn place_of(lsas: &[Lsa], key: &LsaKey) -> Option<usize>
     match search(lsas, key) {
         Ok(_) => None,
         Err(at) => Some(at),
+    }
+}
+
+// Puts an LSA in the place of the one of its key, or in where its key belongs.
+fn put_in(lsas: &mut Vec<Lsa>, lsa: Lsa) -> Result<(), AllocError>
+    requires listing { IsListing lsas.old.items }
+    requires listed { IsListed lsa }
+    ensures ok { OnOk result (IsPut lsa lsas.old.items lsas.new.items) }
+    ensures err { OnErr result (lsas.new.items ≡ lsas.old.items) }
+    ensures none { OnErr result (HasKey lsas.old.items (key_of lsa) → ⊥) }
+    ensures listing { IsListing lsas.new.items }
+{
+    match search(lsas, &lsa.view().key()) {
+        Ok(at) => {
+            lsas[at] = lsa;
+            Ok(())
+        }
+        Err(at) => {
+            lsas.insert(at, lsa)?;
+            Ok(())
+        }
     }
 }
 
