@@ -55,15 +55,15 @@ settled_of-set (s ∷ rest) (suc k) r same near =
 pub none_some : (o : Option ℕ) (k : ℕ) → o ≡ None → o ≡ Some k → ⊥
 none_some o k a b = let no : None ≡ Some k = sym a ∙ b in cc
 
-some_same : (o : Option ℕ) (j k : ℕ) → o ≡ Some j → o ≡ Some k → j ≡ k
+pub some_same : (o : Option ℕ) (j k : ℕ) → o ≡ Some j → o ≡ Some k → j ≡ k
 some_same o j k a b = let both : Some j ≡ Some k = sym a ∙ b in cc
 
 module _ (place : ℕ → Option ℕ) (rs : List Reached) (are : ArePlaces place rs) where
-  place_at : (r : Reached) → Contains rs r → (j : ℕ) × (j < length rs) × (place (vertex_code r.vertex) ≡ Some j) × (get_or rs j r ≡ r)
+  pub place_at : (r : Reached) → Contains rs r → (j : ℕ) × (j < length rs) × (place (vertex_code r.vertex) ≡ Some j) × (get_or rs j r ≡ r)
   place_at r m = (m.0, m.1, ap (λ x. place (vertex_code x.vertex)) (sym m.2) ∙ are.known m.0 r m.1, m.2)
 
   -- the one at a vertex stands at its place
-  stands : (r : Reached) (v : Vertex) (k : ℕ) → Contains rs r → r.vertex ≡ v → place (vertex_code v) ≡ Some k → get_or rs k r ≡ r
+  pub stands : (r : Reached) (v : Vertex) (k : ℕ) → Contains rs r → r.vertex ≡ v → place (vertex_code v) ≡ Some k → get_or rs k r ≡ r
   stands r v k m at is =
       let p = place_at r m in
       let same : p.0 ≡ k = some_same (place (vertex_code v)) p.0 k (ap (λ w. place (vertex_code w)) (sym at) ∙ p.2) is in

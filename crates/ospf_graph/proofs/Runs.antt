@@ -62,7 +62,7 @@ module _ {X : Type 0} (key : X → ℕ) (xs : List X) (n i j : ℕ) (run : IsRun
 not_less : (a b : ℕ) → ltb a b ≡ false → b ≤ a
 not_less a b h = grind arith
 
-not_upto : (a b : ℕ) → leb a b ≡ false → b < a
+pub not_upto : (a b : ℕ) → leb a b ≡ false → b < a
 not_upto a b h = grind arith
 
 -- from two searches

@@ -17,8 +17,6 @@ use Rattle.ospf_graph.specs.declared.graph.Start.TheVariants.{Here}
 use Rattle.ospf_graph.specs.declared.paths.Settled.{Settled}
 use Rattle.ospf_graph.specs.declared.paths.VertexStart.{VertexStart}
 use Rattle.ospf_graph.specs.declared.candidates.Candidate.{Candidate}
-use Rattle.ospf_graph.specs.declared.reached.Reached.{Reached}
-use Rattle.ospf_graph.specs.Reached.{settled_of, starts_of}
 use Rattle.ospf_graph.specs.Tree.{rank, IsTree}
 use Rattle.ospf_graph.specs.Search.{candidate_rank, candidates_from, vertex_eq, vertex_id, vertex_code, AreNoted, BringsStarts, Joins, Takes, AtIn, StartsIn, WaitsIn, IsFit}
 use Rattle.ospf_graph.proofs.ListLemmas.{bool_cases, member_cases, member_later, member_head}
@@ -427,8 +425,6 @@ tree_edges edges sorted same root s b t =
     (λ e h. Contains-permutation edges sorted e same h) root (AtIn s) (StartsIn b) t
 
 -- the tree of a search, told by lists in order
-pub put_in_order : (edges sorted : List Edge) → IsPermutation edges sorted → (root : Vertex) (rs : List Reached) (s s' : List Settled) (b b' : List VertexStart)
-    → s ≡ settled_of rs → b ≡ starts_of rs → IsPermutation s s' → IsPermutation b b'
-    → IsTree (Contains sorted) root (AtIn (settled_of rs)) (StartsIn (starts_of rs)) → IsTree (Contains edges) root (AtIn s') (StartsIn b')
-put_in_order edges sorted same root rs s s' b b' s_is b_is same_s same_b t =
-    tree_edges edges sorted same root s' b' (tree_sorted sorted root s s' b b' same_s same_b (rw (s_is, b_is) t))
+pub put_in_order : (edges sorted : List Edge) → IsPermutation edges sorted → (root : Vertex) (s s' : List Settled) (b b' : List VertexStart)
+    → IsPermutation s s' → IsPermutation b b' → IsTree (Contains sorted) root (AtIn s) (StartsIn b) → IsTree (Contains edges) root (AtIn s') (StartsIn b')
+put_in_order edges sorted same root s s' b b' same_s same_b t = tree_edges edges sorted same root s' b' (tree_sorted sorted root s s' b b' same_s same_b t)

@@ -25,6 +25,10 @@ candidates_from v d [] = []
 candidates_from v d (e ∷ rest) =
     cond (vertex_eq e.from v) (record { edge = e; distance = d + e.cost } ∷ candidates_from v d rest) (candidates_from v d rest)
 
+-- the same edges leave the vertex, in order
+abbrev pub HaveSameFrom : Vertex → List Edge → List Edge → Type 0
+HaveSameFrom v edges some = (d : ℕ) → candidates_from v d edges ≡ candidates_from v d some
+
 -- the distance at which a vertex is reached, a start that it has, and an edge that waits at a distance
 abbrev pub AtIn : List Settled → Vertex → ℕ → Type 0
 AtIn settled v d = Contains settled (record { vertex = v; distance = d })

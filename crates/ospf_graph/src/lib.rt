@@ -4,7 +4,9 @@
 
 mod candidates;
 mod graph;
+mod grow;
 mod hop;
+mod kept;
 mod laws;
 mod lookups;
 mod pairs;
@@ -12,10 +14,12 @@ mod paths;
 mod reached;
 mod route;
 mod show;
+mod shrink;
 
 pub use crate::graph::{Edge, Start, Vertex, vertex_order};
 pub use crate::hop::NextHop;
-pub use crate::laws::{one_table, walk_law};
+pub use crate::kept::KeptPaths;
+pub use crate::laws::{edges_elsewhere_stay, one_table, walk_law};
 pub use crate::lookups::{distance_at, starts_at};
 pub use crate::pairs::{Pairs, pair_order};
 pub use crate::paths::{Settled, ShortestPaths, VertexStart, is_same, shortest_paths};

@@ -3,11 +3,13 @@
 ghost use Rattle.std.specs.Prelude.{◌≡◌, ◌+◌, ◌*◌, ◌++◌, ◌<◌, ◌≤◌, ◌↔◌, ◌⊎◌, ◌^◌, ◌∷◌, [], ℕ, All, Contains, IsTrue, IfOk, IfSome, IfNone, OnOk, MatchOption, IsPermutation, None, Some, nat_eq, length};
 ghost use Rattle.std.specs.List.Sorted.{IsNonDecreasingBy};
 ghost use Rattle.std.specs.HashMap.{get};
+ghost use Rattle.ospf_graph.specs.declared.graph.Edge.{Edge};
 ghost use Rattle.ospf_graph.specs.declared.paths.Settled.{Settled};
 ghost use Rattle.ospf_graph.specs.declared.graph.Start.TheVariants.{Here};
+ghost use Rattle.ospf_graph.specs.Kept.{AreSettledInOrder, AreStartsInOrder};
 ghost use Rattle.ospf_graph.specs.Reached.{ArePlaces, settled_of, starts_at, starts_of};
 ghost use Rattle.ospf_graph.specs.Tree.{extend, AreLeast, IsTree};
-ghost use Rattle.ospf_graph.specs.Search.{AddsStart, AtIn, BringsStarts, IsFit, Joins, StartsIn, Takes, vertex_code, vertex_id, AreEdgesInOrder, candidates_from, vertex_eq};
+ghost use Rattle.ospf_graph.specs.Search.{AddsStart, AtIn, BringsStarts, IsFit, Joins, StartsIn, Takes, vertex_code, vertex_id, AreEdgesInOrder, HaveSameFrom, candidates_from, vertex_eq};
 
 use crate::candidates::{Candidate, Candidates};
 use crate::graph::{Edge, Start, Vertex, vertex_order};
@@ -45,9 +47,10 @@ pub fn is_same(a: Vertex, b: Vertex) -> bool
 }
 
 // The edges from a vertex, of edges in the order of the vertices that they leave.
-fn edges_from(edges: &[Edge], vertex: Vertex) -> &[Edge]
+pub(crate) fn edges_from(edges: &[Edge], vertex: Vertex) -> &[Edge]
     requires { AreEdgesInOrder edges.now }
-    ensures { (d : ℕ) → candidates_from vertex d edges.now ≡ candidates_from vertex d result.now }
+    ensures same { HaveSameFrom vertex edges.now result.now }
+    ensures part { (e : Edge) → Contains result.now e → Contains edges.now e }
 {
     let order = vertex_order(vertex);
     let from = edges.partition_point(|e| vertex_order(e.from) < order);
@@ -263,7 +266,7 @@ fn sort_starts(starts: &mut Vec<VertexStart>)
 }
 
 // The edges in the order of the vertices that they leave, in memory of their own.
-fn sorted_edges(alloc: Global, edges: &[Edge]) -> Result<Vec<Edge>, AllocError>
+pub(crate) fn sorted_edges(alloc: Global, edges: &[Edge]) -> Result<Vec<Edge>, AllocError>
     ensures same { IfOk result (λ sorted. IsPermutation edges.now sorted.items) }
     ensures in_order { IfOk result (λ sorted. AreEdgesInOrder sorted.items) }
 {
@@ -274,18 +277,20 @@ fn sorted_edges(alloc: Global, edges: &[Edge]) -> Result<Vec<Edge>, AllocError>
 
 // What a search has reached, and how often it looked at the candidates.
 #[derive(Drop)]
-struct Searched {
-    reached: Vec<Reached>,
+pub(crate) struct Searched {
+    pub(crate) reached: Vec<Reached>,
+    pub(crate) places: HashMap<u64, usize>,
     looks: u64,
 }
 
 // The search from a root over edges in the order of the vertices that they leave.
-fn search(alloc: Global, edges: &[Edge], root: Vertex) -> Result<Searched, AllocError>
+pub(crate) fn search(alloc: Global, edges: &[Edge], root: Vertex) -> Result<Searched, AllocError>
     requires fit { IsFit edges.now }
     requires root_fits { vertex_id root < 2 ^ 32 }
     requires in_order { AreEdgesInOrder edges.now }
     ensures tree { IfOk result (λ s. IsTree (Contains edges.now) root (AtIn (settled_of s.reached.items)) (StartsIn (starts_of s.reached.items))) }
     ensures near { IfOk result (λ s. All (λ x. x.distance < 2 ^ 63) (settled_of s.reached.items)) }
+    ensures places { IfOk result (λ s. ArePlaces (get nat_eq s.places) s.reached.items) }
     ensures looks { IfOk result (λ s. s.looks ≤ 2 * length edges.now + 1) }
 {
     let mut reached = Vec::new(alloc);
@@ -307,7 +312,11 @@ fn search(alloc: Global, edges: &[Edge], root: Vertex) -> Result<Searched, Alloc
     }
     tidy_all(&mut reached);
     let looks = candidates.looks();
-    Ok(Searched { reached, looks })
+    Ok(Searched {
+        reached,
+        places,
+        looks,
+    })
 }
 
 /// The vertices that a root reaches, each with its distance, the starts of their least paths, and how often
@@ -317,6 +326,29 @@ pub struct ShortestPaths {
     pub settled: Vec<Settled>,
     pub starts: Vec<VertexStart>,
     pub looks: u64,
+}
+
+/// What is reached, in the order of vertices, and how often the search looked at a candidate.
+pub(crate) fn listed(
+    alloc: Global,
+    reached: &[Reached],
+    looks: u64,
+) -> Result<ShortestPaths, AllocError>
+    ensures settled { IfOk result (λ t. IsPermutation (settled_of reached.now) t.settled.items) }
+    ensures starts { IfOk result (λ t. IsPermutation (starts_of reached.now) t.starts.items) }
+    ensures settled_in_order { IfOk result (λ t. AreSettledInOrder t.settled.items) }
+    ensures starts_in_order { IfOk result (λ t. AreStartsInOrder t.starts.items) }
+    ensures looks { IfOk result (λ t. t.looks ≡ looks) }
+{
+    let mut settled = settled_list(alloc, reached)?;
+    let mut starts = starts_list(alloc, reached)?;
+    sort_settled(&mut settled);
+    sort_starts(&mut starts);
+    Ok(ShortestPaths {
+        settled,
+        starts,
+        looks,
+    })
 }
 
 /// The shortest paths from a root over a list of edges (RFC 2328, section 16.1): of each vertex that some
@@ -339,13 +371,6 @@ pub fn shortest_paths(
 {
     let sorted = sorted_edges(alloc, edges)?;
     let found = search(alloc, &sorted, root)?;
-    let mut settled = settled_list(alloc, &found.reached)?;
-    let mut starts = starts_list(alloc, &found.reached)?;
-    sort_settled(&mut settled);
-    sort_starts(&mut starts);
-    Ok(ShortestPaths {
-        settled,
-        starts,
-        looks: found.looks,
-    })
+    let paths = listed(alloc, &found.reached, found.looks)?;
+    Ok(paths)
 }
