@@ -1,5 +1,5 @@
 -- Loops that add what each element gives.
-use Rattle.std.proofs.Common.{◌≡◌, ◌+◌, ◌<◌, ◌↔◌, ℕ, List, [], ◌∷◌, ◌++◌, length, take, get_or, sym, subst, inl, inr, arith}
+use Rattle.std.proofs.Common.{◌≡◌, ◌+◌, ◌<◌, ◌↔◌, ◌⊎◌, ℕ, List, [], ◌∷◌, ◌++◌, length, take, get_or, sym, subst, inl, inr, arith}
 use Rattle.std.specs.List.{Contains}
 use Rattle.std.proofs.lemmas.List.{take_more}
 use Rattle.std.proofs.lemmas.List.Elements.{Contains-append_left, Contains-push, Contains-push_cases}
@@ -52,4 +52,17 @@ pub adds_as : {Y : Type 0} (P Q : Y → Type 0) (old new : List Y) → ((y : Y) 
 adds_as P Q old new is h y = (
   λ m. elim ((h y).0 m) [ inl o ↦ inl o | inr p ↦ inr ((is y).0 p) ],
   λ m. (h y).1 (elim m [ inl o ↦ inl o | inr q ↦ inr ((is y).1 q) ]),
+)
+
+-- what is added in two steps
+pub adds_both : {Y : Type 0} (P Q : Y → Type 0) (old mid new : List Y) → Adds P old mid → Adds Q mid new → Adds (λ y. P y ⊎ Q y) old new
+adds_both P Q old mid new first then y = (
+  λ m. elim ((then y).0 m) [
+    | inl in_mid ↦ elim ((first y).0 in_mid) [ inl o ↦ inl o | inr p ↦ inr (inl p) ]
+    | inr q ↦ inr (inr q)
+  ],
+  λ m. (then y).1 (elim m [
+    | inl o ↦ inl ((first y).1 (inl o))
+    | inr g ↦ elim g [ inl p ↦ inl ((first y).1 (inr p)) | inr q ↦ inr q ]
+  ]),
 )

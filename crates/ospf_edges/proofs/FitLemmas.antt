@@ -17,7 +17,7 @@ use Rattle.ospf_graph.specs.declared.graph.Edge.{Edge}
 use Rattle.ospf_graph.specs.declared.graph.Vertex.{Vertex}
 use Rattle.ospf_graph.specs.declared.graph.Vertex.TheVariants.{Router, Network}
 use Rattle.ospf_graph.specs.Advertisements.{IsListed, HasLink, network_lsa}
-use Rattle.ospf_graph.specs.Graph.{IsEdgeBetween}
+use Rattle.ospf_graph.specs.Graph.{IsEdge, IsEdgeBetween}
 use Rattle.ospf_graph.specs.Search.{IsFit, vertex_id}
 use Rattle.ospf_graph.specs.Walk.{HasPositiveMetrics}
 use Rattle.ospf_graph.proofs.GraphLemmas.{rising_edges}
@@ -76,10 +76,14 @@ module _ (lsas : List (List ℕ)) (is : IsListing lsas) where
   edge_fits (Network n) (Router b) cost link_data e = let free : cost ≡ 0 = e.0 in (omega arith, router_fits b (e.1.links, e.1.listed))
   edge_fits (Network n) (Network m) cost link_data e = absurd e
 
-  pub edges_fit : (edges : List Edge) → IsEdgesOf (advertisements_of lsas) edges → IsFit edges
-  edges_fit edges are =
+  -- edges of the listing, all or some of them
+  pub some_fit : (edges : List Edge) → ((e : Edge) → Contains edges e → IsEdge (advertisements_of lsas) e) → IsFit edges
+  some_fit edges are =
       record {
-        rising = λ e d m. rising_edges (advertisements_of lsas) positive e d ((are e).0 m);
-        cost_fits = λ e m. (edge_fits e.from e.to e.cost e.link_data ((are e).0 m)).0;
-        id_fits = λ e m. (edge_fits e.from e.to e.cost e.link_data ((are e).0 m)).1;
+        rising = λ e d m. rising_edges (advertisements_of lsas) positive e d (are e m);
+        cost_fits = λ e m. (edge_fits e.from e.to e.cost e.link_data (are e m)).0;
+        id_fits = λ e m. (edge_fits e.from e.to e.cost e.link_data (are e m)).1;
       }
+
+  pub edges_fit : (edges : List Edge) → IsEdgesOf (advertisements_of lsas) edges → IsFit edges
+  edges_fit edges are = some_fit edges (λ e. (are e).0)

@@ -41,7 +41,7 @@ module _ (A : List Advertisement) where
   edge_given (Network n) (Network m) cost link_data e = absurd e
 
   -- the link with the kind that it is known to have
-  link_as : (a : RouterId) (links : List Link) → Contains A (router_lsa a links) → (link : Link) → Contains links link → (kind : LinkKind) → link.kind ≡ kind
+  pub link_as : (a : RouterId) (links : List Link) → Contains A (router_lsa a links) → (link : Link) → Contains links link → (kind : LinkKind) → link.kind ≡ kind
       → HasLink A a kind link.id link.link_data link.metric
   link_as a links listed link link_in kind is =
       record {
@@ -64,7 +64,7 @@ module _ (A : List Advertisement) where
       (refl, g.3.1, record { mask = mask; attached = attached; network = record { router = router; listed = listed; largest = g.0 }; names = g.2 }) in
       subst (λ x. IsEdge A x) (sym g.3.2) is
 
-  given_end : (x : Advertisement) → Contains A x → (e : End) → EndsOf A x e → IsEnd A e.prefix e.vertex e.cost
+  pub given_end : (x : Advertisement) → Contains A x → (e : End) → EndsOf A x e → IsEnd A e.prefix e.vertex e.cost
   given_end (router_lsa r links) listed e h =
       let link = h.0 in
       let g = h.2 in

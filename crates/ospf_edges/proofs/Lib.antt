@@ -1,7 +1,9 @@
 pub mod ListedLemmas
+pub mod VertexLemmas
 pub mod AddsLemmas
 pub mod GivenLemmas
 pub mod FitLemmas
 pub mod AddressLemmas
 pub mod AreaLemmas
 pub mod ItemLemmas
+pub mod NearLemmas

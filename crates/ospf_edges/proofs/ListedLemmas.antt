@@ -55,7 +55,7 @@ module _ (lsas : List (List ℕ)) (is : IsListing lsas) where
   valid : (lsa : List ℕ) → Contains lsas lsa → IsLsa lsa
   valid lsa m = (listed_in lsas is lsa m).0
 
-  to_listed : (lsa : List ℕ) → Contains lsas lsa → Contains (advertisements_of lsas) (advertisement_of lsa)
+  pub to_listed : (lsa : List ℕ) → Contains lsas lsa → Contains (advertisements_of lsas) (advertisement_of lsa)
   unfolding advertisements_of
   to_listed lsa m = member_to_map advertisement_of lsas lsa m
 
@@ -105,11 +105,13 @@ module _ (lsas : List (List ℕ)) (is : IsListing lsas) where
   pub keyed_router : (r : RouterId) (lsa : List ℕ) → Contains lsas lsa → key_of lsa ≡ router_key r → IsRouterLsa lsa
   keyed_router r lsa m key = is_router lsa (valid lsa m) (ap (λ (k : LsaKey). k.kind) key)
 
-  pub router_found : (r : RouterId) (lsa : List ℕ) → Contains lsas lsa → key_of lsa ≡ router_key r → Contains (advertisements_of lsas) (router_lsa r (links_of lsa))
-  router_found r lsa m key =
+  pub router_at : (r : RouterId) (lsa : List ℕ) → Contains lsas lsa → key_of lsa ≡ router_key r → advertisement_of lsa ≡ router_lsa r (links_of lsa)
+  router_at r lsa m key =
       let named : (let made : RouterId = record { 0 = number_at 8 4 lsa } in made) ≡ r = ap (λ (k : LsaKey). k.router) key in
-      let at : advertisement_of lsa ≡ router_lsa r (links_of lsa) = router_of lsa (keyed_router r lsa m key) ∙ ap (λ x. router_lsa x (links_of lsa)) named in
-      subst (λ x. Contains (advertisements_of lsas) x) at (to_listed lsa m)
+      router_of lsa (keyed_router r lsa m key) ∙ ap (λ x. router_lsa x (links_of lsa)) named
+
+  pub router_found : (r : RouterId) (lsa : List ℕ) → Contains lsas lsa → key_of lsa ≡ router_key r → Contains (advertisements_of lsas) (router_lsa r (links_of lsa))
+  router_found r lsa m key = subst (λ x. Contains (advertisements_of lsas) x) (router_at r lsa m key) (to_listed lsa m)
 
   pub router_only : (r : RouterId) (lsa : List ℕ) → Contains lsas lsa → key_of lsa ≡ router_key r → (links : List Link)
       → Contains (advertisements_of lsas) (router_lsa r links) → links ≡ links_of lsa
@@ -124,14 +126,14 @@ module _ (lsas : List (List ℕ)) (is : IsListing lsas) where
       none (at.0, m.0, at.1, at.2, m.1.key)
 
   -- the network-LSA that stands for an ID
+  pub network_at : (n : ℕ) (lsa : List ℕ) → IsOfNetwork n lsa → advertisement_of lsa ≡ network_lsa n (record { 0 = number_at 8 4 lsa }) (network_mask_of lsa) (attached_of lsa)
+  network_at n lsa of = network_of lsa of.0 ∙ ap (λ x. network_lsa x (record { 0 = number_at 8 4 lsa }) (network_mask_of lsa) (attached_of lsa)) of.1
+
   network_here : (n : ℕ) (lsa : List ℕ) → Contains lsas lsa → IsOfNetwork n lsa
       → Contains (advertisements_of lsas) (network_lsa n (record { 0 = number_at 8 4 lsa }) (network_mask_of lsa) (attached_of lsa))
-  network_here n lsa m of =
-      let at : advertisement_of lsa ≡ network_lsa n (record { 0 = number_at 8 4 lsa }) (network_mask_of lsa) (attached_of lsa) =
-      network_of lsa of.0 ∙ ap (λ x. network_lsa x (record { 0 = number_at 8 4 lsa }) (network_mask_of lsa) (attached_of lsa)) of.1 in
-      subst (λ x. Contains (advertisements_of lsas) x) at (to_listed lsa m)
+  network_here n lsa m of = subst (λ x. Contains (advertisements_of lsas) x) (network_at n lsa of) (to_listed lsa m)
 
-  largest_of : (n : ℕ) (lsa : List ℕ) → IsNetworkOf lsas n lsa → (r : RouterId) (m : ℕ) (others : List RouterId)
+  pub largest_of : (n : ℕ) (lsa : List ℕ) → IsNetworkOf lsas n lsa → (r : RouterId) (m : ℕ) (others : List RouterId)
       → Contains (advertisements_of lsas) (network_lsa n r m others) → r.0 ≤ number_at 8 4 lsa
   largest_of n lsa top r m others h =
       let x = network_in n r m others h in
@@ -143,7 +145,7 @@ module _ (lsas : List (List ℕ)) (is : IsListing lsas) where
       record { router = record { 0 = number_at 8 4 lsa }; listed = network_here n lsa top.listed top.of; largest = largest_of n lsa top }
 
   -- each that stands for it is that LSA
-  network_same : (n : ℕ) (lsa : List ℕ) → IsNetworkOf lsas n lsa → (mask : ℕ) (attached : List RouterId) (w : IsNetwork (advertisements_of lsas) n mask attached)
+  pub network_same : (n : ℕ) (lsa : List ℕ) → IsNetworkOf lsas n lsa → (mask : ℕ) (attached : List RouterId) (w : IsNetwork (advertisements_of lsas) n mask attached)
       → (mask ≡ network_mask_of lsa) × (attached ≡ attached_of lsa)
   network_same n lsa top mask attached w =
       let x = network_in n w.router mask attached w.listed in

@@ -6,6 +6,7 @@ use Rattle.ospf_base.specs.declared.prefix.Prefix.{Prefix}
 use Rattle.ospf_lsa.specs.declared.link.Link.{Link}
 use Rattle.ospf_lsa.specs.declared.link.LinkKind.{LinkKind}
 use Rattle.ospf_graph.specs.declared.graph.Edge.{Edge}
+use Rattle.ospf_graph.specs.declared.graph.Vertex.{Vertex}
 use Rattle.ospf_graph.specs.declared.graph.Vertex.TheVariants.{Router, Network}
 use Rattle.ospf_graph.specs.Advertisements.{Advertisement, router_lsa, network_lsa, HasLink, IsAttached, IsAddressOn}
 use Rattle.ospf_graph.specs.Graph.{IsEdge}
@@ -60,6 +61,10 @@ NetworkGives n mask e = (prefix : Prefix) × IsPrefixOf n mask prefix × (e ≡ 
 abbrev pub EndsOf : List Advertisement → Advertisement → End → Type 0
 EndsOf adverts (router_lsa r links) e = (link : Link) × Contains links link × StubGives r link e
 EndsOf adverts (network_lsa n r mask attached) e = StandsFor adverts n r × NetworkGives n mask e
+
+-- all ends of a listing at a vertex
+abbrev pub AreEndsAt : List Advertisement → Vertex → List End → Type 0
+AreEndsAt adverts v ends = (e : End) → Contains ends e ↔ (IsEnd adverts e.prefix e.vertex e.cost × (e.vertex ≡ v))
 
 -- all edges of a listing
 abbrev pub IsEdgesOf : List Advertisement → List Edge → Type 0

@@ -1,5 +1,7 @@
 pub mod Listed
+pub mod Vertices
 pub mod Given
 pub mod Addresses
 pub mod Area
 pub mod Items
+pub mod Near

@@ -5,10 +5,10 @@ ghost use Rattle.ospf_lsa.specs.declared.link.Link.{Link};
 ghost use Rattle.ospf_edges.specs.declared.end.End.{End};
 ghost use Rattle.ospf_edges.specs.Listed.{advertisement_of, advertisements_of};
 ghost use Rattle.ospf_edges.specs.Given.{Adds, StubGives, NetworkGives, EndsOf};
-ghost use Rattle.ospf_edges.specs.Given.{IsEndsOf};
+ghost use Rattle.ospf_edges.specs.Given.{AreEndsAt, IsEndsOf};
 
 use crate::end::End;
-use crate::listed::stands_for;
+use crate::listed::{lsa_at, stands_for};
 use ospf_base::{Addr, Kind, Prefix, RouterId};
 use ospf_graph::Vertex;
 use ospf_lsa::{Link, LinkKind, Links, Listing, Lsa};
@@ -108,4 +108,19 @@ pub fn ends_of(alloc: Global, listing: &Listing) -> Result<Vec<End>, AllocError>
         add_ends(listing, lsa, &mut ends)?;
     }
     Ok(ends)
+}
+
+/// The ends at a vertex of a listing's graph (RFC 2328, section 16.1): a router's stub networks, or the
+/// prefix of a transit network. `AllocError` where memory runs out.
+pub fn ends_at(alloc: Global, listing: &Listing, vertex: Vertex) -> Result<Vec<End>, AllocError>
+    ensures { IfOk result (λ ends. AreEndsAt (advertisements_of listing.now) vertex ends.items) }
+{
+    let mut ends = Vec::new(alloc);
+    match lsa_at(listing, vertex) {
+        Some(lsa) => {
+            add_ends(listing, lsa, &mut ends)?;
+            Ok(ends)
+        }
+        None => Ok(ends),
+    }
 }

@@ -9,9 +9,12 @@ mod end;
 mod ends;
 mod items;
 mod listed;
+mod lookups;
+mod near;
 
 pub use crate::edges::edges_of;
 pub use crate::end::End;
-pub use crate::ends::ends_of;
+pub use crate::ends::{ends_at, ends_of};
 pub use crate::items::{GraphItem, are_items_of, items_in};
 pub use crate::listed::is_listed;
+pub use crate::near::edges_at;

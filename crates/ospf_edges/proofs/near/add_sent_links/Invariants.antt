@@ -1,0 +1,11 @@
+use Rattle.std.proofs.Common.{◌≡◌, ◌++◌}
+use Rattle.ospf_edges.specs.Given.{Adds}
+use Rattle.ospf_edges.specs.Near.{LinkSends}
+use Rattle.ospf_edges.proofs.AddsLemmas.{GivenBy}
+use Rattle.ospf_edges.proofs.near.add_sent_links.Given as goal
+
+abbrev pub invariant-loop-link : goal.invariant-loop-link
+invariant-loop-link l = record {
+  walked : l.fn.links ≡ l.yielded ++ l.link-iterator;
+  adds : Adds (GivenBy (LinkSends l.router l.to) l.yielded) l.initial.edges.items l.edges.items;
+}
