@@ -1,4 +1,6 @@
 pub mod KeptLemmas
+pub mod GrowingLemmas
+pub mod SameEnds
 pub mod PrefixOrder
 pub mod RouteLemmas
 pub mod HopLemmas

@@ -11,7 +11,7 @@ use Rattle.ospf_graph.specs.contracts.hop.NextHopPartialEq.TheImpl.{eq-value}
 address_is : (k l : Addr) → k.0 ≡ l.0 → k ≡ l
 address_is k l e = λ i. record { 0 = e i }
 
-router_is : (k l : RouterId) → k.0 ≡ l.0 → k ≡ l
+pub router_is : (k l : RouterId) → k.0 ≡ l.0 → k ≡ l
 router_is k l e = λ i. record { 0 = e i }
 
 -- what `==` says of two hops

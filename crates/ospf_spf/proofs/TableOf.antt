@@ -15,8 +15,7 @@ use Rattle.ospf_graph.specs.declared.paths.Settled.{Settled}
 use Rattle.ospf_graph.specs.declared.paths.VertexStart.{VertexStart}
 use Rattle.ospf_graph.specs.declared.route.Route.{Route}
 use Rattle.ospf_spf.proofs.RouteLemmas.{IsReach, table_exact}
-use Rattle.ospf_spf.specs.Reach.{IsReachOf, IsRouteOf, IsLargerNetwork, IsReachedRoute}
-use Rattle.ospf_edges.specs.Given.{IsEndsOf}
+use Rattle.ospf_spf.specs.Reach.{AreEndsWithin, IsReachOf, IsRouteOf, IsLargerNetwork, IsReachedRoute}
 use Rattle.ospf_edges.specs.declared.end.End.{End}
 use Rattle.ospf_spf.specs.declared.routes.Reach.{Reach}
 
@@ -29,7 +28,7 @@ cases_le : (m n : ℕ) → (m ≤ n) ⊎ (n < m)
 cases_le m n = grind arith
 
 module _ (A : List Advertisement) (root : RouterId) (ends : List End) (settled : List Settled) (starts : List VertexStart) (reaches : List Reach)
-    (listed : IsListed A root) (ends_are : IsEndsOf A ends)
+    (listed : IsListed A root) (ends_are : AreEndsWithin A settled ends)
     (graph_tree : IsTree (IsEdge A) (Router root) (AtIn settled) (StartsIn starts))
     (reaches_are : (r : Reach) → Contains reaches r ↔ IsReachOf ends settled r) where
   abbrev Reached : Prefix → Vertex → ℕ → Type 0
@@ -38,12 +37,12 @@ module _ (A : List Advertisement) (root : RouterId) (ends : List End) (settled :
   to_reach : (p : Prefix) (v : Vertex) (k : ℕ) → Reached p v k → Contains reaches (record { prefix = p; vertex = v; cost = k })
   to_reach p v k r =
       let e : End = record { prefix = p; vertex = v; cost = r.1 } in
-      (reaches_are _).1 (e, (ends_are e).1 r.3, r.0, r.2, λ i. record { prefix = p; vertex = v; cost = r.4 i })
+      (reaches_are _).1 (e, (ends_are e r.0 r.2).1 r.3, r.0, r.2, λ i. record { prefix = p; vertex = v; cost = r.4 i })
 
   from_reach : (r : Reach) → Contains reaches r → Reached r.prefix r.vertex r.cost
   from_reach r h =
       let m = (reaches_are r).0 h in
-      let there : Reached m.0.prefix m.0.vertex (m.2 + m.0.cost) = (m.2, m.0.cost, m.3, (ends_are m.0).0 m.1, refl) in
+      let there : Reached m.0.prefix m.0.vertex (m.2 + m.0.cost) = (m.2, m.0.cost, m.3, (ends_are m.0 m.2 m.3).0 m.1, refl) in
       subst (λ x. Reached x.prefix x.vertex x.cost) (sym m.4) there
 
   route_is : (route : Route) → IsRouteOf reaches starts route → IsReachedRoute Reached (StartsIn starts) route

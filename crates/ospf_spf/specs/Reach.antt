@@ -2,7 +2,9 @@
 use Rattle.std.specs.Prelude.{◌≡◌, ◌+◌, ◌*◌, ◌<◌, ◌≤◌, ◌↔◌, ◌⊎◌, ⊤, ℕ, List, [], AllPairs, Contains, Option, Some, None, length, slice_index_or}
 use Rattle.std.specs.List.Sorted.{IsNonDecreasingBy}
 use Rattle.ospf_base.specs.declared.prefix.Prefix.{Prefix}
+use Rattle.ospf_graph.specs.Advertisements.{Advertisement}
 use Rattle.ospf_graph.specs.Hops.{IsHopBefore}
+use Rattle.ospf_graph.specs.Routes.{IsEnd}
 use Rattle.ospf_graph.specs.Search.{AtIn, vertex_code}
 use Rattle.ospf_graph.specs.Tree.{hop_of_start}
 use Rattle.ospf_graph.specs.declared.graph.Start.{Start}
@@ -81,6 +83,10 @@ HasHopOf reaches starts prefix cost h =
 -- the reach of an end whose vertex is at this distance
 abbrev pub reach_of : End → ℕ → Reach
 reach_of e d = record { prefix = e.prefix; vertex = e.vertex; cost = d + e.cost }
+
+-- as far as something is reached, the ends are those of the listing
+abbrev pub AreEndsWithin : List Advertisement → List Settled → List End → Type 0
+AreEndsWithin adverts settled ends = (e : End) (d : ℕ) → AtIn settled e.vertex d → Contains ends e ↔ IsEnd adverts e.prefix e.vertex e.cost
 
 -- the reach of one of these ends
 abbrev pub IsReachOf : List End → List Settled → Reach → Type 0

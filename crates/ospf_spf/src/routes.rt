@@ -13,8 +13,7 @@ ghost use Rattle.ospf_graph.specs.Tree.{hop_of_start};
 ghost use Rattle.ospf_spf.specs.Kept.{AreTold, IsTreeOf};
 ghost use Rattle.ospf_spf.specs.declared.routes.Reach.{Reach};
 ghost use Rattle.ospf_base.specs.declared.ids.RouterId.{RouterId};
-ghost use Rattle.ospf_spf.specs.Reach.{AddsHops, GathersHops, HasHop, HasHopOf, IsLargestOf, IsLeastOf, IsReachOf, IsRouteOf, IsRouterOr, IsGroup, AreReachesInOrder, AreStartsInOrder, network_reach, prefix_code};
-ghost use Rattle.ospf_edges.specs.Given.{IsEndsOf};
+ghost use Rattle.ospf_spf.specs.Reach.{AddsHops, AreEndsWithin, GathersHops, HasHop, HasHopOf, IsLargestOf, IsLeastOf, IsReachOf, IsRouteOf, IsRouterOr, IsGroup, AreReachesInOrder, AreStartsInOrder, network_reach, prefix_code};
 ghost use Rattle.std.specs.List.Sorted.{IsNonDecreasingBy};
 
 use ospf_base::Prefix;
@@ -315,8 +314,8 @@ fn routes_of(
     Ok(routes)
 }
 
-/// The routes over a tree, from all ends of a listing that has the root's LSA (RFC 2328, section 16.1): to
-/// each prefix that the root has a way to, in the order of the prefixes.
+/// The routes over a tree, from all ends that it reaches of a listing that has the root's LSA (RFC 2328,
+/// section 16.1): to each prefix that the root has a way to, in the order of the prefixes.
 ///
 /// `AllocError` where memory runs out.
 pub(crate) fn table_of(
@@ -325,7 +324,7 @@ pub(crate) fn table_of(
     ends: &[End],
 ) -> Result<Vec<Route>, AllocError>
     requires told { AreTold paths.now }
-    ensures { IfOk result (λ routes. (adverts : List Advertisement) (root : RouterId) → IsListed adverts root → IsTreeOf adverts root paths.now → IsEndsOf adverts ends.now → IsTable adverts root routes.items) }
+    ensures { IfOk result (λ routes. (adverts : List Advertisement) (root : RouterId) → IsListed adverts root → IsTreeOf adverts root paths.now → AreEndsWithin adverts paths.now.settled.items ends.now → IsTable adverts root routes.items) }
 {
     let mut reaches = reaches_of(alloc, ends, &paths.settled)?;
     sort_reaches(&mut reaches);

@@ -15,7 +15,7 @@ exact c =
     let A = advertisements_of c.args.listing.now in
     c.in_ok-routes.ensures A c.self.inside.root (c.is_listed.ensures.0 (search rules))
     (tree_for c.self.inside.items.items c.self.inside.root c.self.inside.paths c.self.invariant A (c.requires.holds ∙ sym (ap (λ t. t.graph) c.self.view_is)))
-    (subst (λ (ends : List End). IsEndsOf A ends) (sym c.deref.ensures.value) c.in_ok-ends.ensures)
+    (λ e d at. subst (λ (ends : List End). IsEndsOf A ends) (sym c.deref.ensures.value) c.in_ok-ends.ensures e)
 
 pub of_routes-requires : goal.of_routes-requires
 of_routes-requires c =
