@@ -1,6 +1,5 @@
 -- Routes that are those of a database still, since it lists what it did.
-use Rattle.std.proofs.Common.{◌≡◌, ◌≤◌, ◌<◌, ◌⊎◌, inl, inr, ◌+◌, ℕ, Bool, true, false, List, [], ◌∷◌, filter, map, length, refl, sym, ap, subst, ◌∙◌, arith, Option, None, Some, option_map}
-use Rattle.std.specs.List.{AllByRecursion}
+use Rattle.std.proofs.Common.{◌≡◌, ◌≤◌, ◌⊎◌, inl, inr, ℕ, Bool, true, false, List, [], ◌∷◌, filter, map, length, refl, sym, ap, subst, ◌∙◌, arith, Option, None, Some, option_map}
 use Rattle.ospf_base.proofs.KeyOrder.{Precedes-irrefl, Precedes-trans}
 use Rattle.ospf_base.proofs.SameKeys.{same_key-eq, same_key-refl}
 use Rattle.ospf_base.specs.Keys.{Precedes, same_key}
@@ -9,10 +8,8 @@ use Rattle.ospf_base.specs.declared.ids.LsaKey.{LsaKey}
 use Rattle.ospf_base.specs.declared.ids.RouterId.{RouterId}
 use Rattle.ospf_graph.specs.Routes.{IsTable}
 use Rattle.ospf_graph.specs.declared.route.Route.{Route}
-use Rattle.ospf_edges.specs.Listed.{advertisements_of}
-use Rattle.ospf_lsa.specs.Listing.{IsListing}
 use Rattle.ospf_lsdb.specs.Counts.{fresh_count}
-use Rattle.ospf_lsdb.specs.Database.{Entry, Held, IsDatabase, IsRising, entries, entry_of, held_of, is_fresh, key_at, key_in, listed}
+use Rattle.ospf_lsdb.specs.Database.{Entry, Held, IsDatabase, IsRising, entries, entry_of, held_of, is_fresh, key_at, listed}
 use Rattle.ospf_lsdb.specs.Places.{AllAfter}
 use Rattle.ospf_lsdb.proofs.MapLemmas.{after-none, bool_cases}
 use Rattle.ospf_routes.proofs.ListLemmas.{fresh_of, listed_fresh, same_told}

@@ -2,3 +2,4 @@ pub mod ListLemmas
 mod SameListings
 mod TableLemmas
 pub mod KeepLemmas
+mod ServedLemmas

@@ -1,22 +1,26 @@
 -- What routes are kept with.
-use Rattle.std.specs.Prelude.{⊤, ◌≡◌, ℕ, List, [], Option, None, Some}
+use Rattle.std.specs.Prelude.{⊤, ◌≡◌, ℕ, Bool, List, [], Option, None, Some, IsTrue}
 use Rattle.ospf_base.specs.declared.ids.RouterId.{RouterId}
-use Rattle.ospf_edges.specs.Listed.{advertisements_of}
-use Rattle.ospf_graph.specs.Routes.{IsTable}
 use Rattle.ospf_graph.specs.declared.route.Route.{Route}
-use Rattle.ospf_spf.specs.Kept.{KeptTree}
+use Rattle.ospf_edges.specs.Listed.{advertisements_of}
+use Rattle.ospf_spf.specs.Growing.{AreServed, GrowingValue, Keeps, Serves}
+use Rattle.ospf_spf.specs.declared.growing.Grown.{Grown}
 
--- the tree is one from the router, if there is one
-abbrev pub IsRootedIn : RouterId → Option KeptTree → Type 0
-IsRootedIn root None = ⊤
-IsRootedIn root (Some tree) = tree.root ≡ root
-
--- the LSAs of the listing that is kept, if one is
-abbrev pub lsas_in : Option (List (List ℕ)) → List (List ℕ)
+-- the LSAs of the tree that is kept, if one is
+abbrev pub lsas_in : Option GrowingValue → List (List ℕ)
 lsas_in None = []
-lsas_in (Some lsas) = lsas
+lsas_in (Some tree) = tree.listing
 
--- the table is that of the listing that is kept, if one is
-abbrev pub IsTableOf : RouterId → List Route → Option (List (List ℕ)) → Type 0
-IsTableOf root table None = ⊤
-IsTableOf root table (Some lsas) = IsTable (advertisements_of lsas) root table
+-- the tree is the router's and serves the table, if one is kept
+abbrev pub IsServed : RouterId → List Route → Option GrowingValue → Type 0
+IsServed router table None = ⊤
+IsServed router table (Some tree) = (tree.root ≡ router) × Serves tree table
+
+-- the tree goes on from another of which this was said; where it says that the table stays, that was said too, and it does
+pub record IsGrownFrom (tree : GrowingValue) (stays : Bool) (grown : Grown) : Type 0 where
+  pub root : grown.tree.root ≡ tree.root
+  pub keeps : IsTrue grown.stays → IsTrue stays × Keeps tree grown.tree
+
+-- the tree serves its own listing
+abbrev pub IsOwnServed : GrowingValue → Type 0
+IsOwnServed tree = AreServed tree (advertisements_of tree.listing)

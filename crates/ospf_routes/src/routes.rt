@@ -1,6 +1,6 @@
 //! The routing table of a database, with the listing and the tree that it was made of.
 
-ghost use Rattle.std.specs.Prelude.{◌≡◌, ◌≢◌, ◌↔◌, [], IsTrue, IfOk, IfSome, None, OnErr, OnOk};
+ghost use Rattle.std.specs.Prelude.{◌≡◌, ◌≢◌, ◌↔◌, [], IsTrue, IfOk, IfNone, IfSome, None, OnErr, OnOk};
 ghost use Rattle.ospf_edges.specs.Listed.{advertisements_of};
 ghost use Rattle.ospf_graph.specs.Routes.{IsTable};
 ghost use Rattle.ospf_lsa.specs.Listing.{IsListing};
@@ -8,92 +8,34 @@ ghost use Rattle.ospf_lsdb.specs.Database.{IsDatabase, listed};
 ghost use Rattle.ospf_routes.specs.Listings.{ListsAs};
 ghost use Rattle.ospf_routes.specs.Routes.{AreRoutes};
 
+use crate::grown::grown_to;
 use crate::listed::lists_as;
 use ospf_base::RouterId;
 use ospf_lsa::Listing;
 use ospf_lsdb::Lsdb;
-use ospf_spf::{RouteTable, Tree};
+use ospf_spf::{GrowingTree, RouteTable};
 use std::alloc::{AllocError, Global};
 use std::marker::Model;
 
-// The tree of the shortest paths from a router, kept as long as it holds.
-#[derive(Drop)]
-struct KeptTree {
-    root: RouterId,
-    tree: Option<Tree>,
-}
-
-impl Model for KeptTree {
-    ghost use Rattle.ospf_base.specs.declared.ids.RouterId.{RouterId};
-    ghost use Rattle.ospf_routes.specs.Kept.{IsRootedIn};
-
-    ghost Value = { RouterId };
-
-    ghost view = { λ t. t.root };
-
-    ghost invariant = { λ t. IsRootedIn t.root t.tree };
-}
-
-impl KeptTree {
-    // None is made yet.
-    fn new(root: RouterId) -> KeptTree
-        ensures { result ≡ root }
-    {
-        KeptTree { root, tree: None }
-    }
-
-    // The table by the kept tree, if that holds for the listing.
-    fn by_kept(&self, listing: &Listing, alloc: Global) -> Result<Option<RouteTable>, AllocError>
-        ensures { IfOk result (λ o. IfSome o (λ t. IsTable (advertisements_of listing.now) self.now t)) }
-    {
-        match &self.tree {
-            Some(tree) if tree.holds_for(listing) => Ok(Some(tree.routes(alloc, listing)?)),
-            _ => Ok(None),
-        }
-    }
-
-    // Makes a new tree, and the table by it.
-    fn anew(&mut self, listing: &Listing, alloc: Global) -> Result<RouteTable, AllocError>
-        ensures table { IfOk result (λ t. IsTable (advertisements_of listing.now) self.old t) }
-        ensures root { self.new ≡ self.old }
-    {
-        let tree = Tree::of(alloc, listing, self.root)?;
-        let table = tree.routes(alloc, listing)?;
-        self.tree = Some(tree);
-        Ok(table)
-    }
-
-    // The routing table of a listing. A new tree is made where the kept one does not hold.
-    fn routes(&mut self, listing: &Listing, alloc: Global) -> Result<RouteTable, AllocError>
-        ensures table { IfOk result (λ t. IsTable (advertisements_of listing.now) self.old t) }
-        ensures root { self.new ≡ self.old }
-    {
-        if let Some(table) = self.by_kept(listing, alloc)? {
-            return Ok(table);
-        }
-        self.anew(listing, alloc)
-    }
-}
-
-/// The routing table of a router over what its database lists (RFC 2328, section 16.1), kept with the listing that it is of.
-/// It is calculated anew only where the database lists other LSAs, and the shortest paths only where these tell of another
-/// graph.
+/// The routing table of a router over what its database lists (RFC 2328, section 16.1), kept with the listing that it is of
+/// and the shortest paths over it. Where the database lists an LSA anew, the paths go on from there, and the table is
+/// calculated anew only where they or the ends that they lead to are others.
 #[derive(Drop)]
 pub struct KeptRoutes {
+    router: RouterId,
     table: RouteTable,
-    tree: KeptTree,
-    listing: Option<Listing>,
+    tree: Option<GrowingTree>,
 }
 
 impl Model for KeptRoutes {
-    ghost use Rattle.ospf_routes.specs.Kept.{IsTableOf, lsas_in};
+    ghost use Rattle.ospf_routes.specs.Kept.{IsServed, lsas_in};
     ghost use Rattle.ospf_routes.specs.Routes.{RoutesValue};
 
     ghost Value = { RoutesValue };
 
-    ghost view = { λ r. record { router = r.tree; table = r.table; listing = lsas_in r.listing } };
+    ghost view = { λ r. record { router = r.router; table = r.table; listing = lsas_in r.tree } };
 
-    ghost invariant = { λ r. IsTableOf r.tree r.table r.listing };
+    ghost invariant = { λ r. IsServed r.router r.table r.tree };
 }
 
 // Whether two tables are one.
@@ -124,9 +66,9 @@ impl KeptRoutes {
         ensures { result ≡ record { router = router; table = []; listing = [] } }
     {
         KeptRoutes {
+            router,
             table: RouteTable::empty(alloc),
-            tree: KeptTree::new(router),
-            listing: None,
+            tree: None,
         }
     }
 
@@ -142,8 +84,8 @@ impl KeptRoutes {
         ensures some { IfSome result (λ l. l.now ≡ self.now.listing) }
         ensures none { result ≡ None → self.now.listing ≡ [] }
     {
-        match &self.listing {
-            Some(listing) => Some(listing),
+        match &self.tree {
+            Some(tree) => Some(tree.listing()),
             None => None,
         }
     }
@@ -153,25 +95,51 @@ impl KeptRoutes {
         ensures routes { IsTrue result → AreRoutes self.now.router database.now self.now.table }
         ensures listing { IsTrue result → ListsAs database.now self.now.listing }
     {
-        match &self.listing {
-            Some(listing) => lists_as(database, listing),
+        match &self.tree {
+            Some(tree) => lists_as(database, tree.listing()),
             None => false,
         }
     }
 
-    // Puts the routes of a listing in place; whether they are others than before.
-    fn put(&mut self, listing: Listing, alloc: Global) -> Result<bool, AllocError>
-        ensures table { OnOk result (IsTable (advertisements_of listing) self.old.router self.new.table) }
-        ensures listing { OnOk result (self.new.listing ≡ listing) }
+    // Puts a tree and its routes in place; whether the routes are others than before.
+    fn put(&mut self, tree: GrowingTree, alloc: Global) -> Result<bool, AllocError>
+        requires { tree.root ≡ self.old.router }
+        ensures table { OnOk result (IsTable (advertisements_of tree.listing) self.old.router self.new.table) }
+        ensures listing { OnOk result (self.new.listing ≡ tree.listing) }
         ensures changed { IfOk result (λ b. IsTrue b ↔ (self.new.table ≢ self.old.table)) }
         ensures router { self.new.router ≡ self.old.router }
         ensures kept { OnErr result (self.new.table ≡ self.old.table) }
     {
-        let table = self.tree.routes(&listing, alloc)?;
+        self.tree = None;
+        let table = tree.routes(alloc)?;
         let same = is_same(&self.table, &table, alloc)?;
         self.table = table;
-        self.listing = Some(listing);
+        self.tree = Some(tree);
         Ok(!same)
+    }
+
+    // Goes on from the tree that is kept, as far as LSAs came: whether the table is another one, or nothing where that does not
+    // lead to what the database lists.
+    fn grow(&mut self, database: &Lsdb, alloc: Global) -> Result<Option<bool>, AllocError>
+        ensures table { IfOk result (λ o. IfSome o (λ _. AreRoutes self.old.router database.now self.new.table)) }
+        ensures listing { IfOk result (λ o. IfSome o (λ _. ListsAs database.now self.new.listing)) }
+        ensures changed { IfOk result (λ o. IfSome o (λ b. IsTrue b ↔ (self.new.table ≢ self.old.table))) }
+        ensures router { self.new.router ≡ self.old.router }
+        ensures kept { IfOk result (λ o. IfNone o (self.new.table ≡ self.old.table)) }
+        ensures kept_on_err { OnErr result (self.new.table ≡ self.old.table) }
+    {
+        let Some(tree) = self.tree.take() else {
+            return Ok(None);
+        };
+        let Some(grown) = grown_to(tree, database, alloc)? else {
+            return Ok(None);
+        };
+        if grown.stays {
+            self.tree = Some(grown.tree);
+            return Ok(Some(false));
+        }
+        let changed = self.put(grown.tree, alloc)?;
+        Ok(Some(changed))
     }
 
     // Makes the routes of what the database lists; whether they are others than before.
@@ -185,7 +153,8 @@ impl KeptRoutes {
         let listing = database.listing(alloc)?;
         database_is_one(database);
         listing_is_one(&listing);
-        self.put(listing, alloc)
+        let tree = GrowingTree::of(alloc, listing, self.router)?;
+        self.put(tree, alloc)
     }
 
     /// The routing table becomes that of what the database lists; whether it is another one than before. Where the database
@@ -202,7 +171,10 @@ impl KeptRoutes {
         if self.is_current(database) {
             return Ok(false);
         }
-        self.renew(database, alloc)
+        match self.grow(database, alloc)? {
+            Some(changed) => Ok(changed),
+            None => self.renew(database, alloc),
+        }
     }
 
     /// No routes, as at first.
@@ -210,6 +182,6 @@ impl KeptRoutes {
         ensures { self.new ≡ record self.old { table = []; listing = [] } }
     {
         self.table = RouteTable::empty(alloc);
-        self.listing = None;
+        self.tree = None;
     }
 }

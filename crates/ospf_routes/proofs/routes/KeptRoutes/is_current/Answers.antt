@@ -1,24 +1,22 @@
 use Rattle.std.proofs.Common.{ℕ, List, Option, Some, ap, map, subst, sym, ◌∙◌}
 use Rattle.ospf_base.specs.Sums.{contents}
-use Rattle.ospf_edges.specs.Listed.{advertisements_of}
-use Rattle.ospf_graph.specs.Advertisements.{Advertisement}
-use Rattle.ospf_graph.specs.Routes.{IsTable}
-use Rattle.ospf_lsdb.specs.Database.{listed}
-use Rattle.ospf_routes.specs.Kept.{IsTableOf, lsas_in}
-use Rattle.ospf_routes.specs.Routes.{RoutesValue}
-use Rattle.ospf_routes.proofs.ListLemmas.{same_told}
+use Rattle.ospf_routes.specs.Kept.{IsServed, lsas_in}
+use Rattle.ospf_routes.specs.Listings.{ListsAs}
+use Rattle.ospf_routes.specs.Routes.{AreRoutes, RoutesValue}
+use Rattle.ospf_routes.proofs.ServedLemmas.{routes_served}
 use Rattle.ospf_routes.proofs.routes.KeptRoutes.is_current.Goals as goal
+use Rattle.ospf_spf.specs.Growing.{GrowingValue}
 
 pub returns-in-Some-clause-routes : goal.returns-in-Some-clause-routes
 returns-in-Some-clause-routes c = λ t.
-    let of : IsTableOf c.self.inside.tree c.self.inside.table (Some c.in-Some.listing) = subst (λ (o : Option (List (List ℕ))). IsTableOf c.self.inside.tree c.self.inside.table o) c.in-Some.is c.self.invariant in
-    let kept : IsTable (advertisements_of c.in-Some.listing) c.args.self.now.router c.args.self.now.table = subst (λ (r : RoutesValue). IsTable (advertisements_of c.in-Some.listing) r.router r.table) c.self.view_is of in
-    record {
-      database = c.lists_as.ensures.database;
-      listing = c.lists_as.ensures.listing t;
-      routes = subst (λ (a : List Advertisement). IsTable a c.args.self.now.router c.args.self.now.table) (sym (same_told (listed c.args.database.now) c.in-Some.listing (c.lists_as.ensures.same t))) kept;
-    }
+    let tree = c.in-Some.tree in
+    let db = c.args.database.now in
+    let kept : IsServed c.self.inside.router c.self.inside.table (Some tree) = subst (λ (o : Option GrowingValue). IsServed c.self.inside.router c.self.inside.table o) c.in-Some.is c.self.invariant in
+    let same = subst (λ (l : List (List ℕ)). ListsAs db l) c.listing.ensures.listing (c.lists_as.ensures.same t) in
+    let is = routes_served db c.self.inside.router tree c.self.inside.table c.lists_as.ensures.database (c.lists_as.ensures.listing t) same kept.0 c.listing.ensures.served kept.1 in
+    subst (λ (r : RoutesValue). AreRoutes r.router db r.table) c.self.view_is is
 
 pub returns-in-Some-clause-listing : goal.returns-in-Some-clause-listing
 returns-in-Some-clause-listing c = λ t.
-    c.lists_as.ensures.same t ∙ ap (λ (o : Option (List (List ℕ))). map contents (lsas_in o)) (sym c.in-Some.is) ∙ ap (λ (r : RoutesValue). map contents r.listing) c.self.view_is
+    c.lists_as.ensures.same t ∙ ap (λ (l : List (List ℕ)). map contents l) c.listing.ensures.listing
+    ∙ ap (λ (o : Option GrowingValue). map contents (lsas_in o)) (sym c.in-Some.is) ∙ ap (λ (r : RoutesValue). map contents r.listing) c.self.view_is
