@@ -3,9 +3,7 @@ use Rattle.std.proofs.Common.{◌≡◌, ◌∙◌, ap, sym, subst, refl, ◌+�
 use Rattle.std.proofs.lemmas.List.{take_more, append-nil, map-append}
 use Rattle.std.proofs.lemmas.List.Elements.{All-cons, All-nil, All-append}
 use Rattle.std.proofs.Math.Seq.{drop-cons}
-use Rattle.std.proofs.lemmas.List.{flat_map_more}
-use Rattle.std.specs.Io.KnownBytes.{Appends}
-use Rattle.std.specs.Prelude.{Option, flat_map}
+use Rattle.std.specs.Prelude.{Option}
 use Rattle.ospf_config.specs.declared.config.Config.{Config}
 use Rattle.ospf_drive.specs.Driven.{IsDriven, Outcome as Driven, Pairs}
 use Rattle.ospf_drive.specs.Moments.{Moment}
@@ -14,19 +12,11 @@ use Rattle.ospf_drive.proofs.Jobs.{of_first, of_later}
 use Rattle.ospf_drive.proofs.Joined.{pairs_then}
 use Rattle.ospf_base.specs.declared.ids.Addr.{Addr}
 use Rattle.ospf_files.specs.declared.files.NamedFile.{NamedFile}
-use Rattle.ospf_files.proofs.Written.{both_written}
 use Rattle.ospf_published.specs.Known.{Known}
 use Rattle.ospf_run.specs.Lookers.{IsFrom}
 use Rattle.ospf_run.specs.Runs.{AreOutcomes, Begins, IsOutcome, Terms, Trio, Trios}
 use Rattle.ospf_run.specs.declared.finish.Outcome.{Outcome}
 use Rattle.ospf_run.specs.declared.look.Looker.{Looker}
-
--- the text of one element more
-pub piece_written : {X : Type 0} (f : X → List ℕ) (a b c : Option (List ℕ)) (xs : List X) (i : ℕ) (x : X) → i < length xs → x ≡ get_or xs i x
-    → Appends a b (flat_map f (take i xs)) → Appends b c (f x) → Appends a c (flat_map f (take (i + 1) xs))
-piece_written f a b c xs i x within is h k =
-    let more = flat_map_more f [] (take i xs) (get_or xs i x) ∙ ap (flat_map f) (sym (take_more xs i x within)) in
-    subst (Appends a c) more (both_written a b c _ _ h (subst (λ q. Appends b c (f q)) is k))
 
 -- the front of a list, with one more
 pub front_more : {A : Type 0} (xs : List A) (i : ℕ) (x : A) → i < length xs → x ≡ get_or xs i x → take (i + 1) xs ≡ take i xs ++ x ∷ []

@@ -1,11 +1,19 @@
 -- Configurations that can run beside each other.
-use Rattle.std.proofs.Common.{◌≡◌, refl, ap, sym, subst, ◌+◌, ◌<◌, ◌≤◌, ℕ, suc, List, [], ◌∷◌, length, take, get_or, Some, All, arith, slice_get, below_more, ◌∙◌, ◌==◌, true, false, eqb-true, eq-eqb, length-take, Result, Ok, Err, OnOk, IsOk}
+use Rattle.std.proofs.Common.{◌≡◌, refl, ap, sym, subst, ◌+◌, ◌<◌, ◌≤◌, ℕ, suc, List, [], ◌∷◌, length, take, get_or, Some, All, arith, slice_get, below_more, ◌∙◌, ◌==◌, true, false, eqb-true, eq-eqb, length-take, ◌++◌, drop, Result, Ok, Err, IfErr}
+use Rattle.std.specs.Result.{IsErrAnd}
 use Rattle.std.proofs.lemmas.Option.{get_or_from_slice_get, slice_get-get_or, slice_get_read, slice_get_within}
 use Rattle.std.proofs.lemmas.List.{get_or-take}
 use Rattle.ospf_base.specs.declared.ids.RouterId.{RouterId}
 use Rattle.ospf_config.specs.declared.config.Config.{Config}
-use Rattle.ospf_files.specs.Listed.{AreConfigs}
+use Rattle.ospf_config.specs.declared.fault.ConfigFault.{ConfigFault}
+use Rattle.ospf_files.proofs.Listed.{config_read, files_split}
+use Rattle.ospf_files.specs.Files.{IsConfigIn, IsRefusedFor, text_in}
+use Rattle.ospf_files.specs.Listed.{AreConfigs, IsFirstRefused}
 use Rattle.ospf_files.specs.declared.files.NamedFile.{NamedFile}
+use Rattle.ospf_files.specs.declared.status.Failure.TheVariants as failure
+use Rattle.ospf_run.specs.Obstacles.{IsReadAs}
+use Rattle.ospf_run.specs.declared.stop.Stop.{Stop}
+use Rattle.ospf_run.specs.declared.stop.Stop.TheVariants as stop
 use Rattle.ospf_run.specs.Plans.{IsAmong}
 
 pub at_item : {A : Type 0} (xs : List A) (i : ℕ) (x : A) → i < length xs → x ≡ get_or xs i x → slice_get xs i ≡ Some x
@@ -67,7 +75,34 @@ as_many_configs [] (c ∷ cs) are = absurd are
 as_many_configs (f ∷ fs) [] are = absurd are
 as_many_configs (f ∷ fs) (c ∷ cs) are = ap (λ (n : ℕ). suc n) (as_many_configs fs cs are.1)
 
--- what a write that succeeded has told
-pub if_told : {A E : Type 0} (told : Result A E) (P : Type 0) → OnOk told P → IsOk told → P
-if_told (Ok a) P on is = on
-if_told (Err e) P on is = absurd (cc is)
+-- the first file that has a fault
+pub first_refused : (files : List NamedFile) (i : ℕ) (file : NamedFile) (configs : List Config) (found : Result Config ConfigFault) (fault : ConfigFault) → i < length files
+    → file ≡ get_or files i file → AreConfigs (take i files) configs → found ≡ Err fault → IsReadAs file found → IsFirstRefused file fault files
+first_refused files i file configs (Ok config) fault within at are is reads = absurd (cc is)
+first_refused files i file configs (Err other) fault within at are is reads =
+    let one : other ≡ fault = cc is in
+    record {
+      before = take i files;
+      configs = configs;
+      after = drop (suc i) files;
+      files_are = files_split files i file within at;
+      are_configs = are;
+      refused = subst (λ (f : ConfigFault). IsRefusedFor (text_in file) f) one reads;
+    }
+
+-- one configuration more
+pub config_more : (files : List NamedFile) (i : ℕ) (file : NamedFile) (configs more : List Config) (found : Result Config ConfigFault) (config : Config) → i < length files
+    → file ≡ get_or files i file → AreConfigs (take i files) configs → found ≡ Ok config → IsReadAs file found → more ≡ configs ++ config ∷ [] → AreConfigs (take (i + 1) files) more
+config_more files i file configs more (Err fault) config within at are is reads more_is = absurd (cc is)
+config_more files i file configs more (Ok other) config within at are is reads more_is =
+    let one : other ≡ config = cc is in
+    config_read files i file configs more config within at are (subst (λ (c : Config). IsConfigIn (text_in file) c) one reads) more_is
+
+-- what holds of an error that is passed on
+pub passed_on : {T E : Type 0} (r : Result T E) (e : E) (P : E → Type 0) → IsErrAnd r (λ x. x ≡ e) → P e → IfErr r P
+passed_on (Ok x) e P is p = tt
+passed_on (Err x) e P is p = subst P (sym is) p
+
+-- what holds where memory ran out
+pub stopped_early : {T : Type 0} (r : Result T Stop) (P : Stop → Type 0) → IsErrAnd r (λ s. s ≡ stop.Failure failure.Memory) → P (stop.Failure failure.Memory) → IfErr r P
+stopped_early r P is p = passed_on r (stop.Failure failure.Memory) P is p

@@ -1,39 +1,16 @@
 -- The statuses that runs end with.
 use Rattle.std.proofs.Common.{◌≡◌, ◌∙◌, sym, subst, ℕ, Bool, true, false, List, Option, cond}
 use Rattle.ospf_base.specs.declared.ids.Addr.{Addr}
-use Rattle.ospf_files.specs.Status.{failure_status}
+use Rattle.ospf_files.proofs.Cut.{failed_not_done, failed_not_refused, failed_not_words}
 use Rattle.ospf_files.specs.declared.files.NamedFile.{NamedFile}
-use Rattle.ospf_files.specs.declared.status.Failure.{Failure}
-use Rattle.ospf_files.specs.declared.status.Failure.TheVariants as failure
 use Rattle.ospf_files.specs.declared.status.Status.{Status}
 use Rattle.ospf_files.specs.declared.status.Status.TheVariants as status
 use Rattle.std.specs.List.{list_any}
+use Rattle.ospf_run.specs.Cut.{Ends, comes, cut_short}
 use Rattle.ospf_run.specs.Plans.{IsRefused}
 use Rattle.ospf_run.specs.Printed.{is_early, is_failed}
 use Rattle.ospf_run.specs.Runs.{Comes, IsRun, refused, unread, no_socket, ran}
 use Rattle.ospf_run.specs.declared.finish.Outcome.{Outcome}
-
--- what failed is not done, not refused, and no matter of words
-pub failed_not_done : (f : Failure) → failure_status f ≡ status.Done → ⊥
-failed_not_done failure.Memory is = absurd (cc is)
-failed_not_done failure.Input is = absurd (cc is)
-failed_not_done failure.Output is = absurd (cc is)
-failed_not_done failure.Error is = absurd (cc is)
-failed_not_done failure.Closed is = absurd (cc is)
-
-pub failed_not_refused : (f : Failure) → failure_status f ≡ status.Refused → ⊥
-failed_not_refused failure.Memory is = absurd (cc is)
-failed_not_refused failure.Input is = absurd (cc is)
-failed_not_refused failure.Output is = absurd (cc is)
-failed_not_refused failure.Error is = absurd (cc is)
-failed_not_refused failure.Closed is = absurd (cc is)
-
-pub failed_not_words : (f : Failure) → failure_status f ≡ status.Words → ⊥
-failed_not_words failure.Memory is = absurd (cc is)
-failed_not_words failure.Input is = absurd (cc is)
-failed_not_words failure.Output is = absurd (cc is)
-failed_not_words failure.Error is = absurd (cc is)
-failed_not_words failure.Closed is = absurd (cc is)
 
 not_refused : (a b : Bool) → cond a status.Stream (cond b status.Memory status.Done) ≡ status.Refused → ⊥
 not_refused true b is = absurd (cc is)
@@ -58,7 +35,7 @@ run_not_words lookup ticks floor files s oo on eo en run is =
     not_words (list_any is_failed outcomes) (list_any is_early outcomes) (sym run.reports.reported.status_is ∙ is)
 
 -- where all is done, all has run
-pub done_runs : (lookup : Option Addr) (ticks : ℕ) (floor : Option (List ℕ)) (files : List NamedFile) (s : Status) (oo on eo en : Option (List ℕ))
+done_runs : (lookup : Option Addr) (ticks : ℕ) (floor : Option (List ℕ)) (files : List NamedFile) (s : Status) (oo on eo en : Option (List ℕ))
     → Comes lookup ticks floor files s oo on eo en → s ≡ status.Done → IsRun lookup ticks floor files status.Done oo on eo en
 done_runs lookup ticks floor files s oo on eo en (refused is told same) done = absurd (cc (is, done))
 done_runs lookup ticks floor files s oo on eo en (unread is told same) done = absurd (cc (is, done))
@@ -66,7 +43,7 @@ done_runs lookup ticks floor files s oo on eo en (no_socket is configs least pla
 done_runs lookup ticks floor files s oo on eo en (ran run) done = subst (λ (t : Status). IsRun lookup ticks floor files t oo on eo en) done run
 
 -- what is refused is told, and nothing is written
-pub refused_told : (lookup : Option Addr) (ticks : ℕ) (floor : Option (List ℕ)) (files : List NamedFile) (s : Status) (oo on eo en : Option (List ℕ))
+refused_told : (lookup : Option Addr) (ticks : ℕ) (floor : Option (List ℕ)) (files : List NamedFile) (s : Status) (oo on eo en : Option (List ℕ))
     → Comes lookup ticks floor files s oo on eo en → s ≡ status.Refused → IsRefused floor files eo en × (on ≡ oo)
 refused_told lookup ticks floor files s oo on eo en (refused is told same) so = (told, same)
 refused_told lookup ticks floor files s oo on eo en (unread is told same) so = absurd (cc (is, so))
@@ -74,9 +51,26 @@ refused_told lookup ticks floor files s oo on eo en (no_socket is configs least 
 refused_told lookup ticks floor files s oo on eo en (ran run) so = absurd (run_not_refused lookup ticks floor files s oo on eo en run so)
 
 -- no run ends for its words
-pub comes_not_words : (lookup : Option Addr) (ticks : ℕ) (floor : Option (List ℕ)) (files : List NamedFile) (s : Status) (oo on eo en : Option (List ℕ))
+comes_not_words : (lookup : Option Addr) (ticks : ℕ) (floor : Option (List ℕ)) (files : List NamedFile) (s : Status) (oo on eo en : Option (List ℕ))
     → Comes lookup ticks floor files s oo on eo en → s ≡ status.Words → ⊥
 comes_not_words lookup ticks floor files s oo on eo en (refused is told same) so = absurd (cc (is, so))
 comes_not_words lookup ticks floor files s oo on eo en (unread is told same) so = absurd (cc (is, so))
 comes_not_words lookup ticks floor files s oo on eo en (no_socket is configs least plan told same) so = absurd (cc (is, so))
 comes_not_words lookup ticks floor files s oo on eo en (ran run) so = run_not_words lookup ticks floor files s oo on eo en run so
+
+-- ---- the same of a run that may be cut
+
+pub end_done : (lookup : Option Addr) (ticks : ℕ) (floor : Option (List ℕ)) (files : List NamedFile) (s : Status) (oo on eo en : Option (List ℕ))
+    → Ends lookup ticks floor files s oo on eo en → s ≡ status.Done → IsRun lookup ticks floor files status.Done oo on eo en
+end_done lookup ticks floor files s oo on eo en (comes c) done = done_runs lookup ticks floor files s oo on eo en c done
+end_done lookup ticks floor files s oo on eo en (cut_short failed cut) done = absurd (failed_not_done cut.cause (sym cut.status_is ∙ done))
+
+pub end_refused : (lookup : Option Addr) (ticks : ℕ) (floor : Option (List ℕ)) (files : List NamedFile) (s : Status) (oo on eo en : Option (List ℕ))
+    → Ends lookup ticks floor files s oo on eo en → s ≡ status.Refused → IsRefused floor files eo en × (on ≡ oo)
+end_refused lookup ticks floor files s oo on eo en (comes c) so = refused_told lookup ticks floor files s oo on eo en c so
+end_refused lookup ticks floor files s oo on eo en (cut_short failed cut) so = absurd (failed_not_refused cut.cause (sym cut.status_is ∙ so))
+
+pub end_not_words : (lookup : Option Addr) (ticks : ℕ) (floor : Option (List ℕ)) (files : List NamedFile) (s : Status) (oo on eo en : Option (List ℕ))
+    → Ends lookup ticks floor files s oo on eo en → s ≡ status.Words → ⊥
+end_not_words lookup ticks floor files s oo on eo en (comes c) so = comes_not_words lookup ticks floor files s oo on eo en c so
+end_not_words lookup ticks floor files s oo on eo en (cut_short failed cut) so = failed_not_words cut.cause (sym cut.status_is ∙ so)

@@ -9,8 +9,7 @@ use Rattle.ospf_files.specs.declared.files.NamedFile.{NamedFile}
 use Rattle.ospf_flood.specs.Rules.{max_sequence_number}
 use Rattle.ospf_script.specs.Commands.{no_floor}
 use Rattle.ospf_script.specs.Values.{IsFloor}
-use Rattle.ospf_run.specs.declared.plan.Prepared.{Prepared}
-use Rattle.ospf_run.specs.declared.plan.Prepared.TheVariants.{Ready, Refused, Unread}
+use Rattle.ospf_run.specs.declared.plan.Plan.{Plan}
 
 -- ---- the floor
 
@@ -34,11 +33,6 @@ pub record HasFloor (text : Option (List ℕ)) (floor : ℤ) : Type 0 where
 pub data IsFloorRefused (text : Option (List ℕ)) (old new : Option (List ℕ)) : Type 0 where
   no_number : ((floor : ℤ) → IsFloorOf text floor → ⊥) → Appends old new no_floor_line → IsFloorRefused text old new
   greatest : IsFloorOf text max_sequence_number → Appends old new greatest_floor_line → IsFloorRefused text old new
-
--- the floor of a text, or it is told why there is none
-abbrev pub FloorComes : Option (List ℕ) → Option ℤ → Option (List ℕ) → Option (List ℕ) → Type 0
-FloorComes text (Some floor) old new = HasFloor text floor × (new ≡ old)
-FloorComes text None old new = IsFloorRefused text old new
 
 -- ---- the configurations
 
@@ -89,6 +83,16 @@ pub record IsPlan (floor : Option (List ℕ)) (files : List NamedFile) (configs 
   pub one_each : ShareRouter configs → ⊥
   pub ports : All HasPorts configs
 
+-- there is something to run
+pub record HasPlan (floor : Option (List ℕ)) (files : List NamedFile) : Type 0 where
+  pub configs : List Config
+  pub least : ℤ
+  pub plan : IsPlan floor files configs least
+
+-- such a plan
+abbrev pub IsPlanAt : Option (List ℕ) → List NamedFile → Plan → Type 0
+IsPlanAt floor files plan = IsPlan floor files plan.configs.items plan.floor
+
 -- what is refused, the first of these that is, and told: the floor; then, where all files were read, a file that holds no
 -- configuration, two routers of one Router ID, an interface without a port
 pub data IsRefused (floor : Option (List ℕ)) (files : List NamedFile) (old new : Option (List ℕ)) : Type 0 where
@@ -106,9 +110,3 @@ pub record IsUnreadTold (floor : Option (List ℕ)) (files : List NamedFile) (ol
   pub file : NamedFile
   pub first : IsFirstUnread file files
   pub told : Appends old new (unread_line file)
-
--- what comes of a floor and files
-abbrev pub Prepares : Option (List ℕ) → List NamedFile → Prepared → Option (List ℕ) → Option (List ℕ) → Type 0
-Prepares floor files (Ready plan) old new = IsPlan floor files plan.configs.items plan.floor × (new ≡ old)
-Prepares floor files Refused old new = IsRefused floor files old new
-Prepares floor files Unread old new = IsUnreadTold floor files old new

@@ -24,16 +24,26 @@ abbrev pub looked_lines : Option Looked → List ℕ
 looked_lines None = []
 looked_lines (Some looked) = lookup_line looked.address.0 looked.answer
 
--- the greatest of the floor of the start and all numbers of the router's own LSAs since, if it is wanted
+-- the greatest of the floor of the start and all numbers of the router's own LSAs since
+abbrev pub floor_line : RouterValue → List ℕ
+floor_line router = codes "floor " ++ floor_text (greatest_in router.floor router.area) ++ codes "\n"
+
+-- that line, if it is wanted
 abbrev pub floor_lines : Bool → RouterValue → List ℕ
 floor_lines false router = []
-floor_lines true router = codes "floor " ++ floor_text (greatest_in router.floor router.area) ++ codes "\n"
+floor_lines true router = floor_line router
+
+-- the Router ID
+abbrev pub router_line : RouterId → List ℕ
+router_line router = codes "router " ++ number_text router.0 ++ codes "\n"
+
+-- the Router ID and the routes
+abbrev pub table_lines : RouterId → Shown → List ℕ
+table_lines router shown = router_line router ++ routes_text shown.router.table
 
 -- a router: its Router ID, its routes, and what was asked for beside them
 abbrev pub router_lines : Bool → RouterId → Shown → List ℕ
-router_lines floors router shown =
-    codes "router " ++ number_text router.0 ++ codes "\n" ++ routes_text shown.router.table ++ looked_lines shown.looked
-    ++ floor_lines floors shown.router
+router_lines floors router shown = table_lines router shown ++ (looked_lines shown.looked ++ floor_lines floors shown.router)
 
 -- what is printed of a router: nothing where its driver did not come to the end
 abbrev pub came_lines : Bool → RouterId → Result Shown DriveFault → List ℕ
@@ -42,6 +52,10 @@ came_lines floors router (Err f) = []
 
 abbrev pub outcome_lines : Bool → Outcome → List ℕ
 outcome_lines floors outcome = came_lines floors outcome.router outcome.came
+
+-- what is printed of routers, in their order
+abbrev pub report_lines : Bool → List Outcome → List ℕ
+report_lines floors = flat_map (outcome_lines floors)
 
 -- ---- standard error
 
@@ -55,6 +69,10 @@ came_told file (Err f) = fault_line file f
 
 abbrev pub outcome_told : Outcome → List ℕ
 outcome_told outcome = came_told outcome.file.now outcome.came
+
+-- what is told of routers, in their order
+abbrev pub report_told : List Outcome → List ℕ
+report_told = flat_map outcome_told
 
 -- ---- the status
 
@@ -89,5 +107,5 @@ status_for outcomes = cond (list_any is_failed outcomes) status.Stream (cond (li
 -- what came of routers is printed and told, in their order
 pub record IsReported (floors : Bool) (outcomes : List Outcome) (status : Status) (out_old out_new err_old err_new : Option (List ℕ)) : Type 0 where
   pub status_is : status ≡ status_for outcomes
-  pub out : Appends out_old out_new (flat_map (outcome_lines floors) outcomes)
-  pub err : Appends err_old err_new (flat_map outcome_told outcomes)
+  pub out : Appends out_old out_new (report_lines floors outcomes)
+  pub err : Appends err_old err_new (report_told outcomes)

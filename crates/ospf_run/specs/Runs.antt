@@ -1,5 +1,5 @@
 -- Routers that run: how they begin, and what comes of them.
-use Rattle.std.specs.Prelude.{⊤, ◌≡◌, ◌+◌, ℕ, ℤ, Bool, List, [], ◌∷◌, Option, None, Some, Result, Ok, Err, is_some}
+use Rattle.std.specs.Prelude.{⊤, ◌≡◌, ◌+◌, ℕ, ℤ, Bool, List, [], ◌∷◌, Option, None, Some, Result, Ok, Err, is_some, option_map, string_bytes}
 use Rattle.ospf_base.specs.declared.ids.Addr.{Addr}
 use Rattle.ospf_config.specs.declared.config.Config.{Config}
 use Rattle.ospf_drive.specs.Driven.{DrivesToEnd, IsDriven, Outcome as Driven}
@@ -8,8 +8,6 @@ use Rattle.ospf_drive.specs.Traffic.{ticks_in}
 use Rattle.ospf_drive.specs.Traffic.Carried.{Ticks}
 use Rattle.ospf_drive.specs.declared.fault.DriveFault.{DriveFault}
 use Rattle.ospf_fib.specs.Answers.{IsAnswerOfLast}
-use Rattle.ospf_files.specs.Status.{failure_status}
-use Rattle.ospf_files.specs.declared.status.Failure.{Failure}
 use Rattle.ospf_files.specs.declared.status.Status.{Status}
 use Rattle.ospf_files.specs.declared.status.Status.TheVariants.{Refused, Stream}
 use Rattle.ospf_files.specs.declared.files.NamedFile.{NamedFile}
@@ -24,6 +22,8 @@ use Rattle.ospf_run.specs.declared.finish.Looked.{Looked}
 use Rattle.ospf_run.specs.declared.finish.Outcome.{Outcome}
 use Rattle.ospf_run.specs.declared.finish.Shown.{Shown}
 use Rattle.ospf_run.specs.declared.look.Looker.{Looker}
+use Rattle.ospf_run.specs.declared.plan.Plan.{Plan}
+use Rattle.ospf_run.specs.declared.settings.Settings.{Settings}
 
 -- a router begins with its configuration, DD sequence number 1 and the floor, and the empty table is published
 pub record Begins (floor : ℤ) (config : Config) (router : RouterValue) (known : Known) : Type 0 where
@@ -73,6 +73,15 @@ AreOutcomes lookup terms _ _ _ = ⊥
 
 -- ---- on the way
 
+-- the text of the floor that is asked for
+abbrev pub floor_of : Settings → Option (List ℕ)
+floor_of settings = option_map string_bytes settings.floor
+
+-- what came of the routers of a plan, in their order, where so much is asked for
+abbrev pub ComeOf : Settings → Plan → List NamedFile → List Outcome → Type 0
+ComeOf settings plan files outcomes =
+    AreOutcomes settings.lookup (record { ticks = settings.ticks; floor = plan.floor }) files plan.configs.items outcomes
+
 -- what the last publish of a driver told: all that its writer has published; nothing where that is the empty table alone
 abbrev pub IsTold : Known → Option Known → Type 0
 IsTold known None = known.tables ≡ opening
@@ -105,6 +114,13 @@ pub record Reports (lookup : Option Addr) (floors : Bool) (terms : Terms) (files
 
 -- ---- runs
 
+-- the plan of the files was run, with so many ticks, and this came of its routers
+pub record HaveRun (lookup : Option Addr) (ticks : ℕ) (floor : Option (List ℕ)) (files : List NamedFile) (outcomes : List Outcome) : Type 0 where
+  pub configs : List Config
+  pub least : ℤ
+  pub plan : IsPlan floor files configs least
+  pub are : AreOutcomes lookup (record { ticks = ticks; floor = least }) files configs outcomes
+
 -- the plan of the files was run, with so many ticks: what came of each router is printed and told
 pub record IsRun (lookup : Option Addr) (ticks : ℕ) (floor : Option (List ℕ)) (files : List NamedFile) (status : Status) (out_old out_new err_old err_new : Option (List ℕ)) : Type 0 where
   pub configs : List Config
@@ -120,7 +136,6 @@ pub data Comes (lookup : Option Addr) (ticks : ℕ) (floor : Option (List ℕ)) 
       → out_new ≡ out_old → Comes lookup ticks floor files status out_old out_new err_old err_new
   ran : IsRun lookup ticks floor files status out_old out_new err_old err_new → Comes lookup ticks floor files status out_old out_new err_old err_new
 
--- how the program ends: a run comes to its end, or memory ran out, a stream failed or a table was closed on the way
-pub data Ends (lookup : Option Addr) (ticks : ℕ) (floor : Option (List ℕ)) (files : List NamedFile) (status : Status) (out_old out_new err_old err_new : Option (List ℕ)) : Type 0 where
-  comes : Comes lookup ticks floor files status out_old out_new err_old err_new → Ends lookup ticks floor files status out_old out_new err_old err_new
-  fails : (failure : Failure) → status ≡ failure_status failure → Ends lookup ticks floor files status out_old out_new err_old err_new
+-- the plan of the files was run as is asked for, and this came of its routers
+abbrev pub RunsTo : Settings → List NamedFile → List Outcome → Type 0
+RunsTo settings files outcomes = HaveRun settings.lookup settings.ticks (floor_of settings) files outcomes

@@ -7,13 +7,12 @@ ghost use Rattle.ospf_published.specs.Known.{opening};
 ghost use Rattle.ospf_router.specs.Starts.{IsStarted};
 ghost use Rattle.ospf_run.specs.Runs.{Begins};
 
-use crate::tell::put;
+use crate::list::put;
 use ospf_config::Config;
 use ospf_drive::{Job, Wire};
 use ospf_fib::{Fib, OpenRefused, Seat, Writer};
-use ospf_files::Failure;
 use ospf_router::{Router, StartFault};
-use std::alloc::Global;
+use std::alloc::{AllocError, Global};
 use std::sync::Wait;
 
 // The first DD sequence number of each router (RFC 2328, section 10.8).
@@ -32,13 +31,13 @@ fn open_table<R: Wait + Drop>(rt: R, alloc: Global) -> Result<(Writer<R>, Seat),
 }
 
 // A router that starts with a configuration.
-fn start_router(alloc: Global, config: &Config, floor: i32) -> Result<Router, Failure>
+fn start_router(alloc: Global, config: &Config, floor: i32) -> Result<Router, AllocError>
     requires { floor ≢ max_sequence_number }
     ensures { IfOk result (IsStarted config.now 1 floor) }
 {
     match Router::start(config, DD_START, floor, alloc) {
         Ok(router) => Ok(router),
-        Err(StartFault::Memory) => Err(Failure::Memory),
+        Err(StartFault::Memory) => Err(AllocError),
         Err(StartFault::Floor) => unreachable!(),
     }
 }
@@ -50,7 +49,7 @@ fn begin<W: Wire + Drop, R: Wait + Drop>(
     config: &Config,
     floor: i32,
     wire: W,
-) -> Result<(Job<W, R>, Seat), Failure>
+) -> Result<(Job<W, R>, Seat), AllocError>
     requires { floor ≢ max_sequence_number }
     ensures begins { IfOk result (λ begun. Begins floor config.now begun.0.0 begun.0.2) }
     ensures wire { IfOk result (λ begun. begun.0.1 ≡ wire) }
@@ -59,18 +58,20 @@ fn begin<W: Wire + Drop, R: Wait + Drop>(
     let router = start_router(alloc, config, floor)?;
     match open_table(rt, alloc) {
         Ok((writer, seat)) => Ok(((router, wire, writer), seat)),
-        Err(OpenRefused) => Err(Failure::Memory),
+        Err(OpenRefused) => Err(AllocError),
     }
 }
 
 /// Starts a router for each configuration, over the wire at its place. The floor of their numbers is below the greatest number.
+///
+/// `AllocError` where memory runs out, or there is no place for a seat.
 pub(crate) fn begin_all<W: Wire + Drop, R: Wait + Copy + Drop>(
     rt: R,
     alloc: Global,
     configs: &[Config],
     floor: i32,
     mut wires: Vec<W>,
-) -> Result<(Vec<Job<W, R>>, Vec<Seat>), Failure>
+) -> Result<(Vec<Job<W, R>>, Vec<Seat>), AllocError>
     requires floor { floor ≢ max_sequence_number }
     requires wires { length wires.items ≡ length configs.now }
     requires fresh { All (λ wire. W.failed wire + 1 < 2 ^ 64) wires.items }

@@ -1,14 +1,15 @@
 //! Routers whose drivers have ended.
 
-ghost use Rattle.std.specs.Prelude.{◌≡◌, IfOk, IfSome, length};
+ghost use Rattle.std.specs.Prelude.{◌≡◌, IfErr, IfOk, IfSome, length};
 ghost use mathlib.Core.List.{IsPrefix};
 ghost use Rattle.ospf_drive.specs.Moments.{Moment};
 ghost use Rattle.ospf_fib.specs.Answers.{IsAnswerOfLast};
 ghost use Rattle.ospf_published.specs.Known.{opening};
+ghost use Rattle.ospf_run.specs.Obstacles.{FailsPlan};
 ghost use Rattle.ospf_run.specs.Runs.{AreOutcomes, Came, IsLookedUp, IsTold, Ran, Terms, Trios};
 
+use crate::list::put;
 use crate::look::Looker;
-use crate::tell::put;
 use ospf_base::{Addr, RouterId};
 use ospf_config::Config;
 use ospf_drive::{DriveFault, Driven, all_ticks_are_taken};
@@ -100,7 +101,7 @@ fn finish<R: Wait + Drop, S: Threads>(
     driven: Driven<R>,
     looker: Looker,
     lookup: Option<Addr>,
-) -> Result<Result<Shown, DriveFault>, Failure>
+) -> Result<Result<Shown, DriveFault>, Closed>
     requires { (a : Moment) × Ran a driven looker }
     ensures { (a : Moment) → Ran a driven looker → IfOk result (Came lookup a) }
 {
@@ -114,7 +115,7 @@ fn finish<R: Wait + Drop, S: Threads>(
     };
     match look_if_asked(writer, seat, told, lookup) {
         Ok(looked) => Ok(Ok(Shown { router, looked })),
-        Err(Closed) => Err(Failure::Closed),
+        Err(Closed) => Err(Closed),
     }
 }
 
@@ -147,13 +148,17 @@ pub(crate) fn finish_all<'a, R: Wait + Drop, S: Threads>(
 ) -> Result<Vec<Outcome<'a>>, Failure>
     requires files { length files.now ≡ length configs.now }
     requires ended { (terms : Terms) × Trios terms configs.now driven.items lookers.items }
-    ensures { (terms : Terms) → Trios terms configs.now driven.items lookers.items → IfOk result (λ outcomes. AreOutcomes lookup terms files.now configs.now outcomes.items) }
+    ensures outcomes { (terms : Terms) → Trios terms configs.now driven.items lookers.items
+        → IfOk result (λ all. AreOutcomes lookup terms files.now configs.now all.items) }
+    ensures early { IfErr result (FailsPlan files.now) }
 {
     let mut outcomes = Vec::with_capacity(alloc, configs.len())?;
     for (place, config) in configs.iter().enumerate() {
         let ended = driven.remove(0);
         let looker = lookers.remove(0);
-        let came = finish(rt, ended, looker, lookup)?;
+        let Ok(came) = finish(rt, ended, looker, lookup) else {
+            return Err(Failure::Closed);
+        };
         let outcome = outcome_of(&files[place], config, came);
         put(&mut outcomes, outcome)?;
     }

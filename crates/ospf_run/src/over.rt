@@ -1,27 +1,26 @@
 //! Runs of a plan over wires.
 
-ghost use Rattle.std.specs.Prelude.{◌≡◌, ◌≢◌, ◌+◌, ◌<◌, ◌≤◌, ◌^◌, [], List, All, IfOk, is_some, length, option_map, string_bytes, vec_capacity, vec_len};
+ghost use Rattle.std.specs.Prelude.{◌≡◌, ◌≢◌, ◌+◌, ◌<◌, ◌≤◌, ◌^◌, [], List, All, IfErr, IfOk, length, vec_capacity, vec_len};
 ghost use Rattle.ospf_config.specs.declared.config.Config.{Config};
 ghost use Rattle.ospf_drive.specs.Driven.{IsDriven, Pairs};
 ghost use Rattle.ospf_drive.specs.Moments.{at};
 ghost use Rattle.ospf_flood.specs.Rules.{max_sequence_number};
 ghost use Rattle.ospf_run.specs.Lookers.{IsFrom};
-ghost use Rattle.ospf_run.specs.Runs.{Begins, Reports, Terms, Trios};
+ghost use Rattle.ospf_run.specs.Obstacles.{FailsPlan};
+ghost use Rattle.ospf_run.specs.Runs.{Begins, ComeOf, Terms, Trios};
 ghost use Rattle.ospf_drive.specs.Traffic.Carried.{Ticks};
 
 use crate::begin::begin_all;
-use crate::finish::finish_all;
+use crate::finish::{Outcome, finish_all};
 use crate::look::{Done, Looker, start_looker};
 use crate::plan::Plan;
-use crate::print::report;
 use crate::settings::Settings;
 use crate::tap::{Tap, tap_all};
 use ospf_base::Addr;
 use ospf_drive::{Driven, Job, Wire, drive_all};
 use ospf_fib::Seat;
-use ospf_files::{Failure, NamedFile, Status};
+use ospf_files::{Failure, NamedFile};
 use std::alloc::{AllocError, Global};
-use std::io::Write;
 use std::sync::atomic::{AtomicBool, Ordering};
 use std::sync::{Arc, Wait};
 use std::thread::Threads;
@@ -71,7 +70,7 @@ fn drive_and_look<
     jobs: Vec<Job<W, R>>,
     seats: Vec<Seat>,
     lookup: Option<Addr>,
-) -> Result<(Vec<Driven<R>>, Vec<Looker>), Failure>
+) -> Result<(Vec<Driven<R>>, Vec<Looker>), AllocError>
     requires { All (λ job. W.failed job.1 + 1 < 2 ^ 64) jobs.items }
     ensures { (terms : Terms) (configs : List Config) → Pairs (λ config job. Begins terms.floor config job.0 job.2) configs jobs.items → All (λ job. W.traffic job.1 ≡ Ticks 0 terms.ticks) jobs.items → Pairs (λ job seat. seat ≡ job.2) jobs.items seats.items → IfOk result (λ ended. Trios terms configs ended.0.items ended.1.items) }
 {
@@ -82,32 +81,30 @@ fn drive_and_look<
     Ok((driven, lookers))
 }
 
-// Runs a plan over wires, one for each configuration.
+// Runs a plan over wires, one for each configuration. What comes of its routers, in their order.
 fn run_over<
+    'a,
     W: Wire + Send + Drop + 'static,
     R: Threads + Wait + Clock + Copy + Send + Drop + 'static,
-    O: Write,
-    E: Write,
 >(
     rt: &R,
     alloc: Global,
     settings: &Settings,
-    files: &[NamedFile],
+    files: &'a [NamedFile],
     plan: &Plan,
     wires: Vec<W>,
-    out: &mut O,
-    err: &mut E,
-) -> Result<Status, Failure>
+) -> Result<Vec<Outcome<'a>>, Failure>
     requires floor { plan.now.floor ≢ max_sequence_number }
     requires files { length files.now ≡ length plan.now.configs.items }
     requires wires { length wires.items ≡ length plan.now.configs.items }
     requires fresh { All (λ wire. W.failed wire + 1 < 2 ^ 64) wires.items }
     requires counted { All (λ wire. W.traffic wire ≡ Ticks 0 settings.now.ticks) wires.items }
-    ensures { IfOk result (λ status. Reports settings.now.lookup (is_some (option_map string_bytes settings.now.floor)) (record { ticks = settings.now.ticks; floor = plan.now.floor }) files.now plan.now.configs.items status (O.contents out.old) (O.contents out.new) (E.contents err.old) (E.contents err.new)) }
+    ensures outcomes { IfOk result (λ all. ComeOf settings.now plan.now files.now all.items) }
+    ensures early { IfErr result (FailsPlan files.now) }
 {
     let (jobs, seats) = begin_all(*rt, alloc, &plan.configs, plan.floor, wires)?;
     let (driven, lookers) = drive_and_look(rt, alloc, jobs, seats, settings.lookup)?;
-    let outcomes = finish_all(
+    finish_all(
         rt,
         alloc,
         files,
@@ -115,35 +112,32 @@ fn run_over<
         driven,
         lookers,
         settings.lookup,
-    )?;
-    report(&outcomes, settings.floor.is_some(), out, err)
+    )
 }
 
-/// Runs a plan over wires, one for each configuration, and tells a tap of it.
+/// Runs a plan over wires, one for each configuration, and tells a tap of it. What comes of its routers, in their order.
 pub(crate) fn run_tapped<
+    'a,
     W: Wire + Send + Drop + 'static,
     T: Tap + Send + Drop + 'static,
     R: Threads + Wait + Clock + Copy + Send + Drop + 'static,
-    O: Write,
-    E: Write,
 >(
     rt: &R,
     alloc: Global,
     settings: &Settings,
-    files: &[NamedFile],
+    files: &'a [NamedFile],
     plan: &Plan,
     wires: Vec<W>,
     tap: &T,
-    out: &mut O,
-    err: &mut E,
-) -> Result<Status, Failure>
+) -> Result<Vec<Outcome<'a>>, Failure>
     requires floor { plan.now.floor ≢ max_sequence_number }
     requires files { length files.now ≡ length plan.now.configs.items }
     requires wires { length wires.items ≡ length plan.now.configs.items }
     requires fresh { All (λ wire. W.failed wire + 1 < 2 ^ 64) wires.items }
     requires counted { All (λ wire. W.traffic wire ≡ Ticks 0 settings.now.ticks) wires.items }
-    ensures { IfOk result (λ status. Reports settings.now.lookup (is_some (option_map string_bytes settings.now.floor)) (record { ticks = settings.now.ticks; floor = plan.now.floor }) files.now plan.now.configs.items status (O.contents out.old) (O.contents out.new) (E.contents err.old) (E.contents err.new)) }
+    ensures outcomes { IfOk result (λ all. ComeOf settings.now plan.now files.now all.items) }
+    ensures early { IfErr result (FailsPlan files.now) }
 {
     let wires = tap_all(alloc, files, &plan.configs, wires, tap)?;
-    run_over(rt, alloc, settings, files, plan, wires, out, err)
+    run_over(rt, alloc, settings, files, plan, wires)
 }

@@ -1,19 +1,18 @@
 //! What is found before any socket is made: the floor, the files, the configurations in them, and their ports.
 
-ghost use Rattle.std.specs.Prelude.{◌≡◌, ◌≢◌, ◌++◌, ◌↔◌, All, ℤ, IfOk, IfSome, IfNone, IsOk, IsTrue, OnOk, codes, length, option_map, string_bytes};
-ghost use Rattle.std.specs.Io.KnownBytes.{Appends};
-ghost use Rattle.ospf_flood.specs.Rules.{max_sequence_number};
+ghost use Rattle.std.specs.Prelude.{◌≡◌, ◌↔◌, All, ℤ, IfOk, IfErr, IfSome, IfNone, IsTrue, length, option_map, string_bytes};
 ghost use Rattle.ospf_files.specs.Listed.{AreConfigs, AreRead};
-ghost use Rattle.ospf_run.specs.Plans.{FloorComes, HasPorts, HasFloor, IsAmong, IsFirstPortless, IsFloorOf, Prepares, ShareRouter, no_port_line};
+ghost use Rattle.ospf_run.specs.Obstacles.{IsReadAs, IsStop, IsStopOfConfigs};
+ghost use Rattle.ospf_run.specs.Plans.{HasPorts, HasFloor, IsAmong, IsFirstPortless, IsFloorOf, IsPlanAt, ShareRouter};
 
-use crate::tell::{on_error, tell};
+use crate::list::put;
+use crate::stop::{Obstacle, Stop};
 use ospf_base::RouterId;
-use ospf_config::Config;
-use ospf_files::{Failure, NamedFile, first_unread, read_configs, tell_unread};
+use ospf_config::{Config, ConfigFault};
+use ospf_files::{NamedFile, config_in, first_unread};
 use ospf_flood::MAX_SEQUENCE_NUMBER;
 use ospf_script::floor_of;
-use std::alloc::Global;
-use std::io::{self, Write};
+use std::alloc::{AllocError, Global};
 
 // The floor below all LS sequence numbers, which is none.
 const NO_FLOOR: i32 = i32::MIN;
@@ -27,25 +26,6 @@ pub(crate) struct Plan {
     pub floor: i32,
 }
 
-/// What comes of the settings and the files.
-#[derive(Drop)]
-pub(crate) enum Prepared {
-    Ready(Plan),
-    /// Something is refused, of which it is told.
-    Refused,
-    /// A file could not be read, of which it is told.
-    Unread,
-}
-
-// Tells that an interface in a file has no port.
-fn tell_portless<E: Write>(file: &NamedFile, err: &mut E) -> io::Result<()>
-    ensures { OnOk result (Appends (E.contents err.old) (E.contents err.new) (no_port_line file.now)) }
-{
-    writeln!(err, "{}: no port", file.name)?;
-    err.flush()?;
-    Ok(())
-}
-
 // The floor of a text.
 fn floor_in(text: &Option<String>) -> Option<i32>
     ensures some { IfSome result (IsFloorOf (option_map string_bytes text.now)) }
@@ -54,23 +34,6 @@ fn floor_in(text: &Option<String>) -> Option<i32>
     match text {
         Some(text) => floor_of(text.as_bytes()),
         None => Some(NO_FLOOR),
-    }
-}
-
-// The floor of a text, if there is one below the greatest number; else it is told.
-fn read_floor<E: Write>(text: &Option<String>, err: &mut E) -> Result<Option<i32>, Failure>
-    ensures { IfOk result (λ floor. FloorComes (option_map string_bytes text.now) floor (E.contents err.old) (E.contents err.new)) }
-{
-    match floor_in(text) {
-        Some(floor) if floor == MAX_SEQUENCE_NUMBER => {
-            tell("floor: S2 Floor", err)?;
-            Ok(None)
-        }
-        Some(floor) => Ok(Some(floor)),
-        None => {
-            tell("floor: not a number", err)?;
-            Ok(None)
-        }
     }
 }
 
@@ -122,85 +85,104 @@ fn first_portless<'a>(files: &'a [NamedFile], configs: &[Config]) -> Option<&'a 
     None
 }
 
-// The plan of configurations, if they can run beside each other; else it is told.
-fn plan_of<E: Write>(
+// The configuration of a file, or its fault.
+fn read_config(alloc: Global, file: &NamedFile) -> Result<Result<Config, ConfigFault>, AllocError>
+    ensures { IfOk result (IsReadAs file.now) }
+{
+    match config_in(alloc, file.text()) {
+        Ok(config) => Ok(Ok(config)),
+        Err(ConfigFault::Memory) => Err(AllocError),
+        Err(fault) => Ok(Err(fault)),
+    }
+}
+
+// The configurations in files that were read.
+fn read_configs<'a>(alloc: Global, files: &'a [NamedFile]) -> Result<Vec<Config>, Stop<'a>>
+    ensures configs { IfOk result (λ configs. AreConfigs files.now configs.items) }
+    ensures stop { IfErr result (IsStopOfConfigs files.now) }
+{
+    let mut configs = Vec::with_capacity(alloc, files.len())?;
+    for file in files {
+        match read_config(alloc, file)? {
+            Ok(config) => put(&mut configs, config)?,
+            Err(fault) => return Err(Stop::Obstacle(Obstacle::NoConfig(file, fault))),
+        }
+    }
+    Ok(configs)
+}
+
+// The plan of configurations, if they can run beside each other.
+fn plan_of<'a>(
     floor: &Option<String>,
     least: i32,
-    files: &[NamedFile],
+    files: &'a [NamedFile],
     configs: Vec<Config>,
-    err: &mut E,
-) -> Result<Prepared, Failure>
+) -> Result<Plan, Stop<'a>>
     requires floor { HasFloor (option_map string_bytes floor.now) least }
     requires read { AreRead files.now }
     requires are { AreConfigs files.now configs.items }
-    ensures { IfOk result (λ p. Prepares (option_map string_bytes floor.now) files.now p (E.contents err.old) (E.contents err.new)) }
+    ensures plan { IfOk result (IsPlanAt (option_map string_bytes floor.now) files.now) }
+    ensures stop { IfErr result (IsStop (option_map string_bytes floor.now) files.now) }
 {
     if share_router(&configs) {
-        tell("W7 SameRouter", err)?;
-        return Ok(Prepared::Refused);
+        return Err(Stop::Obstacle(Obstacle::SameRouter));
     }
     match first_portless(files, &configs) {
-        Some(file) => {
-            on_error(tell_portless(file, err))?;
-            Ok(Prepared::Refused)
-        }
-        None => Ok(Prepared::Ready(Plan {
+        Some(file) => Err(Stop::Obstacle(Obstacle::NoPort(file))),
+        None => Ok(Plan {
             configs,
             floor: least,
-        })),
+        }),
     }
 }
 
 // The plan of the configurations in files that were read.
-fn plan_in<E: Write>(
+fn plan_in<'a>(
     alloc: Global,
     floor: &Option<String>,
     least: i32,
-    files: &[NamedFile],
-    err: &mut E,
-) -> Result<Prepared, Failure>
+    files: &'a [NamedFile],
+) -> Result<Plan, Stop<'a>>
     requires floor { HasFloor (option_map string_bytes floor.now) least }
     requires read { AreRead files.now }
-    ensures { IfOk result (λ p. Prepares (option_map string_bytes floor.now) files.now p (E.contents err.old) (E.contents err.new)) }
+    ensures plan { IfOk result (IsPlanAt (option_map string_bytes floor.now) files.now) }
+    ensures stop { IfErr result (IsStop (option_map string_bytes floor.now) files.now) }
 {
-    match read_configs(alloc, files, err)? {
-        Some(configs) => plan_of(floor, least, files, configs, err),
-        None => Ok(Prepared::Refused),
-    }
+    let configs = read_configs(alloc, files)?;
+    plan_of(floor, least, files, configs)
 }
 
 // The plan of files, where there is a floor.
-fn plan_above<E: Write>(
+fn plan_above<'a>(
     alloc: Global,
     floor: &Option<String>,
     least: i32,
-    files: &[NamedFile],
-    err: &mut E,
-) -> Result<Prepared, Failure>
+    files: &'a [NamedFile],
+) -> Result<Plan, Stop<'a>>
     requires { HasFloor (option_map string_bytes floor.now) least }
-    ensures { IfOk result (λ p. Prepares (option_map string_bytes floor.now) files.now p (E.contents err.old) (E.contents err.new)) }
+    ensures plan { IfOk result (IsPlanAt (option_map string_bytes floor.now) files.now) }
+    ensures stop { IfErr result (IsStop (option_map string_bytes floor.now) files.now) }
 {
     match first_unread(files) {
-        Some(file) => {
-            on_error(tell_unread(file, err))?;
-            Ok(Prepared::Unread)
-        }
-        None => plan_in(alloc, floor, least, files, err),
+        Some(file) => Err(Stop::Obstacle(Obstacle::Unread(file))),
+        None => plan_in(alloc, floor, least, files),
     }
 }
 
-/// Finds what is to run: the floor, and the configurations in the files. The first that is refused is told on `err`, and so is
-/// a file that could not be read.
-pub(crate) fn prepare<E: Write>(
+/// Finds what is to run: the floor, and the configurations in the files; or the first thing that keeps them from running.
+pub(crate) fn prepare<'a>(
     alloc: Global,
     floor: &Option<String>,
-    files: &[NamedFile],
-    err: &mut E,
-) -> Result<Prepared, Failure>
-    ensures { IfOk result (λ p. Prepares (option_map string_bytes floor.now) files.now p (E.contents err.old) (E.contents err.new)) }
+    files: &'a [NamedFile],
+) -> Result<Plan, Stop<'a>>
+    ensures plan { IfOk result (IsPlanAt (option_map string_bytes floor.now) files.now) }
+    ensures stop { IfErr result (IsStop (option_map string_bytes floor.now) files.now) }
 {
-    match read_floor(floor, err)? {
-        Some(least) => plan_above(alloc, floor, least, files, err),
-        None => Ok(Prepared::Refused),
+    match floor_in(floor) {
+        Some(least) if least == MAX_SEQUENCE_NUMBER => {
+            Err(Stop::Obstacle(Obstacle::GreatestFloor))
+        }
+        Some(least) => plan_above(alloc, floor, least, files),
+        None => Err(Stop::Obstacle(Obstacle::NoNumber)),
     }
 }

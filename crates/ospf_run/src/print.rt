@@ -1,100 +1,210 @@
 //! What is printed of routers whose drivers have ended.
 
 ghost use Rattle.std.specs.List.{list_any};
-ghost use Rattle.std.specs.Prelude.{◌≡◌, IfOk, OnOk, flat_map};
+ghost use Rattle.std.specs.Prelude.{◌≡◌, IfErr, IfOk, OnErr, OnOk, string_bytes};
 ghost use Rattle.std.specs.Io.KnownBytes.{Appends};
-ghost use Rattle.ospf_run.specs.Printed.{IsReported, fault_line, floor_lines, is_early, is_failed, looked_lines, outcome_lines, outcome_told, router_lines, status_for};
+ghost use Rattle.ospf_files.specs.Streams.{IsBegun, IsErrorCut, IsOutputCut};
+ghost use Rattle.ospf_run.specs.Cut.{IsReportCut};
+ghost use Rattle.ospf_run.specs.Printed.{IsReported, fault_line, floor_line, floor_lines, is_early, is_failed, looked_lines, outcome_lines, outcome_told, report_lines, report_told, router_line, router_lines, status_for, table_lines};
 
 use crate::finish::{Looked, Outcome, Shown};
-use crate::tell::{on_error, on_output};
+use crate::stop::line_about;
 use ospf_base::RouterId;
 use ospf_drive::DriveFault;
-use ospf_files::{Failure, NamedFile, Status};
+use ospf_files::{FailedStreams, Failure, NamedFile, Status};
 use ospf_router::Router;
 use ospf_script::FloorShown;
-use ospf_shown::{write_lookup, write_routes};
-use std::io::{self, Write};
+use ospf_shown::{print_lookup, print_routes};
+use std::alloc::{AllocError, Global};
+use std::io::Write;
 
-// Writes what a lookup found, if one was asked for.
-fn write_looked<O: Write>(out: &mut O, looked: &Option<Looked>) -> io::Result<()>
-    ensures { OnOk result (Appends (O.contents out.old) (O.contents out.new) (looked_lines looked.now)) }
+// The line of a router.
+fn router_line(alloc: Global, router: RouterId) -> Result<String, AllocError>
+    ensures { IfOk result (λ line. string_bytes line ≡ router_line router) }
+{
+    let line = format!(in alloc; "router {router}\n")?;
+    Ok(line)
+}
+
+// The line of the floor of a router's numbers.
+fn floor_line(alloc: Global, router: &Router) -> Result<String, AllocError>
+    ensures { IfOk result (λ line. string_bytes line ≡ floor_line router.now) }
+{
+    let line = format!(in alloc; "floor {}\n", FloorShown(router.floor()))?;
+    Ok(line)
+}
+
+// Prints what a lookup found, if one was asked for.
+fn print_looked<O: Write>(
+    alloc: Global,
+    looked: &Option<Looked>,
+    out: &mut O,
+    streams: &mut FailedStreams,
+) -> Result<(), Failure>
+    ensures printed { OnOk result
+        (Appends (O.contents out.old) (O.contents out.new) (looked_lines looked.now)) }
+    ensures begun { OnErr result
+        (IsBegun (O.contents out.old) (O.contents out.new) (looked_lines looked.now)) }
+    ensures cut { IfErr result (IsOutputCut streams.new) }
 {
     match looked {
-        Some(looked) => write_lookup(out, looked.address, looked.answer),
+        Some(looked) => print_lookup(alloc, looked.address, looked.answer, out, streams),
         None => Ok(()),
     }
 }
 
-// Writes the floor of a router's numbers, if it is wanted.
-fn write_floor<O: Write>(out: &mut O, router: &Router, floors: bool) -> io::Result<()>
-    ensures { OnOk result (Appends (O.contents out.old) (O.contents out.new) (floor_lines floors router.now)) }
+// Prints the floor of a router's numbers, if it is wanted.
+fn print_floor<O: Write>(
+    alloc: Global,
+    router: &Router,
+    floors: bool,
+    out: &mut O,
+    streams: &mut FailedStreams,
+) -> Result<(), Failure>
+    ensures printed { OnOk result
+        (Appends (O.contents out.old) (O.contents out.new) (floor_lines floors router.now)) }
+    ensures begun { OnErr result
+        (IsBegun (O.contents out.old) (O.contents out.new) (floor_lines floors router.now)) }
+    ensures cut { IfErr result (IsOutputCut streams.new) }
 {
-    if floors {
-        writeln!(out, "floor {}", FloorShown(router.floor()))?;
+    if !floors {
+        return Ok(());
     }
-    Ok(())
+    let line = floor_line(alloc, router)?;
+    streams.write(out, &line)
 }
 
-// Writes a router: its table, and what was asked for beside it.
-fn write_router<O: Write>(
+// Prints the line of a router, and its routes.
+fn print_table<O: Write>(
+    alloc: Global,
+    router: RouterId,
+    shown: &Shown,
     out: &mut O,
+    streams: &mut FailedStreams,
+) -> Result<(), Failure>
+    ensures printed { OnOk result
+        (Appends (O.contents out.old) (O.contents out.new) (table_lines router shown.now)) }
+    ensures begun { OnErr result
+        (IsBegun (O.contents out.old) (O.contents out.new) (table_lines router shown.now)) }
+    ensures cut { IfErr result (IsOutputCut streams.new) }
+{
+    let line = router_line(alloc, router)?;
+    streams.write(out, &line)?;
+    print_routes(alloc, shown.router.table().routes(), out, streams)
+}
+
+// Prints a router: its table, and what was asked for beside it.
+fn print_router<O: Write>(
+    alloc: Global,
     router: RouterId,
     shown: &Shown,
     floors: bool,
-) -> io::Result<()>
-    ensures { OnOk result (Appends (O.contents out.old) (O.contents out.new) (router_lines floors router shown.now)) }
+    out: &mut O,
+    streams: &mut FailedStreams,
+) -> Result<(), Failure>
+    ensures printed { OnOk result
+        (Appends (O.contents out.old) (O.contents out.new) (router_lines floors router shown.now)) }
+    ensures begun { OnErr result
+        (IsBegun (O.contents out.old) (O.contents out.new) (router_lines floors router shown.now)) }
+    ensures cut { IfErr result (IsOutputCut streams.new) }
 {
-    writeln!(out, "router {router}")?;
-    write_routes(out, shown.router.table().routes())?;
-    write_looked(out, &shown.looked)?;
-    write_floor(out, &shown.router, floors)
+    print_table(alloc, router, shown, out, streams)?;
+    print_looked(alloc, &shown.looked, out, streams)?;
+    print_floor(alloc, &shown.router, floors, out, streams)
 }
 
-// Writes what came of a router to standard output, if its driver came to the end.
-fn write_outcome<O: Write>(out: &mut O, outcome: &Outcome<'_>, floors: bool) -> io::Result<()>
-    ensures { OnOk result (Appends (O.contents out.old) (O.contents out.new) (outcome_lines floors outcome.now)) }
+// Prints what came of a router to standard output, if its driver came to the end.
+fn print_outcome<O: Write>(
+    alloc: Global,
+    outcome: &Outcome<'_>,
+    floors: bool,
+    out: &mut O,
+    streams: &mut FailedStreams,
+) -> Result<(), Failure>
+    ensures printed { OnOk result
+        (Appends (O.contents out.old) (O.contents out.new) (outcome_lines floors outcome.now)) }
+    ensures begun { OnErr result
+        (IsBegun (O.contents out.old) (O.contents out.new) (outcome_lines floors outcome.now)) }
+    ensures cut { IfErr result (IsOutputCut streams.new) }
 {
     match &outcome.came {
-        Ok(shown) => write_router(out, outcome.router, shown, floors),
+        Ok(shown) => print_router(alloc, outcome.router, shown, floors, out, streams),
         Err(_) => Ok(()),
     }
 }
 
-// Writes what came of routers to standard output.
-fn write_outcomes<O: Write>(out: &mut O, outcomes: &[Outcome<'_>], floors: bool) -> io::Result<()>
-    ensures { OnOk result (Appends (O.contents out.old) (O.contents out.new) (flat_map (outcome_lines floors) outcomes.now)) }
+// Prints what came of routers to standard output, which may keep it until it is flushed.
+fn print_outcomes<O: Write>(
+    alloc: Global,
+    outcomes: &[Outcome<'_>],
+    floors: bool,
+    out: &mut O,
+    streams: &mut FailedStreams,
+) -> Result<(), Failure>
+    ensures printed { OnOk result
+        (Appends (O.contents out.old) (O.contents out.new) (report_lines floors outcomes.now)) }
+    ensures begun { OnErr result
+        (IsBegun (O.contents out.old) (O.contents out.new) (report_lines floors outcomes.now)) }
+    ensures cut { IfErr result (IsOutputCut streams.new) }
 {
     for outcome in outcomes {
-        write_outcome(out, outcome, floors)?;
+        print_outcome(alloc, outcome, floors, out, streams)?;
     }
     Ok(())
 }
 
 // Tells why a driver ended.
-fn tell_fault<E: Write>(err: &mut E, file: &NamedFile, fault: DriveFault) -> io::Result<()>
-    ensures { OnOk result (Appends (E.contents err.old) (E.contents err.new) (fault_line file.now fault)) }
+fn tell_fault<E: Write>(
+    alloc: Global,
+    file: &NamedFile,
+    fault: DriveFault,
+    err: &mut E,
+    streams: &mut FailedStreams,
+) -> Result<(), Failure>
+    ensures told { OnOk result
+        (Appends (E.contents err.old) (E.contents err.new) (fault_line file.now fault)) }
+    ensures begun { OnErr result
+        (IsBegun (E.contents err.old) (E.contents err.new) (fault_line file.now fault)) }
+    ensures cut { IfErr result (IsErrorCut streams.new) }
 {
-    writeln!(err, "{}: {}", file.name, fault.text())?;
-    err.flush()?;
-    Ok(())
+    let line = line_about(alloc, file, fault.text())?;
+    streams.tell(err, &line)
 }
 
 // Tells why the driver of a router ended, if it did not come to the end.
-fn tell_outcome<E: Write>(err: &mut E, outcome: &Outcome<'_>) -> io::Result<()>
-    ensures { OnOk result (Appends (E.contents err.old) (E.contents err.new) (outcome_told outcome.now)) }
+fn tell_outcome<E: Write>(
+    alloc: Global,
+    outcome: &Outcome<'_>,
+    err: &mut E,
+    streams: &mut FailedStreams,
+) -> Result<(), Failure>
+    ensures told { OnOk result
+        (Appends (E.contents err.old) (E.contents err.new) (outcome_told outcome.now)) }
+    ensures begun { OnErr result
+        (IsBegun (E.contents err.old) (E.contents err.new) (outcome_told outcome.now)) }
+    ensures cut { IfErr result (IsErrorCut streams.new) }
 {
     match outcome.came {
         Ok(_) => Ok(()),
-        Err(fault) => tell_fault(err, outcome.file, fault),
+        Err(fault) => tell_fault(alloc, outcome.file, fault, err, streams),
     }
 }
 
 // Tells why drivers ended.
-fn tell_outcomes<E: Write>(err: &mut E, outcomes: &[Outcome<'_>]) -> io::Result<()>
-    ensures { OnOk result (Appends (E.contents err.old) (E.contents err.new) (flat_map outcome_told outcomes.now)) }
+fn tell_outcomes<E: Write>(
+    alloc: Global,
+    outcomes: &[Outcome<'_>],
+    err: &mut E,
+    streams: &mut FailedStreams,
+) -> Result<(), Failure>
+    ensures told { OnOk result
+        (Appends (E.contents err.old) (E.contents err.new) (report_told outcomes.now)) }
+    ensures begun { OnErr result
+        (IsBegun (E.contents err.old) (E.contents err.new) (report_told outcomes.now)) }
+    ensures cut { IfErr result (IsErrorCut streams.new) }
 {
     for outcome in outcomes {
-        tell_outcome(err, outcome)?;
+        tell_outcome(alloc, outcome, err, streams)?;
     }
     Ok(())
 }
@@ -143,18 +253,24 @@ fn status_of(outcomes: &[Outcome<'_>]) -> Status
     }
 }
 
-/// Writes the tables of the routers to `out`, and tells on `err` why drivers ended that did not come to the end. The answer is
-/// the status to end with.
+/// Writes the tables of the routers to `out`, and then tells on `err` why drivers ended that did not come to the end. The answer
+/// is the status to end with.
 pub(crate) fn report<O: Write, E: Write>(
+    alloc: Global,
     outcomes: &[Outcome<'_>],
     floors: bool,
     out: &mut O,
     err: &mut E,
+    streams: &mut FailedStreams,
 ) -> Result<Status, Failure>
-    ensures { IfOk result (λ status. IsReported floors outcomes.now status (O.contents out.old) (O.contents out.new) (E.contents err.old) (E.contents err.new)) }
+    ensures reported { IfOk result (λ status. IsReported floors outcomes.now status
+        (O.contents out.old) (O.contents out.new) (E.contents err.old) (E.contents err.new)) }
+    ensures cut { IfErr result
+        (IsReportCut floors outcomes.now streams.new (O.contents out.old) (O.contents out.new)
+        (E.contents err.old) (E.contents err.new)) }
 {
-    on_output(write_outcomes(out, outcomes, floors))?;
-    on_output(out.flush())?;
-    on_error(tell_outcomes(err, outcomes))?;
+    print_outcomes(alloc, outcomes, floors, out, streams)?;
+    streams.flush(out)?;
+    tell_outcomes(alloc, outcomes, err, streams)?;
     Ok(status_of(outcomes))
 }

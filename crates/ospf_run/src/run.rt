@@ -1,13 +1,21 @@
 //! Runs.
 
-ghost use Rattle.std.specs.Prelude.{◌≡◌, ◌≢◌, IfOk, option_map, string_bytes};
-ghost use Rattle.ospf_run.specs.Plans.{IsPlan, IsRefused};
-ghost use Rattle.ospf_run.specs.Runs.{Comes, Ends, IsRun};
+ghost use Rattle.std.specs.Prelude.{◌≡◌, ◌≢◌, ℕ, List, Option, IfErr, IfOk, OnOk, option_map, string_bytes};
+ghost use Rattle.ospf_files.specs.Status.{failure_line};
+ghost use Rattle.ospf_files.specs.Streams.{IsTold};
+ghost use Rattle.ospf_run.specs.Cut.{EndsBy, Ends, last_status};
+ghost use Rattle.ospf_run.specs.Obstacles.{IsStop};
+ghost use Rattle.ospf_run.specs.Plans.{IsPlanAt, IsRefused};
+ghost use Rattle.ospf_run.specs.Runs.{ComeOf, IsRun, RunsTo, floor_of};
 
+use crate::finish::Outcome;
 use crate::over::run_tapped;
-use crate::plan::{Plan, Prepared, prepare};
+use crate::plan::{Plan, prepare};
+use crate::print::report;
 use crate::settings::Settings;
+use crate::stop::{Stop, status_of};
 use crate::tap::Tap;
+use crate::tell::tell_obstacle;
 use crate::wires::open_wires;
 use ospf_files::{FailedStreams, Failure, NamedFile, Status};
 use std::alloc::Global;
@@ -17,52 +25,108 @@ use std::sync::Wait;
 use std::thread::Threads;
 use std::time::Clock;
 
-// Runs a plan over sockets of this machine.
+// Runs a plan over sockets of this machine. What comes of its routers, in their order.
 fn run_plan<
+    'a,
     R: Net + Threads + Wait + Clock + Copy + Send + Drop + 'static,
     T: Tap + Send + Drop + 'static,
-    O: Write,
-    E: Write,
 >(
     rt: &R,
     alloc: Global,
     settings: &Settings,
-    files: &[NamedFile],
+    files: &'a [NamedFile],
     plan: &Plan,
     tap: &T,
-    out: &mut O,
-    err: &mut E,
-) -> Result<Status, Failure>
-    requires { IsPlan (option_map string_bytes settings.now.floor) files.now plan.now.configs.items plan.now.floor }
-    ensures { IfOk result (λ status. Comes settings.now.lookup settings.now.ticks (option_map string_bytes settings.now.floor) files.now status (O.contents out.old) (O.contents out.new) (E.contents err.old) (E.contents err.new)) }
+) -> Result<Vec<Outcome<'a>>, Stop<'a>>
+    requires { IsPlanAt (floor_of settings.now) files.now plan.now }
+    ensures outcomes { IfOk result (λ all. ComeOf settings.now plan.now files.now all.items) }
+    ensures stop { IfErr result (IsStop (floor_of settings.now) files.now) }
 {
-    match open_wires(rt, *rt, alloc, settings, files, &plan.configs, err)? {
-        Some(wires) => run_tapped(rt, alloc, settings, files, plan, wires, tap, out, err),
-        None => Ok(Status::Stream),
+    let wires = open_wires(rt, *rt, alloc, settings, files, &plan.configs)?;
+    let outcomes = run_tapped(rt, alloc, settings, files, plan, wires, tap)?;
+    Ok(outcomes)
+}
+
+// Runs routers of the configurations in files, if they can run. What comes of them, in their order.
+fn run<
+    'a,
+    R: Net + Threads + Wait + Clock + Copy + Send + Drop + 'static,
+    T: Tap + Send + Drop + 'static,
+>(
+    rt: &R,
+    alloc: Global,
+    settings: &Settings,
+    files: &'a [NamedFile],
+    tap: &T,
+) -> Result<Vec<Outcome<'a>>, Stop<'a>>
+    ensures outcomes { IfOk result (λ all. RunsTo settings.now files.now all.items) }
+    ensures stop { IfErr result (IsStop (floor_of settings.now) files.now) }
+{
+    let plan = prepare(alloc, &settings.floor, files)?;
+    run_plan(rt, alloc, settings, files, &plan, tap)
+}
+
+// Tells why the routers that settings and files ask for did not run to their end. The answer is the status to end with.
+fn tell_stop<E: Write>(
+    alloc: Global,
+    settings: &Settings,
+    files: &[NamedFile],
+    stop: Stop<'_>,
+    err: &mut E,
+    streams: &mut FailedStreams,
+) -> Result<Status, Failure>
+    requires { IsStop (floor_of settings.now) files.now stop }
+    ensures { (out : Option (List ℕ)) → EndsBy settings.now files.now streams.new out out
+        (E.contents err.old) (E.contents err.new) result }
+{
+    match stop {
+        Stop::Obstacle(obstacle) => {
+            tell_obstacle(alloc, obstacle, err, streams)?;
+            Ok(status_of(obstacle))
+        }
+        Stop::Failure(failure) => Err(failure),
     }
 }
 
-// Runs routers of the configurations in files, if they can run.
-fn run<
-    R: Net + Threads + Wait + Clock + Copy + Send + Drop + 'static,
-    T: Tap + Send + Drop + 'static,
-    O: Write,
-    E: Write,
->(
-    rt: &R,
+// Writes what came of the routers that settings and files ask for, or tells why they did not run to their end. The answer is
+// the status to end with.
+fn say<O: Write, E: Write>(
     alloc: Global,
     settings: &Settings,
     files: &[NamedFile],
-    tap: &T,
+    ran: Result<Vec<Outcome<'_>>, Stop<'_>>,
     out: &mut O,
     err: &mut E,
+    streams: &mut FailedStreams,
 ) -> Result<Status, Failure>
-    ensures { IfOk result (λ status. Comes settings.now.lookup settings.now.ticks (option_map string_bytes settings.now.floor) files.now status (O.contents out.old) (O.contents out.new) (E.contents err.old) (E.contents err.new)) }
+    requires outcomes { IfOk ran (λ all. RunsTo settings.now files.now all.items) }
+    requires stop { IfErr ran (IsStop (floor_of settings.now) files.now) }
+    ensures { EndsBy settings.now files.now streams.new (O.contents out.old) (O.contents out.new)
+        (E.contents err.old) (E.contents err.new) result }
 {
-    match prepare(alloc, &settings.floor, files, err)? {
-        Prepared::Ready(plan) => run_plan(rt, alloc, settings, files, &plan, tap, out, err),
-        Prepared::Refused => Ok(Status::Refused),
-        Prepared::Unread => Ok(Status::Stream),
+    match ran {
+        Ok(outcomes) => report(
+            alloc,
+            &outcomes,
+            settings.floor.is_some(),
+            out,
+            err,
+            streams,
+        ),
+        Err(stop) => tell_stop(alloc, settings, files, stop, err, streams),
+    }
+}
+
+// Tells last what failed, if anything did. The answer is the status to end with.
+fn end<E: Write>(said: Result<Status, Failure>, err: &mut E, streams: &mut FailedStreams) -> Status
+    ensures status { result ≡ last_status said }
+    ensures quiet { OnOk said (E.contents err.new ≡ E.contents err.old) }
+    ensures told { IfErr said (λ failure. IsTold streams.old streams.new (E.contents err.old)
+        (E.contents err.new) (failure_line failure)) }
+{
+    match said {
+        Ok(status) => status,
+        Err(failure) => failure.tell(err, streams),
     }
 }
 
@@ -77,8 +141,12 @@ fn run<
 /// `Refused`; a file that could not be read, with status `Stream`; the first file that holds no configuration, two
 /// configurations of one Router ID, and the first file with an interface that has no port, with status `Refused`. Status
 /// `Stream` says too that a socket could not be made, that a wire or a thread failed a router, that a table was closed or that
-/// a write failed; `Memory` that memory ran out, for all or for one router. What failed is told on `err`, as far as that can be
-/// written.
+/// a write failed; `Memory` that memory ran out, for all or for one router.
+///
+/// What failed for all is told last on `err`, as far as that can be written. Before it nothing new stands on either, where memory
+/// ran out or a table was closed before anything was written; or on `err` alone a beginning of the line that tells what ended the
+/// run before it began; or on `out` a beginning of what is written of the routers and, where that is whole, on `err` a beginning
+/// of what is told of them.
 pub fn run_text<
     R: Net + Threads + Wait + Clock + Copy + Send + Drop + 'static,
     T: Tap + Send + Drop + 'static,
@@ -99,8 +167,8 @@ pub fn run_text<
     ensures not_words { result ≢ Status.Words }
     ensures ended { Ends settings.now.lookup settings.now.ticks (option_map string_bytes settings.now.floor) files.now result (O.contents out.old) (O.contents out.new) (E.contents err.old) (E.contents err.new) }
 {
-    match run(rt, alloc, settings, files, tap, out, err) {
-        Ok(status) => status,
-        Err(failure) => failure.tell(err, &mut FailedStreams::none()),
-    }
+    let ran = run(rt, alloc, settings, files, tap);
+    let mut streams = FailedStreams::none();
+    let said = say(alloc, settings, files, ran, out, err, &mut streams);
+    end(said, err, &mut streams)
 }

@@ -3,10 +3,10 @@
 ghost use Rattle.std.specs.Prelude.{◌≡◌, IfOk, length};
 ghost use Rattle.ospf_drive.specs.Driven.{Pairs};
 
-use crate::tell::put;
+use crate::list::put;
 use ospf_config::Config;
 use ospf_drive::{Arrival, LONGEST, Wire, WireFault};
-use ospf_files::{Failure, NamedFile};
+use ospf_files::NamedFile;
 use ospf_router::{Router, Sent};
 use std::alloc::{AllocError, Global};
 
@@ -93,13 +93,15 @@ fn tapped<W: Wire + Drop, T: Tap + Drop>(
 
 /// The same wires, in the same order, of each of which a tap of its own is told: that of the file and the configuration
 /// at its place.
+///
+/// `AllocError` where memory runs out.
 pub(crate) fn tap_all<W: Wire + Drop, T: Tap + Drop>(
     alloc: Global,
     files: &[NamedFile],
     configs: &[Config],
     mut wires: Vec<W>,
     tap: &T,
-) -> Result<Vec<TappedWire<W, T>>, Failure>
+) -> Result<Vec<TappedWire<W, T>>, AllocError>
     requires files { length files.now ≡ length configs.now }
     requires wires { length wires.items ≡ length configs.now }
     ensures { IfOk result (λ all. Pairs (λ wire it. it.wire ≡ wire) wires.items all.items) }

@@ -1,44 +1,28 @@
-//! Lines on standard error, and failures of streams and of memory.
+//! Lines on standard error.
 
-ghost use Rattle.std.specs.Prelude.{◌≡◌, ◌++◌, ◌∷◌, [], IsOk, OnOk, codes};
+ghost use Rattle.std.specs.Prelude.{◌≡◌, IfErr, IfOk, OnErr, OnOk};
 ghost use Rattle.std.specs.Io.KnownBytes.{Appends};
+ghost use Rattle.ospf_files.specs.Streams.{IsBegun, IsErrorCut};
+ghost use Rattle.ospf_run.specs.Obstacles.{obstacle_line};
 
-use ospf_files::{Failure, write_line};
-use std::io::{self, Write};
+use crate::stop::{Obstacle, line_of};
+use ospf_files::{FailedStreams, Failure};
+use std::alloc::Global;
+use std::io::Write;
 
-/// What a write to standard error came to.
-pub(crate) fn on_error(told: io::Result<()>) -> Result<(), Failure>
-    ensures { OnOk result (IsOk told) }
+/// Tells of an obstacle.
+pub(crate) fn tell_obstacle<E: Write>(
+    alloc: Global,
+    obstacle: Obstacle<'_>,
+    err: &mut E,
+    streams: &mut FailedStreams,
+) -> Result<(), Failure>
+    ensures told { OnOk result
+        (Appends (E.contents err.old) (E.contents err.new) (obstacle_line obstacle.entry)) }
+    ensures begun { OnErr result
+        (IsBegun (E.contents err.old) (E.contents err.new) (obstacle_line obstacle.entry)) }
+    ensures cut { IfErr result (IsErrorCut streams.new) }
 {
-    match told {
-        Ok(()) => Ok(()),
-        Err(error) => Err(Failure::of(&error, Failure::Error)),
-    }
-}
-
-/// What a write to standard output came to.
-pub(crate) fn on_output(written: io::Result<()>) -> Result<(), Failure>
-    ensures { OnOk result (IsOk written) }
-{
-    match written {
-        Ok(()) => Ok(()),
-        Err(error) => Err(Failure::of(&error, Failure::Output)),
-    }
-}
-
-/// Tells of something in a line.
-pub(crate) fn tell<E: Write>(text: &str, err: &mut E) -> Result<(), Failure>
-    ensures { OnOk result (Appends (E.contents err.old) (E.contents err.new) (text.now ++ codes "\n")) }
-{
-    on_error(write_line(err, text))
-}
-
-/// Puts a value behind the others.
-pub(crate) fn put<T: Drop>(list: &mut Vec<T>, value: T) -> Result<(), Failure>
-    ensures { OnOk result (list.new.items ≡ list.old.items ++ value ∷ []) }
-{
-    match list.push(value) {
-        Ok(()) => Ok(()),
-        Err(_) => Err(Failure::Memory),
-    }
+    let line = line_of(alloc, obstacle)?;
+    streams.tell(err, &line)
 }

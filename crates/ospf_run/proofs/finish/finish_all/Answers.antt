@@ -2,10 +2,21 @@ use Rattle.std.proofs.Common.{◌+◌, ◌<◌, arith, drop, length, subst, sym,
 use Rattle.ospf_run.proofs.Finished.{outcome_of, ran_taken, trios_on}
 use Rattle.ospf_run.proofs.Lists.{HasFirst, first_left, outcomes_more}
 use Rattle.ospf_drive.specs.declared.fault.DriveFault.{DriveFault}
+use Rattle.ospf_files.proofs.Cut.{for_memory}
+use Rattle.ospf_run.specs.Obstacles.{FailsPlan, closed, no_memory}
 use Rattle.ospf_run.specs.Runs.{Came, Terms, Trios}
 use Rattle.ospf_run.specs.declared.finish.Shown.{Shown}
 use Rattle.ospf_run.specs.declared.finish.Outcome.{Outcome}
 use Rattle.ospf_run.proofs.finish.finish_all.Goals as goal
+
+pub returns-in_err-outcomes-clause-early : goal.returns-in_err-outcomes-clause-early
+returns-in_err-outcomes-clause-early g c = for_memory c.from_residual.result (FailsPlan c.args.files.now) c.from_residual.ensures.1 (λ floor has. no_memory)
+
+pub returns-in_default-clause-early : goal.returns-in_default-clause-early
+returns-in_default-clause-early g c = λ floor has. closed has
+
+pub returns-in_err-put-clause-early : goal.returns-in_err-put-clause-early
+returns-in_err-put-clause-early g c = for_memory c.from_residual-in_err-put.result (FailsPlan c.args.files.now) c.from_residual-in_err-put.ensures.1 (λ floor has. no_memory)
 
 pub loop-place-preserved : goal.loop-place-preserved
 loop-place-preserved g c =
@@ -30,6 +41,6 @@ loop-place-preserved g c =
                 outcome within c.index-files-place.is c.loop-place-test.true c.index-configs-place.is before.1
                 (outcome_of c.args.lookup terms c.index-files-place.result c.index-configs-place.result (drop (c.loop-place.place + 1) c.args.configs.now) c.loop-place.driven.items c.loop-place.lookers.items h
                 c.remove-ended.result c.remove-looker.result outcome c.outcome_of-outcome.ensures.file c.outcome_of-outcome.ensures.router (ran terms h)
-                (λ a has. subst (λ (came : Result Shown DriveFault). Came c.args.lookup a came) (sym c.outcome_of-outcome.ensures.came) (c.in_ok-came.ensures a has))) items,
+                (λ a has. subst (λ (came : Result Shown DriveFault). Came c.args.lookup a came) (sym c.outcome_of-outcome.ensures.came) (c.in-Ok.ensures a has))) items,
           );
     }

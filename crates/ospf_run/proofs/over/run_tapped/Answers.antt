@@ -1,7 +1,12 @@
 use Rattle.std.proofs.Common.{◌≡◌, ◌+◌, ◌<◌, ◌^◌, ◌∙◌, subst, sym}
 use Rattle.ospf_drive.specs.Traffic.Carried.{Ticks}
+use Rattle.ospf_files.proofs.Cut.{for_memory}
 use Rattle.ospf_run.proofs.Lists.{all_paired, as_many}
+use Rattle.ospf_run.specs.Obstacles.{FailsPlan, no_memory}
 use Rattle.ospf_run.proofs.over.run_tapped.Goals as goal
+
+pub returns-in_err-wires-clause-early : goal.returns-in_err-wires-clause-early
+returns-in_err-wires-clause-early g c = for_memory c.from_residual.result (FailsPlan c.args.files.now) c.from_residual.ensures.1 (λ floor has. no_memory)
 
 pub run_over-requires-clause-wires : goal.run_over-requires-clause-wires
 run_over-requires-clause-wires g c κs within = sym (as_many (λ wire it. it.wire ≡ wire) c.args.wires.items c.in_ok-wires.wires.items c.in_ok-wires.ensures) ∙ c.requires.wires

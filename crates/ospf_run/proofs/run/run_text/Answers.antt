@@ -1,12 +1,32 @@
-use Rattle.ospf_run.proofs.Statuses.{refused_told}
-use Rattle.ospf_run.specs.Runs.{Ends}
+use Rattle.ospf_run.proofs.Reported.{all_ends}
+use Rattle.ospf_run.proofs.Statuses.{end_done, end_not_words, end_refused}
 use Rattle.ospf_run.proofs.run.run_text.Goals as goal
 
-pub returns-in-Ok-clause-refused : goal.returns-in-Ok-clause-refused
-returns-in-Ok-clause-refused g c = λ is. (refused_told _ _ _ _ c.in-Ok.status _ _ _ _ c.in-Ok.ensures is).0
+pub returns-clause-done : goal.returns-clause-done
+returns-clause-done g c =
+    end_done _ _ _ _ c.end.result _ _ _ _
+    (all_ends c.args.settings.now c.args.files.now c.say-said.result c.end.result c.say-said.new.streams c.end.new.streams _ _ _ _ _ c.say-said.ensures c.end.ensures.status
+    c.end.ensures.quiet c.end.ensures.told)
 
-pub returns-in-Ok-clause-ended : goal.returns-in-Ok-clause-ended
-returns-in-Ok-clause-ended g c = Ends.comes c.in-Ok.ensures
+pub returns-clause-refused : goal.returns-clause-refused
+returns-clause-refused g c = λ so.
+    (end_refused _ _ _ _ c.end.result _ _ _ _
+    (all_ends c.args.settings.now c.args.files.now c.say-said.result c.end.result c.say-said.new.streams c.end.new.streams _ _ _ _ _ c.say-said.ensures c.end.ensures.status
+    c.end.ensures.quiet c.end.ensures.told) so).0
 
-pub returns-in-Err-clause-ended : goal.returns-in-Err-clause-ended
-returns-in-Err-clause-ended g c = Ends.fails c.in-Err.failure c.tell.ensures.status
+pub returns-clause-unwritten : goal.returns-clause-unwritten
+returns-clause-unwritten g c = λ so.
+    (end_refused _ _ _ _ c.end.result _ _ _ _
+    (all_ends c.args.settings.now c.args.files.now c.say-said.result c.end.result c.say-said.new.streams c.end.new.streams _ _ _ _ _ c.say-said.ensures c.end.ensures.status
+    c.end.ensures.quiet c.end.ensures.told) so).1
+
+pub returns-clause-not_words : goal.returns-clause-not_words
+returns-clause-not_words g c =
+    end_not_words _ _ _ _ c.end.result _ _ _ _
+    (all_ends c.args.settings.now c.args.files.now c.say-said.result c.end.result c.say-said.new.streams c.end.new.streams _ _ _ _ _ c.say-said.ensures c.end.ensures.status
+    c.end.ensures.quiet c.end.ensures.told)
+
+pub returns-clause-ended : goal.returns-clause-ended
+returns-clause-ended g c =
+    all_ends c.args.settings.now c.args.files.now c.say-said.result c.end.result c.say-said.new.streams c.end.new.streams _ _ _ _ _ c.say-said.ensures c.end.ensures.status
+    c.end.ensures.quiet c.end.ensures.told

@@ -1,4 +1,4 @@
-use Rattle.std.proofs.Common.{◌≡◌, ◌+◌, ◌<◌, ◌++◌, ◌∷◌, [], arith, length, refl, subst, sym, true}
+use Rattle.std.proofs.Common.{◌≡◌, ◌<◌, ◌++◌, ◌∷◌, [], arith, length, refl, subst, sym, true}
 use Rattle.ospf_drive.proofs.Joined.{all_gone, first_taken, pairs_then}
 use Rattle.ospf_drive.specs.Driven.{Pairs}
 use Rattle.ospf_run.proofs.tap.tap_all.Goals as goal

@@ -1,9 +1,0 @@
-use Rattle.std.proofs.Common.{take}
-use Rattle.std.specs.Prelude.{flat_map}
-use Rattle.std.specs.Io.KnownBytes.{Appends}
-use Rattle.ospf_run.specs.Printed.{outcome_lines}
-use Rattle.ospf_run.proofs.print.write_outcomes.Given as goal
-
--- the outcomes so far are written
-abbrev pub invariant-loop-outcome : goal.invariant-loop-outcome
-invariant-loop-outcome g l = Appends (g.O.Write.contents l.fn.out) (g.O.Write.contents l.out) (flat_map (outcome_lines l.floors) (take l.outcome-index l.outcomes))

@@ -1,0 +1,96 @@
+//! Why the routers of files do not run to their end.
+
+ghost use Rattle.std.specs.Prelude.{◌≡◌, IfOk, string_bytes};
+ghost use Rattle.ospf_run.specs.Obstacles.{line_about, obstacle_line, obstacle_status};
+
+use ospf_config::ConfigFault;
+use ospf_files::{Failure, NamedFile, Status};
+use std::alloc::{AllocError, Global};
+
+/// What keeps the routers from running.
+#[derive(Clone, Copy)]
+pub(crate) enum Obstacle<'a> {
+    /// The floor is no number.
+    NoNumber,
+    /// No number is above the floor.
+    GreatestFloor,
+    /// The file could not be read.
+    Unread(&'a NamedFile),
+    /// The file holds no configuration.
+    NoConfig(&'a NamedFile, ConfigFault),
+    /// Two configurations are of one Router ID.
+    SameRouter,
+    /// An interface in the file has no port.
+    NoPort(&'a NamedFile),
+    /// A socket of the file's router could not be made.
+    NoSocket(&'a NamedFile),
+}
+
+/// Why the routers did not run to their end.
+#[derive(Clone, Copy)]
+pub(crate) enum Stop<'a> {
+    /// This is to be told.
+    Obstacle(Obstacle<'a>),
+    /// What the program cannot go on without.
+    Failure(Failure),
+}
+
+impl<'a> From<AllocError> for Stop<'a> {
+    ghost use Rattle.std.specs.Prelude.{◌≡◌};
+    ghost use Rattle.ospf_files.specs.declared.status.Failure.TheVariants as failure;
+    ghost use Rattle.ospf_run.specs.declared.stop.Stop.TheVariants as stop;
+
+    ghost from_gives = { λ _ s. s ≡ stop.Failure failure.Memory };
+
+    fn from(_error: AllocError) -> Stop<'a> {
+        Stop::Failure(Failure::Memory)
+    }
+}
+
+impl<'a> From<Failure> for Stop<'a> {
+    ghost use Rattle.std.specs.Prelude.{◌≡◌};
+    ghost use Rattle.ospf_run.specs.declared.stop.Stop.TheVariants as stop;
+
+    ghost from_gives = { λ failure s. s ≡ stop.Failure failure };
+
+    fn from(failure: Failure) -> Stop<'a> {
+        Stop::Failure(failure)
+    }
+}
+
+/// A line about a file.
+pub(crate) fn line_about(alloc: Global, file: &NamedFile, text: &str) -> Result<String, AllocError>
+    ensures { IfOk result (λ line. string_bytes line ≡ line_about file.now text.now) }
+{
+    let line = format!(in alloc; "{}: {text}\n", file.name)?;
+    Ok(line)
+}
+
+/// The line that tells of an obstacle.
+pub(crate) fn line_of(alloc: Global, obstacle: Obstacle<'_>) -> Result<String, AllocError>
+    ensures { IfOk result (λ line. string_bytes line ≡ obstacle_line obstacle.entry) }
+{
+    match obstacle {
+        Obstacle::NoNumber => String::from_str(alloc, "floor: not a number\n"),
+        Obstacle::GreatestFloor => String::from_str(alloc, "floor: S2 Floor\n"),
+        Obstacle::Unread(file) => line_about(alloc, file, "not read"),
+        Obstacle::NoConfig(file, fault) => line_about(alloc, file, fault.text()),
+        Obstacle::SameRouter => String::from_str(alloc, "W7 SameRouter\n"),
+        Obstacle::NoPort(file) => line_about(alloc, file, "no port"),
+        Obstacle::NoSocket(file) => line_about(alloc, file, "socket"),
+    }
+}
+
+/// The status that an obstacle ends with.
+pub(crate) fn status_of(obstacle: Obstacle<'_>) -> Status
+    ensures { result ≡ obstacle_status obstacle.entry }
+{
+    match obstacle {
+        Obstacle::Unread(_) | Obstacle::NoSocket(_) => Status::Stream,
+        Obstacle::NoNumber
+        | Obstacle::GreatestFloor
+        | Obstacle::NoConfig(..)
+        | Obstacle::SameRouter
+        | Obstacle::NoPort(_) => Status::Refused,
+    }
+}
