@@ -1,7 +1,6 @@
 -- Commands that are done.
-use Rattle.std.proofs.Common.{◌≡◌, sym, subst, refl, ℕ, List, [], Option, None, Some, Result, Ok, Err, IfOk, OnOk}
+use Rattle.std.proofs.Common.{◌≡◌, sym, subst, refl, ℕ, List, [], Option, None, Some, Result, Ok, Err, IfOk, OnErr}
 use Rattle.std.specs.Prelude.{Vec}
-use Rattle.std.specs.Result.{IsOk}
 use Rattle.std.specs.declared.alloc.Global.{Global}
 use Rattle.ospf_base.specs.declared.ids.Addr.{Addr}
 use Rattle.ospf_base.specs.declared.ids.RouterId.{RouterId}
@@ -11,12 +10,9 @@ use Rattle.ospf_headline.specs.declared.event.WorldEvent.{WorldEvent}
 use Rattle.ospf_script.specs.declared.command.Command.{Command}
 use Rattle.ospf_script.specs.declared.command.Command.TheVariants as command
 use Rattle.ospf_sim.specs.Worlds.{WorldValue, EventDoes, IsRandom}
+use Rattle.ospf_sim.specs.Begun.{IsDoneBegun, IsShownBegun, IsWalkBegun}
 use Rattle.ospf_sim.specs.Commands.{Answer, AreRounds, DoesBy, DoesShown, IsDone, IsShownOn, IsWalked, IsWalkedOn, event_in, shown_in}
 use Rattle.ospf_sim.specs.declared.show.View.{View}
-
-pub on_ok : {T E : Type 0} (r : Result T E) (P : Type 0) → IsOk r → OnOk r P → P
-on_ok (Ok x) P is h = h
-on_ok (Err e) P is h = absurd (cc is)
 
 pub event_done : (c : Command) (e : WorldEvent) (w w' : WorldValue) (answer : Answer) (o : Option (List ℕ)) → event_in c ≡ Some e → EventDoes e w answer w'
     → IsDone c w answer w' o o
@@ -52,3 +48,23 @@ walk_done c from address choices given w (Err failure) a b is same h = h
 walk_done c from address choices given w (Ok answer) a b is same h =
     subst (λ d. IsDone d w answer w a b) (sym is)
     (record { text = h.text; does = (subst (λ list. IsWalked w from address.0 list answer h.text) same h.walked, refl); written = h.written })
+
+-- a beginning of what a command prints of a router
+pub shown_begun : (c : Command) (shown : RouterId × View) (w : WorldValue) (result : Result Answer Failure) (a b : Option (List ℕ)) → event_in c ≡ None → shown_in c ≡ Some shown
+    → OnErr result (IsShownBegun shown.1 w shown.0 a b) → OnErr result (IsDoneBegun c w w a b)
+shown_begun c shown w (Ok answer) a b no_event is h = tt
+shown_begun c shown w (Err failure) a b no_event is h = record {
+  answer = h.answer;
+  text = h.text;
+  does = subst (λ found. DoesBy found c w h.answer h.text w) (sym no_event) (subst (λ found. DoesShown found c w h.answer h.text w) (sym is) (h.shown, refl));
+  begun = h.begun;
+}
+
+-- a beginning of what it prints of a walk
+pub walk_begun : (c : Command) (from : RouterId) (address : Addr) (choices : Vec ℕ Global) (given : List ℕ) (w : WorldValue) (result : Result Answer Failure) (a b : Option (List ℕ))
+    → c ≡ command.Walk from address choices → given ≡ choices.items → OnErr result (IsWalkBegun w from address.0 given a b)
+    → OnErr result (IsDoneBegun c w w a b)
+walk_begun c from address choices given w (Ok answer) a b is same h = tt
+walk_begun c from address choices given w (Err failure) a b is same h =
+    subst (λ d. IsDoneBegun d w w a b) (sym is)
+    (record { answer = h.answer; text = h.text; does = (subst (λ list. IsWalked w from address.0 list h.answer h.text) same h.walked, refl); begun = h.begun })

@@ -6,3 +6,4 @@ pub mod Chances
 pub mod Done
 pub mod Worlds
 pub mod Lent
+pub mod Cuts

@@ -1,5 +1,5 @@
 -- Lines that run one after another.
-use Rattle.std.proofs.Common.{◌≡◌, ◌∙◌, ap, sym, subst, refl, ◌+◌, ◌<◌, ℕ, suc, List, [], ◌∷◌, ◌++◌, length, take, drop, get_or, map, Bool, true, false, Option, None, Some, Result, Ok, Err, OnOk, append-nil, append_assoc}
+use Rattle.std.proofs.Common.{◌≡◌, ◌∙◌, ap, sym, subst, refl, ◌+◌, ◌<◌, ℕ, suc, List, [], ◌∷◌, ◌++◌, length, take, drop, get_or, map, Bool, true, false, Option, None, Some, append-nil, append_assoc}
 use Rattle.std.proofs.lemmas.List.{take_more, take-append-drop, map-append}
 use Rattle.std.proofs.Math.Seq.{drop-cons}
 use Rattle.std.specs.Io.KnownBytes.{Appends, Keeps}
@@ -10,9 +10,8 @@ use Rattle.ospf_script.specs.declared.command.Command.{Command}
 use Rattle.ospf_script.specs.declared.script.Line.{Line}
 use Rattle.ospf_sim.specs.Worlds.{WorldValue}
 use Rattle.ospf_files.proofs.Written.{both_written, kept_written, nothing_written}
-use Rattle.ospf_files.specs.declared.status.Failure.{Failure}
 use Rattle.ospf_sim.specs.Commands.{Answer, IsDone}
-use Rattle.ospf_sim.specs.Scripts.{EndsAt, IsRun, IsRunLine, IsTaken, LineComes, LinesCome, EndsEarly, RunsLine, RunsLines, is_taken, no_line, one_line, told_of, unreadable_line}
+use Rattle.ospf_sim.specs.Scripts.{EndsAt, IsRun, IsRunLine, LineComes, LinesCome, EndsEarly, RunsLine, RunsLines, is_taken, no_line, one_line, told_of, unreadable_line}
 
 -- one line more
 more_lines : (lines : List (ℕ × Text)) (number : ℕ) (line : Text) (w mid w' : WorldValue) (outs out errs err : Text) → RunsLines lines w mid outs errs
@@ -46,7 +45,7 @@ line_run lines i d w mid w' a b c x y z true within is so_far next =
     }
 
 -- the lines before one, that one, and those behind it
-entries_split : (lines : List Line) (i : ℕ) (d : Line) → i < length lines
+pub entries_split : (lines : List Line) (i : ℕ) (d : Line) → i < length lines
     → map entry_of lines ≡ map entry_of (take i lines) ++ entry_of (get_or lines i d) ∷ map entry_of (drop (suc i) lines)
 entries_split lines i d within =
     let split : take i lines ++ get_or lines i d ∷ drop (suc i) lines ≡ lines =
@@ -71,25 +70,14 @@ line_ends lines i d w mid w' a b c x y z false within is so_far last =
     }
 
 -- a command that is done, and told of
-pub taken : (number : ℕ) (c : Command) (w w' : WorldValue) (answer : Answer) (a b z x y : Option (List ℕ)) (result : Result (Unit {0}) Failure) → IsDone c w answer w' a b
-    → OnOk result (Appends b z []) → OnOk result (Appends x y (told_of number answer)) → OnOk result (IsTaken number c w w' a z x y)
-taken number c w w' answer a b z x y (Err failure) done out err = tt
-taken number c w w' answer a b z x y (Ok u) done out err = record {
-  answer = answer;
+pub line_taken : (number : ℕ) (line : Text) (c : Command) (w w' : WorldValue) (answer : Answer) (a b z x y : Option (List ℕ)) → Spells (words line) c → IsDone c w answer w' a b
+    → Appends b z [] → Appends x y (told_of number answer) → IsRunLine number line w w' a z x y
+line_taken number line c w w' answer a b z x y spelled done out err = record {
   out = done.text;
-  does = done.does;
+  err = told_of number answer;
+  runs = is_taken c answer spelled done.does refl;
   out_written = subst (Appends a z) (append-nil done.text) (both_written a b z done.text [] done.written out);
   err_written = err;
-}
-
-pub taken_runs : (number : ℕ) (line : Text) (c : Command) (w w' : WorldValue) (a b x y : Option (List ℕ)) → Spells (words line) c → IsTaken number c w w' a b x y
-    → IsRunLine number line w w' a b x y
-taken_runs number line c w w' a b x y spelled done = record {
-  out = done.out;
-  err = told_of number done.answer;
-  runs = is_taken c done.answer spelled done.does refl;
-  out_written = done.out_written;
-  err_written = done.err_written;
 }
 
 -- the lines of a script that have all run
@@ -106,7 +94,7 @@ script_whole None entries script w w' a b c x y is same run kept = record {
 
 -- those of one that ends early, of which it is told
 pub script_early : (ended : Option ℕ) (number : ℕ) (entries : List (ℕ × Text)) (script : Text) (w w' : WorldValue) (a b c x y z : Option (List ℕ)) → ended ≡ Some number
-    → entries ≡ numbered_from 1 script → LinesCome ended entries w w' a b x y → Keeps b c → Appends y z (unreadable_line number) → EndsEarly script w w' a c x z
+    → entries ≡ numbered_from 1 script → LinesCome ended entries w w' a b x y → Appends b c [] → Appends y z (unreadable_line number) → EndsEarly script w w' a c x z
 script_early None number entries script w w' a b c x y z is same run kept told = absurd (cc is)
 script_early (Some n) number entries script w w' a b c x y z is same run kept told =
     let one : n ≡ number = cc is in
@@ -120,6 +108,6 @@ script_early (Some n) number entries script w w' a b c x y z is same run kept to
       out = run.run.out;
       err = run.run.err;
       runs = run.run.runs;
-      out_written = kept_written a b c run.run.out run.run.out_written kept;
+      out_written = subst (Appends a c) (append-nil run.run.out) (both_written a b c run.run.out [] run.run.out_written kept);
       err_written = both_written x y z run.run.err (unreadable_line number) run.run.err_written told;
     }

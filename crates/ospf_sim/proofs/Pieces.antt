@@ -1,19 +1,11 @@
 -- Texts that are written piece by piece.
-use Rattle.std.proofs.Common.{◌≡◌, ◌∙◌, ap, sym, subst, refl, ◌+◌, ◌<◌, ℕ, suc, List, [], ◌++◌, length, take, get_or, Option, add-one}
-use Rattle.std.proofs.lemmas.List.{take_more, flat_map_more}
+use Rattle.std.proofs.Common.{◌≡◌, ◌⊎◌, ◌∙◌, inl, inr, ap, sym, subst, refl, arith, ◌+◌, ◌<◌, ℕ, zero, suc, List, [], ◌++◌, Option, add-one}
 use Rattle.std.specs.Io.KnownBytes.{Appends}
-use Rattle.std.specs.Prelude.{flat_map}
 use Rattle.ospf_area.specs.State.{AreaValue}
 use Rattle.ospf_router.specs.Routers.{neighbours_on}
-use Rattle.ospf_files.proofs.Written.{both_written, nothing_written}
+use Rattle.ospf_files.proofs.Written.{both_written, front_begun, nothing_written, rest_begun}
+use Rattle.ospf_files.specs.Streams.{IsBegun}
 use Rattle.ospf_sim.specs.Shown.{link_lines, links_lines}
-
--- the text of one element more
-pub piece_written : {X : Type 0} (f : X → List ℕ) (a b c : Option (List ℕ)) (xs : List X) (i : ℕ) (x : X) → i < length xs → x ≡ get_or xs i x
-    → Appends a b (flat_map f (take i xs)) → Appends b c (f x) → Appends a c (flat_map f (take (i + 1) xs))
-piece_written f a b c xs i x within is h k =
-    let more = flat_map_more f [] (take i xs) (get_or xs i x) ∙ ap (flat_map f) (sym (take_more xs i x within)) in
-    subst (Appends a c) more (both_written a b c _ _ h (subst (λ q. Appends b c (f q)) is k))
 
 links_more : (area : Option AreaValue) (link : ℕ) → links_lines link area ++ link_lines link (neighbours_on area link) ≡ links_lines (suc link) area
 unfolding links_lines
@@ -33,3 +25,22 @@ link_written area a b c link h k =
 
 pub no_links_written : (area : Option AreaValue) (o : Option (List ℕ)) → Appends o o (links_lines 0 area)
 no_links_written area o = subst (Appends o o) (sym (no_links area)) (nothing_written o)
+
+last_or_before : (link count : ℕ) → link < suc count → (link ≡ count) ⊎ (link < count)
+last_or_before zero zero within = inl refl
+last_or_before zero (suc count) within = inr (omega arith)
+last_or_before (suc link) zero within = absurd (omega arith)
+last_or_before (suc link) (suc count) within = elim (last_or_before link count (omega arith)) [ inl last ↦ inl (ap suc last) | inr before ↦ inr (omega arith) ]
+
+-- the neighbours of the links before one, and a beginning of those of that one
+pub links_begun : (area : Option AreaValue) (a b c : Option (List ℕ)) (count link : ℕ) → link < count → Appends a b (links_lines link area)
+    → IsBegun b c (link_lines link (neighbours_on area link)) → IsBegun a c (links_lines count area)
+links_begun area a b c zero link within h k = absurd (omega arith)
+links_begun area a b c (suc count) link within h k =
+    let last : IsBegun a c (links_lines count area ++ link_lines count (neighbours_on area count)) =
+    elim (last_or_before link count within) [
+      | inl same ↦
+          rest_begun a b c _ _ (subst (λ n. Appends a b (links_lines n area)) same h) (subst (λ n. IsBegun b c (link_lines n (neighbours_on area n))) same k)
+      | inr before ↦ front_begun a c _ _ (links_begun area a b c count link before h k)
+    ] in
+    subst (IsBegun a c) (links_more area count) last

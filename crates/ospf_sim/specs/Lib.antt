@@ -3,4 +3,5 @@ pub mod Shown
 pub mod Commands
 pub mod Scripts
 pub mod Simulations
+pub mod Begun
 pub mod Stopped

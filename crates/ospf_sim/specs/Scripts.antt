@@ -54,14 +54,6 @@ pub record EndsAt (lines : List (ℕ × Text)) (number : ℕ) (w w' : WorldValue
   pub unreadable : IsUnreadable line
   pub run : IsRun before w w' out_old out_new err_old err_new
 
--- a command with its answer: what it prints is what was written on standard output, and what is told of it on standard error
-pub record IsTaken (number : ℕ) (c : Command) (w w' : WorldValue) (out_old out_new err_old err_new : Option (List ℕ)) : Type 0 where
-  pub answer : Answer
-  pub out : Text
-  pub does : Does c w answer out w'
-  pub out_written : Appends out_old out_new out
-  pub err_written : Appends err_old err_new (told_of number answer)
-
 -- what a line writes is what was written
 pub record IsRunLine (number : ℕ) (line : Text) (w w' : WorldValue) (out_old out_new err_old err_new : Option (List ℕ)) : Type 0 where
   pub out : Text

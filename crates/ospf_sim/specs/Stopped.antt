@@ -1,5 +1,5 @@
 -- How a simulation ends that is neither done nor refused.
-use Rattle.std.specs.Prelude.{◌≡◌, ◌≢◌, ℕ, List, ◌∷◌, Option, None}
+use Rattle.std.specs.Prelude.{◌≡◌, ℕ, List, ◌∷◌, Option, None}
 use Rattle.std.specs.Io.KnownBytes.{Appends}
 use Rattle.ospf_files.specs.Files.{unread_line}
 use Rattle.ospf_files.specs.Listed.{IsFirstUnread}
@@ -10,6 +10,7 @@ use Rattle.ospf_files.specs.declared.status.Failure.{Failure}
 use Rattle.ospf_files.specs.declared.status.Status.{Status}
 use Rattle.ospf_files.specs.declared.status.Status.TheVariants as status
 use Rattle.ospf_files.specs.declared.streams.FailedStreams.{FailedStreams}
+use Rattle.ospf_sim.specs.Begun.{IsCut}
 use Rattle.ospf_sim.specs.Worlds.{WorldValue}
 
 -- the first file that could not be read is told, the script's before the configurations', and no line has run
@@ -20,16 +21,18 @@ pub record IsUnreadTold (script : NamedFile) (files : List NamedFile) (world : O
   pub none : world ≡ None
   pub same_out : out_new ≡ out_old
 
--- a failure was told last, as far as it could be, and the status is that of the failure
-pub record IsFailureLast (failed : FailedStreams) (end : Status) (err_new : Option (List ℕ)) : Type 0 where
+-- the simulation was cut by a failure, which was told last, as far as it could be, and of which the status is
+pub record IsFailureLast (script : NamedFile) (files : List NamedFile) (failed : FailedStreams) (end : Status) (out_old out_new err_old err_new : Option (List ℕ)) : Type 0 where
   pub cause : Failure
   pub failed_then : FailedStreams
   pub err_then : Option (List ℕ)
+  pub cut : IsCut script files failed_then out_old out_new err_old err_then cause
   pub last : IsTold failed_then failed err_then err_new (failure_line cause)
   pub status_is : end ≡ failure_status cause
 
--- a file could not be read, or a failure was told last
+-- a file could not be read, or a failure cut the simulation
 pub data IsStopped (script : NamedFile) (files : List NamedFile) (world : Option WorldValue) (failed : FailedStreams) (end : Status) (out_old out_new err_old err_new : Option (List ℕ)) : Type 0 where
   is_unread : end ≡ status.Stream → IsUnreadTold script files world out_old out_new err_old err_new
       → IsStopped script files world failed end out_old out_new err_old err_new
-  is_failure : world ≡ None → IsFailureLast failed end err_new → IsStopped script files world failed end out_old out_new err_old err_new
+  is_failure : world ≡ None → IsFailureLast script files failed end out_old out_new err_old err_new
+      → IsStopped script files world failed end out_old out_new err_old err_new

@@ -1,13 +1,15 @@
 //! Commands that are done.
 
-ghost use Rattle.std.specs.Prelude.{◌≡◌, IfOk, None};
+ghost use Rattle.std.specs.Prelude.{◌≡◌, IfErr, IfOk, None, OnErr};
+ghost use Rattle.ospf_files.specs.Streams.{IsOutputCut};
+ghost use Rattle.ospf_sim.specs.Begun.{IsDoneBegun, IsShownBegun, IsWalkBegun};
 ghost use Rattle.ospf_sim.specs.Commands.{AreRounds, event_in, IsDone, IsShownOn, IsWalkedOn, shown_in};
 ghost use Rattle.ospf_sim.specs.Worlds.{IsRandom};
 
-use crate::show::{View, on_output, write_view, write_walk};
+use crate::show::{View, write_view, write_walk};
 use crate::watch::Watch;
 use ospf_base::{Addr, RouterId};
-use ospf_files::Failure;
+use ospf_files::{FailedStreams, Failure};
 use ospf_script::Command;
 use ospf_world::{World, WorldEvent, WorldFault};
 use rand_pcg::Lcg64Xsh32;
@@ -88,26 +90,30 @@ fn draw_watched<V: Watch>(
     answer
 }
 
-// Prints what a line asks of a router, if that runs.
+// Prints what a line asks of a router, if that runs. Where that fails, a beginning of it was written.
 fn show_router<O: Write>(
     world: &World,
     router: RouterId,
     view: View,
     out: &mut O,
     alloc: Global,
+    streams: &mut FailedStreams,
 ) -> Result<Result<(), WorldFault>, Failure>
-    ensures { IfOk result (λ answer. IsShownOn view world.now router answer (O.contents out.old) (O.contents out.new)) }
+    ensures shown { IfOk result (λ answer. IsShownOn view world.now router answer (O.contents out.old) (O.contents out.new)) }
+    ensures begun { OnErr result
+        (IsShownBegun view world.now router (O.contents out.old) (O.contents out.new)) }
+    ensures cut { IfErr result (IsOutputCut streams.new) }
 {
     match world.router(router) {
         Ok(lent) => {
-            write_view(out, view, lent, alloc)?;
+            write_view(alloc, view, lent, out, streams)?;
             Ok(Ok(()))
         }
         Err(fault) => Ok(Err(fault)),
     }
 }
 
-// Prints a walk, if there is one.
+// Prints a walk, if there is one. Where that fails, a beginning of it was written.
 fn show_walk<O: Write>(
     world: &World,
     from: RouterId,
@@ -115,12 +121,17 @@ fn show_walk<O: Write>(
     choices: &[u32],
     out: &mut O,
     alloc: Global,
+    streams: &mut FailedStreams,
 ) -> Result<Result<(), WorldFault>, Failure>
-    ensures { IfOk result (λ answer. IsWalkedOn world.now from address.0 choices.now answer (O.contents out.old) (O.contents out.new)) }
+    ensures walked { IfOk result (λ answer. IsWalkedOn world.now from address.0 choices.now answer (O.contents out.old) (O.contents out.new)) }
+    ensures begun { OnErr result
+        (IsWalkBegun world.now from address.0 choices.now
+        (O.contents out.old) (O.contents out.new)) }
+    ensures cut { IfErr result (IsOutputCut streams.new) }
 {
     match world.walk(from, address, choices, alloc) {
         Ok(walk) => {
-            on_output(write_walk(out, &walk))?;
+            write_walk(alloc, &walk, out, streams)?;
             Ok(Ok(()))
         }
         Err(fault) => Ok(Err(fault)),
@@ -185,10 +196,14 @@ fn run_other<O: Write, V: Watch>(
     out: &mut O,
     alloc: Global,
     watch: &mut V,
+    streams: &mut FailedStreams,
 ) -> Result<Result<(), WorldFault>, Failure>
     requires no_event { event_in command.now ≡ None }
     requires not_shown { shown_in command.now ≡ None }
-    ensures { IfOk result (λ answer. IsDone command.now world.old answer world.new (O.contents out.old) (O.contents out.new)) }
+    ensures done { IfOk result (λ answer. IsDone command.now world.old answer world.new (O.contents out.old) (O.contents out.new)) }
+    ensures begun { OnErr result
+        (IsDoneBegun command.now world.old world.new (O.contents out.old) (O.contents out.new)) }
+    ensures cut { IfErr result (IsOutputCut streams.new) }
 {
     match command {
         Command::Round { count } => Ok(run_watched(world, *count, alloc, watch)),
@@ -197,7 +212,7 @@ fn run_other<O: Write, V: Watch>(
             from,
             address,
             choices,
-        } => show_walk(world, *from, *address, choices, out, alloc),
+        } => show_walk(world, *from, *address, choices, out, alloc, streams),
         _ => Ok(Ok(())),
     }
 }
@@ -209,28 +224,37 @@ fn run_quiet<O: Write, V: Watch>(
     out: &mut O,
     alloc: Global,
     watch: &mut V,
+    streams: &mut FailedStreams,
 ) -> Result<Result<(), WorldFault>, Failure>
     requires { event_in command.now ≡ None }
-    ensures { IfOk result (λ answer. IsDone command.now world.old answer world.new (O.contents out.old) (O.contents out.new)) }
+    ensures done { IfOk result (λ answer. IsDone command.now world.old answer world.new (O.contents out.old) (O.contents out.new)) }
+    ensures begun { OnErr result
+        (IsDoneBegun command.now world.old world.new (O.contents out.old) (O.contents out.new)) }
+    ensures cut { IfErr result (IsOutputCut streams.new) }
 {
     match shown_of(command) {
-        Some(shown) => show_router(world, shown.0, shown.1, out, alloc),
-        None => run_other(world, command, out, alloc, watch),
+        Some(shown) => show_router(world, shown.0, shown.1, out, alloc, streams),
+        None => run_other(world, command, out, alloc, watch, streams),
     }
 }
 
-// Does what a command asks for, and prints what it is to print. The answer is why it is refused, if it is.
+// Does what a command asks for, and prints what it is to print. The answer is why it is refused, if it is. Where printing
+// fails, a beginning of it was written.
 pub(crate) fn run_command<O: Write, V: Watch>(
     world: &mut World,
     command: &Command,
     out: &mut O,
     alloc: Global,
     watch: &mut V,
+    streams: &mut FailedStreams,
 ) -> Result<Result<(), WorldFault>, Failure>
-    ensures { IfOk result (λ answer. IsDone command.now world.old answer world.new (O.contents out.old) (O.contents out.new)) }
+    ensures done { IfOk result (λ answer. IsDone command.now world.old answer world.new (O.contents out.old) (O.contents out.new)) }
+    ensures begun { OnErr result
+        (IsDoneBegun command.now world.old world.new (O.contents out.old) (O.contents out.new)) }
+    ensures cut { IfErr result (IsOutputCut streams.new) }
 {
     match event_of(command) {
         Some(event) => Ok(world.step(event, alloc)),
-        None => run_quiet(world, command, out, alloc, watch),
+        None => run_quiet(world, command, out, alloc, watch, streams),
     }
 }

@@ -5,6 +5,7 @@
 #![tactic(auto)]
 
 mod commands;
+mod configs;
 mod script;
 mod show;
 mod text;

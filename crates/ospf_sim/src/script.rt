@@ -1,78 +1,112 @@
 //! Scripts that are run.
 
-ghost use Rattle.std.specs.Prelude.{[], IfOk, OnOk, map};
+ghost use Rattle.std.specs.Prelude.{◌≡◌, [], IfErr, IfOk, OnOk, map, string_bytes};
 ghost use Rattle.std.specs.Io.KnownBytes.{Appends};
 ghost use Rattle.ospf_script.specs.Lines.{entry_of};
-ghost use Rattle.ospf_sim.specs.Scripts.{IsTaken, LineComes, LinesCome, ScriptComes, refusal_line, told_of, unreadable_line};
+ghost use Rattle.ospf_sim.specs.Begun.{IsAnswerCut, IsCutAt, IsLineCut, IsScriptCut, IsTellingCut};
+ghost use Rattle.ospf_sim.specs.Scripts.{LineComes, LinesCome, ScriptComes, refusal_line, told_of, unreadable_line};
 
 use crate::commands::run_command;
-use crate::show::on_output;
 use crate::watch::Watch;
-use ospf_files::Failure;
+use ospf_files::{FailedStreams, Failure};
 use ospf_script::{Command, Line, LineFault, RefusalShown, lines};
 use ospf_world::{World, WorldFault};
-use std::alloc::Global;
-use std::io::{self, Write};
+use std::alloc::{AllocError, Global};
+use std::io::Write;
 
-// Tells why a line is refused.
-fn tell_refusal<E: Write>(number: u64, fault: WorldFault, err: &mut E) -> io::Result<()>
-    ensures { OnOk result (Appends (E.contents err.old) (E.contents err.new) (refusal_line number fault)) }
+// The line of a refusal.
+fn refusal_line(alloc: Global, number: u64, fault: WorldFault) -> Result<String, AllocError>
+    ensures { IfOk result (λ line. string_bytes line ≡ refusal_line number fault) }
 {
     let shown = RefusalShown {
         number,
         fault: fault.text(),
     };
-    writeln!(err, "{shown}")?;
-    err.flush()?;
-    Ok(())
+    format!(in alloc; "{shown}\n")
+}
+
+// The line of a line that cannot be read.
+fn unreadable_line(alloc: Global, number: u64) -> Result<String, AllocError>
+    ensures { IfOk result (λ line. string_bytes line ≡ unreadable_line number) }
+{
+    format!(in alloc; "line {number}: {}\n", LineFault::NotACommand)
+}
+
+// Tells a line, behind all that was printed before.
+fn tell_behind<O: Write, E: Write>(
+    line: &str,
+    out: &mut O,
+    err: &mut E,
+    streams: &mut FailedStreams,
+) -> Result<(), Failure>
+    ensures out { OnOk result (Appends (O.contents out.old) (O.contents out.new) []) }
+    ensures err { OnOk result (Appends (E.contents err.old) (E.contents err.new) line.now) }
+    ensures cut { IfErr result (IsTellingCut line.now streams.new
+        (O.contents out.old) (O.contents out.new) (E.contents err.old) (E.contents err.new)) }
+{
+    streams.flush(out)?;
+    streams.tell(err, line)
+}
+
+// Tells why a line is refused.
+fn tell_refusal<O: Write, E: Write>(
+    alloc: Global,
+    number: u64,
+    fault: WorldFault,
+    out: &mut O,
+    err: &mut E,
+    streams: &mut FailedStreams,
+) -> Result<(), Failure>
+    ensures out { OnOk result (Appends (O.contents out.old) (O.contents out.new) []) }
+    ensures err { OnOk result
+        (Appends (E.contents err.old) (E.contents err.new) (refusal_line number fault)) }
+    ensures cut { IfErr result (IsTellingCut (refusal_line number fault) streams.new
+        (O.contents out.old) (O.contents out.new) (E.contents err.old) (E.contents err.new)) }
+{
+    let line = refusal_line(alloc, number, fault)?;
+    tell_behind(&line, out, err, streams)
 }
 
 // Tells that a line cannot be read.
-fn tell_unreadable<E: Write>(number: u64, err: &mut E) -> io::Result<()>
-    ensures { OnOk result (Appends (E.contents err.old) (E.contents err.new) (unreadable_line number)) }
+fn tell_unreadable<O: Write, E: Write>(
+    alloc: Global,
+    number: u64,
+    out: &mut O,
+    err: &mut E,
+    streams: &mut FailedStreams,
+) -> Result<(), Failure>
+    ensures out { OnOk result (Appends (O.contents out.old) (O.contents out.new) []) }
+    ensures err { OnOk result
+        (Appends (E.contents err.old) (E.contents err.new) (unreadable_line number)) }
+    ensures cut { IfErr result (IsTellingCut (unreadable_line number) streams.new
+        (O.contents out.old) (O.contents out.new) (E.contents err.old) (E.contents err.new)) }
 {
-    writeln!(err, "line {number}: {}", LineFault::NotACommand)?;
-    err.flush()?;
-    Ok(())
+    let line = unreadable_line(alloc, number)?;
+    tell_behind(&line, out, err, streams)
 }
 
 // Tells what was answered to a line, if it is to be told: behind all that was printed before.
 fn tell_answer<O: Write, E: Write>(
+    alloc: Global,
     number: u64,
     answer: Result<(), WorldFault>,
     out: &mut O,
     err: &mut E,
+    streams: &mut FailedStreams,
 ) -> Result<(), Failure>
     ensures out { OnOk result (Appends (O.contents out.old) (O.contents out.new) []) }
     ensures err { OnOk result (Appends (E.contents err.old) (E.contents err.new) (told_of number answer)) }
+    ensures cut { IfErr result (IsAnswerCut number answer streams.new
+        (O.contents out.old) (O.contents out.new) (E.contents err.old) (E.contents err.new)) }
 {
-    let Err(fault) = answer else {
-        return Ok(());
-    };
-    on_output(out.flush())?;
-    match tell_refusal(number, fault, err) {
+    match answer {
         Ok(()) => Ok(()),
-        Err(error) => Err(Failure::of(&error, Failure::Error)),
+        Err(fault) => tell_refusal(alloc, number, fault, out, err, streams),
     }
 }
 
-// Runs the command of a line.
-fn run_read<O: Write, E: Write, V: Watch>(
-    world: &mut World,
-    number: u64,
-    command: &Command,
-    out: &mut O,
-    err: &mut E,
-    alloc: Global,
-    watch: &mut V,
-) -> Result<(), Failure>
-    ensures { OnOk result (IsTaken number command.now world.old world.new (O.contents out.old) (O.contents out.new) (E.contents err.old) (E.contents err.new)) }
-{
-    let answer = run_command(world, command, out, alloc, watch)?;
-    tell_answer(number, answer, out, err)
-}
-
-// Runs a line. The answer is whether it can be read.
+// Runs a line. The answer is whether it can be read. Where that fails, no more than a beginning of what it writes was
+// written.
 fn run_line<O: Write, E: Write, V: Watch>(
     world: &mut World,
     line: &Line<'_>,
@@ -80,13 +114,17 @@ fn run_line<O: Write, E: Write, V: Watch>(
     err: &mut E,
     alloc: Global,
     watch: &mut V,
+    streams: &mut FailedStreams,
 ) -> Result<bool, Failure>
-    ensures { IfOk result (λ read. LineComes read line.now world.old world.new (O.contents out.old) (O.contents out.new) (E.contents err.old) (E.contents err.new)) }
+    ensures comes { IfOk result (λ read. LineComes read line.now world.old world.new (O.contents out.old) (O.contents out.new) (E.contents err.old) (E.contents err.new)) }
+    ensures cut { IfErr result (IsLineCut line.now.number line.now.text.now world.old streams.new
+        (O.contents out.old) (O.contents out.new) (E.contents err.old) (E.contents err.new)) }
 {
     match Command::read(alloc, line.text) {
         Ok(None) => Ok(true),
         Ok(Some(command)) => {
-            run_read(world, line.number, &command, out, err, alloc, watch)?;
+            let answer = run_command(world, &command, out, alloc, watch, streams)?;
+            tell_answer(alloc, line.number, answer, out, err, streams)?;
             Ok(true)
         }
         Err(LineFault::NotACommand) => Ok(false),
@@ -102,11 +140,14 @@ fn run_lines<O: Write, E: Write, V: Watch>(
     err: &mut E,
     alloc: Global,
     watch: &mut V,
+    streams: &mut FailedStreams,
 ) -> Result<Option<u64>, Failure>
-    ensures { IfOk result (λ ended. LinesCome ended (map entry_of lines.now) world.old world.new (O.contents out.old) (O.contents out.new) (E.contents err.old) (E.contents err.new)) }
+    ensures comes { IfOk result (λ ended. LinesCome ended (map entry_of lines.now) world.old world.new (O.contents out.old) (O.contents out.new) (E.contents err.old) (E.contents err.new)) }
+    ensures cut { IfErr result (IsCutAt (map entry_of lines.now) world.old streams.new
+        (O.contents out.old) (O.contents out.new) (E.contents err.old) (E.contents err.new)) }
 {
     for line in lines {
-        let is_read = run_line(world, line, out, err, alloc, watch)?;
+        let is_read = run_line(world, line, out, err, alloc, watch, streams)?;
         if !is_read {
             return Ok(Some(line.number));
         }
@@ -115,7 +156,7 @@ fn run_lines<O: Write, E: Write, V: Watch>(
 }
 
 /// Runs the lines of a script, up to the first that cannot be read, and tells of that one. The answer is whether all could
-/// be read.
+/// be read. Where it fails at a line, those before it have run.
 pub(crate) fn run_script<O: Write, E: Write, V: Watch>(
     world: &mut World,
     script: &[u8],
@@ -123,17 +164,22 @@ pub(crate) fn run_script<O: Write, E: Write, V: Watch>(
     err: &mut E,
     alloc: Global,
     watch: &mut V,
+    streams: &mut FailedStreams,
 ) -> Result<bool, Failure>
-    ensures { IfOk result (λ whole. ScriptComes whole script.now world.old world.new (O.contents out.old) (O.contents out.new) (E.contents err.old) (E.contents err.new)) }
+    ensures comes { IfOk result (λ whole. ScriptComes whole script.now world.old world.new (O.contents out.old) (O.contents out.new) (E.contents err.old) (E.contents err.new)) }
+    ensures cut { IfErr result (IsScriptCut script.now world.old streams.new
+        (O.contents out.old) (O.contents out.new) (E.contents err.old) (E.contents err.new)) }
 {
     let lines = lines(alloc, script)?;
-    let ended = run_lines(world, &lines, out, err, alloc, watch)?;
-    on_output(out.flush())?;
+    let ended = run_lines(world, &lines, out, err, alloc, watch, streams)?;
     match ended {
-        None => Ok(true),
-        Some(number) => match tell_unreadable(number, err) {
-            Ok(()) => Ok(false),
-            Err(error) => Err(Failure::of(&error, Failure::Error)),
-        },
+        None => {
+            streams.flush(out)?;
+            Ok(true)
+        }
+        Some(number) => {
+            tell_unreadable(alloc, number, out, err, streams)?;
+            Ok(false)
+        }
     }
 }

@@ -1,19 +1,20 @@
 //! What printing lines print.
 
-ghost use Rattle.std.specs.Prelude.{◌≡◌, IsOk, OnOk, flat_map};
+ghost use Rattle.std.specs.Prelude.{◌≡◌, IfErr, IfOk, OnErr, OnOk, flat_map, string_bytes};
 ghost use Rattle.std.specs.Io.KnownBytes.{Appends};
+ghost use Rattle.ospf_files.specs.Streams.{IsBegun, IsOutputCut};
 ghost use Rattle.ospf_sim.specs.Shown.{end_text, floor_line, link_lines, listed_line, listing_lines, neighbour_line, neighbours_lines, state_text, table_lines, view_lines, walk_line};
 
-use ospf_files::Failure;
+use ospf_files::{FailedStreams, Failure};
 use ospf_headline::WalkEnd;
 use ospf_lsa::Lsa;
 use ospf_neighbour::{Neighbour, NeighbourState};
 use ospf_router::Router;
 use ospf_script::{FloorShown, ListedShown, NeighbourShown, WalkShown};
-use ospf_shown::write_routes;
+use ospf_shown::print_routes;
 use ospf_world::Walk;
-use std::alloc::Global;
-use std::io::{self, Write};
+use std::alloc::{AllocError, Global};
+use std::io::Write;
 
 // The most interfaces that a configuration has.
 const MAX_INTERFACES: usize = 32;
@@ -54,107 +55,208 @@ fn end_text(end: WalkEnd) -> &'static str
     }
 }
 
-// Writes a neighbour of a link.
-fn write_neighbour<O: Write>(out: &mut O, link: usize, neighbour: &Neighbour) -> io::Result<()>
-    ensures { OnOk result (Appends (O.contents out.old) (O.contents out.new) (neighbour_line link neighbour.now)) }
+// The line of a neighbour of a link.
+fn neighbour_line(alloc: Global, link: usize, neighbour: &Neighbour) -> Result<String, AllocError>
+    ensures { IfOk result (λ line. string_bytes line ≡ neighbour_line link neighbour.now) }
 {
     let shown = NeighbourShown {
         link,
         router: neighbour.router(),
         state: state_text(neighbour.state()),
     };
-    writeln!(out, "{shown}")
+    format!(in alloc; "{shown}\n")
+}
+
+// Writes a neighbour of a link.
+fn write_neighbour<O: Write>(
+    alloc: Global,
+    link: usize,
+    neighbour: &Neighbour,
+    out: &mut O,
+    streams: &mut FailedStreams,
+) -> Result<(), Failure>
+    ensures written { OnOk result
+        (Appends (O.contents out.old) (O.contents out.new) (neighbour_line link neighbour.now)) }
+    ensures begun { OnErr result
+        (IsBegun (O.contents out.old) (O.contents out.new) (neighbour_line link neighbour.now)) }
+    ensures cut { IfErr result (IsOutputCut streams.new) }
+{
+    let line = neighbour_line(alloc, link, neighbour)?;
+    streams.write(out, &line)
 }
 
 // Writes the neighbours of a link.
-fn write_link<O: Write>(out: &mut O, link: usize, neighbours: &[Neighbour]) -> io::Result<()>
-    ensures { OnOk result (Appends (O.contents out.old) (O.contents out.new) (link_lines link neighbours.now)) }
+fn write_link<O: Write>(
+    alloc: Global,
+    link: usize,
+    neighbours: &[Neighbour],
+    out: &mut O,
+    streams: &mut FailedStreams,
+) -> Result<(), Failure>
+    ensures written { OnOk result
+        (Appends (O.contents out.old) (O.contents out.new) (link_lines link neighbours.now)) }
+    ensures begun { OnErr result
+        (IsBegun (O.contents out.old) (O.contents out.new) (link_lines link neighbours.now)) }
+    ensures cut { IfErr result (IsOutputCut streams.new) }
 {
     for neighbour in neighbours {
-        write_neighbour(out, link, neighbour)?;
+        write_neighbour(alloc, link, neighbour, out, streams)?;
     }
     Ok(())
 }
 
 // Writes the neighbours of a router, by link and Router ID.
-fn write_neighbours<O: Write>(out: &mut O, router: &Router) -> io::Result<()>
-    ensures { OnOk result (Appends (O.contents out.old) (O.contents out.new) (neighbours_lines router.now)) }
+fn write_neighbours<O: Write>(
+    alloc: Global,
+    router: &Router,
+    out: &mut O,
+    streams: &mut FailedStreams,
+) -> Result<(), Failure>
+    ensures written { OnOk result
+        (Appends (O.contents out.old) (O.contents out.new) (neighbours_lines router.now)) }
+    ensures begun { OnErr result
+        (IsBegun (O.contents out.old) (O.contents out.new) (neighbours_lines router.now)) }
+    ensures cut { IfErr result (IsOutputCut streams.new) }
 {
     for link in 0..MAX_INTERFACES {
-        write_link(out, link, router.neighbours(link))?;
+        write_link(alloc, link, router.neighbours(link), out, streams)?;
     }
     Ok(())
 }
 
-// Writes an LSA that is listed.
-fn write_lsa<O: Write>(out: &mut O, lsa: &Lsa) -> io::Result<()>
-    ensures { OnOk result (Appends (O.contents out.old) (O.contents out.new) (listed_line lsa.now)) }
+// The line of an LSA that is listed.
+fn listed_line(alloc: Global, lsa: &Lsa) -> Result<String, AllocError>
+    ensures { IfOk result (λ line. string_bytes line ≡ listed_line lsa.now) }
 {
     let shown = ListedShown(lsa.view().instance());
-    writeln!(out, "{shown}")
+    format!(in alloc; "{shown}\n")
+}
+
+// Writes an LSA that is listed.
+fn write_lsa<O: Write>(
+    alloc: Global,
+    lsa: &Lsa,
+    out: &mut O,
+    streams: &mut FailedStreams,
+) -> Result<(), Failure>
+    ensures written { OnOk result
+        (Appends (O.contents out.old) (O.contents out.new) (listed_line lsa.now)) }
+    ensures begun { OnErr result
+        (IsBegun (O.contents out.old) (O.contents out.new) (listed_line lsa.now)) }
+    ensures cut { IfErr result (IsOutputCut streams.new) }
+{
+    let line = listed_line(alloc, lsa)?;
+    streams.write(out, &line)
 }
 
 // Writes LSAs that are listed.
-fn write_listed<O: Write>(out: &mut O, lsas: &[Lsa]) -> io::Result<()>
-    ensures { OnOk result (Appends (O.contents out.old) (O.contents out.new) (flat_map listed_line lsas.now)) }
+fn write_listed<O: Write>(
+    alloc: Global,
+    lsas: &[Lsa],
+    out: &mut O,
+    streams: &mut FailedStreams,
+) -> Result<(), Failure>
+    ensures written { OnOk result
+        (Appends (O.contents out.old) (O.contents out.new) (flat_map listed_line lsas.now)) }
+    ensures begun { OnErr result
+        (IsBegun (O.contents out.old) (O.contents out.new) (flat_map listed_line lsas.now)) }
+    ensures cut { IfErr result (IsOutputCut streams.new) }
 {
     for lsa in lsas {
-        write_lsa(out, lsa)?;
+        write_lsa(alloc, lsa, out, streams)?;
     }
     Ok(())
 }
 
 // Writes the LSAs that a router lists.
-fn write_listing<O: Write>(out: &mut O, router: &Router, alloc: Global) -> Result<(), Failure>
-    ensures { OnOk result (Appends (O.contents out.old) (O.contents out.new) (listing_lines router.now)) }
+fn write_listing<O: Write>(
+    alloc: Global,
+    router: &Router,
+    out: &mut O,
+    streams: &mut FailedStreams,
+) -> Result<(), Failure>
+    ensures written { OnOk result
+        (Appends (O.contents out.old) (O.contents out.new) (listing_lines router.now)) }
+    ensures begun { OnErr result
+        (IsBegun (O.contents out.old) (O.contents out.new) (listing_lines router.now)) }
+    ensures cut { IfErr result (IsOutputCut streams.new) }
 {
     let listing = router.listing(alloc)?;
-    on_output(write_listed(out, listing.lsas()))
+    write_listed(alloc, listing.lsas(), out, streams)
+}
+
+// The line of the floor of a router's numbers.
+fn floor_line(alloc: Global, router: &Router) -> Result<String, AllocError>
+    ensures { IfOk result (λ line. string_bytes line ≡ floor_line router.now) }
+{
+    let shown = FloorShown(router.floor());
+    format!(in alloc; "{shown}\n")
 }
 
 // Writes the floor of a router's numbers.
-fn write_floor<O: Write>(out: &mut O, router: &Router) -> io::Result<()>
-    ensures { OnOk result (Appends (O.contents out.old) (O.contents out.new) (floor_line router.now)) }
-{
-    let shown = FloorShown(router.floor());
-    writeln!(out, "{shown}")
-}
-
-// What a write to standard output came to.
-pub(crate) fn on_output(written: io::Result<()>) -> Result<(), Failure>
-    ensures { OnOk result (IsOk written) }
-{
-    match written {
-        Ok(()) => Ok(()),
-        Err(error) => Err(Failure::of(&error, Failure::Output)),
-    }
-}
-
-// Writes what a line prints of a router.
-pub(crate) fn write_view<O: Write>(
+fn write_floor<O: Write>(
+    alloc: Global,
+    router: &Router,
     out: &mut O,
+    streams: &mut FailedStreams,
+) -> Result<(), Failure>
+    ensures written { OnOk result
+        (Appends (O.contents out.old) (O.contents out.new) (floor_line router.now)) }
+    ensures begun { OnErr result
+        (IsBegun (O.contents out.old) (O.contents out.new) (floor_line router.now)) }
+    ensures cut { IfErr result (IsOutputCut streams.new) }
+{
+    let line = floor_line(alloc, router)?;
+    streams.write(out, &line)
+}
+
+// Writes what a line prints of a router. Where that fails, a beginning of it was written.
+pub(crate) fn write_view<O: Write>(
+    alloc: Global,
     view: View,
     router: &Router,
-    alloc: Global,
+    out: &mut O,
+    streams: &mut FailedStreams,
 ) -> Result<(), Failure>
-    ensures { OnOk result (Appends (O.contents out.old) (O.contents out.new) (view_lines view router.now)) }
+    ensures written { OnOk result
+        (Appends (O.contents out.old) (O.contents out.new) (view_lines view router.now)) }
+    ensures begun { OnErr result
+        (IsBegun (O.contents out.old) (O.contents out.new) (view_lines view router.now)) }
+    ensures cut { IfErr result (IsOutputCut streams.new) }
 {
     match view {
-        View::Neighbours => on_output(write_neighbours(out, router)),
-        View::Listing => write_listing(out, router, alloc),
-        View::Table => on_output(write_routes(out, router.table().routes())),
-        View::Floor => on_output(write_floor(out, router)),
+        View::Neighbours => write_neighbours(alloc, router, out, streams),
+        View::Listing => write_listing(alloc, router, out, streams),
+        View::Table => print_routes(alloc, router.table().routes(), out, streams),
+        View::Floor => write_floor(alloc, router, out, streams),
     }
 }
 
-// Writes a walk.
-pub(crate) fn write_walk<O: Write>(out: &mut O, walk: &Walk) -> io::Result<()>
-    ensures { OnOk result (Appends (O.contents out.old) (O.contents out.new) (walk_line walk.now)) }
+// The line of a walk.
+fn walk_line(alloc: Global, walk: &Walk) -> Result<String, AllocError>
+    ensures { IfOk result (λ line. string_bytes line ≡ walk_line walk.now) }
 {
     let shown = WalkShown {
         routers: &walk.routers,
         cost: walk.cost,
         end: end_text(walk.end),
     };
-    writeln!(out, "{shown}")
+    format!(in alloc; "{shown}\n")
+}
+
+// Writes a walk. Where that fails, a beginning of it was written.
+pub(crate) fn write_walk<O: Write>(
+    alloc: Global,
+    walk: &Walk,
+    out: &mut O,
+    streams: &mut FailedStreams,
+) -> Result<(), Failure>
+    ensures written { OnOk result
+        (Appends (O.contents out.old) (O.contents out.new) (walk_line walk.now)) }
+    ensures begun { OnErr result
+        (IsBegun (O.contents out.old) (O.contents out.new) (walk_line walk.now)) }
+    ensures cut { IfErr result (IsOutputCut streams.new) }
+{
+    let line = walk_line(alloc, walk)?;
+    streams.write(out, &line)
 }

@@ -1,23 +1,25 @@
 //! Simulations.
 
-ghost use Rattle.std.specs.Prelude.{◌≡◌, ◌≢◌, ◌⊎◌, ◌∷◌, IfOk, IfSome, IfNone, None, OnOk};
+ghost use Rattle.std.specs.Prelude.{◌≡◌, ◌≢◌, ◌⊎◌, ◌∷◌, IfErr, IfOk, IfSome, IfNone, None, OnErr, OnOk, string_bytes};
 ghost use Rattle.std.specs.Io.KnownBytes.{Appends};
-ghost use Rattle.ospf_files.specs.Files.{unread_line};
+ghost use Rattle.ospf_files.specs.Files.{text_in, unread_line};
 ghost use Rattle.ospf_files.specs.declared.files.NamedFile.{NamedFile};
 ghost use Rattle.ospf_files.specs.declared.streams.FailedStreams.{FailedStreams};
 ghost use Rattle.ospf_files.specs.Listed.{AreRead, IsFirstUnread};
+ghost use Rattle.ospf_files.specs.Status.{failure_line, failure_status};
+ghost use Rattle.ospf_files.specs.Streams.{IsBegun, IsErrorCut, IsTold};
+ghost use Rattle.ospf_sim.specs.Begun.{IsCut, IsOpeningCut, IsScriptCut, IsWorldCut};
 ghost use Rattle.ospf_sim.specs.Simulations.{Comes, IsRefused, IsSimulated, Opens, RunsTo, WorldComes, same_router_line, status_for};
 ghost use Rattle.ospf_sim.specs.Stopped.{IsStopped, IsUnreadTold};
 
+use crate::configs::{read_configs, tell_unread};
 use crate::script::run_script;
 use crate::watch::Watch;
 use ospf_config::Config;
-use ospf_files::{
-    FailedStreams, Failure, NamedFile, Status, first_unread, read_configs, tell_unread, write_line,
-};
+use ospf_files::{FailedStreams, Failure, NamedFile, Status, first_unread};
 use ospf_world::{World, WorldFault};
-use std::alloc::Global;
-use std::io::{self, Write};
+use std::alloc::{AllocError, Global};
+use std::io::Write;
 
 /// What came of a simulation.
 #[derive(Drop)]
@@ -39,11 +41,26 @@ fn unread_of<'a>(script: &'a NamedFile, files: &'a [NamedFile]) -> Option<&'a Na
     first_unread(files)
 }
 
-// Tells that two routers have one Router ID.
-fn tell_same_router<E: Write>(err: &mut E) -> io::Result<()>
-    ensures { OnOk result (Appends (E.contents err.old) (E.contents err.new) same_router_line) }
+// The line of two routers of one Router ID.
+fn same_router_line(alloc: Global) -> Result<String, AllocError>
+    ensures { IfOk result (λ line. string_bytes line ≡ same_router_line) }
 {
-    write_line(err, WorldFault::SameRouter.text())
+    format!(in alloc; "{}\n", WorldFault::SameRouter.text())
+}
+
+// Tells that two routers have one Router ID. Where that fails, a beginning of it was written.
+fn tell_same_router<E: Write>(
+    alloc: Global,
+    err: &mut E,
+    streams: &mut FailedStreams,
+) -> Result<(), Failure>
+    ensures told { OnOk result (Appends (E.contents err.old) (E.contents err.new) same_router_line) }
+    ensures begun { OnErr result
+        (IsBegun (E.contents err.old) (E.contents err.new) same_router_line) }
+    ensures cut { IfErr result (IsErrorCut streams.new) }
+{
+    let line = same_router_line(alloc)?;
+    streams.tell(err, &line)
 }
 
 // The world of configurations, in which nothing runs; where two are of one router it is told.
@@ -51,15 +68,18 @@ fn open_world<E: Write>(
     alloc: Global,
     configs: Vec<Config>,
     err: &mut E,
+    streams: &mut FailedStreams,
 ) -> Result<Option<World>, Failure>
-    ensures { IfOk result (λ world. Opens configs.items world (E.contents err.old) (E.contents err.new)) }
+    ensures opens { IfOk result (λ world. Opens configs.items world (E.contents err.old) (E.contents err.new)) }
+    ensures cut { IfErr result
+        (IsOpeningCut configs.items streams.new (E.contents err.old) (E.contents err.new)) }
 {
     match World::new(configs, alloc) {
         Ok(world) => Ok(Some(world)),
-        Err(WorldFault::SameRouter) => match tell_same_router(err) {
-            Ok(()) => Ok(None),
-            Err(error) => Err(Failure::of(&error, Failure::Error)),
-        },
+        Err(WorldFault::SameRouter) => {
+            tell_same_router(alloc, err, streams)?;
+            Ok(None)
+        }
         Err(_) => Err(Failure::Memory),
     }
 }
@@ -69,11 +89,14 @@ fn new_world<E: Write>(
     alloc: Global,
     files: &[NamedFile],
     err: &mut E,
+    streams: &mut FailedStreams,
 ) -> Result<Option<World>, Failure>
-    ensures { IfOk result (λ world. WorldComes files.now world (E.contents err.old) (E.contents err.new)) }
+    ensures comes { IfOk result (λ world. WorldComes files.now world (E.contents err.old) (E.contents err.new)) }
+    ensures cut { IfErr result
+        (IsWorldCut files.now streams.new (E.contents err.old) (E.contents err.new)) }
 {
-    match read_configs(alloc, files, err)? {
-        Some(configs) => open_world(alloc, configs, err),
+    match read_configs(alloc, files, err, streams)? {
+        Some(configs) => open_world(alloc, configs, err, streams),
         None => Ok(None),
     }
 }
@@ -86,10 +109,13 @@ fn run_to_end<O: Write, E: Write, V: Watch>(
     out: &mut O,
     err: &mut E,
     watch: &mut V,
+    streams: &mut FailedStreams,
 ) -> Result<Simulated, Failure>
-    ensures { IfOk result (λ s. RunsTo s.status script.now world s.world (O.contents out.old) (O.contents out.new) (E.contents err.old) (E.contents err.new)) }
+    ensures runs { IfOk result (λ s. RunsTo s.status script.now world s.world (O.contents out.old) (O.contents out.new) (E.contents err.old) (E.contents err.new)) }
+    ensures cut { IfErr result (IsScriptCut (text_in script.now) world streams.new
+        (O.contents out.old) (O.contents out.new) (E.contents err.old) (E.contents err.new)) }
 {
-    let whole = run_script(&mut world, script.text(), out, err, alloc, watch)?;
+    let whole = run_script(&mut world, script.text(), out, err, alloc, watch, streams)?;
     let status = status_of(whole);
     Ok(Simulated {
         status,
@@ -112,13 +138,16 @@ fn run_in_world<O: Write, E: Write, V: Watch>(
     out: &mut O,
     err: &mut E,
     watch: &mut V,
+    streams: &mut FailedStreams,
 ) -> Result<Simulated, Failure>
     requires { AreRead (script.now ∷ files.now) }
     ensures comes { IfOk result (λ s. Comes s.status script.now files.now s.world (O.contents out.old) (O.contents out.new) (E.contents err.old) (E.contents err.new)) }
     ensures ended { IfOk result (λ s. (s.status ≡ Status.Done) ⊎ (s.status ≡ Status.Refused)) }
+    ensures cut { IfErr result (IsCut script.now files.now streams.new
+        (O.contents out.old) (O.contents out.new) (E.contents err.old) (E.contents err.new)) }
 {
-    match new_world(alloc, files, err)? {
-        Some(world) => run_to_end(alloc, world, script, out, err, watch),
+    match new_world(alloc, files, err, streams)? {
+        Some(world) => run_to_end(alloc, world, script, out, err, watch, streams),
         None => Ok(Simulated {
             status: Status::Refused,
             world: None,
@@ -126,18 +155,26 @@ fn run_in_world<O: Write, E: Write, V: Watch>(
     }
 }
 
-// Tells that a file could not be read.
-fn end_unread<E: Write>(file: &NamedFile, err: &mut E) -> Result<Simulated, Failure>
+// Tells that a file could not be read. Where that fails, a beginning of it was written.
+fn end_unread<E: Write>(
+    alloc: Global,
+    file: &NamedFile,
+    err: &mut E,
+    streams: &mut FailedStreams,
+) -> Result<Simulated, Failure>
     ensures status { IfOk result (λ s. s.status ≡ Status.Stream) }
     ensures world { IfOk result (λ s. s.world ≡ None) }
     ensures told { OnOk result (Appends (E.contents err.old) (E.contents err.new) (unread_line file.now)) }
+    ensures begun { OnErr result
+        (IsBegun (E.contents err.old) (E.contents err.new) (unread_line file.now)) }
+    ensures cut { IfErr result (IsErrorCut streams.new) }
 {
-    match tell_unread(file, err) {
+    match tell_unread(alloc, file, err, streams) {
         Ok(()) => Ok(Simulated {
             status: Status::Stream,
             world: None,
         }),
-        Err(error) => Err(Failure::of(&error, Failure::Error)),
+        Err(failure) => Err(failure),
     }
 }
 
@@ -149,6 +186,7 @@ fn simulate<O: Write, E: Write, V: Watch>(
     out: &mut O,
     err: &mut E,
     watch: &mut V,
+    streams: &mut FailedStreams,
 ) -> Result<Simulated, Failure>
     ensures comes { IfOk result (λ s. Comes s.status script.now files.now s.world (O.contents out.old) (O.contents out.new) (E.contents err.old) (E.contents err.new)) }
     ensures not_words { IfOk result (λ s. s.status ≢ Status.Words) }
@@ -156,10 +194,25 @@ fn simulate<O: Write, E: Write, V: Watch>(
     ensures stream { IfOk result (λ s. s.status ≡ Status.Stream → IsUnreadTold script.now files.now s.world (O.contents out.old) (O.contents out.new) (E.contents err.old) (E.contents err.new)) }
     ensures unread { (file : NamedFile) → IsFirstUnread file (script.now ∷ files.now) → IfOk result (λ s. s.status ≡ Status.Stream) }
     ensures unwritten { (file : NamedFile) → IsFirstUnread file (script.now ∷ files.now) → O.contents out.new ≡ O.contents out.old }
+    ensures cut { IfErr result (IsCut script.now files.now streams.new
+        (O.contents out.old) (O.contents out.new) (E.contents err.old) (E.contents err.new)) }
 {
     match unread_of(script, files) {
-        Some(file) => end_unread(file, err),
-        None => run_in_world(alloc, script, files, out, err, watch),
+        Some(file) => end_unread(alloc, file, err, streams),
+        None => run_in_world(alloc, script, files, out, err, watch, streams),
+    }
+}
+
+// Tells a failure last, as far as that can be written.
+fn end_failed<E: Write>(failure: Failure, err: &mut E, streams: &mut FailedStreams) -> Simulated
+    ensures status { result.status ≡ failure_status failure }
+    ensures world { result.world ≡ None }
+    ensures told { IsTold streams.old streams.new
+        (E.contents err.old) (E.contents err.new) (failure_line failure) }
+{
+    Simulated {
+        status: failure.tell(err, streams),
+        world: None,
     }
 }
 
@@ -180,12 +233,9 @@ fn sim_noted<O: Write, E: Write, V: Watch>(
     ensures stopped { (result.status ≡ Status.Memory) ⊎ (result.status ≡ Status.Stream) → IsStopped script.now files.now result.world streams.new result.status (O.contents out.old) (O.contents out.new) (E.contents err.old) (E.contents err.new) }
     ensures not_words { result.status ≢ Status.Words }
 {
-    match simulate(alloc, script, files, out, err, watch) {
+    match simulate(alloc, script, files, out, err, watch, streams) {
         Ok(simulated) => simulated,
-        Err(failure) => Simulated {
-            status: failure.tell(err, streams),
-            world: None,
-        },
+        Err(failure) => end_failed(failure, err, streams),
     }
 }
 
@@ -196,7 +246,10 @@ fn sim_noted<O: Write, E: Write, V: Watch>(
 /// simulation, each told on `err`: a file that could not be read, with status `Stream`; the first that holds no
 /// configuration, with status `Refused`; and two configurations of one Router ID, with status `Refused`. Status `Memory`
 /// says that memory ran out, and `Stream` that a write failed; which it was is told on `err`, as far as that can be written.
-/// The watch is told meanwhile how far the rounds of a line have come.
+/// Before that, where no line has run, no more is written than a beginning of what is told of one of the files, or of the
+/// Router ID. Else what the lines before one print and tell is, and of that line a beginning of what it prints, or all of
+/// that and a beginning of what is told of it; or what all lines print and tell, where only the last flush failed. The
+/// watch is told meanwhile how far the rounds of a line have come.
 pub fn sim_text<O: Write, E: Write, V: Watch>(
     alloc: Global,
     script: &NamedFile,

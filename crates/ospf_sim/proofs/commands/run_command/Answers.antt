@@ -1,5 +1,5 @@
 use Rattle.ospf_sim.proofs.Done.{event_done}
 use Rattle.ospf_sim.proofs.commands.run_command.Goals as goal
 
-pub returns-in-Some : goal.returns-in-Some
-returns-in-Some g c = event_done _ c.in-Some.event _ _ _ _ (cc) c.step.ensures.does
+pub returns-in-Some-clause-done : goal.returns-in-Some-clause-done
+returns-in-Some-clause-done g c = event_done _ c.in-Some.event _ _ _ _ (cc) c.step.ensures.does

@@ -1,4 +1,4 @@
-use Rattle.std.proofs.Common.{inl, refl, subst}
+use Rattle.std.proofs.Common.{inl, subst}
 use Rattle.ospf_sim.specs.Simulations.{Comes}
 use Rattle.ospf_sim.specs.Stopped.{is_failure}
 use Rattle.ospf_sim.proofs.Files.{stopped_unread}
@@ -17,10 +17,11 @@ returns-in-Ok-clause-stopped g c = stopped_unread _ _ c.in-Ok.simulated _ _ _ _ 
 
 pub returns-in-Err-clause-stopped : goal.returns-in-Err-clause-stopped
 returns-in-Err-clause-stopped g c = λ _.
-    is_failure refl (record {
+    is_failure c.end_failed.ensures.world (record {
       cause = c.in-Err.failure;
-      failed_then = c.args.streams.now;
+      failed_then = c.simulate.new.streams;
       err_then = g.E.Write.contents c.simulate.new.err;
-      last = c.tell.ensures.told;
-      status_is = c.tell.ensures.status;
+      cut = c.in-Err.ensures.cut;
+      last = c.end_failed.ensures.told;
+      status_is = c.end_failed.ensures.status;
     })

@@ -1,0 +1,114 @@
+-- What stands written where a failure cuts what is to be written.
+use Rattle.std.proofs.Common.{◌≡◌, ◌∙◌, ap, sym, subst, ◌<◌, ℕ, List, [], ◌∷◌, ◌++◌, length, take, drop, get_or, map, Option, None, Some, suc}
+use Rattle.std.specs.Io.KnownBytes.{Appends, Keeps}
+use Rattle.ospf_config.specs.declared.config.Config.{Config}
+use Rattle.ospf_files.proofs.Listed.{files_split}
+use Rattle.ospf_files.proofs.Written.{kept_written, nothing_written}
+use Rattle.ospf_files.specs.Files.{refused_line, text_in}
+use Rattle.ospf_files.specs.Listed.{AreConfigs, AreRead, ConfigsCome}
+use Rattle.ospf_files.specs.Streams.{IsBegun}
+use Rattle.ospf_files.specs.declared.files.NamedFile.{NamedFile}
+use Rattle.ospf_files.specs.declared.status.Failure.{Failure}
+use Rattle.ospf_files.specs.declared.streams.FailedStreams.{FailedStreams}
+use Rattle.ospf_script.specs.Commands.{Spells}
+use Rattle.ospf_script.specs.Lines.{entry_of, numbered_from}
+use Rattle.ospf_script.specs.Words.{Text, words}
+use Rattle.ospf_script.specs.declared.command.Command.{Command}
+use Rattle.ospf_script.specs.declared.script.Line.{Line}
+use Rattle.ospf_sim.specs.Begun.{IsAnswerCut, IsCut, IsCutAt, IsFileCut, IsLineCut, IsOpeningCut, IsScriptCut, IsTellingCut, IsWorldCut, in_fault, in_file, in_refusal, in_same_router, in_script, in_twins, in_unreadable, no_config, no_room, no_world}
+use Rattle.ospf_sim.specs.Commands.{Answer, Does, IsDone}
+use Rattle.ospf_sim.specs.Scripts.{IsRun, LinesCome, unreadable_line}
+use Rattle.ospf_sim.specs.Simulations.{WorldComes, same_router_line}
+use Rattle.ospf_sim.specs.Worlds.{WorldValue}
+use Rattle.ospf_sim.proofs.Lines.{entries_split}
+
+-- a flush writes nothing
+pub flushed : (a b : Option (List ℕ)) → Keeps a b → Appends a b []
+flushed a b kept = kept_written a a b [] (nothing_written a) kept
+
+-- a command that is done, and whose refusal is not told whole
+pub refusal_cut : (number : ℕ) (line : Text) (c : Command) (w w' : WorldValue) (answer : Answer) (failed : FailedStreams) (a b z x y : Option (List ℕ)) (f : Failure) → Spells (words line) c
+    → IsDone c w answer w' a b → IsAnswerCut number answer failed b z x y f → IsLineCut number line w failed a z x y f
+refusal_cut number line c w w' answer failed a b z x y f spelled done cut =
+    in_refusal (record {
+      command = c;
+      end = w';
+      spelled = spelled;
+      fault = cut.fault;
+      text = done.text;
+      does = subst (λ (given : Answer). Does c w given done.text w') cut.refused done.does;
+      out_then = b;
+      printed = done.written;
+      told = cut.told;
+    })
+
+-- a line is cut, and those before it have run
+pub line_cut : (lines : List Line) (i : ℕ) (d : Line) (w mid : WorldValue) (failed : FailedStreams) (a b c x y z : Option (List ℕ)) (f : Failure) → i < length lines
+    → IsRun (map entry_of (take i lines)) w mid a b x y → IsLineCut (get_or lines i d).number (get_or lines i d).text.now mid failed b c y z f
+    → IsCutAt (map entry_of lines) w failed a c x z f
+line_cut lines i d w mid failed a b c x y z f within so_far cut =
+    let line = get_or lines i d in
+    record {
+      before = map entry_of (take i lines);
+      number = line.number;
+      line = line.text.now;
+      after = map entry_of (drop (suc i) lines);
+      lines_are = entries_split lines i d within;
+      mid = mid;
+      out_then = b;
+      err_then = y;
+      run = so_far;
+      cut = cut;
+    }
+
+-- of a line that cannot be read that is not told whole, and those before it have run
+pub unreadable_cut : (ended : Option ℕ) (number : ℕ) (entries : List (ℕ × Text)) (script : Text) (w w' : WorldValue) (failed : FailedStreams) (a b c x y z : Option (List ℕ)) (f : Failure)
+    → ended ≡ Some number → entries ≡ numbered_from 1 script → LinesCome ended entries w w' a b x y → IsTellingCut (unreadable_line number) failed b c y z f
+    → IsCutAt (numbered_from 1 script) w failed a c x z f
+unreadable_cut None number entries script w w' failed a b c x y z f is same run cut = absurd (cc is)
+unreadable_cut (Some n) number entries script w w' failed a b c x y z f is same run cut =
+    let one : n ≡ number = cc is in
+    record {
+      before = run.before;
+      number = number;
+      line = run.line;
+      after = run.after;
+      lines_are = sym same ∙ run.lines_are ∙ ap (λ k. run.before ++ (k, run.line) ∷ run.after) one;
+      mid = w';
+      out_then = b;
+      err_then = y;
+      run = run.run;
+      cut = in_unreadable run.unreadable cut;
+    }
+
+-- a file is cut, and those before it hold a configuration each
+pub file_cut : (files : List NamedFile) (i : ℕ) (file : NamedFile) (configs : List Config) (failed : FailedStreams) (x y z : Option (List ℕ)) (f : Failure) → i < length files
+    → file ≡ get_or files i file → AreConfigs (take i files) configs → y ≡ x → IsFileCut file failed y z f → IsWorldCut files failed x z f
+file_cut files i file configs failed x y z _ within at are same (no_config untold) = no_world (untold ∙ same)
+file_cut files i file configs failed x y z _ within at are same (in_fault {f = f} fault cut refused begun) =
+    in_file file fault cut
+    (record { before = take i files; configs = configs; after = drop (suc i) files; files_are = files_split files i file within at; are_configs = are; refused = refused })
+    (subst (λ (old : Option (List ℕ)). IsBegun old z (refused_line file fault)) same begun)
+
+-- files hold configurations that open no world
+opened_cut : (configs : List Config) (files : List NamedFile) (failed : FailedStreams) (x y z : Option (List ℕ)) (f : Failure) → AreConfigs files configs → y ≡ x
+    → IsOpeningCut configs failed y z f → IsWorldCut files failed x z f
+opened_cut configs files failed x y z _ are same (no_room untold) = no_world (untold ∙ same)
+opened_cut configs files failed x y z _ are same (in_twins {f = f} cut twins begun) =
+    in_same_router configs cut are twins (subst (λ (old : Option (List ℕ)). IsBegun old z same_router_line) same begun)
+
+pub opening_cut : (found : Option (List Config)) (configs : List Config) (files : List NamedFile) (failed : FailedStreams) (x y z : Option (List ℕ)) (f : Failure) → found ≡ Some configs
+    → ConfigsCome files found x y → IsOpeningCut configs failed y z f → IsWorldCut files failed x z f
+opening_cut None configs files failed x y z f is comes cut = absurd (cc is)
+opening_cut (Some cs) configs files failed x y z f is comes cut =
+    let one : cs ≡ configs = cc is in
+    opened_cut configs files failed x y z f (subst (AreConfigs files) one comes.0) comes.1 cut
+
+-- a script is cut, in a world of the configurations in files
+pub script_cut : (found : Option WorldValue) (start : WorldValue) (script : NamedFile) (files : List NamedFile) (failed : FailedStreams) (a b x y z : Option (List ℕ)) (f : Failure)
+    → found ≡ Some start → WorldComes files found x y → AreRead (script ∷ files) → IsScriptCut (text_in script) start failed a b y z f → IsCut script files failed a b x z f
+script_cut None start script files failed a b x y z f is comes read cut = absurd (cc is)
+script_cut (Some w) start script files failed a b x y z f is comes read cut =
+    let one : w ≡ start = cc is in
+    let world = subst (λ v. WorldComes files (Some v) x y) one comes in
+    in_script start read world.0 (subst (λ (old : Option (List ℕ)). IsScriptCut (text_in script) start failed a b old z f) world.1 cut)

@@ -1,0 +1,145 @@
+-- What stands written where memory runs out or a stream fails before a simulation has written all.
+use Rattle.std.specs.Prelude.{◌≡◌, ℕ, List, [], ◌∷◌, ◌++◌, Err, Option}
+use Rattle.std.specs.Io.KnownBytes.{Appends}
+use Rattle.ospf_base.specs.declared.ids.RouterId.{RouterId}
+use Rattle.ospf_config.specs.declared.config.Config.{Config}
+use Rattle.ospf_config.specs.declared.fault.ConfigFault.{ConfigFault}
+use Rattle.ospf_files.specs.Files.{IsRefusedFor, refused_line, text_in, unread_line}
+use Rattle.ospf_files.specs.Listed.{AreConfigs, AreRead, IsFirstRefused, IsFirstUnread}
+use Rattle.ospf_files.specs.Streams.{IsBegun, IsErrorCut, IsOutputCut}
+use Rattle.ospf_files.specs.declared.files.NamedFile.{NamedFile}
+use Rattle.ospf_files.specs.declared.status.Failure.{Failure}
+use Rattle.ospf_files.specs.declared.status.Failure.TheVariants as failure
+use Rattle.ospf_files.specs.declared.streams.FailedStreams.{FailedStreams}
+use Rattle.ospf_headline.specs.declared.event.WorldFault.{WorldFault}
+use Rattle.ospf_script.specs.Commands.{IsUnreadable, Spells, SpellsLongWalk}
+use Rattle.ospf_script.specs.Lines.{numbered_from}
+use Rattle.ospf_script.specs.Words.{Text, words}
+use Rattle.ospf_script.specs.declared.command.Command.{Command}
+use Rattle.ospf_sim.specs.Commands.{Answer, Does, IsShown, IsWalked}
+use Rattle.ospf_sim.specs.Scripts.{IsRun, refusal_line, unreadable_line}
+use Rattle.ospf_sim.specs.Simulations.{IsWorldOf, same_router_line}
+use Rattle.ospf_sim.specs.Worlds.{HaveTwins, WorldValue}
+use Rattle.ospf_sim.specs.declared.show.View.{View}
+
+-- ---- one line
+
+-- a beginning of what is printed of a router was written
+pub record IsShownBegun (view : View) (w : WorldValue) (r : RouterId) (out_old out_new : Option (List ℕ)) : Type 0 where
+  pub answer : Answer
+  pub text : Text
+  pub shown : IsShown view w r answer text
+  pub begun : IsBegun out_old out_new text
+
+-- a beginning of what is printed of a walk was written
+pub record IsWalkBegun (w : WorldValue) (from : RouterId) (address : ℕ) (choices : List ℕ) (out_old out_new : Option (List ℕ)) : Type 0 where
+  pub answer : Answer
+  pub text : Text
+  pub walked : IsWalked w from address choices answer text
+  pub begun : IsBegun out_old out_new text
+
+-- a beginning of what a command prints was written
+pub record IsDoneBegun (c : Command) (w w' : WorldValue) (out_old out_new : Option (List ℕ)) : Type 0 where
+  pub answer : Answer
+  pub text : Text
+  pub does : Does c w answer text w'
+  pub begun : IsBegun out_old out_new text
+
+-- what a line prints is cut: a beginning of it was written
+pub record IsPrintBegun (line : Text) (w : WorldValue) (out_old out_new : Option (List ℕ)) : Type 0 where
+  pub command : Command
+  pub end : WorldValue
+  pub spelled : Spells (words line) command
+  pub done : IsDoneBegun command w end out_old out_new
+
+-- a text is not told whole: what was printed before it was not flushed, and it is not begun, or a beginning of it was written
+pub data IsTellingCut (text : Text) (failed : FailedStreams) (out_old out_new err_old err_new : Option (List ℕ)) : Failure → Type 0 where
+  not_flushed : {f : Failure} → IsOutputCut failed f → Appends out_old out_new [] → err_new ≡ err_old
+      → IsTellingCut text failed out_old out_new err_old err_new f
+  in_telling : {f : Failure} → IsErrorCut failed f → Appends out_old out_new [] → IsBegun err_old err_new text
+      → IsTellingCut text failed out_old out_new err_old err_new f
+
+-- an answer is a refusal, and that is not told whole
+pub record IsAnswerCut (number : ℕ) (answer : Answer) (failed : FailedStreams) (out_old out_new err_old err_new : Option (List ℕ)) (f : Failure) : Type 0 where
+  pub fault : WorldFault
+  pub refused : answer ≡ Err fault
+  pub told : IsTellingCut (refusal_line number fault) failed out_old out_new err_old err_new f
+
+-- a line is refused, what it prints was written, and its refusal is not told whole
+pub record IsRefusalCut (number : ℕ) (line : Text) (w : WorldValue) (failed : FailedStreams) (out_old out_new err_old err_new : Option (List ℕ)) (f : Failure) : Type 0 where
+  pub command : Command
+  pub end : WorldValue
+  pub spelled : Spells (words line) command
+  pub fault : WorldFault
+  pub text : Text
+  pub does : Does command w (Err fault) text end
+  pub out_then : Option (List ℕ)
+  pub printed : Appends out_old out_then text
+  pub told : IsTellingCut (refusal_line number fault) failed out_then out_new err_old err_new f
+
+-- a line is cut: before it does anything, where there is no room for the choices of a walk; in what it prints; in its refusal;
+-- or where it cannot be read, and that is not told whole
+pub data IsLineCut (number : ℕ) (line : Text) (w : WorldValue) (failed : FailedStreams) (out_old out_new err_old err_new : Option (List ℕ)) : Failure → Type 0 where
+  no_choices : SpellsLongWalk (words line) → out_new ≡ out_old → err_new ≡ err_old
+      → IsLineCut number line w failed out_old out_new err_old err_new failure.Memory
+  in_print : {f : Failure} → IsOutputCut failed f → IsPrintBegun line w out_old out_new → err_new ≡ err_old
+      → IsLineCut number line w failed out_old out_new err_old err_new f
+  in_refusal : {f : Failure} → IsRefusalCut number line w failed out_old out_new err_old err_new f
+      → IsLineCut number line w failed out_old out_new err_old err_new f
+  in_unreadable : {f : Failure} → IsUnreadable line → IsTellingCut (unreadable_line number) failed out_old out_new err_old err_new f
+      → IsLineCut number line w failed out_old out_new err_old err_new f
+
+-- ---- a script
+
+-- a line is cut, and those before it have run: what they write was written
+pub record IsCutAt (lines : List (ℕ × Text)) (w : WorldValue) (failed : FailedStreams) (out_old out_new err_old err_new : Option (List ℕ)) (f : Failure) : Type 0 where
+  pub before : List (ℕ × Text)
+  pub number : ℕ
+  pub line : Text
+  pub after : List (ℕ × Text)
+  pub lines_are : lines ≡ before ++ (number, line) ∷ after
+  pub mid : WorldValue
+  pub out_then : Option (List ℕ)
+  pub err_then : Option (List ℕ)
+  pub run : IsRun before w mid out_old out_then err_old err_then
+  pub cut : IsLineCut number line mid failed out_then out_new err_then err_new f
+
+-- a script is cut: before its first line, for want of memory; at a line; or behind its last, where what it printed is not flushed
+pub data IsScriptCut (script : Text) (w : WorldValue) (failed : FailedStreams) (out_old out_new err_old err_new : Option (List ℕ)) : Failure → Type 0 where
+  no_lines : out_new ≡ out_old → err_new ≡ err_old → IsScriptCut script w failed out_old out_new err_old err_new failure.Memory
+  in_line : {f : Failure} → IsCutAt (numbered_from 1 script) w failed out_old out_new err_old err_new f
+      → IsScriptCut script w failed out_old out_new err_old err_new f
+  behind_lines : {f : Failure} (end : WorldValue) → IsOutputCut failed f → IsRun (numbered_from 1 script) w end out_old out_new err_old err_new
+      → IsScriptCut script w failed out_old out_new err_old err_new f
+
+-- ---- a simulation
+
+-- a file is cut: nothing is told of it, for want of memory, or a beginning of why it holds no configuration
+pub data IsFileCut (file : NamedFile) (failed : FailedStreams) (err_old err_new : Option (List ℕ)) : Failure → Type 0 where
+  no_config : err_new ≡ err_old → IsFileCut file failed err_old err_new failure.Memory
+  in_fault : {f : Failure} (fault : ConfigFault) → IsErrorCut failed f → IsRefusedFor (text_in file) fault
+      → IsBegun err_old err_new (refused_line file fault) → IsFileCut file failed err_old err_new f
+
+-- configurations open no world: nothing is told, for want of memory, or a beginning of that two of them are of one router
+pub data IsOpeningCut (configs : List Config) (failed : FailedStreams) (err_old err_new : Option (List ℕ)) : Failure → Type 0 where
+  no_room : err_new ≡ err_old → IsOpeningCut configs failed err_old err_new failure.Memory
+  in_twins : {f : Failure} → IsErrorCut failed f → HaveTwins configs → IsBegun err_old err_new same_router_line
+      → IsOpeningCut configs failed err_old err_new f
+
+-- there is no world of files: nothing is told, for want of memory, or a beginning of why the first that is refused is that,
+-- or of that two of them are of one router
+pub data IsWorldCut (files : List NamedFile) (failed : FailedStreams) (err_old err_new : Option (List ℕ)) : Failure → Type 0 where
+  no_world : err_new ≡ err_old → IsWorldCut files failed err_old err_new failure.Memory
+  in_file : {f : Failure} (file : NamedFile) (fault : ConfigFault) → IsErrorCut failed f → IsFirstRefused file fault files
+      → IsBegun err_old err_new (refused_line file fault) → IsWorldCut files failed err_old err_new f
+  in_same_router : {f : Failure} (configs : List Config) → IsErrorCut failed f → AreConfigs files configs → HaveTwins configs
+      → IsBegun err_old err_new same_router_line → IsWorldCut files failed err_old err_new f
+
+-- a simulation is cut: at the first file that could not be read, before there is a world, or in its script
+pub data IsCut (script : NamedFile) (files : List NamedFile) (failed : FailedStreams) (out_old out_new err_old err_new : Option (List ℕ)) : Failure → Type 0 where
+  in_unread : {f : Failure} (file : NamedFile) → IsErrorCut failed f → IsFirstUnread file (script ∷ files)
+      → IsBegun err_old err_new (unread_line file) → out_new ≡ out_old → IsCut script files failed out_old out_new err_old err_new f
+  in_world : {f : Failure} → AreRead (script ∷ files) → IsWorldCut files failed err_old err_new f → out_new ≡ out_old
+      → IsCut script files failed out_old out_new err_old err_new f
+  in_script : {f : Failure} (start : WorldValue) → AreRead (script ∷ files) → IsWorldOf files start
+      → IsScriptCut (text_in script) start failed out_old out_new err_old err_new f → IsCut script files failed out_old out_new err_old err_new f
