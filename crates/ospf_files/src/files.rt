@@ -1,13 +1,11 @@
 //! Files that were named, and the configurations in them.
 
-ghost use Rattle.std.specs.Prelude.{◌≡◌, ◌⊎◌, ◌↔◌, IfOk, IfErr, IsTrue, OnOk};
-ghost use Rattle.std.specs.Io.KnownBytes.{Appends};
+ghost use Rattle.std.specs.Prelude.{◌≡◌, ◌⊎◌, ◌↔◌, IfOk, IfErr, IsTrue};
 ghost use Rattle.ospf_config.specs.declared.fault.ConfigFault.TheVariants.{Memory};
-ghost use Rattle.ospf_files.specs.Files.{IsConfigIn, IsRead, IsRefusedFor, refused_line, text_in, unread_line};
+ghost use Rattle.ospf_files.specs.Files.{IsConfigIn, IsRead, IsRefusedFor, text_in};
 
 use ospf_config::{Config, ConfigFault};
 use std::alloc::Global;
-use std::io::{self, Write};
 
 /// A file that was named.
 #[derive(Debug, Drop)]
@@ -48,22 +46,4 @@ pub fn config_in(alloc: Global, bytes: &[u8]) -> Result<Config, ConfigFault>
         Ok(text) => Config::from_text(alloc, text),
         Err(_) => Err(ConfigFault::NotToml),
     }
-}
-
-/// Tells the fault of a file.
-pub fn tell_refused<E: Write>(file: &NamedFile, fault: ConfigFault, err: &mut E) -> io::Result<()>
-    ensures { OnOk result (Appends (E.contents err.old) (E.contents err.new) (refused_line file.now fault)) }
-{
-    writeln!(err, "{}: {}", file.name, fault.text())?;
-    err.flush()?;
-    Ok(())
-}
-
-/// Tells that a file could not be read.
-pub fn tell_unread<E: Write>(file: &NamedFile, err: &mut E) -> io::Result<()>
-    ensures { OnOk result (Appends (E.contents err.old) (E.contents err.new) (unread_line file.now)) }
-{
-    writeln!(err, "{}: not read", file.name)?;
-    err.flush()?;
-    Ok(())
 }

@@ -7,8 +7,8 @@ mod files;
 mod status;
 mod streams;
 
-pub use crate::configs::{first_unread, read_configs};
+pub use crate::configs::first_unread;
 pub use crate::disk::{read_file, read_files, tell_unwritten, write_file};
-pub use crate::files::{NamedFile, config_in, tell_refused, tell_unread};
+pub use crate::files::{NamedFile, config_in};
 pub use crate::status::{Failure, Status};
 pub use crate::streams::{FailedStreams, write_line, write_text};
