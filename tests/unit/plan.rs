@@ -52,7 +52,7 @@ const FIRST: Router = Router {
     interfaces: &[(ONE, "")],
 };
 
-static CASES: [Case; 27] = [
+static CASES: [Case; 28] = [
     Case {
         name: "nothing wrong",
         routers: &[FIRST, Router { id: "2.2.2.2", area: BACKBONE, interfaces: &[(TWO, "")] }],
@@ -158,6 +158,15 @@ static CASES: [Case; 27] = [
             Router { id: "2.2.2.2", area: BACKBONE, interfaces: &[(TWO, "port = 5002\n")] },
         ],
         faults: "a.toml: A11 OneSided: interface 0: port 5001, b.toml: interface 0: port 5002\n",
+        notes: "",
+    },
+    Case {
+        name: "A11 of an interface without a port",
+        routers: &[
+            Router { id: "1.1.1.1", area: BACKBONE, interfaces: &[(ONE, "peers = [5002]\n")] },
+            Router { id: "2.2.2.2", area: BACKBONE, interfaces: &[(TWO, "port = 5002\n")] },
+        ],
+        faults: "a.toml: A11 OneSided: interface 0: no port, b.toml: interface 0: port 5002\n",
         notes: "",
     },
     Case {

@@ -37,7 +37,7 @@ said_line text = codes "  " ++ (text ++ codes "\n")
 
 -- what follows from an InfTransDelay over MaxAgeDiff
 abbrev pub delay_meaning : List ℕ
-delay_meaning = codes "over 900, the acknowledgement of an LSA that is sent may be taken for one of another instance, and the LSA is sent again and again; where both ends of a link have that they never become Full (RFC 2328, sections 13.1 and 13.3)"
+delay_meaning = codes "over 900, the acknowledgement of an LSA that is sent may be taken for one of another instance, and the LSA is sent again and again; where both ends of a link have that they may never become Full (RFC 2328, sections 13.1 and 13.3)"
 
 -- where an interface stands, and its InfTransDelay
 abbrev pub link_text : ℕ → List ℕ

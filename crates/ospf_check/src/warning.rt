@@ -17,7 +17,7 @@ pub(crate) struct DelayShown {
 fn delay_meaning() -> &'static str
     ensures { result.now ≡ delay_meaning }
 {
-    "over 900, the acknowledgement of an LSA that is sent may be taken for one of another instance, and the LSA is sent again and again; where both ends of a link have that they never become Full (RFC 2328, sections 13.1 and 13.3)"
+    "over 900, the acknowledgement of an LSA that is sent may be taken for one of another instance, and the LSA is sent again and again; where both ends of a link have that they may never become Full (RFC 2328, sections 13.1 and 13.3)"
 }
 
 // Writes where an interface stands.

@@ -1,11 +1,11 @@
 -- What is printed of findings.
-use Rattle.std.specs.Prelude.{ℕ, Bool, true, false, List, [], codes, decimal, ◌++◌}
+use Rattle.std.specs.Prelude.{ℕ, Bool, true, false, List, [], Option, None, Some, codes, decimal, ◌++◌}
 use Rattle.ospf_base.specs.Text.{number_text}
 use Rattle.ospf_config.specs.Texts.{kind_text}
+use Rattle.ospf_config.specs.declared.interface.Port.{Port}
 use Rattle.ospf_plan.specs.declared.ends.End.{End}
 use Rattle.ospf_plan.specs.declared.finding.Finding.{Finding}
 use Rattle.ospf_plan.specs.declared.told.Told.{Told}
-use Rattle.ospf_plan.specs.Ends.{port_of}
 use Rattle.ospf_plan.specs.declared.fault.AreaFault.{AreaFault}
 use Rattle.ospf_plan.specs.declared.fault.AreaFault.TheVariants as fault
 
@@ -42,7 +42,7 @@ abbrev pub meaning_text : AreaFault → List ℕ
 meaning_text fault.SameRouter = codes "each drops the other's packets as its own, and each flushes the other's LSAs (RFC 2328, sections 8.2 and 13.4)"
 meaning_text fault.SameAddress = codes "what is sent to the address may come to either; as neighbours each is the other's next hop at its own address (section 16.1.1)"
 meaning_text fault.Area = codes "each drops the other's packets (section 8.2)"
-meaning_text fault.Kind = codes "one elects a Designated Router and the other does not: they become Full and no route leads over the network (sections 9.4 and 16.1)"
+meaning_text fault.Kind = codes "one elects a Designated Router and the other does not: they may become Full, and no route leads over the network (sections 9.4 and 16.1)"
 meaning_text fault.Hello = codes "each drops the other's Hellos: they never become neighbours (section 10.5)"
 meaning_text fault.Dead = codes "each drops the other's Hellos: they never become neighbours (section 10.5)"
 meaning_text fault.Mtu = codes "the one of the smaller MTU drops the other's Database Descriptions: they never become Full (section 10.6)"
@@ -52,11 +52,16 @@ meaning_text fault.NoDr = codes "no Designated Router is elected: nobody becomes
 meaning_text fault.OneSided = codes "in `run` one hears the other and is not heard: they never pass Init (section 10.5)"
 meaning_text fault.Cost = codes "the ways there and back may differ"
 meaning_text fault.Alone = codes "the network is a stub"
-meaning_text fault.Delay = codes "what one sends comes back older than it is known: they never become Full, and send to each other without end (sections 13.1 and 13.3)"
+meaning_text fault.Delay = codes "what one sends comes back older than it is known: they may never become Full, and send to each other without end (sections 13.1 and 13.3)"
 meaning_text fault.SamePort = codes "a port is opened once: `run` ends where it is opened again"
 meaning_text fault.Astray = codes "in `run` packets of another network are dropped (section 8.2)"
 meaning_text (fault.Nowhere peer) = codes "no router of these files hears what is sent there"
 meaning_text fault.Apart = codes "the area falls apart: what is here has no route there"
+
+-- the port of an interface, if it has one
+abbrev pub port_text : Option Port → List ℕ
+port_text None = codes "no port"
+port_text (Some port) = codes "port " ++ decimal port.number
 
 -- a value of an interface that a fault is about, with the key that it stands at
 abbrev pub value_text : AreaFault → End → List ℕ
@@ -68,11 +73,11 @@ value_text fault.Hello e = codes "hello " ++ decimal e.hello
 value_text fault.Dead e = codes "dead " ++ decimal e.dead
 value_text fault.Mtu e = codes "mtu " ++ decimal e.mtu
 value_text fault.NoDr e = codes "priority " ++ decimal e.priority
-value_text fault.OneSided e = codes "port " ++ decimal (port_of e)
+value_text fault.OneSided e = port_text e.port
 value_text fault.Cost e = codes "cost " ++ decimal e.cost
 value_text fault.Delay e = codes "transmit_delay " ++ decimal e.transmit_delay
-value_text fault.SamePort e = codes "port " ++ decimal (port_of e)
-value_text fault.Astray e = codes "port " ++ decimal (port_of e)
+value_text fault.SamePort e = port_text e.port
+value_text fault.Astray e = port_text e.port
 value_text (fault.Nowhere peer) e = codes "peers " ++ decimal peer
 value_text _ e = codes "address " ++ number_text e.address.address.0 ++ codes "/" ++ decimal e.address.length
 

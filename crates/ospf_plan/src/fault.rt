@@ -99,7 +99,7 @@ impl AreaFault {
             }
             AreaFault::Area => "each drops the other's packets (section 8.2)",
             AreaFault::Kind => {
-                "one elects a Designated Router and the other does not: they become Full and no route leads over the network (sections 9.4 and 16.1)"
+                "one elects a Designated Router and the other does not: they may become Full, and no route leads over the network (sections 9.4 and 16.1)"
             }
             AreaFault::Hello | AreaFault::Dead => {
                 "each drops the other's Hellos: they never become neighbours (section 10.5)"
@@ -122,7 +122,7 @@ impl AreaFault {
             AreaFault::Cost => "the ways there and back may differ",
             AreaFault::Alone => "the network is a stub",
             AreaFault::Delay => {
-                "what one sends comes back older than it is known: they never become Full, and send to each other without end (sections 13.1 and 13.3)"
+                "what one sends comes back older than it is known: they may never become Full, and send to each other without end (sections 13.1 and 13.3)"
             }
             AreaFault::SamePort => "a port is opened once: `run` ends where it is opened again",
             AreaFault::Astray => "in `run` packets of another network are dropped (section 8.2)",

@@ -10,19 +10,18 @@ use ospf_config::InterfaceAddress;
 use std::alloc::{AllocError, Global};
 use std::collections::BTreeMap;
 
+/// A network: how many bits its prefix has, and the number that they begin.
+pub(crate) type Network = (u8, u32);
+
 // The network of an interface.
-pub(crate) fn network_of(address: &InterfaceAddress) -> (u8, u32)
+pub(crate) fn network_of(address: &InterfaceAddress) -> Network
     ensures { result ≡ network_of address.now }
 {
     (address.length, address.address.0 & mask_of(address.length))
 }
 
 // Keeps an interface as the first on a network, unless there is one.
-fn add_end(
-    ends: &mut BTreeMap<(u8, u32), End>,
-    network: (u8, u32),
-    end: End,
-) -> Result<(), AllocError>
+fn add_end(ends: &mut BTreeMap<Network, End>, network: Network, end: End) -> Result<(), AllocError>
     ensures { OnOk result ((q : ℕ × ℕ) → end_in ends.new q ≡ option_or (end_in ends.old q) (cond (same_network network q) (Some end) None)) }
 {
     if ends.contains_key(&network) {
@@ -48,7 +47,7 @@ fn add_holder(ends: &mut BTreeMap<u32, End>, address: u32, end: End) -> Result<(
 }
 
 // The first interface on each network.
-pub(crate) fn firsts(alloc: Global, ends: &[End]) -> Result<BTreeMap<(u8, u32), End>, AllocError>
+pub(crate) fn firsts(alloc: Global, ends: &[End]) -> Result<BTreeMap<Network, End>, AllocError>
     ensures { IfOk result (λ m. AreFirsts m ends.now) }
 {
     let mut map = BTreeMap::new(alloc);
@@ -92,7 +91,7 @@ pub(crate) fn routers(alloc: Global, ends: &[End]) -> Result<BTreeMap<u32, End>,
 }
 
 // What a map has at a network.
-pub(crate) fn end_in(map: &BTreeMap<(u8, u32), End>, network: (u8, u32)) -> Option<End>
+pub(crate) fn end_in(map: &BTreeMap<Network, End>, network: Network) -> Option<End>
     ensures { result ≡ end_in map.now network }
 {
     map.get(&network).copied()
@@ -119,7 +118,7 @@ fn is_found(found: Option<End>, end: &End) -> bool
 pub(crate) fn others(
     alloc: Global,
     ends: &[End],
-    firsts: &BTreeMap<(u8, u32), End>,
+    firsts: &BTreeMap<Network, End>,
 ) -> Result<Vec<End>, AllocError>
     requires { AreFirsts firsts.now ends.now }
     ensures { IfOk result (λ rest. rest.items ≡ others ends.now) }

@@ -7,7 +7,9 @@ ghost use Rattle.ospf_plan.specs.declared.ends.End.{End};
 
 use crate::ends::{End, electors, port_of, slow_ends};
 use crate::finding::Around;
-use crate::index::{end_in, firsts, holder_in, holders, network_of, others, ports, routers};
+use crate::index::{
+    Network, end_in, firsts, holder_in, holders, network_of, others, ports, routers,
+};
 use ospf_base::mask_of;
 use ospf_config::InterfaceAddress;
 use std::alloc::{AllocError, Global};
@@ -18,14 +20,14 @@ use std::collections::BTreeMap;
 pub(crate) struct Maps {
     routers: BTreeMap<u32, End>,
     holders: BTreeMap<u32, End>,
-    firsts: BTreeMap<(u8, u32), End>,
+    firsts: BTreeMap<Network, End>,
     // Without the firsts, and without the firsts and the seconds.
-    seconds: BTreeMap<(u8, u32), End>,
-    thirds: BTreeMap<(u8, u32), End>,
+    seconds: BTreeMap<Network, End>,
+    thirds: BTreeMap<Network, End>,
     // Of those that can be elected.
-    electors: BTreeMap<(u8, u32), End>,
+    electors: BTreeMap<Network, End>,
     // Of those that are slow.
-    slow: BTreeMap<(u8, u32), End>,
+    slow: BTreeMap<Network, End>,
     pub(crate) ports: BTreeMap<u32, End>,
 }
 
@@ -57,7 +59,7 @@ pub(crate) fn maps_of(alloc: Global, ends: &[End]) -> Result<Maps, AllocError>
 }
 
 // The first interface on the shortest network of fewer bits that holds an address.
-fn around(firsts: &BTreeMap<(u8, u32), End>, address: &InterfaceAddress) -> Option<End>
+fn around(firsts: &BTreeMap<Network, End>, address: &InterfaceAddress) -> Option<End>
     ensures { (ends : List End) → AreFirsts firsts.now ends → result ≡ first_around ends address.now address.now.length }
 {
     let mut found = None;

@@ -17,6 +17,9 @@ use ospf_base::InterfaceKind;
 use std::alloc::{AllocError, Global};
 use std::collections::{BTreeMap, BTreeSet};
 
+// What the interfaces of a link have in common: their network, area, kind, intervals and MTU.
+type Common = (u8, u32, u32, u8, u16, u16, u16);
+
 // A number of a kind, for keys.
 fn kind_number(kind: InterfaceKind) -> u8
     ensures { result ≡ kind_number kind }
@@ -28,7 +31,7 @@ fn kind_number(kind: InterfaceKind) -> u8
 }
 
 // What an interface has in common with the others of its link.
-fn link_of(end: &End) -> (u8, u32, u32, u8, u16, u16, u16)
+fn link_of(end: &End) -> Common
     ensures { result ≡ link_of end.now }
 {
     let (length, network) = network_of(&end.address);
@@ -39,11 +42,7 @@ fn link_of(end: &End) -> (u8, u32, u32, u8, u16, u16, u16)
 }
 
 // Keeps an interface as the first of a link, unless there is one.
-fn add_linked(
-    links: &mut BTreeMap<(u8, u32, u32, u8, u16, u16, u16), End>,
-    link: (u8, u32, u32, u8, u16, u16, u16),
-    end: End,
-) -> Result<(), AllocError>
+fn add_linked(links: &mut BTreeMap<Common, End>, link: Common, end: End) -> Result<(), AllocError>
     ensures { OnOk result ((k : LinkKey) → linked_in links.new k ≡ option_or (linked_in links.old k) (cond (same_link link k) (Some end) None)) }
 {
     if links.contains_key(&link) {
@@ -56,10 +55,7 @@ fn add_linked(
 }
 
 // The first interface of each link.
-fn links_of(
-    alloc: Global,
-    ends: &[End],
-) -> Result<BTreeMap<(u8, u32, u32, u8, u16, u16, u16), End>, AllocError>
+fn links_of(alloc: Global, ends: &[End]) -> Result<BTreeMap<Common, End>, AllocError>
     ensures { IfOk result (λ links. AreLinks links ends.now) }
 {
     let mut links = BTreeMap::new(alloc);
@@ -70,7 +66,7 @@ fn links_of(
 }
 
 // The join of an interface's file with that of the first of its link.
-fn join_at(links: &BTreeMap<(u8, u32, u32, u8, u16, u16, u16), End>, end: &End) -> Option<Join>
+fn join_at(links: &BTreeMap<Common, End>, end: &End) -> Option<Join>
     ensures { result ≡ join_at (linked_in links.now) end.now }
 {
     let first = links.get(&link_of(end)).copied()?;
@@ -93,7 +89,7 @@ fn push_join(joins: &mut Vec<Join>, join: Option<Join>) -> Result<(), AllocError
 // Adds the joins of some interfaces.
 fn push_joins(
     joins: &mut Vec<Join>,
-    links: &BTreeMap<(u8, u32, u32, u8, u16, u16, u16), End>,
+    links: &BTreeMap<Common, End>,
     ends: &[End],
 ) -> Result<(), AllocError>
     ensures { OnOk result (joins.new.items ≡ joins.old.items ++ filter_map (join_at (linked_in links.now)) ends.now) }

@@ -3,12 +3,13 @@
 ghost use Rattle.std.specs.Prelude.{◌≡◌};
 ghost use Rattle.std.specs.Fmt.{WritesOnOk};
 ghost use Rattle.ospf_config.specs.Texts.{kind_text};
-ghost use Rattle.ospf_plan.specs.Shown.{other_text, place_text, side_text, value_text};
+ghost use Rattle.ospf_plan.specs.Shown.{other_text, place_text, port_text, side_text, value_text};
 
-use crate::ends::{End, port_of};
+use crate::ends::End;
 use crate::fault::AreaFault;
 use crate::finding::Finding;
 use ospf_base::InterfaceKind;
+use ospf_config::Port;
 use std::fmt::{self, Display, Formatter, Write};
 
 /// A finding, and the names of the files that its interfaces are in.
@@ -39,6 +40,16 @@ fn write_place<W: Write>(f: &mut Formatter<W>, fault: AreaFault, end: &End) -> f
     }
 }
 
+// Writes the port of an interface, if it has one.
+fn write_port<W: Write>(f: &mut Formatter<W>, port: Option<Port>) -> fmt::Result
+    ensures { WritesOnOk W.Write.write_str_gives f.old result (port_text port) f.new }
+{
+    match port {
+        None => f.write_str("no port"),
+        Some(port) => write!(f, "port {}", port.number),
+    }
+}
+
 // Writes a value, with its key.
 fn write_value<W: Write>(f: &mut Formatter<W>, fault: AreaFault, end: &End) -> fmt::Result
     ensures { WritesOnOk W.Write.write_str_gives f.old result (value_text fault end.now) f.new }
@@ -51,9 +62,7 @@ fn write_value<W: Write>(f: &mut Formatter<W>, fault: AreaFault, end: &End) -> f
         AreaFault::Dead => write!(f, "dead {}", end.dead),
         AreaFault::Mtu => write!(f, "mtu {}", end.mtu),
         AreaFault::NoDr => write!(f, "priority {}", end.priority),
-        AreaFault::OneSided | AreaFault::SamePort | AreaFault::Astray => {
-            write!(f, "port {}", port_of(end))
-        }
+        AreaFault::OneSided | AreaFault::SamePort | AreaFault::Astray => write_port(f, end.port),
         AreaFault::Cost => write!(f, "cost {}", end.cost),
         AreaFault::Delay => write!(f, "transmit_delay {}", end.transmit_delay),
         AreaFault::Nowhere(peer) => write!(f, "peers {peer}"),

@@ -57,17 +57,17 @@ pub(crate) fn wires_of(alloc: Global, configs: &[Config]) -> Result<Vec<Wire>, A
 }
 
 // What tells wires apart: the interface by its numbers, and the port.
-fn key_of(end: &End, peer: u16) -> (usize, usize, u16)
+type WireKey = (usize, usize, u16);
+
+// What tells a wire apart.
+fn key_of(end: &End, peer: u16) -> WireKey
     ensures { result ≡ key_of end.now peer }
 {
     (end.file, end.link, peer)
 }
 
 // Adds a wire.
-fn add_wire(
-    set: &mut BTreeSet<(usize, usize, u16)>,
-    key: (usize, usize, u16),
-) -> Result<(), AllocError>
+fn add_wire(set: &mut BTreeSet<WireKey>, key: WireKey) -> Result<(), AllocError>
     ensures { OnOk result ((q : ℕ × ℕ × ℕ) → has_wire set.new q ≡ (has_wire set.old q || same_wire key q)) }
 {
     match set.insert(key) {
@@ -77,7 +77,7 @@ fn add_wire(
 }
 
 // The wires, to be looked up.
-fn heard(alloc: Global, wires: &[Wire]) -> Result<BTreeSet<(usize, usize, u16)>, AllocError>
+fn heard(alloc: Global, wires: &[Wire]) -> Result<BTreeSet<WireKey>, AllocError>
     ensures { IfOk result (λ set. AreHeard set wires.now) }
 {
     let mut set = BTreeSet::new(alloc);
@@ -96,11 +96,7 @@ fn is_beside(one: &End, other: &End) -> bool
 }
 
 // What is wrong where an interface sends to another: that one is not on its network, or does not send to it.
-fn fault_between(
-    heard: &BTreeSet<(usize, usize, u16)>,
-    other: &End,
-    here: &End,
-) -> Option<AreaFault>
+fn fault_between(heard: &BTreeSet<WireKey>, other: &End, here: &End) -> Option<AreaFault>
     ensures { result ≡ fault_between (has_wire heard.now) other.now here.now }
 {
     if !is_beside(other, here) {
@@ -113,11 +109,7 @@ fn fault_between(
 }
 
 // What is wrong with a wire: nobody is where it leads, or one of another network, or one that does not send back.
-fn wire_fault(
-    ports: &BTreeMap<u32, End>,
-    heard: &BTreeSet<(usize, usize, u16)>,
-    wire: &Wire,
-) -> Option<Finding>
+fn wire_fault(ports: &BTreeMap<u32, End>, heard: &BTreeSet<WireKey>, wire: &Wire) -> Option<Finding>
     ensures { result ≡ wire_fault (holder_in ports.now) (has_wire heard.now) wire.now }
 {
     let here = wire.end;
@@ -149,7 +141,7 @@ pub(crate) fn push_wire_faults(
 fn push_each(
     findings: &mut Vec<Finding>,
     ports: &BTreeMap<u32, End>,
-    heard: &BTreeSet<(usize, usize, u16)>,
+    heard: &BTreeSet<WireKey>,
     wires: &[Wire],
 ) -> Result<(), AllocError>
     ensures { OnOk result (findings.new.items ≡ findings.old.items ++ filter_map (wire_fault (holder_in ports.now) (has_wire heard.now)) wires.now) }
