@@ -1,8 +1,9 @@
 //! A drawing that was written by hand from the LSAs.
 
+use super::made::link;
 use ospf_base::RouterId;
 use ospf_dot::{Graph, names_tell_apart, prefixes_are_drawn};
-use ospf_lsa::{Link, LinkKind, Listing, Lsa};
+use ospf_lsa::{LinkKind, Listing, Lsa};
 use std::test::Fail;
 
 // Two routers on a point-to-point link and on the network of 10.1.0.2, of which the second has an address that is no network's, and a
@@ -21,15 +22,6 @@ static DRAWING: &str = "digraph area {
   \"network 10.1.0.2\" -> \"10.1.0.2\" [label=0];
 }
 ";
-
-fn link(kind: LinkKind, id: u32, link_data: u32, metric: u16) -> Link {
-    Link {
-        id,
-        link_data,
-        kind,
-        metric,
-    }
-}
 
 #[test]
 fn two_routers_and_a_network(rt: HostRuntime) -> Result<(), Fail> {

@@ -1,6 +1,7 @@
 //! What failures of small areas change, as it is printed.
 
 use super::failing::Failing;
+use super::made::{FIRST_NUMBER, link, stub, to};
 use ospf_base::{RouterId, lsa_sum};
 use ospf_failures::{FailuresJob, FailuresStatus, failures_text};
 use ospf_files::Status;
@@ -10,32 +11,12 @@ use std::alloc::Global;
 use std::process::{Abort, ExitCode};
 use std::test::Fail;
 
-// The number that a router uses first.
-const FIRST_NUMBER: i32 = -0x7fff_ffff;
-
 const FIRST: RouterId = RouterId(0x0101_0101);
 const SECOND: RouterId = RouterId(0x0202_0202);
 const THIRD: RouterId = RouterId(0x0303_0303);
 
 // The mask of a link's subnet.
 const SUBNET: u32 = 0xffff_fffc;
-
-fn link(kind: LinkKind, id: u32, link_data: u32, metric: u16) -> Link {
-    Link {
-        id,
-        link_data,
-        kind,
-        metric,
-    }
-}
-
-fn to(router: RouterId, address: u32, metric: u16) -> Link {
-    link(LinkKind::PointToPoint, router.0, address, metric)
-}
-
-fn stub(prefix: u32, mask: u32, metric: u16) -> Link {
-    link(LinkKind::Stub, prefix, mask, metric)
-}
 
 fn router(alloc: Global, id: RouterId, links: &[Link]) -> Result<Lsa, Fail> {
     Ok(Lsa::router(alloc, id, FIRST_NUMBER, links)?)

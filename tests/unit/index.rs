@@ -1,41 +1,21 @@
 //! Lookups in tables of each shape.
 
+use super::made::{FIRST_NUMBER, stub, to};
 use ospf_base::{Addr, RouterId};
 use ospf_index::IndexedTable;
 use ospf_index::counts::most_hops;
 use ospf_index::numbering::{Numbering, numbers_of};
-use ospf_lsa::{Link, LinkKind, Listing, Lsa};
+use ospf_lsa::{Link, Listing, Lsa};
 use ospf_spf::RouteTable;
 use std::alloc::Global;
 use std::test::Fail;
 
 const ROOT: RouterId = RouterId(0x0101_0101);
 
-// The number that a router uses first.
-const FIRST_NUMBER: i32 = -0x7fff_ffff;
-
 // How many routers stand behind the root, and how many stubs each of them has.
 const ROUTERS: u32 = 80;
 
 const STUBS: u32 = 1250;
-
-fn stub(address: u32, mask: u32, metric: u16) -> Link {
-    Link {
-        id: address,
-        link_data: mask,
-        kind: LinkKind::Stub,
-        metric,
-    }
-}
-
-fn point_to_point(to: RouterId, local: u32) -> Link {
-    Link {
-        id: to.0,
-        link_data: local,
-        kind: LinkKind::PointToPoint,
-        metric: 10,
-    }
-}
 
 // The routing table of the root, with its index.
 fn indexed(alloc: Global, listing: &Listing) -> Result<IndexedTable, Fail> {
@@ -158,7 +138,7 @@ fn prefixes_not_spread_evenly(rt: HostRuntime) -> Result<(), Fail> {
 // A router behind the root that has every third of 30 stubs from this one on, and one that all have.
 fn third(alloc: Global, k: u32) -> Result<Lsa, Fail> {
     let mut links = Vec::new(alloc);
-    links.push(point_to_point(ROOT, 0x0a01_0000 | k))?;
+    links.push(to(ROOT, 0x0a01_0000 | k, 10))?;
     links.push(stub(0x1500_0000, 0xffff_ff00, 1))?;
     for s in 0u32..10 {
         let address = 0x1400_0000 | s.wrapping_mul(3).wrapping_add(k) << 8;
@@ -175,7 +155,7 @@ fn each_set_of_hops_stands_once(rt: HostRuntime) -> Result<(), Fail> {
     let mut listing = Listing::new(alloc);
     let mut links = Vec::new(alloc);
     for k in 0u32..3 {
-        links.push(point_to_point(RouterId(0x0202_0000 | k), 0x0a00_0000 | k))?;
+        links.push(to(RouterId(0x0202_0000 | k), 0x0a00_0000 | k, 10))?;
         listing.add(third(alloc, k)?)?;
     }
     listing.add(Lsa::router(alloc, ROOT, FIRST_NUMBER, &links)?)?;
@@ -205,9 +185,9 @@ fn a_hundred_thousand_routes(rt: HostRuntime) -> Result<(), Fail> {
     let mut links = Vec::new(alloc);
     for k in 0..ROUTERS {
         let id = RouterId(0x0202_0000 | k);
-        links.push(point_to_point(id, 0x0a00_0000 | k))?;
+        links.push(to(id, 0x0a00_0000 | k, 10))?;
         let mut stubs = Vec::new(alloc);
-        stubs.push(point_to_point(ROOT, 0x0a01_0000 | k))?;
+        stubs.push(to(ROOT, 0x0a01_0000 | k, 10))?;
         for s in 0..STUBS {
             stubs.push(stub(0x1400_0000 | k << 16 | s << 2, 0xffff_fffc, k as u16))?;
         }

@@ -1,5 +1,6 @@
 //! Tables of small areas.
 
+use super::made::{FIRST_NUMBER, link};
 use ospf_base::{Addr, RouterId};
 use ospf_graph::NextHop;
 use ospf_lsa::{Link, LinkKind, Listing, Lsa};
@@ -7,28 +8,16 @@ use ospf_spf::{RouteTable, Tree};
 use std::alloc::Global;
 use std::test::Fail;
 
-// The number that a router uses first.
-const FIRST_NUMBER: i32 = -0x7fff_ffff;
-
-fn link(id: u32, link_data: u32, kind: LinkKind, metric: u16) -> Link {
-    Link {
-        id,
-        link_data,
-        kind,
-        metric,
-    }
-}
-
 // Two routers with a link and a network between them, at one cost, and a stub of the second.
 fn listing(alloc: Global) -> Result<Listing, Fail> {
     let first = [
-        link(0x0202_0202, 0x0a00_0001, LinkKind::PointToPoint, 10),
-        link(0x0a01_0002, 0x0a01_0001, LinkKind::Transit, 10),
+        link(LinkKind::PointToPoint, 0x0202_0202, 0x0a00_0001, 10),
+        link(LinkKind::Transit, 0x0a01_0002, 0x0a01_0001, 10),
     ];
     let second = [
-        link(0x0101_0101, 0x0a00_0002, LinkKind::PointToPoint, 10),
-        link(0x0a01_0002, 0x0a01_0002, LinkKind::Transit, 10),
-        link(0xc0a8_0200, 0xffff_ff00, LinkKind::Stub, 5),
+        link(LinkKind::PointToPoint, 0x0101_0101, 0x0a00_0002, 10),
+        link(LinkKind::Transit, 0x0a01_0002, 0x0a01_0002, 10),
+        link(LinkKind::Stub, 0xc0a8_0200, 0xffff_ff00, 5),
     ];
     let routers = [RouterId(0x0101_0101), RouterId(0x0202_0202)];
     let mut listing = Listing::new(alloc);
@@ -82,19 +71,19 @@ fn root_not_listed(rt: HostRuntime) -> Result<(), Fail> {
 // of this metric.
 fn links_of_second(stub_metric: u16) -> [Link; 4] {
     [
-        link(0x0101_0101, 0x0a00_0002, LinkKind::PointToPoint, 10),
-        link(0x0a00_0000, 0xffff_fffc, LinkKind::Stub, 10),
-        link(0x0a01_0002, 0x0a01_0002, LinkKind::Transit, 10),
-        link(0x0a09_0000, 0xffff_0000, LinkKind::Stub, stub_metric),
+        link(LinkKind::PointToPoint, 0x0101_0101, 0x0a00_0002, 10),
+        link(LinkKind::Stub, 0x0a00_0000, 0xffff_fffc, 10),
+        link(LinkKind::Transit, 0x0a01_0002, 0x0a01_0002, 10),
+        link(LinkKind::Stub, 0x0a09_0000, 0xffff_0000, stub_metric),
     ]
 }
 
 // Routers 1.1.1.1 and 2.2.2.2 with a link, at this metric for the first, and a network between them.
 fn two_routers(alloc: Global, metric: u16, second: &[Link]) -> Result<Listing, Fail> {
     let first = [
-        link(0x0202_0202, 0x0a00_0001, LinkKind::PointToPoint, metric),
-        link(0x0a00_0000, 0xffff_fffc, LinkKind::Stub, 10),
-        link(0x0a01_0002, 0x0a01_0001, LinkKind::Transit, 10),
+        link(LinkKind::PointToPoint, 0x0202_0202, 0x0a00_0001, metric),
+        link(LinkKind::Stub, 0x0a00_0000, 0xffff_fffc, 10),
+        link(LinkKind::Transit, 0x0a01_0002, 0x0a01_0001, 10),
     ];
     let routers = [RouterId(0x0101_0101), RouterId(0x0202_0202)];
     let mut listing = Listing::new(alloc);
@@ -145,7 +134,7 @@ fn tree_falls_with_a_metric(rt: HostRuntime) -> Result<(), Fail> {
 fn tree_falls_with_the_order_of_links(rt: HostRuntime) -> Result<(), Fail> {
     let alloc = rt.alloc();
     let [back, stub, lan, far] = links_of_second(1);
-    let also = link(0x0a01_0002, 0x0a01_0007, LinkKind::Transit, 10);
+    let also = link(LinkKind::Transit, 0x0a01_0002, 0x0a01_0007, 10);
     let made_of = two_routers(alloc, 10, &[back, stub, lan, also, far])?;
     let tree = Tree::of(alloc, &made_of, RouterId(0x0101_0101))?;
     let other = two_routers(alloc, 10, &[back, stub, also, lan, far])?;

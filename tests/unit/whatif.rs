@@ -1,39 +1,18 @@
 //! What failures do to the tables of a small area.
 
+use super::made::{FIRST_NUMBER, stub, to};
 use ospf_base::{Addr, Prefix, RouterId};
 use ospf_graph::{NextHop, Route};
-use ospf_lsa::{Link, LinkKind, Listing, Lsa};
+use ospf_lsa::{Link, Listing, Lsa};
 use ospf_spf::RouteTable;
 use ospf_whatif::{Failure, Loss, RouteChange, effect_of, single_failures, without};
 use std::alloc::Global;
 use std::test::Fail;
 
-// The number that a router uses first.
-const FIRST_NUMBER: i32 = -0x7fff_ffff;
-
 const FIRST: RouterId = RouterId(0x0101_0101);
 const SECOND: RouterId = RouterId(0x0202_0202);
 const THIRD: RouterId = RouterId(0x0303_0303);
 const LAST: RouterId = RouterId(0x0404_0404);
-
-fn stub(address: u32, mask: u32, metric: u16) -> Link {
-    Link {
-        id: address,
-        link_data: mask,
-        kind: LinkKind::Stub,
-        metric,
-    }
-}
-
-// The type 1 link of an interface of cost 10.
-fn to(router: RouterId, own: u32) -> Link {
-    Link {
-        id: router.0,
-        link_data: own,
-        kind: LinkKind::PointToPoint,
-        metric: 10,
-    }
-}
 
 // The type 3 link of such an interface.
 fn subnet(own: u32) -> Link {
@@ -48,31 +27,31 @@ fn prefix(address: u32, mask: u32) -> Result<Prefix, Fail> {
 // stub of its own; the first two both tell 10.0.0.0/8.
 fn listing(alloc: Global) -> Result<Listing, Fail> {
     let first = [
-        to(SECOND, 0x0a00_0001),
+        to(SECOND, 0x0a00_0001, 10),
         subnet(0x0a00_0001),
-        to(THIRD, 0x0a00_0005),
+        to(THIRD, 0x0a00_0005, 10),
         subnet(0x0a00_0005),
         stub(0x0a00_0000, 0xff00_0000, 100),
     ];
     let second = [
-        to(FIRST, 0x0a00_0002),
+        to(FIRST, 0x0a00_0002, 10),
         subnet(0x0a00_0002),
-        to(THIRD, 0x0a00_0009),
+        to(THIRD, 0x0a00_0009, 10),
         subnet(0x0a00_0009),
         stub(0x0a00_0000, 0xff00_0000, 100),
         stub(0xc0a8_0200, 0xffff_ff00, 5),
     ];
     let third = [
-        to(FIRST, 0x0a00_0006),
+        to(FIRST, 0x0a00_0006, 10),
         subnet(0x0a00_0006),
-        to(SECOND, 0x0a00_000a),
+        to(SECOND, 0x0a00_000a, 10),
         subnet(0x0a00_000a),
-        to(LAST, 0x0a00_000d),
+        to(LAST, 0x0a00_000d, 10),
         subnet(0x0a00_000d),
         stub(0xc0a8_0300, 0xffff_ff00, 5),
     ];
     let last = [
-        to(THIRD, 0x0a00_000e),
+        to(THIRD, 0x0a00_000e, 10),
         subnet(0x0a00_000e),
         stub(0xac10_0400, 0xffff_ff00, 1),
     ];
