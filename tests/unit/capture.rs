@@ -1,7 +1,7 @@
 //! A capture that was written by hand from the formats (`tests/check-capture` reads it), and what is refused.
 
 use ospf_base::{ALL_SPF_ROUTERS, Addr};
-use ospf_capture::{
+use ospf_records::{
     CaptureFault, Moment, checksum_holds, has_one_reading, lengths_are_told, write_datagram,
     write_header,
 };

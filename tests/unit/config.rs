@@ -2,7 +2,7 @@
 
 use ospf_base::{Addr, AreaId, InterfaceKind, RouterId};
 use ospf_config::{Config, ConfigFault};
-use ospf_explain::explain;
+use ospf_check::explain;
 use std::alloc::Global;
 use std::process::Abort;
 use std::test::Fail;

@@ -2,7 +2,7 @@
 
 use super::made::link;
 use ospf_base::RouterId;
-use ospf_dot::{Graph, names_tell_apart, prefixes_are_drawn};
+use ospf_records::{Graph, names_tell_apart, prefixes_are_drawn};
 use ospf_lsa::{LinkKind, Listing, Lsa};
 use std::test::Fail;
 

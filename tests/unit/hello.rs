@@ -4,7 +4,7 @@ use ospf_adjacency::Outbox;
 use ospf_area::{Outputs, Own};
 use ospf_base::{ALL_SPF_ROUTERS, Addr, AreaId, InterfaceKind, RouterId};
 use ospf_exchange::Local;
-use ospf_hello::{
+use ospf_adjacency::{
     go_down, go_up, hello_on, is_at, is_named, is_settled, place_for, send_due_hello, send_hello,
     tick_neighbours, tick_timers,
 };

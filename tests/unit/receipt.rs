@@ -5,7 +5,7 @@ use ospf_exchange::Local;
 use ospf_iface::{Iface, IfaceSettings, IfaceState};
 use ospf_neighbour::{NbrEvent, Neighbour};
 use ospf_packet::{BodyValue, Description, Hello, PacketValue, write_packet};
-use ospf_receipt::{Dropped, receive};
+use ospf_step::{Dropped, receive};
 use std::alloc::Global;
 use std::test::Fail;
 

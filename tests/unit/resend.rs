@@ -9,7 +9,7 @@ use ospf_lsa::{Lsa, LsaHeader, LsaView};
 use ospf_lsdb::Lsdb;
 use ospf_neighbour::{NbrEvent, Neighbour, NeighbourState};
 use ospf_packet::{Body, BodyValue, Description, Packet, PacketValue, RequestEntry, write_packet};
-use ospf_resend::{repeat, take_request};
+use ospf_adjacency::{repeat, take_request};
 use std::alloc::Global;
 use std::test::Fail;
 

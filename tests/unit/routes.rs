@@ -4,7 +4,7 @@ use super::made::{link, stub, to};
 use ospf_base::{Kind, LsaKey, RouterId};
 use ospf_lsa::{Link, LinkKind, Lsa};
 use ospf_lsdb::Lsdb;
-use ospf_routes::KeptRoutes;
+use ospf_router::KeptRoutes;
 use ospf_spf::RouteTable;
 use rand_core::utils::NextWord;
 use rand_pcg::Pcg32;

@@ -3,7 +3,7 @@
 use ospf_base::{Addr, Prefix, RouterId};
 use ospf_fib::Answer;
 use ospf_graph::{Hops, NextHop, Route};
-use ospf_shown::{write_lookup, write_routes};
+use ospf_files::{FailedStreams, print_lookup, print_routes};
 use std::test::Fail;
 
 static LINES: &str = "10.0.0.0/30 10 attached
@@ -16,6 +16,7 @@ lookup 11.0.0.1 none
 fn shows_routes_and_lookups(rt: HostRuntime) -> Result<(), Fail> {
     let alloc = rt.alloc();
     let mut out = Vec::new(alloc);
+    let mut streams = FailedStreams::none();
     let near = Prefix {
         address: Addr(0x0a00_0000),
         length: 30,
@@ -34,7 +35,7 @@ fn shows_routes_and_lookups(rt: HostRuntime) -> Result<(), Fail> {
         hops.insert(hop)?;
         routes.push(Route { prefix, cost, hops })?;
     }
-    write_routes(&mut out, &routes)?;
+    assert!(rt; print_routes(alloc, &routes, &mut out, &mut streams).is_ok());
     let found = Answer {
         version: 1,
         prefix: far,
@@ -42,8 +43,9 @@ fn shows_routes_and_lookups(rt: HostRuntime) -> Result<(), Fail> {
         hop,
         hops: 1,
     };
-    write_lookup(&mut out, Addr(0x0a09_0101), Some(found))?;
-    write_lookup(&mut out, Addr(0x0b00_0001), None)?;
+    for (address, answer) in [(Addr(0x0a09_0101), Some(found)), (Addr(0x0b00_0001), None)] {
+        assert!(rt; print_lookup(alloc, address, answer, &mut out, &mut streams).is_ok());
+    }
     assert_eq!(rt; out.as_slice(), LINES.as_bytes());
     Ok(())
 }

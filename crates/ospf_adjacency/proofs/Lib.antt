@@ -1,3 +1,13 @@
+pub mod PackLemmas
+pub mod KeyLists
+pub mod DueLemmas
+pub mod QuietLemmas
+pub mod SendLemmas
+pub mod CopyLemmas
+pub mod PutLemmas
+pub mod HelloLemmas
+pub mod GoLemmas
+pub mod StayLemmas
 pub mod PostLemmas
 pub mod ElectionLemmas
 pub mod TurnLemmas

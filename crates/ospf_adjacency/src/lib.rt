@@ -5,19 +5,39 @@
 #![tactic(auto)]
 
 mod adjacency;
+mod answering;
 mod descriptions;
 mod elections;
+mod heard;
+mod hello_laws;
 mod laws;
+mod links;
 mod outbox;
 mod packets;
+mod packing;
+mod repeating;
+mod resend_laws;
+mod sent;
 
 pub use crate::adjacency::{is_broadcast, take_event, wants_adjacency};
+pub use crate::answering::take_request;
 pub use crate::descriptions::{is_dropped, request_turn, take_description};
 pub use crate::elections::elect_on;
+pub use crate::heard::{hello_on, is_at, is_named, is_settled, place_for};
+pub use crate::hello_laws::{
+    adj_ok_goes, elections_come_about, hello_goes, neighbours_stay_of_link, puts_one, timers_go,
+};
 pub use crate::laws::{
     description_goes_on, description_keeps_router, description_says_only, descriptions_are_filled,
     dropped_is_unchanged, events_keep_lists, events_keep_routers, events_say_only, kept_goes_on,
     only_negotiation_enters, requests_keep_lists, requests_never_enter, requests_say_only,
 };
+pub use crate::links::{go_down, go_up, tick_neighbours, tick_timers};
 pub use crate::outbox::Outbox;
 pub use crate::packets::{send_dd, send_request};
+pub use crate::packing::send_copies;
+pub use crate::repeating::repeat;
+pub use crate::resend_laws::{
+    answers_are_quiet, keys_go_in_order, repeats_are_quiet, updates_are_packed,
+};
+pub use crate::sent::{send_due_hello, send_hello};

@@ -1,3 +1,4 @@
+mod PlaceLists
 pub mod Written
 mod AreaWritten
 mod Numbered

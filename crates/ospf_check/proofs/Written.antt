@@ -1,7 +1,7 @@
 -- What is told of files, one after the other.
 use Rattle.std.proofs.Common.{◌≡◌, ◌∙◌, ◌&&◌, Bool, true, false, ap, sym, subst, ◌+◌, ◌<◌, ℕ, suc, List, [], ◌∷◌, ◌++◌, length, take, drop, get_or, flat_map, Option, Some, ◌⊎◌, inl, append_assoc, append-nil, refl}
 use Rattle.std.proofs.lemmas.List.{take_more, flat_map_more}
-use Rattle.ospf_explain.specs.declared.explained.Explained.{Explained}
+use Rattle.ospf_check.specs.declared.explained.Explained.{Explained}
 use Rattle.ospf_files.proofs.Listed.{config_read, files_split}
 use Rattle.ospf_files.proofs.Written.{both_written, nothing_written}
 use Rattle.ospf_config.specs.declared.config.Config.{Config}

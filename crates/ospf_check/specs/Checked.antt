@@ -2,10 +2,10 @@
 use Rattle.std.specs.Prelude.{◌≡◌, ◌⊎◌, ◌&&◌, nat_lt, ⊤, ℕ, Bool, true, false, List, [], ◌∷◌, ◌++◌, flat_map, IsUtf8, Option, None, Some, codes, decimal, string_bytes, if◌then◌else◌}
 use Rattle.std.specs.List.{enumerate_from}
 use Rattle.std.specs.Io.KnownBytes.{Appends}
-use Rattle.ospf_explain.specs.Explained.{IsExplained, explained_text}
+use Rattle.ospf_check.specs.Explained.{IsExplained, explained_text}
 use Rattle.ospf_config.specs.declared.config.Config.{Config}
 use Rattle.ospf_config.specs.declared.interface.Interface.{Interface}
-use Rattle.ospf_explain.specs.declared.explained.Explained.{Explained}
+use Rattle.ospf_check.specs.declared.explained.Explained.{Explained}
 use Rattle.ospf_config.specs.declared.fault.ConfigFault.{ConfigFault}
 use Rattle.ospf_files.specs.Files.{IsConfigIn, IsRefusedFor, bytes_of, refused_line, text_in, unread_line}
 use Rattle.ospf_files.specs.Listed.{AreConfigs}

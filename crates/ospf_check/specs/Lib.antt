@@ -1,2 +1,4 @@
+pub mod Explained
+pub mod Rows
 pub mod Checked
 pub mod Area

@@ -6,10 +6,10 @@ ghost use Rattle.ospf_files.specs.Files.{IsRefusedFor, bytes_of, refused_line};
 ghost use Rattle.ospf_files.specs.declared.streams.FailedStreams.{FailedStreams};
 ghost use Rattle.ospf_check.specs.Checked.{EndsIn, HoldConfigs, IsCutIn, IsCutShort, IsExplanation, IsLastTold, IsSaid, IsVerdict, IsWritten, IsWrittenOf, KeepsBy, KeepsIf, accepted_line, can_lead, delay_line, leaf_line, place_line, status_of, warning_line, warnings};
 
+use crate::explained::{Explained, explain};
 use crate::warning::{DelayShown, LeafShown};
 use ospf_base::InterfaceKind;
 use ospf_config::{Config, ConfigFault, Interface};
-use ospf_explain::{Explained, explain};
 use ospf_files::{FailedStreams, Failure, NamedFile, Status, config_in};
 use ospf_plan::is_slow;
 use std::alloc::{AllocError, Global};

@@ -1,3 +1,5 @@
+pub mod LinkLists
+pub mod HopLinks
 pub mod ListedLemmas
 pub mod VertexLemmas
 pub mod AddsLemmas

@@ -1,3 +1,4 @@
+pub mod Costs
 pub mod Listed
 pub mod Vertices
 pub mod Given

@@ -4,14 +4,17 @@
 
 mod addresses;
 mod area;
+mod cost;
 mod edges;
 mod end;
 mod ends;
 mod items;
+mod link_costs;
 mod listed;
 mod lookups;
 mod near;
 
+pub use crate::cost::link_cost;
 pub use crate::edges::edges_of;
 pub use crate::end::End;
 pub use crate::ends::{ends_at, ends_of};

@@ -1,3 +1,4 @@
+mod Routes
 pub mod Written
 pub mod Listed
 pub mod Cut

@@ -1,3 +1,4 @@
+pub mod Shown
 pub mod Status
 pub mod Streams
 pub mod Files

@@ -8,7 +8,7 @@ use Rattle.ospf_iface.specs.Machine.{is_changed}
 use Rattle.ospf_adjacency.specs.Elections.{ElectsOn, adjusted}
 use Rattle.ospf_adjacency.specs.Packets.{Parcel}
 use Rattle.ospf_adjacency.proofs.ElectionLemmas.{length-adjusted}
-use Rattle.ospf_hello.proofs.StayLemmas.{adjusted_rises}
+use Rattle.ospf_adjacency.proofs.StayLemmas.{adjusted_rises}
 use Rattle.std.proofs.Common.{if◌then◌else◌, true, false}
 use Rattle.ospf_iface.specs.declared.machine.Iface.{Iface}
 use Rattle.ospf_neighbour.specs.Neighbour.{NeighbourValue}
@@ -16,12 +16,12 @@ use Rattle.ospf_neighbour.specs.Neighbours.{AreNeighbours, IsRising, neighbour_o
 use Rattle.ospf_packet.specs.declared.body.Hello.{Hello}
 use Rattle.ospf_exchange.specs.declared.rule.Local.{Local}
 use Rattle.ospf_adjacency.specs.Posting.{OutboxValue}
-use Rattle.ospf_hello.specs.Heard.{AreAfter, Neighbourhood, neighbourhood, hello_on, hello_turn, turn_of, sender_of, place_for, put}
-use Rattle.ospf_hello.specs.Links.{timed, is_inactive}
-use Rattle.ospf_hello.proofs.GoLemmas.{bool_cases, heard_router}
-use Rattle.ospf_hello.proofs.HelloLemmas.{place_within}
-use Rattle.ospf_hello.proofs.PutLemmas.{not_found, put_found, put_new}
-use Rattle.ospf_hello.proofs.StayLemmas.{put_rises, timed_rises}
+use Rattle.ospf_adjacency.specs.Heard.{AreAfter, Neighbourhood, neighbourhood, hello_on, hello_turn, turn_of, sender_of, place_for, put}
+use Rattle.ospf_adjacency.specs.Links.{timed, is_inactive}
+use Rattle.ospf_adjacency.proofs.GoLemmas.{bool_cases, heard_router}
+use Rattle.ospf_adjacency.proofs.HelloLemmas.{place_within}
+use Rattle.ospf_adjacency.proofs.PutLemmas.{not_found, put_found, put_new}
+use Rattle.ospf_adjacency.proofs.StayLemmas.{put_rises, timed_rises}
 use Rattle.ospf_area.specs.State.{LinkValue}
 use Rattle.ospf_links.specs.Parts.{Becomes, hello_comes}
 

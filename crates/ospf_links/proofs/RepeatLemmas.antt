@@ -7,7 +7,7 @@ use Rattle.ospf_neighbour.specs.Neighbours.{AreNeighbours}
 use Rattle.ospf_neighbour.proofs.NeighbourLemmas.{AreNeighbours-same, routers}
 use Rattle.ospf_area.specs.declared.sending.Own.{Own}
 use Rattle.ospf_area.specs.declared.state.LinkSettings.{LinkSettings}
-use Rattle.ospf_resend.proofs.QuietLemmas.{repeats_are_quiet}
+use Rattle.ospf_adjacency.proofs.QuietLemmas.{repeats_are_quiet}
 use Rattle.ospf_links.specs.Parts.{local_by}
 use Rattle.ospf_links.specs.Repeats.{repeated}
 

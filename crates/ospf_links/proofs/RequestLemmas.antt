@@ -10,11 +10,11 @@ use Rattle.ospf_exchange.specs.declared.rule.Local.{Local}
 use Rattle.ospf_adjacency.specs.Descriptions.{IsAfter, Turn, turn}
 use Rattle.ospf_adjacency.specs.Posting.{OutboxValue}
 use Rattle.ospf_adjacency.proofs.TurnLemmas.{turn_is}
-use Rattle.ospf_hello.proofs.HelloLemmas.{are_after}
-use Rattle.ospf_hello.specs.Heard.{AreAfter, Neighbourhood, neighbourhood, place_for, put_back, turn_of}
-use Rattle.ospf_hello.proofs.StayLemmas.{put_rises}
-use Rattle.ospf_resend.specs.Answers.{answer_turn}
-use Rattle.ospf_resend.proofs.QuietLemmas.{answers_are_quiet}
+use Rattle.ospf_adjacency.proofs.HelloLemmas.{are_after}
+use Rattle.ospf_adjacency.specs.Heard.{AreAfter, Neighbourhood, neighbourhood, place_for, put_back, turn_of}
+use Rattle.ospf_adjacency.proofs.StayLemmas.{put_rises}
+use Rattle.ospf_adjacency.specs.Answers.{answer_turn}
+use Rattle.ospf_adjacency.proofs.QuietLemmas.{answers_are_quiet}
 use Rattle.ospf_links.specs.Parts.{request_by, request_on}
 use Rattle.ospf_links.proofs.NeighbourLemmas.{few_by}
 use Rattle.ospf_links.proofs.WorkLemmas.{is_found, is_put, named_by}

@@ -12,17 +12,17 @@ use Rattle.ospf_adjacency.specs.Descriptions.{IsAfter, Turn, turn, description_t
 use Rattle.ospf_adjacency.specs.Posting.{OutboxValue}
 use Rattle.ospf_adjacency.proofs.SameLemmas.{description_keeps_router}
 use Rattle.ospf_adjacency.proofs.TurnLemmas.{turn_is}
-use Rattle.ospf_hello.specs.Heard.{AreAfter, Neighbourhood, neighbourhood, turn_of, put_back, elects_by_change, place_for, put}
+use Rattle.ospf_adjacency.specs.Heard.{AreAfter, Neighbourhood, neighbourhood, turn_of, put_back, elects_by_change, place_for, put}
 use Rattle.std.proofs.Common.{Option, inl, inr}
 use Rattle.std.proofs.lemmas.Option.{slice_get_past, slice_get_read}
 use Rattle.std.proofs.Common.{get_or}
 use Rattle.std.proofs.Common.{nat_lt, is_some, suc, true}
 use Rattle.std.proofs.lemmas.Bool.Decides.{leb_tells}
 use Rattle.std.proofs.lemmas.Bool.Decides.{eqb_tells}
-use Rattle.ospf_hello.proofs.HelloLemmas.{are_after}
-use Rattle.ospf_hello.proofs.StayLemmas.{put_rises}
+use Rattle.ospf_adjacency.proofs.HelloLemmas.{are_after}
+use Rattle.ospf_adjacency.proofs.StayLemmas.{put_rises}
 use Rattle.ospf_links.proofs.NeighbourLemmas.{few_by}
-use Rattle.ospf_hello.proofs.PutLemmas.{found, not_found, put_found}
+use Rattle.ospf_adjacency.proofs.PutLemmas.{found, not_found, put_found}
 use Rattle.ospf_area.specs.Outputs.{OutputsValue, SentValue}
 use Rattle.ospf_area.specs.Sending.{and_sends}
 use Rattle.ospf_area.specs.State.{LinkValue}

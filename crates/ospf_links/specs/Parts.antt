@@ -19,10 +19,10 @@ use Rattle.ospf_area.specs.declared.sending.Own.{Own}
 use Rattle.ospf_area.specs.declared.state.LinkSettings.{LinkSettings}
 use Rattle.ospf_adjacency.specs.Descriptions.{description_turn}
 use Rattle.ospf_adjacency.specs.Packets.{Parcel, parcel_if}
-use Rattle.ospf_hello.specs.Heard.{Neighbourhood, elects_by_change, hello_on, put_back, turn_of}
+use Rattle.ospf_adjacency.specs.Heard.{Neighbourhood, elects_by_change, hello_on, put_back, turn_of}
 use Rattle.ospf_iface.specs.Machine.{is_down}
-use Rattle.ospf_hello.specs.Links.{down, elects_by_timers, hello_parcel, hello_ticked, is_hello_due, timed, up, wait_ticked}
-use Rattle.ospf_resend.specs.Answers.{answer_turn, answered_keys}
+use Rattle.ospf_adjacency.specs.Links.{down, elects_by_timers, hello_parcel, hello_ticked, is_hello_due, timed, up, wait_ticked}
+use Rattle.ospf_adjacency.specs.Answers.{answer_turn, answered_keys}
 use Rattle.ospf_adjacency.specs.Posting.{OutboxValue, and_parcels, posted_all}
 
 -- what a part needs to know of the router and of a link

@@ -12,7 +12,7 @@ use Rattle.ospf_area.specs.Places.{flat_from}
 use Rattle.ospf_area.specs.State.{LinkValue}
 use Rattle.ospf_area.specs.declared.sending.Own.{Own}
 use Rattle.ospf_area.specs.declared.state.LinkSettings.{LinkSettings}
-use Rattle.ospf_resend.specs.Repeats.{due_keys, repeats_turn}
+use Rattle.ospf_adjacency.specs.Repeats.{due_keys, repeats_turn}
 use Rattle.ospf_links.specs.Parts.{local_by}
 use Rattle.ospf_adjacency.specs.Posting.{posted_all}
 

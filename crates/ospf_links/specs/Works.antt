@@ -3,8 +3,8 @@ use Rattle.std.specs.Prelude.{ℕ, List, [], Option, None, Some, set, slice_get}
 use Rattle.ospf_area.specs.Outputs.{SentValue}
 use Rattle.ospf_area.specs.State.{AreaValue, LinkValue}
 use Rattle.ospf_area.specs.declared.sending.Own.{Own}
-use Rattle.ospf_hello.specs.Heard.{Neighbourhood}
-use Rattle.ospf_hello.specs.Links.{up}
+use Rattle.ospf_adjacency.specs.Heard.{Neighbourhood}
+use Rattle.ospf_adjacency.specs.Links.{up}
 use Rattle.ospf_links.specs.Parts.{up_parcels, with_neighbourhood}
 use Rattle.ospf_adjacency.specs.Posting.{posted_all}
 

@@ -2,14 +2,14 @@
 
 ghost use Rattle.std.specs.Prelude.{◌≡◌, OnOk, slice_get};
 ghost use Rattle.ospf_area.specs.Sending.{and_sends, own_of};
-ghost use Rattle.ospf_hello.specs.Links.{up};
+ghost use Rattle.ospf_adjacency.specs.Links.{up};
 ghost use Rattle.ospf_links.specs.Parts.{link_down, link_up, up_parcels};
 ghost use Rattle.ospf_adjacency.specs.Posting.{posted_all};
 ghost use Rattle.ospf_links.specs.Works.{changed, up_out_on};
 
 use crate::link::{open, take_out};
 use ospf_area::{Area, Link, Outputs, Own, own_of};
-use ospf_hello::{go_down, go_up, send_hello};
+use ospf_adjacency::{go_down, go_up, send_hello};
 use std::alloc::{AllocError, Global};
 
 // A link goes up; where it was down its first Hello goes out.

@@ -4,7 +4,7 @@ ghost use Rattle.std.specs.Prelude.{◌≡◌, ◌<◌, None, Some, OnOk, length
 ghost use Rattle.ospf_neighbour.specs.Neighbours.{neighbour_of};
 ghost use Rattle.ospf_area.specs.Sending.{and_sends, own_of};
 ghost use Rattle.ospf_area.specs.State.{LinkValue};
-ghost use Rattle.ospf_hello.specs.Heard.{names};
+ghost use Rattle.ospf_adjacency.specs.Heard.{names};
 ghost use Rattle.ospf_links.specs.Parts.{Becomes, hello_comes, hello_part, with_neighbourhood};
 ghost use Rattle.ospf_adjacency.specs.Posting.{posted_all};
 ghost use Rattle.ospf_links.specs.Works.{work_sent, worked};
@@ -14,7 +14,7 @@ use ospf_adjacency::Outbox;
 use ospf_area::{Area, Link, Origin, Outputs, Own, own_of};
 use ospf_base::{Addr, RouterId};
 use ospf_exchange::Local;
-use ospf_hello::{hello_on, is_named};
+use ospf_adjacency::{hello_on, is_named};
 use ospf_packet::{Hello, Neighbours};
 use std::alloc::{AllocError, Global};
 

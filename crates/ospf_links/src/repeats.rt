@@ -12,7 +12,7 @@ use ospf_base::LsaKey;
 use ospf_iface::Iface;
 use ospf_lsdb::Lsdb;
 use ospf_neighbour::Neighbour;
-use ospf_resend::repeat;
+use ospf_adjacency::repeat;
 use std::alloc::{AllocError, Global};
 use std::collections::BTreeSet;
 

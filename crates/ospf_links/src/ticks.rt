@@ -3,12 +3,12 @@
 ghost use Rattle.std.specs.Prelude.{◌≡◌, ◌||◌, OnOk, map};
 ghost use Rattle.ospf_area.specs.Places.{flat_from};
 ghost use Rattle.ospf_area.specs.Sending.{and_sends};
-ghost use Rattle.ospf_hello.specs.Links.{elects_by_timers, timed, wait_ticked};
+ghost use Rattle.ospf_adjacency.specs.Links.{elects_by_timers, timed, wait_ticked};
 ghost use Rattle.ospf_links.specs.Parts.{hello_out, hello_sent, link_timed};
 
 use crate::link::{open, put_back, take_out};
 use ospf_area::{Link, Outputs, Own};
-use ospf_hello::{send_due_hello, tick_timers};
+use ospf_adjacency::{send_due_hello, tick_timers};
 use ospf_neighbour::Neighbour;
 use std::alloc::{AllocError, Global};
 

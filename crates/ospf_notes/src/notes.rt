@@ -3,7 +3,7 @@
 
 use crate::line::Line;
 use crate::others::{Described, Others};
-use ospf_capture::{CaptureFault, Moment, write_datagram, write_header};
+use ospf_records::{CaptureFault, Moment, write_datagram, write_header};
 use ospf_files::NamedFile;
 use ospf_neighbour::NeighbourState;
 use ospf_run::{Config, Router, Sent, Tap};

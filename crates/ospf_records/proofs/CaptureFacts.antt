@@ -10,10 +10,10 @@ use Rattle.std.proofs.lemmas.List.Concat.{flat_map-append}
 use Rattle.std.proofs.lemmas.List.FromFn.{get_or-enumerate_from, length-enumerate_from}
 use Rattle.ospf_base.specs.Constants.{ip_header}
 use Rattle.ospf_base.specs.declared.ids.Addr.{Addr}
-use Rattle.ospf_capture.specs.Datagram.{captured}
-use Rattle.ospf_capture.specs.Ip.{largest_ip_packet}
-use Rattle.ospf_capture.specs.Pcap.{Captured}
-use Rattle.ospf_capture.specs.declared.moment.Moment.{Moment}
+use Rattle.ospf_records.specs.Datagram.{captured}
+use Rattle.ospf_records.specs.Ip.{largest_ip_packet}
+use Rattle.ospf_records.specs.Pcap.{Captured}
+use Rattle.ospf_records.specs.declared.moment.Moment.{Moment}
 use Rattle.ospf_headline.specs.declared.logs.Datagram.{Datagram}
 use Rattle.ospf_records.specs.Captures.{captured_at, captured_of, is_tick_of, microsecond_of, numbered, second_of, seconds, within_second}
 use Rattle.ospf_records.specs.Counts.{IsCounted, capped, count_in}

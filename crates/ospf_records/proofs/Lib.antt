@@ -1,3 +1,7 @@
+pub mod Ones
+pub mod Names
+pub mod Reading
+pub mod Recorded
 mod CountFacts
 mod CaptureFacts
 mod DrawingFacts

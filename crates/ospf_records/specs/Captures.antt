@@ -2,8 +2,8 @@
 use Rattle.std.specs.Prelude.{◌==◌, ◌+◌, ℕ, Bool, List, [], ◌∷◌, flat_map, length, map, nat_le, nat_lt, take, count_by, take_while, if◌then◌else◌}
 use Rattle.std.specs.List.{enumerate_from}
 use Rattle.ospf_base.specs.Constants.{ip_header}
-use Rattle.ospf_capture.specs.Ip.{ip_packet, largest_ip_packet}
-use Rattle.ospf_capture.specs.Pcap.{Captured, capture_bytes}
+use Rattle.ospf_records.specs.Ip.{ip_packet, largest_ip_packet}
+use Rattle.ospf_records.specs.Pcap.{Captured, capture_bytes}
 use Rattle.ospf_headline.specs.declared.logs.Datagram.{Datagram}
 use Rattle.ospf_world.specs.declared.ticks.Ticked.{Ticked}
 use Rattle.ospf_records.specs.Counts.{capped}

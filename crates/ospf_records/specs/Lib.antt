@@ -1,3 +1,10 @@
+pub mod Graph
+pub mod GraphLaws
+pub mod Ip
+pub mod Pcap
+pub mod Datagram
+pub mod CaptureLaws
+pub mod Text
 pub mod Counts
 pub mod Captures
 pub mod Stamps

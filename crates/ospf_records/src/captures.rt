@@ -1,12 +1,14 @@
 //! Captures of what was sent.
 
 ghost use Rattle.std.specs.Prelude.{◌≡◌, ◌++◌, IfOk, List, OnOk};
-ghost use Rattle.ospf_capture.specs.Pcap.{Captured, capture_bytes};
+ghost use Rattle.ospf_records.specs.Pcap.{Captured, capture_bytes};
 ghost use Rattle.ospf_records.specs.Captures.{capture_of, captured_at};
 
 use crate::counts::{count, count_one};
+use crate::fault::CaptureFault;
+use crate::moment::Moment;
 use crate::stamps::{moment_of, read_ticks};
-use ospf_capture::{CaptureFault, Moment, write_datagram, write_header};
+use crate::write::{write_datagram, write_header};
 use ospf_headline::Datagram;
 use ospf_world::{Ticked, World};
 use std::alloc::{AllocError, Global};

@@ -5,7 +5,7 @@ ghost use Rattle.ospf_records.specs.Captures.{within_second};
 ghost use Rattle.ospf_records.specs.Stamps.{IsRead, IsReadTo};
 
 use crate::counts::count_one;
-use ospf_capture::Moment;
+use crate::moment::Moment;
 use ospf_world::Ticked;
 use std::alloc::AllocError;
 use std::collections::BTreeMap;

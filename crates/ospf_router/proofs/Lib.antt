@@ -1,3 +1,8 @@
+pub mod ListLemmas
+mod SameListings
+mod TableLemmas
+pub mod KeepLemmas
+mod ServedLemmas
 mod ListingFacts
 mod StartLemmas
 mod SettledLemmas

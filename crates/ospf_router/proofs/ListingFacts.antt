@@ -4,8 +4,8 @@ use Rattle.std.specs.Prelude.{IfSome}
 use Rattle.ospf_area.specs.State.{AreaValue}
 use Rattle.ospf_base.specs.Sums.{contents}
 use Rattle.ospf_edges.specs.Listed.{advertisements_of}
-use Rattle.ospf_routes.proofs.ListLemmas.{same_told}
-use Rattle.ospf_routes.specs.Routes.{RoutesValue}
+use Rattle.ospf_router.proofs.ListLemmas.{same_told}
+use Rattle.ospf_router.specs.Routes.{RoutesValue}
 use Rattle.ospf_router.specs.Routers.{IsRouter, listing_of}
 
 -- it has the LSAs that the router lists

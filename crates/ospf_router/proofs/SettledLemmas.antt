@@ -8,10 +8,10 @@ use Rattle.ospf_laws.proofs.KeptChains.{step_keeps}
 use Rattle.ospf_laws.specs.Step.{Event}
 use Rattle.ospf_lsdb.specs.Counts.{fresh_count}
 use Rattle.ospf_lsdb.specs.Database.{IsDatabase}
-use Rattle.ospf_receipt.specs.declared.dropped.Dropped.{Dropped}
-use Rattle.ospf_routes.proofs.KeepLemmas.{still_lists, still_routes}
-use Rattle.ospf_routes.specs.Listings.{ListsAs}
-use Rattle.ospf_routes.specs.Routes.{AreRoutes}
+use Rattle.ospf_step.specs.declared.dropped.Dropped.{Dropped}
+use Rattle.ospf_router.proofs.KeepLemmas.{still_lists, still_routes}
+use Rattle.ospf_router.specs.Listings.{ListsAs}
+use Rattle.ospf_router.specs.Routes.{AreRoutes}
 use Rattle.ospf_step.specs.Drops.{is_dropped}
 use Rattle.ospf_step.specs.Same.{IsSameRouter}
 use Rattle.ospf_router.specs.Routers.{HasRoutes}

@@ -15,8 +15,8 @@ use Rattle.ospf_lsdb.specs.Database.{IsDatabase, entry_of, listed}
 use Rattle.ospf_originate.specs.Laws.{StartsSound}
 use Rattle.ospf_originate.specs.Sound.{AreApart, AreSetUp, IsSetUp, IsSound}
 use Rattle.ospf_router.specs.Routers.{HasRoutes}
-use Rattle.ospf_routes.specs.Listings.{ListsAs}
-use Rattle.ospf_routes.specs.Routes.{RoutesValue}
+use Rattle.ospf_router.specs.Listings.{ListsAs}
+use Rattle.ospf_router.specs.Routes.{RoutesValue}
 use Rattle.ospf_base.specs.Sums.{contents}
 use Rattle.std.proofs.Math.Seq.{take-suc}
 use Rattle.ospf_adjacency.specs.Elections.{AreOfLink}

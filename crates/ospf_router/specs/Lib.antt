@@ -1,3 +1,6 @@
+pub mod Kept
+pub mod Listings
+pub mod Routes
 pub mod Routers
 pub mod Starts
 pub mod Steps

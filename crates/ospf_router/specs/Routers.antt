@@ -8,8 +8,8 @@ use Rattle.ospf_graph.specs.declared.route.Route.{Route}
 use Rattle.ospf_laws.specs.Words.{IsSoundState}
 use Rattle.ospf_lsdb.specs.Database.{listed}
 use Rattle.ospf_neighbour.specs.Neighbour.{NeighbourValue}
-use Rattle.ospf_routes.specs.Listings.{ListsAs}
-use Rattle.ospf_routes.specs.Routes.{AreRoutes, RoutesValue}
+use Rattle.ospf_router.specs.Listings.{ListsAs}
+use Rattle.ospf_router.specs.Routes.{AreRoutes, RoutesValue}
 use Rattle.ospf_step.specs.Fit.{IsFit}
 
 -- a router: how many links it has, the floor of its start, its routing table, and its part of the area; one that has stopped

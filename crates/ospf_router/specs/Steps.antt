@@ -4,7 +4,7 @@ use Rattle.ospf_area.specs.Outputs.{OutputsValue}
 use Rattle.ospf_area.specs.State.{AreaValue}
 use Rattle.ospf_laws.specs.Accounts.{Accounts}
 use Rattle.ospf_laws.specs.Step.{Event, StepLaws, heard_in}
-use Rattle.ospf_receipt.specs.declared.dropped.Dropped.{Dropped}
+use Rattle.ospf_step.specs.declared.dropped.Dropped.{Dropped}
 use Rattle.ospf_step.specs.Steps.{StepsArea}
 use Rattle.ospf_router.specs.Routers.{HasRoutes, RouterValue}
 use Rattle.ospf_router.specs.declared.router.Step.{Step}

@@ -2,11 +2,14 @@
 #![tactic(auto)]
 
 mod fault;
+mod grown;
+mod listed;
 mod router;
+mod routes;
 mod start;
 
 pub use crate::fault::{StartFault, Stopped};
 pub use crate::router::{Router, Step};
+pub use crate::routes::KeptRoutes;
 pub use ospf_area::{Outputs, Sent};
-pub use ospf_receipt::Dropped;
-pub use ospf_step::Event;
+pub use ospf_step::{Dropped, Event};

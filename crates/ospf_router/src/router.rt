@@ -6,7 +6,7 @@ ghost use Rattle.ospf_edges.specs.Listed.{advertisements_of};
 ghost use Rattle.ospf_flood.specs.Rules.{max_sequence_number};
 ghost use Rattle.ospf_lsdb.specs.Counts.{fresh_count};
 ghost use Rattle.ospf_lsdb.specs.Database.{IsDatabase};
-ghost use Rattle.ospf_routes.specs.Listings.{ListsAs};
+ghost use Rattle.ospf_router.specs.Listings.{ListsAs};
 ghost use Rattle.ospf_step.specs.Same.{IsSameRouter};
 ghost use Rattle.ospf_step.specs.Drops.{dropped_by};
 ghost use Rattle.ospf_step.specs.Events.{happening};
@@ -16,6 +16,7 @@ ghost use Rattle.ospf_router.specs.Starts.{IsStarted};
 ghost use Rattle.ospf_router.specs.Steps.{IsLawful, Steps};
 
 use crate::fault::{StartFault, Stopped};
+use crate::routes::KeptRoutes;
 use crate::start::area_of;
 use ospf_area::{Area, Outputs};
 use ospf_base::{Instance, RouterId};
@@ -24,10 +25,8 @@ use ospf_flood::MAX_SEQUENCE_NUMBER;
 use ospf_lsa::Listing;
 use ospf_neighbour::Neighbour;
 use ospf_originate::starts_sound;
-use ospf_receipt::Dropped;
-use ospf_routes::KeptRoutes;
 use ospf_spf::RouteTable;
-use ospf_step::{Event, Taken, step};
+use ospf_step::{Dropped, Event, Taken, step};
 use std::alloc::{AllocError, Global};
 use std::marker::Model;
 

@@ -12,7 +12,7 @@ use Rattle.ospf_files.specs.declared.status.Status.{Status}
 use Rattle.ospf_files.specs.declared.status.Status.TheVariants as status
 use Rattle.ospf_router.specs.Routers.{RouterValue, greatest_in}
 use Rattle.ospf_script.specs.Texts.{floor_text}
-use Rattle.ospf_shown.specs.Shown.{lookup_line, routes_text}
+use Rattle.ospf_files.specs.Shown.{lookup_line, routes_text}
 use Rattle.ospf_run.specs.declared.finish.Looked.{Looked}
 use Rattle.ospf_run.specs.declared.finish.Outcome.{Outcome}
 use Rattle.ospf_run.specs.declared.finish.Shown.{Shown}

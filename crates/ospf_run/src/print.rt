@@ -14,7 +14,7 @@ use ospf_drive::DriveFault;
 use ospf_files::{FailedStreams, Failure, NamedFile, Status};
 use ospf_router::Router;
 use ospf_script::FloorShown;
-use ospf_shown::{print_lookup, print_routes};
+use ospf_files::{print_lookup, print_routes};
 use std::alloc::{AllocError, Global};
 use std::io::Write;
 

@@ -12,7 +12,7 @@ use Rattle.ospf_router.specs.Routers.{RouterValue, greatest_in, listing_of, neig
 use Rattle.ospf_script.specs.Texts.{floor_text}
 use Rattle.ospf_script.specs.Views.{listed_text, routers_text}
 use Rattle.ospf_script.specs.Words.{Text}
-use Rattle.ospf_shown.specs.Shown.{routes_text}
+use Rattle.ospf_files.specs.Shown.{routes_text}
 use Rattle.ospf_world.specs.declared.walk.Walk.{Walk}
 use Rattle.ospf_sim.specs.declared.show.View.{View}
 use Rattle.ospf_sim.specs.declared.show.View.TheVariants as view

@@ -11,7 +11,7 @@ use ospf_lsa::Lsa;
 use ospf_neighbour::{Neighbour, NeighbourState};
 use ospf_router::Router;
 use ospf_script::{FloorShown, ListedShown, NeighbourShown, WalkShown};
-use ospf_shown::print_routes;
+use ospf_files::print_routes;
 use ospf_world::Walk;
 use std::alloc::{AllocError, Global};
 use std::io::Write;

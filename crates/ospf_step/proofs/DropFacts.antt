@@ -16,10 +16,10 @@ use Rattle.ospf_adjacency.specs.Adjacency.{is_broadcast, is_broadcast_kind}
 use Rattle.ospf_area.specs.Sending.{own_of}
 use Rattle.ospf_area.specs.State.{AreaValue, LinkValue}
 use Rattle.ospf_links.specs.Parts.{local_of}
-use Rattle.ospf_receipt.specs.Drops.{agrees, drop_by_body, drop_of_hello, drop_of_new, drop_of_packet, is_destination, is_elsewhere, is_foreign, sender_in}
-use Rattle.ospf_receipt.specs.Laws.{CanBeTaken, NotDroppedIsTaken}
-use Rattle.ospf_receipt.specs.declared.dropped.Dropped.{Dropped}
-use Rattle.ospf_receipt.specs.declared.dropped.Dropped.TheVariants as dropped
+use Rattle.ospf_step.specs.Receipt.{agrees, drop_by_body, drop_of_hello, drop_of_new, drop_of_packet, is_destination, is_elsewhere, is_foreign, sender_in}
+use Rattle.ospf_step.specs.Senders.{CanBeTaken, NotDroppedIsTaken}
+use Rattle.ospf_step.specs.declared.dropped.Dropped.{Dropped}
+use Rattle.ospf_step.specs.declared.dropped.Dropped.TheVariants as dropped
 use Rattle.ospf_iface.specs.Machine.{is_down}
 use Rattle.ospf_step.specs.Drops.{drop_on}
 use Rattle.ospf_step.specs.Fit.{IsFit, IsFitLink}

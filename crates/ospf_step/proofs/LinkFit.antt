@@ -15,12 +15,12 @@ use Rattle.ospf_adjacency.specs.Elections.{AreOfLink, adj_ok_for, adjusted, elec
 use Rattle.ospf_adjacency.specs.Packets.{Parcel}
 use Rattle.ospf_area.specs.State.{LinkValue}
 use Rattle.ospf_area.specs.declared.sending.Own.{Own}
-use Rattle.ospf_hello.specs.Laws.{ElectionsComeAbout, NeighboursStayOfLink}
-use Rattle.ospf_hello.specs.Links.{elects_by_timers, hello_ticked, inactivity_ticked, is_inactive, timed}
+use Rattle.ospf_adjacency.specs.HelloLaws.{ElectionsComeAbout, NeighboursStayOfLink}
+use Rattle.ospf_adjacency.specs.Links.{elects_by_timers, hello_ticked, inactivity_ticked, is_inactive, timed}
 use Rattle.ospf_links.specs.Elections.{AreReady, ElectsIf, ElectsOnLink}
 use Rattle.ospf_links.specs.Parts.{hello_sent, link_down, link_timed, link_up, local_by}
 use Rattle.ospf_links.specs.Repeats.{link_repeated, repeated}
-use Rattle.ospf_resend.specs.Laws.{RepeatsAreQuiet}
+use Rattle.ospf_adjacency.specs.ResendLaws.{RepeatsAreQuiet}
 use Rattle.ospf_update.specs.Acks.{undelayed_link}
 use Rattle.ospf_originate.specs.Sound.{IsSetUp}
 use Rattle.ospf_step.specs.Fit.{IsFitLink}

@@ -15,12 +15,12 @@ use Rattle.ospf_area.specs.declared.flooding.Origin.{Origin}
 use Rattle.ospf_area.specs.declared.sending.Own.{Own}
 use Rattle.ospf_adjacency.specs.Elections.{AreOfLink, elects_in}
 use Rattle.ospf_adjacency.specs.Laws.{DescriptionKeepsRouter}
-use Rattle.ospf_hello.specs.Heard.{Neighbourhood, elects_by_hello, elects_by_change, hello_turn, sender_of, turn_of}
-use Rattle.ospf_hello.proofs.GoLemmas.{heard_router}
-use Rattle.ospf_hello.specs.Laws.{ElectionsComeAbout, NeighboursStayOfLink}
+use Rattle.ospf_adjacency.specs.Heard.{Neighbourhood, elects_by_hello, elects_by_change, hello_turn, sender_of, turn_of}
+use Rattle.ospf_adjacency.proofs.GoLemmas.{heard_router}
+use Rattle.ospf_adjacency.specs.HelloLaws.{ElectionsComeAbout, NeighboursStayOfLink}
 use Rattle.ospf_links.specs.Parts.{description_part, description_by, hello_part, local_of, neighbourhood_of, request_by, request_part, with_neighbourhood}
-use Rattle.ospf_resend.specs.Answers.{answer_turn}
-use Rattle.ospf_resend.specs.Laws.{AnswersAreQuiet}
+use Rattle.ospf_adjacency.specs.Answers.{answer_turn}
+use Rattle.ospf_adjacency.specs.ResendLaws.{AnswersAreQuiet}
 use Rattle.ospf_adjacency.specs.Descriptions.{description_turn}
 use Rattle.ospf_originate.specs.Sound.{IsSetUp}
 use Rattle.ospf_step.specs.Fit.{IsFitLink}

@@ -5,7 +5,7 @@ use Rattle.std.proofs.lemmas.Option.{same_Some, none-some}
 use Rattle.ospf_base.specs.declared.ids.RouterId.{RouterId}
 use Rattle.ospf_neighbour.specs.Neighbour.{NeighbourValue}
 use Rattle.ospf_neighbour.specs.Neighbours.{IsRising, neighbour_of}
-use Rattle.ospf_hello.specs.Heard.{put}
+use Rattle.ospf_adjacency.specs.Heard.{put}
 use Rattle.ospf_step.proofs.FitLemmas.{AllIds, ids}
 
 -- a test that tells whether two numbers are one

@@ -4,10 +4,10 @@ use Rattle.ospf_base.specs.declared.ids.LsaKey.{LsaKey}
 use Rattle.ospf_base.specs.declared.ids.RouterId.{RouterId}
 use Rattle.ospf_lsa.specs.declared.header.LsaHeader.{LsaHeader}
 use Rattle.ospf_lsdb.specs.Database.{IsDatabase}
-use Rattle.ospf_hello.specs.Heard.{Neighbourhood, names}
-use Rattle.ospf_hello.specs.Laws.{ElectionsComeAbout, NeighboursStayOfLink}
+use Rattle.ospf_adjacency.specs.Heard.{Neighbourhood, names}
+use Rattle.ospf_adjacency.specs.HelloLaws.{ElectionsComeAbout, NeighboursStayOfLink}
 use Rattle.ospf_adjacency.specs.Laws.{DescriptionKeepsRouter}
-use Rattle.ospf_resend.specs.Laws.{AnswersAreQuiet, RepeatsAreQuiet}
+use Rattle.ospf_adjacency.specs.ResendLaws.{AnswersAreQuiet, RepeatsAreQuiet}
 use Rattle.ospf_area.specs.Outputs.{OutputsValue, SentValue}
 use Rattle.ospf_area.specs.Sending.{own_of}
 use Rattle.ospf_area.specs.State.{AreaValue, LinkValue}
@@ -26,7 +26,7 @@ use Rattle.ospf_originate.specs.Laws.{AreaStaysSound, OwnStaySound}
 use Rattle.ospf_originate.specs.Sound.{IsSetUp, IsSound}
 use Rattle.ospf_originate.specs.Steps.{OwnLsas}
 use Rattle.ospf_step.specs.Fit.{IsFit, IsFitLink}
-use Rattle.ospf_bridges.specs.Ticks.{acknowledged_area, helloed_area, timed_area}
+use Rattle.ospf_step.specs.TickChains.{acknowledged_area, helloed_area, timed_area}
 use Rattle.ospf_step.specs.Takes.{TakesBody, TakesTick, repeated}
 use Rattle.ospf_step.proofs.AreaFit.{age_for, headers_for, own_for, removes_for, update_for}
 use Rattle.ospf_step.proofs.FitLemmas.{AllFit, IsFor}

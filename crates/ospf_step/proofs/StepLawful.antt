@@ -10,11 +10,11 @@ use Rattle.ospf_packet.specs.PacketOf.{packet_of}
 use Rattle.ospf_area.specs.Outputs.{AreRead, OutputsValue, no_outputs}
 use Rattle.ospf_area.specs.Sending.{and_sends}
 use Rattle.ospf_area.specs.State.{AreaValue}
-use Rattle.ospf_hello.specs.Heard.{names}
-use Rattle.ospf_hello.specs.Laws.{ElectionsComeAbout, NeighboursStayOfLink}
+use Rattle.ospf_adjacency.specs.Heard.{names}
+use Rattle.ospf_adjacency.specs.HelloLaws.{ElectionsComeAbout, NeighboursStayOfLink}
 use Rattle.ospf_originate.specs.Laws.{AreaStaysSound}
-use Rattle.ospf_resend.specs.Laws.{RepeatsAreQuiet}
-use Rattle.ospf_receipt.specs.declared.dropped.Dropped.{Dropped}
+use Rattle.ospf_adjacency.specs.ResendLaws.{RepeatsAreQuiet}
+use Rattle.ospf_step.specs.declared.dropped.Dropped.{Dropped}
 use Rattle.ospf_laws.specs.Accounts.{Accounts}
 use Rattle.ospf_laws.specs.Puts.{PutsOut}
 use Rattle.ospf_laws.specs.Step.{Chain, Event, Part, StepLaws, first_parts, heard_in, last_parts}
@@ -22,15 +22,15 @@ use Rattle.ospf_laws.specs.Step.Event.{Datagram, Tick, LinkUp, LinkDown}
 use Rattle.ospf_laws.specs.Words.{IsSoundState}
 use Rattle.ospf_laws.proofs.Chains.{step_from_chain}
 use Rattle.ospf_laws.proofs.StepAccounts.{StepLaws-accounts, StepLaws-sound}
-use Rattle.ospf_bridges.specs.Invariants.{AreRising}
-use Rattle.ospf_bridges.proofs.EventChains.{acknowledgment_chain, description_chain, down_chain, hello_chain, request_chain, up_chain, update_chain}
-use Rattle.ospf_bridges.proofs.LastParts.{ends_put}
-use Rattle.ospf_bridges.proofs.TickChain.{tick_puts}
+use Rattle.ospf_step.specs.Invariants.{AreRising}
+use Rattle.ospf_step.proofs.EventChains.{acknowledgment_chain, description_chain, down_chain, hello_chain, request_chain, up_chain, update_chain}
+use Rattle.ospf_step.proofs.LastParts.{ends_put}
+use Rattle.ospf_step.proofs.TickChain.{tick_puts}
 use Rattle.ospf_step.specs.Drops.{is_dropped}
 use Rattle.ospf_step.specs.Fit.{IsFit, IsFitLink}
 use Rattle.ospf_step.specs.Ready.{IsReadyFor, IsSenderReady}
 use Rattle.ospf_step.specs.Steps.{StepsArea, Takes}
-use Rattle.ospf_bridges.specs.Ticks.{acknowledged_area, helloed_area, timed_area}
+use Rattle.ospf_step.specs.TickChains.{acknowledged_area, helloed_area, timed_area}
 use Rattle.ospf_step.specs.Takes.{TakesBody, TakesDatagram, TakesEvent, TakesTick, origin_of}
 use Rattle.ospf_step.specs.declared.steps.Taken.{Taken}
 use Rattle.ospf_step.proofs.SetLemmas.{all_at}

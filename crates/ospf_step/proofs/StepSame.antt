@@ -3,7 +3,7 @@ use Rattle.std.proofs.Common.{◌≡◌, ℕ, zero, suc, List, Option, None, Som
 use Rattle.std.proofs.lemmas.List.{length-map, length-set}
 use Rattle.ospf_base.specs.declared.ids.Addr.{Addr}
 use Rattle.ospf_base.specs.declared.ids.LsaKey.{LsaKey}
-use Rattle.ospf_hello.specs.Heard.{Neighbourhood, names}
+use Rattle.ospf_adjacency.specs.Heard.{Neighbourhood, names}
 use Rattle.ospf_area.specs.Outputs.{OutputsValue, no_outputs}
 use Rattle.ospf_area.specs.Sending.{own_of}
 use Rattle.ospf_area.specs.State.{AreaValue, LinkValue}
@@ -19,7 +19,7 @@ use Rattle.ospf_packet.specs.PacketOf.{packet_of}
 use Rattle.ospf_update.specs.Acks.{undelayed_link}
 use Rattle.ospf_step.specs.Ends.{Ends}
 use Rattle.ospf_step.specs.Same.{IsSameRouter}
-use Rattle.ospf_receipt.specs.declared.dropped.Dropped.{Dropped}
+use Rattle.ospf_step.specs.declared.dropped.Dropped.{Dropped}
 use Rattle.ospf_step.specs.Drops.{dropped_by}
 use Rattle.ospf_step.specs.Steps.{StepsArea, Takes}
 use Rattle.ospf_step.specs.declared.steps.Taken.{Taken}

@@ -8,9 +8,9 @@ use Rattle.ospf_laws.specs.Step.Event.{Datagram, Tick, LinkUp, LinkDown}
 use Rattle.ospf_links.specs.Parts.{local_of}
 use Rattle.ospf_packet.specs.Meaning.{Meaning}
 use Rattle.ospf_packet.specs.PacketOf.{packet_of}
-use Rattle.ospf_receipt.specs.Drops.{drop_of}
-use Rattle.ospf_receipt.specs.declared.dropped.Dropped.{Dropped}
-use Rattle.ospf_receipt.specs.declared.dropped.Dropped.TheVariants as dropped
+use Rattle.ospf_step.specs.Receipt.{drop_of}
+use Rattle.ospf_step.specs.declared.dropped.Dropped.{Dropped}
+use Rattle.ospf_step.specs.declared.dropped.Dropped.TheVariants as dropped
 
 -- why a datagram that comes on a link is dropped, if it is; on one that is not there it is read by nobody
 abbrev pub drop_on : Option LinkValue → AreaValue → Addr → Addr → Option Meaning → Option Dropped

@@ -1,3 +1,9 @@
+pub mod Invariants
+pub mod TickChains
+pub mod Chains
+pub mod Receipt
+pub mod Text
+pub mod Senders
 pub mod Events
 pub mod Drops
 pub mod Takes

@@ -2,7 +2,7 @@
 use Rattle.std.specs.Prelude.{⊤, ◌≡◌, ◌<◌, ℕ, true, Option, Some, None, length, slice_get}
 use Rattle.ospf_area.specs.State.{AreaValue, LinkValue}
 use Rattle.ospf_area.specs.declared.flooding.Origin.{Origin}
-use Rattle.ospf_bridges.specs.Invariants.{NoneWaitsBelow}
+use Rattle.ospf_step.specs.Invariants.{NoneWaitsBelow}
 use Rattle.ospf_laws.specs.Step.{Event}
 use Rattle.ospf_laws.specs.Step.Event.{Datagram, Tick, LinkUp, LinkDown}
 use Rattle.ospf_lsdb.specs.Database.{IsDatabase}

@@ -5,8 +5,8 @@ use Rattle.ospf_area.specs.Outputs.{OutputsValue, SentValue}
 use Rattle.ospf_area.specs.Sending.{and_sends, own_of}
 use Rattle.ospf_area.specs.State.{AreaValue}
 use Rattle.ospf_area.specs.declared.flooding.Origin.{Origin}
-use Rattle.ospf_bridges.specs.Ticks.{acknowledged_area, acknowledgements_out, helloed_area, hellos_out, timed_area}
-use Rattle.ospf_hello.specs.Heard.{names}
+use Rattle.ospf_step.specs.TickChains.{acknowledged_area, acknowledgements_out, helloed_area, hellos_out, timed_area}
+use Rattle.ospf_adjacency.specs.Heard.{names}
 use Rattle.ospf_laws.specs.Puts.{headers_met}
 use Rattle.ospf_laws.specs.Step.{Event}
 use Rattle.ospf_laws.specs.Step.Event.{Datagram, Tick, LinkUp, LinkDown}

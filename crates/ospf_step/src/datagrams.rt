@@ -11,16 +11,18 @@ ghost use Rattle.ospf_step.specs.Fit.{IsFit};
 ghost use Rattle.ospf_step.specs.Ready.{CanTake, IsSenderReady};
 ghost use Rattle.ospf_step.specs.Takes.{TakesBody, TakesDatagram};
 
-use ospf_adjacency::description_keeps_router;
+use crate::dropped::Dropped;
+use crate::drops::receive;
+use crate::outputs_laws::{database_is_one, none_waits_below};
+use crate::senders::not_dropped_is_taken;
+use ospf_adjacency::{
+    answers_are_quiet, description_keeps_router, elections_come_about, neighbours_stay_of_link,
+};
 use ospf_area::{Area, Origin, Outputs, own_of};
 use ospf_base::Addr;
-use ospf_bridges::{database_is_one, none_waits_below};
-use ospf_hello::{elections_come_about, neighbours_stay_of_link};
 use ospf_links::{local_of, take_description, take_hello, take_request};
 use ospf_originate::area_stays_sound;
 use ospf_packet::{Body, Headers, Packet};
-use ospf_receipt::{Dropped, not_dropped_is_taken, receive};
-use ospf_resend::answers_are_quiet;
 use ospf_update::{on_header, on_update};
 use std::alloc::{AllocError, Global};
 

@@ -8,9 +8,9 @@ ghost use Rattle.ospf_step.specs.Ends.{Ends};
 ghost use Rattle.ospf_step.specs.Fit.{IsFit};
 ghost use Rattle.ospf_update.specs.Removal.{Removes};
 
+use crate::outputs_laws::database_is_one;
+use ospf_adjacency::neighbours_stay_of_link;
 use ospf_area::{Area, Outputs};
-use ospf_bridges::database_is_one;
-use ospf_hello::neighbours_stay_of_link;
 use ospf_links::elect;
 use ospf_originate::{area_stays_sound, own_lsas, own_stay_sound};
 use ospf_update::remove;

@@ -6,10 +6,30 @@
 #![tactic(auto)]
 
 mod datagrams;
+mod dropped;
+mod drops;
+mod end_laws;
 mod ends;
 mod event;
+mod event_laws;
+mod link_laws;
+mod outputs_laws;
+mod senders;
 mod steps;
+mod tick_laws;
 mod ticks;
 
+pub use crate::dropped::Dropped;
+pub use crate::drops::receive;
+pub use crate::end_laws::{elections_put_out, ends_are_chains, own_lsas_put_out};
 pub use crate::event::Event;
+pub use crate::event_laws::{datagrams_are_chains, link_changes_are_chains};
+pub use crate::link_laws::{
+    descriptions_put_out, hellos_put_out, links_down_put_out, links_up_put_out, requests_put_out,
+};
+pub use crate::outputs_laws::{database_is_one, none_waits_below};
+pub use crate::senders::{not_dropped_is_taken, senders_are_neighbours};
 pub use crate::steps::{Taken, step};
+pub use crate::tick_laws::{
+    due_hellos_put_out, outputs_before_are_read, repeats_put_out, ticks_are_chains, timers_put_out,
+};

@@ -17,15 +17,14 @@ ghost use Rattle.ospf_step.specs.Steps.{StepsArea, Takes};
 ghost use Rattle.ospf_step.specs.Takes.{Becomes, TakesEvent};
 
 use crate::datagrams::take_datagram;
+use crate::dropped::Dropped;
 use crate::ends::end;
 use crate::event::Event;
 use crate::ticks::take_tick;
+use ospf_adjacency::{elections_come_about, neighbours_stay_of_link, repeats_are_quiet};
 use ospf_area::{Area, Outputs};
-use ospf_hello::{elections_come_about, neighbours_stay_of_link};
 use ospf_links::{take_down, take_up};
 use ospf_originate::area_stays_sound;
-use ospf_receipt::Dropped;
-use ospf_resend::repeats_are_quiet;
 use std::alloc::{AllocError, Global};
 
 /// What a step gives: what it puts out, and why its datagram is dropped, if it is.

@@ -3,14 +3,13 @@
 ghost use Rattle.std.specs.Prelude.{◌≡◌, OnOk};
 ghost use Rattle.ospf_area.specs.Sending.{and_sends};
 ghost use Rattle.ospf_step.specs.Fit.{IsFit};
-ghost use Rattle.ospf_bridges.specs.Ticks.{acknowledged_area, acknowledgements_out, helloed_area, hellos_out, timed_area};
+ghost use Rattle.ospf_step.specs.TickChains.{acknowledged_area, acknowledgements_out, helloed_area, hellos_out, timed_area};
 ghost use Rattle.ospf_step.specs.Takes.{TakesTick, repeated, repeats_out};
 
+use ospf_adjacency::{elections_come_about, neighbours_stay_of_link, repeats_are_quiet};
 use ospf_area::{Area, Outputs, own_of};
-use ospf_hello::{elections_come_about, neighbours_stay_of_link};
 use ospf_links::{count_timers, repeat_all, send_hellos};
 use ospf_originate::area_stays_sound;
-use ospf_resend::repeats_are_quiet;
 use ospf_update::{age, send_delayed};
 use std::alloc::{AllocError, Global};
 

@@ -6,7 +6,7 @@ use Rattle.ospf_graph.specs.declared.hop.NextHop.{NextHop}
 use Rattle.ospf_published.specs.Known.{Table, opening}
 use Rattle.ospf_fib.specs.declared.answer.Answer.{Answer}
 use Rattle.ospf_fib.specs.Answers.{IsAnswer, IsAnswerOfLast}
-use Rattle.ospf_shown.specs.Shown.{lookup_line}
+use Rattle.ospf_files.specs.Shown.{lookup_line}
 use Rattle.ospf_table.specs.Output.{IsLookupLine}
 
 -- a list of two tables ends with the second

@@ -8,7 +8,7 @@ use Rattle.ospf_graph.specs.Routes.{IsTable}
 use Rattle.ospf_graph.specs.declared.route.Route.{Route}
 use Rattle.ospf_spf.specs.Listed.{advertisements_of}
 use Rattle.ospf_table.specs.Line.{Reads}
-use Rattle.ospf_shown.specs.Shown.{routes_text}
+use Rattle.ospf_files.specs.Shown.{routes_text}
 use Rattle.ospf_files.proofs.Written.{both_written, front_begun, kept_written, nothing_written, rest_begun, whole_begun}
 use Rattle.ospf_files.specs.Streams.{IsBegun}
 use Rattle.ospf_table.specs.Cut.{AreLookupsBegun, IsOutputBegun, IsWarned}

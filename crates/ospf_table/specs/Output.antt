@@ -8,7 +8,8 @@ use Rattle.ospf_graph.specs.Routes.{IsTable}
 use Rattle.ospf_graph.specs.Walk.{IsBest}
 use Rattle.ospf_graph.specs.declared.hop.NextHop.{NextHop}
 use Rattle.ospf_graph.specs.declared.route.Route.{Route}
-use Rattle.ospf_shown.specs.Shown.{found_text, no_route_line, routes_text}
+use Rattle.ospf_fib.specs.Found.{found_text}
+use Rattle.ospf_files.specs.Shown.{no_route_line, routes_text}
 use Rattle.ospf_spf.specs.Listed.{advertisements_of}
 use Rattle.ospf_table.specs.Line.{Reads}
 use Rattle.ospf_base.specs.declared.ids.Kind.TheVariants.{Router}

@@ -11,7 +11,7 @@ ghost use Rattle.ospf_table.specs.Output.{AreLookups};
 use ospf_base::Addr;
 use ospf_fib::{Answer, Closed, Fib, OpenRefused, Seat, Writer};
 use ospf_files::{FailedStreams, Failure};
-use ospf_shown::print_lookup;
+use ospf_files::print_lookup;
 use ospf_spf::RouteTable;
 use std::alloc::Global;
 use std::io::Write;

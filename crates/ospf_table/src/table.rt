@@ -20,7 +20,7 @@ use ospf_base::{Addr, Kind, LsaKey, MAX_AGE, RouterId};
 use ospf_fib::{Seat, Writer};
 use ospf_files::{FailedStreams, Failure, Status};
 use ospf_lsa::{Listing, ListingFault, LsaFault};
-use ospf_shown::print_routes;
+use ospf_files::print_routes;
 use ospf_spf::RouteTable;
 use std::alloc::{AllocError, Global};
 use std::io::{self, BufRead, Write};

@@ -1,3 +1,4 @@
+pub mod OfferLists
 pub mod PlaceFacts
 pub mod TickFacts
 mod WorldFacts

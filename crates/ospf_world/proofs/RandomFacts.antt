@@ -3,8 +3,8 @@ use Rattle.std.proofs.Common.{◌≡◌, ◌<◌, ◌≤◌, ◌+◌, ◌-◌, �
 use Rattle.std.specs.Prelude.{option_and_then}
 use Rattle.std.proofs.lemmas.List.{length-map}
 use Rattle.std.proofs.lemmas.Option.{slice_get-get_or}
-use Rattle.ospf_chance.specs.Draws.{chosen_of, drawn, drawn_for, drawn_in, drawn_past, words_from}
-use Rattle.ospf_chance.specs.declared.chance.Words.{Words}
+use Rattle.ospf_world.specs.Draws.{chosen_of, drawn, drawn_for, drawn_in, drawn_past, words_from}
+use Rattle.ospf_world.specs.declared.chance.Words.{Words}
 use Rattle.ospf_config.specs.declared.config.Config.{Config}
 use Rattle.ospf_headline.specs.declared.logs.Datagram.{Datagram}
 use Rattle.ospf_headline.specs.Runs.{is_memory}

@@ -1,3 +1,5 @@
+pub mod Offers
+pub mod Draws
 pub mod Ticks
 pub mod Sounds
 pub mod Worlds

@@ -1,6 +1,6 @@
 -- What chance does to a world.
 use Rattle.std.specs.Prelude.{◌≡◌, ℕ, zero, suc, true, false, Option, None, Some, Result, Ok, Err}
-use Rattle.ospf_chance.specs.Draws.{drawn, words_from}
+use Rattle.ospf_world.specs.Draws.{drawn, words_from}
 use Rattle.ospf_headline.specs.declared.event.WorldEvent.{WorldEvent}
 use Rattle.ospf_headline.specs.declared.event.WorldFault.{WorldFault}
 use Rattle.ospf_headline.specs.Runs.{is_memory}

@@ -1,7 +1,7 @@
 -- Rounds: a tick of each router that runs, and then the datagrams that no round has offered.
 use Rattle.std.specs.Prelude.{◌≡◌, ◌==◌, ◌+◌, ◌&&◌, ℕ, zero, suc, Bool, true, false, not, List, [], ◌∷◌, Option, None, Some, Result, Ok, Err, find, is_some, option_and_then, slice_get, if◌then◌else◌}
 use Rattle.std.specs.List.{flat_map}
-use Rattle.ospf_chance.specs.Offers.{address_at, offers_to}
+use Rattle.ospf_world.specs.Offers.{address_at, offers_to}
 use Rattle.ospf_config.specs.declared.address.InterfaceAddress.{InterfaceAddress}
 use Rattle.ospf_headline.specs.Runs.{IsRun}
 use Rattle.ospf_headline.specs.declared.event.WorldEvent.{WorldEvent}

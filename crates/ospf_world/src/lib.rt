@@ -2,6 +2,8 @@
 //! held, and the ticks that they took.
 #![tactic(auto)]
 
+mod chance;
+mod offers;
 mod parts;
 mod random;
 mod rounds;
@@ -9,6 +11,8 @@ mod ticks;
 mod walk;
 mod world;
 
+pub use crate::chance::{Words, chosen, draw, drawn_at};
+pub use crate::offers::{push_offers, sending_address};
 pub use crate::ticks::Ticked;
 pub use crate::walk::Walk;
 pub use crate::world::World;

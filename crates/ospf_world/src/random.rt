@@ -1,7 +1,7 @@
 //! What chance does to a world.
 
 ghost use Rattle.std.specs.Prelude.{◌≡◌, ℕ, OnOk, Some};
-ghost use Rattle.ospf_chance.specs.Draws.{drawn, drawn_past};
+ghost use Rattle.ospf_world.specs.Draws.{drawn, drawn_past};
 ghost use Rattle.ospf_headline.specs.Headline.{Headline, IsReached};
 ghost use Rattle.ospf_router.specs.Steps.{is_dropped};
 ghost use Rattle.ospf_world.specs.Random.{IsRandom, Meets};
@@ -11,8 +11,8 @@ ghost use Rattle.ospf_world.specs.Worlds.{SameSettings, world_of};
 ghost use Rattle.rand_pcg.specs.Lcg.{increment_of, started};
 ghost use Rattle.rand_pcg.specs.Pcg.{multiplier_64};
 
+use crate::chance::{Words, chosen, draw, drawn_at};
 use crate::world::{World, is_memory};
-use ospf_chance::{Words, chosen, draw, drawn_at};
 use ospf_headline::{WorldEvent, WorldFault, headline, soundness};
 use rand_pcg::Lcg64Xsh32;
 use std::alloc::Global;

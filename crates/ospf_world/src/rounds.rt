@@ -9,8 +9,8 @@ ghost use Rattle.ospf_world.specs.Sounds.{IsSoundBetween};
 ghost use Rattle.ospf_world.specs.Ticks.{TicksOn};
 ghost use Rattle.ospf_world.specs.Worlds.{world_of};
 
+use crate::offers::{push_offers, sending_address};
 use crate::world::World;
-use ospf_chance::{push_offers, sending_address};
 use ospf_config::InterfaceAddress;
 use ospf_headline::{Datagram, WorldEvent, WorldFault, headline, runs_lead_on, soundness};
 use ospf_slots::Slot;

@@ -15,7 +15,7 @@ ghost use Rattle.ospf_world.specs.Worlds.{world_of};
 
 use crate::world::World;
 use ospf_base::{Addr, RouterId};
-use ospf_costs::link_cost;
+use ospf_edges::link_cost;
 use ospf_graph::{NextHop, Route};
 use ospf_headline::{WalkEnd, WorldFault, headline};
 use ospf_router::Router;

@@ -10,11 +10,11 @@ use Rattle.ospf_area.specs.declared.state.Numbering.{Numbering}
 use Rattle.ospf_base.specs.Keys.{same_key}
 use Rattle.ospf_base.specs.declared.ids.Instance.{Instance}
 use Rattle.ospf_base.specs.declared.ids.RouterId.{RouterId}
-use Rattle.ospf_bridges.proofs.EventChains.{up_chain}
-use Rattle.ospf_bridges.proofs.LastParts.{ends_put}
-use Rattle.ospf_bridges.proofs.TickChain.{tick_puts}
-use Rattle.ospf_bridges.specs.Invariants.{AreRising}
-use Rattle.ospf_hello.specs.Links.{hello_parcel, up}
+use Rattle.ospf_step.proofs.EventChains.{up_chain}
+use Rattle.ospf_step.proofs.LastParts.{ends_put}
+use Rattle.ospf_step.proofs.TickChain.{tick_puts}
+use Rattle.ospf_step.specs.Invariants.{AreRising}
+use Rattle.ospf_adjacency.specs.Links.{hello_parcel, up}
 use Rattle.ospf_laws.proofs.Chains.{step_from_chain}
 use Rattle.ospf_laws.proofs.StepAccounts.{StepLaws-accounts, StepLaws-sound}
 use Rattle.ospf_laws.specs.Step.{Event, StepLaws, last_parts}

@@ -12,7 +12,7 @@ use Rattle.ospf_headline.specs.World.{HasItsTable, Running, router_at, run_of}
 use Rattle.ospf_headline.specs.declared.logs.Datagram.{Datagram}
 use Rattle.ospf_headline.specs.declared.logs.Run.{Run}
 use Rattle.ospf_headline.specs.declared.event.WorldEvent.TheVariants.{Start, Tick, LinkUp}
-use Rattle.ospf_hello.specs.Links.{own_hello, up}
+use Rattle.ospf_adjacency.specs.Links.{own_hello, up}
 use Rattle.ospf_laws.specs.Step.{Event}
 use Rattle.ospf_links.specs.Parts.{link_up}
 use Rattle.ospf_lsdb.specs.Database.{entry_from, key_in}

@@ -3,8 +3,8 @@
 use ospf_base::RouterId;
 use ospf_neighbour::NeighbourState;
 use ospf_router::{Router, Step};
-use ospf_shown::write_routes;
 use std::alloc::Global;
+use std::io::Write;
 use std::test::Fail;
 
 #[derive(Drop, PartialEq, Debug)]
@@ -27,7 +27,9 @@ impl Answers {
             awaits: Vec::new(alloc),
             floor: router.floor(),
         };
-        write_routes(&mut answers.table, router.table().routes())?;
+        for route in router.table().routes() {
+            writeln!(answers.table, "{route}")?;
+        }
         let listing = router.listing(alloc)?;
         for lsa in listing.lsas() {
             answers.listing.extend_from_slice(lsa.view().as_bytes())?;

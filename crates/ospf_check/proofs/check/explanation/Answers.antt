@@ -2,7 +2,7 @@ use Rattle.std.proofs.Common.{rules, ◌≡◌, ◌∙◌, flat_map, inl, inr, a
 use Rattle.std.specs.Prelude.{IsUtf8}
 use Rattle.std.proofs.lemmas.Result.{IfOk-weaker}
 use Rattle.ospf_config.specs.Configs.{TextHasFault}
-use Rattle.ospf_explain.specs.Explained.{IsExplained}
+use Rattle.ospf_check.specs.Explained.{IsExplained}
 use Rattle.ospf_config.specs.Fault.{IsLeast}
 use Rattle.ospf_check.specs.Checked.{its_places, place_line}
 use Rattle.ospf_check.proofs.check.explanation.Goals as goal

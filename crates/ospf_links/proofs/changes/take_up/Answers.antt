@@ -3,7 +3,7 @@ use Rattle.std.proofs.lemmas.Result.{on_ok_weaker}
 use Rattle.ospf_area.specs.Sending.{and_sends, own_of}
 use Rattle.ospf_area.specs.State.{AreaValue, LinkValue}
 use Rattle.ospf_area.specs.declared.sending.Own.{Own}
-use Rattle.ospf_hello.specs.Links.{up}
+use Rattle.ospf_adjacency.specs.Links.{up}
 use Rattle.ospf_links.specs.Parts.{up_parcels}
 use Rattle.ospf_adjacency.specs.Posting.{posted_all}
 use Rattle.ospf_links.specs.Works.{up_out_on}

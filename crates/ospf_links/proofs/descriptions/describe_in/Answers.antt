@@ -2,8 +2,8 @@ use Rattle.std.proofs.Common.{◌≡◌, ◌∙◌, List, Option, None, Some, Is
 use Rattle.std.proofs.lemmas.Option.{get_or_from_slice_get}
 use Rattle.ospf_neighbour.specs.Neighbour.{NeighbourValue}
 use Rattle.ospf_neighbour.specs.Neighbours.{neighbour_of}
-use Rattle.ospf_hello.specs.Heard.{AreAfter, neighbourhood, place_for}
-use Rattle.ospf_hello.proofs.HelloLemmas.{are_still}
+use Rattle.ospf_adjacency.specs.Heard.{AreAfter, neighbourhood, place_for}
+use Rattle.ospf_adjacency.proofs.HelloLemmas.{are_still}
 use Rattle.ospf_adjacency.specs.Descriptions.{turn}
 use Rattle.ospf_links.specs.Parts.{description_by}
 use Rattle.ospf_links.proofs.WorkLemmas.{described_found, described_router, is_none}

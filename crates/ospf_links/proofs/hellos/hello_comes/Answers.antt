@@ -2,7 +2,7 @@ use Rattle.std.proofs.Common.{◌∙◌, ap, sym, subst, List, false}
 use Rattle.ospf_iface.specs.declared.machine.Iface.{Iface}
 use Rattle.ospf_neighbour.specs.Neighbour.{NeighbourValue}
 use Rattle.ospf_neighbour.specs.Neighbours.{AreNeighbours}
-use Rattle.ospf_hello.specs.Heard.{AreAfter, Neighbourhood, neighbourhood, hello_on}
+use Rattle.ospf_adjacency.specs.Heard.{AreAfter, Neighbourhood, neighbourhood, hello_on}
 use Rattle.ospf_links.proofs.NeighbourLemmas.{hello_stays, hello_becomes}
 use Rattle.ospf_links.proofs.hellos.hello_comes.Goals as goal
 use Rattle.ospf_links.proofs.hellos.hello_comes.Goals.{In_ok-elects}

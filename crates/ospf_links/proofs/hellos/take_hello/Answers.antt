@@ -2,7 +2,7 @@ use Rattle.std.proofs.Common.{ap, sym}
 use Rattle.ospf_links.specs.Parts.{hello_part}
 use Rattle.ospf_area.specs.Sending.{own_of}
 use Rattle.ospf_area.specs.State.{AreaValue}
-use Rattle.ospf_hello.specs.Heard.{names}
+use Rattle.ospf_adjacency.specs.Heard.{names}
 use Rattle.ospf_links.proofs.WorkLemmas.{work_unsent, is_past}
 use Rattle.ospf_links.proofs.hellos.take_hello.Goals as goal
 

@@ -2,8 +2,8 @@ use Rattle.std.proofs.Common.{◌≡◌, ◌∙◌, List, Option, None, Some, Is
 use Rattle.std.proofs.lemmas.Option.{get_or_from_slice_get}
 use Rattle.ospf_neighbour.specs.Neighbour.{NeighbourValue}
 use Rattle.ospf_neighbour.specs.Neighbours.{neighbour_of}
-use Rattle.ospf_hello.specs.Heard.{AreAfter, neighbourhood, place_for}
-use Rattle.ospf_hello.proofs.HelloLemmas.{are_still}
+use Rattle.ospf_adjacency.specs.Heard.{AreAfter, neighbourhood, place_for}
+use Rattle.ospf_adjacency.proofs.HelloLemmas.{are_still}
 use Rattle.ospf_links.specs.Parts.{answered_by, request_by}
 use Rattle.ospf_links.proofs.RequestLemmas.{requested_found}
 use Rattle.ospf_links.proofs.WorkLemmas.{is_found, is_none}

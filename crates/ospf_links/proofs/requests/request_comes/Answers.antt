@@ -1,6 +1,6 @@
 use Rattle.std.proofs.Common.{sym, subst, false}
 use Rattle.ospf_neighbour.specs.Neighbours.{AreNeighbours}
-use Rattle.ospf_hello.specs.Heard.{neighbourhood}
+use Rattle.ospf_adjacency.specs.Heard.{neighbourhood}
 use Rattle.ospf_links.proofs.RequestLemmas.{requested_stays}
 use Rattle.ospf_links.proofs.requests.request_comes.Goals as goal
 

@@ -1,5 +1,5 @@
 use Rattle.std.proofs.Common.{◌∙◌, ap, sym, subst}
-use Rattle.ospf_hello.specs.Links.{timed}
+use Rattle.ospf_adjacency.specs.Links.{timed}
 use Rattle.ospf_neighbour.specs.Neighbours.{AreNeighbours}
 use Rattle.ospf_neighbour.specs.Neighbour.{NeighbourValue}
 use Rattle.std.proofs.Common.{List}

@@ -1,6 +1,6 @@
 use Rattle.std.proofs.Common.{◌++◌, Err, List, ap, sym, ◌∙◌}
 use Rattle.std.proofs.lemmas.List.{append-nil}
-use Rattle.ospf_capture.specs.Pcap.{Captured, capture_bytes}
+use Rattle.ospf_records.specs.Pcap.{Captured, capture_bytes}
 use Rattle.ospf_records.proofs.CaptureFacts.{is_kept, is_left_out}
 use Rattle.ospf_records.proofs.captures.add_datagram.Goals as goal
 

@@ -1,5 +1,5 @@
 use Rattle.std.proofs.Common.{ap, sym, ◌∙◌, List, ◌++◌, flat_map, take, arith}
-use Rattle.ospf_capture.specs.Pcap.{Captured, capture_bytes}
+use Rattle.ospf_records.specs.Pcap.{Captured, capture_bytes}
 use Rattle.ospf_records.specs.Captures.{captured_at, captured_of, numbered}
 use Rattle.ospf_records.proofs.CaptureFacts.{all_taken, captured_more, microsecond_is, none_counted, read_on, second_is, stamped_more}
 use Rattle.ospf_records.proofs.captures.capture_of.Goals as goal

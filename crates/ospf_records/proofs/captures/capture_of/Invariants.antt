@@ -1,6 +1,6 @@
 use Rattle.std.proofs.Common.{◌≡◌, ◌==◌, ℕ, take, flat_map}
 use Rattle.std.specs.Prelude.{count_by}
-use Rattle.ospf_capture.specs.Pcap.{capture_bytes}
+use Rattle.ospf_records.specs.Pcap.{capture_bytes}
 use Rattle.ospf_records.specs.Captures.{captured_of, numbered, seconds}
 use Rattle.ospf_records.specs.Counts.{capped, count_in}
 use Rattle.ospf_records.specs.Stamps.{IsRead}

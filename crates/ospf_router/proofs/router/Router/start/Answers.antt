@@ -1,7 +1,7 @@
 use Rattle.std.proofs.Common.{◌≤◌, ◌∙◌, List, ap, length, subst, sym, arith}
 use Rattle.ospf_area.specs.State.{AreaValue}
 use Rattle.ospf_graph.specs.declared.route.Route.{Route}
-use Rattle.ospf_routes.specs.Routes.{RoutesValue}
+use Rattle.ospf_router.specs.Routes.{RoutesValue}
 use Rattle.ospf_router.specs.Routers.{HasRoutes}
 use Rattle.ospf_router.proofs.StartLemmas.{area_fit, area_sound, as_many, start_lists, start_routes}
 use Rattle.ospf_router.proofs.router.Router.start.Goals as goal

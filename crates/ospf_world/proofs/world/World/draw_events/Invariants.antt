@@ -1,5 +1,5 @@
 use Rattle.std.proofs.Common.{◌≡◌, ◌-◌}
-use Rattle.ospf_chance.specs.Draws.{drawn_past}
+use Rattle.ospf_world.specs.Draws.{drawn_past}
 use Rattle.ospf_world.proofs.RandomFacts.{Comes_to}
 use Rattle.ospf_world.specs.Ticks.{TicksOn}
 use Rattle.ospf_world.specs.Worlds.{SameSettings, world_of}

@@ -1,0 +1,48 @@
+-- Copies of the database that go to one neighbour, and Requests that they answer (RFC 2328, sections 10.7 and 13.6).
+use Rattle.std.specs.Prelude.{◌++◌, ℕ, List, [], ◌∷◌, Option, None, Some, filter, map, if◌then◌else◌}
+use Rattle.ospf_base.specs.declared.ids.LsaKey.{LsaKey}
+use Rattle.ospf_iface.specs.declared.machine.Iface.{Iface}
+use Rattle.ospf_lsdb.specs.Database.{Entry, Held, entry_of, instance_at, key_at}
+use Rattle.ospf_neighbour.specs.Lists.{resent}
+use Rattle.ospf_neighbour.specs.Neighbour.{NeighbourValue}
+use Rattle.ospf_neighbour.specs.declared.machine.NbrEvent.TheVariants.{BadLsReq}
+use Rattle.ospf_packet.specs.declared.entry.RequestEntry.{RequestEntry}
+use Rattle.ospf_exchange.specs.Requests.{all_held, is_asked}
+use Rattle.ospf_exchange.specs.declared.rule.Local.{Local}
+use Rattle.ospf_area.specs.Sending.{to_address}
+use Rattle.ospf_adjacency.specs.Descriptions.{Turn, event_turn}
+use Rattle.ospf_adjacency.specs.Packing.{updates_of}
+
+-- ---- copies to one neighbour
+
+-- a copy that goes to the neighbour counts as sent to it, where it is on its retransmission list (13.6)
+abbrev pub resent_copy : Option Entry → ℕ → NeighbourValue → NeighbourValue
+resent_copy None tick n = n
+resent_copy (Some e) tick n = resent (instance_at e) tick n
+
+abbrev pub resent_keys : List Held → ℕ → List LsaKey → NeighbourValue → NeighbourValue
+resent_keys db tick [] n = n
+resent_keys db tick (k ∷ ks) n = resent_keys db tick ks (resent_copy (entry_of db k) tick n)
+
+-- the copies of these keys go to the neighbour (10.7, 13.6)
+abbrev pub copies_turn : Iface → Local → ℕ → List Held → List LsaKey → Turn → Turn
+copies_turn i local delay db keys t = record {
+  neighbour = resent_keys db local.tick keys t.neighbour;
+  next = t.next;
+  sent = t.sent ++ updates_of (to_address i t.neighbour.address) local.mtu delay db keys;
+}
+
+-- ---- Requests
+
+-- the keys of the database that a Request asks for, in their order: each once
+abbrev pub asked_keys : List Held → List RequestEntry → List LsaKey
+asked_keys db es = filter (is_asked es) (map key_at db)
+
+-- those that are answered: none where the database has no copy of one (10.7)
+abbrev pub answered_keys : List Held → List RequestEntry → List LsaKey
+answered_keys db es = if all_held db es then asked_keys db es else []
+
+-- a Request is answered by the copies of the keys that it asks for, or is BadLSReq where the database has no copy of one
+-- (10.7)
+abbrev pub answer_turn : Iface → Local → ℕ → List Held → List RequestEntry → Turn → Turn
+answer_turn i local delay db es t = if all_held db es then copies_turn i local delay db (asked_keys db es) t else event_turn i local BadLsReq t

@@ -1,0 +1,136 @@
+-- Hellos that come, and what they make of a neighbour and of its link's election (RFC 2328, sections 9.2 and 10.5).
+use Rattle.std.specs.Prelude.{◌≡◌, ◌==◌, ◌&&◌, ◌||◌, not, nat_lt, ℕ, List, [], ◌∷◌, Bool, true, false, unwrap_or, suc, if◌then◌else◌}
+use Rattle.std.specs.List.{list_any}
+use Rattle.ospf_base.specs.Addresses.{nowhere}
+use Rattle.ospf_base.specs.declared.ids.Addr.{Addr}
+use Rattle.ospf_base.specs.declared.ids.RouterId.{RouterId}
+use Rattle.ospf_election.specs.Election.{differs}
+use Rattle.ospf_iface.specs.declared.machine.Iface.{Iface}
+use Rattle.ospf_iface.specs.declared.machine.IfaceState.{IfaceState}
+use Rattle.ospf_iface.specs.declared.machine.IfaceState.TheVariants as iface
+use Rattle.ospf_neighbour.specs.declared.machine.NbrEvent.{NbrEvent}
+use Rattle.ospf_neighbour.specs.declared.machine.NbrEvent.TheVariants.{HelloReceived, TwoWayReceived, OneWayReceived}
+use Rattle.ospf_neighbour.specs.Machine.{is_two_way}
+use Rattle.ospf_neighbour.specs.Neighbour.{NeighbourValue, new_neighbour}
+use Rattle.ospf_neighbour.specs.Neighbours.{neighbour_of}
+use Rattle.ospf_packet.specs.declared.body.Hello.{Hello}
+use Rattle.ospf_exchange.specs.declared.rule.Local.{Local}
+use Rattle.ospf_area.specs.Changes.{after_event}
+use Rattle.ospf_adjacency.specs.Adjacency.{is_broadcast, wants_adjacency}
+use Rattle.ospf_adjacency.specs.Descriptions.{Turn, event_turn}
+use Rattle.ospf_adjacency.specs.Packets.{Parcel}
+use Rattle.ospf_adjacency.specs.Posting.{OutboxValue, and_parcels}
+use Rattle.ospf_adjacency.specs.declared.heard.Bearing.{Bearing}
+
+-- a Hello names the router among the neighbours that were heard (10.5)
+abbrev pub names : List RouterId → RouterId → Bool
+names rs q = list_any (λ r. r.0 == q.0) rs
+
+-- ---- the neighbour
+
+-- on broadcast links what the Hello declares is stored (10.5)
+abbrev pub with_declared : Iface → Hello → NeighbourValue → NeighbourValue
+with_declared i h n = if is_broadcast i then record n { declared = record { priority = h.priority; dr = h.designated; backup = h.backup } } else n
+
+-- HelloReceived, and what the Hello declares (10.5)
+abbrev pub heard : Iface → Hello → NeighbourValue → NeighbourValue
+heard i h n = with_declared i h (after_event HelloReceived i.settings.dead n)
+
+-- 2-WayReceived where the Hello names the router, else 1-WayReceived (10.5)
+abbrev pub naming_event : Iface → Bool → NeighbourValue → NbrEvent
+naming_event i named n = if named then TwoWayReceived (wants_adjacency i n.address) else OneWayReceived
+
+-- a Hello of the neighbour, which names the router or does not (10.5)
+abbrev pub hello_turn : Iface → Local → Hello → Bool → Turn → Turn
+hello_turn i local h named t = event_turn i local (naming_event i named t.neighbour) (record t { neighbour = heard i h t.neighbour })
+
+-- ---- the election of the link
+
+-- what an election looks at in a neighbour: whether it is in 2-Way or above, its priority, whether it declares itself DR and Backup,
+-- and whether it declares that there is no Backup (9.2, 9.4)
+abbrev pub bearing_of : NeighbourValue → Bearing
+bearing_of n = record {
+  two_way = is_two_way n.state;
+  priority = n.declared.priority;
+  is_dr = (n.declared.dr.0 == n.address.0);
+  is_backup = (n.declared.backup.0 == n.address.0);
+  sees_none = (n.declared.backup.0 == nowhere.0);
+}
+
+-- the neighbour has come into 2-Way or above, or fallen below it; or its priority has changed, or it has begun or ceased to declare
+-- itself DR or Backup (9.2, NeighborChange)
+abbrev pub is_neighbor_change : Bearing → Bearing → Bool
+is_neighbor_change b c = differs b.two_way c.two_way || not (b.priority == c.priority) || differs b.is_dr c.is_dr || differs b.is_backup c.is_backup
+
+-- it is known whether there is a Backup: a neighbour in 2-Way or above declares itself Backup, or itself DR with no Backup
+-- (9.2, BackupSeen)
+abbrev pub is_backup_seen : Bearing → Bool
+is_backup_seen c = c.two_way && (c.is_backup || (c.is_dr && c.sees_none))
+
+-- the states in which NeighborChange elects (9.3)
+abbrev pub is_settled : IfaceState → Bool
+is_settled iface.DrOther = true
+is_settled iface.Backup = true
+is_settled iface.Dr = true
+is_settled _ = false
+
+abbrev pub is_waiting : IfaceState → Bool
+is_waiting iface.Waiting = true
+is_waiting _ = false
+
+-- an election is due by a Hello: BackupSeen in Waiting, NeighborChange in DROther, Backup and DR (9.3)
+abbrev pub elects_by_hello : IfaceState → NeighbourValue → NeighbourValue → Bool
+elects_by_hello s n m = (is_waiting s && is_backup_seen (bearing_of m)) || (is_settled s && is_neighbor_change (bearing_of n) (bearing_of m))
+
+-- and by a Database Description, which may be 2-WayReceived: NeighborChange (9.3)
+abbrev pub elects_by_change : IfaceState → NeighbourValue → NeighbourValue → Bool
+elects_by_change s n m = is_settled s && differs (is_two_way n.state) (is_two_way m.state)
+
+-- ---- the neighbours of the link
+
+-- where a neighbour of a Router ID stands, or is put in, among neighbours in rising Router ID
+abbrev pub place_for : List NeighbourValue → ℕ → ℕ
+place_for [] q = 0
+place_for (m ∷ ms) q = if nat_lt m.router.0 q then suc (place_for ms q) else 0
+
+-- the neighbours with one put in: in place of that of its Router ID, or between those of lower and those of higher Router ID
+abbrev pub put : NeighbourValue → List NeighbourValue → List NeighbourValue
+put n [] = n ∷ []
+put n (m ∷ ms) = if nat_lt m.router.0 n.router.0 then m ∷ put n ms else if m.router.0 == n.router.0 then n ∷ ms else n ∷ m ∷ ms
+
+-- the sender of a packet: a neighbour, or one that was not known before (10.5)
+abbrev pub sender_of : List NeighbourValue → RouterId → Addr → NeighbourValue
+sender_of ns q source = unwrap_or (neighbour_of ns q) (new_neighbour q source)
+
+-- the neighbours of a link in a part of a step, whether an election is due by it, the router's next DD number, and what goes out
+pub record Neighbourhood : Type 0 where
+  pub neighbours : List NeighbourValue
+  pub elects : Bool
+  pub next : ℕ
+  pub sent : List Parcel
+
+-- where nothing has gone out yet
+abbrev pub neighbourhood : List NeighbourValue → Bool → ℕ → Neighbourhood
+neighbourhood ns elects next = record { neighbours = ns; elects = elects; next = next; sent = [] }
+
+-- they are as such a part leaves them, and what goes out by it is behind what went out before
+pub record AreAfter (x : Neighbourhood) (ns : List NeighbourValue) (elects : Bool) (next : ℕ) (before after : OutboxValue) : Type 0 where
+  pub neighbours : ns ≡ x.neighbours
+  pub elects_is : elects ≡ x.elects
+  pub number : next ≡ x.next
+  pub sent : after ≡ and_parcels before x.sent
+
+-- one neighbour of them
+abbrev pub turn_of : NeighbourValue → Neighbourhood → Turn
+turn_of n x = record { neighbour = n; next = x.next; sent = x.sent }
+
+-- after its turn it is put back, and an election is due by it or not
+abbrev pub put_back : Bool → Turn → Neighbourhood → Neighbourhood
+put_back elects t x = record { neighbours = put t.neighbour x.neighbours; elects = x.elects || elects; next = t.next; sent = t.sent }
+
+-- a Hello of router q from this address: it makes its neighbour, or finds it (10.5)
+abbrev pub hello_by : Iface → Local → Hello → Bool → NeighbourValue → Neighbourhood → Neighbourhood
+hello_by i local h named n x = put_back (elects_by_hello i.state n (hello_turn i local h named (turn_of n x)).neighbour) (hello_turn i local h named (turn_of n x)) x
+
+abbrev pub hello_on : Iface → Local → RouterId → Addr → Hello → Bool → Neighbourhood → Neighbourhood
+hello_on i local q source h named x = hello_by i local h named (sender_of x.neighbours q source) x

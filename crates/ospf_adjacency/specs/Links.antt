@@ -1,0 +1,75 @@
+-- Links that go up and down, their timers, and the Hellos that they send (RFC 2328, sections 9.3, 9.5 and 10.3).
+use Rattle.std.specs.Prelude.{◌==◌, ◌&&◌, ◌||◌, ◌-◌, not, nat_le, List, Bool, map, filter, if◌then◌else◌}
+use Rattle.std.specs.List.{list_any}
+use Rattle.ospf_base.specs.Addresses.{all_spf_routers, nowhere}
+use Rattle.ospf_base.specs.Constants.{router_options}
+use Rattle.ospf_iface.specs.declared.machine.Iface.{Iface}
+use Rattle.ospf_iface.specs.Machine.{is_down, started, stopped}
+use Rattle.ospf_neighbour.specs.Machine.{is_two_way}
+use Rattle.ospf_neighbour.specs.Neighbour.{NeighbourValue}
+use Rattle.ospf_packet.specs.Meaning.{hello}
+use Rattle.ospf_packet.specs.declared.body.Hello.{Hello}
+use Rattle.ospf_adjacency.specs.Adjacency.{is_broadcast}
+use Rattle.ospf_adjacency.specs.Packets.{Parcel}
+use Rattle.ospf_adjacency.specs.Heard.{is_waiting, is_settled}
+
+-- ---- Hellos that go out
+
+-- the fields of the Hello that an interface sends: the DR and the Backup are 0.0.0.0 where the link has two ends (9.5)
+abbrev pub own_hello : Iface → Hello
+own_hello i = record {
+  mask = i.settings.mask;
+  hello_interval = i.settings.hello;
+  options = router_options;
+  priority = i.settings.priority;
+  dead_interval = i.settings.dead;
+  designated = (if is_broadcast i then i.dr else nowhere);
+  backup = (if is_broadcast i then i.backup else nowhere);
+}
+
+-- the Hello that a link sends to all: it names the link's neighbours (9.5)
+abbrev pub hello_parcel : Iface → List NeighbourValue → Parcel
+hello_parcel i ns = record { destination = all_spf_routers; body = hello (own_hello i) (map (λ n. n.router) ns) }
+
+-- a Hello is due: the link is up, and HelloInterval is over (9.5)
+abbrev pub is_hello_due : Iface → Bool
+is_hello_due i = not (is_down i.state) && nat_le i.hello_in 1
+
+-- the Hello timer, a tick later: it starts again, or runs on, or stands still where the link is down (9.5)
+abbrev pub hello_ticked : Iface → Iface
+hello_ticked i = if is_down i.state then i else record i { hello_in = (if nat_le i.hello_in 1 then i.settings.hello else i.hello_in - 1) }
+
+-- ---- up and down
+
+-- InterfaceUp, where the link is down (9.3)
+abbrev pub up : Iface → Iface
+up i = if is_down i.state then started i else i
+
+-- InterfaceDown (9.3)
+abbrev pub down : Iface → Iface
+down i = if is_down i.state then i else stopped i
+
+-- ---- timers
+
+-- no Hello came for RouterDeadInterval (10.2, InactivityTimer)
+abbrev pub is_inactive : NeighbourValue → Bool
+is_inactive n = n.inactivity == 1
+
+abbrev pub inactivity_ticked : NeighbourValue → NeighbourValue
+inactivity_ticked n = record n { inactivity = n.inactivity - 1 }
+
+-- the neighbours a tick later: the inactive ones are removed (10.3, InactivityTimer)
+abbrev pub timed : List NeighbourValue → List NeighbourValue
+timed ns = map inactivity_ticked (filter (λ n. not (is_inactive n)) ns)
+
+-- the wait timer, a tick later
+abbrev pub wait_ticked : Iface → Iface
+wait_ticked i = record i { wait = i.wait - 1 }
+
+-- the wait timer fires (9.2, WaitTimer)
+abbrev pub is_wait_over : Iface → Bool
+is_wait_over i = is_waiting i.state && (i.wait == 1)
+
+-- by the timers an election is due: the wait is over, or a neighbour in 2-Way or above is removed (9.3)
+abbrev pub elects_by_timers : Iface → List NeighbourValue → Bool
+elects_by_timers i ns = is_wait_over i || (is_settled i.state && list_any (λ n. is_inactive n && is_two_way n.state) ns)

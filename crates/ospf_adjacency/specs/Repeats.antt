@@ -1,0 +1,40 @@
+-- What is sent again to one neighbour (RFC 2328, sections 10.8, 10.9 and 13.6).
+use Rattle.std.specs.Prelude.{◌&&◌, ◌++◌, ◌∷◌, [], ℕ, Bool, List, filter, map, if◌then◌else◌}
+use Rattle.std.specs.List.{list_any}
+use Rattle.ospf_base.specs.Keys.{same_key}
+use Rattle.ospf_base.specs.declared.ids.LsaKey.{LsaKey}
+use Rattle.ospf_iface.specs.declared.machine.Iface.{Iface}
+use Rattle.ospf_lsdb.specs.Database.{Held, key_at}
+use Rattle.ospf_neighbour.specs.Neighbour.{NeighbourValue}
+use Rattle.ospf_exchange.specs.Requests.{asked_next}
+use Rattle.ospf_exchange.specs.Timers.{dd_due, request_repeat_due}
+use Rattle.ospf_exchange.specs.declared.rule.Local.{Local}
+use Rattle.ospf_flood.specs.Due.{is_due}
+use Rattle.ospf_adjacency.specs.Descriptions.{Turn, dd_turn, touched}
+use Rattle.ospf_adjacency.specs.Packets.{request_parcel}
+use Rattle.ospf_adjacency.specs.Answers.{copies_turn}
+
+-- the last DD packet, in ExStart and by the master in Exchange (10.8)
+abbrev pub dd_again : Iface → Local → ℕ → Turn → Turn
+dd_again i local retransmit t =
+    if dd_due retransmit local.tick t.neighbour then dd_turn i local (record t { neighbour = touched local.tick t.neighbour }) else t
+
+-- the last Request, filled afresh (10.9)
+abbrev pub request_again : Iface → Local → ℕ → Turn → Turn
+request_again i local retransmit t =
+    if request_repeat_due retransmit local.tick t.neighbour
+    then record t { neighbour = asked_next local.mtu local.tick t.neighbour; sent = t.sent ++ request_parcel i (asked_next local.mtu local.tick t.neighbour) ∷ [] }
+    else t
+
+-- an entry of the key is due on the neighbour's retransmission list (13.6)
+abbrev pub is_key_due : ℕ → ℕ → NeighbourValue → LsaKey → Bool
+is_key_due retransmit tick n key = list_any (λ l. is_due retransmit tick l && same_key l.instance.key key) n.retransmission
+
+-- the keys of the database of which an entry is due, in their order: each once
+abbrev pub due_keys : ℕ → ℕ → List Held → NeighbourValue → List LsaKey
+due_keys retransmit tick db n = filter (is_key_due retransmit tick n) (map key_at db)
+
+-- its DD packet, then its Request, then the copies of what is due on its retransmission list
+abbrev pub repeats_turn : Iface → Local → ℕ → ℕ → List Held → Turn → Turn
+repeats_turn i local retransmit delay db t =
+    copies_turn i local delay db (due_keys retransmit local.tick db t.neighbour) (request_again i local retransmit (dd_again i local retransmit t))

@@ -1,0 +1,219 @@
+//! Hellos that come.
+
+ghost use Rattle.std.specs.Prelude.{◌≡◌, ◌≢◌, ◌∷◌, ◌<◌, ◌||◌, ◌==◌, List, true, false, IsTrue, OnOk, IfOk, length, slice_set, slice_get, Some};
+ghost use Rattle.ospf_neighbour.specs.Neighbour.{NeighbourValue};
+ghost use Rattle.ospf_neighbour.specs.Neighbours.{IsRising};
+ghost use Rattle.ospf_adjacency.specs.Descriptions.{IsAfter, turn};
+ghost use Rattle.std.specs.Prelude.{if◌then◌else◌};
+ghost use Rattle.ospf_adjacency.specs.Adjacency.{wants_adjacency};
+ghost use Rattle.ospf_adjacency.specs.Heard.{AreAfter, names, with_declared, heard, naming_event, hello_turn, bearing_of, is_neighbor_change, is_backup_seen, is_settled, is_waiting, elects_by_hello, place_for, neighbourhood, hello_on};
+
+use crate::adjacency::{is_broadcast, take_event, wants_adjacency};
+use crate::outbox::Outbox;
+use ospf_base::{Addr, RouterId};
+use ospf_exchange::Local;
+use ospf_iface::{Iface, IfaceState};
+use ospf_neighbour::{Declared, NbrEvent, Neighbour};
+use ospf_packet::{Hello, Neighbours};
+use std::alloc::{AllocError, Global};
+
+/// Whether a Hello names a router among the neighbours that its sender has heard. No memory is taken.
+pub fn is_named(neighbours: Neighbours<'_>, router: RouterId) -> bool
+    ensures { result ≡ names neighbours.entry router }
+{
+    for named in neighbours {
+        if named.0 == router.0 {
+            return true;
+        }
+    }
+    false
+}
+
+// HelloReceived, and what the Hello declares.
+fn hear(neighbour: &mut Neighbour, iface: &Iface, hello: &Hello)
+    ensures { neighbour.new ≡ heard iface.now hello.now neighbour.old }
+{
+    let _ = neighbour.event(NbrEvent::HelloReceived, iface.settings.dead);
+    if is_broadcast(iface) {
+        neighbour.declare(Declared {
+            priority: hello.priority,
+            dr: hello.designated,
+            backup: hello.backup,
+        });
+    }
+}
+
+// 2-WayReceived, or 1-WayReceived.
+fn naming_event(iface: &Iface, named: bool, address: Addr) -> NbrEvent
+    ensures { result ≡ (if named then NbrEvent.TwoWayReceived (wants_adjacency iface.now address) else NbrEvent.OneWayReceived) }
+{
+    if named {
+        NbrEvent::TwoWayReceived(wants_adjacency(iface, address))
+    } else {
+        NbrEvent::OneWayReceived
+    }
+}
+
+// Takes a Hello of a neighbour.
+fn take_hello(
+    neighbour: &mut Neighbour,
+    hello: &Hello,
+    named: bool,
+    iface: &Iface,
+    local: Local,
+    numbers: &mut u32,
+    out: &mut Outbox,
+    alloc: Global,
+) -> Result<(), AllocError>
+    ensures { OnOk result (IsAfter (hello_turn iface.now local hello.now named (turn neighbour.old numbers.old)) neighbour.new numbers.new out.old out.new) }
+{
+    let event = naming_event(iface, named, neighbour.address());
+    hear(neighbour, iface, hello);
+    take_event(neighbour, event, iface, local, numbers, out, alloc)
+}
+
+// What an election looks at in a neighbour.
+#[derive(Clone, Copy)]
+pub(crate) struct Bearing {
+    two_way: bool,
+    priority: u8,
+    is_dr: bool,
+    is_backup: bool,
+    sees_none: bool,
+}
+
+fn bearing_of(neighbour: &Neighbour) -> Bearing
+    ensures { result ≡ bearing_of neighbour.now }
+{
+    let declared = neighbour.declared();
+    let address = neighbour.address();
+    Bearing {
+        two_way: neighbour.state().is_two_way(),
+        priority: declared.priority,
+        is_dr: declared.dr.0 == address.0,
+        is_backup: declared.backup.0 == address.0,
+        sees_none: declared.backup.0 == Addr::NOWHERE.0,
+    }
+}
+
+fn is_neighbor_change(before: Bearing, after: Bearing) -> bool
+    ensures { result ≡ is_neighbor_change before after }
+{
+    before.two_way != after.two_way
+        || before.priority != after.priority
+        || before.is_dr != after.is_dr
+        || before.is_backup != after.is_backup
+}
+
+fn is_backup_seen(after: Bearing) -> bool
+    ensures { result ≡ is_backup_seen after }
+{
+    after.two_way && (after.is_backup || (after.is_dr && after.sees_none))
+}
+
+/// Whether an election comes about by NeighborChange: in DR Other, Backup and DR (RFC 2328, section 9.3).
+pub fn is_settled(state: IfaceState) -> bool
+    ensures { result ≡ is_settled state }
+{
+    matches!(
+        state,
+        IfaceState::DrOther | IfaceState::Backup | IfaceState::Dr
+    )
+}
+
+// Whether an election comes about by BackupSeen and WaitTimer.
+pub(crate) fn is_waiting(state: IfaceState) -> bool
+    ensures { result ≡ is_waiting state }
+{
+    matches!(state, IfaceState::Waiting)
+}
+
+// Takes a Hello of a neighbour; whether an election is due by it.
+fn hello_of(
+    neighbour: &mut Neighbour,
+    hello: &Hello,
+    named: bool,
+    iface: &Iface,
+    local: Local,
+    numbers: &mut u32,
+    out: &mut Outbox,
+    alloc: Global,
+) -> Result<bool, AllocError>
+    ensures turn { OnOk result (IsAfter (hello_turn iface.now local hello.now named (turn neighbour.old numbers.old)) neighbour.new numbers.new out.old out.new) }
+    ensures elects { IfOk result (λ elects. elects ≡ elects_by_hello iface.now.state neighbour.old neighbour.new) }
+{
+    let before = bearing_of(neighbour);
+    take_hello(neighbour, hello, named, iface, local, numbers, out, alloc)?;
+    let after = bearing_of(neighbour);
+    Ok(
+        (is_waiting(iface.state) && is_backup_seen(after))
+            || (is_settled(iface.state) && is_neighbor_change(before, after)),
+    )
+}
+
+/// Where a neighbour of a Router ID stands, or is put in, among neighbours in rising Router ID.
+pub fn place_for(all: &[Neighbour], router: RouterId) -> usize
+    ensures { result ≡ place_for all.now router.0 }
+{
+    let mut at = 0;
+    for neighbour in all {
+        if neighbour.router().0 >= router.0 {
+            return at;
+        }
+        at += 1;
+    }
+    at
+}
+
+/// Whether the neighbour at a place has this Router ID.
+pub fn is_at(all: &[Neighbour], at: usize, router: RouterId) -> bool
+    ensures within { IsTrue result → at < length all.now }
+    ensures there { IsTrue result → (n : NeighbourValue) × (slice_get all.now at ≡ Some n) × (n.router ≡ router) }
+    ensures other { result ≡ false → (n : NeighbourValue) → slice_get all.now at ≡ Some n → n.router ≢ router }
+{
+    match all.get(at) {
+        Some(neighbour) => neighbour.router().0 == router.0,
+        None => false,
+    }
+}
+
+/// Takes a Hello that comes on a link (RFC 2328, section 10.5), from the router `sender` at the address `source`; `named` tells
+/// whether it names the router itself. The sender is found among the link's neighbours, or is a new one. Answers whether an
+/// election of the link is due by it.
+///
+/// `AllocError` where memory runs out.
+pub fn hello_on(
+    neighbours: &mut Vec<Neighbour>,
+    sender: RouterId,
+    source: Addr,
+    hello: &Hello,
+    named: bool,
+    iface: &Iface,
+    local: Local,
+    numbers: &mut u32,
+    out: &mut Outbox,
+    alloc: Global,
+) -> Result<bool, AllocError>
+    requires { IsRising neighbours.old.items }
+    ensures { IfOk result (λ elects. AreAfter (hello_on iface.now local sender source hello.now named (neighbourhood neighbours.old.items false numbers.old)) neighbours.new.items elects numbers.new out.old out.new) }
+{
+    let at = place_for(neighbours, sender);
+    if is_at(neighbours, at, sender) {
+        let neighbour = &mut neighbours[at];
+        let elects = hello_of(neighbour, hello, named, iface, local, numbers, out, alloc)?;
+        return Ok(elects);
+    }
+    let mut neighbour = Neighbour::new(alloc, sender, source);
+    let elects = hello_of(
+        &mut neighbour,
+        hello,
+        named,
+        iface,
+        local,
+        numbers,
+        out,
+        alloc,
+    )?;
+    neighbours.insert(at, neighbour)?;
+    Ok(elects)
+}

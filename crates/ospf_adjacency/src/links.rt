@@ -1,0 +1,97 @@
+//! Links that go up and down, and their timers.
+
+ghost use Rattle.std.specs.Prelude.{◌≡◌, ◌&&◌, [], true, false, map, filter, not};
+ghost use Rattle.std.specs.List.{list_any};
+ghost use Rattle.ospf_neighbour.specs.Machine.{is_two_way};
+ghost use Rattle.ospf_iface.specs.Machine.{is_down};
+ghost use Rattle.ospf_adjacency.specs.Links.{is_inactive, inactivity_ticked, timed, up, down, wait_ticked, is_wait_over, elects_by_timers};
+
+use crate::heard::{is_settled, is_waiting};
+use ospf_iface::{Iface, IfaceEvent};
+use ospf_neighbour::Neighbour;
+
+/// A link goes up (RFC 2328, section 9.3). Answers whether it was down: then a Hello goes out. No memory is taken.
+pub fn go_up(iface: &mut Iface) -> bool
+    ensures was_down { result ≡ is_down iface.old.state }
+    ensures up { iface.new ≡ up iface.old }
+{
+    if !iface.state.is_down() {
+        return false;
+    }
+    let _ = iface.event(IfaceEvent::InterfaceUp);
+    true
+}
+
+/// A link goes down: its neighbours get KillNbr (RFC 2328, section 9.3). Answers whether it was up. No memory is taken.
+pub fn go_down(iface: &mut Iface, neighbours: &mut Vec<Neighbour>) -> bool
+    ensures was_up { result ≡ not (is_down iface.old.state) }
+    ensures down { iface.new ≡ down iface.old }
+    ensures killed { is_down iface.old.state ≡ false → neighbours.new.items ≡ [] }
+    ensures same { is_down iface.old.state ≡ true → neighbours.new.items ≡ neighbours.old.items }
+{
+    if iface.state.is_down() {
+        return false;
+    }
+    let _ = iface.event(IfaceEvent::InterfaceDown);
+    neighbours.clear();
+    true
+}
+
+// Whether the inactivity timer of a neighbour fires at the next tick.
+fn is_inactive(neighbour: &Neighbour) -> bool
+    ensures { result ≡ is_inactive neighbour.now }
+{
+    neighbour.inactivity() == 1
+}
+
+// Whether a neighbour in 2-Way or above is removed at the next tick.
+fn is_lost(neighbour: &Neighbour) -> bool
+    ensures { result ≡ (is_inactive neighbour.now && is_two_way neighbour.now.state) }
+{
+    is_inactive(neighbour) && neighbour.state().is_two_way()
+}
+
+// Whether some neighbour in 2-Way or above is removed at the next tick.
+fn some_lost(neighbours: &[Neighbour]) -> bool
+    ensures { result ≡ list_any (λ n. is_inactive n && is_two_way n.state) neighbours.now }
+{
+    neighbours.iter().any(|n| is_lost(n))
+}
+
+// The inactivity timers count.
+fn count(neighbours: &mut [Neighbour])
+    ensures { neighbours.new ≡ map inactivity_ticked neighbours.old }
+{
+    for neighbour in neighbours.iter_mut() {
+        let _ = neighbour.inactivity_tick();
+    }
+}
+
+// The inactive neighbours are removed.
+fn remove_inactive(neighbours: &mut Vec<Neighbour>)
+    ensures { neighbours.new.items ≡ filter (λ n. not (is_inactive n)) neighbours.old.items }
+{
+    neighbours.retain(|n| !is_inactive(n));
+}
+
+/// A tick of the inactivity timers of a link's neighbours (RFC 2328, section 10.3): those whose timer fires are removed. No
+/// memory is taken.
+pub fn tick_neighbours(neighbours: &mut Vec<Neighbour>)
+    ensures { neighbours.new.items ≡ timed neighbours.old.items }
+{
+    remove_inactive(neighbours);
+    count(neighbours);
+}
+
+/// A tick of a link's timers (RFC 2328, sections 9.3 and 10.3). Answers whether an election is due by it. No memory is taken.
+pub fn tick_timers(iface: &mut Iface, neighbours: &mut Vec<Neighbour>) -> bool
+    ensures elects { result ≡ elects_by_timers iface.old neighbours.old.items }
+    ensures iface { iface.new ≡ wait_ticked iface.old }
+    ensures neighbours { neighbours.new.items ≡ timed neighbours.old.items }
+{
+    let state = iface.state;
+    let lost = some_lost(neighbours);
+    let over = iface.wait_tick();
+    tick_neighbours(neighbours);
+    (is_waiting(state) && over) || (is_settled(state) && lost)
+}

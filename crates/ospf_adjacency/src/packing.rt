@@ -1,0 +1,115 @@
+//! How copies of the database are packed into Updates.
+
+ghost use Rattle.std.specs.Prelude.{◌≡◌, ◌-◌, ◌||◌, nat_le, ◌∷◌, [], List, ℕ, map, IfOk, OnOk};
+ghost use Rattle.ospf_lsdb.specs.Database.{lsa_of};
+ghost use Rattle.ospf_area.specs.Sending.{sent_lsa};
+ghost use Rattle.ospf_adjacency.specs.Posting.{and_parcels};
+ghost use Rattle.ospf_adjacency.specs.Packing.{has_none, bytes_in, packed, update_to, update_room, updates_of};
+
+use crate::outbox::Outbox;
+use ospf_base::{Addr, IP_HEADER, LsaKey, PACKET_HEADER};
+use ospf_lsa::Lsa;
+use ospf_lsdb::{EntryView, Lsdb};
+use ospf_packet::BodyValue;
+use std::alloc::{AllocError, Global};
+use std::collections::BTreeSet;
+use std::mem;
+
+/// The bytes of the number of LSAs in an Update (RFC 2328, appendix A.3.5).
+const COUNT: usize = 4;
+
+/// The bytes in front of the LSAs of an Update.
+const HEAD: usize = IP_HEADER + PACKET_HEADER + COUNT;
+
+// How many bytes of LSAs an Update has room for.
+fn update_room(mtu: u16) -> usize
+    ensures { result ≡ update_room mtu }
+{
+    usize::from(mtu).saturating_sub(HEAD)
+}
+
+// A copy of an entry as it is sent.
+fn sent_copy(copy: &EntryView<'_>, delay: u16, alloc: Global) -> Result<Lsa, AllocError>
+    ensures { IfOk result (λ lsa. lsa ≡ sent_lsa delay (lsa_of copy.now)) }
+{
+    let Ok(mut lsa) = copy.copy(alloc) else {
+        return Err(AllocError);
+    };
+    lsa.set_age(copy.header().age.after(delay));
+    Ok(lsa)
+}
+
+// An Update with these LSAs goes out.
+fn send(
+    lsas: Vec<Lsa>,
+    destination: Addr,
+    out: &mut Outbox,
+    alloc: Global,
+) -> Result<(), AllocError>
+    ensures { OnOk result (out.new ≡ and_parcels out.old (update_to destination lsas.items ∷ [])) }
+{
+    out.put(destination, BodyValue::Update(lsas), alloc)
+}
+
+// Whether an LSA of so many bytes goes into an Update behind these.
+fn goes_in(batch: &[Lsa], length: usize, left: usize) -> bool
+    ensures { result ≡ has_none batch.now || nat_le length left }
+{
+    batch.is_empty() || length <= left
+}
+
+// One LSA more: it goes into the Update that is being packed, or that one goes out and a next one begins. `left` is the
+// room that is left in it.
+fn add(
+    lsa: Lsa,
+    batch: &mut Vec<Lsa>,
+    left: &mut usize,
+    room: usize,
+    destination: Addr,
+    out: &mut Outbox,
+    alloc: Global,
+) -> Result<(), AllocError>
+    requires { left.old ≡ room - bytes_in batch.old.items }
+    ensures left { OnOk result (left.new ≡ room - bytes_in batch.new.items) }
+    ensures sent { OnOk result ((rest : List (List ℕ)) → and_parcels out.new (map (update_to destination) (packed room batch.new.items rest)) ≡ and_parcels out.old (map (update_to destination) (packed room batch.old.items (lsa ∷ rest)))) }
+{
+    let length = lsa.view().as_bytes().len();
+    if !goes_in(batch, length, *left) {
+        let full = mem::replace(batch, Vec::new(alloc));
+        send(full, destination, out, alloc)?;
+        *left = room;
+    }
+    *left = left.saturating_sub(length);
+    batch.push(lsa)?;
+    Ok(())
+}
+
+/// The copies of these keys go out in Updates, as many in one as fit, in the order of the keys; a key without a copy is
+/// left out, and an LSA that does not fit has an Update of its own. `delay` is InfTransDelay, `mtu` the interface's.
+///
+/// `AllocError` where memory runs out.
+pub fn send_copies(
+    keys: &BTreeSet<LsaKey>,
+    database: &Lsdb,
+    delay: u16,
+    mtu: u16,
+    destination: Addr,
+    out: &mut Outbox,
+    alloc: Global,
+) -> Result<(), AllocError>
+    ensures { OnOk result (out.new ≡ and_parcels out.old (updates_of destination mtu delay database.now keys.now.keys)) }
+{
+    let room = update_room(mtu);
+    let mut batch = Vec::new(alloc);
+    let mut left = room;
+    for key in keys {
+        if let Some(copy) = database.get(key) {
+            let lsa = sent_copy(&copy, delay, alloc)?;
+            add(lsa, &mut batch, &mut left, room, destination, out, alloc)?;
+        }
+    }
+    if !batch.is_empty() {
+        send(batch, destination, out, alloc)?;
+    }
+    Ok(())
+}

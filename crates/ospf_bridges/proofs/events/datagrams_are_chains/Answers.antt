@@ -1,5 +1,0 @@
-use Rattle.ospf_bridges.proofs.EventChains.{hello_chain, description_chain, request_chain, update_chain, acknowledgment_chain}
-use Rattle.ospf_bridges.proofs.events.datagrams_are_chains.Goals as goal
-
-pub returns : goal.returns
-returns c = record { hello = hello_chain; description = description_chain; request = request_chain; update = update_chain; acknowledgment = acknowledgment_chain }

@@ -1,3 +1,0 @@
-pub mod Invariants
-pub mod Ticks
-pub mod Events

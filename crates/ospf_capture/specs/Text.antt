@@ -1,9 +1,0 @@
--- What is printed of faults.
-use Rattle.std.specs.Prelude.{ℕ, List, codes}
-use Rattle.ospf_capture.specs.declared.fault.CaptureFault.{CaptureFault}
-use Rattle.ospf_capture.specs.declared.fault.CaptureFault.TheVariants.{TooLong, Memory}
-
--- the name of a fault
-abbrev pub fault_text : CaptureFault → List ℕ
-fault_text TooLong = codes "TooLong"
-fault_text Memory = codes "Memory"

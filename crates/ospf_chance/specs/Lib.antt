@@ -1,2 +1,0 @@
-pub mod Offers
-pub mod Draws

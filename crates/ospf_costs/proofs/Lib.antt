@@ -1,2 +1,0 @@
-pub mod LinkLists
-pub mod HopLinks

@@ -1,0 +1,86 @@
+//! The cost of a next hop.
+
+ghost use Rattle.std.specs.Prelude.{◌≡◌, ◌↔◌, ℕ, IsTrue, IfSome, IfNone};
+ghost use Rattle.ospf_graph.specs.Walk.{HasLinkFor, IsLinkCost};
+ghost use Rattle.ospf_edges.specs.Listed.{advertisements_of};
+ghost use Rattle.ospf_edges.specs.Costs.{IsLeastOf, Leads, least_with, lesser_of};
+
+use crate::link_costs::{is_attached, links_in, links_to};
+use ospf_base::RouterId;
+use ospf_graph::NextHop;
+use ospf_lsa::{Link, LinkKind, Links, Listing};
+
+// Whether a link of a router leads where a next hop does: from the hop's address to its router, or to a network that its router
+// is on.
+fn leads(listing: &Listing, router: RouterId, hop: &NextHop, link: &Link) -> bool
+    ensures { IsTrue result ↔ Leads (advertisements_of listing.now) router hop.now link.now }
+{
+    match hop {
+        NextHop::Attached => false,
+        NextHop::PointToPoint {
+            local,
+            router: next,
+        } => {
+            link.kind == LinkKind::PointToPoint
+                && link.id == next.0
+                && link.link_data == local.0
+                && links_to(listing, *next, LinkKind::PointToPoint, router.0)
+        }
+        NextHop::Lan {
+            local,
+            router: next,
+            ..
+        } => {
+            link.kind == LinkKind::Transit
+                && link.link_data == local.0
+                && is_attached(listing, link.id, router)
+                && is_attached(listing, link.id, *next)
+                && links_to(listing, *next, LinkKind::Transit, link.id)
+        }
+    }
+}
+
+// The lesser of a metric and the least so far.
+fn lesser(least: Option<u16>, metric: u16) -> u16
+    ensures { result ≡ lesser_of least metric }
+{
+    match least {
+        Some(least) if least < metric => least,
+        _ => metric,
+    }
+}
+
+// The least so far, after a link that leads there or does not.
+fn with_link(least: Option<u16>, leads: bool, metric: u16) -> Option<u16>
+    ensures { result ≡ least_with least leads metric }
+{
+    if leads {
+        Some(lesser(least, metric))
+    } else {
+        least
+    }
+}
+
+// The least metric of the links that lead where a next hop does.
+fn least_of(links: Links, listing: &Listing, router: RouterId, hop: &NextHop) -> Option<u16>
+    ensures { IsLeastOf (Leads (advertisements_of listing.now) router hop.now) links.entry result }
+{
+    let mut least = None;
+    for link in links {
+        let leads_there = leads(listing, router, hop, &link);
+        least = with_link(least, leads_there, link.metric);
+    }
+    least
+}
+
+/// What a next hop costs a router: the least metric of its listed links from the hop's address to the hop's router, or to a
+/// network that this router is on. No link leads over `Attached`.
+///
+/// It looks at the router's own links, and finds the LSAs behind them by their keys.
+pub fn link_cost(listing: &Listing, router: RouterId, hop: &NextHop) -> Option<u16>
+    ensures cost { IfSome result (λ cost. IsLinkCost (advertisements_of listing.now) router hop.now cost) }
+    ensures none { IfNone result ((metric : ℕ) → HasLinkFor (advertisements_of listing.now) router hop.now metric → ⊥) }
+{
+    let links = links_in(listing, router)?;
+    least_of(links, listing, router, hop)
+}

@@ -1,3 +1,0 @@
-pub mod Drops
-pub mod Text
-pub mod Laws

@@ -1,0 +1,9 @@
+-- What is printed of faults.
+use Rattle.std.specs.Prelude.{ℕ, List, codes}
+use Rattle.ospf_records.specs.declared.fault.CaptureFault.{CaptureFault}
+use Rattle.ospf_records.specs.declared.fault.CaptureFault.TheVariants.{TooLong, Memory}
+
+-- the name of a fault
+abbrev pub fault_text : CaptureFault → List ℕ
+fault_text TooLong = codes "TooLong"
+fault_text Memory = codes "Memory"

@@ -1,0 +1,18 @@
+//! Laws: each holds of all packets and captures.
+
+ghost use Rattle.ospf_records.specs.CaptureLaws.{ChecksumHolds, HasOneReading, LengthsAreTold};
+
+/// The checksum of each IP header holds: its words sum to all ones (RFC 791, section 3.1, and RFC 1071).
+pub fn checksum_holds()
+    ensures { ChecksumHolds }
+{}
+
+/// The lengths that a record tells, and the IP header in it, are those of the bytes that follow.
+pub fn lengths_are_told()
+    ensures { LengthsAreTold }
+{}
+
+/// A file is the capture of one list of packets and no other.
+pub fn has_one_reading()
+    ensures { HasOneReading }
+{}

@@ -1,6 +1,0 @@
-pub mod PackLemmas
-pub mod KeyLists
-pub mod DueLemmas
-pub mod QuietLemmas
-pub mod SendLemmas
-pub mod FillLemmas

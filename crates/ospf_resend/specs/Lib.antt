@@ -1,4 +1,0 @@
-pub mod Packing
-pub mod Answers
-pub mod Repeats
-pub mod Laws

@@ -1,5 +1,0 @@
-pub mod ListLemmas
-mod SameListings
-mod TableLemmas
-pub mod KeepLemmas
-mod ServedLemmas

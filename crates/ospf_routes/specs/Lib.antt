@@ -1,3 +1,0 @@
-pub mod Kept
-pub mod Listings
-pub mod Routes

@@ -1,8 +1,0 @@
-use Rattle.std.proofs.Common.{take}
-use Rattle.std.specs.Io.KnownBytes.{Appends}
-use Rattle.ospf_shown.specs.Shown.{routes_text}
-use Rattle.ospf_shown.proofs.print_routes.Given as goal
-
--- the routes so far are written
-abbrev pub invariant-loop-route : goal.invariant-loop-route
-invariant-loop-route g l = Appends (g.O.Write.contents l.fn.out) (g.O.Write.contents l.out) (routes_text (take l.route-index l.routes))

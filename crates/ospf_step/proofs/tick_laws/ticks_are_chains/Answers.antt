@@ -1,0 +1,5 @@
+use Rattle.ospf_step.proofs.TickChain.{tick_puts}
+use Rattle.ospf_step.proofs.tick_laws.ticks_are_chains.Goals as goal
+
+pub returns : goal.returns
+returns c = tick_puts
