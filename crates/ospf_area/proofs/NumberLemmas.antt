@@ -19,7 +19,7 @@ use Rattle.ospf_area.proofs.LawLemmas.{find-map}
 
 -- ---- kept numbers
 
-counted_key : (key : LsaKey) (number : ℤ) (n : Numbering) → (counted_one key number n).key ≡ n.key
+pub counted_key : (key : LsaKey) (number : ℤ) (n : Numbering) → (counted_one key number n).key ≡ n.key
 counted_key key number n = by_test (is_numbering_of key n)
   where
     by_test : (b : Bool) → (if b then record n { kept = int_max n.kept number } else n).key ≡ n.key
@@ -31,7 +31,7 @@ all_counted : (key k : LsaKey) (number : ℤ) (ns : List Numbering) → numberin
 all_counted key k number ns = find-map (λ (n : Numbering). same_key n.key k) (counted_one key number) (λ n. ap (λ (j : LsaKey). same_key j k) (counted_key key number n)) ns
 
 -- an entry that is found is of its key
-found_of : (k : LsaKey) (ns : List Numbering) (n : Numbering) → numbering_of ns k ≡ Some n → same_key n.key k ≡ true
+pub found_of : (k : LsaKey) (ns : List Numbering) (n : Numbering) → numbering_of ns k ≡ Some n → same_key n.key k ≡ true
 found_of k [] n e = absurd (cc)
 found_of k (x ∷ ns) n e = by_test (same_key x.key k) refl (found_of k ns n) e
   where

@@ -22,7 +22,7 @@ short_changed f same (Some x) short h e =
     let here : (f x).entry.contents ≡ h.entry.contents = ap (λ (y : Held). y.entry.contents) (same_Some (f x) h e) in
     subst (λ (c : List ℕ). 2 + length c ≤ largest_lsa) (sym (same x) ∙ here) (short x refl)
 
-older_contents : (h : Held) → (older h).entry.contents ≡ h.entry.contents
+pub older_contents : (h : Held) → (older h).entry.contents ≡ h.entry.contents
 unfolding older
 older_contents h = by_test (is_fresh h.entry)
   where
@@ -30,7 +30,7 @@ older_contents h = by_test (is_fresh h.entry)
     by_test true = refl
     by_test false = refl
 
-expired_contents : (h : Held) → (expired h).entry.contents ≡ h.entry.contents
+pub expired_contents : (h : Held) → (expired h).entry.contents ≡ h.entry.contents
 unfolding expired
 expired_contents h = by_test (is_fresh h.entry)
   where
@@ -38,7 +38,7 @@ expired_contents h = by_test (is_fresh h.entry)
     by_test true = refl
     by_test false = refl
 
-removed_was : (o : Option Held) (h : Held) → removed o ≡ Some h → o ≡ Some h
+pub removed_was : (o : Option Held) (h : Held) → removed o ≡ Some h → o ≡ Some h
 unfolding removed
 removed_was None h e = e
 removed_was (Some x) h e = by_test (is_expired x) e

@@ -13,7 +13,7 @@ use Rattle.ospf_graph.specs.Advertisements.{Advertisement, router_lsa, network_l
 use Rattle.ospf_graph.specs.Pairs.{pair_code}
 use Rattle.ospf_graph.proofs.ListLemmas.{bool_cases, member_cases, member_head, member_later}
 use Rattle.ospf_edges.specs.Addresses.{AddsAddresses, AddsTold, AreAddresses, address_by, links_by}
-use Rattle.ospf_edges.specs.Area.{AreAddressesOn}
+use Rattle.ospf_edges.specs.Index.{AreAddressesOn}
 use Rattle.ospf_edges.specs.Listed.{advertisement_of, advertisements_of}
 use Rattle.ospf_edges.proofs.GivenLemmas.{told_more}
 use Rattle.ospf_edges.proofs.ListedLemmas.{router_of, network_of, router_in, router_only}

@@ -6,6 +6,6 @@ pub mod AddsLemmas
 pub mod GivenLemmas
 pub mod FitLemmas
 pub mod AddressLemmas
-pub mod AreaLemmas
+pub mod IndexLemmas
 pub mod ItemLemmas
 pub mod NearLemmas

@@ -3,6 +3,6 @@ pub mod Listed
 pub mod Vertices
 pub mod Given
 pub mod Addresses
-pub mod Area
+pub mod Index
 pub mod Items
 pub mod Near

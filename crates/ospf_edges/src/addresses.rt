@@ -4,7 +4,7 @@ ghost use Rattle.std.specs.Prelude.{◌≡◌, ◌∷◌, [], OnOk, IfOk, nat_eq
 ghost use Rattle.ospf_graph.specs.Pairs.{pair_code};
 ghost use Rattle.std.specs.HashMap.{get};
 ghost use Rattle.ospf_edges.specs.Addresses.{AddsAddresses, AddsTold};
-ghost use Rattle.ospf_edges.specs.Area.{AreAddressesOn};
+ghost use Rattle.ospf_edges.specs.Index.{AreAddressesOn};
 ghost use Rattle.ospf_edges.specs.Listed.{advertisement_of, advertisements_of};
 
 use ospf_base::{Kind, RouterId};

@@ -9,14 +9,14 @@ ghost use Rattle.ospf_edges.specs.Listed.{advertisement_of, advertisements_of};
 ghost use Rattle.ospf_edges.specs.Given.{Adds, LinkGives, AttachedGives, EdgesOf, link_count};
 ghost use Rattle.ospf_edges.specs.Given.{IsEdgesOf};
 
-use crate::area::Area;
+use crate::index::GraphIndex;
 use ospf_base::{Kind, RouterId};
 use ospf_graph::{Edge, Vertex};
 use ospf_lsa::{Attached, Link, LinkKind, Links, Listing, Lsa};
 use std::alloc::{AllocError, Global};
 
 // The edge of a link: to a router that links back, or to a network that names the router.
-fn edge_of(area: &Area, router: RouterId, link: Link) -> Option<Edge>
+fn edge_of(area: &GraphIndex, router: RouterId, link: Link) -> Option<Edge>
     ensures { MatchOption result ((e : Edge) → LinkGives area.now router link e → ⊥) (λ edge. (e : Edge) → LinkGives area.now router link e ↔ (edge ≡ e)) }
 {
     let to = match link.kind {
@@ -36,7 +36,7 @@ fn edge_of(area: &Area, router: RouterId, link: Link) -> Option<Edge>
 
 // Adds the edge of a link.
 fn add_link(
-    area: &Area,
+    area: &GraphIndex,
     router: RouterId,
     link: Link,
     edges: &mut Vec<Edge>,
@@ -55,7 +55,7 @@ fn add_link(
 
 // Adds the edges of links.
 fn add_links(
-    area: &Area,
+    area: &GraphIndex,
     router: RouterId,
     links: Links,
     edges: &mut Vec<Edge>,
@@ -71,7 +71,7 @@ fn add_links(
 
 // Adds the edge from a network to an attached router, if the router names the network.
 fn add_member(
-    area: &Area,
+    area: &GraphIndex,
     id: u32,
     member: RouterId,
     edges: &mut Vec<Edge>,
@@ -95,7 +95,7 @@ fn add_member(
 
 // Adds the edges from a network to its attached routers.
 fn add_members(
-    area: &Area,
+    area: &GraphIndex,
     id: u32,
     attached: Attached,
     edges: &mut Vec<Edge>,
@@ -110,7 +110,7 @@ fn add_members(
 }
 
 // Adds the edges that an LSA gives.
-fn add_edges(area: &Area, lsa: &Lsa, edges: &mut Vec<Edge>) -> Result<(), AllocError>
+fn add_edges(area: &GraphIndex, lsa: &Lsa, edges: &mut Vec<Edge>) -> Result<(), AllocError>
     ensures added { OnOk result (Adds (EdgesOf area.now (advertisement_of lsa.now)) edges.old.items edges.new.items) }
     ensures few { OnOk result (length edges.new.items ≤ length edges.old.items + link_count (advertisement_of lsa.now ∷ [])) }
 {
@@ -131,7 +131,7 @@ fn add_edges(area: &Area, lsa: &Lsa, edges: &mut Vec<Edge>) -> Result<(), AllocE
 }
 
 // The edges of a listing's graph, by its area.
-fn edges_by(alloc: Global, listing: &Listing, area: &Area) -> Result<Vec<Edge>, AllocError>
+fn edges_by(alloc: Global, listing: &Listing, area: &GraphIndex) -> Result<Vec<Edge>, AllocError>
     requires same { area.now ≡ advertisements_of listing.now }
     ensures edges { IfOk result (λ edges. IsEdgesOf (advertisements_of listing.now) edges.items) }
     ensures fit { IfOk result (λ edges. IsFit edges.items) }
@@ -151,6 +151,6 @@ pub fn edges_of(alloc: Global, listing: &Listing) -> Result<Vec<Edge>, AllocErro
     ensures fit { IfOk result (λ edges. IsFit edges.items) }
     ensures few { IfOk result (λ edges. length edges.items ≤ link_count (advertisements_of listing.now)) }
 {
-    let area = Area::of(alloc, listing)?;
+    let area = GraphIndex::of(alloc, listing)?;
     edges_by(alloc, listing, &area)
 }

@@ -3,11 +3,11 @@
 #![tactic(auto)]
 
 mod addresses;
-mod area;
 mod cost;
 mod edges;
 mod end;
 mod ends;
+mod index;
 mod items;
 mod link_costs;
 mod listed;

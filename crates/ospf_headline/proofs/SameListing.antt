@@ -12,6 +12,7 @@ use Rattle.ospf_lsa.specs.Listing.{IsRising}
 use Rattle.ospf_graph.specs.Advertisements.{Advertisement}
 use Rattle.ospf_edges.specs.Listed.{advertisement_by, advertisement_of, advertisements_of}
 use Rattle.ospf_headline.specs.Listings.{ListsInstance, ListTheSame, AgreeByInstance}
+use Rattle.ospf_laws.proofs.AckFacts.{first_or_later}
 
 -- what an LSA says does not depend on its age
 kind_same : (a b : ℕ) (rest : List ℕ) → kind_of (a ∷ b ∷ rest) ≡ kind_of (0 ∷ 0 ∷ rest)
@@ -33,10 +34,6 @@ from_all : {X : Type 0} (P : X → Type 0) (xs : List X) (x : X) → AllByRecurs
 from_all P [] x all (k, within, is) = absurd (omega arith)
 from_all P (y ∷ xs) x all (zero, within, is) = subst P is all.0
 from_all P (y ∷ xs) x all (suc k, within, is) = from_all P xs x all.1 (k, omega arith, is)
-
-first_or_later : {X : Type 0} (y : X) (xs : List X) (x : X) → Contains (y ∷ xs) x → (y ≡ x) ⊎ Contains xs x
-first_or_later y xs x (zero, within, is) = inl is
-first_or_later y xs x (suc k, within, is) = inr (k, omega arith, is)
 
 later : {X : Type 0} (y : X) (xs : List X) (x : X) → Contains xs x → Contains (y ∷ xs) x
 later y xs x (k, within, is) = (suc k, omega arith, is)

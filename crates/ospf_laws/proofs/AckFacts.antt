@@ -15,7 +15,7 @@ use Rattle.ospf_area.specs.declared.sending.Way.{Way}
 use Rattle.ospf_laws.proofs.ListFacts.{Contains-nil}
 use Rattle.ospf_laws.proofs.SentFacts.{datagrams-packet}
 
-first_or_later : {X : Type 0} (y : X) (xs : List X) (x : X) → Contains (y ∷ xs) x → (y ≡ x) ⊎ Contains xs x
+pub first_or_later : {X : Type 0} (y : X) (xs : List X) (x : X) → Contains (y ∷ xs) x → (y ≡ x) ⊎ Contains xs x
 first_or_later y xs x (zero, within, is) = inl is
 first_or_later y xs x (suc k, within, is) = inr (k, omega arith, is)
 

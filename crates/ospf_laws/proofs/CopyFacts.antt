@@ -34,10 +34,10 @@ HasHeader-held s h is has i names =
 
 -- ---- a copy that is brought to MaxAge
 
-set_age : Entry → ℕ → Entry
+pub set_age : Entry → ℕ → Entry
 set_age e age = record { age = age; contents = e.contents; tick = e.tick; by_flooding = e.by_flooding }
 
-expired_entry : (h : Held) → h.entry.age ≤ max_age → (expired h).entry ≡ at_max_age h.entry
+pub expired_entry : (h : Held) → h.entry.age ≤ max_age → (expired h).entry ≡ at_max_age h.entry
 unfolding expired set_age
 expired_entry h le = go (nat_lt h.entry.age max_age) refl
   where
@@ -48,7 +48,7 @@ expired_entry h le = go (nat_lt h.entry.age max_age) refl
         let is : h.entry.age ≡ max_age = omega arith in
         ap (set_age h.entry) is
 
-age_of_held : (db : List Held) (key : LsaKey) (h : Held) → IsDatabase db → held_of db key ≡ Some h → h.entry.age ≤ max_age
+pub age_of_held : (db : List Held) (key : LsaKey) (h : Held) → IsDatabase db → held_of db key ≡ Some h → h.entry.age ≤ max_age
 age_of_held db key h is at = from_all db (find-some (λ h. same_key (key_at h) key) db h at).0 is.ages
   where
     from_all : (xs : List Held) → Contains xs h → AllByRecursion (λ h. h.entry.age ≤ max_age) xs → h.entry.age ≤ max_age

@@ -34,7 +34,7 @@ use Rattle.ospf_lsdb.specs.Moments.{among}
 use Rattle.ospf_laws.specs.Accounts.{Accounts, Numbers, Has, IsAcknowledged, IsDescribed, IsStored, Sends, HasWord, MayLeave, WaitsOn, WasKept, NoneEntersExchange}
 use Rattle.ospf_laws.proofs.ListFacts.{Contains-nil}
 use Rattle.ospf_laws.proofs.LsaFacts.{same_contents}
-use Rattle.ospf_laws.proofs.QuietAccounts.{kept_same}
+use Rattle.ospf_laws.proofs.QuietAccounts.{kept_same, waits_in}
 use Rattle.ospf_laws.proofs.StateFacts.{neighbour-changed, link-changed, neighbour-router, list-changed, held_agree, key_of-lsa_of, copy_of-has}
 
 -- a neighbour in Exchange or above gets the LSA on its list, or sent it, or asked for it or a later one
@@ -91,10 +91,6 @@ pub record IsAccounted (heard : Option Received) (before : AreaValue) (out : Out
   pub numbers : Numbers heard before out after
   pub counted : (instance_at e).key.router ≡ before.router → (instance_at e).number ≤ℤ kept_number after (instance_at e).key
   pub none_ended : out.ended ≡ []
-
-waits_in : (o : Option NeighbourValue) (i : Instance) → WaitsIn o i → (n : NeighbourValue) × (o ≡ Some n) × Waits n i
-waits_in None i w = absurd w
-waits_in (Some n) i w = (n, refl, w)
 
 exchanging_in : (o : Option NeighbourValue) (g : NeighbourValue → NeighbourValue) → is_exchanging (state_in (option_map g o)) ≡ true → (n : NeighbourValue) × (o ≡ Some n) × (is_exchanging (g n).state ≡ true)
 exchanging_in None g up = absurd (false≢true up)

@@ -188,7 +188,7 @@ pub record OnlySendsKnown (before : AreaValue) (out : OutputsValue) : Type 0 whe
   pub updates : (p : Meaning) (lsa : List ℕ) → Sends out p → Contains (lsas_in p) lsa → WasHeld before (contents lsa)
   pub named : (p : Meaning) (i : Instance) → Sends out p → Lists (headers_in p) i → CanName before i
 
-waits_in : (o : Option NeighbourValue) (i : Instance) → WaitsIn o i → (n : NeighbourValue) × (o ≡ Some n) × Waits n i
+pub waits_in : (o : Option NeighbourValue) (i : Instance) → WaitsIn o i → (n : NeighbourValue) × (o ≡ Some n) × Waits n i
 waits_in None i w = absurd w
 waits_in (Some n) i w = (n, refl, w)
 

@@ -6,7 +6,7 @@ use Rattle.ospf_base.specs.Sums.{with_checksum}
 use Rattle.ospf_lsa.specs.declared.link.Link.{Link}
 use Rattle.ospf_lsa.specs.Link.{LinkEntry, entry_bytes, link_bytes, plain, LinkFits, EntryFits}
 
-all_push : {X : Type 0} (P : X → Type 0) (xs : List X) (x : X) → AllByRecursion P xs → P x → AllByRecursion P (xs ++ x ∷ [])
+pub all_push : {X : Type 0} (P : X → Type 0) (xs : List X) (x : X) → AllByRecursion P xs → P x → AllByRecursion P (xs ++ x ∷ [])
 all_push P [] x p q = (q, tt)
 all_push P (y ∷ ys) x p q = (p.0, all_push P ys x p.1 q)
 

@@ -18,8 +18,8 @@ impl LinkKind {
     ghost use Rattle.std.specs.Prelude.{◌≡◌};
     ghost use Rattle.ospf_lsa.specs.Link.{kind_byte};
 
-    // The number of the type.
-    fn byte(self) -> u8
+    /// The number of the type (RFC 2328, appendix A.4.2).
+    pub fn byte(self) -> u8
         ensures { result ≡ kind_byte self }
     {
         match self {

@@ -11,7 +11,7 @@ use Rattle.ospf_lsdb.specs.Database.{Entry, Held, lsa_of, is_fresh, listed, list
 use Rattle.ospf_lsdb.specs.Places.{AllBefore}
 use Rattle.ospf_lsdb.proofs.EntryLemmas.{key_of-with_age}
 use Rattle.ospf_lsdb.proofs.MapLemmas.{bool_cases}
-use Rattle.ospf_lsdb.proofs.RisingLemmas.{all_back}
+use Rattle.ospf_lsa.proofs.ListingLemmas.{all_back}
 
 append_nil : (xs : List (List ℕ)) → xs ++ [] ≡ xs
 append_nil [] = refl

@@ -9,18 +9,7 @@ use Rattle.ospf_base.proofs.KeyOrder.{Precedes-trans}
 use Rattle.ospf_lsdb.specs.Database.{Held, key_at, IsRising, IsDatabase, older}
 use Rattle.ospf_lsdb.specs.Places.{AllBefore, AllAfter}
 use Rattle.ospf_lsdb.proofs.EntryLemmas.{older-young, older-old}
-
-pub all_join : {X : Type 0} (P : X → Type 0) (xs ys : List X) → AllByRecursion P xs → AllByRecursion P ys → AllByRecursion P (xs ++ ys)
-all_join P [] ys p q = q
-all_join P (x ∷ xs) ys p q = (p.0, all_join P xs ys p.1 q)
-
-pub all_front : {X : Type 0} (P : X → Type 0) (xs ys : List X) → AllByRecursion P (xs ++ ys) → AllByRecursion P xs
-all_front P [] ys p = tt
-all_front P (x ∷ xs) ys p = (p.0, all_front P xs ys p.1)
-
-pub all_back : {X : Type 0} (P : X → Type 0) (xs ys : List X) → AllByRecursion P (xs ++ ys) → AllByRecursion P ys
-all_back P [] ys p = p
-all_back P (x ∷ xs) ys p = all_back P xs ys p.1
+use Rattle.ospf_lsa.proofs.ListingLemmas.{all_back, all_front, all_join}
 
 -- what a key precedes, each key before it precedes
 pub all_after-trans : (k m : LsaKey) (xs : List Held) → Precedes k m → AllAfter m xs → AllAfter k xs

@@ -11,6 +11,7 @@ use Rattle.ospf_area.specs.State.{kept_in, numbering_of}
 use Rattle.ospf_area.specs.declared.state.Numbering.{Numbering}
 use Rattle.ospf_update.specs.Removal.{lowest_number, reset, reset_one}
 use Rattle.ospf_originate.specs.Numbers.{issued, issued_at_in, issued_one}
+use Rattle.ospf_area.proofs.NumberLemmas.{counted_key, found_of}
 
 -- ---- one that is changed, or put at the end where there is none
 
@@ -19,15 +20,6 @@ found_first k n ns is = ap (λ (b : Bool). if b then Some n else numbering_of ns
 
 found_later : (k : LsaKey) (n : Numbering) (ns : List Numbering) → same_key n.key k ≡ false → numbering_of (n ∷ ns) k ≡ numbering_of ns k
 found_later k n ns apart = ap (λ (b : Bool). if b then Some n else numbering_of ns k) apart
-
--- what is found is of its key
-pub found_of : (k : LsaKey) (ns : List Numbering) (n : Numbering) → numbering_of ns k ≡ Some n → same_key n.key k ≡ true
-found_of k [] n e = absurd (cc)
-found_of k (x ∷ ns) n e = by_test (same_key x.key k) refl (found_of k ns n) e
-  where
-    by_test : (b : Bool) → same_key x.key k ≡ b → (numbering_of ns k ≡ Some n → same_key n.key k ≡ true) → (if b then Some x else numbering_of ns k) ≡ Some n → same_key n.key k ≡ true
-    by_test true t rest e' = let same : x ≡ n = cc in subst (λ (y : Numbering). same_key y.key k ≡ true) same t
-    by_test false t rest e' = rest e'
 
 behind : (k : LsaKey) (ns : List Numbering) (n : Numbering) → is_some (numbering_of (ns ++ n ∷ []) k) ≡ (is_some (numbering_of ns k) || same_key n.key k)
 behind k [] n = by_test (same_key n.key k)
@@ -82,13 +74,6 @@ module _ (g : Numbering → Numbering) (same : (n : Numbering) → (g n).key ≡
       by_test false found = behind k ns new
 
 -- ---- numbers that are counted
-
-counted_key : (key : LsaKey) (number : ℤ) (n : Numbering) → (counted_one key number n).key ≡ n.key
-counted_key key number n = by_test (is_numbering_of key n)
-  where
-    by_test : (b : Bool) → (if b then record n { kept = int_max n.kept number } else n).key ≡ n.key
-    by_test true = refl
-    by_test false = refl
 
 pub counted_some : (key : LsaKey) (number floor : ℤ) (ns : List Numbering) (k : LsaKey) → is_some (numbering_of (counted key number floor ns) k) ≡ (is_some (numbering_of ns k) || same_key key k)
 unfolding put

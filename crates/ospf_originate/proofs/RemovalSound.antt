@@ -12,19 +12,12 @@ use Rattle.ospf_area.specs.State.{AreaValue, entry_of, kept_number, some_link_lo
 use Rattle.ospf_update.specs.Removal.{Removes, RemovesAll, RemovesOne, ends_run, is_last, is_leaving, key_of_entry, leaving, lowest_number, reset, some_awaits}
 use Rattle.ospf_originate.specs.Sound.{IsSound}
 use Rattle.ospf_originate.proofs.SoundLemmas.{Numbers, ended_numbers, fewer, known, last_is_high, numbers_of, sound_of}
+use Rattle.ospf_area.proofs.ShortLemmas.{removed_was}
+use Rattle.ospf_wanted.proofs.WantedLemmas.{map_all}
 
 -- the copy of a key, if there is one, is at MaxAge
 IsOld : AreaValue → LsaKey → Type 0
 IsOld s key = (h : Held) → held_of s.database key ≡ Some h → is_expired h ≡ true
-
-removed_was : (o : Option Held) (h : Held) → removed o ≡ Some h → o ≡ Some h
-unfolding removed
-removed_was None h e = e
-removed_was (Some x) h e = by_test (is_expired x) e
-  where
-    by_test : (b : Bool) → (if b then None else Some x) ≡ Some h → Some x ≡ Some h
-    by_test true e' = absurd (none-some h e')
-    by_test false e' = e'
 
 removed_old : (o : Option Held) → ((h : Held) → o ≡ Some h → is_expired h ≡ true) → removed o ≡ None
 unfolding removed
@@ -71,10 +64,6 @@ module _ (k : LsaKey) (s : AreaValue) (o o' : OutputsValue) (s' : AreaValue) (is
       by_test : (b : Bool) → ends_run s k ≡ b → Numbers s.router s'.database (if b then reset k s.numbering else s.numbering) s.floor s.greatest
       by_test true ends = ended_numbers s.router s.database s'.database s.numbering s.floor s.greatest k (gone old) (low sound ends) (numbers_of s sound)
       by_test false stays = fewer s.router s.database s'.database s.numbering s.floor s.greatest (λ key c at. (gone old key c at).1) (numbers_of s sound)
-
-map_all : {X : Type 0} → (P Q : X → Type 0) → ((x : X) → P x → Q x) → (xs : List X) → AllByRecursion P xs → AllByRecursion Q xs
-map_all P Q to [] all = tt
-map_all P Q to (x ∷ xs) all = (to x all.0, map_all P Q to xs all.1)
 
 all_sound : (keys : List LsaKey) (s : AreaValue) (o o' : OutputsValue) (s' : AreaValue) → RemovesAll keys s o o' s' → AllByRecursion (IsOld s) keys → IsSound s → IsSound s'
 all_sound [] s o o' s' is old sound = subst (λ (x : AreaValue). IsSound x) (sym is.0) sound

@@ -49,6 +49,7 @@ use Rattle.ospf_update.proofs.PassLemmas.{passed}
 use Rattle.ospf_originate.specs.Laws.{LinksStaySetUp, PartsStaySound}
 use Rattle.ospf_originate.specs.Sound.{AreApart, AreSetUp, IsSetUp, IsSound, max_links}
 use Rattle.ospf_originate.proofs.SoundLemmas.{Numbers, contents-entry_from, counted_numbers, counts_in, fewer, greatest_in, known, number_of-contents, numbers_of, sound_of, stored_numbers}
+use Rattle.ospf_area.proofs.ShortLemmas.{expired_contents, older_contents}
 
 -- ---- links
 
@@ -238,22 +239,6 @@ header_sound f h s sound = by_named (named_by h (copy_of s.database (key_of_head
     by_named (Some i) = changed_sound f (Change.Acknowledges i) s sound
 
 -- ---- copies at MaxAge
-
-older_contents : (h : Held) → (older h).entry.contents ≡ h.entry.contents
-unfolding older
-older_contents h = by_test (is_fresh h.entry)
-  where
-    by_test : (b : Bool) → (if b then record { entry = record h.entry { age = h.entry.age + 1 }; reached = is_told (h.entry.age + 1) } else record h { reached = false }).entry.contents ≡ h.entry.contents
-    by_test true = refl
-    by_test false = refl
-
-expired_contents : (h : Held) → (expired h).entry.contents ≡ h.entry.contents
-unfolding expired
-expired_contents h = by_test (is_fresh h.entry)
-  where
-    by_test : (b : Bool) → (if b then record { entry = record h.entry { age = max_age }; reached = false } else h).entry.contents ≡ h.entry.contents
-    by_test true = refl
-    by_test false = refl
 
 same_contents : (f : Held → Held) → ((h : Held) → (f h).entry.contents ≡ h.entry.contents) → (o : Option Held) → option_map (λ (h : Held). h.entry.contents) (option_map f o) ≡ option_map (λ (h : Held). h.entry.contents) o
 same_contents f same None = refl

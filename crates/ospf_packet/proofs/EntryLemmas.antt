@@ -5,6 +5,7 @@ use Rattle.std.proofs.lemmas.List.{drop_at, take_more, flat_map_more, length-app
 use Rattle.std.proofs.lemmas.List.Folds.{length-flat_map-take}
 use Rattle.ospf_base.specs.Bytes.{AreBytes}
 use Rattle.ospf_packet.specs.Entries.{entries_in}
+use Rattle.ospf_lsa.proofs.BuildLemmas.{all_push}
 
 pub AreBytes-drop : (n : ℕ) (bytes : List ℕ) → AreBytes bytes → AreBytes (drop n bytes)
 AreBytes-drop n bytes h i = rw get_or-drop (h (n + i))
@@ -36,10 +37,6 @@ length_entries size spell sized (x ∷ xs) =
     omega (arith, length_entries size spell sized xs, length-append (spell x) (flat_map spell xs), sized x, one)
 
 -- ---- one entry more
-
-all_push : {X : Type 0} (P : X → Type 0) (xs : List X) (x : X) → AllByRecursion P xs → P x → AllByRecursion P (xs ++ x ∷ [])
-all_push P [] x p q = (q, tt)
-all_push P (y ∷ ys) x p q = (p.0, all_push P ys x p.1 q)
 
 pub fits_more : {X : Type 0} (P : X → Type 0) (xs : List X) (i : ℕ) (d : X) → i < length xs → AllByRecursion P (take i xs) → P (get_or xs i d)
     → AllByRecursion P (take (i + 1) xs)

@@ -16,6 +16,7 @@ use Rattle.ospf_packet.specs.Requests.{entry_at, entry_bytes, EntryFits}
 use Rattle.ospf_packet.specs.declared.body.Hello.{Hello}
 use Rattle.ospf_packet.specs.declared.body.Description.{Description}
 use Rattle.ospf_packet.specs.declared.entry.RequestEntry.{RequestEntry}
+use Rattle.ospf_lsa.proofs.HeaderLemmas.{made, made_same}
 
 pub hello_back : (h : Hello) (rest : List ℕ) → HelloFits h → hello_at (hello_bytes h ++ rest) ≡ h
 hello_back h rest fits =
@@ -56,23 +57,6 @@ entry_back e rest fits =
 of_z-below : (z : ℤ) → SFits w32 z → of_z w32 z < 2 ^ 32
 of_z-below (pos n) f = omega (arith, f.sfits)
 of_z-below (negsuc n) f = omega arith
-
-made : ℕ → ℕ → ℕ → ℕ → ℕ → ℤ → ℕ → ℕ → LsaHeader
-made age options kind id router number sum len = record {
-  age = age;
-  options = options;
-  kind = kind;
-  id = id;
-  router = record { 0 = router };
-  number = number;
-  sum = sum;
-  length = len;
-}
-
-made_same : (age age' options kind id id' router router' : ℕ) (number number' : ℤ) (sum sum' len len' : ℕ)
-    → age ≡ age' → id ≡ id' → router ≡ router' → number ≡ number' → sum ≡ sum' → len ≡ len'
-    → made age options kind id router number sum len ≡ made age' options kind id' router' number' sum' len'
-made_same age age' options kind id id' router router' number number' sum sum' len len' p q r s t u = cc
 
 pub header_back : (e : HeaderEntry) (rest : List ℕ) → HeaderEntryFits e → header_of (header_entry_bytes e ++ rest) ≡ e.header
 unfolding made

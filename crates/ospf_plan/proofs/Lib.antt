@@ -1,4 +1,4 @@
-mod Steps
+pub mod Steps
 mod Members
 mod FindingLemmas
 mod Order

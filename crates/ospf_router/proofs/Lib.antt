@@ -4,5 +4,5 @@ mod TableLemmas
 pub mod KeepLemmas
 mod ServedLemmas
 mod ListingFacts
-mod StartLemmas
+pub mod StartLemmas
 mod SettledLemmas

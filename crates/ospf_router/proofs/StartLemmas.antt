@@ -119,7 +119,7 @@ area_fit law config dd_start floor s is most =
     let fit : IsFit now = record { links = all_fit config.router_id config.interfaces.items s.links is.links; sound = sound } in
     subst (λ (x : AreaValue). IsFit x) (sym is.rest) fit
 
-empty_routes : (r : RouterId) → IsTable (advertisements_of []) r []
+pub empty_routes : (r : RouterId) → IsTable (advertisements_of []) r []
 unfolding advertisements_of
 empty_routes r = record {
   in_order = λ i j d lt within. absurd (omega arith);

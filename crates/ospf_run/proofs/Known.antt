@@ -3,11 +3,7 @@ use Rattle.std.proofs.Common.{◌≡◌, refl, ap, sym, subst, ◌∙◌, List, 
 use mathlib.Core.List.{IsPrefix}
 use Rattle.ospf_published.specs.Known.{Known, Table}
 use Rattle.ospf_run.specs.Lookers.{Follows}
-
--- each list begins with itself
-pub prefix_self : {A : Type 0} (xs : List A) → IsPrefix xs xs
-prefix_self [] = ([], refl)
-prefix_self (x ∷ xs) = (let r = prefix_self xs in r.0, ap (λ ys. x ∷ ys) (prefix_self xs).1)
+use Rattle.ospf_published.proofs.Prefixes.{prefix_self}
 
 -- a beginning of a beginning
 pub prefix_trans : {A : Type 0} (xs ys zs : List A) → IsPrefix xs ys → IsPrefix ys zs → IsPrefix xs zs

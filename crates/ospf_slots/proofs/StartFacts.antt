@@ -20,6 +20,7 @@ use Rattle.ospf_router.specs.Routers.{RouterValue}
 use Rattle.ospf_router.specs.Starts as router
 use Rattle.ospf_slots.specs.Running.{Begins}
 use Rattle.std.proofs.lemmas.Option.{none-some}
+use Rattle.ospf_router.proofs.StartLemmas.{empty_routes}
 
 no_neighbours : (r : RouterId) (is : List Interface) (links : List LinkValue) → router.AreLinksOf r is links → (l : ℕ) → neighbours_in (slice_get links l) ≡ []
 no_neighbours r [] [] are l = refl
@@ -55,14 +56,6 @@ names_none config dd floor links are i (CanName.ToAcknowledgeNow (h, c, is)) = C
 
 asks_none : (config : Config) (dd : ℕ) (floor : ℤ) (links : List LinkValue) → router.AreLinksOf config.router_id config.interfaces.items links → (l : ℕ) (q : RouterId) (i : Instance) → Asks (router.area_of config dd floor links) l q i → ⊥
 asks_none config dd floor links are l q i lists = lists_none _ i (list_of_none (λ n. n.requests) _ q (no_neighbours _ _ links are l)) lists
-
-empty_routes : (r : RouterId) → IsTable (advertisements_of []) r []
-unfolding advertisements_of
-empty_routes r = record {
-  in_order = λ i j d lt within. absurd (omega arith);
-  complete = λ prefix way. absurd (Contains-nil _ way.listed.1);
-  sound = λ k d within. absurd (omega arith);
-}
 
 started_now : (config : Config) (dd : ℕ) (floor : ℤ) (links : List LinkValue) → router.AreLinksOf config.router_id config.interfaces.items links → (log : List Issued) (first : Run) → first ≡ record { name = length log; base = floor } →
     IsStarted log config.router_id floor (record { state = router.area_of config dd floor links; table = []; first = first; later = [] })

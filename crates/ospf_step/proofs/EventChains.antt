@@ -22,7 +22,7 @@ use Rattle.ospf_laws.proofs.Chains.{puts_more, update_puts}
 use Rattle.ospf_laws.proofs.PutParts.{headers_put}
 use Rattle.ospf_links.specs.Parts.{description_part, hello_part, link_down, link_up, request_part}
 use Rattle.ospf_links.specs.Works.{changed, up_out_on, work_sent, worked}
-use Rattle.ospf_step.specs.Chains.{origin_of}
+use Rattle.ospf_step.specs.Takes.{origin_of}
 use Rattle.ospf_step.specs.Invariants.{NoneWaitsBelow}
 use Rattle.ospf_step.proofs.Parts.{down_puts, hello_puts, up_puts}
 use Rattle.ospf_step.proofs.TickChain.{read_before}

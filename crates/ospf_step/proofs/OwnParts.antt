@@ -46,6 +46,7 @@ use Rattle.ospf_originate.proofs.KeepLemmas.{issue_tells, made_key, made_number}
 use Rattle.ospf_originate.proofs.NumberLemmas.{issued_kept}
 use Rattle.ospf_originate.proofs.WantedLemmas.{wanted_own}
 use Rattle.ospf_step.proofs.Works.{read_sent}
+use Rattle.ospf_laws.proofs.CopyFacts.{age_of_held, expired_entry, set_age}
 
 -- ---- outputs
 
@@ -101,28 +102,6 @@ module _ (w : WantedValue) (number : ℤ) (s : AreaValue) (out out1 : OutputsVal
       apart b none = ap (λ a. if a && b then int_max (kept_number s k) (header_of x.lsa).number else kept_number s k) none
 
 -- ---- a flush
-
-set_age : Entry → ℕ → Entry
-set_age e age = record { age = age; contents = e.contents; tick = e.tick; by_flooding = e.by_flooding }
-
-expired_entry : (h : Held) → h.entry.age ≤ max_age → (expired h).entry ≡ at_max_age h.entry
-unfolding expired set_age
-expired_entry h le = go (nat_lt h.entry.age max_age) refl
-  where
-    go : (b : Bool) → nat_lt h.entry.age max_age ≡ b → (cond b (record { entry = record h.entry { age = max_age }; reached = false }) h).entry ≡ at_max_age h.entry
-    go true e = refl
-    go false e =
-        let le' : max_age ≤ h.entry.age = ltb-false h.entry.age max_age e in
-        let is : h.entry.age ≡ max_age = omega arith in
-        ap (set_age h.entry) is
-
-age_of_held : (db : List Held) (key : LsaKey) (h : Held) → IsDatabase db → held_of db key ≡ Some h → h.entry.age ≤ max_age
-age_of_held db key h is at = from_all db (find-some (λ h. same_key (key_at h) key) db h at).0 is.ages
-  where
-    from_all : (xs : List Held) → Contains xs h → AllByRecursion (λ h. h.entry.age ≤ max_age) xs → h.entry.age ≤ max_age
-    from_all [] (k, within, e) all = absurd (omega arith)
-    from_all (x ∷ xs) (zero, within, e) all = subst (λ h. h.entry.age ≤ max_age) e all.0
-    from_all (x ∷ xs) (suc k, within, e) all = from_all xs (k, omega arith, e) all.1
 
 module _ (key : LsaKey) (copy : Entry) (s : AreaValue) (sent : List SentValue) (t : AreaValue) (x : Flushes key s sent t) (at : entry_of s key ≡ Some copy) (ages : (h : Held) → held_of s.database key ≡ Some h → h.entry.age ≤ max_age) where
   entries_mid : (k : LsaKey) → entry_of x.mid k ≡ (if same_key key k then Some (at_max_age copy) else entry_of s k)

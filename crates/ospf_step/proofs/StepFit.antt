@@ -26,7 +26,7 @@ use Rattle.ospf_originate.specs.Laws.{AreaStaysSound, OwnStaySound}
 use Rattle.ospf_originate.specs.Sound.{IsSetUp, IsSound}
 use Rattle.ospf_originate.specs.Steps.{OwnLsas}
 use Rattle.ospf_step.specs.Fit.{IsFit, IsFitLink}
-use Rattle.ospf_step.specs.TickChains.{acknowledged_area, helloed_area, timed_area}
+use Rattle.ospf_step.specs.Ticks.{acknowledged_area, helloed_area, timed_area}
 use Rattle.ospf_step.specs.Takes.{TakesBody, TakesTick, repeated}
 use Rattle.ospf_step.proofs.AreaFit.{age_for, headers_for, own_for, removes_for, update_for}
 use Rattle.ospf_step.proofs.FitLemmas.{AllFit, IsFor}

@@ -30,7 +30,7 @@ use Rattle.ospf_step.specs.Drops.{is_dropped}
 use Rattle.ospf_step.specs.Fit.{IsFit, IsFitLink}
 use Rattle.ospf_step.specs.Ready.{IsReadyFor, IsSenderReady}
 use Rattle.ospf_step.specs.Steps.{StepsArea, Takes}
-use Rattle.ospf_step.specs.TickChains.{acknowledged_area, helloed_area, timed_area}
+use Rattle.ospf_step.specs.Ticks.{acknowledged_area, helloed_area, timed_area}
 use Rattle.ospf_step.specs.Takes.{TakesBody, TakesDatagram, TakesEvent, TakesTick, origin_of}
 use Rattle.ospf_step.specs.declared.steps.Taken.{Taken}
 use Rattle.ospf_step.proofs.SetLemmas.{all_at}

@@ -14,7 +14,7 @@ use Rattle.ospf_laws.proofs.Chains.{puts_more}
 use Rattle.ospf_laws.proofs.PutParts.{acknowledgements_put, ages_put}
 use Rattle.ospf_links.specs.Repeats.{repeated_links}
 use Rattle.ospf_step.specs.Invariants.{AreRising}
-use Rattle.ospf_step.specs.TickChains.{acknowledgements_out, helloed_area, hellos_out, tick_out, ticked_area, timed_area}
+use Rattle.ospf_step.specs.Ticks.{acknowledgements_out, helloed_area, hellos_out, tick_out, ticked_area, timed_area}
 use Rattle.ospf_step.proofs.Parts.{due_hellos_put, timers_put}
 use Rattle.ospf_step.proofs.Turns.{repeats_put}
 

@@ -1,6 +1,5 @@
 pub mod Invariants
-pub mod TickChains
-pub mod Chains
+pub mod Ticks
 pub mod Receipt
 pub mod Text
 pub mod Senders

@@ -5,7 +5,7 @@ use Rattle.ospf_area.specs.Outputs.{OutputsValue, SentValue}
 use Rattle.ospf_area.specs.Sending.{and_sends, own_of}
 use Rattle.ospf_area.specs.State.{AreaValue}
 use Rattle.ospf_area.specs.declared.flooding.Origin.{Origin}
-use Rattle.ospf_step.specs.TickChains.{acknowledged_area, acknowledgements_out, helloed_area, hellos_out, timed_area}
+use Rattle.ospf_step.specs.Ticks.{tick_out, ticked_area}
 use Rattle.ospf_adjacency.specs.Heard.{names}
 use Rattle.ospf_laws.specs.Puts.{headers_met}
 use Rattle.ospf_laws.specs.Step.{Event}
@@ -62,8 +62,8 @@ pub record TakesTick (s : AreaValue) (out out' : OutputsValue) (after : AreaValu
   pub aged : AreaValue
   pub expired_out : List SentValue
   pub ages : TickAges s expired_out aged
-  pub state : after ≡ repeated (acknowledged_area (helloed_area (timed_area aged)))
-  pub outputs : out' ≡ and_sends (and_sends (and_sends (and_sends out expired_out) (hellos_out (timed_area aged))) (acknowledgements_out (helloed_area (timed_area aged)))) (repeats_out (acknowledged_area (helloed_area (timed_area aged))))
+  pub state : after ≡ repeated (ticked_area aged)
+  pub outputs : out' ≡ tick_out aged (and_sends out expired_out)
 
 -- ---- events
 

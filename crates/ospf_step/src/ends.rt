@@ -11,33 +11,31 @@ ghost use Rattle.ospf_update.specs.Removal.{Removes};
 use crate::outputs_laws::database_is_one;
 use ospf_adjacency::neighbours_stay_of_link;
 use ospf_area::{Area, Outputs};
-use ospf_links::elect;
-use ospf_originate::{area_stays_sound, own_lsas, own_stay_sound};
-use ospf_update::remove;
+use ospf_originate::{area_stays_sound, own_stay_sound};
 use std::alloc::{AllocError, Global};
 
-// The elections that are due.
-fn elect_all(area: &mut Area, out: &mut Outputs, alloc: Global) -> Result<(), AllocError>
+// As `ospf_links::elect`, and the router stays fit.
+fn elect(area: &mut Area, out: &mut Outputs, alloc: Global) -> Result<(), AllocError>
     requires { IsFit area.old }
     ensures elects { OnOk result (Elects area.old out.old area.new out.new) }
     ensures fit { OnOk result (IsFit area.new) }
 {
     neighbours_stay_of_link();
-    elect(area, out, alloc)
+    ospf_links::elect(area, out, alloc)
 }
 
-// The router's own LSAs.
-fn issue_own(area: &mut Area, out: &mut Outputs, alloc: Global) -> Result<(), AllocError>
+// As `ospf_originate::own_lsas`, and the router stays fit.
+fn own_lsas(area: &mut Area, out: &mut Outputs, alloc: Global) -> Result<(), AllocError>
     requires { IsFit area.old }
     ensures own { OnOk result (OwnLsas area.old out.old out.new area.new) }
     ensures fit { OnOk result (IsFit area.new) }
 {
     own_stay_sound();
-    own_lsas(area, out, alloc)
+    ospf_originate::own_lsas(area, out, alloc)
 }
 
-// The LSAs that leave the database.
-fn remove_all(area: &mut Area, out: &mut Outputs, alloc: Global) -> Result<(), AllocError>
+// As `ospf_update::remove`, and the router stays fit.
+fn remove(area: &mut Area, out: &mut Outputs, alloc: Global) -> Result<(), AllocError>
     requires { IsFit area.old }
     ensures database { IsDatabase area.old.database }
     ensures removes { OnOk result (Removes area.old out.old out.new area.new) }
@@ -45,7 +43,7 @@ fn remove_all(area: &mut Area, out: &mut Outputs, alloc: Global) -> Result<(), A
 {
     database_is_one(area);
     area_stays_sound();
-    remove(area, out, alloc)
+    ospf_update::remove(area, out, alloc)
 }
 
 /// The elections that are due, the router's own LSAs, and the LSAs that leave the database.
@@ -55,9 +53,9 @@ pub(crate) fn end(area: &mut Area, out: &mut Outputs, alloc: Global) -> Result<(
     ensures fit { OnOk result (IsFit area.new) }
 {
     database_is_one(area);
-    elect_all(area, out, alloc)?;
-    issue_own(area, out, alloc)?;
-    remove_all(area, out, alloc)?;
+    elect(area, out, alloc)?;
+    own_lsas(area, out, alloc)?;
+    remove(area, out, alloc)?;
     let _sent = out.sent();
     Ok(())
 }

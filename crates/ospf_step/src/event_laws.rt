@@ -20,7 +20,7 @@ ghost use Rattle.ospf_links.specs.Parts.{description_part, hello_part, link_down
 ghost use Rattle.ospf_links.specs.Works.{changed, up_out_on, work_sent, worked};
 ghost use Rattle.ospf_laws.specs.Puts.{PutsOut, headers_met};
 ghost use Rattle.ospf_laws.specs.Step.{Chain, Event, Part, first_parts};
-ghost use Rattle.ospf_step.specs.Chains.{origin_of};
+ghost use Rattle.ospf_step.specs.Takes.{origin_of};
 ghost use Rattle.ospf_step.specs.Invariants.{NoneWaitsBelow};
 
 /// A datagram that is a packet, by what it says.

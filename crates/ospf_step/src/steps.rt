@@ -23,7 +23,6 @@ use crate::event::Event;
 use crate::ticks::take_tick;
 use ospf_adjacency::{elections_come_about, neighbours_stay_of_link, repeats_are_quiet};
 use ospf_area::{Area, Outputs};
-use ospf_links::{take_down, take_up};
 use ospf_originate::area_stays_sound;
 use std::alloc::{AllocError, Global};
 
@@ -34,22 +33,22 @@ pub struct Taken {
     pub dropped: Option<Dropped>,
 }
 
-// A link goes up.
-fn go_up(area: &mut Area, link: usize, out: &mut Outputs, alloc: Global) -> Result<(), AllocError>
+// As `ospf_links::take_up`, and the router stays fit.
+fn take_up(area: &mut Area, link: usize, out: &mut Outputs, alloc: Global) -> Result<(), AllocError>
     requires { IsFit area.old }
     ensures takes { OnOk result (Becomes (changed link_up link area.old) (up_out_on (slice_get area.old.links link) (own_of area.old) link) out.old out.new area.new) }
     ensures fit { OnOk result (IsFit area.new) }
 {
-    take_up(area, link, out, alloc)
+    ospf_links::take_up(area, link, out, alloc)
 }
 
-// A link goes down.
-fn go_down(area: &mut Area, link: usize, alloc: Global)
+// As `ospf_links::take_down`, and the router stays fit.
+fn take_down(area: &mut Area, link: usize, alloc: Global)
     requires { IsFit area.old }
     ensures after { area.new ≡ changed link_down link area.old }
     ensures fit { IsFit area.new }
 {
-    take_down(area, link, alloc);
+    ospf_links::take_down(area, link, alloc);
 }
 
 // What an event does before the step ends.
@@ -80,11 +79,11 @@ fn take(
             Ok(None)
         }
         Event::LinkUp { link } => {
-            go_up(area, link, out, alloc)?;
+            take_up(area, link, out, alloc)?;
             Ok(None)
         }
         Event::LinkDown { link } => {
-            go_down(area, link, alloc);
+            take_down(area, link, alloc);
             Ok(None)
         }
     }

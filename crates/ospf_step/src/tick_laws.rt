@@ -13,7 +13,7 @@ ghost use Rattle.ospf_links.specs.Repeats.{all_repeats, repeated_links};
 ghost use Rattle.ospf_laws.specs.Puts.{PutsOut};
 ghost use Rattle.ospf_laws.specs.Step.{Chain, Event, IsPart, Part, first_parts};
 ghost use Rattle.ospf_step.specs.Invariants.{AreRising};
-ghost use Rattle.ospf_step.specs.TickChains.{tick_out, ticked_area};
+ghost use Rattle.ospf_step.specs.Ticks.{tick_out, ticked_area};
 
 /// The wait timers and the inactivity timers.
 pub fn timers_put_out()

@@ -3,7 +3,7 @@
 ghost use Rattle.std.specs.Prelude.{◌≡◌, OnOk};
 ghost use Rattle.ospf_area.specs.Sending.{and_sends};
 ghost use Rattle.ospf_step.specs.Fit.{IsFit};
-ghost use Rattle.ospf_step.specs.TickChains.{acknowledged_area, acknowledgements_out, helloed_area, hellos_out, timed_area};
+ghost use Rattle.ospf_step.specs.Ticks.{acknowledged_area, acknowledgements_out, helloed_area, hellos_out, timed_area};
 ghost use Rattle.ospf_step.specs.Takes.{TakesTick, repeated, repeats_out};
 
 use ospf_adjacency::{elections_come_about, neighbours_stay_of_link, repeats_are_quiet};

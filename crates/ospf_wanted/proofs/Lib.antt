@@ -1,4 +1,4 @@
 mod MadeLemmas
 pub mod MakeLemmas
-mod SaidLemmas
+pub mod SaidLemmas
 pub mod WantedLemmas

@@ -26,7 +26,7 @@ use Rattle.ospf_lsa.specs.Value.{contents_bytes, network_value, router_value}
 use Rattle.ospf_lsa.specs.declared.link.Link.{Link}
 use Rattle.ospf_lsa.specs.declared.header.LsaHeader.{LsaHeader}
 use Rattle.ospf_wanted.specs.Made.{aside, says}
-use Rattle.ospf_wanted.specs.Said.{behind, is_end, links_bytes, router_link_bytes, before_bytes, behind_bytes}
+use Rattle.ospf_wanted.specs.Said.{behind, is_end, links_bytes, router_link_bytes, lower_bytes, higher_bytes}
 use Rattle.ospf_wanted.proofs.MadeLemmas.{bytes_eq-append}
 
 -- which of two is asked first is the same
@@ -260,12 +260,12 @@ full_links : (stub_router : Bool) (l : LinkValue) (ns : List NeighbourValue) →
 unfolding router_link_bytes
 full_links stub_router l ns = chosen link_bytes (router_link stub_router l) is_full ns
 
-before_routers : (router : RouterId) (ns : List NeighbourValue) → routers_bytes (map (λ (n : NeighbourValue). n.router) (filter (is_full_before router) ns)) ≡ flat_map (before_bytes router) ns
-unfolding before_bytes
+before_routers : (router : RouterId) (ns : List NeighbourValue) → routers_bytes (map (λ (n : NeighbourValue). n.router) (filter (is_full_before router) ns)) ≡ flat_map (lower_bytes router) ns
+unfolding lower_bytes
 before_routers router ns = chosen router_bytes (λ (n : NeighbourValue). n.router) (is_full_before router) ns
 
-behind_routers : (router : RouterId) (ns : List NeighbourValue) → routers_bytes (map (λ (n : NeighbourValue). n.router) (filter (is_full_behind router) ns)) ≡ flat_map (behind_bytes router) ns
-unfolding behind_bytes
+behind_routers : (router : RouterId) (ns : List NeighbourValue) → routers_bytes (map (λ (n : NeighbourValue). n.router) (filter (is_full_behind router) ns)) ≡ flat_map (higher_bytes router) ns
+unfolding higher_bytes
 behind_routers router ns = chosen router_bytes (λ (n : NeighbourValue). n.router) (is_full_behind router) ns
 
 -- one link behind others
@@ -314,15 +314,15 @@ all_behind stub_router links i start past =
     ∙ ap (λ (zs : List ℕ). behind zs start) (sym (links_of_links link_bytes (links_at stub_router) links))
 
 -- the routers attached to a network
-pub attached_behind : (router : RouterId) (ns : List NeighbourValue) (start mid own after : Option (List ℕ)) → mid ≡ behind (flat_map (before_bytes router) ns) start → own ≡ behind (router_bytes router) mid
-    → after ≡ behind (flat_map (behind_bytes router) ns) own → after ≡ behind (routers_bytes (attached_routers router ns)) start
+pub attached_behind : (router : RouterId) (ns : List NeighbourValue) (start mid own after : Option (List ℕ)) → mid ≡ behind (flat_map (lower_bytes router) ns) start → own ≡ behind (router_bytes router) mid
+    → after ≡ behind (flat_map (higher_bytes router) ns) own → after ≡ behind (routers_bytes (attached_routers router ns)) start
 attached_behind router ns start mid own after is_mid is_own is =
     let before : List RouterId = map (λ (n : NeighbourValue). n.router) (filter (is_full_before router) ns) in
     let later : List RouterId = map (λ (n : NeighbourValue). n.router) (filter (is_full_behind router) ns) in
-    is ∙ ap (λ (o : Option (List ℕ)). behind (flat_map (behind_bytes router) ns) o) (is_own ∙ ap (λ (o : Option (List ℕ)). behind (router_bytes router) o) is_mid)
-    ∙ sym (behind-append (router_bytes router) (flat_map (behind_bytes router) ns) (behind (flat_map (before_bytes router) ns) start))
-    ∙ sym (behind-append (flat_map (before_bytes router) ns) (router_bytes router ++ flat_map (behind_bytes router) ns) start)
+    is ∙ ap (λ (o : Option (List ℕ)). behind (flat_map (higher_bytes router) ns) o) (is_own ∙ ap (λ (o : Option (List ℕ)). behind (router_bytes router) o) is_mid)
+    ∙ sym (behind-append (router_bytes router) (flat_map (higher_bytes router) ns) (behind (flat_map (lower_bytes router) ns) start))
+    ∙ sym (behind-append (flat_map (lower_bytes router) ns) (router_bytes router ++ flat_map (higher_bytes router) ns) start)
     ∙ ap (λ (zs : List ℕ). behind zs start)
-    (ap (λ (zs : List ℕ). zs ++ (router_bytes router ++ flat_map (behind_bytes router) ns)) (sym (before_routers router ns))
+    (ap (λ (zs : List ℕ). zs ++ (router_bytes router ++ flat_map (higher_bytes router) ns)) (sym (before_routers router ns))
     ∙ ap (λ (zs : List ℕ). routers_bytes before ++ (router_bytes router ++ zs)) (sym (behind_routers router ns))
     ∙ sym (flat_map-append router_bytes before (router ∷ later)))

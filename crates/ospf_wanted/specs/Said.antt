@@ -29,8 +29,8 @@ unfoldable pub links_bytes : Bool → LinkValue → List ℕ
 links_bytes stub_router a = flat_map link_bytes (links_at stub_router a)
 
 -- the bytes of the ID of a fully adjacent neighbour that stands before a router, and of one that stands behind it (12.4.2)
-unfoldable pub before_bytes : RouterId → NeighbourValue → List ℕ
-before_bytes router n = if is_full_before router n then router_bytes n.router else []
+unfoldable pub lower_bytes : RouterId → NeighbourValue → List ℕ
+lower_bytes router n = if is_full_before router n then router_bytes n.router else []
 
-unfoldable pub behind_bytes : RouterId → NeighbourValue → List ℕ
-behind_bytes router n = if is_full_behind router n then router_bytes n.router else []
+unfoldable pub higher_bytes : RouterId → NeighbourValue → List ℕ
+higher_bytes router n = if is_full_behind router n then router_bytes n.router else []

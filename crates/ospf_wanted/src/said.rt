@@ -8,18 +8,18 @@ ghost use Rattle.ospf_base.specs.Sums.{contents};
 ghost use Rattle.ospf_base.specs.declared.ids.RouterId.{RouterId};
 ghost use Rattle.ospf_lsa.specs.Attached.{router_bytes, routers_bytes};
 ghost use Rattle.ospf_lsa.specs.Header.{header_bytes};
-ghost use Rattle.ospf_lsa.specs.Link.{kind_byte, link_bytes};
+ghost use Rattle.ospf_lsa.specs.Link.{link_bytes};
 ghost use Rattle.ospf_lsa.specs.Value.{network_value, router_value};
 ghost use Rattle.ospf_lsa.specs.declared.link.Link.{Link};
 ghost use Rattle.ospf_wanted.specs.Made.{says};
-ghost use Rattle.ospf_wanted.specs.Said.{behind, is_end, links_bytes, router_link_bytes, before_bytes, behind_bytes};
+ghost use Rattle.ospf_wanted.specs.Said.{behind, is_end, links_bytes, router_link_bytes, lower_bytes, higher_bytes};
 ghost use Rattle.ospf_wanted.specs.Wanted.{attached_routers, is_full, links_at, router_link};
 ghost use Rattle.ospf_wanted.specs.Wanted.WantedValue.{RouterLsa, NetworkLsa};
 
 use crate::wants::{broadcast_link, is_full, router_link, subnet_link};
 use ospf_area::Link as AreaLink;
 use ospf_base::{Age, InterfaceKind, OPTIONS, RouterId, u16_at};
-use ospf_lsa::{Link, LinkKind, LsaHeader, LsaView};
+use ospf_lsa::{Link, LsaHeader, LsaView};
 use ospf_neighbour::Neighbour;
 
 // What stands behind some bytes, where others begin with them.
@@ -39,17 +39,6 @@ fn behind<'a>(bytes: Option<&'a [u8]>, front: &[u8]) -> Option<&'a [u8]>
     }
 }
 
-fn kind_byte(kind: LinkKind) -> u8
-    ensures { result ≡ kind_byte kind }
-{
-    match kind {
-        LinkKind::PointToPoint => 1,
-        LinkKind::Transit => 2,
-        LinkKind::Stub => 3,
-        LinkKind::Virtual => 4,
-    }
-}
-
 // The bytes of a link, without TOS metrics (RFC 2328, appendix A.4.2).
 fn link_bytes(link: &Link) -> [u8; 12]
     ensures { result ≡ link_bytes link.now }
@@ -58,7 +47,7 @@ fn link_bytes(link: &Link) -> [u8; 12]
     let [a, b, c, d] = id.to_be_bytes();
     let [e, f, g, h] = link_data.to_be_bytes();
     let [i, j] = metric.to_be_bytes();
-    [a, b, c, d, e, f, g, h, kind_byte(link.kind), 0, i, j]
+    [a, b, c, d, e, f, g, h, link.kind.byte(), 0, i, j]
 }
 
 // What stands behind a link.
@@ -250,14 +239,14 @@ pub fn says_router(
     is_router_lsa(copy, router, rest)
 }
 
-// What stands behind the ID of a neighbour, if it is fully adjacent and stands before a router.
-#[tactic(auto, using(crate::proofs::SaidLemmas::behind_none), unfolding(crate::specs::Said::before_bytes))]
-fn behind_full_before<'a>(
+// What stands behind the ID of a neighbour, if it is fully adjacent and of a lower Router ID.
+#[tactic(auto, using(crate::proofs::SaidLemmas::behind_none), unfolding(crate::specs::Said::lower_bytes))]
+fn past_lower<'a>(
     bytes: Option<&'a [u8]>,
     router: RouterId,
     neighbour: &Neighbour,
 ) -> Option<&'a [u8]>
-    ensures { option_copied result ≡ behind (before_bytes router neighbour.now) (option_copied bytes.entry) }
+    ensures { option_copied result ≡ behind (lower_bytes router neighbour.now) (option_copied bytes.entry) }
 {
     if is_full(neighbour) && neighbour.router().0 < router.0 {
         behind_router(bytes, neighbour.router())
@@ -266,14 +255,14 @@ fn behind_full_before<'a>(
     }
 }
 
-// The same of one that stands behind it.
-#[tactic(auto, using(crate::proofs::SaidLemmas::behind_none), unfolding(crate::specs::Said::behind_bytes))]
-fn behind_full_behind<'a>(
+// What stands behind the ID of a neighbour, if it is fully adjacent and of a higher Router ID.
+#[tactic(auto, using(crate::proofs::SaidLemmas::behind_none), unfolding(crate::specs::Said::higher_bytes))]
+fn past_higher<'a>(
     bytes: Option<&'a [u8]>,
     router: RouterId,
     neighbour: &Neighbour,
 ) -> Option<&'a [u8]>
-    ensures { option_copied result ≡ behind (behind_bytes router neighbour.now) (option_copied bytes.entry) }
+    ensures { option_copied result ≡ behind (higher_bytes router neighbour.now) (option_copied bytes.entry) }
 {
     if is_full(neighbour) && router.0 < neighbour.router().0 {
         behind_router(bytes, neighbour.router())
@@ -283,31 +272,31 @@ fn behind_full_behind<'a>(
 }
 
 #[tactic(auto, using(crate::proofs::SaidLemmas::behind_more, crate::proofs::SaidLemmas::behind_none))]
-fn behind_all_before<'a>(
+fn past_all_lower<'a>(
     bytes: Option<&'a [u8]>,
     router: RouterId,
     neighbours: &[Neighbour],
 ) -> Option<&'a [u8]>
-    ensures { option_copied result ≡ behind (flat_map (before_bytes router) neighbours.now) (option_copied bytes.entry) }
+    ensures { option_copied result ≡ behind (flat_map (lower_bytes router) neighbours.now) (option_copied bytes.entry) }
 {
     let mut rest = bytes;
     for neighbour in neighbours {
-        rest = behind_full_before(rest, router, neighbour);
+        rest = past_lower(rest, router, neighbour);
     }
     rest
 }
 
 #[tactic(auto, using(crate::proofs::SaidLemmas::behind_more, crate::proofs::SaidLemmas::behind_none))]
-fn behind_all_behind<'a>(
+fn past_all_higher<'a>(
     bytes: Option<&'a [u8]>,
     router: RouterId,
     neighbours: &[Neighbour],
 ) -> Option<&'a [u8]>
-    ensures { option_copied result ≡ behind (flat_map (behind_bytes router) neighbours.now) (option_copied bytes.entry) }
+    ensures { option_copied result ≡ behind (flat_map (higher_bytes router) neighbours.now) (option_copied bytes.entry) }
 {
     let mut rest = bytes;
     for neighbour in neighbours {
-        rest = behind_full_behind(rest, router, neighbour);
+        rest = past_higher(rest, router, neighbour);
     }
     rest
 }
@@ -320,9 +309,9 @@ fn behind_attached<'a>(
 ) -> Option<&'a [u8]>
     ensures { option_copied result ≡ behind (routers_bytes (attached_routers router neighbours.now)) (option_copied bytes.entry) }
 {
-    let rest = behind_all_before(bytes, router, neighbours);
+    let rest = past_all_lower(bytes, router, neighbours);
     let rest = behind_router(rest, router);
-    behind_all_behind(rest, router, neighbours)
+    past_all_higher(rest, router, neighbours)
 }
 
 /// Whether an LSA is the network-LSA that is wanted of a link, number and checksum aside (RFC 2328, section 12.4.2).

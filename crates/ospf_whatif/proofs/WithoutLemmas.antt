@@ -12,7 +12,7 @@ use Rattle.ospf_lsa.specs.Lsa.{IsLsa, IsRouterLsa, IsNetworkLsa, key_of, kind_of
 use Rattle.ospf_lsa.specs.Link.{LinkEntry, entries_in, plain}
 use Rattle.ospf_lsa.specs.Listing as listings
 use Rattle.ospf_lsa.specs.declared.fault.LsaFault.TheVariants as fault
-use Rattle.ospf_lsa.proofs.ListingLemmas.{AllBefore, before_it}
+use Rattle.ospf_lsa.proofs.ListingLemmas.{AllBefore, all_back, before_it}
 use Rattle.ospf_lsa.specs.Value.{IsMade, IsUnmade, RouterNeeds, router_value, LsaValue, router_body}
 use Rattle.ospf_lsa.specs.declared.link.Link.{Link}
 use Rattle.ospf_graph.specs.Advertisements.{router_lsa}
@@ -33,10 +33,6 @@ pub taken_one : (f : Failure) (r : RouterId) (l : Link) → takes f r l ≡ true
 taken_one f r l goes = rw goes refl
 
 -- ---- an LSA behind all others
-
-all_back : {X : Type 0} (P : X → Type 0) (xs ys : List X) → AllByRecursion P (xs ++ ys) → AllByRecursion P ys
-all_back P [] ys p = p
-all_back P (x ∷ xs) ys p = all_back P xs ys p.1
 
 -- nothing stands behind what all others stand before
 behind_last : (lsa : List ℕ) (xs ys : List (List ℕ)) → listings.IsRising (xs ++ lsa ∷ ys) → AllByRecursion (λ l. Precedes (key_of l) (key_of lsa)) ys → ys ≡ []

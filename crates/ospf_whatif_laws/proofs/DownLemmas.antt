@@ -18,6 +18,7 @@ use Rattle.ospf_whatif.specs.declared.failure.Failure.{Failure}
 use Rattle.ospf_whatif.specs.declared.failure.Failure.TheVariants as fails
 use Rattle.ospf_whatif.proofs.WithoutLemmas.{kept_links-append}
 use Rattle.ospf_whatif_laws.specs.Wanted.{AreSpared, IsLeft, IsOfNetwork, IsWireUp, wanted_links}
+use Rattle.ospf_wanted.proofs.SaidLemmas.{up_is}
 
 -- ---- links that are all kept, or all taken
 
@@ -47,10 +48,6 @@ module _ (f : Failure) (router : RouterId) (stub_router : Bool) (front back : Li
 down_is : (stub_router : Bool) (l : LinkValue) → is_down l.iface.state ≡ true → links_at stub_router l ≡ []
 unfolding links_at
 down_is stub_router l down = rw down refl
-
-up_is : (stub_router : Bool) (l : LinkValue) → is_down l.iface.state ≡ false → links_at stub_router l ≡ links_of_kind l.iface.settings.kind stub_router l
-unfolding links_at
-up_is stub_router l up = rw up refl
 
 wire_is : (stub_router : Bool) (l : LinkValue) → is_down l.iface.state ≡ false → l.iface.settings.kind ≡ kind.PointToPoint
     → links_at stub_router l ≡ map (router_link stub_router l) (filter is_full l.neighbours) ++ subnet_link l ∷ []

@@ -1,19 +1,13 @@
 -- Whom a datagram is offered to.
 use Rattle.std.specs.Prelude.{◌==◌, ◌&&◌, ◌||◌, ℕ, Bool, List, Option, map, filter, slice_get, option_map}
 use Rattle.std.specs.List.{enumerate_from}
+use Rattle.ospf_base.specs.Addresses.{all_d_routers, all_spf_routers}
 use Rattle.ospf_base.specs.declared.ids.Addr.{Addr}
 use Rattle.ospf_config.specs.Conflicts.{network_part}
 use Rattle.ospf_config.specs.declared.address.InterfaceAddress.{InterfaceAddress}
 use Rattle.ospf_config.specs.declared.config.Config.{Config}
 use Rattle.ospf_headline.specs.declared.event.WorldEvent.{WorldEvent}
 use Rattle.ospf_headline.specs.declared.event.WorldEvent.TheVariants.{Deliver}
-
--- AllSPFRouters and AllDRouters (RFC 2328, appendix A.1)
-abbrev pub all_spf_routers : ℕ
-all_spf_routers = 0xe0000005
-
-abbrev pub all_d_routers : ℕ
-all_d_routers = 0xe0000006
 
 -- the address of the interface of a link
 abbrev pub address_at : Config → ℕ → Option InterfaceAddress
@@ -25,7 +19,7 @@ is_on one other = (one.length == other.length) && (network_part one == network_p
 
 -- an interface listens to the destination: all routers, those that a network elects, or its own address
 abbrev pub is_for : Addr → InterfaceAddress → Bool
-is_for destination to = (destination.0 == all_spf_routers) || (destination.0 == all_d_routers) || (destination.0 == to.address.0)
+is_for destination to = (destination.0 == all_spf_routers.0) || (destination.0 == all_d_routers.0) || (destination.0 == to.address.0)
 
 -- what goes out of one interface is offered to another: it has the same prefix and listens to the destination
 unfoldable pub is_offered : InterfaceAddress → Addr → InterfaceAddress → Bool
