@@ -18,16 +18,6 @@ use ospf_neighbour::{NbrEvent, Neighbour};
 use ospf_packet::{BodyValue, PacketValue, RequestEntry};
 use std::alloc::{AllocError, Global};
 
-fn entry_for(header: &LsaHeader) -> RequestEntry
-    ensures { result ≡ entry_for header.now }
-{
-    RequestEntry {
-        kind: u32::from(header.kind),
-        id: header.id,
-        router: header.router,
-    }
-}
-
 /// The Request that names the first entries of the request list (RFC 2328, section 10.9).
 ///
 /// `AllocError` where memory runs out.
@@ -39,16 +29,6 @@ pub fn request_body(neighbour: &Neighbour, alloc: Global) -> Result<BodyValue, A
         entries.push(entry_for(header))?;
     }
     Ok(BodyValue::Request(entries))
-}
-
-fn request_packet(neighbour: &Neighbour, own: Own, alloc: Global) -> Result<PacketValue, AllocError>
-    ensures { IfOk result (λ p. meant p ≡ packet_of own (request_body neighbour.now)) }
-{
-    Ok(PacketValue {
-        router: own.router,
-        area: own.area,
-        body: request_body(neighbour, alloc)?,
-    })
 }
 
 /// Sends the last Request to a neighbour (RFC 2328, section 10.9).
@@ -83,23 +63,58 @@ pub fn turn_one(neighbour: &mut Neighbour, mtu: u16, tick: u64) -> bool
     true
 }
 
-// LoadingDone and the next Request of one neighbour, with what is sent.
-fn turn(
-    neighbour: &mut Neighbour,
-    number: usize,
-    iface: &Iface,
-    mtu: u16,
+/// LoadingDone and the next Requests of all neighbours, where they are due (sections 10.3 and 10.9).
+///
+/// `AllocError` where memory runs out; then the router is to be stopped.
+pub fn turn_requests(
+    links: &mut [Link],
     own: Own,
     out: &mut Outputs,
     alloc: Global,
 ) -> Result<(), AllocError>
-    ensures after { neighbour.new ≡ turned mtu own.tick neighbour.old }
-    ensures sent { OnOk result (out.new ≡ and_sends out.old (turn_request own number iface.now mtu neighbour.old)) }
+    ensures after { OnOk result (links.new ≡ turned_links own links.old) }
+    ensures sent { OnOk result (out.new ≡ and_sends out.old (turn_requests own links.old)) }
 {
-    if turn_one(neighbour, mtu, own.tick) {
-        send_request(neighbour, number, iface, own, out, alloc)?;
+    for (number, link) in links.iter_mut().enumerate() {
+        turn_link(link, number, own, out, alloc)?;
     }
     Ok(())
+}
+
+fn entry_for(header: &LsaHeader) -> RequestEntry
+    ensures { result ≡ entry_for header.now }
+{
+    RequestEntry {
+        kind: u32::from(header.kind),
+        id: header.id,
+        router: header.router,
+    }
+}
+
+fn request_packet(neighbour: &Neighbour, own: Own, alloc: Global) -> Result<PacketValue, AllocError>
+    ensures { IfOk result (λ p. meant p ≡ packet_of own (request_body neighbour.now)) }
+{
+    Ok(PacketValue {
+        router: own.router,
+        area: own.area,
+        body: request_body(neighbour, alloc)?,
+    })
+}
+
+fn turn_link(
+    link: &mut Link,
+    number: usize,
+    own: Own,
+    out: &mut Outputs,
+    alloc: Global,
+) -> Result<(), AllocError>
+    ensures after { OnOk result (link.new ≡ turned_link own link.old) }
+    ensures sent { OnOk result (out.new ≡ and_sends out.old (turn_requests_on own number link.old)) }
+{
+    let iface = link.iface;
+    let mtu = link.settings.mtu;
+    let neighbours = &mut link.neighbours;
+    turn_all(&mut neighbours.all, number, &iface, mtu, own, out, alloc)
 }
 
 fn turn_all(
@@ -122,36 +137,21 @@ fn turn_all(
     Ok(())
 }
 
-fn turn_link(
-    link: &mut Link,
+// LoadingDone and the next Request of one neighbour, with what is sent.
+fn turn(
+    neighbour: &mut Neighbour,
     number: usize,
+    iface: &Iface,
+    mtu: u16,
     own: Own,
     out: &mut Outputs,
     alloc: Global,
 ) -> Result<(), AllocError>
-    ensures after { OnOk result (link.new ≡ turned_link own link.old) }
-    ensures sent { OnOk result (out.new ≡ and_sends out.old (turn_requests_on own number link.old)) }
+    ensures after { neighbour.new ≡ turned mtu own.tick neighbour.old }
+    ensures sent { OnOk result (out.new ≡ and_sends out.old (turn_request own number iface.now mtu neighbour.old)) }
 {
-    let iface = link.iface;
-    let mtu = link.settings.mtu;
-    let neighbours = &mut link.neighbours;
-    turn_all(&mut neighbours.all, number, &iface, mtu, own, out, alloc)
-}
-
-/// LoadingDone and the next Requests of all neighbours, where they are due (sections 10.3 and 10.9).
-///
-/// `AllocError` where memory runs out; then the router is to be stopped.
-pub fn turn_requests(
-    links: &mut [Link],
-    own: Own,
-    out: &mut Outputs,
-    alloc: Global,
-) -> Result<(), AllocError>
-    ensures after { OnOk result (links.new ≡ turned_links own links.old) }
-    ensures sent { OnOk result (out.new ≡ and_sends out.old (turn_requests own links.old)) }
-{
-    for (number, link) in links.iter_mut().enumerate() {
-        turn_link(link, number, own, out, alloc)?;
+    if turn_one(neighbour, mtu, own.tick) {
+        send_request(neighbour, number, iface, own, out, alloc)?;
     }
     Ok(())
 }

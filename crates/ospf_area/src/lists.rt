@@ -6,12 +6,6 @@ ghost use Rattle.ospf_area.specs.Flooding.{released_link, released};
 use crate::state::Link;
 use ospf_base::LsaKey;
 
-fn release_link(link: &mut Link, key: &LsaKey)
-    ensures { link.new ≡ released_link key.now link.old }
-{
-    link.neighbours.unlist_key(key);
-}
-
 /// Takes all instances of a key off the retransmission lists of all neighbours (RFC 2328, section 13, step 5c). No
 /// memory is taken.
 pub fn release(links: &mut [Link], key: &LsaKey)
@@ -20,4 +14,10 @@ pub fn release(links: &mut [Link], key: &LsaKey)
     for link in links.iter_mut() {
         release_link(link, key);
     }
+}
+
+fn release_link(link: &mut Link, key: &LsaKey)
+    ensures { link.new ≡ released_link key.now link.old }
+{
+    link.neighbours.unlist_key(key);
 }

@@ -13,49 +13,11 @@ use ospf_lsa::LsaHeader;
 use std::alloc::AllocError;
 use std::collections::BTreeSet;
 
-fn larger(a: i32, b: i32) -> i32
-    ensures { result ≡ int_max a b }
-{
-    if b < a { a } else { b }
-}
-
-fn count_one(numbering: &mut Numbering, key: &LsaKey, number: i32)
-    ensures { numbering.new ≡ counted_one key.now number numbering.old }
-{
-    if numbering.key.is_same(key) {
-        numbering.kept = larger(numbering.kept, number);
-    }
-}
-
-fn count_all(all: &mut [Numbering], key: &LsaKey, number: i32)
-    ensures { all.new ≡ map (counted_one key.now number) all.old }
-{
-    for numbering in all.iter_mut() {
-        count_one(numbering, key, number);
-    }
-}
-
 /// Whether the router has numbered the key.
 pub fn is_numbered(all: &[Numbering], key: &LsaKey) -> bool
     ensures { result ≡ list_any (is_numbering_of key.now) all.now }
 {
     all.iter().any(|numbering| numbering.key.is_same(key))
-}
-
-// A number of a key was issued or installed.
-fn count(all: &mut Vec<Numbering>, key: LsaKey, number: i32, floor: i32) -> Result<(), AllocError>
-    ensures { OnOk result (all.new.items ≡ counted key number floor all.old.items) }
-{
-    if is_numbered(all, &key) {
-        count_all(all, &key, number);
-        return Ok(());
-    }
-    all.push(Numbering {
-        key,
-        kept: larger(floor, number),
-        issued_at: None,
-    })?;
-    Ok(())
 }
 
 /// Whether the router numbers the key.
@@ -81,21 +43,6 @@ pub fn count_number(area: &mut Area, key: LsaKey, header: &LsaHeader) -> Result<
     Ok(())
 }
 
-fn is_network(kind: Kind) -> bool
-    ensures { result ≡ is_network kind }
-{
-    matches!(kind, Kind::Network)
-}
-
-// Whether an interface has this address.
-fn has_address(links: &[Link], address: u32) -> bool
-    ensures { result ≡ list_any (has_that_address address) links.now }
-{
-    links
-        .iter()
-        .any(|link| link.iface.settings.address.0 == address)
-}
-
 /// Whether an LSA is self-originated (section 13.4).
 pub fn is_self_originated(router: RouterId, links: &[Link], key: &LsaKey) -> bool
     ensures { result ≡ is_self_originated router links.now key.now }
@@ -113,12 +60,6 @@ pub fn was_sent(sent: &BTreeSet<LsaKey>, key: &LsaKey) -> bool
     sent.contains(key)
 }
 
-fn unmark(sent: &mut BTreeSet<LsaKey>, key: &LsaKey)
-    ensures { sent.new.keys ≡ unmarked key.now sent.old.keys }
-{
-    sent.remove(key);
-}
-
 /// The copy of a key has just been installed, and was sent in an Update or was not. Memory is taken for a key that was
 /// not marked.
 ///
@@ -132,4 +73,63 @@ pub fn mark(sent: &mut BTreeSet<LsaKey>, key: LsaKey, went: bool) -> Result<(), 
         unmark(sent, &key);
     }
     Ok(())
+}
+
+// A number of a key was issued or installed.
+fn count(all: &mut Vec<Numbering>, key: LsaKey, number: i32, floor: i32) -> Result<(), AllocError>
+    ensures { OnOk result (all.new.items ≡ counted key number floor all.old.items) }
+{
+    if is_numbered(all, &key) {
+        count_all(all, &key, number);
+        return Ok(());
+    }
+    all.push(Numbering {
+        key,
+        kept: larger(floor, number),
+        issued_at: None,
+    })?;
+    Ok(())
+}
+
+fn count_all(all: &mut [Numbering], key: &LsaKey, number: i32)
+    ensures { all.new ≡ map (counted_one key.now number) all.old }
+{
+    for numbering in all.iter_mut() {
+        count_one(numbering, key, number);
+    }
+}
+
+fn count_one(numbering: &mut Numbering, key: &LsaKey, number: i32)
+    ensures { numbering.new ≡ counted_one key.now number numbering.old }
+{
+    if numbering.key.is_same(key) {
+        numbering.kept = larger(numbering.kept, number);
+    }
+}
+
+fn larger(a: i32, b: i32) -> i32
+    ensures { result ≡ int_max a b }
+{
+    if b < a { a } else { b }
+}
+
+fn is_network(kind: Kind) -> bool
+    ensures { result ≡ is_network kind }
+{
+    matches!(kind, Kind::Network)
+}
+
+// Whether an interface has this address.
+fn has_address(links: &[Link], address: u32) -> bool
+    ensures { result ≡ list_any (has_that_address address) links.now }
+{
+    links
+        .iter()
+        .any(|link| link.iface.settings.address.0 == address)
+}
+
+fn unmark(sent: &mut BTreeSet<LsaKey>, key: &LsaKey)
+    ensures { sent.new.keys ≡ unmarked key.now sent.old.keys }
+{
+    sent.remove(key);
 }

@@ -24,6 +24,14 @@ pub struct Own {
     pub passes_over: bool,
 }
 
+/// The way of a datagram: out of which link, from which address and to which.
+#[derive(Clone, Copy, Debug, PartialEq, Eq)]
+pub struct Way {
+    pub link: usize,
+    pub source: Addr,
+    pub destination: Addr,
+}
+
 /// What a call needs to know of the router.
 pub fn own_of(area: &Area) -> Own
     ensures { result ≡ own_of area.now }
@@ -34,14 +42,6 @@ pub fn own_of(area: &Area) -> Own
         tick: area.tick,
         passes_over: area.passes_over,
     }
-}
-
-/// The way of a datagram: out of which link, from which address and to which.
-#[derive(Clone, Copy, Debug, PartialEq, Eq)]
-pub struct Way {
-    pub link: usize,
-    pub source: Addr,
-    pub destination: Addr,
 }
 
 /// The way out of a link, from the interface's address.

@@ -12,36 +12,16 @@ pub struct AreaId(pub u32);
 #[derive(Clone, Copy, Debug, PartialEq, Eq, PartialOrd, Ord, Hash)]
 pub struct Addr(pub u32);
 
+impl Addr {
+    /// 0.0.0.0: no router, and no address that is known.
+    pub const NOWHERE: Addr = Addr(0);
+}
+
 /// The kinds of LSAs: LS types 1 and 2 (RFC 2328, section 12.1.3).
 #[derive(Clone, Copy, Debug, PartialEq, Eq, PartialOrd, Ord, Hash)]
 pub enum Kind {
     Router,
     Network,
-}
-
-/// What names an LSA: its kind, Link State ID and Advertising Router (RFC 2328, section 12.1).
-///
-/// Keys are in the order of a listing: router-LSAs first, then by Link State ID, then by
-/// Advertising Router.
-#[derive(Clone, Copy, Debug, PartialEq, Eq, PartialOrd, Ord, Hash)]
-pub struct LsaKey {
-    pub kind: Kind,
-    pub id: u32,
-    pub router: RouterId,
-}
-
-/// What tells the instances of one LSA apart: sequence number and checksum beside the key (RFC 2328,
-/// section 12.1).
-#[derive(Clone, Copy, Debug, PartialEq, Eq, Hash)]
-pub struct Instance {
-    pub key: LsaKey,
-    pub number: i32,
-    pub sum: u16,
-}
-
-impl Addr {
-    /// 0.0.0.0: no router, and no address that is known.
-    pub const NOWHERE: Addr = Addr(0);
 }
 
 impl Kind {
@@ -57,6 +37,17 @@ impl Kind {
             Kind::Network => 2,
         }
     }
+}
+
+/// What names an LSA: its kind, Link State ID and Advertising Router (RFC 2328, section 12.1).
+///
+/// Keys are in the order of a listing: router-LSAs first, then by Link State ID, then by
+/// Advertising Router.
+#[derive(Clone, Copy, Debug, PartialEq, Eq, PartialOrd, Ord, Hash)]
+pub struct LsaKey {
+    pub kind: Kind,
+    pub id: u32,
+    pub router: RouterId,
 }
 
 impl LsaKey {
@@ -91,6 +82,15 @@ impl LsaKey {
             && self.id == other.id
             && self.router.0 == other.router.0
     }
+}
+
+/// What tells the instances of one LSA apart: sequence number and checksum beside the key (RFC 2328,
+/// section 12.1).
+#[derive(Clone, Copy, Debug, PartialEq, Eq, Hash)]
+pub struct Instance {
+    pub key: LsaKey,
+    pub number: i32,
+    pub sum: u16,
 }
 
 impl Instance {

@@ -7,16 +7,6 @@ use crate::ids::{Addr, RouterId};
 use std::net::{AddrParseError, Ipv4Addr};
 use std::str::FromStr;
 
-// The number whose four bytes a dotted text spells.
-fn dotted(text: &str) -> Result<u32, AddrParseError>
-    ensures { Parses IsDottedNumber text.now result }
-{
-    match text.parse::<Ipv4Addr>() {
-        Ok(address) => Ok(address.to_bits()),
-        Err(error) => Err(error),
-    }
-}
-
 /// Dotted text: four decimal numbers below 256 without leading zeros.
 impl FromStr for Addr {
     type Err = AddrParseError;
@@ -46,5 +36,15 @@ impl FromStr for RouterId {
             Ok(number) => Ok(RouterId(number)),
             Err(error) => Err(error),
         }
+    }
+}
+
+// The number whose four bytes a dotted text spells.
+fn dotted(text: &str) -> Result<u32, AddrParseError>
+    ensures { Parses IsDottedNumber text.now result }
+{
+    match text.parse::<Ipv4Addr>() {
+        Ok(address) => Ok(address.to_bits()),
+        Err(error) => Err(error),
     }
 }

@@ -16,6 +16,31 @@ pub struct Prefix {
     ghost masked: { bit_and address.0 (spec.mask_of length) ≡ address.0 },
 }
 
+impl Prefix {
+    ghost use Rattle.std.specs.Prelude.{◌↔◌, IsTrue, IfSome, IfNone};
+    ghost use Rattle.ospf_base.specs.Masks.{IsMask};
+    ghost use Rattle.ospf_base.specs.Prefixes.{IsPrefixOf, Holds};
+
+    /// The prefix of an address under a mask; `None` where the mask has a hole.
+    pub fn under(address: Addr, mask: u32) -> Option<Prefix>
+        ensures found { IfSome result (λ prefix. IsPrefixOf address.0 mask prefix) }
+        ensures hole { IfNone result (IsMask mask → ⊥) }
+    {
+        let length = mask_length(mask)?;
+        Some(Prefix {
+            address: Addr(address.0 & mask_of(length)),
+            length,
+        })
+    }
+
+    /// Whether the prefix holds an address.
+    pub fn holds(&self, address: Addr) -> bool
+        ensures { IsTrue result ↔ Holds self.now address.0 }
+    {
+        address.0 & mask_of(self.length) == self.address.0
+    }
+}
+
 /// The mask of a prefix of this length (RFC 2328, section 2.1.2).
 pub fn mask_of(length: u8) -> u32
     requires { length ≤ 32 }
@@ -42,29 +67,4 @@ pub fn is_mask(mask: u32) -> bool
     ensures { IsTrue result ↔ IsMask mask }
 {
     mask_length(mask).is_some()
-}
-
-impl Prefix {
-    ghost use Rattle.std.specs.Prelude.{◌↔◌, IsTrue, IfSome, IfNone};
-    ghost use Rattle.ospf_base.specs.Masks.{IsMask};
-    ghost use Rattle.ospf_base.specs.Prefixes.{IsPrefixOf, Holds};
-
-    /// The prefix of an address under a mask; `None` where the mask has a hole.
-    pub fn under(address: Addr, mask: u32) -> Option<Prefix>
-        ensures found { IfSome result (λ prefix. IsPrefixOf address.0 mask prefix) }
-        ensures hole { IfNone result (IsMask mask → ⊥) }
-    {
-        let length = mask_length(mask)?;
-        Some(Prefix {
-            address: Addr(address.0 & mask_of(length)),
-            length,
-        })
-    }
-
-    /// Whether the prefix holds an address.
-    pub fn holds(&self, address: Addr) -> bool
-        ensures { IsTrue result ↔ Holds self.now address.0 }
-    {
-        address.0 & mask_of(self.length) == self.address.0
-    }
 }

@@ -7,15 +7,6 @@ use crate::ids::{Addr, AreaId, RouterId};
 use crate::prefix::Prefix;
 use std::fmt::{self, Display, Formatter, Write};
 
-// Four numbers with dots between them.
-#[tactic(auto, unfolding(crate::specs::Text::number_text))]
-fn write_dotted<W: Write>(f: &mut Formatter<W>, number: u32) -> fmt::Result
-    ensures { WritesOnOk W.Write.write_str_gives f.old result (number_text number) f.new }
-{
-    let [a, b, c, d] = number.to_be_bytes();
-    write!(f, "{a}.{b}.{c}.{d}")
-}
-
 /// Dotted, as `10.0.0.1`.
 impl Display for RouterId {
     ghost use Rattle.std.specs.Prelude.{Some};
@@ -62,4 +53,13 @@ impl Display for Prefix {
     fn fmt<W: Write>(&self, f: &mut Formatter<W>) -> fmt::Result {
         write!(f, "{}/{}", self.address, self.length)
     }
+}
+
+// Four numbers with dots between them.
+#[tactic(auto, unfolding(crate::specs::Text::number_text))]
+fn write_dotted<W: Write>(f: &mut Formatter<W>, number: u32) -> fmt::Result
+    ensures { WritesOnOk W.Write.write_str_gives f.old result (number_text number) f.new }
+{
+    let [a, b, c, d] = number.to_be_bytes();
+    write!(f, "{a}.{b}.{c}.{d}")
 }

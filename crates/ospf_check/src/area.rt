@@ -14,43 +14,110 @@ use ospf_plan::{Finding, Told, findings};
 use std::alloc::{AllocError, Global};
 use std::io::Write;
 
-// The name of a file.
-fn name_at(files: &[NamedFile], number: usize) -> &str
-    ensures { result.now ≡ name_at files.now number }
-{
-    match files.get(number) {
-        None => "",
-        Some(file) => file.name.as_str(),
-    }
-}
-
-// A finding in words.
-fn line_of(alloc: Global, files: &[NamedFile], finding: &Finding) -> Result<String, AllocError>
-    ensures { IfOk result (λ text. string_bytes text ≡ line_of files.now finding.now) }
-{
-    let told = Told {
-        finding: *finding,
-        here: name_at(files, finding.here.file),
-        other: name_at(files, finding.other.file),
-    };
-    format!(in alloc; "{told}")
-}
-
-// A finding in words, and what follows from it where that is wanted, in lines.
-fn finding_lines(
+/// Checks the configurations of one area: each as `check_text` does, and where all are accepted what is wrong between
+/// them. Faults go to `err`; with `explain` notes go to `out`, and behind each fault and note a line of what follows.
+///
+/// The status is `Refused` where a file was refused or a fault was told, and `Done` where there are none but notes. The check
+/// ends early as `check_text` does, with status `Stream` or `Memory`: then all is written of the files before, and where
+/// it ended behind the files, of the findings before; of the one where it ended no more than a beginning.
+pub fn check_area_text<O: Write, E: Write>(
     alloc: Global,
     files: &[NamedFile],
-    finding: &Finding,
     explain: bool,
-) -> Result<String, AllocError>
-    ensures { IfOk result (λ lines. string_bytes lines ≡ finding_lines explain files.now finding.now) }
+    out: &mut O,
+    err: &mut E,
+) -> Status
+    ensures done { result ≡ Status.Done → IsChecked explain files.now true (O.contents out.old) (O.contents out.new) (E.contents err.old) (E.contents err.new) }
+    ensures refused { result ≡ Status.Refused → IsChecked explain files.now false (O.contents out.old) (O.contents out.new) (E.contents err.old) (E.contents err.new) }
+    ensures cut { (result ≡ Status.Memory) ⊎ (result ≡ Status.Stream) → (failed : FailedStreams) × IsCheckCut explain files.now failed (O.contents out.old) (O.contents out.new) (E.contents err.old) (E.contents err.new) result }
+    ensures not_words { result ≢ Status.Words }
 {
-    let text = line_of(alloc, files, finding)?;
-    let mut lines = format!(in alloc; "{text}\n")?;
-    if explain {
-        lines.push_str(&format!(in alloc; "  {}\n", finding.fault.meaning())?)?;
+    check_area_noted(alloc, files, explain, out, err, &mut FailedStreams::none())
+}
+
+// Checks the configurations of one area, as `check_area_text`, and notes which streams fail.
+fn check_area_noted<O: Write, E: Write>(
+    alloc: Global,
+    files: &[NamedFile],
+    explain: bool,
+    out: &mut O,
+    err: &mut E,
+    streams: &mut FailedStreams,
+) -> Status
+    ensures done { result ≡ Status.Done → IsChecked explain files.now true (O.contents out.old) (O.contents out.new) (E.contents err.old) (E.contents err.new) }
+    ensures refused { result ≡ Status.Refused → IsChecked explain files.now false (O.contents out.old) (O.contents out.new) (E.contents err.old) (E.contents err.new) }
+    ensures cut { (result ≡ Status.Memory) ⊎ (result ≡ Status.Stream) → IsCheckCut explain files.now streams.new (O.contents out.old) (O.contents out.new) (E.contents err.old) (E.contents err.new) result }
+    ensures not_words { result ≢ Status.Words }
+{
+    match check_files(alloc, files, explain, out, err, streams) {
+        Ok(Some(configs)) => check_together(alloc, files, &configs, explain, out, err, streams),
+        Ok(None) => Status::Refused,
+        Err(cause) => tell_last(cause, err, streams),
     }
-    Ok(lines)
+}
+
+// Tells what is wrong between the configurations in files. The answer is the status to end with.
+fn check_together<O: Write, E: Write>(
+    alloc: Global,
+    files: &[NamedFile],
+    configs: &[Config],
+    explain: bool,
+    out: &mut O,
+    err: &mut E,
+    streams: &mut FailedStreams,
+) -> Status
+    ensures done { AreConfigs files.now configs.now → result ≡ Status.Done → IsAreaTold explain files.now true (O.contents out.old) (O.contents out.new) (E.contents err.old) (E.contents err.new) }
+    ensures refused { AreConfigs files.now configs.now → result ≡ Status.Refused → IsAreaTold explain files.now false (O.contents out.old) (O.contents out.new) (E.contents err.old) (E.contents err.new) }
+    ensures cut { (result ≡ Status.Memory) ⊎ (result ≡ Status.Stream) → IsAreaCutShort explain files.now configs.now streams.new (O.contents out.old) (O.contents out.new) (E.contents err.old) (E.contents err.new) result }
+    ensures not_words { result ≢ Status.Words }
+{
+    match tell_area(alloc, files, configs, explain, out, err, streams) {
+        Ok(true) => Status::Done,
+        Ok(false) => Status::Refused,
+        Err(failure) => failure.tell(err, streams),
+    }
+}
+
+// Tells what is wrong between configurations. The answer is whether nothing is but notes.
+fn tell_area<O: Write, E: Write>(
+    alloc: Global,
+    files: &[NamedFile],
+    configs: &[Config],
+    explain: bool,
+    out: &mut O,
+    err: &mut E,
+    streams: &mut FailedStreams,
+) -> Result<bool, Failure>
+    ensures told { AreConfigs files.now configs.now → IfOk result (λ sound. IsAreaTold explain files.now sound (O.contents out.old) (O.contents out.new) (E.contents err.old) (E.contents err.new)) }
+    ensures cut { IfErr result (IsAreaCut explain files.now configs.now streams.new (O.contents out.old) (O.contents out.new) (E.contents err.old) (E.contents err.new)) }
+{
+    match findings(alloc, configs) {
+        Ok(found) => tell_findings(alloc, files, &found, explain, out, err, streams),
+        Err(AllocError) => Err(Failure::Memory),
+    }
+}
+
+// Tells findings in order. The answer is whether all are notes.
+fn tell_findings<O: Write, E: Write>(
+    alloc: Global,
+    files: &[NamedFile],
+    findings: &[Finding],
+    explain: bool,
+    out: &mut O,
+    err: &mut E,
+    streams: &mut FailedStreams,
+) -> Result<bool, Failure>
+    ensures told { IfOk result (λ sound. IsFindingsWritten explain files.now findings.now sound (O.contents out.old) (O.contents out.new) (E.contents err.old) (E.contents err.new)) }
+    ensures cut { IfErr result (IsCutAt explain files.now findings.now streams.new (O.contents out.old) (O.contents out.new) (E.contents err.old) (E.contents err.new)) }
+{
+    let mut sound = true;
+    for finding in findings {
+        match tell_finding(alloc, files, finding, explain, out, err, streams) {
+            Ok(()) => sound &= finding.fault.is_note(),
+            Err(failure) => return Err(failure),
+        }
+    }
+    Ok(sound)
 }
 
 // Tells a finding: a note on `out`, where it is to be explained, and a fault on `err`.
@@ -84,108 +151,41 @@ fn tell_finding<O: Write, E: Write>(
     }
 }
 
-// Tells findings in order. The answer is whether all are notes.
-fn tell_findings<O: Write, E: Write>(
+// A finding in words, and what follows from it where that is wanted, in lines.
+fn finding_lines(
     alloc: Global,
     files: &[NamedFile],
-    findings: &[Finding],
+    finding: &Finding,
     explain: bool,
-    out: &mut O,
-    err: &mut E,
-    streams: &mut FailedStreams,
-) -> Result<bool, Failure>
-    ensures told { IfOk result (λ sound. IsFindingsWritten explain files.now findings.now sound (O.contents out.old) (O.contents out.new) (E.contents err.old) (E.contents err.new)) }
-    ensures cut { IfErr result (IsCutAt explain files.now findings.now streams.new (O.contents out.old) (O.contents out.new) (E.contents err.old) (E.contents err.new)) }
+) -> Result<String, AllocError>
+    ensures { IfOk result (λ lines. string_bytes lines ≡ finding_lines explain files.now finding.now) }
 {
-    let mut sound = true;
-    for finding in findings {
-        match tell_finding(alloc, files, finding, explain, out, err, streams) {
-            Ok(()) => sound &= finding.fault.is_note(),
-            Err(failure) => return Err(failure),
-        }
+    let text = line_of(alloc, files, finding)?;
+    let mut lines = format!(in alloc; "{text}\n")?;
+    if explain {
+        lines.push_str(&format!(in alloc; "  {}\n", finding.fault.meaning())?)?;
     }
-    Ok(sound)
+    Ok(lines)
 }
 
-// Tells what is wrong between configurations. The answer is whether nothing is but notes.
-fn tell_area<O: Write, E: Write>(
-    alloc: Global,
-    files: &[NamedFile],
-    configs: &[Config],
-    explain: bool,
-    out: &mut O,
-    err: &mut E,
-    streams: &mut FailedStreams,
-) -> Result<bool, Failure>
-    ensures told { AreConfigs files.now configs.now → IfOk result (λ sound. IsAreaTold explain files.now sound (O.contents out.old) (O.contents out.new) (E.contents err.old) (E.contents err.new)) }
-    ensures cut { IfErr result (IsAreaCut explain files.now configs.now streams.new (O.contents out.old) (O.contents out.new) (E.contents err.old) (E.contents err.new)) }
+// A finding in words.
+fn line_of(alloc: Global, files: &[NamedFile], finding: &Finding) -> Result<String, AllocError>
+    ensures { IfOk result (λ text. string_bytes text ≡ line_of files.now finding.now) }
 {
-    match findings(alloc, configs) {
-        Ok(found) => tell_findings(alloc, files, &found, explain, out, err, streams),
-        Err(AllocError) => Err(Failure::Memory),
-    }
+    let told = Told {
+        finding: *finding,
+        here: name_at(files, finding.here.file),
+        other: name_at(files, finding.other.file),
+    };
+    format!(in alloc; "{told}")
 }
 
-// Tells what is wrong between the configurations in files. The answer is the status to end with.
-fn check_together<O: Write, E: Write>(
-    alloc: Global,
-    files: &[NamedFile],
-    configs: &[Config],
-    explain: bool,
-    out: &mut O,
-    err: &mut E,
-    streams: &mut FailedStreams,
-) -> Status
-    ensures done { AreConfigs files.now configs.now → result ≡ Status.Done → IsAreaTold explain files.now true (O.contents out.old) (O.contents out.new) (E.contents err.old) (E.contents err.new) }
-    ensures refused { AreConfigs files.now configs.now → result ≡ Status.Refused → IsAreaTold explain files.now false (O.contents out.old) (O.contents out.new) (E.contents err.old) (E.contents err.new) }
-    ensures cut { (result ≡ Status.Memory) ⊎ (result ≡ Status.Stream) → IsAreaCutShort explain files.now configs.now streams.new (O.contents out.old) (O.contents out.new) (E.contents err.old) (E.contents err.new) result }
-    ensures not_words { result ≢ Status.Words }
+// The name of a file.
+fn name_at(files: &[NamedFile], number: usize) -> &str
+    ensures { result.now ≡ name_at files.now number }
 {
-    match tell_area(alloc, files, configs, explain, out, err, streams) {
-        Ok(true) => Status::Done,
-        Ok(false) => Status::Refused,
-        Err(failure) => failure.tell(err, streams),
+    match files.get(number) {
+        None => "",
+        Some(file) => file.name.as_str(),
     }
-}
-
-// Checks the configurations of one area, as `check_area_text`, and notes which streams fail.
-fn check_area_noted<O: Write, E: Write>(
-    alloc: Global,
-    files: &[NamedFile],
-    explain: bool,
-    out: &mut O,
-    err: &mut E,
-    streams: &mut FailedStreams,
-) -> Status
-    ensures done { result ≡ Status.Done → IsChecked explain files.now true (O.contents out.old) (O.contents out.new) (E.contents err.old) (E.contents err.new) }
-    ensures refused { result ≡ Status.Refused → IsChecked explain files.now false (O.contents out.old) (O.contents out.new) (E.contents err.old) (E.contents err.new) }
-    ensures cut { (result ≡ Status.Memory) ⊎ (result ≡ Status.Stream) → IsCheckCut explain files.now streams.new (O.contents out.old) (O.contents out.new) (E.contents err.old) (E.contents err.new) result }
-    ensures not_words { result ≢ Status.Words }
-{
-    match check_files(alloc, files, explain, out, err, streams) {
-        Ok(Some(configs)) => check_together(alloc, files, &configs, explain, out, err, streams),
-        Ok(None) => Status::Refused,
-        Err(cause) => tell_last(cause, err, streams),
-    }
-}
-
-/// Checks the configurations of one area: each as `check_text` does, and where all are accepted what is wrong between
-/// them. Faults go to `err`; with `explain` notes go to `out`, and behind each fault and note a line of what follows.
-///
-/// The status is `Refused` where a file was refused or a fault was told, and `Done` where there are none but notes. The check
-/// ends early as `check_text` does, with status `Stream` or `Memory`: then all is written of the files before, and where
-/// it ended behind the files, of the findings before; of the one where it ended no more than a beginning.
-pub fn check_area_text<O: Write, E: Write>(
-    alloc: Global,
-    files: &[NamedFile],
-    explain: bool,
-    out: &mut O,
-    err: &mut E,
-) -> Status
-    ensures done { result ≡ Status.Done → IsChecked explain files.now true (O.contents out.old) (O.contents out.new) (E.contents err.old) (E.contents err.new) }
-    ensures refused { result ≡ Status.Refused → IsChecked explain files.now false (O.contents out.old) (O.contents out.new) (E.contents err.old) (E.contents err.new) }
-    ensures cut { (result ≡ Status.Memory) ⊎ (result ≡ Status.Stream) → (failed : FailedStreams) × IsCheckCut explain files.now failed (O.contents out.old) (O.contents out.new) (E.contents err.old) (E.contents err.new) result }
-    ensures not_words { result ≢ Status.Words }
-{
-    check_area_noted(alloc, files, explain, out, err, &mut FailedStreams::none())
 }

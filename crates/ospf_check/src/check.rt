@@ -22,220 +22,27 @@ pub(crate) enum CheckFault {
     Failure(Failure),
 }
 
-// Whether a file is accepted, and the lines that tell so.
-#[derive(Drop)]
-enum Verdict {
-    Accepted(String),
-    Refused(String),
-}
-
-// What to do about the places that are wrong, in lines.
-fn lines_of(alloc: Global, places: &[Explained]) -> Result<String, AllocError>
-    ensures { IfOk result (λ lines. string_bytes lines ≡ flat_map place_line places.now) }
-{
-    let mut lines = String::new(alloc);
-    for place in places {
-        lines.push_str(&format!(in alloc; "  {place}\n")?)?;
-    }
-    Ok(lines)
-}
-
-// What to do about bytes that are refused, in lines.
-fn explanation(alloc: Global, bytes: &[u8]) -> Result<String, AllocError>
-    ensures { (fault : ConfigFault) → IsRefusedFor bytes.now fault → IfOk result (λ lines. IsSaid bytes.now fault (string_bytes lines)) }
-{
-    match str::from_utf8(bytes) {
-        Ok(text) => {
-            let places = explain(alloc, text)?;
-            lines_of(alloc, &places)
-        }
-        Err(_) => String::from_str(alloc, "  the file is not UTF-8\n"),
-    }
-}
-
-// The lines of a file that is refused: the fault, and what to do about it where that is wanted.
-fn refusal(
+/// Checks configurations, and tells of each file in order: on `out` that it is accepted, or on `err`
+/// the fault of least number that it has; with `explain`, what to do about it too, and at an accepted one of what it is
+/// warned, in lines behind two spaces.
+///
+/// A file that is not UTF-8 is no TOML. The status is `Refused` where a file was refused. The check ends
+/// at a file that could not be read, which is told on `err`, and where a write fails, with status
+/// `Stream`; and with status `Memory` where memory ran out. What failed is told on `err`, as far as that can
+/// be written: then of the files before all is written, and of that one no more than a beginning.
+pub fn check_text<O: Write, E: Write>(
     alloc: Global,
-    file: &NamedFile,
-    bytes: &[u8],
-    fault: ConfigFault,
+    files: &[NamedFile],
     explain: bool,
-) -> Result<String, AllocError>
-    ensures { IsRefusedFor bytes.now fault → IfOk result (λ lines. (more : List ℕ) × IsExplanation explain bytes.now fault more × (string_bytes lines ≡ refused_line file.now fault ++ more)) }
-{
-    let mut lines = format!(in alloc; "{}: {}\n", file.name, fault.text())?;
-    if !explain {
-        return Ok(lines);
-    }
-    let more = explanation(alloc, bytes)?;
-    lines.push_str(&more)?;
-    Ok(lines)
-}
-
-// Adds the warning of an InfTransDelay, where there is cause.
-fn push_delay(
-    alloc: Global,
-    lines: &mut String,
-    link: usize,
-    interface: &Interface,
-) -> Result<(), AllocError>
-    ensures { OnOk result (string_bytes lines.new ≡ string_bytes lines.old ++ delay_line (link, interface.now)) }
-{
-    if is_slow(interface.transmit_delay) {
-        let shown = DelayShown {
-            link,
-            delay: interface.transmit_delay,
-        };
-        lines.push_str(&format!(in alloc; "  {shown}\n")?)?;
-    }
-    Ok(())
-}
-
-// Whether a router that passes LSAs over can become Designated Router at an interface.
-fn can_lead(passes_over: bool, interface: &Interface) -> bool
-    ensures { result ≡ can_lead passes_over interface.now }
-{
-    let is_broadcast = match interface.kind {
-        InterfaceKind::Broadcast => true,
-        InterfaceKind::PointToPoint => false,
-    };
-    passes_over && is_broadcast && interface.priority > 0
-}
-
-// Adds the warning of a router priority, where there is cause.
-fn push_leaf(
-    alloc: Global,
-    lines: &mut String,
-    passes_over: bool,
-    link: usize,
-    interface: &Interface,
-) -> Result<(), AllocError>
-    ensures { OnOk result (string_bytes lines.new ≡ string_bytes lines.old ++ leaf_line passes_over (link, interface.now)) }
-{
-    if can_lead(passes_over, interface) {
-        let shown = LeafShown {
-            link,
-            priority: interface.priority,
-        };
-        lines.push_str(&format!(in alloc; "  {shown}\n")?)?;
-    }
-    Ok(())
-}
-
-// Adds what an interface is warned of.
-fn push_warning(
-    alloc: Global,
-    lines: &mut String,
-    passes_over: bool,
-    link: usize,
-    interface: &Interface,
-) -> Result<(), AllocError>
-    ensures { OnOk result (string_bytes lines.new ≡ string_bytes lines.old ++ warning_line passes_over (link, interface.now)) }
-{
-    push_delay(alloc, lines, link, interface)?;
-    push_leaf(alloc, lines, passes_over, link, interface)
-}
-
-// What the interfaces of a configuration are warned of, in lines.
-fn warnings(alloc: Global, config: &Config) -> Result<String, AllocError>
-    ensures { IfOk result (λ lines. string_bytes lines ≡ warnings true config.now) }
-{
-    let mut lines = String::new(alloc);
-    for (link, interface) in config.interfaces.iter().enumerate() {
-        push_warning(alloc, &mut lines, config.passes_over, link, interface)?;
-    }
-    Ok(lines)
-}
-
-// The lines of a file that is accepted, with what it is warned of where that is wanted.
-fn acceptance(
-    alloc: Global,
-    file: &NamedFile,
-    config: &Config,
-    explain: bool,
-) -> Result<String, AllocError>
-    ensures { IfOk result (λ lines. string_bytes lines ≡ accepted_line file.now ++ warnings explain config.now) }
-{
-    let mut lines = format!(in alloc; "{}: ok\n", file.name)?;
-    if !explain {
-        return Ok(lines);
-    }
-    let more = warnings(alloc, config)?;
-    lines.push_str(&more)?;
-    Ok(lines)
-}
-
-// The verdict on a file that holds these bytes. The configuration in them is kept.
-fn judge(
-    alloc: Global,
-    file: &NamedFile,
-    bytes: &[u8],
-    explain: bool,
-    configs: &mut Vec<Config>,
-) -> Result<Verdict, AllocError>
-    ensures verdict { bytes_of file.now ≡ Some bytes.now → IfOk result (IsVerdict explain file.now) }
-    ensures kept { bytes_of file.now ≡ Some bytes.now → IfOk result (λ verdict. KeepsBy verdict file.now configs.old.items configs.new.items) }
-{
-    match config_in(alloc, bytes) {
-        Ok(config) => {
-            let lines = acceptance(alloc, file, &config, explain)?;
-            configs.push(config).map_err(AllocError::from)?;
-            Ok(Verdict::Accepted(lines))
-        }
-        Err(ConfigFault::Memory) => Err(AllocError),
-        Err(fault) => {
-            let lines = refusal(alloc, file, bytes, fault, explain)?;
-            Ok(Verdict::Refused(lines))
-        }
-    }
-}
-
-// Tells of a file that was not read. The answer is why the check ends.
-fn tell_unread<E: Write>(
-    alloc: Global,
-    file: &NamedFile,
-    err: &mut E,
-    streams: &mut FailedStreams,
-) -> CheckFault
-    ensures { (explain : Bool) (out : Option (List ℕ)) → bytes_of file.now ≡ None → EndsIn explain file.now streams.new out out (E.contents err.old) (E.contents err.new) result }
-{
-    let Ok(line) = format!(in alloc; "{}: not read\n", file.name) else {
-        return CheckFault::Failure(Failure::Memory);
-    };
-    match streams.tell(err, &line) {
-        Ok(()) => CheckFault::NotRead,
-        Err(failure) => CheckFault::Failure(failure),
-    }
-}
-
-// Tells of one file, and keeps its configuration. The answer is whether it is accepted.
-fn check_file<O: Write, E: Write>(
-    alloc: Global,
-    file: &NamedFile,
-    explain: bool,
-    configs: &mut Vec<Config>,
     out: &mut O,
     err: &mut E,
-    streams: &mut FailedStreams,
-) -> Result<bool, CheckFault>
-    ensures told { IfOk result (λ accepted. (streams.new ≡ streams.old) × IsWrittenOf explain file.now accepted (O.contents out.old) (O.contents out.new) (E.contents err.old) (E.contents err.new)) }
-    ensures kept { IfOk result (λ accepted. KeepsIf accepted file.now configs.old.items configs.new.items) }
-    ensures ended { IfErr result (EndsIn explain file.now streams.new (O.contents out.old) (O.contents out.new) (E.contents err.old) (E.contents err.new)) }
+) -> Status
+    ensures done { result ≡ Status.Done → IsWritten explain files.now true (O.contents out.old) (O.contents out.new) (E.contents err.old) (E.contents err.new) }
+    ensures refused { result ≡ Status.Refused → IsWritten explain files.now false (O.contents out.old) (O.contents out.new) (E.contents err.old) (E.contents err.new) }
+    ensures cut { (result ≡ Status.Memory) ⊎ (result ≡ Status.Stream) → (failed : FailedStreams) × IsCutShort explain files.now failed (O.contents out.old) (O.contents out.new) (E.contents err.old) (E.contents err.new) result }
+    ensures not_words { result ≢ Status.Words }
 {
-    let Some(bytes) = &file.bytes else {
-        return Err(tell_unread(alloc, file, err, streams));
-    };
-    match judge(alloc, file, bytes, explain, configs) {
-        Ok(Verdict::Accepted(lines)) => match streams.print(out, &lines) {
-            Ok(()) => Ok(true),
-            Err(failure) => Err(CheckFault::Failure(failure)),
-        },
-        Ok(Verdict::Refused(lines)) => match streams.tell(err, &lines) {
-            Ok(()) => Ok(false),
-            Err(failure) => Err(CheckFault::Failure(failure)),
-        },
-        Err(AllocError) => Err(CheckFault::Failure(Failure::Memory)),
-    }
+    check_noted(alloc, files, explain, out, err, &mut FailedStreams::none())
 }
 
 // Tells of files in order. The answer is the configurations in them, where all are accepted.
@@ -277,6 +84,13 @@ pub(crate) fn tell_last<E: Write>(
     }
 }
 
+// Whether a file is accepted, and the lines that tell so.
+#[derive(Drop)]
+enum Verdict {
+    Accepted(String),
+    Refused(String),
+}
+
 // Checks configurations, as `check_text`, and notes which streams fail.
 fn check_noted<O: Write, E: Write>(
     alloc: Global,
@@ -298,25 +112,211 @@ fn check_noted<O: Write, E: Write>(
     }
 }
 
-/// Checks configurations, and tells of each file in order: on `out` that it is accepted, or on `err`
-/// the fault of least number that it has; with `explain`, what to do about it too, and at an accepted one of what it is
-/// warned, in lines behind two spaces.
-///
-/// A file that is not UTF-8 is no TOML. The status is `Refused` where a file was refused. The check ends
-/// at a file that could not be read, which is told on `err`, and where a write fails, with status
-/// `Stream`; and with status `Memory` where memory ran out. What failed is told on `err`, as far as that can
-/// be written: then of the files before all is written, and of that one no more than a beginning.
-pub fn check_text<O: Write, E: Write>(
+// Tells of one file, and keeps its configuration. The answer is whether it is accepted.
+fn check_file<O: Write, E: Write>(
     alloc: Global,
-    files: &[NamedFile],
+    file: &NamedFile,
     explain: bool,
+    configs: &mut Vec<Config>,
     out: &mut O,
     err: &mut E,
-) -> Status
-    ensures done { result ≡ Status.Done → IsWritten explain files.now true (O.contents out.old) (O.contents out.new) (E.contents err.old) (E.contents err.new) }
-    ensures refused { result ≡ Status.Refused → IsWritten explain files.now false (O.contents out.old) (O.contents out.new) (E.contents err.old) (E.contents err.new) }
-    ensures cut { (result ≡ Status.Memory) ⊎ (result ≡ Status.Stream) → (failed : FailedStreams) × IsCutShort explain files.now failed (O.contents out.old) (O.contents out.new) (E.contents err.old) (E.contents err.new) result }
-    ensures not_words { result ≢ Status.Words }
+    streams: &mut FailedStreams,
+) -> Result<bool, CheckFault>
+    ensures told { IfOk result (λ accepted. (streams.new ≡ streams.old) × IsWrittenOf explain file.now accepted (O.contents out.old) (O.contents out.new) (E.contents err.old) (E.contents err.new)) }
+    ensures kept { IfOk result (λ accepted. KeepsIf accepted file.now configs.old.items configs.new.items) }
+    ensures ended { IfErr result (EndsIn explain file.now streams.new (O.contents out.old) (O.contents out.new) (E.contents err.old) (E.contents err.new)) }
 {
-    check_noted(alloc, files, explain, out, err, &mut FailedStreams::none())
+    let Some(bytes) = &file.bytes else {
+        return Err(tell_unread(alloc, file, err, streams));
+    };
+    match judge(alloc, file, bytes, explain, configs) {
+        Ok(Verdict::Accepted(lines)) => match streams.print(out, &lines) {
+            Ok(()) => Ok(true),
+            Err(failure) => Err(CheckFault::Failure(failure)),
+        },
+        Ok(Verdict::Refused(lines)) => match streams.tell(err, &lines) {
+            Ok(()) => Ok(false),
+            Err(failure) => Err(CheckFault::Failure(failure)),
+        },
+        Err(AllocError) => Err(CheckFault::Failure(Failure::Memory)),
+    }
+}
+
+// Tells of a file that was not read. The answer is why the check ends.
+fn tell_unread<E: Write>(
+    alloc: Global,
+    file: &NamedFile,
+    err: &mut E,
+    streams: &mut FailedStreams,
+) -> CheckFault
+    ensures { (explain : Bool) (out : Option (List ℕ)) → bytes_of file.now ≡ None → EndsIn explain file.now streams.new out out (E.contents err.old) (E.contents err.new) result }
+{
+    let Ok(line) = format!(in alloc; "{}: not read\n", file.name) else {
+        return CheckFault::Failure(Failure::Memory);
+    };
+    match streams.tell(err, &line) {
+        Ok(()) => CheckFault::NotRead,
+        Err(failure) => CheckFault::Failure(failure),
+    }
+}
+
+// The verdict on a file that holds these bytes. The configuration in them is kept.
+fn judge(
+    alloc: Global,
+    file: &NamedFile,
+    bytes: &[u8],
+    explain: bool,
+    configs: &mut Vec<Config>,
+) -> Result<Verdict, AllocError>
+    ensures verdict { bytes_of file.now ≡ Some bytes.now → IfOk result (IsVerdict explain file.now) }
+    ensures kept { bytes_of file.now ≡ Some bytes.now → IfOk result (λ verdict. KeepsBy verdict file.now configs.old.items configs.new.items) }
+{
+    match config_in(alloc, bytes) {
+        Ok(config) => {
+            let lines = acceptance(alloc, file, &config, explain)?;
+            configs.push(config).map_err(AllocError::from)?;
+            Ok(Verdict::Accepted(lines))
+        }
+        Err(ConfigFault::Memory) => Err(AllocError),
+        Err(fault) => {
+            let lines = refusal(alloc, file, bytes, fault, explain)?;
+            Ok(Verdict::Refused(lines))
+        }
+    }
+}
+
+// The lines of a file that is accepted, with what it is warned of where that is wanted.
+fn acceptance(
+    alloc: Global,
+    file: &NamedFile,
+    config: &Config,
+    explain: bool,
+) -> Result<String, AllocError>
+    ensures { IfOk result (λ lines. string_bytes lines ≡ accepted_line file.now ++ warnings explain config.now) }
+{
+    let mut lines = format!(in alloc; "{}: ok\n", file.name)?;
+    if !explain {
+        return Ok(lines);
+    }
+    let more = warnings(alloc, config)?;
+    lines.push_str(&more)?;
+    Ok(lines)
+}
+
+// What the interfaces of a configuration are warned of, in lines.
+fn warnings(alloc: Global, config: &Config) -> Result<String, AllocError>
+    ensures { IfOk result (λ lines. string_bytes lines ≡ warnings true config.now) }
+{
+    let mut lines = String::new(alloc);
+    for (link, interface) in config.interfaces.iter().enumerate() {
+        push_warning(alloc, &mut lines, config.passes_over, link, interface)?;
+    }
+    Ok(lines)
+}
+
+// Adds what an interface is warned of.
+fn push_warning(
+    alloc: Global,
+    lines: &mut String,
+    passes_over: bool,
+    link: usize,
+    interface: &Interface,
+) -> Result<(), AllocError>
+    ensures { OnOk result (string_bytes lines.new ≡ string_bytes lines.old ++ warning_line passes_over (link, interface.now)) }
+{
+    push_delay(alloc, lines, link, interface)?;
+    push_leaf(alloc, lines, passes_over, link, interface)
+}
+
+// Adds the warning of an InfTransDelay, where there is cause.
+fn push_delay(
+    alloc: Global,
+    lines: &mut String,
+    link: usize,
+    interface: &Interface,
+) -> Result<(), AllocError>
+    ensures { OnOk result (string_bytes lines.new ≡ string_bytes lines.old ++ delay_line (link, interface.now)) }
+{
+    if is_slow(interface.transmit_delay) {
+        let shown = DelayShown {
+            link,
+            delay: interface.transmit_delay,
+        };
+        lines.push_str(&format!(in alloc; "  {shown}\n")?)?;
+    }
+    Ok(())
+}
+
+// Adds the warning of a router priority, where there is cause.
+fn push_leaf(
+    alloc: Global,
+    lines: &mut String,
+    passes_over: bool,
+    link: usize,
+    interface: &Interface,
+) -> Result<(), AllocError>
+    ensures { OnOk result (string_bytes lines.new ≡ string_bytes lines.old ++ leaf_line passes_over (link, interface.now)) }
+{
+    if can_lead(passes_over, interface) {
+        let shown = LeafShown {
+            link,
+            priority: interface.priority,
+        };
+        lines.push_str(&format!(in alloc; "  {shown}\n")?)?;
+    }
+    Ok(())
+}
+
+// Whether a router that passes LSAs over can become Designated Router at an interface.
+fn can_lead(passes_over: bool, interface: &Interface) -> bool
+    ensures { result ≡ can_lead passes_over interface.now }
+{
+    let is_broadcast = match interface.kind {
+        InterfaceKind::Broadcast => true,
+        InterfaceKind::PointToPoint => false,
+    };
+    passes_over && is_broadcast && interface.priority > 0
+}
+
+// The lines of a file that is refused: the fault, and what to do about it where that is wanted.
+fn refusal(
+    alloc: Global,
+    file: &NamedFile,
+    bytes: &[u8],
+    fault: ConfigFault,
+    explain: bool,
+) -> Result<String, AllocError>
+    ensures { IsRefusedFor bytes.now fault → IfOk result (λ lines. (more : List ℕ) × IsExplanation explain bytes.now fault more × (string_bytes lines ≡ refused_line file.now fault ++ more)) }
+{
+    let mut lines = format!(in alloc; "{}: {}\n", file.name, fault.text())?;
+    if !explain {
+        return Ok(lines);
+    }
+    let more = explanation(alloc, bytes)?;
+    lines.push_str(&more)?;
+    Ok(lines)
+}
+
+// What to do about bytes that are refused, in lines.
+fn explanation(alloc: Global, bytes: &[u8]) -> Result<String, AllocError>
+    ensures { (fault : ConfigFault) → IsRefusedFor bytes.now fault → IfOk result (λ lines. IsSaid bytes.now fault (string_bytes lines)) }
+{
+    match str::from_utf8(bytes) {
+        Ok(text) => {
+            let places = explain(alloc, text)?;
+            lines_of(alloc, &places)
+        }
+        Err(_) => String::from_str(alloc, "  the file is not UTF-8\n"),
+    }
+}
+
+// What to do about the places that are wrong, in lines.
+fn lines_of(alloc: Global, places: &[Explained]) -> Result<String, AllocError>
+    ensures { IfOk result (λ lines. string_bytes lines ≡ flat_map place_line places.now) }
+{
+    let mut lines = String::new(alloc);
+    for place in places {
+        lines.push_str(&format!(in alloc; "  {place}\n")?)?;
+    }
+    Ok(lines)
 }

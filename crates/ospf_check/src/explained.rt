@@ -21,6 +21,21 @@ pub enum Explained {
     Key(KeyExplained),
 }
 
+/// As `interface 0: mtu: 576 to 9000 wanted, 100 found`.
+impl Display for Explained {
+    ghost use Rattle.std.specs.Prelude.{Some};
+    ghost use Rattle.ospf_check.specs.Explained.{explained_text};
+
+    ghost output = { λ place. Some (explained_text place) };
+
+    fn fmt<W: Write>(&self, f: &mut Formatter<W>) -> fmt::Result {
+        match self {
+            Explained::Line(line) => write!(f, "line {line}: no TOML"),
+            Explained::Key(place) => write!(f, "{place}"),
+        }
+    }
+}
+
 /// A key that is not as it has to be.
 #[derive(Debug, Drop)]
 pub struct KeyExplained {
@@ -34,17 +49,31 @@ pub struct KeyExplained {
 }
 
 /// As `interface 0: mtu: 576 to 9000 wanted, 100 found`.
-impl Display for Explained {
+impl Display for KeyExplained {
     ghost use Rattle.std.specs.Prelude.{Some};
-    ghost use Rattle.ospf_check.specs.Explained.{explained_text};
+    ghost use Rattle.ospf_check.specs.Explained.{key_explained_text};
 
-    ghost output = { λ place. Some (explained_text place) };
+    ghost output = { λ place. Some (key_explained_text place) };
 
     fn fmt<W: Write>(&self, f: &mut Formatter<W>) -> fmt::Result {
-        match self {
-            Explained::Line(line) => write!(f, "line {line}: no TOML"),
-            Explained::Key(place) => write!(f, "{place}"),
-        }
+        write_interface(f, self.interface)?;
+        write!(f, "{}: {} wanted, ", self.key, self.wanted)?;
+        write_found(f, &self.found)
+    }
+}
+
+/// What to do about a text that `Config::from_text` refuses: each place that has the fault which that tells, first
+/// those at the top, then those of the interfaces in order. Nothing where it is accepted.
+///
+/// `AllocError` where memory runs out.
+pub fn explain(alloc: Global, text: &str) -> Result<Vec<Explained>, AllocError>
+    ensures accepted { ((f : ConfigFault) → TextHasFault text.now f → ⊥) → IfOk result (λ places. places.items ≡ []) }
+    ensures refused { (f : ConfigFault) → IsLeast (TextHasFault text.now) f → IfOk result (λ places. IsExplained text.now f places.items) }
+{
+    match Config::from_text(alloc, text) {
+        Ok(_) => Ok(Vec::new(alloc)),
+        Err(ConfigFault::Memory) => Err(AllocError),
+        Err(fault) => text_explained(alloc, text, fault),
     }
 }
 
@@ -66,29 +95,6 @@ fn write_found<W: Write>(f: &mut Formatter<W>, found: &Option<String>) -> fmt::R
         None => f.write_str("nothing found"),
         Some(found) => write!(f, "{found} found"),
     }
-}
-
-/// As `interface 0: mtu: 576 to 9000 wanted, 100 found`.
-impl Display for KeyExplained {
-    ghost use Rattle.std.specs.Prelude.{Some};
-    ghost use Rattle.ospf_check.specs.Explained.{key_explained_text};
-
-    ghost output = { λ place. Some (key_explained_text place) };
-
-    fn fmt<W: Write>(&self, f: &mut Formatter<W>) -> fmt::Result {
-        write_interface(f, self.interface)?;
-        write!(f, "{}: {} wanted, ", self.key, self.wanted)?;
-        write_found(f, &self.found)
-    }
-}
-
-// The line, from 1, of a place in a text.
-fn line_of(text: &[u8], place: usize) -> usize
-    requires { place ≤ length text.now }
-    ensures { result ≡ 1 + count_by (λ byte. byte == 10) (take place text.now) }
-{
-    let before = &text[..place];
-    1 + before.iter().filter(|byte| **byte == b'\n').count()
 }
 
 // The places of a text that have its fault.
@@ -113,17 +119,11 @@ fn text_explained(
     }
 }
 
-/// What to do about a text that `Config::from_text` refuses: each place that has the fault which that tells, first
-/// those at the top, then those of the interfaces in order. Nothing where it is accepted.
-///
-/// `AllocError` where memory runs out.
-pub fn explain(alloc: Global, text: &str) -> Result<Vec<Explained>, AllocError>
-    ensures accepted { ((f : ConfigFault) → TextHasFault text.now f → ⊥) → IfOk result (λ places. places.items ≡ []) }
-    ensures refused { (f : ConfigFault) → IsLeast (TextHasFault text.now) f → IfOk result (λ places. IsExplained text.now f places.items) }
+// The line, from 1, of a place in a text.
+fn line_of(text: &[u8], place: usize) -> usize
+    requires { place ≤ length text.now }
+    ensures { result ≡ 1 + count_by (λ byte. byte == 10) (take place text.now) }
 {
-    match Config::from_text(alloc, text) {
-        Ok(_) => Ok(Vec::new(alloc)),
-        Err(ConfigFault::Memory) => Err(AllocError),
-        Err(fault) => text_explained(alloc, text, fault),
-    }
+    let before = &text[..place];
+    1 + before.iter().filter(|byte| **byte == b'\n').count()
 }

@@ -16,20 +16,69 @@ use ospf_config::{
 use std::alloc::{AllocError, Global};
 use toml::{Table, Value};
 
-// What stands at a key, in words.
-fn found_in(alloc: Global, value: &Value) -> Result<String, AllocError>
-    ensures { IfOk result (λ text. IsValueText (view value.now) (string_bytes text)) }
+// The places of a table that have this fault.
+pub(crate) fn table_explained(
+    alloc: Global,
+    table: &Table,
+    fault: ConfigFault,
+) -> Result<Vec<Explained>, AllocError>
+    ensures { IfOk result (λ places. AreTablePlaces (table_view table.now) fault places.items) }
 {
-    if let Some(number) = value.as_integer() {
-        return format!(in alloc; "{number}");
+    let mut out = Vec::new(alloc);
+    add_top(alloc, &mut out, table, fault)?;
+    add_interfaces(alloc, &mut out, interface_values(table), fault)?;
+    Ok(out)
+}
+
+// Adds what the top has of this fault.
+fn add_top(
+    alloc: Global,
+    out: &mut Vec<Explained>,
+    table: &Table,
+    fault: ConfigFault,
+) -> Result<(), AllocError>
+    ensures { OnOk result (Adds (AreTopPlaces (table_view table.now) fault) out.old.items out.new.items) }
+{
+    match fault {
+        ConfigFault::Unknown => add_unknown(alloc, out, None, table, &top_names()),
+        fault => add_rows(alloc, out, None, table, &top_rows(table), fault),
     }
-    if let Some(text) = value.as_str() {
-        return format!(in alloc; "{text:?}");
+}
+
+// Adds the keys of a table that are none of these.
+fn add_unknown(
+    alloc: Global,
+    out: &mut Vec<Explained>,
+    interface: Option<usize>,
+    table: &Table,
+    known: &[&str],
+) -> Result<(), AllocError>
+    ensures { OnOk result (Adds (ArePlacesOf (IsOther (map (λ k. k.now) known.now)) (IsUnknownPlace interface (table_view table.now)) (keys_of (table_view table.now))) out.old.items out.new.items) }
+{
+    for key in table.keys() {
+        let name = key.as_str();
+        let holds = is_other(name, known);
+        add_where(alloc, out, interface, table, name, "a known key", holds)?;
     }
-    if let Some(values) = value.as_array() {
-        return format!(in alloc; "a list of {}", values.len());
+    Ok(())
+}
+
+// Adds a key of a table where that is so.
+fn add_where(
+    alloc: Global,
+    out: &mut Vec<Explained>,
+    interface: Option<usize>,
+    table: &Table,
+    key: &str,
+    wanted: &'static str,
+    holds: bool,
+) -> Result<(), AllocError>
+    ensures { OnOk result (Adds (IsPlaceWhere (IsTrue holds) (IsKeyPlace interface (table_view table.now) key.now wanted.now)) out.old.items out.new.items) }
+{
+    if holds {
+        out.push(key_of(alloc, interface, table, key, wanted)?)?;
     }
-    format!(in alloc; "a {}", value.type_str())
+    Ok(())
 }
 
 // The place of a key.
@@ -55,32 +104,20 @@ fn key_of(
     }))
 }
 
-// Whether a key has this fault.
-fn has_fault(row: &Row, fault: ConfigFault) -> bool
-    ensures { IsTrue result ↔ (row.now.fault ≡ Some fault) }
+// What stands at a key, in words.
+fn found_in(alloc: Global, value: &Value) -> Result<String, AllocError>
+    ensures { IfOk result (λ text. IsValueText (view value.now) (string_bytes text)) }
 {
-    match row.fault {
-        None => false,
-        Some(found) => found == fault,
+    if let Some(number) = value.as_integer() {
+        return format!(in alloc; "{number}");
     }
-}
-
-// Adds a key of a table where that is so.
-fn add_where(
-    alloc: Global,
-    out: &mut Vec<Explained>,
-    interface: Option<usize>,
-    table: &Table,
-    key: &str,
-    wanted: &'static str,
-    holds: bool,
-) -> Result<(), AllocError>
-    ensures { OnOk result (Adds (IsPlaceWhere (IsTrue holds) (IsKeyPlace interface (table_view table.now) key.now wanted.now)) out.old.items out.new.items) }
-{
-    if holds {
-        out.push(key_of(alloc, interface, table, key, wanted)?)?;
+    if let Some(text) = value.as_str() {
+        return format!(in alloc; "{text:?}");
     }
-    Ok(())
+    if let Some(values) = value.as_array() {
+        return format!(in alloc; "a list of {}", values.len());
+    }
+    format!(in alloc; "a {}", value.type_str())
 }
 
 // Adds the keys of a table that have this fault.
@@ -101,51 +138,31 @@ fn add_rows(
     Ok(())
 }
 
-// Adds the keys of a table that are none of these.
-fn add_unknown(
+// Whether a key has this fault.
+fn has_fault(row: &Row, fault: ConfigFault) -> bool
+    ensures { IsTrue result ↔ (row.now.fault ≡ Some fault) }
+{
+    match row.fault {
+        None => false,
+        Some(found) => found == fault,
+    }
+}
+
+// Adds what the interfaces have of this fault.
+fn add_interfaces(
     alloc: Global,
     out: &mut Vec<Explained>,
-    interface: Option<usize>,
-    table: &Table,
-    known: &[&str],
+    values: &[Value],
+    fault: ConfigFault,
 ) -> Result<(), AllocError>
-    ensures { OnOk result (Adds (ArePlacesOf (IsOther (map (λ k. k.now) known.now)) (IsUnknownPlace interface (table_view table.now)) (keys_of (table_view table.now))) out.old.items out.new.items) }
+    requires { All (λ v. IsSome (as_table (view v))) values.now }
+    ensures { OnOk result (Adds (AreAllPlaces fault (tables_of (items_view values.now))) out.old.items out.new.items) }
 {
-    for key in table.keys() {
-        let name = key.as_str();
-        let holds = is_other(name, known);
-        add_where(alloc, out, interface, table, name, "a known key", holds)?;
+    for (interface, value) in values.iter().enumerate() {
+        let before = &values[..interface];
+        add_interface(alloc, out, interface, before, table_in(value), fault)?;
     }
     Ok(())
-}
-
-// Whether the addresses of two interfaces are in conflict.
-fn are_in_conflict(first: &Table, second: &Table) -> bool
-    ensures { IsTrue result ↔ AreInConflict (table_view first.now) (table_view second.now) }
-{
-    match (address_at(first), address_at(second)) {
-        (Ok(one), Ok(other)) => one.conflicts_with(&other),
-        _ => false,
-    }
-}
-
-// The same of a value that may be no table.
-fn is_value_in_conflict(value: &Value, table: &Table) -> bool
-    ensures { IsTrue result ↔ IsTableWith (λ t. AreInConflict t (table_view table.now)) (view value.now) }
-{
-    match value.as_table() {
-        None => false,
-        Some(first) => are_in_conflict(first, table),
-    }
-}
-
-// Whether one of the interfaces before has the prefix or the address of this one.
-fn is_any_in_conflict(before: &[Value], table: &Table) -> bool
-    ensures { IsTrue result ↔ Any (λ v. IsTableWith (λ t. AreInConflict t (table_view table.now)) (view v)) before.now }
-{
-    before
-        .iter()
-        .any(|value| is_value_in_conflict(value, table))
 }
 
 // Adds what an interface has of this fault.
@@ -183,48 +200,31 @@ fn add_interface(
     }
 }
 
-// Adds what the interfaces have of this fault.
-fn add_interfaces(
-    alloc: Global,
-    out: &mut Vec<Explained>,
-    values: &[Value],
-    fault: ConfigFault,
-) -> Result<(), AllocError>
-    requires { All (λ v. IsSome (as_table (view v))) values.now }
-    ensures { OnOk result (Adds (AreAllPlaces fault (tables_of (items_view values.now))) out.old.items out.new.items) }
+// Whether one of the interfaces before has the prefix or the address of this one.
+fn is_any_in_conflict(before: &[Value], table: &Table) -> bool
+    ensures { IsTrue result ↔ Any (λ v. IsTableWith (λ t. AreInConflict t (table_view table.now)) (view v)) before.now }
 {
-    for (interface, value) in values.iter().enumerate() {
-        let before = &values[..interface];
-        add_interface(alloc, out, interface, before, table_in(value), fault)?;
-    }
-    Ok(())
+    before
+        .iter()
+        .any(|value| is_value_in_conflict(value, table))
 }
 
-// Adds what the top has of this fault.
-fn add_top(
-    alloc: Global,
-    out: &mut Vec<Explained>,
-    table: &Table,
-    fault: ConfigFault,
-) -> Result<(), AllocError>
-    ensures { OnOk result (Adds (AreTopPlaces (table_view table.now) fault) out.old.items out.new.items) }
+// Whether a value is the table of an interface that is in conflict with this one.
+fn is_value_in_conflict(value: &Value, table: &Table) -> bool
+    ensures { IsTrue result ↔ IsTableWith (λ t. AreInConflict t (table_view table.now)) (view value.now) }
 {
-    match fault {
-        ConfigFault::Unknown => add_unknown(alloc, out, None, table, &top_names()),
-        fault => add_rows(alloc, out, None, table, &top_rows(table), fault),
+    match value.as_table() {
+        None => false,
+        Some(first) => are_in_conflict(first, table),
     }
 }
 
-// The places of a table that have this fault.
-pub(crate) fn table_explained(
-    alloc: Global,
-    table: &Table,
-    fault: ConfigFault,
-) -> Result<Vec<Explained>, AllocError>
-    ensures { IfOk result (λ places. AreTablePlaces (table_view table.now) fault places.items) }
+// Whether the addresses of two interfaces are in conflict.
+fn are_in_conflict(first: &Table, second: &Table) -> bool
+    ensures { IsTrue result ↔ AreInConflict (table_view first.now) (table_view second.now) }
 {
-    let mut out = Vec::new(alloc);
-    add_top(alloc, &mut out, table, fault)?;
-    add_interfaces(alloc, &mut out, interface_values(table), fault)?;
-    Ok(out)
+    match (address_at(first), address_at(second)) {
+        (Ok(one), Ok(other)) => one.conflicts_with(&other),
+        _ => false,
+    }
 }

@@ -21,14 +21,6 @@ pub(crate) struct Row {
     pub(crate) wanted: &'static str,
 }
 
-fn key_row(key: &'static str, fault: Option<ConfigFault>, wanted: &'static str) -> Row
-    ensures key { result.key.now ≡ key.now }
-    ensures fault { result.fault ≡ fault }
-    ensures wanted { result.wanted.now ≡ wanted.now }
-{
-    Row { key, fault, wanted }
-}
-
 // The keys at the top.
 pub(crate) fn top_rows(table: &Table) -> [Row; 5]
     ensures { EachPair (IsRowOf (table_view table.now)) keys_at_top result }
@@ -80,4 +72,12 @@ pub(crate) fn interface_rows(table: &Table) -> [Row; 11]
         key_row("port", port_at(table).err(), "0, or 1024 to 65535,"),
         key_row("peers", peers_fault(table), peers),
     ]
+}
+
+fn key_row(key: &'static str, fault: Option<ConfigFault>, wanted: &'static str) -> Row
+    ensures key { result.key.now ≡ key.now }
+    ensures fault { result.fault ≡ fault }
+    ensures wanted { result.wanted.now ≡ wanted.now }
+{
+    Row { key, fault, wanted }
 }

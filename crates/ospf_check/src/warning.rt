@@ -13,27 +13,6 @@ pub(crate) struct DelayShown {
     pub(crate) delay: u16,
 }
 
-// What follows from it.
-fn delay_meaning() -> &'static str
-    ensures { result.now ≡ delay_meaning }
-{
-    "over 900, the acknowledgement of an LSA that is sent may be taken for one of another instance, and the LSA is sent again and again; where both ends of a link have that they may never become Full (RFC 2328, sections 13.1 and 13.3)"
-}
-
-// Writes where an interface stands.
-fn write_link<W: Write>(f: &mut Formatter<W>, link: usize) -> fmt::Result
-    ensures { WritesOnOk W.Write.write_str_gives f.old result (link_text link) f.new }
-{
-    write!(f, "interface {link}: ")
-}
-
-// Writes a value, with its key.
-fn write_delay<W: Write>(f: &mut Formatter<W>, delay: u16) -> fmt::Result
-    ensures { WritesOnOk W.Write.write_str_gives f.old result (value_text delay) f.new }
-{
-    write!(f, "transmit_delay {delay}: ")
-}
-
 // As `interface 0: transmit_delay 1000: over 900, ..`.
 impl Display for DelayShown {
     ghost use Rattle.std.specs.Prelude.{Some};
@@ -55,20 +34,6 @@ pub(crate) struct LeafShown {
     pub(crate) priority: u8,
 }
 
-// What follows from it where LSAs are passed over.
-fn leaf_meaning() -> &'static str
-    ensures { result.now ≡ leaf_meaning }
-{
-    "as Designated Router it would not flood the LSAs that it passes over (other_lsas), so the others of the network get them late or not at all; priority = 0 keeps it out of the election (RFC 2328, section 13.3)"
-}
-
-// Writes a value, with its key.
-fn write_priority<W: Write>(f: &mut Formatter<W>, priority: u8) -> fmt::Result
-    ensures { WritesOnOk W.Write.write_str_gives f.old result (priority_text priority) f.new }
-{
-    write!(f, "priority {priority}: ")
-}
-
 // As `interface 0: priority 1: as Designated Router ..`.
 impl Display for LeafShown {
     ghost use Rattle.std.specs.Prelude.{Some};
@@ -81,4 +46,39 @@ impl Display for LeafShown {
         write_priority(f, self.priority)?;
         f.write_str(leaf_meaning())
     }
+}
+
+// Writes where an interface stands.
+fn write_link<W: Write>(f: &mut Formatter<W>, link: usize) -> fmt::Result
+    ensures { WritesOnOk W.Write.write_str_gives f.old result (link_text link) f.new }
+{
+    write!(f, "interface {link}: ")
+}
+
+// Writes a value, with its key.
+fn write_delay<W: Write>(f: &mut Formatter<W>, delay: u16) -> fmt::Result
+    ensures { WritesOnOk W.Write.write_str_gives f.old result (value_text delay) f.new }
+{
+    write!(f, "transmit_delay {delay}: ")
+}
+
+// What follows from it.
+fn delay_meaning() -> &'static str
+    ensures { result.now ≡ delay_meaning }
+{
+    "over 900, the acknowledgement of an LSA that is sent may be taken for one of another instance, and the LSA is sent again and again; where both ends of a link have that they may never become Full (RFC 2328, sections 13.1 and 13.3)"
+}
+
+// Writes a value, with its key.
+fn write_priority<W: Write>(f: &mut Formatter<W>, priority: u8) -> fmt::Result
+    ensures { WritesOnOk W.Write.write_str_gives f.old result (priority_text priority) f.new }
+{
+    write!(f, "priority {priority}: ")
+}
+
+// What follows from it where LSAs are passed over.
+fn leaf_meaning() -> &'static str
+    ensures { result.now ≡ leaf_meaning }
+{
+    "as Designated Router it would not flood the LSAs that it passes over (other_lsas), so the others of the network get them late or not at all; priority = 0 keeps it out of the election (RFC 2328, section 13.3)"
 }

@@ -15,17 +15,48 @@ pub struct InterfaceAddress {
     ghost host: { IsHostAddress address.0 length },
 }
 
-// Whether an interface can have the address under a prefix of this length.
-fn is_host(address: u32, length: u8) -> bool
-    ensures { IsTrue result ↔ IsHostAddress address length }
-{
-    if length < 1 || length > 30 {
-        return false;
+impl InterfaceAddress {
+    ghost use Rattle.std.specs.Prelude.{◌↔◌, IsTrue, IfSome, IfNone};
+    ghost use Rattle.ospf_base.specs.Masks as spec;
+    ghost use Rattle.ospf_base.specs.Prefixes.{IsPrefixOf};
+    ghost use Rattle.ospf_config.specs.Conflicts.{Conflict};
+    ghost use Rattle.ospf_config.specs.declared.address.InterfaceAddress.{InterfaceAddress};
+    ghost use Rattle.ospf_config.specs.Texts.{IsAddressText};
+
+    /// The prefix of the network that the interface is attached to.
+    pub fn prefix(&self) -> Prefix
+        ensures { IsPrefixOf self.now.address.0 (spec.mask_of self.now.length) result }
+    {
+        let address = Addr(self.address.0 & mask_of(self.length));
+        let length = self.length;
+        Prefix { address, length }
     }
-    let size = 1u32 << (32 - length);
-    let host = address % size;
-    let octet = address >> 24;
-    host > 0 && host + 1 < size && octet >= 1 && octet <= 223
+
+    /// Whether two interfaces have one prefix or one address.
+    pub fn conflicts_with(&self, other: &InterfaceAddress) -> bool
+        ensures { IsTrue result ↔ Conflict self.now other.now }
+    {
+        let (here, there) = (self.address.0, other.address.0);
+        let one_prefix = self.length == other.length
+            && here & mask_of(self.length) == there & mask_of(other.length);
+        one_prefix || here == there
+    }
+
+    // The address that a text spells, if an interface can have it.
+    pub(crate) fn read(text: &str) -> Option<InterfaceAddress>
+        ensures some { IfSome result (IsAddressText text.now) }
+        ensures none { IfNone result ((a : InterfaceAddress) → IsAddressText text.now a → ⊥) }
+    {
+        let (dotted, length) = text.split_once('/')?;
+        let length = length_of(length)?;
+        let number = dotted_number(dotted)?;
+        if is_host(number, length) {
+            let address = Addr(number);
+            Some(InterfaceAddress { address, length })
+        } else {
+            None
+        }
+    }
 }
 
 // The number that a dotted text spells.
@@ -56,45 +87,15 @@ fn length_of(text: &str) -> Option<u8>
     }
 }
 
-impl InterfaceAddress {
-    ghost use Rattle.std.specs.Prelude.{◌↔◌, IsTrue, IfSome, IfNone};
-    ghost use Rattle.ospf_base.specs.Masks as spec;
-    ghost use Rattle.ospf_base.specs.Prefixes.{IsPrefixOf};
-    ghost use Rattle.ospf_config.specs.Conflicts.{Conflict};
-    ghost use Rattle.ospf_config.specs.declared.address.InterfaceAddress.{InterfaceAddress};
-    ghost use Rattle.ospf_config.specs.Texts.{IsAddressText};
-
-    // The address that a text spells, if an interface can have it.
-    pub(crate) fn read(text: &str) -> Option<InterfaceAddress>
-        ensures some { IfSome result (IsAddressText text.now) }
-        ensures none { IfNone result ((a : InterfaceAddress) → IsAddressText text.now a → ⊥) }
-    {
-        let (dotted, length) = text.split_once('/')?;
-        let length = length_of(length)?;
-        let number = dotted_number(dotted)?;
-        if is_host(number, length) {
-            let address = Addr(number);
-            Some(InterfaceAddress { address, length })
-        } else {
-            None
-        }
+// Whether an interface can have the address under a prefix of this length.
+fn is_host(address: u32, length: u8) -> bool
+    ensures { IsTrue result ↔ IsHostAddress address length }
+{
+    if length < 1 || length > 30 {
+        return false;
     }
-    /// The prefix of the network that the interface is attached to.
-    pub fn prefix(&self) -> Prefix
-        ensures { IsPrefixOf self.now.address.0 (spec.mask_of self.now.length) result }
-    {
-        let address = Addr(self.address.0 & mask_of(self.length));
-        let length = self.length;
-        Prefix { address, length }
-    }
-
-    /// Whether two interfaces have one prefix or one address.
-    pub fn conflicts_with(&self, other: &InterfaceAddress) -> bool
-        ensures { IsTrue result ↔ Conflict self.now other.now }
-    {
-        let (here, there) = (self.address.0, other.address.0);
-        let one_prefix = self.length == other.length
-            && here & mask_of(self.length) == there & mask_of(other.length);
-        one_prefix || here == there
-    }
+    let size = 1u32 << (32 - length);
+    let host = address % size;
+    let octet = address >> 24;
+    host > 0 && host + 1 < size && octet >= 1 && octet <= 223
 }

@@ -81,23 +81,6 @@ impl Display for ConfigFault {
     }
 }
 
-// The fault of the lesser number, where there is one.
-pub(crate) fn earlier(a: Option<ConfigFault>, b: Option<ConfigFault>) -> Option<ConfigFault>
-    ensures { result ≡ earlier_of a b }
-{
-    match (a, b) {
-        (Some(first), Some(second)) => {
-            if second.number() < first.number() {
-                Some(second)
-            } else {
-                Some(first)
-            }
-        }
-        (first, None) => first,
-        (None, second) => second,
-    }
-}
-
 impl From<AllocError> for ConfigFault {
     ghost use Rattle.std.specs.Prelude.{◌≡◌};
     ghost use Rattle.ospf_config.specs.declared.fault.ConfigFault.TheVariants.{Memory};
@@ -117,5 +100,22 @@ impl<T: Drop> From<AllocFailed<T>> for ConfigFault {
 
     fn from(_failed: AllocFailed<T>) -> ConfigFault {
         ConfigFault::Memory
+    }
+}
+
+// The fault of the lesser number, where there is one.
+pub(crate) fn earlier(a: Option<ConfigFault>, b: Option<ConfigFault>) -> Option<ConfigFault>
+    ensures { result ≡ earlier_of a b }
+{
+    match (a, b) {
+        (Some(first), Some(second)) => {
+            if second.number() < first.number() {
+                Some(second)
+            } else {
+                Some(first)
+            }
+        }
+        (first, None) => first,
+        (None, second) => second,
     }
 }

@@ -16,48 +16,6 @@ use crate::peers::peers_fault;
 use crate::top::{area_at, other_lsas_at, router_id_at, stub_router_at};
 use toml::{Table, Value};
 
-// The least fault of the keys of an interface.
-fn interface_fault(table: &Table) -> Option<ConfigFault>
-    ensures { IsLeastIfAny (HasInterfaceFault (table_view table.now)) result }
-{
-    let texts = earlier(kind_at(table).err(), address_at(table).err());
-    let hellos = earlier(hello_at(table).err(), dead_at(table).err());
-    let delays = earlier(retransmit_at(table).err(), transmit_delay_at(table).err());
-    let ranks = earlier(cost_at(table).err(), priority_at(table).err());
-    let ports = earlier(port_at(table).err(), peers_fault(table));
-    let times = earlier(hellos, delays);
-    let sizes = earlier(ranks, mtu_at(table).err());
-    earlier(earlier(texts, times), earlier(sizes, ports))
-}
-
-// The same of a value that may be no table.
-fn value_fault(value: &Value) -> Option<ConfigFault>
-    ensures { IsLeastIfAny (λ f. IsTableWith (λ t. HasInterfaceFault t f) (view value.now)) result }
-{
-    match value.as_table() {
-        None => None,
-        Some(table) => interface_fault(table),
-    }
-}
-
-// The least fault of the keys of interfaces.
-fn interfaces_fault(values: &[Value]) -> Option<ConfigFault>
-    ensures { IsLeastIfAny (λ f. Any (λ v. IsTableWith (λ t. HasInterfaceFault t f) (view v)) values.now) result }
-{
-    let mut least = None;
-    for value in values {
-        least = earlier(least, value_fault(value));
-    }
-    least
-}
-
-// Whether each value is a table.
-fn are_all_tables(values: &[Value]) -> bool
-    ensures { result ≡ list_all (λ v. is_some (as_table (view v))) values.now }
-{
-    values.iter().all(|value| value.is_table())
-}
-
 /// The fault of the key `interface`, if it has one.
 pub fn list_fault(table: &Table) -> Option<ConfigFault>
     ensures { IsFaultIfAny (ReadsInterfaces (table_view table.now)) result }
@@ -96,6 +54,20 @@ pub fn interface_values(table: &Table) -> &[Value]
     }
 }
 
+// The least fault of any key.
+pub(crate) fn key_fault(table: &Table) -> Option<ConfigFault>
+    ensures { IsLeastIfAny (HasKeyFault (table_view table.now)) result }
+{
+    earlier(top_fault(table), interfaces_fault(interface_values(table)))
+}
+
+// Whether each value is a table.
+fn are_all_tables(values: &[Value]) -> bool
+    ensures { result ≡ list_all (λ v. is_some (as_table (view v))) values.now }
+{
+    values.iter().all(|value| value.is_table())
+}
+
 // The least fault of the keys at the top.
 fn top_fault(table: &Table) -> Option<ConfigFault>
     ensures { IsLeastIfAny (HasTopFault (table_view table.now)) result }
@@ -106,9 +78,37 @@ fn top_fault(table: &Table) -> Option<ConfigFault>
     earlier(ids, others)
 }
 
-// The least fault of any key.
-pub(crate) fn key_fault(table: &Table) -> Option<ConfigFault>
-    ensures { IsLeastIfAny (HasKeyFault (table_view table.now)) result }
+// The least fault of the keys of interfaces.
+fn interfaces_fault(values: &[Value]) -> Option<ConfigFault>
+    ensures { IsLeastIfAny (λ f. Any (λ v. IsTableWith (λ t. HasInterfaceFault t f) (view v)) values.now) result }
 {
-    earlier(top_fault(table), interfaces_fault(interface_values(table)))
+    let mut least = None;
+    for value in values {
+        least = earlier(least, value_fault(value));
+    }
+    least
+}
+
+// The first fault of a value that is to be an interface; one that is no table has none of these.
+fn value_fault(value: &Value) -> Option<ConfigFault>
+    ensures { IsLeastIfAny (λ f. IsTableWith (λ t. HasInterfaceFault t f) (view value.now)) result }
+{
+    match value.as_table() {
+        None => None,
+        Some(table) => interface_fault(table),
+    }
+}
+
+// The least fault of the keys of an interface.
+fn interface_fault(table: &Table) -> Option<ConfigFault>
+    ensures { IsLeastIfAny (HasInterfaceFault (table_view table.now)) result }
+{
+    let texts = earlier(kind_at(table).err(), address_at(table).err());
+    let hellos = earlier(hello_at(table).err(), dead_at(table).err());
+    let delays = earlier(retransmit_at(table).err(), transmit_delay_at(table).err());
+    let ranks = earlier(cost_at(table).err(), priority_at(table).err());
+    let ports = earlier(port_at(table).err(), peers_fault(table));
+    let times = earlier(hellos, delays);
+    let sizes = earlier(ranks, mtu_at(table).err());
+    earlier(earlier(texts, times), earlier(sizes, ports))
 }

@@ -21,50 +21,6 @@ pub fn value_at<'a>(table: &'a Table, key: &str) -> Option<&'a Value>
     table.get(key)
 }
 
-// A number of a range.
-pub(crate) fn number_in(number: Option<i64>, low: u16, high: u16) -> Result<u16, ConfigFault>
-    ensures { ReadsValue (IsNumberIn low high) number result }
-{
-    match number {
-        None => Err(ConfigFault::Type),
-        Some(n) => match u16::try_from(n) {
-            Ok(n) if low <= n && n <= high => Ok(n),
-            _ => Err(ConfigFault::Range),
-        },
-    }
-}
-
-// The number of a range at a key, or the default.
-fn number_at(
-    table: &Table,
-    key: &str,
-    low: u16,
-    high: u16,
-    default: u16,
-) -> Result<u16, ConfigFault>
-    requires low { low ≤ default }
-    requires high { default ≤ high }
-    ensures reads { Optional as_integer (IsNumberIn low high) default (get_member key.now (table_view table.now)) result }
-    ensures range { IfOk result (λ n. (low ≤ n) × (n ≤ high)) }
-{
-    match value_at(table, key) {
-        None => Ok(default),
-        Some(value) => number_in(value.as_integer(), low, high),
-    }
-}
-
-// The kind of an interface that a text names.
-fn kind_of(text: Option<&str>) -> Result<InterfaceKind, ConfigFault>
-    ensures { ReadsValue IsKindText (option_copied text.entry) result }
-{
-    match text {
-        None => Err(ConfigFault::Type),
-        Some("point-to-point") => Ok(InterfaceKind::PointToPoint),
-        Some("broadcast") => Ok(InterfaceKind::Broadcast),
-        Some(_) => Err(ConfigFault::Range),
-    }
-}
-
 /// The kind of interface at the key `kind`, or the fault of the key.
 pub fn kind_at(table: &Table) -> Result<InterfaceKind, ConfigFault>
     ensures { ReadsKind (table_view table.now) result }
@@ -75,16 +31,6 @@ pub fn kind_at(table: &Table) -> Result<InterfaceKind, ConfigFault>
     }
 }
 
-// The address that a text spells, under its prefix.
-fn address_of(text: Option<&str>) -> Result<InterfaceAddress, ConfigFault>
-    ensures { ReadsValue IsAddressText (option_copied text.entry) result }
-{
-    match text {
-        None => Err(ConfigFault::Type),
-        Some(text) => InterfaceAddress::read(text).ok_or(ConfigFault::Range),
-    }
-}
-
 /// The address at the key `address`, or the fault of the key.
 pub fn address_at(table: &Table) -> Result<InterfaceAddress, ConfigFault>
     ensures { ReadsAddress (table_view table.now) result }
@@ -92,17 +38,6 @@ pub fn address_at(table: &Table) -> Result<InterfaceAddress, ConfigFault>
     match value_at(table, "address") {
         None => Err(ConfigFault::Missing),
         Some(value) => address_of(value.as_str()),
-    }
-}
-
-// A cost, which is not zero.
-fn cost_of(number: Option<i64>) -> Result<u16, ConfigFault>
-    ensures reads { ReadsCostValue number result }
-    ensures range { IfOk result (λ n. 1 ≤ n) }
-{
-    match number {
-        Some(0) => Err(ConfigFault::ZeroCost),
-        number => number_in(number, 1, 65535),
     }
 }
 
@@ -165,6 +100,81 @@ pub fn mtu_at(table: &Table) -> Result<u16, ConfigFault>
     number_at(table, "mtu", 576, 9000, 1500)
 }
 
+/// The UDP port at the key `port`, none where it is 0 or nothing is there, or the fault of the key.
+pub fn port_at(table: &Table) -> Result<Option<Port>, ConfigFault>
+    ensures { ReadsPort (table_view table.now) result }
+{
+    match value_at(table, "port") {
+        None => Ok(None),
+        Some(value) => port_of(value.as_integer()),
+    }
+}
+
+// A number of a range.
+pub(crate) fn number_in(number: Option<i64>, low: u16, high: u16) -> Result<u16, ConfigFault>
+    ensures { ReadsValue (IsNumberIn low high) number result }
+{
+    match number {
+        None => Err(ConfigFault::Type),
+        Some(n) => match u16::try_from(n) {
+            Ok(n) if low <= n && n <= high => Ok(n),
+            _ => Err(ConfigFault::Range),
+        },
+    }
+}
+
+// The kind of an interface that a text names.
+fn kind_of(text: Option<&str>) -> Result<InterfaceKind, ConfigFault>
+    ensures { ReadsValue IsKindText (option_copied text.entry) result }
+{
+    match text {
+        None => Err(ConfigFault::Type),
+        Some("point-to-point") => Ok(InterfaceKind::PointToPoint),
+        Some("broadcast") => Ok(InterfaceKind::Broadcast),
+        Some(_) => Err(ConfigFault::Range),
+    }
+}
+
+// The address that a text spells, under its prefix.
+fn address_of(text: Option<&str>) -> Result<InterfaceAddress, ConfigFault>
+    ensures { ReadsValue IsAddressText (option_copied text.entry) result }
+{
+    match text {
+        None => Err(ConfigFault::Type),
+        Some(text) => InterfaceAddress::read(text).ok_or(ConfigFault::Range),
+    }
+}
+
+// A cost, which is not zero.
+fn cost_of(number: Option<i64>) -> Result<u16, ConfigFault>
+    ensures reads { ReadsCostValue number result }
+    ensures range { IfOk result (λ n. 1 ≤ n) }
+{
+    match number {
+        Some(0) => Err(ConfigFault::ZeroCost),
+        number => number_in(number, 1, 65535),
+    }
+}
+
+// The number of a range at a key, or the default.
+fn number_at(
+    table: &Table,
+    key: &str,
+    low: u16,
+    high: u16,
+    default: u16,
+) -> Result<u16, ConfigFault>
+    requires low { low ≤ default }
+    requires high { default ≤ high }
+    ensures reads { Optional as_integer (IsNumberIn low high) default (get_member key.now (table_view table.now)) result }
+    ensures range { IfOk result (λ n. (low ≤ n) × (n ≤ high)) }
+{
+    match value_at(table, key) {
+        None => Ok(default),
+        Some(value) => number_in(value.as_integer(), low, high),
+    }
+}
+
 // A port, or 0 for none.
 fn port_of(number: Option<i64>) -> Result<Option<Port>, ConfigFault>
     ensures { ReadsValue IsPortNumber number result }
@@ -175,15 +185,5 @@ fn port_of(number: Option<i64>) -> Result<Option<Port>, ConfigFault>
             let number = number_in(number, 1024, 65535)?;
             Ok(Some(Port { number }))
         }
-    }
-}
-
-/// The UDP port at the key `port`, none where it is 0 or nothing is there, or the fault of the key.
-pub fn port_at(table: &Table) -> Result<Option<Port>, ConfigFault>
-    ensures { ReadsPort (table_view table.now) result }
-{
-    match value_at(table, "port") {
-        None => Ok(None),
-        Some(value) => port_of(value.as_integer()),
     }
 }

@@ -15,36 +15,35 @@ use crate::keys::{number_in, value_at};
 use std::alloc::{AllocError, Global};
 use toml::{Table, Value};
 
-// The port that a value is.
-fn port_in(value: &Value) -> Result<Port, ConfigFault>
-    ensures { ReadsValue (λ z p. z ≡ pos p.number) (as_integer (view value.now)) result }
+/// The fault of the key `peers`, if it has one.
+pub fn peers_fault(table: &Table) -> Option<ConfigFault>
+    ensures { IsFaultIfAny (ReadsPeers (table_view table.now)) result }
 {
-    let number = number_in(value.as_integer(), 1024, 65535)?;
-    Ok(Port { number })
-}
-
-// Whether each value is an integer.
-fn are_integers(values: &[Value]) -> bool
-    ensures { result ≡ list_all (λ v. is_some (as_integer (view v))) values.now }
-{
-    values.iter().all(|value| value.is_integer())
-}
-
-// Whether a value is a port.
-fn is_port(value: &Value) -> bool
-    ensures { IsTrue result ↔ IsPort (view value.now) }
-{
-    match port_in(value) {
-        Ok(_) => true,
-        Err(_) => false,
+    match value_at(table, "peers") {
+        None => None,
+        Some(value) => match value.as_array() {
+            None => Some(ConfigFault::Type),
+            Some(values) => match check(values) {
+                Ok(()) => None,
+                Err(fault) => Some(fault),
+            },
+        },
     }
 }
 
-// Whether each value is a port.
-fn are_ports(values: &[Value]) -> bool
-    ensures { IsTrue result ↔ All (λ v. IsPort (view v)) values.now }
+// The ports at the key `peers`.
+pub(crate) fn peers_at(alloc: Global, table: &Table) -> Result<Vec<Port>, ConfigFault>
+    ensures reads { IfOk result (λ ports. ReadsPeers (table_view table.now) (Ok ports.items)) }
+    ensures few { IfOk result (λ ports. vec_len ports ≤ 32) }
+    ensures fault { IfErr result (λ f. (f ≡ fault.Memory) ⊎ ReadsPeers (table_view table.now) (Err f)) }
 {
-    values.iter().all(|value| is_port(value))
+    match value_at(table, "peers") {
+        None => Ok(Vec::new(alloc)),
+        Some(value) => match value.as_array() {
+            None => Err(ConfigFault::Type),
+            Some(values) => read_ports(alloc, values),
+        },
+    }
 }
 
 // Whether values are at most 32 ports, or their fault.
@@ -62,20 +61,47 @@ fn check(values: &[Value]) -> Result<(), ConfigFault>
     Ok(())
 }
 
-/// The fault of the key `peers`, if it has one.
-pub fn peers_fault(table: &Table) -> Option<ConfigFault>
-    ensures { IsFaultIfAny (ReadsPeers (table_view table.now)) result }
+// Whether each value is an integer.
+fn are_integers(values: &[Value]) -> bool
+    ensures { result ≡ list_all (λ v. is_some (as_integer (view v))) values.now }
 {
-    match value_at(table, "peers") {
-        None => None,
-        Some(value) => match value.as_array() {
-            None => Some(ConfigFault::Type),
-            Some(values) => match check(values) {
-                Ok(()) => None,
-                Err(fault) => Some(fault),
-            },
-        },
+    values.iter().all(|value| value.is_integer())
+}
+
+// Whether each value is a port.
+fn are_ports(values: &[Value]) -> bool
+    ensures { IsTrue result ↔ All (λ v. IsPort (view v)) values.now }
+{
+    values.iter().all(|value| is_port(value))
+}
+
+// Whether a value is a port.
+fn is_port(value: &Value) -> bool
+    ensures { IsTrue result ↔ IsPort (view value.now) }
+{
+    match port_in(value) {
+        Ok(_) => true,
+        Err(_) => false,
     }
+}
+
+// The port that a value is.
+fn port_in(value: &Value) -> Result<Port, ConfigFault>
+    ensures { ReadsValue (λ z p. z ≡ pos p.number) (as_integer (view value.now)) result }
+{
+    let number = number_in(value.as_integer(), 1024, 65535)?;
+    Ok(Port { number })
+}
+
+// The ports of a list of at most 32.
+fn read_ports(alloc: Global, values: &[Value]) -> Result<Vec<Port>, ConfigFault>
+    ensures reads { IfOk result (λ ports. ReadsValue ArePortNumbers (integers_of (items_view values.now)) (Ok ports.items)) }
+    ensures few { IfOk result (λ ports. vec_len ports ≤ 32) }
+    ensures fault { IfErr result (λ f. (f ≡ fault.Memory) ⊎ ReadsValue ArePortNumbers (integers_of (items_view values.now)) (Err f)) }
+{
+    check(values)?;
+    let ports = ports_of(alloc, values)?;
+    Ok(ports)
 }
 
 // The ports that values are.
@@ -91,30 +117,4 @@ fn ports_of(alloc: Global, values: &[Value]) -> Result<Vec<Port>, AllocError>
         }
     }
     Ok(ports)
-}
-
-// The ports of a list of at most 32.
-fn read_ports(alloc: Global, values: &[Value]) -> Result<Vec<Port>, ConfigFault>
-    ensures reads { IfOk result (λ ports. ReadsValue ArePortNumbers (integers_of (items_view values.now)) (Ok ports.items)) }
-    ensures few { IfOk result (λ ports. vec_len ports ≤ 32) }
-    ensures fault { IfErr result (λ f. (f ≡ fault.Memory) ⊎ ReadsValue ArePortNumbers (integers_of (items_view values.now)) (Err f)) }
-{
-    check(values)?;
-    let ports = ports_of(alloc, values)?;
-    Ok(ports)
-}
-
-// The ports at the key `peers`.
-pub(crate) fn peers_at(alloc: Global, table: &Table) -> Result<Vec<Port>, ConfigFault>
-    ensures reads { IfOk result (λ ports. ReadsPeers (table_view table.now) (Ok ports.items)) }
-    ensures few { IfOk result (λ ports. vec_len ports ≤ 32) }
-    ensures fault { IfErr result (λ f. (f ≡ fault.Memory) ⊎ ReadsPeers (table_view table.now) (Err f)) }
-{
-    match value_at(table, "peers") {
-        None => Ok(Vec::new(alloc)),
-        Some(value) => match value.as_array() {
-            None => Err(ConfigFault::Type),
-            Some(values) => read_ports(alloc, values),
-        },
-    }
 }

@@ -25,6 +25,96 @@ use crate::top::{area_at, other_lsas_at, router_id_at, stub_router_at};
 use std::alloc::Global;
 use toml::{Table, Value};
 
+impl Config {
+    /// Reads a configuration from TOML.
+    ///
+    /// The error is the fault of least number that the text has, or `Memory` where memory ran out.
+    pub fn from_text(alloc: Global, text: &str) -> Result<Config, ConfigFault>
+        ensures ok { IfOk result (IsReading text.now) }
+        ensures free { OnOk result ((f : ConfigFault) → TextHasFault text.now f → ⊥) }
+        ensures fault { IfErr result (λ f. (f ≡ fault.Memory) ⊎ IsLeast (TextHasFault text.now) f) }
+    {
+        match toml::table_from_str(alloc, text) {
+            Ok(table) => {
+                let config = config_of(alloc, &table)?;
+                Ok(config)
+            }
+            Err(error) if error.is_memory() => Err(ConfigFault::Memory),
+            Err(_) => Err(ConfigFault::NotToml),
+        }
+    }
+}
+
+// The configuration of a table, or its least fault.
+fn config_of(alloc: Global, table: &Table) -> Result<Config, ConfigFault>
+    ensures ok { IfOk result (IsConfigOf (table_view table.now)) }
+    ensures free { OnOk result ((f : ConfigFault) → HasFault (table_view table.now) f → ⊥) }
+    ensures fault { IfErr result (λ f. (f ≡ fault.Memory) ⊎ IsLeast (HasFault (table_view table.now)) f) }
+{
+    match key_fault(table) {
+        Some(fault) => Err(fault),
+        None => config_by_rules(alloc, table),
+    }
+}
+
+// The configuration of a table whose keys have no fault, or the least fault of the rules on several.
+fn config_by_rules(alloc: Global, table: &Table) -> Result<Config, ConfigFault>
+    requires { (f : ConfigFault) → HasKeyFault (table_view table.now) f → ⊥ }
+    ensures ok { IfOk result (IsConfigOf (table_view table.now)) }
+    ensures free { OnOk result ((f : ConfigFault) → HasFault (table_view table.now) f → ⊥) }
+    ensures fault { IfErr result (λ f. (f ≡ fault.Memory) ⊎ IsLeast (HasFault (table_view table.now)) f) }
+{
+    let values = interface_values(table);
+    let addresses = addresses_of(alloc, values)?;
+    if has_conflict(&addresses) {
+        return Err(ConfigFault::SamePrefix);
+    }
+    if is_any_dead(values) {
+        return Err(ConfigFault::DeadNotOverHello);
+    }
+    if is_any_unknown(table, values) {
+        return Err(ConfigFault::Unknown);
+    }
+    let config = config_at(alloc, table, values)?;
+    Ok(config)
+}
+
+// The configuration that a table without faults describes, whose interfaces' values these are.
+fn config_at(alloc: Global, table: &Table, values: &[Value]) -> Result<Config, ConfigFault>
+    requires free { (f : ConfigFault) → HasFault (table_view table.now) f → ⊥ }
+    requires values { tables_of (items_view values.now) ≡ interface_tables (table_view table.now) }
+    requires tables { All (λ v. IsSome (as_table (view v))) values.now }
+    ensures ok { IfOk result (IsConfigOf (table_view table.now)) }
+    ensures fault { IfErr result (λ f. f ≡ fault.Memory) }
+{
+    let router_id = router_id_at(table)?;
+    let area = area_at(table)?;
+    let stub_router = stub_router_at(table)?;
+    let passes_over = other_lsas_at(table)?;
+    let interfaces = interfaces_of(alloc, values)?;
+    Ok(Config {
+        router_id,
+        area,
+        stub_router,
+        passes_over,
+        interfaces,
+    })
+}
+
+// The interfaces that tables describe, in order.
+fn interfaces_of(alloc: Global, values: &[Value]) -> Result<Vec<Interface>, ConfigFault>
+    requires tables { All (λ v. IsSome (as_table (view v))) values.now }
+    requires hellos { Any (λ v. IsTableWith IsDeadNotOverHello (view v)) values.now → ⊥ }
+    ensures ok { IfOk result (λ interfaces. EachPair IsInterfaceOf (tables_of (items_view values.now)) interfaces.items) }
+    ensures fault { IfErr result (λ f. (f ≡ fault.Memory) ⊎ Any (λ t. HasInterfaceFault t f) (tables_of (items_view values.now))) }
+{
+    let mut interfaces = Vec::with_capacity(alloc, values.len())?;
+    for value in values {
+        interfaces.push(interface_at(alloc, table_in(value))?)?;
+    }
+    Ok(interfaces)
+}
+
 // The interface that a table describes.
 fn interface_at(alloc: Global, table: &Table) -> Result<Interface, ConfigFault>
     requires { IsDeadNotOverHello (table_view table.now) → ⊥ }
@@ -55,94 +145,4 @@ fn interface_at(alloc: Global, table: &Table) -> Result<Interface, ConfigFault>
         port,
         peers,
     })
-}
-
-// The interfaces that tables describe, in order.
-fn interfaces_of(alloc: Global, values: &[Value]) -> Result<Vec<Interface>, ConfigFault>
-    requires tables { All (λ v. IsSome (as_table (view v))) values.now }
-    requires hellos { Any (λ v. IsTableWith IsDeadNotOverHello (view v)) values.now → ⊥ }
-    ensures ok { IfOk result (λ interfaces. EachPair IsInterfaceOf (tables_of (items_view values.now)) interfaces.items) }
-    ensures fault { IfErr result (λ f. (f ≡ fault.Memory) ⊎ Any (λ t. HasInterfaceFault t f) (tables_of (items_view values.now))) }
-{
-    let mut interfaces = Vec::with_capacity(alloc, values.len())?;
-    for value in values {
-        interfaces.push(interface_at(alloc, table_in(value))?)?;
-    }
-    Ok(interfaces)
-}
-
-// The configuration that a table without faults describes, whose interfaces' values these are.
-fn config_at(alloc: Global, table: &Table, values: &[Value]) -> Result<Config, ConfigFault>
-    requires free { (f : ConfigFault) → HasFault (table_view table.now) f → ⊥ }
-    requires values { tables_of (items_view values.now) ≡ interface_tables (table_view table.now) }
-    requires tables { All (λ v. IsSome (as_table (view v))) values.now }
-    ensures ok { IfOk result (IsConfigOf (table_view table.now)) }
-    ensures fault { IfErr result (λ f. f ≡ fault.Memory) }
-{
-    let router_id = router_id_at(table)?;
-    let area = area_at(table)?;
-    let stub_router = stub_router_at(table)?;
-    let passes_over = other_lsas_at(table)?;
-    let interfaces = interfaces_of(alloc, values)?;
-    Ok(Config {
-        router_id,
-        area,
-        stub_router,
-        passes_over,
-        interfaces,
-    })
-}
-
-// The configuration of a table whose keys have no fault, or the least fault of the rules on several.
-fn config_by_rules(alloc: Global, table: &Table) -> Result<Config, ConfigFault>
-    requires { (f : ConfigFault) → HasKeyFault (table_view table.now) f → ⊥ }
-    ensures ok { IfOk result (IsConfigOf (table_view table.now)) }
-    ensures free { OnOk result ((f : ConfigFault) → HasFault (table_view table.now) f → ⊥) }
-    ensures fault { IfErr result (λ f. (f ≡ fault.Memory) ⊎ IsLeast (HasFault (table_view table.now)) f) }
-{
-    let values = interface_values(table);
-    let addresses = addresses_of(alloc, values)?;
-    if has_conflict(&addresses) {
-        return Err(ConfigFault::SamePrefix);
-    }
-    if is_any_dead(values) {
-        return Err(ConfigFault::DeadNotOverHello);
-    }
-    if is_any_unknown(table, values) {
-        return Err(ConfigFault::Unknown);
-    }
-    let config = config_at(alloc, table, values)?;
-    Ok(config)
-}
-
-// The configuration of a table, or its least fault.
-fn config_of(alloc: Global, table: &Table) -> Result<Config, ConfigFault>
-    ensures ok { IfOk result (IsConfigOf (table_view table.now)) }
-    ensures free { OnOk result ((f : ConfigFault) → HasFault (table_view table.now) f → ⊥) }
-    ensures fault { IfErr result (λ f. (f ≡ fault.Memory) ⊎ IsLeast (HasFault (table_view table.now)) f) }
-{
-    match key_fault(table) {
-        Some(fault) => Err(fault),
-        None => config_by_rules(alloc, table),
-    }
-}
-
-impl Config {
-    /// Reads a configuration from TOML.
-    ///
-    /// The error is the fault of least number that the text has, or `Memory` where memory ran out.
-    pub fn from_text(alloc: Global, text: &str) -> Result<Config, ConfigFault>
-        ensures ok { IfOk result (IsReading text.now) }
-        ensures free { OnOk result ((f : ConfigFault) → TextHasFault text.now f → ⊥) }
-        ensures fault { IfErr result (λ f. (f ≡ fault.Memory) ⊎ IsLeast (TextHasFault text.now) f) }
-    {
-        match toml::table_from_str(alloc, text) {
-            Ok(table) => {
-                let config = config_of(alloc, &table)?;
-                Ok(config)
-            }
-            Err(error) if error.is_memory() => Err(ConfigFault::Memory),
-            Err(_) => Err(ConfigFault::NotToml),
-        }
-    }
 }

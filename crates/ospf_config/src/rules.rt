@@ -27,48 +27,6 @@ pub fn table_in(value: &Value) -> &Table
     }
 }
 
-// The addresses of the interfaces.
-pub(crate) fn addresses_of(
-    alloc: Global,
-    values: &[Value],
-) -> Result<Vec<InterfaceAddress>, ConfigFault>
-    requires { All (λ v. IsSome (as_table (view v))) values.now }
-    ensures ok { IfOk result (λ addresses. EachPair (λ t a. ReadsAddress t (Ok a)) (tables_of (items_view values.now)) addresses.items) }
-    ensures fault { IfErr result (λ f. (f ≡ fault.Memory) ⊎ Any (λ t. HasInterfaceFault t f) (tables_of (items_view values.now))) }
-{
-    let mut addresses = Vec::with_capacity(alloc, values.len())?;
-    for value in values {
-        addresses.push(address_at(table_in(value))?)?;
-    }
-    Ok(addresses)
-}
-
-// Whether an address is in conflict with one of these.
-fn conflicts_with_any(address: &InterfaceAddress, others: &[InterfaceAddress]) -> bool
-    ensures { IsTrue result ↔ Any (Conflict address.now) others.now }
-{
-    for other in others {
-        if address.conflicts_with(other) {
-            return true;
-        }
-    }
-    false
-}
-
-// Whether two of the addresses are in conflict.
-pub(crate) fn has_conflict(addresses: &[InterfaceAddress]) -> bool
-    ensures { IsTrue result ↔ HasConflict addresses.now }
-{
-    let mut rest = addresses;
-    while let Some((first, after)) = rest.split_first() {
-        if conflicts_with_any(first, after) {
-            return true;
-        }
-        rest = after;
-    }
-    false
-}
-
 /// Whether the interface would be dead no later than its next Hello.
 pub fn is_dead_not_over_hello(table: &Table) -> bool
     ensures { IsTrue result ↔ IsDeadNotOverHello (table_view table.now) }
@@ -79,54 +37,11 @@ pub fn is_dead_not_over_hello(table: &Table) -> bool
     }
 }
 
-// The same of a value that may be no table.
-fn is_value_dead(value: &Value) -> bool
-    ensures { IsTrue result ↔ IsTableWith IsDeadNotOverHello (view value.now) }
-{
-    match value.as_table() {
-        None => false,
-        Some(table) => is_dead_not_over_hello(table),
-    }
-}
-
-// Whether one of the interfaces would be dead no later than its next Hello.
-pub(crate) fn is_any_dead(values: &[Value]) -> bool
-    ensures { IsTrue result ↔ Any (λ v. IsTableWith IsDeadNotOverHello (view v)) values.now }
-{
-    values.iter().any(|value| is_value_dead(value))
-}
-
-// Whether a key is one of these.
-fn is_among(key: &str, known: &[&str]) -> bool
-    ensures { IsTrue result ↔ Any (λ k. k.now ≡ key.now) known.now }
-{
-    known.iter().any(|name| *name == key)
-}
-
 /// Whether a key is none of these.
 pub fn is_other(key: &str, known: &[&str]) -> bool
     ensures { IsTrue result ↔ IsOther (map (λ k. k.now) known.now) key.now }
 {
     !is_among(key, known)
-}
-
-// Whether one of the keys of a table is none of these.
-fn is_any_other(table: &Table, known: &[&str]) -> bool
-    ensures { IsTrue result ↔ Any (λ k. IsOther (map (λ n. n.now) known.now) (string_bytes k)) (keys table.now) }
-{
-    for key in table.keys() {
-        if is_other(key.as_str(), known) {
-            return true;
-        }
-    }
-    false
-}
-
-// Whether a table has a key beside these.
-fn has_other_key(table: &Table, known: &[&str]) -> bool
-    ensures { IsTrue result ↔ HasOtherKey (map (λ k. k.now) known.now) (table_view table.now) }
-{
-    is_any_other(table, known)
 }
 
 /// The keys of an interface.
@@ -148,23 +63,6 @@ pub fn interface_names() -> [&'static str; 11]
     ]
 }
 
-// Whether a value is a table with a key that no interface has.
-fn has_unknown_key(value: &Value) -> bool
-    ensures { IsTrue result ↔ IsTableWith (HasOtherKey interface_keys) (view value.now) }
-{
-    match value.as_table() {
-        None => false,
-        Some(table) => has_other_key(table, &interface_names()),
-    }
-}
-
-// Whether a key of an interface is not known.
-fn has_any_unknown_key(values: &[Value]) -> bool
-    ensures { IsTrue result ↔ Any (λ v. IsTableWith (HasOtherKey interface_keys) (view v)) values.now }
-{
-    values.iter().any(|value| has_unknown_key(value))
-}
-
 /// The keys at the top.
 pub fn top_names() -> [&'static str; 5]
     ensures { map (λ k. k.now) result ≡ top_keys }
@@ -178,9 +76,111 @@ pub fn top_names() -> [&'static str; 5]
     ]
 }
 
+// The addresses of the interfaces.
+pub(crate) fn addresses_of(
+    alloc: Global,
+    values: &[Value],
+) -> Result<Vec<InterfaceAddress>, ConfigFault>
+    requires { All (λ v. IsSome (as_table (view v))) values.now }
+    ensures ok { IfOk result (λ addresses. EachPair (λ t a. ReadsAddress t (Ok a)) (tables_of (items_view values.now)) addresses.items) }
+    ensures fault { IfErr result (λ f. (f ≡ fault.Memory) ⊎ Any (λ t. HasInterfaceFault t f) (tables_of (items_view values.now))) }
+{
+    let mut addresses = Vec::with_capacity(alloc, values.len())?;
+    for value in values {
+        addresses.push(address_at(table_in(value))?)?;
+    }
+    Ok(addresses)
+}
+
+// Whether two of the addresses are in conflict.
+pub(crate) fn has_conflict(addresses: &[InterfaceAddress]) -> bool
+    ensures { IsTrue result ↔ HasConflict addresses.now }
+{
+    let mut rest = addresses;
+    while let Some((first, after)) = rest.split_first() {
+        if conflicts_with_any(first, after) {
+            return true;
+        }
+        rest = after;
+    }
+    false
+}
+
+// Whether one of the interfaces would be dead no later than its next Hello.
+pub(crate) fn is_any_dead(values: &[Value]) -> bool
+    ensures { IsTrue result ↔ Any (λ v. IsTableWith IsDeadNotOverHello (view v)) values.now }
+{
+    values.iter().any(|value| is_value_dead(value))
+}
+
 // Whether a key is not known.
 pub(crate) fn is_any_unknown(table: &Table, values: &[Value]) -> bool
     ensures { IsTrue result ↔ (HasOtherKey top_keys (table_view table.now) ⊎ Any (λ v. IsTableWith (HasOtherKey interface_keys) (view v)) values.now) }
 {
     has_other_key(table, &top_names()) || has_any_unknown_key(values)
+}
+
+// Whether a key is one of these.
+fn is_among(key: &str, known: &[&str]) -> bool
+    ensures { IsTrue result ↔ Any (λ k. k.now ≡ key.now) known.now }
+{
+    known.iter().any(|name| *name == key)
+}
+
+// Whether an address is in conflict with one of these.
+fn conflicts_with_any(address: &InterfaceAddress, others: &[InterfaceAddress]) -> bool
+    ensures { IsTrue result ↔ Any (Conflict address.now) others.now }
+{
+    for other in others {
+        if address.conflicts_with(other) {
+            return true;
+        }
+    }
+    false
+}
+
+// Whether a value is the table of an interface whose RouterDeadInterval is not over its HelloInterval.
+fn is_value_dead(value: &Value) -> bool
+    ensures { IsTrue result ↔ IsTableWith IsDeadNotOverHello (view value.now) }
+{
+    match value.as_table() {
+        None => false,
+        Some(table) => is_dead_not_over_hello(table),
+    }
+}
+
+// Whether a table has a key beside these.
+fn has_other_key(table: &Table, known: &[&str]) -> bool
+    ensures { IsTrue result ↔ HasOtherKey (map (λ k. k.now) known.now) (table_view table.now) }
+{
+    is_any_other(table, known)
+}
+
+// Whether one of the keys of a table is none of these.
+fn is_any_other(table: &Table, known: &[&str]) -> bool
+    ensures { IsTrue result ↔ Any (λ k. IsOther (map (λ n. n.now) known.now) (string_bytes k)) (keys table.now) }
+{
+    for key in table.keys() {
+        if is_other(key.as_str(), known) {
+            return true;
+        }
+    }
+    false
+}
+
+// Whether a key of an interface is not known.
+fn has_any_unknown_key(values: &[Value]) -> bool
+    ensures { IsTrue result ↔ Any (λ v. IsTableWith (HasOtherKey interface_keys) (view v)) values.now }
+{
+    values.iter().any(|value| has_unknown_key(value))
+}
+
+// Whether a value is a table with a key that no interface has.
+fn has_unknown_key(value: &Value) -> bool
+    ensures { IsTrue result ↔ IsTableWith (HasOtherKey interface_keys) (view value.now) }
+{
+    match value.as_table() {
+        None => false,
+        Some(table) => has_other_key(table, &interface_names()),
+    }
 }

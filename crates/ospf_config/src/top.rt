@@ -12,20 +12,6 @@ use crate::keys::value_at;
 use ospf_base::{AreaId, RouterId};
 use toml::Table;
 
-// The Router ID that a text spells, which is not zero.
-fn router_id_of(text: Option<&str>) -> Result<RouterId, ConfigFault>
-    ensures reads { ReadsValue IsRouterIdText (option_copied text.entry) result }
-    ensures range { IfOk result (λ id. 0 < id.0) }
-{
-    let Some(text) = text else {
-        return Err(ConfigFault::Type);
-    };
-    match dotted_number(text) {
-        Some(number) if number > 0 => Ok(RouterId(number)),
-        _ => Err(ConfigFault::Range),
-    }
-}
-
 /// The Router ID at the key `router_id`, or the fault of the key.
 pub fn router_id_at(table: &Table) -> Result<RouterId, ConfigFault>
     ensures reads { ReadsRouterId (table_view table.now) result }
@@ -34,19 +20,6 @@ pub fn router_id_at(table: &Table) -> Result<RouterId, ConfigFault>
     match value_at(table, "router_id") {
         None => Err(ConfigFault::Missing),
         Some(value) => router_id_of(value.as_str()),
-    }
-}
-
-// The area that a text spells.
-fn area_of(text: Option<&str>) -> Result<AreaId, ConfigFault>
-    ensures { ReadsValue IsAreaText (option_copied text.entry) result }
-{
-    let Some(text) = text else {
-        return Err(ConfigFault::Type);
-    };
-    match dotted_number(text) {
-        Some(number) => Ok(AreaId(number)),
-        None => Err(ConfigFault::Range),
     }
 }
 
@@ -70,6 +43,44 @@ pub fn stub_router_at(table: &Table) -> Result<bool, ConfigFault>
     }
 }
 
+/// Whether LSAs of LS types 3, 4 and 5 are passed over, at the key `other_lsas`: not where nothing is there; or the fault
+/// of the key.
+pub fn other_lsas_at(table: &Table) -> Result<bool, ConfigFault>
+    ensures { ReadsOtherLsas (table_view table.now) result }
+{
+    match value_at(table, "other_lsas") {
+        None => Ok(false),
+        Some(value) => other_lsas_of(value.as_str()),
+    }
+}
+
+// The Router ID that a text spells, which is not zero.
+fn router_id_of(text: Option<&str>) -> Result<RouterId, ConfigFault>
+    ensures reads { ReadsValue IsRouterIdText (option_copied text.entry) result }
+    ensures range { IfOk result (λ id. 0 < id.0) }
+{
+    let Some(text) = text else {
+        return Err(ConfigFault::Type);
+    };
+    match dotted_number(text) {
+        Some(number) if number > 0 => Ok(RouterId(number)),
+        _ => Err(ConfigFault::Range),
+    }
+}
+
+// The area that a text spells.
+fn area_of(text: Option<&str>) -> Result<AreaId, ConfigFault>
+    ensures { ReadsValue IsAreaText (option_copied text.entry) result }
+{
+    let Some(text) = text else {
+        return Err(ConfigFault::Type);
+    };
+    match dotted_number(text) {
+        Some(number) => Ok(AreaId(number)),
+        None => Err(ConfigFault::Range),
+    }
+}
+
 // Whether LSAs of LS types 3, 4 and 5 are passed over, as a text says.
 fn other_lsas_of(text: Option<&str>) -> Result<bool, ConfigFault>
     ensures { ReadsValue IsOtherLsasText (option_copied text.entry) result }
@@ -79,16 +90,5 @@ fn other_lsas_of(text: Option<&str>) -> Result<bool, ConfigFault>
         Some("refuse") => Ok(false),
         Some("pass over") => Ok(true),
         Some(_) => Err(ConfigFault::Range),
-    }
-}
-
-/// Whether LSAs of LS types 3, 4 and 5 are passed over, at the key `other_lsas`: not where nothing is there; or the fault
-/// of the key.
-pub fn other_lsas_at(table: &Table) -> Result<bool, ConfigFault>
-    ensures { ReadsOtherLsas (table_view table.now) result }
-{
-    match value_at(table, "other_lsas") {
-        None => Ok(false),
-        Some(value) => other_lsas_of(value.as_str()),
     }
 }

@@ -22,6 +22,25 @@ pub type Job<W, R> = (Router, W, Writer<R>);
 /// What a driver of `drive_all` gives back: the router, the writer, and what the last publish told.
 pub type Driven<R> = Result<(Router, Writer<R>, Option<Told>), DriveFault>;
 
+/// Drives each router in a thread of its own, and waits for all of them. The results are in the order of the routers: what `drive`
+/// answers, or `Thread` where a thread did not start. One that fails ends no other.
+///
+/// `AllocError` where memory runs out; then none of them ran.
+pub fn drive_all<
+    W: Wire + Send + Drop + 'static,
+    R: Wait + Send + Drop + 'static,
+    S: Threads + Wait + Copy + Send + 'static,
+>(rt: &S, alloc: Global, jobs: Vec<Job<W, R>>) -> Result<Vec<Driven<R>>, AllocError>
+    requires { All (λ job. W.failed job.1 + 1 < 2 ^ 64) jobs.items }
+    ensures { IfOk result (λ all. Pairs (λ job driven. IsDriven (at job.0 (W.traffic job.1) (W.failed job.1) job.2) driven) jobs.items all.items) }
+{
+    let mut results = Vec::with_capacity(alloc, jobs.len())?;
+    let mut threads = Vec::with_capacity(alloc, jobs.len())?;
+    start_all(*rt, alloc, jobs, &mut threads);
+    join_all(rt, threads, &mut results);
+    Ok(results)
+}
+
 // What a thread will give back: what comes of its job.
 #[derive(Drop)]
 struct DriveOf<W: Wire + Drop, R: Wait + Drop>(Snapshot<Job<W, R>>);
@@ -42,56 +61,6 @@ impl<W: Wire + Drop, R: Wait + Send + Drop + 'static> Model for Running<W, R> {
     ghost Value = { Moment };
 
     ghost view = { λ r. moment r.handle.promise.0.value.0 (W.traffic r.handle.promise.0.value.1) (W.failed r.handle.promise.0.value.1) r.handle.promise.0.value.2 };
-}
-
-// Drives one router.
-fn drive_one<W: Wire + Drop, R: Wait + Drop, S: Wait>(
-    rt: &S,
-    alloc: Global,
-    job: Job<W, R>,
-) -> Driven<R>
-    requires { W.failed job.1 + 1 < 2 ^ 64 }
-    ensures { IsDriven (at job.0 (W.traffic job.1) (W.failed job.1) job.2) result }
-{
-    let (mut router, mut wire, mut writer) = job;
-    let told = drive(rt, alloc, &mut router, &mut wire, &mut writer)?;
-    Ok((router, writer, told))
-}
-
-// Starts a driver's thread.
-fn start<
-    W: Wire + Send + Drop + 'static,
-    R: Wait + Send + Drop + 'static,
-    S: Threads + Wait + Copy + Send + 'static,
->(rt: S, alloc: Global, job: Job<W, R>) -> Result<Running<W, R>, DriveFault>
-    requires { W.failed job.1 + 1 < 2 ^ 64 }
-    ensures { IsStarted (at job.0 (W.traffic job.1) (W.failed job.1) job.2) result }
-{
-    let promise = DriveOf(Snapshot::of(&job));
-    let thread = thread::spawn_with(
-        &rt,
-        promise,
-        move || -> Driven<R>
-            requires { W.failed job.1 + 1 < 2 ^ 64 }
-        { drive_one(&rt, alloc, job) },
-    );
-    match thread {
-        Ok(handle) => Ok(Running { handle }),
-        Err(_) => Err(DriveFault::Thread),
-    }
-}
-
-// Waits for a thread's end, if it was started.
-fn join<W: Wire + Drop, R: Wait + Send + Drop + 'static, S: Threads + Wait>(
-    rt: &S,
-    running: Result<Running<W, R>, DriveFault>,
-) -> Driven<R>
-    ensures { IsJoined running result }
-{
-    match running {
-        Ok(Running { handle }) => handle.join(rt),
-        Err(fault) => Err(fault),
-    }
 }
 
 // Starts a driver's thread for each job, in order.
@@ -118,6 +87,43 @@ fn start_all<
     }
 }
 
+// Starts a driver's thread.
+fn start<
+    W: Wire + Send + Drop + 'static,
+    R: Wait + Send + Drop + 'static,
+    S: Threads + Wait + Copy + Send + 'static,
+>(rt: S, alloc: Global, job: Job<W, R>) -> Result<Running<W, R>, DriveFault>
+    requires { W.failed job.1 + 1 < 2 ^ 64 }
+    ensures { IsStarted (at job.0 (W.traffic job.1) (W.failed job.1) job.2) result }
+{
+    let promise = DriveOf(Snapshot::of(&job));
+    let thread = thread::spawn_with(
+        &rt,
+        promise,
+        move || -> Driven<R>
+            requires { W.failed job.1 + 1 < 2 ^ 64 }
+        { drive_one(&rt, alloc, job) },
+    );
+    match thread {
+        Ok(handle) => Ok(Running { handle }),
+        Err(_) => Err(DriveFault::Thread),
+    }
+}
+
+// Drives one router.
+fn drive_one<W: Wire + Drop, R: Wait + Drop, S: Wait>(
+    rt: &S,
+    alloc: Global,
+    job: Job<W, R>,
+) -> Driven<R>
+    requires { W.failed job.1 + 1 < 2 ^ 64 }
+    ensures { IsDriven (at job.0 (W.traffic job.1) (W.failed job.1) job.2) result }
+{
+    let (mut router, mut wire, mut writer) = job;
+    let told = drive(rt, alloc, &mut router, &mut wire, &mut writer)?;
+    Ok((router, writer, told))
+}
+
 // Waits for each of the threads, in order.
 fn join_all<W: Wire + Drop, R: Wait + Send + Drop + 'static, S: Threads + Wait>(
     rt: &S,
@@ -136,21 +142,15 @@ fn join_all<W: Wire + Drop, R: Wait + Send + Drop + 'static, S: Threads + Wait>(
     }
 }
 
-/// Drives each router in a thread of its own, and waits for all of them. The results are in the order of the routers: what `drive`
-/// answers, or `Thread` where a thread did not start. One that fails ends no other.
-///
-/// `AllocError` where memory runs out; then none of them ran.
-pub fn drive_all<
-    W: Wire + Send + Drop + 'static,
-    R: Wait + Send + Drop + 'static,
-    S: Threads + Wait + Copy + Send + 'static,
->(rt: &S, alloc: Global, jobs: Vec<Job<W, R>>) -> Result<Vec<Driven<R>>, AllocError>
-    requires { All (λ job. W.failed job.1 + 1 < 2 ^ 64) jobs.items }
-    ensures { IfOk result (λ all. Pairs (λ job driven. IsDriven (at job.0 (W.traffic job.1) (W.failed job.1) job.2) driven) jobs.items all.items) }
+// Waits for a thread's end, if it was started.
+fn join<W: Wire + Drop, R: Wait + Send + Drop + 'static, S: Threads + Wait>(
+    rt: &S,
+    running: Result<Running<W, R>, DriveFault>,
+) -> Driven<R>
+    ensures { IsJoined running result }
 {
-    let mut results = Vec::with_capacity(alloc, jobs.len())?;
-    let mut threads = Vec::with_capacity(alloc, jobs.len())?;
-    start_all(*rt, alloc, jobs, &mut threads);
-    join_all(rt, threads, &mut results);
-    Ok(results)
+    match running {
+        Ok(Running { handle }) => handle.join(rt),
+        Err(fault) => Err(fault),
+    }
 }

@@ -14,6 +14,28 @@ use ospf_router::Router;
 use std::alloc::Global;
 use std::sync::Wait;
 
+/// Drives a router until the end of what the wire hands over: each arrival is a step, what it sends goes out in order,
+/// and then a changed table is published. An arrival of a link that is not there, or longer than the buffer, is passed
+/// over. At the end it answers what the last publish told, if there was any.
+///
+/// `Recv` and `Send` where the wire fails, `Stopped` where the router met want of memory, and `Publish` where a changed table
+/// met it. Then the router and what is published are as the last step left them, or as they were before the arrival at which
+/// the router stopped.
+pub fn drive<W: Wire, R: Wait + Drop, S: Wait>(
+    rt: &S,
+    alloc: Global,
+    router: &mut Router,
+    wire: &mut W,
+    writer: &mut Writer<R>,
+) -> Result<Option<Told>, DriveFault>
+    requires { W.failed wire.old + 1 < 2 ^ 64 }
+    ensures turns { Drives (at router.old (W.traffic wire.old) (W.failed wire.old) writer.old) (at router.new (W.traffic wire.new) (W.failed wire.new) writer.new) result }
+    ensures whole { Whole (at router.old (W.traffic wire.old) (W.failed wire.old) writer.old) (at router.new (W.traffic wire.new) (W.failed wire.new) writer.new) result }
+{
+    drives_are_whole();
+    take_turns(rt, alloc, router, wire, writer)
+}
+
 // Turn after turn, until one is the last.
 fn take_turns<W: Wire, R: Wait + Drop, S: Wait>(
     rt: &S,
@@ -35,26 +57,4 @@ fn take_turns<W: Wire, R: Wait + Drop, S: Wait>(
         }
     }
     unreachable!()
-}
-
-/// Drives a router until the end of what the wire hands over: each arrival is a step, what it sends goes out in order,
-/// and then a changed table is published. An arrival of a link that is not there, or longer than the buffer, is passed
-/// over. At the end it answers what the last publish told, if there was any.
-///
-/// `Recv` and `Send` where the wire fails, `Stopped` where the router met want of memory, and `Publish` where a changed table
-/// met it. Then the router and what is published are as the last step left them, or as they were before the arrival at which
-/// the router stopped.
-pub fn drive<W: Wire, R: Wait + Drop, S: Wait>(
-    rt: &S,
-    alloc: Global,
-    router: &mut Router,
-    wire: &mut W,
-    writer: &mut Writer<R>,
-) -> Result<Option<Told>, DriveFault>
-    requires { W.failed wire.old + 1 < 2 ^ 64 }
-    ensures turns { Drives (at router.old (W.traffic wire.old) (W.failed wire.old) writer.old) (at router.new (W.traffic wire.new) (W.failed wire.new) writer.new) result }
-    ensures whole { Whole (at router.old (W.traffic wire.old) (W.failed wire.old) writer.old) (at router.new (W.traffic wire.new) (W.failed wire.new) writer.new) result }
-{
-    drives_are_whole();
-    take_turns(rt, alloc, router, wire, writer)
 }

@@ -52,65 +52,6 @@ impl Model for MemoryWire {
     ghost view = { λ w. record { arrivals = w.arrivals.items; taken = w.taken; out = w.out.items; failed = w.failed } };
 }
 
-// Puts the bytes at the front of the buffer, as many as it holds.
-fn fill(buffer: &mut [u8; LONGEST], bytes: &[u8])
-    ensures { take (length bytes.now) buffer.new ≡ take 16393 bytes.now }
-{
-    if bytes.len() <= LONGEST {
-        buffer[..bytes.len()].copy_from_slice(bytes);
-    } else {
-        let (front, _) = bytes.split_at(LONGEST);
-        buffer.copy_from_slice(front);
-    }
-}
-
-// Puts what the script says into the buffer.
-fn hand_over(arrival: &Scripted, buffer: &mut [u8; LONGEST]) -> Arrival
-    ensures { heard result buffer.new ≡ scripted arrival.now }
-{
-    match arrival {
-        Scripted::Datagram {
-            link,
-            source,
-            destination,
-            bytes,
-        } => {
-            fill(buffer, bytes);
-            Arrival::Datagram {
-                link: *link,
-                source: *source,
-                destination: *destination,
-                length: bytes.len(),
-            }
-        }
-        Scripted::Tick => Arrival::Tick,
-        Scripted::LinkUp { link } => Arrival::LinkUp { link: *link },
-        Scripted::LinkDown { link } => Arrival::LinkDown { link: *link },
-        Scripted::End => Arrival::End,
-    }
-}
-
-// The same datagram, in memory of its own.
-fn copy_sent(alloc: Global, sent: &Sent) -> Result<Sent, AllocError>
-    ensures { IfOk result (λ copy. copy ≡ sent.now) }
-{
-    Ok(Sent {
-        link: sent.link,
-        source: sent.source,
-        destination: sent.destination,
-        bytes: sent.bytes.to_vec(alloc)?,
-    })
-}
-
-// Whether this call is to fail, and how many are to succeed before one does.
-fn count_down(good: Option<usize>) -> (bool, Option<usize>) {
-    match good {
-        None => (false, None),
-        Some(0) => (true, None),
-        Some(count) => (false, Some(count - 1)),
-    }
-}
-
 impl MemoryWire {
     /// A wire that fails where the script ends without an end, and after so many good calls, if that is said.
     pub fn new(
@@ -181,4 +122,63 @@ impl Wire for MemoryWire {
     fn failures(&self) -> u64 {
         self.failed
     }
+}
+
+// Whether this call is to fail, and how many are to succeed before one does.
+fn count_down(good: Option<usize>) -> (bool, Option<usize>) {
+    match good {
+        None => (false, None),
+        Some(0) => (true, None),
+        Some(count) => (false, Some(count - 1)),
+    }
+}
+
+// Puts what the script says into the buffer.
+fn hand_over(arrival: &Scripted, buffer: &mut [u8; LONGEST]) -> Arrival
+    ensures { heard result buffer.new ≡ scripted arrival.now }
+{
+    match arrival {
+        Scripted::Datagram {
+            link,
+            source,
+            destination,
+            bytes,
+        } => {
+            fill(buffer, bytes);
+            Arrival::Datagram {
+                link: *link,
+                source: *source,
+                destination: *destination,
+                length: bytes.len(),
+            }
+        }
+        Scripted::Tick => Arrival::Tick,
+        Scripted::LinkUp { link } => Arrival::LinkUp { link: *link },
+        Scripted::LinkDown { link } => Arrival::LinkDown { link: *link },
+        Scripted::End => Arrival::End,
+    }
+}
+
+// Puts the bytes at the front of the buffer, as many as it holds.
+fn fill(buffer: &mut [u8; LONGEST], bytes: &[u8])
+    ensures { take (length bytes.now) buffer.new ≡ take 16393 bytes.now }
+{
+    if bytes.len() <= LONGEST {
+        buffer[..bytes.len()].copy_from_slice(bytes);
+    } else {
+        let (front, _) = bytes.split_at(LONGEST);
+        buffer.copy_from_slice(front);
+    }
+}
+
+// The same datagram, in memory of its own.
+fn copy_sent(alloc: Global, sent: &Sent) -> Result<Sent, AllocError>
+    ensures { IfOk result (λ copy. copy ≡ sent.now) }
+{
+    Ok(Sent {
+        link: sent.link,
+        source: sent.source,
+        destination: sent.destination,
+        bytes: sent.bytes.to_vec(alloc)?,
+    })
 }

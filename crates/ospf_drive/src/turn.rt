@@ -23,6 +23,43 @@ pub(crate) enum Course {
     Over,
 }
 
+// Waits for an arrival, has the router make a step of it, shows it to the wire, sends what it puts out, and publishes the table where it
+// changed.
+pub(crate) fn turn<W: Wire, R: Wait + Drop>(
+    alloc: Global,
+    router: &mut Router,
+    wire: &mut W,
+    writer: &mut Writer<R>,
+    buffer: &mut [u8; LONGEST],
+) -> Result<Course, DriveFault>
+    requires { W.failed wire.old + 1 < 2 ^ 64 }
+    ensures ok { IfOk result (Turns (at router.old (W.traffic wire.old) (W.failed wire.old) writer.old) (at router.new (W.traffic wire.new) (W.failed wire.new) writer.new)) }
+    ensures err { IfErr result (Fails (at router.old (W.traffic wire.old) (W.failed wire.old) writer.old) (at router.new (W.traffic wire.new) (W.failed wire.new) writer.new)) }
+{
+    let Ok(arrival) = wire.recv(buffer) else {
+        return Err(DriveFault::Recv);
+    };
+    if let Arrival::End = arrival {
+        return Ok(Course::Over);
+    }
+    let Some(event) = event_at(router, arrival, buffer) else {
+        return Ok(Course::On(None));
+    };
+    let Ok(step) = router.step(event, alloc) else {
+        return Err(DriveFault::Stopped);
+    };
+    let Ok(()) = show_and_send(wire, router, step.out.sent()) else {
+        return Err(DriveFault::Send);
+    };
+    if !step.table_changed {
+        return Ok(Course::On(None));
+    }
+    match writer.publish(router.table()) {
+        Ok(told) => Ok(Course::On(Some(told))),
+        Err(_) => Err(DriveFault::Publish),
+    }
+}
+
 // The event that an arrival is, unless it is passed over.
 fn event_at<'a>(router: &Router, arrival: Arrival, buffer: &'a [u8; LONGEST]) -> Option<Event<'a>>
     ensures some { IfSome result (λ event. event_of router.now.links (heard arrival buffer.now) ≡ Some (happening event)) }
@@ -65,20 +102,6 @@ fn event_at<'a>(router: &Router, arrival: Arrival, buffer: &'a [u8; LONGEST]) ->
     }
 }
 
-// Sends them in order, up to a failure.
-fn send_all<W: Wire>(wire: &mut W, sent: &[Sent]) -> Result<(), WireFault>
-    requires { W.failed wire.old + 1 < 2 ^ 64 }
-    ensures out { OnOk result (W.traffic wire.new ≡ and_sends sent.now (W.traffic wire.old)) }
-    ensures out_failures { OnOk result (W.failed wire.new ≡ W.failed wire.old) }
-    ensures some_out { OnErr result ((count : ℕ) × (count < length sent.now) × (W.traffic wire.new ≡ and_sends (take count sent.now) (W.traffic wire.old))) }
-    ensures some_failures { OnErr result (W.failed wire.new ≡ W.failed wire.old + 1) }
-{
-    for one in sent {
-        wire.send(one)?;
-    }
-    Ok(())
-}
-
 // Shows the wire what became of the router, and sends what its step puts out.
 fn show_and_send<W: Wire>(wire: &mut W, router: &Router, sent: &[Sent]) -> Result<(), WireFault>
     requires { W.failed wire.old + 1 < 2 ^ 64 }
@@ -91,39 +114,16 @@ fn show_and_send<W: Wire>(wire: &mut W, router: &Router, sent: &[Sent]) -> Resul
     send_all(wire, sent)
 }
 
-// Waits for an arrival, has the router make a step of it, shows it to the wire, sends what it puts out, and publishes the table where it
-// changed.
-pub(crate) fn turn<W: Wire, R: Wait + Drop>(
-    alloc: Global,
-    router: &mut Router,
-    wire: &mut W,
-    writer: &mut Writer<R>,
-    buffer: &mut [u8; LONGEST],
-) -> Result<Course, DriveFault>
+// Sends them in order, up to a failure.
+fn send_all<W: Wire>(wire: &mut W, sent: &[Sent]) -> Result<(), WireFault>
     requires { W.failed wire.old + 1 < 2 ^ 64 }
-    ensures ok { IfOk result (Turns (at router.old (W.traffic wire.old) (W.failed wire.old) writer.old) (at router.new (W.traffic wire.new) (W.failed wire.new) writer.new)) }
-    ensures err { IfErr result (Fails (at router.old (W.traffic wire.old) (W.failed wire.old) writer.old) (at router.new (W.traffic wire.new) (W.failed wire.new) writer.new)) }
+    ensures out { OnOk result (W.traffic wire.new ≡ and_sends sent.now (W.traffic wire.old)) }
+    ensures out_failures { OnOk result (W.failed wire.new ≡ W.failed wire.old) }
+    ensures some_out { OnErr result ((count : ℕ) × (count < length sent.now) × (W.traffic wire.new ≡ and_sends (take count sent.now) (W.traffic wire.old))) }
+    ensures some_failures { OnErr result (W.failed wire.new ≡ W.failed wire.old + 1) }
 {
-    let Ok(arrival) = wire.recv(buffer) else {
-        return Err(DriveFault::Recv);
-    };
-    if let Arrival::End = arrival {
-        return Ok(Course::Over);
+    for one in sent {
+        wire.send(one)?;
     }
-    let Some(event) = event_at(router, arrival, buffer) else {
-        return Ok(Course::On(None));
-    };
-    let Ok(step) = router.step(event, alloc) else {
-        return Err(DriveFault::Stopped);
-    };
-    let Ok(()) = show_and_send(wire, router, step.out.sent()) else {
-        return Err(DriveFault::Send);
-    };
-    if !step.table_changed {
-        return Ok(Course::On(None));
-    }
-    match writer.publish(router.table()) {
-        Ok(told) => Ok(Course::On(Some(told))),
-        Err(_) => Err(DriveFault::Publish),
-    }
+    Ok(())
 }

@@ -10,6 +10,30 @@ use ospf_base::RouterId;
 use ospf_graph::NextHop;
 use ospf_lsa::{Link, LinkKind, Links, Listing};
 
+/// What a next hop costs a router: the least metric of its listed links from the hop's address to the hop's router, or to a
+/// network that this router is on. No link leads over `Attached`.
+///
+/// It looks at the router's own links, and finds the LSAs behind them by their keys.
+pub fn link_cost(listing: &Listing, router: RouterId, hop: &NextHop) -> Option<u16>
+    ensures cost { IfSome result (λ cost. IsLinkCost (advertisements_of listing.now) router hop.now cost) }
+    ensures none { IfNone result ((metric : ℕ) → HasLinkFor (advertisements_of listing.now) router hop.now metric → ⊥) }
+{
+    let links = links_in(listing, router)?;
+    least_of(links, listing, router, hop)
+}
+
+// The least metric of the links that lead where a next hop does.
+fn least_of(links: Links, listing: &Listing, router: RouterId, hop: &NextHop) -> Option<u16>
+    ensures { IsLeastOf (Leads (advertisements_of listing.now) router hop.now) links.entry result }
+{
+    let mut least = None;
+    for link in links {
+        let leads_there = leads(listing, router, hop, &link);
+        least = with_link(least, leads_there, link.metric);
+    }
+    least
+}
+
 // Whether a link of a router leads where a next hop does: from the hop's address to its router, or to a network that its router
 // is on.
 fn leads(listing: &Listing, router: RouterId, hop: &NextHop, link: &Link) -> bool
@@ -40,16 +64,6 @@ fn leads(listing: &Listing, router: RouterId, hop: &NextHop, link: &Link) -> boo
     }
 }
 
-// The lesser of a metric and the least so far.
-fn lesser(least: Option<u16>, metric: u16) -> u16
-    ensures { result ≡ lesser_of least metric }
-{
-    match least {
-        Some(least) if least < metric => least,
-        _ => metric,
-    }
-}
-
 // The least so far, after a link that leads there or does not.
 fn with_link(least: Option<u16>, leads: bool, metric: u16) -> Option<u16>
     ensures { result ≡ least_with least leads metric }
@@ -61,26 +75,12 @@ fn with_link(least: Option<u16>, leads: bool, metric: u16) -> Option<u16>
     }
 }
 
-// The least metric of the links that lead where a next hop does.
-fn least_of(links: Links, listing: &Listing, router: RouterId, hop: &NextHop) -> Option<u16>
-    ensures { IsLeastOf (Leads (advertisements_of listing.now) router hop.now) links.entry result }
+// The lesser of a metric and the least so far.
+fn lesser(least: Option<u16>, metric: u16) -> u16
+    ensures { result ≡ lesser_of least metric }
 {
-    let mut least = None;
-    for link in links {
-        let leads_there = leads(listing, router, hop, &link);
-        least = with_link(least, leads_there, link.metric);
+    match least {
+        Some(least) if least < metric => least,
+        _ => metric,
     }
-    least
-}
-
-/// What a next hop costs a router: the least metric of its listed links from the hop's address to the hop's router, or to a
-/// network that this router is on. No link leads over `Attached`.
-///
-/// It looks at the router's own links, and finds the LSAs behind them by their keys.
-pub fn link_cost(listing: &Listing, router: RouterId, hop: &NextHop) -> Option<u16>
-    ensures cost { IfSome result (λ cost. IsLinkCost (advertisements_of listing.now) router hop.now cost) }
-    ensures none { IfNone result ((metric : ℕ) → HasLinkFor (advertisements_of listing.now) router hop.now metric → ⊥) }
-{
-    let links = links_in(listing, router)?;
-    least_of(links, listing, router, hop)
 }

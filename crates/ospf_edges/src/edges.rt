@@ -15,23 +15,66 @@ use ospf_graph::{Edge, Vertex};
 use ospf_lsa::{Attached, Link, LinkKind, Links, Listing, Lsa};
 use std::alloc::{AllocError, Global};
 
-// The edge of a link: to a router that links back, or to a network that names the router.
-fn edge_of(area: &GraphIndex, router: RouterId, link: Link) -> Option<Edge>
-    ensures { MatchOption result ((e : Edge) → LinkGives area.now router link e → ⊥) (λ edge. (e : Edge) → LinkGives area.now router link e ↔ (edge ≡ e)) }
+/// The edges of a listing's graph (RFC 2328, section 16.1), one at most for each link and each attached
+/// router. `AllocError` where memory runs out.
+pub fn edges_of(alloc: Global, listing: &Listing) -> Result<Vec<Edge>, AllocError>
+    ensures edges { IfOk result (λ edges. IsEdgesOf (advertisements_of listing.now) edges.items) }
+    ensures fit { IfOk result (λ edges. IsFit edges.items) }
+    ensures few { IfOk result (λ edges. length edges.items ≤ link_count (advertisements_of listing.now)) }
 {
-    let to = match link.kind {
-        LinkKind::PointToPoint if area.links_to(RouterId(link.id), router) => {
-            Vertex::Router(RouterId(link.id))
+    let area = GraphIndex::of(alloc, listing)?;
+    edges_by(alloc, listing, &area)
+}
+
+// The edges of a listing's graph, by its area.
+fn edges_by(alloc: Global, listing: &Listing, area: &GraphIndex) -> Result<Vec<Edge>, AllocError>
+    requires same { area.now ≡ advertisements_of listing.now }
+    ensures edges { IfOk result (λ edges. IsEdgesOf (advertisements_of listing.now) edges.items) }
+    ensures fit { IfOk result (λ edges. IsFit edges.items) }
+    ensures few { IfOk result (λ edges. length edges.items ≤ link_count (advertisements_of listing.now)) }
+{
+    let mut edges = Vec::new(alloc);
+    for lsa in listing.lsas() {
+        add_edges(area, lsa, &mut edges)?;
+    }
+    Ok(edges)
+}
+
+// Adds the edges that an LSA gives.
+fn add_edges(area: &GraphIndex, lsa: &Lsa, edges: &mut Vec<Edge>) -> Result<(), AllocError>
+    ensures added { OnOk result (Adds (EdgesOf area.now (advertisement_of lsa.now)) edges.old.items edges.new.items) }
+    ensures few { OnOk result (length edges.new.items ≤ length edges.old.items + link_count (advertisement_of lsa.now ∷ [])) }
+{
+    let view = lsa.view();
+    let key = view.key();
+    match view.kind() {
+        Kind::Router => {
+            add_links(area, key.router, view.links(), edges)?;
+            Ok(())
         }
-        LinkKind::Transit if area.is_attached(link.id, router) => Vertex::Network(link.id),
-        _ => return None,
-    };
-    Some(Edge {
-        from: Vertex::Router(router),
-        to,
-        cost: link.metric,
-        link_data: link.link_data,
-    })
+        Kind::Network => {
+            if area.stands_for(key.id, key.router) {
+                add_members(area, key.id, view.attached(), edges)?;
+            }
+            Ok(())
+        }
+    }
+}
+
+// Adds the edges of links.
+fn add_links(
+    area: &GraphIndex,
+    router: RouterId,
+    links: Links,
+    edges: &mut Vec<Edge>,
+) -> Result<(), AllocError>
+    ensures added { OnOk result (Adds (λ e. (link : Link) × Contains links.entry link × LinkGives area.now router link e) edges.old.items edges.new.items) }
+    ensures few { OnOk result (length edges.new.items ≤ length edges.old.items + length links.entry) }
+{
+    for link in links {
+        add_link(area, router, link, edges)?;
+    }
+    Ok(())
 }
 
 // Adds the edge of a link.
@@ -53,18 +96,37 @@ fn add_link(
     }
 }
 
-// Adds the edges of links.
-fn add_links(
+// The edge of a link: to a router that links back, or to a network that names the router.
+fn edge_of(area: &GraphIndex, router: RouterId, link: Link) -> Option<Edge>
+    ensures { MatchOption result ((e : Edge) → LinkGives area.now router link e → ⊥) (λ edge. (e : Edge) → LinkGives area.now router link e ↔ (edge ≡ e)) }
+{
+    let to = match link.kind {
+        LinkKind::PointToPoint if area.links_to(RouterId(link.id), router) => {
+            Vertex::Router(RouterId(link.id))
+        }
+        LinkKind::Transit if area.is_attached(link.id, router) => Vertex::Network(link.id),
+        _ => return None,
+    };
+    Some(Edge {
+        from: Vertex::Router(router),
+        to,
+        cost: link.metric,
+        link_data: link.link_data,
+    })
+}
+
+// Adds the edges from a network to its attached routers.
+fn add_members(
     area: &GraphIndex,
-    router: RouterId,
-    links: Links,
+    id: u32,
+    attached: Attached,
     edges: &mut Vec<Edge>,
 ) -> Result<(), AllocError>
-    ensures added { OnOk result (Adds (λ e. (link : Link) × Contains links.entry link × LinkGives area.now router link e) edges.old.items edges.new.items) }
-    ensures few { OnOk result (length edges.new.items ≤ length edges.old.items + length links.entry) }
+    ensures added { OnOk result (Adds (λ e. (member : RouterId) × Contains attached.entry member × AttachedGives area.now id member e) edges.old.items edges.new.items) }
+    ensures few { OnOk result (length edges.new.items ≤ length edges.old.items + length attached.entry) }
 {
-    for link in links {
-        add_link(area, router, link, edges)?;
+    for member in attached {
+        add_member(area, id, member, edges)?;
     }
     Ok(())
 }
@@ -91,66 +153,4 @@ fn add_member(
         }
         None => Ok(()),
     }
-}
-
-// Adds the edges from a network to its attached routers.
-fn add_members(
-    area: &GraphIndex,
-    id: u32,
-    attached: Attached,
-    edges: &mut Vec<Edge>,
-) -> Result<(), AllocError>
-    ensures added { OnOk result (Adds (λ e. (member : RouterId) × Contains attached.entry member × AttachedGives area.now id member e) edges.old.items edges.new.items) }
-    ensures few { OnOk result (length edges.new.items ≤ length edges.old.items + length attached.entry) }
-{
-    for member in attached {
-        add_member(area, id, member, edges)?;
-    }
-    Ok(())
-}
-
-// Adds the edges that an LSA gives.
-fn add_edges(area: &GraphIndex, lsa: &Lsa, edges: &mut Vec<Edge>) -> Result<(), AllocError>
-    ensures added { OnOk result (Adds (EdgesOf area.now (advertisement_of lsa.now)) edges.old.items edges.new.items) }
-    ensures few { OnOk result (length edges.new.items ≤ length edges.old.items + link_count (advertisement_of lsa.now ∷ [])) }
-{
-    let view = lsa.view();
-    let key = view.key();
-    match view.kind() {
-        Kind::Router => {
-            add_links(area, key.router, view.links(), edges)?;
-            Ok(())
-        }
-        Kind::Network => {
-            if area.stands_for(key.id, key.router) {
-                add_members(area, key.id, view.attached(), edges)?;
-            }
-            Ok(())
-        }
-    }
-}
-
-// The edges of a listing's graph, by its area.
-fn edges_by(alloc: Global, listing: &Listing, area: &GraphIndex) -> Result<Vec<Edge>, AllocError>
-    requires same { area.now ≡ advertisements_of listing.now }
-    ensures edges { IfOk result (λ edges. IsEdgesOf (advertisements_of listing.now) edges.items) }
-    ensures fit { IfOk result (λ edges. IsFit edges.items) }
-    ensures few { IfOk result (λ edges. length edges.items ≤ link_count (advertisements_of listing.now)) }
-{
-    let mut edges = Vec::new(alloc);
-    for lsa in listing.lsas() {
-        add_edges(area, lsa, &mut edges)?;
-    }
-    Ok(edges)
-}
-
-/// The edges of a listing's graph (RFC 2328, section 16.1), one at most for each link and each attached
-/// router. `AllocError` where memory runs out.
-pub fn edges_of(alloc: Global, listing: &Listing) -> Result<Vec<Edge>, AllocError>
-    ensures edges { IfOk result (λ edges. IsEdgesOf (advertisements_of listing.now) edges.items) }
-    ensures fit { IfOk result (λ edges. IsFit edges.items) }
-    ensures few { IfOk result (λ edges. length edges.items ≤ link_count (advertisements_of listing.now)) }
-{
-    let area = GraphIndex::of(alloc, listing)?;
-    edges_by(alloc, listing, &area)
 }

@@ -14,91 +14,6 @@ use ospf_graph::Vertex;
 use ospf_lsa::{Link, LinkKind, Links, Listing, Lsa};
 use std::alloc::{AllocError, Global};
 
-// The end of a stub link.
-fn stub_of(router: RouterId, link: Link) -> Option<End>
-    ensures { MatchOption result ((e : End) → StubGives router link e → ⊥) (λ end. (e : End) → StubGives router link e ↔ (end ≡ e)) }
-{
-    match link.kind {
-        LinkKind::Stub => {
-            let prefix = Prefix::under(Addr(link.id), link.link_data)?;
-            Some(End {
-                prefix,
-                vertex: Vertex::Router(router),
-                cost: link.metric,
-            })
-        }
-        LinkKind::PointToPoint | LinkKind::Transit | LinkKind::Virtual => None,
-    }
-}
-
-// The end of a transit network.
-fn network_end(id: u32, mask: u32) -> Option<End>
-    ensures { MatchOption result ((e : End) → NetworkGives id mask e → ⊥) (λ end. (e : End) → NetworkGives id mask e ↔ (end ≡ e)) }
-{
-    let prefix = Prefix::under(Addr(id), mask)?;
-    Some(End {
-        prefix,
-        vertex: Vertex::Network(id),
-        cost: 0,
-    })
-}
-
-// Adds the end of a link.
-fn add_stub(router: RouterId, link: Link, ends: &mut Vec<End>) -> Result<(), AllocError>
-    ensures { OnOk result (Adds (StubGives router link) ends.old.items ends.new.items) }
-{
-    match stub_of(router, link) {
-        Some(end) => {
-            ends.push(end)?;
-            Ok(())
-        }
-        None => Ok(()),
-    }
-}
-
-// Adds the ends of links.
-fn add_stubs(router: RouterId, links: Links, ends: &mut Vec<End>) -> Result<(), AllocError>
-    ensures { OnOk result (Adds (λ e. (link : Link) × Contains links.entry link × StubGives router link e) ends.old.items ends.new.items) }
-{
-    for link in links {
-        add_stub(router, link, ends)?;
-    }
-    Ok(())
-}
-
-// Adds the end of a transit network.
-fn add_network(id: u32, mask: u32, ends: &mut Vec<End>) -> Result<(), AllocError>
-    ensures { OnOk result (Adds (NetworkGives id mask) ends.old.items ends.new.items) }
-{
-    match network_end(id, mask) {
-        Some(end) => {
-            ends.push(end)?;
-            Ok(())
-        }
-        None => Ok(()),
-    }
-}
-
-// Adds the ends that an LSA gives.
-fn add_ends(listing: &Listing, lsa: &Lsa, ends: &mut Vec<End>) -> Result<(), AllocError>
-    ensures { OnOk result (Adds (EndsOf (advertisements_of listing.now) (advertisement_of lsa.now)) ends.old.items ends.new.items) }
-{
-    let view = lsa.view();
-    let key = view.key();
-    match view.kind() {
-        Kind::Router => {
-            add_stubs(key.router, view.links(), ends)?;
-            Ok(())
-        }
-        Kind::Network => {
-            if stands_for(listing, key.id, key.router) {
-                add_network(key.id, view.mask(), ends)?;
-            }
-            Ok(())
-        }
-    }
-}
-
 /// The ends of all prefixes of a listing (RFC 2328, section 16.1). `AllocError` where memory runs out.
 pub fn ends_of(alloc: Global, listing: &Listing) -> Result<Vec<End>, AllocError>
     ensures { IfOk result (λ ends. IsEndsOf (advertisements_of listing.now) ends.items) }
@@ -123,4 +38,89 @@ pub fn ends_at(alloc: Global, listing: &Listing, vertex: Vertex) -> Result<Vec<E
         }
         None => Ok(ends),
     }
+}
+
+// Adds the ends that an LSA gives.
+fn add_ends(listing: &Listing, lsa: &Lsa, ends: &mut Vec<End>) -> Result<(), AllocError>
+    ensures { OnOk result (Adds (EndsOf (advertisements_of listing.now) (advertisement_of lsa.now)) ends.old.items ends.new.items) }
+{
+    let view = lsa.view();
+    let key = view.key();
+    match view.kind() {
+        Kind::Router => {
+            add_stubs(key.router, view.links(), ends)?;
+            Ok(())
+        }
+        Kind::Network => {
+            if stands_for(listing, key.id, key.router) {
+                add_network(key.id, view.mask(), ends)?;
+            }
+            Ok(())
+        }
+    }
+}
+
+// Adds the ends of links.
+fn add_stubs(router: RouterId, links: Links, ends: &mut Vec<End>) -> Result<(), AllocError>
+    ensures { OnOk result (Adds (λ e. (link : Link) × Contains links.entry link × StubGives router link e) ends.old.items ends.new.items) }
+{
+    for link in links {
+        add_stub(router, link, ends)?;
+    }
+    Ok(())
+}
+
+// Adds the end of a link.
+fn add_stub(router: RouterId, link: Link, ends: &mut Vec<End>) -> Result<(), AllocError>
+    ensures { OnOk result (Adds (StubGives router link) ends.old.items ends.new.items) }
+{
+    match stub_of(router, link) {
+        Some(end) => {
+            ends.push(end)?;
+            Ok(())
+        }
+        None => Ok(()),
+    }
+}
+
+// The end of a stub link.
+fn stub_of(router: RouterId, link: Link) -> Option<End>
+    ensures { MatchOption result ((e : End) → StubGives router link e → ⊥) (λ end. (e : End) → StubGives router link e ↔ (end ≡ e)) }
+{
+    match link.kind {
+        LinkKind::Stub => {
+            let prefix = Prefix::under(Addr(link.id), link.link_data)?;
+            Some(End {
+                prefix,
+                vertex: Vertex::Router(router),
+                cost: link.metric,
+            })
+        }
+        LinkKind::PointToPoint | LinkKind::Transit | LinkKind::Virtual => None,
+    }
+}
+
+// Adds the end of a transit network.
+fn add_network(id: u32, mask: u32, ends: &mut Vec<End>) -> Result<(), AllocError>
+    ensures { OnOk result (Adds (NetworkGives id mask) ends.old.items ends.new.items) }
+{
+    match network_end(id, mask) {
+        Some(end) => {
+            ends.push(end)?;
+            Ok(())
+        }
+        None => Ok(()),
+    }
+}
+
+// The end of a transit network.
+fn network_end(id: u32, mask: u32) -> Option<End>
+    ensures { MatchOption result ((e : End) → NetworkGives id mask e → ⊥) (λ end. (e : End) → NetworkGives id mask e ↔ (end ≡ e)) }
+{
+    let prefix = Prefix::under(Addr(id), mask)?;
+    Some(End {
+        prefix,
+        vertex: Vertex::Network(id),
+        cost: 0,
+    })
 }

@@ -41,100 +41,6 @@ impl<'a> Model for GraphIndex<'a> {
     ghost invariant = { λ a. IsIndexed (advertisements_of a.listing.now) a.links a.members (get nat_eq a.addresses) };
 }
 
-// Adds the pair of a type 1 link.
-fn push_link(router: RouterId, link: Link, pairs: &mut Vec<u64>) -> Result<(), AllocError>
-    ensures { OnOk result (Adds (LinkNames router link) pairs.old.items pairs.new.items) }
-{
-    match link.kind {
-        LinkKind::PointToPoint => {
-            pairs.push(pair_order(link.id, router.0))?;
-            Ok(())
-        }
-        LinkKind::Transit | LinkKind::Stub | LinkKind::Virtual => Ok(()),
-    }
-}
-
-// Adds the pairs of type 1 links.
-fn push_links(router: RouterId, links: Links, pairs: &mut Vec<u64>) -> Result<(), AllocError>
-    ensures { OnOk result (Adds (λ q. (link : Link) × Contains links.entry link × LinkNames router link q) pairs.old.items pairs.new.items) }
-{
-    for link in links {
-        push_link(router, link, pairs)?;
-    }
-    Ok(())
-}
-
-// Adds the pairs of an LSA's type 1 links.
-fn push_linked(lsa: &Lsa, pairs: &mut Vec<u64>) -> Result<(), AllocError>
-    ensures { OnOk result (Adds (LinksOf (advertisement_of lsa.now)) pairs.old.items pairs.new.items) }
-{
-    let view = lsa.view();
-    match view.kind() {
-        Kind::Router => {
-            push_links(view.key().router, view.links(), pairs)?;
-            Ok(())
-        }
-        Kind::Network => Ok(()),
-    }
-}
-
-// The pairs of all type 1 links.
-fn links_in(alloc: Global, listing: &Listing) -> Result<Pairs, AllocError>
-    ensures { IfOk result (λ pairs. AreLinks (advertisements_of listing.now) pairs) }
-{
-    let mut pairs = Vec::new(alloc);
-    for lsa in listing.lsas() {
-        push_linked(lsa, &mut pairs)?;
-    }
-    Ok(Pairs::of(pairs))
-}
-
-// Adds the pair of an attached router.
-fn push_member(id: u32, member: RouterId, pairs: &mut Vec<u64>) -> Result<(), AllocError>
-    ensures { OnOk result (Adds (NamedOn id member) pairs.old.items pairs.new.items) }
-{
-    pairs.push(pair_order(member.0, id))?;
-    Ok(())
-}
-
-// Adds the pairs of attached routers.
-fn push_members(id: u32, attached: Attached, pairs: &mut Vec<u64>) -> Result<(), AllocError>
-    ensures { OnOk result (Adds (λ q. (member : RouterId) × Contains attached.entry member × NamedOn id member q) pairs.old.items pairs.new.items) }
-{
-    for member in attached {
-        push_member(id, member, pairs)?;
-    }
-    Ok(())
-}
-
-// Adds the pairs of an LSA that stands for a network.
-fn push_named(listing: &Listing, lsa: &Lsa, pairs: &mut Vec<u64>) -> Result<(), AllocError>
-    ensures { OnOk result (Adds (MembersOf (advertisements_of listing.now) (advertisement_of lsa.now)) pairs.old.items pairs.new.items) }
-{
-    let view = lsa.view();
-    let key = view.key();
-    match view.kind() {
-        Kind::Router => Ok(()),
-        Kind::Network => {
-            if stands_for(listing, key.id, key.router) {
-                push_members(key.id, view.attached(), pairs)?;
-            }
-            Ok(())
-        }
-    }
-}
-
-// The pairs of all networks.
-fn members_in(alloc: Global, listing: &Listing) -> Result<Pairs, AllocError>
-    ensures { IfOk result (λ pairs. AreMembers (advertisements_of listing.now) pairs) }
-{
-    let mut pairs = Vec::new(alloc);
-    for lsa in listing.lsas() {
-        push_named(listing, lsa, &mut pairs)?;
-    }
-    Ok(Pairs::of(pairs))
-}
-
 impl<'a> GraphIndex<'a> {
     /// A listing with its pairs. `AllocError` where memory runs out.
     pub(crate) fn of(alloc: Global, listing: &'a Listing) -> Result<GraphIndex<'a>, AllocError>
@@ -180,4 +86,98 @@ impl<'a> GraphIndex<'a> {
     {
         stands_for(self.listing, id, router)
     }
+}
+
+// The pairs of all type 1 links.
+fn links_in(alloc: Global, listing: &Listing) -> Result<Pairs, AllocError>
+    ensures { IfOk result (λ pairs. AreLinks (advertisements_of listing.now) pairs) }
+{
+    let mut pairs = Vec::new(alloc);
+    for lsa in listing.lsas() {
+        push_linked(lsa, &mut pairs)?;
+    }
+    Ok(Pairs::of(pairs))
+}
+
+// Adds the pairs of an LSA's type 1 links.
+fn push_linked(lsa: &Lsa, pairs: &mut Vec<u64>) -> Result<(), AllocError>
+    ensures { OnOk result (Adds (LinksOf (advertisement_of lsa.now)) pairs.old.items pairs.new.items) }
+{
+    let view = lsa.view();
+    match view.kind() {
+        Kind::Router => {
+            push_links(view.key().router, view.links(), pairs)?;
+            Ok(())
+        }
+        Kind::Network => Ok(()),
+    }
+}
+
+// Adds the pairs of type 1 links.
+fn push_links(router: RouterId, links: Links, pairs: &mut Vec<u64>) -> Result<(), AllocError>
+    ensures { OnOk result (Adds (λ q. (link : Link) × Contains links.entry link × LinkNames router link q) pairs.old.items pairs.new.items) }
+{
+    for link in links {
+        push_link(router, link, pairs)?;
+    }
+    Ok(())
+}
+
+// Adds the pair of a type 1 link.
+fn push_link(router: RouterId, link: Link, pairs: &mut Vec<u64>) -> Result<(), AllocError>
+    ensures { OnOk result (Adds (LinkNames router link) pairs.old.items pairs.new.items) }
+{
+    match link.kind {
+        LinkKind::PointToPoint => {
+            pairs.push(pair_order(link.id, router.0))?;
+            Ok(())
+        }
+        LinkKind::Transit | LinkKind::Stub | LinkKind::Virtual => Ok(()),
+    }
+}
+
+// The pairs of all networks.
+fn members_in(alloc: Global, listing: &Listing) -> Result<Pairs, AllocError>
+    ensures { IfOk result (λ pairs. AreMembers (advertisements_of listing.now) pairs) }
+{
+    let mut pairs = Vec::new(alloc);
+    for lsa in listing.lsas() {
+        push_named(listing, lsa, &mut pairs)?;
+    }
+    Ok(Pairs::of(pairs))
+}
+
+// Adds the pairs of an LSA that stands for a network.
+fn push_named(listing: &Listing, lsa: &Lsa, pairs: &mut Vec<u64>) -> Result<(), AllocError>
+    ensures { OnOk result (Adds (MembersOf (advertisements_of listing.now) (advertisement_of lsa.now)) pairs.old.items pairs.new.items) }
+{
+    let view = lsa.view();
+    let key = view.key();
+    match view.kind() {
+        Kind::Router => Ok(()),
+        Kind::Network => {
+            if stands_for(listing, key.id, key.router) {
+                push_members(key.id, view.attached(), pairs)?;
+            }
+            Ok(())
+        }
+    }
+}
+
+// Adds the pairs of attached routers.
+fn push_members(id: u32, attached: Attached, pairs: &mut Vec<u64>) -> Result<(), AllocError>
+    ensures { OnOk result (Adds (λ q. (member : RouterId) × Contains attached.entry member × NamedOn id member q) pairs.old.items pairs.new.items) }
+{
+    for member in attached {
+        push_member(id, member, pairs)?;
+    }
+    Ok(())
+}
+
+// Adds the pair of an attached router.
+fn push_member(id: u32, member: RouterId, pairs: &mut Vec<u64>) -> Result<(), AllocError>
+    ensures { OnOk result (Adds (NamedOn id member) pairs.old.items pairs.new.items) }
+{
+    pairs.push(pair_order(member.0, id))?;
+    Ok(())
 }

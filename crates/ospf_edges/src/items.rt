@@ -25,44 +25,29 @@ pub enum GraphItem {
     Attached(RouterId),
 }
 
-// Whether links of a type are part of the graph.
-fn is_of_graph(kind: LinkKind) -> bool
-    ensures { result ≡ is_graph_kind kind }
+/// The items of a listing. `AllocError` where memory runs out.
+pub fn items_in(alloc: Global, listing: &Listing) -> Result<Vec<GraphItem>, AllocError>
+    ensures { IfOk result (λ items. items.items ≡ items_of_all (advertisements_of listing.now)) }
 {
-    match kind {
-        LinkKind::PointToPoint | LinkKind::Transit => true,
-        LinkKind::Stub | LinkKind::Virtual => false,
+    let mut items = Vec::new(alloc);
+    for lsa in listing.lsas() {
+        push_items(lsa, &mut items)?;
     }
+    Ok(items)
 }
 
-// Adds a link, if it is part of the graph.
-fn push_link(link: Link, items: &mut Vec<GraphItem>) -> Result<(), AllocError>
-    ensures { OnOk result (items.new.items ≡ items.old.items ++ link_items (link ∷ [])) }
+/// Whether these are exactly the items of a listing.
+pub fn are_items_of(items: &[GraphItem], listing: &Listing) -> bool
+    ensures { IsTrue result ↔ (items.now ≡ items_of_all (advertisements_of listing.now)) }
 {
-    if is_of_graph(link.kind) {
-        items.push(GraphItem::Link(link))?;
+    let mut rest = items;
+    for lsa in listing.lsas() {
+        let Some(more) = after_lsa(rest, lsa) else {
+            return false;
+        };
+        rest = more;
     }
-    Ok(())
-}
-
-// Adds links of the graph.
-fn push_links(links: Links, items: &mut Vec<GraphItem>) -> Result<(), AllocError>
-    ensures { OnOk result (items.new.items ≡ items.old.items ++ link_items links.entry) }
-{
-    for link in links {
-        push_link(link, items)?;
-    }
-    Ok(())
-}
-
-// Adds attached routers.
-fn push_attached(attached: Attached, items: &mut Vec<GraphItem>) -> Result<(), AllocError>
-    ensures { OnOk result (items.new.items ≡ items.old.items ++ attached_items attached.entry) }
-{
-    for router in attached {
-        items.push(GraphItem::Attached(router))?;
-    }
-    Ok(())
+    rest.is_empty()
 }
 
 // Adds the items of an LSA.
@@ -86,68 +71,44 @@ fn push_items(lsa: &Lsa, items: &mut Vec<GraphItem>) -> Result<(), AllocError>
     }
 }
 
-/// The items of a listing. `AllocError` where memory runs out.
-pub fn items_in(alloc: Global, listing: &Listing) -> Result<Vec<GraphItem>, AllocError>
-    ensures { IfOk result (λ items. items.items ≡ items_of_all (advertisements_of listing.now)) }
+// Adds links of the graph.
+fn push_links(links: Links, items: &mut Vec<GraphItem>) -> Result<(), AllocError>
+    ensures { OnOk result (items.new.items ≡ items.old.items ++ link_items links.entry) }
 {
-    let mut items = Vec::new(alloc);
-    for lsa in listing.lsas() {
-        push_items(lsa, &mut items)?;
+    for link in links {
+        push_link(link, items)?;
     }
-    Ok(items)
+    Ok(())
 }
 
-// What stands behind an item, if that is the first.
-fn after<'a>(items: &'a [GraphItem], item: GraphItem) -> Option<&'a [GraphItem]>
-    ensures some { IfSome result (λ rest. items.now ≡ (item ∷ []) ++ rest.now) }
-    ensures none { IfNone result ((rest : List GraphItem) → items.now ≡ (item ∷ []) ++ rest → ⊥) }
-{
-    match items {
-        [first, rest @ ..] if *first == item => Some(rest),
-        _ => None,
-    }
-}
-
-// What stands behind a link, if that is the first or no part of the graph.
-fn after_link<'a>(items: &'a [GraphItem], link: Link) -> Option<&'a [GraphItem]>
-    ensures some { IfSome result (λ rest. items.now ≡ link_items (link ∷ []) ++ rest.now) }
-    ensures none { IfNone result ((rest : List GraphItem) → items.now ≡ link_items (link ∷ []) ++ rest → ⊥) }
+// Adds a link, if it is part of the graph.
+fn push_link(link: Link, items: &mut Vec<GraphItem>) -> Result<(), AllocError>
+    ensures { OnOk result (items.new.items ≡ items.old.items ++ link_items (link ∷ [])) }
 {
     if is_of_graph(link.kind) {
-        after(items, GraphItem::Link(link))
-    } else {
-        Some(items)
+        items.push(GraphItem::Link(link))?;
+    }
+    Ok(())
+}
+
+// Whether links of a type are part of the graph.
+fn is_of_graph(kind: LinkKind) -> bool
+    ensures { result ≡ is_graph_kind kind }
+{
+    match kind {
+        LinkKind::PointToPoint | LinkKind::Transit => true,
+        LinkKind::Stub | LinkKind::Virtual => false,
     }
 }
 
-// What stands behind the items of links, if those are the first.
-fn after_links<'a>(items: &'a [GraphItem], links: Links) -> Option<&'a [GraphItem]>
-    ensures some { IfSome result (λ rest. items.now ≡ link_items links.entry ++ rest.now) }
-    ensures none { IfNone result ((rest : List GraphItem) → items.now ≡ link_items links.entry ++ rest → ⊥) }
+// Adds attached routers.
+fn push_attached(attached: Attached, items: &mut Vec<GraphItem>) -> Result<(), AllocError>
+    ensures { OnOk result (items.new.items ≡ items.old.items ++ attached_items attached.entry) }
 {
-    let mut rest = items;
-    for link in links {
-        let Some(more) = after_link(rest, link) else {
-            return None;
-        };
-        rest = more;
-    }
-    Some(rest)
-}
-
-// What stands behind the items of attached routers, if those are the first.
-fn after_attached<'a>(items: &'a [GraphItem], attached: Attached) -> Option<&'a [GraphItem]>
-    ensures some { IfSome result (λ rest. items.now ≡ attached_items attached.entry ++ rest.now) }
-    ensures none { IfNone result ((rest : List GraphItem) → items.now ≡ attached_items attached.entry ++ rest → ⊥) }
-{
-    let mut rest = items;
     for router in attached {
-        let Some(more) = after(rest, GraphItem::Attached(router)) else {
-            return None;
-        };
-        rest = more;
+        items.push(GraphItem::Attached(router))?;
     }
-    Some(rest)
+    Ok(())
 }
 
 // What stands behind the items of an LSA, if those are the first.
@@ -174,16 +135,55 @@ fn after_lsa<'a>(items: &'a [GraphItem], lsa: &Lsa) -> Option<&'a [GraphItem]>
     }
 }
 
-/// Whether these are exactly the items of a listing.
-pub fn are_items_of(items: &[GraphItem], listing: &Listing) -> bool
-    ensures { IsTrue result ↔ (items.now ≡ items_of_all (advertisements_of listing.now)) }
+// What stands behind an item, if that is the first.
+fn after<'a>(items: &'a [GraphItem], item: GraphItem) -> Option<&'a [GraphItem]>
+    ensures some { IfSome result (λ rest. items.now ≡ (item ∷ []) ++ rest.now) }
+    ensures none { IfNone result ((rest : List GraphItem) → items.now ≡ (item ∷ []) ++ rest → ⊥) }
+{
+    match items {
+        [first, rest @ ..] if *first == item => Some(rest),
+        _ => None,
+    }
+}
+
+// What stands behind the items of links, if those are the first.
+fn after_links<'a>(items: &'a [GraphItem], links: Links) -> Option<&'a [GraphItem]>
+    ensures some { IfSome result (λ rest. items.now ≡ link_items links.entry ++ rest.now) }
+    ensures none { IfNone result ((rest : List GraphItem) → items.now ≡ link_items links.entry ++ rest → ⊥) }
 {
     let mut rest = items;
-    for lsa in listing.lsas() {
-        let Some(more) = after_lsa(rest, lsa) else {
-            return false;
+    for link in links {
+        let Some(more) = after_link(rest, link) else {
+            return None;
         };
         rest = more;
     }
-    rest.is_empty()
+    Some(rest)
+}
+
+// What stands behind a link, if that is the first or no part of the graph.
+fn after_link<'a>(items: &'a [GraphItem], link: Link) -> Option<&'a [GraphItem]>
+    ensures some { IfSome result (λ rest. items.now ≡ link_items (link ∷ []) ++ rest.now) }
+    ensures none { IfNone result ((rest : List GraphItem) → items.now ≡ link_items (link ∷ []) ++ rest → ⊥) }
+{
+    if is_of_graph(link.kind) {
+        after(items, GraphItem::Link(link))
+    } else {
+        Some(items)
+    }
+}
+
+// What stands behind the items of attached routers, if those are the first.
+fn after_attached<'a>(items: &'a [GraphItem], attached: Attached) -> Option<&'a [GraphItem]>
+    ensures some { IfSome result (λ rest. items.now ≡ attached_items attached.entry ++ rest.now) }
+    ensures none { IfNone result ((rest : List GraphItem) → items.now ≡ attached_items attached.entry ++ rest → ⊥) }
+{
+    let mut rest = items;
+    for router in attached {
+        let Some(more) = after(rest, GraphItem::Attached(router)) else {
+            return None;
+        };
+        rest = more;
+    }
+    Some(rest)
 }

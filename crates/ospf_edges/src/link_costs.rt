@@ -25,47 +25,6 @@ pub(crate) fn links_in(listing: &Listing, router: RouterId) -> Option<Links<'_>>
     Some(lsa.view().links())
 }
 
-// The routers on a transit network, if its network-LSA is listed.
-fn attached_in(listing: &Listing, id: u32) -> Option<Attached<'_>>
-    ensures found { IfSome result (λ rs. (mask : ℕ) × IsNetwork (advertisements_of listing.now) id mask rs) }
-    ensures only { IfSome result (λ rs. (mask : ℕ) (others : List RouterId) → IsNetwork (advertisements_of listing.now) id mask others → others ≡ rs) }
-    ensures none { IfNone result ((mask : ℕ) (others : List RouterId) → IsNetwork (advertisements_of listing.now) id mask others → ⊥) }
-{
-    let lsa = listing.network(id)?;
-    Some(lsa.view().attached())
-}
-
-// Whether a link is of this kind and has this Link ID.
-fn is_to(link: &Link, kind: LinkKind, id: u32) -> bool
-    ensures { IsTrue result ↔ IsTo kind id link.now }
-{
-    link.kind == kind && link.id == id
-}
-
-// Whether one of the links is of this kind and has this Link ID.
-fn has_link(links: Links, kind: LinkKind, id: u32) -> bool
-    ensures { IsTrue result ↔ NamesLinkTo links.entry kind id }
-{
-    for link in links {
-        if is_to(&link, kind, id) {
-            return true;
-        }
-    }
-    false
-}
-
-// Whether a router is one of these.
-fn has_router(attached: Attached, router: RouterId) -> bool
-    ensures { IsTrue result ↔ Contains attached.entry router }
-{
-    for member in attached {
-        if member.0 == router.0 {
-            return true;
-        }
-    }
-    false
-}
-
 /// Whether the router-LSA of a router has a link of this kind and Link ID.
 pub(crate) fn links_to(listing: &Listing, from: RouterId, kind: LinkKind, id: u32) -> bool
     ensures { IsTrue result ↔ HasLinkTo (advertisements_of listing.now) from kind id }
@@ -84,4 +43,45 @@ pub(crate) fn is_attached(listing: &Listing, id: u32, router: RouterId) -> bool
         Some(attached) => has_router(attached, router),
         None => false,
     }
+}
+
+// Whether one of the links is of this kind and has this Link ID.
+fn has_link(links: Links, kind: LinkKind, id: u32) -> bool
+    ensures { IsTrue result ↔ NamesLinkTo links.entry kind id }
+{
+    for link in links {
+        if is_to(&link, kind, id) {
+            return true;
+        }
+    }
+    false
+}
+
+// Whether a link is of this kind and has this Link ID.
+fn is_to(link: &Link, kind: LinkKind, id: u32) -> bool
+    ensures { IsTrue result ↔ IsTo kind id link.now }
+{
+    link.kind == kind && link.id == id
+}
+
+// The routers on a transit network, if its network-LSA is listed.
+fn attached_in(listing: &Listing, id: u32) -> Option<Attached<'_>>
+    ensures found { IfSome result (λ rs. (mask : ℕ) × IsNetwork (advertisements_of listing.now) id mask rs) }
+    ensures only { IfSome result (λ rs. (mask : ℕ) (others : List RouterId) → IsNetwork (advertisements_of listing.now) id mask others → others ≡ rs) }
+    ensures none { IfNone result ((mask : ℕ) (others : List RouterId) → IsNetwork (advertisements_of listing.now) id mask others → ⊥) }
+{
+    let lsa = listing.network(id)?;
+    Some(lsa.view().attached())
+}
+
+// Whether a router is one of these.
+fn has_router(attached: Attached, router: RouterId) -> bool
+    ensures { IsTrue result ↔ Contains attached.entry router }
+{
+    for member in attached {
+        if member.0 == router.0 {
+            return true;
+        }
+    }
+    false
 }

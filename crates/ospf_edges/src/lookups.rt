@@ -45,13 +45,6 @@ pub(crate) fn attached_to<'a>(listing: &'a Listing, id: u32) -> Option<Attached<
     }
 }
 
-// Whether one of the links is a type 1 link to a router.
-fn has_link_to(mut links: Links, router: RouterId) -> bool
-    ensures { IsTrue result ↔ HasLinkTo router links.entry }
-{
-    links.any(|link| link.kind == LinkKind::PointToPoint && link.id == router.0)
-}
-
 /// Whether the router-LSA of one router has a type 1 link to the other.
 pub(crate) fn links_to(listing: &Listing, from: RouterId, to: RouterId) -> bool
     ensures { IsTrue result ↔ LinksTo (advertisements_of listing.now) from to }
@@ -60,13 +53,6 @@ pub(crate) fn links_to(listing: &Listing, from: RouterId, to: RouterId) -> bool
         Some(links) => has_link_to(links, to),
         None => false,
     }
-}
-
-// Whether a router stands among the attached ones.
-fn has_member(mut attached: Attached, router: RouterId) -> bool
-    ensures { IsTrue result ↔ Contains attached.entry router }
-{
-    attached.find(|member| *member == router).is_some()
 }
 
 /// Whether the LSA of a transit network names a router.
@@ -79,14 +65,29 @@ pub(crate) fn is_attached(listing: &Listing, id: u32, router: RouterId) -> bool
     }
 }
 
-// Whether this is a type 2 link to a transit network.
-fn is_transit_link(link: &Link, id: u32) -> bool
-    ensures { result ≡ is_transit_to id link.now }
+/// A router's address on a transit network, by its first link there.
+pub(crate) fn address_on(listing: &Listing, id: u32, router: RouterId) -> Option<u32>
+    ensures found { IfSome result (IsFirstAddress (advertisements_of listing.now) id router) }
+    ensures none { IfNone result (HasNoAddress (advertisements_of listing.now) id router) }
 {
-    match link.kind {
-        LinkKind::Transit => link.id == id,
-        LinkKind::PointToPoint | LinkKind::Stub | LinkKind::Virtual => false,
+    match links_by(listing, router) {
+        Some(links) => transit_link_data(links, id),
+        None => None,
     }
+}
+
+// Whether one of the links is a type 1 link to a router.
+fn has_link_to(mut links: Links, router: RouterId) -> bool
+    ensures { IsTrue result ↔ HasLinkTo router links.entry }
+{
+    links.any(|link| link.kind == LinkKind::PointToPoint && link.id == router.0)
+}
+
+// Whether a router stands among the attached ones.
+fn has_member(mut attached: Attached, router: RouterId) -> bool
+    ensures { IsTrue result ↔ Contains attached.entry router }
+{
+    attached.find(|member| *member == router).is_some()
 }
 
 // The Link Data of the first type 2 link to a transit network.
@@ -101,13 +102,12 @@ fn transit_link_data(links: Links, id: u32) -> Option<u32>
     None
 }
 
-/// A router's address on a transit network, by its first link there.
-pub(crate) fn address_on(listing: &Listing, id: u32, router: RouterId) -> Option<u32>
-    ensures found { IfSome result (IsFirstAddress (advertisements_of listing.now) id router) }
-    ensures none { IfNone result (HasNoAddress (advertisements_of listing.now) id router) }
+// Whether this is a type 2 link to a transit network.
+fn is_transit_link(link: &Link, id: u32) -> bool
+    ensures { result ≡ is_transit_to id link.now }
 {
-    match links_by(listing, router) {
-        Some(links) => transit_link_data(links, id),
-        None => None,
+    match link.kind {
+        LinkKind::Transit => link.id == id,
+        LinkKind::PointToPoint | LinkKind::Stub | LinkKind::Virtual => false,
     }
 }

@@ -15,6 +15,69 @@ use ospf_graph::{Edge, Vertex};
 use ospf_lsa::{Attached, Link, LinkKind, Links, Listing};
 use std::alloc::{AllocError, Global};
 
+/// The edges of a listing's graph that leave or enter a vertex, by the LSAs of the vertex and of its
+/// neighbours alone (RFC 2328, section 16.1). An edge may stand several times. `AllocError` where
+/// memory runs out.
+pub fn edges_at(alloc: Global, listing: &Listing, vertex: Vertex) -> Result<Vec<Edge>, AllocError>
+    ensures edges { IfOk result (λ e. AreEdgesAt (advertisements_of listing.now) vertex e.items) }
+    ensures fit { IfOk result (λ edges. IsFit edges.items) }
+{
+    let mut edges = Vec::new(alloc);
+    add_near(listing, vertex, &mut edges)?;
+    Ok(edges)
+}
+
+// Adds the edges that touch a vertex.
+fn add_near(listing: &Listing, vertex: Vertex, edges: &mut Vec<Edge>) -> Result<(), AllocError>
+    ensures added { OnOk result (AddsAt listing.now (EdgesNear vertex) edges.old edges.new) }
+    ensures listing { IsListing listing.now }
+{
+    match vertex {
+        Vertex::Router(router) => match links_by(listing, router) {
+            Some(links) => add_near_links(listing, router, links, edges),
+            None => Ok(()),
+        },
+        Vertex::Network(id) => match attached_to(listing, id) {
+            Some(attached) => add_near_members(listing, id, attached, edges),
+            None => Ok(()),
+        },
+    }
+}
+
+// Adds the edges between a router and the ends of its links.
+fn add_near_links(
+    listing: &Listing,
+    router: RouterId,
+    links: Links,
+    edges: &mut Vec<Edge>,
+) -> Result<(), AllocError>
+    ensures { OnOk result (AddsAt listing.now (NearLinks router links.entry) edges.old edges.new) }
+{
+    for link in links {
+        add_near_link(listing, router, link, edges)?;
+    }
+    Ok(())
+}
+
+// Adds the edges between a router and the end of a link of it.
+fn add_near_link(
+    listing: &Listing,
+    router: RouterId,
+    link: Link,
+    edges: &mut Vec<Edge>,
+) -> Result<(), AllocError>
+    ensures { OnOk result (AddsAt listing.now (NearLink router link) edges.old edges.new) }
+{
+    let Some(to) = end_of(link) else {
+        return Ok(());
+    };
+    if names(listing, to, router) {
+        edges.push(edge_to(router, to, link))?;
+        add_returns(listing, to, router, edges)?;
+    }
+    Ok(())
+}
+
 // The vertex that a link of type 1 or 2 leads to.
 fn end_of(link: Link) -> Option<Vertex>
     ensures found { IfSome result (LeadsTo link) }
@@ -24,16 +87,6 @@ fn end_of(link: Link) -> Option<Vertex>
         LinkKind::PointToPoint => Some(Vertex::Router(RouterId(link.id))),
         LinkKind::Transit => Some(Vertex::Network(link.id)),
         LinkKind::Stub | LinkKind::Virtual => None,
-    }
-}
-
-// Whether a link leads to a vertex.
-fn leads_to(link: Link, to: Vertex) -> bool
-    ensures { IsTrue result ↔ LeadsTo link to }
-{
-    match to {
-        Vertex::Router(router) => link.kind == LinkKind::PointToPoint && link.id == router.0,
-        Vertex::Network(id) => link.kind == LinkKind::Transit && link.id == id,
     }
 }
 
@@ -59,19 +112,34 @@ fn edge_to(router: RouterId, to: Vertex, link: Link) -> Edge
     }
 }
 
-// Adds the edge of a link, if it leads to the vertex.
-fn add_sent_link(
+// Adds the edges from a vertex that names a router to it.
+fn add_returns(
+    listing: &Listing,
+    from: Vertex,
     router: RouterId,
-    to: Vertex,
-    link: Link,
     edges: &mut Vec<Edge>,
 ) -> Result<(), AllocError>
-    ensures { OnOk result (Adds (LinkSends router to link) edges.old.items edges.new.items) }
+    ensures { OnOk result (AddsAt listing.now (Returns from router) edges.old edges.new) }
 {
-    if leads_to(link, to) {
-        edges.push(edge_to(router, to, link))?;
+    match from {
+        Vertex::Router(other) => add_sent(listing, other, Vertex::Router(router), edges),
+        Vertex::Network(id) => add_member(listing, id, router, edges),
     }
-    Ok(())
+}
+
+// Adds the edges of those links of a router's LSA.
+fn add_sent(
+    listing: &Listing,
+    router: RouterId,
+    to: Vertex,
+    edges: &mut Vec<Edge>,
+) -> Result<(), AllocError>
+    ensures { OnOk result (AddsAt listing.now (Sends router to) edges.old edges.new) }
+{
+    match links_by(listing, router) {
+        Some(links) => add_sent_links(router, to, links, edges),
+        None => Ok(()),
+    }
 }
 
 // Adds the edges of the links that lead to the vertex.
@@ -89,18 +157,28 @@ fn add_sent_links(
     Ok(())
 }
 
-// Adds the edges of those links of a router's LSA.
-fn add_sent(
-    listing: &Listing,
+// Adds the edge of a link, if it leads to the vertex.
+fn add_sent_link(
     router: RouterId,
     to: Vertex,
+    link: Link,
     edges: &mut Vec<Edge>,
 ) -> Result<(), AllocError>
-    ensures { OnOk result (AddsAt listing.now (Sends router to) edges.old edges.new) }
+    ensures { OnOk result (Adds (LinkSends router to link) edges.old.items edges.new.items) }
 {
-    match links_by(listing, router) {
-        Some(links) => add_sent_links(router, to, links, edges),
-        None => Ok(()),
+    if leads_to(link, to) {
+        edges.push(edge_to(router, to, link))?;
+    }
+    Ok(())
+}
+
+// Whether a link leads to a vertex.
+fn leads_to(link: Link, to: Vertex) -> bool
+    ensures { IsTrue result ↔ LeadsTo link to }
+{
+    match to {
+        Vertex::Router(router) => link.kind == LinkKind::PointToPoint && link.id == router.0,
+        Vertex::Network(id) => link.kind == LinkKind::Transit && link.id == id,
     }
 }
 
@@ -127,51 +205,17 @@ fn add_member(
     }
 }
 
-// Adds the edges from a vertex that names a router to it.
-fn add_returns(
+// Adds the edges between a network and the routers that it names.
+fn add_near_members(
     listing: &Listing,
-    from: Vertex,
-    router: RouterId,
+    id: u32,
+    attached: Attached,
     edges: &mut Vec<Edge>,
 ) -> Result<(), AllocError>
-    ensures { OnOk result (AddsAt listing.now (Returns from router) edges.old edges.new) }
+    ensures { OnOk result (AddsAt listing.now (NearMembers id attached.entry) edges.old edges.new) }
 {
-    match from {
-        Vertex::Router(other) => add_sent(listing, other, Vertex::Router(router), edges),
-        Vertex::Network(id) => add_member(listing, id, router, edges),
-    }
-}
-
-// Adds the edges between a router and the end of a link of it.
-fn add_near_link(
-    listing: &Listing,
-    router: RouterId,
-    link: Link,
-    edges: &mut Vec<Edge>,
-) -> Result<(), AllocError>
-    ensures { OnOk result (AddsAt listing.now (NearLink router link) edges.old edges.new) }
-{
-    let Some(to) = end_of(link) else {
-        return Ok(());
-    };
-    if names(listing, to, router) {
-        edges.push(edge_to(router, to, link))?;
-        add_returns(listing, to, router, edges)?;
-    }
-    Ok(())
-}
-
-// Adds the edges between a router and the ends of its links.
-fn add_near_links(
-    listing: &Listing,
-    router: RouterId,
-    links: Links,
-    edges: &mut Vec<Edge>,
-) -> Result<(), AllocError>
-    ensures { OnOk result (AddsAt listing.now (NearLinks router links.entry) edges.old edges.new) }
-{
-    for link in links {
-        add_near_link(listing, router, link, edges)?;
+    for member in attached {
+        add_near_member(listing, id, member, edges)?;
     }
     Ok(())
 }
@@ -188,48 +232,4 @@ fn add_near_member(
     add_member(listing, id, member, edges)?;
     add_sent(listing, member, Vertex::Network(id), edges)?;
     Ok(())
-}
-
-// Adds the edges between a network and the routers that it names.
-fn add_near_members(
-    listing: &Listing,
-    id: u32,
-    attached: Attached,
-    edges: &mut Vec<Edge>,
-) -> Result<(), AllocError>
-    ensures { OnOk result (AddsAt listing.now (NearMembers id attached.entry) edges.old edges.new) }
-{
-    for member in attached {
-        add_near_member(listing, id, member, edges)?;
-    }
-    Ok(())
-}
-
-// Adds the edges that touch a vertex.
-fn add_near(listing: &Listing, vertex: Vertex, edges: &mut Vec<Edge>) -> Result<(), AllocError>
-    ensures added { OnOk result (AddsAt listing.now (EdgesNear vertex) edges.old edges.new) }
-    ensures listing { IsListing listing.now }
-{
-    match vertex {
-        Vertex::Router(router) => match links_by(listing, router) {
-            Some(links) => add_near_links(listing, router, links, edges),
-            None => Ok(()),
-        },
-        Vertex::Network(id) => match attached_to(listing, id) {
-            Some(attached) => add_near_members(listing, id, attached, edges),
-            None => Ok(()),
-        },
-    }
-}
-
-/// The edges of a listing's graph that leave or enter a vertex, by the LSAs of the vertex and of its
-/// neighbours alone (RFC 2328, section 16.1). An edge may stand several times. `AllocError` where
-/// memory runs out.
-pub fn edges_at(alloc: Global, listing: &Listing, vertex: Vertex) -> Result<Vec<Edge>, AllocError>
-    ensures edges { IfOk result (λ e. AreEdgesAt (advertisements_of listing.now) vertex e.items) }
-    ensures fit { IfOk result (λ edges. IsFit edges.items) }
-{
-    let mut edges = Vec::new(alloc);
-    add_near(listing, vertex, &mut edges)?;
-    Ok(edges)
 }

@@ -7,12 +7,105 @@ ghost use Rattle.ospf_election.specs.Election.{changes_role, declaring, AreDisti
 use crate::candidate::{Candidate, Elected};
 use ospf_base::{Addr, RouterId};
 
+/// The elected Designated Router and Backup, as the router `me` finds them (RFC 2328, section 9.4).
+///
+/// The candidates are the router itself and its neighbours in 2-Way or above. Those of priority 0 are never
+/// elected. The router's own entry declares what the interface had before the election. No memory is taken.
+pub fn elect(candidates: &[Candidate], me: RouterId) -> Elected
+    requires distinct { AreDistinct candidates.now }
+    requires me { HasMe candidates.now me }
+    ensures { IsElected candidates.now me result }
+{
+    let own = find_me(candidates, me);
+    let first = round(
+        candidates,
+        me,
+        Elected {
+            dr: own.dr,
+            backup: own.backup,
+        },
+    );
+    if is_new_role(own, first) {
+        round(candidates, me, first)
+    } else {
+        first
+    }
+}
+
 // What a candidate has to be to be chosen.
 #[derive(Clone, Copy)]
 enum Standing {
     DeclaresDr,
     DeclaresBackup,
     MayBeBackup,
+}
+
+// The candidate that is the router itself.
+fn find_me(candidates: &[Candidate], me: RouterId) -> Candidate
+    requires { HasMe candidates.now me }
+    ensures member { Contains candidates.now result }
+    ensures me { result.id ≡ me }
+{
+    for c in candidates {
+        if c.id.0 == me.0 {
+            return *c;
+        }
+    }
+    unreachable!()
+}
+
+// One round, the router itself declaring `own`.
+fn round(candidates: &[Candidate], me: RouterId, own: Elected) -> Elected
+    ensures { IsRound (map (declaring me own) candidates.now) result }
+{
+    let backup = backup(candidates, me, own);
+    Elected {
+        dr: designated(candidates, me, own, backup),
+        backup,
+    }
+}
+
+// The new Backup.
+fn backup(candidates: &[Candidate], me: RouterId, own: Elected) -> Addr
+    ensures { IsBackup (map (declaring me own) candidates.now) result }
+{
+    match best(candidates, me, own, Standing::DeclaresBackup) {
+        Some(c) => c.address,
+        None => match best(candidates, me, own, Standing::MayBeBackup) {
+            Some(c) => c.address,
+            None => Addr::NOWHERE,
+        },
+    }
+}
+
+// The best candidate of a standing, the router itself declaring `own`.
+fn best(
+    candidates: &[Candidate],
+    me: RouterId,
+    own: Elected,
+    standing: Standing,
+) -> Option<Candidate>
+    ensures some { IfSome result (IsBest (BelongsTo standing) (map (declaring me own) candidates.now)) }
+    ensures none { IfNone result (HasNone (BelongsTo standing) (map (declaring me own) candidates.now)) }
+{
+    let mut best = None;
+    for c in candidates {
+        best = better(best, declare(*c, me, own), standing);
+    }
+    best
+}
+
+// The better of the best so far and the next candidate.
+fn better(best: Option<Candidate>, c: Candidate, standing: Standing) -> Option<Candidate>
+    ensures { BestOr (BelongsTo standing) best c result }
+{
+    if !belongs(c, standing) {
+        return best;
+    }
+    match best {
+        None => Some(c),
+        Some(b) => { if outranks(c, b) { Some(c) } else { Some(b) } }
+    }
 }
 
 // Whether a candidate is one of these.
@@ -51,49 +144,6 @@ fn declare(c: Candidate, me: RouterId, own: Elected) -> Candidate
     }
 }
 
-// The better of the best so far and the next candidate.
-fn better(best: Option<Candidate>, c: Candidate, standing: Standing) -> Option<Candidate>
-    ensures { BestOr (BelongsTo standing) best c result }
-{
-    if !belongs(c, standing) {
-        return best;
-    }
-    match best {
-        None => Some(c),
-        Some(b) => { if outranks(c, b) { Some(c) } else { Some(b) } }
-    }
-}
-
-// The best candidate of a standing, the router itself declaring `own`.
-fn best(
-    candidates: &[Candidate],
-    me: RouterId,
-    own: Elected,
-    standing: Standing,
-) -> Option<Candidate>
-    ensures some { IfSome result (IsBest (BelongsTo standing) (map (declaring me own) candidates.now)) }
-    ensures none { IfNone result (HasNone (BelongsTo standing) (map (declaring me own) candidates.now)) }
-{
-    let mut best = None;
-    for c in candidates {
-        best = better(best, declare(*c, me, own), standing);
-    }
-    best
-}
-
-// The new Backup.
-fn backup(candidates: &[Candidate], me: RouterId, own: Elected) -> Addr
-    ensures { IsBackup (map (declaring me own) candidates.now) result }
-{
-    match best(candidates, me, own, Standing::DeclaresBackup) {
-        Some(c) => c.address,
-        None => match best(candidates, me, own, Standing::MayBeBackup) {
-            Some(c) => c.address,
-            None => Addr::NOWHERE,
-        },
-    }
-}
-
 // The new Designated Router.
 fn designated(candidates: &[Candidate], me: RouterId, own: Elected, backup: Addr) -> Addr
     ensures { IsDr (map (declaring me own) candidates.now) backup result }
@@ -101,17 +151,6 @@ fn designated(candidates: &[Candidate], me: RouterId, own: Elected, backup: Addr
     match best(candidates, me, own, Standing::DeclaresDr) {
         Some(c) => c.address,
         None => backup,
-    }
-}
-
-// One round, the router itself declaring `own`.
-fn round(candidates: &[Candidate], me: RouterId, own: Elected) -> Elected
-    ensures { IsRound (map (declaring me own) candidates.now) result }
-{
-    let backup = backup(candidates, me, own);
-    Elected {
-        dr: designated(candidates, me, own, backup),
-        backup,
     }
 }
 
@@ -124,43 +163,4 @@ fn is_new_role(own: Candidate, e: Elected) -> bool
     let was_backup = own.backup.0 == own.address.0;
     let is_backup = e.backup.0 == own.address.0;
     was_dr != is_dr || was_backup != is_backup
-}
-
-// The candidate that is the router itself.
-fn find_me(candidates: &[Candidate], me: RouterId) -> Candidate
-    requires { HasMe candidates.now me }
-    ensures member { Contains candidates.now result }
-    ensures me { result.id ≡ me }
-{
-    for c in candidates {
-        if c.id.0 == me.0 {
-            return *c;
-        }
-    }
-    unreachable!()
-}
-
-/// The elected Designated Router and Backup, as the router `me` finds them (RFC 2328, section 9.4).
-///
-/// The candidates are the router itself and its neighbours in 2-Way or above. Those of priority 0 are never
-/// elected. The router's own entry declares what the interface had before the election. No memory is taken.
-pub fn elect(candidates: &[Candidate], me: RouterId) -> Elected
-    requires distinct { AreDistinct candidates.now }
-    requires me { HasMe candidates.now me }
-    ensures { IsElected candidates.now me result }
-{
-    let own = find_me(candidates, me);
-    let first = round(
-        candidates,
-        me,
-        Elected {
-            dr: own.dr,
-            backup: own.backup,
-        },
-    );
-    if is_new_role(own, first) {
-        round(candidates, me, first)
-    } else {
-        first
-    }
 }

@@ -23,6 +23,9 @@ use std::alloc::{AllocError, Global};
 use std::io::{BufRead, Write};
 use std::process::ExitCode;
 
+// The most links of a router-LSA that can be made anew: one of `ospf_base::LARGEST_LSA` bytes.
+const MOST_LINKS: usize = 1361;
+
 /// The failures of an area that are asked for.
 #[derive(Clone, Copy, Debug, PartialEq, Eq)]
 pub struct FailuresJob {
@@ -58,29 +61,6 @@ impl FailuresStatus {
     }
 }
 
-impl From<FailuresStatus> for ExitCode {
-    ghost use Rattle.std.specs.Prelude.{◌≡◌};
-    ghost use Rattle.std.specs.Process.{exit_status};
-    ghost use Rattle.ospf_failures.specs.Answer.{exit_code_of};
-
-    ghost from_gives = { λ status code. exit_status code ≡ exit_code_of status };
-
-    fn from(status: FailuresStatus) -> ExitCode {
-        ExitCode::from(status.code())
-    }
-}
-
-// The most links of a router-LSA that can be made anew: one of `ospf_base::LARGEST_LSA` bytes.
-const MOST_LINKS: usize = 1361;
-
-// What is to be printed, and whether some failure cuts a prefix off.
-#[derive(Drop)]
-struct Answer {
-    warning: String,
-    text: String,
-    has_cut: bool,
-}
-
 // Why nothing is to be printed: the input is refused, and this is said of it, or something failed.
 #[derive(Drop)]
 pub(crate) enum Fault {
@@ -100,63 +80,101 @@ impl From<AllocError> for Fault {
     }
 }
 
-// Whether there are more links than so many.
-fn are_more(links: Links, most: usize) -> bool
-    ensures { IsTrue result ↔ (most < length links.entry) }
-{
-    let mut left = most;
-    for link in links {
-        let _counted = link;
-        if left == 0 {
-            return true;
-        }
-        left -= 1;
-    }
-    false
-}
+impl From<FailuresStatus> for ExitCode {
+    ghost use Rattle.std.specs.Prelude.{◌≡◌};
+    ghost use Rattle.std.specs.Process.{exit_status};
+    ghost use Rattle.ospf_failures.specs.Answer.{exit_code_of};
 
-// Whether an LSA is a router-LSA of too many links.
-fn is_large(lsa: &LsaView) -> bool
-    ensures { IsTrue result ↔ IsLarge (advertisement_of lsa.now) }
-{
-    match lsa.kind() {
-        Kind::Router => are_more(lsa.links(), MOST_LINKS),
-        Kind::Network => false,
+    ghost from_gives = { λ status code. exit_status code ≡ exit_code_of status };
+
+    fn from(status: FailuresStatus) -> ExitCode {
+        ExitCode::from(status.code())
     }
 }
 
-// The first router of a listing whose router-LSA has too many links.
-fn first_large(listing: &Listing) -> Option<RouterId>
-    ensures some { IfSome result (IsFirstLarge listing.now) }
-    ensures none { IfNone result (HasLarge (advertisements_of listing.now) → ⊥) }
+/// Reads LSAs, one a line in hexadecimal as `ospf_table::table_text` does, and prints what each single failure of the
+/// area but that of the root changes in the root's routing table: with `each` a line a prefix that it changes, then a line
+/// of how many there are. Those that cut off most prefixes come first.
+///
+/// Where LSAs are listed and the root's router-LSA is not among them, `err` says so. The status is `Ended(Done)`, or with
+/// `strict` `CutOff` where some failure cuts a prefix off. The first line that is refused is told on `err`, or where none
+/// is the first router whose router-LSA has more than 1,361 links; then nothing is printed, with status
+/// `Ended(Refused)`. Status `Ended(Memory)` says that memory ran out, and `Ended(Stream)` that a read or a write failed;
+/// what it was is told on `err`, as far as that can be written. Then no more than a beginning is printed.
+pub fn failures_text<R: BufRead + Drop, O: Write, E: Write>(
+    alloc: Global,
+    job: &FailuresJob,
+    input: R,
+    out: &mut O,
+    err: &mut E,
+) -> FailuresStatus
+    ensures answered { IsWhole result → IfSome (R.remaining input) (IsAnswered job.now result (O.contents out.old) (O.contents out.new) (E.contents err.old) (E.contents err.new)) }
+    ensures refused { result ≡ FailuresStatus.Ended Status.Refused → IfSome (R.remaining input) (IsRefusalTold (E.contents err.old) (E.contents err.new)) }
+    ensures unwritten { result ≡ FailuresStatus.Ended Status.Refused → O.contents out.new ≡ O.contents out.old }
+    ensures cut { (result ≡ FailuresStatus.Ended Status.Memory) ⊎ (result ≡ FailuresStatus.Ended Status.Stream) → (failed : FailedStreams) × IsCutShort (R.remaining input) job.now failed (O.contents out.old) (O.contents out.new) (E.contents err.old) (E.contents err.new) result }
+    ensures not_words { result ≢ FailuresStatus.Ended Status.Words }
 {
-    for lsa in listing.lsas() {
-        let view = lsa.view();
-        if is_large(&view) {
-            return Some(view.key().router);
-        }
-    }
-    None
+    failures_noted(alloc, job, input, out, err, &mut FailedStreams::none())
 }
 
-// The refusal of a line.
-fn line_refused(alloc: Global, number: u64, fault: EntryFault) -> Fault
-    ensures { (input : Option (List ℕ)) → IfSome input (λ bytes. Refuses bytes [] number fault) → IsFault input result }
+// What is to be printed, and whether some failure cuts a prefix off.
+#[derive(Drop)]
+struct Answer {
+    warning: String,
+    text: String,
+    has_cut: bool,
+}
+
+// Prints what failures change, as `failures_text`, and notes which streams fail.
+fn failures_noted<R: BufRead + Drop, O: Write, E: Write>(
+    alloc: Global,
+    job: &FailuresJob,
+    input: R,
+    out: &mut O,
+    err: &mut E,
+    streams: &mut FailedStreams,
+) -> FailuresStatus
+    ensures { IsEnding (R.remaining input) job.now streams.new (O.contents out.old) (O.contents out.new) (E.contents err.old) (E.contents err.new) result }
 {
-    match format!(in alloc; "line {number}: {}\n", fault.text()) {
-        Ok(text) => Fault::Refused(text),
-        Err(error) => Fault::from(error),
+    match answer_or_refuse(alloc, job, input, out, err, streams) {
+        Ok(status) => status,
+        Err(failure) => FailuresStatus::Ended(failure.tell(err, streams)),
     }
 }
 
-// The refusal of a router of too many links.
-fn router_refused(alloc: Global, router: RouterId) -> Fault
-    ensures { (input : Option (List ℕ)) (listing : List (List ℕ)) → IfSome input (λ bytes. Reads bytes [] listing) → IsFirstLarge listing router → IsFault input result }
+// Prints the answer, or tells what is refused. The answer is the status to end with.
+fn answer_or_refuse<R: BufRead + Drop, O: Write, E: Write>(
+    alloc: Global,
+    job: &FailuresJob,
+    input: R,
+    out: &mut O,
+    err: &mut E,
+    streams: &mut FailedStreams,
+) -> Result<FailuresStatus, Failure>
+    ensures said { IfOk result (IsSaid (R.remaining input) job.now (O.contents out.old) (O.contents out.new) (E.contents err.old) (E.contents err.new)) }
+    ensures cut { IfErr result (EndsBy (R.remaining input) job.now streams.new (O.contents out.old) (O.contents out.new) (E.contents err.old) (E.contents err.new)) }
 {
-    match format!(in alloc; "{router}: more than 1361 links\n") {
-        Ok(text) => Fault::Refused(text),
-        Err(error) => Fault::from(error),
+    match answer_of(alloc, job, input) {
+        Ok(answer) => print(job, &answer, out, err, streams),
+        Err(Fault::Refused(text)) => refuse(&text, err, streams),
+        Err(Fault::Failure(failure)) => Err(failure),
     }
+}
+
+// What is to be printed of the failures of the area whose LSAs the lines of an input are.
+fn answer_of<R: BufRead + Drop>(alloc: Global, job: &FailuresJob, input: R) -> Result<Answer, Fault>
+    ensures answer { IfOk result (λ answer. IfSome (R.remaining input) (IsAnswerOf job.now answer)) }
+    ensures fault { IfErr result (IsFault (R.remaining input)) }
+{
+    let listing = listing_of(alloc, input)?;
+    let warning = warning_of(alloc, &listing, job.root)?;
+    let printed = reports_at(alloc, &listing, job.root)?;
+    let text = reports_text(alloc, &printed, job.each)?;
+    Ok(Answer {
+        warning,
+        text,
+        has_cut: has_cut(&printed),
+    })
 }
 
 // The listing of the lines of an input, none of whose routers has too many links.
@@ -175,6 +193,65 @@ fn listing_of<R: BufRead + Drop>(alloc: Global, input: R) -> Result<Listing, Fau
     match first_large(&listing) {
         Some(router) => Err(router_refused(alloc, router)),
         None => Ok(listing),
+    }
+}
+
+// The refusal of a line.
+fn line_refused(alloc: Global, number: u64, fault: EntryFault) -> Fault
+    ensures { (input : Option (List ℕ)) → IfSome input (λ bytes. Refuses bytes [] number fault) → IsFault input result }
+{
+    match format!(in alloc; "line {number}: {}\n", fault.text()) {
+        Ok(text) => Fault::Refused(text),
+        Err(error) => Fault::from(error),
+    }
+}
+
+// The first router of a listing whose router-LSA has too many links.
+fn first_large(listing: &Listing) -> Option<RouterId>
+    ensures some { IfSome result (IsFirstLarge listing.now) }
+    ensures none { IfNone result (HasLarge (advertisements_of listing.now) → ⊥) }
+{
+    for lsa in listing.lsas() {
+        let view = lsa.view();
+        if is_large(&view) {
+            return Some(view.key().router);
+        }
+    }
+    None
+}
+
+// Whether an LSA is a router-LSA of too many links.
+fn is_large(lsa: &LsaView) -> bool
+    ensures { IsTrue result ↔ IsLarge (advertisement_of lsa.now) }
+{
+    match lsa.kind() {
+        Kind::Router => are_more(lsa.links(), MOST_LINKS),
+        Kind::Network => false,
+    }
+}
+
+// Whether there are more links than so many.
+fn are_more(links: Links, most: usize) -> bool
+    ensures { IsTrue result ↔ (most < length links.entry) }
+{
+    let mut left = most;
+    for link in links {
+        let _counted = link;
+        if left == 0 {
+            return true;
+        }
+        left -= 1;
+    }
+    false
+}
+
+// The refusal of a router of too many links.
+fn router_refused(alloc: Global, router: RouterId) -> Fault
+    ensures { (input : Option (List ℕ)) (listing : List (List ℕ)) → IfSome input (λ bytes. Reads bytes [] listing) → IsFirstLarge listing router → IsFault input result }
+{
+    match format!(in alloc; "{router}: more than 1361 links\n") {
+        Ok(text) => Fault::Refused(text),
+        Err(error) => Fault::from(error),
     }
 }
 
@@ -203,34 +280,6 @@ fn reports_at(alloc: Global, listing: &Listing, root: RouterId) -> Result<Vec<Re
     }
 }
 
-// What is to be printed of the failures of the area whose LSAs the lines of an input are.
-fn answer_of<R: BufRead + Drop>(alloc: Global, job: &FailuresJob, input: R) -> Result<Answer, Fault>
-    ensures answer { IfOk result (λ answer. IfSome (R.remaining input) (IsAnswerOf job.now answer)) }
-    ensures fault { IfErr result (IsFault (R.remaining input)) }
-{
-    let listing = listing_of(alloc, input)?;
-    let warning = warning_of(alloc, &listing, job.root)?;
-    let printed = reports_at(alloc, &listing, job.root)?;
-    let text = reports_text(alloc, &printed, job.each)?;
-    Ok(Answer {
-        warning,
-        text,
-        has_cut: has_cut(&printed),
-    })
-}
-
-// How it ends where all is printed.
-fn end_of(strict: bool, has_cut: bool) -> FailuresStatus
-    ensures whole { IsWhole result }
-    ensures end { (printed : List ReportValue) → (IsTrue has_cut ↔ HasCut printed) → IsEnd strict printed result }
-{
-    if strict && has_cut {
-        FailuresStatus::CutOff
-    } else {
-        FailuresStatus::Ended(Status::Done)
-    }
-}
-
 // Prints an answer, behind its warning.
 fn print<O: Write, E: Write>(
     job: &FailuresJob,
@@ -252,6 +301,18 @@ fn print<O: Write, E: Write>(
     }
 }
 
+// How it ends where all is printed.
+fn end_of(strict: bool, has_cut: bool) -> FailuresStatus
+    ensures whole { IsWhole result }
+    ensures end { (printed : List ReportValue) → (IsTrue has_cut ↔ HasCut printed) → IsEnd strict printed result }
+{
+    if strict && has_cut {
+        FailuresStatus::CutOff
+    } else {
+        FailuresStatus::Ended(Status::Done)
+    }
+}
+
 // Tells a refusal.
 fn refuse<E: Write>(
     text: &str,
@@ -265,65 +326,4 @@ fn refuse<E: Write>(
         Ok(()) => Ok(FailuresStatus::Ended(Status::Refused)),
         Err(failure) => Err(failure),
     }
-}
-
-// Prints the answer, or tells what is refused. The answer is the status to end with.
-fn answer_or_refuse<R: BufRead + Drop, O: Write, E: Write>(
-    alloc: Global,
-    job: &FailuresJob,
-    input: R,
-    out: &mut O,
-    err: &mut E,
-    streams: &mut FailedStreams,
-) -> Result<FailuresStatus, Failure>
-    ensures said { IfOk result (IsSaid (R.remaining input) job.now (O.contents out.old) (O.contents out.new) (E.contents err.old) (E.contents err.new)) }
-    ensures cut { IfErr result (EndsBy (R.remaining input) job.now streams.new (O.contents out.old) (O.contents out.new) (E.contents err.old) (E.contents err.new)) }
-{
-    match answer_of(alloc, job, input) {
-        Ok(answer) => print(job, &answer, out, err, streams),
-        Err(Fault::Refused(text)) => refuse(&text, err, streams),
-        Err(Fault::Failure(failure)) => Err(failure),
-    }
-}
-
-// Prints what failures change, as `failures_text`, and notes which streams fail.
-fn failures_noted<R: BufRead + Drop, O: Write, E: Write>(
-    alloc: Global,
-    job: &FailuresJob,
-    input: R,
-    out: &mut O,
-    err: &mut E,
-    streams: &mut FailedStreams,
-) -> FailuresStatus
-    ensures { IsEnding (R.remaining input) job.now streams.new (O.contents out.old) (O.contents out.new) (E.contents err.old) (E.contents err.new) result }
-{
-    match answer_or_refuse(alloc, job, input, out, err, streams) {
-        Ok(status) => status,
-        Err(failure) => FailuresStatus::Ended(failure.tell(err, streams)),
-    }
-}
-
-/// Reads LSAs, one a line in hexadecimal as `ospf_table::table_text` does, and prints what each single failure of the
-/// area but that of the root changes in the root's routing table: with `each` a line a prefix that it changes, then a line
-/// of how many there are. Those that cut off most prefixes come first.
-///
-/// Where LSAs are listed and the root's router-LSA is not among them, `err` says so. The status is `Ended(Done)`, or with
-/// `strict` `CutOff` where some failure cuts a prefix off. The first line that is refused is told on `err`, or where none
-/// is the first router whose router-LSA has more than 1,361 links; then nothing is printed, with status
-/// `Ended(Refused)`. Status `Ended(Memory)` says that memory ran out, and `Ended(Stream)` that a read or a write failed;
-/// what it was is told on `err`, as far as that can be written. Then no more than a beginning is printed.
-pub fn failures_text<R: BufRead + Drop, O: Write, E: Write>(
-    alloc: Global,
-    job: &FailuresJob,
-    input: R,
-    out: &mut O,
-    err: &mut E,
-) -> FailuresStatus
-    ensures answered { IsWhole result → IfSome (R.remaining input) (IsAnswered job.now result (O.contents out.old) (O.contents out.new) (E.contents err.old) (E.contents err.new)) }
-    ensures refused { result ≡ FailuresStatus.Ended Status.Refused → IfSome (R.remaining input) (IsRefusalTold (E.contents err.old) (E.contents err.new)) }
-    ensures unwritten { result ≡ FailuresStatus.Ended Status.Refused → O.contents out.new ≡ O.contents out.old }
-    ensures cut { (result ≡ FailuresStatus.Ended Status.Memory) ⊎ (result ≡ FailuresStatus.Ended Status.Stream) → (failed : FailedStreams) × IsCutShort (R.remaining input) job.now failed (O.contents out.old) (O.contents out.new) (E.contents err.old) (E.contents err.new) result }
-    ensures not_words { result ≢ FailuresStatus.Ended Status.Words }
-{
-    failures_noted(alloc, job, input, out, err, &mut FailedStreams::none())
 }

@@ -40,9 +40,6 @@ impl Model for Report {
     ghost invariant = { λ r. r.totals ≡ totals_of r.changes.items };
 }
 
-// What comes first of numbers that a report is ordered by, and what decides where these are equal.
-type Rank = (Reverse<[usize; 4]>, [u32; 5]);
-
 impl Report {
     ghost use Rattle.std.specs.Prelude.{◌≡◌, IfOk, string_bytes};
     ghost use Rattle.ospf_whatif.specs.declared.failure.Failure.{Failure};
@@ -91,79 +88,6 @@ impl Report {
     }
 }
 
-// What decides between failures that change equally many.
-fn place_of(failure: Failure) -> [u32; 5]
-    ensures { result ≡ place_of failure }
-{
-    match failure {
-        Failure::Link { a, b, subnet } => {
-            [0, a.0, b.0, subnet.address.0, u32::from(subnet.length)]
-        }
-        Failure::Links { a, b } => [1, a.0, b.0, 0, 0],
-        Failure::Attachment { router, network } => [2, router.0, network, 0, 0],
-        Failure::Network(network) => [3, network, 0, 0, 0],
-        Failure::Router(router) => [4, router.0, 0, 0, 0],
-    }
-}
-
-// Puts reports into order.
-fn sort(reports: &mut Vec<Report>)
-    ensures same { IsPermutation reports.old.items reports.new.items }
-    ensures in_order { IsSorted report_cmp reports.new.items }
-{
-    reports.sort_unstable_by_key(|report| report.rank());
-}
-
-// Whether a failure is that of a router.
-fn is_of(failure: &Failure, router: RouterId) -> bool
-    ensures { result ≡ is_of router failure.now }
-{
-    match *failure {
-        Failure::Router(gone) => gone.0 == router.0,
-        Failure::Link { .. } => false,
-        Failure::Links { .. } => false,
-        Failure::Attachment { .. } => false,
-        Failure::Network(_) => false,
-    }
-}
-
-// The failures of an area, but that of the root.
-fn other_failures(
-    alloc: Global,
-    listing: &Listing,
-    root: RouterId,
-) -> Result<Vec<Failure>, AllocError>
-    ensures all { IfOk result (λ failures. (f : Failure) → Contains failures.items f ↔ IsOther (advertisements_of listing.now) root f) }
-    ensures rising { IfOk result (λ failures. AllPairs IsFailureBefore failures.items) }
-{
-    let mut failures = single_failures(alloc, listing)?;
-    failures.retain(|failure| !is_of(failure, root));
-    Ok(failures)
-}
-
-// What each of these failures changes in the root's table.
-fn reports_of(
-    alloc: Global,
-    listing: &Listing,
-    root: RouterId,
-    table: &RouteTable,
-    failures: &[Failure],
-) -> Result<Vec<Report>, WithoutFault>
-    requires { IsTable (advertisements_of listing.now) root table.now }
-    ensures failures { IfOk result (λ reports. map (λ r. r.0) reports.items ≡ failures.now) }
-    ensures large { result ≡ Err WithoutFault.Links → HasLarge (advertisements_of listing.now) }
-    ensures changed { IfOk result (λ reports. All (λ r. IsEffect (advertisements_of listing.now) root r.0 table.now r.1) reports.items) }
-{
-    let mut reports = Vec::new(alloc);
-    for failure in failures {
-        let changes = effect_of(alloc, listing, root, table, failure)?;
-        reports
-            .push(Report::of(*failure, changes))
-            .map_err(AllocError::from)?;
-    }
-    Ok(reports)
-}
-
 /// What each failure of an area but that of the root changes in the root's table, in the order in which it is printed: first
 /// what cuts off most, then what takes most with it, then what makes most dearer, then what moves most; where these are
 /// equal, links in subnets, other links, attachments, networks and routers, each by Router IDs and addresses.
@@ -203,4 +127,80 @@ pub fn has_cut(reports: &[Report]) -> bool
     ensures { IsTrue result ↔ HasCut reports.now }
 {
     reports.iter().any(|report| report.totals.cut > 0)
+}
+
+// What comes first of numbers that a report is ordered by, and what decides where these are equal.
+type Rank = (Reverse<[usize; 4]>, [u32; 5]);
+
+// What decides between failures that change equally many.
+fn place_of(failure: Failure) -> [u32; 5]
+    ensures { result ≡ place_of failure }
+{
+    match failure {
+        Failure::Link { a, b, subnet } => {
+            [0, a.0, b.0, subnet.address.0, u32::from(subnet.length)]
+        }
+        Failure::Links { a, b } => [1, a.0, b.0, 0, 0],
+        Failure::Attachment { router, network } => [2, router.0, network, 0, 0],
+        Failure::Network(network) => [3, network, 0, 0, 0],
+        Failure::Router(router) => [4, router.0, 0, 0, 0],
+    }
+}
+
+// The failures of an area, but that of the root.
+fn other_failures(
+    alloc: Global,
+    listing: &Listing,
+    root: RouterId,
+) -> Result<Vec<Failure>, AllocError>
+    ensures all { IfOk result (λ failures. (f : Failure) → Contains failures.items f ↔ IsOther (advertisements_of listing.now) root f) }
+    ensures rising { IfOk result (λ failures. AllPairs IsFailureBefore failures.items) }
+{
+    let mut failures = single_failures(alloc, listing)?;
+    failures.retain(|failure| !is_of(failure, root));
+    Ok(failures)
+}
+
+// Whether a failure is that of a router.
+fn is_of(failure: &Failure, router: RouterId) -> bool
+    ensures { result ≡ is_of router failure.now }
+{
+    match *failure {
+        Failure::Router(gone) => gone.0 == router.0,
+        Failure::Link { .. } => false,
+        Failure::Links { .. } => false,
+        Failure::Attachment { .. } => false,
+        Failure::Network(_) => false,
+    }
+}
+
+// What each of these failures changes in the root's table.
+fn reports_of(
+    alloc: Global,
+    listing: &Listing,
+    root: RouterId,
+    table: &RouteTable,
+    failures: &[Failure],
+) -> Result<Vec<Report>, WithoutFault>
+    requires { IsTable (advertisements_of listing.now) root table.now }
+    ensures failures { IfOk result (λ reports. map (λ r. r.0) reports.items ≡ failures.now) }
+    ensures large { result ≡ Err WithoutFault.Links → HasLarge (advertisements_of listing.now) }
+    ensures changed { IfOk result (λ reports. All (λ r. IsEffect (advertisements_of listing.now) root r.0 table.now r.1) reports.items) }
+{
+    let mut reports = Vec::new(alloc);
+    for failure in failures {
+        let changes = effect_of(alloc, listing, root, table, failure)?;
+        reports
+            .push(Report::of(*failure, changes))
+            .map_err(AllocError::from)?;
+    }
+    Ok(reports)
+}
+
+// Puts reports into order.
+fn sort(reports: &mut Vec<Report>)
+    ensures same { IsPermutation reports.old.items reports.new.items }
+    ensures in_order { IsSorted report_cmp reports.new.items }
+{
+    reports.sort_unstable_by_key(|report| report.rank());
 }

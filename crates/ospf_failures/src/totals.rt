@@ -20,58 +20,6 @@ pub struct Totals {
     pub hops: usize,
 }
 
-fn is_cut(change: &RouteChange) -> bool
-    ensures { result ≡ is_cut change.now.loss }
-{
-    matches!(change.loss, Loss::Cut)
-}
-
-fn is_gone(change: &RouteChange) -> bool
-    ensures { result ≡ is_gone change.now.loss }
-{
-    matches!(change.loss, Loss::Gone)
-}
-
-fn is_dearer(change: &RouteChange) -> bool
-    ensures { result ≡ is_dearer change.now.loss }
-{
-    matches!(change.loss, Loss::Dearer(_))
-}
-
-fn is_moved(change: &RouteChange) -> bool
-    ensures { result ≡ is_moved change.now.loss }
-{
-    matches!(change.loss, Loss::Moved(_))
-}
-
-// How many prefixes are cut off.
-fn count_cut(changes: &[RouteChange]) -> usize
-    ensures { result ≡ count_of is_cut changes.now }
-{
-    changes.iter().filter(|change| is_cut(change)).count()
-}
-
-// How many prefixes are gone.
-fn count_gone(changes: &[RouteChange]) -> usize
-    ensures { result ≡ count_of is_gone changes.now }
-{
-    changes.iter().filter(|change| is_gone(change)).count()
-}
-
-// How many prefixes cost more.
-fn count_dearer(changes: &[RouteChange]) -> usize
-    ensures { result ≡ count_of is_dearer changes.now }
-{
-    changes.iter().filter(|change| is_dearer(change)).count()
-}
-
-// How many prefixes have other hops.
-fn count_moved(changes: &[RouteChange]) -> usize
-    ensures { result ≡ count_of is_moved changes.now }
-{
-    changes.iter().filter(|change| is_moved(change)).count()
-}
-
 impl Totals {
     ghost use Rattle.std.specs.Prelude.{◌≡◌};
     ghost use Rattle.ospf_failures.specs.Lines.{totals_of};
@@ -115,4 +63,56 @@ pub(crate) fn totals_line(
 {
     let line = format!(in alloc; "{failure} {totals}\n")?;
     Ok(line)
+}
+
+// How many prefixes are cut off.
+fn count_cut(changes: &[RouteChange]) -> usize
+    ensures { result ≡ count_of is_cut changes.now }
+{
+    changes.iter().filter(|change| is_cut(change)).count()
+}
+
+fn is_cut(change: &RouteChange) -> bool
+    ensures { result ≡ is_cut change.now.loss }
+{
+    matches!(change.loss, Loss::Cut)
+}
+
+// How many prefixes are gone.
+fn count_gone(changes: &[RouteChange]) -> usize
+    ensures { result ≡ count_of is_gone changes.now }
+{
+    changes.iter().filter(|change| is_gone(change)).count()
+}
+
+fn is_gone(change: &RouteChange) -> bool
+    ensures { result ≡ is_gone change.now.loss }
+{
+    matches!(change.loss, Loss::Gone)
+}
+
+// How many prefixes cost more.
+fn count_dearer(changes: &[RouteChange]) -> usize
+    ensures { result ≡ count_of is_dearer changes.now }
+{
+    changes.iter().filter(|change| is_dearer(change)).count()
+}
+
+fn is_dearer(change: &RouteChange) -> bool
+    ensures { result ≡ is_dearer change.now.loss }
+{
+    matches!(change.loss, Loss::Dearer(_))
+}
+
+// How many prefixes have other hops.
+fn count_moved(changes: &[RouteChange]) -> usize
+    ensures { result ≡ count_of is_moved changes.now }
+{
+    changes.iter().filter(|change| is_moved(change)).count()
+}
+
+fn is_moved(change: &RouteChange) -> bool
+    ensures { result ≡ is_moved change.now.loss }
+{
+    matches!(change.loss, Loss::Moved(_))
 }

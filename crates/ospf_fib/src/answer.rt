@@ -21,6 +21,15 @@ pub struct Answer {
     pub hops: usize,
 }
 
+// The answer of what is shown to readers.
+pub(crate) fn answer_of_shown(shown: &Shown, address: Addr, choice: u32) -> Option<Answer>
+    requires { shown.now.live ≡ true }
+    ensures { IsAnswerOfLast shown.now.known.tables address choice result }
+{
+    let version = shown.known.count().wrapping_sub(1);
+    answer_of(&shown.table, version, address, choice)
+}
+
 // The answer of one table.
 fn answer_of(table: &IndexedTable, version: u64, address: Addr, choice: u32) -> Option<Answer>
     ensures { IsAnswer table.now version address choice result }
@@ -34,13 +43,4 @@ fn answer_of(table: &IndexedTable, version: u64, address: Addr, choice: u32) -> 
         hop: hops[choice as usize % hops.len()],
         hops: hops.len(),
     })
-}
-
-// The answer of what is shown to readers.
-pub(crate) fn answer_of_shown(shown: &Shown, address: Addr, choice: u32) -> Option<Answer>
-    requires { shown.now.live ≡ true }
-    ensures { IsAnswerOfLast shown.now.known.tables address choice result }
-{
-    let version = shown.known.count().wrapping_sub(1);
-    answer_of(&shown.table, version, address, choice)
 }

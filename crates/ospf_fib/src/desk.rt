@@ -60,15 +60,6 @@ impl Desk {
         &self.copies.published().table
     }
 
-    /// What is published.
-    fn told(&self) -> Told
-        ensures { result ≡ self.now }
-    {
-        Told {
-            known: self.sole.known(),
-        }
-    }
-
     /// Publishes a table. At `Err` what readers find and the list are as they were.
     pub fn publish<R: Wait>(self, rt: &R, table: &RouteTable) -> (Desk, Result<Told, AllocError>)
         ensures fib { result.0.fib ≡ self.fib }
@@ -109,6 +100,39 @@ impl Desk {
             }
         }
     }
+
+    /// What is published.
+    fn told(&self) -> Told
+        ensures { result ≡ self.now }
+    {
+        Told {
+            known: self.sole.known(),
+        }
+    }
+}
+
+// The list is closed again. Nobody adds a table beside this publish, which is not proved.
+pub(crate) fn closed<R: Wait>(rt: &R, opened: &Opened, counter: &Counter) -> Sole
+    requires { counter.now ≡ counter_of opened.now.fib }
+    ensures { result ≡ opened.now }
+{
+    if let Some(sole) = opened.close(counter) {
+        return sole;
+    }
+    wait_forever(rt);
+    unreachable!()
+}
+
+// Readers find all that was handed over from now on. At `Err` they find what they found.
+pub(crate) fn show<R: Wait>(copies: Copies, rt: &R) -> (Copies, Result<(), AllocError>)
+    requires { (end_of copies.desk.shown.value (drop copies.behind copies.log.items)).list.fib ≡ copies.desk.shown.value.known.fib }
+    ensures shown { IfOk result.1 (λ _. common_of result.0.desk.shown.value ≡ end_of copies.desk.shown.value (drop copies.behind copies.log.items)) }
+    ensures named { IfOk result.1 (λ _. IsNamed (view result.0.desk.place) result.0.desk.shown.value.known.fib) }
+    ensures done { IfOk result.1 (λ _. drop result.0.behind result.0.log.items ≡ []) }
+    ensures same { OnErr result.1 ((result.0.desk.shown.value ≡ copies.desk.shown.value) × (view result.0.desk.place ≡ view copies.desk.place)) }
+    ensures waiting { OnErr result.1 (drop result.0.behind result.0.log.items ≡ drop copies.behind copies.log.items) }
+{
+    copies.publish_as::<Swaps, R>(rt)
 }
 
 /// Changes that are to be handed over, with the memory to keep up with them.
@@ -118,31 +142,6 @@ struct Plan {
     edit: Edit,
     tries: Arc<Tries>,
     number: u64,
-}
-
-// The changes from what was handed over to the table, in a try of their own.
-fn planned(
-    alloc: Global,
-    handed: &RouteTable,
-    tries: &Arc<Tries>,
-    table: &RouteTable,
-) -> Result<Plan, AllocError>
-    ensures changes { IfOk result (λ plan. edited handed.now plan.changes ≡ table.now) }
-    ensures edit { IfOk result (λ plan. plan.edit.changes ≡ plan.changes) }
-    ensures room { IfOk result (λ plan. length handed.now + length plan.changes ≤ plan.edit.room) }
-    ensures tries { IfOk result (λ plan. arc_value plan.tries ≡ arc_value tries.now) }
-{
-    let changes = handed.changes(alloc, table)?;
-    let edit = Edit::new(alloc, handed, &changes)?;
-    let tries = Arc::try_clone(tries)?;
-    let number = tries.present.load(Ordering::SeqCst).wrapping_add(1);
-    tries.present.store(number, Ordering::SeqCst);
-    Ok(Plan {
-        changes: Changes::of(changes),
-        edit,
-        tries,
-        number,
-    })
 }
 
 /// The desk while the list is open, which is within a publish alone.
@@ -297,15 +296,38 @@ impl OpenDesk {
     }
 }
 
-// The list is closed again. Nobody adds a table beside this publish, which is not proved.
-pub(crate) fn closed<R: Wait>(rt: &R, opened: &Opened, counter: &Counter) -> Sole
-    requires { counter.now ≡ counter_of opened.now.fib }
-    ensures { result ≡ opened.now }
+// The changes from what was handed over to the table, in a try of their own.
+fn planned(
+    alloc: Global,
+    handed: &RouteTable,
+    tries: &Arc<Tries>,
+    table: &RouteTable,
+) -> Result<Plan, AllocError>
+    ensures changes { IfOk result (λ plan. edited handed.now plan.changes ≡ table.now) }
+    ensures edit { IfOk result (λ plan. plan.edit.changes ≡ plan.changes) }
+    ensures room { IfOk result (λ plan. length handed.now + length plan.changes ≤ plan.edit.room) }
+    ensures tries { IfOk result (λ plan. arc_value plan.tries ≡ arc_value tries.now) }
 {
-    if let Some(sole) = opened.close(counter) {
-        return sole;
+    let changes = handed.changes(alloc, table)?;
+    let edit = Edit::new(alloc, handed, &changes)?;
+    let tries = Arc::try_clone(tries)?;
+    let number = tries.present.load(Ordering::SeqCst).wrapping_add(1);
+    tries.present.store(number, Ordering::SeqCst);
+    Ok(Plan {
+        changes: Changes::of(changes),
+        edit,
+        tries,
+        number,
+    })
+}
+
+// Waits without an end.
+fn wait_forever<R: Wait>(rt: &R)
+    ensures { ⊥ }
+{
+    for _ in rt.forever() {
+        thread::yield_now();
     }
-    wait_forever(rt);
     unreachable!()
 }
 
@@ -320,26 +342,4 @@ fn closed_shown<R: Wait>(rt: &R, shown: &Shown, counter: &Counter) -> Sole
         wait_forever(rt);
     }
     closed(rt, &shown.known, counter)
-}
-
-// It never returns.
-fn wait_forever<R: Wait>(rt: &R)
-    ensures { ⊥ }
-{
-    for _ in rt.forever() {
-        thread::yield_now();
-    }
-    unreachable!()
-}
-
-// Readers find all that was handed over from now on. At `Err` they find what they found.
-pub(crate) fn show<R: Wait>(copies: Copies, rt: &R) -> (Copies, Result<(), AllocError>)
-    requires { (end_of copies.desk.shown.value (drop copies.behind copies.log.items)).list.fib ≡ copies.desk.shown.value.known.fib }
-    ensures shown { IfOk result.1 (λ _. common_of result.0.desk.shown.value ≡ end_of copies.desk.shown.value (drop copies.behind copies.log.items)) }
-    ensures named { IfOk result.1 (λ _. IsNamed (view result.0.desk.place) result.0.desk.shown.value.known.fib) }
-    ensures done { IfOk result.1 (λ _. drop result.0.behind result.0.log.items ≡ []) }
-    ensures same { OnErr result.1 ((result.0.desk.shown.value ≡ copies.desk.shown.value) × (view result.0.desk.place ≡ view copies.desk.place)) }
-    ensures waiting { OnErr result.1 (drop result.0.behind result.0.log.items ≡ drop copies.behind copies.log.items) }
-{
-    copies.publish_as::<Swaps, R>(rt)
 }

@@ -28,34 +28,6 @@ pub const MAX_SEATS: usize = 64;
 /// The forwarding table of a router, in which several threads look addresses up.
 pub struct Fib;
 
-/// Memory ran out, or there was no place for a seat.
-#[derive(Clone, Copy, Debug, PartialEq, Eq, thiserror::Error)]
-pub struct OpenRefused;
-
-/// Its name: `OpenRefused`.
-impl Display for OpenRefused {
-    ghost use Rattle.std.specs.Prelude.{Some};
-    ghost use Rattle.ospf_fib.specs.Text.{open_refused_text};
-
-    ghost output = { λ _. Some open_refused_text };
-
-    fn fmt<W: Write>(&self, f: &mut Formatter<W>) -> fmt::Result {
-        f.write_str("OpenRefused")
-    }
-}
-
-impl From<AllocError> for OpenRefused {
-    fn from(_error: AllocError) -> OpenRefused {
-        OpenRefused
-    }
-}
-
-impl<T: Drop> From<AllocFailed<T>> for OpenRefused {
-    fn from(_error: AllocFailed<T>) -> OpenRefused {
-        OpenRefused
-    }
-}
-
 impl Fib {
     /// A writer and so many seats. They know the opening table, which is empty and has version 0. The writer
     /// waits by the handle `rt`.
@@ -94,6 +66,34 @@ impl Fib {
     }
 }
 
+/// Memory ran out, or there was no place for a seat.
+#[derive(Clone, Copy, Debug, PartialEq, Eq, thiserror::Error)]
+pub struct OpenRefused;
+
+/// Its name: `OpenRefused`.
+impl Display for OpenRefused {
+    ghost use Rattle.std.specs.Prelude.{Some};
+    ghost use Rattle.ospf_fib.specs.Text.{open_refused_text};
+
+    ghost output = { λ _. Some open_refused_text };
+
+    fn fmt<W: Write>(&self, f: &mut Formatter<W>) -> fmt::Result {
+        f.write_str("OpenRefused")
+    }
+}
+
+impl From<AllocError> for OpenRefused {
+    fn from(_error: AllocError) -> OpenRefused {
+        OpenRefused
+    }
+}
+
+impl<T: Drop> From<AllocFailed<T>> for OpenRefused {
+    fn from(_error: AllocFailed<T>) -> OpenRefused {
+        OpenRefused
+    }
+}
+
 // Two copies of the opening table, with places for so many seats. The writer's place knows the list.
 fn opening_copies<R: Wait>(
     alloc: Global,
@@ -129,20 +129,6 @@ fn opening_copies<R: Wait>(
     Err(AllocError)
 }
 
-fn opening_shown(alloc: Global, known: &Opened) -> Result<Shown, AllocError>
-    requires { known.now.tables ≡ opening }
-    ensures table { IfOk result (λ shown. shown.table ≡ []) }
-    ensures known { IfOk result (λ shown. shown.known ≡ known.now) }
-    ensures live { IfOk result (λ shown. shown.live ≡ true) }
-{
-    let table = IndexedTable::empty(alloc)?;
-    Ok(Shown {
-        live: true,
-        table,
-        known: known.copy(),
-    })
-}
-
 fn opening_handed(alloc: Global, known: &Opened, tries: &Arc<Tries>) -> Result<Handed, AllocError>
     requires known { known.now.tables ≡ opening }
     requires counter { (arc_value tries.now).counter ≡ counter_of known.now.fib }
@@ -159,7 +145,21 @@ fn opening_handed(alloc: Global, known: &Opened, tries: &Arc<Tries>) -> Result<H
     })
 }
 
-// So many seats at the copies.
+fn opening_shown(alloc: Global, known: &Opened) -> Result<Shown, AllocError>
+    requires { known.now.tables ≡ opening }
+    ensures table { IfOk result (λ shown. shown.table ≡ []) }
+    ensures known { IfOk result (λ shown. shown.known ≡ known.now) }
+    ensures live { IfOk result (λ shown. shown.live ≡ true) }
+{
+    let table = IndexedTable::empty(alloc)?;
+    Ok(Shown {
+        live: true,
+        table,
+        known: known.copy(),
+    })
+}
+
+// This many seats at the copies.
 fn seats_of(
     alloc: Global,
     copies: &mut Copies,

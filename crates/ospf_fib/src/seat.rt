@@ -94,13 +94,6 @@ impl Drop for Seat {
 }
 
 impl Seat {
-    pub(crate) fn new(reader: Reader<Shown, Knows, OneList>, known: Published) -> Seat
-        requires { IsNamed (view reader.place) known.fib }
-        ensures { result ≡ known }
-    {
-        Seat { reader, known }
-    }
-
     /// The answer of the table that was published last: its route of longest prefix that holds the address
     /// (RFC 2328, section 11.1), with the hop at `choice` modulo the number of hops; `None` where no route's
     /// prefix holds it. It waits for nobody and takes no memory.
@@ -132,6 +125,13 @@ impl Seat {
         ensures one { (self.new.tables ≡ self.old.tables) ⊎ (self.new.tables ≡ told.tables) }
     {
         self.known.take_later(&told.known);
+    }
+
+    pub(crate) fn new(reader: Reader<Shown, Knows, OneList>, known: Published) -> Seat
+        requires { IsNamed (view reader.place) known.fib }
+        ensures { result ≡ known }
+    {
+        Seat { reader, known }
     }
 }
 

@@ -32,26 +32,6 @@ pub(crate) struct Shown {
     pub ghost ends: { found_of live table known.tables ≡ Some table },
 }
 
-/// Changes that are handed over in the try of this number, with all that was published before it. The
-/// opening leaves the list as it is.
-#[derive(Drop)]
-pub(crate) struct Handed {
-    pub is_opening: bool,
-    pub number: u64,
-    pub changes: Changes,
-    pub known: Opened,
-    pub tries: Arc<Tries>,
-    pub alloc: Global,
-    pub ghost opens: { is_opening ≡ true → known.tables ≡ opening },
-    pub ghost counter_is: { (arc_value tries).counter ≡ counter_of known.fib },
-}
-
-/// What both copies have in common. No value of it is made.
-pub(crate) struct Common {
-    pub table: RouteTable,
-    pub list: Published,
-}
-
 impl Absorb<Handed> for Shown {
     ghost use Rattle.ospf_fib.specs.Versions.{shown_tables, after_of, edited_by};
 
@@ -69,6 +49,20 @@ impl Absorb<Handed> for Shown {
         *known = list;
         Ok(())
     }
+}
+
+/// Changes that are handed over in the try of this number, with all that was published before it. The
+/// opening leaves the list as it is.
+#[derive(Drop)]
+pub(crate) struct Handed {
+    pub is_opening: bool,
+    pub number: u64,
+    pub changes: Changes,
+    pub known: Opened,
+    pub tries: Arc<Tries>,
+    pub alloc: Global,
+    pub ghost opens: { is_opening ≡ true → known.tables ≡ opening },
+    pub ghost counter_is: { (arc_value tries).counter ≡ counter_of known.fib },
 }
 
 impl Handed {
@@ -99,4 +93,10 @@ impl Handed {
             None => (false, self.known.copy()),
         }
     }
+}
+
+/// What both copies have in common. No value of it is made.
+pub(crate) struct Common {
+    pub table: RouteTable,
+    pub list: Published,
 }

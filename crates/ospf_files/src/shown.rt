@@ -34,16 +34,6 @@ pub fn print_routes<O: Write>(
     Ok(())
 }
 
-// The line of an address that was looked up.
-fn lookup_text(alloc: Global, address: Addr, answer: Option<Answer>) -> Result<String, AllocError>
-    ensures { IfOk result (λ line. string_bytes line ≡ lookup_line address.0 answer) }
-{
-    match answer {
-        Some(answer) => format!(in alloc; "{}\n", Found { address, answer }),
-        None => format!(in alloc; "lookup {address} none\n"),
-    }
-}
-
 /// Prints the line of an address that was looked up: the prefix, the cost and the hop that were found for it, or `none`.
 /// Where that fails, a beginning of the line was written.
 pub fn print_lookup<O: Write>(
@@ -59,4 +49,14 @@ pub fn print_lookup<O: Write>(
 {
     let line = lookup_text(alloc, address, answer)?;
     streams.write(out, &line)
+}
+
+// The line of an address that was looked up.
+fn lookup_text(alloc: Global, address: Addr, answer: Option<Answer>) -> Result<String, AllocError>
+    ensures { IfOk result (λ line. string_bytes line ≡ lookup_line address.0 answer) }
+{
+    match answer {
+        Some(answer) => format!(in alloc; "{}\n", Found { address, answer }),
+        None => format!(in alloc; "lookup {address} none\n"),
+    }
 }

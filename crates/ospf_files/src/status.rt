@@ -38,18 +38,6 @@ impl Status {
     }
 }
 
-impl From<Status> for ExitCode {
-    ghost use Rattle.std.specs.Prelude.{◌≡◌};
-    ghost use Rattle.std.specs.Process.{exit_status};
-    ghost use Rattle.ospf_files.specs.Status.{code_of};
-
-    ghost from_gives = { λ status code. exit_status code ≡ code_of status };
-
-    fn from(status: Status) -> ExitCode {
-        ExitCode::from(status.code())
-    }
-}
-
 /// What the program cannot go on without, whatever it was given.
 #[derive(Clone, Copy, Debug, PartialEq, Eq)]
 pub enum Failure {
@@ -128,5 +116,17 @@ impl From<AllocError> for Failure {
 
     fn from(_error: AllocError) -> Failure {
         Failure::Memory
+    }
+}
+
+impl From<Status> for ExitCode {
+    ghost use Rattle.std.specs.Prelude.{◌≡◌};
+    ghost use Rattle.std.specs.Process.{exit_status};
+    ghost use Rattle.ospf_files.specs.Status.{code_of};
+
+    ghost from_gives = { λ status code. exit_status code ≡ code_of status };
+
+    fn from(status: Status) -> ExitCode {
+        ExitCode::from(status.code())
     }
 }

@@ -93,6 +93,25 @@ impl FailedStreams {
     }
 }
 
+/// Writes a text, and flushes. Where that fails, a beginning of it was written.
+pub fn write_text<W: Write>(writer: &mut W, text: &str) -> io::Result<()>
+    ensures ok { OnOk result (Appends (W.contents writer.old) (W.contents writer.new) text.now) }
+    ensures err { OnErr result (IsBegun (W.contents writer.old) (W.contents writer.new) text.now) }
+{
+    put(writer, text.as_bytes())?;
+    writer.flush()
+}
+
+/// Writes a text as a line, and flushes. Where that fails, a beginning of the line was written.
+pub fn write_line<W: Write>(writer: &mut W, text: &str) -> io::Result<()>
+    ensures ok { OnOk result (Appends (W.contents writer.old) (W.contents writer.new) (text.now ++ codes "\n")) }
+    ensures err { OnErr result (IsBegun (W.contents writer.old) (W.contents writer.new) (text.now ++ codes "\n")) }
+{
+    put(writer, text.as_bytes())?;
+    put(writer, b"\n")?;
+    writer.flush()
+}
+
 // Writes all bytes.
 fn put<W: Write>(writer: &mut W, bytes: &[u8]) -> io::Result<()>
     ensures ok { OnOk result (Appends (W.contents writer.old) (W.contents writer.new) bytes.now) }
@@ -111,23 +130,4 @@ fn put<W: Write>(writer: &mut W, bytes: &[u8]) -> io::Result<()>
         }
     }
     Err(io::Error::from(ErrorKind::Interrupted))
-}
-
-/// Writes a text, and flushes. Where that fails, a beginning of it was written.
-pub fn write_text<W: Write>(writer: &mut W, text: &str) -> io::Result<()>
-    ensures ok { OnOk result (Appends (W.contents writer.old) (W.contents writer.new) text.now) }
-    ensures err { OnErr result (IsBegun (W.contents writer.old) (W.contents writer.new) text.now) }
-{
-    put(writer, text.as_bytes())?;
-    writer.flush()
-}
-
-/// Writes a text as a line, and flushes. Where that fails, a beginning of the line was written.
-pub fn write_line<W: Write>(writer: &mut W, text: &str) -> io::Result<()>
-    ensures ok { OnOk result (Appends (W.contents writer.old) (W.contents writer.new) (text.now ++ codes "\n")) }
-    ensures err { OnErr result (IsBegun (W.contents writer.old) (W.contents writer.new) (text.now ++ codes "\n")) }
-{
-    put(writer, text.as_bytes())?;
-    put(writer, b"\n")?;
-    writer.flush()
 }

@@ -20,6 +20,16 @@ impl Iface {
             && (hello.mask == self.settings.mask || self.settings.is_point_to_point())
     }
 
+    /// The Hello that the interface sends (section 9.5), where it has heard of these neighbours, in rising Router ID.
+    ///
+    /// `AllocError` where memory runs out.
+    pub fn hello(&self, alloc: Global, neighbours: &[RouterId]) -> Result<BodyValue, AllocError>
+        ensures { IfOk result (IsHelloOf self.now neighbours.now) }
+    {
+        let neighbours = Vec::from_slice(alloc, neighbours)?;
+        Ok(BodyValue::Hello(self.hello_fields(), neighbours))
+    }
+
     // The fields of the Hello that the interface sends.
     fn hello_fields(&self) -> Hello
         ensures { AreFieldsOf self.now result }
@@ -38,15 +48,5 @@ impl Iface {
             designated,
             backup,
         }
-    }
-
-    /// The Hello that the interface sends (section 9.5), where it has heard of these neighbours, in rising Router ID.
-    ///
-    /// `AllocError` where memory runs out.
-    pub fn hello(&self, alloc: Global, neighbours: &[RouterId]) -> Result<BodyValue, AllocError>
-        ensures { IfOk result (IsHelloOf self.now neighbours.now) }
-    {
-        let neighbours = Vec::from_slice(alloc, neighbours)?;
-        Ok(BodyValue::Hello(self.hello_fields(), neighbours))
     }
 }

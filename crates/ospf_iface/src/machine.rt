@@ -49,31 +49,6 @@ pub struct Iface {
     pub hello_in: u16,
 }
 
-/// What happens to an interface (section 9.2). An event that elects brings the candidates, the router itself among
-/// them.
-#[derive(Clone, Copy, Debug)]
-pub enum IfaceEvent<'a> {
-    InterfaceUp,
-    BackupSeen(&'a [Candidate]),
-    WaitTimer(&'a [Candidate]),
-    NeighborChange(&'a [Candidate]),
-    InterfaceDown,
-}
-
-/// What an event does.
-#[derive(Clone, Copy, Debug, PartialEq, Eq)]
-pub struct IfaceChange {
-    pub state: IfaceState,
-    pub dr: Addr,
-    pub backup: Addr,
-    /// AdjOK? is due for the neighbours in 2-Way or above.
-    pub adj_ok: bool,
-    /// The neighbours get KillNbr.
-    pub kills: bool,
-    /// A Hello is sent.
-    pub hello: bool,
-}
-
 impl Iface {
     ghost use Rattle.std.specs.Prelude.{◌≡◌, ◌≢◌, ◌-◌, ◌↔◌, IsTrue, Contains, true, false};
     ghost use Rattle.std.specs.Bool.{OnTrue, OnFalse};
@@ -93,72 +68,6 @@ impl Iface {
             dr: self.dr,
             backup: self.backup,
         }
-    }
-
-    // What is told of the interface as it is.
-    fn change(&self, adj_ok: bool, kills: bool, hello: bool) -> IfaceChange
-        ensures { result ≡ told self.now adj_ok kills hello }
-    {
-        IfaceChange {
-            state: self.state,
-            dr: self.dr,
-            backup: self.backup,
-            adj_ok,
-            kills,
-            hello,
-        }
-    }
-
-    // Whether the elected Designated Router or Backup is another one.
-    fn differs(&self, e: Elected) -> bool
-        ensures { result ≡ is_changed self.now e }
-    {
-        e.dr.0 != self.dr.0 || e.backup.0 != self.backup.0
-    }
-
-    // The interface becomes operational.
-    fn start(&mut self) -> IfaceChange
-        ensures state { self.new ≡ started self.old }
-        ensures told { result ≡ told self.new false false true }
-    {
-        let state = self.settings.first_state();
-        self.state = state;
-        self.dr = Addr::NOWHERE;
-        self.backup = Addr::NOWHERE;
-        self.wait = match state {
-            IfaceState::Waiting => self.settings.dead,
-            _ => 0,
-        };
-        self.hello_in = self.settings.hello;
-        self.change(false, false, true)
-    }
-
-    // The Designated Router and the Backup are elected (section 9.4).
-    fn elect(&mut self, candidates: &[Candidate]) -> IfaceChange
-        requires distinct { AreDistinct candidates.now }
-        requires own { Contains candidates.now (own_candidate self.old) }
-        ensures { Elects candidates.now self.old self.new result }
-    {
-        let e = elect(candidates, self.settings.router);
-        let adj_ok = self.differs(e);
-        self.state = self.settings.elected_state(e);
-        self.dr = e.dr;
-        self.backup = e.backup;
-        self.wait = 0;
-        self.change(adj_ok, false, false)
-    }
-
-    // The interface is reset.
-    fn stop(&mut self) -> IfaceChange
-        ensures state { self.new ≡ stopped self.old }
-        ensures told { result ≡ told self.new false true false }
-    {
-        self.state = IfaceState::Down;
-        self.dr = Addr::NOWHERE;
-        self.backup = Addr::NOWHERE;
-        self.wait = 0;
-        self.hello_in = 0;
-        self.change(false, true, false)
     }
 
     /// Takes an event (section 9.3). An election is that of `ospf_election`. No memory is taken.
@@ -206,4 +115,95 @@ impl Iface {
         }
         due
     }
+
+    // The interface becomes operational.
+    fn start(&mut self) -> IfaceChange
+        ensures state { self.new ≡ started self.old }
+        ensures told { result ≡ told self.new false false true }
+    {
+        let state = self.settings.first_state();
+        self.state = state;
+        self.dr = Addr::NOWHERE;
+        self.backup = Addr::NOWHERE;
+        self.wait = match state {
+            IfaceState::Waiting => self.settings.dead,
+            _ => 0,
+        };
+        self.hello_in = self.settings.hello;
+        self.change(false, false, true)
+    }
+
+    // What is told of the interface as it is.
+    fn change(&self, adj_ok: bool, kills: bool, hello: bool) -> IfaceChange
+        ensures { result ≡ told self.now adj_ok kills hello }
+    {
+        IfaceChange {
+            state: self.state,
+            dr: self.dr,
+            backup: self.backup,
+            adj_ok,
+            kills,
+            hello,
+        }
+    }
+
+    // The Designated Router and the Backup are elected (section 9.4).
+    fn elect(&mut self, candidates: &[Candidate]) -> IfaceChange
+        requires distinct { AreDistinct candidates.now }
+        requires own { Contains candidates.now (own_candidate self.old) }
+        ensures { Elects candidates.now self.old self.new result }
+    {
+        let e = elect(candidates, self.settings.router);
+        let adj_ok = self.differs(e);
+        self.state = self.settings.elected_state(e);
+        self.dr = e.dr;
+        self.backup = e.backup;
+        self.wait = 0;
+        self.change(adj_ok, false, false)
+    }
+
+    // Whether the elected Designated Router or Backup is another one.
+    fn differs(&self, e: Elected) -> bool
+        ensures { result ≡ is_changed self.now e }
+    {
+        e.dr.0 != self.dr.0 || e.backup.0 != self.backup.0
+    }
+
+    // The interface is reset.
+    fn stop(&mut self) -> IfaceChange
+        ensures state { self.new ≡ stopped self.old }
+        ensures told { result ≡ told self.new false true false }
+    {
+        self.state = IfaceState::Down;
+        self.dr = Addr::NOWHERE;
+        self.backup = Addr::NOWHERE;
+        self.wait = 0;
+        self.hello_in = 0;
+        self.change(false, true, false)
+    }
+}
+
+/// What happens to an interface (section 9.2). An event that elects brings the candidates, the router itself among
+/// them.
+#[derive(Clone, Copy, Debug)]
+pub enum IfaceEvent<'a> {
+    InterfaceUp,
+    BackupSeen(&'a [Candidate]),
+    WaitTimer(&'a [Candidate]),
+    NeighborChange(&'a [Candidate]),
+    InterfaceDown,
+}
+
+/// What an event does.
+#[derive(Clone, Copy, Debug, PartialEq, Eq)]
+pub struct IfaceChange {
+    pub state: IfaceState,
+    pub dr: Addr,
+    pub backup: Addr,
+    /// AdjOK? is due for the neighbours in 2-Way or above.
+    pub adj_ok: bool,
+    /// The neighbours get KillNbr.
+    pub kills: bool,
+    /// A Hello is sent.
+    pub hello: bool,
 }

@@ -7,6 +7,17 @@ use ospf_graph::Route;
 use ospf_spf::Change;
 use std::alloc::AllocError;
 
+/// How many hops the routes may have in all after the changes.
+///
+/// `AllocError` where no memory has room for so many.
+pub(crate) fn most_hops(routes: &[Route], changes: &[Change]) -> Result<usize, AllocError>
+    ensures { IfOk result (λ hops. hops ≡ hops_in routes.now + sum_by hops_put changes.now) }
+{
+    let old = count_hops(routes).ok_or(AllocError)?;
+    let put = count_hops_put(changes).ok_or(AllocError)?;
+    old.checked_add(put).ok_or(AllocError)
+}
+
 // How many hops the routes have in all; `None` where no number says it.
 fn count_hops(routes: &[Route]) -> Option<usize>
     ensures { IfSome result (λ hops. hops ≡ hops_in routes.now) }
@@ -16,16 +27,6 @@ fn count_hops(routes: &[Route]) -> Option<usize>
         hops = hops.checked_add(route.hops.as_slice().len())?;
     }
     Some(hops)
-}
-
-// How many hops a change puts.
-fn hops_of_change(change: &Change) -> usize
-    ensures { result ≡ hops_put change.now }
-{
-    match change {
-        Change::Put(route) => route.hops.as_slice().len(),
-        Change::Gone(_) => 0,
-    }
 }
 
 // How many hops the changes put in all; `None` where no number says it.
@@ -39,13 +40,12 @@ fn count_hops_put(changes: &[Change]) -> Option<usize>
     Some(hops)
 }
 
-/// How many hops the routes may have in all after the changes.
-///
-/// `AllocError` where no memory has room for so many.
-pub(crate) fn most_hops(routes: &[Route], changes: &[Change]) -> Result<usize, AllocError>
-    ensures { IfOk result (λ hops. hops ≡ hops_in routes.now + sum_by hops_put changes.now) }
+// How many hops a change puts.
+fn hops_of_change(change: &Change) -> usize
+    ensures { result ≡ hops_put change.now }
 {
-    let old = count_hops(routes).ok_or(AllocError)?;
-    let put = count_hops_put(changes).ok_or(AllocError)?;
-    old.checked_add(put).ok_or(AllocError)
+    match change {
+        Change::Put(route) => route.hops.as_slice().len(),
+        Change::Gone(_) => 0,
+    }
 }

@@ -25,6 +25,27 @@ pub struct Found<'a> {
     pub hops: &'a [NextHop],
 }
 
+/// What the routes at these places say, whose sets have these numbers. There is room for it.
+pub(crate) fn entries_of(
+    room: Vec<Entry>,
+    routes: &[Route],
+    numbers: &[usize],
+    places: &[usize],
+) -> Vec<Entry>
+    requires numbered { length numbers.now ≡ length routes.now }
+    requires room { (room.items ≡ []) × (length places.now ≤ vec_capacity room) }
+    ensures { AreEntries routes.now numbers.now places.now result.items }
+{
+    let mut entries = room;
+    for place in places {
+        match entries.push(entry_of(routes, numbers, *place)) {
+            Ok(()) => {}
+            Err(_) => unreachable!(),
+        }
+    }
+    entries
+}
+
 // What the route at this place says.
 fn entry_of(routes: &[Route], numbers: &[usize], place: usize) -> Entry
     requires { length numbers.now ≡ length routes.now }
@@ -45,25 +66,4 @@ fn entry_of(routes: &[Route], numbers: &[usize], place: usize) -> Entry
             set: 0,
         },
     }
-}
-
-/// What the routes at these places say, whose sets have these numbers. There is room for it.
-pub(crate) fn entries_of(
-    room: Vec<Entry>,
-    routes: &[Route],
-    numbers: &[usize],
-    places: &[usize],
-) -> Vec<Entry>
-    requires numbered { length numbers.now ≡ length routes.now }
-    requires room { (room.items ≡ []) × (length places.now ≤ vec_capacity room) }
-    ensures { AreEntries routes.now numbers.now places.now result.items }
-{
-    let mut entries = room;
-    for place in places {
-        match entries.push(entry_of(routes, numbers, *place)) {
-            Ok(()) => {}
-            Err(_) => unreachable!(),
-        }
-    }
-    entries
 }

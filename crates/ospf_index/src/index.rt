@@ -39,142 +39,6 @@ pub(crate) struct Index {
     pub directory: Vec<u32>,
 }
 
-/// All the memory that an index takes.
-#[derive(Drop)]
-pub(crate) struct IndexRoom {
-    pub sweep: Sweep,
-    pub numbering: Numbering,
-    pub numbers: Vec<usize>,
-    pub entries: Vec<Entry>,
-    pub directory: Vec<u32>,
-}
-
-impl IndexRoom {
-    ghost use Rattle.std.specs.Prelude.{IfOk};
-    ghost use Rattle.ospf_index.specs.Room.{HasIndexRoom};
-
-    /// The memory for the index of a table of so many routes, which have so many hops in all.
-    ///
-    /// `AllocError` where memory runs out.
-    pub fn new(alloc: Global, count: usize, hops: usize) -> Result<IndexRoom, AllocError>
-        ensures { IfOk result (HasIndexRoom count hops) }
-    {
-        let sweep = Sweep::with_room(alloc, count)?;
-        let numbering = Numbering::with_room(alloc, count, hops)?;
-        let numbers = Vec::with_capacity(alloc, count)?;
-        let entries = Vec::with_capacity(alloc, most_ranges(count).ok_or(AllocError)?)?;
-        let directory = Vec::with_capacity(alloc, BLOCKS + 1)?;
-        Ok(IndexRoom {
-            sweep,
-            numbering,
-            numbers,
-            entries,
-            directory,
-        })
-    }
-}
-
-// How many blocks begin before this range does; all, and what stands behind them, where it is behind the last one.
-fn blocks_before(starts: &[u32], range: usize) -> usize
-    ensures few { result ≤ 65537 }
-    ensures all { length starts.now ≤ range → result ≡ 65537 }
-    ensures before { (block : ℕ) → block < result → range < length starts.now → block_start block < get_or starts.now range 0 }
-    ensures behind { range < length starts.now → get_or starts.now range 0 ≤ block_start result }
-{
-    match starts.get(range) {
-        Some(start) => (*start as u64 + (BLOCK_SIZE - 1) >> BLOCK_BITS) as usize,
-        None => BLOCKS + 1,
-    }
-}
-
-// Names this range for the blocks before this one that have none yet.
-fn name_before(directory: &mut Vec<u32>, past: usize, range: u32)
-    requires { past ≤ vec_capacity directory.old }
-    ensures room { vec_capacity directory.old ≤ vec_capacity directory.new }
-    ensures more { length directory.old.items ≤ past → length directory.new.items ≡ past }
-    ensures all { past ≤ length directory.old.items → length directory.new.items ≡ length directory.old.items }
-    ensures same { (block : ℕ) → block < length directory.old.items → get_or directory.new.items block 0 ≡ get_or directory.old.items block 0 }
-    ensures named { (block : ℕ) → length directory.old.items ≤ block → block < length directory.new.items → get_or directory.new.items block 0 ≡ range }
-{
-    if past > directory.len() {
-        match directory.resize(past, range) {
-            Ok(()) => {}
-            Err(_) => unreachable!(),
-        }
-    }
-}
-
-// The directory of ranges.
-fn directory_of(starts: &[u32], room: Vec<u32>) -> Vec<u32>
-    requires first { (0 < length starts.now) × (get_or starts.now 0 0 ≡ 0) }
-    requires in_order { IsRising starts.now }
-    requires room { (room.items ≡ []) × (65537 ≤ vec_capacity room) }
-    ensures { IsDirectory starts.now result.items }
-{
-    let mut directory = room;
-    for range in 0..starts.len() {
-        let past = blocks_before(starts, range + 1);
-        name_before(&mut directory, past, range as u32);
-    }
-    directory
-}
-
-// This many, where the start is the address or before it, else none. It does the same work for both, so that no
-// processor has to guess which it is.
-fn step_to(start: u32, address: u32, many: usize) -> usize
-    ensures { ((start ≤ address) × (result ≡ many)) ⊎ ((address < start) × (result ≡ 0)) }
-{
-    let is_before = (address as u64 + ADDRESSES - start as u64) >> ADDRESS_BITS;
-    many * is_before as usize
-}
-
-// The range that has an address, which lies from one range on and before another.
-fn range_between(starts: &[u32], from: usize, to: usize, address: u32) -> usize
-    requires in_order { IsRising starts.now }
-    requires within { (from < to) × (to ≤ length starts.now) }
-    requires low { get_or starts.now from 0 ≤ address }
-    requires high { to < length starts.now → address < get_or starts.now to 0 }
-    ensures within { result < length starts.now }
-    ensures exact { IsInRange starts.now result address }
-{
-    let (mut low, mut count) = (from, to - from);
-    while count > 1 {
-        let half = count / 2;
-        low += step_to(starts[low + half], address, half);
-        count -= half;
-    }
-    low
-}
-
-// The place, from one on and up to another, that is in proportion to the address within its block.
-fn guess_between(from: usize, last: usize, address: u32) -> usize
-    requires { (from ≤ last) × (last < 2 ^ 32) }
-    ensures { (from ≤ result) × (result ≤ last) }
-{
-    let within_block = address as usize % BLOCK_SIZE as usize;
-    from + ((last - from) * within_block >> BLOCK_BITS)
-}
-
-// The range that has an address, which lies from one range on and up to another. Prefixes are mostly spread
-// evenly over a block, so it is first looked for where it would stand then.
-fn range_near(starts: &[u32], from: usize, last: usize, address: u32) -> usize
-    requires in_order { IsRising starts.now }
-    requires within { (from ≤ last) × (last < length starts.now) × (last < 2 ^ 32) }
-    requires low { get_or starts.now from 0 ≤ address }
-    requires high { last + 1 < length starts.now → address < get_or starts.now (last + 1) 0 }
-    ensures within { result < length starts.now }
-    ensures exact { IsInRange starts.now result address }
-{
-    let guess = guess_between(from, last, address);
-    if starts[guess] > address {
-        return range_between(starts, from, guess, address);
-    }
-    if guess == last || starts[guess + 1] > address {
-        return guess;
-    }
-    range_between(starts, guess + 1, last + 1, address)
-}
-
 impl Index {
     ghost use Rattle.std.specs.Prelude.{◌≡◌, AllPairs, length};
     ghost use Rattle.ospf_graph.specs.Routes.{IsRouteBefore};
@@ -219,4 +83,140 @@ impl Index {
         let range = range_near(&self.starts, from, last, address);
         self.entries[range]
     }
+}
+
+/// All the memory that an index takes.
+#[derive(Drop)]
+pub(crate) struct IndexRoom {
+    pub sweep: Sweep,
+    pub numbering: Numbering,
+    pub numbers: Vec<usize>,
+    pub entries: Vec<Entry>,
+    pub directory: Vec<u32>,
+}
+
+impl IndexRoom {
+    ghost use Rattle.std.specs.Prelude.{IfOk};
+    ghost use Rattle.ospf_index.specs.Room.{HasIndexRoom};
+
+    /// The memory for the index of a table of so many routes, which have so many hops in all.
+    ///
+    /// `AllocError` where memory runs out.
+    pub fn new(alloc: Global, count: usize, hops: usize) -> Result<IndexRoom, AllocError>
+        ensures { IfOk result (HasIndexRoom count hops) }
+    {
+        let sweep = Sweep::with_room(alloc, count)?;
+        let numbering = Numbering::with_room(alloc, count, hops)?;
+        let numbers = Vec::with_capacity(alloc, count)?;
+        let entries = Vec::with_capacity(alloc, most_ranges(count).ok_or(AllocError)?)?;
+        let directory = Vec::with_capacity(alloc, BLOCKS + 1)?;
+        Ok(IndexRoom {
+            sweep,
+            numbering,
+            numbers,
+            entries,
+            directory,
+        })
+    }
+}
+
+// The directory of ranges.
+fn directory_of(starts: &[u32], room: Vec<u32>) -> Vec<u32>
+    requires first { (0 < length starts.now) × (get_or starts.now 0 0 ≡ 0) }
+    requires in_order { IsRising starts.now }
+    requires room { (room.items ≡ []) × (65537 ≤ vec_capacity room) }
+    ensures { IsDirectory starts.now result.items }
+{
+    let mut directory = room;
+    for range in 0..starts.len() {
+        let past = blocks_before(starts, range + 1);
+        name_before(&mut directory, past, range as u32);
+    }
+    directory
+}
+
+// How many blocks begin before this range does; all, and what stands behind them, where it is behind the last one.
+fn blocks_before(starts: &[u32], range: usize) -> usize
+    ensures few { result ≤ 65537 }
+    ensures all { length starts.now ≤ range → result ≡ 65537 }
+    ensures before { (block : ℕ) → block < result → range < length starts.now → block_start block < get_or starts.now range 0 }
+    ensures behind { range < length starts.now → get_or starts.now range 0 ≤ block_start result }
+{
+    match starts.get(range) {
+        Some(start) => (*start as u64 + (BLOCK_SIZE - 1) >> BLOCK_BITS) as usize,
+        None => BLOCKS + 1,
+    }
+}
+
+// Names this range for the blocks before this one that have none yet.
+fn name_before(directory: &mut Vec<u32>, past: usize, range: u32)
+    requires { past ≤ vec_capacity directory.old }
+    ensures room { vec_capacity directory.old ≤ vec_capacity directory.new }
+    ensures more { length directory.old.items ≤ past → length directory.new.items ≡ past }
+    ensures all { past ≤ length directory.old.items → length directory.new.items ≡ length directory.old.items }
+    ensures same { (block : ℕ) → block < length directory.old.items → get_or directory.new.items block 0 ≡ get_or directory.old.items block 0 }
+    ensures named { (block : ℕ) → length directory.old.items ≤ block → block < length directory.new.items → get_or directory.new.items block 0 ≡ range }
+{
+    if past > directory.len() {
+        match directory.resize(past, range) {
+            Ok(()) => {}
+            Err(_) => unreachable!(),
+        }
+    }
+}
+
+// The range that has an address, which lies from one range on and up to another. Prefixes are mostly spread
+// evenly over a block, so it is first looked for where it would stand then.
+fn range_near(starts: &[u32], from: usize, last: usize, address: u32) -> usize
+    requires in_order { IsRising starts.now }
+    requires within { (from ≤ last) × (last < length starts.now) × (last < 2 ^ 32) }
+    requires low { get_or starts.now from 0 ≤ address }
+    requires high { last + 1 < length starts.now → address < get_or starts.now (last + 1) 0 }
+    ensures within { result < length starts.now }
+    ensures exact { IsInRange starts.now result address }
+{
+    let guess = guess_between(from, last, address);
+    if starts[guess] > address {
+        return range_between(starts, from, guess, address);
+    }
+    if guess == last || starts[guess + 1] > address {
+        return guess;
+    }
+    range_between(starts, guess + 1, last + 1, address)
+}
+
+// The place, from one on and up to another, that is in proportion to the address within its block.
+fn guess_between(from: usize, last: usize, address: u32) -> usize
+    requires { (from ≤ last) × (last < 2 ^ 32) }
+    ensures { (from ≤ result) × (result ≤ last) }
+{
+    let within_block = address as usize % BLOCK_SIZE as usize;
+    from + ((last - from) * within_block >> BLOCK_BITS)
+}
+
+// The range that has an address, which lies from one range on and before another.
+fn range_between(starts: &[u32], from: usize, to: usize, address: u32) -> usize
+    requires in_order { IsRising starts.now }
+    requires within { (from < to) × (to ≤ length starts.now) }
+    requires low { get_or starts.now from 0 ≤ address }
+    requires high { to < length starts.now → address < get_or starts.now to 0 }
+    ensures within { result < length starts.now }
+    ensures exact { IsInRange starts.now result address }
+{
+    let (mut low, mut count) = (from, to - from);
+    while count > 1 {
+        let half = count / 2;
+        low += step_to(starts[low + half], address, half);
+        count -= half;
+    }
+    low
+}
+
+// `many`, where the start is the address or before it, else 0. It does the same work for both, so that no
+// processor has to guess which it is.
+fn step_to(start: u32, address: u32, many: usize) -> usize
+    ensures { ((start ≤ address) × (result ≡ many)) ⊎ ((address < start) × (result ≡ 0)) }
+{
+    let is_before = (address as u64 + ADDRESSES - start as u64) >> ADDRESS_BITS;
+    many * is_before as usize
 }

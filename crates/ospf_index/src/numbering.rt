@@ -20,35 +20,6 @@ pub(crate) struct Numbering {
     pub links: Vec<usize>,
 }
 
-// Whether hops are the same.
-fn are_same(a: &[NextHop], b: &[NextHop]) -> bool
-    ensures { IsTrue result ↔ (a.now ≡ b.now) }
-{
-    a == b
-}
-
-// A hop as one number.
-fn word_of(hop: NextHop) -> u32 {
-    match hop {
-        NextHop::Attached => 1,
-        NextHop::PointToPoint { local, router } => local.0.wrapping_mul(MIXER) ^ router.0,
-        NextHop::Lan {
-            local,
-            router,
-            address,
-        } => local.0.wrapping_mul(MIXER) ^ router.0.wrapping_add(address.0),
-    }
-}
-
-// The hops mixed to one number.
-fn mixed(hops: &[NextHop]) -> u32 {
-    let mut sum: u32 = 0;
-    for hop in hops {
-        sum = (sum ^ word_of(*hop)).wrapping_mul(MIXER);
-    }
-    sum
-}
-
 impl Numbering {
     ghost use Rattle.std.specs.Prelude.{◌≡◌, ◌≤◌, ◌<◌, ◌+◌, IfOk, IfSome, length, vec_len, vec_capacity};
     ghost use Rattle.ospf_index.specs.Sets.{AreChained, IsBegunFor, IsGrown, hops_of};
@@ -145,4 +116,33 @@ pub(crate) fn numbers_of(
         links: _,
     } = numbering;
     (sets, numbers)
+}
+
+// Whether hops are the same.
+fn are_same(a: &[NextHop], b: &[NextHop]) -> bool
+    ensures { IsTrue result ↔ (a.now ≡ b.now) }
+{
+    a == b
+}
+
+// The hops mixed to one number.
+fn mixed(hops: &[NextHop]) -> u32 {
+    let mut sum: u32 = 0;
+    for hop in hops {
+        sum = (sum ^ word_of(*hop)).wrapping_mul(MIXER);
+    }
+    sum
+}
+
+// A hop as one number.
+fn word_of(hop: NextHop) -> u32 {
+    match hop {
+        NextHop::Attached => 1,
+        NextHop::PointToPoint { local, router } => local.0.wrapping_mul(MIXER) ^ router.0,
+        NextHop::Lan {
+            local,
+            router,
+            address,
+        } => local.0.wrapping_mul(MIXER) ^ router.0.wrapping_add(address.0),
+    }
 }

@@ -18,20 +18,6 @@ pub(crate) struct Sweep {
     pub opened: Vec<usize>,
 }
 
-// The first address behind a prefix.
-fn end_address(prefix: Prefix) -> u64
-    ensures { result ≡ end_of prefix }
-{
-    prefix.address.0 as u64 + (1u64 << (32 - prefix.length))
-}
-
-/// How many ranges so many routes have at most; `None` where there is no memory for so many.
-pub(crate) fn most_ranges(count: usize) -> Option<usize>
-    ensures { IfSome result (λ most. most ≡ 2 * count + 1) }
-{
-    count.checked_mul(2)?.checked_add(1)
-}
-
 impl Sweep {
     ghost use Rattle.std.specs.Prelude.{◌≡◌, ◌≤◌, ◌<◌, ◌+◌, ◌-◌, ◌++◌, ◌∷◌, ℕ, AllPairs, IfOk, MatchOption, get_or, length, vec_len, vec_capacity};
     ghost use Rattle.ospf_graph.specs.Routes.{IsRouteBefore};
@@ -143,6 +129,13 @@ impl Sweep {
     }
 }
 
+/// How many ranges so many routes have at most; `None` where there is no memory for so many.
+pub(crate) fn most_ranges(count: usize) -> Option<usize>
+    ensures { IfSome result (λ most. most ≡ 2 * count + 1) }
+{
+    count.checked_mul(2)?.checked_add(1)
+}
+
 /// The ranges of the routes of a table. There is room for them.
 pub(crate) fn ranges_of(sweep: Sweep, routes: &[Route]) -> Ranges
     requires order { AllPairs IsRouteBefore routes.now }
@@ -158,4 +151,11 @@ pub(crate) fn ranges_of(sweep: Sweep, routes: &[Route]) -> Ranges
     sweep.close_to(routes, routes.len(), u32::MAX);
     let Sweep { ranges, opened: _ } = sweep;
     ranges
+}
+
+// The first address behind a prefix.
+fn end_address(prefix: Prefix) -> u64
+    ensures { result ≡ end_of prefix }
+{
+    prefix.address.0 as u64 + (1u64 << (32 - prefix.length))
 }

@@ -22,119 +22,6 @@ const LINK_SIZE: usize = 12;
 
 const ROUTER_SIZE: usize = 4;
 
-// Whether each type 3 link has a mask without a hole.
-fn have_masks(links: &[Link]) -> bool
-    ensures { IsTrue result ↔ All HasMask links.now }
-{
-    links.iter().all(|link| link.kind != LinkKind::Stub || is_mask(link.link_data))
-}
-
-// Whether each link to a router or a transit network costs something.
-fn have_costs(links: &[Link]) -> bool
-    ensures { IsTrue result ↔ All HasCost links.now }
-{
-    links.iter().all(|link| match link.kind {
-        LinkKind::PointToPoint | LinkKind::Transit => link.metric > 0,
-        LinkKind::Stub | LinkKind::Virtual => true,
-    })
-}
-
-// Puts the bytes of links at the end.
-fn push_links(out: &mut Vec<u8>, links: &[Link]) -> Result<(), AllocError>
-    ensures links { OnOk result (out.new.items ≡ out.old.items ++ flat_map link_bytes links.now) }
-    ensures fit { OnOk result (AllByRecursion LinkFits links.now) }
-{
-    for link in links {
-        out.extend_from_slice(&link.to_bytes())?;
-    }
-    Ok(())
-}
-
-// A router-LSA without its checksum.
-fn router_bytes(
-    alloc: Global,
-    id: RouterId,
-    number: i32,
-    links: &[Link],
-) -> Result<Vec<u8>, AllocError>
-    requires { router_lsa_length links.now ≤ largest_lsa }
-    ensures bytes { IfOk result (λ v. v.items ≡ lsa_bytes (router_value id number links.now)) }
-    ensures fits { OnOk result (ValueFits (router_value id number links.now)) }
-{
-    let size = ENTRIES_AT + LINK_SIZE * links.len();
-    let count = links.len() as u16;
-    let header = LsaHeader {
-        age: Age::new(0),
-        options: OPTIONS,
-        kind: 1,
-        id: id.0,
-        router: id,
-        number,
-        sum: 0,
-        length: size as u16,
-    };
-    let [high, low] = count.to_be_bytes();
-    let mut bytes = Vec::with_capacity(alloc, size)?;
-    bytes.extend_from_slice(&header.to_bytes())?;
-    bytes.extend_from_slice(&[0, 0, high, low])?;
-    push_links(&mut bytes, links)?;
-    Ok(bytes)
-}
-
-// Puts the bytes of Router IDs at the end.
-fn push_routers(out: &mut Vec<u8>, routers: &[RouterId]) -> Result<(), AllocError>
-    ensures routers { OnOk result (out.new.items ≡ out.old.items ++ routers_bytes routers.now) }
-    ensures fit { OnOk result (AllByRecursion RouterFits routers.now) }
-{
-    for router in routers {
-        let number = router.0;
-        out.extend_from_slice(&number.to_be_bytes())?;
-    }
-    Ok(())
-}
-
-// A network-LSA without its checksum.
-fn network_bytes(
-    alloc: Global,
-    id: u32,
-    router: RouterId,
-    number: i32,
-    mask: u32,
-    routers: &[RouterId],
-) -> Result<Vec<u8>, AllocError>
-    requires { network_lsa_length routers.now ≤ largest_lsa }
-    ensures bytes { IfOk result (λ v. v.items ≡ lsa_bytes (network_value id router number mask routers.now)) }
-    ensures fits { OnOk result (ValueFits (network_value id router number mask routers.now)) }
-{
-    let size = ENTRIES_AT + ROUTER_SIZE * routers.len();
-    let header = LsaHeader {
-        age: Age::new(0),
-        options: OPTIONS,
-        kind: 2,
-        id,
-        router,
-        number,
-        sum: 0,
-        length: size as u16,
-    };
-    let mut bytes = Vec::with_capacity(alloc, size)?;
-    bytes.extend_from_slice(&header.to_bytes())?;
-    bytes.extend_from_slice(&mask.to_be_bytes())?;
-    push_routers(&mut bytes, routers)?;
-    Ok(bytes)
-}
-
-// Puts the checksum in.
-fn sealed(mut bytes: Vec<u8>) -> Vec<u8>
-    requires { 20 ≤ length bytes.items }
-    ensures { (x : ℕ) × (y : ℕ) × IsChecksum bytes.items x y × (result.items ≡ with_checksum bytes.items x y) }
-{
-    let sum = lsa_sum(&bytes);
-    bytes[16] = (sum / 256) as u8;
-    bytes[17] = (sum % 256) as u8;
-    bytes
-}
-
 impl Lsa {
     /// A router-LSA of a router, at age 0.
     pub fn router(alloc: Global, id: RouterId, number: i32, links: &[Link]) -> Result<Lsa, LsaFault>
@@ -187,4 +74,117 @@ impl Lsa {
             Err(_) => Err(LsaFault::Memory),
         }
     }
+}
+
+// Whether each type 3 link has a mask without a hole.
+fn have_masks(links: &[Link]) -> bool
+    ensures { IsTrue result ↔ All HasMask links.now }
+{
+    links.iter().all(|link| link.kind != LinkKind::Stub || is_mask(link.link_data))
+}
+
+// Whether each link to a router or a transit network costs something.
+fn have_costs(links: &[Link]) -> bool
+    ensures { IsTrue result ↔ All HasCost links.now }
+{
+    links.iter().all(|link| match link.kind {
+        LinkKind::PointToPoint | LinkKind::Transit => link.metric > 0,
+        LinkKind::Stub | LinkKind::Virtual => true,
+    })
+}
+
+// A router-LSA without its checksum.
+fn router_bytes(
+    alloc: Global,
+    id: RouterId,
+    number: i32,
+    links: &[Link],
+) -> Result<Vec<u8>, AllocError>
+    requires { router_lsa_length links.now ≤ largest_lsa }
+    ensures bytes { IfOk result (λ v. v.items ≡ lsa_bytes (router_value id number links.now)) }
+    ensures fits { OnOk result (ValueFits (router_value id number links.now)) }
+{
+    let size = ENTRIES_AT + LINK_SIZE * links.len();
+    let count = links.len() as u16;
+    let header = LsaHeader {
+        age: Age::new(0),
+        options: OPTIONS,
+        kind: 1,
+        id: id.0,
+        router: id,
+        number,
+        sum: 0,
+        length: size as u16,
+    };
+    let [high, low] = count.to_be_bytes();
+    let mut bytes = Vec::with_capacity(alloc, size)?;
+    bytes.extend_from_slice(&header.to_bytes())?;
+    bytes.extend_from_slice(&[0, 0, high, low])?;
+    push_links(&mut bytes, links)?;
+    Ok(bytes)
+}
+
+// Puts the bytes of links at the end.
+fn push_links(out: &mut Vec<u8>, links: &[Link]) -> Result<(), AllocError>
+    ensures links { OnOk result (out.new.items ≡ out.old.items ++ flat_map link_bytes links.now) }
+    ensures fit { OnOk result (AllByRecursion LinkFits links.now) }
+{
+    for link in links {
+        out.extend_from_slice(&link.to_bytes())?;
+    }
+    Ok(())
+}
+
+// Puts the checksum in.
+fn sealed(mut bytes: Vec<u8>) -> Vec<u8>
+    requires { 20 ≤ length bytes.items }
+    ensures { (x : ℕ) × (y : ℕ) × IsChecksum bytes.items x y × (result.items ≡ with_checksum bytes.items x y) }
+{
+    let sum = lsa_sum(&bytes);
+    bytes[16] = (sum / 256) as u8;
+    bytes[17] = (sum % 256) as u8;
+    bytes
+}
+
+// A network-LSA without its checksum.
+fn network_bytes(
+    alloc: Global,
+    id: u32,
+    router: RouterId,
+    number: i32,
+    mask: u32,
+    routers: &[RouterId],
+) -> Result<Vec<u8>, AllocError>
+    requires { network_lsa_length routers.now ≤ largest_lsa }
+    ensures bytes { IfOk result (λ v. v.items ≡ lsa_bytes (network_value id router number mask routers.now)) }
+    ensures fits { OnOk result (ValueFits (network_value id router number mask routers.now)) }
+{
+    let size = ENTRIES_AT + ROUTER_SIZE * routers.len();
+    let header = LsaHeader {
+        age: Age::new(0),
+        options: OPTIONS,
+        kind: 2,
+        id,
+        router,
+        number,
+        sum: 0,
+        length: size as u16,
+    };
+    let mut bytes = Vec::with_capacity(alloc, size)?;
+    bytes.extend_from_slice(&header.to_bytes())?;
+    bytes.extend_from_slice(&mask.to_be_bytes())?;
+    push_routers(&mut bytes, routers)?;
+    Ok(bytes)
+}
+
+// Puts the bytes of Router IDs at the end.
+fn push_routers(out: &mut Vec<u8>, routers: &[RouterId]) -> Result<(), AllocError>
+    ensures routers { OnOk result (out.new.items ≡ out.old.items ++ routers_bytes routers.now) }
+    ensures fit { OnOk result (AllByRecursion RouterFits routers.now) }
+{
+    for router in routers {
+        let number = router.0;
+        out.extend_from_slice(&number.to_be_bytes())?;
+    }
+    Ok(())
 }

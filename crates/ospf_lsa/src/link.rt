@@ -40,26 +40,6 @@ pub struct Link {
     pub metric: u16,
 }
 
-/// A walk over links that stand one after the other.
-#[derive(Drop)]
-pub struct Links<'a> {
-    left: u16,
-    rest: &'a [u8],
-}
-
-impl<'a> Model for Links<'a> {
-    ghost use Rattle.std.specs.Prelude.{List};
-    ghost use Rattle.ospf_lsa.specs.declared.link.Link.{Link};
-
-    ghost Value = { List Link };
-
-    ghost use Rattle.ospf_lsa.specs.Link.{links_in, AreLinks};
-
-    ghost view = { λ w. links_in w.left w.rest.now };
-
-    ghost invariant = { λ w. AreLinks w.left w.rest.now };
-}
-
 impl Link {
     ghost use Rattle.ospf_lsa.specs.Link.{link_at, link_bytes, IsLink, IsFirstLink, LinkFits};
 
@@ -108,6 +88,26 @@ impl Link {
         }
         Some((Link::read(bytes), &bytes[size..]))
     }
+}
+
+/// A walk over links that stand one after the other.
+#[derive(Drop)]
+pub struct Links<'a> {
+    left: u16,
+    rest: &'a [u8],
+}
+
+impl<'a> Model for Links<'a> {
+    ghost use Rattle.std.specs.Prelude.{List};
+    ghost use Rattle.ospf_lsa.specs.declared.link.Link.{Link};
+
+    ghost Value = { List Link };
+
+    ghost use Rattle.ospf_lsa.specs.Link.{links_in, AreLinks};
+
+    ghost view = { λ w. links_in w.left w.rest.now };
+
+    ghost invariant = { λ w. AreLinks w.left w.rest.now };
 }
 
 impl<'a> Iterator for Links<'a> {

@@ -154,6 +154,23 @@ impl Listing {
     }
 }
 
+// The place of the LSA of a key, or else where one belongs.
+fn search(lsas: &[Lsa], key: &LsaKey) -> Result<usize, usize>
+    requires { IsRising lsas.now }
+    ensures found { IfOk result (λ at. (at < length lsas.now) × ((d : List ℕ) → key_of (slice_index_or lsas.now at d) ≡ key.now)) }
+    ensures place { IfErr result (λ at. IsPlace lsas.now key.now at) }
+{
+    let at = count_through(lsas, key);
+    if at == 0 {
+        return Err(0);
+    }
+    // What does not stand behind the key, nor before it, bears it.
+    if lsas[at - 1].view().key().precedes(key) {
+        return Err(at);
+    }
+    Ok(at - 1)
+}
+
 // How many LSAs have keys that do not stand after this one.
 fn count_through(lsas: &[Lsa], key: &LsaKey) -> usize
     requires { IsRising lsas.now }
@@ -172,21 +189,37 @@ fn count_through(lsas: &[Lsa], key: &LsaKey) -> usize
     low
 }
 
-// The place of the LSA of a key, or else where one belongs.
-fn search(lsas: &[Lsa], key: &LsaKey) -> Result<usize, usize>
-    requires { IsRising lsas.now }
-    ensures found { IfOk result (λ at. (at < length lsas.now) × ((d : List ℕ) → key_of (slice_index_or lsas.now at d) ≡ key.now)) }
-    ensures place { IfErr result (λ at. IsPlace lsas.now key.now at) }
+// The last network-LSA of a Link State ID.
+fn last_network(lsas: &[Lsa], id: u32) -> Option<&Lsa>
+    requires { IsListing lsas.now }
+    ensures found { IfSome result (λ lsa. IsNetworkOf lsas.now id lsa.now) }
+    ensures none { IfNone result ((lsa : List ℕ) → Contains lsas.now lsa → IsOfNetwork id lsa → ⊥) }
 {
-    let at = count_through(lsas, key);
+    let greatest = LsaKey {
+        kind: Kind::Network,
+        id,
+        router: RouterId(u32::MAX),
+    };
+    let at = count_through(lsas, &greatest);
     if at == 0 {
-        return Err(0);
+        return None;
     }
-    // What does not stand behind the key, nor before it, bears it.
-    if lsas[at - 1].view().key().precedes(key) {
-        return Err(at);
+    let last = &lsas[at - 1];
+    if is_of_network(last, id) {
+        Some(last)
+    } else {
+        None
     }
-    Ok(at - 1)
+}
+
+// Whether this is a network-LSA of a Link State ID.
+fn is_of_network(lsa: &Lsa, id: u32) -> bool
+    ensures { IsTrue result ↔ IsOfNetwork id lsa.now }
+{
+    match lsa.view().kind() {
+        Kind::Router => false,
+        Kind::Network => lsa.view().key().id == id,
+    }
 }
 
 // Where an LSA of this key belongs, unless one is there.
@@ -219,38 +252,5 @@ fn put_in(lsas: &mut Vec<Lsa>, lsa: Lsa) -> Result<(), AllocError>
             lsas.insert(at, lsa)?;
             Ok(())
         }
-    }
-}
-
-// Whether this is a network-LSA of a Link State ID.
-fn is_of_network(lsa: &Lsa, id: u32) -> bool
-    ensures { IsTrue result ↔ IsOfNetwork id lsa.now }
-{
-    match lsa.view().kind() {
-        Kind::Router => false,
-        Kind::Network => lsa.view().key().id == id,
-    }
-}
-
-// The last network-LSA of a Link State ID.
-fn last_network(lsas: &[Lsa], id: u32) -> Option<&Lsa>
-    requires { IsListing lsas.now }
-    ensures found { IfSome result (λ lsa. IsNetworkOf lsas.now id lsa.now) }
-    ensures none { IfNone result ((lsa : List ℕ) → Contains lsas.now lsa → IsOfNetwork id lsa → ⊥) }
-{
-    let greatest = LsaKey {
-        kind: Kind::Network,
-        id,
-        router: RouterId(u32::MAX),
-    };
-    let at = count_through(lsas, &greatest);
-    if at == 0 {
-        return None;
-    }
-    let last = &lsas[at - 1];
-    if is_of_network(last, id) {
-        Some(last)
-    } else {
-        None
     }
 }

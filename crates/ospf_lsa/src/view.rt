@@ -34,109 +34,6 @@ impl<'a> Model for LsaView<'a> {
     ghost invariant = { λ v. IsLsa v.bytes.now };
 }
 
-// Whether each type 3 link has a mask without a hole.
-fn have_masks(mut links: Links) -> bool
-    ensures { IsTrue result ↔ All HasMask links.entry }
-{
-    links.all(|link| link.kind != LinkKind::Stub || is_mask(link.link_data))
-}
-
-// Whether each link to a router or a transit network costs something.
-fn have_costs(mut links: Links) -> bool
-    ensures { IsTrue result ↔ All HasCost links.entry }
-{
-    links.all(|link| match link.kind {
-        LinkKind::PointToPoint | LinkKind::Transit => link.metric > 0,
-        LinkKind::Stub | LinkKind::Virtual => true,
-    })
-}
-
-// Whether a router-LSA's body is the counted links.
-fn has_links(bytes: &[u8]) -> bool
-    ensures { IsTrue result ↔ HasLinks bytes.now }
-{
-    bytes.len() >= ENTRIES_AT && Links::are_all(u16_at(bytes, 22), &bytes[ENTRIES_AT..])
-}
-
-// Whether a network-LSA's body is a mask and Router IDs.
-fn has_routers(bytes: &[u8]) -> bool
-    ensures { IsTrue result ↔ HasRouters bytes.now }
-{
-    bytes.len() >= ENTRIES_AT && (bytes.len() - LSA_HEADER) % 4 == 0
-}
-
-// Whether the body of bytes with a known LS type is one of that type.
-fn has_body(bytes: &[u8]) -> bool
-    requires whole { IsFreeOf fault.Short bytes.now }
-    requires kind { IsFreeOf fault.Kind bytes.now }
-    ensures { IsTrue result ↔ IsFreeOf fault.Links bytes.now }
-{
-    if bytes[3] == 1 {
-        has_links(bytes)
-    } else {
-        has_routers(bytes)
-    }
-}
-
-// Whether no mask has a hole.
-fn has_masks(bytes: &[u8]) -> bool
-    requires whole { IsFreeOf fault.Short bytes.now }
-    requires kind { IsFreeOf fault.Kind bytes.now }
-    requires body { IsFreeOf fault.Links bytes.now }
-    ensures { IsTrue result ↔ IsFreeOf fault.Mask bytes.now }
-{
-    if bytes[3] == 1 {
-        have_masks(Links::new(u16_at(bytes, 22), &bytes[ENTRIES_AT..]))
-    } else {
-        is_mask(u32_at(bytes, LSA_HEADER))
-    }
-}
-
-// Whether each link that has to cost something does.
-fn has_costs(bytes: &[u8]) -> bool
-    requires whole { IsFreeOf fault.Short bytes.now }
-    requires kind { IsFreeOf fault.Kind bytes.now }
-    requires body { IsFreeOf fault.Links bytes.now }
-    ensures { IsTrue result ↔ IsFreeOf fault.ZeroMetric bytes.now }
-{
-    bytes[3] != 1 || have_costs(Links::new(u16_at(bytes, 22), &bytes[ENTRIES_AT..]))
-}
-
-// The first fault of the bytes.
-fn first_fault(bytes: &[u8]) -> Option<LsaFault>
-    ensures fault { IfSome result (λ f. IsFirstFault bytes.now f) }
-    ensures none { IfNone result (IsLsa bytes.now) }
-{
-    if bytes.len() < LSA_HEADER || bytes.len() < usize::from(u16_at(bytes, 18)) {
-        return Some(LsaFault::Short);
-    }
-    if bytes.len() > usize::from(u16_at(bytes, 18)) {
-        return Some(LsaFault::Length);
-    }
-    if !lsa_sum_holds(bytes) {
-        return Some(LsaFault::Sum);
-    }
-    if bytes[3] != 1 && bytes[3] != 2 {
-        return Some(LsaFault::Kind);
-    }
-    if !has_body(bytes) {
-        return Some(LsaFault::Links);
-    }
-    if !has_masks(bytes) {
-        return Some(LsaFault::Mask);
-    }
-    if !has_costs(bytes) {
-        return Some(LsaFault::ZeroMetric);
-    }
-    if bytes[3] == 1 && u32_at(bytes, 4) != u32_at(bytes, 8) {
-        return Some(LsaFault::IdMismatch);
-    }
-    if u32_at(bytes, 12) == 1 << 31 {
-        return Some(LsaFault::Number);
-    }
-    None
-}
-
 impl<'a> LsaView<'a> {
     ghost use Rattle.ospf_lsa.specs.Header.{header_of, HeaderFits};
     ghost use Rattle.ospf_lsa.specs.Lsa.{key_of, instance_of, kind_of, links_of, attached_of, network_mask_of};
@@ -150,14 +47,6 @@ impl<'a> LsaView<'a> {
             Some(fault) => Err(fault),
             None => Ok(LsaView { bytes }),
         }
-    }
-
-    // Bytes that are known to be an LSA.
-    pub(crate) fn of_lsa(bytes: &'a [u8]) -> LsaView<'a>
-        requires { IsLsa bytes.now }
-        ensures { result ≡ bytes.now }
-    {
-        LsaView { bytes }
     }
 
     /// The bytes of the LSA.
@@ -234,4 +123,115 @@ impl<'a> LsaView<'a> {
     {
         Attached::new(&self.as_bytes()[ENTRIES_AT..])
     }
+
+    // Bytes that are known to be an LSA.
+    pub(crate) fn of_lsa(bytes: &'a [u8]) -> LsaView<'a>
+        requires { IsLsa bytes.now }
+        ensures { result ≡ bytes.now }
+    {
+        LsaView { bytes }
+    }
+}
+
+// The first fault of the bytes.
+fn first_fault(bytes: &[u8]) -> Option<LsaFault>
+    ensures fault { IfSome result (λ f. IsFirstFault bytes.now f) }
+    ensures none { IfNone result (IsLsa bytes.now) }
+{
+    if bytes.len() < LSA_HEADER || bytes.len() < usize::from(u16_at(bytes, 18)) {
+        return Some(LsaFault::Short);
+    }
+    if bytes.len() > usize::from(u16_at(bytes, 18)) {
+        return Some(LsaFault::Length);
+    }
+    if !lsa_sum_holds(bytes) {
+        return Some(LsaFault::Sum);
+    }
+    if bytes[3] != 1 && bytes[3] != 2 {
+        return Some(LsaFault::Kind);
+    }
+    if !has_body(bytes) {
+        return Some(LsaFault::Links);
+    }
+    if !has_masks(bytes) {
+        return Some(LsaFault::Mask);
+    }
+    if !has_costs(bytes) {
+        return Some(LsaFault::ZeroMetric);
+    }
+    if bytes[3] == 1 && u32_at(bytes, 4) != u32_at(bytes, 8) {
+        return Some(LsaFault::IdMismatch);
+    }
+    if u32_at(bytes, 12) == 1 << 31 {
+        return Some(LsaFault::Number);
+    }
+    None
+}
+
+// Whether the body of bytes with a known LS type is one of that type.
+fn has_body(bytes: &[u8]) -> bool
+    requires whole { IsFreeOf fault.Short bytes.now }
+    requires kind { IsFreeOf fault.Kind bytes.now }
+    ensures { IsTrue result ↔ IsFreeOf fault.Links bytes.now }
+{
+    if bytes[3] == 1 {
+        has_links(bytes)
+    } else {
+        has_routers(bytes)
+    }
+}
+
+// Whether a router-LSA's body is the counted links.
+fn has_links(bytes: &[u8]) -> bool
+    ensures { IsTrue result ↔ HasLinks bytes.now }
+{
+    bytes.len() >= ENTRIES_AT && Links::are_all(u16_at(bytes, 22), &bytes[ENTRIES_AT..])
+}
+
+// Whether a network-LSA's body is a mask and Router IDs.
+fn has_routers(bytes: &[u8]) -> bool
+    ensures { IsTrue result ↔ HasRouters bytes.now }
+{
+    bytes.len() >= ENTRIES_AT && (bytes.len() - LSA_HEADER) % 4 == 0
+}
+
+// Whether no mask has a hole.
+fn has_masks(bytes: &[u8]) -> bool
+    requires whole { IsFreeOf fault.Short bytes.now }
+    requires kind { IsFreeOf fault.Kind bytes.now }
+    requires body { IsFreeOf fault.Links bytes.now }
+    ensures { IsTrue result ↔ IsFreeOf fault.Mask bytes.now }
+{
+    if bytes[3] == 1 {
+        have_masks(Links::new(u16_at(bytes, 22), &bytes[ENTRIES_AT..]))
+    } else {
+        is_mask(u32_at(bytes, LSA_HEADER))
+    }
+}
+
+// Whether each type 3 link has a mask without a hole.
+fn have_masks(mut links: Links) -> bool
+    ensures { IsTrue result ↔ All HasMask links.entry }
+{
+    links.all(|link| link.kind != LinkKind::Stub || is_mask(link.link_data))
+}
+
+// Whether each link that has to cost something does.
+fn has_costs(bytes: &[u8]) -> bool
+    requires whole { IsFreeOf fault.Short bytes.now }
+    requires kind { IsFreeOf fault.Kind bytes.now }
+    requires body { IsFreeOf fault.Links bytes.now }
+    ensures { IsTrue result ↔ IsFreeOf fault.ZeroMetric bytes.now }
+{
+    bytes[3] != 1 || have_costs(Links::new(u16_at(bytes, 22), &bytes[ENTRIES_AT..]))
+}
+
+// Whether each link to a router or a transit network costs something.
+fn have_costs(mut links: Links) -> bool
+    ensures { IsTrue result ↔ All HasCost links.entry }
+{
+    links.all(|link| match link.kind {
+        LinkKind::PointToPoint | LinkKind::Transit => link.metric > 0,
+        LinkKind::Stub | LinkKind::Virtual => true,
+    })
 }

@@ -21,44 +21,12 @@ use std::alloc::{AllocError, Global};
 use std::collections::BTreeMap;
 use std::marker::Model;
 
-// How old an entry is.
-#[derive(Clone, Copy, Drop)]
-enum Timer {
-    // It was of age 0 at this moment, less than `MAX_AGE` moments ago.
-    Since(u16),
-    // It is of age `MAX_AGE`.
-    Expired,
-}
-
 #[derive(Drop)]
 pub(crate) struct Stored {
     lsa: Ageless,
     timer: Timer,
     tick: u64,
     by_flooding: bool,
-}
-
-impl Timer {
-    fn new(clock: u16, age: u16) -> Timer
-        requires { age ≤ max_age }
-        ensures age { age_at clock result ≡ age }
-        ensures expired { age ≡ max_age → result ≡ timer.Expired }
-    {
-        if age == MAX_AGE {
-            Timer::Expired
-        } else {
-            Timer::Since(clock.wrapping_sub(age))
-        }
-    }
-
-    fn age(self, clock: u16) -> u16
-        ensures { result ≡ age_at clock self }
-    {
-        match self {
-            Timer::Since(birth) => clock.wrapping_sub(birth),
-            Timer::Expired => MAX_AGE,
-        }
-    }
 }
 
 impl Stored {
@@ -95,50 +63,6 @@ impl Model for Dated {
     ghost view = { λ d. map (held_at d.clock d.due) d.entries.entries };
 
     ghost invariant = { λ d. IsRunning d.clock d.next d.entries.entries d.due };
-}
-
-// The age of the entry of a key.
-fn age_in(entries: &BTreeMap<LsaKey, Stored>, clock: u16, key: &LsaKey) -> Option<u16>
-    ensures { result ≡ age_of clock entries.now.entries key.now }
-{
-    let stored = entries.get(key)?;
-    Some(stored.timer.age(clock))
-}
-
-// Brings the entry of a key to `MAX_AGE`.
-fn stop(entries: &mut BTreeMap<LsaKey, Stored>, key: &LsaKey)
-    ensures entry { Stops (same_key key.now) entries.old.entries entries.new.entries }
-    ensures ordered { IsOrdered key_cmp entries.new }
-{
-    if let Some(stored) = entries.get_mut(key) {
-        stored.timer = Timer::Expired;
-    }
-}
-
-// The one look of a tick at an entry: it has come to `MAX_AGE`.
-fn look(entries: &mut BTreeMap<LsaKey, Stored>, key: LsaKey, looks: u64) -> u64
-    requires { looks + 1 < 2 ^ 64 }
-    ensures entry { Stops (same_key key) entries.old.entries entries.new.entries }
-    ensures ordered { IsOrdered key_cmp entries.new }
-    ensures looks { result ≡ looks + 1 }
-{
-    stop(entries, &key);
-    looks + 1
-}
-
-// Looks at the entry of each of these keys, and counts the looks.
-fn look_at_all(entries: &mut BTreeMap<LsaKey, Stored>, keys: Reached<'_>) -> u64
-    requires count { length keys < 2 ^ 64 }
-    requires ordered { IsOrdered key_cmp entries.old }
-    ensures entry { Stops (among keys.entry) entries.old.entries entries.new.entries }
-    ensures ordered { IsOrdered key_cmp entries.new }
-    ensures looks { result ≡ length keys.entry }
-{
-    let mut looks = 0;
-    for key in keys {
-        looks = look(entries, key, looks);
-    }
-    looks
 }
 
 impl Dated {
@@ -237,20 +161,6 @@ impl Dated {
         self.tick_due()
     }
 
-    // A tick in which something may be due.
-    fn tick_due(&mut self) -> u64
-        ensures ages { Ages self.old self.new }
-        ensures looks { result ≡ length (reached_at max_age self.new) }
-    {
-        self.due.forget(self.clock, LS_REFRESH_TIME);
-        self.due.forget(self.clock, MAX_AGE);
-        let now = self.clock.wrapping_add(1);
-        self.clock = now;
-        self.next = now.wrapping_add(self.due.idle_from(now));
-        let keys = self.due.at(now, MAX_AGE);
-        look_at_all(&mut self.entries, keys)
-    }
-
     /// Brings the age of a key's entry to `MAX_AGE` and changes nothing else of it, so that it can
     /// be flushed (RFC 2328, section 14.1). Answers whether there was one below that age.
     pub(crate) fn expire(&mut self, key: &LsaKey) -> bool
@@ -308,4 +218,94 @@ impl Dated {
         }
         Ok(listing)
     }
+
+    // A tick in which something may be due.
+    fn tick_due(&mut self) -> u64
+        ensures ages { Ages self.old self.new }
+        ensures looks { result ≡ length (reached_at max_age self.new) }
+    {
+        self.due.forget(self.clock, LS_REFRESH_TIME);
+        self.due.forget(self.clock, MAX_AGE);
+        let now = self.clock.wrapping_add(1);
+        self.clock = now;
+        self.next = now.wrapping_add(self.due.idle_from(now));
+        let keys = self.due.at(now, MAX_AGE);
+        look_at_all(&mut self.entries, keys)
+    }
+}
+
+// How old an entry is.
+#[derive(Clone, Copy, Drop)]
+enum Timer {
+    // It was of age 0 at this moment, less than `MAX_AGE` moments ago.
+    Since(u16),
+    // It is of age `MAX_AGE`.
+    Expired,
+}
+
+impl Timer {
+    fn new(clock: u16, age: u16) -> Timer
+        requires { age ≤ max_age }
+        ensures age { age_at clock result ≡ age }
+        ensures expired { age ≡ max_age → result ≡ timer.Expired }
+    {
+        if age == MAX_AGE {
+            Timer::Expired
+        } else {
+            Timer::Since(clock.wrapping_sub(age))
+        }
+    }
+
+    fn age(self, clock: u16) -> u16
+        ensures { result ≡ age_at clock self }
+    {
+        match self {
+            Timer::Since(birth) => clock.wrapping_sub(birth),
+            Timer::Expired => MAX_AGE,
+        }
+    }
+}
+
+// The age of the entry of a key.
+fn age_in(entries: &BTreeMap<LsaKey, Stored>, clock: u16, key: &LsaKey) -> Option<u16>
+    ensures { result ≡ age_of clock entries.now.entries key.now }
+{
+    let stored = entries.get(key)?;
+    Some(stored.timer.age(clock))
+}
+
+// Brings the entry of a key to `MAX_AGE`.
+fn stop(entries: &mut BTreeMap<LsaKey, Stored>, key: &LsaKey)
+    ensures entry { Stops (same_key key.now) entries.old.entries entries.new.entries }
+    ensures ordered { IsOrdered key_cmp entries.new }
+{
+    if let Some(stored) = entries.get_mut(key) {
+        stored.timer = Timer::Expired;
+    }
+}
+
+// Looks at the entry of each of these keys, and counts the looks.
+fn look_at_all(entries: &mut BTreeMap<LsaKey, Stored>, keys: Reached<'_>) -> u64
+    requires count { length keys < 2 ^ 64 }
+    requires ordered { IsOrdered key_cmp entries.old }
+    ensures entry { Stops (among keys.entry) entries.old.entries entries.new.entries }
+    ensures ordered { IsOrdered key_cmp entries.new }
+    ensures looks { result ≡ length keys.entry }
+{
+    let mut looks = 0;
+    for key in keys {
+        looks = look(entries, key, looks);
+    }
+    looks
+}
+
+// The one look of a tick at an entry: it has come to `MAX_AGE`.
+fn look(entries: &mut BTreeMap<LsaKey, Stored>, key: LsaKey, looks: u64) -> u64
+    requires { looks + 1 < 2 ^ 64 }
+    ensures entry { Stops (same_key key) entries.old.entries entries.new.entries }
+    ensures ordered { IsOrdered key_cmp entries.new }
+    ensures looks { result ≡ looks + 1 }
+{
+    stop(entries, &key);
+    looks + 1
 }

@@ -38,19 +38,6 @@ impl<'a> Model for EntryView<'a> {
 }
 
 impl<'a> EntryView<'a> {
-    // An entry whose LSA is stored without its age.
-    pub(crate) fn new(lsa: &'a Ageless, age: u16, tick: u64, by_flooding: bool) -> EntryView<'a>
-        requires { age ≤ max_age }
-        ensures { result ≡ record { age = age; contents = lsa.now; tick = tick; by_flooding = by_flooding } }
-    {
-        EntryView {
-            lsa,
-            age,
-            tick,
-            by_flooding,
-        }
-    }
-
     /// The LSA as it was installed, with an age field of 0: `age` and `header` tell the present
     /// age, and `copy` has it in its bytes.
     pub fn lsa(&self) -> LsaView<'a>
@@ -121,6 +108,19 @@ impl<'a> EntryView<'a> {
         let mut lsa = Lsa::copy(alloc, &self.lsa.view())?;
         lsa.set_age(self.age());
         Ok(lsa)
+    }
+
+    // An entry whose LSA is stored without its age.
+    pub(crate) fn new(lsa: &'a Ageless, age: u16, tick: u64, by_flooding: bool) -> EntryView<'a>
+        requires { age ≤ max_age }
+        ensures { result ≡ record { age = age; contents = lsa.now; tick = tick; by_flooding = by_flooding } }
+    {
+        EntryView {
+            lsa,
+            age,
+            tick,
+            by_flooding,
+        }
     }
 }
 

@@ -37,24 +37,6 @@ impl Model for Lsdb {
     ghost invariant = { λ d. d.fresh ≡ fresh_count d.dated };
 }
 
-// How many of one entry, which may not be there, are below `MAX_AGE`.
-fn fresh_in(entry: Option<EntryView<'_>>) -> usize
-    ensures value { result ≡ fresh_in entry.entry }
-    ensures fits { result < 2 }
-{
-    match entry {
-        Some(entry) if entry.age().ticks() < MAX_AGE => 1,
-        _ => 0,
-    }
-}
-
-// What is dated is a database.
-fn is_database(dated: &Dated)
-    ensures { IsDatabase dated.now }
-{
-    let _all = dated.len();
-}
-
 impl Lsdb {
     /// A database with no entry.
     pub fn new(alloc: Global) -> Lsdb
@@ -172,4 +154,22 @@ impl Lsdb {
     {
         self.dated.listing(alloc)
     }
+}
+
+// How many of one entry, which may not be there, are below `MAX_AGE`.
+fn fresh_in(entry: Option<EntryView<'_>>) -> usize
+    ensures value { result ≡ fresh_in entry.entry }
+    ensures fits { result < 2 }
+{
+    match entry {
+        Some(entry) if entry.age().ticks() < MAX_AGE => 1,
+        _ => 0,
+    }
+}
+
+// What is dated is a database.
+fn is_database(dated: &Dated)
+    ensures { IsDatabase dated.now }
+{
+    let _all = dated.len();
 }

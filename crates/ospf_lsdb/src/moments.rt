@@ -15,6 +15,13 @@ use std::collections::BTreeSet;
 use std::collections::btree_set::Range;
 use std::marker::Model;
 
+// The first of all keys.
+const FIRST_KEY: LsaKey = LsaKey {
+    kind: Kind::Router,
+    id: 0,
+    router: RouterId(0),
+};
+
 // At this moment the entry of a key comes to an age.
 #[derive(Clone, Copy, PartialEq, Eq, PartialOrd, Ord, Drop)]
 pub(crate) struct Due {
@@ -22,13 +29,6 @@ pub(crate) struct Due {
     age: u16,
     key: LsaKey,
 }
-
-// The first of all keys.
-const FIRST_KEY: LsaKey = LsaKey {
-    kind: Kind::Router,
-    id: 0,
-    router: RouterId(0),
-};
 
 impl Due {
     // When an entry that is younger now comes to an age.
@@ -40,42 +40,6 @@ impl Due {
             age: told,
             key,
         }
-    }
-}
-
-// How many moments a moment is ahead of the clock, as the ring goes round.
-pub(crate) fn moments_until(clock: u16, moment: u16) -> u16
-    ensures count { result ≡ ahead clock moment }
-    ensures moment_fits { moment < ring }
-    ensures clock_fits { clock < ring }
-{
-    moment.wrapping_sub(clock)
-}
-
-// In how many moments an entry of an age comes to the next of the ages that are told; `u16::MAX`
-// where it has come to the last.
-pub(crate) fn until_told(age: u16) -> u16
-    ensures refresh { age < ls_refresh_time → age + result ≡ ls_refresh_time }
-    ensures expiry { ls_refresh_time ≤ age → age < max_age → age + result ≡ max_age }
-    ensures never { max_age ≤ age → result ≡ 65535 }
-{
-    if age < LS_REFRESH_TIME {
-        LS_REFRESH_TIME - age
-    } else if age < MAX_AGE {
-        MAX_AGE - age
-    } else {
-        u16::MAX
-    }
-}
-
-// This moment, or the one in so many moments, whichever is sooner.
-pub(crate) fn sooner(clock: u16, moment: u16, count: u16) -> u16
-    ensures { ahead clock result ≡ min (ahead clock moment) count }
-{
-    if moments_until(clock, moment) <= count {
-        moment
-    } else {
-        clock.wrapping_add(count)
     }
 }
 
@@ -100,34 +64,6 @@ impl Moments {
     {
         Moments {
             set: BTreeSet::new(alloc),
-        }
-    }
-
-    // Adds what is due, if it is, and answers whether that was new.
-    fn add_if(&mut self, is_due: bool, due: Due) -> Result<bool, AllocError>
-        ensures added { IfOk result (λ is_new. is_new ≡ (is_due && not (has self.old due))) }
-        ensures ok { OnOk result ((q : Due) → has self.new q ≡ ((is_due && same_due due q) || has self.old q)) }
-        ensures err { OnErr result (self.new ≡ self.old) }
-    {
-        if !is_due {
-            return Ok(false);
-        }
-        let is_new = self.set.insert(due)?;
-        Ok(is_new)
-    }
-
-    fn remove(&mut self, due: Due)
-        ensures gone { (q : Due) → has self.new q ≡ (not (same_due due q) && has self.old q) }
-        ensures fewer { has self.old due ≡ true → length self.new < length self.old }
-    {
-        self.set.remove(&due);
-    }
-
-    fn remove_if(&mut self, is_due: bool, due: Due)
-        ensures { (q : Due) → has self.new q ≡ (not (is_due && same_due due q) && has self.old q) }
-    {
-        if is_due {
-            self.remove(due);
         }
     }
 
@@ -219,6 +155,34 @@ impl Moments {
             None => u16::MAX,
         }
     }
+
+    // Adds what is due, if it is, and answers whether that was new.
+    fn add_if(&mut self, is_due: bool, due: Due) -> Result<bool, AllocError>
+        ensures added { IfOk result (λ is_new. is_new ≡ (is_due && not (has self.old due))) }
+        ensures ok { OnOk result ((q : Due) → has self.new q ≡ ((is_due && same_due due q) || has self.old q)) }
+        ensures err { OnErr result (self.new ≡ self.old) }
+    {
+        if !is_due {
+            return Ok(false);
+        }
+        let is_new = self.set.insert(due)?;
+        Ok(is_new)
+    }
+
+    fn remove_if(&mut self, is_due: bool, due: Due)
+        ensures { (q : Due) → has self.new q ≡ (not (is_due && same_due due q) && has self.old q) }
+    {
+        if is_due {
+            self.remove(due);
+        }
+    }
+
+    fn remove(&mut self, due: Due)
+        ensures gone { (q : Due) → has self.new q ≡ (not (same_due due q) && has self.old q) }
+        ensures fewer { has self.old due ≡ true → length self.new < length self.old }
+    {
+        self.set.remove(&due);
+    }
 }
 
 /// The keys whose age became one of `LS_REFRESH_TIME` and `MAX_AGE` at the last tick, in order.
@@ -249,5 +213,41 @@ impl<'a> Iterator for Reached<'a> {
     fn next(&mut self) -> Option<LsaKey> {
         let due = self.left.next()?;
         Some(due.key)
+    }
+}
+
+// How many moments a moment is ahead of the clock, as the ring goes round.
+pub(crate) fn moments_until(clock: u16, moment: u16) -> u16
+    ensures count { result ≡ ahead clock moment }
+    ensures moment_fits { moment < ring }
+    ensures clock_fits { clock < ring }
+{
+    moment.wrapping_sub(clock)
+}
+
+// In how many moments an entry of an age comes to the next of the ages that are told; `u16::MAX`
+// where it has come to the last.
+pub(crate) fn until_told(age: u16) -> u16
+    ensures refresh { age < ls_refresh_time → age + result ≡ ls_refresh_time }
+    ensures expiry { ls_refresh_time ≤ age → age < max_age → age + result ≡ max_age }
+    ensures never { max_age ≤ age → result ≡ 65535 }
+{
+    if age < LS_REFRESH_TIME {
+        LS_REFRESH_TIME - age
+    } else if age < MAX_AGE {
+        MAX_AGE - age
+    } else {
+        u16::MAX
+    }
+}
+
+// This moment, or the one in so many moments, whichever is sooner.
+pub(crate) fn sooner(clock: u16, moment: u16, count: u16) -> u16
+    ensures { ahead clock result ≡ min (ahead clock moment) count }
+{
+    if moments_until(clock, moment) <= count {
+        moment
+    } else {
+        clock.wrapping_add(count)
     }
 }

@@ -201,27 +201,6 @@ impl Neighbour {
         &self.retransmission
     }
 
-    // The state that a change leaves, and what begins with it.
-    fn put_state(&mut self, change: NbrChange, dead: u32)
-        requires { LeavesNone self.old.state change }
-        ensures { self.new ≡ effected change dead self.old }
-    {
-        match change.effect {
-            Effect::TimerRestarts => {
-                self.inactivity = dead;
-            }
-            Effect::AdjacencyBegins | Effect::ListsEmptied | Effect::Removed => {
-                self.summary.clear();
-                self.last_dd.clear();
-                self.requests.clear();
-                self.asked = 0;
-                self.retransmission.clear();
-            }
-            Effect::Nothing | Effect::ExchangeBegins => {}
-        }
-        self.state = change.state;
-    }
-
     /// Takes an event (section 10.3). `dead` is the interface's RouterDeadInterval, in ticks. No memory is taken.
     pub fn event(&mut self, event: NbrEvent, dead: u32) -> NbrChange
         ensures tells { result ≡ transition self.old.state event (is_empty self.old.requests) }
@@ -373,5 +352,26 @@ impl Neighbour {
         let fires = self.inactivity == 1;
         self.inactivity = self.inactivity.saturating_sub(1);
         fires
+    }
+
+    // The state that a change leaves, and what begins with it.
+    fn put_state(&mut self, change: NbrChange, dead: u32)
+        requires { LeavesNone self.old.state change }
+        ensures { self.new ≡ effected change dead self.old }
+    {
+        match change.effect {
+            Effect::TimerRestarts => {
+                self.inactivity = dead;
+            }
+            Effect::AdjacencyBegins | Effect::ListsEmptied | Effect::Removed => {
+                self.summary.clear();
+                self.last_dd.clear();
+                self.requests.clear();
+                self.asked = 0;
+                self.retransmission.clear();
+            }
+            Effect::Nothing | Effect::ExchangeBegins => {}
+        }
+        self.state = change.state;
     }
 }

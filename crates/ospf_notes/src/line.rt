@@ -33,21 +33,6 @@ impl<T: Write + Drop> Line<T> {
         self.is_terminal
     }
 
-    // Whether a line is due now. Then the next one is later.
-    fn is_due<C: Clock>(&mut self, clock: &C) -> bool {
-        let Ok(now) = clock.monotonic() else {
-            return false;
-        };
-        let (is_first, is_due) = match self.next {
-            None => (true, false),
-            Some(next) => (false, next <= now),
-        };
-        if is_first || is_due {
-            self.next = now.checked_add(Duration::from_millis(BETWEEN_LINES));
-        }
-        is_due
-    }
-
     /// Where to write the line, if one is due.
     pub fn begin<C: Clock>(&mut self, clock: &C) -> Option<&mut T> {
         if !self.has_terminal() || !self.is_due(clock) {
@@ -70,5 +55,20 @@ impl<T: Write + Drop> Line<T> {
         }
         self.is_shown = false;
         let _ = write!(self.stream, "\r\x1b[K");
+    }
+
+    // Whether a line is due now. Then the next one is later.
+    fn is_due<C: Clock>(&mut self, clock: &C) -> bool {
+        let Ok(now) = clock.monotonic() else {
+            return false;
+        };
+        let (is_first, is_due) = match self.next {
+            None => (true, false),
+            Some(next) => (false, next <= now),
+        };
+        if is_first || is_due {
+            self.next = now.checked_add(Duration::from_millis(BETWEEN_LINES));
+        }
+        is_due
     }
 }

@@ -3,9 +3,9 @@
 
 use crate::line::Line;
 use crate::others::{Described, Others};
-use ospf_records::{CaptureFault, Moment, write_datagram, write_header};
 use ospf_files::NamedFile;
 use ospf_neighbour::NeighbourState;
+use ospf_records::{CaptureFault, Moment, write_datagram, write_header};
 use ospf_run::{Config, Router, Sent, Tap};
 use std::alloc::{AllocError, Global};
 use std::io::{self, ErrorKind, Write};
@@ -14,46 +14,6 @@ use std::time::Clock;
 
 // No router has more links.
 const MOST_LINKS: usize = 1 << 16;
-
-// What the notes of all routers share.
-#[derive(Drop)]
-struct Shared<F: Write + Drop, T: Write + Drop> {
-    // `None` where nothing is captured, or no more.
-    capture: Option<F>,
-    is_written: bool,
-    line: Line<T>,
-    // The most ticks that a router has taken.
-    ticks: u64,
-    full: usize,
-    running: usize,
-}
-
-// What is told of one router: by the name of its file, and of LSAs of other types if it refuses them.
-#[derive(Drop)]
-struct Teller {
-    file: String,
-    others: Option<Others>,
-}
-
-impl Teller {
-    // The router of no file, of which nothing is told.
-    fn none(alloc: Global) -> Teller {
-        Teller {
-            file: String::new(alloc),
-            others: None,
-        }
-    }
-
-    fn new(alloc: Global, file: &NamedFile, config: &Config) -> Result<Teller, AllocError> {
-        let others = if config.passes_over {
-            None
-        } else {
-            Some(Others::new(alloc))
-        };
-        let file = String::from_str(alloc, &file.name)?;
-        Ok(Teller { file, others })
-    }
-}
 
 /// What is noted of one router. The notes of all routers of a run share a capture and a line.
 #[derive(Drop)]
@@ -69,95 +29,6 @@ pub struct Notes<R: Wait + Clock + Copy + Drop, F: Write + Drop, T: Write + Drop
     has_ticked: bool,
     full: usize,
     teller: Teller,
-}
-
-// How many neighbours of a router are Full.
-fn full_neighbours(router: &Router) -> usize {
-    let mut full: usize = 0;
-    for link in 0..MOST_LINKS {
-        if !router.has_link(link) {
-            break;
-        }
-        let neighbours = router.neighbours(link);
-        let more = neighbours
-            .iter()
-            .filter(|it| it.state() == NeighbourState::Full)
-            .count();
-        full = full.saturating_add(more);
-    }
-    full
-}
-
-// The bytes of a datagram in a capture; none where it fits into no IP packet.
-fn record_of<C: Clock>(clock: &C, sent: &Sent, alloc: Global) -> Result<Vec<u8>, io::Error> {
-    let now = clock.since_1970()?;
-    let at = Moment {
-        seconds: u32::try_from(now.as_secs()).unwrap_or(u32::MAX),
-        microseconds: now.subsec_micros(),
-    };
-    let mut bytes = Vec::new(alloc);
-    match write_datagram(&mut bytes, at, sent.source, sent.destination, &sent.bytes) {
-        Ok(()) | Err(CaptureFault::TooLong) => Ok(bytes),
-        Err(CaptureFault::Memory) => Err(io::Error::from(ErrorKind::OutOfMemory)),
-    }
-}
-
-impl<F: Write + Drop, T: Write + Drop> Shared<F, T> {
-    // Writes to the capture, up to the first write that fails.
-    fn write(&mut self, bytes: Result<Vec<u8>, io::Error>) {
-        let Some(file) = &mut self.capture else {
-            return;
-        };
-        let written = match bytes {
-            Ok(bytes) => file.write_all(&bytes),
-            Err(error) => Err(error),
-        };
-        if written.is_err() {
-            self.capture = None;
-            self.is_written = false;
-        }
-    }
-
-    // A router took its tick of this number, and has so many Full neighbours in place of so many before.
-    fn note<C: Clock>(&mut self, clock: &C, ticks: u64, of: u64, full: usize, before: usize) {
-        self.full = self.full.saturating_add(full).saturating_sub(before);
-        self.ticks = self.ticks.max(ticks);
-        let (ticks, full) = (self.ticks, self.full);
-        if let Some(terminal) = self.line.begin(clock) {
-            let _ = write!(
-                terminal,
-                "\r\x1b[Ktick {ticks} of {of}, {full} neighbours Full"
-            );
-        }
-    }
-
-    // Tells that a neighbour of the router of this file describes an LSA that the router refuses.
-    fn tell(&mut self, file: &str, described: Described) {
-        let Described {
-            link,
-            neighbour,
-            kind,
-        } = described;
-        let messages = self.line.messages();
-        let _ = writeln!(
-            messages,
-            "{file}: link {link}: {neighbour} describes an LSA of type {kind}: this area has what this router does not take (other_lsas)"
-        );
-        let _ = messages.flush();
-    }
-
-    // A router ends. With the last one the line goes.
-    fn end(&mut self) {
-        self.running = self.running.saturating_sub(1);
-        if self.running == 0 {
-            self.line.erase();
-        }
-    }
-}
-
-// In memory that can be shared.
-fn share<S: Drop>(shared: S, alloc: Global) -> Result<Arc<Mutex<S>, Global>, AllocError> {
-    Arc::new(alloc, Mutex::new(shared)).map_err(AllocError::from)
 }
 
 impl<R: Wait + Clock + Copy + Drop, F: Write + Drop, T: Write + Drop> Notes<R, F, T> {
@@ -268,5 +139,134 @@ impl<R: Wait + Clock + Copy + Drop, F: Write + Drop, T: Write + Drop> Tap for No
 
     fn ends(&mut self) {
         self.shared.lock(&self.rt).end();
+    }
+}
+
+// What the notes of all routers share.
+#[derive(Drop)]
+struct Shared<F: Write + Drop, T: Write + Drop> {
+    // `None` where nothing is captured, or no more.
+    capture: Option<F>,
+    is_written: bool,
+    line: Line<T>,
+    // The most ticks that a router has taken.
+    ticks: u64,
+    full: usize,
+    running: usize,
+}
+
+impl<F: Write + Drop, T: Write + Drop> Shared<F, T> {
+    // Writes to the capture, up to the first write that fails.
+    fn write(&mut self, bytes: Result<Vec<u8>, io::Error>) {
+        let Some(file) = &mut self.capture else {
+            return;
+        };
+        let written = match bytes {
+            Ok(bytes) => file.write_all(&bytes),
+            Err(error) => Err(error),
+        };
+        if written.is_err() {
+            self.capture = None;
+            self.is_written = false;
+        }
+    }
+
+    // A router took its tick of this number, and has so many Full neighbours in place of so many before.
+    fn note<C: Clock>(&mut self, clock: &C, ticks: u64, of: u64, full: usize, before: usize) {
+        self.full = self.full.saturating_add(full).saturating_sub(before);
+        self.ticks = self.ticks.max(ticks);
+        let (ticks, full) = (self.ticks, self.full);
+        if let Some(terminal) = self.line.begin(clock) {
+            let _ = write!(
+                terminal,
+                "\r\x1b[Ktick {ticks} of {of}, {full} neighbours Full"
+            );
+        }
+    }
+
+    // Tells that a neighbour of the router of this file describes an LSA that the router refuses.
+    fn tell(&mut self, file: &str, described: Described) {
+        let Described {
+            link,
+            neighbour,
+            kind,
+        } = described;
+        let messages = self.line.messages();
+        let _ = writeln!(
+            messages,
+            "{file}: link {link}: {neighbour} describes an LSA of type {kind}: this area has what this router does not take (other_lsas)"
+        );
+        let _ = messages.flush();
+    }
+
+    // A router ends. With the last one the line goes.
+    fn end(&mut self) {
+        self.running = self.running.saturating_sub(1);
+        if self.running == 0 {
+            self.line.erase();
+        }
+    }
+}
+
+// What is told of one router: by the name of its file, and of LSAs of other types if it refuses them.
+#[derive(Drop)]
+struct Teller {
+    file: String,
+    others: Option<Others>,
+}
+
+impl Teller {
+    // The router of no file, of which nothing is told.
+    fn none(alloc: Global) -> Teller {
+        Teller {
+            file: String::new(alloc),
+            others: None,
+        }
+    }
+
+    fn new(alloc: Global, file: &NamedFile, config: &Config) -> Result<Teller, AllocError> {
+        let others = if config.passes_over {
+            None
+        } else {
+            Some(Others::new(alloc))
+        };
+        let file = String::from_str(alloc, &file.name)?;
+        Ok(Teller { file, others })
+    }
+}
+
+// In memory that can be shared.
+fn share<S: Drop>(shared: S, alloc: Global) -> Result<Arc<Mutex<S>, Global>, AllocError> {
+    Arc::new(alloc, Mutex::new(shared)).map_err(AllocError::from)
+}
+
+// How many neighbours of a router are Full.
+fn full_neighbours(router: &Router) -> usize {
+    let mut full: usize = 0;
+    for link in 0..MOST_LINKS {
+        if !router.has_link(link) {
+            break;
+        }
+        let neighbours = router.neighbours(link);
+        let more = neighbours
+            .iter()
+            .filter(|it| it.state() == NeighbourState::Full)
+            .count();
+        full = full.saturating_add(more);
+    }
+    full
+}
+
+// The bytes of a datagram in a capture; none where it fits into no IP packet.
+fn record_of<C: Clock>(clock: &C, sent: &Sent, alloc: Global) -> Result<Vec<u8>, io::Error> {
+    let now = clock.since_1970()?;
+    let at = Moment {
+        seconds: u32::try_from(now.as_secs()).unwrap_or(u32::MAX),
+        microseconds: now.subsec_micros(),
+    };
+    let mut bytes = Vec::new(alloc);
+    match write_datagram(&mut bytes, at, sent.source, sent.destination, &sent.bytes) {
+        Ok(()) | Err(CaptureFault::TooLong) => Ok(bytes),
+        Err(CaptureFault::Memory) => Err(io::Error::from(ErrorKind::OutOfMemory)),
     }
 }

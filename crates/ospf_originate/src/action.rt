@@ -32,21 +32,36 @@ pub struct Due {
     pub action: OwnAction,
 }
 
+/// What becomes of the LSA of a key (RFC 2328, sections 12.4, 13.4 and 14.1), by what is wanted of it, if anything, and
+/// its copy in the database. `heard` tells whether a self-originated one was installed in this step, `own` whether its
+/// Advertising Router is this one, `waits` whether it was issued less than MinLSInterval ago; `kept` is the greatest
+/// number of its numbering run.
+///
+/// A fault is that of the wanted LSA, if it cannot be made.
+#[tactic(auto, unfolding(crate::specs::Actions::own_action))]
+pub fn own_action(
+    wanted: Option<&OwnLsa>,
+    copy: Option<EntryView<'_>>,
+    heard: bool,
+    own: bool,
+    waits: bool,
+    kept: i32,
+    alloc: Global,
+) -> Result<OwnAction, LsaFault>
+    ensures is { IfOk result (λ action. action ≡ own_action (option_map (λ w. value_of w.now) wanted.entry) copy.entry heard own waits kept) }
+    ensures used { IfOk result IsUsed }
+    ensures fault { IfErr result (IsUnmadeIf (option_map (λ w. value_of w.now) wanted.entry)) }
+{
+    match wanted {
+        Some(wanted) => wanted_action(wanted, copy, heard, waits, kept, alloc),
+        None => Ok(unwanted_action(copy, heard, own)),
+    }
+}
+
 pub(crate) fn is_fresh(copy: &EntryView<'_>) -> bool
     ensures { result ≡ is_fresh copy.now }
 {
     copy.age().ticks() < MAX_AGE
-}
-
-// What an LSA without a next number comes to.
-fn makes_room(copy: Option<EntryView<'_>>) -> OwnAction
-    ensures is { result ≡ makes_room copy.entry }
-    ensures used { IsUsed result }
-{
-    match copy {
-        Some(copy) if is_fresh(&copy) => OwnAction::Flush,
-        _ => OwnAction::Leave,
-    }
 }
 
 // What an LSA that is to be issued comes to.
@@ -58,31 +73,6 @@ pub(crate) fn next_action(copy: Option<EntryView<'_>>, kept: i32) -> OwnAction
         makes_room(copy)
     } else {
         OwnAction::Issue(kept + 1)
-    }
-}
-
-// What one that is not wanted comes to.
-fn unwanted_action(copy: Option<EntryView<'_>>, heard: bool, own: bool) -> OwnAction
-    ensures is { result ≡ unwanted_action copy.entry heard own }
-    ensures used { IsUsed result }
-{
-    match copy {
-        Some(copy) if heard || own && is_fresh(&copy) => OwnAction::Flush,
-        _ => OwnAction::Leave,
-    }
-}
-
-// Whether a wanted LSA is due.
-fn is_due(wanted: &OwnLsa, copy: Option<&EntryView<'_>>, alloc: Global) -> Result<bool, LsaFault>
-    ensures is { IfOk result (λ due. due ≡ is_due (value_of wanted.now) (option_copied copy.entry)) }
-    ensures fault { IfErr result (λ f. IsUnmade (Needs first_number (value_of wanted.now)) f) }
-{
-    match copy {
-        Some(copy) => {
-            let old = LS_REFRESH_TIME <= copy.age().ticks();
-            Ok(old || !wanted.is_said_by(&copy.lsa(), alloc)?)
-        }
-        None => Ok(true),
     }
 }
 
@@ -108,28 +98,38 @@ fn wanted_action(
     Ok(next_action(copy, kept))
 }
 
-/// What becomes of the LSA of a key (RFC 2328, sections 12.4, 13.4 and 14.1), by what is wanted of it, if anything, and
-/// its copy in the database. `heard` tells whether a self-originated one was installed in this step, `own` whether its
-/// Advertising Router is this one, `waits` whether it was issued less than MinLSInterval ago; `kept` is the greatest
-/// number of its numbering run.
-///
-/// A fault is that of the wanted LSA, if it cannot be made.
-#[tactic(auto, unfolding(crate::specs::Actions::own_action))]
-pub fn own_action(
-    wanted: Option<&OwnLsa>,
-    copy: Option<EntryView<'_>>,
-    heard: bool,
-    own: bool,
-    waits: bool,
-    kept: i32,
-    alloc: Global,
-) -> Result<OwnAction, LsaFault>
-    ensures is { IfOk result (λ action. action ≡ own_action (option_map (λ w. value_of w.now) wanted.entry) copy.entry heard own waits kept) }
-    ensures used { IfOk result IsUsed }
-    ensures fault { IfErr result (IsUnmadeIf (option_map (λ w. value_of w.now) wanted.entry)) }
+// Whether a wanted LSA is due.
+fn is_due(wanted: &OwnLsa, copy: Option<&EntryView<'_>>, alloc: Global) -> Result<bool, LsaFault>
+    ensures is { IfOk result (λ due. due ≡ is_due (value_of wanted.now) (option_copied copy.entry)) }
+    ensures fault { IfErr result (λ f. IsUnmade (Needs first_number (value_of wanted.now)) f) }
 {
-    match wanted {
-        Some(wanted) => wanted_action(wanted, copy, heard, waits, kept, alloc),
-        None => Ok(unwanted_action(copy, heard, own)),
+    match copy {
+        Some(copy) => {
+            let old = LS_REFRESH_TIME <= copy.age().ticks();
+            Ok(old || !wanted.is_said_by(&copy.lsa(), alloc)?)
+        }
+        None => Ok(true),
+    }
+}
+
+// What one that is not wanted comes to.
+fn unwanted_action(copy: Option<EntryView<'_>>, heard: bool, own: bool) -> OwnAction
+    ensures is { result ≡ unwanted_action copy.entry heard own }
+    ensures used { IsUsed result }
+{
+    match copy {
+        Some(copy) if heard || own && is_fresh(&copy) => OwnAction::Flush,
+        _ => OwnAction::Leave,
+    }
+}
+
+// What an LSA without a next number comes to.
+fn makes_room(copy: Option<EntryView<'_>>) -> OwnAction
+    ensures is { result ≡ makes_room copy.entry }
+    ensures used { IsUsed result }
+{
+    match copy {
+        Some(copy) if is_fresh(&copy) => OwnAction::Flush,
+        _ => OwnAction::Leave,
     }
 }

@@ -10,13 +10,6 @@ use ospf_base::{LsaKey, have_passed};
 /// The ticks between two issues of an LSA (RFC 2328, appendix B).
 const MIN_LS_INTERVAL: u16 = 5;
 
-// How far the numbers of a key have come, if it was numbered.
-fn numbering_of(all: &[Numbering], key: &LsaKey) -> Option<Numbering>
-    ensures { result ≡ numbering_of all.now key.now }
-{
-    all.iter().copied().find(|n| n.key.is_same(key))
-}
-
 /// The number kept for a key: the greatest of its numbering run, or the floor.
 pub(crate) fn kept_number(all: &[Numbering], floor: i32, key: &LsaKey) -> i32
     ensures { result ≡ kept_in floor (numbering_of all.now key.now) }
@@ -24,16 +17,6 @@ pub(crate) fn kept_number(all: &[Numbering], floor: i32, key: &LsaKey) -> i32
     match numbering_of(all, key) {
         Some(numbering) => numbering.kept,
         None => floor,
-    }
-}
-
-// When a key was last issued.
-fn issued_at(all: &[Numbering], key: &LsaKey) -> Option<u64>
-    ensures { result ≡ issued_at_in (numbering_of all.now key.now) }
-{
-    match numbering_of(all, key) {
-        Some(numbering) => numbering.issued_at,
-        None => None,
     }
 }
 
@@ -47,19 +30,36 @@ pub(crate) fn waits(all: &[Numbering], key: &LsaKey, tick: u64) -> bool
     }
 }
 
-fn note_one(numbering: &mut Numbering, key: &LsaKey, tick: u64)
-    ensures { numbering.new ≡ issued_one key.now tick numbering.old }
-{
-    if numbering.key.is_same(key) {
-        numbering.issued_at = Some(tick);
-    }
-}
-
 /// An LSA of a key was issued in this tick.
 pub(crate) fn note_issue(all: &mut [Numbering], key: &LsaKey, tick: u64)
     ensures { all.new ≡ issued key.now tick all.old }
 {
     for numbering in all.iter_mut() {
         note_one(numbering, key, tick);
+    }
+}
+
+// How far the numbers of a key have come, if it was numbered.
+fn numbering_of(all: &[Numbering], key: &LsaKey) -> Option<Numbering>
+    ensures { result ≡ numbering_of all.now key.now }
+{
+    all.iter().copied().find(|n| n.key.is_same(key))
+}
+
+// When a key was last issued.
+fn issued_at(all: &[Numbering], key: &LsaKey) -> Option<u64>
+    ensures { result ≡ issued_at_in (numbering_of all.now key.now) }
+{
+    match numbering_of(all, key) {
+        Some(numbering) => numbering.issued_at,
+        None => None,
+    }
+}
+
+fn note_one(numbering: &mut Numbering, key: &LsaKey, tick: u64)
+    ensures { numbering.new ≡ issued_one key.now tick numbering.old }
+{
+    if numbering.key.is_same(key) {
+        numbering.issued_at = Some(tick);
     }
 }

@@ -16,6 +16,28 @@ use ospf_update::store;
 use ospf_wanted::OwnLsa;
 use std::alloc::{AllocError, Global};
 
+/// Issues a wanted LSA with a number (RFC 2328, section 12.4): it is stored as an LSA of a neighbour's is, at age 0, and
+/// flooded to all.
+///
+/// `AllocError` where memory runs out; then the router is to be stopped.
+pub fn issue(
+    area: &mut Area,
+    wanted: &OwnLsa,
+    number: i32,
+    out: &mut Outputs,
+    alloc: Global,
+) -> Result<(), AllocError>
+    requires { HasAll (Needs number (value_of wanted.now)) }
+    ensures { OnOk result (Issues (value_of wanted.now) number area.old out.old out.new area.new) }
+{
+    let key = wanted.key();
+    let lsa = made(wanted, number, alloc)?;
+    tell_issued(out, &lsa.view(), alloc)?;
+    let _ = store(area, lsa, None, out, alloc)?;
+    note_tick(area, &key);
+    Ok(())
+}
+
 // The fault of an LSA that lacks nothing but memory.
 pub(crate) fn want_of_memory(fault: LsaFault) -> AllocError
     requires { fault ≡ LsaFault.Memory }
@@ -57,26 +79,4 @@ fn note_tick(area: &mut Area, key: &LsaKey)
 {
     let tick = area.tick;
     note_issue(&mut area.numbering, key, tick);
-}
-
-/// Issues a wanted LSA with a number (RFC 2328, section 12.4): it is stored as an LSA of a neighbour's is, at age 0, and
-/// flooded to all.
-///
-/// `AllocError` where memory runs out; then the router is to be stopped.
-pub fn issue(
-    area: &mut Area,
-    wanted: &OwnLsa,
-    number: i32,
-    out: &mut Outputs,
-    alloc: Global,
-) -> Result<(), AllocError>
-    requires { HasAll (Needs number (value_of wanted.now)) }
-    ensures { OnOk result (Issues (value_of wanted.now) number area.old out.old out.new area.new) }
-{
-    let key = wanted.key();
-    let lsa = made(wanted, number, alloc)?;
-    tell_issued(out, &lsa.view(), alloc)?;
-    let _ = store(area, lsa, None, out, alloc)?;
-    note_tick(area, &key);
-    Ok(())
 }

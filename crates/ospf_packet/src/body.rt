@@ -37,31 +37,6 @@ pub struct Hello {
     pub backup: Addr,
 }
 
-/// The fields of a Database Description (RFC 2328, appendix A.3.3).
-#[derive(Clone, Copy, Debug, PartialEq, Eq)]
-pub struct Description {
-    /// The longest IP datagram, in bytes, that the sender's interface sends whole.
-    pub mtu: u16,
-    pub options: u8,
-    /// I is 4, M is 2, MS is 1; the other bits are carried and not examined.
-    pub flags: u8,
-    /// The DD sequence number.
-    pub number: u32,
-}
-
-/// The body of a packet, read where it lies: its fields, and a walk over what is listed behind them.
-#[derive(Drop)]
-pub enum Body<'a> {
-    /// With the Router IDs of the neighbours that were heard.
-    Hello(Hello, Attached<'a>),
-    /// With the headers of LSAs in the sender's database.
-    Description(Description, Headers<'a>),
-    Request(Requests<'a>),
-    Update(Lsas<'a>),
-    /// The headers of the LSAs that were received.
-    Acknowledgment(Headers<'a>),
-}
-
 impl Hello {
     ghost use Rattle.ospf_packet.specs.Fields.{hello_at, hello_bytes, hello_fields, HelloFits};
 
@@ -98,6 +73,18 @@ impl Hello {
     }
 }
 
+/// The fields of a Database Description (RFC 2328, appendix A.3.3).
+#[derive(Clone, Copy, Debug, PartialEq, Eq)]
+pub struct Description {
+    /// The longest IP datagram, in bytes, that the sender's interface sends whole.
+    pub mtu: u16,
+    pub options: u8,
+    /// I is 4, M is 2, MS is 1; the other bits are carried and not examined.
+    pub flags: u8,
+    /// The DD sequence number.
+    pub number: u32,
+}
+
 impl Description {
     ghost use Rattle.ospf_packet.specs.Fields.{description_at, description_bytes, description_fields, DescriptionFits};
 
@@ -123,4 +110,17 @@ impl Description {
         let [c, d, e, f] = self.number.to_be_bytes();
         [a, b, self.options, self.flags, c, d, e, f]
     }
+}
+
+/// The body of a packet, read where it lies: its fields, and a walk over what is listed behind them.
+#[derive(Drop)]
+pub enum Body<'a> {
+    /// With the Router IDs of the neighbours that were heard.
+    Hello(Hello, Attached<'a>),
+    /// With the headers of LSAs in the sender's database.
+    Description(Description, Headers<'a>),
+    Request(Requests<'a>),
+    Update(Lsas<'a>),
+    /// The headers of the LSAs that were received.
+    Acknowledgment(Headers<'a>),
 }

@@ -46,6 +46,18 @@ impl PacketFault {
     }
 }
 
+/// The number and the name, as `P5 Sum`.
+impl Display for PacketFault {
+    ghost use Rattle.std.specs.Prelude.{Some};
+    ghost use Rattle.ospf_packet.specs.Text.{packet_fault_text};
+
+    ghost output = { λ fault. Some (packet_fault_text fault) };
+
+    fn fmt<W: Write>(&self, f: &mut Formatter<W>) -> fmt::Result {
+        f.write_str(self.text())
+    }
+}
+
 /// Why a packet was not written.
 #[derive(Clone, Copy, Debug, PartialEq, Eq, Error)]
 pub enum WriteFault {
@@ -67,18 +79,6 @@ impl WriteFault {
             WriteFault::TooLong => "P8 TooLong",
             WriteFault::Memory => "Memory",
         }
-    }
-}
-
-/// The number and the name, as `P5 Sum`.
-impl Display for PacketFault {
-    ghost use Rattle.std.specs.Prelude.{Some};
-    ghost use Rattle.ospf_packet.specs.Text.{packet_fault_text};
-
-    ghost output = { λ fault. Some (packet_fault_text fault) };
-
-    fn fmt<W: Write>(&self, f: &mut Formatter<W>) -> fmt::Result {
-        f.write_str(self.text())
     }
 }
 

@@ -51,16 +51,6 @@ impl<'a> Headers<'a> {
     ghost use Rattle.ospf_base.specs.Constants.{lsa_header};
     ghost use Rattle.ospf_packet.specs.Headers.{headers_in};
 
-    // The walk over the headers that fill the bytes.
-    pub(crate) fn new(bytes: &'a [u8]) -> Headers<'a>
-        ensures { result ≡ headers_in (length bytes.now / lsa_header) bytes.now }
-    {
-        Headers {
-            left: bytes.len() / LSA_HEADER,
-            rest: bytes,
-        }
-    }
-
     /// The same walk, from where it stands.
     pub fn copy(&self) -> Headers<'a>
         ensures { result ≡ self.now }
@@ -77,5 +67,15 @@ impl<'a> Headers<'a> {
         ensures { result ≡ (length self.now == 0) }
     {
         self.left == 0
+    }
+
+    // The walk over the headers that fill the bytes.
+    pub(crate) fn new(bytes: &'a [u8]) -> Headers<'a>
+        ensures { result ≡ headers_in (length bytes.now / lsa_header) bytes.now }
+    {
+        Headers {
+            left: bytes.len() / LSA_HEADER,
+            rest: bytes,
+        }
     }
 }

@@ -28,21 +28,6 @@ impl<'a> Model for Lsas<'a> {
     ghost invariant = { λ w. AreSlices w.left w.rest.now };
 }
 
-// The LSA at the front and the bytes after it, if one stands there.
-fn first(bytes: &[u8]) -> Option<(&[u8], &[u8])>
-    ensures found { IfSome result (λ f. IsSplit bytes.now f.0.now f.1.now) }
-    ensures none { IfNone result (IsFirstSlice bytes.now → ⊥) }
-{
-    if bytes.len() < LSA_HEADER {
-        return None;
-    }
-    let length = usize::from(u16_at(bytes, 18));
-    if length < LSA_HEADER || length > bytes.len() {
-        return None;
-    }
-    Some(bytes.split_at(length))
-}
-
 impl<'a> Iterator for Lsas<'a> {
     type Item = &'a [u8];
 
@@ -90,4 +75,19 @@ impl<'a> Lsas<'a> {
         }
         rest.is_empty()
     }
+}
+
+// The LSA at the front and the bytes after it, if one stands there.
+fn first(bytes: &[u8]) -> Option<(&[u8], &[u8])>
+    ensures found { IfSome result (λ f. IsSplit bytes.now f.0.now f.1.now) }
+    ensures none { IfNone result (IsFirstSlice bytes.now → ⊥) }
+{
+    if bytes.len() < LSA_HEADER {
+        return None;
+    }
+    let length = usize::from(u16_at(bytes, 18));
+    if length < LSA_HEADER || length > bytes.len() {
+        return None;
+    }
+    Some(bytes.split_at(length))
 }

@@ -28,18 +28,38 @@ pub struct Packet<'a> {
     pub body: Body<'a>,
 }
 
-// Whether a body ends with its last entry.
-fn has_body(kind: u8, body: &[u8]) -> bool
-    ensures { IsTrue result ↔ IsBody kind body.now }
+impl<'a> Packet<'a> {
+    /// The packet that the bytes are, or their first fault (RFC 2328, section 8.2 and appendix A.3).
+    ///
+    /// `TooLong` is looked at first, then the other faults in the order of their numbers. The bytes of the
+    /// authentication are not looked at, and an age field above `MAX_AGE` is read as that. No memory is taken.
+    pub fn read(bytes: &'a [u8]) -> Result<Packet<'a>, PacketFault>
+        ensures ok { IfOk result (λ p. packet_of bytes.now ≡ Some (said p)) }
+        ensures valid { OnOk result (IsPacket bytes.now) }
+        ensures fault { IfErr result (λ f. IsFirstFault bytes.now f) }
+        ensures none { OnErr result (packet_of bytes.now ≡ None) }
+    {
+        match first_fault(bytes) {
+            Some(fault) => Err(fault),
+            None => Ok(valid_packet(bytes)),
+        }
+    }
+}
+
+// What the body of a packet of this type says.
+fn body(kind: u8, bytes: &[u8]) -> Body<'_>
+    requires { IsBody kind bytes.now }
+    ensures { body_said result ≡ body_at kind bytes.now }
 {
     match kind {
-        1 => body.len() >= HELLO_FIELDS && (body.len() - HELLO_FIELDS) % ROUTER_SIZE == 0,
-        2 => body.len() >= DESCRIPTION_FIELDS
-            && (body.len() - DESCRIPTION_FIELDS) % LSA_HEADER == 0,
-        3 => body.len() % REQUEST_SIZE == 0,
-        4 => body.len() >= COUNT_SIZE && Lsas::are_all(u32_at(body, 0), &body[COUNT_SIZE..]),
-        5 => body.len() % LSA_HEADER == 0,
-        _ => true,
+        1 => Body::Hello(Hello::read(bytes), Attached::new(&bytes[HELLO_FIELDS..])),
+        2 => Body::Description(
+            Description::read(bytes),
+            Headers::new(&bytes[DESCRIPTION_FIELDS..]),
+        ),
+        3 => Body::Request(Requests::new(bytes)),
+        4 => Body::Update(Lsas::new(u32_at(bytes, 0), &bytes[COUNT_SIZE..])),
+        _ => Body::Acknowledgment(Headers::new(bytes)),
     }
 }
 
@@ -75,20 +95,18 @@ fn first_fault(bytes: &[u8]) -> Option<PacketFault>
     None
 }
 
-// What the body of a packet of this type says.
-fn body(kind: u8, bytes: &[u8]) -> Body<'_>
-    requires { IsBody kind bytes.now }
-    ensures { body_said result ≡ body_at kind bytes.now }
+// Whether a body ends with its last entry.
+fn has_body(kind: u8, body: &[u8]) -> bool
+    ensures { IsTrue result ↔ IsBody kind body.now }
 {
     match kind {
-        1 => Body::Hello(Hello::read(bytes), Attached::new(&bytes[HELLO_FIELDS..])),
-        2 => Body::Description(
-            Description::read(bytes),
-            Headers::new(&bytes[DESCRIPTION_FIELDS..]),
-        ),
-        3 => Body::Request(Requests::new(bytes)),
-        4 => Body::Update(Lsas::new(u32_at(bytes, 0), &bytes[COUNT_SIZE..])),
-        _ => Body::Acknowledgment(Headers::new(bytes)),
+        1 => body.len() >= HELLO_FIELDS && (body.len() - HELLO_FIELDS) % ROUTER_SIZE == 0,
+        2 => body.len() >= DESCRIPTION_FIELDS
+            && (body.len() - DESCRIPTION_FIELDS) % LSA_HEADER == 0,
+        3 => body.len() % REQUEST_SIZE == 0,
+        4 => body.len() >= COUNT_SIZE && Lsas::are_all(u32_at(body, 0), &body[COUNT_SIZE..]),
+        5 => body.len() % LSA_HEADER == 0,
+        _ => true,
     }
 }
 
@@ -102,23 +120,5 @@ fn valid_packet(bytes: &[u8]) -> Packet<'_>
         router: RouterId(u32_at(bytes, 4)),
         area: AreaId(u32_at(bytes, 8)),
         body: body(bytes[1], &bytes[PACKET_HEADER..]),
-    }
-}
-
-impl<'a> Packet<'a> {
-    /// The packet that the bytes are, or their first fault (RFC 2328, section 8.2 and appendix A.3).
-    ///
-    /// `TooLong` is looked at first, then the other faults in the order of their numbers. The bytes of the
-    /// authentication are not looked at, and an age field above `MAX_AGE` is read as that. No memory is taken.
-    pub fn read(bytes: &'a [u8]) -> Result<Packet<'a>, PacketFault>
-        ensures ok { IfOk result (λ p. packet_of bytes.now ≡ Some (said p)) }
-        ensures valid { OnOk result (IsPacket bytes.now) }
-        ensures fault { IfErr result (λ f. IsFirstFault bytes.now f) }
-        ensures none { OnErr result (packet_of bytes.now ≡ None) }
-    {
-        match first_fault(bytes) {
-            Some(fault) => Err(fault),
-            None => Ok(valid_packet(bytes)),
-        }
     }
 }

@@ -47,16 +47,6 @@ impl<'a> Requests<'a> {
     ghost use Rattle.std.specs.Prelude.{◌≡◌, ◌/◌, length};
     ghost use Rattle.ospf_packet.specs.Requests.{request_size, requests_in};
 
-    // The walk over the entries that fill the bytes.
-    pub(crate) fn new(bytes: &'a [u8]) -> Requests<'a>
-        ensures { result ≡ requests_in (length bytes.now / request_size) bytes.now }
-    {
-        Requests {
-            left: bytes.len() / REQUEST_SIZE,
-            rest: bytes,
-        }
-    }
-
     /// The same walk, from where it stands.
     pub fn copy(&self) -> Requests<'a>
         ensures { result ≡ self.now }
@@ -64,6 +54,16 @@ impl<'a> Requests<'a> {
         Requests {
             left: self.left,
             rest: self.rest,
+        }
+    }
+
+    // The walk over the entries that fill the bytes.
+    pub(crate) fn new(bytes: &'a [u8]) -> Requests<'a>
+        ensures { result ≡ requests_in (length bytes.now / request_size) bytes.now }
+    {
+        Requests {
+            left: bytes.len() / REQUEST_SIZE,
+            rest: bytes,
         }
     }
 }

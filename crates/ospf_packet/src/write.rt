@@ -21,39 +21,28 @@ use crate::value::{BodyValue, PacketValue};
 use ospf_base::{AreaId, LARGEST_PACKET, LSA_HEADER, MAX_AGE, PACKET_HEADER, RouterId, packet_sum};
 use ospf_lsa::{Lsa, LsaHeader};
 
-// The number of bytes of the LSAs, unless they are more than an Update holds.
-fn lsas_length(lsas: &[Lsa]) -> Option<usize>
-    ensures found { IfSome result (λ n. (n ≡ length (lsas_bytes lsas.now)) × (packet_header + 4 + n ≤ largest_packet)) }
-    ensures count { OnSome result (length lsas.now < 2 ^ 32) }
-    ensures none { IfNone result (largest_packet < packet_header + 4 + length (lsas_bytes lsas.now)) }
+/// Writes a packet at the end: its checksum is right, and its authentication is zeros (RFC 2328, appendices
+/// A.3 and D.4).
+///
+/// `TooLong` where the packet is longer than `LARGEST_PACKET`, else `Memory` where the output had no room for it
+/// and could not grow. The output is unchanged by each.
+pub fn write_packet(value: &PacketValue, out: &mut Vec<u8>) -> Result<(), WriteFault>
+    ensures ok { OnOk result (out.new.items ≡ out.old.items ++ packet_bytes (meant value.now)) }
+    ensures again { OnOk result (packet_of (packet_bytes (meant value.now)) ≡ Some (meant value.now)) }
+    ensures err { OnErr result (out.new.items ≡ out.old.items) }
+    ensures too_long { (result ≡ Err fault.TooLong) ↔ (largest_packet < length (packet_bytes (meant value.now))) }
+    ensures memory { (result ≡ Err fault.Memory)
+        → vec_capacity out.old < vec_len out.old + length (packet_bytes (meant value.now)) }
 {
-    let mut total = 0;
-    for lsa in lsas {
-        let length = lsa.view().as_bytes().len();
-        if length > LARGEST_PACKET - PACKET_HEADER - COUNT_SIZE - total {
-            return None;
-        }
-        total += length;
+    let Some(length) = body_length(&value.body) else {
+        return Err(WriteFault::TooLong);
+    };
+    let size = PACKET_HEADER + length;
+    if out.reserve(size).is_err() {
+        return Err(WriteFault::Memory);
     }
-    Some(total)
-}
-
-// The number of bytes of so many entries behind the fields of a body, unless a packet does not hold them.
-fn entries_length(fields: usize, count: usize, size: usize) -> Option<usize>
-    requires fields { fields ≤ hello_fields }
-    requires positive { 0 < size }
-    requires small { size ≤ lsa_header }
-    ensures found { IfSome result (λ n. (n ≡ fields + count * size) × (packet_header + n ≤ largest_packet)) }
-    ensures none { IfNone result (largest_packet < packet_header + (fields + count * size)) }
-{
-    if count > LARGEST_PACKET {
-        return None;
-    }
-    let length = fields + count * size;
-    if length > LARGEST_PACKET - PACKET_HEADER {
-        return None;
-    }
-    Some(length)
+    push_packet(out, value, size as u16);
+    Ok(())
 }
 
 // The number of bytes of a body, unless a packet does not hold it.
@@ -79,6 +68,59 @@ fn body_length(body: &BodyValue) -> Option<usize>
     }
 }
 
+// The number of bytes of so many entries behind the fields of a body, unless a packet does not hold them.
+fn entries_length(fields: usize, count: usize, size: usize) -> Option<usize>
+    requires fields { fields ≤ hello_fields }
+    requires positive { 0 < size }
+    requires small { size ≤ lsa_header }
+    ensures found { IfSome result (λ n. (n ≡ fields + count * size) × (packet_header + n ≤ largest_packet)) }
+    ensures none { IfNone result (largest_packet < packet_header + (fields + count * size)) }
+{
+    if count > LARGEST_PACKET {
+        return None;
+    }
+    let length = fields + count * size;
+    if length > LARGEST_PACKET - PACKET_HEADER {
+        return None;
+    }
+    Some(length)
+}
+
+// The number of bytes of the LSAs, unless they are more than an Update holds.
+fn lsas_length(lsas: &[Lsa]) -> Option<usize>
+    ensures found { IfSome result (λ n. (n ≡ length (lsas_bytes lsas.now)) × (packet_header + 4 + n ≤ largest_packet)) }
+    ensures count { OnSome result (length lsas.now < 2 ^ 32) }
+    ensures none { IfNone result (largest_packet < packet_header + 4 + length (lsas_bytes lsas.now)) }
+{
+    let mut total = 0;
+    for lsa in lsas {
+        let length = lsa.view().as_bytes().len();
+        if length > LARGEST_PACKET - PACKET_HEADER - COUNT_SIZE - total {
+            return None;
+        }
+        total += length;
+    }
+    Some(total)
+}
+
+// Puts a packet of so many bytes at the end, where there is room for them.
+fn push_packet(out: &mut Vec<u8>, value: &PacketValue, size: u16)
+    requires size { size ≡ packet_header + length (body_bytes (body_meant value.now.body)) }
+    requires short { size ≤ largest_packet }
+    requires count { CountFits (body_meant value.now.body) }
+    requires room { vec_len out.old + size ≤ vec_capacity out.old }
+    ensures bytes { out.new.items ≡ out.old.items ++ packet_bytes (meant value.now) }
+    ensures fits { MeaningFits (meant value.now) }
+{
+    let start = out.len();
+    push_bytes(
+        out,
+        &head(kind_of(&value.body), size, value.router, value.area),
+    );
+    push_body(out, &value.body);
+    seal(out, start);
+}
+
 // Puts bytes at the end, where there is room for them.
 fn push_bytes(out: &mut Vec<u8>, bytes: &[u8])
     requires room { vec_len out.old + length bytes.now ≤ vec_capacity out.old }
@@ -89,58 +131,30 @@ fn push_bytes(out: &mut Vec<u8>, bytes: &[u8])
     let _ = out.extend_from_slice(bytes);
 }
 
-// Puts the bytes of Router IDs at the end.
-fn push_neighbours(out: &mut Vec<u8>, routers: &[RouterId])
-    requires room { vec_len out.old + length (routers_bytes routers.now) ≤ vec_capacity out.old }
-    ensures routers { out.new.items ≡ out.old.items ++ routers_bytes routers.now }
-    ensures fit { AllByRecursion RouterFits routers.now }
+// The 24 bytes of a header without its checksum.
+fn head(kind: u8, size: u16, router: RouterId, area: AreaId) -> [u8; 24]
+    ensures bytes { result ≡ head_bytes kind size router area ++ (0 ∷ 0 ∷ no_authentication) }
+    ensures router { router.0 < 2 ^ 32 }
+    ensures area { area.0 < 2 ^ 32 }
 {
-    for router in routers {
-        let number = router.0;
-        push_bytes(out, &number.to_be_bytes());
-    }
+    let [a, b] = size.to_be_bytes();
+    let [c, d, e, f] = router.0.to_be_bytes();
+    let [g, h, i, j] = area.0.to_be_bytes();
+    [
+        2, kind, a, b, c, d, e, f, g, h, i, j, 0, 0, 0, 0, 0, 0, 0, 0, 0, 0, 0, 0,
+    ]
 }
 
-// The bytes of a header. By its type the age is at most `MAX_AGE`, which the reader of the bytes needs.
-fn header_bytes(header: &LsaHeader) -> [u8; 20]
-    ensures bytes { result ≡ aged_bytes header.now }
-    ensures fits { AgedFits header.now }
+// The type of a body.
+fn kind_of(body: &BodyValue) -> u8
+    ensures { result ≡ body_type (body_meant body.now) }
 {
-    let age = header.age.ticks();
-    prove!(age <= MAX_AGE);
-    header.to_bytes()
-}
-
-// Puts the bytes of headers at the end.
-fn push_headers(out: &mut Vec<u8>, headers: &[LsaHeader])
-    requires room { vec_len out.old + length (flat_map aged_bytes headers.now) ≤ vec_capacity out.old }
-    ensures headers { out.new.items ≡ out.old.items ++ flat_map aged_bytes headers.now }
-    ensures fit { AllByRecursion AgedFits headers.now }
-{
-    for header in headers {
-        push_bytes(out, &header_bytes(header));
-    }
-}
-
-// Puts the bytes of the entries of a Request at the end.
-fn push_entries(out: &mut Vec<u8>, entries: &[RequestEntry])
-    requires room { vec_len out.old + length (flat_map entry_bytes entries.now) ≤ vec_capacity out.old }
-    ensures entries { out.new.items ≡ out.old.items ++ flat_map entry_bytes entries.now }
-    ensures fit { AllByRecursion EntryFits entries.now }
-{
-    for entry in entries {
-        push_bytes(out, &entry.to_bytes());
-    }
-}
-
-// Puts the bytes of LSAs at the end.
-fn push_lsas(out: &mut Vec<u8>, lsas: &[Lsa])
-    requires room { vec_len out.old + length (lsas_bytes lsas.now) ≤ vec_capacity out.old }
-    ensures lsas { out.new.items ≡ out.old.items ++ lsas_bytes lsas.now }
-    ensures fit { AllByRecursion IsSlice lsas.now }
-{
-    for lsa in lsas {
-        push_bytes(out, lsa.view().as_bytes());
+    match body {
+        BodyValue::Hello(..) => 1,
+        BodyValue::Description(..) => 2,
+        BodyValue::Request(_) => 3,
+        BodyValue::Update(_) => 4,
+        BodyValue::Acknowledgment(_) => 5,
     }
 }
 
@@ -170,31 +184,59 @@ fn push_body(out: &mut Vec<u8>, body: &BodyValue)
     }
 }
 
-// The type of a body.
-fn kind_of(body: &BodyValue) -> u8
-    ensures { result ≡ body_type (body_meant body.now) }
+// Puts the bytes of Router IDs at the end.
+fn push_neighbours(out: &mut Vec<u8>, routers: &[RouterId])
+    requires room { vec_len out.old + length (routers_bytes routers.now) ≤ vec_capacity out.old }
+    ensures routers { out.new.items ≡ out.old.items ++ routers_bytes routers.now }
+    ensures fit { AllByRecursion RouterFits routers.now }
 {
-    match body {
-        BodyValue::Hello(..) => 1,
-        BodyValue::Description(..) => 2,
-        BodyValue::Request(_) => 3,
-        BodyValue::Update(_) => 4,
-        BodyValue::Acknowledgment(_) => 5,
+    for router in routers {
+        let number = router.0;
+        push_bytes(out, &number.to_be_bytes());
     }
 }
 
-// The 24 bytes of a header without its checksum.
-fn head(kind: u8, size: u16, router: RouterId, area: AreaId) -> [u8; 24]
-    ensures bytes { result ≡ head_bytes kind size router area ++ (0 ∷ 0 ∷ no_authentication) }
-    ensures router { router.0 < 2 ^ 32 }
-    ensures area { area.0 < 2 ^ 32 }
+// Puts the bytes of headers at the end.
+fn push_headers(out: &mut Vec<u8>, headers: &[LsaHeader])
+    requires room { vec_len out.old + length (flat_map aged_bytes headers.now) ≤ vec_capacity out.old }
+    ensures headers { out.new.items ≡ out.old.items ++ flat_map aged_bytes headers.now }
+    ensures fit { AllByRecursion AgedFits headers.now }
 {
-    let [a, b] = size.to_be_bytes();
-    let [c, d, e, f] = router.0.to_be_bytes();
-    let [g, h, i, j] = area.0.to_be_bytes();
-    [
-        2, kind, a, b, c, d, e, f, g, h, i, j, 0, 0, 0, 0, 0, 0, 0, 0, 0, 0, 0, 0,
-    ]
+    for header in headers {
+        push_bytes(out, &header_bytes(header));
+    }
+}
+
+// The bytes of a header. By its type the age is at most `MAX_AGE`, which the reader of the bytes needs.
+fn header_bytes(header: &LsaHeader) -> [u8; 20]
+    ensures bytes { result ≡ aged_bytes header.now }
+    ensures fits { AgedFits header.now }
+{
+    let age = header.age.ticks();
+    prove!(age <= MAX_AGE);
+    header.to_bytes()
+}
+
+// Puts the bytes of the entries of a Request at the end.
+fn push_entries(out: &mut Vec<u8>, entries: &[RequestEntry])
+    requires room { vec_len out.old + length (flat_map entry_bytes entries.now) ≤ vec_capacity out.old }
+    ensures entries { out.new.items ≡ out.old.items ++ flat_map entry_bytes entries.now }
+    ensures fit { AllByRecursion EntryFits entries.now }
+{
+    for entry in entries {
+        push_bytes(out, &entry.to_bytes());
+    }
+}
+
+// Puts the bytes of LSAs at the end.
+fn push_lsas(out: &mut Vec<u8>, lsas: &[Lsa])
+    requires room { vec_len out.old + length (lsas_bytes lsas.now) ≤ vec_capacity out.old }
+    ensures lsas { out.new.items ≡ out.old.items ++ lsas_bytes lsas.now }
+    ensures fit { AllByRecursion IsSlice lsas.now }
+{
+    for lsa in lsas {
+        push_bytes(out, lsa.view().as_bytes());
+    }
 }
 
 // Puts the checksum into the packet that begins there.
@@ -206,46 +248,4 @@ fn seal(out: &mut Vec<u8>, start: usize)
     let [high, low] = packet_sum(&out[start..]).to_be_bytes();
     out[start + 12] = high;
     out[start + 13] = low;
-}
-
-// Puts a packet of so many bytes at the end, where there is room for them.
-fn push_packet(out: &mut Vec<u8>, value: &PacketValue, size: u16)
-    requires size { size ≡ packet_header + length (body_bytes (body_meant value.now.body)) }
-    requires short { size ≤ largest_packet }
-    requires count { CountFits (body_meant value.now.body) }
-    requires room { vec_len out.old + size ≤ vec_capacity out.old }
-    ensures bytes { out.new.items ≡ out.old.items ++ packet_bytes (meant value.now) }
-    ensures fits { MeaningFits (meant value.now) }
-{
-    let start = out.len();
-    push_bytes(
-        out,
-        &head(kind_of(&value.body), size, value.router, value.area),
-    );
-    push_body(out, &value.body);
-    seal(out, start);
-}
-
-/// Writes a packet at the end: its checksum is right, and its authentication is zeros (RFC 2328, appendices
-/// A.3 and D.4).
-///
-/// `TooLong` where the packet is longer than `LARGEST_PACKET`, else `Memory` where the output had no room for it
-/// and could not grow. The output is unchanged by each.
-pub fn write_packet(value: &PacketValue, out: &mut Vec<u8>) -> Result<(), WriteFault>
-    ensures ok { OnOk result (out.new.items ≡ out.old.items ++ packet_bytes (meant value.now)) }
-    ensures again { OnOk result (packet_of (packet_bytes (meant value.now)) ≡ Some (meant value.now)) }
-    ensures err { OnErr result (out.new.items ≡ out.old.items) }
-    ensures too_long { (result ≡ Err fault.TooLong) ↔ (largest_packet < length (packet_bytes (meant value.now))) }
-    ensures memory { (result ≡ Err fault.Memory)
-        → vec_capacity out.old < vec_len out.old + length (packet_bytes (meant value.now)) }
-{
-    let Some(length) = body_length(&value.body) else {
-        return Err(WriteFault::TooLong);
-    };
-    let size = PACKET_HEADER + length;
-    if out.reserve(size).is_err() {
-        return Err(WriteFault::Memory);
-    }
-    push_packet(out, value, size as u16);
-    Ok(())
 }

@@ -7,6 +7,9 @@ use ospf_base::{AreaId, InterfaceKind, RouterId};
 use ospf_config::{Config, Interface, InterfaceAddress, Port};
 use std::alloc::{AllocError, Global};
 
+// MaxAgeDiff in ticks: two ages that lie further apart are not those of one instance (RFC 2328, appendix B).
+const MAX_AGE_DIFF: u16 = 900;
+
 /// An interface of one of the configurations, as the others of its network see it.
 #[derive(Clone, Copy, Debug, PartialEq, Eq)]
 pub struct End {
@@ -27,9 +30,6 @@ pub struct End {
     pub transmit_delay: u16,
     pub port: Option<Port>,
 }
-
-// MaxAgeDiff in ticks: two ages that lie further apart are not those of one instance (RFC 2328, appendix B).
-const MAX_AGE_DIFF: u16 = 900;
 
 /// Whether an InfTransDelay, in ticks, is over MaxAgeDiff: an LSA that is sent is then so much older that it is no longer
 /// taken for the same instance (RFC 2328, sections 13.1 and 13.3).
@@ -60,16 +60,6 @@ pub(crate) fn end_of(file: usize, config: &Config, link: usize, interface: &Inte
     }
 }
 
-// Adds the interfaces of a configuration.
-fn push_ends(ends: &mut Vec<End>, file: usize, config: &Config) -> Result<(), AllocError>
-    ensures { OnOk result (ends.new.items ≡ ends.old.items ++ ends_at (file, config.now)) }
-{
-    for (link, interface) in config.interfaces.iter().enumerate() {
-        ends.push(end_of(file, config, link, interface))?;
-    }
-    Ok(())
-}
-
 // The interfaces of configurations, in order.
 pub(crate) fn ends_of(alloc: Global, configs: &[Config]) -> Result<Vec<End>, AllocError>
     ensures { IfOk result (λ ends. ends.items ≡ ends_of configs.now) }
@@ -81,7 +71,7 @@ pub(crate) fn ends_of(alloc: Global, configs: &[Config]) -> Result<Vec<End>, All
     Ok(ends)
 }
 
-// Those of them that can be elected.
+/// The ends that can be elected as Designated Router.
 pub(crate) fn electors(alloc: Global, ends: &[End]) -> Result<Vec<End>, AllocError>
     ensures { IfOk result (λ some. some.items ≡ filter can_be_elected ends.now) }
 {
@@ -104,7 +94,7 @@ pub(crate) fn port_of(end: &End) -> u16
     }
 }
 
-// Those of them that are slow.
+/// The ends whose InfTransDelay makes them slow.
 pub(crate) fn slow_ends(alloc: Global, ends: &[End]) -> Result<Vec<End>, AllocError>
     ensures { IfOk result (λ some. some.items ≡ filter is_slow_end ends.now) }
 {
@@ -115,4 +105,14 @@ pub(crate) fn slow_ends(alloc: Global, ends: &[End]) -> Result<Vec<End>, AllocEr
         }
     }
     Ok(some)
+}
+
+// Adds the interfaces of a configuration.
+fn push_ends(ends: &mut Vec<End>, file: usize, config: &Config) -> Result<(), AllocError>
+    ensures { OnOk result (ends.new.items ≡ ends.old.items ++ ends_at (file, config.now)) }
+{
+    for (link, interface) in config.interfaces.iter().enumerate() {
+        ends.push(end_of(file, config, link, interface))?;
+    }
+    Ok(())
 }

@@ -48,32 +48,81 @@ pub(crate) struct Around {
     pub(crate) plug: Option<End>,
 }
 
-// Whether two are one interface.
-fn is_same(one: &End, other: &End) -> bool
-    ensures { result ≡ is_same one.now other.now }
+/// What is wrong between the configurations of one area: in the order of the configurations and of their interfaces, and
+/// for each interface in the order of the faults; then, in the same order, of who sends to whom; and then which routers
+/// are not reached from the first.
+///
+/// `AllocError` where memory runs out.
+pub fn findings(alloc: Global, configs: &[Config]) -> Result<Vec<Finding>, AllocError>
+    ensures { IfOk result (λ findings. AreFindings configs.now findings.items) }
 {
-    one.file == other.file && one.link == other.link
+    let ends = ends_of(alloc, configs)?;
+    let maps = maps_of(alloc, &ends)?;
+    let wires = wires_of(alloc, configs)?;
+    let mut findings = found_in(alloc, &ends, &maps)?;
+    push_wire_faults(alloc, &mut findings, &maps.ports, &wires)?;
+    push_apart(alloc, &mut findings, &ends)?;
+    Ok(findings)
 }
 
-// Whether an interface is the first on its network.
-fn is_first(around: &Around, here: &End) -> bool
-    ensures { result ≡ is_found around.now.first here.now }
+// Adds a finding, if there is one.
+pub(crate) fn push_one(
+    findings: &mut Vec<Finding>,
+    found: Option<Finding>,
+) -> Result<(), AllocError>
+    ensures { OnOk result (findings.new.items ≡ findings.old.items ++ option_to_list found) }
 {
-    match &around.first {
-        None => false,
-        Some(first) => is_same(first, here),
+    if let Some(finding) = found {
+        findings.push(finding)?;
     }
+    Ok(())
 }
 
-// Whether two kinds are one.
-fn same_kind(one: InterfaceKind, other: InterfaceKind) -> bool
-    ensures { result ≡ same_kind one other }
+// What is found, in the order of the interfaces.
+fn found_in(alloc: Global, ends: &[End], maps: &Maps) -> Result<Vec<Finding>, AllocError>
+    requires { AreMaps maps.now ends.now }
+    ensures { IfOk result (λ findings. findings.items ≡ found_in ends.now) }
 {
-    match (one, other) {
-        (InterfaceKind::PointToPoint, InterfaceKind::PointToPoint) => true,
-        (InterfaceKind::Broadcast, InterfaceKind::Broadcast) => true,
-        (_, _) => false,
+    let mut findings = Vec::new(alloc);
+    for end in ends {
+        let around = maps.around(end);
+        push_found(&mut findings, &around, end)?;
     }
+    Ok(findings)
+}
+
+// Adds what is found at an interface.
+fn push_found(findings: &mut Vec<Finding>, around: &Around, here: &End) -> Result<(), AllocError>
+    ensures { OnOk result (findings.new.items ≡ findings.old.items ++ filter_map (found around.now here.now) every_fault) }
+{
+    push_each(findings, around, here, &every_fault())
+}
+
+// Adds what is found of some faults at an interface.
+fn push_each(
+    findings: &mut Vec<Finding>,
+    around: &Around,
+    here: &End,
+    faults: &[AreaFault],
+) -> Result<(), AllocError>
+    ensures { OnOk result (findings.new.items ≡ findings.old.items ++ filter_map (found around.now here.now) faults.now) }
+{
+    for fault in faults {
+        push_one(findings, found(*fault, around, here))?;
+    }
+    Ok(())
+}
+
+// The finding of a fault at an interface, if there is one.
+fn found(fault: AreaFault, around: &Around, here: &End) -> Option<Finding>
+    ensures { result ≡ found around.now here.now fault }
+{
+    let other = other_of(fault, around)?;
+    if !is_wrong(fault, around, &other, here) {
+        return None;
+    }
+    let here = *here;
+    Some(Finding { fault, other, here })
 }
 
 // The other interface of a fault.
@@ -123,79 +172,30 @@ fn is_wrong(fault: AreaFault, around: &Around, other: &End, here: &End) -> bool
     }
 }
 
-// The finding of a fault at an interface, if there is one.
-fn found(fault: AreaFault, around: &Around, here: &End) -> Option<Finding>
-    ensures { result ≡ found around.now here.now fault }
+// Whether two are one interface.
+fn is_same(one: &End, other: &End) -> bool
+    ensures { result ≡ is_same one.now other.now }
 {
-    let other = other_of(fault, around)?;
-    if !is_wrong(fault, around, &other, here) {
-        return None;
+    one.file == other.file && one.link == other.link
+}
+
+// Whether two kinds are one.
+fn same_kind(one: InterfaceKind, other: InterfaceKind) -> bool
+    ensures { result ≡ same_kind one other }
+{
+    match (one, other) {
+        (InterfaceKind::PointToPoint, InterfaceKind::PointToPoint) => true,
+        (InterfaceKind::Broadcast, InterfaceKind::Broadcast) => true,
+        (_, _) => false,
     }
-    let here = *here;
-    Some(Finding { fault, other, here })
 }
 
-// Adds a finding, if there is one.
-pub(crate) fn push_one(
-    findings: &mut Vec<Finding>,
-    found: Option<Finding>,
-) -> Result<(), AllocError>
-    ensures { OnOk result (findings.new.items ≡ findings.old.items ++ option_to_list found) }
+// Whether an interface is the first on its network.
+fn is_first(around: &Around, here: &End) -> bool
+    ensures { result ≡ is_found around.now.first here.now }
 {
-    if let Some(finding) = found {
-        findings.push(finding)?;
+    match &around.first {
+        None => false,
+        Some(first) => is_same(first, here),
     }
-    Ok(())
-}
-
-// Adds what is found of some faults at an interface.
-fn push_each(
-    findings: &mut Vec<Finding>,
-    around: &Around,
-    here: &End,
-    faults: &[AreaFault],
-) -> Result<(), AllocError>
-    ensures { OnOk result (findings.new.items ≡ findings.old.items ++ filter_map (found around.now here.now) faults.now) }
-{
-    for fault in faults {
-        push_one(findings, found(*fault, around, here))?;
-    }
-    Ok(())
-}
-
-// Adds what is found at an interface.
-fn push_found(findings: &mut Vec<Finding>, around: &Around, here: &End) -> Result<(), AllocError>
-    ensures { OnOk result (findings.new.items ≡ findings.old.items ++ filter_map (found around.now here.now) every_fault) }
-{
-    push_each(findings, around, here, &every_fault())
-}
-
-// What is found, in the order of the interfaces.
-fn found_in(alloc: Global, ends: &[End], maps: &Maps) -> Result<Vec<Finding>, AllocError>
-    requires { AreMaps maps.now ends.now }
-    ensures { IfOk result (λ findings. findings.items ≡ found_in ends.now) }
-{
-    let mut findings = Vec::new(alloc);
-    for end in ends {
-        let around = maps.around(end);
-        push_found(&mut findings, &around, end)?;
-    }
-    Ok(findings)
-}
-
-/// What is wrong between the configurations of one area: in the order of the configurations and of their interfaces, and
-/// for each interface in the order of the faults; then, in the same order, of who sends to whom; and then which routers
-/// are not reached from the first.
-///
-/// `AllocError` where memory runs out.
-pub fn findings(alloc: Global, configs: &[Config]) -> Result<Vec<Finding>, AllocError>
-    ensures { IfOk result (λ findings. AreFindings configs.now findings.items) }
-{
-    let ends = ends_of(alloc, configs)?;
-    let maps = maps_of(alloc, &ends)?;
-    let wires = wires_of(alloc, configs)?;
-    let mut findings = found_in(alloc, &ends, &maps)?;
-    push_wire_faults(alloc, &mut findings, &maps.ports, &wires)?;
-    push_apart(alloc, &mut findings, &ends)?;
-    Ok(findings)
 }

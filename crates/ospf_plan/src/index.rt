@@ -20,32 +20,6 @@ pub(crate) fn network_of(address: &InterfaceAddress) -> Network
     (address.length, address.address.0 & mask_of(address.length))
 }
 
-// Keeps an interface as the first on a network, unless there is one.
-fn add_end(ends: &mut BTreeMap<Network, End>, network: Network, end: End) -> Result<(), AllocError>
-    ensures { OnOk result ((q : ℕ × ℕ) → end_in ends.new q ≡ option_or (end_in ends.old q) (cond (same_network network q) (Some end) None)) }
-{
-    if ends.contains_key(&network) {
-        return Ok(());
-    }
-    match ends.insert(network, end) {
-        Ok(_) => Ok(()),
-        Err(_) => Err(AllocError),
-    }
-}
-
-// Keeps an interface as the first with an address, unless there is one.
-fn add_holder(ends: &mut BTreeMap<u32, End>, address: u32, end: End) -> Result<(), AllocError>
-    ensures { OnOk result ((a : ℕ) → holder_in ends.new a ≡ option_or (holder_in ends.old a) (cond (address == a) (Some end) None)) }
-{
-    if ends.contains_key(&address) {
-        return Ok(());
-    }
-    match ends.insert(address, end) {
-        Ok(_) => Ok(()),
-        Err(_) => Err(AllocError),
-    }
-}
-
 // The first interface on each network.
 pub(crate) fn firsts(alloc: Global, ends: &[End]) -> Result<BTreeMap<Network, End>, AllocError>
     ensures { IfOk result (λ m. AreFirsts m ends.now) }
@@ -104,16 +78,6 @@ pub(crate) fn holder_in(map: &BTreeMap<u32, End>, address: u32) -> Option<End>
     map.get(&address).copied()
 }
 
-// Whether an interface is the one that was found.
-fn is_found(found: Option<End>, end: &End) -> bool
-    ensures { result ≡ is_found found end.now }
-{
-    match found {
-        None => false,
-        Some(first) => first.file == end.file && first.link == end.link,
-    }
-}
-
 // The interfaces that are not the first on their networks.
 pub(crate) fn others(
     alloc: Global,
@@ -131,4 +95,40 @@ pub(crate) fn others(
         }
     }
     Ok(rest)
+}
+
+// Keeps an interface as the first on a network, unless there is one.
+fn add_end(ends: &mut BTreeMap<Network, End>, network: Network, end: End) -> Result<(), AllocError>
+    ensures { OnOk result ((q : ℕ × ℕ) → end_in ends.new q ≡ option_or (end_in ends.old q) (cond (same_network network q) (Some end) None)) }
+{
+    if ends.contains_key(&network) {
+        return Ok(());
+    }
+    match ends.insert(network, end) {
+        Ok(_) => Ok(()),
+        Err(_) => Err(AllocError),
+    }
+}
+
+// Keeps an interface as the first with an address, unless there is one.
+fn add_holder(ends: &mut BTreeMap<u32, End>, address: u32, end: End) -> Result<(), AllocError>
+    ensures { OnOk result ((a : ℕ) → holder_in ends.new a ≡ option_or (holder_in ends.old a) (cond (address == a) (Some end) None)) }
+{
+    if ends.contains_key(&address) {
+        return Ok(());
+    }
+    match ends.insert(address, end) {
+        Ok(_) => Ok(()),
+        Err(_) => Err(AllocError),
+    }
+}
+
+// Whether an interface is the one that was found.
+fn is_found(found: Option<End>, end: &End) -> bool
+    ensures { result ≡ is_found found end.now }
+{
+    match found {
+        None => false,
+        Some(first) => first.file == end.file && first.link == end.link,
+    }
 }

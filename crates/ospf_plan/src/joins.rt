@@ -13,6 +13,25 @@ pub(crate) struct Join {
     pub(crate) other: usize,
 }
 
+/// The places that are joined with one, by one join or several, itself among them.
+pub(crate) fn joined_with(
+    alloc: Global,
+    one: usize,
+    joins: &[Join],
+) -> Result<BTreeSet<usize>, AllocError>
+    ensures { IfOk result (λ reached. (q : ℕ) → (has reached q ≡ true) ↔ IsJoined joins.now one q) }
+{
+    let mut reached = BTreeSet::new(alloc);
+    add(&mut reached, one)?;
+    let mut rest = Vec::from_slice(alloc, joins)?;
+    let mut before = rest.len() + 1;
+    while rest.len() < before {
+        before = rest.len();
+        rest = pass(alloc, &mut reached, &rest)?;
+    }
+    Ok(reached)
+}
+
 // Adds one to those that are reached.
 fn add(reached: &mut BTreeSet<usize>, one: usize) -> Result<(), AllocError>
     ensures { OnOk result ((q : ℕ) → has reached.new q ≡ (has reached.old q || (one == q))) }
@@ -21,36 +40,6 @@ fn add(reached: &mut BTreeSet<usize>, one: usize) -> Result<(), AllocError>
         Ok(_) => Ok(()),
         Err(_) => Err(AllocError),
     }
-}
-
-// Whether an end of a join is reached.
-fn touches(reached: &BTreeSet<usize>, join: &Join) -> bool
-    ensures { result ≡ touches (has reached.now) join.now }
-{
-    reached.contains(&join.one) || reached.contains(&join.other)
-}
-
-// Reaches both ends of a join where one is reached. The answer is whether one is.
-fn visit(reached: &mut BTreeSet<usize>, join: &Join) -> Result<bool, AllocError>
-    ensures touched { IfOk result (λ t. t ≡ touches (has reached.old) join.now) }
-    ensures after { OnOk result ((q : ℕ) → has reached.new q ≡ marked (has reached.old) join.now q) }
-{
-    if !touches(reached, join) {
-        return Ok(false);
-    }
-    add(reached, join.one)?;
-    add(reached, join.other)?;
-    Ok(true)
-}
-
-// Adds a join, unless it was reached.
-fn push_unless(rest: &mut Vec<Join>, touched: bool, join: Join) -> Result<(), AllocError>
-    ensures { OnOk result (rest.new.items ≡ rest.old.items ++ (if touched then [] else join ∷ [])) }
-{
-    if !touched {
-        rest.push(join)?;
-    }
-    Ok(())
 }
 
 // Goes over joins once. The answer is those that were not reached.
@@ -70,21 +59,32 @@ fn pass(
     Ok(rest)
 }
 
-// Those that are joined with one, itself among them.
-pub(crate) fn joined_with(
-    alloc: Global,
-    one: usize,
-    joins: &[Join],
-) -> Result<BTreeSet<usize>, AllocError>
-    ensures { IfOk result (λ reached. (q : ℕ) → (has reached q ≡ true) ↔ IsJoined joins.now one q) }
+// Reaches both ends of a join where one is reached. The answer is whether one is.
+fn visit(reached: &mut BTreeSet<usize>, join: &Join) -> Result<bool, AllocError>
+    ensures touched { IfOk result (λ t. t ≡ touches (has reached.old) join.now) }
+    ensures after { OnOk result ((q : ℕ) → has reached.new q ≡ marked (has reached.old) join.now q) }
 {
-    let mut reached = BTreeSet::new(alloc);
-    add(&mut reached, one)?;
-    let mut rest = Vec::from_slice(alloc, joins)?;
-    let mut before = rest.len() + 1;
-    while rest.len() < before {
-        before = rest.len();
-        rest = pass(alloc, &mut reached, &rest)?;
+    if !touches(reached, join) {
+        return Ok(false);
     }
-    Ok(reached)
+    add(reached, join.one)?;
+    add(reached, join.other)?;
+    Ok(true)
+}
+
+// Whether an end of a join is reached.
+fn touches(reached: &BTreeSet<usize>, join: &Join) -> bool
+    ensures { result ≡ touches (has reached.now) join.now }
+{
+    reached.contains(&join.one) || reached.contains(&join.other)
+}
+
+// Adds a join, unless it was reached.
+fn push_unless(rest: &mut Vec<Join>, touched: bool, join: Join) -> Result<(), AllocError>
+    ensures { OnOk result (rest.new.items ≡ rest.old.items ++ (if touched then [] else join ∷ [])) }
+{
+    if !touched {
+        rest.push(join)?;
+    }
+    Ok(())
 }

@@ -31,6 +31,26 @@ pub(crate) struct Maps {
     pub(crate) ports: BTreeMap<u32, End>,
 }
 
+impl Maps {
+    // What stands around an interface.
+    pub(crate) fn around(&self, end: &End) -> Around
+        ensures { (ends : List End) → AreMaps self.now ends → result ≡ around_of ends end.now }
+    {
+        let network = network_of(&end.address);
+        Around {
+            router: holder_in(&self.routers, end.router.0),
+            holder: holder_in(&self.holders, end.address.address.0),
+            first: end_in(&self.firsts, network),
+            second: end_in(&self.seconds, network),
+            third: end_in(&self.thirds, network),
+            elector: end_in(&self.electors, network),
+            slow: end_in(&self.slow, network),
+            wider: around(&self.firsts, &end.address),
+            plug: holder_in(&self.ports, u32::from(port_of(end))),
+        }
+    }
+}
+
 // The maps of an area's interfaces.
 pub(crate) fn maps_of(alloc: Global, ends: &[End]) -> Result<Maps, AllocError>
     ensures { IfOk result (λ m. AreMaps m ends.now) }
@@ -68,24 +88,4 @@ fn around(firsts: &BTreeMap<Network, End>, address: &InterfaceAddress) -> Option
         found = found.or(end_in(firsts, network));
     }
     found
-}
-
-impl Maps {
-    // What stands around an interface.
-    pub(crate) fn around(&self, end: &End) -> Around
-        ensures { (ends : List End) → AreMaps self.now ends → result ≡ around_of ends end.now }
-    {
-        let network = network_of(&end.address);
-        Around {
-            router: holder_in(&self.routers, end.router.0),
-            holder: holder_in(&self.holders, end.address.address.0),
-            first: end_in(&self.firsts, network),
-            second: end_in(&self.seconds, network),
-            third: end_in(&self.thirds, network),
-            elector: end_in(&self.electors, network),
-            slow: end_in(&self.slow, network),
-            wider: around(&self.firsts, &end.address),
-            plug: holder_in(&self.ports, u32::from(port_of(end))),
-        }
-    }
 }

@@ -17,28 +17,48 @@ use ospf_base::InterfaceKind;
 use std::alloc::{AllocError, Global};
 use std::collections::{BTreeMap, BTreeSet};
 
+// Adds the files that are not reached from the first.
+pub(crate) fn push_apart(
+    alloc: Global,
+    findings: &mut Vec<Finding>,
+    ends: &[End],
+) -> Result<(), AllocError>
+    ensures { OnOk result ((reached : ℕ → Bool) × AreReached ends.now reached × (findings.new.items ≡ findings.old.items ++ apart_in reached ends.now)) }
+{
+    let reached = reached_of(alloc, ends)?;
+    push_each(findings, &reached, first_of_all(ends), ends)
+}
+
 // What the interfaces of a link have in common: their network, area, kind, intervals and MTU.
 type Common = (u8, u32, u32, u8, u16, u16, u16);
 
-// A number of a kind, for keys.
-fn kind_number(kind: InterfaceKind) -> u8
-    ensures { result ≡ kind_number kind }
+// The files that are reached from the first.
+fn reached_of(alloc: Global, ends: &[End]) -> Result<BTreeSet<usize>, AllocError>
+    ensures { IfOk result (λ reached. AreReached ends.now (has reached)) }
 {
-    match kind {
-        InterfaceKind::PointToPoint => 0,
-        InterfaceKind::Broadcast => 1,
-    }
+    let joins = joins_of(alloc, ends)?;
+    joined_with(alloc, 0, &joins)
 }
 
-// What an interface has in common with the others of its link.
-fn link_of(end: &End) -> Common
-    ensures { result ≡ link_of end.now }
+// The joins of all interfaces.
+fn joins_of(alloc: Global, ends: &[End]) -> Result<Vec<Join>, AllocError>
+    ensures { IfOk result (λ joins. joins.items ≡ joins_of ends.now) }
 {
-    let (length, network) = network_of(&end.address);
-    let kind = kind_number(end.kind);
-    (
-        length, network, end.area.0, kind, end.hello, end.dead, end.mtu,
-    )
+    let links = links_of(alloc, ends)?;
+    let mut joins = Vec::new(alloc);
+    push_joins(&mut joins, &links, ends)?;
+    Ok(joins)
+}
+
+// The first interface of each link.
+fn links_of(alloc: Global, ends: &[End]) -> Result<BTreeMap<Common, End>, AllocError>
+    ensures { IfOk result (λ links. AreLinks links ends.now) }
+{
+    let mut links = BTreeMap::new(alloc);
+    for end in ends {
+        add_linked(&mut links, link_of(end), *end)?;
+    }
+    Ok(links)
 }
 
 // Keeps an interface as the first of a link, unless there is one.
@@ -54,36 +74,25 @@ fn add_linked(links: &mut BTreeMap<Common, End>, link: Common, end: End) -> Resu
     }
 }
 
-// The first interface of each link.
-fn links_of(alloc: Global, ends: &[End]) -> Result<BTreeMap<Common, End>, AllocError>
-    ensures { IfOk result (λ links. AreLinks links ends.now) }
+// What an interface has in common with the others of its link.
+fn link_of(end: &End) -> Common
+    ensures { result ≡ link_of end.now }
 {
-    let mut links = BTreeMap::new(alloc);
-    for end in ends {
-        add_linked(&mut links, link_of(end), *end)?;
-    }
-    Ok(links)
+    let (length, network) = network_of(&end.address);
+    let kind = kind_number(end.kind);
+    (
+        length, network, end.area.0, kind, end.hello, end.dead, end.mtu,
+    )
 }
 
-// The join of an interface's file with that of the first of its link.
-fn join_at(links: &BTreeMap<Common, End>, end: &End) -> Option<Join>
-    ensures { result ≡ join_at (linked_in links.now) end.now }
+// A number of a kind, for keys.
+fn kind_number(kind: InterfaceKind) -> u8
+    ensures { result ≡ kind_number kind }
 {
-    let first = links.get(&link_of(end)).copied()?;
-    Some(Join {
-        one: first.file,
-        other: end.file,
-    })
-}
-
-// Adds a join, if there is one.
-fn push_join(joins: &mut Vec<Join>, join: Option<Join>) -> Result<(), AllocError>
-    ensures { OnOk result (joins.new.items ≡ joins.old.items ++ option_to_list join) }
-{
-    if let Some(join) = join {
-        joins.push(join)?;
+    match kind {
+        InterfaceKind::PointToPoint => 0,
+        InterfaceKind::Broadcast => 1,
     }
-    Ok(())
 }
 
 // Adds the joins of some interfaces.
@@ -100,42 +109,25 @@ fn push_joins(
     Ok(())
 }
 
-// The joins of all interfaces.
-fn joins_of(alloc: Global, ends: &[End]) -> Result<Vec<Join>, AllocError>
-    ensures { IfOk result (λ joins. joins.items ≡ joins_of ends.now) }
+// Adds a join, if there is one.
+fn push_join(joins: &mut Vec<Join>, join: Option<Join>) -> Result<(), AllocError>
+    ensures { OnOk result (joins.new.items ≡ joins.old.items ++ option_to_list join) }
 {
-    let links = links_of(alloc, ends)?;
-    let mut joins = Vec::new(alloc);
-    push_joins(&mut joins, &links, ends)?;
-    Ok(joins)
-}
-
-// The files that are reached from the first.
-fn reached_of(alloc: Global, ends: &[End]) -> Result<BTreeSet<usize>, AllocError>
-    ensures { IfOk result (λ reached. AreReached ends.now (has reached)) }
-{
-    let joins = joins_of(alloc, ends)?;
-    joined_with(alloc, 0, &joins)
-}
-
-// Whether an interface is the first of a file that is not reached.
-fn is_apart(reached: &BTreeSet<usize>, end: &End) -> bool
-    ensures { result ≡ is_apart (has reached.now) end.now }
-{
-    end.link == 0 && !reached.contains(&end.file)
-}
-
-// The finding that it is.
-fn apart(reached: &BTreeSet<usize>, first: Option<End>, here: &End) -> Option<Finding>
-    ensures { result ≡ apart (has reached.now) first here.now }
-{
-    let other = first?;
-    if !is_apart(reached, here) {
-        return None;
+    if let Some(join) = join {
+        joins.push(join)?;
     }
-    let here = *here;
-    let fault = AreaFault::Apart;
-    Some(Finding { fault, other, here })
+    Ok(())
+}
+
+// The join of an interface's file with that of the first of its link.
+fn join_at(links: &BTreeMap<Common, End>, end: &End) -> Option<Join>
+    ensures { result ≡ join_at (linked_in links.now) end.now }
+{
+    let first = links.get(&link_of(end)).copied()?;
+    Some(Join {
+        one: first.file,
+        other: end.file,
+    })
 }
 
 // Adds those of some interfaces.
@@ -153,6 +145,26 @@ fn push_each(
     Ok(())
 }
 
+// The finding that it is.
+fn apart(reached: &BTreeSet<usize>, first: Option<End>, here: &End) -> Option<Finding>
+    ensures { result ≡ apart (has reached.now) first here.now }
+{
+    let other = first?;
+    if !is_apart(reached, here) {
+        return None;
+    }
+    let here = *here;
+    let fault = AreaFault::Apart;
+    Some(Finding { fault, other, here })
+}
+
+// Whether an interface is the first of a file that is not reached.
+fn is_apart(reached: &BTreeSet<usize>, end: &End) -> bool
+    ensures { result ≡ is_apart (has reached.now) end.now }
+{
+    end.link == 0 && !reached.contains(&end.file)
+}
+
 // The first interface of all.
 fn first_of_all(ends: &[End]) -> Option<End>
     ensures { result ≡ first_of_all ends.now }
@@ -161,16 +173,4 @@ fn first_of_all(ends: &[End]) -> Option<End>
         None => None,
         Some(first) => Some(*first),
     }
-}
-
-// Adds the files that are not reached from the first.
-pub(crate) fn push_apart(
-    alloc: Global,
-    findings: &mut Vec<Finding>,
-    ends: &[End],
-) -> Result<(), AllocError>
-    ensures { OnOk result ((reached : ℕ → Bool) × AreReached ends.now reached × (findings.new.items ≡ findings.old.items ++ apart_in reached ends.now)) }
-{
-    let reached = reached_of(alloc, ends)?;
-    push_each(findings, &reached, first_of_all(ends), ends)
 }

@@ -20,14 +20,27 @@ pub struct Told<'a> {
     pub other: &'a str,
 }
 
-// A kind as it is written.
-fn kind_of(kind: InterfaceKind) -> &'static str
-    ensures { result.now ≡ kind_text kind }
-{
-    match kind {
-        InterfaceKind::PointToPoint => "point-to-point",
-        InterfaceKind::Broadcast => "broadcast",
+/// As `b.toml: A5 Hello: interface 1: hello 5, a.toml: interface 0: hello 10`.
+impl<'a> Display for Told<'a> {
+    ghost use Rattle.std.specs.Prelude.{Some};
+    ghost use Rattle.ospf_plan.specs.Shown.{told_text};
+
+    ghost output = { λ told. Some (told_text told) };
+
+    fn fmt<W: Write>(&self, f: &mut Formatter<W>) -> fmt::Result {
+        let fault = self.finding.fault;
+        write!(f, "{}: {}: ", self.here, fault)?;
+        write_side(f, fault, &self.finding.here)?;
+        write_other(f, fault, &self.finding.other, self.other)
     }
+}
+
+// Writes what an interface has, and where.
+fn write_side<W: Write>(f: &mut Formatter<W>, fault: AreaFault, end: &End) -> fmt::Result
+    ensures { WritesOnOk W.Write.write_str_gives f.old result (side_text fault end.now) f.new }
+{
+    write_place(f, fault, end)?;
+    write_value(f, fault, end)
 }
 
 // Writes where a value stands.
@@ -37,16 +50,6 @@ fn write_place<W: Write>(f: &mut Formatter<W>, fault: AreaFault, end: &End) -> f
     match fault {
         AreaFault::SameRouter | AreaFault::Apart => Ok(()),
         _ => write!(f, "interface {}: ", end.link),
-    }
-}
-
-// Writes the port of an interface, if it has one.
-fn write_port<W: Write>(f: &mut Formatter<W>, port: Option<Port>) -> fmt::Result
-    ensures { WritesOnOk W.Write.write_str_gives f.old result (port_text port) f.new }
-{
-    match port {
-        None => f.write_str("no port"),
-        Some(port) => write!(f, "port {}", port.number),
     }
 }
 
@@ -70,12 +73,24 @@ fn write_value<W: Write>(f: &mut Formatter<W>, fault: AreaFault, end: &End) -> f
     }
 }
 
-// Writes what an interface has, and where.
-fn write_side<W: Write>(f: &mut Formatter<W>, fault: AreaFault, end: &End) -> fmt::Result
-    ensures { WritesOnOk W.Write.write_str_gives f.old result (side_text fault end.now) f.new }
+// A kind as it is written.
+fn kind_of(kind: InterfaceKind) -> &'static str
+    ensures { result.now ≡ kind_text kind }
 {
-    write_place(f, fault, end)?;
-    write_value(f, fault, end)
+    match kind {
+        InterfaceKind::PointToPoint => "point-to-point",
+        InterfaceKind::Broadcast => "broadcast",
+    }
+}
+
+// Writes the port of an interface, if it has one.
+fn write_port<W: Write>(f: &mut Formatter<W>, port: Option<Port>) -> fmt::Result
+    ensures { WritesOnOk W.Write.write_str_gives f.old result (port_text port) f.new }
+{
+    match port {
+        None => f.write_str("no port"),
+        Some(port) => write!(f, "port {}", port.number),
+    }
 }
 
 // Writes what the other interface has, where there is one.
@@ -93,20 +108,5 @@ fn write_other<W: Write>(
             write!(f, ", {name}: ")?;
             write_side(f, fault, end)
         }
-    }
-}
-
-/// As `b.toml: A5 Hello: interface 1: hello 5, a.toml: interface 0: hello 10`.
-impl<'a> Display for Told<'a> {
-    ghost use Rattle.std.specs.Prelude.{Some};
-    ghost use Rattle.ospf_plan.specs.Shown.{told_text};
-
-    ghost output = { λ told. Some (told_text told) };
-
-    fn fmt<W: Write>(&self, f: &mut Formatter<W>) -> fmt::Result {
-        let fault = self.finding.fault;
-        write!(f, "{}: {}: ", self.here, fault)?;
-        write_side(f, fault, &self.finding.here)?;
-        write_other(f, fault, &self.finding.other, self.other)
     }
 }

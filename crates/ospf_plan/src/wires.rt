@@ -21,6 +21,43 @@ pub struct Wire {
     pub peer: u16,
 }
 
+/// What the interfaces of configurations send to, in order.
+pub(crate) fn wires_of(alloc: Global, configs: &[Config]) -> Result<Vec<Wire>, AllocError>
+    ensures { IfOk result (λ wires. wires.items ≡ wires_of configs.now) }
+{
+    let mut wires = Vec::new(alloc);
+    for (file, config) in configs.iter().enumerate() {
+        push_all_wires(&mut wires, file, config)?;
+    }
+    Ok(wires)
+}
+
+// Adds what is wrong with the wires, in their order.
+pub(crate) fn push_wire_faults(
+    alloc: Global,
+    findings: &mut Vec<Finding>,
+    ports: &BTreeMap<u32, End>,
+    wires: &[Wire],
+) -> Result<(), AllocError>
+    ensures { (ends : List End) → ArePorts ports.now ends → OnOk result (findings.new.items ≡ findings.old.items ++ wire_faults_in ends wires.now) }
+{
+    let heard = heard(alloc, wires)?;
+    push_each(findings, ports, &heard, wires)
+}
+
+// What tells wires apart: the interface by its numbers, and the port.
+type WireKey = (usize, usize, u16);
+
+// Adds what the interfaces of a configuration send to.
+fn push_all_wires(wires: &mut Vec<Wire>, file: usize, config: &Config) -> Result<(), AllocError>
+    ensures { OnOk result (wires.new.items ≡ wires.old.items ++ wires_at (file, config.now)) }
+{
+    for (link, interface) in config.interfaces.iter().enumerate() {
+        push_wires(wires, &end_of(file, config, link, interface), interface)?;
+    }
+    Ok(())
+}
+
 // Adds what an interface sends to.
 fn push_wires(wires: &mut Vec<Wire>, end: &End, interface: &Interface) -> Result<(), AllocError>
     ensures { OnOk result (wires.new.items ≡ wires.old.items ++ wires_from end.now interface.now) }
@@ -35,35 +72,15 @@ fn push_wires(wires: &mut Vec<Wire>, end: &End, interface: &Interface) -> Result
     Ok(())
 }
 
-// Adds what the interfaces of a configuration send to.
-fn push_all_wires(wires: &mut Vec<Wire>, file: usize, config: &Config) -> Result<(), AllocError>
-    ensures { OnOk result (wires.new.items ≡ wires.old.items ++ wires_at (file, config.now)) }
+// The wires, to be looked up.
+fn heard(alloc: Global, wires: &[Wire]) -> Result<BTreeSet<WireKey>, AllocError>
+    ensures { IfOk result (λ set. AreHeard set wires.now) }
 {
-    for (link, interface) in config.interfaces.iter().enumerate() {
-        push_wires(wires, &end_of(file, config, link, interface), interface)?;
+    let mut set = BTreeSet::new(alloc);
+    for wire in wires {
+        add_wire(&mut set, key_of(&wire.end, wire.peer))?;
     }
-    Ok(())
-}
-
-/// What the interfaces of configurations send to, in order.
-pub(crate) fn wires_of(alloc: Global, configs: &[Config]) -> Result<Vec<Wire>, AllocError>
-    ensures { IfOk result (λ wires. wires.items ≡ wires_of configs.now) }
-{
-    let mut wires = Vec::new(alloc);
-    for (file, config) in configs.iter().enumerate() {
-        push_all_wires(&mut wires, file, config)?;
-    }
-    Ok(wires)
-}
-
-// What tells wires apart: the interface by its numbers, and the port.
-type WireKey = (usize, usize, u16);
-
-// What tells a wire apart.
-fn key_of(end: &End, peer: u16) -> WireKey
-    ensures { result ≡ key_of end.now peer }
-{
-    (end.file, end.link, peer)
+    Ok(set)
 }
 
 // Adds a wire.
@@ -76,36 +93,26 @@ fn add_wire(set: &mut BTreeSet<WireKey>, key: WireKey) -> Result<(), AllocError>
     }
 }
 
-// The wires, to be looked up.
-fn heard(alloc: Global, wires: &[Wire]) -> Result<BTreeSet<WireKey>, AllocError>
-    ensures { IfOk result (λ set. AreHeard set wires.now) }
+// What tells a wire apart.
+fn key_of(end: &End, peer: u16) -> WireKey
+    ensures { result ≡ key_of end.now peer }
 {
-    let mut set = BTreeSet::new(alloc);
+    (end.file, end.link, peer)
+}
+
+// Adds what is wrong with some wires.
+fn push_each(
+    findings: &mut Vec<Finding>,
+    ports: &BTreeMap<u32, End>,
+    heard: &BTreeSet<WireKey>,
+    wires: &[Wire],
+) -> Result<(), AllocError>
+    ensures { OnOk result (findings.new.items ≡ findings.old.items ++ filter_map (wire_fault (holder_in ports.now) (has_wire heard.now)) wires.now) }
+{
     for wire in wires {
-        add_wire(&mut set, key_of(&wire.end, wire.peer))?;
+        push_one(findings, wire_fault(ports, heard, wire))?;
     }
-    Ok(set)
-}
-
-// Whether two interfaces are on one network.
-fn is_beside(one: &End, other: &End) -> bool
-    ensures { result ≡ is_beside one.now other.now }
-{
-    let (here, there) = (network_of(&one.address), network_of(&other.address));
-    here.0 == there.0 && here.1 == there.1
-}
-
-// What is wrong where an interface sends to another: that one is not on its network, or does not send to it.
-fn fault_between(heard: &BTreeSet<WireKey>, other: &End, here: &End) -> Option<AreaFault>
-    ensures { result ≡ fault_between (has_wire heard.now) other.now here.now }
-{
-    if !is_beside(other, here) {
-        Some(AreaFault::Astray)
-    } else if !heard.contains(&key_of(other, port_of(here))) {
-        Some(AreaFault::OneSided)
-    } else {
-        None
-    }
+    Ok(())
 }
 
 // What is wrong with a wire: nobody is where it leads, or one of another network, or one that does not send back.
@@ -124,30 +131,23 @@ fn wire_fault(ports: &BTreeMap<u32, End>, heard: &BTreeSet<WireKey>, wire: &Wire
     Some(Finding { fault, other, here })
 }
 
-// Adds what is wrong with the wires, in their order.
-pub(crate) fn push_wire_faults(
-    alloc: Global,
-    findings: &mut Vec<Finding>,
-    ports: &BTreeMap<u32, End>,
-    wires: &[Wire],
-) -> Result<(), AllocError>
-    ensures { (ends : List End) → ArePorts ports.now ends → OnOk result (findings.new.items ≡ findings.old.items ++ wire_faults_in ends wires.now) }
+// What is wrong where an interface sends to another: that one is not on its network, or does not send to it.
+fn fault_between(heard: &BTreeSet<WireKey>, other: &End, here: &End) -> Option<AreaFault>
+    ensures { result ≡ fault_between (has_wire heard.now) other.now here.now }
 {
-    let heard = heard(alloc, wires)?;
-    push_each(findings, ports, &heard, wires)
+    if !is_beside(other, here) {
+        Some(AreaFault::Astray)
+    } else if !heard.contains(&key_of(other, port_of(here))) {
+        Some(AreaFault::OneSided)
+    } else {
+        None
+    }
 }
 
-// Adds what is wrong with some wires.
-fn push_each(
-    findings: &mut Vec<Finding>,
-    ports: &BTreeMap<u32, End>,
-    heard: &BTreeSet<WireKey>,
-    wires: &[Wire],
-) -> Result<(), AllocError>
-    ensures { OnOk result (findings.new.items ≡ findings.old.items ++ filter_map (wire_fault (holder_in ports.now) (has_wire heard.now)) wires.now) }
+// Whether two interfaces are on one network.
+fn is_beside(one: &End, other: &End) -> bool
+    ensures { result ≡ is_beside one.now other.now }
 {
-    for wire in wires {
-        push_one(findings, wire_fault(ports, heard, wire))?;
-    }
-    Ok(())
+    let (here, there) = (network_of(&one.address), network_of(&other.address));
+    here.0 == there.0 && here.1 == there.1
 }

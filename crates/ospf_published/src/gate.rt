@@ -14,8 +14,6 @@ use std::marker::Model;
 // The last count of steps at which a list is opened: opening, a table and closing still fit behind it.
 const LAST_OPENING: u64 = u64::MAX - 3;
 
-type Asked = Offer<Event, u64, CountsEvents, NoGain>;
-
 /// The whole list at some time while it was open. Whoever has this may add a table, unless another was faster.
 #[derive(Drop)]
 pub struct Opened {
@@ -34,29 +32,6 @@ impl Model for Opened {
     ghost view = { λ p. record { fib = p.seen.book; tables = tables_of p.seen.log } };
 
     ghost invariant = { λ p. (p.count ≡ length (tables_of p.seen.log)) × (p.events ≡ length p.seen.log) × (closed false p.seen.log ≡ false) };
-}
-
-/// The whole list, while it is closed: there is one of it, and nobody else adds a table.
-#[derive(Drop)]
-pub struct Sole {
-    count: u64,
-    events: u64,
-    seen: Seen<Event, u64, CountsEvents>,
-    pen: Pen,
-}
-
-impl Model for Sole {
-    ghost use Rattle.std.specs.Prelude.{◌≡◌, length, true, false, suc};
-    ghost use Rattle.logbook.specs.Pages.{nib, may_write};
-    ghost use Rattle.ospf_published.specs.Known.{Known};
-    ghost use Rattle.ospf_published.specs.Rule.{tables_of, closed, opens};
-
-    ghost Value = { Known };
-
-    ghost view = { λ p. record { fib = p.seen.book; tables = tables_of p.seen.log } };
-
-    ghost invariant = { λ p. (p.count ≡ length (tables_of p.seen.log)) × (p.events ≡ length p.seen.log) × (closed false p.seen.log ≡ true)
-        × (p.pen.book ≡ p.seen.book) × (p.pen.nib ≡ (nib may_write (suc (suc (opens p.seen.log))) 0)) };
 }
 
 impl Opened {
@@ -163,6 +138,29 @@ impl Opened {
     }
 }
 
+/// The whole list, while it is closed: there is one of it, and nobody else adds a table.
+#[derive(Drop)]
+pub struct Sole {
+    count: u64,
+    events: u64,
+    seen: Seen<Event, u64, CountsEvents>,
+    pen: Pen,
+}
+
+impl Model for Sole {
+    ghost use Rattle.std.specs.Prelude.{◌≡◌, length, true, false, suc};
+    ghost use Rattle.logbook.specs.Pages.{nib, may_write};
+    ghost use Rattle.ospf_published.specs.Known.{Known};
+    ghost use Rattle.ospf_published.specs.Rule.{tables_of, closed, opens};
+
+    ghost Value = { Known };
+
+    ghost view = { λ p. record { fib = p.seen.book; tables = tables_of p.seen.log } };
+
+    ghost invariant = { λ p. (p.count ≡ length (tables_of p.seen.log)) × (p.events ≡ length p.seen.log) × (closed false p.seen.log ≡ true)
+        × (p.pen.book ≡ p.seen.book) × (p.pen.nib ≡ (nib may_write (suc (suc (opens p.seen.log))) 0)) };
+}
+
 impl Sole {
     /// Opens the list. The list is whole, so nobody was faster. It comes back where there is no room for three
     /// steps more among the 2^64 that the list counts.
@@ -220,3 +218,5 @@ impl Sole {
         }
     }
 }
+
+type Asked = Offer<Event, u64, CountsEvents, NoGain>;

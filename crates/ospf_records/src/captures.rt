@@ -14,17 +14,15 @@ use ospf_world::{Ticked, World};
 use std::alloc::{AllocError, Global};
 use std::collections::BTreeMap;
 
-// Adds a datagram to a capture. One that fits into no IP packet is left out.
-fn add_datagram(out: &mut Vec<u8>, at: Moment, datagram: &Datagram) -> Result<(), AllocError>
-    ensures { (packets : List Captured) → out.old.items ≡ capture_bytes packets
-        → OnOk result (out.new.items ≡ capture_bytes (packets ++ captured_at at.seconds at.microseconds datagram.now)) }
+/// All datagrams that the routers of a world sent, in order, as a capture file: the second of each is the number of ticks that
+/// its router had taken when it was sent, as far as 32 bits go, and its microsecond how many datagrams of that second were sent
+/// before it, as far as a second goes. One that fits into no IP packet is left out.
+///
+/// `AllocError` where memory runs out.
+pub fn capture(world: &World, alloc: Global) -> Result<Vec<u8>, AllocError>
+    ensures { IfOk result (λ out. out.items ≡ capture_of world.now.ticks world.now.logs.datagrams) }
 {
-    let sent = &datagram.sent;
-    match write_datagram(out, at, sent.source, sent.destination, &sent.bytes) {
-        Ok(()) => Ok(()),
-        Err(CaptureFault::TooLong) => Ok(()),
-        Err(CaptureFault::Memory) => Err(AllocError),
-    }
+    capture_of(world.ticks(), world.datagrams(), alloc)
 }
 
 // The datagrams as a capture.
@@ -50,13 +48,15 @@ fn capture_of(
     Ok(out)
 }
 
-/// All datagrams that the routers of a world sent, in order, as a capture file: the second of each is the number of ticks that
-/// its router had taken when it was sent, as far as 32 bits go, and its microsecond how many datagrams of that second were sent
-/// before it, as far as a second goes. One that fits into no IP packet is left out.
-///
-/// `AllocError` where memory runs out.
-pub fn capture(world: &World, alloc: Global) -> Result<Vec<u8>, AllocError>
-    ensures { IfOk result (λ out. out.items ≡ capture_of world.now.ticks world.now.logs.datagrams) }
+// Adds a datagram to a capture. One that fits into no IP packet is left out.
+fn add_datagram(out: &mut Vec<u8>, at: Moment, datagram: &Datagram) -> Result<(), AllocError>
+    ensures { (packets : List Captured) → out.old.items ≡ capture_bytes packets
+        → OnOk result (out.new.items ≡ capture_bytes (packets ++ captured_at at.seconds at.microseconds datagram.now)) }
 {
-    capture_of(world.ticks(), world.datagrams(), alloc)
+    let sent = &datagram.sent;
+    match write_datagram(out, at, sent.source, sent.destination, &sent.bytes) {
+        Ok(()) => Ok(()),
+        Err(CaptureFault::TooLong) => Ok(()),
+        Err(CaptureFault::Memory) => Err(AllocError),
+    }
 }

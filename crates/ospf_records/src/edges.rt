@@ -8,6 +8,34 @@ use ospf_base::RouterId;
 use ospf_lsa::{Attached, Link, LinkKind, Links};
 use std::fmt::{self, Formatter, Write};
 
+// The lines of a router's links.
+pub(crate) fn write_links<W: Write>(
+    f: &mut Formatter<W>,
+    router: RouterId,
+    links: Links,
+) -> fmt::Result
+    ensures { WritesOnOk W.Write.write_str_gives f.old result (link_lines router.0 links.entry) f.new }
+{
+    for link in links {
+        write_link(f, router, link)?;
+    }
+    Ok(())
+}
+
+// The lines of the routers that are attached to a network.
+pub(crate) fn write_attached<W: Write>(
+    f: &mut Formatter<W>,
+    network: u32,
+    routers: Attached,
+) -> fmt::Result
+    ensures { WritesOnOk W.Write.write_str_gives f.old result (attached_lines network routers.entry) f.new }
+{
+    for router in routers {
+        write_router(f, network, router)?;
+    }
+    Ok(())
+}
+
 // The line of a link of a router.
 fn write_link<W: Write>(f: &mut Formatter<W>, router: RouterId, link: Link) -> fmt::Result
     ensures { WritesOnOk W.Write.write_str_gives f.old result (link_line router.0 link) f.new }
@@ -32,20 +60,6 @@ fn write_link<W: Write>(f: &mut Formatter<W>, router: RouterId, link: Link) -> f
     }
 }
 
-// The lines of a router's links.
-pub(crate) fn write_links<W: Write>(
-    f: &mut Formatter<W>,
-    router: RouterId,
-    links: Links,
-) -> fmt::Result
-    ensures { WritesOnOk W.Write.write_str_gives f.old result (link_lines router.0 links.entry) f.new }
-{
-    for link in links {
-        write_link(f, router, link)?;
-    }
-    Ok(())
-}
-
 // The line of a router that is attached to a network.
 fn write_router<W: Write>(f: &mut Formatter<W>, network: u32, router: RouterId) -> fmt::Result
     ensures { WritesOnOk W.Write.write_str_gives f.old result (attached_line network router) f.new }
@@ -57,18 +71,4 @@ fn write_router<W: Write>(f: &mut Formatter<W>, network: u32, router: RouterId) 
         NetworkNode(network),
         RouterNode(router.0)
     )
-}
-
-// The lines of the routers that are attached to a network.
-pub(crate) fn write_attached<W: Write>(
-    f: &mut Formatter<W>,
-    network: u32,
-    routers: Attached,
-) -> fmt::Result
-    ensures { WritesOnOk W.Write.write_str_gives f.old result (attached_lines network routers.entry) f.new }
-{
-    for router in routers {
-        write_router(f, network, router)?;
-    }
-    Ok(())
 }

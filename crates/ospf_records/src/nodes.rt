@@ -9,17 +9,6 @@ use std::fmt::{self, Display, Formatter, Write};
 #[derive(Clone, Copy)]
 pub(crate) struct RouterNode(pub(crate) u32);
 
-// A transit network by its Link State ID, as `"network 10.1.0.2"`.
-#[derive(Clone, Copy)]
-pub(crate) struct NetworkNode(pub(crate) u32);
-
-// The addresses under a mask, as `10.1.0.0/24`.
-#[derive(Clone, Copy)]
-pub(crate) struct Under {
-    pub(crate) address: u32,
-    pub(crate) mask: u32,
-}
-
 impl Display for RouterNode {
     ghost use Rattle.ospf_records.specs.Graph.{router_node};
 
@@ -30,6 +19,10 @@ impl Display for RouterNode {
     }
 }
 
+// A transit network by its Link State ID, as `"network 10.1.0.2"`.
+#[derive(Clone, Copy)]
+pub(crate) struct NetworkNode(pub(crate) u32);
+
 impl Display for NetworkNode {
     ghost use Rattle.ospf_records.specs.Graph.{network_node};
 
@@ -38,6 +31,13 @@ impl Display for NetworkNode {
     fn fmt<W: Write>(&self, f: &mut Formatter<W>) -> fmt::Result {
         write!(f, "\"network {}\"", Addr(self.0))
     }
+}
+
+// The addresses under a mask, as `10.1.0.0/24`.
+#[derive(Clone, Copy)]
+pub(crate) struct Under {
+    pub(crate) address: u32,
+    pub(crate) mask: u32,
 }
 
 impl Display for Under {

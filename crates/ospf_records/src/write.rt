@@ -27,79 +27,6 @@ const LARGEST_IP_PACKET: usize = 65535;
 // the flags and the fragment offset, Time to Live and protocol.
 const FIXED_WORDS: u32 = 0x45c0 + 0x0159;
 
-// Puts bytes at the end, where there is room for them.
-fn push_bytes(out: &mut Vec<u8>, bytes: &[u8])
-    requires room { vec_len out.old + length bytes.now ≤ vec_capacity out.old }
-    ensures bytes { out.new.items ≡ out.old.items ++ bytes.now }
-    ensures capacity { vec_capacity out.old ≤ vec_capacity out.new }
-{
-    // Refused only where there is no room.
-    let _ = out.extend_from_slice(bytes);
-}
-
-// The two words of an address, added.
-fn address_words(address: Addr) -> u32
-    ensures { result ≡ sum (words (number_bytes 4 address.0)) }
-{
-    address.0 / 65536 + address.0 % 65536
-}
-
-// The words of a header without its checksum, added.
-fn header_words(size: u16, source: Addr, destination: Addr) -> u32
-    ensures { result ≡ sum (words (header_with_sum size source.0 destination.0 0)) }
-{
-    FIXED_WORDS + u32::from(size) + address_words(source) + address_words(destination)
-}
-
-// The checksum of a header.
-fn header_sum(size: u16, source: Addr, destination: Addr) -> u16
-    ensures { result ≡ header_checksum (header_with_sum size source.0 destination.0 0) }
-{
-    let total = header_words(size, source, destination);
-    (65534 - (total - 1) % 65535) as u16
-}
-
-// The header of an IP packet of so many bytes.
-fn ip_header_of(size: u16, source: Addr, destination: Addr) -> [u8; 20]
-    ensures { result ≡ header_bytes size source.0 destination.0 }
-{
-    let [a, b] = size.to_be_bytes();
-    let [c, d] = header_sum(size, source, destination).to_be_bytes();
-    let [e, f, g, h] = source.0.to_be_bytes();
-    let [i, j, k, l] = destination.0.to_be_bytes();
-    [
-        0x45, 0xc0, a, b, 0, 0, 0, 0, 1, 89, c, d, e, f, g, h, i, j, k, l,
-    ]
-}
-
-// What stands before a captured packet of so many bytes.
-fn record_header_of(at: Moment, size: u16) -> [u8; 16]
-    ensures { result ≡ record_header at.seconds at.microseconds size }
-{
-    let [a, b, c, d] = at.seconds.to_be_bytes();
-    let [e, f, g, h] = at.microseconds.to_be_bytes();
-    let [i, j] = size.to_be_bytes();
-    [a, b, c, d, e, f, g, h, 0, 0, i, j, 0, 0, i, j]
-}
-
-// Puts the record of a packet at the end, where there is room for it. The IP packet has so many bytes.
-fn push_datagram(
-    out: &mut Vec<u8>,
-    at: Moment,
-    source: Addr,
-    destination: Addr,
-    ospf: &[u8],
-    size: u16,
-)
-    requires size { size ≡ ip_header + length ospf.now }
-    requires room { vec_len out.old + (RECORD_HEADER + size) ≤ vec_capacity out.old }
-    ensures { out.new.items ≡ out.old.items ++ datagram_bytes at source destination ospf.now }
-{
-    push_bytes(out, &record_header_of(at, size));
-    push_bytes(out, &ip_header_of(size, source, destination));
-    push_bytes(out, ospf);
-}
-
 /// Writes what a capture file begins with at the end of the output: libpcap's classic format, version 2.4, with
 /// microseconds, for IP packets with nothing before them (LINKTYPE_RAW).
 ///
@@ -152,4 +79,77 @@ pub fn write_datagram(
     }
     push_datagram(out, at, source, destination, ospf, size as u16);
     Ok(())
+}
+
+// Puts bytes at the end, where there is room for them.
+fn push_bytes(out: &mut Vec<u8>, bytes: &[u8])
+    requires room { vec_len out.old + length bytes.now ≤ vec_capacity out.old }
+    ensures bytes { out.new.items ≡ out.old.items ++ bytes.now }
+    ensures capacity { vec_capacity out.old ≤ vec_capacity out.new }
+{
+    // Refused only where there is no room.
+    let _ = out.extend_from_slice(bytes);
+}
+
+// Puts the record of a packet at the end, where there is room for it. The IP packet has so many bytes.
+fn push_datagram(
+    out: &mut Vec<u8>,
+    at: Moment,
+    source: Addr,
+    destination: Addr,
+    ospf: &[u8],
+    size: u16,
+)
+    requires size { size ≡ ip_header + length ospf.now }
+    requires room { vec_len out.old + (RECORD_HEADER + size) ≤ vec_capacity out.old }
+    ensures { out.new.items ≡ out.old.items ++ datagram_bytes at source destination ospf.now }
+{
+    push_bytes(out, &record_header_of(at, size));
+    push_bytes(out, &ip_header_of(size, source, destination));
+    push_bytes(out, ospf);
+}
+
+// What stands before a captured packet of so many bytes.
+fn record_header_of(at: Moment, size: u16) -> [u8; 16]
+    ensures { result ≡ record_header at.seconds at.microseconds size }
+{
+    let [a, b, c, d] = at.seconds.to_be_bytes();
+    let [e, f, g, h] = at.microseconds.to_be_bytes();
+    let [i, j] = size.to_be_bytes();
+    [a, b, c, d, e, f, g, h, 0, 0, i, j, 0, 0, i, j]
+}
+
+// The header of an IP packet of so many bytes.
+fn ip_header_of(size: u16, source: Addr, destination: Addr) -> [u8; 20]
+    ensures { result ≡ header_bytes size source.0 destination.0 }
+{
+    let [a, b] = size.to_be_bytes();
+    let [c, d] = header_sum(size, source, destination).to_be_bytes();
+    let [e, f, g, h] = source.0.to_be_bytes();
+    let [i, j, k, l] = destination.0.to_be_bytes();
+    [
+        0x45, 0xc0, a, b, 0, 0, 0, 0, 1, 89, c, d, e, f, g, h, i, j, k, l,
+    ]
+}
+
+// The checksum of a header.
+fn header_sum(size: u16, source: Addr, destination: Addr) -> u16
+    ensures { result ≡ header_checksum (header_with_sum size source.0 destination.0 0) }
+{
+    let total = header_words(size, source, destination);
+    (65534 - (total - 1) % 65535) as u16
+}
+
+// The words of a header without its checksum, added.
+fn header_words(size: u16, source: Addr, destination: Addr) -> u32
+    ensures { result ≡ sum (words (header_with_sum size source.0 destination.0 0)) }
+{
+    FIXED_WORDS + u32::from(size) + address_words(source) + address_words(destination)
+}
+
+// The two words of an address, added.
+fn address_words(address: Addr) -> u32
+    ensures { result ≡ sum (words (number_bytes 4 address.0)) }
+{
+    address.0 / 65536 + address.0 % 65536
 }

@@ -15,28 +15,6 @@ use std::alloc::{AllocError, Global};
 // How many LSAs are put, one by one, before a tree is made anew.
 const MOST_PUT: usize = 16;
 
-// The tree with the LSA of an entry put, or nothing where that is at `MAX_AGE`.
-fn with_entry(
-    grown: Grown,
-    entry: &EntryView<'_>,
-    alloc: Global,
-) -> Result<Option<Grown>, AllocError>
-    ensures { IfOk result (λ o. IfSome o (IsGrownFrom grown.tree grown.stays)) }
-{
-    let Grown { tree, stays } = grown;
-    let Ok(lsa) = entry.copy(alloc) else {
-        return Err(AllocError);
-    };
-    match tree.grow(alloc, lsa) {
-        Ok(next) => Ok(Some(Grown {
-            tree: next.tree,
-            stays: stays && next.stays,
-        })),
-        Err(ListingFault::Memory) => Err(AllocError),
-        Err(ListingFault::MaxAge | ListingFault::Twice) => Ok(None),
-    }
-}
-
 /// The tree once its listing is what the database lists, as far as that comes of a few LSAs that are put; else nothing. It
 /// tells too whether the table stays.
 pub(crate) fn grown_to(
@@ -64,4 +42,26 @@ pub(crate) fn grown_to(
         }
     }
     Ok(None)
+}
+
+// The tree with the LSA of an entry put, or nothing where that is at `MAX_AGE`.
+fn with_entry(
+    grown: Grown,
+    entry: &EntryView<'_>,
+    alloc: Global,
+) -> Result<Option<Grown>, AllocError>
+    ensures { IfOk result (λ o. IfSome o (IsGrownFrom grown.tree grown.stays)) }
+{
+    let Grown { tree, stays } = grown;
+    let Ok(lsa) = entry.copy(alloc) else {
+        return Err(AllocError);
+    };
+    match tree.grow(alloc, lsa) {
+        Ok(next) => Ok(Some(Grown {
+            tree: next.tree,
+            stays: stays && next.stays,
+        })),
+        Err(ListingFault::Memory) => Err(AllocError),
+        Err(ListingFault::MaxAge | ListingFault::Twice) => Ok(None),
+    }
 }

@@ -13,15 +13,6 @@ use ospf_lsdb::{EntryView, Lsdb};
 // The bytes of the age, the one field in which copies of one LSA differ (RFC 2328, section 12.1.1).
 const AGE_BYTES: usize = 2;
 
-// Whether an entry is this LSA, at whatever age.
-fn is_entry_of(entry: &EntryView, lsa: &Lsa) -> bool
-    ensures { IsTrue result → contents lsa.now ≡ entry.now.contents }
-{
-    let view = lsa.view();
-    let stored = entry.lsa();
-    view.as_bytes()[AGE_BYTES..] == stored.as_bytes()[AGE_BYTES..]
-}
-
 /// Whether the database lists the very LSAs of the listing, at whatever ages. No memory is taken.
 pub(crate) fn lists_as(database: &Lsdb, listing: &Listing) -> bool
     ensures same { IsTrue result → ListsAs database.now listing.now }
@@ -55,4 +46,13 @@ pub(crate) fn first_other<'a>(database: &'a Lsdb, listing: &Listing) -> Option<E
         }
     }
     None
+}
+
+// Whether an entry is this LSA, at whatever age.
+fn is_entry_of(entry: &EntryView, lsa: &Lsa) -> bool
+    ensures { IsTrue result → contents lsa.now ≡ entry.now.contents }
+{
+    let view = lsa.view();
+    let stored = entry.lsa();
+    view.as_bytes()[AGE_BYTES..] == stored.as_bytes()[AGE_BYTES..]
 }

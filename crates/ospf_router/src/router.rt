@@ -60,105 +60,6 @@ impl Model for Router {
     ghost invariant = { λ r. IsRouter r.links r.routes r.area };
 }
 
-// The area's step, and whether the routing table after it is another one.
-#[derive(Drop)]
-struct Advanced {
-    taken: Taken,
-    table_changed: bool,
-}
-
-// A step of the area: what it keeps, and the laws that it keeps.
-fn step_area(area: &mut Area, event: Event<'_>, alloc: Global) -> Result<Taken, AllocError>
-    requires { IsKept area.old }
-    ensures lawful { IfOk result (λ t. IsLawful (happening event.entry) area.old t.dropped t.out area.new) }
-    ensures same { OnOk result (IsSameRouter area.old area.new) }
-    ensures kept { OnOk result (IsKept area.new) }
-    ensures unchanged { IfOk result (λ t. IsTrue (is_some t.dropped) → area.new ≡ area.old) }
-    ensures memory { OnErr result (dropped_by (happening event.entry) area.old ≡ None) }
-{
-    step(area, event, alloc)
-}
-
-// How many LSAs of the database are below `MAX_AGE`.
-fn fresh_in(area: &Area) -> usize
-    ensures count { result ≡ fresh_count area.now.database }
-    ensures database { IsDatabase area.now.database }
-{
-    // Its contract says that it is a database.
-    let _entries = area.database.entries();
-    area.database.fresh()
-}
-
-// Whether nothing was installed from an Update or issued. If so, what is listed after a step was so before.
-fn brings_none(out: &Outputs) -> bool
-    ensures { IsTrue result → (out.now.taken ≡ []) × (out.now.issued ≡ []) }
-{
-    out.taken.is_empty() && out.issued.is_empty()
-}
-
-// Whether a step lists what was listed before: it is dropped, or brings nothing, and as many LSAs are below `MAX_AGE` as were.
-fn is_settled(taken: &Taken, before: usize, after: usize) -> bool
-    ensures dropped { IsTrue (is_some taken.now.dropped) → IsTrue result }
-    ensures settled { IsTrue result → IsTrue (is_some taken.now.dropped) ⊎ ((taken.now.out.taken ≡ []) × (taken.now.out.issued ≡ []) × (after ≡ before)) }
-{
-    if taken.dropped.is_some() {
-        return true;
-    }
-    brings_none(&taken.out) && after == before
-}
-
-// The routes after a step: one that lists what was listed before leaves them, with no look at the database.
-fn refresh(
-    settled: bool,
-    area: &Area,
-    routes: &mut KeptRoutes,
-    alloc: Global,
-) -> Result<bool, AllocError>
-    requires router { routes.old.router ≡ area.now.router }
-    requires as_before { IsTrue settled → HasRoutes area.now routes.old.table }
-    requires as_listed { IsTrue settled → ListsAs area.now.database routes.old.listing }
-    ensures routes { OnOk result (HasRoutes area.now routes.new.table) }
-    ensures listing { OnOk result (ListsAs area.now.database routes.new.listing) }
-    ensures changed { IfOk result (λ b. IsTrue b ↔ (routes.new.table ≢ routes.old.table)) }
-    ensures router { routes.new.router ≡ routes.old.router }
-    ensures memory { OnErr result (IsTrue settled → ⊥) }
-{
-    if settled {
-        return Ok(false);
-    }
-    routes.refresh(&area.database, alloc)
-}
-
-// A step of the area, and then its routes.
-fn advance(
-    area: &mut Area,
-    routes: &mut KeptRoutes,
-    event: Event<'_>,
-    alloc: Global,
-) -> Result<Advanced, AllocError>
-    requires kept { IsKept area.old }
-    requires routes { HasRoutes area.old routes.old.table }
-    requires listing { ListsAs area.old.database routes.old.listing }
-    requires router { routes.old.router ≡ area.old.router }
-    ensures lawful { IfOk result (λ a. IsLawful (happening event.entry) area.old a.taken.dropped a.taken.out area.new) }
-    ensures same { OnOk result (IsSameRouter area.old area.new) }
-    ensures kept { OnOk result (IsKept area.new) }
-    ensures routes { OnOk result (HasRoutes area.new routes.new.table) }
-    ensures listing { OnOk result (ListsAs area.new.database routes.new.listing) }
-    ensures changed { IfOk result (λ a. IsTrue a.table_changed ↔ (routes.new.table ≢ routes.old.table)) }
-    ensures router { routes.new.router ≡ routes.old.router }
-    ensures memory { OnErr result (dropped_by (happening event.entry) area.old ≡ None) }
-{
-    let before = fresh_in(area);
-    let taken = step_area(area, event, alloc)?;
-    let settled = is_settled(&taken, before, fresh_in(area));
-    let table_changed = refresh(settled, area, routes, alloc)?;
-    Ok(Advanced {
-        taken,
-        table_changed,
-    })
-}
-
 impl Router {
     /// A router that starts with this configuration: all its links are down, and its database is empty. The numbers of its
     /// own LSAs begin above the floor (RFC 2328, section 12.1.6); `0x80000000` as an `i32` means none.
@@ -299,4 +200,103 @@ impl Router {
             None => self.floor,
         }
     }
+}
+
+// The area's step, and whether the routing table after it is another one.
+#[derive(Drop)]
+struct Advanced {
+    taken: Taken,
+    table_changed: bool,
+}
+
+// A step of the area, and then its routes.
+fn advance(
+    area: &mut Area,
+    routes: &mut KeptRoutes,
+    event: Event<'_>,
+    alloc: Global,
+) -> Result<Advanced, AllocError>
+    requires kept { IsKept area.old }
+    requires routes { HasRoutes area.old routes.old.table }
+    requires listing { ListsAs area.old.database routes.old.listing }
+    requires router { routes.old.router ≡ area.old.router }
+    ensures lawful { IfOk result (λ a. IsLawful (happening event.entry) area.old a.taken.dropped a.taken.out area.new) }
+    ensures same { OnOk result (IsSameRouter area.old area.new) }
+    ensures kept { OnOk result (IsKept area.new) }
+    ensures routes { OnOk result (HasRoutes area.new routes.new.table) }
+    ensures listing { OnOk result (ListsAs area.new.database routes.new.listing) }
+    ensures changed { IfOk result (λ a. IsTrue a.table_changed ↔ (routes.new.table ≢ routes.old.table)) }
+    ensures router { routes.new.router ≡ routes.old.router }
+    ensures memory { OnErr result (dropped_by (happening event.entry) area.old ≡ None) }
+{
+    let before = fresh_in(area);
+    let taken = step_area(area, event, alloc)?;
+    let settled = is_settled(&taken, before, fresh_in(area));
+    let table_changed = refresh(settled, area, routes, alloc)?;
+    Ok(Advanced {
+        taken,
+        table_changed,
+    })
+}
+
+// How many LSAs of the database are below `MAX_AGE`.
+fn fresh_in(area: &Area) -> usize
+    ensures count { result ≡ fresh_count area.now.database }
+    ensures database { IsDatabase area.now.database }
+{
+    // Its contract says that it is a database.
+    let _entries = area.database.entries();
+    area.database.fresh()
+}
+
+// A step of the area: what it keeps, and the laws that it keeps.
+fn step_area(area: &mut Area, event: Event<'_>, alloc: Global) -> Result<Taken, AllocError>
+    requires { IsKept area.old }
+    ensures lawful { IfOk result (λ t. IsLawful (happening event.entry) area.old t.dropped t.out area.new) }
+    ensures same { OnOk result (IsSameRouter area.old area.new) }
+    ensures kept { OnOk result (IsKept area.new) }
+    ensures unchanged { IfOk result (λ t. IsTrue (is_some t.dropped) → area.new ≡ area.old) }
+    ensures memory { OnErr result (dropped_by (happening event.entry) area.old ≡ None) }
+{
+    step(area, event, alloc)
+}
+
+// Whether a step lists what was listed before: it is dropped, or brings nothing, and as many LSAs are below `MAX_AGE` as were.
+fn is_settled(taken: &Taken, before: usize, after: usize) -> bool
+    ensures dropped { IsTrue (is_some taken.now.dropped) → IsTrue result }
+    ensures settled { IsTrue result → IsTrue (is_some taken.now.dropped) ⊎ ((taken.now.out.taken ≡ []) × (taken.now.out.issued ≡ []) × (after ≡ before)) }
+{
+    if taken.dropped.is_some() {
+        return true;
+    }
+    brings_none(&taken.out) && after == before
+}
+
+// Whether nothing was installed from an Update or issued. If so, what is listed after a step was so before.
+fn brings_none(out: &Outputs) -> bool
+    ensures { IsTrue result → (out.now.taken ≡ []) × (out.now.issued ≡ []) }
+{
+    out.taken.is_empty() && out.issued.is_empty()
+}
+
+// The routes after a step: one that lists what was listed before leaves them, with no look at the database.
+fn refresh(
+    settled: bool,
+    area: &Area,
+    routes: &mut KeptRoutes,
+    alloc: Global,
+) -> Result<bool, AllocError>
+    requires router { routes.old.router ≡ area.now.router }
+    requires as_before { IsTrue settled → HasRoutes area.now routes.old.table }
+    requires as_listed { IsTrue settled → ListsAs area.now.database routes.old.listing }
+    ensures routes { OnOk result (HasRoutes area.now routes.new.table) }
+    ensures listing { OnOk result (ListsAs area.now.database routes.new.listing) }
+    ensures changed { IfOk result (λ b. IsTrue b ↔ (routes.new.table ≢ routes.old.table)) }
+    ensures router { routes.new.router ≡ routes.old.router }
+    ensures memory { OnErr result (IsTrue settled → ⊥) }
+{
+    if settled {
+        return Ok(false);
+    }
+    routes.refresh(&area.database, alloc)
 }

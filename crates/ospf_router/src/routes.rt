@@ -38,28 +38,6 @@ impl Model for KeptRoutes {
     ghost invariant = { λ r. IsServed r.router r.table r.tree };
 }
 
-// Whether two tables are one.
-fn is_same(old: &RouteTable, new: &RouteTable, alloc: Global) -> Result<bool, AllocError>
-    ensures { IfOk result (λ b. IsTrue b ↔ (new.now ≡ old.now)) }
-{
-    let changes = old.changes(alloc, new)?;
-    Ok(changes.as_slice().is_empty())
-}
-
-// The database is one.
-fn database_is_one(database: &Lsdb)
-    ensures { IsDatabase database.now }
-{
-    let _entries = database.entries();
-}
-
-// A listing is one.
-fn listing_is_one(listing: &Listing)
-    ensures { IsListing listing.now }
-{
-    let _lsas = listing.lsas();
-}
-
 impl KeptRoutes {
     /// No routes yet, of this router.
     pub fn new(router: RouterId, alloc: Global) -> KeptRoutes
@@ -90,73 +68,6 @@ impl KeptRoutes {
         }
     }
 
-    // Whether the routes are those of a listing as the database has it. No memory is taken.
-    fn is_current(&self, database: &Lsdb) -> bool
-        ensures routes { IsTrue result → AreRoutes self.now.router database.now self.now.table }
-        ensures listing { IsTrue result → ListsAs database.now self.now.listing }
-    {
-        match &self.tree {
-            Some(tree) => lists_as(database, tree.listing()),
-            None => false,
-        }
-    }
-
-    // Puts a tree and its routes in place; whether the routes are others than before.
-    fn put(&mut self, tree: GrowingTree, alloc: Global) -> Result<bool, AllocError>
-        requires { tree.root ≡ self.old.router }
-        ensures table { OnOk result (IsTable (advertisements_of tree.listing) self.old.router self.new.table) }
-        ensures listing { OnOk result (self.new.listing ≡ tree.listing) }
-        ensures changed { IfOk result (λ b. IsTrue b ↔ (self.new.table ≢ self.old.table)) }
-        ensures router { self.new.router ≡ self.old.router }
-        ensures kept { OnErr result (self.new.table ≡ self.old.table) }
-    {
-        self.tree = None;
-        let table = tree.routes(alloc)?;
-        let same = is_same(&self.table, &table, alloc)?;
-        self.table = table;
-        self.tree = Some(tree);
-        Ok(!same)
-    }
-
-    // Goes on from the tree that is kept, as far as LSAs came: whether the table is another one, or nothing where that does not
-    // lead to what the database lists.
-    fn grow(&mut self, database: &Lsdb, alloc: Global) -> Result<Option<bool>, AllocError>
-        ensures table { IfOk result (λ o. IfSome o (λ _. AreRoutes self.old.router database.now self.new.table)) }
-        ensures listing { IfOk result (λ o. IfSome o (λ _. ListsAs database.now self.new.listing)) }
-        ensures changed { IfOk result (λ o. IfSome o (λ b. IsTrue b ↔ (self.new.table ≢ self.old.table))) }
-        ensures router { self.new.router ≡ self.old.router }
-        ensures kept { IfOk result (λ o. IfNone o (self.new.table ≡ self.old.table)) }
-        ensures kept_on_err { OnErr result (self.new.table ≡ self.old.table) }
-    {
-        let Some(tree) = self.tree.take() else {
-            return Ok(None);
-        };
-        let Some(grown) = grown_to(tree, database, alloc)? else {
-            return Ok(None);
-        };
-        if grown.stays {
-            self.tree = Some(grown.tree);
-            return Ok(Some(false));
-        }
-        let changed = self.put(grown.tree, alloc)?;
-        Ok(Some(changed))
-    }
-
-    // Makes the routes of what the database lists; whether they are others than before.
-    fn renew(&mut self, database: &Lsdb, alloc: Global) -> Result<bool, AllocError>
-        ensures table { OnOk result (AreRoutes self.old.router database.now self.new.table) }
-        ensures listing { OnOk result (self.new.listing ≡ listed database.now) }
-        ensures changed { IfOk result (λ b. IsTrue b ↔ (self.new.table ≢ self.old.table)) }
-        ensures router { self.new.router ≡ self.old.router }
-        ensures kept { OnErr result (self.new.table ≡ self.old.table) }
-    {
-        let listing = database.listing(alloc)?;
-        database_is_one(database);
-        listing_is_one(&listing);
-        let tree = GrowingTree::of(alloc, listing, self.router)?;
-        self.put(tree, alloc)
-    }
-
     /// The routing table becomes that of what the database lists; whether it is another one than before. Where the database
     /// lists the LSAs that it listed the last time, at whatever ages, no memory is taken.
     ///
@@ -184,4 +95,93 @@ impl KeptRoutes {
         self.table = RouteTable::empty(alloc);
         self.tree = None;
     }
+
+    // Whether the routes are those of a listing as the database has it. No memory is taken.
+    fn is_current(&self, database: &Lsdb) -> bool
+        ensures routes { IsTrue result → AreRoutes self.now.router database.now self.now.table }
+        ensures listing { IsTrue result → ListsAs database.now self.now.listing }
+    {
+        match &self.tree {
+            Some(tree) => lists_as(database, tree.listing()),
+            None => false,
+        }
+    }
+
+    // Goes on from the tree that is kept, as far as LSAs came: whether the table is another one, or nothing where that does not
+    // lead to what the database lists.
+    fn grow(&mut self, database: &Lsdb, alloc: Global) -> Result<Option<bool>, AllocError>
+        ensures table { IfOk result (λ o. IfSome o (λ _. AreRoutes self.old.router database.now self.new.table)) }
+        ensures listing { IfOk result (λ o. IfSome o (λ _. ListsAs database.now self.new.listing)) }
+        ensures changed { IfOk result (λ o. IfSome o (λ b. IsTrue b ↔ (self.new.table ≢ self.old.table))) }
+        ensures router { self.new.router ≡ self.old.router }
+        ensures kept { IfOk result (λ o. IfNone o (self.new.table ≡ self.old.table)) }
+        ensures kept_on_err { OnErr result (self.new.table ≡ self.old.table) }
+    {
+        let Some(tree) = self.tree.take() else {
+            return Ok(None);
+        };
+        let Some(grown) = grown_to(tree, database, alloc)? else {
+            return Ok(None);
+        };
+        if grown.stays {
+            self.tree = Some(grown.tree);
+            return Ok(Some(false));
+        }
+        let changed = self.put(grown.tree, alloc)?;
+        Ok(Some(changed))
+    }
+
+    // Puts a tree and its routes in place; whether the routes are others than before.
+    fn put(&mut self, tree: GrowingTree, alloc: Global) -> Result<bool, AllocError>
+        requires { tree.root ≡ self.old.router }
+        ensures table { OnOk result (IsTable (advertisements_of tree.listing) self.old.router self.new.table) }
+        ensures listing { OnOk result (self.new.listing ≡ tree.listing) }
+        ensures changed { IfOk result (λ b. IsTrue b ↔ (self.new.table ≢ self.old.table)) }
+        ensures router { self.new.router ≡ self.old.router }
+        ensures kept { OnErr result (self.new.table ≡ self.old.table) }
+    {
+        self.tree = None;
+        let table = tree.routes(alloc)?;
+        let same = is_same(&self.table, &table, alloc)?;
+        self.table = table;
+        self.tree = Some(tree);
+        Ok(!same)
+    }
+
+    // Makes the routes of what the database lists; whether they are others than before.
+    fn renew(&mut self, database: &Lsdb, alloc: Global) -> Result<bool, AllocError>
+        ensures table { OnOk result (AreRoutes self.old.router database.now self.new.table) }
+        ensures listing { OnOk result (self.new.listing ≡ listed database.now) }
+        ensures changed { IfOk result (λ b. IsTrue b ↔ (self.new.table ≢ self.old.table)) }
+        ensures router { self.new.router ≡ self.old.router }
+        ensures kept { OnErr result (self.new.table ≡ self.old.table) }
+    {
+        let listing = database.listing(alloc)?;
+        database_is_one(database);
+        listing_is_one(&listing);
+        let tree = GrowingTree::of(alloc, listing, self.router)?;
+        self.put(tree, alloc)
+    }
+}
+
+// Whether two tables are one.
+fn is_same(old: &RouteTable, new: &RouteTable, alloc: Global) -> Result<bool, AllocError>
+    ensures { IfOk result (λ b. IsTrue b ↔ (new.now ≡ old.now)) }
+{
+    let changes = old.changes(alloc, new)?;
+    Ok(changes.as_slice().is_empty())
+}
+
+// The database is one.
+fn database_is_one(database: &Lsdb)
+    ensures { IsDatabase database.now }
+{
+    let _entries = database.entries();
+}
+
+// A listing is one.
+fn listing_is_one(listing: &Listing)
+    ensures { IsListing listing.now }
+{
+    let _lsas = listing.lsas();
 }

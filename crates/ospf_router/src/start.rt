@@ -12,61 +12,6 @@ use ospf_neighbour::Neighbours;
 use std::alloc::{AllocError, Global};
 use std::collections::BTreeSet;
 
-// The interface of a link that is down.
-fn iface_of(router: RouterId, interface: &Interface) -> Iface
-    ensures { result ≡ iface_of router interface.now }
-{
-    Iface {
-        settings: IfaceSettings {
-            router,
-            kind: interface.kind,
-            address: interface.address.address,
-            mask: mask_of(interface.address.length),
-            priority: interface.priority,
-            hello: interface.hello,
-            dead: u32::from(interface.dead),
-        },
-        state: IfaceState::Down,
-        dr: Addr::NOWHERE,
-        backup: Addr::NOWHERE,
-        wait: 0,
-        hello_in: 0,
-    }
-}
-
-// A link with no neighbour.
-fn link_of(router: RouterId, interface: &Interface, alloc: Global) -> Link
-    ensures { IsLinkOf router interface.now result }
-{
-    Link {
-        iface: iface_of(router, interface),
-        settings: LinkSettings {
-            cost: interface.cost,
-            retransmit: interface.retransmit,
-            transmit_delay: interface.transmit_delay,
-            mtu: interface.mtu,
-        },
-        neighbours: Neighbours::new(alloc),
-        delayed: Vec::new(alloc),
-        elects: false,
-    }
-}
-
-// The links of a configuration, in its order.
-fn links_of(
-    router: RouterId,
-    interfaces: &[Interface],
-    alloc: Global,
-) -> Result<Vec<Link>, AllocError>
-    ensures { IfOk result (λ links. AreLinksOf router interfaces.now links.items) }
-{
-    let mut links = Vec::new(alloc);
-    for interface in interfaces {
-        links.push(link_of(router, interface, alloc))?;
-    }
-    Ok(links)
-}
-
 /// The part of the area of a router that starts.
 ///
 /// `AllocError` where memory runs out.
@@ -95,4 +40,59 @@ pub(crate) fn area_of(
         heard: Vec::new(alloc),
         greatest: floor,
     })
+}
+
+// The links of a configuration, in its order.
+fn links_of(
+    router: RouterId,
+    interfaces: &[Interface],
+    alloc: Global,
+) -> Result<Vec<Link>, AllocError>
+    ensures { IfOk result (λ links. AreLinksOf router interfaces.now links.items) }
+{
+    let mut links = Vec::new(alloc);
+    for interface in interfaces {
+        links.push(link_of(router, interface, alloc))?;
+    }
+    Ok(links)
+}
+
+// A link with no neighbour.
+fn link_of(router: RouterId, interface: &Interface, alloc: Global) -> Link
+    ensures { IsLinkOf router interface.now result }
+{
+    Link {
+        iface: iface_of(router, interface),
+        settings: LinkSettings {
+            cost: interface.cost,
+            retransmit: interface.retransmit,
+            transmit_delay: interface.transmit_delay,
+            mtu: interface.mtu,
+        },
+        neighbours: Neighbours::new(alloc),
+        delayed: Vec::new(alloc),
+        elects: false,
+    }
+}
+
+// The interface of a link that is down.
+fn iface_of(router: RouterId, interface: &Interface) -> Iface
+    ensures { result ≡ iface_of router interface.now }
+{
+    Iface {
+        settings: IfaceSettings {
+            router,
+            kind: interface.kind,
+            address: interface.address.address,
+            mask: mask_of(interface.address.length),
+            priority: interface.priority,
+            hello: interface.hello,
+            dead: u32::from(interface.dead),
+        },
+        state: IfaceState::Down,
+        dr: Addr::NOWHERE,
+        backup: Addr::NOWHERE,
+        wait: 0,
+        hello_in: 0,
+    }
 }

@@ -18,50 +18,6 @@ use std::sync::Wait;
 // The first DD sequence number of each router (RFC 2328, section 10.8).
 const DD_START: u32 = 1;
 
-// An empty table that is published, with one seat at it.
-fn open_table<R: Wait + Drop>(rt: R, alloc: Global) -> Result<(Writer<R>, Seat), OpenRefused>
-    ensures tables { IfOk result (λ opened. opened.0.tables ≡ opening) }
-    ensures seat { IfOk result (λ opened. opened.1 ≡ opened.0) }
-{
-    let (writer, mut seats) = Fib::open(alloc, rt, 1)?;
-    match seats.pop() {
-        Some(seat) => Ok((writer, seat)),
-        None => Err(OpenRefused),
-    }
-}
-
-// A router that starts with a configuration.
-fn start_router(alloc: Global, config: &Config, floor: i32) -> Result<Router, AllocError>
-    requires { floor ≢ max_sequence_number }
-    ensures { IfOk result (IsStarted config.now 1 floor) }
-{
-    match Router::start(config, DD_START, floor, alloc) {
-        Ok(router) => Ok(router),
-        Err(StartFault::Memory) => Err(AllocError),
-        Err(StartFault::Floor) => unreachable!(),
-    }
-}
-
-// A router that starts with a configuration, the writer of its table, and a seat there.
-fn begin<W: Wire + Drop, R: Wait + Drop>(
-    rt: R,
-    alloc: Global,
-    config: &Config,
-    floor: i32,
-    wire: W,
-) -> Result<(Job<W, R>, Seat), AllocError>
-    requires { floor ≢ max_sequence_number }
-    ensures begins { IfOk result (λ begun. Begins floor config.now begun.0.0 begun.0.2) }
-    ensures wire { IfOk result (λ begun. begun.0.1 ≡ wire) }
-    ensures seat { IfOk result (λ begun. begun.1 ≡ begun.0.2) }
-{
-    let router = start_router(alloc, config, floor)?;
-    match open_table(rt, alloc) {
-        Ok((writer, seat)) => Ok(((router, wire, writer), seat)),
-        Err(OpenRefused) => Err(AllocError),
-    }
-}
-
 /// Starts a router for each configuration, over the wire at its place. The floor of their numbers is below the greatest number.
 ///
 /// `AllocError` where memory runs out, or there is no place for a seat.
@@ -89,4 +45,48 @@ pub(crate) fn begin_all<W: Wire + Drop, R: Wait + Copy + Drop>(
         put(&mut seats, seat)?;
     }
     Ok((jobs, seats))
+}
+
+// A router that starts with a configuration, the writer of its table, and a seat there.
+fn begin<W: Wire + Drop, R: Wait + Drop>(
+    rt: R,
+    alloc: Global,
+    config: &Config,
+    floor: i32,
+    wire: W,
+) -> Result<(Job<W, R>, Seat), AllocError>
+    requires { floor ≢ max_sequence_number }
+    ensures begins { IfOk result (λ begun. Begins floor config.now begun.0.0 begun.0.2) }
+    ensures wire { IfOk result (λ begun. begun.0.1 ≡ wire) }
+    ensures seat { IfOk result (λ begun. begun.1 ≡ begun.0.2) }
+{
+    let router = start_router(alloc, config, floor)?;
+    match open_table(rt, alloc) {
+        Ok((writer, seat)) => Ok(((router, wire, writer), seat)),
+        Err(OpenRefused) => Err(AllocError),
+    }
+}
+
+// A router that starts with a configuration.
+fn start_router(alloc: Global, config: &Config, floor: i32) -> Result<Router, AllocError>
+    requires { floor ≢ max_sequence_number }
+    ensures { IfOk result (IsStarted config.now 1 floor) }
+{
+    match Router::start(config, DD_START, floor, alloc) {
+        Ok(router) => Ok(router),
+        Err(StartFault::Memory) => Err(AllocError),
+        Err(StartFault::Floor) => unreachable!(),
+    }
+}
+
+// An empty table that is published, with one seat at it.
+fn open_table<R: Wait + Drop>(rt: R, alloc: Global) -> Result<(Writer<R>, Seat), OpenRefused>
+    ensures tables { IfOk result (λ opened. opened.0.tables ≡ opening) }
+    ensures seat { IfOk result (λ opened. opened.1 ≡ opened.0) }
+{
+    let (writer, mut seats) = Fib::open(alloc, rt, 1)?;
+    match seats.pop() {
+        Some(seat) => Ok((writer, seat)),
+        None => Err(OpenRefused),
+    }
 }

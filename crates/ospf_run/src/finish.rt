@@ -42,100 +42,6 @@ pub(crate) struct Outcome<'a> {
     pub came: Result<Shown, DriveFault>,
 }
 
-// The seat, once it has learned what was told.
-fn learned(mut seat: Seat, told: Option<Told>) -> Seat
-    requires { IfSome told (λ t. t.fib ≡ seat.fib) }
-    ensures fib { result.fib ≡ seat.fib }
-    ensures own { IsPrefix seat.tables result.tables }
-    ensures told { IfSome told (λ t. IsPrefix t.tables result.tables) }
-{
-    match told {
-        Some(told) => {
-            seat.learn(told);
-            seat
-        }
-        None => seat,
-    }
-}
-
-// What the table that was published last answers for an address. Nothing is published meanwhile: the writer is here.
-fn look_last<R: Wait + Drop>(
-    writer: &mut Writer<R>,
-    seat: Seat,
-    told: Option<Told>,
-    address: Addr,
-) -> Result<Option<Answer>, Closed>
-    requires fib { seat.fib ≡ writer.old.fib }
-    requires began { IsPrefix opening seat.tables }
-    requires told { IsTold writer.old told }
-    ensures { IfOk result (IsAnswerOfLast writer.old.tables address 0) }
-{
-    let mut seat = learned(seat, told);
-    let answer = seat.lookup(address, 0)?;
-    writer.covers(&seat);
-    Ok(answer)
-}
-
-// What the table that was published last answers for the address, if there is one.
-fn look_if_asked<R: Wait + Drop>(
-    mut writer: Writer<R>,
-    seat: Seat,
-    told: Option<Told>,
-    lookup: Option<Addr>,
-) -> Result<Option<Looked>, Closed>
-    requires fib { seat.fib ≡ writer.fib }
-    requires began { IsPrefix opening seat.tables }
-    requires told { IsTold writer told }
-    ensures { IfOk result (IsLookedUp lookup writer.tables) }
-{
-    let Some(address) = lookup else {
-        return Ok(None);
-    };
-    let answer = look_last(&mut writer, seat, told, address)?;
-    Ok(Some(Looked { address, answer }))
-}
-
-// What came of a router: its driver has ended, and its seat is at rest.
-fn finish<R: Wait + Drop, S: Threads>(
-    rt: &S,
-    driven: Driven<R>,
-    looker: Looker,
-    lookup: Option<Addr>,
-) -> Result<Result<Shown, DriveFault>, Closed>
-    requires { (a : Moment) × Ran a driven looker }
-    ensures { (a : Moment) → Ran a driven looker → IfOk result (Came lookup a) }
-{
-    all_ticks_are_taken();
-    let (router, writer, told) = match driven {
-        Ok(driven) => driven,
-        Err(fault) => return Ok(Err(fault)),
-    };
-    let Some(seat) = looker.into_seat(rt) else {
-        return Ok(Err(DriveFault::Thread));
-    };
-    match look_if_asked(writer, seat, told, lookup) {
-        Ok(looked) => Ok(Ok(Shown { router, looked })),
-        Err(Closed) => Err(Closed),
-    }
-}
-
-// The outcome of the router of a file.
-fn outcome_of<'a>(
-    file: &'a NamedFile,
-    config: &Config,
-    came: Result<Shown, DriveFault>,
-) -> Outcome<'a>
-    ensures file { result.file.now ≡ file.now }
-    ensures router { result.router ≡ config.now.router_id }
-    ensures came { result.came ≡ came }
-{
-    Outcome {
-        file,
-        router: config.router_id,
-        came,
-    }
-}
-
 /// What came of the routers of files, in their order.
 pub(crate) fn finish_all<'a, R: Wait + Drop, S: Threads>(
     rt: &S,
@@ -163,4 +69,98 @@ pub(crate) fn finish_all<'a, R: Wait + Drop, S: Threads>(
         put(&mut outcomes, outcome)?;
     }
     Ok(outcomes)
+}
+
+// What came of a router: its driver has ended, and its seat is at rest.
+fn finish<R: Wait + Drop, S: Threads>(
+    rt: &S,
+    driven: Driven<R>,
+    looker: Looker,
+    lookup: Option<Addr>,
+) -> Result<Result<Shown, DriveFault>, Closed>
+    requires { (a : Moment) × Ran a driven looker }
+    ensures { (a : Moment) → Ran a driven looker → IfOk result (Came lookup a) }
+{
+    all_ticks_are_taken();
+    let (router, writer, told) = match driven {
+        Ok(driven) => driven,
+        Err(fault) => return Ok(Err(fault)),
+    };
+    let Some(seat) = looker.into_seat(rt) else {
+        return Ok(Err(DriveFault::Thread));
+    };
+    match look_if_asked(writer, seat, told, lookup) {
+        Ok(looked) => Ok(Ok(Shown { router, looked })),
+        Err(Closed) => Err(Closed),
+    }
+}
+
+// What the table that was published last answers for the address, if there is one.
+fn look_if_asked<R: Wait + Drop>(
+    mut writer: Writer<R>,
+    seat: Seat,
+    told: Option<Told>,
+    lookup: Option<Addr>,
+) -> Result<Option<Looked>, Closed>
+    requires fib { seat.fib ≡ writer.fib }
+    requires began { IsPrefix opening seat.tables }
+    requires told { IsTold writer told }
+    ensures { IfOk result (IsLookedUp lookup writer.tables) }
+{
+    let Some(address) = lookup else {
+        return Ok(None);
+    };
+    let answer = look_last(&mut writer, seat, told, address)?;
+    Ok(Some(Looked { address, answer }))
+}
+
+// What the table that was published last answers for an address. Nothing is published meanwhile: the writer is here.
+fn look_last<R: Wait + Drop>(
+    writer: &mut Writer<R>,
+    seat: Seat,
+    told: Option<Told>,
+    address: Addr,
+) -> Result<Option<Answer>, Closed>
+    requires fib { seat.fib ≡ writer.old.fib }
+    requires began { IsPrefix opening seat.tables }
+    requires told { IsTold writer.old told }
+    ensures { IfOk result (IsAnswerOfLast writer.old.tables address 0) }
+{
+    let mut seat = learned(seat, told);
+    let answer = seat.lookup(address, 0)?;
+    writer.covers(&seat);
+    Ok(answer)
+}
+
+// The seat, once it has learned what was told.
+fn learned(mut seat: Seat, told: Option<Told>) -> Seat
+    requires { IfSome told (λ t. t.fib ≡ seat.fib) }
+    ensures fib { result.fib ≡ seat.fib }
+    ensures own { IsPrefix seat.tables result.tables }
+    ensures told { IfSome told (λ t. IsPrefix t.tables result.tables) }
+{
+    match told {
+        Some(told) => {
+            seat.learn(told);
+            seat
+        }
+        None => seat,
+    }
+}
+
+// The outcome of the router of a file.
+fn outcome_of<'a>(
+    file: &'a NamedFile,
+    config: &Config,
+    came: Result<Shown, DriveFault>,
+) -> Outcome<'a>
+    ensures file { result.file.now ≡ file.now }
+    ensures router { result.router ≡ config.now.router_id }
+    ensures came { result.came ≡ came }
+{
+    Outcome {
+        file,
+        router: config.router_id,
+        came,
+    }
 }

@@ -21,14 +21,6 @@ const BETWEEN_LOOKS: u64 = 10;
 /// Whether the drivers are done: what the threads that look up ask from time to time.
 pub(crate) type Done = Arc<AtomicBool, Global>;
 
-// What a thread will give back: its seat, at the same table, which knows no less than before.
-#[derive(Drop)]
-struct SeatOf(Snapshot<Seat>);
-
-impl Promise<Seat> for SeatOf {
-    ghost kept_by = { λ p seat. Follows p.0.value seat };
-}
-
 /// A thread that looks up. Proofs see what its seat knew at the start.
 #[derive(Drop)]
 pub(crate) struct Looking {
@@ -53,45 +45,16 @@ pub(crate) enum Looker {
     NotStarted,
 }
 
-// A seat from which the address was looked up.
-fn look_once(mut seat: Seat, address: Addr) -> Seat
-    ensures { Follows seat result }
-{
-    let _ = seat.lookup(address, 0);
-    seat
-}
-
-// Looks the address up from time to time, until the drivers are done.
-fn look_until<S: Wait + Clock>(rt: &S, seat: Seat, address: Addr, done: &Done) -> Seat
-    ensures { Follows seat result }
-{
-    let mut seat = look_once(seat, address);
-    for _ in rt.forever() {
-        if done.load(Ordering::SeqCst) {
-            return seat;
+impl Looker {
+    /// The seat, once nothing is looked up there any more. `None` where the thread did not start.
+    pub(crate) fn into_seat<S: Threads>(self, rt: &S) -> Option<Seat>
+        ensures { (k : Known) → IsFrom k self → IfSome result (Follows k) }
+    {
+        match self {
+            Looker::Idle(seat) => Some(seat),
+            Looker::Looking(Looking { handle }) => Some(handle.join(rt)),
+            Looker::NotStarted => None,
         }
-        thread::sleep(rt, Duration::from_millis(BETWEEN_LOOKS));
-        seat = look_once(seat, address);
-    }
-    unreachable!()
-}
-
-// Starts a thread that looks up.
-fn start_looking<S: Threads + Wait + Clock + Copy + Send + 'static>(
-    rt: S,
-    seat: Seat,
-    address: Addr,
-    done: Done,
-) -> Looker
-    ensures { IsFrom seat result }
-{
-    let promise = SeatOf(Snapshot::of(&seat));
-    let thread = thread::spawn_with(&rt, promise, move || -> Seat {
-        look_until(&rt, seat, address, &done)
-    });
-    match thread {
-        Ok(handle) => Looker::Looking(Looking { handle }),
-        Err(_) => Looker::NotStarted,
     }
 }
 
@@ -113,15 +76,52 @@ pub(crate) fn start_looker<S: Threads + Wait + Clock + Copy + Send + 'static>(
     }
 }
 
-impl Looker {
-    /// The seat, once nothing is looked up there any more. `None` where the thread did not start.
-    pub(crate) fn into_seat<S: Threads>(self, rt: &S) -> Option<Seat>
-        ensures { (k : Known) → IsFrom k self → IfSome result (Follows k) }
-    {
-        match self {
-            Looker::Idle(seat) => Some(seat),
-            Looker::Looking(Looking { handle }) => Some(handle.join(rt)),
-            Looker::NotStarted => None,
-        }
+// What a thread will give back: its seat, at the same table, which knows no less than before.
+#[derive(Drop)]
+struct SeatOf(Snapshot<Seat>);
+
+impl Promise<Seat> for SeatOf {
+    ghost kept_by = { λ p seat. Follows p.0.value seat };
+}
+
+// Starts a thread that looks up.
+fn start_looking<S: Threads + Wait + Clock + Copy + Send + 'static>(
+    rt: S,
+    seat: Seat,
+    address: Addr,
+    done: Done,
+) -> Looker
+    ensures { IsFrom seat result }
+{
+    let promise = SeatOf(Snapshot::of(&seat));
+    let thread = thread::spawn_with(&rt, promise, move || -> Seat {
+        look_until(&rt, seat, address, &done)
+    });
+    match thread {
+        Ok(handle) => Looker::Looking(Looking { handle }),
+        Err(_) => Looker::NotStarted,
     }
+}
+
+// Looks the address up from time to time, until the drivers are done.
+fn look_until<S: Wait + Clock>(rt: &S, seat: Seat, address: Addr, done: &Done) -> Seat
+    ensures { Follows seat result }
+{
+    let mut seat = look_once(seat, address);
+    for _ in rt.forever() {
+        if done.load(Ordering::SeqCst) {
+            return seat;
+        }
+        thread::sleep(rt, Duration::from_millis(BETWEEN_LOOKS));
+        seat = look_once(seat, address);
+    }
+    unreachable!()
+}
+
+// A seat from which the address was looked up.
+fn look_once(mut seat: Seat, address: Addr) -> Seat
+    ensures { Follows seat result }
+{
+    let _ = seat.lookup(address, 0);
+    seat
 }

@@ -26,59 +26,31 @@ use std::sync::{Arc, Wait};
 use std::thread::Threads;
 use std::time::Clock;
 
-// Starts to look the address up from the seats, in order.
-fn start_lookers<S: Threads + Wait + Clock + Copy + Send + 'static>(
-    rt: S,
-    mut seats: Vec<Seat>,
-    lookup: Option<Addr>,
-    done: &Done,
-    lookers: &mut Vec<Looker>,
-)
-    requires none { lookers.old.items ≡ [] }
-    requires room { vec_len seats ≤ vec_capacity lookers.old }
-    ensures { Pairs IsFrom seats.items lookers.new.items }
-{
-    while !seats.is_empty() {
-        let seat = seats.remove(0);
-        let looker = start_looker(rt, seat, lookup, done);
-        let Ok(()) = lookers.push(looker) else {
-            unreachable!()
-        };
-    }
-}
-
-// Drives the routers, and says when they are done.
-fn drive_to_end<
+/// Runs a plan over wires, one for each configuration, and tells a tap of it. What comes of its routers, in their order.
+pub(crate) fn run_tapped<
+    'a,
     W: Wire + Send + Drop + 'static,
-    R: Threads + Wait + Clock + Copy + Send + Drop + 'static,
->(rt: &R, alloc: Global, jobs: Vec<Job<W, R>>, done: &Done) -> Result<Vec<Driven<R>>, AllocError>
-    requires { All (λ job. W.failed job.1 + 1 < 2 ^ 64) jobs.items }
-    ensures { IfOk result (λ all. Pairs (λ job driven. IsDriven (at job.0 (W.traffic job.1) (W.failed job.1) job.2) driven) jobs.items all.items) }
-{
-    let driven = drive_all(rt, alloc, jobs);
-    done.store(true, Ordering::SeqCst);
-    driven
-}
-
-// Drives the routers, and looks the address up beside them.
-fn drive_and_look<
-    W: Wire + Send + Drop + 'static,
+    T: Tap + Send + Drop + 'static,
     R: Threads + Wait + Clock + Copy + Send + Drop + 'static,
 >(
     rt: &R,
     alloc: Global,
-    jobs: Vec<Job<W, R>>,
-    seats: Vec<Seat>,
-    lookup: Option<Addr>,
-) -> Result<(Vec<Driven<R>>, Vec<Looker>), AllocError>
-    requires { All (λ job. W.failed job.1 + 1 < 2 ^ 64) jobs.items }
-    ensures { (terms : Terms) (configs : List Config) → Pairs (λ config job. Begins terms.floor config job.0 job.2) configs jobs.items → All (λ job. W.traffic job.1 ≡ Ticks 0 terms.ticks) jobs.items → Pairs (λ job seat. seat ≡ job.2) jobs.items seats.items → IfOk result (λ ended. Trios terms configs ended.0.items ended.1.items) }
+    settings: &Settings,
+    files: &'a [NamedFile],
+    plan: &Plan,
+    wires: Vec<W>,
+    tap: &T,
+) -> Result<Vec<Outcome<'a>>, Failure>
+    requires floor { plan.now.floor ≢ max_sequence_number }
+    requires files { length files.now ≡ length plan.now.configs.items }
+    requires wires { length wires.items ≡ length plan.now.configs.items }
+    requires fresh { All (λ wire. W.failed wire + 1 < 2 ^ 64) wires.items }
+    requires counted { All (λ wire. W.traffic wire ≡ Ticks 0 settings.now.ticks) wires.items }
+    ensures outcomes { IfOk result (λ all. ComeOf settings.now plan.now files.now all.items) }
+    ensures early { IfErr result (FailsPlan files.now) }
 {
-    let done = Arc::new(alloc, AtomicBool::new(false)).map_err(AllocError::from)?;
-    let mut lookers = Vec::with_capacity(alloc, seats.len())?;
-    start_lookers(*rt, seats, lookup, &done, &mut lookers);
-    let driven = drive_to_end(rt, alloc, jobs, &done)?;
-    Ok((driven, lookers))
+    let wires = tap_all(alloc, files, &plan.configs, wires, tap)?;
+    run_over(rt, alloc, settings, files, plan, wires)
 }
 
 // Runs a plan over wires, one for each configuration. What comes of its routers, in their order.
@@ -115,29 +87,57 @@ fn run_over<
     )
 }
 
-/// Runs a plan over wires, one for each configuration, and tells a tap of it. What comes of its routers, in their order.
-pub(crate) fn run_tapped<
-    'a,
+// Drives the routers, and looks the address up beside them.
+fn drive_and_look<
     W: Wire + Send + Drop + 'static,
-    T: Tap + Send + Drop + 'static,
     R: Threads + Wait + Clock + Copy + Send + Drop + 'static,
 >(
     rt: &R,
     alloc: Global,
-    settings: &Settings,
-    files: &'a [NamedFile],
-    plan: &Plan,
-    wires: Vec<W>,
-    tap: &T,
-) -> Result<Vec<Outcome<'a>>, Failure>
-    requires floor { plan.now.floor ≢ max_sequence_number }
-    requires files { length files.now ≡ length plan.now.configs.items }
-    requires wires { length wires.items ≡ length plan.now.configs.items }
-    requires fresh { All (λ wire. W.failed wire + 1 < 2 ^ 64) wires.items }
-    requires counted { All (λ wire. W.traffic wire ≡ Ticks 0 settings.now.ticks) wires.items }
-    ensures outcomes { IfOk result (λ all. ComeOf settings.now plan.now files.now all.items) }
-    ensures early { IfErr result (FailsPlan files.now) }
+    jobs: Vec<Job<W, R>>,
+    seats: Vec<Seat>,
+    lookup: Option<Addr>,
+) -> Result<(Vec<Driven<R>>, Vec<Looker>), AllocError>
+    requires { All (λ job. W.failed job.1 + 1 < 2 ^ 64) jobs.items }
+    ensures { (terms : Terms) (configs : List Config) → Pairs (λ config job. Begins terms.floor config job.0 job.2) configs jobs.items → All (λ job. W.traffic job.1 ≡ Ticks 0 terms.ticks) jobs.items → Pairs (λ job seat. seat ≡ job.2) jobs.items seats.items → IfOk result (λ ended. Trios terms configs ended.0.items ended.1.items) }
 {
-    let wires = tap_all(alloc, files, &plan.configs, wires, tap)?;
-    run_over(rt, alloc, settings, files, plan, wires)
+    let done = Arc::new(alloc, AtomicBool::new(false)).map_err(AllocError::from)?;
+    let mut lookers = Vec::with_capacity(alloc, seats.len())?;
+    start_lookers(*rt, seats, lookup, &done, &mut lookers);
+    let driven = drive_to_end(rt, alloc, jobs, &done)?;
+    Ok((driven, lookers))
+}
+
+// Starts to look the address up from the seats, in order.
+fn start_lookers<S: Threads + Wait + Clock + Copy + Send + 'static>(
+    rt: S,
+    mut seats: Vec<Seat>,
+    lookup: Option<Addr>,
+    done: &Done,
+    lookers: &mut Vec<Looker>,
+)
+    requires none { lookers.old.items ≡ [] }
+    requires room { vec_len seats ≤ vec_capacity lookers.old }
+    ensures { Pairs IsFrom seats.items lookers.new.items }
+{
+    while !seats.is_empty() {
+        let seat = seats.remove(0);
+        let looker = start_looker(rt, seat, lookup, done);
+        let Ok(()) = lookers.push(looker) else {
+            unreachable!()
+        };
+    }
+}
+
+// Drives the routers, and says when they are done.
+fn drive_to_end<
+    W: Wire + Send + Drop + 'static,
+    R: Threads + Wait + Clock + Copy + Send + Drop + 'static,
+>(rt: &R, alloc: Global, jobs: Vec<Job<W, R>>, done: &Done) -> Result<Vec<Driven<R>>, AllocError>
+    requires { All (λ job. W.failed job.1 + 1 < 2 ^ 64) jobs.items }
+    ensures { IfOk result (λ all. Pairs (λ job driven. IsDriven (at job.0 (W.traffic job.1) (W.failed job.1) job.2) driven) jobs.items all.items) }
+{
+    let driven = drive_all(rt, alloc, jobs);
+    done.store(true, Ordering::SeqCst);
+    driven
 }

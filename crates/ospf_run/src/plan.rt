@@ -26,6 +26,24 @@ pub(crate) struct Plan {
     pub floor: i32,
 }
 
+/// Finds what is to run: the floor, and the configurations in the files; or the first thing that keeps them from running.
+pub(crate) fn prepare<'a>(
+    alloc: Global,
+    floor: &Option<String>,
+    files: &'a [NamedFile],
+) -> Result<Plan, Stop<'a>>
+    ensures plan { IfOk result (IsPlanAt (option_map string_bytes floor.now) files.now) }
+    ensures stop { IfErr result (IsStop (option_map string_bytes floor.now) files.now) }
+{
+    match floor_in(floor) {
+        Some(least) if least == MAX_SEQUENCE_NUMBER => {
+            Err(Stop::Obstacle(Obstacle::GreatestFloor))
+        }
+        Some(least) => plan_above(alloc, floor, least, files),
+        None => Err(Stop::Obstacle(Obstacle::NoNumber)),
+    }
+}
+
 // The floor of a text.
 fn floor_in(text: &Option<String>) -> Option<i32>
     ensures some { IfSome result (IsFloorOf (option_map string_bytes text.now)) }
@@ -37,63 +55,37 @@ fn floor_in(text: &Option<String>) -> Option<i32>
     }
 }
 
-// Whether one of the configurations is of this router.
-fn is_among(configs: &[Config], router: RouterId) -> bool
-    ensures { IsTrue result ↔ IsAmong configs.now router }
+// The plan of files, where there is a floor.
+fn plan_above<'a>(
+    alloc: Global,
+    floor: &Option<String>,
+    least: i32,
+    files: &'a [NamedFile],
+) -> Result<Plan, Stop<'a>>
+    requires { HasFloor (option_map string_bytes floor.now) least }
+    ensures plan { IfOk result (IsPlanAt (option_map string_bytes floor.now) files.now) }
+    ensures stop { IfErr result (IsStop (option_map string_bytes floor.now) files.now) }
 {
-    for config in configs {
-        if config.router_id == router {
-            return true;
-        }
+    match first_unread(files) {
+        Some(file) => Err(Stop::Obstacle(Obstacle::Unread(file))),
+        None => plan_in(alloc, floor, least, files),
     }
-    false
 }
 
-// Whether two of the configurations are of one router.
-fn share_router(configs: &[Config]) -> bool
-    ensures { IsTrue result ↔ ShareRouter configs.now }
+// The plan of the configurations in files that were read.
+fn plan_in<'a>(
+    alloc: Global,
+    floor: &Option<String>,
+    least: i32,
+    files: &'a [NamedFile],
+) -> Result<Plan, Stop<'a>>
+    requires floor { HasFloor (option_map string_bytes floor.now) least }
+    requires read { AreRead files.now }
+    ensures plan { IfOk result (IsPlanAt (option_map string_bytes floor.now) files.now) }
+    ensures stop { IfErr result (IsStop (option_map string_bytes floor.now) files.now) }
 {
-    for (later, config) in configs.iter().enumerate() {
-        if is_among(&configs[..later], config.router_id) {
-            return true;
-        }
-    }
-    false
-}
-
-// Whether each interface has a port.
-fn has_ports(config: &Config) -> bool
-    ensures { IsTrue result ↔ HasPorts config.now }
-{
-    config
-        .interfaces
-        .iter()
-        .all(|interface| interface.port.is_some())
-}
-
-// The first file with an interface that has no port.
-fn first_portless<'a>(files: &'a [NamedFile], configs: &[Config]) -> Option<&'a NamedFile>
-    requires { length files.now ≡ length configs.now }
-    ensures some { IfSome result (λ file. IsFirstPortless file.now files.now configs.now) }
-    ensures none { IfNone result (All HasPorts configs.now) }
-{
-    for (place, config) in configs.iter().enumerate() {
-        if !has_ports(config) {
-            return Some(&files[place]);
-        }
-    }
-    None
-}
-
-// The configuration of a file, or its fault.
-fn read_config(alloc: Global, file: &NamedFile) -> Result<Result<Config, ConfigFault>, AllocError>
-    ensures { IfOk result (IsReadAs file.now) }
-{
-    match config_in(alloc, file.text()) {
-        Ok(config) => Ok(Ok(config)),
-        Err(ConfigFault::Memory) => Err(AllocError),
-        Err(fault) => Ok(Err(fault)),
-    }
+    let configs = read_configs(alloc, files)?;
+    plan_of(floor, least, files, configs)
 }
 
 // The configurations in files that were read.
@@ -109,6 +101,17 @@ fn read_configs<'a>(alloc: Global, files: &'a [NamedFile]) -> Result<Vec<Config>
         }
     }
     Ok(configs)
+}
+
+// The configuration of a file, or its fault.
+fn read_config(alloc: Global, file: &NamedFile) -> Result<Result<Config, ConfigFault>, AllocError>
+    ensures { IfOk result (IsReadAs file.now) }
+{
+    match config_in(alloc, file.text()) {
+        Ok(config) => Ok(Ok(config)),
+        Err(ConfigFault::Memory) => Err(AllocError),
+        Err(fault) => Ok(Err(fault)),
+    }
 }
 
 // The plan of configurations, if they can run beside each other.
@@ -136,53 +139,50 @@ fn plan_of<'a>(
     }
 }
 
-// The plan of the configurations in files that were read.
-fn plan_in<'a>(
-    alloc: Global,
-    floor: &Option<String>,
-    least: i32,
-    files: &'a [NamedFile],
-) -> Result<Plan, Stop<'a>>
-    requires floor { HasFloor (option_map string_bytes floor.now) least }
-    requires read { AreRead files.now }
-    ensures plan { IfOk result (IsPlanAt (option_map string_bytes floor.now) files.now) }
-    ensures stop { IfErr result (IsStop (option_map string_bytes floor.now) files.now) }
+// Whether two of the configurations are of one router.
+fn share_router(configs: &[Config]) -> bool
+    ensures { IsTrue result ↔ ShareRouter configs.now }
 {
-    let configs = read_configs(alloc, files)?;
-    plan_of(floor, least, files, configs)
-}
-
-// The plan of files, where there is a floor.
-fn plan_above<'a>(
-    alloc: Global,
-    floor: &Option<String>,
-    least: i32,
-    files: &'a [NamedFile],
-) -> Result<Plan, Stop<'a>>
-    requires { HasFloor (option_map string_bytes floor.now) least }
-    ensures plan { IfOk result (IsPlanAt (option_map string_bytes floor.now) files.now) }
-    ensures stop { IfErr result (IsStop (option_map string_bytes floor.now) files.now) }
-{
-    match first_unread(files) {
-        Some(file) => Err(Stop::Obstacle(Obstacle::Unread(file))),
-        None => plan_in(alloc, floor, least, files),
-    }
-}
-
-/// Finds what is to run: the floor, and the configurations in the files; or the first thing that keeps them from running.
-pub(crate) fn prepare<'a>(
-    alloc: Global,
-    floor: &Option<String>,
-    files: &'a [NamedFile],
-) -> Result<Plan, Stop<'a>>
-    ensures plan { IfOk result (IsPlanAt (option_map string_bytes floor.now) files.now) }
-    ensures stop { IfErr result (IsStop (option_map string_bytes floor.now) files.now) }
-{
-    match floor_in(floor) {
-        Some(least) if least == MAX_SEQUENCE_NUMBER => {
-            Err(Stop::Obstacle(Obstacle::GreatestFloor))
+    for (later, config) in configs.iter().enumerate() {
+        if is_among(&configs[..later], config.router_id) {
+            return true;
         }
-        Some(least) => plan_above(alloc, floor, least, files),
-        None => Err(Stop::Obstacle(Obstacle::NoNumber)),
     }
+    false
+}
+
+// Whether one of the configurations is of this router.
+fn is_among(configs: &[Config], router: RouterId) -> bool
+    ensures { IsTrue result ↔ IsAmong configs.now router }
+{
+    for config in configs {
+        if config.router_id == router {
+            return true;
+        }
+    }
+    false
+}
+
+// The first file with an interface that has no port.
+fn first_portless<'a>(files: &'a [NamedFile], configs: &[Config]) -> Option<&'a NamedFile>
+    requires { length files.now ≡ length configs.now }
+    ensures some { IfSome result (λ file. IsFirstPortless file.now files.now configs.now) }
+    ensures none { IfNone result (All HasPorts configs.now) }
+{
+    for (place, config) in configs.iter().enumerate() {
+        if !has_ports(config) {
+            return Some(&files[place]);
+        }
+    }
+    None
+}
+
+// Whether each interface has a port.
+fn has_ports(config: &Config) -> bool
+    ensures { IsTrue result ↔ HasPorts config.now }
+{
+    config
+        .interfaces
+        .iter()
+        .all(|interface| interface.port.is_some())
 }

@@ -11,26 +11,118 @@ use crate::finish::{Looked, Outcome, Shown};
 use crate::stop::line_about;
 use ospf_base::RouterId;
 use ospf_drive::DriveFault;
-use ospf_files::{FailedStreams, Failure, NamedFile, Status};
+use ospf_files::{FailedStreams, Failure, NamedFile, Status, print_lookup, print_routes};
 use ospf_router::Router;
 use ospf_script::FloorShown;
-use ospf_files::{print_lookup, print_routes};
 use std::alloc::{AllocError, Global};
 use std::io::Write;
+
+/// Writes the tables of the routers to `out`, and then tells on `err` why drivers ended that did not come to the end. The answer
+/// is the status to end with.
+pub(crate) fn report<O: Write, E: Write>(
+    alloc: Global,
+    outcomes: &[Outcome<'_>],
+    floors: bool,
+    out: &mut O,
+    err: &mut E,
+    streams: &mut FailedStreams,
+) -> Result<Status, Failure>
+    ensures reported { IfOk result (λ status. IsReported floors outcomes.now status
+        (O.contents out.old) (O.contents out.new) (E.contents err.old) (E.contents err.new)) }
+    ensures cut { IfErr result
+        (IsReportCut floors outcomes.now streams.new (O.contents out.old) (O.contents out.new)
+        (E.contents err.old) (E.contents err.new)) }
+{
+    print_outcomes(alloc, outcomes, floors, out, streams)?;
+    streams.flush(out)?;
+    tell_outcomes(alloc, outcomes, err, streams)?;
+    Ok(status_of(outcomes))
+}
+
+// Prints what came of routers to standard output, which may keep it until it is flushed.
+fn print_outcomes<O: Write>(
+    alloc: Global,
+    outcomes: &[Outcome<'_>],
+    floors: bool,
+    out: &mut O,
+    streams: &mut FailedStreams,
+) -> Result<(), Failure>
+    ensures printed { OnOk result
+        (Appends (O.contents out.old) (O.contents out.new) (report_lines floors outcomes.now)) }
+    ensures begun { OnErr result
+        (IsBegun (O.contents out.old) (O.contents out.new) (report_lines floors outcomes.now)) }
+    ensures cut { IfErr result (IsOutputCut streams.new) }
+{
+    for outcome in outcomes {
+        print_outcome(alloc, outcome, floors, out, streams)?;
+    }
+    Ok(())
+}
+
+// Prints what came of a router to standard output, if its driver came to the end.
+fn print_outcome<O: Write>(
+    alloc: Global,
+    outcome: &Outcome<'_>,
+    floors: bool,
+    out: &mut O,
+    streams: &mut FailedStreams,
+) -> Result<(), Failure>
+    ensures printed { OnOk result
+        (Appends (O.contents out.old) (O.contents out.new) (outcome_lines floors outcome.now)) }
+    ensures begun { OnErr result
+        (IsBegun (O.contents out.old) (O.contents out.new) (outcome_lines floors outcome.now)) }
+    ensures cut { IfErr result (IsOutputCut streams.new) }
+{
+    match &outcome.came {
+        Ok(shown) => print_router(alloc, outcome.router, shown, floors, out, streams),
+        Err(_) => Ok(()),
+    }
+}
+
+// Prints a router: its table, and what was asked for beside it.
+fn print_router<O: Write>(
+    alloc: Global,
+    router: RouterId,
+    shown: &Shown,
+    floors: bool,
+    out: &mut O,
+    streams: &mut FailedStreams,
+) -> Result<(), Failure>
+    ensures printed { OnOk result
+        (Appends (O.contents out.old) (O.contents out.new) (router_lines floors router shown.now)) }
+    ensures begun { OnErr result
+        (IsBegun (O.contents out.old) (O.contents out.new) (router_lines floors router shown.now)) }
+    ensures cut { IfErr result (IsOutputCut streams.new) }
+{
+    print_table(alloc, router, shown, out, streams)?;
+    print_looked(alloc, &shown.looked, out, streams)?;
+    print_floor(alloc, &shown.router, floors, out, streams)
+}
+
+// Prints the line of a router, and its routes.
+fn print_table<O: Write>(
+    alloc: Global,
+    router: RouterId,
+    shown: &Shown,
+    out: &mut O,
+    streams: &mut FailedStreams,
+) -> Result<(), Failure>
+    ensures printed { OnOk result
+        (Appends (O.contents out.old) (O.contents out.new) (table_lines router shown.now)) }
+    ensures begun { OnErr result
+        (IsBegun (O.contents out.old) (O.contents out.new) (table_lines router shown.now)) }
+    ensures cut { IfErr result (IsOutputCut streams.new) }
+{
+    let line = router_line(alloc, router)?;
+    streams.write(out, &line)?;
+    print_routes(alloc, shown.router.table().routes(), out, streams)
+}
 
 // The line of a router.
 fn router_line(alloc: Global, router: RouterId) -> Result<String, AllocError>
     ensures { IfOk result (λ line. string_bytes line ≡ router_line router) }
 {
     let line = format!(in alloc; "router {router}\n")?;
-    Ok(line)
-}
-
-// The line of the floor of a router's numbers.
-fn floor_line(alloc: Global, router: &Router) -> Result<String, AllocError>
-    ensures { IfOk result (λ line. string_bytes line ≡ floor_line router.now) }
-{
-    let line = format!(in alloc; "floor {}\n", FloorShown(router.floor()))?;
     Ok(line)
 }
 
@@ -74,120 +166,12 @@ fn print_floor<O: Write>(
     streams.write(out, &line)
 }
 
-// Prints the line of a router, and its routes.
-fn print_table<O: Write>(
-    alloc: Global,
-    router: RouterId,
-    shown: &Shown,
-    out: &mut O,
-    streams: &mut FailedStreams,
-) -> Result<(), Failure>
-    ensures printed { OnOk result
-        (Appends (O.contents out.old) (O.contents out.new) (table_lines router shown.now)) }
-    ensures begun { OnErr result
-        (IsBegun (O.contents out.old) (O.contents out.new) (table_lines router shown.now)) }
-    ensures cut { IfErr result (IsOutputCut streams.new) }
+// The line of the floor of a router's numbers.
+fn floor_line(alloc: Global, router: &Router) -> Result<String, AllocError>
+    ensures { IfOk result (λ line. string_bytes line ≡ floor_line router.now) }
 {
-    let line = router_line(alloc, router)?;
-    streams.write(out, &line)?;
-    print_routes(alloc, shown.router.table().routes(), out, streams)
-}
-
-// Prints a router: its table, and what was asked for beside it.
-fn print_router<O: Write>(
-    alloc: Global,
-    router: RouterId,
-    shown: &Shown,
-    floors: bool,
-    out: &mut O,
-    streams: &mut FailedStreams,
-) -> Result<(), Failure>
-    ensures printed { OnOk result
-        (Appends (O.contents out.old) (O.contents out.new) (router_lines floors router shown.now)) }
-    ensures begun { OnErr result
-        (IsBegun (O.contents out.old) (O.contents out.new) (router_lines floors router shown.now)) }
-    ensures cut { IfErr result (IsOutputCut streams.new) }
-{
-    print_table(alloc, router, shown, out, streams)?;
-    print_looked(alloc, &shown.looked, out, streams)?;
-    print_floor(alloc, &shown.router, floors, out, streams)
-}
-
-// Prints what came of a router to standard output, if its driver came to the end.
-fn print_outcome<O: Write>(
-    alloc: Global,
-    outcome: &Outcome<'_>,
-    floors: bool,
-    out: &mut O,
-    streams: &mut FailedStreams,
-) -> Result<(), Failure>
-    ensures printed { OnOk result
-        (Appends (O.contents out.old) (O.contents out.new) (outcome_lines floors outcome.now)) }
-    ensures begun { OnErr result
-        (IsBegun (O.contents out.old) (O.contents out.new) (outcome_lines floors outcome.now)) }
-    ensures cut { IfErr result (IsOutputCut streams.new) }
-{
-    match &outcome.came {
-        Ok(shown) => print_router(alloc, outcome.router, shown, floors, out, streams),
-        Err(_) => Ok(()),
-    }
-}
-
-// Prints what came of routers to standard output, which may keep it until it is flushed.
-fn print_outcomes<O: Write>(
-    alloc: Global,
-    outcomes: &[Outcome<'_>],
-    floors: bool,
-    out: &mut O,
-    streams: &mut FailedStreams,
-) -> Result<(), Failure>
-    ensures printed { OnOk result
-        (Appends (O.contents out.old) (O.contents out.new) (report_lines floors outcomes.now)) }
-    ensures begun { OnErr result
-        (IsBegun (O.contents out.old) (O.contents out.new) (report_lines floors outcomes.now)) }
-    ensures cut { IfErr result (IsOutputCut streams.new) }
-{
-    for outcome in outcomes {
-        print_outcome(alloc, outcome, floors, out, streams)?;
-    }
-    Ok(())
-}
-
-// Tells why a driver ended.
-fn tell_fault<E: Write>(
-    alloc: Global,
-    file: &NamedFile,
-    fault: DriveFault,
-    err: &mut E,
-    streams: &mut FailedStreams,
-) -> Result<(), Failure>
-    ensures told { OnOk result
-        (Appends (E.contents err.old) (E.contents err.new) (fault_line file.now fault)) }
-    ensures begun { OnErr result
-        (IsBegun (E.contents err.old) (E.contents err.new) (fault_line file.now fault)) }
-    ensures cut { IfErr result (IsErrorCut streams.new) }
-{
-    let line = line_about(alloc, file, fault.text())?;
-    streams.tell(err, &line)
-}
-
-// Tells why the driver of a router ended, if it did not come to the end.
-fn tell_outcome<E: Write>(
-    alloc: Global,
-    outcome: &Outcome<'_>,
-    err: &mut E,
-    streams: &mut FailedStreams,
-) -> Result<(), Failure>
-    ensures told { OnOk result
-        (Appends (E.contents err.old) (E.contents err.new) (outcome_told outcome.now)) }
-    ensures begun { OnErr result
-        (IsBegun (E.contents err.old) (E.contents err.new) (outcome_told outcome.now)) }
-    ensures cut { IfErr result (IsErrorCut streams.new) }
-{
-    match outcome.came {
-        Ok(_) => Ok(()),
-        Err(fault) => tell_fault(alloc, outcome.file, fault, err, streams),
-    }
+    let line = format!(in alloc; "floor {}\n", FloorShown(router.floor()))?;
+    Ok(line)
 }
 
 // Tells why drivers ended.
@@ -209,35 +193,41 @@ fn tell_outcomes<E: Write>(
     Ok(())
 }
 
-// Whether a wire or a thread failed a router.
-fn has_failed(outcome: &Outcome<'_>) -> bool
-    ensures { result ≡ is_failed outcome.now }
+// Tells why the driver of a router ended, if it did not come to the end.
+fn tell_outcome<E: Write>(
+    alloc: Global,
+    outcome: &Outcome<'_>,
+    err: &mut E,
+    streams: &mut FailedStreams,
+) -> Result<(), Failure>
+    ensures told { OnOk result
+        (Appends (E.contents err.old) (E.contents err.new) (outcome_told outcome.now)) }
+    ensures begun { OnErr result
+        (IsBegun (E.contents err.old) (E.contents err.new) (outcome_told outcome.now)) }
+    ensures cut { IfErr result (IsErrorCut streams.new) }
 {
     match outcome.came {
-        Err(DriveFault::Recv | DriveFault::Send | DriveFault::Thread) => true,
-        Ok(_) | Err(DriveFault::Stopped | DriveFault::Publish) => false,
+        Ok(_) => Ok(()),
+        Err(fault) => tell_fault(alloc, outcome.file, fault, err, streams),
     }
 }
 
-// Whether a driver did not come to the end.
-fn has_ended_early(outcome: &Outcome<'_>) -> bool
-    ensures { result ≡ is_early outcome.now }
+// Tells why a driver ended.
+fn tell_fault<E: Write>(
+    alloc: Global,
+    file: &NamedFile,
+    fault: DriveFault,
+    err: &mut E,
+    streams: &mut FailedStreams,
+) -> Result<(), Failure>
+    ensures told { OnOk result
+        (Appends (E.contents err.old) (E.contents err.new) (fault_line file.now fault)) }
+    ensures begun { OnErr result
+        (IsBegun (E.contents err.old) (E.contents err.new) (fault_line file.now fault)) }
+    ensures cut { IfErr result (IsErrorCut streams.new) }
 {
-    outcome.came.is_err()
-}
-
-// Whether a wire or a thread failed one of the routers.
-fn have_failed(outcomes: &[Outcome<'_>]) -> bool
-    ensures { result ≡ list_any is_failed outcomes.now }
-{
-    outcomes.iter().any(|outcome| has_failed(outcome))
-}
-
-// Whether one of the drivers did not come to the end.
-fn have_ended_early(outcomes: &[Outcome<'_>]) -> bool
-    ensures { result ≡ list_any is_early outcomes.now }
-{
-    outcomes.iter().any(|outcome| has_ended_early(outcome))
+    let line = line_about(alloc, file, fault.text())?;
+    streams.tell(err, &line)
 }
 
 // The status of a run.
@@ -253,24 +243,33 @@ fn status_of(outcomes: &[Outcome<'_>]) -> Status
     }
 }
 
-/// Writes the tables of the routers to `out`, and then tells on `err` why drivers ended that did not come to the end. The answer
-/// is the status to end with.
-pub(crate) fn report<O: Write, E: Write>(
-    alloc: Global,
-    outcomes: &[Outcome<'_>],
-    floors: bool,
-    out: &mut O,
-    err: &mut E,
-    streams: &mut FailedStreams,
-) -> Result<Status, Failure>
-    ensures reported { IfOk result (λ status. IsReported floors outcomes.now status
-        (O.contents out.old) (O.contents out.new) (E.contents err.old) (E.contents err.new)) }
-    ensures cut { IfErr result
-        (IsReportCut floors outcomes.now streams.new (O.contents out.old) (O.contents out.new)
-        (E.contents err.old) (E.contents err.new)) }
+// Whether a wire or a thread failed one of the routers.
+fn have_failed(outcomes: &[Outcome<'_>]) -> bool
+    ensures { result ≡ list_any is_failed outcomes.now }
 {
-    print_outcomes(alloc, outcomes, floors, out, streams)?;
-    streams.flush(out)?;
-    tell_outcomes(alloc, outcomes, err, streams)?;
-    Ok(status_of(outcomes))
+    outcomes.iter().any(|outcome| has_failed(outcome))
+}
+
+// Whether a wire or a thread failed a router.
+fn has_failed(outcome: &Outcome<'_>) -> bool
+    ensures { result ≡ is_failed outcome.now }
+{
+    match outcome.came {
+        Err(DriveFault::Recv | DriveFault::Send | DriveFault::Thread) => true,
+        Ok(_) | Err(DriveFault::Stopped | DriveFault::Publish) => false,
+    }
+}
+
+// Whether one of the drivers did not come to the end.
+fn have_ended_early(outcomes: &[Outcome<'_>]) -> bool
+    ensures { result ≡ list_any is_early outcomes.now }
+{
+    outcomes.iter().any(|outcome| has_ended_early(outcome))
+}
+
+// Whether a driver did not come to the end.
+fn has_ended_early(outcome: &Outcome<'_>) -> bool
+    ensures { result ≡ is_early outcome.now }
+{
+    outcome.came.is_err()
 }

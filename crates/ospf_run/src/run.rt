@@ -25,111 +25,6 @@ use std::sync::Wait;
 use std::thread::Threads;
 use std::time::Clock;
 
-// Runs a plan over sockets of this machine. What comes of its routers, in their order.
-fn run_plan<
-    'a,
-    R: Net + Threads + Wait + Clock + Copy + Send + Drop + 'static,
-    T: Tap + Send + Drop + 'static,
->(
-    rt: &R,
-    alloc: Global,
-    settings: &Settings,
-    files: &'a [NamedFile],
-    plan: &Plan,
-    tap: &T,
-) -> Result<Vec<Outcome<'a>>, Stop<'a>>
-    requires { IsPlanAt (floor_of settings.now) files.now plan.now }
-    ensures outcomes { IfOk result (λ all. ComeOf settings.now plan.now files.now all.items) }
-    ensures stop { IfErr result (IsStop (floor_of settings.now) files.now) }
-{
-    let wires = open_wires(rt, *rt, alloc, settings, files, &plan.configs)?;
-    let outcomes = run_tapped(rt, alloc, settings, files, plan, wires, tap)?;
-    Ok(outcomes)
-}
-
-// Runs routers of the configurations in files, if they can run. What comes of them, in their order.
-fn run<
-    'a,
-    R: Net + Threads + Wait + Clock + Copy + Send + Drop + 'static,
-    T: Tap + Send + Drop + 'static,
->(
-    rt: &R,
-    alloc: Global,
-    settings: &Settings,
-    files: &'a [NamedFile],
-    tap: &T,
-) -> Result<Vec<Outcome<'a>>, Stop<'a>>
-    ensures outcomes { IfOk result (λ all. RunsTo settings.now files.now all.items) }
-    ensures stop { IfErr result (IsStop (floor_of settings.now) files.now) }
-{
-    let plan = prepare(alloc, &settings.floor, files)?;
-    run_plan(rt, alloc, settings, files, &plan, tap)
-}
-
-// Tells why the routers that settings and files ask for did not run to their end. The answer is the status to end with.
-fn tell_stop<E: Write>(
-    alloc: Global,
-    settings: &Settings,
-    files: &[NamedFile],
-    stop: Stop<'_>,
-    err: &mut E,
-    streams: &mut FailedStreams,
-) -> Result<Status, Failure>
-    requires { IsStop (floor_of settings.now) files.now stop }
-    ensures { (out : Option (List ℕ)) → EndsBy settings.now files.now streams.new out out
-        (E.contents err.old) (E.contents err.new) result }
-{
-    match stop {
-        Stop::Obstacle(obstacle) => {
-            tell_obstacle(alloc, obstacle, err, streams)?;
-            Ok(status_of(obstacle))
-        }
-        Stop::Failure(failure) => Err(failure),
-    }
-}
-
-// Writes what came of the routers that settings and files ask for, or tells why they did not run to their end. The answer is
-// the status to end with.
-fn say<O: Write, E: Write>(
-    alloc: Global,
-    settings: &Settings,
-    files: &[NamedFile],
-    ran: Result<Vec<Outcome<'_>>, Stop<'_>>,
-    out: &mut O,
-    err: &mut E,
-    streams: &mut FailedStreams,
-) -> Result<Status, Failure>
-    requires outcomes { IfOk ran (λ all. RunsTo settings.now files.now all.items) }
-    requires stop { IfErr ran (IsStop (floor_of settings.now) files.now) }
-    ensures { EndsBy settings.now files.now streams.new (O.contents out.old) (O.contents out.new)
-        (E.contents err.old) (E.contents err.new) result }
-{
-    match ran {
-        Ok(outcomes) => report(
-            alloc,
-            &outcomes,
-            settings.floor.is_some(),
-            out,
-            err,
-            streams,
-        ),
-        Err(stop) => tell_stop(alloc, settings, files, stop, err, streams),
-    }
-}
-
-// Tells last what failed, if anything did. The answer is the status to end with.
-fn end<E: Write>(said: Result<Status, Failure>, err: &mut E, streams: &mut FailedStreams) -> Status
-    ensures status { result ≡ last_status said }
-    ensures quiet { OnOk said (E.contents err.new ≡ E.contents err.old) }
-    ensures told { IfErr said (λ failure. IsTold streams.old streams.new (E.contents err.old)
-        (E.contents err.new) (failure_line failure)) }
-{
-    match said {
-        Ok(status) => status,
-        Err(failure) => failure.tell(err, streams),
-    }
-}
-
 /// Runs a router for each configuration that files hold, in a thread of its own, over UDP on this machine.
 ///
 /// Each starts with DD sequence number 1 and the floor. All sockets are made before any link goes up. At the end each router
@@ -171,4 +66,109 @@ pub fn run_text<
     let mut streams = FailedStreams::none();
     let said = say(alloc, settings, files, ran, out, err, &mut streams);
     end(said, err, &mut streams)
+}
+
+// Runs routers of the configurations in files, if they can run. What comes of them, in their order.
+fn run<
+    'a,
+    R: Net + Threads + Wait + Clock + Copy + Send + Drop + 'static,
+    T: Tap + Send + Drop + 'static,
+>(
+    rt: &R,
+    alloc: Global,
+    settings: &Settings,
+    files: &'a [NamedFile],
+    tap: &T,
+) -> Result<Vec<Outcome<'a>>, Stop<'a>>
+    ensures outcomes { IfOk result (λ all. RunsTo settings.now files.now all.items) }
+    ensures stop { IfErr result (IsStop (floor_of settings.now) files.now) }
+{
+    let plan = prepare(alloc, &settings.floor, files)?;
+    run_plan(rt, alloc, settings, files, &plan, tap)
+}
+
+// Runs a plan over sockets of this machine. What comes of its routers, in their order.
+fn run_plan<
+    'a,
+    R: Net + Threads + Wait + Clock + Copy + Send + Drop + 'static,
+    T: Tap + Send + Drop + 'static,
+>(
+    rt: &R,
+    alloc: Global,
+    settings: &Settings,
+    files: &'a [NamedFile],
+    plan: &Plan,
+    tap: &T,
+) -> Result<Vec<Outcome<'a>>, Stop<'a>>
+    requires { IsPlanAt (floor_of settings.now) files.now plan.now }
+    ensures outcomes { IfOk result (λ all. ComeOf settings.now plan.now files.now all.items) }
+    ensures stop { IfErr result (IsStop (floor_of settings.now) files.now) }
+{
+    let wires = open_wires(rt, *rt, alloc, settings, files, &plan.configs)?;
+    let outcomes = run_tapped(rt, alloc, settings, files, plan, wires, tap)?;
+    Ok(outcomes)
+}
+
+// Writes what came of the routers that settings and files ask for, or tells why they did not run to their end. The answer is
+// the status to end with.
+fn say<O: Write, E: Write>(
+    alloc: Global,
+    settings: &Settings,
+    files: &[NamedFile],
+    ran: Result<Vec<Outcome<'_>>, Stop<'_>>,
+    out: &mut O,
+    err: &mut E,
+    streams: &mut FailedStreams,
+) -> Result<Status, Failure>
+    requires outcomes { IfOk ran (λ all. RunsTo settings.now files.now all.items) }
+    requires stop { IfErr ran (IsStop (floor_of settings.now) files.now) }
+    ensures { EndsBy settings.now files.now streams.new (O.contents out.old) (O.contents out.new)
+        (E.contents err.old) (E.contents err.new) result }
+{
+    match ran {
+        Ok(outcomes) => report(
+            alloc,
+            &outcomes,
+            settings.floor.is_some(),
+            out,
+            err,
+            streams,
+        ),
+        Err(stop) => tell_stop(alloc, settings, files, stop, err, streams),
+    }
+}
+
+// Tells why the routers that settings and files ask for did not run to their end. The answer is the status to end with.
+fn tell_stop<E: Write>(
+    alloc: Global,
+    settings: &Settings,
+    files: &[NamedFile],
+    stop: Stop<'_>,
+    err: &mut E,
+    streams: &mut FailedStreams,
+) -> Result<Status, Failure>
+    requires { IsStop (floor_of settings.now) files.now stop }
+    ensures { (out : Option (List ℕ)) → EndsBy settings.now files.now streams.new out out
+        (E.contents err.old) (E.contents err.new) result }
+{
+    match stop {
+        Stop::Obstacle(obstacle) => {
+            tell_obstacle(alloc, obstacle, err, streams)?;
+            Ok(status_of(obstacle))
+        }
+        Stop::Failure(failure) => Err(failure),
+    }
+}
+
+// Tells last what failed, if anything did. The answer is the status to end with.
+fn end<E: Write>(said: Result<Status, Failure>, err: &mut E, streams: &mut FailedStreams) -> Status
+    ensures status { result ≡ last_status said }
+    ensures quiet { OnOk said (E.contents err.new ≡ E.contents err.old) }
+    ensures told { IfErr said (λ failure. IsTold streams.old streams.new (E.contents err.old)
+        (E.contents err.new) (failure_line failure)) }
+{
+    match said {
+        Ok(status) => status,
+        Err(failure) => failure.tell(err, streams),
+    }
 }

@@ -78,19 +78,6 @@ impl<W: Wire + Drop, T: Tap + Drop> Wire for TappedWire<W, T> {
     }
 }
 
-// A wire, and a tap of its own.
-fn tapped<W: Wire + Drop, T: Tap + Drop>(
-    wire: W,
-    tap: &T,
-    file: &NamedFile,
-    config: &Config,
-) -> Result<TappedWire<W, T>, AllocError>
-    ensures { IfOk result (λ it. it.wire ≡ wire) }
-{
-    let tap = tap.another(file, config)?;
-    Ok(TappedWire { wire, tap })
-}
-
 /// The same wires, in the same order, of each of which a tap of its own is told: that of the file and the configuration
 /// at its place.
 ///
@@ -112,4 +99,17 @@ pub(crate) fn tap_all<W: Wire + Drop, T: Tap + Drop>(
         put(&mut all, tapped(wire, tap, &files[place], config)?)?;
     }
     Ok(all)
+}
+
+// A wire, and a tap of its own.
+fn tapped<W: Wire + Drop, T: Tap + Drop>(
+    wire: W,
+    tap: &T,
+    file: &NamedFile,
+    config: &Config,
+) -> Result<TappedWire<W, T>, AllocError>
+    ensures { IfOk result (λ it. it.wire ≡ wire) }
+{
+    let tap = tap.another(file, config)?;
+    Ok(TappedWire { wire, tap })
 }

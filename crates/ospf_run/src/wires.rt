@@ -14,24 +14,6 @@ use std::alloc::{AllocError, Global};
 use std::net::Net;
 use std::time::{Clock, Duration};
 
-// The wire of a router whose interfaces have ports; `None` where a socket could not be made.
-fn open_wire<N: Net, C: Clock + Drop>(
-    net: &N,
-    clock: C,
-    alloc: Global,
-    settings: &Settings,
-    config: &Config,
-) -> Result<Option<UdpWire<C>>, AllocError>
-    ensures { IfOk result (λ found. IfSome found (IsFresh settings.now.ticks)) }
-{
-    let period = Duration::from_millis(settings.milliseconds);
-    match UdpWire::open(net, alloc, clock, config, period, settings.ticks) {
-        Ok(wire) => Ok(Some(wire)),
-        Err(OpenFault::Memory) => Err(AllocError),
-        Err(OpenFault::NoPort | OpenFault::Socket) => Ok(None),
-    }
-}
-
 /// The wires of routers whose interfaces have ports, or the first file of whose router a socket could not be made.
 pub(crate) fn open_wires<'a, N: Net, C: Clock + Copy + Drop>(
     net: &N,
@@ -53,4 +35,22 @@ pub(crate) fn open_wires<'a, N: Net, C: Clock + Copy + Drop>(
         }
     }
     Ok(wires)
+}
+
+// The wire of a router whose interfaces have ports; `None` where a socket could not be made.
+fn open_wire<N: Net, C: Clock + Drop>(
+    net: &N,
+    clock: C,
+    alloc: Global,
+    settings: &Settings,
+    config: &Config,
+) -> Result<Option<UdpWire<C>>, AllocError>
+    ensures { IfOk result (λ found. IfSome found (IsFresh settings.now.ticks)) }
+{
+    let period = Duration::from_millis(settings.milliseconds);
+    match UdpWire::open(net, alloc, clock, config, period, settings.ticks) {
+        Ok(wire) => Ok(Some(wire)),
+        Err(OpenFault::Memory) => Err(AllocError),
+        Err(OpenFault::NoPort | OpenFault::Socket) => Ok(None),
+    }
 }

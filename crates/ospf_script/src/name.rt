@@ -44,6 +44,17 @@ impl Name {
         }
     }
 
+    // The name that a word is, if it is one.
+    pub(crate) fn read(word: &[u8]) -> Option<Name>
+        ensures some { IfSome result (λ name. word.now ≡ name_text name) }
+        ensures none { IfNone result ((name : Name) → word.now ≡ name_text name → ⊥) }
+    {
+        match str::from_utf8(word) {
+            Ok(text) => Name::of_text(text),
+            Err(_) => None,
+        }
+    }
+
     // The name that a text is, if it is one.
     fn of_text(text: &str) -> Option<Name>
         ensures some { IfSome result (λ name. text.now ≡ name_text name) }
@@ -66,16 +77,5 @@ impl Name {
             _ => return None,
         };
         Some(name)
-    }
-
-    // The name that a word is, if it is one.
-    pub(crate) fn read(word: &[u8]) -> Option<Name>
-        ensures some { IfSome result (λ name. word.now ≡ name_text name) }
-        ensures none { IfNone result ((name : Name) → word.now ≡ name_text name → ⊥) }
-    {
-        match str::from_utf8(word) {
-            Ok(text) => Name::of_text(text),
-            Err(_) => None,
-        }
     }
 }

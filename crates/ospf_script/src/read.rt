@@ -15,21 +15,56 @@ use crate::walk::walk_in;
 use crate::words::first_word;
 use std::alloc::Global;
 
-// The command of a router alone, of this name and of the words behind it.
-fn of_router(name: Name, text: &[u8]) -> Option<Command>
-    ensures named { IfSome result (λ command. name_of command ≡ name) }
-    ensures some { IfSome result (λ command. Takes command (words text.now)) }
-    ensures none { IfNone result (IsOfRouter name → (command : Command) → name_of command ≡ name → Takes command (words text.now) → ⊥) }
+impl Command {
+    ghost use Rattle.std.specs.Prelude.{◌≡◌, ◌↔◌, IfOk, IfErr, IfSome, IsNone};
+    ghost use Rattle.ospf_script.specs.Commands.{IsUnreadable, Spells, SpellsLongWalk};
+    ghost use Rattle.ospf_script.specs.Words.{IsBlank, words};
+
+    /// Reads a line of a script, without its end: the command that its words spell, or `None` of a blank line.
+    ///
+    /// Words stand between spaces, and nothing else ends one. Numbers are decimal digits, of 32 bits where they are a first
+    /// DD sequence number or a choice, else of 64; a floor is eight hexadecimal digits of either case, and 80000000 where
+    /// it is left out. The error is `NotACommand` where the words of a line that is not blank spell none. `Memory` comes
+    /// only where there was no room for the choices of a walk.
+    pub fn read(alloc: Global, line: &[u8]) -> Result<Option<Command>, LineFault>
+        ensures command { IfOk result (λ read. IfSome read (Spells (words line.now))) }
+        ensures blank { IfOk result (λ read. IsNone read ↔ IsBlank line.now) }
+        ensures not_a_command { IfErr result (λ e. e ≡ LineFault.NotACommand → IsUnreadable line.now) }
+        ensures memory { IfErr result (λ e. e ≡ LineFault.Memory → SpellsLongWalk (words line.now)) }
+    {
+        let Some((word, rest)) = first_word(line) else {
+            return Ok(None);
+        };
+        let Some(name) = Name::read(word) else {
+            return Err(LineFault::NotACommand);
+        };
+        match of_words(alloc, name, rest) {
+            Ok(command) => Ok(Some(command)),
+            Err(fault) => Err(fault),
+        }
+    }
+}
+
+// The command of a name, and of the words behind it.
+fn of_words(alloc: Global, name: Name, text: &[u8]) -> Result<Command, LineFault>
+    ensures named { IfOk result (λ command. name_of command ≡ name) }
+    ensures ok { IfOk result (λ command. Takes command (words text.now)) }
+    ensures not_a_command { IfErr result (λ e. e ≡ LineFault.NotACommand → (command : Command) → name_of command ≡ name → Takes command (words text.now) → ⊥) }
+    ensures memory { IfErr result (λ e. e ≡ LineFault.Memory → (name ≡ names.Walk) × IsLongWalk (words text.now)) }
 {
-    let router = router_in(text)?;
     match name {
-        Name::Stop => Some(Command::Stop { router }),
-        Name::Tick => Some(Command::Tick { router }),
-        Name::Neighbours => Some(Command::Neighbours { router }),
-        Name::Listing => Some(Command::Listing { router }),
-        Name::Table => Some(Command::Table { router }),
-        Name::Floor => Some(Command::Floor { router }),
-        _ => None,
+        Name::Walk => match walk_in(alloc, text) {
+            Ok((from, address, choices)) => Ok(Command::Walk {
+                from,
+                address,
+                choices,
+            }),
+            Err(fault) => Err(fault),
+        },
+        _ => match of_name(name, text) {
+            Some(command) => Ok(command),
+            None => Err(LineFault::NotACommand),
+        },
     }
 }
 
@@ -77,55 +112,20 @@ fn of_name(name: Name, text: &[u8]) -> Option<Command>
     }
 }
 
-// The command of a name, and of the words behind it.
-fn of_words(alloc: Global, name: Name, text: &[u8]) -> Result<Command, LineFault>
-    ensures named { IfOk result (λ command. name_of command ≡ name) }
-    ensures ok { IfOk result (λ command. Takes command (words text.now)) }
-    ensures not_a_command { IfErr result (λ e. e ≡ LineFault.NotACommand → (command : Command) → name_of command ≡ name → Takes command (words text.now) → ⊥) }
-    ensures memory { IfErr result (λ e. e ≡ LineFault.Memory → (name ≡ names.Walk) × IsLongWalk (words text.now)) }
+// The command of a router alone, of this name and of the words behind it.
+fn of_router(name: Name, text: &[u8]) -> Option<Command>
+    ensures named { IfSome result (λ command. name_of command ≡ name) }
+    ensures some { IfSome result (λ command. Takes command (words text.now)) }
+    ensures none { IfNone result (IsOfRouter name → (command : Command) → name_of command ≡ name → Takes command (words text.now) → ⊥) }
 {
+    let router = router_in(text)?;
     match name {
-        Name::Walk => match walk_in(alloc, text) {
-            Ok((from, address, choices)) => Ok(Command::Walk {
-                from,
-                address,
-                choices,
-            }),
-            Err(fault) => Err(fault),
-        },
-        _ => match of_name(name, text) {
-            Some(command) => Ok(command),
-            None => Err(LineFault::NotACommand),
-        },
-    }
-}
-
-impl Command {
-    ghost use Rattle.std.specs.Prelude.{◌≡◌, ◌↔◌, IfOk, IfErr, IfSome, IsNone};
-    ghost use Rattle.ospf_script.specs.Commands.{IsUnreadable, Spells, SpellsLongWalk};
-    ghost use Rattle.ospf_script.specs.Words.{IsBlank, words};
-
-    /// Reads a line of a script, without its end: the command that its words spell, or `None` of a blank line.
-    ///
-    /// Words stand between spaces, and nothing else ends one. Numbers are decimal digits, of 32 bits where they are a first
-    /// DD sequence number or a choice, else of 64; a floor is eight hexadecimal digits of either case, and 80000000 where
-    /// it is left out. The error is `NotACommand` where the words of a line that is not blank spell none. `Memory` comes
-    /// only where there was no room for the choices of a walk.
-    pub fn read(alloc: Global, line: &[u8]) -> Result<Option<Command>, LineFault>
-        ensures command { IfOk result (λ read. IfSome read (Spells (words line.now))) }
-        ensures blank { IfOk result (λ read. IsNone read ↔ IsBlank line.now) }
-        ensures not_a_command { IfErr result (λ e. e ≡ LineFault.NotACommand → IsUnreadable line.now) }
-        ensures memory { IfErr result (λ e. e ≡ LineFault.Memory → SpellsLongWalk (words line.now)) }
-    {
-        let Some((word, rest)) = first_word(line) else {
-            return Ok(None);
-        };
-        let Some(name) = Name::read(word) else {
-            return Err(LineFault::NotACommand);
-        };
-        match of_words(alloc, name, rest) {
-            Ok(command) => Ok(Some(command)),
-            Err(fault) => Err(fault),
-        }
+        Name::Stop => Some(Command::Stop { router }),
+        Name::Tick => Some(Command::Tick { router }),
+        Name::Neighbours => Some(Command::Neighbours { router }),
+        Name::Listing => Some(Command::Listing { router }),
+        Name::Table => Some(Command::Table { router }),
+        Name::Floor => Some(Command::Floor { router }),
+        _ => None,
     }
 }

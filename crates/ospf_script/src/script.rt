@@ -16,16 +16,6 @@ pub struct Line<'a> {
     pub text: &'a [u8],
 }
 
-// A line without a carriage return at its end.
-fn without_return(line: &[u8]) -> &[u8]
-    ensures { result.now ≡ strip_carriage_return line.now }
-{
-    match line {
-        [text @ .., b'\r'] => text,
-        _ => line,
-    }
-}
-
 /// The first line of a text, without its end, and what stands behind it; `None` of a text that is empty.
 ///
 /// A line ends with a line feed, before which a carriage return may stand, or with the text.
@@ -59,4 +49,14 @@ pub fn lines(alloc: Global, text: &[u8]) -> Result<Vec<Line<'_>>, AllocError>
         rest = behind;
     }
     Ok(found)
+}
+
+// A line without a carriage return at its end.
+fn without_return(line: &[u8]) -> &[u8]
+    ensures { result.now ≡ strip_carriage_return line.now }
+{
+    match line {
+        [text @ .., b'\r'] => text,
+        _ => line,
+    }
 }

@@ -6,24 +6,6 @@ ghost use Rattle.ospf_script.specs.Texts.{choices_text, floor_text};
 use crate::command::Command;
 use std::fmt::{self, Display, Formatter, Write};
 
-// A floor in eight hexadecimal digits.
-pub(crate) fn write_floor<W: Write>(f: &mut Formatter<W>, floor: i32) -> fmt::Result
-    ensures { WritesOnOk W.Write.write_str_gives f.old result (floor_text floor) f.new }
-{
-    let bits = floor.cast_unsigned();
-    write!(f, "{bits:08x}")
-}
-
-// Choices, each behind a space.
-fn write_choices<W: Write>(f: &mut Formatter<W>, choices: &[u32]) -> fmt::Result
-    ensures { WritesOnOk W.Write.write_str_gives f.old result (choices_text choices.now) f.new }
-{
-    for choice in choices {
-        write!(f, " {choice}")?;
-    }
-    Ok(())
-}
-
 /// As a line of a script, with the floor of a start, which is read as the same command.
 impl Display for Command {
     ghost use Rattle.std.specs.Prelude.{Some};
@@ -66,4 +48,22 @@ impl Display for Command {
             Command::Floor { router } => write!(f, "floor {router}"),
         }
     }
+}
+
+// A floor in eight hexadecimal digits.
+pub(crate) fn write_floor<W: Write>(f: &mut Formatter<W>, floor: i32) -> fmt::Result
+    ensures { WritesOnOk W.Write.write_str_gives f.old result (floor_text floor) f.new }
+{
+    let bits = floor.cast_unsigned();
+    write!(f, "{bits:08x}")
+}
+
+// Choices, each behind a space.
+fn write_choices<W: Write>(f: &mut Formatter<W>, choices: &[u32]) -> fmt::Result
+    ensures { WritesOnOk W.Write.write_str_gives f.old result (choices_text choices.now) f.new }
+{
+    for choice in choices {
+        write!(f, " {choice}")?;
+    }
+    Ok(())
 }

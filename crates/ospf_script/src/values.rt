@@ -13,34 +13,16 @@ const FLOOR_DIGITS: usize = 8;
 
 const HEXADECIMAL: u32 = 16;
 
-// A word as text, where it is some.
-fn text_of(word: &[u8]) -> Option<&str>
-    ensures some { IfSome result (λ text. text.now ≡ word.now) }
-    ensures none { IfNone result (IsUtf8 word.now → ⊥) }
+/// The floor of LS sequence numbers that a word spells: eight hexadecimal digits, of either case, in two's complement.
+pub fn floor_of(word: &[u8]) -> Option<i32>
+    ensures some { IfSome result (IsFloor word.now) }
+    ensures none { IfNone result ((floor : ℤ) → IsFloor word.now floor → ⊥) }
 {
-    match str::from_utf8(word) {
-        Ok(text) => Some(text),
-        Err(_) => None,
+    if word.len() != FLOOR_DIGITS || has_plus(word) {
+        return None;
     }
-}
-
-// Whether a word begins with a plus, which the digits of a number do not.
-fn has_plus(word: &[u8]) -> bool
-    ensures { IsTrue result ↔ (slice_index word.now 0 ≡ 43) }
-{
-    word.first() == Some(&b'+')
-}
-
-// The number that a dotted word spells.
-fn dotted(word: &[u8]) -> Option<u32>
-    ensures some { IfSome result (IsDotted32 word.now) }
-    ensures none { IfNone result ((n : ℕ) → IsDotted32 word.now n → ⊥) }
-{
-    match text_of(word)?.parse::<Addr>() {
-        Ok(address) => {
-            let number = address.0;
-            Some(number)
-        }
+    match u32::from_str_radix(text_of(word)?, HEXADECIMAL) {
+        Ok(bits) => Some(bits.cast_signed()),
         Err(_) => None,
     }
 }
@@ -93,16 +75,34 @@ pub(crate) fn short_number_of(word: &[u8]) -> Option<u32>
     Some(number as u32)
 }
 
-/// The floor of LS sequence numbers that a word spells: eight hexadecimal digits, of either case, in two's complement.
-pub fn floor_of(word: &[u8]) -> Option<i32>
-    ensures some { IfSome result (IsFloor word.now) }
-    ensures none { IfNone result ((floor : ℤ) → IsFloor word.now floor → ⊥) }
+// Whether a word begins with a plus, which the digits of a number do not.
+fn has_plus(word: &[u8]) -> bool
+    ensures { IsTrue result ↔ (slice_index word.now 0 ≡ 43) }
 {
-    if word.len() != FLOOR_DIGITS || has_plus(word) {
-        return None;
+    word.first() == Some(&b'+')
+}
+
+// A word as text, where it is some.
+fn text_of(word: &[u8]) -> Option<&str>
+    ensures some { IfSome result (λ text. text.now ≡ word.now) }
+    ensures none { IfNone result (IsUtf8 word.now → ⊥) }
+{
+    match str::from_utf8(word) {
+        Ok(text) => Some(text),
+        Err(_) => None,
     }
-    match u32::from_str_radix(text_of(word)?, HEXADECIMAL) {
-        Ok(bits) => Some(bits.cast_signed()),
+}
+
+// The number that a dotted word spells.
+fn dotted(word: &[u8]) -> Option<u32>
+    ensures some { IfSome result (IsDotted32 word.now) }
+    ensures none { IfNone result ((n : ℕ) → IsDotted32 word.now n → ⊥) }
+{
+    match text_of(word)?.parse::<Addr>() {
+        Ok(address) => {
+            let number = address.0;
+            Some(number)
+        }
         Err(_) => None,
     }
 }

@@ -12,65 +12,6 @@ use std::fmt::{self, Display, Formatter, Write};
 #[derive(Clone, Copy, Debug, PartialEq, Eq)]
 pub struct FloorShown(pub i32);
 
-/// A line that was refused: its number, and the text of its fault.
-#[derive(Clone, Copy, Debug, PartialEq, Eq)]
-pub struct RefusalShown<'a> {
-    pub number: u64,
-    pub fault: &'a str,
-}
-
-/// A neighbour: the number of its link, its Router ID, and the name of its state.
-#[derive(Clone, Copy, Debug, PartialEq, Eq)]
-pub struct NeighbourShown<'a> {
-    pub link: usize,
-    pub router: RouterId,
-    pub state: &'a str,
-}
-
-/// An LSA of a listing: what names it and its instance.
-#[derive(Clone, Copy, Debug, PartialEq, Eq)]
-pub struct ListedShown(pub Instance);
-
-/// A walk: the routers that it met, what it cost, and the name of how it ended.
-#[derive(Clone, Copy, Debug, PartialEq, Eq)]
-pub struct WalkShown<'a> {
-    pub routers: &'a [RouterId],
-    pub cost: u128,
-    pub end: &'a str,
-}
-
-// Router IDs, each before a space.
-fn write_routers<W: Write>(f: &mut Formatter<W>, routers: &[RouterId]) -> fmt::Result
-    ensures { WritesOnOk W.Write.write_str_gives f.old result (routers_text routers.now) f.new }
-{
-    for router in routers {
-        write!(f, "{router} ")?;
-    }
-    Ok(())
-}
-
-// A checksum as it is printed: four hexadecimal digits.
-#[derive(Clone, Copy)]
-struct SumShown(u16);
-
-// A number in four hexadecimal digits.
-fn write_sum<W: Write>(f: &mut Formatter<W>, sum: u16) -> fmt::Result
-    ensures { WritesOnOk W.Write.write_str_gives f.old result (hexadecimal 4 sum) f.new }
-{
-    write!(f, "{sum:04x}")
-}
-
-impl Display for SumShown {
-    ghost use Rattle.std.specs.Prelude.{Some};
-    ghost use Rattle.ospf_script.specs.Texts.{hexadecimal};
-
-    ghost output = { λ sum. Some (hexadecimal 4 sum.0) };
-
-    fn fmt<W: Write>(&self, f: &mut Formatter<W>) -> fmt::Result {
-        write_sum(f, self.0)
-    }
-}
-
 /// As `7ffffffe`.
 impl Display for FloorShown {
     ghost use Rattle.std.specs.Prelude.{Some};
@@ -81,6 +22,13 @@ impl Display for FloorShown {
     fn fmt<W: Write>(&self, f: &mut Formatter<W>) -> fmt::Result {
         write_floor(f, self.0)
     }
+}
+
+/// A line that was refused: its number, and the text of its fault.
+#[derive(Clone, Copy, Debug, PartialEq, Eq)]
+pub struct RefusalShown<'a> {
+    pub number: u64,
+    pub fault: &'a str,
 }
 
 /// As `line 3: W2 NoDatagram`.
@@ -95,6 +43,14 @@ impl Display for RefusalShown<'_> {
     }
 }
 
+/// A neighbour: the number of its link, its Router ID, and the name of its state.
+#[derive(Clone, Copy, Debug, PartialEq, Eq)]
+pub struct NeighbourShown<'a> {
+    pub link: usize,
+    pub router: RouterId,
+    pub state: &'a str,
+}
+
 /// As `0 2.2.2.2 Full`.
 impl Display for NeighbourShown<'_> {
     ghost use Rattle.std.specs.Prelude.{Some};
@@ -106,6 +62,10 @@ impl Display for NeighbourShown<'_> {
         write!(f, "{} {} {}", self.link, self.router, self.state)
     }
 }
+
+/// An LSA of a listing: what names it and its instance.
+#[derive(Clone, Copy, Debug, PartialEq, Eq)]
+pub struct ListedShown(pub Instance);
 
 /// As `router 1.1.1.1 1.1.1.1 80000002 e02d`: kind, Link State ID, Advertising Router, sequence number and checksum.
 impl Display for ListedShown {
@@ -125,6 +85,14 @@ impl Display for ListedShown {
     }
 }
 
+/// A walk: the routers that it met, what it cost, and the name of how it ended.
+#[derive(Clone, Copy, Debug, PartialEq, Eq)]
+pub struct WalkShown<'a> {
+    pub routers: &'a [RouterId],
+    pub cost: u128,
+    pub end: &'a str,
+}
+
 /// As `2.2.2.2 1.1.1.1 cost 20 arrived`.
 impl Display for WalkShown<'_> {
     ghost use Rattle.std.specs.Prelude.{Some};
@@ -136,4 +104,36 @@ impl Display for WalkShown<'_> {
         write_routers(f, self.routers)?;
         write!(f, "cost {} {}", self.cost, self.end)
     }
+}
+
+// A checksum as it is printed: four hexadecimal digits.
+#[derive(Clone, Copy)]
+struct SumShown(u16);
+
+impl Display for SumShown {
+    ghost use Rattle.std.specs.Prelude.{Some};
+    ghost use Rattle.ospf_script.specs.Texts.{hexadecimal};
+
+    ghost output = { λ sum. Some (hexadecimal 4 sum.0) };
+
+    fn fmt<W: Write>(&self, f: &mut Formatter<W>) -> fmt::Result {
+        write_sum(f, self.0)
+    }
+}
+
+// Router IDs, each before a space.
+fn write_routers<W: Write>(f: &mut Formatter<W>, routers: &[RouterId]) -> fmt::Result
+    ensures { WritesOnOk W.Write.write_str_gives f.old result (routers_text routers.now) f.new }
+{
+    for router in routers {
+        write!(f, "{router} ")?;
+    }
+    Ok(())
+}
+
+// A number in four hexadecimal digits.
+fn write_sum<W: Write>(f: &mut Formatter<W>, sum: u16) -> fmt::Result
+    ensures { WritesOnOk W.Write.write_str_gives f.old result (hexadecimal 4 sum) f.new }
+{
+    write!(f, "{sum:04x}")
 }

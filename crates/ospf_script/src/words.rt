@@ -6,18 +6,6 @@ ghost use Rattle.ospf_script.specs.Words.{IsBlank, Text, is_space, words};
 
 use crate::places::place_of;
 
-// How many spaces a text begins with.
-fn leading_spaces(text: &[u8]) -> usize
-    ensures { result ≡ prefix_len is_space text.now }
-{
-    for place in 0..text.len() {
-        if text[place] != b' ' {
-            return place;
-        }
-    }
-    text.len()
-}
-
 // The first word of a text, and what stands behind it; `None` of a blank text.
 pub(crate) fn first_word(text: &[u8]) -> Option<(&[u8], &[u8])>
     ensures word { IfSome result (λ found. words text.now ≡ found.0.now ∷ words found.1.now) }
@@ -63,4 +51,16 @@ pub(crate) fn three_words(text: &[u8]) -> Option<(&[u8], &[u8], &[u8])>
     let (first, rest) = first_word(text)?;
     let (second, third) = two_words(rest)?;
     Some((first, second, third))
+}
+
+// How many spaces a text begins with.
+fn leading_spaces(text: &[u8]) -> usize
+    ensures { result ≡ prefix_len is_space text.now }
+{
+    for place in 0..text.len() {
+        if text[place] != b' ' {
+            return place;
+        }
+    }
+    text.len()
 }

@@ -19,122 +19,24 @@ use std::io::Write;
 // How many events by chance come about between two words to the watch.
 const EVENTS_AT_ONCE: u64 = 10_000;
 
-// So many rounds, up to the first that is refused.
-fn run_rounds<V: Watch>(
+// Does what a command asks for, and prints what it is to print. The answer is why it is refused, if it is. Where printing
+// fails, a beginning of it was written.
+pub(crate) fn run_command<O: Write, V: Watch>(
     world: &mut World,
-    count: u64,
-    alloc: Global,
-    watch: &mut V,
-) -> Result<(), WorldFault>
-    ensures { AreRounds count world.old result world.new }
-{
-    for done in 0..count {
-        watch.begins_round(done, count);
-        match world.round(alloc) {
-            Ok(()) => {}
-            Err(fault) => return Err(fault),
-        }
-    }
-    Ok(())
-}
-
-// So many rounds, and their end is told.
-fn run_watched<V: Watch>(
-    world: &mut World,
-    count: u64,
-    alloc: Global,
-    watch: &mut V,
-) -> Result<(), WorldFault>
-    ensures { AreRounds count world.old result world.new }
-{
-    let answer = run_rounds(world, count, alloc, watch);
-    watch.ends_line();
-    answer
-}
-
-// So many events by chance, some at a time, up to want of memory.
-fn run_events<V: Watch>(
-    world: &mut World,
-    number: u64,
-    count: u64,
-    alloc: Global,
-    watch: &mut V,
-) -> Result<(), WorldFault>
-    ensures { IsRandom number count world.old result world.new }
-{
-    let mut generator = Lcg64Xsh32::new(number, 0);
-    let mut done = 0;
-    while done < count {
-        watch.draws_events(done, count);
-        let part = (count - done).min(EVENTS_AT_ONCE);
-        match world.draw_events(&mut generator, part, alloc) {
-            Ok(()) => done += part,
-            Err(fault) => return Err(fault),
-        }
-    }
-    Ok(())
-}
-
-// So many events by chance, and their end is told.
-fn draw_watched<V: Watch>(
-    world: &mut World,
-    number: u64,
-    count: u64,
-    alloc: Global,
-    watch: &mut V,
-) -> Result<(), WorldFault>
-    ensures { IsRandom number count world.old result world.new }
-{
-    let answer = run_events(world, number, count, alloc, watch);
-    watch.ends_line();
-    answer
-}
-
-// Prints what a line asks of a router, if that runs. Where that fails, a beginning of it was written.
-fn show_router<O: Write>(
-    world: &World,
-    router: RouterId,
-    view: View,
+    command: &Command,
     out: &mut O,
     alloc: Global,
+    watch: &mut V,
     streams: &mut FailedStreams,
 ) -> Result<Result<(), WorldFault>, Failure>
-    ensures shown { IfOk result (λ answer. IsShownOn view world.now router answer (O.contents out.old) (O.contents out.new)) }
+    ensures done { IfOk result (λ answer. IsDone command.now world.old answer world.new (O.contents out.old) (O.contents out.new)) }
     ensures begun { OnErr result
-        (IsShownBegun view world.now router (O.contents out.old) (O.contents out.new)) }
+        (IsDoneBegun command.now world.old world.new (O.contents out.old) (O.contents out.new)) }
     ensures cut { IfErr result (IsOutputCut streams.new) }
 {
-    match world.router(router) {
-        Ok(lent) => {
-            write_view(alloc, view, lent, out, streams)?;
-            Ok(Ok(()))
-        }
-        Err(fault) => Ok(Err(fault)),
-    }
-}
-
-// Prints a walk, if there is one. Where that fails, a beginning of it was written.
-fn show_walk<O: Write>(
-    world: &World,
-    from: RouterId,
-    address: Addr,
-    choices: &[u32],
-    out: &mut O,
-    alloc: Global,
-    streams: &mut FailedStreams,
-) -> Result<Result<(), WorldFault>, Failure>
-    ensures walked { IfOk result (λ answer. IsWalkedOn world.now from address.0 choices.now answer (O.contents out.old) (O.contents out.new)) }
-    ensures begun { OnErr result
-        (IsWalkBegun world.now from address.0 choices.now
-        (O.contents out.old) (O.contents out.new)) }
-    ensures cut { IfErr result (IsOutputCut streams.new) }
-{
-    match world.walk(from, address, choices, alloc) {
-        Ok(walk) => {
-            write_walk(alloc, &walk, out, streams)?;
-            Ok(Ok(()))
-        }
-        Err(fault) => Ok(Err(fault)),
+    match event_of(command) {
+        Some(event) => Ok(world.step(event, alloc)),
+        None => run_quiet(world, command, out, alloc, watch, streams),
     }
 }
 
@@ -176,6 +78,27 @@ fn event_of(command: &Command) -> Option<WorldEvent>
     Some(event)
 }
 
+// Does what a command asks for that is no event.
+fn run_quiet<O: Write, V: Watch>(
+    world: &mut World,
+    command: &Command,
+    out: &mut O,
+    alloc: Global,
+    watch: &mut V,
+    streams: &mut FailedStreams,
+) -> Result<Result<(), WorldFault>, Failure>
+    requires { event_in command.now ≡ None }
+    ensures done { IfOk result (λ answer. IsDone command.now world.old answer world.new (O.contents out.old) (O.contents out.new)) }
+    ensures begun { OnErr result
+        (IsDoneBegun command.now world.old world.new (O.contents out.old) (O.contents out.new)) }
+    ensures cut { IfErr result (IsOutputCut streams.new) }
+{
+    match shown_of(command) {
+        Some(shown) => show_router(world, shown.0, shown.1, out, alloc, streams),
+        None => run_other(world, command, out, alloc, watch, streams),
+    }
+}
+
 // What a command prints of a router, if it prints that.
 fn shown_of(command: &Command) -> Option<(RouterId, View)>
     ensures { result ≡ shown_in command.now }
@@ -186,6 +109,29 @@ fn shown_of(command: &Command) -> Option<(RouterId, View)>
         Command::Table { router } => Some((*router, View::Table)),
         Command::Floor { router } => Some((*router, View::Floor)),
         _ => None,
+    }
+}
+
+// Prints what a line asks of a router, if that runs. Where that fails, a beginning of it was written.
+fn show_router<O: Write>(
+    world: &World,
+    router: RouterId,
+    view: View,
+    out: &mut O,
+    alloc: Global,
+    streams: &mut FailedStreams,
+) -> Result<Result<(), WorldFault>, Failure>
+    ensures shown { IfOk result (λ answer. IsShownOn view world.now router answer (O.contents out.old) (O.contents out.new)) }
+    ensures begun { OnErr result
+        (IsShownBegun view world.now router (O.contents out.old) (O.contents out.new)) }
+    ensures cut { IfErr result (IsOutputCut streams.new) }
+{
+    match world.router(router) {
+        Ok(lent) => {
+            write_view(alloc, view, lent, out, streams)?;
+            Ok(Ok(()))
+        }
+        Err(fault) => Ok(Err(fault)),
     }
 }
 
@@ -217,44 +163,98 @@ fn run_other<O: Write, V: Watch>(
     }
 }
 
-// Does what a command asks for that is no event.
-fn run_quiet<O: Write, V: Watch>(
+// So many rounds, and their end is told.
+fn run_watched<V: Watch>(
     world: &mut World,
-    command: &Command,
-    out: &mut O,
+    count: u64,
     alloc: Global,
     watch: &mut V,
-    streams: &mut FailedStreams,
-) -> Result<Result<(), WorldFault>, Failure>
-    requires { event_in command.now ≡ None }
-    ensures done { IfOk result (λ answer. IsDone command.now world.old answer world.new (O.contents out.old) (O.contents out.new)) }
-    ensures begun { OnErr result
-        (IsDoneBegun command.now world.old world.new (O.contents out.old) (O.contents out.new)) }
-    ensures cut { IfErr result (IsOutputCut streams.new) }
+) -> Result<(), WorldFault>
+    ensures { AreRounds count world.old result world.new }
 {
-    match shown_of(command) {
-        Some(shown) => show_router(world, shown.0, shown.1, out, alloc, streams),
-        None => run_other(world, command, out, alloc, watch, streams),
-    }
+    let answer = run_rounds(world, count, alloc, watch);
+    watch.ends_line();
+    answer
 }
 
-// Does what a command asks for, and prints what it is to print. The answer is why it is refused, if it is. Where printing
-// fails, a beginning of it was written.
-pub(crate) fn run_command<O: Write, V: Watch>(
+// So many rounds, up to the first that is refused.
+fn run_rounds<V: Watch>(
     world: &mut World,
-    command: &Command,
-    out: &mut O,
+    count: u64,
     alloc: Global,
     watch: &mut V,
+) -> Result<(), WorldFault>
+    ensures { AreRounds count world.old result world.new }
+{
+    for done in 0..count {
+        watch.begins_round(done, count);
+        match world.round(alloc) {
+            Ok(()) => {}
+            Err(fault) => return Err(fault),
+        }
+    }
+    Ok(())
+}
+
+// So many events by chance, and their end is told.
+fn draw_watched<V: Watch>(
+    world: &mut World,
+    number: u64,
+    count: u64,
+    alloc: Global,
+    watch: &mut V,
+) -> Result<(), WorldFault>
+    ensures { IsRandom number count world.old result world.new }
+{
+    let answer = run_events(world, number, count, alloc, watch);
+    watch.ends_line();
+    answer
+}
+
+// So many events by chance, some at a time, up to want of memory.
+fn run_events<V: Watch>(
+    world: &mut World,
+    number: u64,
+    count: u64,
+    alloc: Global,
+    watch: &mut V,
+) -> Result<(), WorldFault>
+    ensures { IsRandom number count world.old result world.new }
+{
+    let mut generator = Lcg64Xsh32::new(number, 0);
+    let mut done = 0;
+    while done < count {
+        watch.draws_events(done, count);
+        let part = (count - done).min(EVENTS_AT_ONCE);
+        match world.draw_events(&mut generator, part, alloc) {
+            Ok(()) => done += part,
+            Err(fault) => return Err(fault),
+        }
+    }
+    Ok(())
+}
+
+// Prints a walk, if there is one. Where that fails, a beginning of it was written.
+fn show_walk<O: Write>(
+    world: &World,
+    from: RouterId,
+    address: Addr,
+    choices: &[u32],
+    out: &mut O,
+    alloc: Global,
     streams: &mut FailedStreams,
 ) -> Result<Result<(), WorldFault>, Failure>
-    ensures done { IfOk result (λ answer. IsDone command.now world.old answer world.new (O.contents out.old) (O.contents out.new)) }
+    ensures walked { IfOk result (λ answer. IsWalkedOn world.now from address.0 choices.now answer (O.contents out.old) (O.contents out.new)) }
     ensures begun { OnErr result
-        (IsDoneBegun command.now world.old world.new (O.contents out.old) (O.contents out.new)) }
+        (IsWalkBegun world.now from address.0 choices.now
+        (O.contents out.old) (O.contents out.new)) }
     ensures cut { IfErr result (IsOutputCut streams.new) }
 {
-    match event_of(command) {
-        Some(event) => Ok(world.step(event, alloc)),
-        None => run_quiet(world, command, out, alloc, watch, streams),
+    match world.walk(from, address, choices, alloc) {
+        Ok(walk) => {
+            write_walk(alloc, &walk, out, streams)?;
+            Ok(Ok(()))
+        }
+        Err(fault) => Ok(Err(fault)),
     }
 }

@@ -14,95 +14,56 @@ use ospf_world::{World, WorldFault};
 use std::alloc::{AllocError, Global};
 use std::io::Write;
 
-// The line of a refusal.
-fn refusal_line(alloc: Global, number: u64, fault: WorldFault) -> Result<String, AllocError>
-    ensures { IfOk result (λ line. string_bytes line ≡ refusal_line number fault) }
-{
-    let shown = RefusalShown {
-        number,
-        fault: fault.text(),
-    };
-    format!(in alloc; "{shown}\n")
-}
-
-// The line of a line that cannot be read.
-fn unreadable_line(alloc: Global, number: u64) -> Result<String, AllocError>
-    ensures { IfOk result (λ line. string_bytes line ≡ unreadable_line number) }
-{
-    format!(in alloc; "line {number}: {}\n", LineFault::NotACommand)
-}
-
-// Tells a line, behind all that was printed before.
-fn tell_behind<O: Write, E: Write>(
-    line: &str,
+/// Runs the lines of a script, up to the first that cannot be read, and tells of that one. The answer is whether all could
+/// be read. Where it fails at a line, those before it have run.
+pub(crate) fn run_script<O: Write, E: Write, V: Watch>(
+    world: &mut World,
+    script: &[u8],
     out: &mut O,
     err: &mut E,
-    streams: &mut FailedStreams,
-) -> Result<(), Failure>
-    ensures out { OnOk result (Appends (O.contents out.old) (O.contents out.new) []) }
-    ensures err { OnOk result (Appends (E.contents err.old) (E.contents err.new) line.now) }
-    ensures cut { IfErr result (IsTellingCut line.now streams.new
-        (O.contents out.old) (O.contents out.new) (E.contents err.old) (E.contents err.new)) }
-{
-    streams.flush(out)?;
-    streams.tell(err, line)
-}
-
-// Tells why a line is refused.
-fn tell_refusal<O: Write, E: Write>(
     alloc: Global,
-    number: u64,
-    fault: WorldFault,
-    out: &mut O,
-    err: &mut E,
+    watch: &mut V,
     streams: &mut FailedStreams,
-) -> Result<(), Failure>
-    ensures out { OnOk result (Appends (O.contents out.old) (O.contents out.new) []) }
-    ensures err { OnOk result
-        (Appends (E.contents err.old) (E.contents err.new) (refusal_line number fault)) }
-    ensures cut { IfErr result (IsTellingCut (refusal_line number fault) streams.new
+) -> Result<bool, Failure>
+    ensures comes { IfOk result (λ whole. ScriptComes whole script.now world.old world.new (O.contents out.old) (O.contents out.new) (E.contents err.old) (E.contents err.new)) }
+    ensures cut { IfErr result (IsScriptCut script.now world.old streams.new
         (O.contents out.old) (O.contents out.new) (E.contents err.old) (E.contents err.new)) }
 {
-    let line = refusal_line(alloc, number, fault)?;
-    tell_behind(&line, out, err, streams)
-}
-
-// Tells that a line cannot be read.
-fn tell_unreadable<O: Write, E: Write>(
-    alloc: Global,
-    number: u64,
-    out: &mut O,
-    err: &mut E,
-    streams: &mut FailedStreams,
-) -> Result<(), Failure>
-    ensures out { OnOk result (Appends (O.contents out.old) (O.contents out.new) []) }
-    ensures err { OnOk result
-        (Appends (E.contents err.old) (E.contents err.new) (unreadable_line number)) }
-    ensures cut { IfErr result (IsTellingCut (unreadable_line number) streams.new
-        (O.contents out.old) (O.contents out.new) (E.contents err.old) (E.contents err.new)) }
-{
-    let line = unreadable_line(alloc, number)?;
-    tell_behind(&line, out, err, streams)
-}
-
-// Tells what was answered to a line, if it is to be told: behind all that was printed before.
-fn tell_answer<O: Write, E: Write>(
-    alloc: Global,
-    number: u64,
-    answer: Result<(), WorldFault>,
-    out: &mut O,
-    err: &mut E,
-    streams: &mut FailedStreams,
-) -> Result<(), Failure>
-    ensures out { OnOk result (Appends (O.contents out.old) (O.contents out.new) []) }
-    ensures err { OnOk result (Appends (E.contents err.old) (E.contents err.new) (told_of number answer)) }
-    ensures cut { IfErr result (IsAnswerCut number answer streams.new
-        (O.contents out.old) (O.contents out.new) (E.contents err.old) (E.contents err.new)) }
-{
-    match answer {
-        Ok(()) => Ok(()),
-        Err(fault) => tell_refusal(alloc, number, fault, out, err, streams),
+    let lines = lines(alloc, script)?;
+    let ended = run_lines(world, &lines, out, err, alloc, watch, streams)?;
+    match ended {
+        None => {
+            streams.flush(out)?;
+            Ok(true)
+        }
+        Some(number) => {
+            tell_unreadable(alloc, number, out, err, streams)?;
+            Ok(false)
+        }
     }
+}
+
+// Runs lines, up to the first that cannot be read: the answer is its number.
+fn run_lines<O: Write, E: Write, V: Watch>(
+    world: &mut World,
+    lines: &[Line<'_>],
+    out: &mut O,
+    err: &mut E,
+    alloc: Global,
+    watch: &mut V,
+    streams: &mut FailedStreams,
+) -> Result<Option<u64>, Failure>
+    ensures comes { IfOk result (λ ended. LinesCome ended (map entry_of lines.now) world.old world.new (O.contents out.old) (O.contents out.new) (E.contents err.old) (E.contents err.new)) }
+    ensures cut { IfErr result (IsCutAt (map entry_of lines.now) world.old streams.new
+        (O.contents out.old) (O.contents out.new) (E.contents err.old) (E.contents err.new)) }
+{
+    for line in lines {
+        let is_read = run_line(world, line, out, err, alloc, watch, streams)?;
+        if !is_read {
+            return Ok(Some(line.number));
+        }
+    }
+    Ok(None)
 }
 
 // Runs a line. The answer is whether it can be read. Where that fails, no more than a beginning of what it writes was
@@ -132,54 +93,93 @@ fn run_line<O: Write, E: Write, V: Watch>(
     }
 }
 
-// Runs lines, up to the first that cannot be read: the answer is its number.
-fn run_lines<O: Write, E: Write, V: Watch>(
-    world: &mut World,
-    lines: &[Line<'_>],
+// Tells what was answered to a line, if it is to be told: behind all that was printed before.
+fn tell_answer<O: Write, E: Write>(
+    alloc: Global,
+    number: u64,
+    answer: Result<(), WorldFault>,
     out: &mut O,
     err: &mut E,
-    alloc: Global,
-    watch: &mut V,
     streams: &mut FailedStreams,
-) -> Result<Option<u64>, Failure>
-    ensures comes { IfOk result (λ ended. LinesCome ended (map entry_of lines.now) world.old world.new (O.contents out.old) (O.contents out.new) (E.contents err.old) (E.contents err.new)) }
-    ensures cut { IfErr result (IsCutAt (map entry_of lines.now) world.old streams.new
+) -> Result<(), Failure>
+    ensures out { OnOk result (Appends (O.contents out.old) (O.contents out.new) []) }
+    ensures err { OnOk result (Appends (E.contents err.old) (E.contents err.new) (told_of number answer)) }
+    ensures cut { IfErr result (IsAnswerCut number answer streams.new
         (O.contents out.old) (O.contents out.new) (E.contents err.old) (E.contents err.new)) }
 {
-    for line in lines {
-        let is_read = run_line(world, line, out, err, alloc, watch, streams)?;
-        if !is_read {
-            return Ok(Some(line.number));
-        }
+    match answer {
+        Ok(()) => Ok(()),
+        Err(fault) => tell_refusal(alloc, number, fault, out, err, streams),
     }
-    Ok(None)
 }
 
-/// Runs the lines of a script, up to the first that cannot be read, and tells of that one. The answer is whether all could
-/// be read. Where it fails at a line, those before it have run.
-pub(crate) fn run_script<O: Write, E: Write, V: Watch>(
-    world: &mut World,
-    script: &[u8],
+// Tells why a line is refused.
+fn tell_refusal<O: Write, E: Write>(
+    alloc: Global,
+    number: u64,
+    fault: WorldFault,
     out: &mut O,
     err: &mut E,
-    alloc: Global,
-    watch: &mut V,
     streams: &mut FailedStreams,
-) -> Result<bool, Failure>
-    ensures comes { IfOk result (λ whole. ScriptComes whole script.now world.old world.new (O.contents out.old) (O.contents out.new) (E.contents err.old) (E.contents err.new)) }
-    ensures cut { IfErr result (IsScriptCut script.now world.old streams.new
+) -> Result<(), Failure>
+    ensures out { OnOk result (Appends (O.contents out.old) (O.contents out.new) []) }
+    ensures err { OnOk result
+        (Appends (E.contents err.old) (E.contents err.new) (refusal_line number fault)) }
+    ensures cut { IfErr result (IsTellingCut (refusal_line number fault) streams.new
         (O.contents out.old) (O.contents out.new) (E.contents err.old) (E.contents err.new)) }
 {
-    let lines = lines(alloc, script)?;
-    let ended = run_lines(world, &lines, out, err, alloc, watch, streams)?;
-    match ended {
-        None => {
-            streams.flush(out)?;
-            Ok(true)
-        }
-        Some(number) => {
-            tell_unreadable(alloc, number, out, err, streams)?;
-            Ok(false)
-        }
-    }
+    let line = refusal_line(alloc, number, fault)?;
+    tell_behind(&line, out, err, streams)
+}
+
+// The line of a refusal.
+fn refusal_line(alloc: Global, number: u64, fault: WorldFault) -> Result<String, AllocError>
+    ensures { IfOk result (λ line. string_bytes line ≡ refusal_line number fault) }
+{
+    let shown = RefusalShown {
+        number,
+        fault: fault.text(),
+    };
+    format!(in alloc; "{shown}\n")
+}
+
+// Tells a line, behind all that was printed before.
+fn tell_behind<O: Write, E: Write>(
+    line: &str,
+    out: &mut O,
+    err: &mut E,
+    streams: &mut FailedStreams,
+) -> Result<(), Failure>
+    ensures out { OnOk result (Appends (O.contents out.old) (O.contents out.new) []) }
+    ensures err { OnOk result (Appends (E.contents err.old) (E.contents err.new) line.now) }
+    ensures cut { IfErr result (IsTellingCut line.now streams.new
+        (O.contents out.old) (O.contents out.new) (E.contents err.old) (E.contents err.new)) }
+{
+    streams.flush(out)?;
+    streams.tell(err, line)
+}
+
+// Tells that a line cannot be read.
+fn tell_unreadable<O: Write, E: Write>(
+    alloc: Global,
+    number: u64,
+    out: &mut O,
+    err: &mut E,
+    streams: &mut FailedStreams,
+) -> Result<(), Failure>
+    ensures out { OnOk result (Appends (O.contents out.old) (O.contents out.new) []) }
+    ensures err { OnOk result
+        (Appends (E.contents err.old) (E.contents err.new) (unreadable_line number)) }
+    ensures cut { IfErr result (IsTellingCut (unreadable_line number) streams.new
+        (O.contents out.old) (O.contents out.new) (E.contents err.old) (E.contents err.new)) }
+{
+    let line = unreadable_line(alloc, number)?;
+    tell_behind(&line, out, err, streams)
+}
+
+// The line of a line that cannot be read.
+fn unreadable_line(alloc: Global, number: u64) -> Result<String, AllocError>
+    ensures { IfOk result (λ line. string_bytes line ≡ unreadable_line number) }
+{
+    format!(in alloc; "line {number}: {}\n", LineFault::NotACommand)
 }

@@ -30,215 +30,6 @@ pub struct Simulated {
     pub world: Option<World>,
 }
 
-// The first file that could not be read, the script's before the configurations'.
-fn unread_of<'a>(script: &'a NamedFile, files: &'a [NamedFile]) -> Option<&'a NamedFile>
-    ensures some { IfSome result (λ file. IsFirstUnread file.now (script.now ∷ files.now)) }
-    ensures none { IfNone result (AreRead (script.now ∷ files.now)) }
-{
-    if !script.is_read() {
-        return Some(script);
-    }
-    first_unread(files)
-}
-
-// The line of two routers of one Router ID.
-fn same_router_line(alloc: Global) -> Result<String, AllocError>
-    ensures { IfOk result (λ line. string_bytes line ≡ same_router_line) }
-{
-    format!(in alloc; "{}\n", WorldFault::SameRouter.text())
-}
-
-// Tells that two routers have one Router ID. Where that fails, a beginning of it was written.
-fn tell_same_router<E: Write>(
-    alloc: Global,
-    err: &mut E,
-    streams: &mut FailedStreams,
-) -> Result<(), Failure>
-    ensures told { OnOk result (Appends (E.contents err.old) (E.contents err.new) same_router_line) }
-    ensures begun { OnErr result
-        (IsBegun (E.contents err.old) (E.contents err.new) same_router_line) }
-    ensures cut { IfErr result (IsErrorCut streams.new) }
-{
-    let line = same_router_line(alloc)?;
-    streams.tell(err, &line)
-}
-
-// The world of configurations, in which nothing runs; where two are of one router it is told.
-fn open_world<E: Write>(
-    alloc: Global,
-    configs: Vec<Config>,
-    err: &mut E,
-    streams: &mut FailedStreams,
-) -> Result<Option<World>, Failure>
-    ensures opens { IfOk result (λ world. Opens configs.items world (E.contents err.old) (E.contents err.new)) }
-    ensures cut { IfErr result
-        (IsOpeningCut configs.items streams.new (E.contents err.old) (E.contents err.new)) }
-{
-    match World::new(configs, alloc) {
-        Ok(world) => Ok(Some(world)),
-        Err(WorldFault::SameRouter) => {
-            tell_same_router(alloc, err, streams)?;
-            Ok(None)
-        }
-        Err(_) => Err(Failure::Memory),
-    }
-}
-
-// The world of the configurations in files, in which nothing runs; where there is none it is told why.
-fn new_world<E: Write>(
-    alloc: Global,
-    files: &[NamedFile],
-    err: &mut E,
-    streams: &mut FailedStreams,
-) -> Result<Option<World>, Failure>
-    ensures comes { IfOk result (λ world. WorldComes files.now world (E.contents err.old) (E.contents err.new)) }
-    ensures cut { IfErr result
-        (IsWorldCut files.now streams.new (E.contents err.old) (E.contents err.new)) }
-{
-    match read_configs(alloc, files, err, streams)? {
-        Some(configs) => open_world(alloc, configs, err, streams),
-        None => Ok(None),
-    }
-}
-
-// Runs a script in a world.
-fn run_to_end<O: Write, E: Write, V: Watch>(
-    alloc: Global,
-    mut world: World,
-    script: &NamedFile,
-    out: &mut O,
-    err: &mut E,
-    watch: &mut V,
-    streams: &mut FailedStreams,
-) -> Result<Simulated, Failure>
-    ensures runs { IfOk result (λ s. RunsTo s.status script.now world s.world (O.contents out.old) (O.contents out.new) (E.contents err.old) (E.contents err.new)) }
-    ensures cut { IfErr result (IsScriptCut (text_in script.now) world streams.new
-        (O.contents out.old) (O.contents out.new) (E.contents err.old) (E.contents err.new)) }
-{
-    let whole = run_script(&mut world, script.text(), out, err, alloc, watch, streams)?;
-    let status = status_of(whole);
-    Ok(Simulated {
-        status,
-        world: Some(world),
-    })
-}
-
-// How a simulation ends whose lines could all be read, or not.
-fn status_of(whole: bool) -> Status
-    ensures { result ≡ status_for whole }
-{
-    if whole { Status::Done } else { Status::Refused }
-}
-
-// Runs a script in a world of the configurations in files.
-fn run_in_world<O: Write, E: Write, V: Watch>(
-    alloc: Global,
-    script: &NamedFile,
-    files: &[NamedFile],
-    out: &mut O,
-    err: &mut E,
-    watch: &mut V,
-    streams: &mut FailedStreams,
-) -> Result<Simulated, Failure>
-    requires { AreRead (script.now ∷ files.now) }
-    ensures comes { IfOk result (λ s. Comes s.status script.now files.now s.world (O.contents out.old) (O.contents out.new) (E.contents err.old) (E.contents err.new)) }
-    ensures ended { IfOk result (λ s. (s.status ≡ Status.Done) ⊎ (s.status ≡ Status.Refused)) }
-    ensures cut { IfErr result (IsCut script.now files.now streams.new
-        (O.contents out.old) (O.contents out.new) (E.contents err.old) (E.contents err.new)) }
-{
-    match new_world(alloc, files, err, streams)? {
-        Some(world) => run_to_end(alloc, world, script, out, err, watch, streams),
-        None => Ok(Simulated {
-            status: Status::Refused,
-            world: None,
-        }),
-    }
-}
-
-// Tells that a file could not be read. Where that fails, a beginning of it was written.
-fn end_unread<E: Write>(
-    alloc: Global,
-    file: &NamedFile,
-    err: &mut E,
-    streams: &mut FailedStreams,
-) -> Result<Simulated, Failure>
-    ensures status { IfOk result (λ s. s.status ≡ Status.Stream) }
-    ensures world { IfOk result (λ s. s.world ≡ None) }
-    ensures told { OnOk result (Appends (E.contents err.old) (E.contents err.new) (unread_line file.now)) }
-    ensures begun { OnErr result
-        (IsBegun (E.contents err.old) (E.contents err.new) (unread_line file.now)) }
-    ensures cut { IfErr result (IsErrorCut streams.new) }
-{
-    match tell_unread(alloc, file, err, streams) {
-        Ok(()) => Ok(Simulated {
-            status: Status::Stream,
-            world: None,
-        }),
-        Err(failure) => Err(failure),
-    }
-}
-
-// Runs a script, if all files could be read.
-fn simulate<O: Write, E: Write, V: Watch>(
-    alloc: Global,
-    script: &NamedFile,
-    files: &[NamedFile],
-    out: &mut O,
-    err: &mut E,
-    watch: &mut V,
-    streams: &mut FailedStreams,
-) -> Result<Simulated, Failure>
-    ensures comes { IfOk result (λ s. Comes s.status script.now files.now s.world (O.contents out.old) (O.contents out.new) (E.contents err.old) (E.contents err.new)) }
-    ensures not_words { IfOk result (λ s. s.status ≢ Status.Words) }
-    ensures not_memory { IfOk result (λ s. s.status ≢ Status.Memory) }
-    ensures stream { IfOk result (λ s. s.status ≡ Status.Stream → IsUnreadTold script.now files.now s.world (O.contents out.old) (O.contents out.new) (E.contents err.old) (E.contents err.new)) }
-    ensures unread { (file : NamedFile) → IsFirstUnread file (script.now ∷ files.now) → IfOk result (λ s. s.status ≡ Status.Stream) }
-    ensures unwritten { (file : NamedFile) → IsFirstUnread file (script.now ∷ files.now) → O.contents out.new ≡ O.contents out.old }
-    ensures cut { IfErr result (IsCut script.now files.now streams.new
-        (O.contents out.old) (O.contents out.new) (E.contents err.old) (E.contents err.new)) }
-{
-    match unread_of(script, files) {
-        Some(file) => end_unread(alloc, file, err, streams),
-        None => run_in_world(alloc, script, files, out, err, watch, streams),
-    }
-}
-
-// Tells a failure last, as far as that can be written.
-fn end_failed<E: Write>(failure: Failure, err: &mut E, streams: &mut FailedStreams) -> Simulated
-    ensures status { result.status ≡ failure_status failure }
-    ensures world { result.world ≡ None }
-    ensures told { IsTold streams.old streams.new
-        (E.contents err.old) (E.contents err.new) (failure_line failure) }
-{
-    Simulated {
-        status: failure.tell(err, streams),
-        world: None,
-    }
-}
-
-// Runs a simulation, as `sim_text`, and notes which streams fail.
-fn sim_noted<O: Write, E: Write, V: Watch>(
-    alloc: Global,
-    script: &NamedFile,
-    files: &[NamedFile],
-    out: &mut O,
-    err: &mut E,
-    watch: &mut V,
-    streams: &mut FailedStreams,
-) -> Simulated
-    ensures done { result.status ≡ Status.Done → IsSimulated script.now files.now result.world (O.contents out.old) (O.contents out.new) (E.contents err.old) (E.contents err.new) }
-    ensures refused { result.status ≡ Status.Refused → IsRefused script.now files.now result.world (O.contents out.old) (O.contents out.new) (E.contents err.old) (E.contents err.new) }
-    ensures unread { (file : NamedFile) → IsFirstUnread file (script.now ∷ files.now) → (result.status ≡ Status.Stream) ⊎ (result.status ≡ Status.Memory) }
-    ensures unwritten { (file : NamedFile) → IsFirstUnread file (script.now ∷ files.now) → O.contents out.new ≡ O.contents out.old }
-    ensures stopped { (result.status ≡ Status.Memory) ⊎ (result.status ≡ Status.Stream) → IsStopped script.now files.now result.world streams.new result.status (O.contents out.old) (O.contents out.new) (E.contents err.old) (E.contents err.new) }
-    ensures not_words { result.status ≢ Status.Words }
-{
-    match simulate(alloc, script, files, out, err, watch, streams) {
-        Ok(simulated) => simulated,
-        Err(failure) => end_failed(failure, err, streams),
-    }
-}
-
 /// Runs the lines of a script, in order, in a world of the configurations that files hold.
 ///
 /// What the printing lines print is written to `out`. A line that is refused is told on `err`, and the script goes on; the
@@ -274,4 +65,213 @@ pub fn sim_text<O: Write, E: Write, V: Watch>(
         watch,
         &mut FailedStreams::none(),
     )
+}
+
+// Runs a simulation, as `sim_text`, and notes which streams fail.
+fn sim_noted<O: Write, E: Write, V: Watch>(
+    alloc: Global,
+    script: &NamedFile,
+    files: &[NamedFile],
+    out: &mut O,
+    err: &mut E,
+    watch: &mut V,
+    streams: &mut FailedStreams,
+) -> Simulated
+    ensures done { result.status ≡ Status.Done → IsSimulated script.now files.now result.world (O.contents out.old) (O.contents out.new) (E.contents err.old) (E.contents err.new) }
+    ensures refused { result.status ≡ Status.Refused → IsRefused script.now files.now result.world (O.contents out.old) (O.contents out.new) (E.contents err.old) (E.contents err.new) }
+    ensures unread { (file : NamedFile) → IsFirstUnread file (script.now ∷ files.now) → (result.status ≡ Status.Stream) ⊎ (result.status ≡ Status.Memory) }
+    ensures unwritten { (file : NamedFile) → IsFirstUnread file (script.now ∷ files.now) → O.contents out.new ≡ O.contents out.old }
+    ensures stopped { (result.status ≡ Status.Memory) ⊎ (result.status ≡ Status.Stream) → IsStopped script.now files.now result.world streams.new result.status (O.contents out.old) (O.contents out.new) (E.contents err.old) (E.contents err.new) }
+    ensures not_words { result.status ≢ Status.Words }
+{
+    match simulate(alloc, script, files, out, err, watch, streams) {
+        Ok(simulated) => simulated,
+        Err(failure) => end_failed(failure, err, streams),
+    }
+}
+
+// Runs a script, if all files could be read.
+fn simulate<O: Write, E: Write, V: Watch>(
+    alloc: Global,
+    script: &NamedFile,
+    files: &[NamedFile],
+    out: &mut O,
+    err: &mut E,
+    watch: &mut V,
+    streams: &mut FailedStreams,
+) -> Result<Simulated, Failure>
+    ensures comes { IfOk result (λ s. Comes s.status script.now files.now s.world (O.contents out.old) (O.contents out.new) (E.contents err.old) (E.contents err.new)) }
+    ensures not_words { IfOk result (λ s. s.status ≢ Status.Words) }
+    ensures not_memory { IfOk result (λ s. s.status ≢ Status.Memory) }
+    ensures stream { IfOk result (λ s. s.status ≡ Status.Stream → IsUnreadTold script.now files.now s.world (O.contents out.old) (O.contents out.new) (E.contents err.old) (E.contents err.new)) }
+    ensures unread { (file : NamedFile) → IsFirstUnread file (script.now ∷ files.now) → IfOk result (λ s. s.status ≡ Status.Stream) }
+    ensures unwritten { (file : NamedFile) → IsFirstUnread file (script.now ∷ files.now) → O.contents out.new ≡ O.contents out.old }
+    ensures cut { IfErr result (IsCut script.now files.now streams.new
+        (O.contents out.old) (O.contents out.new) (E.contents err.old) (E.contents err.new)) }
+{
+    match unread_of(script, files) {
+        Some(file) => end_unread(alloc, file, err, streams),
+        None => run_in_world(alloc, script, files, out, err, watch, streams),
+    }
+}
+
+// The first file that could not be read, the script's before the configurations'.
+fn unread_of<'a>(script: &'a NamedFile, files: &'a [NamedFile]) -> Option<&'a NamedFile>
+    ensures some { IfSome result (λ file. IsFirstUnread file.now (script.now ∷ files.now)) }
+    ensures none { IfNone result (AreRead (script.now ∷ files.now)) }
+{
+    if !script.is_read() {
+        return Some(script);
+    }
+    first_unread(files)
+}
+
+// Tells that a file could not be read. Where that fails, a beginning of it was written.
+fn end_unread<E: Write>(
+    alloc: Global,
+    file: &NamedFile,
+    err: &mut E,
+    streams: &mut FailedStreams,
+) -> Result<Simulated, Failure>
+    ensures status { IfOk result (λ s. s.status ≡ Status.Stream) }
+    ensures world { IfOk result (λ s. s.world ≡ None) }
+    ensures told { OnOk result (Appends (E.contents err.old) (E.contents err.new) (unread_line file.now)) }
+    ensures begun { OnErr result
+        (IsBegun (E.contents err.old) (E.contents err.new) (unread_line file.now)) }
+    ensures cut { IfErr result (IsErrorCut streams.new) }
+{
+    match tell_unread(alloc, file, err, streams) {
+        Ok(()) => Ok(Simulated {
+            status: Status::Stream,
+            world: None,
+        }),
+        Err(failure) => Err(failure),
+    }
+}
+
+// Runs a script in a world of the configurations in files.
+fn run_in_world<O: Write, E: Write, V: Watch>(
+    alloc: Global,
+    script: &NamedFile,
+    files: &[NamedFile],
+    out: &mut O,
+    err: &mut E,
+    watch: &mut V,
+    streams: &mut FailedStreams,
+) -> Result<Simulated, Failure>
+    requires { AreRead (script.now ∷ files.now) }
+    ensures comes { IfOk result (λ s. Comes s.status script.now files.now s.world (O.contents out.old) (O.contents out.new) (E.contents err.old) (E.contents err.new)) }
+    ensures ended { IfOk result (λ s. (s.status ≡ Status.Done) ⊎ (s.status ≡ Status.Refused)) }
+    ensures cut { IfErr result (IsCut script.now files.now streams.new
+        (O.contents out.old) (O.contents out.new) (E.contents err.old) (E.contents err.new)) }
+{
+    match new_world(alloc, files, err, streams)? {
+        Some(world) => run_to_end(alloc, world, script, out, err, watch, streams),
+        None => Ok(Simulated {
+            status: Status::Refused,
+            world: None,
+        }),
+    }
+}
+
+// The world of the configurations in files, in which nothing runs; where there is none it is told why.
+fn new_world<E: Write>(
+    alloc: Global,
+    files: &[NamedFile],
+    err: &mut E,
+    streams: &mut FailedStreams,
+) -> Result<Option<World>, Failure>
+    ensures comes { IfOk result (λ world. WorldComes files.now world (E.contents err.old) (E.contents err.new)) }
+    ensures cut { IfErr result
+        (IsWorldCut files.now streams.new (E.contents err.old) (E.contents err.new)) }
+{
+    match read_configs(alloc, files, err, streams)? {
+        Some(configs) => open_world(alloc, configs, err, streams),
+        None => Ok(None),
+    }
+}
+
+// The world of configurations, in which nothing runs; where two are of one router it is told.
+fn open_world<E: Write>(
+    alloc: Global,
+    configs: Vec<Config>,
+    err: &mut E,
+    streams: &mut FailedStreams,
+) -> Result<Option<World>, Failure>
+    ensures opens { IfOk result (λ world. Opens configs.items world (E.contents err.old) (E.contents err.new)) }
+    ensures cut { IfErr result
+        (IsOpeningCut configs.items streams.new (E.contents err.old) (E.contents err.new)) }
+{
+    match World::new(configs, alloc) {
+        Ok(world) => Ok(Some(world)),
+        Err(WorldFault::SameRouter) => {
+            tell_same_router(alloc, err, streams)?;
+            Ok(None)
+        }
+        Err(_) => Err(Failure::Memory),
+    }
+}
+
+// Tells that two routers have one Router ID. Where that fails, a beginning of it was written.
+fn tell_same_router<E: Write>(
+    alloc: Global,
+    err: &mut E,
+    streams: &mut FailedStreams,
+) -> Result<(), Failure>
+    ensures told { OnOk result (Appends (E.contents err.old) (E.contents err.new) same_router_line) }
+    ensures begun { OnErr result
+        (IsBegun (E.contents err.old) (E.contents err.new) same_router_line) }
+    ensures cut { IfErr result (IsErrorCut streams.new) }
+{
+    let line = same_router_line(alloc)?;
+    streams.tell(err, &line)
+}
+
+// The line of two routers of one Router ID.
+fn same_router_line(alloc: Global) -> Result<String, AllocError>
+    ensures { IfOk result (λ line. string_bytes line ≡ same_router_line) }
+{
+    format!(in alloc; "{}\n", WorldFault::SameRouter.text())
+}
+
+// Runs a script in a world.
+fn run_to_end<O: Write, E: Write, V: Watch>(
+    alloc: Global,
+    mut world: World,
+    script: &NamedFile,
+    out: &mut O,
+    err: &mut E,
+    watch: &mut V,
+    streams: &mut FailedStreams,
+) -> Result<Simulated, Failure>
+    ensures runs { IfOk result (λ s. RunsTo s.status script.now world s.world (O.contents out.old) (O.contents out.new) (E.contents err.old) (E.contents err.new)) }
+    ensures cut { IfErr result (IsScriptCut (text_in script.now) world streams.new
+        (O.contents out.old) (O.contents out.new) (E.contents err.old) (E.contents err.new)) }
+{
+    let whole = run_script(&mut world, script.text(), out, err, alloc, watch, streams)?;
+    let status = status_of(whole);
+    Ok(Simulated {
+        status,
+        world: Some(world),
+    })
+}
+
+// How a simulation ends whose lines could all be read, or not.
+fn status_of(whole: bool) -> Status
+    ensures { result ≡ status_for whole }
+{
+    if whole { Status::Done } else { Status::Refused }
+}
+
+// Tells a failure last, as far as that can be written.
+fn end_failed<E: Write>(failure: Failure, err: &mut E, streams: &mut FailedStreams) -> Simulated
+    ensures status { result.status ≡ failure_status failure }
+    ensures world { result.world ≡ None }
+    ensures told { IsTold streams.old streams.new
+        (E.contents err.old) (E.contents err.new) (failure_line failure) }
+{
+    Simulated {
+        status: failure.tell(err, streams),
+        world: None,
+    }
 }

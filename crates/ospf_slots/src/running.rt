@@ -62,30 +62,6 @@ impl RunningRouter {
         &self.router
     }
 
-    // A step of the router, and what it puts out.
-    fn step(mut self, event: Event<'_>, alloc: Global) -> Result<(RunningRouter, Outputs), Stopped>
-        ensures { IfOk result (λ p. Goes (happening event.entry) self p.1 p.0) }
-    {
-        let Step { out, .. } = self.router.step(event, alloc)?;
-        Ok((self, out))
-    }
-
-    // The logs grow by what a step of the router put out, and its runs go on.
-    fn settle(
-        mut self,
-        outputs: Outputs,
-        logs: &mut Logs,
-        router: RouterId,
-    ) -> Result<RunningRouter, Stopped>
-        ensures settles { IfOk result (λ x. Settles router self outputs logs.old x logs.new) }
-        ensures none { OnErr result (logs.new ≡ logs.old) }
-    {
-        match logs.take(router, self.first, &mut self.later, outputs) {
-            Ok(()) => Ok(self),
-            Err(_) => Err(Stopped),
-        }
-    }
-
     /// A step of the router, by which the logs grow.
     ///
     /// `Stopped` where memory runs out: then no log has grown.
@@ -121,6 +97,30 @@ impl RunningRouter {
         let event = arrival(&logs.datagrams()[place], link);
         let (running, outputs) = self.step(event, alloc)?;
         running.settle(outputs, logs, router)
+    }
+
+    // A step of the router, and what it puts out.
+    fn step(mut self, event: Event<'_>, alloc: Global) -> Result<(RunningRouter, Outputs), Stopped>
+        ensures { IfOk result (λ p. Goes (happening event.entry) self p.1 p.0) }
+    {
+        let Step { out, .. } = self.router.step(event, alloc)?;
+        Ok((self, out))
+    }
+
+    // The logs grow by what a step of the router put out, and its runs go on.
+    fn settle(
+        mut self,
+        outputs: Outputs,
+        logs: &mut Logs,
+        router: RouterId,
+    ) -> Result<RunningRouter, Stopped>
+        ensures settles { IfOk result (λ x. Settles router self outputs logs.old x logs.new) }
+        ensures none { OnErr result (logs.new ≡ logs.old) }
+    {
+        match logs.take(router, self.first, &mut self.later, outputs) {
+            Ok(()) => Ok(self),
+            Err(_) => Err(Stopped),
+        }
     }
 }
 

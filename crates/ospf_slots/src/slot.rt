@@ -67,84 +67,36 @@ impl Slot {
         }
     }
 
-    // What a step of the running router came to; it was taken out.
-    fn conclude(&mut self, stepped: Result<RunningRouter, Stopped>) -> Result<(), WorldFault>
-        requires { IfOk stepped Lives }
-        ensures ok { IfOk stepped (λ v. (result ≡ Ok tt) × (self.new ≡ with_running self.old (running_of v))) }
-        ensures err { OnErr stepped ((result ≡ Err (fault.Memory true)) × (self.new ≡ self.old)) }
+    /// What an event at this router comes to; the logs grow by what the router puts out.
+    ///
+    /// The first fault that holds, of `NoLink`, `NoDatagram`, `Running` and `NotRunning`, and `Floor`: then nothing is changed.
+    /// `Memory` where memory runs out: a router that had begun the step is stopped, and no log has grown.
+    pub fn step(
+        &mut self,
+        event: &WorldEvent,
+        logs: &mut Logs,
+        alloc: Global,
+    ) -> Result<(), WorldFault>
+        ensures { SlotSteps event.now self.old logs.old result self.new logs.new }
     {
-        match stepped {
-            Ok(running) => {
-                self.running = Some(running);
-                Ok(())
+        match event {
+            WorldEvent::Start {
+                dd_start,
+                floor,
+                ..
+            } => self.start(*dd_start, floor, logs, alloc),
+            WorldEvent::Stop { .. } => self.stop(),
+            WorldEvent::Tick { .. } => self.feed(Event::Tick, logs, alloc),
+            WorldEvent::LinkUp { link, .. } => {
+                self.feed_on(*link, Event::LinkUp { link: *link }, logs, alloc)
             }
-            Err(Stopped) => Err(WorldFault::Memory { stopped: true }),
+            WorldEvent::LinkDown { link, .. } => {
+                self.feed_on(*link, Event::LinkDown { link: *link }, logs, alloc)
+            }
+            WorldEvent::Deliver { datagram, link, .. } => {
+                self.deliver(*datagram, *link, logs, alloc)
+            }
         }
-    }
-
-    // The router is stepped, if it runs.
-    fn feed(&mut self, event: Event<'_>, logs: &mut Logs, alloc: Global) -> Result<(), WorldFault>
-        ensures { Feeds (happening event.entry) self.old logs.old result self.new logs.new }
-    {
-        let Some(running) = self.running.take() else {
-            return Err(WorldFault::NotRunning);
-        };
-        let stepped = running.feed(event, logs, self.config.router_id, alloc);
-        self.conclude(stepped)
-    }
-
-    // The router is stepped, if it has the link and runs.
-    fn feed_on(
-        &mut self,
-        link: usize,
-        event: Event<'_>,
-        logs: &mut Logs,
-        alloc: Global,
-    ) -> Result<(), WorldFault>
-        ensures { FeedsOn link (happening event.entry) self.old logs.old result self.new logs.new }
-    {
-        if link < self.config.interfaces.len() {
-            self.feed(event, logs, alloc)
-        } else {
-            Err(WorldFault::NoLink)
-        }
-    }
-
-    // A datagram that was sent comes in on a link, if the router runs.
-    fn hand(
-        &mut self,
-        place: usize,
-        link: usize,
-        logs: &mut Logs,
-        alloc: Global,
-    ) -> Result<(), WorldFault>
-        requires { place < length logs.old.datagrams }
-        ensures { IfSome (slice_get logs.old.datagrams place) (λ g. Feeds (delivery link g) self.old logs.old result self.new logs.new) }
-    {
-        let Some(running) = self.running.take() else {
-            return Err(WorldFault::NotRunning);
-        };
-        let stepped = running.deliver(place, link, logs, self.config.router_id, alloc);
-        self.conclude(stepped)
-    }
-
-    // A datagram comes in on a link, if there is the link, the datagram was sent, and the router runs.
-    fn deliver(
-        &mut self,
-        place: usize,
-        link: usize,
-        logs: &mut Logs,
-        alloc: Global,
-    ) -> Result<(), WorldFault>
-        ensures { DeliversOn link (slice_get logs.old.datagrams place) self.old logs.old result self.new logs.new }
-    {
-        if link >= self.config.interfaces.len() {
-            return Err(WorldFault::NoLink);
-        }
-        if place >= logs.datagrams().len() {
-            return Err(WorldFault::NoDatagram);
-        }
-        self.hand(place, link, logs, alloc)
     }
 
     // The router starts, if it does not run.
@@ -181,35 +133,83 @@ impl Slot {
         Ok(())
     }
 
-    /// What an event at this router comes to; the logs grow by what the router puts out.
-    ///
-    /// The first fault that holds, of `NoLink`, `NoDatagram`, `Running` and `NotRunning`, and `Floor`: then nothing is changed.
-    /// `Memory` where memory runs out: a router that had begun the step is stopped, and no log has grown.
-    pub fn step(
+    // The router is stepped, if it runs.
+    fn feed(&mut self, event: Event<'_>, logs: &mut Logs, alloc: Global) -> Result<(), WorldFault>
+        ensures { Feeds (happening event.entry) self.old logs.old result self.new logs.new }
+    {
+        let Some(running) = self.running.take() else {
+            return Err(WorldFault::NotRunning);
+        };
+        let stepped = running.feed(event, logs, self.config.router_id, alloc);
+        self.conclude(stepped)
+    }
+
+    // What a step of the running router came to; it was taken out.
+    fn conclude(&mut self, stepped: Result<RunningRouter, Stopped>) -> Result<(), WorldFault>
+        requires { IfOk stepped Lives }
+        ensures ok { IfOk stepped (λ v. (result ≡ Ok tt) × (self.new ≡ with_running self.old (running_of v))) }
+        ensures err { OnErr stepped ((result ≡ Err (fault.Memory true)) × (self.new ≡ self.old)) }
+    {
+        match stepped {
+            Ok(running) => {
+                self.running = Some(running);
+                Ok(())
+            }
+            Err(Stopped) => Err(WorldFault::Memory { stopped: true }),
+        }
+    }
+
+    // The router is stepped, if it has the link and runs.
+    fn feed_on(
         &mut self,
-        event: &WorldEvent,
+        link: usize,
+        event: Event<'_>,
         logs: &mut Logs,
         alloc: Global,
     ) -> Result<(), WorldFault>
-        ensures { SlotSteps event.now self.old logs.old result self.new logs.new }
+        ensures { FeedsOn link (happening event.entry) self.old logs.old result self.new logs.new }
     {
-        match event {
-            WorldEvent::Start {
-                dd_start,
-                floor,
-                ..
-            } => self.start(*dd_start, floor, logs, alloc),
-            WorldEvent::Stop { .. } => self.stop(),
-            WorldEvent::Tick { .. } => self.feed(Event::Tick, logs, alloc),
-            WorldEvent::LinkUp { link, .. } => {
-                self.feed_on(*link, Event::LinkUp { link: *link }, logs, alloc)
-            }
-            WorldEvent::LinkDown { link, .. } => {
-                self.feed_on(*link, Event::LinkDown { link: *link }, logs, alloc)
-            }
-            WorldEvent::Deliver { datagram, link, .. } => {
-                self.deliver(*datagram, *link, logs, alloc)
-            }
+        if link < self.config.interfaces.len() {
+            self.feed(event, logs, alloc)
+        } else {
+            Err(WorldFault::NoLink)
         }
+    }
+
+    // A datagram comes in on a link, if there is the link, the datagram was sent, and the router runs.
+    fn deliver(
+        &mut self,
+        place: usize,
+        link: usize,
+        logs: &mut Logs,
+        alloc: Global,
+    ) -> Result<(), WorldFault>
+        ensures { DeliversOn link (slice_get logs.old.datagrams place) self.old logs.old result self.new logs.new }
+    {
+        if link >= self.config.interfaces.len() {
+            return Err(WorldFault::NoLink);
+        }
+        if place >= logs.datagrams().len() {
+            return Err(WorldFault::NoDatagram);
+        }
+        self.hand(place, link, logs, alloc)
+    }
+
+    // A datagram that was sent comes in on a link, if the router runs.
+    fn hand(
+        &mut self,
+        place: usize,
+        link: usize,
+        logs: &mut Logs,
+        alloc: Global,
+    ) -> Result<(), WorldFault>
+        requires { place < length logs.old.datagrams }
+        ensures { IfSome (slice_get logs.old.datagrams place) (λ g. Feeds (delivery link g) self.old logs.old result self.new logs.new) }
+    {
+        let Some(running) = self.running.take() else {
+            return Err(WorldFault::NotRunning);
+        };
+        let stepped = running.deliver(place, link, logs, self.config.router_id, alloc);
+        self.conclude(stepped)
     }
 }

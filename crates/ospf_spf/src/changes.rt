@@ -56,45 +56,33 @@ pub enum Step {
     New,
 }
 
+impl RouteTable {
+    ghost use Rattle.std.specs.Prelude.{◌≡◌, ◌↔◌, All, AllPairs, Contains, IfOk};
+    ghost use Rattle.ospf_base.specs.declared.prefix.Prefix.{Prefix};
+    ghost use Rattle.ospf_graph.specs.declared.route.Route.{Route};
+    ghost use Rattle.ospf_spf.specs.Changes.{edited, IsChangeBefore, IsGone, IsNew, PutsHops};
+
+    /// The changes that lead to another table, in the order of tables: one for each prefix at which the two
+    /// differ, in cost or in hops, and no other. It takes as many steps as both have routes.
+    ///
+    /// `AllocError` where memory runs out.
+    pub fn changes(&self, alloc: Global, to: &RouteTable) -> Result<Vec<Change>, AllocError>
+        ensures applied { IfOk result (λ changes. edited self.now changes.items ≡ to.now) }
+        ensures in_order { IfOk result (λ changes. AllPairs IsChangeBefore changes.items) }
+        ensures puts { IfOk result (λ changes. (route : Route) → Contains changes.items (Change.Put route) ↔ IsNew self.now to.now route) }
+        ensures gone { IfOk result (λ changes. (prefix : Prefix) → Contains changes.items (Change.Gone prefix) ↔ IsGone self.now to.now prefix) }
+        ensures have_hops { IfOk result (λ changes. All PutsHops changes.items) }
+    {
+        let changes = changes_of(alloc, self.routes(), to.routes())?;
+        Ok(changes)
+    }
+}
+
 // Whether the first prefix stands before the second.
 pub(crate) fn is_before(a: Prefix, b: Prefix) -> bool
     ensures { IsTrue result ↔ IsPrefixBefore a b }
 {
     a.address.0 < b.address.0 || (a.address.0 == b.address.0 && a.length < b.length)
-}
-
-// Whether two routes to one prefix are the same.
-fn is_same_route(a: &Route, b: &Route) -> bool
-    requires { a.now.prefix ≡ b.now.prefix }
-    ensures { IsTrue result ↔ (a.now ≡ b.now) }
-{
-    a.cost == b.cost && a.hops.as_slice() == b.hops.as_slice()
-}
-
-// Which of two prefixes stands first.
-fn step_at(old: Prefix, new: Prefix) -> Step
-    ensures { StandsFirst old new result }
-{
-    if is_before(old, new) {
-        Step::Old
-    } else if is_before(new, old) {
-        Step::New
-    } else {
-        Step::Both
-    }
-}
-
-// Which of two tables goes on next, from these places on; `None` at the end of both.
-fn next_step(old: &[Route], i: usize, new: &[Route], j: usize) -> Option<Step>
-    requires { (i ≤ length old.now) × (j ≤ length new.now) }
-    ensures { MatchOption result ((i ≡ length old.now) × (j ≡ length new.now)) (IsStep old.now i new.now j) }
-{
-    match (old.get(i), new.get(j)) {
-        (None, None) => None,
-        (Some(_), None) => Some(Step::Old),
-        (None, Some(_)) => Some(Step::New),
-        (Some(a), Some(b)) => Some(step_at(a.prefix, b.prefix)),
-    }
 }
 
 // The changes that lead from one list of routes to the other.
@@ -129,24 +117,36 @@ fn changes_of(alloc: Global, old: &[Route], new: &[Route]) -> Result<Vec<Change>
     Ok(changes)
 }
 
-impl RouteTable {
-    ghost use Rattle.std.specs.Prelude.{◌≡◌, ◌↔◌, All, AllPairs, Contains, IfOk};
-    ghost use Rattle.ospf_base.specs.declared.prefix.Prefix.{Prefix};
-    ghost use Rattle.ospf_graph.specs.declared.route.Route.{Route};
-    ghost use Rattle.ospf_spf.specs.Changes.{edited, IsChangeBefore, IsGone, IsNew, PutsHops};
-
-    /// The changes that lead to another table, in the order of tables: one for each prefix at which the two
-    /// differ, in cost or in hops, and no other. It takes as many steps as both have routes.
-    ///
-    /// `AllocError` where memory runs out.
-    pub fn changes(&self, alloc: Global, to: &RouteTable) -> Result<Vec<Change>, AllocError>
-        ensures applied { IfOk result (λ changes. edited self.now changes.items ≡ to.now) }
-        ensures in_order { IfOk result (λ changes. AllPairs IsChangeBefore changes.items) }
-        ensures puts { IfOk result (λ changes. (route : Route) → Contains changes.items (Change.Put route) ↔ IsNew self.now to.now route) }
-        ensures gone { IfOk result (λ changes. (prefix : Prefix) → Contains changes.items (Change.Gone prefix) ↔ IsGone self.now to.now prefix) }
-        ensures have_hops { IfOk result (λ changes. All PutsHops changes.items) }
-    {
-        let changes = changes_of(alloc, self.routes(), to.routes())?;
-        Ok(changes)
+// Which of two tables goes on next, from these places on; `None` at the end of both.
+fn next_step(old: &[Route], i: usize, new: &[Route], j: usize) -> Option<Step>
+    requires { (i ≤ length old.now) × (j ≤ length new.now) }
+    ensures { MatchOption result ((i ≡ length old.now) × (j ≡ length new.now)) (IsStep old.now i new.now j) }
+{
+    match (old.get(i), new.get(j)) {
+        (None, None) => None,
+        (Some(_), None) => Some(Step::Old),
+        (None, Some(_)) => Some(Step::New),
+        (Some(a), Some(b)) => Some(step_at(a.prefix, b.prefix)),
     }
+}
+
+// Which of two prefixes stands first.
+fn step_at(old: Prefix, new: Prefix) -> Step
+    ensures { StandsFirst old new result }
+{
+    if is_before(old, new) {
+        Step::Old
+    } else if is_before(new, old) {
+        Step::New
+    } else {
+        Step::Both
+    }
+}
+
+// Whether two routes to one prefix are the same.
+fn is_same_route(a: &Route, b: &Route) -> bool
+    requires { a.now.prefix ≡ b.now.prefix }
+    ensures { IsTrue result ↔ (a.now ≡ b.now) }
+{
+    a.cost == b.cost && a.hops.as_slice() == b.hops.as_slice()
 }

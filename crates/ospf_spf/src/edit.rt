@@ -35,121 +35,6 @@ impl Model for Edit {
     ghost invariant = { λ e. (e.room.items ≡ []) × AllPairs IsChangeBefore e.changes.items × All PutsHops e.changes.items };
 }
 
-// The same changes, in memory of their own.
-fn copy_changes(alloc: Global, changes: &[Change]) -> Result<Vec<Change>, AllocError>
-    ensures { IfOk result (λ copies. copies.items ≡ changes.now) }
-{
-    let mut copies = Vec::with_capacity(alloc, changes.len())?;
-    for change in changes {
-        copies.push(change.copy(alloc)?)?;
-    }
-    Ok(copies)
-}
-
-// Whether two prefixes are one.
-fn is_same_prefix(a: Prefix, b: Prefix) -> bool
-    ensures { IsTrue result ↔ (a ≡ b) }
-{
-    a == b
-}
-
-// Puts a route at the end, where there is room.
-fn push_in_room(made: &mut Vec<Route>, route: Route)
-    requires { vec_len made.old < vec_capacity made.old }
-    ensures items { made.new.items ≡ made.old.items ++ route ∷ [] }
-    ensures len { vec_len made.new ≡ vec_len made.old + 1 }
-    ensures room { vec_capacity made.old ≤ vec_capacity made.new }
-{
-    match made.push(route) {
-        Ok(()) => {}
-        Err(_) => unreachable!(),
-    }
-}
-
-// Whether the first route that is left stands before the prefix.
-fn is_first_before(left: &VecDeque<Route>, prefix: Prefix) -> bool
-    ensures { IsTrue result ↔ FirstIs IsPrefixBefore left.now.items prefix }
-{
-    match left.front() {
-        Some(route) => is_before(route.prefix, prefix),
-        None => false,
-    }
-}
-
-// Whether the first route that is left is to the prefix.
-fn is_first_to(left: &VecDeque<Route>, prefix: Prefix) -> bool
-    ensures { IsTrue result ↔ FirstIs (λ p q. p ≡ q) left.now.items prefix }
-{
-    match left.front() {
-        Some(route) => is_same_prefix(route.prefix, prefix),
-        None => false,
-    }
-}
-
-// Moves the routes before the prefix.
-fn move_before(left: &mut VecDeque<Route>, prefix: Prefix, made: &mut Vec<Route>)
-    requires { deque_len left.old + vec_len made.old ≤ vec_capacity made.old }
-    ensures moved { IsMoved prefix left.old.items made.old.items left.new.items made.new.items }
-    ensures first { FirstIs IsPrefixBefore left.new.items prefix → ⊥ }
-    ensures len { deque_len left.new + vec_len made.new ≡ deque_len left.old + vec_len made.old }
-    ensures room { vec_capacity made.old ≤ vec_capacity made.new }
-{
-    while is_first_before(left, prefix) {
-        match left.pop_front() {
-            Some(route) => push_in_room(made, route),
-            None => unreachable!(),
-        }
-    }
-}
-
-// Moves the routes before the prefix, and leaves out the one to it.
-fn part(left: &mut VecDeque<Route>, prefix: Prefix, made: &mut Vec<Route>)
-    requires order { AllPairs IsRouteBefore left.old.items }
-    requires room { deque_len left.old + vec_len made.old ≤ vec_capacity made.old }
-    ensures parted { IsParted prefix left.old.items made.old.items left.new.items made.new.items }
-    ensures len { deque_len left.new + vec_len made.new ≤ deque_len left.old + vec_len made.old }
-    ensures room { vec_capacity made.old ≤ vec_capacity made.new }
-{
-    move_before(left, prefix, made);
-    if is_first_to(left, prefix) {
-        let _route = left.pop_front();
-    }
-}
-
-// Puts the route of a change at the end, if it has one.
-fn put(change: Change, made: &mut Vec<Route>)
-    requires { vec_len made.old < vec_capacity made.old }
-    ensures items { made.new.items ≡ made.old.items ++ put_of change }
-    ensures len { vec_len made.new ≤ vec_len made.old + 1 }
-    ensures room { vec_capacity made.old ≤ vec_capacity made.new }
-{
-    match change {
-        Change::Put(route) => push_in_room(made, route),
-        Change::Gone(_) => {}
-    }
-}
-
-// The routes after the changes. There is room for them.
-fn merged(routes: Vec<Route>, changes: Vec<Change>, room: Vec<Route>) -> Vec<Route>
-    requires table { IsInOrder routes.items }
-    requires changes { AllPairs IsChangeBefore changes.items × All PutsHops changes.items }
-    requires room { (room.items ≡ []) × (length routes.items + length changes.items ≤ vec_capacity room) }
-    ensures edited { result.items ≡ edited routes.items changes.items }
-    ensures table { IsInOrder result.items }
-{
-    let mut left = VecDeque::from_vec(routes);
-    let mut made = room;
-    let mut changes = VecDeque::from_vec(changes);
-    while let Some(change) = changes.pop_front() {
-        part(&mut left, change.prefix(), &mut made);
-        put(change, &mut made);
-    }
-    match made.append(&mut left.into_vec()) {
-        Ok(()) => made,
-        Err(_) => unreachable!(),
-    }
-}
-
 impl Edit {
     ghost use Rattle.std.specs.Prelude.{◌≡◌, ◌≤◌, ◌+◌, All, AllPairs, IfOk, length};
     ghost use Rattle.ospf_spf.specs.Changes.{IsChangeBefore, PutsHops};
@@ -216,5 +101,120 @@ impl RouteTable {
         let edit = Edit::new(alloc, self, changes)?;
         self.make(edit);
         Ok(())
+    }
+}
+
+// The same changes, in memory of their own.
+fn copy_changes(alloc: Global, changes: &[Change]) -> Result<Vec<Change>, AllocError>
+    ensures { IfOk result (λ copies. copies.items ≡ changes.now) }
+{
+    let mut copies = Vec::with_capacity(alloc, changes.len())?;
+    for change in changes {
+        copies.push(change.copy(alloc)?)?;
+    }
+    Ok(copies)
+}
+
+// The routes after the changes. There is room for them.
+fn merged(routes: Vec<Route>, changes: Vec<Change>, room: Vec<Route>) -> Vec<Route>
+    requires table { IsInOrder routes.items }
+    requires changes { AllPairs IsChangeBefore changes.items × All PutsHops changes.items }
+    requires room { (room.items ≡ []) × (length routes.items + length changes.items ≤ vec_capacity room) }
+    ensures edited { result.items ≡ edited routes.items changes.items }
+    ensures table { IsInOrder result.items }
+{
+    let mut left = VecDeque::from_vec(routes);
+    let mut made = room;
+    let mut changes = VecDeque::from_vec(changes);
+    while let Some(change) = changes.pop_front() {
+        part(&mut left, change.prefix(), &mut made);
+        put(change, &mut made);
+    }
+    match made.append(&mut left.into_vec()) {
+        Ok(()) => made,
+        Err(_) => unreachable!(),
+    }
+}
+
+// Moves the routes before the prefix, and leaves out the one to it.
+fn part(left: &mut VecDeque<Route>, prefix: Prefix, made: &mut Vec<Route>)
+    requires order { AllPairs IsRouteBefore left.old.items }
+    requires room { deque_len left.old + vec_len made.old ≤ vec_capacity made.old }
+    ensures parted { IsParted prefix left.old.items made.old.items left.new.items made.new.items }
+    ensures len { deque_len left.new + vec_len made.new ≤ deque_len left.old + vec_len made.old }
+    ensures room { vec_capacity made.old ≤ vec_capacity made.new }
+{
+    move_before(left, prefix, made);
+    if is_first_to(left, prefix) {
+        let _route = left.pop_front();
+    }
+}
+
+// Moves the routes before the prefix.
+fn move_before(left: &mut VecDeque<Route>, prefix: Prefix, made: &mut Vec<Route>)
+    requires { deque_len left.old + vec_len made.old ≤ vec_capacity made.old }
+    ensures moved { IsMoved prefix left.old.items made.old.items left.new.items made.new.items }
+    ensures first { FirstIs IsPrefixBefore left.new.items prefix → ⊥ }
+    ensures len { deque_len left.new + vec_len made.new ≡ deque_len left.old + vec_len made.old }
+    ensures room { vec_capacity made.old ≤ vec_capacity made.new }
+{
+    while is_first_before(left, prefix) {
+        match left.pop_front() {
+            Some(route) => push_in_room(made, route),
+            None => unreachable!(),
+        }
+    }
+}
+
+// Whether the first route that is left stands before the prefix.
+fn is_first_before(left: &VecDeque<Route>, prefix: Prefix) -> bool
+    ensures { IsTrue result ↔ FirstIs IsPrefixBefore left.now.items prefix }
+{
+    match left.front() {
+        Some(route) => is_before(route.prefix, prefix),
+        None => false,
+    }
+}
+
+// Puts a route at the end, where there is room.
+fn push_in_room(made: &mut Vec<Route>, route: Route)
+    requires { vec_len made.old < vec_capacity made.old }
+    ensures items { made.new.items ≡ made.old.items ++ route ∷ [] }
+    ensures len { vec_len made.new ≡ vec_len made.old + 1 }
+    ensures room { vec_capacity made.old ≤ vec_capacity made.new }
+{
+    match made.push(route) {
+        Ok(()) => {}
+        Err(_) => unreachable!(),
+    }
+}
+
+// Whether the first route that is left is to the prefix.
+fn is_first_to(left: &VecDeque<Route>, prefix: Prefix) -> bool
+    ensures { IsTrue result ↔ FirstIs (λ p q. p ≡ q) left.now.items prefix }
+{
+    match left.front() {
+        Some(route) => is_same_prefix(route.prefix, prefix),
+        None => false,
+    }
+}
+
+// Whether two prefixes are one.
+fn is_same_prefix(a: Prefix, b: Prefix) -> bool
+    ensures { IsTrue result ↔ (a ≡ b) }
+{
+    a == b
+}
+
+// Puts the route of a change at the end, if it has one.
+fn put(change: Change, made: &mut Vec<Route>)
+    requires { vec_len made.old < vec_capacity made.old }
+    ensures items { made.new.items ≡ made.old.items ++ put_of change }
+    ensures len { vec_len made.new ≤ vec_len made.old + 1 }
+    ensures room { vec_capacity made.old ≤ vec_capacity made.new }
+{
+    match change {
+        Change::Put(route) => push_in_room(made, route),
+        Change::Gone(_) => {}
     }
 }

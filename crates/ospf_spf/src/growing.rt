@@ -38,160 +38,6 @@ impl Model for GrowingTree {
     ghost invariant = { λ t. IsGrownOver t.root t.listing t.paths };
 }
 
-/// A tree whose listing has got an LSA, and whether the routing table stays for certain.
-#[derive(Drop)]
-pub struct Grown {
-    pub tree: GrowingTree,
-    pub stays: bool,
-}
-
-// What a listing says of a vertex: the edges that touch it, the ends at it, and whether the root is listed.
-#[derive(Drop)]
-struct Around {
-    edges: Vec<Edge>,
-    ends: Vec<End>,
-    has_root: bool,
-}
-
-// The vertex that an LSA is of.
-fn vertex_of(lsa: &Lsa) -> Vertex
-    ensures { result ≡ vertex_of (advertisement_of lsa.now) }
-{
-    let view = lsa.view();
-    let key = view.key();
-    match view.kind() {
-        Kind::Router => Vertex::Router(key.router),
-        Kind::Network => Vertex::Network(key.id),
-    }
-}
-
-// What a listing says of a vertex, beside the root.
-fn said_of(
-    alloc: Global,
-    listing: &Listing,
-    vertex: Vertex,
-    root: RouterId,
-) -> Result<Around, AllocError>
-    ensures { IfOk result (IsAround (advertisements_of listing.now) vertex root) }
-{
-    let edges = edges_at(alloc, listing, vertex)?;
-    let ends = ends_at(alloc, listing, vertex)?;
-    let has_root = is_listed(listing, root);
-    Ok(Around {
-        edges,
-        ends,
-        has_root,
-    })
-}
-
-// Where the edge stands, from a place on.
-fn place_from(edges: &[Edge], place: usize, edge: &Edge) -> Option<usize>
-    ensures { IfSome result (λ _. Contains edges.now edge.now) }
-{
-    for at in place..edges.len() {
-        if edges[at] == *edge {
-            return Some(at);
-        }
-    }
-    None
-}
-
-// The edges that do not stand among others in their order: those that go, and perhaps others that stand elsewhere.
-fn gone_of(alloc: Global, before: &[Edge], after: &[Edge]) -> Result<Vec<Edge>, AllocError>
-    ensures { IfOk result (λ gone. AreGone before.now after.now gone.items) }
-{
-    let mut gone = Vec::new(alloc);
-    let mut place = 0;
-    for edge in before {
-        match place_from(after, place, edge) {
-            Some(at) => place = at,
-            None => gone.push(*edge)?,
-        }
-    }
-    Ok(gone)
-}
-
-// Whether both say the same of the root.
-fn is_same_answer(before: bool, after: bool) -> bool
-    ensures { IsTrue result → before ≡ after }
-{
-    before == after
-}
-
-// Whether these are the same ends, in the same order.
-fn are_same_ends(before: &[End], after: &[End]) -> bool
-    ensures { IsTrue result → before.now ≡ after.now }
-{
-    before == after
-}
-
-// Whether no path reaches a vertex.
-fn is_unreached(paths: &KeptPaths, vertex: Vertex) -> bool
-    ensures { IsTrue result → (d : ℕ) → AtIn paths.now.settled vertex d → ⊥ }
-{
-    match paths.distance_of(vertex) {
-        Some(_) => false,
-        None => true,
-    }
-}
-
-// Whether the listings say the same of the vertex as far as the paths reach.
-fn are_alike(before: &Around, after: &Around, paths: &KeptPaths, vertex: Vertex) -> bool
-    ensures { IsTrue result → AreAlike paths.now.settled vertex before.now after.now }
-{
-    if !is_same_answer(before.has_root, after.has_root) {
-        return false;
-    }
-    if are_same_ends(&before.ends, &after.ends) {
-        return true;
-    }
-    is_unreached(paths, vertex)
-}
-
-// Whether the table that served before serves now, for certain.
-fn serves_still(
-    changed: &[Vertex],
-    before: &Around,
-    after: &Around,
-    paths: &KeptPaths,
-    vertex: Vertex,
-) -> bool
-    ensures none { IsTrue result → changed.now ≡ [] }
-    ensures alike { IsTrue result → AreAlike paths.now.settled vertex before.now after.now }
-{
-    if !changed.is_empty() {
-        return false;
-    }
-    are_alike(before, after, paths, vertex)
-}
-
-// The tree of the listing, by the paths of the listing before it.
-fn turned(
-    alloc: Global,
-    root: RouterId,
-    listing: Listing,
-    paths: KeptPaths,
-    vertex: Vertex,
-    before: Around,
-    after: Around,
-) -> Result<Grown, AllocError>
-    requires turn { (old : List (List ℕ)) × IsTurn old listing vertex root paths before after }
-    ensures root { IfOk result (λ g. g.tree.root ≡ root) }
-    ensures listing { IfOk result (λ g. g.tree.listing ≡ listing) }
-    ensures keeps { (old : List (List ℕ)) → IsTurn old listing vertex root paths before after → IfOk result (λ g. IsTrue g.stays → Keeps (growing root old paths) g.tree) }
-{
-    let gone = gone_of(alloc, &before.edges, &after.edges)?;
-    let mut changed = Vec::new(alloc);
-    let paths = paths.change(alloc, &gone, &after.edges, &mut changed)?;
-    let stays = serves_still(&changed, &before, &after, &paths, vertex);
-    let tree = GrowingTree {
-        root,
-        listing,
-        paths,
-    };
-    Ok(Grown { tree, stays })
-}
-
 impl GrowingTree {
     /// The tree of a listing at a root.
     ///
@@ -260,5 +106,159 @@ impl GrowingTree {
             Ok(grown) => Ok(grown),
             Err(AllocError) => Err(ListingFault::Memory),
         }
+    }
+}
+
+/// A tree whose listing has got an LSA, and whether the routing table stays for certain.
+#[derive(Drop)]
+pub struct Grown {
+    pub tree: GrowingTree,
+    pub stays: bool,
+}
+
+// What a listing says of a vertex: the edges that touch it, the ends at it, and whether the root is listed.
+#[derive(Drop)]
+struct Around {
+    edges: Vec<Edge>,
+    ends: Vec<End>,
+    has_root: bool,
+}
+
+// The vertex that an LSA is of.
+fn vertex_of(lsa: &Lsa) -> Vertex
+    ensures { result ≡ vertex_of (advertisement_of lsa.now) }
+{
+    let view = lsa.view();
+    let key = view.key();
+    match view.kind() {
+        Kind::Router => Vertex::Router(key.router),
+        Kind::Network => Vertex::Network(key.id),
+    }
+}
+
+// What a listing says of a vertex, beside the root.
+fn said_of(
+    alloc: Global,
+    listing: &Listing,
+    vertex: Vertex,
+    root: RouterId,
+) -> Result<Around, AllocError>
+    ensures { IfOk result (IsAround (advertisements_of listing.now) vertex root) }
+{
+    let edges = edges_at(alloc, listing, vertex)?;
+    let ends = ends_at(alloc, listing, vertex)?;
+    let has_root = is_listed(listing, root);
+    Ok(Around {
+        edges,
+        ends,
+        has_root,
+    })
+}
+
+// The tree of the listing, by the paths of the listing before it.
+fn turned(
+    alloc: Global,
+    root: RouterId,
+    listing: Listing,
+    paths: KeptPaths,
+    vertex: Vertex,
+    before: Around,
+    after: Around,
+) -> Result<Grown, AllocError>
+    requires turn { (old : List (List ℕ)) × IsTurn old listing vertex root paths before after }
+    ensures root { IfOk result (λ g. g.tree.root ≡ root) }
+    ensures listing { IfOk result (λ g. g.tree.listing ≡ listing) }
+    ensures keeps { (old : List (List ℕ)) → IsTurn old listing vertex root paths before after → IfOk result (λ g. IsTrue g.stays → Keeps (growing root old paths) g.tree) }
+{
+    let gone = gone_of(alloc, &before.edges, &after.edges)?;
+    let mut changed = Vec::new(alloc);
+    let paths = paths.change(alloc, &gone, &after.edges, &mut changed)?;
+    let stays = serves_still(&changed, &before, &after, &paths, vertex);
+    let tree = GrowingTree {
+        root,
+        listing,
+        paths,
+    };
+    Ok(Grown { tree, stays })
+}
+
+// The edges that do not stand among others in their order: those that go, and perhaps others that stand elsewhere.
+fn gone_of(alloc: Global, before: &[Edge], after: &[Edge]) -> Result<Vec<Edge>, AllocError>
+    ensures { IfOk result (λ gone. AreGone before.now after.now gone.items) }
+{
+    let mut gone = Vec::new(alloc);
+    let mut place = 0;
+    for edge in before {
+        match place_from(after, place, edge) {
+            Some(at) => place = at,
+            None => gone.push(*edge)?,
+        }
+    }
+    Ok(gone)
+}
+
+// Where the edge stands, from a place on.
+fn place_from(edges: &[Edge], place: usize, edge: &Edge) -> Option<usize>
+    ensures { IfSome result (λ _. Contains edges.now edge.now) }
+{
+    for at in place..edges.len() {
+        if edges[at] == *edge {
+            return Some(at);
+        }
+    }
+    None
+}
+
+// Whether the table that served before serves now, for certain.
+fn serves_still(
+    changed: &[Vertex],
+    before: &Around,
+    after: &Around,
+    paths: &KeptPaths,
+    vertex: Vertex,
+) -> bool
+    ensures none { IsTrue result → changed.now ≡ [] }
+    ensures alike { IsTrue result → AreAlike paths.now.settled vertex before.now after.now }
+{
+    if !changed.is_empty() {
+        return false;
+    }
+    are_alike(before, after, paths, vertex)
+}
+
+// Whether the listings say the same of the vertex as far as the paths reach.
+fn are_alike(before: &Around, after: &Around, paths: &KeptPaths, vertex: Vertex) -> bool
+    ensures { IsTrue result → AreAlike paths.now.settled vertex before.now after.now }
+{
+    if !is_same_answer(before.has_root, after.has_root) {
+        return false;
+    }
+    if are_same_ends(&before.ends, &after.ends) {
+        return true;
+    }
+    is_unreached(paths, vertex)
+}
+
+// Whether both say the same of the root.
+fn is_same_answer(before: bool, after: bool) -> bool
+    ensures { IsTrue result → before ≡ after }
+{
+    before == after
+}
+
+// Whether these are the same ends, in the same order.
+fn are_same_ends(before: &[End], after: &[End]) -> bool
+    ensures { IsTrue result → before.now ≡ after.now }
+{
+    before == after
+}
+
+// Whether no path reaches a vertex.
+fn is_unreached(paths: &KeptPaths, vertex: Vertex) -> bool
+    ensures { IsTrue result → (d : ℕ) → AtIn paths.now.settled vertex d → ⊥ }
+{
+    match paths.distance_of(vertex) {
+        Some(_) => false,
+        None => true,
     }
 }

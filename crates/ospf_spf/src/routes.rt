@@ -35,174 +35,22 @@ pub struct Reach {
     pub cost: u64,
 }
 
-// Whether two prefixes are one.
-fn is_same_prefix(a: Prefix, b: Prefix) -> bool
-    ensures { IsTrue result ↔ (a ≡ b) }
-{
-    a == b
-}
-
-// The place of a prefix in the order of prefixes.
-fn prefix_order(prefix: Prefix) -> u64
-    ensures { result ≡ prefix_code prefix }
-{
-    prefix.address.0 as u64 * 64 + prefix.length as u64
-}
-
-// The lesser of two costs, where there is one already.
-fn lesser(best: Option<u64>, cost: u64) -> u64
-    ensures { MatchOption best (result ≡ cost) (λ b. ((result ≡ b) × (b ≤ cost)) ⊎ ((result ≡ cost) × (cost ≤ b))) }
-{
-    match best {
-        Some(b) => { if b <= cost { b } else { cost } }
-        None => cost,
-    }
-}
-
-// The least cost of the reaches of a prefix.
-fn least_cost(prefix: Prefix, reaches: &[Reach]) -> Option<u64>
-    ensures { IsLeastOf reaches.now prefix result }
-{
-    let mut best = None;
-    for reach in reaches {
-        if is_same_prefix(reach.prefix, prefix) {
-            best = Some(lesser(best, reach.cost));
-        }
-    }
-    best
-}
-
-// The Link State ID of the network that is reached, if it is one of the prefix at this cost.
-fn network_at(reach: Reach, prefix: Prefix, cost: u64) -> Option<u32>
-    ensures { MatchOption result ((n : ℕ) → reach ≡ network_reach prefix n cost → ⊥) (λ n. reach ≡ network_reach prefix n cost) }
-{
-    match reach.vertex {
-        Vertex::Network(id) => {
-            if is_same_prefix(reach.prefix, prefix) && reach.cost == cost {
-                Some(id)
-            } else {
-                None
-            }
-        }
-        Vertex::Router(_) => None,
-    }
-}
-
-// The larger of two Link State IDs, where there is one already.
-fn larger(largest: Option<u32>, id: u32) -> u32
-    ensures { MatchOption largest (result ≡ id) (λ n. ((result ≡ n) × (id ≤ n)) ⊎ ((result ≡ id) × (n ≤ id))) }
-{
-    match largest {
-        Some(n) => { if id <= n { n } else { id } }
-        None => id,
-    }
-}
-
-// The network that counts at a prefix and cost: the one of the largest Link State ID (own choice among
-// networks of one prefix).
-fn chosen_network(prefix: Prefix, cost: u64, reaches: &[Reach]) -> Option<u32>
-    ensures { IsLargestOf reaches.now prefix cost result }
-{
-    let mut largest = None;
-    for reach in reaches {
-        if let Some(id) = network_at(*reach, prefix, cost) {
-            largest = Some(larger(largest, id));
-        }
-    }
-    largest
-}
-
-// Whether this is a router or the network.
-fn is_router_or(network: Option<u32>, vertex: Vertex) -> bool
-    ensures { IsTrue result ↔ IsRouterOr network vertex }
-{
-    match vertex {
-        Vertex::Router(_) => true,
-        Vertex::Network(id) => network == Some(id),
-    }
-}
-
-// The next hop that a start makes where its path ends.
-fn hop_from(start: Start) -> NextHop
-    ensures { result ≡ hop_of_start start }
-{
-    match start {
-        Start::Here => NextHop::Attached,
-        Start::OnNetwork(_) => NextHop::Attached,
-        Start::Hop(hop) => hop,
-    }
-}
-
-// Gathers the hops of all starts of a vertex.
-fn add_hops(
-    starts: &[VertexStart],
-    vertex: Vertex,
-    hops: &mut Vec<NextHop>,
-) -> Result<(), AllocError>
-    ensures { OnOk result (GathersHops (HasHop starts.now vertex) hops.old.items hops.new.items) }
-{
-    for begun in starts {
-        if is_same(begun.vertex, vertex) {
-            hops.push(hop_from(begun.start))?;
-        }
-    }
-    Ok(())
-}
-
-// Gathers the hops of all starts of a vertex, of starts in the order of vertices.
-fn add_hops_at(
-    starts: &[VertexStart],
-    vertex: Vertex,
-    hops: &mut Vec<NextHop>,
-) -> Result<(), AllocError>
-    requires { AreStartsInOrder starts.now }
-    ensures { OnOk result (GathersHops (HasHop starts.now vertex) hops.old.items hops.new.items) }
-{
-    add_hops(starts_at(starts, vertex), vertex, hops)?;
-    Ok(())
-}
-
-// Leaves each hop once, where there are twice as many as were left the last time, so that doubles never take up
-// more room than the hops themselves. It tells how many are left.
-fn leave_once(hops: &mut Vec<NextHop>, left: usize) -> usize
-    ensures { (hop : NextHop) → Contains hops.new.items hop ↔ Contains hops.old.items hop }
-{
-    if hops.len() / 2 < left {
-        return left;
-    }
-    hops.sort_unstable();
-    hops.dedup();
-    hops.len().max(FEW_HOPS)
-}
-
-// Whether this is an end of the prefix at this cost, and a router or the network.
-fn counts(end: Reach, prefix: Prefix, cost: u64, network: Option<u32>) -> bool
-    ensures { IsTrue result ↔ ((end.prefix ≡ prefix) × (end.cost ≡ cost) × IsRouterOr network end.vertex) }
-{
-    is_same_prefix(end.prefix, prefix) && end.cost == cost && is_router_or(network, end.vertex)
-}
-
-// The hops of a prefix at its least cost.
-fn hops_of(
+/// The routes over a tree, from all ends that it reaches of a listing that has the root's LSA (RFC 2328,
+/// section 16.1): to each prefix that the root has a way to, in the order of the prefixes.
+///
+/// `AllocError` where memory runs out.
+pub(crate) fn table_of(
     alloc: Global,
-    prefix: Prefix,
-    cost: u64,
-    reaches: &[Reach],
-    starts: &[VertexStart],
-) -> Result<Hops, AllocError>
-    requires { AreStartsInOrder starts.now }
-    ensures { IfOk result (λ hops. AddsHops (HasHopOf reaches.now starts.now prefix cost) [] hops) }
+    paths: &ShortestPaths,
+    ends: &[End],
+) -> Result<Vec<Route>, AllocError>
+    requires told { AreTold paths.now }
+    ensures { IfOk result (λ routes. (adverts : List Advertisement) (root : RouterId) → IsListed adverts root → IsTreeOf adverts root paths.now → AreEndsWithin adverts paths.now.settled.items ends.now → IsTable adverts root routes.items) }
 {
-    let network = chosen_network(prefix, cost, reaches);
-    let mut hops = Vec::new(alloc);
-    let mut left = FEW_HOPS;
-    for reach in reaches {
-        if counts(*reach, prefix, cost, network) {
-            add_hops_at(starts, reach.vertex, &mut hops)?;
-            left = leave_once(&mut hops, left);
-        }
-    }
-    Ok(Hops::of(hops))
+    let mut reaches = reaches_of(alloc, ends, &paths.settled)?;
+    sort_reaches(&mut reaches);
+    let routes = routes_of(alloc, &reaches, &paths.starts)?;
+    Ok(routes)
 }
 
 // The ends that are reached.
@@ -233,64 +81,11 @@ fn sort_reaches(reaches: &mut Vec<Reach>)
     reaches.sort_unstable_by_key(|r| prefix_order(r.prefix));
 }
 
-// The route to a prefix that is reached.
-fn route_to(
-    alloc: Global,
-    prefix: Prefix,
-    reaches: &[Reach],
-    starts: &[VertexStart],
-) -> Result<Route, AllocError>
-    requires reached { (r : Reach) × Contains reaches.now r × (r.prefix ≡ prefix) }
-    requires in_order { AreStartsInOrder starts.now }
-    ensures { IfOk result (λ route. (route.prefix ≡ prefix) × IsRouteOf reaches.now starts.now route) }
+// The place of a prefix in the order of prefixes.
+fn prefix_order(prefix: Prefix) -> u64
+    ensures { result ≡ prefix_code prefix }
 {
-    let cost = match least_cost(prefix, reaches) {
-        Some(cost) => cost,
-        None => unreachable!(),
-    };
-    let hops = hops_of(alloc, prefix, cost, reaches, starts)?;
-    Ok(Route { prefix, cost, hops })
-}
-
-// Whether the reach at this place is the first of its prefix.
-fn is_first(reaches: &[Reach], place: usize) -> bool
-    requires { place < length reaches.now }
-    ensures first { IsTrue result → (d : Reach) → 0 < place → (slice_index_or reaches.now (place - 1) d).prefix ≡ (slice_index_or reaches.now place d).prefix → ⊥ }
-    ensures later { result ≡ false → (0 < place) × ((d : Reach) → (slice_index_or reaches.now (place - 1) d).prefix ≡ (slice_index_or reaches.now place d).prefix) }
-{
-    place == 0 || !is_same_prefix(reaches[place - 1].prefix, reaches[place].prefix)
-}
-
-// Where the reaches of the prefix that stands at this place end.
-fn group_end(reaches: &[Reach], place: usize) -> usize
-    requires { place < length reaches.now }
-    ensures { IsGroup reaches.now place result }
-{
-    for end in place + 1..reaches.len() {
-        if !is_same_prefix(reaches[place].prefix, reaches[end].prefix) {
-            return end;
-        }
-    }
-    reaches.len()
-}
-
-// The route to the prefix whose reaches begin at this place.
-fn route_at(
-    alloc: Global,
-    reaches: &[Reach],
-    place: usize,
-    starts: &[VertexStart],
-) -> Result<Route, AllocError>
-    requires within { place < length reaches.now }
-    requires first { (d : Reach) → 0 < place → (slice_index_or reaches.now (place - 1) d).prefix ≡ (slice_index_or reaches.now place d).prefix → ⊥ }
-    requires reaches_in_order { AreReachesInOrder reaches.now }
-    requires starts_in_order { AreStartsInOrder starts.now }
-    ensures prefix { IfOk result (λ route. (d : Reach) → route.prefix ≡ (slice_index_or reaches.now place d).prefix) }
-    ensures route { IfOk result (λ route. IsRouteOf reaches.now starts.now route) }
-{
-    let end = group_end(reaches, place);
-    let route = route_to(alloc, reaches[place].prefix, &reaches[place..end], starts)?;
-    Ok(route)
+    prefix.address.0 as u64 * 64 + prefix.length as u64
 }
 
 // The routes to all prefixes that are reached, in order.
@@ -314,20 +109,225 @@ fn routes_of(
     Ok(routes)
 }
 
-/// The routes over a tree, from all ends that it reaches of a listing that has the root's LSA (RFC 2328,
-/// section 16.1): to each prefix that the root has a way to, in the order of the prefixes.
-///
-/// `AllocError` where memory runs out.
-pub(crate) fn table_of(
-    alloc: Global,
-    paths: &ShortestPaths,
-    ends: &[End],
-) -> Result<Vec<Route>, AllocError>
-    requires told { AreTold paths.now }
-    ensures { IfOk result (λ routes. (adverts : List Advertisement) (root : RouterId) → IsListed adverts root → IsTreeOf adverts root paths.now → AreEndsWithin adverts paths.now.settled.items ends.now → IsTable adverts root routes.items) }
+// Whether the reach at this place is the first of its prefix.
+fn is_first(reaches: &[Reach], place: usize) -> bool
+    requires { place < length reaches.now }
+    ensures first { IsTrue result → (d : Reach) → 0 < place → (slice_index_or reaches.now (place - 1) d).prefix ≡ (slice_index_or reaches.now place d).prefix → ⊥ }
+    ensures later { result ≡ false → (0 < place) × ((d : Reach) → (slice_index_or reaches.now (place - 1) d).prefix ≡ (slice_index_or reaches.now place d).prefix) }
 {
-    let mut reaches = reaches_of(alloc, ends, &paths.settled)?;
-    sort_reaches(&mut reaches);
-    let routes = routes_of(alloc, &reaches, &paths.starts)?;
-    Ok(routes)
+    place == 0 || !is_same_prefix(reaches[place - 1].prefix, reaches[place].prefix)
+}
+
+// Whether two prefixes are one.
+fn is_same_prefix(a: Prefix, b: Prefix) -> bool
+    ensures { IsTrue result ↔ (a ≡ b) }
+{
+    a == b
+}
+
+// The route to the prefix whose reaches begin at this place.
+fn route_at(
+    alloc: Global,
+    reaches: &[Reach],
+    place: usize,
+    starts: &[VertexStart],
+) -> Result<Route, AllocError>
+    requires within { place < length reaches.now }
+    requires first { (d : Reach) → 0 < place → (slice_index_or reaches.now (place - 1) d).prefix ≡ (slice_index_or reaches.now place d).prefix → ⊥ }
+    requires reaches_in_order { AreReachesInOrder reaches.now }
+    requires starts_in_order { AreStartsInOrder starts.now }
+    ensures prefix { IfOk result (λ route. (d : Reach) → route.prefix ≡ (slice_index_or reaches.now place d).prefix) }
+    ensures route { IfOk result (λ route. IsRouteOf reaches.now starts.now route) }
+{
+    let end = group_end(reaches, place);
+    let route = route_to(alloc, reaches[place].prefix, &reaches[place..end], starts)?;
+    Ok(route)
+}
+
+// Where the reaches of the prefix that stands at this place end.
+fn group_end(reaches: &[Reach], place: usize) -> usize
+    requires { place < length reaches.now }
+    ensures { IsGroup reaches.now place result }
+{
+    for end in place + 1..reaches.len() {
+        if !is_same_prefix(reaches[place].prefix, reaches[end].prefix) {
+            return end;
+        }
+    }
+    reaches.len()
+}
+
+// The route to a prefix that is reached.
+fn route_to(
+    alloc: Global,
+    prefix: Prefix,
+    reaches: &[Reach],
+    starts: &[VertexStart],
+) -> Result<Route, AllocError>
+    requires reached { (r : Reach) × Contains reaches.now r × (r.prefix ≡ prefix) }
+    requires in_order { AreStartsInOrder starts.now }
+    ensures { IfOk result (λ route. (route.prefix ≡ prefix) × IsRouteOf reaches.now starts.now route) }
+{
+    let cost = match least_cost(prefix, reaches) {
+        Some(cost) => cost,
+        None => unreachable!(),
+    };
+    let hops = hops_of(alloc, prefix, cost, reaches, starts)?;
+    Ok(Route { prefix, cost, hops })
+}
+
+// The least cost of the reaches of a prefix.
+fn least_cost(prefix: Prefix, reaches: &[Reach]) -> Option<u64>
+    ensures { IsLeastOf reaches.now prefix result }
+{
+    let mut best = None;
+    for reach in reaches {
+        if is_same_prefix(reach.prefix, prefix) {
+            best = Some(lesser(best, reach.cost));
+        }
+    }
+    best
+}
+
+// The lesser of two costs, where there is one already.
+fn lesser(best: Option<u64>, cost: u64) -> u64
+    ensures { MatchOption best (result ≡ cost) (λ b. ((result ≡ b) × (b ≤ cost)) ⊎ ((result ≡ cost) × (cost ≤ b))) }
+{
+    match best {
+        Some(b) => { if b <= cost { b } else { cost } }
+        None => cost,
+    }
+}
+
+// The hops of a prefix at its least cost.
+fn hops_of(
+    alloc: Global,
+    prefix: Prefix,
+    cost: u64,
+    reaches: &[Reach],
+    starts: &[VertexStart],
+) -> Result<Hops, AllocError>
+    requires { AreStartsInOrder starts.now }
+    ensures { IfOk result (λ hops. AddsHops (HasHopOf reaches.now starts.now prefix cost) [] hops) }
+{
+    let network = chosen_network(prefix, cost, reaches);
+    let mut hops = Vec::new(alloc);
+    let mut left = FEW_HOPS;
+    for reach in reaches {
+        if counts(*reach, prefix, cost, network) {
+            add_hops_at(starts, reach.vertex, &mut hops)?;
+            left = leave_once(&mut hops, left);
+        }
+    }
+    Ok(Hops::of(hops))
+}
+
+// The network that counts at a prefix and cost: the one of the largest Link State ID (own choice among
+// networks of one prefix).
+fn chosen_network(prefix: Prefix, cost: u64, reaches: &[Reach]) -> Option<u32>
+    ensures { IsLargestOf reaches.now prefix cost result }
+{
+    let mut largest = None;
+    for reach in reaches {
+        if let Some(id) = network_at(*reach, prefix, cost) {
+            largest = Some(larger(largest, id));
+        }
+    }
+    largest
+}
+
+// The Link State ID of the network that is reached, if it is one of the prefix at this cost.
+fn network_at(reach: Reach, prefix: Prefix, cost: u64) -> Option<u32>
+    ensures { MatchOption result ((n : ℕ) → reach ≡ network_reach prefix n cost → ⊥) (λ n. reach ≡ network_reach prefix n cost) }
+{
+    match reach.vertex {
+        Vertex::Network(id) => {
+            if is_same_prefix(reach.prefix, prefix) && reach.cost == cost {
+                Some(id)
+            } else {
+                None
+            }
+        }
+        Vertex::Router(_) => None,
+    }
+}
+
+// The larger of two Link State IDs, where there is one already.
+fn larger(largest: Option<u32>, id: u32) -> u32
+    ensures { MatchOption largest (result ≡ id) (λ n. ((result ≡ n) × (id ≤ n)) ⊎ ((result ≡ id) × (n ≤ id))) }
+{
+    match largest {
+        Some(n) => { if id <= n { n } else { id } }
+        None => id,
+    }
+}
+
+// Whether this is an end of the prefix at this cost, and a router or the network.
+fn counts(end: Reach, prefix: Prefix, cost: u64, network: Option<u32>) -> bool
+    ensures { IsTrue result ↔ ((end.prefix ≡ prefix) × (end.cost ≡ cost) × IsRouterOr network end.vertex) }
+{
+    is_same_prefix(end.prefix, prefix) && end.cost == cost && is_router_or(network, end.vertex)
+}
+
+// Whether this is a router or the network.
+fn is_router_or(network: Option<u32>, vertex: Vertex) -> bool
+    ensures { IsTrue result ↔ IsRouterOr network vertex }
+{
+    match vertex {
+        Vertex::Router(_) => true,
+        Vertex::Network(id) => network == Some(id),
+    }
+}
+
+// Gathers the hops of all starts of a vertex, of starts in the order of vertices.
+fn add_hops_at(
+    starts: &[VertexStart],
+    vertex: Vertex,
+    hops: &mut Vec<NextHop>,
+) -> Result<(), AllocError>
+    requires { AreStartsInOrder starts.now }
+    ensures { OnOk result (GathersHops (HasHop starts.now vertex) hops.old.items hops.new.items) }
+{
+    add_hops(starts_at(starts, vertex), vertex, hops)?;
+    Ok(())
+}
+
+// Gathers the hops of all starts of a vertex.
+fn add_hops(
+    starts: &[VertexStart],
+    vertex: Vertex,
+    hops: &mut Vec<NextHop>,
+) -> Result<(), AllocError>
+    ensures { OnOk result (GathersHops (HasHop starts.now vertex) hops.old.items hops.new.items) }
+{
+    for begun in starts {
+        if is_same(begun.vertex, vertex) {
+            hops.push(hop_from(begun.start))?;
+        }
+    }
+    Ok(())
+}
+
+// The next hop that a start makes where its path ends.
+fn hop_from(start: Start) -> NextHop
+    ensures { result ≡ hop_of_start start }
+{
+    match start {
+        Start::Here => NextHop::Attached,
+        Start::OnNetwork(_) => NextHop::Attached,
+        Start::Hop(hop) => hop,
+    }
+}
+
+// Leaves each hop once, where there are twice as many as were left the last time, so that doubles never take up
+// more room than the hops themselves. It tells how many are left.
+fn leave_once(hops: &mut Vec<NextHop>, left: usize) -> usize
+    ensures { (hop : NextHop) → Contains hops.new.items hop ↔ Contains hops.old.items hop }
+{
+    if hops.len() / 2 < left {
+        return left;
+    }
+    hops.sort_unstable();
+    hops.dedup();
+    hops.len().max(FEW_HOPS)
 }

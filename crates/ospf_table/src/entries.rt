@@ -35,18 +35,6 @@ impl Model for Entries {
     ghost invariant = { λ e. IsGathered e.lsas };
 }
 
-// Puts an LSA in a map.
-fn put(lsas: &mut BTreeMap<LsaKey, Lsa>, key: LsaKey, lsa: Lsa) -> Result<(), AllocError>
-    ensures ok { OnOk result (lsas.new.entries ≡ insert_entry key_cmp lsas.old.entries key lsa) }
-    ensures err { OnErr result (lsas.new.entries ≡ lsas.old.entries) }
-    ensures ordered { IsOrdered key_cmp lsas.new }
-{
-    if lsas.insert(key, lsa).is_err() {
-        return Err(AllocError);
-    }
-    Ok(())
-}
-
 impl Entries {
     pub(crate) fn new(alloc: Global) -> Entries
         ensures { result ≡ [] }
@@ -77,13 +65,6 @@ impl Entries {
         Ok(())
     }
 
-    // Whether there is an LSA of a key.
-    fn has(&self, key: &LsaKey) -> bool
-        ensures { IsTrue result ↔ HasKey self.now key.now }
-    {
-        self.lsas.contains_key(key)
-    }
-
     // The listing of the LSAs.
     pub(crate) fn listing(self, alloc: Global) -> Result<Listing, AllocError>
         ensures { IfOk result (λ listing. listing ≡ self) }
@@ -94,6 +75,25 @@ impl Entries {
         }
         Ok(listing)
     }
+
+    // Whether there is an LSA of a key.
+    fn has(&self, key: &LsaKey) -> bool
+        ensures { IsTrue result ↔ HasKey self.now key.now }
+    {
+        self.lsas.contains_key(key)
+    }
+}
+
+// Puts an LSA in a map.
+fn put(lsas: &mut BTreeMap<LsaKey, Lsa>, key: LsaKey, lsa: Lsa) -> Result<(), AllocError>
+    ensures ok { OnOk result (lsas.new.entries ≡ insert_entry key_cmp lsas.old.entries key lsa) }
+    ensures err { OnErr result (lsas.new.entries ≡ lsas.old.entries) }
+    ensures ordered { IsOrdered key_cmp lsas.new }
+{
+    if lsas.insert(key, lsa).is_err() {
+        return Err(AllocError);
+    }
+    Ok(())
 }
 
 // Adds an LSA below `MAX_AGE` whose key stands behind those of a listing.

@@ -10,8 +10,7 @@ ghost use Rattle.ospf_table.specs.Output.{AreLookups};
 
 use ospf_base::Addr;
 use ospf_fib::{Answer, Closed, Fib, OpenRefused, Seat, Writer};
-use ospf_files::{FailedStreams, Failure};
-use ospf_files::print_lookup;
+use ospf_files::{FailedStreams, Failure, print_lookup};
 use ospf_spf::RouteTable;
 use std::alloc::Global;
 use std::io::Write;
@@ -30,22 +29,6 @@ pub(crate) fn publish_once<W: Wait + Drop>(
     let mut seat = seats.pop().ok_or(OpenRefused)?;
     seat.learn(writer.publish(table)?);
     Ok((writer, seat))
-}
-
-// What the seat finds, which knows all that was published. Nothing is published meanwhile: the writer is here.
-fn look_up<W: Wait + Drop>(
-    writer: &mut Writer<W>,
-    seat: &mut Seat,
-    address: Addr,
-) -> Result<Option<Answer>, Closed>
-    requires { seat.old ≡ writer.old }
-    ensures writer { writer.new ≡ writer.old }
-    ensures seat { IfOk result (λ _. seat.new ≡ writer.old) }
-    ensures answer { IfOk result (λ answer. IsAnswerOfLast writer.old.tables address 0 answer) }
-{
-    let answer = seat.lookup(address, 0)?;
-    writer.covers(seat);
-    Ok(answer)
 }
 
 // Prints where the published table sends what is on its way to each address.
@@ -69,4 +52,20 @@ pub(crate) fn print_lookups<W: Wait + Drop, O: Write>(
         print_lookup(alloc, *address, answer, out, streams)?;
     }
     Ok(())
+}
+
+// What the seat finds, which knows all that was published. Nothing is published meanwhile: the writer is here.
+fn look_up<W: Wait + Drop>(
+    writer: &mut Writer<W>,
+    seat: &mut Seat,
+    address: Addr,
+) -> Result<Option<Answer>, Closed>
+    requires { seat.old ≡ writer.old }
+    ensures writer { writer.new ≡ writer.old }
+    ensures seat { IfOk result (λ _. seat.new ≡ writer.old) }
+    ensures answer { IfOk result (λ answer. IsAnswerOfLast writer.old.tables address 0 answer) }
+{
+    let answer = seat.lookup(address, 0)?;
+    writer.covers(seat);
+    Ok(answer)
 }

@@ -18,9 +18,8 @@ use crate::line::{LineFault, is_blank, lsa_of_line, without_end};
 use crate::lookup::{print_lookups, publish_once};
 use ospf_base::{Addr, Kind, LsaKey, MAX_AGE, RouterId};
 use ospf_fib::{Seat, Writer};
-use ospf_files::{FailedStreams, Failure, Status};
+use ospf_files::{FailedStreams, Failure, Status, print_routes};
 use ospf_lsa::{Listing, ListingFault, LsaFault};
-use ospf_files::print_routes;
 use ospf_spf::RouteTable;
 use std::alloc::{AllocError, Global};
 use std::io::{self, BufRead, Write};
@@ -119,50 +118,6 @@ impl From<Failure> for TableFault {
     }
 }
 
-// Takes the LSA of a text, unless the text is blank or the LSA is at `MAX_AGE`.
-fn take_entry(alloc: Global, entries: &mut Entries, text: &[u8]) -> Result<(), EntryFault>
-    ensures ok { OnOk result (IsTaken text.now entries.old entries.new) }
-    ensures err { OnErr result (entries.new ≡ entries.old) }
-    ensures fault { IfErr result (λ e. IsMemoryFault e ⊎ HasFault text.now entries.old e) }
-{
-    if is_blank(text) {
-        return Ok(());
-    }
-    let lsa = match lsa_of_line(alloc, text) {
-        Ok(lsa) => lsa,
-        Err(fault) => return Err(EntryFault::Line(fault)),
-    };
-    if lsa.view().header().age.ticks() == MAX_AGE {
-        return Ok(());
-    }
-    match entries.add(lsa) {
-        Ok(()) => Ok(()),
-        Err(fault) => Err(EntryFault::Listing(fault)),
-    }
-}
-
-// The LSAs of the lines up to the end of the input.
-fn read_entries<R: BufRead + Drop>(alloc: Global, mut input: R) -> Result<Entries, TableFault>
-    ensures whole { IfOk result (λ entries. IfSome (R.remaining input) (λ bytes. Reads bytes [] entries)) }
-    ensures refused { (n : ℕ) (f : EntryFault) → result ≡ Err (TableFault.Entry n f) → IfSome (R.remaining input) (λ bytes. Refuses bytes [] n f) }
-    ensures unread { (f : Failure) → result ≡ Err (TableFault.Failure f) → IsOfInput f }
-{
-    let mut entries = Entries::new(alloc);
-    let mut line = Vec::new(alloc);
-    for number in 1..u64::MAX {
-        line.clear();
-        match input.read_until(b'\n', &mut line) {
-            Ok(0) => return Ok(entries),
-            Ok(_) => {}
-            Err(error) => return Err(TableFault::of_reading(error)),
-        }
-        if let Err(fault) = take_entry(alloc, &mut entries, without_end(&line)) {
-            return Err(TableFault::of_entry(number, fault));
-        }
-    }
-    Err(TableFault::Failure(Failure::Input))
-}
-
 /// The listing of the LSAs of the lines of an input, which are read as by `table_text`.
 ///
 /// The error is the first line that is refused, or what was not read or had no room.
@@ -190,6 +145,165 @@ pub fn is_unlisted(listing: &Listing, root: RouterId) -> bool
     !listing.lsas().is_empty() && listing.get(&key).is_none()
 }
 
+/// Reads LSAs, one a line in hexadecimal, and writes the routing table of a router over them, and for
+/// each address the route that it takes.
+///
+/// A line ends in a line feed, which a carriage return may precede, or at the end of the input. One of
+/// spaces alone is skipped. An LSA at `MAX_AGE` is checked, and left out of the table. Once all is read the
+/// table is published, by `rt`, and written, and the addresses are looked up from a seat that learned it. Where
+/// LSAs are listed and the root's router-LSA is not among them, `err` says so. The first line that is refused is
+/// told on `err`, with status `Refused`. Status `Memory` says that memory ran out, or there was no place for the
+/// seat, and `Stream` that a read or a write failed, or the published table was closed; what it was is told on
+/// `err`, as far as that can be written. Then no more than a beginning of the table and the lookups is written, and
+/// nothing where the input was not read.
+pub fn table_text<W: Wait + Drop, R: BufRead + Drop, O: Write, E: Write>(
+    alloc: Global,
+    rt: W,
+    job: &TableJob,
+    input: R,
+    out: &mut O,
+    err: &mut E,
+) -> Status
+    ensures done { result ≡ Status.Done → IfSome (R.remaining input) (λ bytes. IsAnswered bytes job.now.root job.now.addresses.items (O.contents out.old) (O.contents out.new) (E.contents err.old) (E.contents err.new)) }
+    ensures refused { result ≡ Status.Refused → IfSome (R.remaining input) (λ bytes. IsRefusalTold bytes (E.contents err.old) (E.contents err.new)) }
+    ensures unwritten { result ≡ Status.Refused → O.contents out.new ≡ O.contents out.old }
+    ensures cut { (result ≡ Status.Memory) ⊎ (result ≡ Status.Stream) → (failed : FailedStreams) × IsCutShort (R.remaining input) job.now.root job.now.addresses.items failed (O.contents out.old) (O.contents out.new) (E.contents err.old) (E.contents err.new) result }
+    ensures not_words { result ≢ Status.Words }
+{
+    table_noted(alloc, rt, job, input, out, err, &mut FailedStreams::none())
+}
+
+// The LSAs of the lines up to the end of the input.
+fn read_entries<R: BufRead + Drop>(alloc: Global, mut input: R) -> Result<Entries, TableFault>
+    ensures whole { IfOk result (λ entries. IfSome (R.remaining input) (λ bytes. Reads bytes [] entries)) }
+    ensures refused { (n : ℕ) (f : EntryFault) → result ≡ Err (TableFault.Entry n f) → IfSome (R.remaining input) (λ bytes. Refuses bytes [] n f) }
+    ensures unread { (f : Failure) → result ≡ Err (TableFault.Failure f) → IsOfInput f }
+{
+    let mut entries = Entries::new(alloc);
+    let mut line = Vec::new(alloc);
+    for number in 1..u64::MAX {
+        line.clear();
+        match input.read_until(b'\n', &mut line) {
+            Ok(0) => return Ok(entries),
+            Ok(_) => {}
+            Err(error) => return Err(TableFault::of_reading(error)),
+        }
+        if let Err(fault) = take_entry(alloc, &mut entries, without_end(&line)) {
+            return Err(TableFault::of_entry(number, fault));
+        }
+    }
+    Err(TableFault::Failure(Failure::Input))
+}
+
+// Takes the LSA of a text, unless the text is blank or the LSA is at `MAX_AGE`.
+fn take_entry(alloc: Global, entries: &mut Entries, text: &[u8]) -> Result<(), EntryFault>
+    ensures ok { OnOk result (IsTaken text.now entries.old entries.new) }
+    ensures err { OnErr result (entries.new ≡ entries.old) }
+    ensures fault { IfErr result (λ e. IsMemoryFault e ⊎ HasFault text.now entries.old e) }
+{
+    if is_blank(text) {
+        return Ok(());
+    }
+    let lsa = match lsa_of_line(alloc, text) {
+        Ok(lsa) => lsa,
+        Err(fault) => return Err(EntryFault::Line(fault)),
+    };
+    if lsa.view().header().age.ticks() == MAX_AGE {
+        return Ok(());
+    }
+    match entries.add(lsa) {
+        Ok(()) => Ok(()),
+        Err(fault) => Err(EntryFault::Listing(fault)),
+    }
+}
+
+// Reads LSAs and prints a routing table, as `table_text`, and notes which streams fail.
+fn table_noted<W: Wait + Drop, R: BufRead + Drop, O: Write, E: Write>(
+    alloc: Global,
+    rt: W,
+    job: &TableJob,
+    input: R,
+    out: &mut O,
+    err: &mut E,
+    streams: &mut FailedStreams,
+) -> Status
+    ensures done { result ≡ Status.Done → IfSome (R.remaining input) (λ bytes. IsAnswered bytes job.now.root job.now.addresses.items (O.contents out.old) (O.contents out.new) (E.contents err.old) (E.contents err.new)) }
+    ensures refused { result ≡ Status.Refused → IfSome (R.remaining input) (λ bytes. IsRefusalTold bytes (E.contents err.old) (E.contents err.new)) }
+    ensures unwritten { result ≡ Status.Refused → O.contents out.new ≡ O.contents out.old }
+    ensures cut { (result ≡ Status.Memory) ⊎ (result ≡ Status.Stream) → IsCutShort (R.remaining input) job.now.root job.now.addresses.items streams.new (O.contents out.old) (O.contents out.new) (E.contents err.old) (E.contents err.new) result }
+    ensures not_words { result ≢ Status.Words }
+{
+    match answer_or_refuse(alloc, rt, job, input, out, err, streams) {
+        Ok(status) => status,
+        Err(failure) => failure.tell(err, streams),
+    }
+}
+
+// Prints the answer, or tells which line is refused. The answer is the status to end with.
+fn answer_or_refuse<W: Wait + Drop, R: BufRead + Drop, O: Write, E: Write>(
+    alloc: Global,
+    rt: W,
+    job: &TableJob,
+    input: R,
+    out: &mut O,
+    err: &mut E,
+    streams: &mut FailedStreams,
+) -> Result<Status, Failure>
+    ensures done { result ≡ Ok Status.Done → IfSome (R.remaining input) (λ bytes. IsAnswered bytes job.now.root job.now.addresses.items (O.contents out.old) (O.contents out.new) (E.contents err.old) (E.contents err.new)) }
+    ensures refused { result ≡ Ok Status.Refused → IfSome (R.remaining input) (λ bytes. IsRefusalTold bytes (E.contents err.old) (E.contents err.new)) }
+    ensures unwritten { result ≡ Ok Status.Refused → O.contents out.new ≡ O.contents out.old }
+    ensures ended { IfOk result (λ status. (status ≡ Status.Done) ⊎ (status ≡ Status.Refused)) }
+    ensures cut { IfErr result (IsAnswerCut (R.remaining input) job.now.root job.now.addresses.items streams.new (O.contents out.old) (O.contents out.new) (E.contents err.old) (E.contents err.new)) }
+{
+    match answer(alloc, rt, job, input, out, err, streams) {
+        Ok(()) => Ok(Status::Done),
+        Err(TableFault::Entry { number, fault }) => {
+            tell_refusal(alloc, number, fault, err, streams)?;
+            Ok(Status::Refused)
+        }
+        Err(TableFault::Failure(failure)) => Err(failure),
+    }
+}
+
+// Prints the table of the LSAs that are read, and what it says of the addresses.
+fn answer<W: Wait + Drop, R: BufRead + Drop, O: Write, E: Write>(
+    alloc: Global,
+    rt: W,
+    job: &TableJob,
+    input: R,
+    out: &mut O,
+    err: &mut E,
+    streams: &mut FailedStreams,
+) -> Result<(), TableFault>
+    ensures answer { OnOk result (IfSome (R.remaining input) (λ bytes. IsAnswered bytes job.now.root job.now.addresses.items (O.contents out.old) (O.contents out.new) (E.contents err.old) (E.contents err.new))) }
+    ensures refused { (n : ℕ) (f : EntryFault) → result ≡ Err (TableFault.Entry n f) → IfSome (R.remaining input) (λ bytes. Refuses bytes [] n f) }
+    ensures unwritten { (n : ℕ) (f : EntryFault) → result ≡ Err (TableFault.Entry n f) → O.contents out.new ≡ O.contents out.old }
+    ensures untold { (n : ℕ) (f : EntryFault) → result ≡ Err (TableFault.Entry n f) → E.contents err.new ≡ E.contents err.old }
+    ensures cut { (f : Failure) → result ≡ Err (TableFault.Failure f) → IsAnswerCut (R.remaining input) job.now.root job.now.addresses.items streams.new (O.contents out.old) (O.contents out.new) (E.contents err.old) (E.contents err.new) f }
+{
+    let listing = read_listing(alloc, input)?;
+    answer_of(alloc, rt, job, &listing, out, err, streams)?;
+    Ok(())
+}
+
+// Prints the table of a listing and what it says of the addresses, behind the warning of the root.
+fn answer_of<W: Wait + Drop, O: Write, E: Write>(
+    alloc: Global,
+    rt: W,
+    job: &TableJob,
+    listing: &Listing,
+    out: &mut O,
+    err: &mut E,
+    streams: &mut FailedStreams,
+) -> Result<(), Failure>
+    ensures answer { (bytes : List ℕ) → Reads bytes [] listing.now → OnOk result (IsAnswered bytes job.now.root job.now.addresses.items (O.contents out.old) (O.contents out.new) (E.contents err.old) (E.contents err.new)) }
+    ensures cut { IfErr result (IsTableCut listing.now job.now.root job.now.addresses.items streams.new (O.contents out.old) (O.contents out.new) (E.contents err.old) (E.contents err.new)) }
+{
+    warn(alloc, listing, job.root, err, streams)?;
+    let table = RouteTable::of(alloc, listing, job.root)?;
+    print_answer(alloc, rt, &table, &job.addresses, out, streams)
+}
+
 // Tells that the root's router-LSA is not listed, where that is so and others are.
 fn warn<E: Write>(
     alloc: Global,
@@ -207,27 +321,6 @@ fn warn<E: Write>(
     }
     let line = format!(in alloc; "{root}: no router-LSA of this router\n")?;
     streams.tell(err, &line)
-}
-
-// Prints the routes of a table, and where a table that was published sends what is on its way to the addresses.
-fn print_table<W: Wait + Drop, O: Write>(
-    alloc: Global,
-    writer: &mut Writer<W>,
-    seat: &mut Seat,
-    table: &RouteTable,
-    addresses: &[Addr],
-    out: &mut O,
-    streams: &mut FailedStreams,
-) -> Result<(), Failure>
-    requires seat { seat.old ≡ writer.old }
-    requires published { writer.old.tables ≡ opening ++ table.now ∷ [] }
-    ensures output { OnOk result ((text : List ℕ) × IsOutput table.now addresses.now text × Appends (O.contents out.old) (O.contents out.new) text) }
-    ensures begun { OnErr result (IsOutputBegun table.now addresses.now (O.contents out.old) (O.contents out.new)) }
-    ensures cut { IfErr result (IsLookupCut streams.new) }
-{
-    print_routes(alloc, table.routes(), out, streams)?;
-    print_lookups(alloc, writer, seat, addresses, out, streams)?;
-    streams.flush(out)
 }
 
 // Publishes a table, and prints it, and what it says of the addresses.
@@ -257,43 +350,25 @@ fn print_answer<W: Wait + Drop, O: Write>(
     )
 }
 
-// Prints the table of a listing and what it says of the addresses, behind the warning of the root.
-fn answer_of<W: Wait + Drop, O: Write, E: Write>(
+// Prints the routes of a table, and where a table that was published sends what is on its way to the addresses.
+fn print_table<W: Wait + Drop, O: Write>(
     alloc: Global,
-    rt: W,
-    job: &TableJob,
-    listing: &Listing,
+    writer: &mut Writer<W>,
+    seat: &mut Seat,
+    table: &RouteTable,
+    addresses: &[Addr],
     out: &mut O,
-    err: &mut E,
     streams: &mut FailedStreams,
 ) -> Result<(), Failure>
-    ensures answer { (bytes : List ℕ) → Reads bytes [] listing.now → OnOk result (IsAnswered bytes job.now.root job.now.addresses.items (O.contents out.old) (O.contents out.new) (E.contents err.old) (E.contents err.new)) }
-    ensures cut { IfErr result (IsTableCut listing.now job.now.root job.now.addresses.items streams.new (O.contents out.old) (O.contents out.new) (E.contents err.old) (E.contents err.new)) }
+    requires seat { seat.old ≡ writer.old }
+    requires published { writer.old.tables ≡ opening ++ table.now ∷ [] }
+    ensures output { OnOk result ((text : List ℕ) × IsOutput table.now addresses.now text × Appends (O.contents out.old) (O.contents out.new) text) }
+    ensures begun { OnErr result (IsOutputBegun table.now addresses.now (O.contents out.old) (O.contents out.new)) }
+    ensures cut { IfErr result (IsLookupCut streams.new) }
 {
-    warn(alloc, listing, job.root, err, streams)?;
-    let table = RouteTable::of(alloc, listing, job.root)?;
-    print_answer(alloc, rt, &table, &job.addresses, out, streams)
-}
-
-// Prints the table of the LSAs that are read, and what it says of the addresses.
-fn answer<W: Wait + Drop, R: BufRead + Drop, O: Write, E: Write>(
-    alloc: Global,
-    rt: W,
-    job: &TableJob,
-    input: R,
-    out: &mut O,
-    err: &mut E,
-    streams: &mut FailedStreams,
-) -> Result<(), TableFault>
-    ensures answer { OnOk result (IfSome (R.remaining input) (λ bytes. IsAnswered bytes job.now.root job.now.addresses.items (O.contents out.old) (O.contents out.new) (E.contents err.old) (E.contents err.new))) }
-    ensures refused { (n : ℕ) (f : EntryFault) → result ≡ Err (TableFault.Entry n f) → IfSome (R.remaining input) (λ bytes. Refuses bytes [] n f) }
-    ensures unwritten { (n : ℕ) (f : EntryFault) → result ≡ Err (TableFault.Entry n f) → O.contents out.new ≡ O.contents out.old }
-    ensures untold { (n : ℕ) (f : EntryFault) → result ≡ Err (TableFault.Entry n f) → E.contents err.new ≡ E.contents err.old }
-    ensures cut { (f : Failure) → result ≡ Err (TableFault.Failure f) → IsAnswerCut (R.remaining input) job.now.root job.now.addresses.items streams.new (O.contents out.old) (O.contents out.new) (E.contents err.old) (E.contents err.new) f }
-{
-    let listing = read_listing(alloc, input)?;
-    answer_of(alloc, rt, job, &listing, out, err, streams)?;
-    Ok(())
+    print_routes(alloc, table.routes(), out, streams)?;
+    print_lookups(alloc, writer, seat, addresses, out, streams)?;
+    streams.flush(out)
 }
 
 // Tells the number of a line that is refused, and its fault.
@@ -310,80 +385,4 @@ fn tell_refusal<E: Write>(
 {
     let line = format!(in alloc; "line {number}: {}\n", fault.text())?;
     streams.tell(err, &line)
-}
-
-// Prints the answer, or tells which line is refused. The answer is the status to end with.
-fn answer_or_refuse<W: Wait + Drop, R: BufRead + Drop, O: Write, E: Write>(
-    alloc: Global,
-    rt: W,
-    job: &TableJob,
-    input: R,
-    out: &mut O,
-    err: &mut E,
-    streams: &mut FailedStreams,
-) -> Result<Status, Failure>
-    ensures done { result ≡ Ok Status.Done → IfSome (R.remaining input) (λ bytes. IsAnswered bytes job.now.root job.now.addresses.items (O.contents out.old) (O.contents out.new) (E.contents err.old) (E.contents err.new)) }
-    ensures refused { result ≡ Ok Status.Refused → IfSome (R.remaining input) (λ bytes. IsRefusalTold bytes (E.contents err.old) (E.contents err.new)) }
-    ensures unwritten { result ≡ Ok Status.Refused → O.contents out.new ≡ O.contents out.old }
-    ensures ended { IfOk result (λ status. (status ≡ Status.Done) ⊎ (status ≡ Status.Refused)) }
-    ensures cut { IfErr result (IsAnswerCut (R.remaining input) job.now.root job.now.addresses.items streams.new (O.contents out.old) (O.contents out.new) (E.contents err.old) (E.contents err.new)) }
-{
-    match answer(alloc, rt, job, input, out, err, streams) {
-        Ok(()) => Ok(Status::Done),
-        Err(TableFault::Entry { number, fault }) => {
-            tell_refusal(alloc, number, fault, err, streams)?;
-            Ok(Status::Refused)
-        }
-        Err(TableFault::Failure(failure)) => Err(failure),
-    }
-}
-
-// Reads LSAs and prints a routing table, as `table_text`, and notes which streams fail.
-fn table_noted<W: Wait + Drop, R: BufRead + Drop, O: Write, E: Write>(
-    alloc: Global,
-    rt: W,
-    job: &TableJob,
-    input: R,
-    out: &mut O,
-    err: &mut E,
-    streams: &mut FailedStreams,
-) -> Status
-    ensures done { result ≡ Status.Done → IfSome (R.remaining input) (λ bytes. IsAnswered bytes job.now.root job.now.addresses.items (O.contents out.old) (O.contents out.new) (E.contents err.old) (E.contents err.new)) }
-    ensures refused { result ≡ Status.Refused → IfSome (R.remaining input) (λ bytes. IsRefusalTold bytes (E.contents err.old) (E.contents err.new)) }
-    ensures unwritten { result ≡ Status.Refused → O.contents out.new ≡ O.contents out.old }
-    ensures cut { (result ≡ Status.Memory) ⊎ (result ≡ Status.Stream) → IsCutShort (R.remaining input) job.now.root job.now.addresses.items streams.new (O.contents out.old) (O.contents out.new) (E.contents err.old) (E.contents err.new) result }
-    ensures not_words { result ≢ Status.Words }
-{
-    match answer_or_refuse(alloc, rt, job, input, out, err, streams) {
-        Ok(status) => status,
-        Err(failure) => failure.tell(err, streams),
-    }
-}
-
-/// Reads LSAs, one a line in hexadecimal, and writes the routing table of a router over them, and for
-/// each address the route that it takes.
-///
-/// A line ends in a line feed, which a carriage return may precede, or at the end of the input. One of
-/// spaces alone is skipped. An LSA at `MAX_AGE` is checked, and left out of the table. Once all is read the
-/// table is published, by `rt`, and written, and the addresses are looked up from a seat that learned it. Where
-/// LSAs are listed and the root's router-LSA is not among them, `err` says so. The first line that is refused is
-/// told on `err`, with status `Refused`. Status `Memory` says that memory ran out, or there was no place for the
-/// seat, and `Stream` that a read or a write failed, or the published table was closed; what it was is told on
-/// `err`, as far as that can be written. Then no more than a beginning of the table and the lookups is written, and
-/// nothing where the input was not read.
-pub fn table_text<W: Wait + Drop, R: BufRead + Drop, O: Write, E: Write>(
-    alloc: Global,
-    rt: W,
-    job: &TableJob,
-    input: R,
-    out: &mut O,
-    err: &mut E,
-) -> Status
-    ensures done { result ≡ Status.Done → IfSome (R.remaining input) (λ bytes. IsAnswered bytes job.now.root job.now.addresses.items (O.contents out.old) (O.contents out.new) (E.contents err.old) (E.contents err.new)) }
-    ensures refused { result ≡ Status.Refused → IfSome (R.remaining input) (λ bytes. IsRefusalTold bytes (E.contents err.old) (E.contents err.new)) }
-    ensures unwritten { result ≡ Status.Refused → O.contents out.new ≡ O.contents out.old }
-    ensures cut { (result ≡ Status.Memory) ⊎ (result ≡ Status.Stream) → (failed : FailedStreams) × IsCutShort (R.remaining input) job.now.root job.now.addresses.items failed (O.contents out.old) (O.contents out.new) (E.contents err.old) (E.contents err.new) result }
-    ensures not_words { result ≢ Status.Words }
-{
-    table_noted(alloc, rt, job, input, out, err, &mut FailedStreams::none())
 }

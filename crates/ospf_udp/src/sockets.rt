@@ -16,13 +16,6 @@ use std::io::{self, ErrorKind};
 use std::net::{Ipv4Addr, Net, SocketAddr};
 use std::time::{Clock, Duration};
 
-// An interface that listens, and where what it sends goes to.
-#[derive(Drop)]
-struct Outlet {
-    socket: UdpSocket,
-    peers: Vec<Port>,
-}
-
 /// The sockets of a router's links, in the order of its interfaces, and its ticks.
 #[derive(Drop)]
 pub(crate) struct Sockets<C: Clock + Drop> {
@@ -38,82 +31,6 @@ pub(crate) struct Sockets<C: Clock + Drop> {
     ticked: bool,
     // What is sent.
     datagram: Vec<u8>,
-}
-
-// What a socket gave.
-#[derive(Drop)]
-enum Found {
-    Nothing,
-    // A datagram that is passed over, or an interrupted call: there may be more.
-    Useless,
-    Packet(Frame),
-}
-
-// What the sockets gave.
-#[derive(Drop)]
-enum Looked {
-    Nothing,
-    Useless,
-    Arrived(Arrival),
-}
-
-// The address of a port on this machine.
-fn local(port: Port) -> SocketAddr {
-    SocketAddr::from((Ipv4Addr::LOCALHOST, port.number))
-}
-
-// The next datagram of a socket.
-fn receive(socket: &UdpSocket, buffer: &mut [u8; LONGEST]) -> io::Result<Found> {
-    match socket.recv_from(buffer) {
-        Ok((count, _)) => match read_frame(buffer, count) {
-            Some(frame) => Ok(Found::Packet(frame)),
-            None => Ok(Found::Useless),
-        },
-        Err(error) => match error.kind() {
-            ErrorKind::WouldBlock => Ok(Found::Nothing),
-            ErrorKind::Interrupted | ErrorKind::ConnectionRefused => Ok(Found::Useless),
-            _ => Err(error),
-        },
-    }
-}
-
-// The socket of a port, which the poll looks at.
-fn bind<N: Net>(net: &N, poll: &Poll, port: Port, token: usize) -> io::Result<UdpSocket> {
-    let mut socket = UdpSocket::bind(net, local(port))?;
-    poll.registry()
-        .register(&mut socket, Token(token), Interest::READABLE)?;
-    Ok(socket)
-}
-
-// The same ports, in memory of their own.
-fn copy_ports(alloc: Global, ports: &[Port]) -> Result<Vec<Port>, AllocError> {
-    ports.to_vec(alloc)
-}
-
-// An interface that listens.
-fn open_outlet<N: Net>(
-    net: &N,
-    alloc: Global,
-    poll: &Poll,
-    interface: &Interface,
-    token: usize,
-) -> Result<Outlet, OpenFault> {
-    let Some(port) = interface.port else {
-        return Err(OpenFault::NoPort);
-    };
-    let peers = copy_ports(alloc, &interface.peers)?;
-    match bind(net, poll, port, token) {
-        Ok(socket) => Ok(Outlet { socket, peers }),
-        Err(error) => Err(socket_fault(&error)),
-    }
-}
-
-// Why a socket could not be made.
-fn socket_fault(error: &io::Error) -> OpenFault {
-    match error.kind() {
-        ErrorKind::OutOfMemory => OpenFault::Memory,
-        _ => OpenFault::Socket,
-    }
 }
 
 impl<C: Clock + Drop> Sockets<C> {
@@ -149,38 +66,41 @@ impl<C: Clock + Drop> Sockets<C> {
         })
     }
 
-    // Looks at each socket once, from the one that is first.
-    fn look(&mut self, buffer: &mut [u8; LONGEST]) -> io::Result<Looked>
-        ensures ticks { self.new.ticks ≡ self.old.ticks }
-        ensures outside { IfOk result AreFromOutside }
+    /// Waits for what comes next: first the links come up, then come ticks and datagrams, and after the last tick the end.
+    pub(crate) fn next_arrival(&mut self, buffer: &mut [u8; LONGEST]) -> io::Result<Arrival>
+        ensures handed { IfOk result (λ arrival. self.new.ticks.taken ≡ self.old.ticks.taken + tick_of arrival) }
+        ensures over { IfOk result (λ arrival. arrival ≡ arrivals.End → self.new.ticks.taken ≡ self.new.ticks.count) }
+        ensures count { self.new.ticks.count ≡ self.old.ticks.count }
+        ensures none { OnErr result (self.new.ticks.taken ≡ self.old.ticks.taken) }
     {
-        let count = self.outlets.len();
-        for step in 0..count {
-            let link = self.first.wrapping_add(step) % count;
-            match receive(&self.outlets[link].socket, buffer)? {
-                Found::Nothing => {}
-                Found::Useless => {
-                    self.first = link.wrapping_add(1) % count;
-                    return Ok(Looked::Useless);
-                }
-                Found::Packet(
-                    Frame {
-                        source,
-                        destination,
-                        length,
-                    },
-                ) => {
-                    self.first = link.wrapping_add(1) % count;
-                    return Ok(Looked::Arrived(Arrival::Datagram {
-                        link,
-                        source,
-                        destination,
-                        length,
-                    }));
+        if let Some(arrival) = self.next_up() {
+            return Ok(arrival);
+        }
+        for _ in 0..u64::MAX {
+            if let Some(arrival) = self.try_next(buffer)? {
+                return Ok(arrival);
+            }
+        }
+        Err(io::Error::from(ErrorKind::TimedOut))
+    }
+
+    /// Sends to each peer of the link. What finds no room or no listener is lost, as on any network.
+    pub(crate) fn send_to_peers(&mut self, sent: &Sent) -> io::Result<()>
+        ensures { self.new.ticks ≡ self.old.ticks }
+    {
+        write_frame(&mut self.datagram, sent)?;
+        let Some(outlet) = self.outlets.get(sent.link) else {
+            return Ok(());
+        };
+        for peer in &outlet.peers {
+            if let Err(error) = outlet.socket.send_to(&self.datagram, local(*peer)) {
+                match error.kind() {
+                    ErrorKind::WouldBlock | ErrorKind::ConnectionRefused => {}
+                    _ => return Err(error),
                 }
             }
         }
-        Ok(Looked::Nothing)
+        Ok(())
     }
 
     // The next link that comes up, if one does.
@@ -225,40 +145,120 @@ impl<C: Clock + Drop> Sockets<C> {
         }
     }
 
-    /// Waits for what comes next: first the links come up, then come ticks and datagrams, and after the last tick the end.
-    pub(crate) fn next_arrival(&mut self, buffer: &mut [u8; LONGEST]) -> io::Result<Arrival>
-        ensures handed { IfOk result (λ arrival. self.new.ticks.taken ≡ self.old.ticks.taken + tick_of arrival) }
-        ensures over { IfOk result (λ arrival. arrival ≡ arrivals.End → self.new.ticks.taken ≡ self.new.ticks.count) }
-        ensures count { self.new.ticks.count ≡ self.old.ticks.count }
-        ensures none { OnErr result (self.new.ticks.taken ≡ self.old.ticks.taken) }
+    // Looks at each socket once, from the one that is first.
+    fn look(&mut self, buffer: &mut [u8; LONGEST]) -> io::Result<Looked>
+        ensures ticks { self.new.ticks ≡ self.old.ticks }
+        ensures outside { IfOk result AreFromOutside }
     {
-        if let Some(arrival) = self.next_up() {
-            return Ok(arrival);
-        }
-        for _ in 0..u64::MAX {
-            if let Some(arrival) = self.try_next(buffer)? {
-                return Ok(arrival);
-            }
-        }
-        Err(io::Error::from(ErrorKind::TimedOut))
-    }
-
-    /// Sends to each peer of the link. What finds no room or no listener is lost, as on any network.
-    pub(crate) fn send_to_peers(&mut self, sent: &Sent) -> io::Result<()>
-        ensures { self.new.ticks ≡ self.old.ticks }
-    {
-        write_frame(&mut self.datagram, sent)?;
-        let Some(outlet) = self.outlets.get(sent.link) else {
-            return Ok(());
-        };
-        for peer in &outlet.peers {
-            if let Err(error) = outlet.socket.send_to(&self.datagram, local(*peer)) {
-                match error.kind() {
-                    ErrorKind::WouldBlock | ErrorKind::ConnectionRefused => {}
-                    _ => return Err(error),
+        let count = self.outlets.len();
+        for step in 0..count {
+            let link = self.first.wrapping_add(step) % count;
+            match receive(&self.outlets[link].socket, buffer)? {
+                Found::Nothing => {}
+                Found::Useless => {
+                    self.first = link.wrapping_add(1) % count;
+                    return Ok(Looked::Useless);
+                }
+                Found::Packet(
+                    Frame {
+                        source,
+                        destination,
+                        length,
+                    },
+                ) => {
+                    self.first = link.wrapping_add(1) % count;
+                    return Ok(Looked::Arrived(Arrival::Datagram {
+                        link,
+                        source,
+                        destination,
+                        length,
+                    }));
                 }
             }
         }
-        Ok(())
+        Ok(Looked::Nothing)
+    }
+}
+
+// An interface that listens, and where what it sends goes to.
+#[derive(Drop)]
+struct Outlet {
+    socket: UdpSocket,
+    peers: Vec<Port>,
+}
+
+// What a socket gave.
+#[derive(Drop)]
+enum Found {
+    Nothing,
+    // A datagram that is passed over, or an interrupted call: there may be more.
+    Useless,
+    Packet(Frame),
+}
+
+// What the sockets gave.
+#[derive(Drop)]
+enum Looked {
+    Nothing,
+    Useless,
+    Arrived(Arrival),
+}
+
+// Why a socket could not be made.
+fn socket_fault(error: &io::Error) -> OpenFault {
+    match error.kind() {
+        ErrorKind::OutOfMemory => OpenFault::Memory,
+        _ => OpenFault::Socket,
+    }
+}
+
+// An interface that listens.
+fn open_outlet<N: Net>(
+    net: &N,
+    alloc: Global,
+    poll: &Poll,
+    interface: &Interface,
+    token: usize,
+) -> Result<Outlet, OpenFault> {
+    let Some(port) = interface.port else {
+        return Err(OpenFault::NoPort);
+    };
+    let peers = copy_ports(alloc, &interface.peers)?;
+    match bind(net, poll, port, token) {
+        Ok(socket) => Ok(Outlet { socket, peers }),
+        Err(error) => Err(socket_fault(&error)),
+    }
+}
+
+// The same ports, in memory of their own.
+fn copy_ports(alloc: Global, ports: &[Port]) -> Result<Vec<Port>, AllocError> {
+    ports.to_vec(alloc)
+}
+
+// The socket of a port, which the poll looks at.
+fn bind<N: Net>(net: &N, poll: &Poll, port: Port, token: usize) -> io::Result<UdpSocket> {
+    let mut socket = UdpSocket::bind(net, local(port))?;
+    poll.registry()
+        .register(&mut socket, Token(token), Interest::READABLE)?;
+    Ok(socket)
+}
+
+// The address of a port on this machine.
+fn local(port: Port) -> SocketAddr {
+    SocketAddr::from((Ipv4Addr::LOCALHOST, port.number))
+}
+
+// The next datagram of a socket.
+fn receive(socket: &UdpSocket, buffer: &mut [u8; LONGEST]) -> io::Result<Found> {
+    match socket.recv_from(buffer) {
+        Ok((count, _)) => match read_frame(buffer, count) {
+            Some(frame) => Ok(Found::Packet(frame)),
+            None => Ok(Found::Useless),
+        },
+        Err(error) => match error.kind() {
+            ErrorKind::WouldBlock => Ok(Found::Nothing),
+            ErrorKind::Interrupted | ErrorKind::ConnectionRefused => Ok(Found::Useless),
+            _ => Err(error),
+        },
     }
 }

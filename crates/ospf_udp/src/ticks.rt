@@ -20,16 +20,6 @@ pub(crate) struct Ticks<C: Clock + Drop> {
     ghost within: { taken ≤ count },
 }
 
-/// What the clock says.
-pub(crate) enum Beat {
-    /// A tick is due.
-    Due,
-    /// None is due for so long.
-    In(Duration),
-    /// None comes any more.
-    Over,
-}
-
 impl<C: Clock + Drop> Ticks<C> {
     /// So many ticks, one a period.
     pub(crate) fn new(clock: C, period: Duration, count: u64) -> Ticks<C>
@@ -43,19 +33,6 @@ impl<C: Clock + Drop> Ticks<C> {
             taken: 0,
             count,
         }
-    }
-
-    // When the next tick is due: a period from now, where none was asked for before.
-    fn next(&mut self, now: Instant) -> io::Result<Instant>
-        ensures taken { self.new.taken ≡ self.old.taken }
-        ensures count { self.new.count ≡ self.old.count }
-    {
-        if let Some(due) = self.due {
-            return Ok(due);
-        }
-        let due = after(now, self.period)?;
-        self.due = Some(due);
-        Ok(due)
     }
 
     /// Whether a tick is due. None is any more where all were taken.
@@ -90,9 +67,32 @@ impl<C: Clock + Drop> Ticks<C> {
         self.taken += 1;
         Ok(())
     }
+
+    // When the next tick is due: a period from now, where none was asked for before.
+    fn next(&mut self, now: Instant) -> io::Result<Instant>
+        ensures taken { self.new.taken ≡ self.old.taken }
+        ensures count { self.new.count ≡ self.old.count }
+    {
+        if let Some(due) = self.due {
+            return Ok(due);
+        }
+        let due = after(now, self.period)?;
+        self.due = Some(due);
+        Ok(due)
+    }
 }
 
-// So much later.
+/// What the clock says.
+pub(crate) enum Beat {
+    /// A tick is due.
+    Due,
+    /// None is due for so long.
+    In(Duration),
+    /// None comes any more.
+    Over,
+}
+
+// The moment a period later.
 fn after(moment: Instant, period: Duration) -> io::Result<Instant> {
     moment
         .checked_add(period)

@@ -15,11 +15,57 @@ use ospf_packet::{BodyValue, PacketValue};
 use std::alloc::{AllocError, Global};
 use std::cmp::Ordering;
 
-// Headers compare by LS type, then by Link State ID, then by Advertising Router.
-fn by_key(a: &LsaHeader, b: &LsaHeader) -> Ordering
-    ensures { is_lt result ≡ header_precedes a.now b.now }
+/// Sends Acknowledgments of headers, in order of key, as many in each as fit.
+///
+/// `AllocError` where memory runs out.
+pub fn send_acks(
+    out: &mut Outputs,
+    own: Own,
+    way: Way,
+    settings: LinkSettings,
+    headers: &[LsaHeader],
+    alloc: Global,
+) -> Result<(), AllocError>
+    ensures { OnOk result (out.new ≡ and_sends out.old (acks_out own way settings.mtu headers.now)) }
 {
-    (a.kind, a.id, a.router).cmp(&(b.kind, b.id, b.router))
+    let sorted = in_order(headers, alloc)?;
+    send_packed(out, own, way, ack_room(settings), &sorted, alloc)
+}
+
+/// Sends the direct acknowledgements of an Update to its sender (RFC 2328, section 13.5).
+///
+/// `AllocError` where memory runs out; then the router is to be stopped.
+pub fn send_direct(
+    area: &mut Area,
+    from: Origin,
+    out: &mut Outputs,
+    alloc: Global,
+) -> Result<(), AllocError>
+    ensures after { OnOk result (area.new ≡ record area.old { direct = [] }) }
+    ensures sent { OnOk result (out.new ≡ and_sends out.old (direct_out from area.old)) }
+{
+    let own = own_of(area);
+    send_direct_from(&area.links, own, from, &area.direct, out, alloc)?;
+    area.direct.clear();
+    Ok(())
+}
+
+/// Sends the delayed acknowledgements of all links (section 13.5).
+///
+/// `AllocError` where memory runs out; then the router is to be stopped.
+pub fn send_delayed(
+    links: &mut [Link],
+    own: Own,
+    out: &mut Outputs,
+    alloc: Global,
+) -> Result<(), AllocError>
+    ensures after { OnOk result (links.new ≡ undelayed links.old) }
+    ensures sent { OnOk result (out.new ≡ and_sends out.old (delayed_out own links.old)) }
+{
+    for (number, link) in links.iter_mut().enumerate() {
+        send_delayed_on(link, number, own, out, alloc)?;
+    }
+    Ok(())
 }
 
 // The headers in order of key. Those of one key stay in the order in which they came, so the sort is a stable one.
@@ -31,29 +77,11 @@ fn in_order(headers: &[LsaHeader], alloc: Global) -> Result<Vec<LsaHeader>, Allo
     Ok(sorted)
 }
 
-fn ack_room(settings: LinkSettings) -> usize
-    ensures value { result ≡ ack_room settings.mtu }
-    ensures some { 0 < result }
+// Headers compare by LS type, then by Link State ID, then by Advertising Router.
+fn by_key(a: &LsaHeader, b: &LsaHeader) -> Ordering
+    ensures { is_lt result ≡ header_precedes a.now b.now }
 {
-    (usize::from(settings.mtu) - IP_HEADER - PACKET_HEADER) / LSA_HEADER
-}
-
-fn send_ack(
-    out: &mut Outputs,
-    own: Own,
-    way: Way,
-    headers: &[LsaHeader],
-    alloc: Global,
-) -> Result<(), AllocError>
-    ensures { OnOk result (out.new ≡ and_sends out.old (ack_out own way headers.now)) }
-{
-    let headers = Vec::from_slice(alloc, headers)?;
-    let packet = PacketValue {
-        router: own.router,
-        area: own.area,
-        body: BodyValue::Acknowledgment(headers),
-    };
-    send(out, way, &packet, alloc)
+    (a.kind, a.id, a.router).cmp(&(b.kind, b.id, b.router))
 }
 
 // Sends headers, so many in a packet.
@@ -77,24 +105,46 @@ fn send_packed(
     Ok(())
 }
 
-/// Sends Acknowledgments of headers, in order of key, as many in each as fit.
-///
-/// `AllocError` where memory runs out.
-pub fn send_acks(
+fn send_ack(
     out: &mut Outputs,
     own: Own,
     way: Way,
-    settings: LinkSettings,
     headers: &[LsaHeader],
     alloc: Global,
 ) -> Result<(), AllocError>
-    ensures { OnOk result (out.new ≡ and_sends out.old (acks_out own way settings.mtu headers.now)) }
+    ensures { OnOk result (out.new ≡ and_sends out.old (ack_out own way headers.now)) }
 {
-    let sorted = in_order(headers, alloc)?;
-    send_packed(out, own, way, ack_room(settings), &sorted, alloc)
+    let headers = Vec::from_slice(alloc, headers)?;
+    let packet = PacketValue {
+        router: own.router,
+        area: own.area,
+        body: BodyValue::Acknowledgment(headers),
+    };
+    send(out, way, &packet, alloc)
 }
 
-// ---- direct ones
+fn ack_room(settings: LinkSettings) -> usize
+    ensures value { result ≡ ack_room settings.mtu }
+    ensures some { 0 < result }
+{
+    (usize::from(settings.mtu) - IP_HEADER - PACKET_HEADER) / LSA_HEADER
+}
+
+fn send_direct_from(
+    links: &[Link],
+    own: Own,
+    from: Origin,
+    headers: &[LsaHeader],
+    out: &mut Outputs,
+    alloc: Global,
+) -> Result<(), AllocError>
+    ensures { OnOk result (out.new ≡ and_sends out.old (direct_out_on own from headers.now (slice_get links.now from.link))) }
+{
+    match links.get(from.link) {
+        Some(link) => send_direct_on(link, own, from, headers, out, alloc),
+        None => Ok(()),
+    }
+}
 
 fn send_direct_on(
     link: &Link,
@@ -114,42 +164,6 @@ fn send_direct_on(
     send_acks(out, own, way, link.settings, headers, alloc)
 }
 
-fn send_direct_from(
-    links: &[Link],
-    own: Own,
-    from: Origin,
-    headers: &[LsaHeader],
-    out: &mut Outputs,
-    alloc: Global,
-) -> Result<(), AllocError>
-    ensures { OnOk result (out.new ≡ and_sends out.old (direct_out_on own from headers.now (slice_get links.now from.link))) }
-{
-    match links.get(from.link) {
-        Some(link) => send_direct_on(link, own, from, headers, out, alloc),
-        None => Ok(()),
-    }
-}
-
-/// Sends the direct acknowledgements of an Update to its sender (RFC 2328, section 13.5).
-///
-/// `AllocError` where memory runs out; then the router is to be stopped.
-pub fn send_direct(
-    area: &mut Area,
-    from: Origin,
-    out: &mut Outputs,
-    alloc: Global,
-) -> Result<(), AllocError>
-    ensures after { OnOk result (area.new ≡ record area.old { direct = [] }) }
-    ensures sent { OnOk result (out.new ≡ and_sends out.old (direct_out from area.old)) }
-{
-    let own = own_of(area);
-    send_direct_from(&area.links, own, from, &area.direct, out, alloc)?;
-    area.direct.clear();
-    Ok(())
-}
-
-// ---- delayed ones
-
 fn send_delayed_on(
     link: &mut Link,
     number: usize,
@@ -163,23 +177,5 @@ fn send_delayed_on(
     let way = way_out(number, &link.iface, flooding_address(&link.iface));
     send_acks(out, own, way, link.settings, &link.delayed, alloc)?;
     link.delayed.clear();
-    Ok(())
-}
-
-/// Sends the delayed acknowledgements of all links (section 13.5).
-///
-/// `AllocError` where memory runs out; then the router is to be stopped.
-pub fn send_delayed(
-    links: &mut [Link],
-    own: Own,
-    out: &mut Outputs,
-    alloc: Global,
-) -> Result<(), AllocError>
-    ensures after { OnOk result (links.new ≡ undelayed links.old) }
-    ensures sent { OnOk result (out.new ≡ and_sends out.old (delayed_out own links.old)) }
-{
-    for (number, link) in links.iter_mut().enumerate() {
-        send_delayed_on(link, number, own, out, alloc)?;
-    }
     Ok(())
 }

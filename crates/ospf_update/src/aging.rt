@@ -26,25 +26,46 @@ pub fn turn_in(area: &mut Area, out: &mut Outputs, alloc: Global) -> Result<(), 
     turn_requests(&mut area.links, own, out, alloc)
 }
 
-fn note(area: &mut Area, key: LsaKey, went: bool) -> Result<(), AllocError>
-    ensures { OnOk result (area.new ≡ noted key went area.old) }
+/// Floods the copy of a key to all, and sends the Requests that come of it.
+///
+/// `AllocError` where memory runs out; then the router is to be stopped.
+pub fn send_copy(
+    area: &mut Area,
+    key: LsaKey,
+    out: &mut Outputs,
+    alloc: Global,
+) -> Result<(), AllocError>
+    ensures after { OnOk result (area.new ≡ copy_sent key area.old) }
+    ensures sent { OnOk result (out.new ≡ and_sends out.old (copy_out key area.old)) }
 {
-    if went {
-        mark(&mut area.sent, key, true)?;
-    }
-    Ok(())
+    flood_copy(area, key, out, alloc)?;
+    turn_in(area, out, alloc)
 }
 
-fn copy_of(area: &Area, key: &LsaKey, alloc: Global) -> Result<Option<Lsa>, AllocError>
-    ensures { IfOk result (λ copy. copy ≡ copy_of area.now key.now) }
+/// A tick passes (section 14): all ages rise, and the copies that come to `MAX_AGE` are flooded to all, in order of key.
+///
+/// `AllocError` where memory runs out; then the router is to be stopped.
+pub fn age(area: &mut Area, out: &mut Outputs, alloc: Global) -> Result<(), AllocError>
+    ensures { OnOk result ((sent : List SentValue) × TickAges area.old sent area.new × (out.new ≡ and_sends out.old sent)) }
 {
-    let Some(copy) = area.database.get(key) else {
-        return Ok(None);
-    };
-    match copy.copy(alloc) {
-        Ok(lsa) => Ok(Some(lsa)),
-        Err(_) => Err(AllocError),
-    }
+    rise(area);
+    let keys = expired_keys(area, alloc)?;
+    send_copies(area, &keys, out, alloc)
+}
+
+/// Flushes the copy of a key (section 14.1): its age becomes `MAX_AGE`, and it is flooded to all.
+///
+/// `AllocError` where memory runs out; then the router is to be stopped.
+pub fn flush(
+    area: &mut Area,
+    key: LsaKey,
+    out: &mut Outputs,
+    alloc: Global,
+) -> Result<(), AllocError>
+    ensures { OnOk result ((sent : List SentValue) × Flushes key area.old sent area.new × (out.new ≡ and_sends out.old sent)) }
+{
+    expire(area, &key);
+    send_copy(area, key, out, alloc)
 }
 
 // Floods the copy of a key to all.
@@ -64,33 +85,23 @@ fn flood_copy(
     note(area, key, flooded.anywhere)
 }
 
-/// Floods the copy of a key to all, and sends the Requests that come of it.
-///
-/// `AllocError` where memory runs out; then the router is to be stopped.
-pub fn send_copy(
-    area: &mut Area,
-    key: LsaKey,
-    out: &mut Outputs,
-    alloc: Global,
-) -> Result<(), AllocError>
-    ensures after { OnOk result (area.new ≡ copy_sent key area.old) }
-    ensures sent { OnOk result (out.new ≡ and_sends out.old (copy_out key area.old)) }
+fn copy_of(area: &Area, key: &LsaKey, alloc: Global) -> Result<Option<Lsa>, AllocError>
+    ensures { IfOk result (λ copy. copy ≡ copy_of area.now key.now) }
 {
-    flood_copy(area, key, out, alloc)?;
-    turn_in(area, out, alloc)
+    let Some(copy) = area.database.get(key) else {
+        return Ok(None);
+    };
+    match copy.copy(alloc) {
+        Ok(lsa) => Ok(Some(lsa)),
+        Err(_) => Err(AllocError),
+    }
 }
 
-fn send_copies(
-    area: &mut Area,
-    keys: &[LsaKey],
-    out: &mut Outputs,
-    alloc: Global,
-) -> Result<(), AllocError>
-    ensures after { OnOk result (area.new ≡ copies_sent keys.now area.old) }
-    ensures sent { OnOk result (out.new ≡ and_sends out.old (copies_out keys.now area.old)) }
+fn note(area: &mut Area, key: LsaKey, went: bool) -> Result<(), AllocError>
+    ensures { OnOk result (area.new ≡ noted key went area.old) }
 {
-    for key in keys {
-        send_copy(area, *key, out, alloc)?;
+    if went {
+        mark(&mut area.sent, key, true)?;
     }
     Ok(())
 }
@@ -109,15 +120,19 @@ fn expired_keys(area: &Area, alloc: Global) -> Result<Vec<LsaKey>, AllocError>
     area.database.reached(MAX_AGE).collect(alloc)
 }
 
-/// A tick passes (section 14): all ages rise, and the copies that come to `MAX_AGE` are flooded to all, in order of key.
-///
-/// `AllocError` where memory runs out; then the router is to be stopped.
-pub fn age(area: &mut Area, out: &mut Outputs, alloc: Global) -> Result<(), AllocError>
-    ensures { OnOk result ((sent : List SentValue) × TickAges area.old sent area.new × (out.new ≡ and_sends out.old sent)) }
+fn send_copies(
+    area: &mut Area,
+    keys: &[LsaKey],
+    out: &mut Outputs,
+    alloc: Global,
+) -> Result<(), AllocError>
+    ensures after { OnOk result (area.new ≡ copies_sent keys.now area.old) }
+    ensures sent { OnOk result (out.new ≡ and_sends out.old (copies_out keys.now area.old)) }
 {
-    rise(area);
-    let keys = expired_keys(area, alloc)?;
-    send_copies(area, &keys, out, alloc)
+    for key in keys {
+        send_copy(area, *key, out, alloc)?;
+    }
+    Ok(())
 }
 
 fn expire(area: &mut Area, key: &LsaKey)
@@ -125,19 +140,4 @@ fn expire(area: &mut Area, key: &LsaKey)
     ensures rest { area.new ≡ record area.old { database = area.new.database } }
 {
     let _ = area.database.expire(key);
-}
-
-/// Flushes the copy of a key (section 14.1): its age becomes `MAX_AGE`, and it is flooded to all.
-///
-/// `AllocError` where memory runs out; then the router is to be stopped.
-pub fn flush(
-    area: &mut Area,
-    key: LsaKey,
-    out: &mut Outputs,
-    alloc: Global,
-) -> Result<(), AllocError>
-    ensures { OnOk result ((sent : List SentValue) × Flushes key area.old sent area.new × (out.new ≡ and_sends out.old sent)) }
-{
-    expire(area, &key);
-    send_copy(area, key, out, alloc)
 }

@@ -32,26 +32,6 @@ use std::alloc::{AllocError, Global};
 /// I, M and MS.
 const FIRST_FLAGS: u8 = 7;
 
-// ---- a header of an Acknowledgment
-
-// The instance that an acknowledged header names.
-fn named_by(header: &LsaHeader, copy: Option<EntryView<'_>>) -> Option<Instance>
-    ensures { result ≡ named_by header.now copy.entry }
-{
-    let copy = copy?;
-    match newer(header, &copy.header()) {
-        Recency::Same => Some(copy.instance()),
-        Recency::Newer | Recency::Older => None,
-    }
-}
-
-fn named_in(area: &Area, header: &LsaHeader) -> Option<Instance>
-    ensures { result ≡ named_by header.now (copy_of area.now.database (key_of_header header.now)) }
-{
-    let key = header.key()?;
-    named_by(header, area.database.get(&key))
-}
-
 /// Takes a header of an Acknowledgment from the neighbour of the origin, which is in Exchange or above (RFC 2328, section
 /// 13.7). No memory is taken.
 pub fn on_header(area: &mut Area, from: Origin, header: &LsaHeader)
@@ -61,14 +41,6 @@ pub fn on_header(area: &mut Area, from: Origin, header: &LsaHeader)
         let tick = area.tick;
         change_at(&mut area.links, from, Change::Acknowledges(instance), tick);
     }
-}
-
-// ---- an LSA is stored and flooded
-
-fn release_in(area: &mut Area, key: &LsaKey)
-    ensures { area.new ≡ record area.old { links = released key.now area.old.links } }
-{
-    release(&mut area.links, key);
 }
 
 /// Floods an LSA out of all links (RFC 2328, section 13.3).
@@ -88,18 +60,6 @@ pub fn flood_in(
 {
     let own = own_of(area);
     flood(&mut area.links, lsa, from, own, out, alloc)
-}
-
-fn install_in(area: &mut Area, lsa: Lsa, by_flooding: bool) -> Result<(), AllocError>
-    ensures { OnOk result (InstallsIn lsa by_flooding area.old area.new) }
-{
-    area.database.install(lsa, area.tick, by_flooding)
-}
-
-fn mark_in(area: &mut Area, key: LsaKey, went: bool) -> Result<(), AllocError>
-    ensures { OnOk result (area.new ≡ record area.old { sent = marked key went area.old.sent }) }
-{
-    mark(&mut area.sent, key, went)
 }
 
 /// Stores an LSA and floods it (section 13, step 5): its old copy leaves all retransmission lists, then it is flooded,
@@ -127,15 +87,6 @@ pub fn store(
     Ok(flooded)
 }
 
-// ---- the rules of an Update
-
-// Whether the rule of an LSA hangs on who loads: the neighbours are looked at for no other.
-fn asks_who_loads(header: &LsaHeader) -> bool
-    ensures { result ≡ (header.now.age == max_age) }
-{
-    header.age.ticks() == MAX_AGE
-}
-
 /// Which rule an LSA of an Update meets (section 13), if its sender is in Exchange or above. No memory is taken.
 pub fn rule_met(area: &Area, from: Origin, lsa: &LsaView) -> Option<LsaRule>
     ensures { result ≡ rule_met area.now from lsa.now }
@@ -149,107 +100,6 @@ pub fn rule_met(area: &Area, from: Origin, lsa: &LsaView) -> Option<LsaRule>
     let requested = is_requested(&area.links, from, &key);
     let copy = area.database.get(&key);
     Some(lsa_rule(&header, copy, loading, requested, area.tick))
-}
-
-fn take(out: &mut Outputs, instance: Instance) -> Result<(), AllocError>
-    ensures { OnOk result (out.new ≡ and_takes out.old instance) }
-{
-    out.taken.push(instance)?;
-    Ok(())
-}
-
-fn on_expired(
-    area: &mut Area,
-    from: Origin,
-    lsa: &LsaView,
-    out: &mut Outputs,
-) -> Result<(), AllocError>
-    ensures { OnOk result (AnswersExpired from lsa.now area.old out.old out.new area.new) }
-{
-    let answer = answer_at(&area.links, AcknowledgementCase::Expired, from);
-    acknowledge_by(area, answer, from, &lsa.header())?;
-    take(out, lsa.instance())
-}
-
-fn hear(area: &mut Area, key: LsaKey) -> Result<(), AllocError>
-    ensures { OnOk result (area.new ≡ heard_by key area.old) }
-{
-    if is_self_originated(area.router, &area.links, &key) {
-        area.heard.push(key)?;
-    }
-    Ok(())
-}
-
-fn admit(
-    area: &mut Area,
-    from: Origin,
-    lsa: &LsaView,
-    out: &mut Outputs,
-    alloc: Global,
-) -> Result<(), AllocError>
-    ensures { OnOk result (Admits from lsa.now area.old out.old out.new area.new) }
-{
-    let Ok(copy) = Lsa::copy(alloc, lsa) else {
-        return Err(AllocError);
-    };
-    let flooded = store(area, copy, Some(from), out, alloc)?;
-    let answer = answer_at(&area.links, case_of_newer(flooded.back), from);
-    acknowledge_by(area, answer, from, &lsa.header())?;
-    hear(area, lsa.key())?;
-    take(out, lsa.instance())
-}
-
-// The first packet of an exchange.
-fn first_packet(link: &Link, own: Own, number: u32, alloc: Global) -> PacketValue
-    ensures { meant result ≡ packet_of own (meaning.description (first_description link.now.settings.mtu number) []) }
-{
-    let fields = Description {
-        mtu: link.settings.mtu,
-        options: OPTIONS,
-        flags: FIRST_FLAGS,
-        number,
-    };
-    PacketValue {
-        router: own.router,
-        area: own.area,
-        body: BodyValue::Description(fields, Vec::new(alloc)),
-    }
-}
-
-fn send_first_dd_on(
-    link: &Link,
-    own: Own,
-    from: Origin,
-    number: u32,
-    out: &mut Outputs,
-    alloc: Global,
-) -> Result<(), AllocError>
-    ensures { OnOk result (out.new ≡ and_sends out.old (first_dd_on own from number (Some link.now))) }
-{
-    let packet = first_packet(link, own, number, alloc);
-    let way = way_out(
-        from.link,
-        &link.iface,
-        to_address(&link.iface, from.address),
-    );
-    send(out, way, &packet, alloc)
-}
-
-// The first Database Description of an exchange, to the neighbour of the origin.
-fn send_first_dd(
-    links: &[Link],
-    own: Own,
-    from: Origin,
-    number: u32,
-    out: &mut Outputs,
-    alloc: Global,
-) -> Result<(), AllocError>
-    ensures { OnOk result (out.new ≡ and_sends out.old (first_dd_on own from number (slice_get links.now from.link))) }
-{
-    match links.get(from.link) {
-        Some(link) => send_first_dd_on(link, own, from, number, out, alloc),
-        None => Ok(()),
-    }
 }
 
 /// BadLSReq or SeqNumberMismatch of the neighbour of the origin, which is in Exchange or above: its exchange of databases
@@ -272,86 +122,20 @@ pub fn restart(
     Ok(())
 }
 
-fn on_same(area: &mut Area, from: Origin, lsa: &LsaView) -> Result<(), AllocError>
-    ensures { OnOk result (area.new ≡ duplicated from lsa.now area.old) }
-{
-    let instance = lsa.instance();
-    let implied = is_awaited(&area.links, from, &instance);
-    let answer = answer_at(&area.links, case_of_same(implied), from);
-    let tick = area.tick;
-    change_at(&mut area.links, from, Change::Acknowledges(instance), tick);
-    acknowledge_by(area, answer, from, &lsa.header())
-}
-
-// The copy that goes back to the sender of an older LSA.
-fn reply_to(area: &Area, key: &LsaKey, alloc: Global) -> Result<Option<Lsa>, AllocError>
-    ensures { IfOk result (λ copy. copy ≡ reply_to area.now key.now) }
-{
-    let Some(copy) = area.database.get(key) else {
-        return Ok(None);
-    };
-    if !is_sent_back(&copy, was_sent(&area.sent, key)) {
-        return Ok(None);
-    }
-    match copy.copy(alloc) {
-        Ok(lsa) => Ok(Some(lsa)),
-        Err(_) => Err(AllocError),
-    }
-}
-
-fn send_back_on(
-    link: &Link,
-    own: Own,
-    from: Origin,
-    lsa: &LsaView,
-    out: &mut Outputs,
-    alloc: Global,
-) -> Result<(), AllocError>
-    ensures { OnOk result (out.new ≡ and_sends out.old (lsa_out_on own from lsa.now (Some link.now))) }
-{
-    let copy = sent_lsa(link.settings, lsa, alloc)?;
-    let way = way_out(
-        from.link,
-        &link.iface,
-        to_address(&link.iface, from.address),
-    );
-    send_lsa(out, own, way, copy, alloc)
-}
-
-// Sends an LSA to the neighbour of the origin.
-fn send_back(
-    links: &[Link],
-    own: Own,
-    from: Origin,
-    lsa: &LsaView,
-    out: &mut Outputs,
-    alloc: Global,
-) -> Result<(), AllocError>
-    ensures { OnOk result (out.new ≡ and_sends out.old (lsa_out_on own from lsa.now (slice_get links.now from.link))) }
-{
-    match links.get(from.link) {
-        Some(link) => send_back_on(link, own, from, lsa, out, alloc),
-        None => Ok(()),
-    }
-}
-
-fn reply(
+/// Takes an LSA of an Update from the neighbour of the origin (section 13).
+///
+/// `AllocError` where memory runs out; then the router is to be stopped.
+pub fn on_lsa(
     area: &mut Area,
     from: Origin,
-    key: LsaKey,
+    lsa: &LsaView,
     out: &mut Outputs,
     alloc: Global,
 ) -> Result<(), AllocError>
-    ensures { OnOk result (Replies from key area.old out.old out.new area.new) }
+    ensures { OnOk result (MeetsLsa from lsa.now area.old out.old out.new area.new) }
 {
-    let Some(copy) = reply_to(area, &key, alloc)? else {
-        return Ok(());
-    };
-    let own = own_of(area);
-    send_back(&area.links, own, from, &copy.view(), out, alloc)?;
-    let instance = copy.view().instance();
-    change_at(&mut area.links, from, Change::IsSent(instance), own.tick);
-    mark(&mut area.sent, key, true)
+    let rule = rule_met(area, from, lsa);
+    follow(rule, area, from, lsa, out, alloc)
 }
 
 /// Does what a rule says to an LSA of an Update from the neighbour of the origin (section 13).
@@ -377,18 +161,228 @@ pub(crate) fn follow(
     }
 }
 
-/// Takes an LSA of an Update from the neighbour of the origin (section 13).
-///
-/// `AllocError` where memory runs out; then the router is to be stopped.
-pub fn on_lsa(
+fn named_in(area: &Area, header: &LsaHeader) -> Option<Instance>
+    ensures { result ≡ named_by header.now (copy_of area.now.database (key_of_header header.now)) }
+{
+    let key = header.key()?;
+    named_by(header, area.database.get(&key))
+}
+
+// The instance that an acknowledged header names.
+fn named_by(header: &LsaHeader, copy: Option<EntryView<'_>>) -> Option<Instance>
+    ensures { result ≡ named_by header.now copy.entry }
+{
+    let copy = copy?;
+    match newer(header, &copy.header()) {
+        Recency::Same => Some(copy.instance()),
+        Recency::Newer | Recency::Older => None,
+    }
+}
+
+fn release_in(area: &mut Area, key: &LsaKey)
+    ensures { area.new ≡ record area.old { links = released key.now area.old.links } }
+{
+    release(&mut area.links, key);
+}
+
+fn install_in(area: &mut Area, lsa: Lsa, by_flooding: bool) -> Result<(), AllocError>
+    ensures { OnOk result (InstallsIn lsa by_flooding area.old area.new) }
+{
+    area.database.install(lsa, area.tick, by_flooding)
+}
+
+fn mark_in(area: &mut Area, key: LsaKey, went: bool) -> Result<(), AllocError>
+    ensures { OnOk result (area.new ≡ record area.old { sent = marked key went area.old.sent }) }
+{
+    mark(&mut area.sent, key, went)
+}
+
+// Whether the rule of an LSA hangs on who loads: the neighbours are looked at for no other.
+fn asks_who_loads(header: &LsaHeader) -> bool
+    ensures { result ≡ (header.now.age == max_age) }
+{
+    header.age.ticks() == MAX_AGE
+}
+
+// The first Database Description of an exchange, to the neighbour of the origin.
+fn send_first_dd(
+    links: &[Link],
+    own: Own,
+    from: Origin,
+    number: u32,
+    out: &mut Outputs,
+    alloc: Global,
+) -> Result<(), AllocError>
+    ensures { OnOk result (out.new ≡ and_sends out.old (first_dd_on own from number (slice_get links.now from.link))) }
+{
+    match links.get(from.link) {
+        Some(link) => send_first_dd_on(link, own, from, number, out, alloc),
+        None => Ok(()),
+    }
+}
+
+fn send_first_dd_on(
+    link: &Link,
+    own: Own,
+    from: Origin,
+    number: u32,
+    out: &mut Outputs,
+    alloc: Global,
+) -> Result<(), AllocError>
+    ensures { OnOk result (out.new ≡ and_sends out.old (first_dd_on own from number (Some link.now))) }
+{
+    let packet = first_packet(link, own, number, alloc);
+    let way = way_out(
+        from.link,
+        &link.iface,
+        to_address(&link.iface, from.address),
+    );
+    send(out, way, &packet, alloc)
+}
+
+// The first packet of an exchange.
+fn first_packet(link: &Link, own: Own, number: u32, alloc: Global) -> PacketValue
+    ensures { meant result ≡ packet_of own (meaning.description (first_description link.now.settings.mtu number) []) }
+{
+    let fields = Description {
+        mtu: link.settings.mtu,
+        options: OPTIONS,
+        flags: FIRST_FLAGS,
+        number,
+    };
+    PacketValue {
+        router: own.router,
+        area: own.area,
+        body: BodyValue::Description(fields, Vec::new(alloc)),
+    }
+}
+
+fn on_expired(
+    area: &mut Area,
+    from: Origin,
+    lsa: &LsaView,
+    out: &mut Outputs,
+) -> Result<(), AllocError>
+    ensures { OnOk result (AnswersExpired from lsa.now area.old out.old out.new area.new) }
+{
+    let answer = answer_at(&area.links, AcknowledgementCase::Expired, from);
+    acknowledge_by(area, answer, from, &lsa.header())?;
+    take(out, lsa.instance())
+}
+
+fn take(out: &mut Outputs, instance: Instance) -> Result<(), AllocError>
+    ensures { OnOk result (out.new ≡ and_takes out.old instance) }
+{
+    out.taken.push(instance)?;
+    Ok(())
+}
+
+fn admit(
     area: &mut Area,
     from: Origin,
     lsa: &LsaView,
     out: &mut Outputs,
     alloc: Global,
 ) -> Result<(), AllocError>
-    ensures { OnOk result (MeetsLsa from lsa.now area.old out.old out.new area.new) }
+    ensures { OnOk result (Admits from lsa.now area.old out.old out.new area.new) }
 {
-    let rule = rule_met(area, from, lsa);
-    follow(rule, area, from, lsa, out, alloc)
+    let Ok(copy) = Lsa::copy(alloc, lsa) else {
+        return Err(AllocError);
+    };
+    let flooded = store(area, copy, Some(from), out, alloc)?;
+    let answer = answer_at(&area.links, case_of_newer(flooded.back), from);
+    acknowledge_by(area, answer, from, &lsa.header())?;
+    hear(area, lsa.key())?;
+    take(out, lsa.instance())
+}
+
+fn hear(area: &mut Area, key: LsaKey) -> Result<(), AllocError>
+    ensures { OnOk result (area.new ≡ heard_by key area.old) }
+{
+    if is_self_originated(area.router, &area.links, &key) {
+        area.heard.push(key)?;
+    }
+    Ok(())
+}
+
+fn on_same(area: &mut Area, from: Origin, lsa: &LsaView) -> Result<(), AllocError>
+    ensures { OnOk result (area.new ≡ duplicated from lsa.now area.old) }
+{
+    let instance = lsa.instance();
+    let implied = is_awaited(&area.links, from, &instance);
+    let answer = answer_at(&area.links, case_of_same(implied), from);
+    let tick = area.tick;
+    change_at(&mut area.links, from, Change::Acknowledges(instance), tick);
+    acknowledge_by(area, answer, from, &lsa.header())
+}
+
+fn reply(
+    area: &mut Area,
+    from: Origin,
+    key: LsaKey,
+    out: &mut Outputs,
+    alloc: Global,
+) -> Result<(), AllocError>
+    ensures { OnOk result (Replies from key area.old out.old out.new area.new) }
+{
+    let Some(copy) = reply_to(area, &key, alloc)? else {
+        return Ok(());
+    };
+    let own = own_of(area);
+    send_back(&area.links, own, from, &copy.view(), out, alloc)?;
+    let instance = copy.view().instance();
+    change_at(&mut area.links, from, Change::IsSent(instance), own.tick);
+    mark(&mut area.sent, key, true)
+}
+
+// The copy that goes back to the sender of an older LSA.
+fn reply_to(area: &Area, key: &LsaKey, alloc: Global) -> Result<Option<Lsa>, AllocError>
+    ensures { IfOk result (λ copy. copy ≡ reply_to area.now key.now) }
+{
+    let Some(copy) = area.database.get(key) else {
+        return Ok(None);
+    };
+    if !is_sent_back(&copy, was_sent(&area.sent, key)) {
+        return Ok(None);
+    }
+    match copy.copy(alloc) {
+        Ok(lsa) => Ok(Some(lsa)),
+        Err(_) => Err(AllocError),
+    }
+}
+
+// Sends an LSA to the neighbour of the origin.
+fn send_back(
+    links: &[Link],
+    own: Own,
+    from: Origin,
+    lsa: &LsaView,
+    out: &mut Outputs,
+    alloc: Global,
+) -> Result<(), AllocError>
+    ensures { OnOk result (out.new ≡ and_sends out.old (lsa_out_on own from lsa.now (slice_get links.now from.link))) }
+{
+    match links.get(from.link) {
+        Some(link) => send_back_on(link, own, from, lsa, out, alloc),
+        None => Ok(()),
+    }
+}
+
+fn send_back_on(
+    link: &Link,
+    own: Own,
+    from: Origin,
+    lsa: &LsaView,
+    out: &mut Outputs,
+    alloc: Global,
+) -> Result<(), AllocError>
+    ensures { OnOk result (out.new ≡ and_sends out.old (lsa_out_on own from lsa.now (Some link.now))) }
+{
+    let copy = sent_lsa(link.settings, lsa, alloc)?;
+    let way = way_out(
+        from.link,
+        &link.iface,
+        to_address(&link.iface, from.address),
+    );
+    send_lsa(out, own, way, copy, alloc)
 }

@@ -14,13 +14,6 @@ use std::alloc::{AllocError, Global};
 /// 0x80000000, below the first number.
 const LOWEST_NUMBER: i32 = i32::MIN;
 
-fn some_awaits_on(instance: &Instance, link: &Link) -> bool
-    ensures { result ≡ some_awaits_on instance.now link.now }
-{
-    let all = link.neighbours.all();
-    all.iter().any(|neighbour| neighbour.is_listed(instance))
-}
-
 /// Whether some neighbour has yet to acknowledge an instance.
 pub fn some_awaits(instance: &Instance, links: &[Link]) -> bool
     ensures { result ≡ some_awaits instance.now links.now }
@@ -28,28 +21,23 @@ pub fn some_awaits(instance: &Instance, links: &[Link]) -> bool
     links.iter().any(|link| some_awaits_on(instance, link))
 }
 
-fn is_leaving(links: &[Link], copy: &EntryView<'_>) -> bool
-    ensures { result ≡ is_leaving links.now copy.now }
+/// Takes the LSAs out of the database that are at `MAX_AGE` and on no retransmission list, while no neighbour is in
+/// Exchange or Loading (section 14): at the end of a step. With the last number of a key of the router's own its
+/// numbering run ends.
+///
+/// `AllocError` where memory runs out; then the router is to be stopped.
+pub fn remove(area: &mut Area, out: &mut Outputs, alloc: Global) -> Result<(), AllocError>
+    ensures { OnOk result (Removes area.old out.old out.new area.new) }
 {
-    copy.age().ticks() == MAX_AGE && !some_awaits(&copy.instance(), links)
+    let keys = leaving(area, alloc)?;
+    remove_all(area, &keys, out)
 }
 
-fn key_of_entry(copy: &EntryView<'_>) -> LsaKey
-    ensures { result ≡ key_of_entry copy.now }
+fn some_awaits_on(instance: &Instance, link: &Link) -> bool
+    ensures { result ≡ some_awaits_on instance.now link.now }
 {
-    copy.key()
-}
-
-fn leaving_of(links: &[Link], database: &Lsdb, alloc: Global) -> Result<Vec<LsaKey>, AllocError>
-    ensures { IfOk result (λ keys. keys.items ≡ map key_of_entry (filter (is_leaving links.now) (entries database.now))) }
-{
-    let mut keys = Vec::new(alloc);
-    for copy in database.entries() {
-        if is_leaving(links, &copy) {
-            keys.push(key_of_entry(&copy))?;
-        }
-    }
-    Ok(keys)
+    let all = link.neighbours.all();
+    all.iter().any(|neighbour| neighbour.is_listed(instance))
 }
 
 // The keys of the LSAs that leave.
@@ -65,13 +53,48 @@ fn leaving(area: &Area, alloc: Global) -> Result<Vec<LsaKey>, AllocError>
     leaving_of(&area.links, &area.database, alloc)
 }
 
-fn is_last(copy: Option<EntryView<'_>>) -> bool
-    ensures { result ≡ is_last copy.entry }
+fn leaving_of(links: &[Link], database: &Lsdb, alloc: Global) -> Result<Vec<LsaKey>, AllocError>
+    ensures { IfOk result (λ keys. keys.items ≡ map key_of_entry (filter (is_leaving links.now) (entries database.now))) }
 {
-    match copy {
-        Some(copy) => copy.header().number == MAX_SEQUENCE_NUMBER,
-        None => false,
+    let mut keys = Vec::new(alloc);
+    for copy in database.entries() {
+        if is_leaving(links, &copy) {
+            keys.push(key_of_entry(&copy))?;
+        }
     }
+    Ok(keys)
+}
+
+fn is_leaving(links: &[Link], copy: &EntryView<'_>) -> bool
+    ensures { result ≡ is_leaving links.now copy.now }
+{
+    copy.age().ticks() == MAX_AGE && !some_awaits(&copy.instance(), links)
+}
+
+fn key_of_entry(copy: &EntryView<'_>) -> LsaKey
+    ensures { result ≡ key_of_entry copy.now }
+{
+    copy.key()
+}
+
+fn remove_all(area: &mut Area, keys: &[LsaKey], out: &mut Outputs) -> Result<(), AllocError>
+    ensures { OnOk result (RemovesAll keys.now area.old out.old out.new area.new) }
+{
+    for key in keys {
+        remove_one(area, *key, out)?;
+    }
+    Ok(())
+}
+
+fn remove_one(area: &mut Area, key: LsaKey, out: &mut Outputs) -> Result<(), AllocError>
+    ensures { OnOk result (RemovesOne key area.old out.old out.new area.new) }
+{
+    if ends_run(area, &key) {
+        reset(&mut area.numbering, key)?;
+        end_run(out, key)?;
+    }
+    let _ = area.database.remove_expired(&key);
+    Ok(())
 }
 
 fn ends_run(area: &Area, key: &LsaKey) -> bool
@@ -80,19 +103,12 @@ fn ends_run(area: &Area, key: &LsaKey) -> bool
     is_own(area.router, key) && is_last(area.database.get(key))
 }
 
-fn reset_one(numbering: &mut Numbering, key: &LsaKey)
-    ensures { numbering.new ≡ reset_one key.now numbering.old }
+fn is_last(copy: Option<EntryView<'_>>) -> bool
+    ensures { result ≡ is_last copy.entry }
 {
-    if numbering.key.is_same(key) {
-        numbering.kept = LOWEST_NUMBER;
-    }
-}
-
-fn reset_all(all: &mut [Numbering], key: &LsaKey)
-    ensures { all.new ≡ map (reset_one key.now) all.old }
-{
-    for numbering in all.iter_mut() {
-        reset_one(numbering, key);
+    match copy {
+        Some(copy) => copy.header().number == MAX_SEQUENCE_NUMBER,
+        None => false,
     }
 }
 
@@ -112,41 +128,25 @@ fn reset(all: &mut Vec<Numbering>, key: LsaKey) -> Result<(), AllocError>
     Ok(())
 }
 
+fn reset_all(all: &mut [Numbering], key: &LsaKey)
+    ensures { all.new ≡ map (reset_one key.now) all.old }
+{
+    for numbering in all.iter_mut() {
+        reset_one(numbering, key);
+    }
+}
+
+fn reset_one(numbering: &mut Numbering, key: &LsaKey)
+    ensures { numbering.new ≡ reset_one key.now numbering.old }
+{
+    if numbering.key.is_same(key) {
+        numbering.kept = LOWEST_NUMBER;
+    }
+}
+
 fn end_run(out: &mut Outputs, key: LsaKey) -> Result<(), AllocError>
     ensures { OnOk result (out.new ≡ and_ends out.old key) }
 {
     out.ended.push(key)?;
     Ok(())
-}
-
-fn remove_one(area: &mut Area, key: LsaKey, out: &mut Outputs) -> Result<(), AllocError>
-    ensures { OnOk result (RemovesOne key area.old out.old out.new area.new) }
-{
-    if ends_run(area, &key) {
-        reset(&mut area.numbering, key)?;
-        end_run(out, key)?;
-    }
-    let _ = area.database.remove_expired(&key);
-    Ok(())
-}
-
-fn remove_all(area: &mut Area, keys: &[LsaKey], out: &mut Outputs) -> Result<(), AllocError>
-    ensures { OnOk result (RemovesAll keys.now area.old out.old out.new area.new) }
-{
-    for key in keys {
-        remove_one(area, *key, out)?;
-    }
-    Ok(())
-}
-
-/// Takes the LSAs out of the database that are at `MAX_AGE` and on no retransmission list, while no neighbour is in
-/// Exchange or Loading (section 14): at the end of a step. With the last number of a key of the router's own its
-/// numbering run ends.
-///
-/// `AllocError` where memory runs out; then the router is to be stopped.
-pub fn remove(area: &mut Area, out: &mut Outputs, alloc: Global) -> Result<(), AllocError>
-    ensures { OnOk result (Removes area.old out.old out.new area.new) }
-{
-    let keys = leaving(area, alloc)?;
-    remove_all(area, &keys, out)
 }

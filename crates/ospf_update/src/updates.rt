@@ -17,64 +17,36 @@ use ospf_lsa::{LsaHeader, LsaView};
 use ospf_packet::Lsas;
 use std::alloc::{AllocError, Global};
 
-// Whether an LSA of this rule leaves the state and the request list of each neighbour as they are.
-fn leaves_turned(rule: Option<LsaRule>) -> bool
-    ensures { result ≡ leaves_turned rule }
-{
-    !matches!(rule, Some(LsaRule::Installs | LsaRule::BadRequest))
-}
-
-// Turns all neighbours, and tells whether nothing was sent: then none waits for another turn.
-fn turn_and_tell(area: &mut Area, out: &mut Outputs, alloc: Global) -> Result<bool, AllocError>
-    ensures after { OnOk result (area.new ≡ turned_area area.old) }
-    ensures sent { OnOk result (out.new ≡ and_sends out.old (turn_out area.old)) }
-    ensures quiet { IfOk result (λ quiet. quiet ≡ is_empty (turn_out area.old)) }
-{
-    let before = out.sent.len();
-    turn_in(area, out, alloc)?;
-    Ok(out.sent.len() == before)
-}
-
-// An LSA, and then LoadingDone and the Requests that come of it. No neighbour is visited for these where none waited for a
-// turn before, and the rule leaves it so. Answers whether none waits now.
-fn take_lsa(
+/// Takes an Update from the neighbour of the origin, which is in Exchange or above (RFC 2328, section 13): each LSA in its
+/// turn, with the Requests that come of it, and then the direct acknowledgements. The neighbours are visited for these
+/// Requests after the first LSA, and again only where a flood, a restart or a Request came before.
+///
+/// `AllocError` where memory runs out; then the router is to be stopped.
+pub fn on_update(
     area: &mut Area,
     from: Origin,
-    lsa: &LsaView,
-    is_turned: bool,
+    lsas: Lsas<'_>,
     out: &mut Outputs,
     alloc: Global,
-) -> Result<bool, AllocError>
-    requires { is_turned ≡ true → IsTurned area.old }
-    ensures takes { OnOk result (MeetsAndTurns from lsa.now area.old out.old out.new area.new) }
-    ensures turned { IfOk result (λ turned. turned ≡ true → IsTurned area.new) }
+) -> Result<(), AllocError>
+    ensures { OnOk result (TakesUpdate from lsas.entry area.old out.old out.new area.new) }
 {
-    let rule = rule_met(area, from, lsa);
-    follow(rule, area, from, lsa, out, alloc)?;
-    if is_turned && leaves_turned(rule) {
-        return Ok(true);
-    }
-    turn_and_tell(area, out, alloc)
+    take_slices(area, from, lsas, out, alloc)?;
+    send_direct(area, from, out, alloc)
 }
 
-// Whether bytes are an LSA of LS type 3, 4 or 5, as far as that is looked at: they are as long as it says, and its
-// checksum holds.
-fn is_other_lsa(bytes: &[u8]) -> bool
-    ensures { IsTrue result ↔ IsOtherLsa bytes.now }
+fn take_slices(
+    area: &mut Area,
+    from: Origin,
+    lsas: Lsas<'_>,
+    out: &mut Outputs,
+    alloc: Global,
+) -> Result<(), AllocError>
+    ensures { OnOk result (TakesSlices from lsas.entry area.old out.old out.new area.new) }
 {
-    bytes.len() >= LSA_HEADER
-        && usize::from(u16_at(bytes, 18)) == bytes.len()
-        && is_other(bytes[3])
-        && lsa_sum_holds(bytes)
-}
-
-// A slice that is no LSA of a known LS type. Where LSAs of LS types 3, 4 and 5 are passed over, one of these is acknowledged
-// to its sender.
-fn pass_over(area: &mut Area, from: Origin, bytes: &[u8]) -> Result<(), AllocError>
-    ensures { OnOk result (PassesOver area.old.passes_over from bytes.now area.old area.new) }
-{
-    if area.passes_over && is_taken(&area.links, from) && is_other_lsa(bytes) {
-        area.direct.push(LsaHeader::read(bytes))?;
+    let mut is_turned = false;
+    for bytes in lsas {
+        is_turned = take_slice(area, from, bytes, is_turned, out, alloc)?;
     }
     Ok(())
 }
@@ -100,36 +72,64 @@ fn take_slice(
     }
 }
 
-fn take_slices(
+// An LSA, and then LoadingDone and the Requests that come of it. No neighbour is visited for these where none waited for a
+// turn before, and the rule leaves it so. Answers whether none waits now.
+fn take_lsa(
     area: &mut Area,
     from: Origin,
-    lsas: Lsas<'_>,
+    lsa: &LsaView,
+    is_turned: bool,
     out: &mut Outputs,
     alloc: Global,
-) -> Result<(), AllocError>
-    ensures { OnOk result (TakesSlices from lsas.entry area.old out.old out.new area.new) }
+) -> Result<bool, AllocError>
+    requires { is_turned ≡ true → IsTurned area.old }
+    ensures takes { OnOk result (MeetsAndTurns from lsa.now area.old out.old out.new area.new) }
+    ensures turned { IfOk result (λ turned. turned ≡ true → IsTurned area.new) }
 {
-    let mut is_turned = false;
-    for bytes in lsas {
-        is_turned = take_slice(area, from, bytes, is_turned, out, alloc)?;
+    let rule = rule_met(area, from, lsa);
+    follow(rule, area, from, lsa, out, alloc)?;
+    if is_turned && leaves_turned(rule) {
+        return Ok(true);
+    }
+    turn_and_tell(area, out, alloc)
+}
+
+// Whether an LSA of this rule leaves the state and the request list of each neighbour as they are.
+fn leaves_turned(rule: Option<LsaRule>) -> bool
+    ensures { result ≡ leaves_turned rule }
+{
+    !matches!(rule, Some(LsaRule::Installs | LsaRule::BadRequest))
+}
+
+// Turns all neighbours, and tells whether nothing was sent: then none waits for another turn.
+fn turn_and_tell(area: &mut Area, out: &mut Outputs, alloc: Global) -> Result<bool, AllocError>
+    ensures after { OnOk result (area.new ≡ turned_area area.old) }
+    ensures sent { OnOk result (out.new ≡ and_sends out.old (turn_out area.old)) }
+    ensures quiet { IfOk result (λ quiet. quiet ≡ is_empty (turn_out area.old)) }
+{
+    let before = out.sent.len();
+    turn_in(area, out, alloc)?;
+    Ok(out.sent.len() == before)
+}
+
+// A slice that is no LSA of a known LS type. Where LSAs of LS types 3, 4 and 5 are passed over, one of these is acknowledged
+// to its sender.
+fn pass_over(area: &mut Area, from: Origin, bytes: &[u8]) -> Result<(), AllocError>
+    ensures { OnOk result (PassesOver area.old.passes_over from bytes.now area.old area.new) }
+{
+    if area.passes_over && is_taken(&area.links, from) && is_other_lsa(bytes) {
+        area.direct.push(LsaHeader::read(bytes))?;
     }
     Ok(())
 }
 
-/// Takes an Update from the neighbour of the origin, which is in Exchange or above (RFC 2328, section 13): each LSA in its
-/// turn, with the Requests that come of it, and then the direct acknowledgements. The neighbours are visited for these
-/// Requests after the first LSA, and again only where a flood, a restart or a Request came before.
-///
-/// `AllocError` where memory runs out; then the router is to be stopped.
-pub fn on_update(
-    area: &mut Area,
-    from: Origin,
-    lsas: Lsas<'_>,
-    out: &mut Outputs,
-    alloc: Global,
-) -> Result<(), AllocError>
-    ensures { OnOk result (TakesUpdate from lsas.entry area.old out.old out.new area.new) }
+// Whether bytes are an LSA of LS type 3, 4 or 5, as far as that is looked at: they are as long as it says, and its
+// checksum holds.
+fn is_other_lsa(bytes: &[u8]) -> bool
+    ensures { IsTrue result ↔ IsOtherLsa bytes.now }
 {
-    take_slices(area, from, lsas, out, alloc)?;
-    send_direct(area, from, out, alloc)
+    bytes.len() >= LSA_HEADER
+        && usize::from(u16_at(bytes, 18)) == bytes.len()
+        && is_other(bytes[3])
+        && lsa_sum_holds(bytes)
 }

@@ -14,34 +14,6 @@ use std::alloc::Global;
 /// The first number of an LSA (RFC 2328, section 12.1.6).
 const INITIAL_SEQUENCE_NUMBER: i32 = -0x7fff_ffff;
 
-// Whether two LSAs have the same Options, kind, Link State ID and Advertising Router.
-fn same_front(a: &[u8], b: &[u8]) -> bool
-    requires first { 20 ≤ length a.now }
-    requires second { 20 ≤ length b.now }
-    ensures { result ≡ bytes_eq (take 10 (drop 2 a.now)) (take 10 (drop 2 b.now)) }
-{
-    a[2..12] == b[2..12]
-}
-
-// Whether they have the same length and body.
-fn same_rest(a: &[u8], b: &[u8]) -> bool
-    requires first { 20 ≤ length a.now }
-    requires second { 20 ≤ length b.now }
-    ensures { result ≡ bytes_eq (drop 18 a.now) (drop 18 b.now) }
-{
-    a[18..] == b[18..]
-}
-
-// Whether two LSAs say the same, numbers and checksums aside.
-fn same_aside(a: &LsaView<'_>, b: &LsaView<'_>) -> bool
-    ensures { result ≡ bytes_eq (aside (contents a.now)) (aside (contents b.now)) }
-{
-    let (a, b) = (a.as_bytes(), b.as_bytes());
-    let front = same_front(a, b);
-    let rest = same_rest(a, b);
-    front && rest
-}
-
 impl OwnLsa {
     /// The LSA with a number, at age 0.
     ///
@@ -72,4 +44,32 @@ impl OwnLsa {
         let lsa = self.make(INITIAL_SEQUENCE_NUMBER, alloc)?;
         Ok(same_aside(copy, &lsa.view()))
     }
+}
+
+// Whether two LSAs say the same, numbers and checksums aside.
+fn same_aside(a: &LsaView<'_>, b: &LsaView<'_>) -> bool
+    ensures { result ≡ bytes_eq (aside (contents a.now)) (aside (contents b.now)) }
+{
+    let (a, b) = (a.as_bytes(), b.as_bytes());
+    let front = same_front(a, b);
+    let rest = same_rest(a, b);
+    front && rest
+}
+
+// Whether two LSAs have the same Options, kind, Link State ID and Advertising Router.
+fn same_front(a: &[u8], b: &[u8]) -> bool
+    requires first { 20 ≤ length a.now }
+    requires second { 20 ≤ length b.now }
+    ensures { result ≡ bytes_eq (take 10 (drop 2 a.now)) (take 10 (drop 2 b.now)) }
+{
+    a[2..12] == b[2..12]
+}
+
+// Whether they have the same length and body.
+fn same_rest(a: &[u8], b: &[u8]) -> bool
+    requires first { 20 ≤ length a.now }
+    requires second { 20 ≤ length b.now }
+    ensures { result ≡ bytes_eq (drop 18 a.now) (drop 18 b.now) }
+{
+    a[18..] == b[18..]
 }

@@ -22,6 +22,107 @@ use ospf_base::{Age, InterfaceKind, OPTIONS, RouterId, u16_at};
 use ospf_lsa::{Link, LsaHeader, LsaView};
 use ospf_neighbour::Neighbour;
 
+/// Whether an LSA is the router-LSA that is wanted, number and checksum aside (RFC 2328, section 12.4.1).
+pub fn says_router(
+    copy: &LsaView<'_>,
+    stub_router: bool,
+    router: RouterId,
+    links: &[AreaLink],
+) -> bool
+    ensures { result ≡ says (contents copy.now) (RouterLsa router (flat_map (links_at stub_router) links.now)) }
+{
+    let lsa = copy.as_bytes();
+    let rest = behind_own_links(Some(&lsa[24..]), stub_router, links);
+    is_router_lsa(copy, router, rest)
+}
+
+/// Whether an LSA is the network-LSA that is wanted of a link, number and checksum aside (RFC 2328, section 12.4.2).
+pub fn says_network(copy: &LsaView<'_>, router: RouterId, link: &AreaLink) -> bool
+    ensures { result ≡ says (contents copy.now) (NetworkLsa link.now.iface.settings.address.0 router link.now.iface.settings.mask (attached_routers router link.now.neighbours)) }
+{
+    let lsa = copy.as_bytes();
+    let rest = behind_attached(Some(&lsa[24..]), router, link.neighbours.all());
+    let settings = &link.iface.settings;
+    is_network_lsa(copy, settings.address.0, router, settings.mask, rest)
+}
+
+// What stands behind the links of the router-LSA.
+#[tactic(auto, using(crate::proofs::SaidLemmas::behind_more, crate::proofs::SaidLemmas::behind_none))]
+fn behind_own_links<'a>(
+    bytes: Option<&'a [u8]>,
+    stub_router: bool,
+    links: &[AreaLink],
+) -> Option<&'a [u8]>
+    ensures { option_copied result ≡ behind (flat_map link_bytes (flat_map (links_at stub_router) links.now)) (option_copied bytes.entry) }
+{
+    let mut rest = bytes;
+    for link in links {
+        rest = behind_links_at(rest, stub_router, link);
+    }
+    rest
+}
+
+// What stands behind the links of a link.
+fn behind_links_at<'a>(
+    bytes: Option<&'a [u8]>,
+    stub_router: bool,
+    link: &AreaLink,
+) -> Option<&'a [u8]>
+    ensures { option_copied result ≡ behind (links_bytes stub_router link.now) (option_copied bytes.entry) }
+{
+    if link.iface.state.is_down() {
+        return bytes;
+    }
+    match link.iface.settings.kind {
+        InterfaceKind::PointToPoint => {
+            let rest = behind_neighbours(bytes, stub_router, link, link.neighbours.all());
+            behind_link(rest, &subnet_link(link))
+        }
+        InterfaceKind::Broadcast => behind_link(bytes, &broadcast_link(stub_router, link)),
+    }
+}
+
+// What stands behind the links to the fully adjacent neighbours of a link.
+#[tactic(auto, using(crate::proofs::SaidLemmas::behind_more, crate::proofs::SaidLemmas::behind_none))]
+fn behind_neighbours<'a>(
+    bytes: Option<&'a [u8]>,
+    stub_router: bool,
+    link: &AreaLink,
+    neighbours: &[Neighbour],
+) -> Option<&'a [u8]>
+    ensures { option_copied result ≡ behind (flat_map (router_link_bytes stub_router link.now) neighbours.now) (option_copied bytes.entry) }
+{
+    let mut rest = bytes;
+    for neighbour in neighbours {
+        rest = behind_neighbour(rest, stub_router, link, neighbour);
+    }
+    rest
+}
+
+// What stands behind the link to a neighbour, if it is fully adjacent.
+#[tactic(auto, using(crate::proofs::SaidLemmas::behind_none), unfolding(crate::specs::Said::router_link_bytes))]
+fn behind_neighbour<'a>(
+    bytes: Option<&'a [u8]>,
+    stub_router: bool,
+    link: &AreaLink,
+    neighbour: &Neighbour,
+) -> Option<&'a [u8]>
+    ensures { option_copied result ≡ behind (router_link_bytes stub_router link.now neighbour.now) (option_copied bytes.entry) }
+{
+    if is_full(neighbour) {
+        behind_link(bytes, &router_link(stub_router, link, neighbour))
+    } else {
+        bytes
+    }
+}
+
+// What stands behind a link.
+fn behind_link<'a>(bytes: Option<&'a [u8]>, link: &Link) -> Option<&'a [u8]>
+    ensures { option_copied result ≡ behind (link_bytes link.now) (option_copied bytes.entry) }
+{
+    behind(bytes, &link_bytes(link))
+}
+
 // What stands behind some bytes, where others begin with them.
 #[tactic(auto, unfolding(crate::specs::Said::behind))]
 fn behind<'a>(bytes: Option<&'a [u8]>, front: &[u8]) -> Option<&'a [u8]>
@@ -50,38 +151,17 @@ fn link_bytes(link: &Link) -> [u8; 12]
     [a, b, c, d, e, f, g, h, link.kind.byte(), 0, i, j]
 }
 
-// What stands behind a link.
-fn behind_link<'a>(bytes: Option<&'a [u8]>, link: &Link) -> Option<&'a [u8]>
-    ensures { option_copied result ≡ behind (link_bytes link.now) (option_copied bytes.entry) }
+// Whether an LSA is the router-LSA of links, number and checksum aside, where these bytes stand behind them.
+fn is_router_lsa(lsa: &LsaView<'_>, router: RouterId, rest: Option<&[u8]>) -> bool
+    ensures { (links : List Link) → option_copied rest.entry ≡ behind (flat_map link_bytes links) (Some (drop 24 lsa.now)) → result ≡ says (contents lsa.now) (RouterLsa router links) }
 {
-    behind(bytes, &link_bytes(link))
-}
-
-// What stands behind a router's ID.
-fn behind_router<'a>(bytes: Option<&'a [u8]>, router: RouterId) -> Option<&'a [u8]>
-    ensures { option_copied result ≡ behind (router_bytes router) (option_copied bytes.entry) }
-{
-    behind(bytes, &router.0.to_be_bytes())
-}
-
-// Whether nothing stands behind.
-#[tactic(auto, unfolding(crate::specs::Said::is_end))]
-fn is_end(bytes: Option<&[u8]>) -> bool
-    ensures { result ≡ is_end (option_copied bytes.entry) }
-{
-    matches!(bytes, Some([]))
-}
-
-// Whether an LSA has a header's Options, type, Link State ID, Advertising Router and length, and these first bytes of its
-// body.
-fn has_front(lsa: &[u8], header: &LsaHeader, body: &[u8]) -> bool
-    requires { 24 ≤ length lsa.now }
-    ensures { result ≡ (bytes_eq (take 10 (drop 2 lsa.now)) (take 10 (header_bytes header.now)) && (bytes_eq (take 2 (drop 18 lsa.now)) (number_bytes 2 header.now.length) && bytes_eq (take 4 (drop 20 lsa.now)) body.now)) }
-{
-    let wanted = header.to_bytes();
-    let (front, size, start) = (&lsa[2..12], &lsa[18..20], &lsa[20..24]);
-    let (wanted_front, wanted_size) = (&wanted[2..12], &wanted[18..20]);
-    front == wanted_front && size == wanted_size && start == body
+    let lsa = lsa.as_bytes();
+    let size = u16_at(lsa, 18);
+    let header = router_header(router, size);
+    let [high, low] = link_count(size).to_be_bytes();
+    let same = has_front(lsa, &header, &[0, 0, high, low]);
+    let end = is_end(rest);
+    same && end
 }
 
 // The header of a wanted router-LSA of this length.
@@ -100,22 +180,6 @@ fn router_header(router: RouterId, length: u16) -> LsaHeader
     }
 }
 
-// That of a wanted network-LSA.
-fn network_header(id: u32, router: RouterId, length: u16) -> LsaHeader
-    ensures { result ≡ record (network_value id router (pos 0) 0 []).header { length = length } }
-{
-    LsaHeader {
-        age: Age::new(0),
-        options: OPTIONS,
-        kind: 2,
-        id,
-        router,
-        number: 0,
-        sum: 0,
-        length,
-    }
-}
-
 // The links that a router-LSA of this length has, if each is without TOS metrics.
 fn link_count(size: u16) -> u16
     requires { 24 ≤ size }
@@ -124,17 +188,106 @@ fn link_count(size: u16) -> u16
     (size - 24) / 12
 }
 
-// Whether an LSA is the router-LSA of links, number and checksum aside, where these bytes stand behind them.
-fn is_router_lsa(lsa: &LsaView<'_>, router: RouterId, rest: Option<&[u8]>) -> bool
-    ensures { (links : List Link) → option_copied rest.entry ≡ behind (flat_map link_bytes links) (Some (drop 24 lsa.now)) → result ≡ says (contents lsa.now) (RouterLsa router links) }
+// Whether an LSA has a header's Options, type, Link State ID, Advertising Router and length, and these first bytes of its
+// body.
+fn has_front(lsa: &[u8], header: &LsaHeader, body: &[u8]) -> bool
+    requires { 24 ≤ length lsa.now }
+    ensures { result ≡ (bytes_eq (take 10 (drop 2 lsa.now)) (take 10 (header_bytes header.now)) && (bytes_eq (take 2 (drop 18 lsa.now)) (number_bytes 2 header.now.length) && bytes_eq (take 4 (drop 20 lsa.now)) body.now)) }
 {
-    let lsa = lsa.as_bytes();
-    let size = u16_at(lsa, 18);
-    let header = router_header(router, size);
-    let [high, low] = link_count(size).to_be_bytes();
-    let same = has_front(lsa, &header, &[0, 0, high, low]);
-    let end = is_end(rest);
-    same && end
+    let wanted = header.to_bytes();
+    let (front, size, start) = (&lsa[2..12], &lsa[18..20], &lsa[20..24]);
+    let (wanted_front, wanted_size) = (&wanted[2..12], &wanted[18..20]);
+    front == wanted_front && size == wanted_size && start == body
+}
+
+// Whether nothing stands behind.
+#[tactic(auto, unfolding(crate::specs::Said::is_end))]
+fn is_end(bytes: Option<&[u8]>) -> bool
+    ensures { result ≡ is_end (option_copied bytes.entry) }
+{
+    matches!(bytes, Some([]))
+}
+
+// What stands behind the routers attached to a network.
+fn behind_attached<'a>(
+    bytes: Option<&'a [u8]>,
+    router: RouterId,
+    neighbours: &[Neighbour],
+) -> Option<&'a [u8]>
+    ensures { option_copied result ≡ behind (routers_bytes (attached_routers router neighbours.now)) (option_copied bytes.entry) }
+{
+    let rest = past_all_lower(bytes, router, neighbours);
+    let rest = behind_router(rest, router);
+    past_all_higher(rest, router, neighbours)
+}
+
+#[tactic(auto, using(crate::proofs::SaidLemmas::behind_more, crate::proofs::SaidLemmas::behind_none))]
+fn past_all_lower<'a>(
+    bytes: Option<&'a [u8]>,
+    router: RouterId,
+    neighbours: &[Neighbour],
+) -> Option<&'a [u8]>
+    ensures { option_copied result ≡ behind (flat_map (lower_bytes router) neighbours.now) (option_copied bytes.entry) }
+{
+    let mut rest = bytes;
+    for neighbour in neighbours {
+        rest = past_lower(rest, router, neighbour);
+    }
+    rest
+}
+
+// What stands behind the ID of a neighbour, if it is fully adjacent and of a lower Router ID.
+#[tactic(auto, using(crate::proofs::SaidLemmas::behind_none), unfolding(crate::specs::Said::lower_bytes))]
+fn past_lower<'a>(
+    bytes: Option<&'a [u8]>,
+    router: RouterId,
+    neighbour: &Neighbour,
+) -> Option<&'a [u8]>
+    ensures { option_copied result ≡ behind (lower_bytes router neighbour.now) (option_copied bytes.entry) }
+{
+    if is_full(neighbour) && neighbour.router().0 < router.0 {
+        behind_router(bytes, neighbour.router())
+    } else {
+        bytes
+    }
+}
+
+// What stands behind a router's ID.
+fn behind_router<'a>(bytes: Option<&'a [u8]>, router: RouterId) -> Option<&'a [u8]>
+    ensures { option_copied result ≡ behind (router_bytes router) (option_copied bytes.entry) }
+{
+    behind(bytes, &router.0.to_be_bytes())
+}
+
+#[tactic(auto, using(crate::proofs::SaidLemmas::behind_more, crate::proofs::SaidLemmas::behind_none))]
+fn past_all_higher<'a>(
+    bytes: Option<&'a [u8]>,
+    router: RouterId,
+    neighbours: &[Neighbour],
+) -> Option<&'a [u8]>
+    ensures { option_copied result ≡ behind (flat_map (higher_bytes router) neighbours.now) (option_copied bytes.entry) }
+{
+    let mut rest = bytes;
+    for neighbour in neighbours {
+        rest = past_higher(rest, router, neighbour);
+    }
+    rest
+}
+
+// What stands behind the ID of a neighbour, if it is fully adjacent and of a higher Router ID.
+#[tactic(auto, using(crate::proofs::SaidLemmas::behind_none), unfolding(crate::specs::Said::higher_bytes))]
+fn past_higher<'a>(
+    bytes: Option<&'a [u8]>,
+    router: RouterId,
+    neighbour: &Neighbour,
+) -> Option<&'a [u8]>
+    ensures { option_copied result ≡ behind (higher_bytes router neighbour.now) (option_copied bytes.entry) }
+{
+    if is_full(neighbour) && router.0 < neighbour.router().0 {
+        behind_router(bytes, neighbour.router())
+    } else {
+        bytes
+    }
 }
 
 // Whether an LSA is the network-LSA of routers, number and checksum aside, where these bytes stand behind them.
@@ -155,171 +308,18 @@ fn is_network_lsa(
     same && end
 }
 
-// What stands behind the link to a neighbour, if it is fully adjacent.
-#[tactic(auto, using(crate::proofs::SaidLemmas::behind_none), unfolding(crate::specs::Said::router_link_bytes))]
-fn behind_neighbour<'a>(
-    bytes: Option<&'a [u8]>,
-    stub_router: bool,
-    link: &AreaLink,
-    neighbour: &Neighbour,
-) -> Option<&'a [u8]>
-    ensures { option_copied result ≡ behind (router_link_bytes stub_router link.now neighbour.now) (option_copied bytes.entry) }
+// The header of a wanted network-LSA of this length.
+fn network_header(id: u32, router: RouterId, length: u16) -> LsaHeader
+    ensures { result ≡ record (network_value id router (pos 0) 0 []).header { length = length } }
 {
-    if is_full(neighbour) {
-        behind_link(bytes, &router_link(stub_router, link, neighbour))
-    } else {
-        bytes
+    LsaHeader {
+        age: Age::new(0),
+        options: OPTIONS,
+        kind: 2,
+        id,
+        router,
+        number: 0,
+        sum: 0,
+        length,
     }
-}
-
-// What stands behind the links to the fully adjacent neighbours of a link.
-#[tactic(auto, using(crate::proofs::SaidLemmas::behind_more, crate::proofs::SaidLemmas::behind_none))]
-fn behind_neighbours<'a>(
-    bytes: Option<&'a [u8]>,
-    stub_router: bool,
-    link: &AreaLink,
-    neighbours: &[Neighbour],
-) -> Option<&'a [u8]>
-    ensures { option_copied result ≡ behind (flat_map (router_link_bytes stub_router link.now) neighbours.now) (option_copied bytes.entry) }
-{
-    let mut rest = bytes;
-    for neighbour in neighbours {
-        rest = behind_neighbour(rest, stub_router, link, neighbour);
-    }
-    rest
-}
-
-// What stands behind the links of a link.
-fn behind_links_at<'a>(
-    bytes: Option<&'a [u8]>,
-    stub_router: bool,
-    link: &AreaLink,
-) -> Option<&'a [u8]>
-    ensures { option_copied result ≡ behind (links_bytes stub_router link.now) (option_copied bytes.entry) }
-{
-    if link.iface.state.is_down() {
-        return bytes;
-    }
-    match link.iface.settings.kind {
-        InterfaceKind::PointToPoint => {
-            let rest = behind_neighbours(bytes, stub_router, link, link.neighbours.all());
-            behind_link(rest, &subnet_link(link))
-        }
-        InterfaceKind::Broadcast => behind_link(bytes, &broadcast_link(stub_router, link)),
-    }
-}
-
-// What stands behind the links of the router-LSA.
-#[tactic(auto, using(crate::proofs::SaidLemmas::behind_more, crate::proofs::SaidLemmas::behind_none))]
-fn behind_own_links<'a>(
-    bytes: Option<&'a [u8]>,
-    stub_router: bool,
-    links: &[AreaLink],
-) -> Option<&'a [u8]>
-    ensures { option_copied result ≡ behind (flat_map link_bytes (flat_map (links_at stub_router) links.now)) (option_copied bytes.entry) }
-{
-    let mut rest = bytes;
-    for link in links {
-        rest = behind_links_at(rest, stub_router, link);
-    }
-    rest
-}
-
-/// Whether an LSA is the router-LSA that is wanted, number and checksum aside (RFC 2328, section 12.4.1).
-pub fn says_router(
-    copy: &LsaView<'_>,
-    stub_router: bool,
-    router: RouterId,
-    links: &[AreaLink],
-) -> bool
-    ensures { result ≡ says (contents copy.now) (RouterLsa router (flat_map (links_at stub_router) links.now)) }
-{
-    let lsa = copy.as_bytes();
-    let rest = behind_own_links(Some(&lsa[24..]), stub_router, links);
-    is_router_lsa(copy, router, rest)
-}
-
-// What stands behind the ID of a neighbour, if it is fully adjacent and of a lower Router ID.
-#[tactic(auto, using(crate::proofs::SaidLemmas::behind_none), unfolding(crate::specs::Said::lower_bytes))]
-fn past_lower<'a>(
-    bytes: Option<&'a [u8]>,
-    router: RouterId,
-    neighbour: &Neighbour,
-) -> Option<&'a [u8]>
-    ensures { option_copied result ≡ behind (lower_bytes router neighbour.now) (option_copied bytes.entry) }
-{
-    if is_full(neighbour) && neighbour.router().0 < router.0 {
-        behind_router(bytes, neighbour.router())
-    } else {
-        bytes
-    }
-}
-
-// What stands behind the ID of a neighbour, if it is fully adjacent and of a higher Router ID.
-#[tactic(auto, using(crate::proofs::SaidLemmas::behind_none), unfolding(crate::specs::Said::higher_bytes))]
-fn past_higher<'a>(
-    bytes: Option<&'a [u8]>,
-    router: RouterId,
-    neighbour: &Neighbour,
-) -> Option<&'a [u8]>
-    ensures { option_copied result ≡ behind (higher_bytes router neighbour.now) (option_copied bytes.entry) }
-{
-    if is_full(neighbour) && router.0 < neighbour.router().0 {
-        behind_router(bytes, neighbour.router())
-    } else {
-        bytes
-    }
-}
-
-#[tactic(auto, using(crate::proofs::SaidLemmas::behind_more, crate::proofs::SaidLemmas::behind_none))]
-fn past_all_lower<'a>(
-    bytes: Option<&'a [u8]>,
-    router: RouterId,
-    neighbours: &[Neighbour],
-) -> Option<&'a [u8]>
-    ensures { option_copied result ≡ behind (flat_map (lower_bytes router) neighbours.now) (option_copied bytes.entry) }
-{
-    let mut rest = bytes;
-    for neighbour in neighbours {
-        rest = past_lower(rest, router, neighbour);
-    }
-    rest
-}
-
-#[tactic(auto, using(crate::proofs::SaidLemmas::behind_more, crate::proofs::SaidLemmas::behind_none))]
-fn past_all_higher<'a>(
-    bytes: Option<&'a [u8]>,
-    router: RouterId,
-    neighbours: &[Neighbour],
-) -> Option<&'a [u8]>
-    ensures { option_copied result ≡ behind (flat_map (higher_bytes router) neighbours.now) (option_copied bytes.entry) }
-{
-    let mut rest = bytes;
-    for neighbour in neighbours {
-        rest = past_higher(rest, router, neighbour);
-    }
-    rest
-}
-
-// What stands behind the routers attached to a network.
-fn behind_attached<'a>(
-    bytes: Option<&'a [u8]>,
-    router: RouterId,
-    neighbours: &[Neighbour],
-) -> Option<&'a [u8]>
-    ensures { option_copied result ≡ behind (routers_bytes (attached_routers router neighbours.now)) (option_copied bytes.entry) }
-{
-    let rest = past_all_lower(bytes, router, neighbours);
-    let rest = behind_router(rest, router);
-    past_all_higher(rest, router, neighbours)
-}
-
-/// Whether an LSA is the network-LSA that is wanted of a link, number and checksum aside (RFC 2328, section 12.4.2).
-pub fn says_network(copy: &LsaView<'_>, router: RouterId, link: &AreaLink) -> bool
-    ensures { result ≡ says (contents copy.now) (NetworkLsa link.now.iface.settings.address.0 router link.now.iface.settings.mask (attached_routers router link.now.neighbours)) }
-{
-    let lsa = copy.as_bytes();
-    let rest = behind_attached(Some(&lsa[24..]), router, link.neighbours.all());
-    let settings = &link.iface.settings;
-    is_network_lsa(copy, settings.address.0, router, settings.mask, rest)
 }

@@ -56,35 +56,6 @@ impl OwnLsa {
     }
 }
 
-// Whether a neighbour is fully adjacent.
-pub(crate) fn is_full(neighbour: &Neighbour) -> bool
-    ensures { result ≡ is_full neighbour.now }
-{
-    matches!(neighbour.state(), NeighbourState::Full)
-}
-
-fn is_dr(state: IfaceState) -> bool
-    ensures { result ≡ is_dr state }
-{
-    matches!(state, IfaceState::Dr)
-}
-
-// Whether some neighbour is fully adjacent.
-fn some_full(neighbours: &[Neighbour]) -> bool
-    ensures { result ≡ list_any is_full neighbours.now }
-{
-    neighbours.iter().any(is_full)
-}
-
-// Whether the neighbour of an address is fully adjacent.
-fn full_at(address: u32, neighbours: &[Neighbour]) -> bool
-    ensures { result ≡ list_any (is_full_at address) neighbours.now }
-{
-    neighbours
-        .iter()
-        .any(|n| is_full(n) && n.address().0 == address)
-}
-
 /// Whether the router is the Designated Router of a link, and fully adjacent to someone there: then it wants a
 /// network-LSA of it (RFC 2328, section 12.4.2).
 pub fn is_dr_of(link: &AreaLink) -> bool
@@ -93,19 +64,33 @@ pub fn is_dr_of(link: &AreaLink) -> bool
     is_dr(link.iface.state) && some_full(link.neighbours.all())
 }
 
-// Whether a link is one to a transit network. A Designated Router has a fully adjacent neighbour soon found.
-#[tactic(auto, using(crate::proofs::SaidLemmas::either))]
-fn is_transit(link: &AreaLink) -> bool
-    ensures { result ≡ is_transit link.now }
+/// The LSAs that a router wants (RFC 2328, section 12.4), over its links in configuration order: its router-LSA, and the
+/// network-LSA of each link of which it is the Designated Router and fully adjacent to someone.
+///
+/// `AllocError` where memory runs out.
+#[tactic(auto, unfolding(crate::specs::Wanted::wanted))]
+pub fn wanted(
+    stub_router: bool,
+    router: RouterId,
+    links: &[AreaLink],
+    alloc: Global,
+) -> Result<Vec<OwnLsa>, AllocError>
+    ensures { IfOk result (λ v. map value_of v.items ≡ wanted stub_router router links.now) }
 {
-    is_dr_of(link) || full_at(link.iface.dr.0, link.neighbours.all())
+    let own = own_links(stub_router, links, alloc)?;
+    let mut all = Vec::new(alloc);
+    all.push(OwnLsa::Router { router, links: own })?;
+    for link in links {
+        push_network(&mut all, router, link, alloc)?;
+    }
+    Ok(all)
 }
 
-// The metric of links to routers and to transit networks.
-fn through_metric(stub_router: bool, cost: u16) -> u16
-    ensures { result ≡ through_metric stub_router cost }
+// Whether a neighbour is fully adjacent.
+pub(crate) fn is_full(neighbour: &Neighbour) -> bool
+    ensures { result ≡ is_full neighbour.now }
 {
-    if stub_router { MAX_LINK_METRIC } else { cost }
+    matches!(neighbour.state(), NeighbourState::Full)
 }
 
 // The link to a router.
@@ -116,18 +101,6 @@ pub(crate) fn router_link(stub_router: bool, link: &AreaLink, neighbour: &Neighb
         id: neighbour.router().0,
         link_data: link.iface.settings.address.0,
         kind: LinkKind::PointToPoint,
-        metric: through_metric(stub_router, link.settings.cost),
-    }
-}
-
-// The link to a transit network.
-fn network_link(stub_router: bool, link: &AreaLink) -> Link
-    ensures { result ≡ network_link stub_router link.now }
-{
-    Link {
-        id: link.iface.dr.0,
-        link_data: link.iface.settings.address.0,
-        kind: LinkKind::Transit,
         metric: through_metric(stub_router, link.settings.cost),
     }
 }
@@ -155,20 +128,28 @@ pub(crate) fn broadcast_link(stub_router: bool, link: &AreaLink) -> Link
     }
 }
 
-// The links to the fully adjacent neighbours of a link.
-fn router_links(
-    stub_router: bool,
-    link: &AreaLink,
-    neighbours: &[Neighbour],
-    alloc: Global,
-) -> Result<Vec<Link>, AllocError>
-    ensures { IfOk result (λ v. v.items ≡ map (router_link stub_router link.now) (filter is_full neighbours.now)) }
+fn is_dr(state: IfaceState) -> bool
+    ensures { result ≡ is_dr state }
 {
-    neighbours
-        .iter()
-        .filter(|n| is_full(n))
-        .map(|n| router_link(stub_router, link, n))
-        .collect(alloc)
+    matches!(state, IfaceState::Dr)
+}
+
+// Whether some neighbour is fully adjacent.
+fn some_full(neighbours: &[Neighbour]) -> bool
+    ensures { result ≡ list_any is_full neighbours.now }
+{
+    neighbours.iter().any(is_full)
+}
+
+// The links of the router-LSA.
+fn own_links(stub_router: bool, links: &[AreaLink], alloc: Global) -> Result<Vec<Link>, AllocError>
+    ensures { IfOk result (λ v. v.items ≡ flat_map (links_at stub_router) links.now) }
+{
+    let mut out = Vec::new(alloc);
+    for link in links {
+        push_links(&mut out, stub_router, link, alloc)?;
+    }
+    Ok(out)
 }
 
 // Puts the links of a link at the end.
@@ -195,60 +176,20 @@ fn push_links(
     Ok(())
 }
 
-// The links of the router-LSA.
-fn own_links(stub_router: bool, links: &[AreaLink], alloc: Global) -> Result<Vec<Link>, AllocError>
-    ensures { IfOk result (λ v. v.items ≡ flat_map (links_at stub_router) links.now) }
-{
-    let mut out = Vec::new(alloc);
-    for link in links {
-        push_links(&mut out, stub_router, link, alloc)?;
-    }
-    Ok(out)
-}
-
-// The fully adjacent neighbours whose IDs stand before a router's.
-fn full_before(
-    router: RouterId,
+// The links to the fully adjacent neighbours of a link.
+fn router_links(
+    stub_router: bool,
+    link: &AreaLink,
     neighbours: &[Neighbour],
     alloc: Global,
-) -> Result<Vec<RouterId>, AllocError>
-    ensures { IfOk result (λ v. v.items ≡ map (λ n. n.router) (filter (is_full_before router) neighbours.now)) }
+) -> Result<Vec<Link>, AllocError>
+    ensures { IfOk result (λ v. v.items ≡ map (router_link stub_router link.now) (filter is_full neighbours.now)) }
 {
     neighbours
         .iter()
-        .filter(|n| is_full(n) && n.router().0 < router.0)
-        .map(|n| n.router())
+        .filter(|n| is_full(n))
+        .map(|n| router_link(stub_router, link, n))
         .collect(alloc)
-}
-
-// Those whose IDs stand behind it.
-fn full_behind(
-    router: RouterId,
-    neighbours: &[Neighbour],
-    alloc: Global,
-) -> Result<Vec<RouterId>, AllocError>
-    ensures { IfOk result (λ v. v.items ≡ map (λ n. n.router) (filter (is_full_behind router) neighbours.now)) }
-{
-    neighbours
-        .iter()
-        .filter(|n| is_full(n) && router.0 < n.router().0)
-        .map(|n| n.router())
-        .collect(alloc)
-}
-
-// The routers attached to a network of which this router is the Designated Router.
-fn attached_routers(
-    router: RouterId,
-    neighbours: &[Neighbour],
-    alloc: Global,
-) -> Result<Vec<RouterId>, AllocError>
-    ensures { IfOk result (λ v. v.items ≡ attached_routers router neighbours.now) }
-{
-    let mut routers = full_before(router, neighbours, alloc)?;
-    routers.push(router)?;
-    let behind = full_behind(router, neighbours, alloc)?;
-    routers.extend_from_slice(&behind)?;
-    Ok(routers)
 }
 
 // Puts the network-LSA of a link at the end, where it is wanted.
@@ -273,24 +214,83 @@ fn push_network(
     Ok(())
 }
 
-/// The LSAs that a router wants (RFC 2328, section 12.4), over its links in configuration order: its router-LSA, and the
-/// network-LSA of each link of which it is the Designated Router and fully adjacent to someone.
-///
-/// `AllocError` where memory runs out.
-#[tactic(auto, unfolding(crate::specs::Wanted::wanted))]
-pub fn wanted(
-    stub_router: bool,
+// The routers attached to a network of which this router is the Designated Router.
+fn attached_routers(
     router: RouterId,
-    links: &[AreaLink],
+    neighbours: &[Neighbour],
     alloc: Global,
-) -> Result<Vec<OwnLsa>, AllocError>
-    ensures { IfOk result (λ v. map value_of v.items ≡ wanted stub_router router links.now) }
+) -> Result<Vec<RouterId>, AllocError>
+    ensures { IfOk result (λ v. v.items ≡ attached_routers router neighbours.now) }
 {
-    let own = own_links(stub_router, links, alloc)?;
-    let mut all = Vec::new(alloc);
-    all.push(OwnLsa::Router { router, links: own })?;
-    for link in links {
-        push_network(&mut all, router, link, alloc)?;
+    let mut routers = full_before(router, neighbours, alloc)?;
+    routers.push(router)?;
+    let behind = full_behind(router, neighbours, alloc)?;
+    routers.extend_from_slice(&behind)?;
+    Ok(routers)
+}
+
+// The fully adjacent neighbours whose IDs stand before a router's.
+fn full_before(
+    router: RouterId,
+    neighbours: &[Neighbour],
+    alloc: Global,
+) -> Result<Vec<RouterId>, AllocError>
+    ensures { IfOk result (λ v. v.items ≡ map (λ n. n.router) (filter (is_full_before router) neighbours.now)) }
+{
+    neighbours
+        .iter()
+        .filter(|n| is_full(n) && n.router().0 < router.0)
+        .map(|n| n.router())
+        .collect(alloc)
+}
+
+// The fully adjacent neighbours of a higher Router ID.
+fn full_behind(
+    router: RouterId,
+    neighbours: &[Neighbour],
+    alloc: Global,
+) -> Result<Vec<RouterId>, AllocError>
+    ensures { IfOk result (λ v. v.items ≡ map (λ n. n.router) (filter (is_full_behind router) neighbours.now)) }
+{
+    neighbours
+        .iter()
+        .filter(|n| is_full(n) && router.0 < n.router().0)
+        .map(|n| n.router())
+        .collect(alloc)
+}
+
+// The metric of links to routers and to transit networks.
+fn through_metric(stub_router: bool, cost: u16) -> u16
+    ensures { result ≡ through_metric stub_router cost }
+{
+    if stub_router { MAX_LINK_METRIC } else { cost }
+}
+
+// Whether a link is one to a transit network. A Designated Router has a fully adjacent neighbour soon found.
+#[tactic(auto, using(crate::proofs::SaidLemmas::either))]
+fn is_transit(link: &AreaLink) -> bool
+    ensures { result ≡ is_transit link.now }
+{
+    is_dr_of(link) || full_at(link.iface.dr.0, link.neighbours.all())
+}
+
+// Whether the neighbour of an address is fully adjacent.
+fn full_at(address: u32, neighbours: &[Neighbour]) -> bool
+    ensures { result ≡ list_any (is_full_at address) neighbours.now }
+{
+    neighbours
+        .iter()
+        .any(|n| is_full(n) && n.address().0 == address)
+}
+
+// The link to a transit network.
+fn network_link(stub_router: bool, link: &AreaLink) -> Link
+    ensures { result ≡ network_link stub_router link.now }
+{
+    Link {
+        id: link.iface.dr.0,
+        link_data: link.iface.settings.address.0,
+        kind: LinkKind::Transit,
+        metric: through_metric(stub_router, link.settings.cost),
     }
-    Ok(all)
 }

@@ -49,47 +49,35 @@ impl From<LsaFault> for WithoutFault {
     }
 }
 
-// Adds a link, if the router keeps it.
-fn push_kept(
-    failure: &Failure,
-    router: RouterId,
-    link: Link,
-    kept: &mut Vec<Link>,
-) -> Result<(), AllocError>
-    ensures { OnOk result (kept.new.items ≡ kept.old.items ++ kept_links failure.now router (link ∷ [])) }
+/// The LSAs of an area after a failure, once its routers have told of it: those of the same keys, without the links
+/// that the failure takes. What it does not touch stays byte for byte; a changed router-LSA has its number and age 0.
+///
+/// `Links` where a changed router-LSA keeps more links than can be told in one of `LARGEST_LSA` bytes, which are 1,361; else
+/// `Memory`.
+pub fn without(alloc: Global, listing: &Listing, failure: &Failure) -> Result<Listing, WithoutFault>
+    ensures left { IfOk result (λ left. advertisements_of left ≡ without failure.now (advertisements_of listing.now)) }
+    ensures large { result ≡ Err WithoutFault.Links → HasLarge (advertisements_of listing.now) }
 {
-    if !failure.takes(router, link) {
-        kept.push(link)?;
+    let mut left = Listing::new(alloc);
+    for lsa in listing.lsas() {
+        let kept = lsa_without(alloc, failure, &lsa.view())?;
+        append(&mut left, kept)?;
     }
-    Ok(())
+    Ok(left)
 }
 
-// The links that a router keeps.
-fn kept_links(
-    alloc: Global,
-    failure: &Failure,
-    router: RouterId,
-    links: Links,
-) -> Result<Vec<Link>, AllocError>
-    ensures { IfOk result (λ kept. kept.items ≡ kept_links failure.now router links.entry) }
+// An LSA after the failure.
+fn lsa_without(alloc: Global, failure: &Failure, lsa: &LsaView) -> Result<Lsa, LsaFault>
+    requires listed { IsListed lsa.now }
+    ensures advertisement { IfOk result (λ left. advertisement_of left ≡ kept failure.now (advertisement_of lsa.now)) }
+    ensures key { IfOk result (λ left. key_of left ≡ key_of lsa.now) }
+    ensures young { IfOk result (λ left. (header_of left).age < 3600) }
+    ensures large { result ≡ Err LsaFault.Length → IsLarge (advertisement_of lsa.now) }
 {
-    let mut kept = Vec::new(alloc);
-    for link in links {
-        push_kept(failure, router, link, &mut kept)?;
+    match lsa.kind() {
+        Kind::Router => router_without(alloc, failure, lsa),
+        Kind::Network => Lsa::copy(alloc, lsa),
     }
-    Ok(kept)
-}
-
-// Whether a router keeps all links.
-fn keeps_all(failure: &Failure, router: RouterId, links: Links) -> bool
-    ensures { IsTrue result → kept_links failure.now router links.entry ≡ links.entry }
-{
-    for link in links {
-        if failure.takes(router, link) {
-            return false;
-        }
-    }
-    true
 }
 
 // A router-LSA after the failure: the same where it keeps all links.
@@ -111,18 +99,47 @@ fn router_without(alloc: Global, failure: &Failure, lsa: &LsaView) -> Result<Lsa
     }
 }
 
-// An LSA after the failure.
-fn lsa_without(alloc: Global, failure: &Failure, lsa: &LsaView) -> Result<Lsa, LsaFault>
-    requires listed { IsListed lsa.now }
-    ensures advertisement { IfOk result (λ left. advertisement_of left ≡ kept failure.now (advertisement_of lsa.now)) }
-    ensures key { IfOk result (λ left. key_of left ≡ key_of lsa.now) }
-    ensures young { IfOk result (λ left. (header_of left).age < 3600) }
-    ensures large { result ≡ Err LsaFault.Length → IsLarge (advertisement_of lsa.now) }
+// Whether a router keeps all links.
+fn keeps_all(failure: &Failure, router: RouterId, links: Links) -> bool
+    ensures { IsTrue result → kept_links failure.now router links.entry ≡ links.entry }
 {
-    match lsa.kind() {
-        Kind::Router => router_without(alloc, failure, lsa),
-        Kind::Network => Lsa::copy(alloc, lsa),
+    for link in links {
+        if failure.takes(router, link) {
+            return false;
+        }
     }
+    true
+}
+
+// The links that a router keeps.
+fn kept_links(
+    alloc: Global,
+    failure: &Failure,
+    router: RouterId,
+    links: Links,
+) -> Result<Vec<Link>, AllocError>
+    ensures { IfOk result (λ kept. kept.items ≡ kept_links failure.now router links.entry) }
+{
+    let mut kept = Vec::new(alloc);
+    for link in links {
+        push_kept(failure, router, link, &mut kept)?;
+    }
+    Ok(kept)
+}
+
+// Adds a link, if the router keeps it.
+fn push_kept(
+    failure: &Failure,
+    router: RouterId,
+    link: Link,
+    kept: &mut Vec<Link>,
+) -> Result<(), AllocError>
+    ensures { OnOk result (kept.new.items ≡ kept.old.items ++ kept_links failure.now router (link ∷ [])) }
+{
+    if !failure.takes(router, link) {
+        kept.push(link)?;
+    }
+    Ok(())
 }
 
 // Adds an LSA below `MAX_AGE` whose key stands behind those of a listing.
@@ -135,21 +152,4 @@ fn append(listing: &mut Listing, lsa: Lsa) -> Result<(), AllocError>
     };
     let _in_order = listing.lsas();
     Ok(())
-}
-
-/// The LSAs of an area after a failure, once its routers have told of it: those of the same keys, without the links
-/// that the failure takes. What it does not touch stays byte for byte; a changed router-LSA has its number and age 0.
-///
-/// `Links` where a changed router-LSA keeps more links than can be told in one of `LARGEST_LSA` bytes, which are 1,361; else
-/// `Memory`.
-pub fn without(alloc: Global, listing: &Listing, failure: &Failure) -> Result<Listing, WithoutFault>
-    ensures left { IfOk result (λ left. advertisements_of left ≡ without failure.now (advertisements_of listing.now)) }
-    ensures large { result ≡ Err WithoutFault.Links → HasLarge (advertisements_of listing.now) }
-{
-    let mut left = Listing::new(alloc);
-    for lsa in listing.lsas() {
-        let kept = lsa_without(alloc, failure, &lsa.view())?;
-        append(&mut left, kept)?;
-    }
-    Ok(left)
 }

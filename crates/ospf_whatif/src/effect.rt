@@ -38,6 +38,69 @@ pub struct RouteChange {
     pub loss: Loss,
 }
 
+/// What becomes of the routes of a router where something fails: each route of its table that the table of the area
+/// after the failure does not have, once, in the order of prefixes. No other prefix is reached after a failure, and
+/// none at a lower cost (`failures_take_away`).
+///
+/// `Links` or `Memory` as `without` has it.
+pub fn effect_of(
+    alloc: Global,
+    listing: &Listing,
+    root: RouterId,
+    table: &RouteTable,
+    failure: &Failure,
+) -> Result<Vec<RouteChange>, WithoutFault>
+    requires { IsTable (advertisements_of listing.now) root table.now }
+    ensures effect { IfOk result (λ effect. IsEffect (advertisements_of listing.now) root failure.now table.now effect.items) }
+    ensures large { result ≡ Err WithoutFault.Links → HasLarge (advertisements_of listing.now) }
+{
+    let left = without(alloc, listing, failure)?;
+    let after = RouteTable::of(alloc, &left, root)?;
+    let changes = table.changes(alloc, &after)?;
+    let told = told_of(alloc, &left, &changes)?;
+    let effect = changes_by(alloc, table.routes(), &changes, &told)?;
+    Ok(effect)
+}
+
+// What becomes of each route at whose prefix something changes.
+fn changes_by(
+    alloc: Global,
+    routes: &[Route],
+    changes: &[Change],
+    told: &Pairs,
+) -> Result<Vec<RouteChange>, AllocError>
+    requires ordered { AllPairs IsRouteBefore routes.now }
+    requires reached { (change : Change) → Contains changes.now change → Reaches routes.now (prefix_of change) }
+    ensures { IfOk result (λ all. AllZip (IsChangeBy routes.now told.now) changes.now all.items) }
+{
+    let mut all = Vec::new(alloc);
+    for change in changes {
+        let here = change_by(alloc, routes, change, told)?;
+        all.push(here)?;
+    }
+    Ok(all)
+}
+
+// The route at whose prefix something changes, and what becomes of it.
+fn change_by(
+    alloc: Global,
+    routes: &[Route],
+    change: &Change,
+    told: &Pairs,
+) -> Result<RouteChange, AllocError>
+    requires ordered { AllPairs IsRouteBefore routes.now }
+    requires reached { Reaches routes.now (prefix_of change.now) }
+    ensures { IfOk result (λ here. IsChangeBy routes.now told.now change.now here) }
+{
+    let route = match route_to(routes, change.prefix()) {
+        Some(route) => route,
+        None => unreachable!(),
+    };
+    let before = route.copy(alloc)?;
+    let loss = loss_by(alloc, &before, change, told)?;
+    Ok(RouteChange { before, loss })
+}
+
 // The route to a prefix.
 fn route_to(routes: &[Route], prefix: Prefix) -> Option<&Route>
     requires { AllPairs IsRouteBefore routes.now }
@@ -71,67 +134,4 @@ fn loss_by(alloc: Global, before: &Route, change: &Change, told: &Pairs) -> Resu
             }
         }
     }
-}
-
-// The route at whose prefix something changes, and what becomes of it.
-fn change_by(
-    alloc: Global,
-    routes: &[Route],
-    change: &Change,
-    told: &Pairs,
-) -> Result<RouteChange, AllocError>
-    requires ordered { AllPairs IsRouteBefore routes.now }
-    requires reached { Reaches routes.now (prefix_of change.now) }
-    ensures { IfOk result (λ here. IsChangeBy routes.now told.now change.now here) }
-{
-    let route = match route_to(routes, change.prefix()) {
-        Some(route) => route,
-        None => unreachable!(),
-    };
-    let before = route.copy(alloc)?;
-    let loss = loss_by(alloc, &before, change, told)?;
-    Ok(RouteChange { before, loss })
-}
-
-// The same for all changes.
-fn changes_by(
-    alloc: Global,
-    routes: &[Route],
-    changes: &[Change],
-    told: &Pairs,
-) -> Result<Vec<RouteChange>, AllocError>
-    requires ordered { AllPairs IsRouteBefore routes.now }
-    requires reached { (change : Change) → Contains changes.now change → Reaches routes.now (prefix_of change) }
-    ensures { IfOk result (λ all. AllZip (IsChangeBy routes.now told.now) changes.now all.items) }
-{
-    let mut all = Vec::new(alloc);
-    for change in changes {
-        let here = change_by(alloc, routes, change, told)?;
-        all.push(here)?;
-    }
-    Ok(all)
-}
-
-/// What becomes of the routes of a router where something fails: each route of its table that the table of the area
-/// after the failure does not have, once, in the order of prefixes. No other prefix is reached after a failure, and
-/// none at a lower cost (`failures_take_away`).
-///
-/// `Links` or `Memory` as `without` has it.
-pub fn effect_of(
-    alloc: Global,
-    listing: &Listing,
-    root: RouterId,
-    table: &RouteTable,
-    failure: &Failure,
-) -> Result<Vec<RouteChange>, WithoutFault>
-    requires { IsTable (advertisements_of listing.now) root table.now }
-    ensures effect { IfOk result (λ effect. IsEffect (advertisements_of listing.now) root failure.now table.now effect.items) }
-    ensures large { result ≡ Err WithoutFault.Links → HasLarge (advertisements_of listing.now) }
-{
-    let left = without(alloc, listing, failure)?;
-    let after = RouteTable::of(alloc, &left, root)?;
-    let changes = table.changes(alloc, &after)?;
-    let told = told_of(alloc, &left, &changes)?;
-    let effect = changes_by(alloc, table.routes(), &changes, &told)?;
-    Ok(effect)
 }

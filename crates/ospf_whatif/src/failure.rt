@@ -33,53 +33,6 @@ pub enum Failure {
     Router(RouterId),
 }
 
-// Whether it is a type 1 link to a router.
-fn is_link_to(link: Link, router: RouterId) -> bool
-    ensures { result ≡ is_link_to link router }
-{
-    match link.kind {
-        LinkKind::PointToPoint => link.id == router.0,
-        LinkKind::Transit | LinkKind::Stub | LinkKind::Virtual => false,
-    }
-}
-
-// Whether it is a type 2 link to a transit network.
-fn is_transit_of(link: Link, network: u32) -> bool
-    ensures { result ≡ is_transit_of link network }
-{
-    match link.kind {
-        LinkKind::Transit => link.id == network,
-        LinkKind::PointToPoint | LinkKind::Stub | LinkKind::Virtual => false,
-    }
-}
-
-// Whether it is a type 3 link to a prefix.
-fn is_stub_of(link: Link, prefix: Prefix) -> bool
-    ensures { result ≡ is_stub_of link prefix }
-{
-    match link.kind {
-        LinkKind::Stub => {
-            let mask = mask_of(prefix.length);
-            link.link_data == mask && link.id & mask == prefix.address.0
-        }
-        LinkKind::PointToPoint | LinkKind::Transit | LinkKind::Virtual => false,
-    }
-}
-
-// Whether a link's own address lies in a prefix.
-fn is_on(link: Link, prefix: Prefix) -> bool
-    ensures { result ≡ is_on link prefix }
-{
-    link.link_data & mask_of(prefix.length) == prefix.address.0
-}
-
-// Whether it is a link of the end of a point-to-point link in a subnet whose other end is a router.
-fn is_wire_end(link: Link, router: RouterId, subnet: Prefix) -> bool
-    ensures { result ≡ is_wire_end link router subnet }
-{
-    (is_link_to(link, router) && is_on(link, subnet)) || is_stub_of(link, subnet)
-}
-
 impl Failure {
     ghost use Rattle.std.specs.Prelude.{◌≡◌};
     ghost use Rattle.ospf_whatif.specs.Failure.{takes};
@@ -103,5 +56,52 @@ impl Failure {
             Failure::Network(network) => is_transit_of(link, network),
             Failure::Router(gone) => router.0 == gone.0 || is_link_to(link, gone),
         }
+    }
+}
+
+// Whether it is a link of the end of a point-to-point link in a subnet whose other end is a router.
+fn is_wire_end(link: Link, router: RouterId, subnet: Prefix) -> bool
+    ensures { result ≡ is_wire_end link router subnet }
+{
+    (is_link_to(link, router) && is_on(link, subnet)) || is_stub_of(link, subnet)
+}
+
+// Whether it is a type 1 link to a router.
+fn is_link_to(link: Link, router: RouterId) -> bool
+    ensures { result ≡ is_link_to link router }
+{
+    match link.kind {
+        LinkKind::PointToPoint => link.id == router.0,
+        LinkKind::Transit | LinkKind::Stub | LinkKind::Virtual => false,
+    }
+}
+
+// Whether a link's own address lies in a prefix.
+fn is_on(link: Link, prefix: Prefix) -> bool
+    ensures { result ≡ is_on link prefix }
+{
+    link.link_data & mask_of(prefix.length) == prefix.address.0
+}
+
+// Whether it is a type 3 link to a prefix.
+fn is_stub_of(link: Link, prefix: Prefix) -> bool
+    ensures { result ≡ is_stub_of link prefix }
+{
+    match link.kind {
+        LinkKind::Stub => {
+            let mask = mask_of(prefix.length);
+            link.link_data == mask && link.id & mask == prefix.address.0
+        }
+        LinkKind::PointToPoint | LinkKind::Transit | LinkKind::Virtual => false,
+    }
+}
+
+// Whether it is a type 2 link to a transit network.
+fn is_transit_of(link: Link, network: u32) -> bool
+    ensures { result ≡ is_transit_of link network }
+{
+    match link.kind {
+        LinkKind::Transit => link.id == network,
+        LinkKind::PointToPoint | LinkKind::Stub | LinkKind::Virtual => false,
     }
 }

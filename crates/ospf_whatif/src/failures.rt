@@ -18,130 +18,67 @@ use ospf_graph::{Edge, Vertex};
 use ospf_lsa::{Listing, Lsa};
 use std::alloc::{AllocError, Global};
 
-// Whether two routers are these.
-fn are(a: RouterId, b: RouterId, first: RouterId, second: RouterId) -> bool
-    ensures { IsTrue result ↔ ((a ≡ first) × (b ≡ second)) }
+/// What may fail in an area, each once, in the order of `Failure`: links with a subnet, other links, attachments,
+/// networks and routers, each by its routers, its subnet or its network.
+///
+/// `AllocError` where memory runs out.
+pub fn single_failures(alloc: Global, listing: &Listing) -> Result<Vec<Failure>, AllocError>
+    ensures all { IfOk result (λ all. AreFailures (advertisements_of listing.now) all.items) }
+    ensures in_order { IfOk result (λ all. AllPairs IsFailureBefore all.items) }
 {
-    a == first && b == second
+    let edges = edges_of(alloc, listing)?;
+    let ends = ends_of(alloc, listing)?;
+    let wires = wires_of(alloc, &edges, &ends)?;
+    let mut failures = Vec::from_slice(alloc, &wires)?;
+    add_edges(&wires, &edges, &mut failures)?;
+    add_routers(listing, &mut failures)?;
+    put_in_order(&mut failures);
+    Ok(failures)
 }
 
-// Adds a failure.
-fn add_failure(failures: &mut Vec<Failure>, failure: Failure) -> Result<(), AllocError>
-    ensures { OnOk result (Adds (λ f. f ≡ failure) failures.old.items failures.new.items) }
+// The links between two routers in subnets that both tell.
+fn wires_of(alloc: Global, edges: &[Edge], ends: &[End]) -> Result<Vec<Failure>, AllocError>
+    ensures { IfOk result (λ wires. Adds (GivenBy (λ e. GivenBy (WireGiven edges.now ends.now e) ends.now) edges.now) [] wires.items) }
 {
-    failures.push(failure)?;
+    let mut wires = Vec::new(alloc);
+    for edge in edges {
+        add_edge_wires(edges, ends, edge, &mut wires)?;
+    }
+    Ok(wires)
+}
+
+// Adds the links of an edge in the subnets of all ends.
+fn add_edge_wires(
+    edges: &[Edge],
+    ends: &[End],
+    edge: &Edge,
+    failures: &mut Vec<Failure>,
+) -> Result<(), AllocError>
+    ensures { OnOk result (Adds (GivenBy (WireGiven edges.now ends.now edge.now) ends.now) failures.old.items failures.new.items) }
+{
+    for end in ends {
+        add_wire(edges, ends, edge, end, failures)?;
+    }
     Ok(())
 }
 
-// Whether it is the end of a prefix at a router.
-fn is_end_at(end: &End, prefix: Prefix, router: RouterId) -> bool
-    ensures { IsTrue result ↔ ((end.now.prefix ≡ prefix) × (end.now.vertex ≡ Router router)) }
-{
-    end.prefix == prefix && end.vertex == Vertex::Router(router)
-}
-
-// Whether it is the end of a prefix at a router, of any prefix.
-fn is_vertex_at(end: &End, router: RouterId) -> bool
-    ensures { IsTrue result ↔ (end.now.vertex ≡ Router router) }
-{
-    end.vertex == Vertex::Router(router)
-}
-
-// Whether a router tells a prefix by a type 3 link.
-fn stands_at(ends: &[End], prefix: Prefix, router: RouterId) -> bool
-    ensures { IsTrue result ↔ StandsAt ends.now prefix router }
-{
-    for end in ends {
-        if is_end_at(end, prefix, router) {
-            return true;
-        }
-    }
-    false
-}
-
-// Whether an edge leads from one router to another out of an address in a subnet.
-fn is_edge_in(edge: &Edge, from: RouterId, to: RouterId, subnet: Prefix) -> bool
-    ensures { IsTrue result ↔ ((edge.now.from ≡ Router from) × (edge.now.to ≡ Router to) × Holds subnet edge.now.link_data) }
-{
-    edge.from == Vertex::Router(from)
-        && edge.to == Vertex::Router(to)
-        && subnet.holds(Addr(edge.link_data))
-}
-
-// Whether one of these does.
-fn leads_back(edges: &[Edge], from: RouterId, to: RouterId, subnet: Prefix) -> bool
-    ensures { IsTrue result ↔ LeadsBack edges.now from to subnet }
-{
-    for edge in edges {
-        if is_edge_in(edge, from, to, subnet) {
-            return true;
-        }
-    }
-    false
-}
-
-// Whether an end is at the first router, in a subnet that the edge's own address is in.
-fn is_near(edge: &Edge, end: &End, a: RouterId) -> bool
-    ensures { IsTrue result ↔ ((end.now.vertex ≡ Router a) × Holds end.now.prefix edge.now.link_data) }
-{
-    is_vertex_at(end, a) && end.prefix.holds(Addr(edge.link_data))
-}
-
-// Whether the second router tells a subnet too, and an edge leads back in it.
-fn is_far(edges: &[Edge], ends: &[End], subnet: Prefix, a: RouterId, b: RouterId) -> bool
-    ensures { IsTrue result ↔ (StandsAt ends.now subnet b × LeadsBack edges.now b a subnet) }
-{
-    stands_at(ends, subnet, b) && leads_back(edges, b, a, subnet)
-}
-
-// Whether two routers share the prefix of an end.
-fn is_shared(edges: &[Edge], ends: &[End], edge: &Edge, a: RouterId, b: RouterId, end: &End) -> bool
-    ensures { IsTrue result ↔ IsSharedIn edges.now ends.now edge.now a b end.now }
-{
-    is_near(edge, end, a) && is_far(edges, ends, end.prefix, a, b)
-}
-
-// Whether they share one that is longer than this.
-fn is_longer(
+// Adds it, if there is one.
+fn add_wire(
     edges: &[Edge],
     ends: &[End],
     edge: &Edge,
-    a: RouterId,
-    b: RouterId,
-    length: u8,
     end: &End,
-) -> bool
-    ensures { IsTrue result ↔ ((length < end.now.prefix.length) × IsSharedIn edges.now ends.now edge.now a b end.now) }
+    failures: &mut Vec<Failure>,
+) -> Result<(), AllocError>
+    ensures { OnOk result (Adds (WireGiven edges.now ends.now edge.now end.now) failures.old.items failures.new.items) }
 {
-    length < end.prefix.length && is_shared(edges, ends, edge, a, b, end)
-}
-
-// Whether the prefix of one of the ends is such.
-fn has_longer(
-    edges: &[Edge],
-    ends: &[End],
-    edge: &Edge,
-    a: RouterId,
-    b: RouterId,
-    length: u8,
-) -> bool
-    ensures { IsTrue result ↔ HasLonger edges.now ends.now edge.now a b length ends.now }
-{
-    for end in ends {
-        if is_longer(edges, ends, edge, a, b, length, end) {
-            return true;
+    match wire_of(edges, ends, edge, end) {
+        Some(failure) => {
+            add_failure(failures, failure)?;
+            Ok(())
         }
+        None => Ok(()),
     }
-    false
-}
-
-// Whether two routers have a link in the subnet of an end: they share it, and no longer one.
-fn is_wire(edges: &[Edge], ends: &[End], edge: &Edge, end: &End, a: RouterId, b: RouterId) -> bool
-    ensures { IsTrue result ↔ IsWireBetween edges.now ends.now edge.now end.now a b }
-{
-    a.0 < b.0
-        && is_shared(edges, ends, edge, a, b, end)
-        && !has_longer(edges, ends, edge, a, b, end.prefix.length)
 }
 
 // The link of an edge between two routers in the subnet of an end.
@@ -168,74 +105,147 @@ fn wire_of(edges: &[Edge], ends: &[End], edge: &Edge, end: &End) -> Option<Failu
     }
 }
 
-// Adds it, if there is one.
-fn add_wire(
-    edges: &[Edge],
-    ends: &[End],
-    edge: &Edge,
-    end: &End,
-    failures: &mut Vec<Failure>,
-) -> Result<(), AllocError>
-    ensures { OnOk result (Adds (WireGiven edges.now ends.now edge.now end.now) failures.old.items failures.new.items) }
+// Whether two routers have a link in the subnet of an end: they share it, and no longer one.
+fn is_wire(edges: &[Edge], ends: &[End], edge: &Edge, end: &End, a: RouterId, b: RouterId) -> bool
+    ensures { IsTrue result ↔ IsWireBetween edges.now ends.now edge.now end.now a b }
 {
-    match wire_of(edges, ends, edge, end) {
-        Some(failure) => {
-            add_failure(failures, failure)?;
-            Ok(())
-        }
-        None => Ok(()),
-    }
+    a.0 < b.0
+        && is_shared(edges, ends, edge, a, b, end)
+        && !has_longer(edges, ends, edge, a, b, end.prefix.length)
 }
 
-// Adds the links of an edge in the subnets of all ends.
-fn add_edge_wires(
-    edges: &[Edge],
-    ends: &[End],
-    edge: &Edge,
-    failures: &mut Vec<Failure>,
-) -> Result<(), AllocError>
-    ensures { OnOk result (Adds (GivenBy (WireGiven edges.now ends.now edge.now) ends.now) failures.old.items failures.new.items) }
+// Whether two routers share the prefix of an end.
+fn is_shared(edges: &[Edge], ends: &[End], edge: &Edge, a: RouterId, b: RouterId, end: &End) -> bool
+    ensures { IsTrue result ↔ IsSharedIn edges.now ends.now edge.now a b end.now }
+{
+    is_near(edge, end, a) && is_far(edges, ends, end.prefix, a, b)
+}
+
+// Whether an end is at the first router, in a subnet that the edge's own address is in.
+fn is_near(edge: &Edge, end: &End, a: RouterId) -> bool
+    ensures { IsTrue result ↔ ((end.now.vertex ≡ Router a) × Holds end.now.prefix edge.now.link_data) }
+{
+    is_vertex_at(end, a) && end.prefix.holds(Addr(edge.link_data))
+}
+
+// Whether it is the end of a prefix at a router, of any prefix.
+fn is_vertex_at(end: &End, router: RouterId) -> bool
+    ensures { IsTrue result ↔ (end.now.vertex ≡ Router router) }
+{
+    end.vertex == Vertex::Router(router)
+}
+
+// Whether the second router tells a subnet too, and an edge leads back in it.
+fn is_far(edges: &[Edge], ends: &[End], subnet: Prefix, a: RouterId, b: RouterId) -> bool
+    ensures { IsTrue result ↔ (StandsAt ends.now subnet b × LeadsBack edges.now b a subnet) }
+{
+    stands_at(ends, subnet, b) && leads_back(edges, b, a, subnet)
+}
+
+// Whether a router tells a prefix by a type 3 link.
+fn stands_at(ends: &[End], prefix: Prefix, router: RouterId) -> bool
+    ensures { IsTrue result ↔ StandsAt ends.now prefix router }
 {
     for end in ends {
-        add_wire(edges, ends, edge, end, failures)?;
-    }
-    Ok(())
-}
-
-// The links between two routers in subnets that both tell.
-fn wires_of(alloc: Global, edges: &[Edge], ends: &[End]) -> Result<Vec<Failure>, AllocError>
-    ensures { IfOk result (λ wires. Adds (GivenBy (λ e. GivenBy (WireGiven edges.now ends.now e) ends.now) edges.now) [] wires.items) }
-{
-    let mut wires = Vec::new(alloc);
-    for edge in edges {
-        add_edge_wires(edges, ends, edge, &mut wires)?;
-    }
-    Ok(wires)
-}
-
-// Whether a failure is a link between two routers in some subnet.
-fn is_wire_of(failure: &Failure, first: RouterId, second: RouterId) -> bool
-    ensures { IsTrue result ↔ ((subnet : Prefix) × (failure.now ≡ Failure.Link first second subnet)) }
-{
-    match *failure {
-        Failure::Link { a, b, .. } => are(a, b, first, second),
-        Failure::Links { .. } => false,
-        Failure::Attachment { .. } => false,
-        Failure::Network(_) => false,
-        Failure::Router(_) => false,
-    }
-}
-
-// Whether one of these is.
-fn has_wire(wires: &[Failure], first: RouterId, second: RouterId) -> bool
-    ensures { IsTrue result ↔ HasWire wires.now first second }
-{
-    for wire in wires {
-        if is_wire_of(wire, first, second) {
+        if is_end_at(end, prefix, router) {
             return true;
         }
     }
     false
+}
+
+// Whether it is the end of a prefix at a router.
+fn is_end_at(end: &End, prefix: Prefix, router: RouterId) -> bool
+    ensures { IsTrue result ↔ ((end.now.prefix ≡ prefix) × (end.now.vertex ≡ Router router)) }
+{
+    end.prefix == prefix && end.vertex == Vertex::Router(router)
+}
+
+// Whether one of these does.
+fn leads_back(edges: &[Edge], from: RouterId, to: RouterId, subnet: Prefix) -> bool
+    ensures { IsTrue result ↔ LeadsBack edges.now from to subnet }
+{
+    for edge in edges {
+        if is_edge_in(edge, from, to, subnet) {
+            return true;
+        }
+    }
+    false
+}
+
+// Whether an edge leads from one router to another out of an address in a subnet.
+fn is_edge_in(edge: &Edge, from: RouterId, to: RouterId, subnet: Prefix) -> bool
+    ensures { IsTrue result ↔ ((edge.now.from ≡ Router from) × (edge.now.to ≡ Router to) × Holds subnet edge.now.link_data) }
+{
+    edge.from == Vertex::Router(from)
+        && edge.to == Vertex::Router(to)
+        && subnet.holds(Addr(edge.link_data))
+}
+
+// Whether the prefix of one of the ends is such.
+fn has_longer(
+    edges: &[Edge],
+    ends: &[End],
+    edge: &Edge,
+    a: RouterId,
+    b: RouterId,
+    length: u8,
+) -> bool
+    ensures { IsTrue result ↔ HasLonger edges.now ends.now edge.now a b length ends.now }
+{
+    for end in ends {
+        if is_longer(edges, ends, edge, a, b, length, end) {
+            return true;
+        }
+    }
+    false
+}
+
+// Whether they share one that is longer than this.
+fn is_longer(
+    edges: &[Edge],
+    ends: &[End],
+    edge: &Edge,
+    a: RouterId,
+    b: RouterId,
+    length: u8,
+    end: &End,
+) -> bool
+    ensures { IsTrue result ↔ ((length < end.now.prefix.length) × IsSharedIn edges.now ends.now edge.now a b end.now) }
+{
+    length < end.prefix.length && is_shared(edges, ends, edge, a, b, end)
+}
+
+// Adds a failure.
+fn add_failure(failures: &mut Vec<Failure>, failure: Failure) -> Result<(), AllocError>
+    ensures { OnOk result (Adds (λ f. f ≡ failure) failures.old.items failures.new.items) }
+{
+    failures.push(failure)?;
+    Ok(())
+}
+
+// Adds what edges give beside links in subnets.
+fn add_edges(
+    wires: &[Failure],
+    edges: &[Edge],
+    failures: &mut Vec<Failure>,
+) -> Result<(), AllocError>
+    ensures { OnOk result (Adds (GivenBy (EdgeGiven wires.now) edges.now) failures.old.items failures.new.items) }
+{
+    for edge in edges {
+        add_edge(wires, edge, failures)?;
+    }
+    Ok(())
+}
+
+// Adds what an edge gives beside links in subnets.
+fn add_edge(wires: &[Failure], edge: &Edge, failures: &mut Vec<Failure>) -> Result<(), AllocError>
+    ensures { OnOk result (Adds (EdgeGiven wires.now edge.now) failures.old.items failures.new.items) }
+{
+    add_links(wires, edge, failures)?;
+    add_attachment(edge, failures)?;
+    add_network(edge, failures)?;
+    Ok(())
 }
 
 // Adds the links between two routers that have none in a subnet.
@@ -253,6 +263,38 @@ fn add_links(wires: &[Failure], edge: &Edge, failures: &mut Vec<Failure>) -> Res
         (Vertex::Network(_), Vertex::Router(_)) => Ok(()),
         (Vertex::Network(_), Vertex::Network(_)) => Ok(()),
     }
+}
+
+// Whether one of these is.
+fn has_wire(wires: &[Failure], first: RouterId, second: RouterId) -> bool
+    ensures { IsTrue result ↔ HasWire wires.now first second }
+{
+    for wire in wires {
+        if is_wire_of(wire, first, second) {
+            return true;
+        }
+    }
+    false
+}
+
+// Whether a failure is a link between two routers in some subnet.
+fn is_wire_of(failure: &Failure, first: RouterId, second: RouterId) -> bool
+    ensures { IsTrue result ↔ ((subnet : Prefix) × (failure.now ≡ Failure.Link first second subnet)) }
+{
+    match *failure {
+        Failure::Link { a, b, .. } => are(a, b, first, second),
+        Failure::Links { .. } => false,
+        Failure::Attachment { .. } => false,
+        Failure::Network(_) => false,
+        Failure::Router(_) => false,
+    }
+}
+
+// Whether two routers are these.
+fn are(a: RouterId, b: RouterId, first: RouterId, second: RouterId) -> bool
+    ensures { IsTrue result ↔ ((a ≡ first) × (b ≡ second)) }
+{
+    a == first && b == second
 }
 
 // Adds the attachment of an edge from a router to a network.
@@ -285,27 +327,13 @@ fn add_network(edge: &Edge, failures: &mut Vec<Failure>) -> Result<(), AllocErro
     }
 }
 
-// Adds what edges give beside links in subnets.
-fn add_edges(
-    wires: &[Failure],
-    edges: &[Edge],
-    failures: &mut Vec<Failure>,
-) -> Result<(), AllocError>
-    ensures { OnOk result (Adds (GivenBy (EdgeGiven wires.now) edges.now) failures.old.items failures.new.items) }
+// Adds the routers of a listing.
+fn add_routers(listing: &Listing, failures: &mut Vec<Failure>) -> Result<(), AllocError>
+    ensures { OnOk result (Adds (GivenBy (λ lsa. RouterGiven (advertisement_of lsa)) listing.now) failures.old.items failures.new.items) }
 {
-    for edge in edges {
-        add_edge(wires, edge, failures)?;
+    for lsa in listing.lsas() {
+        add_router(lsa, failures)?;
     }
-    Ok(())
-}
-
-// Adds what an edge gives beside links in subnets.
-fn add_edge(wires: &[Failure], edge: &Edge, failures: &mut Vec<Failure>) -> Result<(), AllocError>
-    ensures { OnOk result (Adds (EdgeGiven wires.now edge.now) failures.old.items failures.new.items) }
-{
-    add_links(wires, edge, failures)?;
-    add_attachment(edge, failures)?;
-    add_network(edge, failures)?;
     Ok(())
 }
 
@@ -324,16 +352,6 @@ fn add_router(lsa: &Lsa, failures: &mut Vec<Failure>) -> Result<(), AllocError>
     }
 }
 
-// Adds the routers of a listing.
-fn add_routers(listing: &Listing, failures: &mut Vec<Failure>) -> Result<(), AllocError>
-    ensures { OnOk result (Adds (GivenBy (λ lsa. RouterGiven (advertisement_of lsa)) listing.now) failures.old.items failures.new.items) }
-{
-    for lsa in listing.lsas() {
-        add_router(lsa, failures)?;
-    }
-    Ok(())
-}
-
 // Puts failures in order, each once.
 fn put_in_order(failures: &mut Vec<Failure>)
     ensures same { (f : Failure) → Contains failures.new.items f ↔ Contains failures.old.items f }
@@ -341,22 +359,4 @@ fn put_in_order(failures: &mut Vec<Failure>)
 {
     failures.sort_unstable();
     failures.dedup();
-}
-
-/// What may fail in an area, each once, in the order of `Failure`: links with a subnet, other links, attachments,
-/// networks and routers, each by its routers, its subnet or its network.
-///
-/// `AllocError` where memory runs out.
-pub fn single_failures(alloc: Global, listing: &Listing) -> Result<Vec<Failure>, AllocError>
-    ensures all { IfOk result (λ all. AreFailures (advertisements_of listing.now) all.items) }
-    ensures in_order { IfOk result (λ all. AllPairs IsFailureBefore all.items) }
-{
-    let edges = edges_of(alloc, listing)?;
-    let ends = ends_of(alloc, listing)?;
-    let wires = wires_of(alloc, &edges, &ends)?;
-    let mut failures = Vec::from_slice(alloc, &wires)?;
-    add_edges(&wires, &edges, &mut failures)?;
-    add_routers(listing, &mut failures)?;
-    put_in_order(&mut failures);
-    Ok(failures)
 }

@@ -30,12 +30,71 @@ impl Display for Failure {
     }
 }
 
+/// The failure of a list that a word names: by its name, or where no failure has it as its name, the link in the subnet
+/// that the word is, where no other link of the list is in that subnet. `None` where the word names none.
+///
+/// `AllocError` where memory runs out.
+pub fn find_failure(
+    alloc: Global,
+    failures: &[Failure],
+    word: &str,
+) -> Result<Option<Failure>, AllocError>
+    ensures some { IfOk result (λ found. IfSome found (IsNamed failures.now word.now)) }
+    ensures none { IfOk result (λ found. IfNone found ((failure : Failure) → IsNamed failures.now word.now failure → ⊥)) }
+{
+    match by_name(alloc, failures, word)? {
+        Some(failure) => Ok(Some(failure)),
+        None => by_subnet(alloc, failures, word),
+    }
+}
+
+// The failure whose name a word is.
+fn by_name(alloc: Global, failures: &[Failure], word: &str) -> Result<Option<Failure>, AllocError>
+    ensures some { IfOk result (λ found. IfSome found (HasName failures.now word.now)) }
+    ensures none { IfOk result (λ found. IfNone found ((failure : Failure) → HasName failures.now word.now failure → ⊥)) }
+{
+    for failure in failures {
+        if has_name(alloc, failure, word)? {
+            return Ok(Some(*failure));
+        }
+    }
+    Ok(None)
+}
+
 // Whether a word is the name of a failure.
 fn has_name(alloc: Global, failure: &Failure, word: &str) -> Result<bool, AllocError>
     ensures { IfOk result (λ has. IsTrue has ↔ (failure_text failure.now ≡ word.now)) }
 {
     let name = format!(in alloc; "{failure}")?;
     Ok(name.as_str() == word)
+}
+
+// The only link in the subnet that a word is.
+fn by_subnet(alloc: Global, failures: &[Failure], word: &str) -> Result<Option<Failure>, AllocError>
+    ensures some { IfOk result (λ found. IfSome found (IsOnlyIn failures.now word.now)) }
+    ensures none { IfOk result (λ found. IfNone found ((failure : Failure) → IsOnlyIn failures.now word.now failure → ⊥)) }
+{
+    let Some(first) = first_in(alloc, failures, word)? else {
+        return Ok(None);
+    };
+    if is_alone(alloc, failures, word, &first)? {
+        Ok(Some(first))
+    } else {
+        Ok(None)
+    }
+}
+
+// The first link in the subnet that a word is.
+fn first_in(alloc: Global, failures: &[Failure], word: &str) -> Result<Option<Failure>, AllocError>
+    ensures some { IfOk result (λ found. IfSome found (λ failure. Contains failures.now failure × IsIn word.now failure)) }
+    ensures none { IfOk result (λ found. IfNone found ((failure : Failure) → Contains failures.now failure → IsIn word.now failure → ⊥)) }
+{
+    for failure in failures {
+        if is_in(alloc, failure, word)? {
+            return Ok(Some(*failure));
+        }
+    }
+    Ok(None)
 }
 
 // Whether a failure is a link in the subnet that a word is.
@@ -54,32 +113,6 @@ fn is_in(alloc: Global, failure: &Failure, word: &str) -> Result<bool, AllocErro
     }
 }
 
-// The failure whose name a word is.
-fn by_name(alloc: Global, failures: &[Failure], word: &str) -> Result<Option<Failure>, AllocError>
-    ensures some { IfOk result (λ found. IfSome found (HasName failures.now word.now)) }
-    ensures none { IfOk result (λ found. IfNone found ((failure : Failure) → HasName failures.now word.now failure → ⊥)) }
-{
-    for failure in failures {
-        if has_name(alloc, failure, word)? {
-            return Ok(Some(*failure));
-        }
-    }
-    Ok(None)
-}
-
-// The first link in the subnet that a word is.
-fn first_in(alloc: Global, failures: &[Failure], word: &str) -> Result<Option<Failure>, AllocError>
-    ensures some { IfOk result (λ found. IfSome found (λ failure. Contains failures.now failure × IsIn word.now failure)) }
-    ensures none { IfOk result (λ found. IfNone found ((failure : Failure) → Contains failures.now failure → IsIn word.now failure → ⊥)) }
-{
-    for failure in failures {
-        if is_in(alloc, failure, word)? {
-            return Ok(Some(*failure));
-        }
-    }
-    Ok(None)
-}
-
 // Whether there is no other link in the subnet that a word is.
 fn is_alone(
     alloc: Global,
@@ -96,37 +129,4 @@ fn is_alone(
         }
     }
     Ok(true)
-}
-
-// The only link in the subnet that a word is.
-fn by_subnet(alloc: Global, failures: &[Failure], word: &str) -> Result<Option<Failure>, AllocError>
-    ensures some { IfOk result (λ found. IfSome found (IsOnlyIn failures.now word.now)) }
-    ensures none { IfOk result (λ found. IfNone found ((failure : Failure) → IsOnlyIn failures.now word.now failure → ⊥)) }
-{
-    let Some(first) = first_in(alloc, failures, word)? else {
-        return Ok(None);
-    };
-    if is_alone(alloc, failures, word, &first)? {
-        Ok(Some(first))
-    } else {
-        Ok(None)
-    }
-}
-
-/// The failure of a list that a word names: by its name, or where no failure has it as its name, the link in the subnet
-/// that the word is, where no other link of the list is in that subnet. `None` where the word names none.
-///
-/// `AllocError` where memory runs out.
-pub fn find_failure(
-    alloc: Global,
-    failures: &[Failure],
-    word: &str,
-) -> Result<Option<Failure>, AllocError>
-    ensures some { IfOk result (λ found. IfSome found (IsNamed failures.now word.now)) }
-    ensures none { IfOk result (λ found. IfNone found ((failure : Failure) → IsNamed failures.now word.now failure → ⊥)) }
-{
-    match by_name(alloc, failures, word)? {
-        Some(failure) => Ok(Some(failure)),
-        None => by_subnet(alloc, failures, word),
-    }
 }

@@ -27,6 +27,19 @@ pub(crate) fn is_same(a: &Failure, b: &Failure) -> bool
     }
 }
 
+// Whether a failure is that of a link between two routers in a subnet.
+fn is_link(failure: &Failure, first: RouterId, second: RouterId, prefix: Prefix) -> bool
+    ensures { IsTrue result ↔ (failure.now ≡ Failure.Link first second prefix) }
+{
+    match *failure {
+        Failure::Link { a, b, subnet } => are(a, b, first, second) && is_prefix(subnet, prefix),
+        Failure::Links { .. } => false,
+        Failure::Attachment { .. } => false,
+        Failure::Network(_) => false,
+        Failure::Router(_) => false,
+    }
+}
+
 // Whether two routers are these.
 fn are(a: RouterId, b: RouterId, first: RouterId, second: RouterId) -> bool
     ensures { IsTrue result ↔ ((a ≡ first) × (b ≡ second)) }
@@ -39,19 +52,6 @@ fn is_prefix(a: Prefix, b: Prefix) -> bool
     ensures { IsTrue result ↔ (a ≡ b) }
 {
     a == b
-}
-
-// Whether a failure is that of a link between two routers in a subnet.
-fn is_link(failure: &Failure, first: RouterId, second: RouterId, prefix: Prefix) -> bool
-    ensures { IsTrue result ↔ (failure.now ≡ Failure.Link first second prefix) }
-{
-    match *failure {
-        Failure::Link { a, b, subnet } => are(a, b, first, second) && is_prefix(subnet, prefix),
-        Failure::Links { .. } => false,
-        Failure::Attachment { .. } => false,
-        Failure::Network(_) => false,
-        Failure::Router(_) => false,
-    }
 }
 
 // Whether it is that of all links between two routers.

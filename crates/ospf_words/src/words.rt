@@ -152,6 +152,75 @@ const MOST_MILLISECONDS: u64 = 1000;
 
 const MILLISECONDS: &str = "1000";
 
+/// The fault of words of which one is not UTF-8: `Words`, or `Memory` where memory ran out.
+pub fn not_text(alloc: Global) -> JobFault
+    ensures fault { IsFaultOfNoValue result }
+    ensures not_help { IsHelp result → ⊥ }
+{
+    let told = match command(alloc) {
+        Ok(mut command) => command.error(ErrorKind::InvalidValue, "a word is not UTF-8"),
+        Err(error) => Err(error),
+    };
+    match told {
+        Ok(error) => JobFault::from(error),
+        Err(_) => JobFault::Memory,
+    }
+}
+
+/// Reads the program's words, without its own name.
+///
+/// The error is `Words` where they fit no command, or ask for help or the version, `Address` with the
+/// first word that is to be an address and is none, and `Memory` where memory ran out.
+pub fn job(alloc: Global, words: &[&str]) -> Result<Job, JobFault>
+    ensures ok { IfOk result (IsAsked (map (λ w. w.now) words.now)) }
+    ensures accepted { OnOk result (fault_of command_app (map (λ w. w.now) words.now) ≡ []) }
+    ensures fault { IfErr result (IsUnasked (map (λ w. w.now) words.now)) }
+{
+    let mut command = command(alloc)?;
+    let matches = command.try_get_matches_from_mut(words)?;
+    match entered_job(alloc, &matches)? {
+        Some(job) => Ok(job),
+        None => Err(no_job(&mut command)),
+    }
+}
+
+// The words that the program knows.
+fn command<'a>(alloc: Global) -> Result<Command<'a>, AllocError>
+    ensures { IfOk result (λ c. app_of c ≡ command_app) }
+{
+    let program = with_table(program(alloc)?, alloc)?;
+    let program = with_failures(program, alloc)?;
+    let program = with_check(program, alloc)?;
+    let program = with_sim(program, alloc)?;
+    with_run(program, alloc)
+}
+
+// The program, before its commands.
+fn program<'a>(alloc: Global) -> Result<Command<'a>, AllocError>
+    ensures { IfOk result (λ c. app_of c ≡ ospfd_app) }
+{
+    let program = Command::new(alloc, "ospfd")
+        .bin_name("ospfd")?
+        .version(VERSION)
+        .about("OSPF version 2 for one area")
+        .after_help(HELP)
+        .no_binary_name(true)
+        .subcommand_required(true);
+    Ok(program)
+}
+
+// Adds the command `table` and its words.
+fn with_table<'a>(program: Command<'a>, alloc: Global) -> Result<Command<'a>, AllocError>
+    ensures { IfOk result (λ c. app_of c ≡ with_subcommand (app_of program.entry) table_app.top) }
+{
+    let table = Command::new(alloc, "table")
+        .about("Computes a routing table from LSAs in hexadecimal, one a line, on standard input")
+        .after_help(TABLE_HELP)
+        .arg(root_arg(alloc))?
+        .arg(addresses_arg(alloc))?;
+    program.subcommand(table)
+}
+
 // The router whose table is computed.
 fn root_arg<'a>(alloc: Global) -> Arg<'a>
     ensures rule { rule_of result ≡ root_rule }
@@ -175,6 +244,19 @@ fn addresses_arg<'a>(alloc: Global) -> Arg<'a>
         .action(ArgAction::Append)
 }
 
+// Adds the command `failures` and its words.
+fn with_failures<'a>(program: Command<'a>, alloc: Global) -> Result<Command<'a>, AllocError>
+    ensures { IfOk result (λ c. app_of c ≡ with_subcommand (app_of program.entry) failures_app.top) }
+{
+    let failures = Command::new(alloc, "failures")
+        .about("Tells what each single failure does to a routing table")
+        .after_help(FAILURES_HELP)
+        .arg(root_arg(alloc))?
+        .arg(each_arg(alloc))?
+        .arg(strict_arg(alloc))?;
+    program.subcommand(failures)
+}
+
 // Whether each route that changes is told.
 fn each_arg<'a>(alloc: Global) -> Arg<'a>
     ensures rule { rule_of result ≡ flag_rule (codes "each") }
@@ -195,6 +277,19 @@ fn strict_arg<'a>(alloc: Global) -> Arg<'a>
         .long("strict")
         .action(ArgAction::SetTrue)
         .help("Ends with status 1 where a failure cuts a prefix off")
+}
+
+// Adds the command `check` and its words.
+fn with_check<'a>(program: Command<'a>, alloc: Global) -> Result<Command<'a>, AllocError>
+    ensures { IfOk result (λ c. app_of c ≡ with_subcommand (app_of program.entry) check_app.top) }
+{
+    let check = Command::new(alloc, "check")
+        .about("Checks configurations in TOML")
+        .after_help(CHECK_HELP)
+        .arg(explain_arg(alloc))?
+        .arg(area_arg(alloc))?
+        .arg(files_arg(alloc))?;
+    program.subcommand(check)
 }
 
 // Whether it is said what to do about files that are refused.
@@ -232,6 +327,20 @@ fn files_arg<'a>(alloc: Global) -> Arg<'a>
         .action(ArgAction::Append)
 }
 
+// Adds the command `sim` and its words.
+fn with_sim<'a>(program: Command<'a>, alloc: Global) -> Result<Command<'a>, AllocError>
+    ensures { IfOk result (λ c. app_of c ≡ with_subcommand (app_of program.entry) sim_app.top) }
+{
+    let sim = Command::new(alloc, "sim")
+        .about("Simulates an area: runs a script over a router for each configuration")
+        .after_help(SIM_HELP)
+        .arg(script_arg(alloc))?
+        .arg(files_arg(alloc))?
+        .arg(dot_arg(alloc))?
+        .arg(pcap_arg(alloc))?;
+    program.subcommand(sim)
+}
+
 // The file of a script.
 fn script_arg<'a>(alloc: Global) -> Arg<'a>
     ensures rule { rule_of result ≡ script_rule }
@@ -261,6 +370,22 @@ fn pcap_arg<'a>(alloc: Global) -> Arg<'a>
     Arg::new(alloc, "pcap").long("pcap").value_name("FILE").help(
         "Writes all datagrams that were sent, for Wireshark and tcpdump",
     )
+}
+
+// Adds the command `run` and its words.
+fn with_run<'a>(program: Command<'a>, alloc: Global) -> Result<Command<'a>, AllocError>
+    ensures { IfOk result (λ c. app_of c ≡ with_subcommand (app_of program.entry) run_app.top) }
+{
+    let run = Command::new(alloc, "run")
+        .about("Runs a router for each configuration, each in a thread, over UDP on this machine")
+        .after_help(RUN_HELP)
+        .arg(ticks_arg(alloc))?
+        .arg(files_arg(alloc))?
+        .arg(tick_arg(alloc))?
+        .arg(lookup_arg(alloc))?
+        .arg(floor_arg(alloc))?
+        .arg(pcap_arg(alloc))?;
+    program.subcommand(run)
 }
 
 // How many ticks there are.
@@ -310,97 +435,42 @@ fn floor_arg<'a>(alloc: Global) -> Arg<'a>
         .help("What the numbers of own LSAs begin above, in eight hexadecimal digits")
 }
 
-// The program, before its commands.
-fn program<'a>(alloc: Global) -> Result<Command<'a>, AllocError>
-    ensures { IfOk result (λ c. app_of c ≡ ospfd_app) }
+// The job of the command that the words entered, if its values make one.
+fn entered_job(alloc: Global, matches: &ArgMatches<'_>) -> Result<Option<Job>, JobFault>
+    ensures ok { IfOk result (IsJobIfAny (subcommand_rows_of matches.now)) }
+    ensures fault { IfErr result (IsFaultOfValue (IsWrongValue (subcommand_rows_of matches.now))) }
 {
-    let program = Command::new(alloc, "ospfd")
-        .bin_name("ospfd")?
-        .version(VERSION)
-        .about("OSPF version 2 for one area")
-        .after_help(HELP)
-        .no_binary_name(true)
-        .subcommand_required(true);
-    Ok(program)
+    if let Some(values) = matches.subcommand_matches("table") {
+        return table_job(alloc, values);
+    }
+    if let Some(values) = matches.subcommand_matches("failures") {
+        return failures_job(alloc, values);
+    }
+    if let Some(values) = matches.subcommand_matches("check") {
+        return Ok(check_job(alloc, values)?);
+    }
+    if let Some(values) = matches.subcommand_matches("sim") {
+        return Ok(sim_job(alloc, values)?);
+    }
+    if let Some(values) = matches.subcommand_matches("run") {
+        return run_job(alloc, values);
+    }
+    Ok(None)
 }
 
-// Adds the command `table` and its words.
-fn with_table<'a>(program: Command<'a>, alloc: Global) -> Result<Command<'a>, AllocError>
-    ensures { IfOk result (λ c. app_of c ≡ with_subcommand (app_of program.entry) table_app.top) }
+// The values of `table`: its job, if they have a root.
+fn table_job(alloc: Global, values: &ArgMatches<'_>) -> Result<Option<Job>, JobFault>
+    ensures ok { IfOk result (IsJobIfAny (Some (codes "table", rows_of (found_of values.now)))) }
+    ensures fault { IfErr result (IsFaultOfValue (IsWrongValue (Some (codes "table", rows_of (found_of values.now))))) }
 {
-    let table = Command::new(alloc, "table")
-        .about("Computes a routing table from LSAs in hexadecimal, one a line, on standard input")
-        .after_help(TABLE_HELP)
-        .arg(root_arg(alloc))?
-        .arg(addresses_arg(alloc))?;
-    program.subcommand(table)
-}
-
-// Adds the command `failures` and its words.
-fn with_failures<'a>(program: Command<'a>, alloc: Global) -> Result<Command<'a>, AllocError>
-    ensures { IfOk result (λ c. app_of c ≡ with_subcommand (app_of program.entry) failures_app.top) }
-{
-    let failures = Command::new(alloc, "failures")
-        .about("Tells what each single failure does to a routing table")
-        .after_help(FAILURES_HELP)
-        .arg(root_arg(alloc))?
-        .arg(each_arg(alloc))?
-        .arg(strict_arg(alloc))?;
-    program.subcommand(failures)
-}
-
-// Adds the command `check` and its words.
-fn with_check<'a>(program: Command<'a>, alloc: Global) -> Result<Command<'a>, AllocError>
-    ensures { IfOk result (λ c. app_of c ≡ with_subcommand (app_of program.entry) check_app.top) }
-{
-    let check = Command::new(alloc, "check")
-        .about("Checks configurations in TOML")
-        .after_help(CHECK_HELP)
-        .arg(explain_arg(alloc))?
-        .arg(area_arg(alloc))?
-        .arg(files_arg(alloc))?;
-    program.subcommand(check)
-}
-
-// Adds the command `sim` and its words.
-fn with_sim<'a>(program: Command<'a>, alloc: Global) -> Result<Command<'a>, AllocError>
-    ensures { IfOk result (λ c. app_of c ≡ with_subcommand (app_of program.entry) sim_app.top) }
-{
-    let sim = Command::new(alloc, "sim")
-        .about("Simulates an area: runs a script over a router for each configuration")
-        .after_help(SIM_HELP)
-        .arg(script_arg(alloc))?
-        .arg(files_arg(alloc))?
-        .arg(dot_arg(alloc))?
-        .arg(pcap_arg(alloc))?;
-    program.subcommand(sim)
-}
-
-// Adds the command `run` and its words.
-fn with_run<'a>(program: Command<'a>, alloc: Global) -> Result<Command<'a>, AllocError>
-    ensures { IfOk result (λ c. app_of c ≡ with_subcommand (app_of program.entry) run_app.top) }
-{
-    let run = Command::new(alloc, "run")
-        .about("Runs a router for each configuration, each in a thread, over UDP on this machine")
-        .after_help(RUN_HELP)
-        .arg(ticks_arg(alloc))?
-        .arg(files_arg(alloc))?
-        .arg(tick_arg(alloc))?
-        .arg(lookup_arg(alloc))?
-        .arg(floor_arg(alloc))?
-        .arg(pcap_arg(alloc))?;
-    program.subcommand(run)
-}
-
-// The words that the program knows.
-fn command<'a>(alloc: Global) -> Result<Command<'a>, AllocError>
-    ensures { IfOk result (λ c. app_of c ≡ command_app) }
-{
-    let program = with_table(program(alloc)?, alloc)?;
-    let program = with_failures(program, alloc)?;
-    let program = with_check(program, alloc)?;
-    let program = with_sim(program, alloc)?;
-    with_run(program, alloc)
+    let Some(root) = values.get_str("root") else {
+        return Ok(None);
+    };
+    let addresses = values.get_strs("addresses").unwrap_or(&[]);
+    Ok(Some(Job::Table(TableJob {
+        root: parsed(alloc, root)?,
+        addresses: parsed_addresses(alloc, addresses)?,
+    })))
 }
 
 // The value that a word spells.
@@ -430,21 +500,6 @@ fn parsed_addresses(alloc: Global, words: &[&str]) -> Result<Vec<Addr>, JobFault
     Ok(addresses)
 }
 
-// The values of `table`: its job, if they have a root.
-fn table_job(alloc: Global, values: &ArgMatches<'_>) -> Result<Option<Job>, JobFault>
-    ensures ok { IfOk result (IsJobIfAny (Some (codes "table", rows_of (found_of values.now)))) }
-    ensures fault { IfErr result (IsFaultOfValue (IsWrongValue (Some (codes "table", rows_of (found_of values.now))))) }
-{
-    let Some(root) = values.get_str("root") else {
-        return Ok(None);
-    };
-    let addresses = values.get_strs("addresses").unwrap_or(&[]);
-    Ok(Some(Job::Table(TableJob {
-        root: parsed(alloc, root)?,
-        addresses: parsed_addresses(alloc, addresses)?,
-    })))
-}
-
 // The values of `failures`: its job, if they have a root.
 fn failures_job(alloc: Global, values: &ArgMatches<'_>) -> Result<Option<Job>, JobFault>
     ensures ok { IfOk result (IsJobIfAny (Some (codes "failures", rows_of (found_of values.now)))) }
@@ -457,17 +512,6 @@ fn failures_job(alloc: Global, values: &ArgMatches<'_>) -> Result<Option<Job>, J
     let each = values.get_flag("each");
     let strict = values.get_flag("strict");
     Ok(Some(Job::Failures(FailuresJob { root, each, strict })))
-}
-
-// The texts of words.
-fn owned(alloc: Global, words: &[&str]) -> Result<Vec<String>, AllocError>
-    ensures { IfOk result (λ texts. map string_bytes texts.items ≡ map (λ w. w.now) words.now) }
-{
-    let mut texts = Vec::with_capacity(alloc, words.len())?;
-    for word in words {
-        texts.push(String::from_str(alloc, word)?)?;
-    }
-    Ok(texts)
 }
 
 // The values of `check`: its job, if they have files.
@@ -487,14 +531,15 @@ fn check_job(alloc: Global, values: &ArgMatches<'_>) -> Result<Option<Job>, Allo
     })))
 }
 
-// The text of a word, if there is one.
-fn owned_if_any(alloc: Global, word: Option<&str>) -> Result<Option<String>, AllocError>
-    ensures { IfOk result (λ text. option_map string_bytes text ≡ option_map (λ w. w.now) word.entry) }
+// The texts of words.
+fn owned(alloc: Global, words: &[&str]) -> Result<Vec<String>, AllocError>
+    ensures { IfOk result (λ texts. map string_bytes texts.items ≡ map (λ w. w.now) words.now) }
 {
-    match word {
-        Some(word) => Ok(Some(String::from_str(alloc, word)?)),
-        None => Ok(None),
+    let mut texts = Vec::with_capacity(alloc, words.len())?;
+    for word in words {
+        texts.push(String::from_str(alloc, word)?)?;
     }
+    Ok(texts)
 }
 
 // The values of `sim`: its job, if they have a script and files.
@@ -519,13 +564,12 @@ fn sim_job(alloc: Global, values: &ArgMatches<'_>) -> Result<Option<Job>, AllocE
     })))
 }
 
-// The address that a word spells, if there is one.
-fn parsed_if_any(alloc: Global, word: Option<&str>) -> Result<Option<Addr>, JobFault>
-    ensures value { IfOk result (IsAddressIfAny (option_map (λ w. w.now) word.entry)) }
-    ensures fault { IfErr result (IsFaultOfValue (λ w. (option_map (λ t. t.now) word.entry ≡ Some w) × IsNoAddress w)) }
+// The text of a word, if there is one.
+fn owned_if_any(alloc: Global, word: Option<&str>) -> Result<Option<String>, AllocError>
+    ensures { IfOk result (λ text. option_map string_bytes text ≡ option_map (λ w. w.now) word.entry) }
 {
     match word {
-        Some(word) => Ok(Some(parsed(alloc, word)?)),
+        Some(word) => Ok(Some(String::from_str(alloc, word)?)),
         None => Ok(None),
     }
 }
@@ -558,27 +602,15 @@ fn run_job(alloc: Global, values: &ArgMatches<'_>) -> Result<Option<Job>, JobFau
     })))
 }
 
-// The job of the command that the words entered, if its values make one.
-fn entered_job(alloc: Global, matches: &ArgMatches<'_>) -> Result<Option<Job>, JobFault>
-    ensures ok { IfOk result (IsJobIfAny (subcommand_rows_of matches.now)) }
-    ensures fault { IfErr result (IsFaultOfValue (IsWrongValue (subcommand_rows_of matches.now))) }
+// The address that a word spells, if there is one.
+fn parsed_if_any(alloc: Global, word: Option<&str>) -> Result<Option<Addr>, JobFault>
+    ensures value { IfOk result (IsAddressIfAny (option_map (λ w. w.now) word.entry)) }
+    ensures fault { IfErr result (IsFaultOfValue (λ w. (option_map (λ t. t.now) word.entry ≡ Some w) × IsNoAddress w)) }
 {
-    if let Some(values) = matches.subcommand_matches("table") {
-        return table_job(alloc, values);
+    match word {
+        Some(word) => Ok(Some(parsed(alloc, word)?)),
+        None => Ok(None),
     }
-    if let Some(values) = matches.subcommand_matches("failures") {
-        return failures_job(alloc, values);
-    }
-    if let Some(values) = matches.subcommand_matches("check") {
-        return Ok(check_job(alloc, values)?);
-    }
-    if let Some(values) = matches.subcommand_matches("sim") {
-        return Ok(sim_job(alloc, values)?);
-    }
-    if let Some(values) = matches.subcommand_matches("run") {
-        return run_job(alloc, values);
-    }
-    Ok(None)
 }
 
 // The fault of words in which `clap` reads no job.
@@ -588,37 +620,5 @@ fn no_job(command: &mut Command<'_>) -> JobFault
     match command.error(ErrorKind::MissingSubcommand, "a command is needed") {
         Ok(error) => JobFault::from(error),
         Err(_) => JobFault::Memory,
-    }
-}
-
-/// The fault of words of which one is not UTF-8: `Words`, or `Memory` where memory ran out.
-pub fn not_text(alloc: Global) -> JobFault
-    ensures fault { IsFaultOfNoValue result }
-    ensures not_help { IsHelp result → ⊥ }
-{
-    let told = match command(alloc) {
-        Ok(mut command) => command.error(ErrorKind::InvalidValue, "a word is not UTF-8"),
-        Err(error) => Err(error),
-    };
-    match told {
-        Ok(error) => JobFault::from(error),
-        Err(_) => JobFault::Memory,
-    }
-}
-
-/// Reads the program's words, without its own name.
-///
-/// The error is `Words` where they fit no command, or ask for help or the version, `Address` with the
-/// first word that is to be an address and is none, and `Memory` where memory ran out.
-pub fn job(alloc: Global, words: &[&str]) -> Result<Job, JobFault>
-    ensures ok { IfOk result (IsAsked (map (λ w. w.now) words.now)) }
-    ensures accepted { OnOk result (fault_of command_app (map (λ w. w.now) words.now) ≡ []) }
-    ensures fault { IfErr result (IsUnasked (map (λ w. w.now) words.now)) }
-{
-    let mut command = command(alloc)?;
-    let matches = command.try_get_matches_from_mut(words)?;
-    match entered_job(alloc, &matches)? {
-        Some(job) => Ok(job),
-        None => Err(no_job(&mut command)),
     }
 }

@@ -52,6 +52,28 @@ pub fn chosen(word: u32, count: usize) -> Option<usize>
     }
 }
 
+/// What is drawn at a router: of sixteen parts six are ticks, seven are deliveries, one is a link that comes up, one a link
+/// that goes down, and one a stop where the router runs, else a start without a floor. Where there is no link, or no
+/// datagram to deliver, nothing happens.
+#[tactic(auto, unfolding(crate::specs::Draws::drawn_for))]
+pub fn drawn_at(
+    words: &Words,
+    router: RouterId,
+    links: usize,
+    is_running: bool,
+    datagrams: usize,
+) -> Option<WorldEvent>
+    ensures { result ≡ drawn_for words.now router links is_running datagrams }
+{
+    match words.kind % 16 {
+        0..=5 => Some(WorldEvent::Tick { router }),
+        6..=12 => delivery(words, router, links, datagrams),
+        13 => link_up(words, router, links),
+        14 => link_down(words, router, links),
+        _ => Some(turn(words, router, is_running)),
+    }
+}
+
 // A delivery of a datagram on a link, where there is one of each.
 #[tactic(auto, unfolding(crate::specs::Draws::drawn_delivery))]
 fn delivery(words: &Words, router: RouterId, links: usize, datagrams: usize) -> Option<WorldEvent>
@@ -96,27 +118,5 @@ fn turn(words: &Words, router: RouterId, is_running: bool) -> WorldEvent
             dd_start: words.number,
             floor: i32::MIN,
         }
-    }
-}
-
-/// What is drawn at a router: of sixteen parts six are ticks, seven are deliveries, one is a link that comes up, one a link
-/// that goes down, and one a stop where the router runs, else a start without a floor. Where there is no link, or no
-/// datagram to deliver, nothing happens.
-#[tactic(auto, unfolding(crate::specs::Draws::drawn_for))]
-pub fn drawn_at(
-    words: &Words,
-    router: RouterId,
-    links: usize,
-    is_running: bool,
-    datagrams: usize,
-) -> Option<WorldEvent>
-    ensures { result ≡ drawn_for words.now router links is_running datagrams }
-{
-    match words.kind % 16 {
-        0..=5 => Some(WorldEvent::Tick { router }),
-        6..=12 => delivery(words, router, links, datagrams),
-        13 => link_up(words, router, links),
-        14 => link_down(words, router, links),
-        _ => Some(turn(words, router, is_running)),
     }
 }

@@ -16,29 +16,6 @@ pub fn sending_address(config: &Config, link: usize) -> Option<InterfaceAddress>
     Some(interface.address)
 }
 
-// Whether two interfaces have one prefix.
-fn is_beside(one: &InterfaceAddress, other: &InterfaceAddress) -> bool
-    ensures { result ≡ is_on one.now other.now }
-{
-    one.length == other.length
-        && one.address.0 & mask_of(one.length) == other.address.0 & mask_of(other.length)
-}
-
-// Whether an interface listens to a destination: all routers, those that a network elects, or its own address.
-fn listens(destination: Addr, to: &InterfaceAddress) -> bool
-    ensures { result ≡ is_for destination to.now }
-{
-    destination == ALL_SPF_ROUTERS || destination == ALL_D_ROUTERS || destination == to.address
-}
-
-// Whether a datagram that goes out of one interface is offered to another.
-#[tactic(auto, unfolding(crate::specs::Offers::is_offered))]
-fn takes(from: &InterfaceAddress, destination: Addr, to: &InterfaceAddress) -> bool
-    ensures { result ≡ is_offered from.now destination to.now }
-{
-    is_beside(from, to) && listens(destination, to)
-}
-
 /// Adds the deliveries of a datagram that a router is offered: one on each of its links whose prefix is that of the sending
 /// interface, and whose interface listens to the destination (RFC 2328, section 8.1), in the order of the links.
 ///
@@ -63,4 +40,27 @@ pub fn push_offers(
         }
     }
     Ok(())
+}
+
+// Whether a datagram that goes out of one interface is offered to another.
+#[tactic(auto, unfolding(crate::specs::Offers::is_offered))]
+fn takes(from: &InterfaceAddress, destination: Addr, to: &InterfaceAddress) -> bool
+    ensures { result ≡ is_offered from.now destination to.now }
+{
+    is_beside(from, to) && listens(destination, to)
+}
+
+// Whether two interfaces have one prefix.
+fn is_beside(one: &InterfaceAddress, other: &InterfaceAddress) -> bool
+    ensures { result ≡ is_on one.now other.now }
+{
+    one.length == other.length
+        && one.address.0 & mask_of(one.length) == other.address.0 & mask_of(other.length)
+}
+
+// Whether an interface listens to a destination: all routers, those that a network elects, or its own address.
+fn listens(destination: Addr, to: &InterfaceAddress) -> bool
+    ensures { result ≡ is_for destination to.now }
+{
+    destination == ALL_SPF_ROUTERS || destination == ALL_D_ROUTERS || destination == to.address
 }

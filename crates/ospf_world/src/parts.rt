@@ -37,78 +37,6 @@ impl Model for Parts {
     ghost invariant = { λ w. ArePlaces w.places w.slots.items };
 }
 
-// The router that an event is at.
-fn router_of(event: &WorldEvent) -> RouterId
-    ensures { result ≡ router_in event.now }
-{
-    match event {
-        WorldEvent::Start { router, .. } => *router,
-        WorldEvent::Stop { router } => *router,
-        WorldEvent::Tick { router } => *router,
-        WorldEvent::LinkUp { router, .. } => *router,
-        WorldEvent::LinkDown { router, .. } => *router,
-        WorldEvent::Deliver { router, .. } => *router,
-    }
-}
-
-// Where the router stands.
-fn place(places: &BTreeMap<u32, usize>, router: RouterId) -> Option<usize>
-    ensures { result ≡ place_in places.now router.0 }
-{
-    match places.get(&router.0) {
-        Some(place) => Some(*place),
-        None => None,
-    }
-}
-
-// A slot for a further router.
-fn add(
-    slots: &mut Vec<Slot>,
-    places: &mut BTreeMap<u32, usize>,
-    config: Config,
-) -> Result<(), WorldFault>
-    ensures { Adds config slots.old.items places.old result slots.new.items places.new }
-{
-    let router = config.router_id;
-    if place(places, router).is_some() {
-        return Err(WorldFault::SameRouter);
-    }
-    if places.insert(router.0, slots.len()).is_err() {
-        return Err(WorldFault::Memory { stopped: false });
-    }
-    if slots.push(Slot::new(config)).is_err() {
-        return Err(WorldFault::Memory { stopped: false });
-    }
-    Ok(())
-}
-
-// What an event comes to at the slot at a place.
-fn step_at(
-    slots: &mut Vec<Slot>,
-    place: usize,
-    event: &WorldEvent,
-    logs: &mut Logs,
-    ticks: &mut Vec<Ticked>,
-    alloc: Global,
-) -> Result<(), WorldFault>
-    requires { place < length slots.old.items }
-    ensures steps { (before : SlotValue) → slice_get slots.old.items place ≡ Some before → (after : SlotValue) × (slots.new.items ≡ slice_set slots.old.items place after) × SlotSteps event.now before logs.old result after logs.new }
-    ensures ticks { ticks.new.items ≡ ticks.old.items ++ ticked_by event.now result (length logs.old.datagrams) }
-{
-    let slot = &mut slots[place];
-    step_slot(slot, event, logs, ticks, alloc)
-}
-
-// The router of a slot, where it runs.
-fn running(slot: &Slot) -> Result<&Router, WorldFault>
-    ensures { LendsSlot slot.now result }
-{
-    match slot.router() {
-        Some(router) => Ok(router),
-        None => Err(WorldFault::NotRunning),
-    }
-}
-
 impl Parts {
     /// Routers so configured, of which none runs.
     ///
@@ -165,4 +93,76 @@ impl Parts {
         let _sent = self.logs.datagrams().len();
         self.offered += 1;
     }
+}
+
+// A slot for a further router.
+fn add(
+    slots: &mut Vec<Slot>,
+    places: &mut BTreeMap<u32, usize>,
+    config: Config,
+) -> Result<(), WorldFault>
+    ensures { Adds config slots.old.items places.old result slots.new.items places.new }
+{
+    let router = config.router_id;
+    if place(places, router).is_some() {
+        return Err(WorldFault::SameRouter);
+    }
+    if places.insert(router.0, slots.len()).is_err() {
+        return Err(WorldFault::Memory { stopped: false });
+    }
+    if slots.push(Slot::new(config)).is_err() {
+        return Err(WorldFault::Memory { stopped: false });
+    }
+    Ok(())
+}
+
+// Where the router stands.
+fn place(places: &BTreeMap<u32, usize>, router: RouterId) -> Option<usize>
+    ensures { result ≡ place_in places.now router.0 }
+{
+    match places.get(&router.0) {
+        Some(place) => Some(*place),
+        None => None,
+    }
+}
+
+// The router of a slot, where it runs.
+fn running(slot: &Slot) -> Result<&Router, WorldFault>
+    ensures { LendsSlot slot.now result }
+{
+    match slot.router() {
+        Some(router) => Ok(router),
+        None => Err(WorldFault::NotRunning),
+    }
+}
+
+// The router that an event is at.
+fn router_of(event: &WorldEvent) -> RouterId
+    ensures { result ≡ router_in event.now }
+{
+    match event {
+        WorldEvent::Start { router, .. } => *router,
+        WorldEvent::Stop { router } => *router,
+        WorldEvent::Tick { router } => *router,
+        WorldEvent::LinkUp { router, .. } => *router,
+        WorldEvent::LinkDown { router, .. } => *router,
+        WorldEvent::Deliver { router, .. } => *router,
+    }
+}
+
+// What an event comes to at the slot at a place.
+fn step_at(
+    slots: &mut Vec<Slot>,
+    place: usize,
+    event: &WorldEvent,
+    logs: &mut Logs,
+    ticks: &mut Vec<Ticked>,
+    alloc: Global,
+) -> Result<(), WorldFault>
+    requires { place < length slots.old.items }
+    ensures steps { (before : SlotValue) → slice_get slots.old.items place ≡ Some before → (after : SlotValue) × (slots.new.items ≡ slice_set slots.old.items place after) × SlotSteps event.now before logs.old result after logs.new }
+    ensures ticks { ticks.new.items ≡ ticks.old.items ++ ticked_by event.now result (length logs.old.datagrams) }
+{
+    let slot = &mut slots[place];
+    step_slot(slot, event, logs, ticks, alloc)
 }

@@ -18,44 +18,6 @@ use rand_pcg::Lcg64Xsh32;
 use std::alloc::Global;
 
 impl World {
-    // The event that these words draw, if they draw one.
-    fn draw_event(&self, words: &Words) -> Option<WorldEvent>
-        ensures { result ≡ drawn words.now (world_of self.now) }
-    {
-        let slots = self.slots();
-        let place = chosen(words.router, slots.len())?;
-        let slot = &slots[place];
-        let config = slot.config();
-        drawn_at(
-            words,
-            config.router_id,
-            config.interfaces.len(),
-            slot.runs(),
-            self.datagrams().len(),
-        )
-    }
-
-    // Meets an event, where there is one: passes over a refusal, unless memory ran out.
-    fn meet(&mut self, event: Option<WorldEvent>, alloc: Global) -> Result<(), WorldFault>
-        ensures meets { Meets event self.old result self.new }
-        ensures same { SameSettings self.old self.new }
-        ensures ticks { TicksOn (world_of self.old) self.old.ticks (world_of self.new) self.new.ticks }
-    {
-        let Some(event) = event else {
-            return Ok(());
-        };
-        match self.step(event, alloc) {
-            Ok(()) => Ok(()),
-            Err(fault) => {
-                if is_memory(&fault) {
-                    Err(fault)
-                } else {
-                    Ok(())
-                }
-            }
-        }
-    }
-
     /// So many events by chance, one after another: four words of the generator draw each, in the world as it then is. One
     /// that is refused is passed over.
     ///
@@ -101,5 +63,43 @@ impl World {
     {
         let mut generator = Lcg64Xsh32::new(number, 0);
         self.draw_events(&mut generator, count, alloc)
+    }
+
+    // The event that these words draw, if they draw one.
+    fn draw_event(&self, words: &Words) -> Option<WorldEvent>
+        ensures { result ≡ drawn words.now (world_of self.now) }
+    {
+        let slots = self.slots();
+        let place = chosen(words.router, slots.len())?;
+        let slot = &slots[place];
+        let config = slot.config();
+        drawn_at(
+            words,
+            config.router_id,
+            config.interfaces.len(),
+            slot.runs(),
+            self.datagrams().len(),
+        )
+    }
+
+    // Meets an event, where there is one: passes over a refusal, unless memory ran out.
+    fn meet(&mut self, event: Option<WorldEvent>, alloc: Global) -> Result<(), WorldFault>
+        ensures meets { Meets event self.old result self.new }
+        ensures same { SameSettings self.old self.new }
+        ensures ticks { TicksOn (world_of self.old) self.old.ticks (world_of self.new) self.new.ticks }
+    {
+        let Some(event) = event else {
+            return Ok(());
+        };
+        match self.step(event, alloc) {
+            Ok(()) => Ok(()),
+            Err(fault) => {
+                if is_memory(&fault) {
+                    Err(fault)
+                } else {
+                    Ok(())
+                }
+            }
+        }
     }
 }

@@ -17,20 +17,6 @@ pub struct Ticked {
     pub sent: usize,
 }
 
-// The tick that an event is at a router that runs.
-fn tick_at(slot: &Slot, event: &WorldEvent, sent: usize) -> Option<Ticked>
-    ensures some { IfSome result (λ t. (event.now ≡ Tick t.router) × (t.sent ≡ sent) × (is_some slot.now.running ≡ true)) }
-    ensures none { IfNone result ((r : RouterId) → event.now ≡ Tick r → is_some slot.now.running ≡ false) }
-{
-    match event {
-        WorldEvent::Tick { router } if slot.runs() => Some(Ticked {
-            router: *router,
-            sent,
-        }),
-        _ => None,
-    }
-}
-
 /// What an event comes to at a slot. A tick that its router takes is logged.
 pub(crate) fn step_slot(
     slot: &mut Slot,
@@ -55,5 +41,19 @@ pub(crate) fn step_slot(
             ticks.truncate(count);
             Err(fault)
         }
+    }
+}
+
+// The tick that an event is at a router that runs.
+fn tick_at(slot: &Slot, event: &WorldEvent, sent: usize) -> Option<Ticked>
+    ensures some { IfSome result (λ t. (event.now ≡ Tick t.router) × (t.sent ≡ sent) × (is_some slot.now.running ≡ true)) }
+    ensures none { IfNone result ((r : RouterId) → event.now ≡ Tick r → is_some slot.now.running ≡ false) }
+{
+    match event {
+        WorldEvent::Tick { router } if slot.runs() => Some(Ticked {
+            router: *router,
+            sent,
+        }),
+        _ => None,
     }
 }

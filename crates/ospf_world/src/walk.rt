@@ -38,57 +38,34 @@ pub(crate) enum Leg {
     Goes { next: RouterId, cost: u16 },
 }
 
-// The choice at a router: 0 where it is missing.
-fn choice_at(choices: &[u32], place: usize) -> u32
-    ensures { result ≡ choice_of (drop place choices.now) }
-{
-    if place < choices.len() {
-        choices[place]
-    } else {
-        0
-    }
-}
-
-// The hop of a route that a choice takes.
-fn hop_in(route: &Route, choice: u32) -> NextHop
-    requires { 0 < length route.now.hops }
-    ensures { slice_get route.now.hops (choice % length route.now.hops) ≡ Some result }
-{
-    let hops = route.hops.as_slice();
-    hops[choice as usize % hops.len()]
-}
-
-// A leg over a hop's link to the next router.
-fn crossing(router: &Router, at: RouterId, hop: &NextHop, next: RouterId) -> Leg
-    requires next { IsNext hop.now next }
-    requires linked { (metric : ℕ) × HasLinkFor (advertisements_of (listing_of router.now.area)) at hop.now metric }
-    ensures { (paid : ℕ) → LegsOver (advertisements_of (listing_of router.now.area)) at hop.now paid result }
-{
-    let Some(listing) = router.kept_listing() else {
-        unreachable!()
-    };
-    match link_cost(listing, at, hop) {
-        Some(cost) => Leg::Goes { next, cost },
-        None => unreachable!(),
-    }
-}
-
-// What a hop does, at the cost of its route.
-fn leg_over(router: &Router, at: RouterId, hop: &NextHop, cost: u64) -> Leg
-    requires { hop.now ≢ hops.Attached → (metric : ℕ) × HasLinkFor (advertisements_of (listing_of router.now.area)) at hop.now metric }
-    ensures { LegsOver (advertisements_of (listing_of router.now.area)) at hop.now cost result }
-{
-    match hop {
-        NextHop::Attached => Leg::Ends {
-            cost,
-            end: WalkEnd::Arrived,
-        },
-        NextHop::PointToPoint { router: next, .. } => crossing(router, at, hop, *next),
-        NextHop::Lan { router: next, .. } => crossing(router, at, hop, *next),
-    }
-}
-
 impl World {
+    /// The walk to an address from a router: at each router the hop at the choice modulo the number of hops of the best route is
+    /// taken, the first where choices are missing, and its link's cost is paid; where the network is the router's own the route's
+    /// cost is paid, and the walk has arrived. It may have as many hops as the world has routers. Nothing is changed, and memory is
+    /// taken for the list of routers alone.
+    ///
+    /// `NoRouter` where the world has no such router, `Memory` where memory runs out.
+    pub fn walk(
+        &self,
+        from: RouterId,
+        address: Addr,
+        choices: &[u32],
+        alloc: Global,
+    ) -> Result<Walk, WorldFault>
+        ensures walks { Walks (world_of self.now) from address.0 choices.now result }
+        ensures never_turns { (x : Running) → NoCollision self.now.logs.issued → router_at (world_of self.now) from ≡ Some x → AllListedAgree (world_of self.now) x → IfOk result (λ walk. walk.end ≢ ends.Turns) }
+    {
+        headline();
+        self.reached();
+        if !self.has_router(from) {
+            return Err(WorldFault::NoRouter);
+        }
+        match self.walk_from(from, address, choices, alloc) {
+            Ok(walk) => Ok(walk),
+            Err(AllocError) => Err(WorldFault::Memory { stopped: false }),
+        }
+    }
+
     // Whether the world has a router, running or not.
     fn has_router(&self, router: RouterId) -> bool
         ensures { result ≡ is_some (member (world_of self.now) router) }
@@ -97,28 +74,6 @@ impl World {
             Ok(_) => true,
             Err(fault) => !is_no_router(fault),
         }
-    }
-
-    // What a walk does at a router.
-    fn leg(&self, at: RouterId, address: Addr, choice: u32) -> Leg
-        ensures { IsLeg (world_of self.now) address.0 choice at result }
-    {
-        headline();
-        self.reached();
-        let Ok(router) = self.router(at) else {
-            return Leg::Ends {
-                cost: 0,
-                end: WalkEnd::NotRunning,
-            };
-        };
-        let Some(route) = router.table().lookup(address) else {
-            return Leg::Ends {
-                cost: 0,
-                end: WalkEnd::NoRoute,
-            };
-        };
-        let hop = hop_in(route, choice);
-        leg_over(router, at, &hop, route.cost)
     }
 
     // The walk, from a router of the world.
@@ -159,31 +114,26 @@ impl World {
         })
     }
 
-    /// The walk to an address from a router: at each router the hop at the choice modulo the number of hops of the best route is
-    /// taken, the first where choices are missing, and its link's cost is paid; where the network is the router's own the route's
-    /// cost is paid, and the walk has arrived. It may have as many hops as the world has routers. Nothing is changed, and memory is
-    /// taken for the list of routers alone.
-    ///
-    /// `NoRouter` where the world has no such router, `Memory` where memory runs out.
-    pub fn walk(
-        &self,
-        from: RouterId,
-        address: Addr,
-        choices: &[u32],
-        alloc: Global,
-    ) -> Result<Walk, WorldFault>
-        ensures walks { Walks (world_of self.now) from address.0 choices.now result }
-        ensures never_turns { (x : Running) → NoCollision self.now.logs.issued → router_at (world_of self.now) from ≡ Some x → AllListedAgree (world_of self.now) x → IfOk result (λ walk. walk.end ≢ ends.Turns) }
+    // What a walk does at a router.
+    fn leg(&self, at: RouterId, address: Addr, choice: u32) -> Leg
+        ensures { IsLeg (world_of self.now) address.0 choice at result }
     {
         headline();
         self.reached();
-        if !self.has_router(from) {
-            return Err(WorldFault::NoRouter);
-        }
-        match self.walk_from(from, address, choices, alloc) {
-            Ok(walk) => Ok(walk),
-            Err(AllocError) => Err(WorldFault::Memory { stopped: false }),
-        }
+        let Ok(router) = self.router(at) else {
+            return Leg::Ends {
+                cost: 0,
+                end: WalkEnd::NotRunning,
+            };
+        };
+        let Some(route) = router.table().lookup(address) else {
+            return Leg::Ends {
+                cost: 0,
+                end: WalkEnd::NoRoute,
+            };
+        };
+        let hop = hop_in(route, choice);
+        leg_over(router, at, &hop, route.cost)
     }
 }
 
@@ -192,4 +142,54 @@ fn is_no_router(fault: WorldFault) -> bool
     ensures { IsTrue result ↔ (fault ≡ WorldFault.NoRouter) }
 {
     matches!(fault, WorldFault::NoRouter)
+}
+
+// The choice at a router: 0 where it is missing.
+fn choice_at(choices: &[u32], place: usize) -> u32
+    ensures { result ≡ choice_of (drop place choices.now) }
+{
+    if place < choices.len() {
+        choices[place]
+    } else {
+        0
+    }
+}
+
+// The hop of a route that a choice takes.
+fn hop_in(route: &Route, choice: u32) -> NextHop
+    requires { 0 < length route.now.hops }
+    ensures { slice_get route.now.hops (choice % length route.now.hops) ≡ Some result }
+{
+    let hops = route.hops.as_slice();
+    hops[choice as usize % hops.len()]
+}
+
+// What a hop does, at the cost of its route.
+fn leg_over(router: &Router, at: RouterId, hop: &NextHop, cost: u64) -> Leg
+    requires { hop.now ≢ hops.Attached → (metric : ℕ) × HasLinkFor (advertisements_of (listing_of router.now.area)) at hop.now metric }
+    ensures { LegsOver (advertisements_of (listing_of router.now.area)) at hop.now cost result }
+{
+    match hop {
+        NextHop::Attached => Leg::Ends {
+            cost,
+            end: WalkEnd::Arrived,
+        },
+        NextHop::PointToPoint { router: next, .. } => crossing(router, at, hop, *next),
+        NextHop::Lan { router: next, .. } => crossing(router, at, hop, *next),
+    }
+}
+
+// A leg over a hop's link to the next router.
+fn crossing(router: &Router, at: RouterId, hop: &NextHop, next: RouterId) -> Leg
+    requires next { IsNext hop.now next }
+    requires linked { (metric : ℕ) × HasLinkFor (advertisements_of (listing_of router.now.area)) at hop.now metric }
+    ensures { (paid : ℕ) → LegsOver (advertisements_of (listing_of router.now.area)) at hop.now paid result }
+{
+    let Some(listing) = router.kept_listing() else {
+        unreachable!()
+    };
+    match link_cost(listing, at, hop) {
+        Some(cost) => Leg::Goes { next, cost },
+        None => unreachable!(),
+    }
 }

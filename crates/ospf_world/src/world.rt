@@ -41,13 +41,6 @@ impl Model for World {
     ghost invariant = { λ w. IsReached is_dropped (world_of w.parts) };
 }
 
-/// Whether memory ran out.
-pub(crate) fn is_memory(fault: &WorldFault) -> bool
-    ensures { result ≡ is_memory fault.now }
-{
-    matches!(fault, WorldFault::Memory { .. })
-}
-
 impl World {
     /// A world of routers so configured. Nothing runs.
     ///
@@ -174,4 +167,11 @@ impl World {
     {
         self.parts.pass_one();
     }
+}
+
+/// Whether memory ran out.
+pub(crate) fn is_memory(fault: &WorldFault) -> bool
+    ensures { result ≡ is_memory fault.now }
+{
+    matches!(fault, WorldFault::Memory { .. })
 }
