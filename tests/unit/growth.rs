@@ -1,7 +1,8 @@
 //! Shortest paths that are kept while edges come and go, beside searches of all edges.
 
 use ospf_base::{Addr, RouterId};
-use ospf_graph::{Edge, KeptPaths, NextHop, ShortestPaths, Start, Vertex};
+use ospf_graph::{Edge, NextHop, ShortestPaths, Start, Vertex};
+use ospf_incremental::KeptPaths;
 use ospf_graph::{distance_at, shortest_paths, starts_at};
 use rand_core::utils::NextWord;
 use rand_pcg::Pcg32;

@@ -1,5 +1,5 @@
 -- The candidates that a vertex brings.
-use Rattle.std.proofs.Common.{◌≡◌, ◌+◌, ◌<◌, ◌≤◌, ◌⊎◌, ℕ, zero, true, false, eqb, Option, Some, List, [], ◌∷◌, ◌++◌, length, take, drop, get_or, refl, sym, ◌∙◌, ap, subst, inl, inr, arith, append-nil, length-append, eqb-true, eq-eqb}
+use Rattle.std.proofs.Common.{◌≡◌, ◌+◌, ◌<◌, ◌≤◌, ◌⊎◌, ℕ, zero, true, false, eqb, Option, Some, List, [], ◌∷◌, ◌++◌, length, take, drop, get_or, refl, sym, ◌∙◌, ap, subst, inl, inr, arith, append-nil, length-append, eqb-true, eq-eqb, ◌≢◌}
 use Rattle.std.specs.List.{Contains}
 use Rattle.std.proofs.lemmas.List.{take_more, take-append-drop}
 use Rattle.std.specs.List.Sorted.{IsPermutation}
@@ -209,3 +209,11 @@ pub candidates_kept : (v : Vertex) (d : ℕ) (edges : List Edge) (i : ℕ) (x : 
 candidates_kept v d edges i x lt other =
     let more = candidates_from-more v d edges i x lt in
     rw (more, other, append-nil) refl
+
+-- two vertices are one, or are not
+pub same_or_other : (v w : Vertex) → (v ≡ w) ⊎ (v ≢ w)
+same_or_other v w =
+    elim (bool_cases (vertex_eq v w)) [
+      | inl t ↦ inl (vertex_eq-same v w t)
+      | inr f ↦ inr (λ same. (let t : vertex_eq v w ≡ true = rw same (vertex_eq-refl w) in cc))
+    ]

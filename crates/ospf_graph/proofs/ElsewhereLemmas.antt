@@ -9,7 +9,7 @@ use Rattle.ospf_graph.specs.declared.graph.Vertex.TheVariants.{Router, Network}
 use Rattle.ospf_graph.specs.Advertisements.{Advertisement, HasLink, IsAddressOn, IsAttached, router_lsa, network_lsa}
 use Rattle.ospf_graph.specs.Elsewhere.{AreSameBut, EdgesCome, EdgesStay, ElsewhereLaw, IsElsewhere, Touches}
 use Rattle.ospf_graph.specs.Graph.{IsEdge, IsEdgeBetween}
-use Rattle.ospf_graph.proofs.GrowthLemmas.{same_or_other}
+use Rattle.ospf_graph.proofs.CandidateLemmas.{same_or_other}
 
 turned : (v : Vertex) (A B : List Advertisement) → AreSameBut v A B → AreSameBut v B A
 turned v A B same a other = ((same a other).1, (same a other).0)

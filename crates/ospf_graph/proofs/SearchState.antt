@@ -22,7 +22,7 @@ use Rattle.ospf_graph.specs.Search.{candidate_rank, candidates_from, vertex_eq, 
 use Rattle.ospf_graph.proofs.ListLemmas.{bool_cases, member_cases, member_later, member_head}
 use Rattle.ospf_graph.proofs.CandidateLemmas.{candidates_from-is, candidates_from-has, code_injective, vertex_eq-same, vertex_eq-refl}
 use Rattle.ospf_graph.proofs.TreeLemmas.{IsTree-same, IsTree-map}
-use Rattle.ospf_graph.proofs.Search.{IsPassed, IsSearch, absorbed, finished, raised, rank_le, same_waits, settled}
+use Rattle.ospf_graph.proofs.SearchLemmas.{IsPassed, IsSearch, absorbed, finished, raised, rank_le, same_waits, settled}
 
 abbrev pub IsSearchIn : List Edge → Vertex → List Settled → List VertexStart → List Candidate → ℕ → Type 0
 IsSearchIn edges root s b c bound = IsSearch (Contains edges) root (AtIn s) (StartsIn b) (WaitsIn c) bound

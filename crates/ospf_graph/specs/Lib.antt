@@ -6,12 +6,10 @@ pub mod Walk
 pub mod SameGraph
 pub mod Tree
 pub mod Search
-pub mod Growth
-pub mod Shrinking
-pub mod Kept
 pub mod Elsewhere
 pub mod Waiting
 pub mod Reached
 pub mod Places
 pub mod Pairs
 pub mod Text
+pub mod Paths

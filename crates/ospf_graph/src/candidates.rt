@@ -21,7 +21,7 @@ pub struct Candidate {
 
 /// The candidates that wait, and how often they were looked at.
 #[derive(Drop)]
-pub(crate) struct Candidates {
+pub struct Candidates {
     heap: BinaryHeap<Reverse<Candidate>>,
     looks: u64,
 }
@@ -40,7 +40,7 @@ impl Model for Candidates {
 }
 
 impl Candidates {
-    pub(crate) fn new(alloc: Global) -> Candidates
+    pub fn new(alloc: Global) -> Candidates
         ensures { result ≡ record { list = []; looks = 0 } }
     {
         Candidates {
@@ -49,22 +49,15 @@ impl Candidates {
         }
     }
 
-    // Counts a look at the candidates, as far as the number goes. Each push and each take is one.
-    fn look(&mut self)
-        ensures { self.new ≡ record { list = self.old.list; looks = one_more self.old.looks } }
-    {
-        self.looks = self.looks.saturating_add(1);
-    }
-
     /// How often the candidates were looked at.
-    pub(crate) fn looks(&self) -> u64
+    pub fn looks(&self) -> u64
         ensures { result ≡ self.now.looks }
     {
         self.looks
     }
 
     /// Adds a candidate. `AllocError` where memory runs out.
-    pub(crate) fn push(&mut self, candidate: Candidate) -> Result<(), AllocError>
+    pub fn push(&mut self, candidate: Candidate) -> Result<(), AllocError>
         ensures added { OnOk result (IsPermutation (candidate ∷ self.old.list) self.new.list) }
         ensures looks { self.new.looks ≡ one_more self.old.looks }
     {
@@ -74,7 +67,7 @@ impl Candidates {
     }
 
     /// Takes a candidate of least rank.
-    pub(crate) fn take_least(&mut self) -> Option<Candidate>
+    pub fn take_least(&mut self) -> Option<Candidate>
         ensures none { IfNone result (self.old.list ≡ []) }
         ensures taken { IfSome result (λ c. IsPermutation self.old.list (c ∷ self.new.list)) }
         ensures least { IfSome result (λ c. All (λ d. candidate_rank c ≤ candidate_rank d) self.new.list) }
@@ -85,5 +78,12 @@ impl Candidates {
             Some(least) => Some(least.0),
             None => None,
         }
+    }
+
+    // Counts a look at the candidates, as far as the number goes. Each push and each take is one.
+    fn look(&mut self)
+        ensures { self.new ≡ record { list = self.old.list; looks = one_more self.old.looks } }
+    {
+        self.looks = self.looks.saturating_add(1);
     }
 }

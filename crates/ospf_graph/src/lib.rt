@@ -4,9 +4,7 @@
 
 mod candidates;
 mod graph;
-mod grow;
 mod hop;
-mod kept;
 mod laws;
 mod lookups;
 mod pairs;
@@ -14,13 +12,16 @@ mod paths;
 mod reached;
 mod route;
 mod show;
-mod shrink;
 
+pub use crate::candidates::{Candidate, Candidates};
 pub use crate::graph::{Edge, Start, Vertex, vertex_order};
 pub use crate::hop::NextHop;
-pub use crate::kept::KeptPaths;
 pub use crate::laws::{edges_elsewhere_stay, one_table, walk_law};
 pub use crate::lookups::{distance_at, starts_at};
 pub use crate::pairs::{Pairs, pair_order};
-pub use crate::paths::{Settled, ShortestPaths, VertexStart, is_same, shortest_paths};
+pub use crate::paths::{
+    Searched, Settled, ShortestPaths, VertexStart, edges_from, extended, is_same, listed, search,
+    shortest_paths, sorted_edges,
+};
+pub use crate::reached::{Reached, bring, place_of, reach};
 pub use crate::route::{Hops, Route};

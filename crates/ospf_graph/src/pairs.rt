@@ -8,13 +8,6 @@ use std::marker::Model;
 
 const SECOND_NUMBERS: u64 = 0x1_0000_0000;
 
-/// The place of a pair in the order of pairs: by the first number, then by the second.
-pub fn pair_order(first: u32, second: u32) -> u64
-    ensures { result ≡ pair_code first second }
-{
-    first as u64 * SECOND_NUMBERS + second as u64
-}
-
 /// Pairs of numbers, each by its place in the order of pairs.
 ///
 /// A search looks first behind the place of the last one, since pairs are mostly asked for in order.
@@ -69,4 +62,11 @@ impl Pairs {
             }
         }
     }
+}
+
+/// The place of a pair in the order of pairs: by the first number, then by the second.
+pub fn pair_order(first: u32, second: u32) -> u64
+    ensures { result ≡ pair_code first second }
+{
+    first as u64 * SECOND_NUMBERS + second as u64
 }

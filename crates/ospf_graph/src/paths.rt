@@ -6,7 +6,7 @@ ghost use Rattle.std.specs.HashMap.{get};
 ghost use Rattle.ospf_graph.specs.declared.graph.Edge.{Edge};
 ghost use Rattle.ospf_graph.specs.declared.paths.Settled.{Settled};
 ghost use Rattle.ospf_graph.specs.declared.graph.Start.TheVariants.{Here};
-ghost use Rattle.ospf_graph.specs.Kept.{AreSettledInOrder, AreStartsInOrder};
+ghost use Rattle.ospf_graph.specs.Paths.{AreSettledInOrder, AreStartsInOrder};
 ghost use Rattle.ospf_graph.specs.Reached.{ArePlaces, settled_of, starts_at, starts_of};
 ghost use Rattle.ospf_graph.specs.Tree.{extend, AreLeast, IsTree};
 ghost use Rattle.ospf_graph.specs.Search.{AddsStart, AtIn, BringsStarts, IsFit, Joins, StartsIn, Takes, vertex_code, vertex_id, AreEdgesInOrder, HaveSameFrom, candidates_from, vertex_eq};
@@ -33,6 +33,23 @@ pub struct VertexStart {
     pub start: Start,
 }
 
+// What a search has reached, and how often it looked at the candidates.
+#[derive(Drop)]
+pub struct Searched {
+    pub reached: Vec<Reached>,
+    pub places: HashMap<u64, usize>,
+    looks: u64,
+}
+
+/// The vertices that a root reaches, each with its distance, the starts of their least paths, and how often
+/// the search looked at a candidate: put one among those that wait, or asked for the next.
+#[derive(Debug, Drop)]
+pub struct ShortestPaths {
+    pub settled: Vec<Settled>,
+    pub starts: Vec<VertexStart>,
+    pub looks: u64,
+}
+
 /// Whether two vertices are one.
 pub fn is_same(a: Vertex, b: Vertex) -> bool
     ensures value { result ≡ vertex_eq a b }
@@ -47,7 +64,7 @@ pub fn is_same(a: Vertex, b: Vertex) -> bool
 }
 
 // The edges from a vertex, of edges in the order of the vertices that they leave.
-pub(crate) fn edges_from(edges: &[Edge], vertex: Vertex) -> &[Edge]
+pub fn edges_from(edges: &[Edge], vertex: Vertex) -> &[Edge]
     requires { AreEdgesInOrder edges.now }
     ensures same { HaveSameFrom vertex edges.now result.now }
     ensures part { (e : Edge) → Contains result.now e → Contains edges.now e }
@@ -58,78 +75,8 @@ pub(crate) fn edges_from(edges: &[Edge], vertex: Vertex) -> &[Edge]
     if from <= to { &edges[from..to] } else { &[] }
 }
 
-// Whether a nearer way to a vertex is noted.
-fn is_undercut(nearest: &HashMap<u64, u64>, end: u64, distance: u64) -> bool
-    ensures { IsTrue result ↔ ((near : ℕ) × (get nat_eq nearest.now end ≡ Some near) × (near < distance)) }
-{
-    match nearest.get(&end) {
-        Some(near) => *near < distance,
-        None => false,
-    }
-}
-
-// Adds a candidate and notes its distance, unless a nearer way to its end is noted.
-fn offer(
-    candidate: Candidate,
-    nearest: &mut HashMap<u64, u64>,
-    candidates: &mut Candidates,
-) -> Result<(), AllocError>
-    ensures joins { OnOk result (Joins (candidate ∷ []) (get nat_eq nearest.old) (get nat_eq nearest.new) candidates.old.list candidates.new.list) }
-    ensures looks { OnOk result (candidates.new.looks + length candidates.old.list ≤ candidates.old.looks + length candidates.new.list) }
-{
-    let end = vertex_order(candidate.edge.to);
-    if is_undercut(nearest, end, candidate.distance) {
-        return Ok(());
-    }
-    nearest.insert(end, candidate.distance)?;
-    candidates.push(candidate)?;
-    Ok(())
-}
-
-// Offers those of some edges that leave a vertex at this distance.
-fn add_each(
-    some: &[Edge],
-    vertex: Vertex,
-    distance: u64,
-    nearest: &mut HashMap<u64, u64>,
-    candidates: &mut Candidates,
-) -> Result<(), AllocError>
-    requires { distance < 2 ^ 63 }
-    ensures joins { OnOk result (Joins (candidates_from vertex distance some.now) (get nat_eq nearest.old) (get nat_eq nearest.new) candidates.old.list candidates.new.list) }
-    ensures looks { OnOk result (candidates.new.looks + length candidates.old.list ≤ candidates.old.looks + length candidates.new.list) }
-{
-    for edge in some {
-        if is_same(edge.from, vertex) {
-            let candidate = Candidate {
-                distance: distance + edge.cost as u64,
-                edge: *edge,
-            };
-            offer(candidate, nearest, candidates)?;
-        }
-    }
-    Ok(())
-}
-
-// Offers the edges from a vertex at this distance.
-fn add_candidates(
-    edges: &[Edge],
-    vertex: Vertex,
-    distance: u64,
-    nearest: &mut HashMap<u64, u64>,
-    candidates: &mut Candidates,
-) -> Result<(), AllocError>
-    requires near { distance < 2 ^ 63 }
-    requires in_order { AreEdgesInOrder edges.now }
-    ensures joins { OnOk result (Joins (candidates_from vertex distance edges.now) (get nat_eq nearest.old) (get nat_eq nearest.new) candidates.old.list candidates.new.list) }
-    ensures looks { OnOk result (candidates.new.looks + length candidates.old.list ≤ candidates.old.looks + length candidates.new.list) }
-{
-    let some = edges_from(edges, vertex);
-    add_each(some, vertex, distance, nearest, candidates)?;
-    Ok(())
-}
-
 // A path's start, one edge further.
-pub(crate) fn extended(start: Start, to: Vertex, link_data: u32) -> Start
+pub fn extended(start: Start, to: Vertex, link_data: u32) -> Start
     ensures { result ≡ extend start to link_data }
 {
     match (start, to) {
@@ -148,125 +95,8 @@ pub(crate) fn extended(start: Start, to: Vertex, link_data: u32) -> Start
     }
 }
 
-// Takes a candidate: its vertex is reached, if it is new, and gets the starts that come over the candidate's
-// edge, if no shorter path reached it.
-fn take(
-    alloc: Global,
-    edges: &[Edge],
-    candidate: Candidate,
-    reached: &mut Vec<Reached>,
-    places: &mut HashMap<u64, usize>,
-    nearest: &mut HashMap<u64, u64>,
-    candidates: &mut Candidates,
-) -> Result<(), AllocError>
-    requires near { candidate.distance < 2 ^ 63 }
-    requires in_order { AreEdgesInOrder edges.now }
-    requires places { ArePlaces (get nat_eq places.old) reached.old.items }
-    ensures taken { OnOk result (Takes candidate edges.now (settled_of reached.old.items) (settled_of reached.new.items) (starts_of reached.old.items) (starts_of reached.new.items) (get nat_eq nearest.old) (get nat_eq nearest.new) candidates.old.list candidates.new.list) }
-    ensures places { OnOk result (ArePlaces (get nat_eq places.new) reached.new.items) }
-    ensures looks { OnOk result (candidates.new.looks + length candidates.old.list ≤ candidates.old.looks + length candidates.new.list) }
-{
-    let edge = candidate.edge;
-    match place_of(places, edge.to) {
-        None => {
-            let to = reached.len();
-            reach(alloc, reached, places, edge.to, candidate.distance)?;
-            add_candidates(edges, edge.to, candidate.distance, nearest, candidates)?;
-            bring(alloc, reached, places, edge, to)?;
-            Ok(())
-        }
-        Some(to) => {
-            if reached[to].distance == candidate.distance {
-                bring(alloc, reached, places, edge, to)?;
-            }
-            Ok(())
-        }
-    }
-}
-
-// Reaches the root.
-fn reach_root(
-    alloc: Global,
-    reached: &mut Vec<Reached>,
-    places: &mut HashMap<u64, usize>,
-    root: Vertex,
-) -> Result<(), AllocError>
-    requires empty { reached.old.items ≡ [] }
-    requires no_places { (q : ℕ) → get nat_eq places.old q ≡ None }
-    ensures settled { OnOk result (settled_of reached.new.items ≡ record { vertex = root; distance = 0 } ∷ []) }
-    ensures starts { OnOk result (starts_of reached.new.items ≡ record { vertex = root; start = Here } ∷ []) }
-    ensures places { OnOk result (ArePlaces (get nat_eq places.new) reached.new.items) }
-{
-    places.insert(vertex_order(root), 0)?;
-    reached.push(Reached {
-        vertex: root,
-        distance: 0,
-        starts: vec![in alloc; Start::Here]?,
-        in_order: 1,
-    })?;
-    Ok(())
-}
-
-// What is reached, with the distances.
-fn settled_list(alloc: Global, reached: &[Reached]) -> Result<Vec<Settled>, AllocError>
-    ensures { IfOk result (λ settled. settled.items ≡ settled_of reached.now) }
-{
-    let mut settled = Vec::with_capacity(alloc, reached.len())?;
-    for one in reached {
-        settled.push(Settled {
-            vertex: one.vertex,
-            distance: one.distance,
-        })?;
-    }
-    Ok(settled)
-}
-
-// Adds the starts of a vertex.
-fn push_starts(
-    vertex: Vertex,
-    some: &[Start],
-    starts: &mut Vec<VertexStart>,
-) -> Result<(), AllocError>
-    ensures { OnOk result (starts.new.items ≡ starts.old.items ++ starts_at vertex some.now) }
-{
-    for start in some {
-        starts.push(VertexStart {
-            vertex,
-            start: *start,
-        })?;
-    }
-    Ok(())
-}
-
-// The starts of what is reached.
-fn starts_list(alloc: Global, reached: &[Reached]) -> Result<Vec<VertexStart>, AllocError>
-    ensures { IfOk result (λ starts. starts.items ≡ starts_of reached.now) }
-{
-    let mut starts = Vec::new(alloc);
-    for one in reached {
-        push_starts(one.vertex, &one.starts, &mut starts)?;
-    }
-    Ok(starts)
-}
-
-// Puts what is reached into the order of vertices.
-fn sort_settled(settled: &mut Vec<Settled>)
-    ensures same { IsPermutation settled.old.items settled.new.items }
-    ensures in_order { IsNonDecreasingBy (λ s. vertex_code s.vertex) settled.new.items }
-{
-    settled.sort_unstable_by_key(|s| vertex_order(s.vertex));
-}
-
-// Puts starts into the order of their vertices.
-fn sort_starts(starts: &mut Vec<VertexStart>)
-    ensures same { IsPermutation starts.old.items starts.new.items }
-    ensures in_order { IsNonDecreasingBy (λ b. vertex_code b.vertex) starts.new.items }
-{
-    starts.sort_unstable_by_key(|b| vertex_order(b.vertex));
-}
-
 // The edges in the order of the vertices that they leave, in memory of their own.
-pub(crate) fn sorted_edges(alloc: Global, edges: &[Edge]) -> Result<Vec<Edge>, AllocError>
+pub fn sorted_edges(alloc: Global, edges: &[Edge]) -> Result<Vec<Edge>, AllocError>
     ensures same { IfOk result (λ sorted. IsPermutation edges.now sorted.items) }
     ensures in_order { IfOk result (λ sorted. AreEdgesInOrder sorted.items) }
 {
@@ -275,16 +105,8 @@ pub(crate) fn sorted_edges(alloc: Global, edges: &[Edge]) -> Result<Vec<Edge>, A
     Ok(sorted)
 }
 
-// What a search has reached, and how often it looked at the candidates.
-#[derive(Drop)]
-pub(crate) struct Searched {
-    pub(crate) reached: Vec<Reached>,
-    pub(crate) places: HashMap<u64, usize>,
-    looks: u64,
-}
-
 // The search from a root over edges in the order of the vertices that they leave.
-pub(crate) fn search(alloc: Global, edges: &[Edge], root: Vertex) -> Result<Searched, AllocError>
+pub fn search(alloc: Global, edges: &[Edge], root: Vertex) -> Result<Searched, AllocError>
     requires fit { IsFit edges.now }
     requires root_fits { vertex_id root < 2 ^ 32 }
     requires in_order { AreEdgesInOrder edges.now }
@@ -319,21 +141,8 @@ pub(crate) fn search(alloc: Global, edges: &[Edge], root: Vertex) -> Result<Sear
     })
 }
 
-/// The vertices that a root reaches, each with its distance, the starts of their least paths, and how often
-/// the search looked at a candidate: put one among those that wait, or asked for the next.
-#[derive(Debug, Drop)]
-pub struct ShortestPaths {
-    pub settled: Vec<Settled>,
-    pub starts: Vec<VertexStart>,
-    pub looks: u64,
-}
-
 /// What is reached, in the order of vertices, and how often the search looked at a candidate.
-pub(crate) fn listed(
-    alloc: Global,
-    reached: &[Reached],
-    looks: u64,
-) -> Result<ShortestPaths, AllocError>
+pub fn listed(alloc: Global, reached: &[Reached], looks: u64) -> Result<ShortestPaths, AllocError>
     ensures settled { IfOk result (λ t. IsPermutation (settled_of reached.now) t.settled.items) }
     ensures starts { IfOk result (λ t. IsPermutation (starts_of reached.now) t.starts.items) }
     ensures settled_in_order { IfOk result (λ t. AreSettledInOrder t.settled.items) }
@@ -373,4 +182,191 @@ pub fn shortest_paths(
     let found = search(alloc, &sorted, root)?;
     let paths = listed(alloc, &found.reached, found.looks)?;
     Ok(paths)
+}
+
+// Reaches the root.
+fn reach_root(
+    alloc: Global,
+    reached: &mut Vec<Reached>,
+    places: &mut HashMap<u64, usize>,
+    root: Vertex,
+) -> Result<(), AllocError>
+    requires empty { reached.old.items ≡ [] }
+    requires no_places { (q : ℕ) → get nat_eq places.old q ≡ None }
+    ensures settled { OnOk result (settled_of reached.new.items ≡ record { vertex = root; distance = 0 } ∷ []) }
+    ensures starts { OnOk result (starts_of reached.new.items ≡ record { vertex = root; start = Here } ∷ []) }
+    ensures places { OnOk result (ArePlaces (get nat_eq places.new) reached.new.items) }
+{
+    places.insert(vertex_order(root), 0)?;
+    reached.push(Reached {
+        vertex: root,
+        distance: 0,
+        starts: vec![in alloc; Start::Here]?,
+        in_order: 1,
+    })?;
+    Ok(())
+}
+
+// Offers the edges from a vertex at this distance.
+fn add_candidates(
+    edges: &[Edge],
+    vertex: Vertex,
+    distance: u64,
+    nearest: &mut HashMap<u64, u64>,
+    candidates: &mut Candidates,
+) -> Result<(), AllocError>
+    requires near { distance < 2 ^ 63 }
+    requires in_order { AreEdgesInOrder edges.now }
+    ensures joins { OnOk result (Joins (candidates_from vertex distance edges.now) (get nat_eq nearest.old) (get nat_eq nearest.new) candidates.old.list candidates.new.list) }
+    ensures looks { OnOk result (candidates.new.looks + length candidates.old.list ≤ candidates.old.looks + length candidates.new.list) }
+{
+    let some = edges_from(edges, vertex);
+    add_each(some, vertex, distance, nearest, candidates)?;
+    Ok(())
+}
+
+// Offers those of some edges that leave a vertex at this distance.
+fn add_each(
+    some: &[Edge],
+    vertex: Vertex,
+    distance: u64,
+    nearest: &mut HashMap<u64, u64>,
+    candidates: &mut Candidates,
+) -> Result<(), AllocError>
+    requires { distance < 2 ^ 63 }
+    ensures joins { OnOk result (Joins (candidates_from vertex distance some.now) (get nat_eq nearest.old) (get nat_eq nearest.new) candidates.old.list candidates.new.list) }
+    ensures looks { OnOk result (candidates.new.looks + length candidates.old.list ≤ candidates.old.looks + length candidates.new.list) }
+{
+    for edge in some {
+        if is_same(edge.from, vertex) {
+            let candidate = Candidate {
+                distance: distance + edge.cost as u64,
+                edge: *edge,
+            };
+            offer(candidate, nearest, candidates)?;
+        }
+    }
+    Ok(())
+}
+
+// Adds a candidate and notes its distance, unless a nearer way to its end is noted.
+fn offer(
+    candidate: Candidate,
+    nearest: &mut HashMap<u64, u64>,
+    candidates: &mut Candidates,
+) -> Result<(), AllocError>
+    ensures joins { OnOk result (Joins (candidate ∷ []) (get nat_eq nearest.old) (get nat_eq nearest.new) candidates.old.list candidates.new.list) }
+    ensures looks { OnOk result (candidates.new.looks + length candidates.old.list ≤ candidates.old.looks + length candidates.new.list) }
+{
+    let end = vertex_order(candidate.edge.to);
+    if is_undercut(nearest, end, candidate.distance) {
+        return Ok(());
+    }
+    nearest.insert(end, candidate.distance)?;
+    candidates.push(candidate)?;
+    Ok(())
+}
+
+// Whether a nearer way to a vertex is noted.
+fn is_undercut(nearest: &HashMap<u64, u64>, end: u64, distance: u64) -> bool
+    ensures { IsTrue result ↔ ((near : ℕ) × (get nat_eq nearest.now end ≡ Some near) × (near < distance)) }
+{
+    match nearest.get(&end) {
+        Some(near) => *near < distance,
+        None => false,
+    }
+}
+
+// Takes a candidate: its vertex is reached, if it is new, and gets the starts that come over the candidate's
+// edge, if no shorter path reached it.
+fn take(
+    alloc: Global,
+    edges: &[Edge],
+    candidate: Candidate,
+    reached: &mut Vec<Reached>,
+    places: &mut HashMap<u64, usize>,
+    nearest: &mut HashMap<u64, u64>,
+    candidates: &mut Candidates,
+) -> Result<(), AllocError>
+    requires near { candidate.distance < 2 ^ 63 }
+    requires in_order { AreEdgesInOrder edges.now }
+    requires places { ArePlaces (get nat_eq places.old) reached.old.items }
+    ensures taken { OnOk result (Takes candidate edges.now (settled_of reached.old.items) (settled_of reached.new.items) (starts_of reached.old.items) (starts_of reached.new.items) (get nat_eq nearest.old) (get nat_eq nearest.new) candidates.old.list candidates.new.list) }
+    ensures places { OnOk result (ArePlaces (get nat_eq places.new) reached.new.items) }
+    ensures looks { OnOk result (candidates.new.looks + length candidates.old.list ≤ candidates.old.looks + length candidates.new.list) }
+{
+    let edge = candidate.edge;
+    match place_of(places, edge.to) {
+        None => {
+            let to = reached.len();
+            reach(alloc, reached, places, edge.to, candidate.distance)?;
+            add_candidates(edges, edge.to, candidate.distance, nearest, candidates)?;
+            bring(alloc, reached, places, edge, to)?;
+            Ok(())
+        }
+        Some(to) => {
+            if reached[to].distance == candidate.distance {
+                bring(alloc, reached, places, edge, to)?;
+            }
+            Ok(())
+        }
+    }
+}
+
+// What is reached, with the distances.
+fn settled_list(alloc: Global, reached: &[Reached]) -> Result<Vec<Settled>, AllocError>
+    ensures { IfOk result (λ settled. settled.items ≡ settled_of reached.now) }
+{
+    let mut settled = Vec::with_capacity(alloc, reached.len())?;
+    for one in reached {
+        settled.push(Settled {
+            vertex: one.vertex,
+            distance: one.distance,
+        })?;
+    }
+    Ok(settled)
+}
+
+// The starts of what is reached.
+fn starts_list(alloc: Global, reached: &[Reached]) -> Result<Vec<VertexStart>, AllocError>
+    ensures { IfOk result (λ starts. starts.items ≡ starts_of reached.now) }
+{
+    let mut starts = Vec::new(alloc);
+    for one in reached {
+        push_starts(one.vertex, &one.starts, &mut starts)?;
+    }
+    Ok(starts)
+}
+
+// Adds the starts of a vertex.
+fn push_starts(
+    vertex: Vertex,
+    some: &[Start],
+    starts: &mut Vec<VertexStart>,
+) -> Result<(), AllocError>
+    ensures { OnOk result (starts.new.items ≡ starts.old.items ++ starts_at vertex some.now) }
+{
+    for start in some {
+        starts.push(VertexStart {
+            vertex,
+            start: *start,
+        })?;
+    }
+    Ok(())
+}
+
+// Puts what is reached into the order of vertices.
+fn sort_settled(settled: &mut Vec<Settled>)
+    ensures same { IsPermutation settled.old.items settled.new.items }
+    ensures in_order { IsNonDecreasingBy (λ s. vertex_code s.vertex) settled.new.items }
+{
+    settled.sort_unstable_by_key(|s| vertex_order(s.vertex));
+}
+
+// Puts starts into the order of their vertices.
+fn sort_starts(starts: &mut Vec<VertexStart>)
+    ensures same { IsPermutation starts.old.items starts.new.items }
+    ensures in_order { IsNonDecreasingBy (λ b. vertex_code b.vertex) starts.new.items }
+{
+    starts.sort_unstable_by_key(|b| vertex_order(b.vertex));
 }

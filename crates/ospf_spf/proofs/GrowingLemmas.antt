@@ -17,7 +17,7 @@ use Rattle.ospf_edges.specs.declared.end.End.{End}
 use Rattle.ospf_graph.specs.Advertisements.{Advertisement, IsListed, IsNetwork, router_lsa, network_lsa}
 use Rattle.ospf_graph.specs.Elsewhere.{AreSameBut, vertex_of}
 use Rattle.ospf_graph.specs.Graph.{IsEdge}
-use Rattle.ospf_graph.specs.Kept.{ChangesEdges, IsSameBut, KeptTree}
+use Rattle.ospf_incremental.specs.Kept.{ChangesEdges, IsSameBut, KeptTree}
 use Rattle.ospf_graph.specs.Routes.{IsEnd}
 use Rattle.ospf_graph.specs.Search.{AtIn, StartsIn}
 use Rattle.ospf_graph.specs.Tree.{IsTree}
@@ -26,7 +26,7 @@ use Rattle.ospf_graph.specs.declared.graph.Start.{Start}
 use Rattle.ospf_graph.specs.declared.graph.Vertex.{Vertex}
 use Rattle.ospf_graph.specs.declared.graph.Vertex.TheVariants.{Router, Network}
 use Rattle.ospf_graph.proofs.ElsewhereLemmas.{edges_elsewhere, touching_or_not}
-use Rattle.ospf_graph.proofs.GrowthLemmas.{same_or_other}
+use Rattle.ospf_graph.proofs.CandidateLemmas.{same_or_other}
 use Rattle.ospf_graph.proofs.ListLemmas.{member_of_map, member_to_map}
 use Rattle.ospf_graph.proofs.TreeLemmas.{IsTree-map}
 use Rattle.ospf_spf.specs.Growing.{AreAlike, AreGone, AreServed, IsGrownOver, IsTurn, Keeps, growing}

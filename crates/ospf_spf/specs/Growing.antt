@@ -8,7 +8,7 @@ use Rattle.ospf_edges.specs.Near.{AreEdgesAt}
 use Rattle.ospf_graph.specs.Advertisements.{Advertisement, IsListed}
 use Rattle.ospf_graph.specs.Elsewhere.{AreSameBut}
 use Rattle.ospf_graph.specs.Graph.{IsEdge}
-use Rattle.ospf_graph.specs.Kept.{IsKeptTree, KeptTree}
+use Rattle.ospf_incremental.specs.Kept.{IsKeptTree, KeptTree}
 use Rattle.ospf_graph.specs.Routes.{IsEnd, IsTable}
 use Rattle.ospf_graph.specs.Search.{AtIn, IsFit, StartsIn}
 use Rattle.ospf_graph.specs.Tree.{IsTree}

@@ -1,5 +1,5 @@
 use Rattle.std.proofs.Common.{◌∙◌, List, subst, sym}
-use Rattle.ospf_graph.specs.Kept.{IsSameBut}
+use Rattle.ospf_incremental.specs.Kept.{IsSameBut}
 use Rattle.ospf_graph.specs.declared.graph.Vertex.{Vertex}
 use Rattle.ospf_spf.proofs.GrowingLemmas.{edges_turn, keeps}
 use Rattle.ospf_spf.proofs.growing.turned.Goals as goal

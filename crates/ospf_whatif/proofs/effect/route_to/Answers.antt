@@ -2,7 +2,7 @@ use Rattle.std.proofs.Common.{◌≡◌, rules, sym, subst}
 use Rattle.std.proofs.lemmas.List.Sorted.{answers_always}
 use Rattle.ospf_base.specs.Prefixes.{IsPrefixBefore}
 use Rattle.ospf_graph.specs.declared.route.Route.{Route}
-use Rattle.ospf_graph.proofs.Searched.{found_at, gap_at, not_there}
+use Rattle.ospf_graph.proofs.SearchedLemmas.{found_at, gap_at, not_there}
 use Rattle.ospf_spf.proofs.PrefixOrder.{prefix_cmp, prefixes_told}
 use Rattle.ospf_whatif.proofs.effect.route_to.Goals as goal
 

@@ -1,0 +1,6 @@
+pub mod GrowthLemmas
+pub mod GrowthSteps
+pub mod ShrinkLemmas
+pub mod ShrinkSteps
+pub mod KeptGrowth
+pub mod KeptShrink

@@ -1,0 +1,43 @@
+use Rattle.ospf_incremental.specs.Growth.{IsAt, HasEdge, HasStart}
+use Rattle.std.specs.List.{Contains}
+use Rattle.ospf_incremental.proofs.GrowthLemmas.{grown}
+use Rattle.ospf_incremental.proofs.GrowthSteps.{left_in, none_waits, spares_same, spares_then, taken_out, was_in}
+use Rattle.ospf_incremental.proofs.grow.settle.Goals as goal
+
+pub returns-in_default-clause-tree : goal.returns-in_default-clause-tree
+returns-in_default-clause-tree c h root g =
+    grown (Contains c.args.edges.now) root (IsAt c.loop.found.reached.items) (HasStart c.loop.found.reached.items) (HasEdge c.loop.waits.list) (c.loop.invariant.grows root g)
+    (none_waits c.loop.waits.list c.in_default.ensures.none)
+
+pub loop-preserved : goal.loop-preserved
+loop-preserved c =
+    record {
+      grows = λ root g.
+          c.in_ok-take_edge.ensures.pays c.if-not-branch.false root c.loop.waits.list (c.loop.invariant.grows root g)
+          (was_in c.in-Some.candidate c.loop.waits.list c.take_least.new.self.list c.in-Some.ensures.taken)
+          (taken_out c.in-Some.candidate c.loop.waits.list c.take_least.new.self.list c.in-Some.ensures.taken)
+          (left_in c.in-Some.candidate c.loop.waits.list c.take_least.new.self.list c.in-Some.ensures.taken);
+      near = c.in_ok-take_edge.ensures.near;
+      places = c.in_ok-take_edge.ensures.places;
+      spares = spares_then c.loop.changed.items c.take_edge.new.changed.items c.args.found.now.reached.items c.loop.found.reached.items c.take_edge.new.found.reached.items
+          c.in_ok-take_edge.ensures.changed c.loop.invariant.spares c.in_ok-take_edge.ensures.spares;
+      changed = λ v m. c.in_ok-take_edge.ensures.changed v (c.loop.invariant.changed v m);
+    }
+
+pub loop-init : goal.loop-init
+loop-init c =
+    record {
+      grows = λ root g. g;
+      near = c.requires.near;
+      places = c.requires.places;
+      spares = spares_same c.args.changed.now.items c.args.found.now.reached.items;
+      changed = λ v m. m;
+    }
+
+pub returns-then-not-branch-clause-spares : goal.returns-then-not-branch-clause-spares
+returns-then-not-branch-clause-spares c =
+    spares_then c.loop.changed.items c.take_edge.new.changed.items c.args.found.now.reached.items c.loop.found.reached.items c.take_edge.new.found.reached.items
+    c.in_ok-take_edge.ensures.changed c.loop.invariant.spares c.in_ok-take_edge.ensures.spares
+
+pub returns-then-not-branch-clause-changed : goal.returns-then-not-branch-clause-changed
+returns-then-not-branch-clause-changed c v m = c.in_ok-take_edge.ensures.changed v (c.loop.invariant.changed v m)

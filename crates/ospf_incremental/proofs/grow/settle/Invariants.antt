@@ -1,0 +1,15 @@
+use Rattle.std.specs.List.{Contains}
+use Rattle.ospf_graph.specs.declared.graph.Vertex.{Vertex}
+use Rattle.ospf_incremental.specs.Growth.{AreNear, HasEdge, HasPlaces, HasStart, HoldsAll, IsAt, IsGrowing, SparesIn}
+use Rattle.ospf_incremental.proofs.grow.settle.Given as goal
+
+abbrev pub invariant-loop : goal.invariant-loop
+invariant-loop l =
+    record {
+      grows : (root : Vertex) → IsGrowing (Contains l.edges) root (IsAt l.initial.found.reached.items) (HasStart l.initial.found.reached.items) (HasEdge l.initial.waits.list)
+          → IsGrowing (Contains l.edges) root (IsAt l.found.reached.items) (HasStart l.found.reached.items) (HasEdge l.waits.list);
+      near : AreNear l.found.reached.items;
+      places : HasPlaces l.found;
+      spares : SparesIn l.changed.items l.initial.found l.found;
+      changed : HoldsAll l.initial.changed.items l.changed.items;
+    }

@@ -1,0 +1,324 @@
+//! Shortest paths that grow while edges come.
+
+ghost use Rattle.std.specs.Prelude.{◌≡◌, ◌+◌, ◌<◌, ◌↔◌, ◌^◌, ◌∷◌, [], ℕ, Contains, IsTrue, IfSome, OnOk, None, Some, length};
+ghost use Rattle.ospf_incremental.specs.Growth.{AreNear, AreThere, BringsNothing, HasPlaces, HasStart, HoldsAll, ImprovesIn, IsAt, IsRelaxedIn, OffersIn, OnFalse, OnTrue, Pays, ResetsAt, Settles, SparesIn, place_in};
+ghost use Rattle.ospf_graph.specs.Search.{AreEdgesInOrder};
+ghost use Rattle.ospf_graph.specs.declared.graph.Start.{Start};
+
+use ospf_graph::{
+    Candidate, Candidates, Edge, Reached, Start, Vertex, bring, edges_from, extended, place_of,
+    reach,
+};
+use std::alloc::{AllocError, Global};
+use std::collections::HashMap;
+
+// No distance is as far as this.
+const MOST: u64 = 1 << 63;
+
+/// What is reached, and the place of each vertex there.
+#[derive(Drop)]
+pub(crate) struct Found {
+    pub(crate) reached: Vec<Reached>,
+    pub(crate) places: HashMap<u64, usize>,
+}
+
+/// The distance of a vertex, if it is reached.
+pub(crate) fn distance_of(found: &Found, vertex: Vertex) -> Option<u64>
+    requires { HasPlaces found.now }
+    ensures some { IfSome result (λ d. IsAt found.now.reached.items vertex d) }
+    ensures none { result ≡ None → (d : ℕ) → IsAt found.now.reached.items vertex d → ⊥ }
+{
+    match place_of(&found.places, vertex) {
+        Some(place) => Some(found.reached[place].distance),
+        None => None,
+    }
+}
+
+/// The starts of a vertex, some perhaps more than once.
+pub(crate) fn starts_of(found: &Found, vertex: Vertex) -> &[Start]
+    requires { HasPlaces found.now }
+    ensures { (x : Start) → Contains result.now x ↔ HasStart found.now.reached.items vertex x }
+{
+    match place_of(&found.places, vertex) {
+        Some(place) => &found.reached[place].starts,
+        None => &[],
+    }
+}
+
+/// Puts an edge among those that wait, if it begins where something is reached and its end is not nearer.
+pub(crate) fn offer(edge: Edge, found: &Found, waits: &mut Candidates) -> Result<(), AllocError>
+    requires places { HasPlaces found.now }
+    requires near { AreNear found.now.reached.items }
+    ensures { OnOk result (OffersIn found.now (edge ∷ []) waits.old waits.new) }
+{
+    let Some(distance) = distance_of(found, edge.from) else {
+        return Ok(());
+    };
+    let way = distance + edge.cost as u64;
+    if is_nearer(found, edge.to, way) {
+        return Ok(());
+    }
+    waits.push(Candidate {
+        distance: way,
+        edge,
+    })?;
+    Ok(())
+}
+
+/// Puts those of some edges among those that wait that may bring their ends nearer, or more starts.
+pub(crate) fn offer_all(
+    some: &[Edge],
+    found: &Found,
+    waits: &mut Candidates,
+) -> Result<(), AllocError>
+    requires places { HasPlaces found.now }
+    requires near { AreNear found.now.reached.items }
+    ensures { OnOk result (OffersIn found.now some.now waits.old waits.new) }
+{
+    for edge in some {
+        offer(*edge, found, waits)?;
+    }
+    Ok(())
+}
+
+/// Takes edges that wait until none does, or these many were taken, or one leads too far. Whether none is left.
+/// The vertices that are reached nearer or from more starts are put behind `changed`.
+pub(crate) fn settle(
+    alloc: Global,
+    edges: &[Edge],
+    most: u64,
+    found: &mut Found,
+    waits: &mut Candidates,
+    changed: &mut Vec<Vertex>,
+) -> Result<bool, AllocError>
+    requires in_order { AreEdgesInOrder edges.now }
+    requires near { AreNear found.old.reached.items }
+    requires places { HasPlaces found.old }
+    ensures tree { OnTrue result (Settles edges.now waits.old found.old found.new) }
+    ensures near { OnOk result (AreNear found.new.reached.items) }
+    ensures places { OnOk result (HasPlaces found.new) }
+    ensures spares { OnOk result (SparesIn changed.new.items found.old found.new) }
+    ensures changed { OnOk result (HoldsAll changed.old.items changed.new.items) }
+{
+    for _ in 0..most {
+        let Some(candidate) = waits.take_least() else {
+            return Ok(true);
+        };
+        if !take_edge(alloc, edges, candidate.edge, found, waits, changed)? {
+            return Ok(false);
+        }
+    }
+    Ok(false)
+}
+
+// Whether a vertex is reached nearer than this.
+fn is_nearer(found: &Found, vertex: Vertex, way: u64) -> bool
+    requires { HasPlaces found.now }
+    ensures { IsTrue result → (near : ℕ) × (near < way) × IsAt found.now.reached.items vertex near }
+{
+    match distance_of(found, vertex) {
+        Some(near) => near < way,
+        None => false,
+    }
+}
+
+// Takes an edge that waited. Whether its end is not too far.
+fn take_edge(
+    alloc: Global,
+    edges: &[Edge],
+    edge: Edge,
+    found: &mut Found,
+    waits: &mut Candidates,
+    changed: &mut Vec<Vertex>,
+) -> Result<bool, AllocError>
+    requires in_order { AreEdgesInOrder edges.now }
+    requires near { AreNear found.old.reached.items }
+    requires places { HasPlaces found.old }
+    ensures pays { OnTrue result (Pays edges.now edge found.old found.new waits.old waits.new) }
+    ensures near { OnOk result (AreNear found.new.reached.items) }
+    ensures places { OnOk result (HasPlaces found.new) }
+    ensures spares { OnOk result (SparesIn changed.new.items found.old found.new) }
+    ensures changed { OnOk result (HoldsAll changed.old.items changed.new.items) }
+{
+    let Some(distance) = distance_of(found, edge.from) else {
+        return Ok(true);
+    };
+    if distance + edge.cost as u64 >= MOST {
+        return Ok(false);
+    }
+    step(alloc, edges, edge, distance, found, waits, changed)?;
+    Ok(true)
+}
+
+// Takes an edge that waited, and offers the edges from its end, if that is reached nearer or from more starts.
+fn step(
+    alloc: Global,
+    edges: &[Edge],
+    edge: Edge,
+    distance: u64,
+    found: &mut Found,
+    waits: &mut Candidates,
+    changed: &mut Vec<Vertex>,
+) -> Result<(), AllocError>
+    requires in_order { AreEdgesInOrder edges.now }
+    requires at { IsAt found.old.reached.items edge.from distance }
+    requires small { distance + edge.cost < 2 ^ 63 }
+    requires near { AreNear found.old.reached.items }
+    requires places { HasPlaces found.old }
+    ensures pays { OnOk result (Pays edges.now edge found.old found.new waits.old waits.new) }
+    ensures near { OnOk result (AreNear found.new.reached.items) }
+    ensures places { OnOk result (HasPlaces found.new) }
+    ensures spares { OnOk result (SparesIn changed.new.items found.old found.new) }
+    ensures changed { OnOk result (HoldsAll changed.old.items changed.new.items) }
+{
+    if relax(alloc, edge, distance, found)? {
+        offer_all(edges_from(edges, edge.to), found, waits)?;
+        changed.push(edge.to)?;
+    }
+    Ok(())
+}
+
+// Takes an edge. Whether its end is reached nearer than before, or from more starts.
+fn relax(alloc: Global, edge: Edge, distance: u64, found: &mut Found) -> Result<bool, AllocError>
+    requires at { IsAt found.old.reached.items edge.from distance }
+    requires near { distance + edge.cost < 2 ^ 63 }
+    requires places { HasPlaces found.old }
+    ensures improves { OnTrue result (ImprovesIn edge distance found.old found.new) }
+    ensures same { OnFalse result (found.new ≡ found.old) }
+    ensures relaxed { OnFalse result (IsRelaxedIn found.old edge distance) }
+    ensures places { OnOk result (HasPlaces found.new) }
+{
+    let way = distance + edge.cost as u64;
+    let Some(to) = place_of(&found.places, edge.to) else {
+        relax_new(alloc, edge, distance, found)?;
+        return Ok(true);
+    };
+    let near = found.reached[to].distance;
+    if near < way {
+        return Ok(false);
+    }
+    if way < near {
+        relax_nearer(alloc, edge, distance, to, found)?;
+        return Ok(true);
+    }
+    relax_level(alloc, edge, distance, to, found)
+}
+
+// Takes an edge whose end is not reached.
+fn relax_new(alloc: Global, edge: Edge, distance: u64, found: &mut Found) -> Result<(), AllocError>
+    requires fresh { place_in found.old edge.to ≡ None }
+    requires at { IsAt found.old.reached.items edge.from distance }
+    requires near { distance + edge.cost < 2 ^ 63 }
+    requires places { HasPlaces found.old }
+    ensures improves { OnOk result (ImprovesIn edge distance found.old found.new) }
+    ensures places { OnOk result (HasPlaces found.new) }
+{
+    let to = found.reached.len();
+    let way = distance + edge.cost as u64;
+    reach(alloc, &mut found.reached, &mut found.places, edge.to, way)?;
+    bring(alloc, &mut found.reached, &found.places, edge, to)?;
+    Ok(())
+}
+
+// Takes an edge that leads nearer to its end.
+fn relax_nearer(
+    alloc: Global,
+    edge: Edge,
+    distance: u64,
+    to: usize,
+    found: &mut Found,
+) -> Result<(), AllocError>
+    requires place { place_in found.old edge.to ≡ Some to }
+    requires at { IsAt found.old.reached.items edge.from distance }
+    requires farther { (j : ℕ) → IsAt found.old.reached.items edge.to j → distance + edge.cost < j }
+    requires near { distance + edge.cost < 2 ^ 63 }
+    requires places { HasPlaces found.old }
+    ensures improves { OnOk result (ImprovesIn edge distance found.old found.new) }
+    ensures places { OnOk result (HasPlaces found.new) }
+{
+    reset_at(found, to, distance + edge.cost as u64);
+    bring(alloc, &mut found.reached, &found.places, edge, to)?;
+    Ok(())
+}
+
+// Puts the vertex at this place nearer, with no start.
+fn reset_at(found: &mut Found, place: usize, way: u64)
+    requires place { place < length found.old.reached.items }
+    requires places { HasPlaces found.old }
+    ensures reset { ResetsAt place way found.old found.new }
+    ensures same { found.new.places ≡ found.old.places }
+    ensures places { HasPlaces found.new }
+{
+    reset(&mut found.reached[place], way);
+}
+
+// Puts a vertex nearer, with no start.
+fn reset(one: &mut Reached, way: u64)
+    ensures vertex { one.new.vertex ≡ one.old.vertex }
+    ensures distance { one.new.distance ≡ way }
+    ensures starts { one.new.starts.items ≡ [] }
+{
+    one.distance = way;
+    one.starts.clear();
+    one.in_order = 0;
+}
+
+// Takes an edge that leads to its end as near as it is reached. Whether it brings a start.
+fn relax_level(
+    alloc: Global,
+    edge: Edge,
+    distance: u64,
+    to: usize,
+    found: &mut Found,
+) -> Result<bool, AllocError>
+    requires place { place_in found.old edge.to ≡ Some to }
+    requires at { IsAt found.old.reached.items edge.from distance }
+    requires level { IsAt found.old.reached.items edge.to (distance + edge.cost) }
+    requires places { HasPlaces found.old }
+    ensures improves { OnTrue result (ImprovesIn edge distance found.old found.new) }
+    ensures same { OnFalse result (found.new ≡ found.old) }
+    ensures relaxed { OnFalse result (IsRelaxedIn found.old edge distance) }
+    ensures places { OnOk result (HasPlaces found.new) }
+{
+    if brings_nothing(found, edge, to) {
+        return Ok(false);
+    }
+    bring(alloc, &mut found.reached, &found.places, edge, to)?;
+    Ok(true)
+}
+
+// Whether an edge brings no start that its end has not.
+fn brings_nothing(found: &Found, edge: Edge, to: usize) -> bool
+    requires place { place_in found.now edge.to ≡ Some to }
+    requires places { HasPlaces found.now }
+    ensures { IsTrue result → BringsNothing found.now edge }
+{
+    let Some(from) = place_of(&found.places, edge.from) else {
+        return true;
+    };
+    are_there(&found.reached[from].starts, edge, &found.reached[to].starts)
+}
+
+// Whether each start, one edge further, is among others.
+fn are_there(starts: &[Start], edge: Edge, there: &[Start]) -> bool
+    ensures { IsTrue result → AreThere edge starts.now there.now }
+{
+    for start in starts {
+        if !has_start(there, extended(*start, edge.to, edge.link_data)) {
+            return false;
+        }
+    }
+    true
+}
+
+// Whether a start is among these.
+fn has_start(starts: &[Start], start: Start) -> bool
+    ensures { IsTrue result → Contains starts.now start }
+{
+    for one in starts {
+        if *one == start {
+            return true;
+        }
+    }
+    false
+}

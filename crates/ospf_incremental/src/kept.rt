@@ -1,0 +1,266 @@
+//! The shortest paths from a vertex, kept with their edges, so that edges can come and go.
+
+ghost use Rattle.std.specs.Prelude.{◌≡◌, ◌++◌, ◌<◌, ◌↔◌, ◌^◌, ℕ, All, Contains, IsPermutation, IfOk, IfSome, OnOk, Some, IsTrue, length, ◌≤◌};
+ghost use Rattle.ospf_incremental.specs.Growth.{HoldsAll};
+ghost use Rattle.ospf_graph.specs.Paths.{AreLeastOver, AreSettledInOrder, AreStartsInOrder, IsTreeOver};
+ghost use Rattle.ospf_incremental.specs.Kept.{AddsEdge, AddsEdges, ChangesEdges, IsKeptTree, IsSameBut, vertices_of};
+ghost use Rattle.ospf_graph.specs.Search.{AreEdgesInOrder, AtIn, IsFit, StartsIn, vertex_id};
+ghost use Rattle.ospf_incremental.specs.Shrinking.{TakesEdges};
+ghost use Rattle.ospf_graph.specs.declared.graph.Start.{Start};
+
+use crate::grow::{Found, distance_of, offer_all, settle, starts_of};
+use crate::shrink::{is_closed, leave, left_of, mark, offer_open};
+use ospf_graph::{
+    Candidates, Edge, Reached, ShortestPaths, Start, Vertex, listed, search, sorted_edges,
+    vertex_order,
+};
+use std::alloc::{AllocError, Global};
+use std::marker::Model;
+
+/// The shortest paths from a root over a list of edges, kept so that edges can come and go (RFC 2328, section
+/// 16.1).
+#[derive(Drop)]
+pub struct KeptPaths {
+    root: Vertex,
+    edges: Vec<Edge>,
+    found: Found,
+}
+
+impl Model for KeptPaths {
+    ghost use Rattle.ospf_incremental.specs.Kept.{IsKept, KeptTree};
+    ghost use Rattle.ospf_graph.specs.Reached.{settled_of, starts_of};
+
+    ghost Value = { KeptTree };
+
+    ghost view = { λ k. record { root = k.root; edges = k.edges.items; settled = settled_of k.found.reached.items; starts = starts_of k.found.reached.items } };
+
+    ghost invariant = { λ k. IsKept k.root k.edges.items k.found };
+}
+
+impl KeptPaths {
+    /// The shortest paths from a root over a list of edges (RFC 2328, section 16.1).
+    ///
+    /// `AllocError` where memory runs out.
+    pub fn of(alloc: Global, edges: &[Edge], root: Vertex) -> Result<KeptPaths, AllocError>
+        requires fit { IsFit edges.now }
+        requires root_fits { vertex_id root < 2 ^ 32 }
+        ensures root { IfOk result (λ k. k.root ≡ root) }
+        ensures edges { IfOk result (λ k. IsPermutation edges.now k.edges) }
+        ensures tree { IfOk result (λ k. IsKeptTree k) }
+    {
+        let sorted = sorted_edges(alloc, edges)?;
+        anew(alloc, sorted, root)
+    }
+
+    /// The distance of a vertex from the root, if some path reaches it.
+    pub fn distance_of(&self, vertex: Vertex) -> Option<u64>
+        ensures distance { (d : ℕ) → (result ≡ Some d) ↔ AtIn self.now.settled vertex d }
+        ensures near { IfSome result (λ d. d < 2 ^ 63) }
+        ensures tree { IsKeptTree self.now }
+    {
+        distance_of(&self.found, vertex)
+    }
+
+    /// The starts of the least paths to a vertex, some perhaps more than once.
+    pub fn starts_of(&self, vertex: Vertex) -> &[Start]
+        ensures starts { (x : Start) → Contains result.now x ↔ StartsIn self.now.starts vertex x }
+        ensures tree { IsKeptTree self.now }
+    {
+        starts_of(&self.found, vertex)
+    }
+
+    /// What `shortest_paths` finds over the edges, in the order of vertices, without a search: no candidate
+    /// was looked at.
+    ///
+    /// `AllocError` where memory runs out.
+    pub fn shortest(&self, alloc: Global) -> Result<ShortestPaths, AllocError>
+        ensures tree { IfOk result (IsTreeOver self.now.edges self.now.root) }
+        ensures least { IfOk result (AreLeastOver self.now.edges self.now.root) }
+        ensures near { IfOk result (λ t. All (λ s. s.distance < 2 ^ 63) t.settled.items) }
+        ensures settled { IfOk result (λ t. IsPermutation self.now.settled t.settled.items) }
+        ensures starts { IfOk result (λ t. IsPermutation self.now.starts t.starts.items) }
+        ensures settled_in_order { IfOk result (λ t. AreSettledInOrder t.settled.items) }
+        ensures starts_in_order { IfOk result (λ t. AreStartsInOrder t.starts.items) }
+        ensures looks { IfOk result (λ t. t.looks ≡ 0) }
+    {
+        let paths = listed(alloc, &self.found.reached, 0)?;
+        Ok(paths)
+    }
+
+    /// The shortest paths with more edges. What was found is kept, and only what the new edges bring nearer, or
+    /// from more starts, is gone through. Those vertices are put behind `changed`, some perhaps more than once.
+    /// Where it goes on for as many steps as there are edges, or a way is too long, the paths are searched for
+    /// anew, and all vertices that are reached are put there.
+    ///
+    /// `AllocError` where memory runs out: the paths are gone then, and `changed` may have got some vertices.
+    pub fn grow(
+        self,
+        alloc: Global,
+        more: &[Edge],
+        changed: &mut Vec<Vertex>,
+    ) -> Result<KeptPaths, AllocError>
+        requires fit { IsFit more.now }
+        ensures root { IfOk result (λ k. k.root ≡ self.root) }
+        ensures edges { IfOk result (λ k. AddsEdges more.now self.edges k.edges) }
+        ensures tree { IfOk result (λ k. IsKeptTree k) }
+        ensures same { IfOk result (λ k. IsSameBut changed.new.items self k) }
+        ensures changed { OnOk result (HoldsAll changed.old.items changed.new.items) }
+    {
+        let root = self.root;
+        let mut edges = self.edges;
+        let mut found = self.found;
+        insert_all(&mut edges, more)?;
+        let mut waits = Candidates::new(alloc);
+        offer_all(more, &found, &mut waits)?;
+        // As many as there are edges, and the look that finds none waiting.
+        let most = edges.len() as u64 + 1;
+        if settle(alloc, &edges, most, &mut found, &mut waits, changed)? {
+            return Ok(KeptPaths { root, edges, found });
+        }
+        let paths = anew(alloc, edges, root)?;
+        push_vertices(&paths.found.reached, changed)?;
+        Ok(paths)
+    }
+
+    /// The shortest paths without some edges. Only what some least path reached over one of them goes, and grows
+    /// again from what is left. Those vertices are put behind `changed`, some perhaps more than once, and some
+    /// perhaps with the distance and the starts that they had. Where it goes on for as many steps as there are
+    /// edges, or a way is too long, the paths are searched for anew, and all that was reached is put there.
+    ///
+    /// `AllocError` where memory runs out: the paths are gone then, and `changed` may have got some vertices.
+    pub fn shrink(
+        self,
+        alloc: Global,
+        less: &[Edge],
+        changed: &mut Vec<Vertex>,
+    ) -> Result<KeptPaths, AllocError>
+        ensures root { IfOk result (λ k. k.root ≡ self.root) }
+        ensures edges { IfOk result (λ k. TakesEdges less.now self.edges k.edges) }
+        ensures tree { IfOk result (λ k. IsKeptTree k) }
+        ensures same { IfOk result (λ k. IsSameBut changed.new.items self k) }
+        ensures changed { OnOk result (HoldsAll changed.old.items changed.new.items) }
+    {
+        let root = self.root;
+        let whole = self.edges;
+        let found = self.found;
+        let marks = mark(alloc, &whole, less, &found)?;
+        let edges = left_of(alloc, &whole, less)?;
+        if !is_closed(&found, &whole, less, &marks, root) {
+            push_vertices(&found.reached, changed)?;
+            let paths = anew(alloc, edges, root)?;
+            return Ok(paths);
+        }
+        let mut left = leave(alloc, found, &marks, changed)?;
+        let mut waits = Candidates::new(alloc);
+        offer_open(&edges, &left, &mut waits)?;
+        // As many as there are edges, and the look that finds none waiting.
+        let most = edges.len() as u64 + 1;
+        if settle(alloc, &edges, most, &mut left, &mut waits, changed)? {
+            return Ok(KeptPaths {
+                root,
+                edges,
+                found: left,
+            });
+        }
+        push_vertices(&left.reached, changed)?;
+        let paths = anew(alloc, edges, root)?;
+        Ok(paths)
+    }
+
+    /// The shortest paths without some edges and with others: `shrink`, if there are edges that go, and `grow`.
+    ///
+    /// `AllocError` where memory runs out: the paths are gone then, and `changed` may have got some vertices.
+    pub fn change(
+        self,
+        alloc: Global,
+        less: &[Edge],
+        more: &[Edge],
+        changed: &mut Vec<Vertex>,
+    ) -> Result<KeptPaths, AllocError>
+        requires fit { IsFit more.now }
+        ensures root { IfOk result (λ k. k.root ≡ self.root) }
+        ensures edges { IfOk result (λ k. ChangesEdges less.now more.now self.edges k.edges) }
+        ensures tree { IfOk result (λ k. IsKeptTree k) }
+        ensures same { IfOk result (λ k. IsSameBut changed.new.items self k) }
+        ensures changed { OnOk result (HoldsAll changed.old.items changed.new.items) }
+    {
+        if less.is_empty() {
+            let paths = self.grow(alloc, more, changed)?;
+            return Ok(paths);
+        }
+        let left = self.shrink(alloc, less, changed)?;
+        let paths = left.grow(alloc, more, changed)?;
+        Ok(paths)
+    }
+}
+
+// The shortest paths, by a search.
+fn anew(alloc: Global, edges: Vec<Edge>, root: Vertex) -> Result<KeptPaths, AllocError>
+    requires fit { IsFit edges.items }
+    requires root_fits { vertex_id root < 2 ^ 32 }
+    requires in_order { AreEdgesInOrder edges.items }
+    ensures root { IfOk result (λ k. k.root ≡ root) }
+    ensures edges { IfOk result (λ k. k.edges ≡ edges.items) }
+    ensures tree { IfOk result (λ k. IsKeptTree k) }
+{
+    let found = search(alloc, &edges, root)?;
+    Ok(KeptPaths {
+        root,
+        edges,
+        found: Found {
+            reached: found.reached,
+            places: found.places,
+        },
+    })
+}
+
+// Puts edges where they belong, each once.
+fn insert_all(edges: &mut Vec<Edge>, more: &[Edge]) -> Result<(), AllocError>
+    requires { AreEdgesInOrder edges.old.items }
+    ensures in_order { OnOk result (AreEdgesInOrder edges.new.items) }
+    ensures members { OnOk result (AddsEdges more.now edges.old.items edges.new.items) }
+{
+    for edge in more {
+        insert_edge(edges, *edge)?;
+    }
+    Ok(())
+}
+
+// Puts an edge where it belongs, unless it is there.
+fn insert_edge(edges: &mut Vec<Edge>, edge: Edge) -> Result<(), AllocError>
+    requires { AreEdgesInOrder edges.old.items }
+    ensures in_order { OnOk result (AreEdgesInOrder edges.new.items) }
+    ensures members { OnOk result (AddsEdge edge edges.old.items edges.new.items) }
+{
+    let order = vertex_order(edge.from);
+    let first = edges.partition_point(|e| vertex_order(e.from) < order);
+    let place = edges.partition_point(|e| vertex_order(e.from) <= order);
+    if is_there(edges, edge, first, place) {
+        return Ok(());
+    }
+    edges.insert(place, edge)?;
+    Ok(())
+}
+
+// Whether the edge stands between two places.
+fn is_there(edges: &[Edge], edge: Edge, from: usize, to: usize) -> bool
+    requires { to ≤ length edges.now }
+    ensures { IsTrue result → Contains edges.now edge }
+{
+    for place in from..to {
+        if edges[place] == edge {
+            return true;
+        }
+    }
+    false
+}
+
+// Puts the vertices that are reached behind others.
+fn push_vertices(reached: &[Reached], vertices: &mut Vec<Vertex>) -> Result<(), AllocError>
+    ensures { OnOk result (vertices.new.items ≡ vertices.old.items ++ vertices_of reached.now) }
+{
+    for one in reached {
+        vertices.push(one.vertex)?;
+    }
+    Ok(())
+}
