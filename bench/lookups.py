@@ -5,7 +5,7 @@ import tempfile
 
 from program import build
 
-BELOW = ["ospf_base", "ospf_lsa", "ospf_graph", "ospf_edges", "ospf_spf", "ospf_published", "ospf_index", "ospf_fib"]
+BELOW = ["ospf_base", "ospf_lsa", "ospf_graph", "ospf_incremental", "ospf_edges", "ospf_spf", "ospf_published", "ospf_index", "ospf_fib"]
 ROUTES = (1, 1000, 100000)
 READERS = (1, 2, 3)
 LOOKUPS = 1000000

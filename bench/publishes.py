@@ -5,7 +5,7 @@ import tempfile
 
 from program import build
 
-BELOW = ["ospf_base", "ospf_lsa", "ospf_graph", "ospf_edges", "ospf_spf", "ospf_published", "ospf_index", "ospf_fib"]
+BELOW = ["ospf_base", "ospf_lsa", "ospf_graph", "ospf_incremental", "ospf_edges", "ospf_spf", "ospf_published", "ospf_index", "ospf_fib"]
 ROUTES = 10000
 CHANGED = (0, 10, 10000)
 PUBLISHES = 200

@@ -5,7 +5,7 @@ import tempfile
 
 from program import build
 
-BELOW = ["ospf_base", "ospf_lsa", "ospf_graph", "ospf_edges", "ospf_spf"]
+BELOW = ["ospf_base", "ospf_lsa", "ospf_graph", "ospf_incremental", "ospf_edges", "ospf_spf"]
 ROW, ROWS, ROUNDS = 50, 100, 20
 
 
