@@ -42,7 +42,8 @@ pub fn send_request(
     out: &mut Outputs,
     alloc: Global,
 ) -> Result<(), AllocError>
-    ensures { OnOk result (out.new ≡ and_sends out.old (request_to own number iface.now neighbour.now)) }
+    ensures { OnOk result (out.new ≡ and_sends out.old
+        (request_to own number iface.now neighbour.now)) }
 {
     let packet = request_packet(neighbour, own, alloc)?;
     let way = way_out(number, iface, to_address(iface, neighbour.address()));
@@ -128,7 +129,8 @@ fn turn_all(
 ) -> Result<(), AllocError>
     requires few { AreNeighbours neighbours.old }
     ensures after { OnOk result (neighbours.new ≡ map (turned mtu own.tick) neighbours.old) }
-    ensures sent { OnOk result (out.new ≡ and_sends out.old (flat_map (turn_request own number iface.now mtu) neighbours.old)) }
+    ensures sent { OnOk result (out.new ≡ and_sends out.old
+        (flat_map (turn_request own number iface.now mtu) neighbours.old)) }
     ensures still { AreNeighbours neighbours.new }
 {
     for neighbour in neighbours.iter_mut() {
@@ -148,7 +150,8 @@ fn turn(
     alloc: Global,
 ) -> Result<(), AllocError>
     ensures after { neighbour.new ≡ turned mtu own.tick neighbour.old }
-    ensures sent { OnOk result (out.new ≡ and_sends out.old (turn_request own number iface.now mtu neighbour.old)) }
+    ensures sent { OnOk result (out.new ≡ and_sends out.old
+        (turn_request own number iface.now mtu neighbour.old)) }
 {
     if turn_one(neighbour, mtu, own.tick) {
         send_request(neighbour, number, iface, own, out, alloc)?;

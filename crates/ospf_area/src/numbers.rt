@@ -31,7 +31,11 @@ pub fn is_own(router: RouterId, key: &LsaKey) -> bool
 ///
 /// `AllocError` where memory runs out; then the router is to be stopped.
 pub fn count_number(area: &mut Area, key: LsaKey, header: &LsaHeader) -> Result<(), AllocError>
-    ensures { OnOk result (area.new ≡ record area.old { numbering = counts key header.now.number area.old; greatest = greatest_after key header.now.number area.old }) }
+    ensures { OnOk result (area.new ≡ record area.old {
+      numbering = counts key header.now.number area.old;
+      greatest = greatest_after key
+          header.now.number area.old;
+    }) }
 {
     let number = header.number;
     if !is_own(area.router, &key) {

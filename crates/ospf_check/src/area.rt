@@ -27,9 +27,16 @@ pub fn check_area_text<O: Write, E: Write>(
     out: &mut O,
     err: &mut E,
 ) -> Status
-    ensures done { result ≡ Status.Done → IsChecked explain files.now true (O.contents out.old) (O.contents out.new) (E.contents err.old) (E.contents err.new) }
-    ensures refused { result ≡ Status.Refused → IsChecked explain files.now false (O.contents out.old) (O.contents out.new) (E.contents err.old) (E.contents err.new) }
-    ensures cut { (result ≡ Status.Memory) ⊎ (result ≡ Status.Stream) → (failed : FailedStreams) × IsCheckCut explain files.now failed (O.contents out.old) (O.contents out.new) (E.contents err.old) (E.contents err.new) result }
+    ensures done { result ≡ Status.Done →
+        IsChecked explain files.now true (O.contents out.old) (O.contents out.new)
+        (E.contents err.old) (E.contents err.new) }
+    ensures refused { result ≡ Status.Refused →
+        IsChecked explain files.now false (O.contents out.old) (O.contents out.new)
+        (E.contents err.old) (E.contents err.new) }
+    ensures cut { (result ≡ Status.Memory) ⊎ (result ≡ Status.Stream) →
+        (failed : FailedStreams)
+        × IsCheckCut explain files.now failed (O.contents out.old) (O.contents out.new)
+        (E.contents err.old) (E.contents err.new) result }
     ensures not_words { result ≢ Status.Words }
 {
     check_area_noted(alloc, files, explain, out, err, &mut FailedStreams::none())
@@ -44,9 +51,15 @@ fn check_area_noted<O: Write, E: Write>(
     err: &mut E,
     streams: &mut FailedStreams,
 ) -> Status
-    ensures done { result ≡ Status.Done → IsChecked explain files.now true (O.contents out.old) (O.contents out.new) (E.contents err.old) (E.contents err.new) }
-    ensures refused { result ≡ Status.Refused → IsChecked explain files.now false (O.contents out.old) (O.contents out.new) (E.contents err.old) (E.contents err.new) }
-    ensures cut { (result ≡ Status.Memory) ⊎ (result ≡ Status.Stream) → IsCheckCut explain files.now streams.new (O.contents out.old) (O.contents out.new) (E.contents err.old) (E.contents err.new) result }
+    ensures done { result ≡ Status.Done →
+        IsChecked explain files.now true (O.contents out.old) (O.contents out.new)
+        (E.contents err.old) (E.contents err.new) }
+    ensures refused { result ≡ Status.Refused →
+        IsChecked explain files.now false (O.contents out.old) (O.contents out.new)
+        (E.contents err.old) (E.contents err.new) }
+    ensures cut { (result ≡ Status.Memory) ⊎ (result ≡ Status.Stream) →
+        IsCheckCut explain files.now streams.new (O.contents out.old) (O.contents out.new)
+        (E.contents err.old) (E.contents err.new) result }
     ensures not_words { result ≢ Status.Words }
 {
     match check_files(alloc, files, explain, out, err, streams) {
@@ -66,9 +79,15 @@ fn check_together<O: Write, E: Write>(
     err: &mut E,
     streams: &mut FailedStreams,
 ) -> Status
-    ensures done { AreConfigs files.now configs.now → result ≡ Status.Done → IsAreaTold explain files.now true (O.contents out.old) (O.contents out.new) (E.contents err.old) (E.contents err.new) }
-    ensures refused { AreConfigs files.now configs.now → result ≡ Status.Refused → IsAreaTold explain files.now false (O.contents out.old) (O.contents out.new) (E.contents err.old) (E.contents err.new) }
-    ensures cut { (result ≡ Status.Memory) ⊎ (result ≡ Status.Stream) → IsAreaCutShort explain files.now configs.now streams.new (O.contents out.old) (O.contents out.new) (E.contents err.old) (E.contents err.new) result }
+    ensures done { AreConfigs files.now configs.now → result ≡ Status.Done →
+        IsAreaTold explain files.now true (O.contents out.old) (O.contents out.new)
+        (E.contents err.old) (E.contents err.new) }
+    ensures refused { AreConfigs files.now configs.now → result ≡ Status.Refused →
+        IsAreaTold explain files.now false (O.contents out.old) (O.contents out.new)
+        (E.contents err.old) (E.contents err.new) }
+    ensures cut { (result ≡ Status.Memory) ⊎ (result ≡ Status.Stream) →
+        IsAreaCutShort explain files.now configs.now streams.new (O.contents out.old)
+        (O.contents out.new) (E.contents err.old) (E.contents err.new) result }
     ensures not_words { result ≢ Status.Words }
 {
     match tell_area(alloc, files, configs, explain, out, err, streams) {
@@ -88,8 +107,11 @@ fn tell_area<O: Write, E: Write>(
     err: &mut E,
     streams: &mut FailedStreams,
 ) -> Result<bool, Failure>
-    ensures told { AreConfigs files.now configs.now → IfOk result (λ sound. IsAreaTold explain files.now sound (O.contents out.old) (O.contents out.new) (E.contents err.old) (E.contents err.new)) }
-    ensures cut { IfErr result (IsAreaCut explain files.now configs.now streams.new (O.contents out.old) (O.contents out.new) (E.contents err.old) (E.contents err.new)) }
+    ensures told { AreConfigs files.now configs.now →
+        IfOk result (λ sound. IsAreaTold explain files.now sound (O.contents out.old)
+        (O.contents out.new) (E.contents err.old) (E.contents err.new)) }
+    ensures cut { IfErr result (IsAreaCut explain files.now configs.now streams.new
+        (O.contents out.old) (O.contents out.new) (E.contents err.old) (E.contents err.new)) }
 {
     match findings(alloc, configs) {
         Ok(found) => tell_findings(alloc, files, &found, explain, out, err, streams),
@@ -107,8 +129,10 @@ fn tell_findings<O: Write, E: Write>(
     err: &mut E,
     streams: &mut FailedStreams,
 ) -> Result<bool, Failure>
-    ensures told { IfOk result (λ sound. IsFindingsWritten explain files.now findings.now sound (O.contents out.old) (O.contents out.new) (E.contents err.old) (E.contents err.new)) }
-    ensures cut { IfErr result (IsCutAt explain files.now findings.now streams.new (O.contents out.old) (O.contents out.new) (E.contents err.old) (E.contents err.new)) }
+    ensures told { IfOk result (λ sound. IsFindingsWritten explain files.now findings.now sound
+        (O.contents out.old) (O.contents out.new) (E.contents err.old) (E.contents err.new)) }
+    ensures cut { IfErr result (IsCutAt explain files.now findings.now streams.new
+        (O.contents out.old) (O.contents out.new) (E.contents err.old) (E.contents err.new)) }
 {
     let mut sound = true;
     for finding in findings {
@@ -131,9 +155,12 @@ fn tell_finding<O: Write, E: Write>(
     streams: &mut FailedStreams,
 ) -> Result<(), Failure>
     ensures same { OnOk result (streams.new ≡ streams.old) }
-    ensures out { OnOk result (Appends (O.contents out.old) (O.contents out.new) (note_lines explain files.now finding.now)) }
-    ensures err { OnOk result (Appends (E.contents err.old) (E.contents err.new) (fault_lines explain files.now finding.now)) }
-    ensures ended { IfErr result (EndsAt explain files.now streams.new finding.now (O.contents out.old) (O.contents out.new) (E.contents err.old) (E.contents err.new)) }
+    ensures out { OnOk result (Appends (O.contents out.old) (O.contents out.new)
+        (note_lines explain files.now finding.now)) }
+    ensures err { OnOk result (Appends (E.contents err.old) (E.contents err.new)
+        (fault_lines explain files.now finding.now)) }
+    ensures ended { IfErr result (EndsAt explain files.now streams.new finding.now
+        (O.contents out.old) (O.contents out.new) (E.contents err.old) (E.contents err.new)) }
 {
     let is_note = finding.fault.is_note();
     if is_note && !explain {
@@ -158,7 +185,8 @@ fn finding_lines(
     finding: &Finding,
     explain: bool,
 ) -> Result<String, AllocError>
-    ensures { IfOk result (λ lines. string_bytes lines ≡ finding_lines explain files.now finding.now) }
+    ensures { IfOk result (λ lines. string_bytes lines
+        ≡ finding_lines explain files.now finding.now) }
 {
     let text = line_of(alloc, files, finding)?;
     let mut lines = format!(in alloc; "{text}\n")?;

@@ -37,9 +37,16 @@ pub fn check_text<O: Write, E: Write>(
     out: &mut O,
     err: &mut E,
 ) -> Status
-    ensures done { result ≡ Status.Done → IsWritten explain files.now true (O.contents out.old) (O.contents out.new) (E.contents err.old) (E.contents err.new) }
-    ensures refused { result ≡ Status.Refused → IsWritten explain files.now false (O.contents out.old) (O.contents out.new) (E.contents err.old) (E.contents err.new) }
-    ensures cut { (result ≡ Status.Memory) ⊎ (result ≡ Status.Stream) → (failed : FailedStreams) × IsCutShort explain files.now failed (O.contents out.old) (O.contents out.new) (E.contents err.old) (E.contents err.new) result }
+    ensures done { result ≡ Status.Done →
+        IsWritten explain files.now true (O.contents out.old) (O.contents out.new)
+        (E.contents err.old) (E.contents err.new) }
+    ensures refused { result ≡ Status.Refused →
+        IsWritten explain files.now false (O.contents out.old) (O.contents out.new)
+        (E.contents err.old) (E.contents err.new) }
+    ensures cut { (result ≡ Status.Memory) ⊎ (result ≡ Status.Stream) →
+        (failed : FailedStreams)
+        × IsCutShort explain files.now failed (O.contents out.old) (O.contents out.new)
+        (E.contents err.old) (E.contents err.new) result }
     ensures not_words { result ≢ Status.Words }
 {
     check_noted(alloc, files, explain, out, err, &mut FailedStreams::none())
@@ -54,9 +61,12 @@ pub(crate) fn check_files<O: Write, E: Write>(
     err: &mut E,
     streams: &mut FailedStreams,
 ) -> Result<Option<Vec<Config>>, CheckFault>
-    ensures told { IfOk result (λ found. IsWritten explain files.now (is_some found) (O.contents out.old) (O.contents out.new) (E.contents err.old) (E.contents err.new)) }
-    ensures configs { IfOk result (λ found. HoldConfigs files.now (option_map (λ configs. configs.items) found)) }
-    ensures cut { IfErr result (IsCutIn explain files.now streams.new (O.contents out.old) (O.contents out.new) (E.contents err.old) (E.contents err.new)) }
+    ensures told { IfOk result (λ found. IsWritten explain files.now (is_some found)
+        (O.contents out.old) (O.contents out.new) (E.contents err.old) (E.contents err.new)) }
+    ensures configs { IfOk result (λ found. HoldConfigs files.now
+        (option_map (λ configs. configs.items) found)) }
+    ensures cut { IfErr result (IsCutIn explain files.now streams.new (O.contents out.old)
+        (O.contents out.new) (E.contents err.old) (E.contents err.new)) }
 {
     let mut configs = Vec::new(alloc);
     let mut all = true;
@@ -76,7 +86,8 @@ pub(crate) fn tell_last<E: Write>(
     streams: &mut FailedStreams,
 ) -> Status
     ensures status { result ≡ status_of cause }
-    ensures last { IsLastTold streams.old streams.new (E.contents err.old) (E.contents err.new) cause }
+    ensures last { IsLastTold streams.old streams.new (E.contents err.old) (E.contents err.new)
+        cause }
 {
     match cause {
         CheckFault::NotRead => Status::Stream,
@@ -100,9 +111,15 @@ fn check_noted<O: Write, E: Write>(
     err: &mut E,
     streams: &mut FailedStreams,
 ) -> Status
-    ensures done { result ≡ Status.Done → IsWritten explain files.now true (O.contents out.old) (O.contents out.new) (E.contents err.old) (E.contents err.new) }
-    ensures refused { result ≡ Status.Refused → IsWritten explain files.now false (O.contents out.old) (O.contents out.new) (E.contents err.old) (E.contents err.new) }
-    ensures cut { (result ≡ Status.Memory) ⊎ (result ≡ Status.Stream) → IsCutShort explain files.now streams.new (O.contents out.old) (O.contents out.new) (E.contents err.old) (E.contents err.new) result }
+    ensures done { result ≡ Status.Done →
+        IsWritten explain files.now true (O.contents out.old) (O.contents out.new)
+        (E.contents err.old) (E.contents err.new) }
+    ensures refused { result ≡ Status.Refused →
+        IsWritten explain files.now false (O.contents out.old) (O.contents out.new)
+        (E.contents err.old) (E.contents err.new) }
+    ensures cut { (result ≡ Status.Memory) ⊎ (result ≡ Status.Stream) →
+        IsCutShort explain files.now streams.new (O.contents out.old) (O.contents out.new)
+        (E.contents err.old) (E.contents err.new) result }
     ensures not_words { result ≢ Status.Words }
 {
     match check_files(alloc, files, explain, out, err, streams) {
@@ -122,9 +139,13 @@ fn check_file<O: Write, E: Write>(
     err: &mut E,
     streams: &mut FailedStreams,
 ) -> Result<bool, CheckFault>
-    ensures told { IfOk result (λ accepted. (streams.new ≡ streams.old) × IsWrittenOf explain file.now accepted (O.contents out.old) (O.contents out.new) (E.contents err.old) (E.contents err.new)) }
-    ensures kept { IfOk result (λ accepted. KeepsIf accepted file.now configs.old.items configs.new.items) }
-    ensures ended { IfErr result (EndsIn explain file.now streams.new (O.contents out.old) (O.contents out.new) (E.contents err.old) (E.contents err.new)) }
+    ensures told { IfOk result (λ accepted. (streams.new ≡ streams.old)
+        × IsWrittenOf explain file.now accepted (O.contents out.old) (O.contents out.new)
+        (E.contents err.old) (E.contents err.new)) }
+    ensures kept { IfOk result (λ accepted. KeepsIf accepted file.now configs.old.items
+        configs.new.items) }
+    ensures ended { IfErr result (EndsIn explain file.now streams.new (O.contents out.old)
+        (O.contents out.new) (E.contents err.old) (E.contents err.new)) }
 {
     let Some(bytes) = &file.bytes else {
         return Err(tell_unread(alloc, file, err, streams));
@@ -149,7 +170,8 @@ fn tell_unread<E: Write>(
     err: &mut E,
     streams: &mut FailedStreams,
 ) -> CheckFault
-    ensures { (explain : Bool) (out : Option (List ℕ)) → bytes_of file.now ≡ None → EndsIn explain file.now streams.new out out (E.contents err.old) (E.contents err.new) result }
+    ensures { (explain : Bool) (out : Option (List ℕ)) → bytes_of file.now ≡ None →
+        EndsIn explain file.now streams.new out out (E.contents err.old) (E.contents err.new) result }
 {
     let Ok(line) = format!(in alloc; "{}: not read\n", file.name) else {
         return CheckFault::Failure(Failure::Memory);
@@ -168,8 +190,10 @@ fn judge(
     explain: bool,
     configs: &mut Vec<Config>,
 ) -> Result<Verdict, AllocError>
-    ensures verdict { bytes_of file.now ≡ Some bytes.now → IfOk result (IsVerdict explain file.now) }
-    ensures kept { bytes_of file.now ≡ Some bytes.now → IfOk result (λ verdict. KeepsBy verdict file.now configs.old.items configs.new.items) }
+    ensures verdict { bytes_of file.now ≡ Some bytes.now →
+        IfOk result (IsVerdict explain file.now) }
+    ensures kept { bytes_of file.now ≡ Some bytes.now →
+        IfOk result (λ verdict. KeepsBy verdict file.now configs.old.items configs.new.items) }
 {
     match config_in(alloc, bytes) {
         Ok(config) => {
@@ -192,7 +216,8 @@ fn acceptance(
     config: &Config,
     explain: bool,
 ) -> Result<String, AllocError>
-    ensures { IfOk result (λ lines. string_bytes lines ≡ accepted_line file.now ++ warnings explain config.now) }
+    ensures { IfOk result (λ lines. string_bytes lines ≡ accepted_line file.now
+        ++ warnings explain config.now) }
 {
     let mut lines = format!(in alloc; "{}: ok\n", file.name)?;
     if !explain {
@@ -222,7 +247,8 @@ fn push_warning(
     link: usize,
     interface: &Interface,
 ) -> Result<(), AllocError>
-    ensures { OnOk result (string_bytes lines.new ≡ string_bytes lines.old ++ warning_line passes_over (link, interface.now)) }
+    ensures { OnOk result (string_bytes lines.new ≡ string_bytes lines.old
+        ++ warning_line passes_over (link, interface.now)) }
 {
     push_delay(alloc, lines, link, interface)?;
     push_leaf(alloc, lines, passes_over, link, interface)
@@ -235,7 +261,8 @@ fn push_delay(
     link: usize,
     interface: &Interface,
 ) -> Result<(), AllocError>
-    ensures { OnOk result (string_bytes lines.new ≡ string_bytes lines.old ++ delay_line (link, interface.now)) }
+    ensures { OnOk result (string_bytes lines.new ≡ string_bytes lines.old
+        ++ delay_line (link, interface.now)) }
 {
     if is_slow(interface.transmit_delay) {
         let shown = DelayShown {
@@ -255,7 +282,8 @@ fn push_leaf(
     link: usize,
     interface: &Interface,
 ) -> Result<(), AllocError>
-    ensures { OnOk result (string_bytes lines.new ≡ string_bytes lines.old ++ leaf_line passes_over (link, interface.now)) }
+    ensures { OnOk result (string_bytes lines.new ≡ string_bytes lines.old
+        ++ leaf_line passes_over (link, interface.now)) }
 {
     if can_lead(passes_over, interface) {
         let shown = LeafShown {
@@ -286,7 +314,9 @@ fn refusal(
     fault: ConfigFault,
     explain: bool,
 ) -> Result<String, AllocError>
-    ensures { IsRefusedFor bytes.now fault → IfOk result (λ lines. (more : List ℕ) × IsExplanation explain bytes.now fault more × (string_bytes lines ≡ refused_line file.now fault ++ more)) }
+    ensures { IsRefusedFor bytes.now fault →
+        IfOk result (λ lines. (more : List ℕ) × IsExplanation explain bytes.now fault more
+        × (string_bytes lines ≡ refused_line file.now fault ++ more)) }
 {
     let mut lines = format!(in alloc; "{}: {}\n", file.name, fault.text())?;
     if !explain {
@@ -299,7 +329,8 @@ fn refusal(
 
 // What to do about bytes that are refused, in lines.
 fn explanation(alloc: Global, bytes: &[u8]) -> Result<String, AllocError>
-    ensures { (fault : ConfigFault) → IsRefusedFor bytes.now fault → IfOk result (λ lines. IsSaid bytes.now fault (string_bytes lines)) }
+    ensures { (fault : ConfigFault) → IsRefusedFor bytes.now fault →
+        IfOk result (λ lines. IsSaid bytes.now fault (string_bytes lines)) }
 {
     match str::from_utf8(bytes) {
         Ok(text) => {

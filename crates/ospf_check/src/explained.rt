@@ -67,8 +67,10 @@ impl Display for KeyExplained {
 ///
 /// `AllocError` where memory runs out.
 pub fn explain(alloc: Global, text: &str) -> Result<Vec<Explained>, AllocError>
-    ensures accepted { ((f : ConfigFault) → TextHasFault text.now f → ⊥) → IfOk result (λ places. places.items ≡ []) }
-    ensures refused { (f : ConfigFault) → IsLeast (TextHasFault text.now) f → IfOk result (λ places. IsExplained text.now f places.items) }
+    ensures accepted { ((f : ConfigFault) → TextHasFault text.now f → ⊥) →
+        IfOk result (λ places. places.items ≡ []) }
+    ensures refused { (f : ConfigFault) → IsLeast (TextHasFault text.now) f →
+        IfOk result (λ places. IsExplained text.now f places.items) }
 {
     match Config::from_text(alloc, text) {
         Ok(_) => Ok(Vec::new(alloc)),
@@ -103,7 +105,8 @@ fn text_explained(
     text: &str,
     fault: ConfigFault,
 ) -> Result<Vec<Explained>, AllocError>
-    ensures { TextHasFault text.now fault → IfOk result (λ places. IsExplained text.now fault places.items) }
+    ensures { TextHasFault text.now fault →
+        IfOk result (λ places. IsExplained text.now fault places.items) }
 {
     match toml::table_from_str(alloc, text) {
         Ok(table) => table_explained(alloc, &table, fault),

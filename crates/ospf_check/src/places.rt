@@ -37,7 +37,8 @@ fn add_top(
     table: &Table,
     fault: ConfigFault,
 ) -> Result<(), AllocError>
-    ensures { OnOk result (Adds (AreTopPlaces (table_view table.now) fault) out.old.items out.new.items) }
+    ensures { OnOk result (Adds (AreTopPlaces (table_view table.now) fault) out.old.items
+        out.new.items) }
 {
     match fault {
         ConfigFault::Unknown => add_unknown(alloc, out, None, table, &top_names()),
@@ -53,7 +54,9 @@ fn add_unknown(
     table: &Table,
     known: &[&str],
 ) -> Result<(), AllocError>
-    ensures { OnOk result (Adds (ArePlacesOf (IsOther (map (λ k. k.now) known.now)) (IsUnknownPlace interface (table_view table.now)) (keys_of (table_view table.now))) out.old.items out.new.items) }
+    ensures { OnOk result (Adds (ArePlacesOf (IsOther (map (λ k. k.now) known.now))
+        (IsUnknownPlace interface (table_view table.now)) (keys_of (table_view table.now)))
+        out.old.items out.new.items) }
 {
     for key in table.keys() {
         let name = key.as_str();
@@ -73,7 +76,9 @@ fn add_where(
     wanted: &'static str,
     holds: bool,
 ) -> Result<(), AllocError>
-    ensures { OnOk result (Adds (IsPlaceWhere (IsTrue holds) (IsKeyPlace interface (table_view table.now) key.now wanted.now)) out.old.items out.new.items) }
+    ensures { OnOk result (Adds (IsPlaceWhere (IsTrue holds)
+        (IsKeyPlace interface (table_view table.now) key.now wanted.now)) out.old.items
+        out.new.items) }
 {
     if holds {
         out.push(key_of(alloc, interface, table, key, wanted)?)?;
@@ -129,7 +134,9 @@ fn add_rows(
     rows: &[Row],
     fault: ConfigFault,
 ) -> Result<(), AllocError>
-    ensures { OnOk result (Adds (ArePlacesOf (λ row. row.fault ≡ Some fault) (λ row. IsKeyPlace interface (table_view table.now) row.key.now row.wanted.now) rows.now) out.old.items out.new.items) }
+    ensures { OnOk result (Adds (ArePlacesOf (λ row. row.fault ≡ Some fault)
+        (λ row. IsKeyPlace interface (table_view table.now) row.key.now row.wanted.now) rows.now)
+        out.old.items out.new.items) }
 {
     for row in rows {
         let holds = has_fault(row, fault);
@@ -156,7 +163,8 @@ fn add_interfaces(
     fault: ConfigFault,
 ) -> Result<(), AllocError>
     requires { All (λ v. IsSome (as_table (view v))) values.now }
-    ensures { OnOk result (Adds (AreAllPlaces fault (tables_of (items_view values.now))) out.old.items out.new.items) }
+    ensures { OnOk result (Adds (AreAllPlaces fault (tables_of (items_view values.now)))
+        out.old.items out.new.items) }
 {
     for (interface, value) in values.iter().enumerate() {
         let before = &values[..interface];
@@ -174,7 +182,8 @@ fn add_interface(
     table: &Table,
     fault: ConfigFault,
 ) -> Result<(), AllocError>
-    ensures { OnOk result (Adds (AreInterfacePlaces interface (tables_of (items_view before.now)) (table_view table.now) fault) out.old.items out.new.items) }
+    ensures { OnOk result (Adds (AreInterfacePlaces interface (tables_of (items_view before.now))
+        (table_view table.now) fault) out.old.items out.new.items) }
 {
     let number = Some(interface);
     match fault {
@@ -202,7 +211,8 @@ fn add_interface(
 
 // Whether one of the interfaces before has the prefix or the address of this one.
 fn is_any_in_conflict(before: &[Value], table: &Table) -> bool
-    ensures { IsTrue result ↔ Any (λ v. IsTableWith (λ t. AreInConflict t (table_view table.now)) (view v)) before.now }
+    ensures { IsTrue result ↔ Any (λ v. IsTableWith (λ t. AreInConflict t (table_view table.now))
+        (view v)) before.now }
 {
     before
         .iter()
@@ -211,7 +221,8 @@ fn is_any_in_conflict(before: &[Value], table: &Table) -> bool
 
 // Whether a value is the table of an interface that is in conflict with this one.
 fn is_value_in_conflict(value: &Value, table: &Table) -> bool
-    ensures { IsTrue result ↔ IsTableWith (λ t. AreInConflict t (table_view table.now)) (view value.now) }
+    ensures { IsTrue result ↔ IsTableWith (λ t. AreInConflict t (table_view table.now))
+        (view value.now) }
 {
     match value.as_table() {
         None => false,

@@ -80,7 +80,8 @@ fn top_fault(table: &Table) -> Option<ConfigFault>
 
 // The least fault of the keys of interfaces.
 fn interfaces_fault(values: &[Value]) -> Option<ConfigFault>
-    ensures { IsLeastIfAny (λ f. Any (λ v. IsTableWith (λ t. HasInterfaceFault t f) (view v)) values.now) result }
+    ensures { IsLeastIfAny (λ f. Any (λ v. IsTableWith (λ t. HasInterfaceFault t f) (view v))
+        values.now) result }
 {
     let mut least = None;
     for value in values {

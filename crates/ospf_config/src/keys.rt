@@ -166,7 +166,8 @@ fn number_at(
 ) -> Result<u16, ConfigFault>
     requires low { low ≤ default }
     requires high { default ≤ high }
-    ensures reads { Optional as_integer (IsNumberIn low high) default (get_member key.now (table_view table.now)) result }
+    ensures reads { Optional as_integer (IsNumberIn low high) default
+        (get_member key.now (table_view table.now)) result }
     ensures range { IfOk result (λ n. (low ≤ n) × (n ≤ high)) }
 {
     match value_at(table, key) {

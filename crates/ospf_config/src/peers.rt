@@ -35,7 +35,8 @@ pub fn peers_fault(table: &Table) -> Option<ConfigFault>
 pub(crate) fn peers_at(alloc: Global, table: &Table) -> Result<Vec<Port>, ConfigFault>
     ensures reads { IfOk result (λ ports. ReadsPeers (table_view table.now) (Ok ports.items)) }
     ensures few { IfOk result (λ ports. vec_len ports ≤ 32) }
-    ensures fault { IfErr result (λ f. (f ≡ fault.Memory) ⊎ ReadsPeers (table_view table.now) (Err f)) }
+    ensures fault { IfErr result (λ f. (f ≡ fault.Memory)
+        ⊎ ReadsPeers (table_view table.now) (Err f)) }
 {
     match value_at(table, "peers") {
         None => Ok(Vec::new(alloc)),
@@ -50,7 +51,8 @@ pub(crate) fn peers_at(alloc: Global, table: &Table) -> Result<Vec<Port>, Config
 fn check(values: &[Value]) -> Result<(), ConfigFault>
     ensures ports { OnOk result (All (λ v. IsPort (view v)) values.now) }
     ensures few { OnOk result (length values.now ≤ 32) }
-    ensures fault { IfErr result (λ f. ReadsValue ArePortNumbers (integers_of (items_view values.now)) (Err f)) }
+    ensures fault { IfErr result (λ f. ReadsValue ArePortNumbers
+        (integers_of (items_view values.now)) (Err f)) }
 {
     if !are_integers(values) {
         return Err(ConfigFault::Type);
@@ -95,9 +97,11 @@ fn port_in(value: &Value) -> Result<Port, ConfigFault>
 
 // The ports of a list of at most 32.
 fn read_ports(alloc: Global, values: &[Value]) -> Result<Vec<Port>, ConfigFault>
-    ensures reads { IfOk result (λ ports. ReadsValue ArePortNumbers (integers_of (items_view values.now)) (Ok ports.items)) }
+    ensures reads { IfOk result (λ ports. ReadsValue ArePortNumbers
+        (integers_of (items_view values.now)) (Ok ports.items)) }
     ensures few { IfOk result (λ ports. vec_len ports ≤ 32) }
-    ensures fault { IfErr result (λ f. (f ≡ fault.Memory) ⊎ ReadsValue ArePortNumbers (integers_of (items_view values.now)) (Err f)) }
+    ensures fault { IfErr result (λ f. (f ≡ fault.Memory)
+        ⊎ ReadsValue ArePortNumbers (integers_of (items_view values.now)) (Err f)) }
 {
     check(values)?;
     let ports = ports_of(alloc, values)?;
@@ -107,7 +111,8 @@ fn read_ports(alloc: Global, values: &[Value]) -> Result<Vec<Port>, ConfigFault>
 // The ports that values are.
 fn ports_of(alloc: Global, values: &[Value]) -> Result<Vec<Port>, AllocError>
     requires { All (λ v. IsPort (view v)) values.now }
-    ensures { IfOk result (λ ports. integers_of (items_view values.now) ≡ Some (map (λ p. pos p.number) ports.items)) }
+    ensures { IfOk result (λ ports. integers_of (items_view values.now)
+        ≡ Some (map (λ p. pos p.number) ports.items)) }
 {
     let mut ports = Vec::with_capacity(alloc, values.len())?;
     for value in values {

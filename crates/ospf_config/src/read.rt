@@ -49,7 +49,8 @@ impl Config {
 fn config_of(alloc: Global, table: &Table) -> Result<Config, ConfigFault>
     ensures ok { IfOk result (IsConfigOf (table_view table.now)) }
     ensures free { OnOk result ((f : ConfigFault) → HasFault (table_view table.now) f → ⊥) }
-    ensures fault { IfErr result (λ f. (f ≡ fault.Memory) ⊎ IsLeast (HasFault (table_view table.now)) f) }
+    ensures fault { IfErr result (λ f. (f ≡ fault.Memory)
+        ⊎ IsLeast (HasFault (table_view table.now)) f) }
 {
     match key_fault(table) {
         Some(fault) => Err(fault),
@@ -62,7 +63,8 @@ fn config_by_rules(alloc: Global, table: &Table) -> Result<Config, ConfigFault>
     requires { (f : ConfigFault) → HasKeyFault (table_view table.now) f → ⊥ }
     ensures ok { IfOk result (IsConfigOf (table_view table.now)) }
     ensures free { OnOk result ((f : ConfigFault) → HasFault (table_view table.now) f → ⊥) }
-    ensures fault { IfErr result (λ f. (f ≡ fault.Memory) ⊎ IsLeast (HasFault (table_view table.now)) f) }
+    ensures fault { IfErr result (λ f. (f ≡ fault.Memory)
+        ⊎ IsLeast (HasFault (table_view table.now)) f) }
 {
     let values = interface_values(table);
     let addresses = addresses_of(alloc, values)?;
@@ -105,8 +107,10 @@ fn config_at(alloc: Global, table: &Table, values: &[Value]) -> Result<Config, C
 fn interfaces_of(alloc: Global, values: &[Value]) -> Result<Vec<Interface>, ConfigFault>
     requires tables { All (λ v. IsSome (as_table (view v))) values.now }
     requires hellos { Any (λ v. IsTableWith IsDeadNotOverHello (view v)) values.now → ⊥ }
-    ensures ok { IfOk result (λ interfaces. EachPair IsInterfaceOf (tables_of (items_view values.now)) interfaces.items) }
-    ensures fault { IfErr result (λ f. (f ≡ fault.Memory) ⊎ Any (λ t. HasInterfaceFault t f) (tables_of (items_view values.now))) }
+    ensures ok { IfOk result (λ interfaces. EachPair IsInterfaceOf
+        (tables_of (items_view values.now)) interfaces.items) }
+    ensures fault { IfErr result (λ f. (f ≡ fault.Memory)
+        ⊎ Any (λ t. HasInterfaceFault t f) (tables_of (items_view values.now))) }
 {
     let mut interfaces = Vec::with_capacity(alloc, values.len())?;
     for value in values {
@@ -119,7 +123,8 @@ fn interfaces_of(alloc: Global, values: &[Value]) -> Result<Vec<Interface>, Conf
 fn interface_at(alloc: Global, table: &Table) -> Result<Interface, ConfigFault>
     requires { IsDeadNotOverHello (table_view table.now) → ⊥ }
     ensures ok { IfOk result (IsInterfaceOf (table_view table.now)) }
-    ensures fault { IfErr result (λ f. (f ≡ fault.Memory) ⊎ HasInterfaceFault (table_view table.now) f) }
+    ensures fault { IfErr result (λ f. (f ≡ fault.Memory)
+        ⊎ HasInterfaceFault (table_view table.now) f) }
 {
     let kind = kind_at(table)?;
     let address = address_at(table)?;

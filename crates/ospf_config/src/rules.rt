@@ -82,8 +82,10 @@ pub(crate) fn addresses_of(
     values: &[Value],
 ) -> Result<Vec<InterfaceAddress>, ConfigFault>
     requires { All (λ v. IsSome (as_table (view v))) values.now }
-    ensures ok { IfOk result (λ addresses. EachPair (λ t a. ReadsAddress t (Ok a)) (tables_of (items_view values.now)) addresses.items) }
-    ensures fault { IfErr result (λ f. (f ≡ fault.Memory) ⊎ Any (λ t. HasInterfaceFault t f) (tables_of (items_view values.now))) }
+    ensures ok { IfOk result (λ addresses. EachPair (λ t a. ReadsAddress t (Ok a))
+        (tables_of (items_view values.now)) addresses.items) }
+    ensures fault { IfErr result (λ f. (f ≡ fault.Memory)
+        ⊎ Any (λ t. HasInterfaceFault t f) (tables_of (items_view values.now))) }
 {
     let mut addresses = Vec::with_capacity(alloc, values.len())?;
     for value in values {
@@ -115,7 +117,8 @@ pub(crate) fn is_any_dead(values: &[Value]) -> bool
 
 // Whether a key is not known.
 pub(crate) fn is_any_unknown(table: &Table, values: &[Value]) -> bool
-    ensures { IsTrue result ↔ (HasOtherKey top_keys (table_view table.now) ⊎ Any (λ v. IsTableWith (HasOtherKey interface_keys) (view v)) values.now) }
+    ensures { IsTrue result ↔ (HasOtherKey top_keys (table_view table.now)
+        ⊎ Any (λ v. IsTableWith (HasOtherKey interface_keys) (view v)) values.now) }
 {
     has_other_key(table, &top_names()) || has_any_unknown_key(values)
 }
@@ -158,7 +161,8 @@ fn has_other_key(table: &Table, known: &[&str]) -> bool
 
 // Whether one of the keys of a table is none of these.
 fn is_any_other(table: &Table, known: &[&str]) -> bool
-    ensures { IsTrue result ↔ Any (λ k. IsOther (map (λ n. n.now) known.now) (string_bytes k)) (keys table.now) }
+    ensures { IsTrue result ↔ Any (λ k. IsOther (map (λ n. n.now) known.now) (string_bytes k))
+        (keys table.now) }
 {
     for key in table.keys() {
         if is_other(key.as_str(), known) {
@@ -170,7 +174,8 @@ fn is_any_other(table: &Table, known: &[&str]) -> bool
 
 // Whether a key of an interface is not known.
 fn has_any_unknown_key(values: &[Value]) -> bool
-    ensures { IsTrue result ↔ Any (λ v. IsTableWith (HasOtherKey interface_keys) (view v)) values.now }
+    ensures { IsTrue result ↔ Any (λ v. IsTableWith (HasOtherKey interface_keys) (view v))
+        values.now }
 {
     values.iter().any(|value| has_unknown_key(value))
 }

@@ -32,7 +32,9 @@ pub fn drive_all<
     S: Threads + Wait + Copy + Send + 'static,
 >(rt: &S, alloc: Global, jobs: Vec<Job<W, R>>) -> Result<Vec<Driven<R>>, AllocError>
     requires { All (λ job. W.failed job.1 + 1 < 2 ^ 64) jobs.items }
-    ensures { IfOk result (λ all. Pairs (λ job driven. IsDriven (at job.0 (W.traffic job.1) (W.failed job.1) job.2) driven) jobs.items all.items) }
+    ensures { IfOk result (λ all. Pairs
+        (λ job driven. IsDriven (at job.0 (W.traffic job.1) (W.failed job.1) job.2) driven)
+        jobs.items all.items) }
 {
     let mut results = Vec::with_capacity(alloc, jobs.len())?;
     let mut threads = Vec::with_capacity(alloc, jobs.len())?;
@@ -77,7 +79,8 @@ fn start_all<
     requires fresh { All (λ job. W.failed job.1 + 1 < 2 ^ 64) jobs.items }
     requires none { threads.old.items ≡ [] }
     requires room { vec_len jobs ≤ vec_capacity threads.old }
-    ensures { Pairs (λ job thread. IsStarted (at job.0 (W.traffic job.1) (W.failed job.1) job.2) thread) jobs.items threads.new.items }
+    ensures { Pairs (λ job thread. IsStarted (at job.0 (W.traffic job.1) (W.failed job.1) job.2)
+        thread) jobs.items threads.new.items }
 {
     while !jobs.is_empty() {
         let job = jobs.remove(0);

@@ -29,8 +29,10 @@ pub fn drive<W: Wire, R: Wait + Drop, S: Wait>(
     writer: &mut Writer<R>,
 ) -> Result<Option<Told>, DriveFault>
     requires { W.failed wire.old + 1 < 2 ^ 64 }
-    ensures turns { Drives (at router.old (W.traffic wire.old) (W.failed wire.old) writer.old) (at router.new (W.traffic wire.new) (W.failed wire.new) writer.new) result }
-    ensures whole { Whole (at router.old (W.traffic wire.old) (W.failed wire.old) writer.old) (at router.new (W.traffic wire.new) (W.failed wire.new) writer.new) result }
+    ensures turns { Drives (at router.old (W.traffic wire.old) (W.failed wire.old) writer.old)
+        (at router.new (W.traffic wire.new) (W.failed wire.new) writer.new) result }
+    ensures whole { Whole (at router.old (W.traffic wire.old) (W.failed wire.old) writer.old)
+        (at router.new (W.traffic wire.new) (W.failed wire.new) writer.new) result }
 {
     drives_are_whole();
     take_turns(rt, alloc, router, wire, writer)
@@ -45,7 +47,8 @@ fn take_turns<W: Wire, R: Wait + Drop, S: Wait>(
     writer: &mut Writer<R>,
 ) -> Result<Option<Told>, DriveFault>
     requires { W.failed wire.old + 1 < 2 ^ 64 }
-    ensures { Drives (at router.old (W.traffic wire.old) (W.failed wire.old) writer.old) (at router.new (W.traffic wire.new) (W.failed wire.new) writer.new) result }
+    ensures { Drives (at router.old (W.traffic wire.old) (W.failed wire.old) writer.old)
+        (at router.new (W.traffic wire.new) (W.failed wire.new) writer.new) result }
 {
     let mut buffer = [0; LONGEST];
     let mut told = None;

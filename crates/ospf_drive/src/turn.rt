@@ -33,8 +33,10 @@ pub(crate) fn turn<W: Wire, R: Wait + Drop>(
     buffer: &mut [u8; LONGEST],
 ) -> Result<Course, DriveFault>
     requires { W.failed wire.old + 1 < 2 ^ 64 }
-    ensures ok { IfOk result (Turns (at router.old (W.traffic wire.old) (W.failed wire.old) writer.old) (at router.new (W.traffic wire.new) (W.failed wire.new) writer.new)) }
-    ensures err { IfErr result (Fails (at router.old (W.traffic wire.old) (W.failed wire.old) writer.old) (at router.new (W.traffic wire.new) (W.failed wire.new) writer.new)) }
+    ensures ok { IfOk result (Turns (at router.old (W.traffic wire.old) (W.failed wire.old)
+        writer.old) (at router.new (W.traffic wire.new) (W.failed wire.new) writer.new)) }
+    ensures err { IfErr result (Fails (at router.old (W.traffic wire.old) (W.failed wire.old)
+        writer.old) (at router.new (W.traffic wire.new) (W.failed wire.new) writer.new)) }
 {
     let Ok(arrival) = wire.recv(buffer) else {
         return Err(DriveFault::Recv);
@@ -62,7 +64,8 @@ pub(crate) fn turn<W: Wire, R: Wait + Drop>(
 
 // The event that an arrival is, unless it is passed over.
 fn event_at<'a>(router: &Router, arrival: Arrival, buffer: &'a [u8; LONGEST]) -> Option<Event<'a>>
-    ensures some { IfSome result (λ event. event_of router.now.links (heard arrival buffer.now) ≡ Some (happening event)) }
+    ensures some { IfSome result (λ event. event_of router.now.links (heard arrival buffer.now)
+        ≡ Some (happening event)) }
     ensures none { IfNone result (event_of router.now.links (heard arrival buffer.now) ≡ None) }
 {
     match arrival {
@@ -107,7 +110,8 @@ fn show_and_send<W: Wire>(wire: &mut W, router: &Router, sent: &[Sent]) -> Resul
     requires { W.failed wire.old + 1 < 2 ^ 64 }
     ensures out { OnOk result (W.traffic wire.new ≡ and_sends sent.now (W.traffic wire.old)) }
     ensures out_failures { OnOk result (W.failed wire.new ≡ W.failed wire.old) }
-    ensures some_out { OnErr result ((count : ℕ) × (count < length sent.now) × (W.traffic wire.new ≡ and_sends (take count sent.now) (W.traffic wire.old))) }
+    ensures some_out { OnErr result ((count : ℕ) × (count < length sent.now)
+        × (W.traffic wire.new ≡ and_sends (take count sent.now) (W.traffic wire.old))) }
     ensures some_failures { OnErr result (W.failed wire.new ≡ W.failed wire.old + 1) }
 {
     wire.sees(router);
@@ -119,7 +123,8 @@ fn send_all<W: Wire>(wire: &mut W, sent: &[Sent]) -> Result<(), WireFault>
     requires { W.failed wire.old + 1 < 2 ^ 64 }
     ensures out { OnOk result (W.traffic wire.new ≡ and_sends sent.now (W.traffic wire.old)) }
     ensures out_failures { OnOk result (W.failed wire.new ≡ W.failed wire.old) }
-    ensures some_out { OnErr result ((count : ℕ) × (count < length sent.now) × (W.traffic wire.new ≡ and_sends (take count sent.now) (W.traffic wire.old))) }
+    ensures some_out { OnErr result ((count : ℕ) × (count < length sent.now)
+        × (W.traffic wire.new ≡ and_sends (take count sent.now) (W.traffic wire.old))) }
     ensures some_failures { OnErr result (W.failed wire.new ≡ W.failed wire.old + 1) }
 {
     for one in sent {

@@ -19,7 +19,8 @@ pub(crate) fn addresses_in(
     alloc: Global,
     listing: &Listing,
 ) -> Result<HashMap<u64, u32>, AllocError>
-    ensures { IfOk result (λ addresses. AreAddressesOn (advertisements_of listing.now) (get nat_eq addresses)) }
+    ensures { IfOk result (λ addresses. AreAddressesOn (advertisements_of listing.now)
+        (get nat_eq addresses)) }
 {
     let mut addresses = HashMap::new(alloc);
     for lsa in listing.lsas() {
@@ -37,7 +38,8 @@ pub(crate) fn address_at(addresses: &HashMap<u64, u32>, router: RouterId, id: u3
 
 // Adds the addresses that an LSA says.
 fn add_told(lsa: &Lsa, addresses: &mut HashMap<u64, u32>) -> Result<(), AllocError>
-    ensures { OnOk result (AddsTold (advertisement_of lsa.now) (get nat_eq addresses.old) (get nat_eq addresses.new)) }
+    ensures { OnOk result (AddsTold (advertisement_of lsa.now) (get nat_eq addresses.old)
+        (get nat_eq addresses.new)) }
 {
     let view = lsa.view();
     match view.kind() {
@@ -55,7 +57,8 @@ fn add_addresses(
     links: Links,
     addresses: &mut HashMap<u64, u32>,
 ) -> Result<(), AllocError>
-    ensures { OnOk result (AddsAddresses router links.entry (get nat_eq addresses.old) (get nat_eq addresses.new)) }
+    ensures { OnOk result (AddsAddresses router links.entry (get nat_eq addresses.old)
+        (get nat_eq addresses.new)) }
 {
     for link in links {
         add_address(router, link, addresses)?;
@@ -69,7 +72,8 @@ fn add_address(
     link: Link,
     addresses: &mut HashMap<u64, u32>,
 ) -> Result<(), AllocError>
-    ensures { OnOk result (AddsAddresses router (link ∷ []) (get nat_eq addresses.old) (get nat_eq addresses.new)) }
+    ensures { OnOk result (AddsAddresses router (link ∷ []) (get nat_eq addresses.old)
+        (get nat_eq addresses.new)) }
 {
     if link.kind != LinkKind::Transit {
         return Ok(());

@@ -15,8 +15,10 @@ use ospf_lsa::{Link, LinkKind, Links, Listing};
 ///
 /// It looks at the router's own links, and finds the LSAs behind them by their keys.
 pub fn link_cost(listing: &Listing, router: RouterId, hop: &NextHop) -> Option<u16>
-    ensures cost { IfSome result (λ cost. IsLinkCost (advertisements_of listing.now) router hop.now cost) }
-    ensures none { IfNone result ((metric : ℕ) → HasLinkFor (advertisements_of listing.now) router hop.now metric → ⊥) }
+    ensures cost { IfSome result (λ cost. IsLinkCost (advertisements_of listing.now) router hop.now
+        cost) }
+    ensures none { IfNone result ((metric : ℕ) →
+        HasLinkFor (advertisements_of listing.now) router hop.now metric → ⊥) }
 {
     let links = links_in(listing, router)?;
     least_of(links, listing, router, hop)

@@ -20,7 +20,8 @@ use std::alloc::{AllocError, Global};
 pub fn edges_of(alloc: Global, listing: &Listing) -> Result<Vec<Edge>, AllocError>
     ensures edges { IfOk result (λ edges. IsEdgesOf (advertisements_of listing.now) edges.items) }
     ensures fit { IfOk result (λ edges. IsFit edges.items) }
-    ensures few { IfOk result (λ edges. length edges.items ≤ link_count (advertisements_of listing.now)) }
+    ensures few { IfOk result (λ edges. length edges.items
+        ≤ link_count (advertisements_of listing.now)) }
 {
     let area = GraphIndex::of(alloc, listing)?;
     edges_by(alloc, listing, &area)
@@ -31,7 +32,8 @@ fn edges_by(alloc: Global, listing: &Listing, area: &GraphIndex) -> Result<Vec<E
     requires same { area.now ≡ advertisements_of listing.now }
     ensures edges { IfOk result (λ edges. IsEdgesOf (advertisements_of listing.now) edges.items) }
     ensures fit { IfOk result (λ edges. IsFit edges.items) }
-    ensures few { IfOk result (λ edges. length edges.items ≤ link_count (advertisements_of listing.now)) }
+    ensures few { IfOk result (λ edges. length edges.items
+        ≤ link_count (advertisements_of listing.now)) }
 {
     let mut edges = Vec::new(alloc);
     for lsa in listing.lsas() {
@@ -42,8 +44,10 @@ fn edges_by(alloc: Global, listing: &Listing, area: &GraphIndex) -> Result<Vec<E
 
 // Adds the edges that an LSA gives.
 fn add_edges(area: &GraphIndex, lsa: &Lsa, edges: &mut Vec<Edge>) -> Result<(), AllocError>
-    ensures added { OnOk result (Adds (EdgesOf area.now (advertisement_of lsa.now)) edges.old.items edges.new.items) }
-    ensures few { OnOk result (length edges.new.items ≤ length edges.old.items + link_count (advertisement_of lsa.now ∷ [])) }
+    ensures added { OnOk result (Adds (EdgesOf area.now (advertisement_of lsa.now)) edges.old.items
+        edges.new.items) }
+    ensures few { OnOk result (length edges.new.items
+        ≤ length edges.old.items + link_count (advertisement_of lsa.now ∷ [])) }
 {
     let view = lsa.view();
     let key = view.key();
@@ -68,7 +72,8 @@ fn add_links(
     links: Links,
     edges: &mut Vec<Edge>,
 ) -> Result<(), AllocError>
-    ensures added { OnOk result (Adds (λ e. (link : Link) × Contains links.entry link × LinkGives area.now router link e) edges.old.items edges.new.items) }
+    ensures added { OnOk result (Adds (λ e. (link : Link) × Contains links.entry link
+        × LinkGives area.now router link e) edges.old.items edges.new.items) }
     ensures few { OnOk result (length edges.new.items ≤ length edges.old.items + length links.entry) }
 {
     for link in links {
@@ -84,7 +89,8 @@ fn add_link(
     link: Link,
     edges: &mut Vec<Edge>,
 ) -> Result<(), AllocError>
-    ensures added { OnOk result (Adds (LinkGives area.now router link) edges.old.items edges.new.items) }
+    ensures added { OnOk result (Adds (LinkGives area.now router link) edges.old.items
+        edges.new.items) }
     ensures few { OnOk result (length edges.new.items ≤ length edges.old.items + 1) }
 {
     match edge_of(area, router, link) {
@@ -98,7 +104,8 @@ fn add_link(
 
 // The edge of a link: to a router that links back, or to a network that names the router.
 fn edge_of(area: &GraphIndex, router: RouterId, link: Link) -> Option<Edge>
-    ensures { MatchOption result ((e : Edge) → LinkGives area.now router link e → ⊥) (λ edge. (e : Edge) → LinkGives area.now router link e ↔ (edge ≡ e)) }
+    ensures { MatchOption result ((e : Edge) → LinkGives area.now router link e → ⊥)
+        (λ edge. (e : Edge) → LinkGives area.now router link e ↔ (edge ≡ e)) }
 {
     let to = match link.kind {
         LinkKind::PointToPoint if area.links_to(RouterId(link.id), router) => {
@@ -122,8 +129,10 @@ fn add_members(
     attached: Attached,
     edges: &mut Vec<Edge>,
 ) -> Result<(), AllocError>
-    ensures added { OnOk result (Adds (λ e. (member : RouterId) × Contains attached.entry member × AttachedGives area.now id member e) edges.old.items edges.new.items) }
-    ensures few { OnOk result (length edges.new.items ≤ length edges.old.items + length attached.entry) }
+    ensures added { OnOk result (Adds (λ e. (member : RouterId) × Contains attached.entry member
+        × AttachedGives area.now id member e) edges.old.items edges.new.items) }
+    ensures few { OnOk result (length edges.new.items
+        ≤ length edges.old.items + length attached.entry) }
 {
     for member in attached {
         add_member(area, id, member, edges)?;
@@ -138,7 +147,8 @@ fn add_member(
     member: RouterId,
     edges: &mut Vec<Edge>,
 ) -> Result<(), AllocError>
-    ensures added { OnOk result (Adds (AttachedGives area.now id member) edges.old.items edges.new.items) }
+    ensures added { OnOk result (Adds (AttachedGives area.now id member) edges.old.items
+        edges.new.items) }
     ensures few { OnOk result (length edges.new.items ≤ length edges.old.items + 1) }
 {
     match area.address_on(id, member) {

@@ -42,7 +42,8 @@ pub fn ends_at(alloc: Global, listing: &Listing, vertex: Vertex) -> Result<Vec<E
 
 // Adds the ends that an LSA gives.
 fn add_ends(listing: &Listing, lsa: &Lsa, ends: &mut Vec<End>) -> Result<(), AllocError>
-    ensures { OnOk result (Adds (EndsOf (advertisements_of listing.now) (advertisement_of lsa.now)) ends.old.items ends.new.items) }
+    ensures { OnOk result (Adds (EndsOf (advertisements_of listing.now) (advertisement_of lsa.now))
+        ends.old.items ends.new.items) }
 {
     let view = lsa.view();
     let key = view.key();
@@ -62,7 +63,8 @@ fn add_ends(listing: &Listing, lsa: &Lsa, ends: &mut Vec<End>) -> Result<(), All
 
 // Adds the ends of links.
 fn add_stubs(router: RouterId, links: Links, ends: &mut Vec<End>) -> Result<(), AllocError>
-    ensures { OnOk result (Adds (λ e. (link : Link) × Contains links.entry link × StubGives router link e) ends.old.items ends.new.items) }
+    ensures { OnOk result (Adds (λ e. (link : Link) × Contains links.entry link
+        × StubGives router link e) ends.old.items ends.new.items) }
 {
     for link in links {
         add_stub(router, link, ends)?;
@@ -85,7 +87,8 @@ fn add_stub(router: RouterId, link: Link, ends: &mut Vec<End>) -> Result<(), All
 
 // The end of a stub link.
 fn stub_of(router: RouterId, link: Link) -> Option<End>
-    ensures { MatchOption result ((e : End) → StubGives router link e → ⊥) (λ end. (e : End) → StubGives router link e ↔ (end ≡ e)) }
+    ensures { MatchOption result ((e : End) → StubGives router link e → ⊥)
+        (λ end. (e : End) → StubGives router link e ↔ (end ≡ e)) }
 {
     match link.kind {
         LinkKind::Stub => {
@@ -115,7 +118,8 @@ fn add_network(id: u32, mask: u32, ends: &mut Vec<End>) -> Result<(), AllocError
 
 // The end of a transit network.
 fn network_end(id: u32, mask: u32) -> Option<End>
-    ensures { MatchOption result ((e : End) → NetworkGives id mask e → ⊥) (λ end. (e : End) → NetworkGives id mask e ↔ (end ≡ e)) }
+    ensures { MatchOption result ((e : End) → NetworkGives id mask e → ⊥)
+        (λ end. (e : End) → NetworkGives id mask e ↔ (end ≡ e)) }
 {
     let prefix = Prefix::under(Addr(id), mask)?;
     Some(End {

@@ -74,7 +74,8 @@ impl<'a> GraphIndex<'a> {
     /// A router's address on a transit network, by its first link there.
     pub(crate) fn address_on(&self, id: u32, router: RouterId) -> Option<u32>
         ensures found { IfSome result (λ address. IsAddressOn self.now id router address) }
-        ensures only { IfSome result (λ address. (other : ℕ) → IsAddressOn self.now id router other → other ≡ address) }
+        ensures only { IfSome result (λ address. (other : ℕ) →
+            IsAddressOn self.now id router other → other ≡ address) }
         ensures none { IfNone result ((other : ℕ) → IsAddressOn self.now id router other → ⊥) }
     {
         address_at(&self.addresses, router, id)
@@ -101,7 +102,8 @@ fn links_in(alloc: Global, listing: &Listing) -> Result<Pairs, AllocError>
 
 // Adds the pairs of an LSA's type 1 links.
 fn push_linked(lsa: &Lsa, pairs: &mut Vec<u64>) -> Result<(), AllocError>
-    ensures { OnOk result (Adds (LinksOf (advertisement_of lsa.now)) pairs.old.items pairs.new.items) }
+    ensures { OnOk result (Adds (LinksOf (advertisement_of lsa.now)) pairs.old.items
+        pairs.new.items) }
 {
     let view = lsa.view();
     match view.kind() {
@@ -115,7 +117,8 @@ fn push_linked(lsa: &Lsa, pairs: &mut Vec<u64>) -> Result<(), AllocError>
 
 // Adds the pairs of type 1 links.
 fn push_links(router: RouterId, links: Links, pairs: &mut Vec<u64>) -> Result<(), AllocError>
-    ensures { OnOk result (Adds (λ q. (link : Link) × Contains links.entry link × LinkNames router link q) pairs.old.items pairs.new.items) }
+    ensures { OnOk result (Adds (λ q. (link : Link) × Contains links.entry link
+        × LinkNames router link q) pairs.old.items pairs.new.items) }
 {
     for link in links {
         push_link(router, link, pairs)?;
@@ -149,7 +152,8 @@ fn members_in(alloc: Global, listing: &Listing) -> Result<Pairs, AllocError>
 
 // Adds the pairs of an LSA that stands for a network.
 fn push_named(listing: &Listing, lsa: &Lsa, pairs: &mut Vec<u64>) -> Result<(), AllocError>
-    ensures { OnOk result (Adds (MembersOf (advertisements_of listing.now) (advertisement_of lsa.now)) pairs.old.items pairs.new.items) }
+    ensures { OnOk result (Adds (MembersOf (advertisements_of listing.now)
+        (advertisement_of lsa.now)) pairs.old.items pairs.new.items) }
 {
     let view = lsa.view();
     let key = view.key();
@@ -166,7 +170,8 @@ fn push_named(listing: &Listing, lsa: &Lsa, pairs: &mut Vec<u64>) -> Result<(), 
 
 // Adds the pairs of attached routers.
 fn push_members(id: u32, attached: Attached, pairs: &mut Vec<u64>) -> Result<(), AllocError>
-    ensures { OnOk result (Adds (λ q. (member : RouterId) × Contains attached.entry member × NamedOn id member q) pairs.old.items pairs.new.items) }
+    ensures { OnOk result (Adds (λ q. (member : RouterId) × Contains attached.entry member
+        × NamedOn id member q) pairs.old.items pairs.new.items) }
 {
     for member in attached {
         push_member(id, member, pairs)?;

@@ -113,8 +113,10 @@ fn push_attached(attached: Attached, items: &mut Vec<GraphItem>) -> Result<(), A
 
 // What stands behind the items of an LSA, if those are the first.
 fn after_lsa<'a>(items: &'a [GraphItem], lsa: &Lsa) -> Option<&'a [GraphItem]>
-    ensures some { IfSome result (λ rest. items.now ≡ items_of (advertisement_of lsa.now) ++ rest.now) }
-    ensures none { IfNone result ((rest : List GraphItem) → items.now ≡ items_of (advertisement_of lsa.now) ++ rest → ⊥) }
+    ensures some { IfSome result (λ rest. items.now ≡ items_of (advertisement_of lsa.now)
+        ++ rest.now) }
+    ensures none { IfNone result ((rest : List GraphItem) →
+        items.now ≡ items_of (advertisement_of lsa.now) ++ rest → ⊥) }
 {
     let view = lsa.view();
     let key = view.key();
@@ -149,7 +151,8 @@ fn after<'a>(items: &'a [GraphItem], item: GraphItem) -> Option<&'a [GraphItem]>
 // What stands behind the items of links, if those are the first.
 fn after_links<'a>(items: &'a [GraphItem], links: Links) -> Option<&'a [GraphItem]>
     ensures some { IfSome result (λ rest. items.now ≡ link_items links.entry ++ rest.now) }
-    ensures none { IfNone result ((rest : List GraphItem) → items.now ≡ link_items links.entry ++ rest → ⊥) }
+    ensures none { IfNone result ((rest : List GraphItem) →
+        items.now ≡ link_items links.entry ++ rest → ⊥) }
 {
     let mut rest = items;
     for link in links {
@@ -164,7 +167,8 @@ fn after_links<'a>(items: &'a [GraphItem], links: Links) -> Option<&'a [GraphIte
 // What stands behind a link, if that is the first or no part of the graph.
 fn after_link<'a>(items: &'a [GraphItem], link: Link) -> Option<&'a [GraphItem]>
     ensures some { IfSome result (λ rest. items.now ≡ link_items (link ∷ []) ++ rest.now) }
-    ensures none { IfNone result ((rest : List GraphItem) → items.now ≡ link_items (link ∷ []) ++ rest → ⊥) }
+    ensures none { IfNone result ((rest : List GraphItem) →
+        items.now ≡ link_items (link ∷ []) ++ rest → ⊥) }
 {
     if is_of_graph(link.kind) {
         after(items, GraphItem::Link(link))
@@ -176,7 +180,8 @@ fn after_link<'a>(items: &'a [GraphItem], link: Link) -> Option<&'a [GraphItem]>
 // What stands behind the items of attached routers, if those are the first.
 fn after_attached<'a>(items: &'a [GraphItem], attached: Attached) -> Option<&'a [GraphItem]>
     ensures some { IfSome result (λ rest. items.now ≡ attached_items attached.entry ++ rest.now) }
-    ensures none { IfNone result ((rest : List GraphItem) → items.now ≡ attached_items attached.entry ++ rest → ⊥) }
+    ensures none { IfNone result ((rest : List GraphItem) →
+        items.now ≡ attached_items attached.entry ++ rest → ⊥) }
 {
     let mut rest = items;
     for router in attached {

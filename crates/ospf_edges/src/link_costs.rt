@@ -12,8 +12,10 @@ use ospf_lsa::{Attached, Link, LinkKind, Links, Listing};
 
 /// The links of a router, if its router-LSA is listed.
 pub(crate) fn links_in(listing: &Listing, router: RouterId) -> Option<Links<'_>>
-    ensures found { IfSome result (λ ls. Contains (advertisements_of listing.now) (router_lsa router ls)) }
-    ensures only { IfSome result (λ ls. (others : List Link) → Contains (advertisements_of listing.now) (router_lsa router others) → others ≡ ls) }
+    ensures found { IfSome result (λ ls. Contains (advertisements_of listing.now)
+        (router_lsa router ls)) }
+    ensures only { IfSome result (λ ls. (others : List Link) →
+        Contains (advertisements_of listing.now) (router_lsa router others) → others ≡ ls) }
     ensures none { IfNone result (IsListed (advertisements_of listing.now) router → ⊥) }
 {
     let key = LsaKey {
@@ -66,9 +68,12 @@ fn is_to(link: &Link, kind: LinkKind, id: u32) -> bool
 
 // The routers on a transit network, if its network-LSA is listed.
 fn attached_in(listing: &Listing, id: u32) -> Option<Attached<'_>>
-    ensures found { IfSome result (λ rs. (mask : ℕ) × IsNetwork (advertisements_of listing.now) id mask rs) }
-    ensures only { IfSome result (λ rs. (mask : ℕ) (others : List RouterId) → IsNetwork (advertisements_of listing.now) id mask others → others ≡ rs) }
-    ensures none { IfNone result ((mask : ℕ) (others : List RouterId) → IsNetwork (advertisements_of listing.now) id mask others → ⊥) }
+    ensures found { IfSome result (λ rs. (mask : ℕ)
+        × IsNetwork (advertisements_of listing.now) id mask rs) }
+    ensures only { IfSome result (λ rs. (mask : ℕ) (others : List RouterId) →
+        IsNetwork (advertisements_of listing.now) id mask others → others ≡ rs) }
+    ensures none { IfNone result ((mask : ℕ) (others : List RouterId) →
+        IsNetwork (advertisements_of listing.now) id mask others → ⊥) }
 {
     let lsa = listing.network(id)?;
     Some(lsa.view().attached())

@@ -27,7 +27,8 @@ pub fn is_listed(listing: &Listing, router: RouterId) -> bool
 
 // The LSA of a vertex: a router's, or the one that stands for a network.
 pub(crate) fn lsa_at(listing: &Listing, vertex: Vertex) -> Option<&Lsa>
-    ensures found { IfSome result (λ lsa. IsLsaAt (advertisements_of listing.now) vertex (advertisement_of lsa.now)) }
+    ensures found { IfSome result (λ lsa. IsLsaAt (advertisements_of listing.now) vertex
+        (advertisement_of lsa.now)) }
     ensures none { IfNone result (HasNoLsaAt (advertisements_of listing.now) vertex) }
 {
     match vertex {

@@ -85,8 +85,10 @@ fn best(
     own: Elected,
     standing: Standing,
 ) -> Option<Candidate>
-    ensures some { IfSome result (IsBest (BelongsTo standing) (map (declaring me own) candidates.now)) }
-    ensures none { IfNone result (HasNone (BelongsTo standing) (map (declaring me own) candidates.now)) }
+    ensures some { IfSome result (IsBest (BelongsTo standing)
+        (map (declaring me own) candidates.now)) }
+    ensures none { IfNone result (HasNone (BelongsTo standing)
+        (map (declaring me own) candidates.now)) }
 {
     let mut best = None;
     for c in candidates {

@@ -108,10 +108,18 @@ pub fn failures_text<R: BufRead + Drop, O: Write, E: Write>(
     out: &mut O,
     err: &mut E,
 ) -> FailuresStatus
-    ensures answered { IsWhole result → IfSome (R.remaining input) (IsAnswered job.now result (O.contents out.old) (O.contents out.new) (E.contents err.old) (E.contents err.new)) }
-    ensures refused { result ≡ FailuresStatus.Ended Status.Refused → IfSome (R.remaining input) (IsRefusalTold (E.contents err.old) (E.contents err.new)) }
-    ensures unwritten { result ≡ FailuresStatus.Ended Status.Refused → O.contents out.new ≡ O.contents out.old }
-    ensures cut { (result ≡ FailuresStatus.Ended Status.Memory) ⊎ (result ≡ FailuresStatus.Ended Status.Stream) → (failed : FailedStreams) × IsCutShort (R.remaining input) job.now failed (O.contents out.old) (O.contents out.new) (E.contents err.old) (E.contents err.new) result }
+    ensures answered { IsWhole result → IfSome (R.remaining input)
+        (IsAnswered job.now result (O.contents out.old) (O.contents out.new) (E.contents err.old)
+        (E.contents err.new)) }
+    ensures refused { result ≡ FailuresStatus.Ended Status.Refused →
+        IfSome (R.remaining input) (IsRefusalTold (E.contents err.old) (E.contents err.new)) }
+    ensures unwritten { result ≡ FailuresStatus.Ended Status.Refused →
+        O.contents out.new ≡ O.contents out.old }
+    ensures cut { (result ≡ FailuresStatus.Ended Status.Memory)
+        ⊎ (result ≡ FailuresStatus.Ended Status.Stream) →
+        (failed : FailedStreams)
+        × IsCutShort (R.remaining input) job.now failed (O.contents out.old) (O.contents out.new)
+        (E.contents err.old) (E.contents err.new) result }
     ensures not_words { result ≢ FailuresStatus.Ended Status.Words }
 {
     failures_noted(alloc, job, input, out, err, &mut FailedStreams::none())
@@ -134,7 +142,8 @@ fn failures_noted<R: BufRead + Drop, O: Write, E: Write>(
     err: &mut E,
     streams: &mut FailedStreams,
 ) -> FailuresStatus
-    ensures { IsEnding (R.remaining input) job.now streams.new (O.contents out.old) (O.contents out.new) (E.contents err.old) (E.contents err.new) result }
+    ensures { IsEnding (R.remaining input) job.now streams.new (O.contents out.old)
+        (O.contents out.new) (E.contents err.old) (E.contents err.new) result }
 {
     match answer_or_refuse(alloc, job, input, out, err, streams) {
         Ok(status) => status,
@@ -151,8 +160,10 @@ fn answer_or_refuse<R: BufRead + Drop, O: Write, E: Write>(
     err: &mut E,
     streams: &mut FailedStreams,
 ) -> Result<FailuresStatus, Failure>
-    ensures said { IfOk result (IsSaid (R.remaining input) job.now (O.contents out.old) (O.contents out.new) (E.contents err.old) (E.contents err.new)) }
-    ensures cut { IfErr result (EndsBy (R.remaining input) job.now streams.new (O.contents out.old) (O.contents out.new) (E.contents err.old) (E.contents err.new)) }
+    ensures said { IfOk result (IsSaid (R.remaining input) job.now (O.contents out.old)
+        (O.contents out.new) (E.contents err.old) (E.contents err.new)) }
+    ensures cut { IfErr result (EndsBy (R.remaining input) job.now streams.new (O.contents out.old)
+        (O.contents out.new) (E.contents err.old) (E.contents err.new)) }
 {
     match answer_of(alloc, job, input) {
         Ok(answer) => print(job, &answer, out, err, streams),
@@ -179,7 +190,8 @@ fn answer_of<R: BufRead + Drop>(alloc: Global, job: &FailuresJob, input: R) -> R
 
 // The listing of the lines of an input, none of whose routers has too many links.
 fn listing_of<R: BufRead + Drop>(alloc: Global, input: R) -> Result<Listing, Fault>
-    ensures whole { IfOk result (λ listing. IfSome (R.remaining input) (λ bytes. Reads bytes [] listing)) }
+    ensures whole { IfOk result (λ listing. IfSome (R.remaining input)
+        (λ bytes. Reads bytes [] listing)) }
     ensures small { IfOk result (λ listing. HasLarge (advertisements_of listing) → ⊥) }
     ensures fault { IfErr result (IsFault (R.remaining input)) }
 {
@@ -198,7 +210,8 @@ fn listing_of<R: BufRead + Drop>(alloc: Global, input: R) -> Result<Listing, Fau
 
 // The refusal of a line.
 fn line_refused(alloc: Global, number: u64, fault: EntryFault) -> Fault
-    ensures { (input : Option (List ℕ)) → IfSome input (λ bytes. Refuses bytes [] number fault) → IsFault input result }
+    ensures { (input : Option (List ℕ)) → IfSome input (λ bytes. Refuses bytes [] number fault) →
+        IsFault input result }
 {
     match format!(in alloc; "line {number}: {}\n", fault.text()) {
         Ok(text) => Fault::Refused(text),
@@ -247,7 +260,9 @@ fn are_more(links: Links, most: usize) -> bool
 
 // The refusal of a router of too many links.
 fn router_refused(alloc: Global, router: RouterId) -> Fault
-    ensures { (input : Option (List ℕ)) (listing : List (List ℕ)) → IfSome input (λ bytes. Reads bytes [] listing) → IsFirstLarge listing router → IsFault input result }
+    ensures { (input : Option (List ℕ)) (listing : List (List ℕ)) →
+        IfSome input (λ bytes. Reads bytes [] listing) → IsFirstLarge listing router →
+        IsFault input result }
 {
     match format!(in alloc; "{router}: more than 1361 links\n") {
         Ok(text) => Fault::Refused(text),
@@ -270,7 +285,9 @@ fn warning_of(alloc: Global, listing: &Listing, root: RouterId) -> Result<String
 // The reports of a listing none of whose routers has too many links.
 fn reports_at(alloc: Global, listing: &Listing, root: RouterId) -> Result<Vec<Report>, AllocError>
     requires { HasLarge (advertisements_of listing.now) → ⊥ }
-    ensures { IfOk result (λ printed. (table : List Route) × IsTable (advertisements_of listing.now) root table × IsReported (advertisements_of listing.now) root table printed.items) }
+    ensures { IfOk result (λ printed. (table : List Route)
+        × IsTable (advertisements_of listing.now) root table
+        × IsReported (advertisements_of listing.now) root table printed.items) }
 {
     let table = RouteTable::of(alloc, listing, root)?;
     match reports(alloc, listing, root, &table) {
@@ -288,8 +305,12 @@ fn print<O: Write, E: Write>(
     err: &mut E,
     streams: &mut FailedStreams,
 ) -> Result<FailuresStatus, Failure>
-    ensures said { (input : Option (List ℕ)) → IfSome input (IsAnswerOf job.now answer.now) → IfOk result (IsSaid input job.now (O.contents out.old) (O.contents out.new) (E.contents err.old) (E.contents err.new)) }
-    ensures cut { (input : Option (List ℕ)) → IfSome input (IsAnswerOf job.now answer.now) → IfErr result (EndsBy input job.now streams.new (O.contents out.old) (O.contents out.new) (E.contents err.old) (E.contents err.new)) }
+    ensures said { (input : Option (List ℕ)) → IfSome input (IsAnswerOf job.now answer.now) →
+        IfOk result (IsSaid input job.now (O.contents out.old) (O.contents out.new)
+        (E.contents err.old) (E.contents err.new)) }
+    ensures cut { (input : Option (List ℕ)) → IfSome input (IsAnswerOf job.now answer.now) →
+        IfErr result (EndsBy input job.now streams.new (O.contents out.old) (O.contents out.new)
+        (E.contents err.old) (E.contents err.new)) }
 {
     match streams.tell(err, &answer.warning) {
         Ok(()) => {}
@@ -304,7 +325,8 @@ fn print<O: Write, E: Write>(
 // How it ends where all is printed.
 fn end_of(strict: bool, has_cut: bool) -> FailuresStatus
     ensures whole { IsWhole result }
-    ensures end { (printed : List ReportValue) → (IsTrue has_cut ↔ HasCut printed) → IsEnd strict printed result }
+    ensures end { (printed : List ReportValue) → (IsTrue has_cut ↔ HasCut printed) →
+        IsEnd strict printed result }
 {
     if strict && has_cut {
         FailuresStatus::CutOff
@@ -319,8 +341,13 @@ fn refuse<E: Write>(
     err: &mut E,
     streams: &mut FailedStreams,
 ) -> Result<FailuresStatus, Failure>
-    ensures said { (input : Option (List ℕ)) (job : FailuresJob) (out : Option (List ℕ)) → IfSome input (λ bytes. IsRefusal bytes text.now) → IfOk result (IsSaid input job out out (E.contents err.old) (E.contents err.new)) }
-    ensures cut { (input : Option (List ℕ)) (job : FailuresJob) (out : Option (List ℕ)) → IfSome input (λ bytes. IsRefusal bytes text.now) → IfErr result (EndsBy input job streams.new out out (E.contents err.old) (E.contents err.new)) }
+    ensures said { (input : Option (List ℕ)) (job : FailuresJob) (out : Option (List ℕ)) →
+        IfSome input (λ bytes. IsRefusal bytes text.now) →
+        IfOk result (IsSaid input job out out (E.contents err.old) (E.contents err.new)) }
+    ensures cut { (input : Option (List ℕ)) (job : FailuresJob) (out : Option (List ℕ)) →
+        IfSome input (λ bytes. IsRefusal bytes text.now) →
+        IfErr result (EndsBy input job streams.new out out (E.contents err.old)
+        (E.contents err.new)) }
 {
     match streams.tell(err, text) {
         Ok(()) => Ok(FailuresStatus::Ended(Status::Refused)),

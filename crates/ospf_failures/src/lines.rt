@@ -59,7 +59,8 @@ fn change_lines(
     failure: &Failure,
     changes: &[RouteChange],
 ) -> Result<String, AllocError>
-    ensures { IfOk result (λ lines. string_bytes lines ≡ flat_map (change_line failure.now) changes.now) }
+    ensures { IfOk result (λ lines. string_bytes lines
+        ≡ flat_map (change_line failure.now) changes.now) }
 {
     let mut lines = String::new(alloc);
     for change in changes {
@@ -83,7 +84,8 @@ fn change_line(alloc: Global, failure: &Failure, change: &RouteChange) -> Result
 
 // The line of a prefix that is gone.
 fn gone_line(alloc: Global, failure: &Failure, before: &Route) -> Result<String, AllocError>
-    ensures { IfOk result (λ line. string_bytes line ≡ failure_text failure.now ++ loss_line before.now Loss.Gone) }
+    ensures { IfOk result (λ line. string_bytes line ≡ failure_text failure.now
+        ++ loss_line before.now Loss.Gone) }
 {
     let line = format!(in alloc; "{failure} gone {}\n", before.prefix)?;
     Ok(line)
@@ -91,7 +93,8 @@ fn gone_line(alloc: Global, failure: &Failure, before: &Route) -> Result<String,
 
 // The line of a prefix that is cut off.
 fn cut_line(alloc: Global, failure: &Failure, before: &Route) -> Result<String, AllocError>
-    ensures { IfOk result (λ line. string_bytes line ≡ failure_text failure.now ++ loss_line before.now Loss.Cut) }
+    ensures { IfOk result (λ line. string_bytes line ≡ failure_text failure.now
+        ++ loss_line before.now Loss.Cut) }
 {
     let line = format!(in alloc; "{failure} cut {}\n", before.prefix)?;
     Ok(line)
@@ -104,7 +107,8 @@ fn dearer_line(
     before: &Route,
     after: &Route,
 ) -> Result<String, AllocError>
-    ensures { IfOk result (λ line. string_bytes line ≡ failure_text failure.now ++ loss_line before.now (Loss.Dearer after.now)) }
+    ensures { IfOk result (λ line. string_bytes line ≡ failure_text failure.now
+        ++ loss_line before.now (Loss.Dearer after.now)) }
 {
     let costs = Costs {
         before: before.cost,
@@ -121,7 +125,8 @@ fn moved_line(
     before: &Route,
     after: &Route,
 ) -> Result<String, AllocError>
-    ensures { IfOk result (λ line. string_bytes line ≡ failure_text failure.now ++ loss_line before.now (Loss.Moved after.now)) }
+    ensures { IfOk result (λ line. string_bytes line ≡ failure_text failure.now
+        ++ loss_line before.now (Loss.Moved after.now)) }
 {
     let line = format!(in alloc;
         "{failure} hops {} {} {}\n",

@@ -69,7 +69,8 @@ impl Report {
     ///
     /// `AllocError` where memory runs out.
     pub fn lines(&self, alloc: Global, each: bool) -> Result<String, AllocError>
-        ensures { IfOk result (λ lines. string_bytes lines ≡ failure_lines each self.now.0 self.now.1) }
+        ensures { IfOk result (λ lines. string_bytes lines
+            ≡ failure_lines each self.now.0 self.now.1) }
     {
         failure_lines(alloc, &self.failure, &self.changes, self.totals, each)
     }
@@ -100,7 +101,8 @@ pub fn reports(
     table: &RouteTable,
 ) -> Result<Vec<Report>, WithoutFault>
     requires { IsTable (advertisements_of listing.now) root table.now }
-    ensures reported { IfOk result (λ reports. IsReported (advertisements_of listing.now) root table.now reports.items) }
+    ensures reported { IfOk result (λ reports. IsReported (advertisements_of listing.now) root
+        table.now reports.items) }
     ensures large { result ≡ Err WithoutFault.Links → HasLarge (advertisements_of listing.now) }
 {
     let failures = other_failures(alloc, listing, root)?;
@@ -153,7 +155,8 @@ fn other_failures(
     listing: &Listing,
     root: RouterId,
 ) -> Result<Vec<Failure>, AllocError>
-    ensures all { IfOk result (λ failures. (f : Failure) → Contains failures.items f ↔ IsOther (advertisements_of listing.now) root f) }
+    ensures all { IfOk result (λ failures. (f : Failure) →
+        Contains failures.items f ↔ IsOther (advertisements_of listing.now) root f) }
     ensures rising { IfOk result (λ failures. AllPairs IsFailureBefore failures.items) }
 {
     let mut failures = single_failures(alloc, listing)?;
@@ -185,7 +188,8 @@ fn reports_of(
     requires { IsTable (advertisements_of listing.now) root table.now }
     ensures failures { IfOk result (λ reports. map (λ r. r.0) reports.items ≡ failures.now) }
     ensures large { result ≡ Err WithoutFault.Links → HasLarge (advertisements_of listing.now) }
-    ensures changed { IfOk result (λ reports. All (λ r. IsEffect (advertisements_of listing.now) root r.0 table.now r.1) reports.items) }
+    ensures changed { IfOk result (λ reports. All
+        (λ r. IsEffect (advertisements_of listing.now) root r.0 table.now r.1) reports.items) }
 {
     let mut reports = Vec::new(alloc);
     for failure in failures {

@@ -125,12 +125,17 @@ pub(crate) fn closed<R: Wait>(rt: &R, opened: &Opened, counter: &Counter) -> Sol
 
 // Readers find all that was handed over from now on. At `Err` they find what they found.
 pub(crate) fn show<R: Wait>(copies: Copies, rt: &R) -> (Copies, Result<(), AllocError>)
-    requires { (end_of copies.desk.shown.value (drop copies.behind copies.log.items)).list.fib ≡ copies.desk.shown.value.known.fib }
-    ensures shown { IfOk result.1 (λ _. common_of result.0.desk.shown.value ≡ end_of copies.desk.shown.value (drop copies.behind copies.log.items)) }
-    ensures named { IfOk result.1 (λ _. IsNamed (view result.0.desk.place) result.0.desk.shown.value.known.fib) }
+    requires { (end_of copies.desk.shown.value (drop copies.behind copies.log.items)).list.fib
+        ≡ copies.desk.shown.value.known.fib }
+    ensures shown { IfOk result.1 (λ _. common_of result.0.desk.shown.value
+        ≡ end_of copies.desk.shown.value (drop copies.behind copies.log.items)) }
+    ensures named { IfOk result.1 (λ _. IsNamed (view result.0.desk.place)
+        result.0.desk.shown.value.known.fib) }
     ensures done { IfOk result.1 (λ _. drop result.0.behind result.0.log.items ≡ []) }
-    ensures same { OnErr result.1 ((result.0.desk.shown.value ≡ copies.desk.shown.value) × (view result.0.desk.place ≡ view copies.desk.place)) }
-    ensures waiting { OnErr result.1 (drop result.0.behind result.0.log.items ≡ drop copies.behind copies.log.items) }
+    ensures same { OnErr result.1 ((result.0.desk.shown.value ≡ copies.desk.shown.value)
+        × (view result.0.desk.place ≡ view copies.desk.place)) }
+    ensures waiting { OnErr result.1 (drop result.0.behind result.0.log.items
+        ≡ drop copies.behind copies.log.items) }
 {
     copies.publish_as::<Swaps, R>(rt)
 }
@@ -199,7 +204,8 @@ impl OpenDesk {
         requires room { length self.end.table + length plan.changes ≤ plan.edit.room }
         requires counter { (arc_value plan.tries).counter ≡ counter_of self.list.fib }
         ensures list { result.0.list ≡ self.list }
-        ensures handed { OnOk result.1 (result.0.end.list ≡ with_table self.list (edited self.end.table plan.changes)) }
+        ensures handed { OnOk result.1 (result.0.end.list
+            ≡ with_table self.list (edited self.end.table plan.changes)) }
     {
         let OpenDesk {
             mut copies,
@@ -277,7 +283,8 @@ impl OpenDesk {
         requires room { length self.end.table + length plan.changes ≤ plan.edit.room }
         requires counter { (arc_value plan.tries).counter ≡ counter_of self.list.fib }
         ensures fib { result.0.fib ≡ self.list.fib }
-        ensures published { IfOk result.1 (λ _. result.0.tables ≡ self.list.tables ++ edited self.end.table plan.changes ∷ []) }
+        ensures published { IfOk result.1 (λ _. result.0.tables ≡ self.list.tables
+            ++ edited self.end.table plan.changes ∷ []) }
         ensures told { IfOk result.1 (λ told. told ≡ result.0) }
         ensures refused { OnErr result.1 (result.0.tables ≡ self.list.tables) }
     {

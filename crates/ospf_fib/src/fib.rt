@@ -107,7 +107,8 @@ fn opening_copies<R: Wait>(
     requires counter { (arc_value tries.now).counter ≡ counter_of known.now.fib }
     ensures named { IfOk result (λ copies. IsNamed (view copies.desk.place) known.now.fib) }
     ensures shown { IfOk result (λ copies. IsShown copies.desk.shown.value known.now) }
-    ensures table { IfOk result (λ copies. (end_of copies.desk.shown.value (drop copies.behind copies.log.items)).table ≡ []) }
+    ensures table { IfOk result (λ copies.
+        (end_of copies.desk.shown.value (drop copies.behind copies.log.items)).table ≡ []) }
 {
     let next = opening_handed(alloc, known, tries)?;
     let one = opening_shown(alloc, known)?;
@@ -169,7 +170,8 @@ fn seats_of(
     requires { IsNamed (view copies.old.desk.place) known.now.fib }
     ensures named { IsNamed (view copies.new.desk.place) known.now.fib }
     ensures shown { copies.new.desk.shown ≡ copies.old.desk.shown }
-    ensures waiting { drop copies.new.behind copies.new.log.items ≡ drop copies.old.behind copies.old.log.items }
+    ensures waiting { drop copies.new.behind copies.new.log.items
+        ≡ drop copies.old.behind copies.old.log.items }
     ensures count { IfOk result (λ seats. length seats.items ≡ count) }
     ensures seats { IfOk result (λ seats. All (λ seat. seat ≡ known.now) seats.items) }
 {
@@ -185,7 +187,8 @@ fn seat_of(copies: &mut Copies, known: &Published) -> Result<Seat, AllocError>
     requires { IsNamed (view copies.old.desk.place) known.now.fib }
     ensures named { IsNamed (view copies.new.desk.place) known.now.fib }
     ensures shown { copies.new.desk.shown ≡ copies.old.desk.shown }
-    ensures waiting { drop copies.new.behind copies.new.log.items ≡ drop copies.old.behind copies.old.log.items }
+    ensures waiting { drop copies.new.behind copies.new.log.items
+        ≡ drop copies.old.behind copies.old.log.items }
     ensures seat { IfOk result (λ seat. seat ≡ known.now) }
 {
     let mut reader = copies.factory().reader()?;

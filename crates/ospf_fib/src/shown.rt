@@ -68,7 +68,8 @@ pub(crate) struct Handed {
 impl Handed {
     // Makes the changes. The opening leaves no route.
     fn edit(&self, table: &mut IndexedTable) -> Result<(), AllocError>
-        ensures done { OnOk result (table.new ≡ edited_by self.now.is_opening table.old self.now.changes) }
+        ensures done { OnOk result (table.new
+            ≡ edited_by self.now.is_opening table.old self.now.changes) }
         ensures refused { OnErr result (table.new ≡ table.old) }
     {
         if self.is_opening {

@@ -21,8 +21,10 @@ pub fn print_routes<O: Write>(
     out: &mut O,
     streams: &mut FailedStreams,
 ) -> Result<(), Failure>
-    ensures printed { OnOk result (Appends (O.contents out.old) (O.contents out.new) (routes_text routes.now)) }
-    ensures begun { OnErr result (IsBegun (O.contents out.old) (O.contents out.new) (routes_text routes.now)) }
+    ensures printed { OnOk result (Appends (O.contents out.old) (O.contents out.new)
+        (routes_text routes.now)) }
+    ensures begun { OnErr result (IsBegun (O.contents out.old) (O.contents out.new)
+        (routes_text routes.now)) }
     ensures cut { IfErr result (IsOutputCut streams.new) }
 {
     let mut line = String::new(alloc);
@@ -43,8 +45,10 @@ pub fn print_lookup<O: Write>(
     out: &mut O,
     streams: &mut FailedStreams,
 ) -> Result<(), Failure>
-    ensures printed { OnOk result (Appends (O.contents out.old) (O.contents out.new) (lookup_line address.0 answer)) }
-    ensures begun { OnErr result (IsBegun (O.contents out.old) (O.contents out.new) (lookup_line address.0 answer)) }
+    ensures printed { OnOk result (Appends (O.contents out.old) (O.contents out.new)
+        (lookup_line address.0 answer)) }
+    ensures begun { OnErr result (IsBegun (O.contents out.old) (O.contents out.new)
+        (lookup_line address.0 answer)) }
     ensures cut { IfErr result (IsOutputCut streams.new) }
 {
     let line = lookup_text(alloc, address, answer)?;

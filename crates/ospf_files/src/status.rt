@@ -99,7 +99,8 @@ impl Failure {
     /// the status to end with.
     pub fn tell<E: Write>(self, err: &mut E, streams: &mut FailedStreams) -> Status
         ensures status { result ≡ failure_status self }
-        ensures told { IsTold streams.old streams.new (E.contents err.old) (E.contents err.new) (failure_line self) }
+        ensures told { IsTold streams.old streams.new (E.contents err.old) (E.contents err.new)
+            (failure_line self) }
     {
         if write_line(err, self.text()).is_err() {
             streams.error = true;

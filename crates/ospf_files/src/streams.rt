@@ -61,10 +61,12 @@ impl FailedStreams {
 
     /// Writes a text to standard output, and flushes.
     pub fn print<O: Write>(&mut self, out: &mut O, text: &str) -> Result<(), Failure>
-        ensures printed { OnOk result ((self.new ≡ self.old) × Appends (O.contents out.old) (O.contents out.new) text.now) }
+        ensures printed { OnOk result ((self.new ≡ self.old)
+            × Appends (O.contents out.old) (O.contents out.new) text.now) }
         ensures begun { OnErr result (IsBegun (O.contents out.old) (O.contents out.new) text.now) }
         ensures failed { OnErr result (self.new ≡ with_output self.old) }
-        ensures failure { IfErr result (λ failure. (failure ≡ Failure.Memory) ⊎ (failure ≡ Failure.Output)) }
+        ensures failure { IfErr result (λ failure. (failure ≡ Failure.Memory)
+            ⊎ (failure ≡ Failure.Output)) }
     {
         match write_text(out, text) {
             Ok(()) => Ok(()),
@@ -77,10 +79,12 @@ impl FailedStreams {
 
     /// Writes a text to standard error, and flushes.
     pub fn tell<E: Write>(&mut self, err: &mut E, text: &str) -> Result<(), Failure>
-        ensures told { OnOk result ((self.new ≡ self.old) × Appends (E.contents err.old) (E.contents err.new) text.now) }
+        ensures told { OnOk result ((self.new ≡ self.old)
+            × Appends (E.contents err.old) (E.contents err.new) text.now) }
         ensures begun { OnErr result (IsBegun (E.contents err.old) (E.contents err.new) text.now) }
         ensures failed { OnErr result (self.new ≡ with_error self.old) }
-        ensures failure { IfErr result (λ failure. (failure ≡ Failure.Memory) ⊎ (failure ≡ Failure.Error)) }
+        ensures failure { IfErr result (λ failure. (failure ≡ Failure.Memory)
+            ⊎ (failure ≡ Failure.Error)) }
         ensures cut { IfErr result (IsErrorCut self.new) }
     {
         match write_text(err, text) {
@@ -104,8 +108,10 @@ pub fn write_text<W: Write>(writer: &mut W, text: &str) -> io::Result<()>
 
 /// Writes a text as a line, and flushes. Where that fails, a beginning of the line was written.
 pub fn write_line<W: Write>(writer: &mut W, text: &str) -> io::Result<()>
-    ensures ok { OnOk result (Appends (W.contents writer.old) (W.contents writer.new) (text.now ++ codes "\n")) }
-    ensures err { OnErr result (IsBegun (W.contents writer.old) (W.contents writer.new) (text.now ++ codes "\n")) }
+    ensures ok { OnOk result (Appends (W.contents writer.old) (W.contents writer.new)
+        (text.now ++ codes "\n")) }
+    ensures err { OnErr result (IsBegun (W.contents writer.old) (W.contents writer.new)
+        (text.now ++ codes "\n")) }
 {
     put(writer, text.as_bytes())?;
     put(writer, b"\n")?;

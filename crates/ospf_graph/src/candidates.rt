@@ -70,7 +70,8 @@ impl Candidates {
     pub fn take_least(&mut self) -> Option<Candidate>
         ensures none { IfNone result (self.old.list ≡ []) }
         ensures taken { IfSome result (λ c. IsPermutation self.old.list (c ∷ self.new.list)) }
-        ensures least { IfSome result (λ c. All (λ d. candidate_rank c ≤ candidate_rank d) self.new.list) }
+        ensures least { IfSome result (λ c. All (λ d. candidate_rank c ≤ candidate_rank d)
+            self.new.list) }
         ensures looks { self.new.looks ≡ one_more self.old.looks }
     {
         self.look();

@@ -110,7 +110,8 @@ pub fn search(alloc: Global, edges: &[Edge], root: Vertex) -> Result<Searched, A
     requires fit { IsFit edges.now }
     requires root_fits { vertex_id root < 2 ^ 32 }
     requires in_order { AreEdgesInOrder edges.now }
-    ensures tree { IfOk result (λ s. IsTree (Contains edges.now) root (AtIn (settled_of s.reached.items)) (StartsIn (starts_of s.reached.items))) }
+    ensures tree { IfOk result (λ s. IsTree (Contains edges.now) root
+        (AtIn (settled_of s.reached.items)) (StartsIn (starts_of s.reached.items))) }
     ensures near { IfOk result (λ s. All (λ x. x.distance < 2 ^ 63) (settled_of s.reached.items)) }
     ensures places { IfOk result (λ s. ArePlaces (get nat_eq s.places) s.reached.items) }
     ensures looks { IfOk result (λ s. s.looks ≤ 2 * length edges.now + 1) }
@@ -171,11 +172,15 @@ pub fn shortest_paths(
 ) -> Result<ShortestPaths, AllocError>
     requires fit { IsFit edges.now }
     requires root_fits { vertex_id root < 2 ^ 32 }
-    ensures tree { IfOk result (λ t. IsTree (Contains edges.now) root (AtIn t.settled.items) (StartsIn t.starts.items)) }
-    ensures least { IfOk result (λ t. AreLeast (Contains edges.now) root (AtIn t.settled.items) (StartsIn t.starts.items)) }
+    ensures tree { IfOk result (λ t. IsTree (Contains edges.now) root (AtIn t.settled.items)
+        (StartsIn t.starts.items)) }
+    ensures least { IfOk result (λ t. AreLeast (Contains edges.now) root (AtIn t.settled.items)
+        (StartsIn t.starts.items)) }
     ensures near { IfOk result (λ t. All (λ s. s.distance < 2 ^ 63) t.settled.items) }
-    ensures settled_in_order { IfOk result (λ t. IsNonDecreasingBy (λ s. vertex_code s.vertex) t.settled.items) }
-    ensures starts_in_order { IfOk result (λ t. IsNonDecreasingBy (λ b. vertex_code b.vertex) t.starts.items) }
+    ensures settled_in_order { IfOk result (λ t. IsNonDecreasingBy (λ s. vertex_code s.vertex)
+        t.settled.items) }
+    ensures starts_in_order { IfOk result (λ t. IsNonDecreasingBy (λ b. vertex_code b.vertex)
+        t.starts.items) }
     ensures looks { IfOk result (λ t. t.looks ≤ 2 * length edges.now + 1) }
 {
     let sorted = sorted_edges(alloc, edges)?;
@@ -193,8 +198,10 @@ fn reach_root(
 ) -> Result<(), AllocError>
     requires empty { reached.old.items ≡ [] }
     requires no_places { (q : ℕ) → get nat_eq places.old q ≡ None }
-    ensures settled { OnOk result (settled_of reached.new.items ≡ record { vertex = root; distance = 0 } ∷ []) }
-    ensures starts { OnOk result (starts_of reached.new.items ≡ record { vertex = root; start = Here } ∷ []) }
+    ensures settled { OnOk result (settled_of reached.new.items
+        ≡ record { vertex = root; distance = 0 } ∷ []) }
+    ensures starts { OnOk result (starts_of reached.new.items
+        ≡ record { vertex = root; start = Here } ∷ []) }
     ensures places { OnOk result (ArePlaces (get nat_eq places.new) reached.new.items) }
 {
     places.insert(vertex_order(root), 0)?;
@@ -217,8 +224,10 @@ fn add_candidates(
 ) -> Result<(), AllocError>
     requires near { distance < 2 ^ 63 }
     requires in_order { AreEdgesInOrder edges.now }
-    ensures joins { OnOk result (Joins (candidates_from vertex distance edges.now) (get nat_eq nearest.old) (get nat_eq nearest.new) candidates.old.list candidates.new.list) }
-    ensures looks { OnOk result (candidates.new.looks + length candidates.old.list ≤ candidates.old.looks + length candidates.new.list) }
+    ensures joins { OnOk result (Joins (candidates_from vertex distance edges.now)
+        (get nat_eq nearest.old) (get nat_eq nearest.new) candidates.old.list candidates.new.list) }
+    ensures looks { OnOk result (candidates.new.looks + length candidates.old.list
+        ≤ candidates.old.looks + length candidates.new.list) }
 {
     let some = edges_from(edges, vertex);
     add_each(some, vertex, distance, nearest, candidates)?;
@@ -234,8 +243,10 @@ fn add_each(
     candidates: &mut Candidates,
 ) -> Result<(), AllocError>
     requires { distance < 2 ^ 63 }
-    ensures joins { OnOk result (Joins (candidates_from vertex distance some.now) (get nat_eq nearest.old) (get nat_eq nearest.new) candidates.old.list candidates.new.list) }
-    ensures looks { OnOk result (candidates.new.looks + length candidates.old.list ≤ candidates.old.looks + length candidates.new.list) }
+    ensures joins { OnOk result (Joins (candidates_from vertex distance some.now)
+        (get nat_eq nearest.old) (get nat_eq nearest.new) candidates.old.list candidates.new.list) }
+    ensures looks { OnOk result (candidates.new.looks + length candidates.old.list
+        ≤ candidates.old.looks + length candidates.new.list) }
 {
     for edge in some {
         if is_same(edge.from, vertex) {
@@ -255,8 +266,10 @@ fn offer(
     nearest: &mut HashMap<u64, u64>,
     candidates: &mut Candidates,
 ) -> Result<(), AllocError>
-    ensures joins { OnOk result (Joins (candidate ∷ []) (get nat_eq nearest.old) (get nat_eq nearest.new) candidates.old.list candidates.new.list) }
-    ensures looks { OnOk result (candidates.new.looks + length candidates.old.list ≤ candidates.old.looks + length candidates.new.list) }
+    ensures joins { OnOk result (Joins (candidate ∷ []) (get nat_eq nearest.old)
+        (get nat_eq nearest.new) candidates.old.list candidates.new.list) }
+    ensures looks { OnOk result (candidates.new.looks + length candidates.old.list
+        ≤ candidates.old.looks + length candidates.new.list) }
 {
     let end = vertex_order(candidate.edge.to);
     if is_undercut(nearest, end, candidate.distance) {
@@ -269,7 +282,8 @@ fn offer(
 
 // Whether a nearer way to a vertex is noted.
 fn is_undercut(nearest: &HashMap<u64, u64>, end: u64, distance: u64) -> bool
-    ensures { IsTrue result ↔ ((near : ℕ) × (get nat_eq nearest.now end ≡ Some near) × (near < distance)) }
+    ensures { IsTrue result ↔ ((near : ℕ) × (get nat_eq nearest.now end ≡ Some near)
+        × (near < distance)) }
 {
     match nearest.get(&end) {
         Some(near) => *near < distance,
@@ -291,9 +305,12 @@ fn take(
     requires near { candidate.distance < 2 ^ 63 }
     requires in_order { AreEdgesInOrder edges.now }
     requires places { ArePlaces (get nat_eq places.old) reached.old.items }
-    ensures taken { OnOk result (Takes candidate edges.now (settled_of reached.old.items) (settled_of reached.new.items) (starts_of reached.old.items) (starts_of reached.new.items) (get nat_eq nearest.old) (get nat_eq nearest.new) candidates.old.list candidates.new.list) }
+    ensures taken { OnOk result (Takes candidate edges.now (settled_of reached.old.items)
+        (settled_of reached.new.items) (starts_of reached.old.items) (starts_of reached.new.items)
+        (get nat_eq nearest.old) (get nat_eq nearest.new) candidates.old.list candidates.new.list) }
     ensures places { OnOk result (ArePlaces (get nat_eq places.new) reached.new.items) }
-    ensures looks { OnOk result (candidates.new.looks + length candidates.old.list ≤ candidates.old.looks + length candidates.new.list) }
+    ensures looks { OnOk result (candidates.new.looks + length candidates.old.list
+        ≤ candidates.old.looks + length candidates.new.list) }
 {
     let edge = candidate.edge;
     match place_of(places, edge.to) {

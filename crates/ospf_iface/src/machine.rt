@@ -101,8 +101,10 @@ impl Iface {
     /// again at HelloInterval, and while the interface is Down it stands still.
     pub fn hello_tick(&mut self) -> bool
         ensures due { IsTrue result ↔ IsHelloDue self.old }
-        ensures again { OnTrue result (self.new ≡ record self.old { hello_in = self.old.settings.hello }) }
-        ensures counts { self.old.state ≢ Down → OnFalse result (self.new ≡ record self.old { hello_in = self.old.hello_in - 1 }) }
+        ensures again { OnTrue result (self.new
+            ≡ record self.old { hello_in = self.old.settings.hello }) }
+        ensures counts { self.old.state ≢ Down →
+            OnFalse result (self.new ≡ record self.old { hello_in = self.old.hello_in - 1 }) }
         ensures down { self.old.state ≡ Down → self.new ≡ self.old }
     {
         if matches!(self.state, IfaceState::Down) {

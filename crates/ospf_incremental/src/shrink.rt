@@ -62,7 +62,8 @@ pub(crate) fn is_closed(
     requires places { HasPlaces found.now }
     requires near { AreNear found.now.reached.items }
     ensures root { IsTrue result → IsMarked (get nat_eq marks.now) root → ⊥ }
-    ensures edges { IsTrue result → All (ClosesAt found.now less.now (get nat_eq marks.now)) edges.now }
+    ensures edges { IsTrue result → All (ClosesAt found.now less.now (get nat_eq marks.now))
+        edges.now }
 {
     if is_marked(marks, root) {
         return false;

@@ -139,7 +139,8 @@ fn directory_of(starts: &[u32], room: Vec<u32>) -> Vec<u32>
 fn blocks_before(starts: &[u32], range: usize) -> usize
     ensures few { result ≤ 65537 }
     ensures all { length starts.now ≤ range → result ≡ 65537 }
-    ensures before { (block : ℕ) → block < result → range < length starts.now → block_start block < get_or starts.now range 0 }
+    ensures before { (block : ℕ) → block < result → range < length starts.now →
+        block_start block < get_or starts.now range 0 }
     ensures behind { range < length starts.now → get_or starts.now range 0 ≤ block_start result }
 {
     match starts.get(range) {
@@ -153,9 +154,12 @@ fn name_before(directory: &mut Vec<u32>, past: usize, range: u32)
     requires { past ≤ vec_capacity directory.old }
     ensures room { vec_capacity directory.old ≤ vec_capacity directory.new }
     ensures more { length directory.old.items ≤ past → length directory.new.items ≡ past }
-    ensures all { past ≤ length directory.old.items → length directory.new.items ≡ length directory.old.items }
-    ensures same { (block : ℕ) → block < length directory.old.items → get_or directory.new.items block 0 ≡ get_or directory.old.items block 0 }
-    ensures named { (block : ℕ) → length directory.old.items ≤ block → block < length directory.new.items → get_or directory.new.items block 0 ≡ range }
+    ensures all { past ≤ length directory.old.items →
+        length directory.new.items ≡ length directory.old.items }
+    ensures same { (block : ℕ) → block < length directory.old.items →
+        get_or directory.new.items block 0 ≡ get_or directory.old.items block 0 }
+    ensures named { (block : ℕ) → length directory.old.items ≤ block →
+        block < length directory.new.items → get_or directory.new.items block 0 ≡ range }
 {
     if past > directory.len() {
         match directory.resize(past, range) {

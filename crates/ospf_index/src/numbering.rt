@@ -48,7 +48,8 @@ impl Numbering {
     fn find(&self, chain: usize, hops: &[NextHop]) -> Option<usize>
         requires chained { AreChained self.now }
         requires within { chain < length self.now.chains.items }
-        ensures { IfSome result (λ set. (set < vec_len self.now.sets.sets) × (hops_of self.now.sets set ≡ hops.now)) }
+        ensures { IfSome result (λ set. (set < vec_len self.now.sets.sets)
+            × (hops_of self.now.sets set ≡ hops.now)) }
     {
         let mut link = self.chains[chain];
         while link > 0 {
@@ -65,7 +66,8 @@ impl Numbering {
         requires chained { AreChained self.old }
         requires within { last < vec_len self.old.sets.sets }
         requires room_sets { vec_len self.old.sets.sets < vec_capacity self.old.sets.sets }
-        requires room_hops { vec_len self.old.sets.hops + length hops.now ≤ vec_capacity self.old.sets.hops }
+        requires room_hops { vec_len self.old.sets.hops + length hops.now
+            ≤ vec_capacity self.old.sets.hops }
         requires room_links { vec_len self.old.links < vec_capacity self.old.links }
         ensures chained { AreChained self.new }
         ensures within { result < vec_len self.new.sets.sets }
@@ -96,7 +98,8 @@ pub(crate) fn numbers_of(
     room: Vec<usize>,
     routes: &[Route],
 ) -> (HopSets, Vec<usize>)
-    requires begun { IsBegunFor (length routes.now) (sum_by (λ r. length r.hops) routes.now) numbering }
+    requires begun { IsBegunFor (length routes.now) (sum_by (λ r. length r.hops) routes.now)
+        numbering }
     requires room { (room.items ≡ []) × (length routes.now ≤ vec_capacity room) }
     ensures { AreNumbersOf routes.now result.0 result.1.items }
 {

@@ -44,10 +44,13 @@ impl Sweep {
     fn begin_range(&mut self, start: u32, place: usize)
         requires starts { vec_len self.old.ranges.starts < vec_capacity self.old.ranges.starts }
         requires places { vec_len self.old.ranges.places < vec_capacity self.old.ranges.places }
-        ensures begun { IsBegun self.old.ranges.starts.items self.old.ranges.places.items start place self.new.ranges.starts.items self.new.ranges.places.items }
+        ensures begun { IsBegun self.old.ranges.starts.items self.old.ranges.places.items start
+            place self.new.ranges.starts.items self.new.ranges.places.items }
         ensures opened { self.new.opened ≡ self.old.opened }
-        ensures starts_room { vec_capacity self.old.ranges.starts ≤ vec_capacity self.new.ranges.starts }
-        ensures places_room { vec_capacity self.old.ranges.places ≤ vec_capacity self.new.ranges.places }
+        ensures starts_room { vec_capacity self.old.ranges.starts
+            ≤ vec_capacity self.new.ranges.starts }
+        ensures places_room { vec_capacity self.old.ranges.places
+            ≤ vec_capacity self.new.ranges.places }
         ensures starts_len { vec_len self.new.ranges.starts ≤ vec_len self.old.ranges.starts + 1 }
         ensures places_len { vec_len self.new.ranges.places ≤ vec_len self.old.ranges.places + 1 }
     {
@@ -97,10 +100,13 @@ impl Sweep {
     fn close_to(&mut self, routes: &[Route], begun: usize, limit: u32)
         requires order { AllPairs IsRouteBefore routes.now }
         requires swept { IsSweptTo routes.now begun self.old }
-        requires ahead { (k : ℕ) → begun ≤ k → k < length routes.now → limit ≤ (blocks_of routes.now).first k }
+        requires ahead { (k : ℕ) → begun ≤ k → k < length routes.now →
+            limit ≤ (blocks_of routes.now).first k }
         requires room { HasRoom (2 * length routes.now + 1) self.old (length routes.now - begun) }
         ensures swept { IsSweptTo routes.now begun self.new }
-        ensures open { 0 < length self.new.opened.items → limit < (blocks_of routes.now).end (get_or self.new.opened.items (length self.new.opened.items - 1) 0) }
+        ensures open { 0 < length self.new.opened.items →
+            limit < (blocks_of routes.now).end
+            (get_or self.new.opened.items (length self.new.opened.items - 1) 0) }
         ensures room { HasRoom (2 * length routes.now + 1) self.new (length routes.now - begun) }
     {
         while let Some(end) = self.ended(routes, begun, limit) {
@@ -117,7 +123,8 @@ impl Sweep {
         requires swept { IsSweptTo routes.now place self.old }
         requires room { HasRoom (2 * length routes.now + 1) self.old (length routes.now - place) }
         ensures swept { IsSweptTo routes.now (place + 1) self.new }
-        ensures room { HasRoom (2 * length routes.now + 1) self.new (length routes.now - (place + 1)) }
+        ensures room { HasRoom (2 * length routes.now + 1) self.new
+            (length routes.now - (place + 1)) }
     {
         let start = routes[place].prefix.address.0;
         self.close_to(routes, place, start);

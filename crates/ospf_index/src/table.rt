@@ -100,7 +100,8 @@ impl IndexedTable {
     pub fn lookup(&self, address: Addr) -> Option<Found<'_>>
         ensures found { IfSome result (λ r. IsBest self.now address.0 (route_of r)) }
         ensures hop { IfSome result (λ r. 0 < length r.hops.now) }
-        ensures none { IfNone result ((r : Route) → Contains self.now r → Holds r.prefix address.0 → ⊥) }
+        ensures none { IfNone result ((r : Route) → Contains self.now r → Holds r.prefix address.0 →
+            ⊥) }
     {
         let entry = self.index.entry(self.table.routes(), address.0);
         let hops = self.index.sets.get(entry.set);

@@ -19,7 +19,8 @@ ghost use Rattle.ospf_laws.specs.Step.{AndRequests, Chain, Event, IsPart, OwnSte
 
 /// No part, and a part in front of others.
 pub fn chains_put_out()
-    ensures none { (s t : AreaValue) (out out' : OutputsValue) → t ≡ s → out' ≡ out → PutsOut (λ o. Chain [] s o t) out out' }
+    ensures none { (s t : AreaValue) (out out' : OutputsValue) → t ≡ s → out' ≡ out →
+        PutsOut (λ o. Chain [] s o t) out out' }
     ensures more { (part : Part) (parts : List Part) (s t u : AreaValue) (out mid_out out' : OutputsValue) →
         PutsOut (λ o. IsPart part s o t) out mid_out → PutsOut (λ o. Chain parts t o u) mid_out out' →
         PutsOut (λ o. Chain (part ∷ parts) s o u) out out' }
@@ -74,7 +75,8 @@ pub fn flushes_put_out()
 
 /// Own LSAs that are issued or flushed, one after the other, are a part once what was to be answered is forgotten.
 pub fn own_lsas_put_out()
-    ensures none { (s : AreaValue) (out : OutputsValue) → PutsOut (λ o. Times 0 OwnStep s o s) out out }
+    ensures none { (s : AreaValue) (out : OutputsValue) →
+        PutsOut (λ o. Times 0 OwnStep s o s) out out }
     ensures more { (n : ℕ) (s t u : AreaValue) (out mid_out out' : OutputsValue) →
         PutsOut (λ o. OwnStep s o t) out mid_out → PutsOut (λ o. Times n OwnStep t o u) mid_out out' →
         PutsOut (λ o. Times (suc n) OwnStep s o u) out out' }

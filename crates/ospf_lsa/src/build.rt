@@ -56,7 +56,8 @@ impl Lsa {
         mask: u32,
         routers: &[RouterId],
     ) -> Result<Lsa, LsaFault>
-        ensures ok { IfOk result (λ lsa. IsMade (network_value id router number mask routers.now) lsa) }
+        ensures ok { IfOk result (λ lsa. IsMade (network_value id router number mask routers.now)
+            lsa) }
         ensures needs { OnOk result (HasAll (NetworkNeeds number mask routers.now)) }
         ensures fault { IfErr result (λ f. IsUnmade (NetworkNeeds number mask routers.now) f) }
     {
@@ -138,7 +139,8 @@ fn push_links(out: &mut Vec<u8>, links: &[Link]) -> Result<(), AllocError>
 // Puts the checksum in.
 fn sealed(mut bytes: Vec<u8>) -> Vec<u8>
     requires { 20 ≤ length bytes.items }
-    ensures { (x : ℕ) × (y : ℕ) × IsChecksum bytes.items x y × (result.items ≡ with_checksum bytes.items x y) }
+    ensures { (x : ℕ) × (y : ℕ) × IsChecksum bytes.items x y
+        × (result.items ≡ with_checksum bytes.items x y) }
 {
     let sum = lsa_sum(&bytes);
     bytes[16] = (sum / 256) as u8;
@@ -156,7 +158,8 @@ fn network_bytes(
     routers: &[RouterId],
 ) -> Result<Vec<u8>, AllocError>
     requires { network_lsa_length routers.now ≤ largest_lsa }
-    ensures bytes { IfOk result (λ v. v.items ≡ lsa_bytes (network_value id router number mask routers.now)) }
+    ensures bytes { IfOk result (λ v. v.items
+        ≡ lsa_bytes (network_value id router number mask routers.now)) }
     ensures fits { OnOk result (ValueFits (network_value id router number mask routers.now)) }
 {
     let size = ENTRIES_AT + ROUTER_SIZE * routers.len();

@@ -89,7 +89,8 @@ impl Listing {
 
     /// The LSA of a key, if it is listed.
     pub fn get(&self, key: &LsaKey) -> Option<&Lsa>
-        ensures found { IfSome result (λ lsa. Contains self.now lsa.now × (key_of lsa.now ≡ key.now)) }
+        ensures found { IfSome result (λ lsa. Contains self.now lsa.now
+            × (key_of lsa.now ≡ key.now)) }
         ensures none { IfNone result (HasKey self.now key.now → ⊥) }
         ensures listing { IsListing self.now }
     {
@@ -102,7 +103,8 @@ impl Listing {
     /// The network-LSA of a Link State ID; of several the one of the largest Advertising Router.
     pub fn network(&self, id: u32) -> Option<&Lsa>
         ensures found { IfSome result (λ lsa. IsNetworkOf self.now id lsa.now) }
-        ensures none { IfNone result ((lsa : List ℕ) → Contains self.now lsa → IsOfNetwork id lsa → ⊥) }
+        ensures none { IfNone result ((lsa : List ℕ) → Contains self.now lsa → IsOfNetwork id lsa →
+            ⊥) }
         ensures listing { IsListing self.now }
     {
         last_network(&self.lsas, id)
@@ -116,7 +118,8 @@ impl Listing {
         ensures ok { OnOk result (IsInserted lsa self.old self.new) }
         ensures err { OnErr result (self.new ≡ self.old) }
         ensures twice { (result ≡ Err fault.Twice) ↔ HasKey self.old (key_of lsa) }
-        ensures max_age { (result ≡ Err fault.MaxAge) ↔ (((header_of lsa).age ≡ 3600) × (HasKey self.old (key_of lsa) → ⊥)) }
+        ensures max_age { (result ≡ Err fault.MaxAge)
+            ↔ (((header_of lsa).age ≡ 3600) × (HasKey self.old (key_of lsa) → ⊥)) }
     {
         let key = lsa.view().key();
         let Some(at) = place_of(&self.lsas, &key) else {
@@ -157,7 +160,8 @@ impl Listing {
 // The place of the LSA of a key, or else where one belongs.
 fn search(lsas: &[Lsa], key: &LsaKey) -> Result<usize, usize>
     requires { IsRising lsas.now }
-    ensures found { IfOk result (λ at. (at < length lsas.now) × ((d : List ℕ) → key_of (slice_index_or lsas.now at d) ≡ key.now)) }
+    ensures found { IfOk result (λ at. (at < length lsas.now)
+        × ((d : List ℕ) → key_of (slice_index_or lsas.now at d) ≡ key.now)) }
     ensures place { IfErr result (λ at. IsPlace lsas.now key.now at) }
 {
     let at = count_through(lsas, key);

@@ -44,7 +44,8 @@ impl<'a> EntryView<'a> {
         ensures bytes { result ≡ 0 ∷ 0 ∷ self.now.contents }
         ensures contents { contents result ≡ self.now.contents }
         ensures key { key_of result ≡ key_in self.now.contents }
-        ensures all_but_age { header_at self.now ≡ record (header_of result) { age = self.now.age } }
+        ensures all_but_age { header_at self.now
+            ≡ record (header_of result) { age = self.now.age } }
     {
         self.lsa.view()
     }
@@ -113,7 +114,13 @@ impl<'a> EntryView<'a> {
     // An entry whose LSA is stored without its age.
     pub(crate) fn new(lsa: &'a Ageless, age: u16, tick: u64, by_flooding: bool) -> EntryView<'a>
         requires { age ≤ max_age }
-        ensures { result ≡ record { age = age; contents = lsa.now; tick = tick; by_flooding = by_flooding } }
+        ensures { result ≡ record {
+          age = age;
+          contents = lsa.now;
+          tick = tick;
+          by_flooding =
+              by_flooding;
+        } }
     {
         EntryView {
             lsa,
@@ -130,7 +137,8 @@ pub(crate) fn add_fresh(
     entry: &EntryView,
     alloc: Global,
 ) -> Result<(), AllocError>
-    requires last { AllByRecursion (λ lsa. Precedes (key_of lsa) (key_in entry.now.contents)) listing.old }
+    requires last { AllByRecursion (λ lsa. Precedes (key_of lsa) (key_in entry.now.contents))
+        listing.old }
     ensures ok { OnOk result (listing.new ≡ listing.old ++ listed_of entry.now) }
 {
     let is_expired = entry.age().ticks() == MAX_AGE;

@@ -114,7 +114,8 @@ impl Lsdb {
     /// Brings the age of a key's entry to `MAX_AGE` and changes nothing else of it, so that it can
     /// be flushed (RFC 2328, section 14.1). Answers whether there was one below that age.
     pub fn expire(&mut self, key: &LsaKey) -> bool
-        ensures entry { Puts key.now (option_map expired (held_of self.old key.now)) self.old self.new }
+        ensures entry { Puts key.now (option_map expired (held_of self.old key.now)) self.old
+            self.new }
         ensures was_fresh { result ≡ is_some_and (λ h. is_fresh h.entry) (held_of self.old key.now) }
     {
         is_database(&self.dated);

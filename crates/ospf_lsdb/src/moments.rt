@@ -69,7 +69,8 @@ impl Moments {
 
     // Adds what an entry of an age comes to.
     pub(crate) fn add_coming(&mut self, clock: u16, age: u16, key: LsaKey) -> Result<(), AllocError>
-        ensures ok { OnOk result ((q : Due) → has self.new q ≡ (is_coming clock age key q || has self.old q)) }
+        ensures ok { OnOk result ((q : Due) →
+            has self.new q ≡ (is_coming clock age key q || has self.old q)) }
         ensures err { OnErr result ((q : Due) → has self.new q ≡ has self.old q) }
     {
         let refresh = Due::coming(clock, age, LS_REFRESH_TIME, key);
@@ -97,8 +98,10 @@ impl Moments {
 
     // Removes that an entry came to an age at this moment.
     pub(crate) fn remove_reached(&mut self, moment: u16, age: u16, key: LsaKey)
-        ensures gone { (q : Due) → has self.new q ≡ (not (same_due (due_at moment age key) q) && has self.old q) }
-        ensures fewer { has self.old (due_at moment age key) ≡ true → length self.new < length self.old }
+        ensures gone { (q : Due) → has self.new q
+            ≡ (not (same_due (due_at moment age key) q) && has self.old q) }
+        ensures fewer { has self.old (due_at moment age key) ≡ true →
+            length self.new < length self.old }
     {
         self.remove(Due { moment, age, key });
     }
@@ -159,7 +162,8 @@ impl Moments {
     // Adds what is due, if it is, and answers whether that was new.
     fn add_if(&mut self, is_due: bool, due: Due) -> Result<bool, AllocError>
         ensures added { IfOk result (λ is_new. is_new ≡ (is_due && not (has self.old due))) }
-        ensures ok { OnOk result ((q : Due) → has self.new q ≡ ((is_due && same_due due q) || has self.old q)) }
+        ensures ok { OnOk result ((q : Due) →
+            has self.new q ≡ ((is_due && same_due due q) || has self.old q)) }
         ensures err { OnErr result (self.new ≡ self.old) }
     {
         if !is_due {

@@ -188,7 +188,8 @@ impl Neighbour {
     /// Whether it is in Exchange or above. Below, its lists are empty. No list has two entries of one LSA.
     pub fn is_exchanging(&self) -> bool
         ensures value { result ≡ is_exchanging self.now.state }
-        ensures lists { IsSound self.now.state self.now.summary self.now.last_dd self.now.requests self.now.asked self.now.retransmission }
+        ensures lists { IsSound self.now.state self.now.summary self.now.last_dd self.now.requests
+            self.now.asked self.now.retransmission }
     {
         let _asked = self.asked;
         self.state.is_exchanging()
@@ -322,7 +323,8 @@ impl Neighbour {
     pub fn describe(&mut self, next: Vec<LsaHeader>)
         requires state { IsTrue (is_exchanging self.old.state) }
         requires few { length next.items ≤ length self.old.summary }
-        ensures { self.new ≡ record self.old { last_dd = next.items; summary = drop (length next.items) self.old.summary } }
+        ensures { self.new ≡ record self.old
+            { last_dd = next.items; summary = drop (length next.items) self.old.summary } }
     {
         drop(self.summary.drain(..next.len()));
         self.last_dd = next;

@@ -48,7 +48,9 @@ pub fn own_action(
     kept: i32,
     alloc: Global,
 ) -> Result<OwnAction, LsaFault>
-    ensures is { IfOk result (λ action. action ≡ own_action (option_map (λ w. value_of w.now) wanted.entry) copy.entry heard own waits kept) }
+    ensures is { IfOk result (λ action. action
+        ≡ own_action (option_map (λ w. value_of w.now) wanted.entry) copy.entry heard own waits
+        kept) }
     ensures used { IfOk result IsUsed }
     ensures fault { IfErr result (IsUnmadeIf (option_map (λ w. value_of w.now) wanted.entry)) }
 {
@@ -85,7 +87,8 @@ fn wanted_action(
     kept: i32,
     alloc: Global,
 ) -> Result<OwnAction, LsaFault>
-    ensures is { IfOk result (λ action. action ≡ wanted_action (value_of wanted.now) copy.entry heard waits kept) }
+    ensures is { IfOk result (λ action. action
+        ≡ wanted_action (value_of wanted.now) copy.entry heard waits kept) }
     ensures used { IfOk result IsUsed }
     ensures fault { IfErr result (λ f. IsUnmade (Needs first_number (value_of wanted.now)) f) }
 {

@@ -83,7 +83,8 @@ fn router_is_due(area: &Area, copy: Option<&EntryView<'_>>) -> bool
 
 // Whether nothing becomes of a wanted LSA, as it is due or not.
 fn stays(area: &Area, key: &LsaKey, copy: Option<EntryView<'_>>, due: bool) -> bool
-    ensures { result ≡ ((waits area.now.tick area.now.numbering key.now || not due) || is_left (next_action copy.entry (kept_number area.now key.now))) }
+    ensures { result ≡ ((waits area.now.tick area.now.numbering key.now || not due)
+        || is_left (next_action copy.entry (kept_number area.now key.now))) }
 {
     let waiting = waits(&area.numbering, key, area.tick);
     let kept = kept_number(&area.numbering, area.floor, key);
@@ -172,7 +173,8 @@ fn is_wanted(area: &Area, key: &LsaKey) -> bool
 
 // Whether a key is that of the network-LSA of one of these links.
 fn some_network(router: RouterId, links: &[AreaLink], key: &LsaKey) -> bool
-    ensures { result ≡ list_any (λ link. is_some (wanted_of (networks_at router link) key.now)) links.now }
+    ensures { result ≡ list_any (λ link. is_some (wanted_of (networks_at router link) key.now))
+        links.now }
 {
     links.iter().any(|link| wants_network(router, link, key))
 }

@@ -81,7 +81,8 @@ fn due_keys(area: &Area, all: &[OwnLsa], alloc: Global) -> Result<Vec<LsaKey>, A
     requires wants { map value_of all.now ≡ wants area.now }
     requires numbered { AreNumbered area.now }
     ensures rising { IfOk result (λ v. KeysRise v.items) }
-    ensures whole { IfOk result (λ v. (key : LsaKey) → among v.items key ≡ false → action_of area.now key ≡ OwnAction.Leave) }
+    ensures whole { IfOk result (λ v. (key : LsaKey) → among v.items key ≡ false →
+        action_of area.now key ≡ OwnAction.Leave) }
 {
     let keys = candidates(all, &area.numbering, &area.heard, alloc)?;
     let rising = sorted(&keys, alloc)?;
@@ -96,7 +97,8 @@ fn candidates(
     heard: &[LsaKey],
     alloc: Global,
 ) -> Result<Vec<LsaKey>, AllocError>
-    ensures { IfOk result (λ v. v.items ≡ candidates (map value_of wanted.now) numbering.now heard.now) }
+    ensures { IfOk result (λ v. v.items
+        ≡ candidates (map value_of wanted.now) numbering.now heard.now) }
 {
     let mut keys = wanted_keys(wanted, alloc)?;
     let numbered = numbered_keys(numbering, alloc)?;
@@ -234,7 +236,8 @@ fn act_in_turn(
 ) -> Result<(), AllocError>
     requires made { AllByRecursion CanBeMade (map value_of all.now) }
     requires used { AllByRecursion HasUsedNumber due.now }
-    ensures { OnOk result (ActsInTurn (map value_of all.now) due.now area.old out.old out.new area.new) }
+    ensures { OnOk result (ActsInTurn (map value_of all.now) due.now area.old out.old out.new
+        area.new) }
 {
     for d in due {
         act(area, all, d, out, alloc)?;
@@ -252,7 +255,8 @@ fn act(
 ) -> Result<(), AllocError>
     requires made { AllByRecursion CanBeMade (map value_of all.now) }
     requires used { IsUsed due.now.action }
-    ensures { OnOk result (Acts due.now.action (map value_of all.now) due.now.key area.old out.old out.new area.new) }
+    ensures { OnOk result (Acts due.now.action (map value_of all.now) due.now.key area.old out.old
+        out.new area.new) }
 {
     match due.action {
         OwnAction::Leave => Ok(()),
@@ -284,7 +288,8 @@ fn issue_key(
     alloc: Global,
 ) -> Result<(), AllocError>
     requires { CanBeMadeIf number (option_map (λ w. value_of w.now) wanted) }
-    ensures { OnOk result (IssuesIf (option_map (λ w. value_of w.now) wanted.entry) number area.old out.old out.new area.new) }
+    ensures { OnOk result (IssuesIf (option_map (λ w. value_of w.now) wanted.entry) number area.old
+        out.old out.new area.new) }
 {
     match wanted {
         Some(wanted) => issue_one(area, wanted, number, out, alloc),
@@ -301,7 +306,8 @@ fn issue_one(
     alloc: Global,
 ) -> Result<(), AllocError>
     requires { HasAll (Needs number (value_of wanted.now)) }
-    ensures { OnOk result (IssuesAndTurns (value_of wanted.now) number area.old out.old out.new area.new) }
+    ensures { OnOk result (IssuesAndTurns (value_of wanted.now) number area.old out.old out.new
+        area.new) }
 {
     issue(area, wanted, number, out, alloc)?;
     turn_in(area, out, alloc)?;

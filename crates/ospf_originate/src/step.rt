@@ -59,7 +59,8 @@ fn made(wanted: &OwnLsa, number: i32, alloc: Global) -> Result<Lsa, AllocError>
 
 // Tells of an LSA that is issued.
 fn tell_issued(out: &mut Outputs, lsa: &LsaView<'_>, alloc: Global) -> Result<(), AllocError>
-    ensures told { OnOk result (out.new ≡ record out.old { issued = out.old.issued ++ lsa.now ∷ [] }) }
+    ensures told { OnOk result (out.new ≡ record out.old
+        { issued = out.old.issued ++ lsa.now ∷ [] }) }
     ensures valid { OnOk result (IsLsa lsa.now) }
 {
     // By its bytes the view tells that it is of an LSA.
@@ -75,7 +76,8 @@ fn tell_issued(out: &mut Outputs, lsa: &LsaView<'_>, alloc: Global) -> Result<()
 
 // The tick of an issue is kept.
 fn note_tick(area: &mut Area, key: &LsaKey)
-    ensures { area.new ≡ record area.old { numbering = issued key.now area.old.tick area.old.numbering } }
+    ensures { area.new ≡ record area.old
+        { numbering = issued key.now area.old.tick area.old.numbering } }
 {
     let tick = area.tick;
     note_issue(&mut area.numbering, key, tick);

@@ -28,9 +28,11 @@ use ospf_lsa::{Lsa, LsaHeader};
 /// and could not grow. The output is unchanged by each.
 pub fn write_packet(value: &PacketValue, out: &mut Vec<u8>) -> Result<(), WriteFault>
     ensures ok { OnOk result (out.new.items ≡ out.old.items ++ packet_bytes (meant value.now)) }
-    ensures again { OnOk result (packet_of (packet_bytes (meant value.now)) ≡ Some (meant value.now)) }
+    ensures again { OnOk result (packet_of (packet_bytes (meant value.now))
+        ≡ Some (meant value.now)) }
     ensures err { OnErr result (out.new.items ≡ out.old.items) }
-    ensures too_long { (result ≡ Err fault.TooLong) ↔ (largest_packet < length (packet_bytes (meant value.now))) }
+    ensures too_long { (result ≡ Err fault.TooLong)
+        ↔ (largest_packet < length (packet_bytes (meant value.now))) }
     ensures memory { (result ≡ Err fault.Memory)
         → vec_capacity out.old < vec_len out.old + length (packet_bytes (meant value.now)) }
 {
@@ -47,9 +49,11 @@ pub fn write_packet(value: &PacketValue, out: &mut Vec<u8>) -> Result<(), WriteF
 
 // The number of bytes of a body, unless a packet does not hold it.
 fn body_length(body: &BodyValue) -> Option<usize>
-    ensures found { IfSome result (λ n. (n ≡ length (body_bytes (body_meant body.now))) × (packet_header + n ≤ largest_packet)) }
+    ensures found { IfSome result (λ n. (n ≡ length (body_bytes (body_meant body.now)))
+        × (packet_header + n ≤ largest_packet)) }
     ensures count { OnSome result (CountFits (body_meant body.now)) }
-    ensures none { IfNone result (largest_packet < packet_header + length (body_bytes (body_meant body.now))) }
+    ensures none { IfNone result (largest_packet
+        < packet_header + length (body_bytes (body_meant body.now))) }
 {
     match body {
         BodyValue::Hello(_, neighbours) => entries_length(
@@ -73,7 +77,8 @@ fn entries_length(fields: usize, count: usize, size: usize) -> Option<usize>
     requires fields { fields ≤ hello_fields }
     requires positive { 0 < size }
     requires small { size ≤ lsa_header }
-    ensures found { IfSome result (λ n. (n ≡ fields + count * size) × (packet_header + n ≤ largest_packet)) }
+    ensures found { IfSome result (λ n. (n ≡ fields + count * size)
+        × (packet_header + n ≤ largest_packet)) }
     ensures none { IfNone result (largest_packet < packet_header + (fields + count * size)) }
 {
     if count > LARGEST_PACKET {
@@ -88,7 +93,8 @@ fn entries_length(fields: usize, count: usize, size: usize) -> Option<usize>
 
 // The number of bytes of the LSAs, unless they are more than an Update holds.
 fn lsas_length(lsas: &[Lsa]) -> Option<usize>
-    ensures found { IfSome result (λ n. (n ≡ length (lsas_bytes lsas.now)) × (packet_header + 4 + n ≤ largest_packet)) }
+    ensures found { IfSome result (λ n. (n ≡ length (lsas_bytes lsas.now))
+        × (packet_header + 4 + n ≤ largest_packet)) }
     ensures count { OnSome result (length lsas.now < 2 ^ 32) }
     ensures none { IfNone result (largest_packet < packet_header + 4 + length (lsas_bytes lsas.now)) }
 {
@@ -161,7 +167,8 @@ fn kind_of(body: &BodyValue) -> u8
 // Puts the bytes of a body at the end.
 fn push_body(out: &mut Vec<u8>, body: &BodyValue)
     requires count { CountFits (body_meant body.now) }
-    requires room { vec_len out.old + length (body_bytes (body_meant body.now)) ≤ vec_capacity out.old }
+    requires room { vec_len out.old + length (body_bytes (body_meant body.now))
+        ≤ vec_capacity out.old }
     ensures bytes { out.new.items ≡ out.old.items ++ body_bytes (body_meant body.now) }
     ensures fits { BodyFits (body_meant body.now) }
 {
@@ -198,7 +205,8 @@ fn push_neighbours(out: &mut Vec<u8>, routers: &[RouterId])
 
 // Puts the bytes of headers at the end.
 fn push_headers(out: &mut Vec<u8>, headers: &[LsaHeader])
-    requires room { vec_len out.old + length (flat_map aged_bytes headers.now) ≤ vec_capacity out.old }
+    requires room { vec_len out.old + length (flat_map aged_bytes headers.now)
+        ≤ vec_capacity out.old }
     ensures headers { out.new.items ≡ out.old.items ++ flat_map aged_bytes headers.now }
     ensures fit { AllByRecursion AgedFits headers.now }
 {
@@ -219,7 +227,8 @@ fn header_bytes(header: &LsaHeader) -> [u8; 20]
 
 // Puts the bytes of the entries of a Request at the end.
 fn push_entries(out: &mut Vec<u8>, entries: &[RequestEntry])
-    requires room { vec_len out.old + length (flat_map entry_bytes entries.now) ≤ vec_capacity out.old }
+    requires room { vec_len out.old + length (flat_map entry_bytes entries.now)
+        ≤ vec_capacity out.old }
     ensures entries { out.new.items ≡ out.old.items ++ flat_map entry_bytes entries.now }
     ensures fit { AllByRecursion EntryFits entries.now }
 {

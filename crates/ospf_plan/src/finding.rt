@@ -93,7 +93,8 @@ fn found_in(alloc: Global, ends: &[End], maps: &Maps) -> Result<Vec<Finding>, Al
 
 // Adds what is found at an interface.
 fn push_found(findings: &mut Vec<Finding>, around: &Around, here: &End) -> Result<(), AllocError>
-    ensures { OnOk result (findings.new.items ≡ findings.old.items ++ filter_map (found around.now here.now) every_fault) }
+    ensures { OnOk result (findings.new.items ≡ findings.old.items
+        ++ filter_map (found around.now here.now) every_fault) }
 {
     push_each(findings, around, here, &every_fault())
 }
@@ -105,7 +106,8 @@ fn push_each(
     here: &End,
     faults: &[AreaFault],
 ) -> Result<(), AllocError>
-    ensures { OnOk result (findings.new.items ≡ findings.old.items ++ filter_map (found around.now here.now) faults.now) }
+    ensures { OnOk result (findings.new.items ≡ findings.old.items
+        ++ filter_map (found around.now here.now) faults.now) }
 {
     for fault in faults {
         push_one(findings, found(*fault, around, here))?;

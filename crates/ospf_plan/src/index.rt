@@ -99,7 +99,9 @@ pub(crate) fn others(
 
 // Keeps an interface as the first on a network, unless there is one.
 fn add_end(ends: &mut BTreeMap<Network, End>, network: Network, end: End) -> Result<(), AllocError>
-    ensures { OnOk result ((q : ℕ × ℕ) → end_in ends.new q ≡ option_or (end_in ends.old q) (cond (same_network network q) (Some end) None)) }
+    ensures { OnOk result ((q : ℕ × ℕ) →
+        end_in ends.new q ≡ option_or (end_in ends.old q)
+        (cond (same_network network q) (Some end) None)) }
 {
     if ends.contains_key(&network) {
         return Ok(());
@@ -112,7 +114,9 @@ fn add_end(ends: &mut BTreeMap<Network, End>, network: Network, end: End) -> Res
 
 // Keeps an interface as the first with an address, unless there is one.
 fn add_holder(ends: &mut BTreeMap<u32, End>, address: u32, end: End) -> Result<(), AllocError>
-    ensures { OnOk result ((a : ℕ) → holder_in ends.new a ≡ option_or (holder_in ends.old a) (cond (address == a) (Some end) None)) }
+    ensures { OnOk result ((a : ℕ) →
+        holder_in ends.new a ≡ option_or (holder_in ends.old a)
+        (cond (address == a) (Some end) None)) }
 {
     if ends.contains_key(&address) {
         return Ok(());

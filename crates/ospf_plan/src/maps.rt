@@ -80,7 +80,8 @@ pub(crate) fn maps_of(alloc: Global, ends: &[End]) -> Result<Maps, AllocError>
 
 // The first interface on the shortest network of fewer bits that holds an address.
 fn around(firsts: &BTreeMap<Network, End>, address: &InterfaceAddress) -> Option<End>
-    ensures { (ends : List End) → AreFirsts firsts.now ends → result ≡ first_around ends address.now address.now.length }
+    ensures { (ends : List End) → AreFirsts firsts.now ends →
+        result ≡ first_around ends address.now address.now.length }
 {
     let mut found = None;
     for length in 0..address.length {

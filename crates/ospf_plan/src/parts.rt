@@ -23,7 +23,8 @@ pub(crate) fn push_apart(
     findings: &mut Vec<Finding>,
     ends: &[End],
 ) -> Result<(), AllocError>
-    ensures { OnOk result ((reached : ℕ → Bool) × AreReached ends.now reached × (findings.new.items ≡ findings.old.items ++ apart_in reached ends.now)) }
+    ensures { OnOk result ((reached : ℕ → Bool) × AreReached ends.now reached
+        × (findings.new.items ≡ findings.old.items ++ apart_in reached ends.now)) }
 {
     let reached = reached_of(alloc, ends)?;
     push_each(findings, &reached, first_of_all(ends), ends)
@@ -63,7 +64,9 @@ fn links_of(alloc: Global, ends: &[End]) -> Result<BTreeMap<Common, End>, AllocE
 
 // Keeps an interface as the first of a link, unless there is one.
 fn add_linked(links: &mut BTreeMap<Common, End>, link: Common, end: End) -> Result<(), AllocError>
-    ensures { OnOk result ((k : LinkKey) → linked_in links.new k ≡ option_or (linked_in links.old k) (cond (same_link link k) (Some end) None)) }
+    ensures { OnOk result ((k : LinkKey) →
+        linked_in links.new k ≡ option_or (linked_in links.old k)
+        (cond (same_link link k) (Some end) None)) }
 {
     if links.contains_key(&link) {
         return Ok(());
@@ -101,7 +104,8 @@ fn push_joins(
     links: &BTreeMap<Common, End>,
     ends: &[End],
 ) -> Result<(), AllocError>
-    ensures { OnOk result (joins.new.items ≡ joins.old.items ++ filter_map (join_at (linked_in links.now)) ends.now) }
+    ensures { OnOk result (joins.new.items ≡ joins.old.items
+        ++ filter_map (join_at (linked_in links.now)) ends.now) }
 {
     for end in ends {
         push_join(joins, join_at(links, end))?;
@@ -137,7 +141,8 @@ fn push_each(
     first: Option<End>,
     ends: &[End],
 ) -> Result<(), AllocError>
-    ensures { OnOk result (findings.new.items ≡ findings.old.items ++ filter_map (apart (has reached.now) first) ends.now) }
+    ensures { OnOk result (findings.new.items ≡ findings.old.items
+        ++ filter_map (apart (has reached.now) first) ends.now) }
 {
     for end in ends {
         push_one(findings, apart(reached, first, end))?;

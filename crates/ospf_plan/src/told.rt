@@ -100,7 +100,8 @@ fn write_other<W: Write>(
     end: &End,
     name: &str,
 ) -> fmt::Result
-    ensures { WritesOnOk W.Write.write_str_gives f.old result (other_text fault end.now name.now) f.new }
+    ensures { WritesOnOk W.Write.write_str_gives f.old result (other_text fault end.now name.now)
+        f.new }
 {
     match fault {
         AreaFault::Alone | AreaFault::Nowhere(_) => Ok(()),

@@ -39,7 +39,8 @@ pub(crate) fn push_wire_faults(
     ports: &BTreeMap<u32, End>,
     wires: &[Wire],
 ) -> Result<(), AllocError>
-    ensures { (ends : List End) → ArePorts ports.now ends → OnOk result (findings.new.items ≡ findings.old.items ++ wire_faults_in ends wires.now) }
+    ensures { (ends : List End) → ArePorts ports.now ends →
+        OnOk result (findings.new.items ≡ findings.old.items ++ wire_faults_in ends wires.now) }
 {
     let heard = heard(alloc, wires)?;
     push_each(findings, ports, &heard, wires)
@@ -85,7 +86,8 @@ fn heard(alloc: Global, wires: &[Wire]) -> Result<BTreeSet<WireKey>, AllocError>
 
 // Adds a wire.
 fn add_wire(set: &mut BTreeSet<WireKey>, key: WireKey) -> Result<(), AllocError>
-    ensures { OnOk result ((q : ℕ × ℕ × ℕ) → has_wire set.new q ≡ (has_wire set.old q || same_wire key q)) }
+    ensures { OnOk result ((q : ℕ × ℕ × ℕ) →
+        has_wire set.new q ≡ (has_wire set.old q || same_wire key q)) }
 {
     match set.insert(key) {
         Ok(_) => Ok(()),
@@ -107,7 +109,8 @@ fn push_each(
     heard: &BTreeSet<WireKey>,
     wires: &[Wire],
 ) -> Result<(), AllocError>
-    ensures { OnOk result (findings.new.items ≡ findings.old.items ++ filter_map (wire_fault (holder_in ports.now) (has_wire heard.now)) wires.now) }
+    ensures { OnOk result (findings.new.items ≡ findings.old.items
+        ++ filter_map (wire_fault (holder_in ports.now) (has_wire heard.now)) wires.now) }
 {
     for wire in wires {
         push_one(findings, wire_fault(ports, heard, wire))?;

@@ -14,7 +14,8 @@ pub(crate) fn write_links<W: Write>(
     router: RouterId,
     links: Links,
 ) -> fmt::Result
-    ensures { WritesOnOk W.Write.write_str_gives f.old result (link_lines router.0 links.entry) f.new }
+    ensures { WritesOnOk W.Write.write_str_gives f.old result (link_lines router.0 links.entry)
+        f.new }
 {
     for link in links {
         write_link(f, router, link)?;
@@ -28,7 +29,8 @@ pub(crate) fn write_attached<W: Write>(
     network: u32,
     routers: Attached,
 ) -> fmt::Result
-    ensures { WritesOnOk W.Write.write_str_gives f.old result (attached_lines network routers.entry) f.new }
+    ensures { WritesOnOk W.Write.write_str_gives f.old result (attached_lines network routers.entry)
+        f.new }
 {
     for router in routers {
         write_router(f, network, router)?;

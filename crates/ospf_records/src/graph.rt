@@ -53,7 +53,8 @@ fn write_lsa<W: Write>(f: &mut Formatter<W>, lsa: &Lsa) -> fmt::Result
 
 // The lines of a router and its links.
 fn write_router_lsa<W: Write>(f: &mut Formatter<W>, router: RouterId, links: Links) -> fmt::Result
-    ensures { WritesOnOk W.Write.write_str_gives f.old result (router_lines router.0 links.entry) f.new }
+    ensures { WritesOnOk W.Write.write_str_gives f.old result (router_lines router.0 links.entry)
+        f.new }
 {
     writeln!(f, "  {} [shape=box];", RouterNode(router.0))?;
     write_links(f, router, links)
@@ -66,7 +67,8 @@ fn write_network_lsa<W: Write>(
     mask: u32,
     routers: Attached,
 ) -> fmt::Result
-    ensures { WritesOnOk W.Write.write_str_gives f.old result (network_lines id mask routers.entry) f.new }
+    ensures { WritesOnOk W.Write.write_str_gives f.old result (network_lines id mask routers.entry)
+        f.new }
 {
     let prefix = Under { address: id, mask };
     writeln!(

@@ -61,9 +61,11 @@ pub fn write_datagram(
     destination: Addr,
     ospf: &[u8],
 ) -> Result<(), CaptureFault>
-    ensures ok { OnOk result (out.new.items ≡ out.old.items ++ datagram_bytes at source destination ospf.now) }
+    ensures ok { OnOk result (out.new.items ≡ out.old.items
+        ++ datagram_bytes at source destination ospf.now) }
     ensures err { OnErr result (out.new.items ≡ out.old.items) }
-    ensures too_long { (result ≡ Err fault.TooLong) ↔ (largest_ip_packet < ip_header + length ospf.now) }
+    ensures too_long { (result ≡ Err fault.TooLong)
+        ↔ (largest_ip_packet < ip_header + length ospf.now) }
     ensures memory { (result ≡ Err fault.Memory)
         → vec_capacity out.old < vec_len out.old + length (datagram_bytes at source destination ospf.now) }
     // A capture stays one, with this packet behind the others.

@@ -100,7 +100,8 @@ impl Router {
         ensures taken { IfOk result (λ t. Steps (happening event.entry) self.old t self.new) }
         ensures stopped { OnErr result (self.new ≡ stopped self.old) }
         ensures stands_still { self.old.area ≡ None → OnOk result ⊥ }
-        ensures memory { (s : AreaValue) → self.old.area ≡ Some s → OnErr result (dropped_by (happening event.entry) s ≡ None) }
+        ensures memory { (s : AreaValue) → self.old.area ≡ Some s →
+            OnErr result (dropped_by (happening event.entry) s ≡ None) }
     {
         let Some(mut area) = self.area.take() else {
             return Err(Stopped);
@@ -144,8 +145,10 @@ impl Router {
     /// The LSAs that the routing table was last made of, if it was made of any: those that the router lists (section 14), at the
     /// ages that they had then. No memory is taken.
     pub fn kept_listing(&self) -> Option<&Listing>
-        ensures same { IfSome result (λ l. map contents l.now ≡ map contents (listing_of self.now.area)) }
-        ensures told { IfSome result (λ l. advertisements_of l.now ≡ advertisements_of (listing_of self.now.area)) }
+        ensures same { IfSome result (λ l. map contents l.now
+            ≡ map contents (listing_of self.now.area)) }
+        ensures told { IfSome result (λ l. advertisements_of l.now
+            ≡ advertisements_of (listing_of self.now.area)) }
         ensures none { result ≡ None → listing_of self.now.area ≡ [] }
     {
         match &self.area {
@@ -220,12 +223,14 @@ fn advance(
     requires routes { HasRoutes area.old routes.old.table }
     requires listing { ListsAs area.old.database routes.old.listing }
     requires router { routes.old.router ≡ area.old.router }
-    ensures lawful { IfOk result (λ a. IsLawful (happening event.entry) area.old a.taken.dropped a.taken.out area.new) }
+    ensures lawful { IfOk result (λ a. IsLawful (happening event.entry) area.old a.taken.dropped
+        a.taken.out area.new) }
     ensures same { OnOk result (IsSameRouter area.old area.new) }
     ensures kept { OnOk result (IsKept area.new) }
     ensures routes { OnOk result (HasRoutes area.new routes.new.table) }
     ensures listing { OnOk result (ListsAs area.new.database routes.new.listing) }
-    ensures changed { IfOk result (λ a. IsTrue a.table_changed ↔ (routes.new.table ≢ routes.old.table)) }
+    ensures changed { IfOk result (λ a. IsTrue a.table_changed
+        ↔ (routes.new.table ≢ routes.old.table)) }
     ensures router { routes.new.router ≡ routes.old.router }
     ensures memory { OnErr result (dropped_by (happening event.entry) area.old ≡ None) }
 {
@@ -252,7 +257,8 @@ fn fresh_in(area: &Area) -> usize
 // A step of the area: what it keeps, and the laws that it keeps.
 fn step_area(area: &mut Area, event: Event<'_>, alloc: Global) -> Result<Taken, AllocError>
     requires { IsKept area.old }
-    ensures lawful { IfOk result (λ t. IsLawful (happening event.entry) area.old t.dropped t.out area.new) }
+    ensures lawful { IfOk result (λ t. IsLawful (happening event.entry) area.old t.dropped t.out
+        area.new) }
     ensures same { OnOk result (IsSameRouter area.old area.new) }
     ensures kept { OnOk result (IsKept area.new) }
     ensures unchanged { IfOk result (λ t. IsTrue (is_some t.dropped) → area.new ≡ area.old) }
@@ -264,7 +270,8 @@ fn step_area(area: &mut Area, event: Event<'_>, alloc: Global) -> Result<Taken, 
 // Whether a step lists what was listed before: it is dropped, or brings nothing, and as many LSAs are below `MAX_AGE` as were.
 fn is_settled(taken: &Taken, before: usize, after: usize) -> bool
     ensures dropped { IsTrue (is_some taken.now.dropped) → IsTrue result }
-    ensures settled { IsTrue result → IsTrue (is_some taken.now.dropped) ⊎ ((taken.now.out.taken ≡ []) × (taken.now.out.issued ≡ []) × (after ≡ before)) }
+    ensures settled { IsTrue result → IsTrue (is_some taken.now.dropped)
+        ⊎ ((taken.now.out.taken ≡ []) × (taken.now.out.issued ≡ []) × (after ≡ before)) }
 {
     if taken.dropped.is_some() {
         return true;

@@ -110,9 +110,11 @@ impl KeptRoutes {
     // Goes on from the tree that is kept, as far as LSAs came: whether the table is another one, or nothing where that does not
     // lead to what the database lists.
     fn grow(&mut self, database: &Lsdb, alloc: Global) -> Result<Option<bool>, AllocError>
-        ensures table { IfOk result (λ o. IfSome o (λ _. AreRoutes self.old.router database.now self.new.table)) }
+        ensures table { IfOk result (λ o. IfSome o
+            (λ _. AreRoutes self.old.router database.now self.new.table)) }
         ensures listing { IfOk result (λ o. IfSome o (λ _. ListsAs database.now self.new.listing)) }
-        ensures changed { IfOk result (λ o. IfSome o (λ b. IsTrue b ↔ (self.new.table ≢ self.old.table))) }
+        ensures changed { IfOk result (λ o. IfSome o
+            (λ b. IsTrue b ↔ (self.new.table ≢ self.old.table))) }
         ensures router { self.new.router ≡ self.old.router }
         ensures kept { IfOk result (λ o. IfNone o (self.new.table ≡ self.old.table)) }
         ensures kept_on_err { OnErr result (self.new.table ≡ self.old.table) }
@@ -134,7 +136,8 @@ impl KeptRoutes {
     // Puts a tree and its routes in place; whether the routes are others than before.
     fn put(&mut self, tree: GrowingTree, alloc: Global) -> Result<bool, AllocError>
         requires { tree.root ≡ self.old.router }
-        ensures table { OnOk result (IsTable (advertisements_of tree.listing) self.old.router self.new.table) }
+        ensures table { OnOk result (IsTable (advertisements_of tree.listing) self.old.router
+            self.new.table) }
         ensures listing { OnOk result (self.new.listing ≡ tree.listing) }
         ensures changed { IfOk result (λ b. IsTrue b ↔ (self.new.table ≢ self.old.table)) }
         ensures router { self.new.router ≡ self.old.router }

@@ -31,10 +31,12 @@ pub(crate) fn begin_all<W: Wire + Drop, R: Wait + Copy + Drop>(
     requires floor { floor ≢ max_sequence_number }
     requires wires { length wires.items ≡ length configs.now }
     requires fresh { All (λ wire. W.failed wire + 1 < 2 ^ 64) wires.items }
-    ensures begins { IfOk result (λ begun. Pairs (λ config job. Begins floor config job.0 job.2) configs.now begun.0.items) }
+    ensures begins { IfOk result (λ begun. Pairs (λ config job. Begins floor config job.0 job.2)
+        configs.now begun.0.items) }
     ensures over { IfOk result (λ begun. map (λ job. job.1) begun.0.items ≡ wires.items) }
     ensures fresh { IfOk result (λ begun. All (λ job. W.failed job.1 + 1 < 2 ^ 64) begun.0.items) }
-    ensures seats { IfOk result (λ begun. Pairs (λ job seat. seat ≡ job.2) begun.0.items begun.1.items) }
+    ensures seats { IfOk result (λ begun. Pairs (λ job seat. seat ≡ job.2) begun.0.items
+        begun.1.items) }
 {
     let mut jobs = Vec::with_capacity(alloc, configs.len())?;
     let mut seats = Vec::with_capacity(alloc, configs.len())?;

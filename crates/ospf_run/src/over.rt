@@ -15,7 +15,6 @@ use crate::finish::{Outcome, finish_all};
 use crate::look::{Done, Looker, start_looker};
 use crate::plan::Plan;
 use crate::settings::Settings;
-use crate::tap::{Tap, tap_all};
 use ospf_base::Addr;
 use ospf_drive::{Driven, Job, Wire, drive_all};
 use ospf_fib::Seat;
@@ -26,35 +25,8 @@ use std::sync::{Arc, Wait};
 use std::thread::Threads;
 use std::time::Clock;
 
-/// Runs a plan over wires, one for each configuration, and tells a tap of it. What comes of its routers, in their order.
-pub(crate) fn run_tapped<
-    'a,
-    W: Wire + Send + Drop + 'static,
-    T: Tap + Send + Drop + 'static,
-    R: Threads + Wait + Clock + Copy + Send + Drop + 'static,
->(
-    rt: &R,
-    alloc: Global,
-    settings: &Settings,
-    files: &'a [NamedFile],
-    plan: &Plan,
-    wires: Vec<W>,
-    tap: &T,
-) -> Result<Vec<Outcome<'a>>, Failure>
-    requires floor { plan.now.floor ≢ max_sequence_number }
-    requires files { length files.now ≡ length plan.now.configs.items }
-    requires wires { length wires.items ≡ length plan.now.configs.items }
-    requires fresh { All (λ wire. W.failed wire + 1 < 2 ^ 64) wires.items }
-    requires counted { All (λ wire. W.traffic wire ≡ Ticks 0 settings.now.ticks) wires.items }
-    ensures outcomes { IfOk result (λ all. ComeOf settings.now plan.now files.now all.items) }
-    ensures early { IfErr result (FailsPlan files.now) }
-{
-    let wires = tap_all(alloc, files, &plan.configs, wires, tap)?;
-    run_over(rt, alloc, settings, files, plan, wires)
-}
-
-// Runs a plan over wires, one for each configuration. What comes of its routers, in their order.
-fn run_over<
+/// Runs a plan over wires, one for each configuration. What comes of its routers, in their order.
+pub(crate) fn run_over<
     'a,
     W: Wire + Send + Drop + 'static,
     R: Threads + Wait + Clock + Copy + Send + Drop + 'static,
@@ -99,7 +71,11 @@ fn drive_and_look<
     lookup: Option<Addr>,
 ) -> Result<(Vec<Driven<R>>, Vec<Looker>), AllocError>
     requires { All (λ job. W.failed job.1 + 1 < 2 ^ 64) jobs.items }
-    ensures { (terms : Terms) (configs : List Config) → Pairs (λ config job. Begins terms.floor config job.0 job.2) configs jobs.items → All (λ job. W.traffic job.1 ≡ Ticks 0 terms.ticks) jobs.items → Pairs (λ job seat. seat ≡ job.2) jobs.items seats.items → IfOk result (λ ended. Trios terms configs ended.0.items ended.1.items) }
+    ensures { (terms : Terms) (configs : List Config) →
+        Pairs (λ config job. Begins terms.floor config job.0 job.2) configs jobs.items →
+        All (λ job. W.traffic job.1 ≡ Ticks 0 terms.ticks) jobs.items →
+        Pairs (λ job seat. seat ≡ job.2) jobs.items seats.items →
+        IfOk result (λ ended. Trios terms configs ended.0.items ended.1.items) }
 {
     let done = Arc::new(alloc, AtomicBool::new(false)).map_err(AllocError::from)?;
     let mut lookers = Vec::with_capacity(alloc, seats.len())?;
@@ -135,7 +111,9 @@ fn drive_to_end<
     R: Threads + Wait + Clock + Copy + Send + Drop + 'static,
 >(rt: &R, alloc: Global, jobs: Vec<Job<W, R>>, done: &Done) -> Result<Vec<Driven<R>>, AllocError>
     requires { All (λ job. W.failed job.1 + 1 < 2 ^ 64) jobs.items }
-    ensures { IfOk result (λ all. Pairs (λ job driven. IsDriven (at job.0 (W.traffic job.1) (W.failed job.1) job.2) driven) jobs.items all.items) }
+    ensures { IfOk result (λ all. Pairs
+        (λ job driven. IsDriven (at job.0 (W.traffic job.1) (W.failed job.1) job.2) driven)
+        jobs.items all.items) }
 {
     let driven = drive_all(rt, alloc, jobs);
     done.store(true, Ordering::SeqCst);

@@ -47,7 +47,8 @@ pub(crate) fn prepare<'a>(
 // The floor of a text.
 fn floor_in(text: &Option<String>) -> Option<i32>
     ensures some { IfSome result (IsFloorOf (option_map string_bytes text.now)) }
-    ensures none { IfNone result ((floor : ℤ) → IsFloorOf (option_map string_bytes text.now) floor → ⊥) }
+    ensures none { IfNone result ((floor : ℤ) → IsFloorOf (option_map string_bytes text.now) floor →
+        ⊥) }
 {
     match text {
         Some(text) => floor_of(text.as_bytes()),

@@ -9,12 +9,12 @@ ghost use Rattle.ospf_run.specs.Plans.{IsPlanAt, IsRefused};
 ghost use Rattle.ospf_run.specs.Runs.{ComeOf, IsRun, RunsTo, floor_of};
 
 use crate::finish::Outcome;
-use crate::over::run_tapped;
+use crate::over::run_over;
 use crate::plan::{Plan, prepare};
 use crate::print::report;
 use crate::settings::Settings;
 use crate::stop::{Stop, status_of};
-use crate::tap::Tap;
+use crate::tap::{Tap, tap_all};
 use crate::tell::tell_obstacle;
 use crate::wires::open_wires;
 use ospf_files::{FailedStreams, Failure, NamedFile, Status};
@@ -56,11 +56,18 @@ pub fn run_text<
     out: &mut O,
     err: &mut E,
 ) -> Status
-    ensures done { result ≡ Status.Done → IsRun settings.now.lookup settings.now.ticks (option_map string_bytes settings.now.floor) files.now Status.Done (O.contents out.old) (O.contents out.new) (E.contents err.old) (E.contents err.new) }
-    ensures refused { result ≡ Status.Refused → IsRefused (option_map string_bytes settings.now.floor) files.now (E.contents err.old) (E.contents err.new) }
+    ensures done { result ≡ Status.Done →
+        IsRun settings.now.lookup settings.now.ticks (option_map string_bytes settings.now.floor)
+        files.now Status.Done (O.contents out.old) (O.contents out.new) (E.contents err.old)
+        (E.contents err.new) }
+    ensures refused { result ≡ Status.Refused →
+        IsRefused (option_map string_bytes settings.now.floor) files.now (E.contents err.old)
+        (E.contents err.new) }
     ensures unwritten { result ≡ Status.Refused → O.contents out.new ≡ O.contents out.old }
     ensures not_words { result ≢ Status.Words }
-    ensures ended { Ends settings.now.lookup settings.now.ticks (option_map string_bytes settings.now.floor) files.now result (O.contents out.old) (O.contents out.new) (E.contents err.old) (E.contents err.new) }
+    ensures ended { Ends settings.now.lookup settings.now.ticks
+        (option_map string_bytes settings.now.floor) files.now result (O.contents out.old)
+        (O.contents out.new) (E.contents err.old) (E.contents err.new) }
 {
     let ran = run(rt, alloc, settings, files, tap);
     let mut streams = FailedStreams::none();
@@ -87,7 +94,7 @@ fn run<
     run_plan(rt, alloc, settings, files, &plan, tap)
 }
 
-// Runs a plan over sockets of this machine. What comes of its routers, in their order.
+// Runs a plan over sockets of this machine, and tells a tap of it. What comes of its routers, in their order.
 fn run_plan<
     'a,
     R: Net + Threads + Wait + Clock + Copy + Send + Drop + 'static,
@@ -104,8 +111,9 @@ fn run_plan<
     ensures outcomes { IfOk result (λ all. ComeOf settings.now plan.now files.now all.items) }
     ensures stop { IfErr result (IsStop (floor_of settings.now) files.now) }
 {
-    let wires = open_wires(rt, *rt, alloc, settings, files, &plan.configs)?;
-    let outcomes = run_tapped(rt, alloc, settings, files, plan, wires, tap)?;
+    let sockets = open_wires(rt, *rt, alloc, settings, files, &plan.configs)?;
+    let wires = tap_all(alloc, files, &plan.configs, sockets, tap)?;
+    let outcomes = run_over(rt, alloc, settings, files, plan, wires)?;
     Ok(outcomes)
 }
 

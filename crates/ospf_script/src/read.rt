@@ -29,7 +29,8 @@ impl Command {
     pub fn read(alloc: Global, line: &[u8]) -> Result<Option<Command>, LineFault>
         ensures command { IfOk result (λ read. IfSome read (Spells (words line.now))) }
         ensures blank { IfOk result (λ read. IsNone read ↔ IsBlank line.now) }
-        ensures not_a_command { IfErr result (λ e. e ≡ LineFault.NotACommand → IsUnreadable line.now) }
+        ensures not_a_command { IfErr result (λ e. e ≡ LineFault.NotACommand →
+            IsUnreadable line.now) }
         ensures memory { IfErr result (λ e. e ≡ LineFault.Memory → SpellsLongWalk (words line.now)) }
     {
         let Some((word, rest)) = first_word(line) else {
@@ -49,8 +50,10 @@ impl Command {
 fn of_words(alloc: Global, name: Name, text: &[u8]) -> Result<Command, LineFault>
     ensures named { IfOk result (λ command. name_of command ≡ name) }
     ensures ok { IfOk result (λ command. Takes command (words text.now)) }
-    ensures not_a_command { IfErr result (λ e. e ≡ LineFault.NotACommand → (command : Command) → name_of command ≡ name → Takes command (words text.now) → ⊥) }
-    ensures memory { IfErr result (λ e. e ≡ LineFault.Memory → (name ≡ names.Walk) × IsLongWalk (words text.now)) }
+    ensures not_a_command { IfErr result (λ e. e ≡ LineFault.NotACommand → (command : Command) →
+        name_of command ≡ name → Takes command (words text.now) → ⊥) }
+    ensures memory { IfErr result (λ e. e ≡ LineFault.Memory →
+        (name ≡ names.Walk) × IsLongWalk (words text.now)) }
 {
     match name {
         Name::Walk => match walk_in(alloc, text) {
@@ -72,7 +75,8 @@ fn of_words(alloc: Global, name: Name, text: &[u8]) -> Result<Command, LineFault
 fn of_name(name: Name, text: &[u8]) -> Option<Command>
     ensures named { IfSome result (λ command. name_of command ≡ name) }
     ensures some { IfSome result (λ command. Takes command (words text.now)) }
-    ensures none { IfNone result (name ≢ names.Walk → (command : Command) → name_of command ≡ name → Takes command (words text.now) → ⊥) }
+    ensures none { IfNone result (name ≢ names.Walk → (command : Command) → name_of command ≡ name →
+        Takes command (words text.now) → ⊥) }
 {
     match name {
         Name::Start => {
@@ -116,7 +120,8 @@ fn of_name(name: Name, text: &[u8]) -> Option<Command>
 fn of_router(name: Name, text: &[u8]) -> Option<Command>
     ensures named { IfSome result (λ command. name_of command ≡ name) }
     ensures some { IfSome result (λ command. Takes command (words text.now)) }
-    ensures none { IfNone result (IsOfRouter name → (command : Command) → name_of command ≡ name → Takes command (words text.now) → ⊥) }
+    ensures none { IfNone result (IsOfRouter name → (command : Command) → name_of command ≡ name →
+        Takes command (words text.now) → ⊥) }
 {
     let router = router_in(text)?;
     match name {

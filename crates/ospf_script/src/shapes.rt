@@ -31,7 +31,8 @@ pub(crate) fn count_in(text: &[u8]) -> Option<u64>
 // A Router ID and a link.
 pub(crate) fn router_and_link_in(text: &[u8]) -> Option<(RouterId, usize)>
     ensures some { IfSome result (λ found. IsRouterAndLink (words text.now) found.0 found.1) }
-    ensures none { IfNone result ((router : RouterId) (link : ℕ) → IsRouterAndLink (words text.now) router link → ⊥) }
+    ensures none { IfNone result ((router : RouterId) (link : ℕ) →
+        IsRouterAndLink (words text.now) router link → ⊥) }
 {
     let (router, link) = two_words(text)?;
     Some((router_of(router)?, number_of(link)? as usize))
@@ -49,7 +50,8 @@ pub(crate) fn numbers_in(text: &[u8]) -> Option<(u64, u64)>
 // A datagram, a Router ID and a link.
 pub(crate) fn delivery_in(text: &[u8]) -> Option<(usize, RouterId, usize)>
     ensures some { IfSome result (λ found. IsDelivery (words text.now) found.0 found.1 found.2) }
-    ensures none { IfNone result ((datagram : ℕ) (router : RouterId) (link : ℕ) → IsDelivery (words text.now) datagram router link → ⊥) }
+    ensures none { IfNone result ((datagram : ℕ) (router : RouterId) (link : ℕ) →
+        IsDelivery (words text.now) datagram router link → ⊥) }
 {
     let (datagram, router, link) = three_words(text)?;
     let datagram = number_of(datagram)? as usize;
@@ -60,7 +62,8 @@ pub(crate) fn delivery_in(text: &[u8]) -> Option<(usize, RouterId, usize)>
 // A Router ID, a first DD sequence number and a floor, or no floor.
 pub(crate) fn start_in(text: &[u8]) -> Option<(RouterId, u32, i32)>
     ensures some { IfSome result (λ found. IsStart (words text.now) found.0 found.1 found.2) }
-    ensures none { IfNone result ((router : RouterId) (dd_start : ℕ) (floor : ℤ) → IsStart (words text.now) router dd_start floor → ⊥) }
+    ensures none { IfNone result ((router : RouterId) (dd_start : ℕ) (floor : ℤ) →
+        IsStart (words text.now) router dd_start floor → ⊥) }
 {
     if let Some((router, dd_start)) = two_words(text) {
         return Some((router_of(router)?, short_number_of(dd_start)?, NO_FLOOR));

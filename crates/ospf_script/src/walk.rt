@@ -15,7 +15,9 @@ use std::alloc::Global;
 // A Router ID, an address and choices.
 pub(crate) fn walk_in(alloc: Global, text: &[u8]) -> Result<(RouterId, Addr, Vec<u32>), LineFault>
     ensures ok { IfOk result (λ found. IsWalk (words text.now) found.0 found.1 found.2.items) }
-    ensures not_a_walk { IfErr result (λ e. e ≡ LineFault.NotACommand → (from : RouterId) (address : Addr) (choices : List ℕ) → IsWalk (words text.now) from address choices → ⊥) }
+    ensures not_a_walk { IfErr result (λ e. e ≡ LineFault.NotACommand →
+        (from : RouterId) (address : Addr) (choices : List ℕ) →
+        IsWalk (words text.now) from address choices → ⊥) }
     ensures memory { IfErr result (λ e. e ≡ LineFault.Memory → IsLongWalk (words text.now)) }
 {
     let Some((from, address, rest)) = ends_in(text) else {
@@ -27,8 +29,10 @@ pub(crate) fn walk_in(alloc: Global, text: &[u8]) -> Result<(RouterId, Addr, Vec
 
 // A Router ID and an address, and what stands behind them.
 fn ends_in(text: &[u8]) -> Option<(RouterId, Addr, &[u8])>
-    ensures some { IfSome result (λ found. BeginsWalk (words text.now) found.0 found.1 (words found.2.now)) }
-    ensures none { IfNone result ((from : RouterId) (address : Addr) (rest : List Text) → BeginsWalk (words text.now) from address rest → ⊥) }
+    ensures some { IfSome result (λ found. BeginsWalk (words text.now) found.0 found.1
+        (words found.2.now)) }
+    ensures none { IfNone result ((from : RouterId) (address : Addr) (rest : List Text) →
+        BeginsWalk (words text.now) from address rest → ⊥) }
 {
     let (from, rest) = first_word(text)?;
     let (address, rest) = first_word(rest)?;
@@ -38,7 +42,8 @@ fn ends_in(text: &[u8]) -> Option<(RouterId, Addr, &[u8])>
 // The choices that the words of a text spell. Memory is told to be missing only where each word spells one.
 fn choices_in(alloc: Global, text: &[u8]) -> Result<Vec<u32>, LineFault>
     ensures ok { IfOk result (λ choices. AreChoices (words text.now) choices.items) }
-    ensures not_choices { IfErr result (λ e. e ≡ LineFault.NotACommand → AreSomeChoices (words text.now) → ⊥) }
+    ensures not_choices { IfErr result (λ e. e ≡ LineFault.NotACommand →
+        AreSomeChoices (words text.now) → ⊥) }
     ensures memory { IfErr result (λ e. e ≡ LineFault.Memory → AreManyChoices (words text.now)) }
 {
     let mut choices = Vec::new(alloc);

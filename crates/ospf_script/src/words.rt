@@ -45,8 +45,10 @@ pub(crate) fn two_words(text: &[u8]) -> Option<(&[u8], &[u8])>
 
 // The words of a text that has three.
 pub(crate) fn three_words(text: &[u8]) -> Option<(&[u8], &[u8], &[u8])>
-    ensures some { IfSome result (λ found. words text.now ≡ found.0.now ∷ found.1.now ∷ found.2.now ∷ []) }
-    ensures none { IfNone result ((first second third : Text) → words text.now ≡ first ∷ second ∷ third ∷ [] → ⊥) }
+    ensures some { IfSome result (λ found. words text.now
+        ≡ found.0.now ∷ found.1.now ∷ found.2.now ∷ []) }
+    ensures none { IfNone result ((first second third : Text) →
+        words text.now ≡ first ∷ second ∷ third ∷ [] → ⊥) }
 {
     let (first, rest) = first_word(text)?;
     let (second, third) = two_words(rest)?;

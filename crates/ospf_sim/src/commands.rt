@@ -29,7 +29,8 @@ pub(crate) fn run_command<O: Write, V: Watch>(
     watch: &mut V,
     streams: &mut FailedStreams,
 ) -> Result<Result<(), WorldFault>, Failure>
-    ensures done { IfOk result (λ answer. IsDone command.now world.old answer world.new (O.contents out.old) (O.contents out.new)) }
+    ensures done { IfOk result (λ answer. IsDone command.now world.old answer world.new
+        (O.contents out.old) (O.contents out.new)) }
     ensures begun { OnErr result
         (IsDoneBegun command.now world.old world.new (O.contents out.old) (O.contents out.new)) }
     ensures cut { IfErr result (IsOutputCut streams.new) }
@@ -88,7 +89,8 @@ fn run_quiet<O: Write, V: Watch>(
     streams: &mut FailedStreams,
 ) -> Result<Result<(), WorldFault>, Failure>
     requires { event_in command.now ≡ None }
-    ensures done { IfOk result (λ answer. IsDone command.now world.old answer world.new (O.contents out.old) (O.contents out.new)) }
+    ensures done { IfOk result (λ answer. IsDone command.now world.old answer world.new
+        (O.contents out.old) (O.contents out.new)) }
     ensures begun { OnErr result
         (IsDoneBegun command.now world.old world.new (O.contents out.old) (O.contents out.new)) }
     ensures cut { IfErr result (IsOutputCut streams.new) }
@@ -121,7 +123,8 @@ fn show_router<O: Write>(
     alloc: Global,
     streams: &mut FailedStreams,
 ) -> Result<Result<(), WorldFault>, Failure>
-    ensures shown { IfOk result (λ answer. IsShownOn view world.now router answer (O.contents out.old) (O.contents out.new)) }
+    ensures shown { IfOk result (λ answer. IsShownOn view world.now router answer
+        (O.contents out.old) (O.contents out.new)) }
     ensures begun { OnErr result
         (IsShownBegun view world.now router (O.contents out.old) (O.contents out.new)) }
     ensures cut { IfErr result (IsOutputCut streams.new) }
@@ -146,7 +149,8 @@ fn run_other<O: Write, V: Watch>(
 ) -> Result<Result<(), WorldFault>, Failure>
     requires no_event { event_in command.now ≡ None }
     requires not_shown { shown_in command.now ≡ None }
-    ensures done { IfOk result (λ answer. IsDone command.now world.old answer world.new (O.contents out.old) (O.contents out.new)) }
+    ensures done { IfOk result (λ answer. IsDone command.now world.old answer world.new
+        (O.contents out.old) (O.contents out.new)) }
     ensures begun { OnErr result
         (IsDoneBegun command.now world.old world.new (O.contents out.old) (O.contents out.new)) }
     ensures cut { IfErr result (IsOutputCut streams.new) }
@@ -244,7 +248,8 @@ fn show_walk<O: Write>(
     alloc: Global,
     streams: &mut FailedStreams,
 ) -> Result<Result<(), WorldFault>, Failure>
-    ensures walked { IfOk result (λ answer. IsWalkedOn world.now from address.0 choices.now answer (O.contents out.old) (O.contents out.new)) }
+    ensures walked { IfOk result (λ answer. IsWalkedOn world.now from address.0 choices.now answer
+        (O.contents out.old) (O.contents out.new)) }
     ensures begun { OnErr result
         (IsWalkBegun world.now from address.0 choices.now
         (O.contents out.old) (O.contents out.new)) }

@@ -25,7 +25,8 @@ pub(crate) fn run_script<O: Write, E: Write, V: Watch>(
     watch: &mut V,
     streams: &mut FailedStreams,
 ) -> Result<bool, Failure>
-    ensures comes { IfOk result (λ whole. ScriptComes whole script.now world.old world.new (O.contents out.old) (O.contents out.new) (E.contents err.old) (E.contents err.new)) }
+    ensures comes { IfOk result (λ whole. ScriptComes whole script.now world.old world.new
+        (O.contents out.old) (O.contents out.new) (E.contents err.old) (E.contents err.new)) }
     ensures cut { IfErr result (IsScriptCut script.now world.old streams.new
         (O.contents out.old) (O.contents out.new) (E.contents err.old) (E.contents err.new)) }
 {
@@ -53,7 +54,9 @@ fn run_lines<O: Write, E: Write, V: Watch>(
     watch: &mut V,
     streams: &mut FailedStreams,
 ) -> Result<Option<u64>, Failure>
-    ensures comes { IfOk result (λ ended. LinesCome ended (map entry_of lines.now) world.old world.new (O.contents out.old) (O.contents out.new) (E.contents err.old) (E.contents err.new)) }
+    ensures comes { IfOk result (λ ended. LinesCome ended (map entry_of lines.now) world.old
+        world.new (O.contents out.old) (O.contents out.new) (E.contents err.old)
+        (E.contents err.new)) }
     ensures cut { IfErr result (IsCutAt (map entry_of lines.now) world.old streams.new
         (O.contents out.old) (O.contents out.new) (E.contents err.old) (E.contents err.new)) }
 {
@@ -77,7 +80,8 @@ fn run_line<O: Write, E: Write, V: Watch>(
     watch: &mut V,
     streams: &mut FailedStreams,
 ) -> Result<bool, Failure>
-    ensures comes { IfOk result (λ read. LineComes read line.now world.old world.new (O.contents out.old) (O.contents out.new) (E.contents err.old) (E.contents err.new)) }
+    ensures comes { IfOk result (λ read. LineComes read line.now world.old world.new
+        (O.contents out.old) (O.contents out.new) (E.contents err.old) (E.contents err.new)) }
     ensures cut { IfErr result (IsLineCut line.now.number line.now.text.now world.old streams.new
         (O.contents out.old) (O.contents out.new) (E.contents err.old) (E.contents err.new)) }
 {
@@ -103,7 +107,8 @@ fn tell_answer<O: Write, E: Write>(
     streams: &mut FailedStreams,
 ) -> Result<(), Failure>
     ensures out { OnOk result (Appends (O.contents out.old) (O.contents out.new) []) }
-    ensures err { OnOk result (Appends (E.contents err.old) (E.contents err.new) (told_of number answer)) }
+    ensures err { OnOk result (Appends (E.contents err.old) (E.contents err.new)
+        (told_of number answer)) }
     ensures cut { IfErr result (IsAnswerCut number answer streams.new
         (O.contents out.old) (O.contents out.new) (E.contents err.old) (E.contents err.new)) }
 {

@@ -49,11 +49,20 @@ pub fn sim_text<O: Write, E: Write, V: Watch>(
     err: &mut E,
     watch: &mut V,
 ) -> Simulated
-    ensures done { result.status ≡ Status.Done → IsSimulated script.now files.now result.world (O.contents out.old) (O.contents out.new) (E.contents err.old) (E.contents err.new) }
-    ensures refused { result.status ≡ Status.Refused → IsRefused script.now files.now result.world (O.contents out.old) (O.contents out.new) (E.contents err.old) (E.contents err.new) }
-    ensures unread { (file : NamedFile) → IsFirstUnread file (script.now ∷ files.now) → (result.status ≡ Status.Stream) ⊎ (result.status ≡ Status.Memory) }
-    ensures unwritten { (file : NamedFile) → IsFirstUnread file (script.now ∷ files.now) → O.contents out.new ≡ O.contents out.old }
-    ensures stopped { (result.status ≡ Status.Memory) ⊎ (result.status ≡ Status.Stream) → (failed : FailedStreams) × IsStopped script.now files.now result.world failed result.status (O.contents out.old) (O.contents out.new) (E.contents err.old) (E.contents err.new) }
+    ensures done { result.status ≡ Status.Done →
+        IsSimulated script.now files.now result.world (O.contents out.old) (O.contents out.new)
+        (E.contents err.old) (E.contents err.new) }
+    ensures refused { result.status ≡ Status.Refused →
+        IsRefused script.now files.now result.world (O.contents out.old) (O.contents out.new)
+        (E.contents err.old) (E.contents err.new) }
+    ensures unread { (file : NamedFile) → IsFirstUnread file (script.now ∷ files.now) →
+        (result.status ≡ Status.Stream) ⊎ (result.status ≡ Status.Memory) }
+    ensures unwritten { (file : NamedFile) → IsFirstUnread file (script.now ∷ files.now) →
+        O.contents out.new ≡ O.contents out.old }
+    ensures stopped { (result.status ≡ Status.Memory) ⊎ (result.status ≡ Status.Stream) →
+        (failed : FailedStreams)
+        × IsStopped script.now files.now result.world failed result.status (O.contents out.old)
+        (O.contents out.new) (E.contents err.old) (E.contents err.new) }
     ensures not_words { result.status ≢ Status.Words }
 {
     sim_noted(
@@ -77,11 +86,19 @@ fn sim_noted<O: Write, E: Write, V: Watch>(
     watch: &mut V,
     streams: &mut FailedStreams,
 ) -> Simulated
-    ensures done { result.status ≡ Status.Done → IsSimulated script.now files.now result.world (O.contents out.old) (O.contents out.new) (E.contents err.old) (E.contents err.new) }
-    ensures refused { result.status ≡ Status.Refused → IsRefused script.now files.now result.world (O.contents out.old) (O.contents out.new) (E.contents err.old) (E.contents err.new) }
-    ensures unread { (file : NamedFile) → IsFirstUnread file (script.now ∷ files.now) → (result.status ≡ Status.Stream) ⊎ (result.status ≡ Status.Memory) }
-    ensures unwritten { (file : NamedFile) → IsFirstUnread file (script.now ∷ files.now) → O.contents out.new ≡ O.contents out.old }
-    ensures stopped { (result.status ≡ Status.Memory) ⊎ (result.status ≡ Status.Stream) → IsStopped script.now files.now result.world streams.new result.status (O.contents out.old) (O.contents out.new) (E.contents err.old) (E.contents err.new) }
+    ensures done { result.status ≡ Status.Done →
+        IsSimulated script.now files.now result.world (O.contents out.old) (O.contents out.new)
+        (E.contents err.old) (E.contents err.new) }
+    ensures refused { result.status ≡ Status.Refused →
+        IsRefused script.now files.now result.world (O.contents out.old) (O.contents out.new)
+        (E.contents err.old) (E.contents err.new) }
+    ensures unread { (file : NamedFile) → IsFirstUnread file (script.now ∷ files.now) →
+        (result.status ≡ Status.Stream) ⊎ (result.status ≡ Status.Memory) }
+    ensures unwritten { (file : NamedFile) → IsFirstUnread file (script.now ∷ files.now) →
+        O.contents out.new ≡ O.contents out.old }
+    ensures stopped { (result.status ≡ Status.Memory) ⊎ (result.status ≡ Status.Stream) →
+        IsStopped script.now files.now result.world streams.new result.status (O.contents out.old)
+        (O.contents out.new) (E.contents err.old) (E.contents err.new) }
     ensures not_words { result.status ≢ Status.Words }
 {
     match simulate(alloc, script, files, out, err, watch, streams) {
@@ -100,12 +117,17 @@ fn simulate<O: Write, E: Write, V: Watch>(
     watch: &mut V,
     streams: &mut FailedStreams,
 ) -> Result<Simulated, Failure>
-    ensures comes { IfOk result (λ s. Comes s.status script.now files.now s.world (O.contents out.old) (O.contents out.new) (E.contents err.old) (E.contents err.new)) }
+    ensures comes { IfOk result (λ s. Comes s.status script.now files.now s.world
+        (O.contents out.old) (O.contents out.new) (E.contents err.old) (E.contents err.new)) }
     ensures not_words { IfOk result (λ s. s.status ≢ Status.Words) }
     ensures not_memory { IfOk result (λ s. s.status ≢ Status.Memory) }
-    ensures stream { IfOk result (λ s. s.status ≡ Status.Stream → IsUnreadTold script.now files.now s.world (O.contents out.old) (O.contents out.new) (E.contents err.old) (E.contents err.new)) }
-    ensures unread { (file : NamedFile) → IsFirstUnread file (script.now ∷ files.now) → IfOk result (λ s. s.status ≡ Status.Stream) }
-    ensures unwritten { (file : NamedFile) → IsFirstUnread file (script.now ∷ files.now) → O.contents out.new ≡ O.contents out.old }
+    ensures stream { IfOk result (λ s. s.status ≡ Status.Stream →
+        IsUnreadTold script.now files.now s.world (O.contents out.old) (O.contents out.new)
+        (E.contents err.old) (E.contents err.new)) }
+    ensures unread { (file : NamedFile) → IsFirstUnread file (script.now ∷ files.now) →
+        IfOk result (λ s. s.status ≡ Status.Stream) }
+    ensures unwritten { (file : NamedFile) → IsFirstUnread file (script.now ∷ files.now) →
+        O.contents out.new ≡ O.contents out.old }
     ensures cut { IfErr result (IsCut script.now files.now streams.new
         (O.contents out.old) (O.contents out.new) (E.contents err.old) (E.contents err.new)) }
 {
@@ -135,7 +157,8 @@ fn end_unread<E: Write>(
 ) -> Result<Simulated, Failure>
     ensures status { IfOk result (λ s. s.status ≡ Status.Stream) }
     ensures world { IfOk result (λ s. s.world ≡ None) }
-    ensures told { OnOk result (Appends (E.contents err.old) (E.contents err.new) (unread_line file.now)) }
+    ensures told { OnOk result (Appends (E.contents err.old) (E.contents err.new)
+        (unread_line file.now)) }
     ensures begun { OnErr result
         (IsBegun (E.contents err.old) (E.contents err.new) (unread_line file.now)) }
     ensures cut { IfErr result (IsErrorCut streams.new) }
@@ -160,7 +183,8 @@ fn run_in_world<O: Write, E: Write, V: Watch>(
     streams: &mut FailedStreams,
 ) -> Result<Simulated, Failure>
     requires { AreRead (script.now ∷ files.now) }
-    ensures comes { IfOk result (λ s. Comes s.status script.now files.now s.world (O.contents out.old) (O.contents out.new) (E.contents err.old) (E.contents err.new)) }
+    ensures comes { IfOk result (λ s. Comes s.status script.now files.now s.world
+        (O.contents out.old) (O.contents out.new) (E.contents err.old) (E.contents err.new)) }
     ensures ended { IfOk result (λ s. (s.status ≡ Status.Done) ⊎ (s.status ≡ Status.Refused)) }
     ensures cut { IfErr result (IsCut script.now files.now streams.new
         (O.contents out.old) (O.contents out.new) (E.contents err.old) (E.contents err.new)) }
@@ -181,7 +205,8 @@ fn new_world<E: Write>(
     err: &mut E,
     streams: &mut FailedStreams,
 ) -> Result<Option<World>, Failure>
-    ensures comes { IfOk result (λ world. WorldComes files.now world (E.contents err.old) (E.contents err.new)) }
+    ensures comes { IfOk result (λ world. WorldComes files.now world (E.contents err.old)
+        (E.contents err.new)) }
     ensures cut { IfErr result
         (IsWorldCut files.now streams.new (E.contents err.old) (E.contents err.new)) }
 {
@@ -198,7 +223,8 @@ fn open_world<E: Write>(
     err: &mut E,
     streams: &mut FailedStreams,
 ) -> Result<Option<World>, Failure>
-    ensures opens { IfOk result (λ world. Opens configs.items world (E.contents err.old) (E.contents err.new)) }
+    ensures opens { IfOk result (λ world. Opens configs.items world (E.contents err.old)
+        (E.contents err.new)) }
     ensures cut { IfErr result
         (IsOpeningCut configs.items streams.new (E.contents err.old) (E.contents err.new)) }
 {
@@ -244,7 +270,8 @@ fn run_to_end<O: Write, E: Write, V: Watch>(
     watch: &mut V,
     streams: &mut FailedStreams,
 ) -> Result<Simulated, Failure>
-    ensures runs { IfOk result (λ s. RunsTo s.status script.now world s.world (O.contents out.old) (O.contents out.new) (E.contents err.old) (E.contents err.new)) }
+    ensures runs { IfOk result (λ s. RunsTo s.status script.now world s.world (O.contents out.old)
+        (O.contents out.new) (E.contents err.old) (E.contents err.new)) }
     ensures cut { IfErr result (IsScriptCut (text_in script.now) world streams.new
         (O.contents out.old) (O.contents out.new) (E.contents err.old) (E.contents err.new)) }
 {

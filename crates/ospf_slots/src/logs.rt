@@ -77,7 +77,8 @@ impl Logs {
         outputs: Outputs,
     ) -> Result<(), AllocError>
         ensures logs { OnOk result (LogsTake self.old self.new router first later.old.items outputs) }
-        ensures runs { OnOk result (BeginAgain (length self.new.issued) outputs.ended later.old.items later.new.items) }
+        ensures runs { OnOk result (BeginAgain (length self.new.issued) outputs.ended
+            later.old.items later.new.items) }
         ensures none { OnErr result (self.new ≡ self.old) }
     {
         let sent = self.datagrams.len();
@@ -101,7 +102,8 @@ impl Logs {
         outputs: Outputs,
     ) -> Result<(), AllocError>
         ensures logs { OnOk result (LogsTake self.old self.new router first later.old.items outputs) }
-        ensures runs { OnOk result (BeginAgain (length self.new.issued) outputs.ended later.old.items later.new.items) }
+        ensures runs { OnOk result (BeginAgain (length self.new.issued) outputs.ended
+            later.old.items later.new.items) }
         ensures still { StillHave self.old self.new }
     {
         let ended = self.grow(router, first, later, outputs)?;
@@ -140,7 +142,9 @@ impl Logs {
 
 // The run of each of these keys begins again.
 fn begin_again(later: &mut Vec<(LsaKey, Run)>, ended: &[LsaKey], run: Run) -> Result<(), AllocError>
-    ensures { OnOk result ((first : Run) (key : LsaKey) → run_in first later.new.items key ≡ (if among ended.now key then run else run_in first later.old.items key)) }
+    ensures { OnOk result ((first : Run) (key : LsaKey) →
+        run_in first later.new.items key
+        ≡ (if among ended.now key then run else run_in first later.old.items key)) }
 {
     for key in ended {
         later.insert(0, (*key, run))?;
@@ -197,7 +201,8 @@ fn log_issued(
     later: &[(LsaKey, Run)],
     issued: Vec<Lsa>,
 ) -> Result<(), AllocError>
-    ensures ok { OnOk result (log.new.items ≡ log.old.items ++ map (issued_in first later.now) issued.items) }
+    ensures ok { OnOk result (log.new.items ≡ log.old.items
+        ++ map (issued_in first later.now) issued.items) }
     ensures still { take (length log.old.items) log.new.items ≡ log.old.items }
 {
     for lsa in issued {

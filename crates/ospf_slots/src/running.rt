@@ -91,7 +91,8 @@ impl RunningRouter {
         alloc: Global,
     ) -> Result<RunningRouter, Stopped>
         requires { place < length logs.old.datagrams }
-        ensures fed { IfOk result (λ x. IfSome (slice_get logs.old.datagrams place) (λ g. Fed router (delivery link g) self logs.old x logs.new)) }
+        ensures fed { IfOk result (λ x. IfSome (slice_get logs.old.datagrams place)
+            (λ g. Fed router (delivery link g) self logs.old x logs.new)) }
         ensures none { OnErr result (logs.new ≡ logs.old) }
     {
         let event = arrival(&logs.datagrams()[place], link);

@@ -147,7 +147,8 @@ impl Slot {
     // What a step of the running router came to; it was taken out.
     fn conclude(&mut self, stepped: Result<RunningRouter, Stopped>) -> Result<(), WorldFault>
         requires { IfOk stepped Lives }
-        ensures ok { IfOk stepped (λ v. (result ≡ Ok tt) × (self.new ≡ with_running self.old (running_of v))) }
+        ensures ok { IfOk stepped (λ v. (result ≡ Ok tt)
+            × (self.new ≡ with_running self.old (running_of v))) }
         ensures err { OnErr stepped ((result ≡ Err (fault.Memory true)) × (self.new ≡ self.old)) }
     {
         match stepped {
@@ -184,7 +185,8 @@ impl Slot {
         logs: &mut Logs,
         alloc: Global,
     ) -> Result<(), WorldFault>
-        ensures { DeliversOn link (slice_get logs.old.datagrams place) self.old logs.old result self.new logs.new }
+        ensures { DeliversOn link (slice_get logs.old.datagrams place) self.old logs.old result
+            self.new logs.new }
     {
         if link >= self.config.interfaces.len() {
             return Err(WorldFault::NoLink);
@@ -204,7 +206,8 @@ impl Slot {
         alloc: Global,
     ) -> Result<(), WorldFault>
         requires { place < length logs.old.datagrams }
-        ensures { IfSome (slice_get logs.old.datagrams place) (λ g. Feeds (delivery link g) self.old logs.old result self.new logs.new) }
+        ensures { IfSome (slice_get logs.old.datagrams place)
+            (λ g. Feeds (delivery link g) self.old logs.old result self.new logs.new) }
     {
         let Some(running) = self.running.take() else {
             return Err(WorldFault::NotRunning);

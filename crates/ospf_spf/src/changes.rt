@@ -69,8 +69,10 @@ impl RouteTable {
     pub fn changes(&self, alloc: Global, to: &RouteTable) -> Result<Vec<Change>, AllocError>
         ensures applied { IfOk result (λ changes. edited self.now changes.items ≡ to.now) }
         ensures in_order { IfOk result (λ changes. AllPairs IsChangeBefore changes.items) }
-        ensures puts { IfOk result (λ changes. (route : Route) → Contains changes.items (Change.Put route) ↔ IsNew self.now to.now route) }
-        ensures gone { IfOk result (λ changes. (prefix : Prefix) → Contains changes.items (Change.Gone prefix) ↔ IsGone self.now to.now prefix) }
+        ensures puts { IfOk result (λ changes. (route : Route) →
+            Contains changes.items (Change.Put route) ↔ IsNew self.now to.now route) }
+        ensures gone { IfOk result (λ changes. (prefix : Prefix) →
+            Contains changes.items (Change.Gone prefix) ↔ IsGone self.now to.now prefix) }
         ensures have_hops { IfOk result (λ changes. All PutsHops changes.items) }
     {
         let changes = changes_of(alloc, self.routes(), to.routes())?;
@@ -90,8 +92,10 @@ fn changes_of(alloc: Global, old: &[Route], new: &[Route]) -> Result<Vec<Change>
     requires { AllPairs IsRouteBefore old.now × AllPairs IsRouteBefore new.now }
     ensures applied { IfOk result (λ changes. edited old.now changes.items ≡ new.now) }
     ensures in_order { IfOk result (λ changes. AllPairs IsChangeBefore changes.items) }
-    ensures puts { IfOk result (λ changes. (route : Route) → Contains changes.items (Change.Put route) ↔ IsNew old.now new.now route) }
-    ensures gone { IfOk result (λ changes. (prefix : Prefix) → Contains changes.items (Change.Gone prefix) ↔ IsGone old.now new.now prefix) }
+    ensures puts { IfOk result (λ changes. (route : Route) →
+        Contains changes.items (Change.Put route) ↔ IsNew old.now new.now route) }
+    ensures gone { IfOk result (λ changes. (prefix : Prefix) →
+        Contains changes.items (Change.Gone prefix) ↔ IsGone old.now new.now prefix) }
 {
     let mut changes = Vec::new(alloc);
     let (mut i, mut j) = (0, 0);
@@ -120,7 +124,8 @@ fn changes_of(alloc: Global, old: &[Route], new: &[Route]) -> Result<Vec<Change>
 // Which of two tables goes on next, from these places on; `None` at the end of both.
 fn next_step(old: &[Route], i: usize, new: &[Route], j: usize) -> Option<Step>
     requires { (i ≤ length old.now) × (j ≤ length new.now) }
-    ensures { MatchOption result ((i ≡ length old.now) × (j ≡ length new.now)) (IsStep old.now i new.now j) }
+    ensures { MatchOption result ((i ≡ length old.now) × (j ≡ length new.now))
+        (IsStep old.now i new.now j) }
 {
     match (old.get(i), new.get(j)) {
         (None, None) => None,

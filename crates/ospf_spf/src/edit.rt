@@ -119,7 +119,8 @@ fn copy_changes(alloc: Global, changes: &[Change]) -> Result<Vec<Change>, AllocE
 fn merged(routes: Vec<Route>, changes: Vec<Change>, room: Vec<Route>) -> Vec<Route>
     requires table { IsInOrder routes.items }
     requires changes { AllPairs IsChangeBefore changes.items × All PutsHops changes.items }
-    requires room { (room.items ≡ []) × (length routes.items + length changes.items ≤ vec_capacity room) }
+    requires room { (room.items ≡ []) × (length routes.items + length changes.items
+        ≤ vec_capacity room) }
     ensures edited { result.items ≡ edited routes.items changes.items }
     ensures table { IsInOrder result.items }
 {

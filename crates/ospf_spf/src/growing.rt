@@ -169,7 +169,8 @@ fn turned(
     requires turn { (old : List (List ℕ)) × IsTurn old listing vertex root paths before after }
     ensures root { IfOk result (λ g. g.tree.root ≡ root) }
     ensures listing { IfOk result (λ g. g.tree.listing ≡ listing) }
-    ensures keeps { (old : List (List ℕ)) → IsTurn old listing vertex root paths before after → IfOk result (λ g. IsTrue g.stays → Keeps (growing root old paths) g.tree) }
+    ensures keeps { (old : List (List ℕ)) → IsTurn old listing vertex root paths before after →
+        IfOk result (λ g. IsTrue g.stays → Keeps (growing root old paths) g.tree) }
 {
     let gone = gone_of(alloc, &before.edges, &after.edges)?;
     let mut changed = Vec::new(alloc);

@@ -45,7 +45,9 @@ pub(crate) fn table_of(
     ends: &[End],
 ) -> Result<Vec<Route>, AllocError>
     requires told { AreTold paths.now }
-    ensures { IfOk result (λ routes. (adverts : List Advertisement) (root : RouterId) → IsListed adverts root → IsTreeOf adverts root paths.now → AreEndsWithin adverts paths.now.settled.items ends.now → IsTable adverts root routes.items) }
+    ensures { IfOk result (λ routes. (adverts : List Advertisement) (root : RouterId) →
+        IsListed adverts root → IsTreeOf adverts root paths.now →
+        AreEndsWithin adverts paths.now.settled.items ends.now → IsTable adverts root routes.items) }
 {
     let mut reaches = reaches_of(alloc, ends, &paths.settled)?;
     sort_reaches(&mut reaches);
@@ -58,7 +60,8 @@ fn reaches_of(alloc: Global, ends: &[End], settled: &[Settled]) -> Result<Vec<Re
     requires near { All (λ s. s.distance < 2 ^ 63) settled.now }
     requires one { (v : Vertex) (d k : ℕ) → AtIn settled.now v d → AtIn settled.now v k → d ≡ k }
     requires in_order { IsNonDecreasingBy (λ s. vertex_code s.vertex) settled.now }
-    ensures { IfOk result (λ reaches. (r : Reach) → Contains reaches.items r ↔ IsReachOf ends.now settled.now r) }
+    ensures { IfOk result (λ reaches. (r : Reach) →
+        Contains reaches.items r ↔ IsReachOf ends.now settled.now r) }
 {
     let mut reaches = Vec::new(alloc);
     for end in ends {
@@ -96,8 +99,10 @@ fn routes_of(
 ) -> Result<Vec<Route>, AllocError>
     requires reaches_in_order { AreReachesInOrder reaches.now }
     requires starts_in_order { AreStartsInOrder starts.now }
-    ensures in_order { IfOk result (λ routes. AllPairs (λ p q. IsPrefixBefore p.prefix q.prefix) routes.items) }
-    ensures complete { IfOk result (λ routes. (r : Reach) → Contains reaches.now r → (route : Route) × Contains routes.items route × (route.prefix ≡ r.prefix)) }
+    ensures in_order { IfOk result (λ routes. AllPairs (λ p q. IsPrefixBefore p.prefix q.prefix)
+        routes.items) }
+    ensures complete { IfOk result (λ routes. (r : Reach) → Contains reaches.now r →
+        (route : Route) × Contains routes.items route × (route.prefix ≡ r.prefix)) }
     ensures sound { IfOk result (λ routes. All (IsRouteOf reaches.now starts.now) routes.items) }
 {
     let mut routes = Vec::new(alloc);
@@ -112,8 +117,12 @@ fn routes_of(
 // Whether the reach at this place is the first of its prefix.
 fn is_first(reaches: &[Reach], place: usize) -> bool
     requires { place < length reaches.now }
-    ensures first { IsTrue result → (d : Reach) → 0 < place → (slice_index_or reaches.now (place - 1) d).prefix ≡ (slice_index_or reaches.now place d).prefix → ⊥ }
-    ensures later { result ≡ false → (0 < place) × ((d : Reach) → (slice_index_or reaches.now (place - 1) d).prefix ≡ (slice_index_or reaches.now place d).prefix) }
+    ensures first { IsTrue result → (d : Reach) → 0 < place →
+        (slice_index_or reaches.now (place - 1) d).prefix
+        ≡ (slice_index_or reaches.now place d).prefix → ⊥ }
+    ensures later { result ≡ false → (0 < place)
+        × ((d : Reach) → (slice_index_or reaches.now (place - 1) d).prefix
+        ≡ (slice_index_or reaches.now place d).prefix) }
 {
     place == 0 || !is_same_prefix(reaches[place - 1].prefix, reaches[place].prefix)
 }
@@ -133,10 +142,13 @@ fn route_at(
     starts: &[VertexStart],
 ) -> Result<Route, AllocError>
     requires within { place < length reaches.now }
-    requires first { (d : Reach) → 0 < place → (slice_index_or reaches.now (place - 1) d).prefix ≡ (slice_index_or reaches.now place d).prefix → ⊥ }
+    requires first { (d : Reach) → 0 < place →
+        (slice_index_or reaches.now (place - 1) d).prefix
+        ≡ (slice_index_or reaches.now place d).prefix → ⊥ }
     requires reaches_in_order { AreReachesInOrder reaches.now }
     requires starts_in_order { AreStartsInOrder starts.now }
-    ensures prefix { IfOk result (λ route. (d : Reach) → route.prefix ≡ (slice_index_or reaches.now place d).prefix) }
+    ensures prefix { IfOk result (λ route. (d : Reach) →
+        route.prefix ≡ (slice_index_or reaches.now place d).prefix) }
     ensures route { IfOk result (λ route. IsRouteOf reaches.now starts.now route) }
 {
     let end = group_end(reaches, place);
@@ -166,7 +178,8 @@ fn route_to(
 ) -> Result<Route, AllocError>
     requires reached { (r : Reach) × Contains reaches.now r × (r.prefix ≡ prefix) }
     requires in_order { AreStartsInOrder starts.now }
-    ensures { IfOk result (λ route. (route.prefix ≡ prefix) × IsRouteOf reaches.now starts.now route) }
+    ensures { IfOk result (λ route. (route.prefix ≡ prefix)
+        × IsRouteOf reaches.now starts.now route) }
 {
     let cost = match least_cost(prefix, reaches) {
         Some(cost) => cost,
@@ -191,7 +204,8 @@ fn least_cost(prefix: Prefix, reaches: &[Reach]) -> Option<u64>
 
 // The lesser of two costs, where there is one already.
 fn lesser(best: Option<u64>, cost: u64) -> u64
-    ensures { MatchOption best (result ≡ cost) (λ b. ((result ≡ b) × (b ≤ cost)) ⊎ ((result ≡ cost) × (cost ≤ b))) }
+    ensures { MatchOption best (result ≡ cost)
+        (λ b. ((result ≡ b) × (b ≤ cost)) ⊎ ((result ≡ cost) × (cost ≤ b))) }
 {
     match best {
         Some(b) => { if b <= cost { b } else { cost } }
@@ -238,7 +252,8 @@ fn chosen_network(prefix: Prefix, cost: u64, reaches: &[Reach]) -> Option<u32>
 
 // The Link State ID of the network that is reached, if it is one of the prefix at this cost.
 fn network_at(reach: Reach, prefix: Prefix, cost: u64) -> Option<u32>
-    ensures { MatchOption result ((n : ℕ) → reach ≡ network_reach prefix n cost → ⊥) (λ n. reach ≡ network_reach prefix n cost) }
+    ensures { MatchOption result ((n : ℕ) → reach ≡ network_reach prefix n cost → ⊥)
+        (λ n. reach ≡ network_reach prefix n cost) }
 {
     match reach.vertex {
         Vertex::Network(id) => {
@@ -254,7 +269,8 @@ fn network_at(reach: Reach, prefix: Prefix, cost: u64) -> Option<u32>
 
 // The larger of two Link State IDs, where there is one already.
 fn larger(largest: Option<u32>, id: u32) -> u32
-    ensures { MatchOption largest (result ≡ id) (λ n. ((result ≡ n) × (id ≤ n)) ⊎ ((result ≡ id) × (n ≤ id))) }
+    ensures { MatchOption largest (result ≡ id)
+        (λ n. ((result ≡ n) × (id ≤ n)) ⊎ ((result ≡ id) × (n ≤ id))) }
 {
     match largest {
         Some(n) => { if id <= n { n } else { id } }
@@ -264,7 +280,8 @@ fn larger(largest: Option<u32>, id: u32) -> u32
 
 // Whether this is an end of the prefix at this cost, and a router or the network.
 fn counts(end: Reach, prefix: Prefix, cost: u64, network: Option<u32>) -> bool
-    ensures { IsTrue result ↔ ((end.prefix ≡ prefix) × (end.cost ≡ cost) × IsRouterOr network end.vertex) }
+    ensures { IsTrue result ↔ ((end.prefix ≡ prefix) × (end.cost ≡ cost)
+        × IsRouterOr network end.vertex) }
 {
     is_same_prefix(end.prefix, prefix) && end.cost == cost && is_router_or(network, end.vertex)
 }

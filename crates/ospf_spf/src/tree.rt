@@ -43,8 +43,10 @@ impl Tree {
     /// `AllocError` where memory runs out.
     pub fn of(alloc: Global, listing: &Listing, root: RouterId) -> Result<Tree, AllocError>
         ensures root { IfOk result (λ tree. tree.root ≡ root) }
-        ensures graph { IfOk result (λ tree. map graph_part (advertisements_of listing.now) ≡ tree.graph) }
-        ensures looks { IfOk result (λ tree. tree.looks ≤ 2 * link_count (advertisements_of listing.now) + 2) }
+        ensures graph { IfOk result (λ tree. map graph_part (advertisements_of listing.now)
+            ≡ tree.graph) }
+        ensures looks { IfOk result (λ tree. tree.looks
+            ≤ 2 * link_count (advertisements_of listing.now) + 2) }
     {
         let items = items_in(alloc, listing)?;
         let edges = edges_of(alloc, listing)?;

@@ -50,7 +50,8 @@ impl Entries {
         ensures ok { OnOk result (IsInserted lsa self.old self.new) }
         ensures err { OnErr result (self.new ≡ self.old) }
         ensures twice { (result ≡ Err fault.Twice) ↔ HasKey self.old (key_of lsa) }
-        ensures max_age { (result ≡ Err fault.MaxAge) ↔ (((header_of lsa).age ≡ 3600) × (HasKey self.old (key_of lsa) → ⊥)) }
+        ensures max_age { (result ≡ Err fault.MaxAge)
+            ↔ (((header_of lsa).age ≡ 3600) × (HasKey self.old (key_of lsa) → ⊥)) }
     {
         let key = lsa.view().key();
         if self.has(&key) {

@@ -56,7 +56,8 @@ impl Display for LineFault {
 pub fn lsa_line(alloc: Global, text: &str) -> Result<Lsa, LineFault>
     ensures lsa { IfOk result (λ lsa. (decode_of text.now ≡ Ok lsa) × IsLsa lsa) }
     ensures not_hex { IfErr result (λ e. e ≡ LineFault.NotHex → IsErr (decode_of text.now)) }
-    ensures fault { IfErr result (λ e. (f : LsaFault) → e ≡ LineFault.Lsa f → (f ≡ fault.Memory) ⊎ HasFirstFault (decode_of text.now) f) }
+    ensures fault { IfErr result (λ e. (f : LsaFault) → e ≡ LineFault.Lsa f →
+        (f ≡ fault.Memory) ⊎ HasFirstFault (decode_of text.now) f) }
 {
     let bytes = match hex::decode(alloc, text) {
         Ok(bytes) => bytes,
@@ -71,7 +72,8 @@ pub fn lsa_line(alloc: Global, text: &str) -> Result<Lsa, LineFault>
 pub(crate) fn lsa_of_line(alloc: Global, text: &[u8]) -> Result<Lsa, LineFault>
     ensures lsa { IfOk result (λ lsa. (decode_of text.now ≡ Ok lsa) × IsLsa lsa) }
     ensures not_hex { IfErr result (λ e. e ≡ LineFault.NotHex → IsErr (decode_of text.now)) }
-    ensures fault { IfErr result (λ e. (f : LsaFault) → e ≡ LineFault.Lsa f → (f ≡ fault.Memory) ⊎ HasFirstFault (decode_of text.now) f) }
+    ensures fault { IfErr result (λ e. (f : LsaFault) → e ≡ LineFault.Lsa f →
+        (f ≡ fault.Memory) ⊎ HasFirstFault (decode_of text.now) f) }
 {
     match str::from_utf8(text) {
         Ok(text) => lsa_line(alloc, text),

@@ -41,8 +41,11 @@ pub(crate) fn print_lookups<W: Wait + Drop, O: Write>(
     streams: &mut FailedStreams,
 ) -> Result<(), Failure>
     requires { seat.old ≡ writer.old }
-    ensures lookups { (table : List Route) → writer.old.tables ≡ opening ++ table ∷ [] → OnOk result ((lines : List ℕ) × AreLookups table addresses.now lines × Appends (O.contents out.old) (O.contents out.new) lines) }
-    ensures begun { (table : List Route) → writer.old.tables ≡ opening ++ table ∷ [] → OnErr result (AreLookupsBegun table addresses.now (O.contents out.old) (O.contents out.new)) }
+    ensures lookups { (table : List Route) → writer.old.tables ≡ opening ++ table ∷ [] →
+        OnOk result ((lines : List ℕ) × AreLookups table addresses.now lines
+        × Appends (O.contents out.old) (O.contents out.new) lines) }
+    ensures begun { (table : List Route) → writer.old.tables ≡ opening ++ table ∷ [] →
+        OnErr result (AreLookupsBegun table addresses.now (O.contents out.old) (O.contents out.new)) }
     ensures cut { IfErr result (IsLookupCut streams.new) }
 {
     for address in addresses {

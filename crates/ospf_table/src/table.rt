@@ -122,8 +122,10 @@ impl From<Failure> for TableFault {
 ///
 /// The error is the first line that is refused, or what was not read or had no room.
 pub fn read_listing<R: BufRead + Drop>(alloc: Global, input: R) -> Result<Listing, TableFault>
-    ensures whole { IfOk result (λ listing. IfSome (R.remaining input) (λ bytes. Reads bytes [] listing)) }
-    ensures refused { (n : ℕ) (f : EntryFault) → result ≡ Err (TableFault.Entry n f) → IfSome (R.remaining input) (λ bytes. Refuses bytes [] n f) }
+    ensures whole { IfOk result (λ listing. IfSome (R.remaining input)
+        (λ bytes. Reads bytes [] listing)) }
+    ensures refused { (n : ℕ) (f : EntryFault) → result ≡ Err (TableFault.Entry n f) →
+        IfSome (R.remaining input) (λ bytes. Refuses bytes [] n f) }
     ensures unread { (f : Failure) → result ≡ Err (TableFault.Failure f) → IsOfInput f }
 {
     let entries = read_entries(alloc, input)?;
@@ -164,10 +166,18 @@ pub fn table_text<W: Wait + Drop, R: BufRead + Drop, O: Write, E: Write>(
     out: &mut O,
     err: &mut E,
 ) -> Status
-    ensures done { result ≡ Status.Done → IfSome (R.remaining input) (λ bytes. IsAnswered bytes job.now.root job.now.addresses.items (O.contents out.old) (O.contents out.new) (E.contents err.old) (E.contents err.new)) }
-    ensures refused { result ≡ Status.Refused → IfSome (R.remaining input) (λ bytes. IsRefusalTold bytes (E.contents err.old) (E.contents err.new)) }
+    ensures done { result ≡ Status.Done →
+        IfSome (R.remaining input)
+        (λ bytes. IsAnswered bytes job.now.root job.now.addresses.items (O.contents out.old)
+        (O.contents out.new) (E.contents err.old) (E.contents err.new)) }
+    ensures refused { result ≡ Status.Refused →
+        IfSome (R.remaining input)
+        (λ bytes. IsRefusalTold bytes (E.contents err.old) (E.contents err.new)) }
     ensures unwritten { result ≡ Status.Refused → O.contents out.new ≡ O.contents out.old }
-    ensures cut { (result ≡ Status.Memory) ⊎ (result ≡ Status.Stream) → (failed : FailedStreams) × IsCutShort (R.remaining input) job.now.root job.now.addresses.items failed (O.contents out.old) (O.contents out.new) (E.contents err.old) (E.contents err.new) result }
+    ensures cut { (result ≡ Status.Memory) ⊎ (result ≡ Status.Stream) →
+        (failed : FailedStreams)
+        × IsCutShort (R.remaining input) job.now.root job.now.addresses.items failed
+        (O.contents out.old) (O.contents out.new) (E.contents err.old) (E.contents err.new) result }
     ensures not_words { result ≢ Status.Words }
 {
     table_noted(alloc, rt, job, input, out, err, &mut FailedStreams::none())
@@ -175,8 +185,10 @@ pub fn table_text<W: Wait + Drop, R: BufRead + Drop, O: Write, E: Write>(
 
 // The LSAs of the lines up to the end of the input.
 fn read_entries<R: BufRead + Drop>(alloc: Global, mut input: R) -> Result<Entries, TableFault>
-    ensures whole { IfOk result (λ entries. IfSome (R.remaining input) (λ bytes. Reads bytes [] entries)) }
-    ensures refused { (n : ℕ) (f : EntryFault) → result ≡ Err (TableFault.Entry n f) → IfSome (R.remaining input) (λ bytes. Refuses bytes [] n f) }
+    ensures whole { IfOk result (λ entries. IfSome (R.remaining input)
+        (λ bytes. Reads bytes [] entries)) }
+    ensures refused { (n : ℕ) (f : EntryFault) → result ≡ Err (TableFault.Entry n f) →
+        IfSome (R.remaining input) (λ bytes. Refuses bytes [] n f) }
     ensures unread { (f : Failure) → result ≡ Err (TableFault.Failure f) → IsOfInput f }
 {
     let mut entries = Entries::new(alloc);
@@ -227,10 +239,17 @@ fn table_noted<W: Wait + Drop, R: BufRead + Drop, O: Write, E: Write>(
     err: &mut E,
     streams: &mut FailedStreams,
 ) -> Status
-    ensures done { result ≡ Status.Done → IfSome (R.remaining input) (λ bytes. IsAnswered bytes job.now.root job.now.addresses.items (O.contents out.old) (O.contents out.new) (E.contents err.old) (E.contents err.new)) }
-    ensures refused { result ≡ Status.Refused → IfSome (R.remaining input) (λ bytes. IsRefusalTold bytes (E.contents err.old) (E.contents err.new)) }
+    ensures done { result ≡ Status.Done →
+        IfSome (R.remaining input)
+        (λ bytes. IsAnswered bytes job.now.root job.now.addresses.items (O.contents out.old)
+        (O.contents out.new) (E.contents err.old) (E.contents err.new)) }
+    ensures refused { result ≡ Status.Refused →
+        IfSome (R.remaining input)
+        (λ bytes. IsRefusalTold bytes (E.contents err.old) (E.contents err.new)) }
     ensures unwritten { result ≡ Status.Refused → O.contents out.new ≡ O.contents out.old }
-    ensures cut { (result ≡ Status.Memory) ⊎ (result ≡ Status.Stream) → IsCutShort (R.remaining input) job.now.root job.now.addresses.items streams.new (O.contents out.old) (O.contents out.new) (E.contents err.old) (E.contents err.new) result }
+    ensures cut { (result ≡ Status.Memory) ⊎ (result ≡ Status.Stream) →
+        IsCutShort (R.remaining input) job.now.root job.now.addresses.items streams.new
+        (O.contents out.old) (O.contents out.new) (E.contents err.old) (E.contents err.new) result }
     ensures not_words { result ≢ Status.Words }
 {
     match answer_or_refuse(alloc, rt, job, input, out, err, streams) {
@@ -249,11 +268,18 @@ fn answer_or_refuse<W: Wait + Drop, R: BufRead + Drop, O: Write, E: Write>(
     err: &mut E,
     streams: &mut FailedStreams,
 ) -> Result<Status, Failure>
-    ensures done { result ≡ Ok Status.Done → IfSome (R.remaining input) (λ bytes. IsAnswered bytes job.now.root job.now.addresses.items (O.contents out.old) (O.contents out.new) (E.contents err.old) (E.contents err.new)) }
-    ensures refused { result ≡ Ok Status.Refused → IfSome (R.remaining input) (λ bytes. IsRefusalTold bytes (E.contents err.old) (E.contents err.new)) }
+    ensures done { result ≡ Ok Status.Done →
+        IfSome (R.remaining input)
+        (λ bytes. IsAnswered bytes job.now.root job.now.addresses.items (O.contents out.old)
+        (O.contents out.new) (E.contents err.old) (E.contents err.new)) }
+    ensures refused { result ≡ Ok Status.Refused →
+        IfSome (R.remaining input)
+        (λ bytes. IsRefusalTold bytes (E.contents err.old) (E.contents err.new)) }
     ensures unwritten { result ≡ Ok Status.Refused → O.contents out.new ≡ O.contents out.old }
     ensures ended { IfOk result (λ status. (status ≡ Status.Done) ⊎ (status ≡ Status.Refused)) }
-    ensures cut { IfErr result (IsAnswerCut (R.remaining input) job.now.root job.now.addresses.items streams.new (O.contents out.old) (O.contents out.new) (E.contents err.old) (E.contents err.new)) }
+    ensures cut { IfErr result (IsAnswerCut (R.remaining input) job.now.root job.now.addresses.items
+        streams.new (O.contents out.old) (O.contents out.new) (E.contents err.old)
+        (E.contents err.new)) }
 {
     match answer(alloc, rt, job, input, out, err, streams) {
         Ok(()) => Ok(Status::Done),
@@ -275,11 +301,18 @@ fn answer<W: Wait + Drop, R: BufRead + Drop, O: Write, E: Write>(
     err: &mut E,
     streams: &mut FailedStreams,
 ) -> Result<(), TableFault>
-    ensures answer { OnOk result (IfSome (R.remaining input) (λ bytes. IsAnswered bytes job.now.root job.now.addresses.items (O.contents out.old) (O.contents out.new) (E.contents err.old) (E.contents err.new))) }
-    ensures refused { (n : ℕ) (f : EntryFault) → result ≡ Err (TableFault.Entry n f) → IfSome (R.remaining input) (λ bytes. Refuses bytes [] n f) }
-    ensures unwritten { (n : ℕ) (f : EntryFault) → result ≡ Err (TableFault.Entry n f) → O.contents out.new ≡ O.contents out.old }
-    ensures untold { (n : ℕ) (f : EntryFault) → result ≡ Err (TableFault.Entry n f) → E.contents err.new ≡ E.contents err.old }
-    ensures cut { (f : Failure) → result ≡ Err (TableFault.Failure f) → IsAnswerCut (R.remaining input) job.now.root job.now.addresses.items streams.new (O.contents out.old) (O.contents out.new) (E.contents err.old) (E.contents err.new) f }
+    ensures answer { OnOk result (IfSome (R.remaining input)
+        (λ bytes. IsAnswered bytes job.now.root job.now.addresses.items (O.contents out.old)
+        (O.contents out.new) (E.contents err.old) (E.contents err.new))) }
+    ensures refused { (n : ℕ) (f : EntryFault) → result ≡ Err (TableFault.Entry n f) →
+        IfSome (R.remaining input) (λ bytes. Refuses bytes [] n f) }
+    ensures unwritten { (n : ℕ) (f : EntryFault) → result ≡ Err (TableFault.Entry n f) →
+        O.contents out.new ≡ O.contents out.old }
+    ensures untold { (n : ℕ) (f : EntryFault) → result ≡ Err (TableFault.Entry n f) →
+        E.contents err.new ≡ E.contents err.old }
+    ensures cut { (f : Failure) → result ≡ Err (TableFault.Failure f) →
+        IsAnswerCut (R.remaining input) job.now.root job.now.addresses.items streams.new
+        (O.contents out.old) (O.contents out.new) (E.contents err.old) (E.contents err.new) f }
 {
     let listing = read_listing(alloc, input)?;
     answer_of(alloc, rt, job, &listing, out, err, streams)?;
@@ -296,8 +329,12 @@ fn answer_of<W: Wait + Drop, O: Write, E: Write>(
     err: &mut E,
     streams: &mut FailedStreams,
 ) -> Result<(), Failure>
-    ensures answer { (bytes : List ℕ) → Reads bytes [] listing.now → OnOk result (IsAnswered bytes job.now.root job.now.addresses.items (O.contents out.old) (O.contents out.new) (E.contents err.old) (E.contents err.new)) }
-    ensures cut { IfErr result (IsTableCut listing.now job.now.root job.now.addresses.items streams.new (O.contents out.old) (O.contents out.new) (E.contents err.old) (E.contents err.new)) }
+    ensures answer { (bytes : List ℕ) → Reads bytes [] listing.now →
+        OnOk result (IsAnswered bytes job.now.root job.now.addresses.items (O.contents out.old)
+        (O.contents out.new) (E.contents err.old) (E.contents err.new)) }
+    ensures cut { IfErr result (IsTableCut listing.now job.now.root job.now.addresses.items
+        streams.new (O.contents out.old) (O.contents out.new) (E.contents err.old)
+        (E.contents err.new)) }
 {
     warn(alloc, listing, job.root, err, streams)?;
     let table = RouteTable::of(alloc, listing, job.root)?;
@@ -312,8 +349,10 @@ fn warn<E: Write>(
     err: &mut E,
     streams: &mut FailedStreams,
 ) -> Result<(), Failure>
-    ensures told { OnOk result ((text : List ℕ) × IsWarning listing.now root text × Appends (E.contents err.old) (E.contents err.new) text) }
-    ensures begun { OnErr result (IsWarningBegun listing.now root (E.contents err.old) (E.contents err.new)) }
+    ensures told { OnOk result ((text : List ℕ) × IsWarning listing.now root text
+        × Appends (E.contents err.old) (E.contents err.new) text) }
+    ensures begun { OnErr result (IsWarningBegun listing.now root (E.contents err.old)
+        (E.contents err.new)) }
     ensures cut { IfErr result (IsErrorCut streams.new) }
 {
     if !is_unlisted(listing, root) {
@@ -332,8 +371,10 @@ fn print_answer<W: Wait + Drop, O: Write>(
     out: &mut O,
     streams: &mut FailedStreams,
 ) -> Result<(), Failure>
-    ensures output { OnOk result ((text : List ℕ) × IsOutput table.now addresses.now text × Appends (O.contents out.old) (O.contents out.new) text) }
-    ensures begun { OnErr result (IsOutputBegun table.now addresses.now (O.contents out.old) (O.contents out.new)) }
+    ensures output { OnOk result ((text : List ℕ) × IsOutput table.now addresses.now text
+        × Appends (O.contents out.old) (O.contents out.new) text) }
+    ensures begun { OnErr result (IsOutputBegun table.now addresses.now (O.contents out.old)
+        (O.contents out.new)) }
     ensures cut { IfErr result (IsLookupCut streams.new) }
 {
     let Ok((mut writer, mut seat)) = publish_once(alloc, rt, table) else {
@@ -362,8 +403,10 @@ fn print_table<W: Wait + Drop, O: Write>(
 ) -> Result<(), Failure>
     requires seat { seat.old ≡ writer.old }
     requires published { writer.old.tables ≡ opening ++ table.now ∷ [] }
-    ensures output { OnOk result ((text : List ℕ) × IsOutput table.now addresses.now text × Appends (O.contents out.old) (O.contents out.new) text) }
-    ensures begun { OnErr result (IsOutputBegun table.now addresses.now (O.contents out.old) (O.contents out.new)) }
+    ensures output { OnOk result ((text : List ℕ) × IsOutput table.now addresses.now text
+        × Appends (O.contents out.old) (O.contents out.new) text) }
+    ensures begun { OnErr result (IsOutputBegun table.now addresses.now (O.contents out.old)
+        (O.contents out.new)) }
     ensures cut { IfErr result (IsLookupCut streams.new) }
 {
     print_routes(alloc, table.routes(), out, streams)?;
@@ -379,8 +422,10 @@ fn tell_refusal<E: Write>(
     err: &mut E,
     streams: &mut FailedStreams,
 ) -> Result<(), Failure>
-    ensures told { OnOk result (Appends (E.contents err.old) (E.contents err.new) (refusal_line number fault)) }
-    ensures begun { OnErr result (IsBegun (E.contents err.old) (E.contents err.new) (refusal_line number fault)) }
+    ensures told { OnOk result (Appends (E.contents err.old) (E.contents err.new)
+        (refusal_line number fault)) }
+    ensures begun { OnErr result (IsBegun (E.contents err.old) (E.contents err.new)
+        (refusal_line number fault)) }
     ensures cut { IfErr result (IsErrorCut streams.new) }
 {
     let line = format!(in alloc; "line {number}: {}\n", fault.text())?;

@@ -25,7 +25,8 @@ pub(crate) struct Frame {
 /// over.
 pub(crate) fn read_frame(buffer: &mut [u8; LONGEST], count: usize) -> Option<Frame>
     requires { count ≤ 16393 }
-    ensures frame { IfSome result (λ f. IsFrameOf (take count buffer.old) f.source f.destination (take f.length buffer.new)) }
+    ensures frame { IfSome result (λ f. IsFrameOf (take count buffer.old) f.source f.destination
+        (take f.length buffer.new)) }
     ensures passed_over { IfNone result (IsPassedOver count) }
     ensures taken { IfSome result (λ f. IsPassedOver count → ⊥) }
 {
@@ -44,7 +45,8 @@ pub(crate) fn read_frame(buffer: &mut [u8; LONGEST], count: usize) -> Option<Fra
 
 /// Makes the datagram that holds what is sent.
 pub(crate) fn write_frame(datagram: &mut Vec<u8>, sent: &Sent) -> Result<(), AllocError>
-    ensures { OnOk result (datagram.new.items ≡ frame_bytes sent.now.source sent.now.destination sent.now.bytes) }
+    ensures { OnOk result (datagram.new.items
+        ≡ frame_bytes sent.now.source sent.now.destination sent.now.bytes) }
 {
     datagram.clear();
     datagram.extend_from_slice(&sent.source.0.to_be_bytes())?;

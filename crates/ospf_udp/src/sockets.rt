@@ -68,8 +68,10 @@ impl<C: Clock + Drop> Sockets<C> {
 
     /// Waits for what comes next: first the links come up, then come ticks and datagrams, and after the last tick the end.
     pub(crate) fn next_arrival(&mut self, buffer: &mut [u8; LONGEST]) -> io::Result<Arrival>
-        ensures handed { IfOk result (λ arrival. self.new.ticks.taken ≡ self.old.ticks.taken + tick_of arrival) }
-        ensures over { IfOk result (λ arrival. arrival ≡ arrivals.End → self.new.ticks.taken ≡ self.new.ticks.count) }
+        ensures handed { IfOk result (λ arrival. self.new.ticks.taken
+            ≡ self.old.ticks.taken + tick_of arrival) }
+        ensures over { IfOk result (λ arrival. arrival ≡ arrivals.End →
+            self.new.ticks.taken ≡ self.new.ticks.count) }
         ensures count { self.new.ticks.count ≡ self.old.ticks.count }
         ensures none { OnErr result (self.new.ticks.taken ≡ self.old.ticks.taken) }
     {
@@ -119,8 +121,10 @@ impl<C: Clock + Drop> Sockets<C> {
 
     // The next tick, or what the sockets have; `None` where all is to be looked at again.
     fn try_next(&mut self, buffer: &mut [u8; LONGEST]) -> io::Result<Option<Arrival>>
-        ensures handed { IfOk result (λ next. self.new.ticks.taken ≡ self.old.ticks.taken + tick_next next) }
-        ensures over { IfOk result (λ next. next ≡ Some arrivals.End → self.new.ticks.taken ≡ self.new.ticks.count) }
+        ensures handed { IfOk result (λ next. self.new.ticks.taken
+            ≡ self.old.ticks.taken + tick_next next) }
+        ensures over { IfOk result (λ next. next ≡ Some arrivals.End →
+            self.new.ticks.taken ≡ self.new.ticks.count) }
         ensures count { self.new.ticks.count ≡ self.old.ticks.count }
         ensures none { OnErr result (self.new.ticks.taken ≡ self.old.ticks.taken) }
     {

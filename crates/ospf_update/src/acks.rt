@@ -138,7 +138,8 @@ fn send_direct_from(
     out: &mut Outputs,
     alloc: Global,
 ) -> Result<(), AllocError>
-    ensures { OnOk result (out.new ≡ and_sends out.old (direct_out_on own from headers.now (slice_get links.now from.link))) }
+    ensures { OnOk result (out.new ≡ and_sends out.old
+        (direct_out_on own from headers.now (slice_get links.now from.link))) }
 {
     match links.get(from.link) {
         Some(link) => send_direct_on(link, own, from, headers, out, alloc),
@@ -154,7 +155,8 @@ fn send_direct_on(
     out: &mut Outputs,
     alloc: Global,
 ) -> Result<(), AllocError>
-    ensures { OnOk result (out.new ≡ and_sends out.old (direct_out_on own from headers.now (Some link.now))) }
+    ensures { OnOk result (out.new ≡ and_sends out.old
+        (direct_out_on own from headers.now (Some link.now))) }
 {
     let way = way_out(
         from.link,

@@ -46,7 +46,8 @@ pub fn send_copy(
 ///
 /// `AllocError` where memory runs out; then the router is to be stopped.
 pub fn age(area: &mut Area, out: &mut Outputs, alloc: Global) -> Result<(), AllocError>
-    ensures { OnOk result ((sent : List SentValue) × TickAges area.old sent area.new × (out.new ≡ and_sends out.old sent)) }
+    ensures { OnOk result ((sent : List SentValue) × TickAges area.old sent area.new
+        × (out.new ≡ and_sends out.old sent)) }
 {
     rise(area);
     let keys = expired_keys(area, alloc)?;
@@ -62,7 +63,8 @@ pub fn flush(
     out: &mut Outputs,
     alloc: Global,
 ) -> Result<(), AllocError>
-    ensures { OnOk result ((sent : List SentValue) × Flushes key area.old sent area.new × (out.new ≡ and_sends out.old sent)) }
+    ensures { OnOk result ((sent : List SentValue) × Flushes key area.old sent area.new
+        × (out.new ≡ and_sends out.old sent)) }
 {
     expire(area, &key);
     send_copy(area, key, out, alloc)
@@ -136,7 +138,8 @@ fn send_copies(
 }
 
 fn expire(area: &mut Area, key: &LsaKey)
-    ensures database { Puts key.now (option_map expired (held_of area.old.database key.now)) area.old.database area.new.database }
+    ensures database { Puts key.now (option_map expired (held_of area.old.database key.now))
+        area.old.database area.new.database }
     ensures rest { area.new ≡ record area.old { database = area.new.database } }
 {
     let _ = area.database.expire(key);

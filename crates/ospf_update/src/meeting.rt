@@ -54,9 +54,12 @@ pub fn flood_in(
     alloc: Global,
 ) -> Result<Flooded, AllocError>
     ensures after { OnOk result (area.new ≡ flooded_area lsa.now from area.old) }
-    ensures anywhere { IfOk result (λ f. f.anywhere ≡ goes_anywhere (key_of lsa.now) (header_of lsa.now) from area.old.links) }
-    ensures back { IfOk result (λ f. f.back ≡ flooded_back (key_of lsa.now) (header_of lsa.now) from area.old.links) }
-    ensures sent { OnOk result (out.new ≡ and_sends out.old (flooding_updates (own_of area.old) lsa.now from area.old.links)) }
+    ensures anywhere { IfOk result (λ f. f.anywhere
+        ≡ goes_anywhere (key_of lsa.now) (header_of lsa.now) from area.old.links) }
+    ensures back { IfOk result (λ f. f.back
+        ≡ flooded_back (key_of lsa.now) (header_of lsa.now) from area.old.links) }
+    ensures sent { OnOk result (out.new ≡ and_sends out.old
+        (flooding_updates (own_of area.old) lsa.now from area.old.links)) }
 {
     let own = own_of(area);
     flood(&mut area.links, lsa, from, own, out, alloc)
@@ -74,7 +77,8 @@ pub fn store(
     alloc: Global,
 ) -> Result<Flooded, AllocError>
     ensures after { OnOk result (Stores lsa from area.old area.new) }
-    ensures back { IfOk result (λ f. f.back ≡ flooded_back (key_of lsa) (header_of lsa) from (released (key_of lsa) area.old.links)) }
+    ensures back { IfOk result (λ f. f.back
+        ≡ flooded_back (key_of lsa) (header_of lsa) from (released (key_of lsa) area.old.links)) }
     ensures sent { OnOk result (out.new ≡ and_sends out.old (store_updates lsa from area.old)) }
 {
     let key = lsa.view().key();
@@ -213,7 +217,8 @@ fn send_first_dd(
     out: &mut Outputs,
     alloc: Global,
 ) -> Result<(), AllocError>
-    ensures { OnOk result (out.new ≡ and_sends out.old (first_dd_on own from number (slice_get links.now from.link))) }
+    ensures { OnOk result (out.new ≡ and_sends out.old
+        (first_dd_on own from number (slice_get links.now from.link))) }
 {
     match links.get(from.link) {
         Some(link) => send_first_dd_on(link, own, from, number, out, alloc),
@@ -229,7 +234,8 @@ fn send_first_dd_on(
     out: &mut Outputs,
     alloc: Global,
 ) -> Result<(), AllocError>
-    ensures { OnOk result (out.new ≡ and_sends out.old (first_dd_on own from number (Some link.now))) }
+    ensures { OnOk result (out.new ≡ and_sends out.old
+        (first_dd_on own from number (Some link.now))) }
 {
     let packet = first_packet(link, own, number, alloc);
     let way = way_out(
@@ -242,7 +248,8 @@ fn send_first_dd_on(
 
 // The first packet of an exchange.
 fn first_packet(link: &Link, own: Own, number: u32, alloc: Global) -> PacketValue
-    ensures { meant result ≡ packet_of own (meaning.description (first_description link.now.settings.mtu number) []) }
+    ensures { meant result ≡ packet_of own
+        (meaning.description (first_description link.now.settings.mtu number) []) }
 {
     let fields = Description {
         mtu: link.settings.mtu,
@@ -360,7 +367,8 @@ fn send_back(
     out: &mut Outputs,
     alloc: Global,
 ) -> Result<(), AllocError>
-    ensures { OnOk result (out.new ≡ and_sends out.old (lsa_out_on own from lsa.now (slice_get links.now from.link))) }
+    ensures { OnOk result (out.new ≡ and_sends out.old
+        (lsa_out_on own from lsa.now (slice_get links.now from.link))) }
 {
     match links.get(from.link) {
         Some(link) => send_back_on(link, own, from, lsa, out, alloc),
@@ -376,7 +384,8 @@ fn send_back_on(
     out: &mut Outputs,
     alloc: Global,
 ) -> Result<(), AllocError>
-    ensures { OnOk result (out.new ≡ and_sends out.old (lsa_out_on own from lsa.now (Some link.now))) }
+    ensures { OnOk result (out.new ≡ and_sends out.old
+        (lsa_out_on own from lsa.now (Some link.now))) }
 {
     let copy = sent_lsa(link.settings, lsa, alloc)?;
     let way = way_out(

@@ -54,7 +54,8 @@ fn leaving(area: &Area, alloc: Global) -> Result<Vec<LsaKey>, AllocError>
 }
 
 fn leaving_of(links: &[Link], database: &Lsdb, alloc: Global) -> Result<Vec<LsaKey>, AllocError>
-    ensures { IfOk result (λ keys. keys.items ≡ map key_of_entry (filter (is_leaving links.now) (entries database.now))) }
+    ensures { IfOk result (λ keys. keys.items
+        ≡ map key_of_entry (filter (is_leaving links.now) (entries database.now))) }
 {
     let mut keys = Vec::new(alloc);
     for copy in database.entries() {

@@ -29,7 +29,8 @@ pub fn says_router(
     router: RouterId,
     links: &[AreaLink],
 ) -> bool
-    ensures { result ≡ says (contents copy.now) (RouterLsa router (flat_map (links_at stub_router) links.now)) }
+    ensures { result ≡ says (contents copy.now)
+        (RouterLsa router (flat_map (links_at stub_router) links.now)) }
 {
     let lsa = copy.as_bytes();
     let rest = behind_own_links(Some(&lsa[24..]), stub_router, links);
@@ -38,7 +39,9 @@ pub fn says_router(
 
 /// Whether an LSA is the network-LSA that is wanted of a link, number and checksum aside (RFC 2328, section 12.4.2).
 pub fn says_network(copy: &LsaView<'_>, router: RouterId, link: &AreaLink) -> bool
-    ensures { result ≡ says (contents copy.now) (NetworkLsa link.now.iface.settings.address.0 router link.now.iface.settings.mask (attached_routers router link.now.neighbours)) }
+    ensures { result ≡ says (contents copy.now)
+        (NetworkLsa link.now.iface.settings.address.0 router link.now.iface.settings.mask
+        (attached_routers router link.now.neighbours)) }
 {
     let lsa = copy.as_bytes();
     let rest = behind_attached(Some(&lsa[24..]), router, link.neighbours.all());
@@ -53,7 +56,9 @@ fn behind_own_links<'a>(
     stub_router: bool,
     links: &[AreaLink],
 ) -> Option<&'a [u8]>
-    ensures { option_copied result ≡ behind (flat_map link_bytes (flat_map (links_at stub_router) links.now)) (option_copied bytes.entry) }
+    ensures { option_copied result ≡ behind
+        (flat_map link_bytes (flat_map (links_at stub_router) links.now))
+        (option_copied bytes.entry) }
 {
     let mut rest = bytes;
     for link in links {
@@ -68,7 +73,8 @@ fn behind_links_at<'a>(
     stub_router: bool,
     link: &AreaLink,
 ) -> Option<&'a [u8]>
-    ensures { option_copied result ≡ behind (links_bytes stub_router link.now) (option_copied bytes.entry) }
+    ensures { option_copied result ≡ behind (links_bytes stub_router link.now)
+        (option_copied bytes.entry) }
 {
     if link.iface.state.is_down() {
         return bytes;
@@ -90,7 +96,9 @@ fn behind_neighbours<'a>(
     link: &AreaLink,
     neighbours: &[Neighbour],
 ) -> Option<&'a [u8]>
-    ensures { option_copied result ≡ behind (flat_map (router_link_bytes stub_router link.now) neighbours.now) (option_copied bytes.entry) }
+    ensures { option_copied result ≡ behind
+        (flat_map (router_link_bytes stub_router link.now) neighbours.now)
+        (option_copied bytes.entry) }
 {
     let mut rest = bytes;
     for neighbour in neighbours {
@@ -107,7 +115,8 @@ fn behind_neighbour<'a>(
     link: &AreaLink,
     neighbour: &Neighbour,
 ) -> Option<&'a [u8]>
-    ensures { option_copied result ≡ behind (router_link_bytes stub_router link.now neighbour.now) (option_copied bytes.entry) }
+    ensures { option_copied result ≡ behind (router_link_bytes stub_router link.now neighbour.now)
+        (option_copied bytes.entry) }
 {
     if is_full(neighbour) {
         behind_link(bytes, &router_link(stub_router, link, neighbour))
@@ -153,7 +162,9 @@ fn link_bytes(link: &Link) -> [u8; 12]
 
 // Whether an LSA is the router-LSA of links, number and checksum aside, where these bytes stand behind them.
 fn is_router_lsa(lsa: &LsaView<'_>, router: RouterId, rest: Option<&[u8]>) -> bool
-    ensures { (links : List Link) → option_copied rest.entry ≡ behind (flat_map link_bytes links) (Some (drop 24 lsa.now)) → result ≡ says (contents lsa.now) (RouterLsa router links) }
+    ensures { (links : List Link) → option_copied rest.entry
+        ≡ behind (flat_map link_bytes links) (Some (drop 24 lsa.now)) →
+        result ≡ says (contents lsa.now) (RouterLsa router links) }
 {
     let lsa = lsa.as_bytes();
     let size = u16_at(lsa, 18);
@@ -192,7 +203,9 @@ fn link_count(size: u16) -> u16
 // body.
 fn has_front(lsa: &[u8], header: &LsaHeader, body: &[u8]) -> bool
     requires { 24 ≤ length lsa.now }
-    ensures { result ≡ (bytes_eq (take 10 (drop 2 lsa.now)) (take 10 (header_bytes header.now)) && (bytes_eq (take 2 (drop 18 lsa.now)) (number_bytes 2 header.now.length) && bytes_eq (take 4 (drop 20 lsa.now)) body.now)) }
+    ensures { result ≡ (bytes_eq (take 10 (drop 2 lsa.now)) (take 10 (header_bytes header.now))
+        && (bytes_eq (take 2 (drop 18 lsa.now)) (number_bytes 2 header.now.length)
+        && bytes_eq (take 4 (drop 20 lsa.now)) body.now)) }
 {
     let wanted = header.to_bytes();
     let (front, size, start) = (&lsa[2..12], &lsa[18..20], &lsa[20..24]);
@@ -214,7 +227,8 @@ fn behind_attached<'a>(
     router: RouterId,
     neighbours: &[Neighbour],
 ) -> Option<&'a [u8]>
-    ensures { option_copied result ≡ behind (routers_bytes (attached_routers router neighbours.now)) (option_copied bytes.entry) }
+    ensures { option_copied result ≡ behind (routers_bytes (attached_routers router neighbours.now))
+        (option_copied bytes.entry) }
 {
     let rest = past_all_lower(bytes, router, neighbours);
     let rest = behind_router(rest, router);
@@ -227,7 +241,8 @@ fn past_all_lower<'a>(
     router: RouterId,
     neighbours: &[Neighbour],
 ) -> Option<&'a [u8]>
-    ensures { option_copied result ≡ behind (flat_map (lower_bytes router) neighbours.now) (option_copied bytes.entry) }
+    ensures { option_copied result ≡ behind (flat_map (lower_bytes router) neighbours.now)
+        (option_copied bytes.entry) }
 {
     let mut rest = bytes;
     for neighbour in neighbours {
@@ -243,7 +258,8 @@ fn past_lower<'a>(
     router: RouterId,
     neighbour: &Neighbour,
 ) -> Option<&'a [u8]>
-    ensures { option_copied result ≡ behind (lower_bytes router neighbour.now) (option_copied bytes.entry) }
+    ensures { option_copied result ≡ behind (lower_bytes router neighbour.now)
+        (option_copied bytes.entry) }
 {
     if is_full(neighbour) && neighbour.router().0 < router.0 {
         behind_router(bytes, neighbour.router())
@@ -265,7 +281,8 @@ fn past_all_higher<'a>(
     router: RouterId,
     neighbours: &[Neighbour],
 ) -> Option<&'a [u8]>
-    ensures { option_copied result ≡ behind (flat_map (higher_bytes router) neighbours.now) (option_copied bytes.entry) }
+    ensures { option_copied result ≡ behind (flat_map (higher_bytes router) neighbours.now)
+        (option_copied bytes.entry) }
 {
     let mut rest = bytes;
     for neighbour in neighbours {
@@ -281,7 +298,8 @@ fn past_higher<'a>(
     router: RouterId,
     neighbour: &Neighbour,
 ) -> Option<&'a [u8]>
-    ensures { option_copied result ≡ behind (higher_bytes router neighbour.now) (option_copied bytes.entry) }
+    ensures { option_copied result ≡ behind (higher_bytes router neighbour.now)
+        (option_copied bytes.entry) }
 {
     if is_full(neighbour) && router.0 < neighbour.router().0 {
         behind_router(bytes, neighbour.router())
@@ -298,7 +316,9 @@ fn is_network_lsa(
     mask: u32,
     rest: Option<&[u8]>,
 ) -> bool
-    ensures { (routers : List RouterId) → option_copied rest.entry ≡ behind (routers_bytes routers) (Some (drop 24 lsa.now)) → result ≡ says (contents lsa.now) (NetworkLsa id router mask routers) }
+    ensures { (routers : List RouterId) →
+        option_copied rest.entry ≡ behind (routers_bytes routers) (Some (drop 24 lsa.now)) →
+        result ≡ says (contents lsa.now) (NetworkLsa id router mask routers) }
 {
     let lsa = lsa.as_bytes();
     let size = u16_at(lsa, 18);

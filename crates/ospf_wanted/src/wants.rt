@@ -183,7 +183,8 @@ fn router_links(
     neighbours: &[Neighbour],
     alloc: Global,
 ) -> Result<Vec<Link>, AllocError>
-    ensures { IfOk result (λ v. v.items ≡ map (router_link stub_router link.now) (filter is_full neighbours.now)) }
+    ensures { IfOk result (λ v. v.items
+        ≡ map (router_link stub_router link.now) (filter is_full neighbours.now)) }
 {
     neighbours
         .iter()
@@ -200,7 +201,8 @@ fn push_network(
     link: &AreaLink,
     alloc: Global,
 ) -> Result<(), AllocError>
-    ensures { OnOk result (map value_of out.new.items ≡ map value_of out.old.items ++ networks_at router link.now) }
+    ensures { OnOk result (map value_of out.new.items ≡ map value_of out.old.items
+        ++ networks_at router link.now) }
 {
     if is_dr_of(link) {
         let routers = attached_routers(router, link.neighbours.all(), alloc)?;
@@ -235,7 +237,8 @@ fn full_before(
     neighbours: &[Neighbour],
     alloc: Global,
 ) -> Result<Vec<RouterId>, AllocError>
-    ensures { IfOk result (λ v. v.items ≡ map (λ n. n.router) (filter (is_full_before router) neighbours.now)) }
+    ensures { IfOk result (λ v. v.items
+        ≡ map (λ n. n.router) (filter (is_full_before router) neighbours.now)) }
 {
     neighbours
         .iter()
@@ -250,7 +253,8 @@ fn full_behind(
     neighbours: &[Neighbour],
     alloc: Global,
 ) -> Result<Vec<RouterId>, AllocError>
-    ensures { IfOk result (λ v. v.items ≡ map (λ n. n.router) (filter (is_full_behind router) neighbours.now)) }
+    ensures { IfOk result (λ v. v.items
+        ≡ map (λ n. n.router) (filter (is_full_behind router) neighbours.now)) }
 {
     neighbours
         .iter()

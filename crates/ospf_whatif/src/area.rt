@@ -55,7 +55,8 @@ impl From<LsaFault> for WithoutFault {
 /// `Links` where a changed router-LSA keeps more links than can be told in one of `LARGEST_LSA` bytes, which are 1,361; else
 /// `Memory`.
 pub fn without(alloc: Global, listing: &Listing, failure: &Failure) -> Result<Listing, WithoutFault>
-    ensures left { IfOk result (λ left. advertisements_of left ≡ without failure.now (advertisements_of listing.now)) }
+    ensures left { IfOk result (λ left. advertisements_of left
+        ≡ without failure.now (advertisements_of listing.now)) }
     ensures large { result ≡ Err WithoutFault.Links → HasLarge (advertisements_of listing.now) }
 {
     let mut left = Listing::new(alloc);
@@ -69,7 +70,8 @@ pub fn without(alloc: Global, listing: &Listing, failure: &Failure) -> Result<Li
 // An LSA after the failure.
 fn lsa_without(alloc: Global, failure: &Failure, lsa: &LsaView) -> Result<Lsa, LsaFault>
     requires listed { IsListed lsa.now }
-    ensures advertisement { IfOk result (λ left. advertisement_of left ≡ kept failure.now (advertisement_of lsa.now)) }
+    ensures advertisement { IfOk result (λ left. advertisement_of left
+        ≡ kept failure.now (advertisement_of lsa.now)) }
     ensures key { IfOk result (λ left. key_of left ≡ key_of lsa.now) }
     ensures young { IfOk result (λ left. (header_of left).age < 3600) }
     ensures large { result ≡ Err LsaFault.Length → IsLarge (advertisement_of lsa.now) }
@@ -84,7 +86,8 @@ fn lsa_without(alloc: Global, failure: &Failure, lsa: &LsaView) -> Result<Lsa, L
 fn router_without(alloc: Global, failure: &Failure, lsa: &LsaView) -> Result<Lsa, LsaFault>
     requires router { IsRouterLsa lsa.now }
     requires listed { IsListed lsa.now }
-    ensures advertisement { IfOk result (λ left. advertisement_of left ≡ kept failure.now (advertisement_of lsa.now)) }
+    ensures advertisement { IfOk result (λ left. advertisement_of left
+        ≡ kept failure.now (advertisement_of lsa.now)) }
     ensures key { IfOk result (λ left. key_of left ≡ key_of lsa.now) }
     ensures young { IfOk result (λ left. (header_of left).age < 3600) }
     ensures large { result ≡ Err LsaFault.Length → IsLarge (advertisement_of lsa.now) }
@@ -134,7 +137,8 @@ fn push_kept(
     link: Link,
     kept: &mut Vec<Link>,
 ) -> Result<(), AllocError>
-    ensures { OnOk result (kept.new.items ≡ kept.old.items ++ kept_links failure.now router (link ∷ [])) }
+    ensures { OnOk result (kept.new.items ≡ kept.old.items
+        ++ kept_links failure.now router (link ∷ [])) }
 {
     if !failure.takes(router, link) {
         kept.push(link)?;

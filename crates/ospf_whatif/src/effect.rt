@@ -51,7 +51,8 @@ pub fn effect_of(
     failure: &Failure,
 ) -> Result<Vec<RouteChange>, WithoutFault>
     requires { IsTable (advertisements_of listing.now) root table.now }
-    ensures effect { IfOk result (λ effect. IsEffect (advertisements_of listing.now) root failure.now table.now effect.items) }
+    ensures effect { IfOk result (λ effect. IsEffect (advertisements_of listing.now) root
+        failure.now table.now effect.items) }
     ensures large { result ≡ Err WithoutFault.Links → HasLarge (advertisements_of listing.now) }
 {
     let left = without(alloc, listing, failure)?;
@@ -70,7 +71,8 @@ fn changes_by(
     told: &Pairs,
 ) -> Result<Vec<RouteChange>, AllocError>
     requires ordered { AllPairs IsRouteBefore routes.now }
-    requires reached { (change : Change) → Contains changes.now change → Reaches routes.now (prefix_of change) }
+    requires reached { (change : Change) → Contains changes.now change →
+        Reaches routes.now (prefix_of change) }
     ensures { IfOk result (λ all. AllZip (IsChangeBy routes.now told.now) changes.now all.items) }
 {
     let mut all = Vec::new(alloc);

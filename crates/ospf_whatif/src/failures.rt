@@ -38,7 +38,8 @@ pub fn single_failures(alloc: Global, listing: &Listing) -> Result<Vec<Failure>,
 
 // The links between two routers in subnets that both tell.
 fn wires_of(alloc: Global, edges: &[Edge], ends: &[End]) -> Result<Vec<Failure>, AllocError>
-    ensures { IfOk result (λ wires. Adds (GivenBy (λ e. GivenBy (WireGiven edges.now ends.now e) ends.now) edges.now) [] wires.items) }
+    ensures { IfOk result (λ wires. Adds
+        (GivenBy (λ e. GivenBy (WireGiven edges.now ends.now e) ends.now) edges.now) [] wires.items) }
 {
     let mut wires = Vec::new(alloc);
     for edge in edges {
@@ -54,7 +55,8 @@ fn add_edge_wires(
     edge: &Edge,
     failures: &mut Vec<Failure>,
 ) -> Result<(), AllocError>
-    ensures { OnOk result (Adds (GivenBy (WireGiven edges.now ends.now edge.now) ends.now) failures.old.items failures.new.items) }
+    ensures { OnOk result (Adds (GivenBy (WireGiven edges.now ends.now edge.now) ends.now)
+        failures.old.items failures.new.items) }
 {
     for end in ends {
         add_wire(edges, ends, edge, end, failures)?;
@@ -70,7 +72,8 @@ fn add_wire(
     end: &End,
     failures: &mut Vec<Failure>,
 ) -> Result<(), AllocError>
-    ensures { OnOk result (Adds (WireGiven edges.now ends.now edge.now end.now) failures.old.items failures.new.items) }
+    ensures { OnOk result (Adds (WireGiven edges.now ends.now edge.now end.now) failures.old.items
+        failures.new.items) }
 {
     match wire_of(edges, ends, edge, end) {
         Some(failure) => {
@@ -84,8 +87,10 @@ fn add_wire(
 // The link of an edge between two routers in the subnet of an end.
 fn wire_of(edges: &[Edge], ends: &[End], edge: &Edge, end: &End) -> Option<Failure>
     ensures some { IfSome result (λ failure. WireGiven edges.now ends.now edge.now end.now failure) }
-    ensures only { IfSome result (λ failure. (f : Failure) → WireGiven edges.now ends.now edge.now end.now f → f ≡ failure) }
-    ensures none { IfNone result ((f : Failure) → WireGiven edges.now ends.now edge.now end.now f → ⊥) }
+    ensures only { IfSome result (λ failure. (f : Failure) →
+        WireGiven edges.now ends.now edge.now end.now f → f ≡ failure) }
+    ensures none { IfNone result ((f : Failure) → WireGiven edges.now ends.now edge.now end.now f →
+        ⊥) }
 {
     match (edge.from, edge.to) {
         (Vertex::Router(a), Vertex::Router(b)) => {
@@ -123,7 +128,8 @@ fn is_shared(edges: &[Edge], ends: &[End], edge: &Edge, a: RouterId, b: RouterId
 
 // Whether an end is at the first router, in a subnet that the edge's own address is in.
 fn is_near(edge: &Edge, end: &End, a: RouterId) -> bool
-    ensures { IsTrue result ↔ ((end.now.vertex ≡ Router a) × Holds end.now.prefix edge.now.link_data) }
+    ensures { IsTrue result ↔ ((end.now.vertex ≡ Router a)
+        × Holds end.now.prefix edge.now.link_data) }
 {
     is_vertex_at(end, a) && end.prefix.holds(Addr(edge.link_data))
 }
@@ -175,7 +181,8 @@ fn leads_back(edges: &[Edge], from: RouterId, to: RouterId, subnet: Prefix) -> b
 
 // Whether an edge leads from one router to another out of an address in a subnet.
 fn is_edge_in(edge: &Edge, from: RouterId, to: RouterId, subnet: Prefix) -> bool
-    ensures { IsTrue result ↔ ((edge.now.from ≡ Router from) × (edge.now.to ≡ Router to) × Holds subnet edge.now.link_data) }
+    ensures { IsTrue result ↔ ((edge.now.from ≡ Router from) × (edge.now.to ≡ Router to)
+        × Holds subnet edge.now.link_data) }
 {
     edge.from == Vertex::Router(from)
         && edge.to == Vertex::Router(to)
@@ -211,7 +218,8 @@ fn is_longer(
     length: u8,
     end: &End,
 ) -> bool
-    ensures { IsTrue result ↔ ((length < end.now.prefix.length) × IsSharedIn edges.now ends.now edge.now a b end.now) }
+    ensures { IsTrue result ↔ ((length < end.now.prefix.length)
+        × IsSharedIn edges.now ends.now edge.now a b end.now) }
 {
     length < end.prefix.length && is_shared(edges, ends, edge, a, b, end)
 }
@@ -230,7 +238,8 @@ fn add_edges(
     edges: &[Edge],
     failures: &mut Vec<Failure>,
 ) -> Result<(), AllocError>
-    ensures { OnOk result (Adds (GivenBy (EdgeGiven wires.now) edges.now) failures.old.items failures.new.items) }
+    ensures { OnOk result (Adds (GivenBy (EdgeGiven wires.now) edges.now) failures.old.items
+        failures.new.items) }
 {
     for edge in edges {
         add_edge(wires, edge, failures)?;
@@ -240,7 +249,8 @@ fn add_edges(
 
 // Adds what an edge gives beside links in subnets.
 fn add_edge(wires: &[Failure], edge: &Edge, failures: &mut Vec<Failure>) -> Result<(), AllocError>
-    ensures { OnOk result (Adds (EdgeGiven wires.now edge.now) failures.old.items failures.new.items) }
+    ensures { OnOk result (Adds (EdgeGiven wires.now edge.now) failures.old.items
+        failures.new.items) }
 {
     add_links(wires, edge, failures)?;
     add_attachment(edge, failures)?;
@@ -250,7 +260,8 @@ fn add_edge(wires: &[Failure], edge: &Edge, failures: &mut Vec<Failure>) -> Resu
 
 // Adds the links between two routers that have none in a subnet.
 fn add_links(wires: &[Failure], edge: &Edge, failures: &mut Vec<Failure>) -> Result<(), AllocError>
-    ensures { OnOk result (Adds (LinksGiven wires.now edge.now) failures.old.items failures.new.items) }
+    ensures { OnOk result (Adds (LinksGiven wires.now edge.now) failures.old.items
+        failures.new.items) }
 {
     match (edge.from, edge.to) {
         (Vertex::Router(a), Vertex::Router(b)) => {
@@ -329,7 +340,8 @@ fn add_network(edge: &Edge, failures: &mut Vec<Failure>) -> Result<(), AllocErro
 
 // Adds the routers of a listing.
 fn add_routers(listing: &Listing, failures: &mut Vec<Failure>) -> Result<(), AllocError>
-    ensures { OnOk result (Adds (GivenBy (λ lsa. RouterGiven (advertisement_of lsa)) listing.now) failures.old.items failures.new.items) }
+    ensures { OnOk result (Adds (GivenBy (λ lsa. RouterGiven (advertisement_of lsa)) listing.now)
+        failures.old.items failures.new.items) }
 {
     for lsa in listing.lsas() {
         add_router(lsa, failures)?;
@@ -339,7 +351,8 @@ fn add_routers(listing: &Listing, failures: &mut Vec<Failure>) -> Result<(), All
 
 // Adds the router of an LSA.
 fn add_router(lsa: &Lsa, failures: &mut Vec<Failure>) -> Result<(), AllocError>
-    ensures { OnOk result (Adds (RouterGiven (advertisement_of lsa.now)) failures.old.items failures.new.items) }
+    ensures { OnOk result (Adds (RouterGiven (advertisement_of lsa.now)) failures.old.items
+        failures.new.items) }
 {
     let view = lsa.view();
     let key = view.key();

@@ -40,7 +40,8 @@ pub fn find_failure(
     word: &str,
 ) -> Result<Option<Failure>, AllocError>
     ensures some { IfOk result (λ found. IfSome found (IsNamed failures.now word.now)) }
-    ensures none { IfOk result (λ found. IfNone found ((failure : Failure) → IsNamed failures.now word.now failure → ⊥)) }
+    ensures none { IfOk result (λ found. IfNone found
+        ((failure : Failure) → IsNamed failures.now word.now failure → ⊥)) }
 {
     match by_name(alloc, failures, word)? {
         Some(failure) => Ok(Some(failure)),
@@ -51,7 +52,8 @@ pub fn find_failure(
 // The failure whose name a word is.
 fn by_name(alloc: Global, failures: &[Failure], word: &str) -> Result<Option<Failure>, AllocError>
     ensures some { IfOk result (λ found. IfSome found (HasName failures.now word.now)) }
-    ensures none { IfOk result (λ found. IfNone found ((failure : Failure) → HasName failures.now word.now failure → ⊥)) }
+    ensures none { IfOk result (λ found. IfNone found
+        ((failure : Failure) → HasName failures.now word.now failure → ⊥)) }
 {
     for failure in failures {
         if has_name(alloc, failure, word)? {
@@ -72,7 +74,8 @@ fn has_name(alloc: Global, failure: &Failure, word: &str) -> Result<bool, AllocE
 // The only link in the subnet that a word is.
 fn by_subnet(alloc: Global, failures: &[Failure], word: &str) -> Result<Option<Failure>, AllocError>
     ensures some { IfOk result (λ found. IfSome found (IsOnlyIn failures.now word.now)) }
-    ensures none { IfOk result (λ found. IfNone found ((failure : Failure) → IsOnlyIn failures.now word.now failure → ⊥)) }
+    ensures none { IfOk result (λ found. IfNone found
+        ((failure : Failure) → IsOnlyIn failures.now word.now failure → ⊥)) }
 {
     let Some(first) = first_in(alloc, failures, word)? else {
         return Ok(None);
@@ -86,8 +89,10 @@ fn by_subnet(alloc: Global, failures: &[Failure], word: &str) -> Result<Option<F
 
 // The first link in the subnet that a word is.
 fn first_in(alloc: Global, failures: &[Failure], word: &str) -> Result<Option<Failure>, AllocError>
-    ensures some { IfOk result (λ found. IfSome found (λ failure. Contains failures.now failure × IsIn word.now failure)) }
-    ensures none { IfOk result (λ found. IfNone found ((failure : Failure) → Contains failures.now failure → IsIn word.now failure → ⊥)) }
+    ensures some { IfOk result (λ found. IfSome found
+        (λ failure. Contains failures.now failure × IsIn word.now failure)) }
+    ensures none { IfOk result (λ found. IfNone found
+        ((failure : Failure) → Contains failures.now failure → IsIn word.now failure → ⊥)) }
 {
     for failure in failures {
         if is_in(alloc, failure, word)? {
@@ -120,7 +125,8 @@ fn is_alone(
     word: &str,
     first: &Failure,
 ) -> Result<bool, AllocError>
-    ensures alone { IfOk result (λ alone. IsTrue alone → (other : Failure) → Contains failures.now other → IsIn word.now other → other ≡ first.now) }
+    ensures alone { IfOk result (λ alone. IsTrue alone → (other : Failure) →
+        Contains failures.now other → IsIn word.now other → other ≡ first.now) }
     ensures other { IfOk result (λ alone. alone ≡ false → HasOther failures.now word.now first.now) }
 {
     for failure in failures {

@@ -30,7 +30,9 @@ pub(crate) fn told_of(
     listing: &Listing,
     changes: &[Change],
 ) -> Result<Pairs, AllocError>
-    ensures { IfOk result (λ told. (p : Prefix) → Contains told (spec.place_of p) ↔ (Contains changes.now (Change.Gone p) × IsTold (advertisements_of listing.now) p)) }
+    ensures { IfOk result (λ told. (p : Prefix) →
+        Contains told (spec.place_of p)
+        ↔ (Contains changes.now (Change.Gone p) × IsTold (advertisements_of listing.now) p)) }
 {
     let lost = lost_in(alloc, changes)?;
     if lost.is_empty() {
@@ -73,7 +75,9 @@ fn place_of(prefix: Prefix) -> u64
 
 // The prefixes among some that somebody tells.
 fn told_among(alloc: Global, listing: &Listing, lost: &Pairs) -> Result<Pairs, AllocError>
-    ensures { IfOk result (λ told. (p : Prefix) → Contains told (spec.place_of p) ↔ (Contains lost.now (spec.place_of p) × IsTold (advertisements_of listing.now) p)) }
+    ensures { IfOk result (λ told. (p : Prefix) →
+        Contains told (spec.place_of p)
+        ↔ (Contains lost.now (spec.place_of p) × IsTold (advertisements_of listing.now) p)) }
 {
     let edges = edges_of(alloc, listing)?;
     let ends = ends_of(alloc, listing)?;
@@ -108,7 +112,8 @@ fn add_live(edge: &Edge, live: &mut Vec<u64>) -> Result<(), AllocError>
 
 // The prefixes of such ends.
 fn told_in(alloc: Global, lost: &Pairs, live: &Pairs, ends: &[End]) -> Result<Pairs, AllocError>
-    ensures { IfOk result (λ told. (n : ℕ) → Contains told n ↔ GivenBy (ToldGiven lost.now live.now) ends.now n) }
+    ensures { IfOk result (λ told. (n : ℕ) →
+        Contains told n ↔ GivenBy (ToldGiven lost.now live.now) ends.now n) }
 {
     let mut told = Vec::new(alloc);
     for end in ends {

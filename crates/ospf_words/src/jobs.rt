@@ -126,10 +126,13 @@ impl JobFault {
     /// Writes help and the version to `out`, and all else to `err`. The answer is the status to end
     /// with; where a write failed it is that of the failure.
     pub fn tell<O: Write, E: Write>(&self, out: &mut O, err: &mut E) -> Status
-        ensures status { HasStatus self.now result ⊎ (result ≡ Status.Memory) ⊎ (result ≡ Status.Stream) }
-        ensures out { (result ≡ Status.Words) ⊎ (IsHelp self.now → ⊥) → O.contents out.new ≡ O.contents out.old }
+        ensures status { HasStatus self.now result ⊎ (result ≡ Status.Memory)
+            ⊎ (result ≡ Status.Stream) }
+        ensures out { (result ≡ Status.Words) ⊎ (IsHelp self.now → ⊥) →
+            O.contents out.new ≡ O.contents out.old }
         ensures err { result ≡ Status.Done → E.contents err.new ≡ E.contents err.old }
-        ensures told { result ≡ Status.Words → IsToldOf self.now (E.contents err.old) (E.contents err.new) }
+        ensures told { result ≡ Status.Words →
+            IsToldOf self.now (E.contents err.old) (E.contents err.new) }
     {
         let mut streams = FailedStreams::none();
         match self {
@@ -158,7 +161,8 @@ fn write_text<W: Write>(writer: &mut W, error: &clap::Error) -> io::Result<()> {
 
 // Writes that a word is no address.
 fn write_no_address<W: Write>(writer: &mut W, word: &str) -> io::Result<()>
-    ensures { OnOk result (Appends (W.contents writer.old) (W.contents writer.new) (address_line word.now)) }
+    ensures { OnOk result (Appends (W.contents writer.old) (W.contents writer.new)
+        (address_line word.now)) }
 {
     writeln!(writer, "{word}: not an address")?;
     writer.flush()?;

@@ -461,7 +461,8 @@ fn entered_job(alloc: Global, matches: &ArgMatches<'_>) -> Result<Option<Job>, J
 // The values of `table`: its job, if they have a root.
 fn table_job(alloc: Global, values: &ArgMatches<'_>) -> Result<Option<Job>, JobFault>
     ensures ok { IfOk result (IsJobIfAny (Some (codes "table", rows_of (found_of values.now)))) }
-    ensures fault { IfErr result (IsFaultOfValue (IsWrongValue (Some (codes "table", rows_of (found_of values.now))))) }
+    ensures fault { IfErr result (IsFaultOfValue
+        (IsWrongValue (Some (codes "table", rows_of (found_of values.now))))) }
 {
     let Some(root) = values.get_str("root") else {
         return Ok(None);
@@ -478,7 +479,8 @@ fn parsed<T: FromStr>(alloc: Global, word: &str) -> Result<T, JobFault>
 where
     T::Err: Drop,
     ensures value { IfOk result (λ value. T.from_str_gives word.now (Ok value)) }
-    ensures fault { IfErr result (IsFaultOfValue (λ w. (w ≡ word.now) × (e : T.Err) × T.from_str_gives word.now (Err e))) }
+    ensures fault { IfErr result (IsFaultOfValue
+        (λ w. (w ≡ word.now) × (e : T.Err) × T.from_str_gives word.now (Err e))) }
 {
     match word.parse::<T>() {
         Ok(value) => Ok(value),
@@ -503,7 +505,8 @@ fn parsed_addresses(alloc: Global, words: &[&str]) -> Result<Vec<Addr>, JobFault
 // The values of `failures`: its job, if they have a root.
 fn failures_job(alloc: Global, values: &ArgMatches<'_>) -> Result<Option<Job>, JobFault>
     ensures ok { IfOk result (IsJobIfAny (Some (codes "failures", rows_of (found_of values.now)))) }
-    ensures fault { IfErr result (IsFaultOfValue (IsWrongValue (Some (codes "failures", rows_of (found_of values.now))))) }
+    ensures fault { IfErr result (IsFaultOfValue
+        (IsWrongValue (Some (codes "failures", rows_of (found_of values.now))))) }
 {
     let Some(word) = values.get_str("root") else {
         return Ok(None);
@@ -566,7 +569,8 @@ fn sim_job(alloc: Global, values: &ArgMatches<'_>) -> Result<Option<Job>, AllocE
 
 // The text of a word, if there is one.
 fn owned_if_any(alloc: Global, word: Option<&str>) -> Result<Option<String>, AllocError>
-    ensures { IfOk result (λ text. option_map string_bytes text ≡ option_map (λ w. w.now) word.entry) }
+    ensures { IfOk result (λ text. option_map string_bytes text
+        ≡ option_map (λ w. w.now) word.entry) }
 {
     match word {
         Some(word) => Ok(Some(String::from_str(alloc, word)?)),
@@ -577,7 +581,8 @@ fn owned_if_any(alloc: Global, word: Option<&str>) -> Result<Option<String>, All
 // The values of `run`: its job, if they have the ticks and files.
 fn run_job(alloc: Global, values: &ArgMatches<'_>) -> Result<Option<Job>, JobFault>
     ensures ok { IfOk result (IsJobIfAny (Some (codes "run", rows_of (found_of values.now)))) }
-    ensures fault { IfErr result (IsFaultOfValue (IsWrongValue (Some (codes "run", rows_of (found_of values.now))))) }
+    ensures fault { IfErr result (IsFaultOfValue
+        (IsWrongValue (Some (codes "run", rows_of (found_of values.now))))) }
 {
     let Some(ticks) = values.get_one::<u64>("ticks") else {
         return Ok(None);
@@ -605,7 +610,8 @@ fn run_job(alloc: Global, values: &ArgMatches<'_>) -> Result<Option<Job>, JobFau
 // The address that a word spells, if there is one.
 fn parsed_if_any(alloc: Global, word: Option<&str>) -> Result<Option<Addr>, JobFault>
     ensures value { IfOk result (IsAddressIfAny (option_map (λ w. w.now) word.entry)) }
-    ensures fault { IfErr result (IsFaultOfValue (λ w. (option_map (λ t. t.now) word.entry ≡ Some w) × IsNoAddress w)) }
+    ensures fault { IfErr result (IsFaultOfValue
+        (λ w. (option_map (λ t. t.now) word.entry ≡ Some w) × IsNoAddress w)) }
 {
     match word {
         Some(word) => Ok(Some(parsed(alloc, word)?)),

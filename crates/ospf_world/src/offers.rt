@@ -27,7 +27,8 @@ pub fn push_offers(
     destination: Addr,
     config: &Config,
 ) -> Result<(), AllocError>
-    ensures { OnOk result (offers.new.items ≡ offers.old.items ++ offers_to datagram from.now destination config.now) }
+    ensures { OnOk result (offers.new.items ≡ offers.old.items
+        ++ offers_to datagram from.now destination config.now) }
 {
     let router = config.router_id;
     for (link, interface) in config.interfaces.iter().enumerate() {

@@ -160,8 +160,11 @@ fn step_at(
     alloc: Global,
 ) -> Result<(), WorldFault>
     requires { place < length slots.old.items }
-    ensures steps { (before : SlotValue) → slice_get slots.old.items place ≡ Some before → (after : SlotValue) × (slots.new.items ≡ slice_set slots.old.items place after) × SlotSteps event.now before logs.old result after logs.new }
-    ensures ticks { ticks.new.items ≡ ticks.old.items ++ ticked_by event.now result (length logs.old.datagrams) }
+    ensures steps { (before : SlotValue) → slice_get slots.old.items place ≡ Some before →
+        (after : SlotValue) × (slots.new.items ≡ slice_set slots.old.items place after)
+        × SlotSteps event.now before logs.old result after logs.new }
+    ensures ticks { ticks.new.items ≡ ticks.old.items
+        ++ ticked_by event.now result (length logs.old.datagrams) }
 {
     let slot = &mut slots[place];
     step_slot(slot, event, logs, ticks, alloc)

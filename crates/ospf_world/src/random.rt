@@ -34,7 +34,8 @@ impl World {
         ensures reached { IsReached is_dropped (world_of self.new) }
         ensures headline { Headline (world_of self.old) (world_of self.new) }
         ensures sound { IsSoundBetween (world_of self.old) (world_of self.new) }
-        ensures ticks { TicksOn (world_of self.old) self.old.ticks (world_of self.new) self.new.ticks }
+        ensures ticks { TicksOn (world_of self.old) self.old.ticks (world_of self.new)
+            self.new.ticks }
     {
         headline();
         soundness();
@@ -54,12 +55,14 @@ impl World {
     ///
     /// `Memory` where memory runs out, which ends it.
     pub fn random(&mut self, number: u64, count: u64, alloc: Global) -> Result<(), WorldFault>
-        ensures random { IsRandom count (started 64 multiplier_64 number (increment_of 64 0)) self.old result self.new }
+        ensures random { IsRandom count (started 64 multiplier_64 number (increment_of 64 0))
+            self.old result self.new }
         ensures same { SameSettings self.old self.new }
         ensures reached { IsReached is_dropped (world_of self.new) }
         ensures headline { Headline (world_of self.old) (world_of self.new) }
         ensures sound { IsSoundBetween (world_of self.old) (world_of self.new) }
-        ensures ticks { TicksOn (world_of self.old) self.old.ticks (world_of self.new) self.new.ticks }
+        ensures ticks { TicksOn (world_of self.old) self.old.ticks (world_of self.new)
+            self.new.ticks }
     {
         let mut generator = Lcg64Xsh32::new(number, 0);
         self.draw_events(&mut generator, count, alloc)
@@ -86,7 +89,8 @@ impl World {
     fn meet(&mut self, event: Option<WorldEvent>, alloc: Global) -> Result<(), WorldFault>
         ensures meets { Meets event self.old result self.new }
         ensures same { SameSettings self.old self.new }
-        ensures ticks { TicksOn (world_of self.old) self.old.ticks (world_of self.new) self.new.ticks }
+        ensures ticks { TicksOn (world_of self.old) self.old.ticks (world_of self.new)
+            self.new.ticks }
     {
         let Some(event) = event else {
             return Ok(());

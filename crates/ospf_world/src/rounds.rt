@@ -31,7 +31,8 @@ impl World {
         ensures reached { IsReached is_dropped (world_of self.new) }
         ensures headline { Headline (world_of self.old) (world_of self.new) }
         ensures sound { IsSoundBetween (world_of self.old) (world_of self.new) }
-        ensures ticks { TicksOn (world_of self.old) self.old.ticks (world_of self.new) self.new.ticks }
+        ensures ticks { TicksOn (world_of self.old) self.old.ticks (world_of self.new)
+            self.new.ticks }
     {
         headline();
         soundness();
@@ -49,7 +50,8 @@ impl World {
     // Offers so many datagrams at most.
     fn offer(&mut self, most: u64, alloc: Global) -> Result<(), WorldFault>
         ensures offered { AreOffered most self.old result self.new }
-        ensures ticks { TicksOn (world_of self.old) self.old.ticks (world_of self.new) self.new.ticks }
+        ensures ticks { TicksOn (world_of self.old) self.old.ticks (world_of self.new)
+            self.new.ticks }
     {
         for i in 0..most {
             match self.offer_next(alloc) {
@@ -64,7 +66,8 @@ impl World {
     // Offers the next datagram, if there is one.
     fn offer_next(&mut self, alloc: Global) -> Result<bool, WorldFault>
         ensures offers { OffersNext self.old result self.new }
-        ensures ticks { TicksOn (world_of self.old) self.old.ticks (world_of self.new) self.new.ticks }
+        ensures ticks { TicksOn (world_of self.old) self.old.ticks (world_of self.new)
+            self.new.ticks }
     {
         match self.next_offers(alloc) {
             Ok(Some(offers)) => {
@@ -155,7 +158,8 @@ fn offers_from(
     sent: &Datagram,
     alloc: Global,
 ) -> Result<Vec<WorldEvent>, AllocError>
-    ensures { IfOk result (λ events. events.items ≡ rounds.offers_by place sent.now slots.now (Some from.now)) }
+    ensures { IfOk result (λ events. events.items
+        ≡ rounds.offers_by place sent.now slots.now (Some from.now)) }
 {
     let mut events = Vec::new(alloc);
     for slot in slots {
@@ -173,7 +177,8 @@ fn push_offers_at(
     sent: &Datagram,
     slot: &Slot,
 ) -> Result<(), AllocError>
-    ensures { OnOk result (events.new.items ≡ events.old.items ++ offers_at place from.now sent.now slot.now) }
+    ensures { OnOk result (events.new.items ≡ events.old.items
+        ++ offers_at place from.now sent.now slot.now) }
 {
     let config = slot.config();
     if slot.runs() && config.router_id.0 != sent.router.0 {

@@ -26,7 +26,8 @@ pub(crate) fn step_slot(
     alloc: Global,
 ) -> Result<(), WorldFault>
     ensures steps { SlotSteps event.now slot.old logs.old result slot.new logs.new }
-    ensures ticks { ticks.new.items ≡ ticks.old.items ++ ticked_by event.now result (length logs.old.datagrams) }
+    ensures ticks { ticks.new.items ≡ ticks.old.items
+        ++ ticked_by event.now result (length logs.old.datagrams) }
 {
     let Some(tick) = tick_at(slot, event, logs.datagrams().len()) else {
         return slot.step(event, logs, alloc);
@@ -46,8 +47,10 @@ pub(crate) fn step_slot(
 
 // The tick that an event is at a router that runs.
 fn tick_at(slot: &Slot, event: &WorldEvent, sent: usize) -> Option<Ticked>
-    ensures some { IfSome result (λ t. (event.now ≡ Tick t.router) × (t.sent ≡ sent) × (is_some slot.now.running ≡ true)) }
-    ensures none { IfNone result ((r : RouterId) → event.now ≡ Tick r → is_some slot.now.running ≡ false) }
+    ensures some { IfSome result (λ t. (event.now ≡ Tick t.router) × (t.sent ≡ sent)
+        × (is_some slot.now.running ≡ true)) }
+    ensures none { IfNone result ((r : RouterId) → event.now ≡ Tick r →
+        is_some slot.now.running ≡ false) }
 {
     match event {
         WorldEvent::Tick { router } if slot.runs() => Some(Ticked {

@@ -53,7 +53,9 @@ impl World {
         alloc: Global,
     ) -> Result<Walk, WorldFault>
         ensures walks { Walks (world_of self.now) from address.0 choices.now result }
-        ensures never_turns { (x : Running) → NoCollision self.now.logs.issued → router_at (world_of self.now) from ≡ Some x → AllListedAgree (world_of self.now) x → IfOk result (λ walk. walk.end ≢ ends.Turns) }
+        ensures never_turns { (x : Running) → NoCollision self.now.logs.issued →
+            router_at (world_of self.now) from ≡ Some x → AllListedAgree (world_of self.now) x →
+            IfOk result (λ walk. walk.end ≢ ends.Turns) }
     {
         headline();
         self.reached();
@@ -84,7 +86,8 @@ impl World {
         choices: &[u32],
         alloc: Global,
     ) -> Result<Walk, AllocError>
-        ensures { IfOk result (λ walk. WorldWalk (world_of self.now) address.0 choices.now from walk.routers.items walk.cost walk.end) }
+        ensures { IfOk result (λ walk. WorldWalk (world_of self.now) address.0 choices.now from
+            walk.routers.items walk.cost walk.end) }
     {
         let mut routers = Vec::new(alloc);
         let mut cost: u128 = 0;
@@ -166,7 +169,8 @@ fn hop_in(route: &Route, choice: u32) -> NextHop
 
 // What a hop does, at the cost of its route.
 fn leg_over(router: &Router, at: RouterId, hop: &NextHop, cost: u64) -> Leg
-    requires { hop.now ≢ hops.Attached → (metric : ℕ) × HasLinkFor (advertisements_of (listing_of router.now.area)) at hop.now metric }
+    requires { hop.now ≢ hops.Attached →
+        (metric : ℕ) × HasLinkFor (advertisements_of (listing_of router.now.area)) at hop.now metric }
     ensures { LegsOver (advertisements_of (listing_of router.now.area)) at hop.now cost result }
 {
     match hop {
@@ -182,8 +186,10 @@ fn leg_over(router: &Router, at: RouterId, hop: &NextHop, cost: u64) -> Leg
 // A leg over a hop's link to the next router.
 fn crossing(router: &Router, at: RouterId, hop: &NextHop, next: RouterId) -> Leg
     requires next { IsNext hop.now next }
-    requires linked { (metric : ℕ) × HasLinkFor (advertisements_of (listing_of router.now.area)) at hop.now metric }
-    ensures { (paid : ℕ) → LegsOver (advertisements_of (listing_of router.now.area)) at hop.now paid result }
+    requires linked { (metric : ℕ) × HasLinkFor (advertisements_of (listing_of router.now.area)) at
+        hop.now metric }
+    ensures { (paid : ℕ) → LegsOver (advertisements_of (listing_of router.now.area)) at hop.now paid
+        result }
 {
     let Some(listing) = router.kept_listing() else {
         unreachable!()

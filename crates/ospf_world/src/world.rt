@@ -65,7 +65,8 @@ impl World {
         ensures reached { IsReached is_dropped (world_of self.new) }
         ensures headline { Headline (world_of self.old) (world_of self.new) }
         ensures sound { IsSound event (world_of self.old) (world_of self.new) }
-        ensures ticks { self.new.ticks ≡ self.old.ticks ++ ticked_by event result (length self.old.logs.datagrams) }
+        ensures ticks { self.new.ticks ≡ self.old.ticks
+            ++ ticked_by event result (length self.old.logs.datagrams) }
     {
         headline();
         soundness();
@@ -81,7 +82,8 @@ impl World {
         ensures reached { IsReached is_dropped (world_of self.new) }
         ensures headline { Headline (world_of self.old) (world_of self.new) }
         ensures sound { IsSoundBetween (world_of self.old) (world_of self.new) }
-        ensures ticks { TicksOn (world_of self.old) self.old.ticks (world_of self.new) self.new.ticks }
+        ensures ticks { TicksOn (world_of self.old) self.old.ticks (world_of self.new)
+            self.new.ticks }
     {
         headline();
         soundness();
