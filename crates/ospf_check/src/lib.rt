@@ -1,4 +1,9 @@
-//! Configurations that are checked, each and together: what is accepted, refused and found is told.
+//! Configurations of routers that are checked (RFC 2328, appendix C): each alone, and those of one area together.
+//!
+//! `check_text` tells of each file that it is accepted, or the fault of least number that it has. `explain` tells what
+//! to do about that, place by place. `check_area_text` tells of each as `check_text` does, and then what is wrong
+//! between them. What is told of a file stands in `specs/Checked`, of the places of its fault in `specs/Explained`,
+//! and between files in `specs/Area`.
 #![tactic(auto)]
 
 mod area;

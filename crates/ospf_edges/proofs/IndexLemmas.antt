@@ -1,4 +1,4 @@
--- What the pairs of an area say.
+-- What the pairs of a listing say.
 use Rattle.std.proofs.Common.{◌≡◌, ◌<◌, ◌^◌, ℕ, List, [], refl, sym, subst, inl, inr, arith}
 use Rattle.std.specs.List.{Contains}
 use Rattle.std.specs.List.Sorted.{IsPermutation}

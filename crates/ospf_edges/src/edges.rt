@@ -23,13 +23,13 @@ pub fn edges_of(alloc: Global, listing: &Listing) -> Result<Vec<Edge>, AllocErro
     ensures few { IfOk result (λ edges. length edges.items
         ≤ link_count (advertisements_of listing.now)) }
 {
-    let area = GraphIndex::of(alloc, listing)?;
-    edges_by(alloc, listing, &area)
+    let index = GraphIndex::of(alloc, listing)?;
+    edges_by(alloc, listing, &index)
 }
 
-// The edges of a listing's graph, by its area.
-fn edges_by(alloc: Global, listing: &Listing, area: &GraphIndex) -> Result<Vec<Edge>, AllocError>
-    requires same { area.now ≡ advertisements_of listing.now }
+// The edges of a listing's graph, by its index.
+fn edges_by(alloc: Global, listing: &Listing, index: &GraphIndex) -> Result<Vec<Edge>, AllocError>
+    requires same { index.now ≡ advertisements_of listing.now }
     ensures edges { IfOk result (λ edges. IsEdgesOf (advertisements_of listing.now) edges.items) }
     ensures fit { IfOk result (λ edges. IsFit edges.items) }
     ensures few { IfOk result (λ edges. length edges.items
@@ -37,14 +37,14 @@ fn edges_by(alloc: Global, listing: &Listing, area: &GraphIndex) -> Result<Vec<E
 {
     let mut edges = Vec::new(alloc);
     for lsa in listing.lsas() {
-        add_edges(area, lsa, &mut edges)?;
+        add_edges(index, lsa, &mut edges)?;
     }
     Ok(edges)
 }
 
 // Adds the edges that an LSA gives.
-fn add_edges(area: &GraphIndex, lsa: &Lsa, edges: &mut Vec<Edge>) -> Result<(), AllocError>
-    ensures added { OnOk result (Adds (EdgesOf area.now (advertisement_of lsa.now)) edges.old.items
+fn add_edges(index: &GraphIndex, lsa: &Lsa, edges: &mut Vec<Edge>) -> Result<(), AllocError>
+    ensures added { OnOk result (Adds (EdgesOf index.now (advertisement_of lsa.now)) edges.old.items
         edges.new.items) }
     ensures few { OnOk result (length edges.new.items
         ≤ length edges.old.items + link_count (advertisement_of lsa.now ∷ [])) }
@@ -53,12 +53,12 @@ fn add_edges(area: &GraphIndex, lsa: &Lsa, edges: &mut Vec<Edge>) -> Result<(), 
     let key = view.key();
     match view.kind() {
         Kind::Router => {
-            add_links(area, key.router, view.links(), edges)?;
+            add_links(index, key.router, view.links(), edges)?;
             Ok(())
         }
         Kind::Network => {
-            if area.stands_for(key.id, key.router) {
-                add_members(area, key.id, view.attached(), edges)?;
+            if index.stands_for(key.id, key.router) {
+                add_members(index, key.id, view.attached(), edges)?;
             }
             Ok(())
         }
@@ -67,33 +67,33 @@ fn add_edges(area: &GraphIndex, lsa: &Lsa, edges: &mut Vec<Edge>) -> Result<(), 
 
 // Adds the edges of links.
 fn add_links(
-    area: &GraphIndex,
+    index: &GraphIndex,
     router: RouterId,
     links: Links,
     edges: &mut Vec<Edge>,
 ) -> Result<(), AllocError>
     ensures added { OnOk result (Adds (λ e. (link : Link) × Contains links.entry link
-        × LinkGives area.now router link e) edges.old.items edges.new.items) }
+        × LinkGives index.now router link e) edges.old.items edges.new.items) }
     ensures few { OnOk result (length edges.new.items ≤ length edges.old.items + length links.entry) }
 {
     for link in links {
-        add_link(area, router, link, edges)?;
+        add_link(index, router, link, edges)?;
     }
     Ok(())
 }
 
 // Adds the edge of a link.
 fn add_link(
-    area: &GraphIndex,
+    index: &GraphIndex,
     router: RouterId,
     link: Link,
     edges: &mut Vec<Edge>,
 ) -> Result<(), AllocError>
-    ensures added { OnOk result (Adds (LinkGives area.now router link) edges.old.items
+    ensures added { OnOk result (Adds (LinkGives index.now router link) edges.old.items
         edges.new.items) }
     ensures few { OnOk result (length edges.new.items ≤ length edges.old.items + 1) }
 {
-    match edge_of(area, router, link) {
+    match edge_of(index, router, link) {
         Some(edge) => {
             edges.push(edge)?;
             Ok(())
@@ -103,15 +103,15 @@ fn add_link(
 }
 
 // The edge of a link: to a router that links back, or to a network that names the router.
-fn edge_of(area: &GraphIndex, router: RouterId, link: Link) -> Option<Edge>
-    ensures { MatchOption result ((e : Edge) → LinkGives area.now router link e → ⊥)
-        (λ edge. (e : Edge) → LinkGives area.now router link e ↔ (edge ≡ e)) }
+fn edge_of(index: &GraphIndex, router: RouterId, link: Link) -> Option<Edge>
+    ensures { MatchOption result ((e : Edge) → LinkGives index.now router link e → ⊥)
+        (λ edge. (e : Edge) → LinkGives index.now router link e ↔ (edge ≡ e)) }
 {
     let to = match link.kind {
-        LinkKind::PointToPoint if area.links_to(RouterId(link.id), router) => {
+        LinkKind::PointToPoint if index.links_to(RouterId(link.id), router) => {
             Vertex::Router(RouterId(link.id))
         }
-        LinkKind::Transit if area.is_attached(link.id, router) => Vertex::Network(link.id),
+        LinkKind::Transit if index.is_attached(link.id, router) => Vertex::Network(link.id),
         _ => return None,
     };
     Some(Edge {
@@ -124,34 +124,34 @@ fn edge_of(area: &GraphIndex, router: RouterId, link: Link) -> Option<Edge>
 
 // Adds the edges from a network to its attached routers.
 fn add_members(
-    area: &GraphIndex,
+    index: &GraphIndex,
     id: u32,
     attached: Attached,
     edges: &mut Vec<Edge>,
 ) -> Result<(), AllocError>
     ensures added { OnOk result (Adds (λ e. (member : RouterId) × Contains attached.entry member
-        × AttachedGives area.now id member e) edges.old.items edges.new.items) }
+        × AttachedGives index.now id member e) edges.old.items edges.new.items) }
     ensures few { OnOk result (length edges.new.items
         ≤ length edges.old.items + length attached.entry) }
 {
     for member in attached {
-        add_member(area, id, member, edges)?;
+        add_member(index, id, member, edges)?;
     }
     Ok(())
 }
 
 // Adds the edge from a network to an attached router, if the router names the network.
 fn add_member(
-    area: &GraphIndex,
+    index: &GraphIndex,
     id: u32,
     member: RouterId,
     edges: &mut Vec<Edge>,
 ) -> Result<(), AllocError>
-    ensures added { OnOk result (Adds (AttachedGives area.now id member) edges.old.items
+    ensures added { OnOk result (Adds (AttachedGives index.now id member) edges.old.items
         edges.new.items) }
     ensures few { OnOk result (length edges.new.items ≤ length edges.old.items + 1) }
 {
-    match area.address_on(id, member) {
+    match index.address_on(id, member) {
         Some(address) => {
             edges.push(Edge {
                 from: Vertex::Network(id),

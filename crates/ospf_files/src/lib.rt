@@ -1,4 +1,10 @@
-//! What the programs have in common: files that were named, the configurations in them, and how a program ends.
+//! What the programs have in common: files that were named, the configurations in them, lines of routes, and how a
+//! program ends.
+//!
+//! `read_files` and `write_file` read and write files whole, and `config_in` finds the configuration in a file's
+//! bytes. `print_routes` and `print_lookup` print a table and what a lookup found (RFC 2328, section 11), as
+//! `specs/Shown` has it. `FailedStreams` notes which stream failed, and `Failure::tell` tells why a program ends early
+//! (`specs/Status`).
 #![tactic(auto)]
 
 mod configs;

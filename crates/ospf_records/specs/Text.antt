@@ -1,4 +1,4 @@
--- What is printed of faults.
+-- What is printed where a packet was not written to a capture.
 use Rattle.std.specs.Prelude.{ℕ, List, codes}
 use Rattle.ospf_records.specs.declared.fault.CaptureFault.{CaptureFault}
 use Rattle.ospf_records.specs.declared.fault.CaptureFault.TheVariants.{TooLong, Memory}

@@ -1,4 +1,4 @@
-//! The lines of links and of attached routers.
+//! The lines of links and of attached routers in a drawing.
 
 ghost use Rattle.std.specs.Fmt.{WritesOnOk};
 ghost use Rattle.ospf_records.specs.Graph.{attached_lines, attached_line, link_line, link_lines};

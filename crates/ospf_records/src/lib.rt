@@ -1,6 +1,10 @@
-//! What a simulation leaves in files: a drawing of what a router lists, and a capture of what all of them sent.
+//! What a simulation leaves in files: a capture of what all routers sent, and a drawing of what one of them lists.
 //!
-//! What a drawing shows stands in `specs/Drawings`, what a capture holds, and when, in `specs/Captures`.
+//! `capture` makes a file as Wireshark and tcpdump open it: libpcap's classic format, each packet as an IP packet of
+//! protocol 89 (RFC 791 and RFC 2328, appendix A.1). `write_header` begins one, and `write_datagram` adds a packet.
+//! `drawing` prints a listing, a `Graph`, in the language of Graphviz's `dot`. `write_records` writes the files that
+//! are wanted. What is captured, and when, stands in `specs/Captures`, how in `specs/Pcap` and `specs/Ip`, and what is
+//! drawn in `specs/Graph`.
 #![tactic(auto)]
 
 mod capture_laws;

@@ -16,7 +16,6 @@ mod run;
 mod settings;
 mod stop;
 mod tap;
-mod tell;
 mod wires;
 
 pub use crate::run::run_text;

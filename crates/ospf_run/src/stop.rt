@@ -1,11 +1,14 @@
 //! Why the routers of files do not run to their end.
 
-ghost use Rattle.std.specs.Prelude.{◌≡◌, IfOk, string_bytes};
+ghost use Rattle.std.specs.Prelude.{◌≡◌, IfErr, IfOk, OnErr, OnOk, string_bytes};
+ghost use Rattle.std.specs.Io.KnownBytes.{Appends};
+ghost use Rattle.ospf_files.specs.Streams.{IsBegun, IsErrorCut};
 ghost use Rattle.ospf_run.specs.Obstacles.{line_about, obstacle_line, obstacle_status};
 
 use ospf_config::ConfigFault;
-use ospf_files::{Failure, NamedFile, Status};
+use ospf_files::{FailedStreams, Failure, NamedFile, Status};
 use std::alloc::{AllocError, Global};
+use std::io::Write;
 
 /// What keeps the routers from running.
 #[derive(Clone, Copy)]
@@ -93,4 +96,21 @@ pub(crate) fn status_of(obstacle: Obstacle<'_>) -> Status
         | Obstacle::SameRouter
         | Obstacle::NoPort(_) => Status::Refused,
     }
+}
+
+/// Tells of an obstacle.
+pub(crate) fn tell_obstacle<E: Write>(
+    alloc: Global,
+    obstacle: Obstacle<'_>,
+    err: &mut E,
+    streams: &mut FailedStreams,
+) -> Result<(), Failure>
+    ensures told { OnOk result
+        (Appends (E.contents err.old) (E.contents err.new) (obstacle_line obstacle.entry)) }
+    ensures begun { OnErr result
+        (IsBegun (E.contents err.old) (E.contents err.new) (obstacle_line obstacle.entry)) }
+    ensures cut { IfErr result (IsErrorCut streams.new) }
+{
+    let line = line_of(alloc, obstacle)?;
+    streams.tell(err, &line)
 }

@@ -13,13 +13,13 @@ returns-in_ok-add_links-in-Router-clause-added c =
     let same = c.view-view.ensures.same in
     let names : c.key-key.result.router.0 ≡ number_at 8 4 c.args.lsa.now = ap (λ (k : LsaKey). k.router.0) c.key-key.ensures ∙ ap (λ (l : List ℕ). number_at 8 4 l) same in
     let links = c.links.ensures ∙ ap links_of same in
-    as_router (EdgesOf c.args.area.now) c.args.lsa.now c.args.edges.now.items c.add_links.new.edges.items c.key-key.result.router c.links.result
+    as_router (EdgesOf c.args.index.now) c.args.lsa.now c.args.edges.now.items c.add_links.new.edges.items c.key-key.result.router c.links.result
     (subst (λ (l : List ℕ). IsRouterLsa l) same (c.in-Router.ensures.router refl)) names links c.in_ok-add_links-in-Router.ensures.added
 
 pub returns-in_ok-add_members-in-Network-clause-added : goal.returns-in_ok-add_members-in-Network-clause-added
 returns-in_ok-add_members-in-Network-clause-added c =
     let same = c.view-view.ensures.same in
-    let A = c.args.area.now in
+    let A = c.args.index.now in
     let id : c.key-key.result.id ≡ number_at 4 4 c.args.lsa.now = ap (λ (k : LsaKey). k.id) c.key-key.ensures ∙ ap (λ (l : List ℕ). number_at 4 4 l) same in
     let names : c.key-key.result.router.0 ≡ number_at 8 4 c.args.lsa.now = ap (λ (k : LsaKey). k.router.0) c.key-key.ensures ∙ ap (λ (l : List ℕ). number_at 8 4 l) same in
     let members = c.attached.ensures ∙ ap attached_of same in
@@ -32,7 +32,7 @@ returns-in_ok-add_members-in-Network-clause-added c =
 pub returns-else-stands_for-clause-added : goal.returns-else-stands_for-clause-added
 returns-else-stands_for-clause-added c =
     let same = c.view-view.ensures.same in
-    let A = c.args.area.now in
+    let A = c.args.index.now in
     let id : c.key-key.result.id ≡ number_at 4 4 c.args.lsa.now = ap (λ (k : LsaKey). k.id) c.key-key.ensures ∙ ap (λ (l : List ℕ). number_at 4 4 l) same in
     let names : c.key-key.result.router.0 ≡ number_at 8 4 c.args.lsa.now = ap (λ (k : LsaKey). k.router.0) c.key-key.ensures ∙ ap (λ (l : List ℕ). number_at 8 4 l) same in
     as_network (EdgesOf A) c.args.lsa.now c.args.edges.now.items c.args.edges.now.items c.key-key.result.id c.key-key.result.router

@@ -6,6 +6,6 @@ use Rattle.ospf_edges.proofs.edges.add_links.Given as goal
 abbrev pub invariant-loop-link : goal.invariant-loop-link
 invariant-loop-link l = record {
   walked : l.fn.links ≡ l.yielded ++ l.link-iterator;
-  adds : Adds (GivenBy (LinkGives l.area l.router) l.yielded) l.initial.edges.items l.edges.items;
+  adds : Adds (GivenBy (LinkGives l.index l.router) l.yielded) l.initial.edges.items l.edges.items;
   few : length l.edges.items ≤ length l.initial.edges.items + length l.yielded;
 }

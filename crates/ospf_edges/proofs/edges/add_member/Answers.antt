@@ -7,7 +7,7 @@ use Rattle.ospf_edges.proofs.edges.add_member.Goals as goal
 
 pub returns-in_ok-push-in-Some-clause-added : goal.returns-in_ok-push-in-Some-clause-added
 returns-in_ok-push-in-Some-clause-added c =
-    let A = c.args.area.now in
+    let A = c.args.index.now in
     let edge : Edge = record { from = Network c.args.id; to = Router c.args.member; cost = 0; link_data = c.in-Some.address } in
     rw c.in_ok-push-in-Some.ensures.items
     (adds_push (AttachedGives A c.args.id c.args.member) c.args.edges.now.items edge
@@ -15,4 +15,4 @@ returns-in_ok-push-in-Some-clause-added c =
 
 pub returns-in-None-clause-added : goal.returns-in-None-clause-added
 returns-in-None-clause-added c =
-    adds_none (AttachedGives c.args.area.now c.args.id c.args.member) c.args.edges.now.items (λ e g. c.in-None.ensures.none g.0 g.1)
+    adds_none (AttachedGives c.args.index.now c.args.id c.args.member) c.args.edges.now.items (λ e g. c.in-None.ensures.none g.0 g.1)

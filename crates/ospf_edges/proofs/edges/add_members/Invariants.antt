@@ -6,6 +6,6 @@ use Rattle.ospf_edges.proofs.edges.add_members.Given as goal
 abbrev pub invariant-loop-member : goal.invariant-loop-member
 invariant-loop-member l = record {
   walked : l.fn.attached ≡ l.yielded ++ l.member-iterator;
-  adds : Adds (GivenBy (AttachedGives l.area l.id) l.yielded) l.initial.edges.items l.edges.items;
+  adds : Adds (GivenBy (AttachedGives l.index l.id) l.yielded) l.initial.edges.items l.edges.items;
   few : length l.edges.items ≤ length l.initial.edges.items + length l.yielded;
 }
