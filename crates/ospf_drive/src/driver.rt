@@ -34,6 +34,7 @@ pub fn drive<W: Wire, R: Wait + Drop, S: Wait>(
     ensures whole { Whole (at router.old (W.traffic wire.old) (W.failed wire.old) writer.old)
         (at router.new (W.traffic wire.new) (W.failed wire.new) writer.new) result }
 {
+    // For the proof.
     drives_are_whole();
     take_turns(rt, alloc, router, wire, writer)
 }

@@ -249,6 +249,7 @@ fn are_more(links: Links, most: usize) -> bool
 {
     let mut left = most;
     for link in links {
+        // For the proof.
         let _counted = link;
         if left == 0 {
             return true;

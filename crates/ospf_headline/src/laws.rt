@@ -77,6 +77,7 @@ pub fn headline()
     ensures { (is_dropped : Event → AreaValue → Bool) (later : List WorldEvent) (before after : World) →
         IsReached is_dropped before → Runs is_dropped later before after → Headline before after }
 {
+    // For the proof.
     held_lsas_were_issued();
     held_lsas_agree();
     tables_are_exact();

@@ -152,6 +152,7 @@ pub(crate) fn add_fresh(
     let Ok(_added) = listing.add(lsa) else {
         return Err(AllocError);
     };
+    // For the proof.
     let _in_order = listing.lsas();
     Ok(())
 }

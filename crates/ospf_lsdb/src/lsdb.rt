@@ -172,5 +172,6 @@ fn fresh_in(entry: Option<EntryView<'_>>) -> usize
 fn is_database(dated: &Dated)
     ensures { IsDatabase dated.now }
 {
+    // For the proof.
     let _all = dated.len();
 }

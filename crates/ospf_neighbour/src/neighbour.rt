@@ -191,6 +191,7 @@ impl Neighbour {
         ensures lists { IsSound self.now.state self.now.summary self.now.last_dd self.now.requests
             self.now.asked self.now.retransmission }
     {
+        // For the proof.
         let _asked = self.asked;
         self.state.is_exchanging()
     }

@@ -78,6 +78,7 @@ impl Router {
         if floor == MAX_SEQUENCE_NUMBER {
             return Err(StartFault::Floor);
         }
+        // For the proof.
         starts_sound();
         let area = match area_of(config, dd_start, floor, alloc) {
             Ok(area) => area,

@@ -179,6 +179,7 @@ fn is_same(old: &RouteTable, new: &RouteTable, alloc: Global) -> Result<bool, Al
 fn database_is_one(database: &Lsdb)
     ensures { IsDatabase database.now }
 {
+    // For the proof.
     let _entries = database.entries();
 }
 
@@ -186,5 +187,6 @@ fn database_is_one(database: &Lsdb)
 fn listing_is_one(listing: &Listing)
     ensures { IsListing listing.now }
 {
+    // For the proof.
     let _lsas = listing.lsas();
 }

@@ -81,6 +81,7 @@ fn finish<R: Wait + Drop, S: Threads>(
     requires { (a : Moment) × Ran a driven looker }
     ensures { (a : Moment) → Ran a driven looker → IfOk result (Came lookup a) }
 {
+    // For the proof.
     all_ticks_are_taken();
     let (router, writer, told) = match driven {
         Ok(driven) => driven,

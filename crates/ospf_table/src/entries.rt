@@ -106,6 +106,7 @@ fn append(listing: &mut Listing, lsa: Lsa) -> Result<(), AllocError>
     let Ok(_added) = listing.add(lsa) else {
         return Err(AllocError);
     };
+    // For the proof.
     let _in_order = listing.lsas();
     Ok(())
 }

@@ -90,6 +90,7 @@ impl Parts {
         requires { self.old.offered < length self.old.logs.datagrams }
         ensures { self.new ≡ record self.old { offered = self.old.offered + 1 } }
     {
+        // For the proof.
         let _sent = self.logs.datagrams().len();
         self.offered += 1;
     }

@@ -37,6 +37,7 @@ impl World {
         ensures ticks { TicksOn (world_of self.old) self.old.ticks (world_of self.new)
             self.new.ticks }
     {
+        // For the proof.
         headline();
         soundness();
         self.reached();

@@ -57,6 +57,7 @@ impl World {
             router_at (world_of self.now) from ≡ Some x → AllListedAgree (world_of self.now) x →
             IfOk result (λ walk. walk.end ≢ ends.Turns) }
     {
+        // For the proof.
         headline();
         self.reached();
         if !self.has_router(from) {
@@ -121,6 +122,7 @@ impl World {
     fn leg(&self, at: RouterId, address: Addr, choice: u32) -> Leg
         ensures { IsLeg (world_of self.now) address.0 choice at result }
     {
+        // For the proof.
         headline();
         self.reached();
         let Ok(router) = self.router(at) else {

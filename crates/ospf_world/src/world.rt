@@ -68,6 +68,7 @@ impl World {
         ensures ticks { self.new.ticks ≡ self.old.ticks
             ++ ticked_by event result (length self.old.logs.datagrams) }
     {
+        // For the proof.
         headline();
         soundness();
         self.parts.step(&event, alloc)
@@ -85,6 +86,7 @@ impl World {
         ensures ticks { TicksOn (world_of self.old) self.old.ticks (world_of self.new)
             self.new.ticks }
     {
+        // For the proof.
         headline();
         soundness();
         runs_lead_on();
