@@ -73,8 +73,8 @@ impl Post {
         self.next
     }
 
-    // Where its memory comes from.
-    pub(crate) fn alloc(&self) -> Global {
+    /// Where its memory comes from.
+    pub fn alloc(&self) -> Global {
         self.alloc
     }
 

@@ -22,11 +22,11 @@ nobody c =
 pub returns-then-not-is_at-clause-turn : goal.returns-then-not-is_at-clause-turn
 returns-then-not-is_at-clause-turn c =
     let x = neighbourhood c.args.all.now.items false c.args.post.now in
-    ap (λ (o : Option NeighbourValue). request_by o c.args.at.now.iface c.args.at.now.local c.args.delay c.args.database.now c.args.requests x) (sym (nobody c.before))
+    ap (λ (o : Option NeighbourValue). request_by o c.args.at.now.iface c.args.at.now.local c.args.delay c.args.database.now c.args.requests x) (sym (nobody (goal.at.returns-then-not-is_at-clause-turn c).Then-not-is_at))
 
 pub returns-then-not-is_at-clause-keys : goal.returns-then-not-is_at-clause-keys
 returns-then-not-is_at-clause-keys c =
-    c.new.ensures.empty ∙ ap (λ (o : Option NeighbourValue). answered_by o c.args.database.now c.args.requests) (sym (nobody c.before))
+    c.new.ensures.empty ∙ ap (λ (o : Option NeighbourValue). answered_by o c.args.database.now c.args.requests) (sym (nobody (goal.at.returns-then-not-is_at-clause-keys c).Then-not-is_at))
 
 pub take_request-requires : goal.take_request-requires
 take_request-requires c =
