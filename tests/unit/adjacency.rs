@@ -1,7 +1,7 @@
 //! Adjacencies of one router: Database Descriptions that come, and an election.
 
 use ospf_adjacency::{
-    Outbox, elect_on, is_broadcast, is_dropped, request_turn, send_dd, send_request,
+    OnLink, Post, elect_on, is_broadcast, is_dropped, request_turn, send_dd, send_request,
     take_description, take_event, wants_adjacency,
 };
 use ospf_area::{Outputs, Own};
@@ -49,8 +49,15 @@ fn local(mtu: u16) -> Local {
     }
 }
 
-// Nothing has gone out of link 4, at address 0.0.0.1.
-fn outbox(alloc: Global) -> Outbox {
+fn on_link(iface: Iface, mtu: u16) -> OnLink {
+    OnLink {
+        iface,
+        local: local(mtu),
+    }
+}
+
+// What was posted goes out of link 4, at address 0.0.0.1. Answers the router's next number.
+fn send(post: Post, out: &mut Outputs) -> Result<u32, Fail> {
     let own = Own {
         router: OWN,
         area: AreaId(0),
@@ -58,12 +65,14 @@ fn outbox(alloc: Global) -> Outbox {
         passes_over: false,
     };
     let link = iface(InterfaceKind::Broadcast, IfaceState::DrOther);
-    Outbox::new(Outputs::new(alloc), own, 4, &link)
+    let number = post.next();
+    post.send_all(out, own, 4, &link)?;
+    Ok(number)
 }
 
 // How many datagrams have gone out.
-fn count(out: &Outbox) -> usize {
-    out.outputs().sent().len()
+fn count(out: &Outputs) -> usize {
+    out.sent().len()
 }
 
 fn require(holds: bool) -> Result<(), Fail> {
@@ -75,7 +84,7 @@ fn hear(
     neighbour: &mut Neighbour,
     description: Description,
     database: &Lsdb,
-    out: &mut Outbox,
+    out: &mut Outputs,
     alloc: Global,
 ) -> Result<bool, Fail> {
     let value = PacketValue {
@@ -89,21 +98,14 @@ fn hear(
         return Err("another packet".into());
     };
     let link = iface(InterfaceKind::PointToPoint, IfaceState::PointToPoint);
-    let mut number = 100;
+    let at = on_link(link, 576);
+    let mut post = Post::new(100, alloc);
     let router = neighbour.router();
     let dropped = is_dropped(neighbour, router, fields, &headers, local(576));
     let taken = take_description(
-        neighbour,
-        router,
-        fields,
-        headers,
-        database,
-        &link,
-        local(576),
-        &mut number,
-        out,
-        alloc,
+        neighbour, router, fields, headers, database, &at, &mut post,
     )?;
+    send(post, out)?;
     require(taken != dropped)?;
     Ok(taken)
 }
@@ -130,27 +132,20 @@ fn description_in(bytes: &[u8]) -> Option<(u8, u32, usize)> {
 }
 
 // Those of the last packet.
-fn last_sent(out: &Outbox) -> Option<(u8, u32, usize)> {
-    description_in(&out.outputs().sent().last()?.bytes)
+fn last_sent(out: &Outputs) -> Option<(u8, u32, usize)> {
+    description_in(&out.sent().last()?.bytes)
 }
 
 // A neighbour in ExStart on a point-to-point link, and the first packet to it.
-fn starting(alloc: Global, out: &mut Outbox) -> Result<Neighbour, Fail> {
+fn starting(alloc: Global, out: &mut Outputs) -> Result<Neighbour, Fail> {
     let link = iface(InterfaceKind::PointToPoint, IfaceState::PointToPoint);
-    let mut number = 50;
+    let at = on_link(link, 576);
+    let mut post = Post::new(50, alloc);
     let mut neighbour = Neighbour::new(alloc, RouterId(2), Addr(2));
     for event in [NbrEvent::HelloReceived, NbrEvent::TwoWayReceived(true)] {
-        take_event(
-            &mut neighbour,
-            event,
-            &link,
-            local(576),
-            &mut number,
-            out,
-            alloc,
-        )?;
+        take_event(&mut neighbour, event, &at, &mut post)?;
     }
-    require(number == 51)?;
+    require(send(post, out)? == 51)?;
     Ok(neighbour)
 }
 
@@ -169,7 +164,7 @@ fn filled(alloc: Global, count: u32) -> Result<Lsdb, Fail> {
 fn a_larger_mtu_is_dropped(rt: HostRuntime) -> Result<(), Fail> {
     let alloc = rt.alloc();
     let database = Lsdb::new(alloc);
-    let mut out = outbox(alloc);
+    let mut out = Outputs::new(alloc);
     let mut neighbour = Neighbour::new(alloc, RouterId(2), Addr(2));
     let _ = neighbour.event(NbrEvent::HelloReceived, 40);
     let taken = hear(
@@ -199,7 +194,7 @@ fn a_larger_mtu_is_dropped(rt: HostRuntime) -> Result<(), Fail> {
 fn a_slave_sends_what_fits(rt: HostRuntime) -> Result<(), Fail> {
     let alloc = rt.alloc();
     let database = filled(alloc, 27)?;
-    let mut out = outbox(alloc);
+    let mut out = Outputs::new(alloc);
     let mut neighbour = starting(alloc, &mut out)?;
     assert_eq!(rt; last_sent(&out), Some((7, 50, 0)));
     hear(
@@ -227,7 +222,7 @@ fn a_slave_sends_what_fits(rt: HostRuntime) -> Result<(), Fail> {
 fn a_slave_repeats_its_last(rt: HostRuntime) -> Result<(), Fail> {
     let alloc = rt.alloc();
     let database = filled(alloc, 27)?;
-    let mut out = outbox(alloc);
+    let mut out = Outputs::new(alloc);
     let mut neighbour = starting(alloc, &mut out)?;
     hear(
         &mut neighbour,
@@ -255,7 +250,7 @@ fn a_slave_repeats_its_last(rt: HostRuntime) -> Result<(), Fail> {
 fn a_mismatch_begins_anew(rt: HostRuntime) -> Result<(), Fail> {
     let alloc = rt.alloc();
     let database = filled(alloc, 27)?;
-    let mut out = outbox(alloc);
+    let mut out = Outputs::new(alloc);
     let mut neighbour = starting(alloc, &mut out)?;
     hear(
         &mut neighbour,
@@ -302,23 +297,18 @@ fn three_routers_elect(rt: HostRuntime) -> Result<(), Fail> {
         two_way(alloc, 2, 1, Addr(2)),
         two_way(alloc, 3, 0, Addr::NOWHERE),
     ];
-    let mut number = u32::MAX;
-    let mut out = outbox(alloc);
-    elect_on(
-        &mut link,
-        &mut neighbours,
-        local(1500),
-        &mut number,
-        &mut out,
-        alloc,
-    )?;
+    let number = u32::MAX;
+    let mut out = Outputs::new(alloc);
+    let mut post = Post::new(number, alloc);
+    elect_on(&mut link, &mut neighbours, local(1500), &mut post)?;
+    let number = send(post, &mut out)?;
     assert_eq!(rt;
         (link.state, link.dr, link.backup),
         (IfaceState::Backup, Addr(2), Addr(1))
     );
     assert_eq!(rt; number, 1);
     let mut begun = Vec::new(alloc);
-    for packet in out.outputs().sent() {
+    for packet in out.sent() {
         begun.push(packet.destination)?;
     }
     assert_eq!(rt; begun.as_slice(), [Addr(2), Addr(3)].as_slice());
@@ -344,16 +334,11 @@ fn adjacencies_end(rt: HostRuntime) -> Result<(), Fail> {
     link.state = IfaceState::DrOther;
     link.dr = Addr(2);
     let mut neighbours = [exchanging(alloc, 2), two_way(alloc, 3, 1, Addr(3))];
-    let mut number = 50;
-    let mut out = outbox(alloc);
-    elect_on(
-        &mut link,
-        &mut neighbours,
-        local(1500),
-        &mut number,
-        &mut out,
-        alloc,
-    )?;
+    let number = 50;
+    let mut out = Outputs::new(alloc);
+    let mut post = Post::new(number, alloc);
+    elect_on(&mut link, &mut neighbours, local(1500), &mut post)?;
+    let number = send(post, &mut out)?;
     assert_eq!(rt;
         (link.state, link.dr, link.backup),
         (IfaceState::DrOther, Addr(3), Addr::NOWHERE)
@@ -361,6 +346,7 @@ fn adjacencies_end(rt: HostRuntime) -> Result<(), Fail> {
     assert_eq!(rt; neighbours[0].state(), NeighbourState::TwoWay);
     assert_eq!(rt; neighbours[1].state(), NeighbourState::ExStart);
     assert_eq!(rt; (count(&out), last_sent(&out)), (1, Some((7, 50, 0))));
+    assert_eq!(rt; number, 51);
     Ok(())
 }
 
@@ -375,9 +361,11 @@ fn loading_is_done(rt: HostRuntime) -> Result<(), Fail> {
         neighbour.add_requests(&[lsa.view().header()])?;
     }
     let _ = neighbour.event(NbrEvent::ExchangeDone, 40);
-    let mut out = outbox(alloc);
+    let mut out = Outputs::new(alloc);
     for state in [NeighbourState::Loading, NeighbourState::Full] {
-        request_turn(&mut neighbour, &link, local(1500), &mut out, alloc)?;
+        let mut post = Post::new(50, alloc);
+        request_turn(&mut neighbour, &on_link(link, 1500), &mut post)?;
+        send(post, &mut out)?;
         assert_eq!(rt; (neighbour.state(), count(&out)), (state, 1));
         neighbour.remove_request(&lsa.view().key());
     }
@@ -399,15 +387,17 @@ fn adjacencies_with_the_designated_router(rt: HostRuntime) {
 #[test]
 fn where_packets_go(rt: HostRuntime) -> Result<(), Fail> {
     let alloc = rt.alloc();
-    let mut out = outbox(alloc);
+    let mut out = Outputs::new(alloc);
     let mut neighbour = starting(alloc, &mut out)?;
     let ends = iface(InterfaceKind::PointToPoint, IfaceState::PointToPoint);
     let link = iface(InterfaceKind::Broadcast, IfaceState::DrOther);
-    send_dd(&neighbour, &ends, 576, &mut out, alloc)?;
-    send_request(&neighbour, &link, &mut out, alloc)?;
-    request_turn(&mut neighbour, &link, local(576), &mut out, alloc)?;
+    let mut post = Post::new(50, alloc);
+    send_dd(&neighbour, &on_link(ends, 576), &mut post)?;
+    send_request(&neighbour, &on_link(link, 576), &mut post)?;
+    request_turn(&mut neighbour, &on_link(link, 576), &mut post)?;
+    send(post, &mut out)?;
     let mut ways = Vec::new(alloc);
-    for packet in out.outputs().sent() {
+    for packet in out.sent() {
         ways.push(packet.destination)?;
     }
     assert_eq!(rt;
@@ -421,7 +411,7 @@ fn where_packets_go(rt: HostRuntime) -> Result<(), Fail> {
 #[test]
 fn outputs_are_kept(rt: HostRuntime) -> Result<(), Fail> {
     let alloc = rt.alloc();
-    let mut out = outbox(alloc);
+    let mut out = Outputs::new(alloc);
     let neighbour = starting(alloc, &mut out)?;
     let own = Own {
         router: RouterId(5),
@@ -430,11 +420,11 @@ fn outputs_are_kept(rt: HostRuntime) -> Result<(), Fail> {
         passes_over: false,
     };
     let link = iface(InterfaceKind::PointToPoint, IfaceState::PointToPoint);
-    let mut next = Outbox::new(out.into_outputs(), own, 6, &link);
-    send_dd(&neighbour, &link, 576, &mut next, alloc)?;
-    let outputs = next.into_outputs();
+    let mut post = Post::new(50, alloc);
+    send_dd(&neighbour, &on_link(link, 576), &mut post)?;
+    post.send_all(&mut out, own, 6, &link)?;
     let mut links = Vec::new(alloc);
-    for sent in outputs.sent() {
+    for sent in out.sent() {
         let packet = Packet::read(&sent.bytes)?;
         links.push((sent.link, sent.source, packet.router, packet.area))?;
     }

@@ -1,13 +1,12 @@
 //! Hellos of one link, and its timers.
 
-use ospf_adjacency::Outbox;
+use ospf_adjacency::{
+    OnLink, Post, go_down, go_up, hello_on, is_at, is_named, is_settled, place_for, send_due_hello,
+    send_hello, tick_neighbours, tick_timers,
+};
 use ospf_area::{Outputs, Own};
 use ospf_base::{ALL_SPF_ROUTERS, Addr, AreaId, InterfaceKind, RouterId};
 use ospf_exchange::Local;
-use ospf_adjacency::{
-    go_down, go_up, hello_on, is_at, is_named, is_settled, place_for, send_due_hello, send_hello,
-    tick_neighbours, tick_timers,
-};
 use ospf_iface::{Iface, IfaceSettings, IfaceState};
 use ospf_neighbour::{NbrEvent, Neighbour, NeighbourState};
 use ospf_packet::{Body, BodyValue, Hello, Packet, PacketValue, write_packet};
@@ -54,20 +53,30 @@ fn hello(priority: u8, dr: Addr, backup: Addr) -> Hello {
     }
 }
 
-// Nothing has gone out of the link.
-fn outbox(alloc: Global, link: &Iface) -> Outbox {
+fn on_link(iface: Iface) -> OnLink {
+    OnLink {
+        iface,
+        local: LOCAL,
+    }
+}
+
+// What was posted goes out of the link. Answers it, and the router's next number.
+fn sent(post: Post, link: &Iface, alloc: Global) -> Result<(Outputs, u32), Fail> {
     let own = Own {
         router: OWN,
         area: AreaId(0),
         tick: LOCAL.tick,
         passes_over: false,
     };
-    Outbox::new(Outputs::new(alloc), own, 0, link)
+    let mut out = Outputs::new(alloc);
+    let number = post.next();
+    post.send_all(&mut out, own, 0, link)?;
+    Ok((out, number))
 }
 
 // How many datagrams have gone out.
-fn count(out: &Outbox) -> usize {
-    out.outputs().sent().len()
+fn count(out: &Outputs) -> usize {
+    out.sent().len()
 }
 
 fn require(holds: bool) -> Result<(), Fail> {
@@ -90,8 +99,7 @@ fn a_hello_makes_a_neighbour(rt: HostRuntime) -> Result<(), Fail> {
     let alloc = rt.alloc();
     let link = iface(InterfaceKind::Broadcast, IfaceState::DrOther);
     let mut neighbours = Vec::new(alloc);
-    let mut number = 5;
-    let mut out = outbox(alloc, &link);
+    let mut post = Post::new(5, alloc);
     let said = hello(3, Addr(2), Addr::NOWHERE);
     let elects = hello_on(
         &mut neighbours,
@@ -99,12 +107,10 @@ fn a_hello_makes_a_neighbour(rt: HostRuntime) -> Result<(), Fail> {
         Addr(2),
         &said,
         false,
-        &link,
-        LOCAL,
-        &mut number,
-        &mut out,
-        alloc,
+        &on_link(link),
+        &mut post,
     )?;
+    let (out, _) = sent(post, &link, alloc)?;
     assert_eq!(rt; elects, true);
     assert_eq!(rt; count(&out), 0);
     let first = neighbours.first().ok_or("none")?;
@@ -126,8 +132,7 @@ fn heard_both_ways(rt: HostRuntime) -> Result<(), Fail> {
     let alloc = rt.alloc();
     let link = iface(InterfaceKind::PointToPoint, IfaceState::PointToPoint);
     let mut neighbours = vec![in alloc; neighbour(alloc, 2, false, 1)]?;
-    let mut number = 5;
-    let mut out = outbox(alloc, &link);
+    let mut post = Post::new(5, alloc);
     let said = hello(1, Addr::NOWHERE, Addr::NOWHERE);
     let elects = hello_on(
         &mut neighbours,
@@ -135,12 +140,10 @@ fn heard_both_ways(rt: HostRuntime) -> Result<(), Fail> {
         Addr(2),
         &said,
         true,
-        &link,
-        LOCAL,
-        &mut number,
-        &mut out,
-        alloc,
+        &on_link(link),
+        &mut post,
     )?;
+    let (out, number) = sent(post, &link, alloc)?;
     assert_eq!(rt; elects, false);
     assert_eq!(rt; number, 6);
     let first = neighbours.first().ok_or("none")?;
@@ -148,7 +151,7 @@ fn heard_both_ways(rt: HostRuntime) -> Result<(), Fail> {
         (first.state(), first.inactivity()),
         (NeighbourState::ExStart, 40)
     );
-    let sent = out.outputs().sent().first().ok_or("nothing sent")?;
+    let sent = out.sent().first().ok_or("nothing sent")?;
     let Body::Description(fields, headers) = Packet::read(&sent.bytes)?.body else {
         return Err("another packet".into());
     };
@@ -169,19 +172,15 @@ fn elects_by(
 ) -> Result<(bool, NeighbourState), Fail> {
     let link = iface(InterfaceKind::Broadcast, state);
     let mut neighbours = vec![in alloc; neighbour(alloc, 2, true, 40)]?;
-    let mut number = 5;
-    let mut out = outbox(alloc, &link);
+    let mut post = Post::new(5, alloc);
     let elects = hello_on(
         &mut neighbours,
         RouterId(2),
         Addr(2),
         said,
         named,
-        &link,
-        LOCAL,
-        &mut number,
-        &mut out,
-        alloc,
+        &on_link(link),
+        &mut post,
     )?;
     let heard = neighbours.first().ok_or("none")?;
     Ok((elects, heard.state()))
@@ -264,8 +263,8 @@ fn a_link_goes_down(rt: HostRuntime) -> Result<(), Fail> {
 }
 
 // The neighbours that the last Hello lists.
-fn listed(out: &Outbox, alloc: Global) -> Result<Vec<RouterId>, Fail> {
-    let last = out.outputs().sent().last().ok_or("nothing sent")?;
+fn listed(out: &Outputs, alloc: Global) -> Result<Vec<RouterId>, Fail> {
+    let last = out.sent().last().ok_or("nothing sent")?;
     require(last.destination == ALL_SPF_ROUTERS)?;
     let Body::Hello(_, neighbours) = Packet::read(&last.bytes)?.body else {
         return Err("another packet".into());
@@ -287,17 +286,21 @@ fn a_hello_each_interval(rt: HostRuntime) -> Result<(), Fail> {
         neighbour(alloc, 2, false, 40),
         neighbour(alloc, 3, true, 40),
     ];
-    let mut out = outbox(alloc, &link);
-    send_due_hello(&mut link, &neighbours, &mut out, alloc)?;
-    assert_eq!(rt; count(&out), 0);
-    send_due_hello(&mut link, &neighbours, &mut out, alloc)?;
+    let mut post = Post::new(5, alloc);
+    send_due_hello(&mut link, &neighbours, &mut post)?;
+    assert_eq!(rt; count(&sent(post, &link, alloc)?.0), 0);
+    let mut post = Post::new(5, alloc);
+    send_due_hello(&mut link, &neighbours, &mut post)?;
+    let (out, _) = sent(post, &link, alloc)?;
     assert_eq!(rt; (count(&out), link.hello_in), (1, 10));
     assert_eq!(rt;
         listed(&out, alloc)?.as_slice(),
         [RouterId(2), RouterId(3)].as_slice()
     );
-    send_hello(&link, &neighbours, &mut out, alloc)?;
-    assert_eq!(rt; count(&out), 2);
+    let mut post = Post::new(5, alloc);
+    send_due_hello(&mut link, &neighbours, &mut post)?;
+    send_hello(&link, &neighbours, &mut post)?;
+    assert_eq!(rt; count(&sent(post, &link, alloc)?.0), 1);
     Ok(())
 }
 

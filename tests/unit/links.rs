@@ -1,6 +1,6 @@
 //! Two routers over one link, each call by hand; the elections of a LAN; links that go up and down; timers.
 
-use ospf_adjacency::Outbox;
+use ospf_adjacency::Post;
 use ospf_area::{Area, Link, LinkSettings, Origin, Outputs, Sent, flood, origin_of, own_of};
 use ospf_base::{ALL_SPF_ROUTERS, Addr, AreaId, InterfaceKind, RouterId};
 use ospf_iface::{Iface, IfaceSettings, IfaceState};
@@ -17,7 +17,6 @@ use ospf_packet::{
 };
 use std::alloc::{AllocError, Global};
 use std::collections::BTreeSet;
-use std::mem;
 use std::test::Fail;
 
 // The first Hello of 1.1.1.1.
@@ -1313,16 +1312,14 @@ fn posts(router: &mut Router, alloc: Global) -> Result<(), Fail> {
 }
 
 fn posts_from(router: &mut Router, iface: &Iface, alloc: Global) -> Result<(), AllocError> {
-    let out = mem::replace(&mut router.out, Outputs::new(alloc));
-    let mut outbox = Outbox::new(out, own_of(&router.area), 0, iface);
-    puts(&mut outbox, alloc)?;
-    router.out = outbox.into_outputs();
-    Ok(())
+    let mut post = Post::new(0, alloc);
+    puts(&mut post, alloc)?;
+    post.send_all(&mut router.out, own_of(&router.area), 0, iface)
 }
 
-fn puts(outbox: &mut Outbox, alloc: Global) -> Result<(), AllocError> {
-    outbox.put(ALL_SPF_ROUTERS, first_hello(alloc), alloc)?;
-    outbox.put(FROM_SECOND.address, first_hello(alloc), alloc)
+fn puts(post: &mut Post, alloc: Global) -> Result<(), AllocError> {
+    post.put(ALL_SPF_ROUTERS, first_hello(alloc))?;
+    post.put(FROM_SECOND.address, first_hello(alloc))
 }
 
 // Whether they go where they should, whether they are as they should, and the link and the source of the first.

@@ -1,6 +1,8 @@
 //! Requests that are answered, repeats, and Database Descriptions over an MTU of 576.
 
-use ospf_adjacency::{Outbox, request_turn, take_description, take_event};
+use ospf_adjacency::{
+    OnLink, Post, repeat, request_turn, take_description, take_event, take_request,
+};
 use ospf_area::{Outputs, Own, Sent};
 use ospf_base::{Addr, Age, AreaId, Instance, InterfaceKind, Kind, LsaKey, RouterId};
 use ospf_exchange::Local;
@@ -9,7 +11,6 @@ use ospf_lsa::{Lsa, LsaHeader, LsaView};
 use ospf_lsdb::Lsdb;
 use ospf_neighbour::{NbrEvent, Neighbour, NeighbourState};
 use ospf_packet::{Body, BodyValue, Description, Packet, PacketValue, RequestEntry, write_packet};
-use ospf_adjacency::{repeat, take_request};
 use std::alloc::Global;
 use std::test::Fail;
 
@@ -58,15 +59,23 @@ fn iface() -> Iface {
     }
 }
 
-// Nothing has gone out of the link.
-fn outbox(alloc: Global) -> Outbox {
+fn on_link(local: Local) -> OnLink {
+    OnLink {
+        iface: iface(),
+        local,
+    }
+}
+
+// What was posted goes out of the link.
+fn send(post: Post, out: &mut Outputs) -> Result<(), Fail> {
     let own = Own {
         router: LOCAL.router,
         area: AreaId(0),
         tick: LOCAL.tick,
         passes_over: false,
     };
-    Outbox::new(Outputs::new(alloc), own, 0, &iface())
+    post.send_all(out, own, 0, &iface())?;
+    Ok(())
 }
 
 // The router-LSA of a router without links, ten ticks old.
@@ -104,19 +113,12 @@ fn headers_of(alloc: Global, count: u32) -> Result<Vec<LsaHeader>, Fail> {
 // A neighbour in ExStart, to which the first Database Description has gone out with the number 300.
 fn starting(alloc: Global, router: u32) -> Result<Neighbour, Fail> {
     let mut neighbour = Neighbour::new(alloc, RouterId(router), Addr(router));
-    let mut numbers = 300;
-    let mut out = outbox(alloc);
+    let mut post = Post::new(300, alloc);
+    let mut out = Outputs::new(alloc);
     for event in [NbrEvent::HelloReceived, NbrEvent::TwoWayReceived(true)] {
-        take_event(
-            &mut neighbour,
-            event,
-            &iface(),
-            LOCAL,
-            &mut numbers,
-            &mut out,
-            alloc,
-        )?;
+        take_event(&mut neighbour, event, &on_link(LOCAL), &mut post)?;
     }
+    send(post, &mut out)?;
     require(count(&out) == 1)?;
     Ok(neighbour)
 }
@@ -151,7 +153,7 @@ fn describes(
     flags: u8,
     number: u32,
     database: &Lsdb,
-    out: &mut Outbox,
+    out: &mut Outputs,
     alloc: Global,
 ) -> Result<bool, Fail> {
     let fields = Description {
@@ -168,7 +170,7 @@ fn takes_description(
     neighbour: &mut Neighbour,
     bytes: &[u8],
     database: &Lsdb,
-    out: &mut Outbox,
+    out: &mut Outputs,
     alloc: Global,
 ) -> Result<bool, Fail> {
     let packet = Packet::read(bytes)?;
@@ -176,19 +178,17 @@ fn takes_description(
         return Err("no Database Description".into());
     };
     let sender = neighbour.router();
-    let mut numbers = 301;
+    let mut post = Post::new(301, alloc);
     let taken = take_description(
         neighbour,
         sender,
         fields,
         headers,
         database,
-        &iface(),
-        LOCAL,
-        &mut numbers,
-        out,
-        alloc,
+        &on_link(LOCAL),
+        &mut post,
     )?;
+    send(post, out)?;
     Ok(taken)
 }
 
@@ -197,7 +197,7 @@ fn requests(
     neighbour: &mut Neighbour,
     routers: &[u32],
     database: &Lsdb,
-    out: &mut Outbox,
+    out: &mut Outputs,
     alloc: Global,
 ) -> Result<usize, Fail> {
     let mut entries = Vec::new(alloc);
@@ -216,7 +216,7 @@ fn takes_request(
     neighbour: &mut Neighbour,
     bytes: &[u8],
     database: &Lsdb,
-    out: &mut Outbox,
+    out: &mut Outputs,
     alloc: Global,
 ) -> Result<usize, Fail> {
     let packet = Packet::read(bytes)?;
@@ -226,18 +226,16 @@ fn takes_request(
     if !neighbour.is_exchanging() {
         return Err("below Exchange".into());
     }
-    let mut numbers = 301;
+    let mut post = Post::new(301, alloc);
     let keys = take_request(
         neighbour,
         entries,
         database,
-        &iface(),
-        LOCAL,
+        &on_link(LOCAL),
         DELAY,
-        &mut numbers,
-        out,
-        alloc,
+        &mut post,
     )?;
+    send(post, out)?;
     Ok(keys.len())
 }
 
@@ -247,35 +245,35 @@ fn repeats(
     tick: u64,
     database: &Lsdb,
     alloc: Global,
-) -> Result<(Outbox, usize), Fail> {
-    let mut out = outbox(alloc);
+) -> Result<(Outputs, usize), Fail> {
+    let mut post = Post::new(301, alloc);
     let keys = repeat(
         neighbour,
         database,
-        &iface(),
-        at_tick(tick),
+        &on_link(at_tick(tick)),
         RETRANSMIT,
         DELAY,
-        &mut out,
-        alloc,
+        &mut post,
     )?;
+    let mut out = Outputs::new(alloc);
+    send(post, &mut out)?;
     Ok((out, keys.len()))
 }
 
 // ---- what goes out
 
 // How many datagrams have gone out.
-fn count(out: &Outbox) -> usize {
-    out.outputs().sent().len()
+fn count(out: &Outputs) -> usize {
+    out.sent().len()
 }
 
-fn last_bytes(out: &Outbox) -> Result<&[u8], Fail> {
-    let last = out.outputs().sent().last().ok_or("nothing sent")?;
+fn last_bytes(out: &Outputs) -> Result<&[u8], Fail> {
+    let last = out.sent().last().ok_or("nothing sent")?;
     Ok(&last.bytes)
 }
 
 // The flags, the number and how many headers the last packet has, a Database Description.
-fn last_description(out: &Outbox) -> Result<(u8, u32, usize), Fail> {
+fn last_description(out: &Outputs) -> Result<(u8, u32, usize), Fail> {
     let Body::Description(fields, headers) = Packet::read(last_bytes(out)?)?.body else {
         return Err("another packet".into());
     };
@@ -287,7 +285,7 @@ fn last_description(out: &Outbox) -> Result<(u8, u32, usize), Fail> {
 }
 
 // How many entries the last packet has, a Request.
-fn last_request(out: &Outbox) -> Result<usize, Fail> {
+fn last_request(out: &Outputs) -> Result<usize, Fail> {
     let Body::Request(entries) = Packet::read(last_bytes(out)?)?.body else {
         return Err("another packet".into());
     };
@@ -330,7 +328,7 @@ fn told(
     flags: u8,
     number: u32,
     database: &Lsdb,
-    out: &mut Outbox,
+    out: &mut Outputs,
     alloc: Global,
 ) -> Result<Told, Fail> {
     let taken = describes(neighbour, flags, number, database, out, alloc)?;
@@ -342,7 +340,7 @@ fn slave_told(
     database: &Lsdb,
     alloc: Global,
 ) -> Result<(Told, Told, Told), Fail> {
-    let mut out = outbox(alloc);
+    let mut out = Outputs::new(alloc);
     let first = told(slave, FIRST_OF_MASTER, 700, database, &mut out, alloc)?;
     let second = told(slave, LAST_OF_MASTER, 701, database, &mut out, alloc)?;
     let third = told(slave, LAST_OF_MASTER, 701, database, &mut out, alloc)?;
@@ -372,7 +370,7 @@ fn master_told(
     database: &Lsdb,
     alloc: Global,
 ) -> Result<(Told, Told), Fail> {
-    let mut out = outbox(alloc);
+    let mut out = Outputs::new(alloc);
     let first = told(master, MORE, 300, database, &mut out, alloc)?;
     let second = told(master, MORE, 300, database, &mut out, alloc)?;
     Ok((first, second))
@@ -428,8 +426,10 @@ fn a_master_gets_one_again(rt: HostRuntime) -> Result<(), Fail> {
 // ---- Requests
 
 fn asked(neighbour: &mut Neighbour, alloc: Global) -> Result<usize, Fail> {
-    let mut out = outbox(alloc);
-    request_turn(neighbour, &iface(), LOCAL, &mut out, alloc)?;
+    let mut post = Post::new(301, alloc);
+    request_turn(neighbour, &on_link(LOCAL), &mut post)?;
+    let mut out = Outputs::new(alloc);
+    send(post, &mut out)?;
     last_request(&out)
 }
 
@@ -464,8 +464,8 @@ fn a_request_has_44_entries(rt: HostRuntime) -> Result<(), Fail> {
 }
 
 // Where the first datagram goes, and what it and the last have, which are Updates.
-fn updates_in(out: &Outbox) -> Result<(Addr, (usize, u16, u32), (usize, u16, u32)), Fail> {
-    let sent = out.outputs().sent();
+fn updates_in(out: &Outputs) -> Result<(Addr, (usize, u16, u32), (usize, u16, u32)), Fail> {
+    let sent = out.sent();
     let first = sent.first().ok_or("nothing sent")?;
     let last = sent.last().ok_or("nothing sent")?;
     Ok((first.destination, update_in(first)?, update_in(last)?))
@@ -477,7 +477,7 @@ fn answers_to_24(
 ) -> Result<(usize, usize, (Addr, (usize, u16, u32), (usize, u16, u32))), Fail> {
     let database = database_of(alloc, 30)?;
     let mut neighbour = loading(alloc, &[])?;
-    let mut out = outbox(alloc);
+    let mut out = Outputs::new(alloc);
     let routers = [
         24, 23, 22, 21, 20, 19, 18, 17, 16, 15, 14, 13, 12, 11, 10, 9, 8, 7, 6, 5, 4, 3, 2, 1, 24,
     ];
@@ -500,7 +500,7 @@ fn a_request_is_answered(rt: HostRuntime) -> Result<(), Fail> {
 fn missing_copy(alloc: Global) -> Result<((usize, usize), (u8, u32, usize), NeighbourState), Fail> {
     let database = database_of(alloc, 3)?;
     let mut neighbour = loading(alloc, &[])?;
-    let mut out = outbox(alloc);
+    let mut out = Outputs::new(alloc);
     let keys = requests(&mut neighbour, &[1, 7], &database, &mut out, alloc)?;
     Ok((
         (count(&out), keys),

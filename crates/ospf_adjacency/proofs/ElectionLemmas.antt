@@ -17,8 +17,6 @@ use Rattle.ospf_neighbour.specs.Neighbours.{IsRising}
 use Rattle.ospf_adjacency.specs.Adjacency.{begins_by, event_taken, number_by}
 use Rattle.ospf_adjacency.specs.Elections.{AreOfLink, ElectsOn, adj_ok_for, adjusted, number_after, first_dds, candidate_of, taking_part, candidates_of}
 use Rattle.ospf_adjacency.specs.Packets.{Parcel, dd_parcel, parcel_if}
-use Rattle.ospf_adjacency.specs.Posting.{OutboxValue, and_parcels}
-use Rattle.ospf_adjacency.proofs.PostLemmas.{parcels_more}
 use Rattle.ospf_area.proofs.PlaceLemmas.{read_left, write_left}
 
 -- ---- who takes part
@@ -69,15 +67,15 @@ first_dds-push i mtu tick next (m ∷ ns) n =
     ap (λ rest. first ++ rest) (first_dds-push i mtu tick after ns n) ∙ sym (append_assoc first (first_dds i mtu tick after ns) _)
 
 -- where AdjOK? has come to the first neighbours
-pub record AreAdjusted (i : Iface) (mtu tick next : ℕ) (ns : List NeighbourValue) (k : ℕ) (now : List NeighbourValue) (number : ℕ) (before sent : OutboxValue) : Type 0 where
+pub record AreAdjusted (i : Iface) (mtu tick next : ℕ) (ns : List NeighbourValue) (k : ℕ) (now : List NeighbourValue) (number : ℕ) (before sent : List Parcel) : Type 0 where
   pub neighbours : now ≡ adjusted i tick next (take k ns) ++ drop k ns
   pub number_is : number ≡ number_after i next (take k ns)
-  pub sent_are : sent ≡ and_parcels before (first_dds i mtu tick next (take k ns))
+  pub sent_are : sent ≡ before ++ first_dds i mtu tick next (take k ns)
 
-pub adjusted-more : (i : Iface) (mtu tick next : ℕ) (ns : List NeighbourValue) (k : ℕ) (now : List NeighbourValue) (number number' : ℕ) (before sent sent' : OutboxValue) (e : NbrEvent) (n m : NeighbourValue)
+pub adjusted-more : (i : Iface) (mtu tick next : ℕ) (ns : List NeighbourValue) (k : ℕ) (now : List NeighbourValue) (number number' : ℕ) (before sent sent' : List Parcel) (e : NbrEvent) (n m : NeighbourValue)
     → AreAdjusted i mtu tick next ns k now number before sent → k < length ns → n ≡ get_or now k n → e ≡ adj_ok_for i n
     → m ≡ event_taken e i.settings.dead number tick n → number' ≡ number_by e n number
-    → sent' ≡ and_parcels sent (parcel_if (begins_by e n) (dd_parcel i mtu (event_taken e i.settings.dead number tick n)))
+    → sent' ≡ sent ++ parcel_if (begins_by e n) (dd_parcel i mtu (event_taken e i.settings.dead number tick n))
     → AreAdjusted i mtu tick next ns (k + 1) (set now k m) number' before sent'
 adjusted-more i mtu tick next ns k now number number' before sent sent' e n m are within there asked after number_after_it sent_after =
     let front = take k ns in
@@ -98,12 +96,12 @@ adjusted-more i mtu tick next ns k now number number' before sent sent' e n m ar
       number_is = number_after_it ∙ ap (λ (x : NbrEvent). number_by x n number) asked ∙ ap (λ x. number_by ok n x) are.number_is ∙ sym (number_after-push i next front n) ∙ ap (number_after i next) (sym more);
       sent_are =
           sent_after
-          ∙ ap (λ (x : NbrEvent). and_parcels sent (first x number)) asked
-          ∙ ap (λ (x : ℕ). and_parcels sent (first ok x)) are.number_is
-          ∙ ap (λ (o : OutboxValue). and_parcels o (first ok c)) are.sent_are
-          ∙ parcels_more before (first_dds i mtu tick next front) (first ok c)
-          ∙ ap (λ (ps : List Parcel). and_parcels before ps) (sym (first_dds-push i mtu tick next front n))
-          ∙ ap (λ (xs : List NeighbourValue). and_parcels before (first_dds i mtu tick next xs)) (sym more);
+          ∙ ap (λ (x : NbrEvent). sent ++ first x number) asked
+          ∙ ap (λ (x : ℕ). sent ++ first ok x) are.number_is
+          ∙ ap (λ (ps : List Parcel). ps ++ first ok c) are.sent_are
+          ∙ append_assoc before (first_dds i mtu tick next front) (first ok c)
+          ∙ ap (λ (ps : List Parcel). before ++ ps) (sym (first_dds-push i mtu tick next front n))
+          ∙ ap (λ (xs : List NeighbourValue). before ++ first_dds i mtu tick next xs) (sym more);
     }
 
 -- ---- the election

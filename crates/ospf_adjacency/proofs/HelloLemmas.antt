@@ -9,11 +9,9 @@ use Rattle.ospf_neighbour.specs.Neighbour.{NeighbourValue, new_neighbour}
 use Rattle.ospf_neighbour.specs.Neighbours.{IsRising}
 use Rattle.ospf_packet.specs.declared.body.Hello.{Hello}
 use Rattle.ospf_exchange.specs.declared.rule.Local.{Local}
-use Rattle.ospf_adjacency.specs.Descriptions.{IsAfter, Turn, turn}
-use Rattle.ospf_adjacency.specs.Posting.{OutboxValue, and_parcels}
-use Rattle.ospf_adjacency.proofs.PostLemmas.{parcels_none}
-use Rattle.ospf_adjacency.proofs.TurnLemmas.{turn_is}
-use Rattle.ospf_adjacency.specs.Heard.{AreAfter, Neighbourhood, neighbourhood, turn_of, put_back, hello_by, hello_on, hello_turn, elects_by_hello, place_for, put, sender_of}
+use Rattle.ospf_adjacency.specs.Descriptions.{Turn, turn}
+use Rattle.ospf_adjacency.specs.Posting.{PostValue}
+use Rattle.ospf_adjacency.specs.Heard.{Neighbourhood, neighbourhood, turn_of, put_back, hello_by, hello_on, hello_turn, elects_by_hello, place_for, put, sender_of}
 use Rattle.ospf_adjacency.proofs.PutLemmas.{found, not_found, put_found, put_new}
 
 -- a Hello makes no other neighbour of one
@@ -31,60 +29,39 @@ router_of : (i : Iface) (local : Local) (h : Hello) (named : Bool) (x : Neighbou
     → t ≡ hello_turn i local h named (turn_of e x) → e.router ≡ q → t.neighbour.router ≡ q
 router_of i local h named x e t q is e_is = ap (λ (u : Turn). u.neighbour.router) is ∙ same_router i local h named (turn_of e x) ∙ e_is
 
--- what was put together is as the part leaves it
-pub are_after : (x y : Neighbourhood) (before after : OutboxValue) → y ≡ x → after ≡ and_parcels before y.sent → AreAfter x y.neighbours y.elects y.next before after
-are_after x y before after is sent = record {
-  neighbours = ap (λ (z : Neighbourhood). z.neighbours) is;
-  elects_is = ap (λ (z : Neighbourhood). z.elects) is;
-  number = ap (λ (z : Neighbourhood). z.next) is;
-  sent = sent ∙ ap (λ (z : Neighbourhood). and_parcels before z.sent) is;
-}
-
--- nothing has changed, and nothing went out
-pub are_still : (ns : List NeighbourValue) (elects : Bool) (next : ℕ) (out : OutboxValue) → AreAfter (neighbourhood ns elects next) ns elects next out out
-are_still ns elects next out = record { neighbours = refl; elects_is = refl; number = refl; sent = parcels_none out }
-
-pub hello_found : (i : Iface) (local : Local) (q : RouterId) (source : Addr) (h : Hello) (named : Bool) (ns : List NeighbourValue) (next next' k : ℕ) (before after : OutboxValue) (e m : NeighbourValue) (elects : Bool)
+pub hello_found : (i : Iface) (local : Local) (q : RouterId) (source : Addr) (h : Hello) (named : Bool) (ns : List NeighbourValue) (p p' : PostValue) (k : ℕ) (e m : NeighbourValue) (elects : Bool)
     → k ≡ place_for ns q.0 → slice_get ns k ≡ Some e → e.router ≡ q
-    → IsAfter (hello_turn i local h named (turn e next)) m next' before after → elects ≡ elects_by_hello i.state e m
-    → AreAfter (hello_on i local q source h named (neighbourhood ns false next)) (set ns k m) elects next' before after
-hello_found i local q source h named ns next next' k before after e m elects at there e_is is due =
-    let x = neighbourhood ns false next in
-    let ends = (hello_turn i local h named (turn e next)).sent in
-    let t : Turn = record { neighbour = m; next = next'; sent = ends } in
-    let begun = turn_is (hello_turn i local h named (turn e next)) m next' before after is in
-    let m_is : m.router ≡ q = router_of i local h named x e t q begun e_is in
+    → turn m p' ≡ hello_turn i local h named (turn e p) → elects ≡ elects_by_hello i.state e m
+    → neighbourhood (set ns k m) elects p' ≡ hello_on i local q source h named (neighbourhood ns false p)
+hello_found i local q source h named ns p p' k e m elects at there e_is is due =
+    let x = neighbourhood ns false p in
+    let t = turn m p' in
+    let m_is : m.router ≡ q = router_of i local h named x e t q is e_is in
     let place : k ≡ place_for ns m.router.0 = at ∙ ap (λ (r : RouterId). place_for ns r.0) (sym m_is) in
     let there_m : slice_get ns (place_for ns m.router.0) ≡ Some e = ap (slice_get ns) (sym place) ∙ there in
     let sender : sender_of ns q source ≡ e = ap (λ o. unwrap_or o (new_neighbour q source)) (found ns q e (ap (slice_get ns) (sym at) ∙ there) (ap (λ (r : RouterId). r.0) e_is)) in
     let there_is : set ns k m ≡ put m ns = ap (λ (j : ℕ). set ns j m) place ∙ sym (put_found ns m e there_m (ap (λ (r : RouterId). r.0) (e_is ∙ sym m_is))) in
-    are_after _ (record { neighbours = set ns k m; elects = elects; next = next'; sent = ends }) before after
-    (ap (λ (l : List NeighbourValue). record { neighbours = l; elects = elects; next = next'; sent = ends }) there_is
-    ∙ by_turn i local h named x e t elects begun due
-    ∙ ap (λ (n : NeighbourValue). hello_by i local h named n x) (sym sender))
-    is.sent
+    ap (λ (l : List NeighbourValue). neighbourhood l elects p') there_is
+    ∙ by_turn i local h named x e t elects is due
+    ∙ ap (λ (n : NeighbourValue). hello_by i local h named n x) (sym sender)
 
-pub hello_new : (i : Iface) (local : Local) (q : RouterId) (source : Addr) (h : Hello) (named : Bool) (ns : List NeighbourValue) (next next' k : ℕ) (before after : OutboxValue) (e m : NeighbourValue) (elects : Bool)
+pub hello_new : (i : Iface) (local : Local) (q : RouterId) (source : Addr) (h : Hello) (named : Bool) (ns : List NeighbourValue) (p p' : PostValue) (k : ℕ) (e m : NeighbourValue) (elects : Bool)
     → IsRising ns → k ≡ place_for ns q.0 → ((o : NeighbourValue) → slice_get ns k ≡ Some o → o.router ≢ q) → e ≡ new_neighbour q source
-    → IsAfter (hello_turn i local h named (turn e next)) m next' before after → elects ≡ elects_by_hello i.state e m
-    → AreAfter (hello_on i local q source h named (neighbourhood ns false next)) (insert ns k m) elects next' before after
-hello_new i local q source h named ns next next' k before after e m elects rises at other e_is is due =
-    let x = neighbourhood ns false next in
-    let ends = (hello_turn i local h named (turn e next)).sent in
-    let t : Turn = record { neighbour = m; next = next'; sent = ends } in
-    let begun = turn_is (hello_turn i local h named (turn e next)) m next' before after is in
-    let m_is : m.router ≡ q = router_of i local h named x e t q begun (ap (λ (n : NeighbourValue). n.router) e_is) in
+    → turn m p' ≡ hello_turn i local h named (turn e p) → elects ≡ elects_by_hello i.state e m
+    → neighbourhood (insert ns k m) elects p' ≡ hello_on i local q source h named (neighbourhood ns false p)
+hello_new i local q source h named ns p p' k e m elects rises at other e_is is due =
+    let x = neighbourhood ns false p in
+    let t = turn m p' in
+    let m_is : m.router ≡ q = router_of i local h named x e t q is (ap (λ (n : NeighbourValue). n.router) e_is) in
     let place : k ≡ place_for ns m.router.0 = at ∙ ap (λ (r : RouterId). place_for ns r.0) (sym m_is) in
     let other_q : (o : NeighbourValue) → slice_get ns (place_for ns q.0) ≡ Some o → o.router.0 ≢ q.0 = λ o there same. other o (ap (slice_get ns) at ∙ there) (λ j. record { 0 = same j }) in
     let other_m : (o : NeighbourValue) → slice_get ns (place_for ns m.router.0) ≡ Some o → o.router.0 ≢ m.router.0 =
     λ o there same. other o (ap (slice_get ns) place ∙ there) (λ j. record { 0 = (same ∙ ap (λ (r : RouterId). r.0) m_is) j }) in
     let sender : sender_of ns q source ≡ e = ap (λ o. unwrap_or o (new_neighbour q source)) (not_found ns q rises other_q) ∙ sym e_is in
     let there_is : insert ns k m ≡ put m ns = ap (λ (j : ℕ). insert ns j m) place ∙ sym (put_new ns m other_m) in
-    are_after _ (record { neighbours = insert ns k m; elects = elects; next = next'; sent = ends }) before after
-    (ap (λ (l : List NeighbourValue). record { neighbours = l; elects = elects; next = next'; sent = ends }) there_is
-    ∙ by_turn i local h named x e t elects begun due
-    ∙ ap (λ (n : NeighbourValue). hello_by i local h named n x) (sym sender))
-    is.sent
+    ap (λ (l : List NeighbourValue). neighbourhood l elects p') there_is
+    ∙ by_turn i local h named x e t elects is due
+    ∙ ap (λ (n : NeighbourValue). hello_by i local h named n x) (sym sender)
 
 pub place_within : (ns : List NeighbourValue) (q : ℕ) → place_for ns q ≤ length ns
 place_within [] q = omega arith

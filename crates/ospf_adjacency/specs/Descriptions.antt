@@ -1,5 +1,5 @@
 -- What a Database Description, and a request list that has changed, make of a neighbour (RFC 2328, sections 10.6, 10.8 and 10.9).
-use Rattle.std.specs.Prelude.{◌≡◌, ◌++◌, ◌∷◌, ◌&&◌, ◌||◌, not, nat_lt, [], ℕ, Bool, true, false, List, Result, Ok, Err, if◌then◌else◌}
+use Rattle.std.specs.Prelude.{◌++◌, ◌∷◌, ◌&&◌, ◌||◌, not, nat_lt, [], ℕ, Bool, true, false, List, Result, Ok, Err, if◌then◌else◌}
 use Rattle.ospf_base.specs.declared.ids.RouterId.{RouterId}
 use Rattle.ospf_iface.specs.declared.machine.Iface.{Iface}
 use Rattle.ospf_lsa.specs.declared.header.LsaHeader.{LsaHeader}
@@ -21,7 +21,7 @@ use Rattle.ospf_exchange.specs.declared.fault.ExchangeFault.TheVariants as fault
 use Rattle.ospf_exchange.specs.declared.rule.Local.{Local}
 use Rattle.ospf_adjacency.specs.Adjacency.{wants_adjacency, begins_by, event_taken, number_by}
 use Rattle.ospf_adjacency.specs.Packets.{Parcel, parcel_if, dd_parcel, request_parcel}
-use Rattle.ospf_adjacency.specs.Posting.{OutboxValue, and_parcels}
+use Rattle.ospf_adjacency.specs.Posting.{PostValue}
 
 -- where a neighbour stands in a part of a step: the router's next DD number, and what goes out
 pub record Turn : Type 0 where
@@ -90,12 +90,6 @@ dd_dropped local sender d headers n = nat_lt local.mtu d.mtu || (not (is_init n.
 
 -- ---- where it begins, and where it ends
 
--- a neighbour and the router's next DD number: nothing has gone out yet
-abbrev pub turn : NeighbourValue → ℕ → Turn
-turn n next = record { neighbour = n; next = next; sent = [] }
-
--- they are as such a part leaves them, and what goes out by it is behind what went out before
-pub record IsAfter (t : Turn) (n : NeighbourValue) (next : ℕ) (before after : OutboxValue) : Type 0 where
-  pub neighbour : n ≡ t.neighbour
-  pub number : next ≡ t.next
-  pub sent : after ≡ and_parcels before t.sent
+-- a neighbour, and what a part leaves beside it
+abbrev pub turn : NeighbourValue → PostValue → Turn
+turn n p = record { neighbour = n; next = p.next; sent = p.sent }

@@ -1,5 +1,5 @@
 -- Hellos that come, and what they make of a neighbour and of its link's election (RFC 2328, sections 9.2 and 10.5).
-use Rattle.std.specs.Prelude.{◌≡◌, ◌==◌, ◌&&◌, ◌||◌, not, nat_lt, ℕ, List, [], ◌∷◌, Bool, true, false, unwrap_or, suc, if◌then◌else◌}
+use Rattle.std.specs.Prelude.{◌==◌, ◌&&◌, ◌||◌, not, nat_lt, ℕ, List, [], ◌∷◌, Bool, true, false, unwrap_or, suc, if◌then◌else◌}
 use Rattle.std.specs.List.{list_any}
 use Rattle.ospf_base.specs.Addresses.{nowhere}
 use Rattle.ospf_base.specs.declared.ids.Addr.{Addr}
@@ -19,7 +19,7 @@ use Rattle.ospf_area.specs.Changes.{after_event}
 use Rattle.ospf_adjacency.specs.Adjacency.{is_broadcast, wants_adjacency}
 use Rattle.ospf_adjacency.specs.Descriptions.{Turn, event_turn}
 use Rattle.ospf_adjacency.specs.Packets.{Parcel}
-use Rattle.ospf_adjacency.specs.Posting.{OutboxValue, and_parcels}
+use Rattle.ospf_adjacency.specs.Posting.{PostValue}
 use Rattle.ospf_adjacency.specs.declared.heard.Bearing.{Bearing}
 
 -- a Hello names the router among the neighbours that were heard (10.5)
@@ -109,16 +109,9 @@ pub record Neighbourhood : Type 0 where
   pub next : ℕ
   pub sent : List Parcel
 
--- where nothing has gone out yet
-abbrev pub neighbourhood : List NeighbourValue → Bool → ℕ → Neighbourhood
-neighbourhood ns elects next = record { neighbours = ns; elects = elects; next = next; sent = [] }
-
--- they are as such a part leaves them, and what goes out by it is behind what went out before
-pub record AreAfter (x : Neighbourhood) (ns : List NeighbourValue) (elects : Bool) (next : ℕ) (before after : OutboxValue) : Type 0 where
-  pub neighbours : ns ≡ x.neighbours
-  pub elects_is : elects ≡ x.elects
-  pub number : next ≡ x.next
-  pub sent : after ≡ and_parcels before x.sent
+-- neighbours, and what a part leaves beside them
+abbrev pub neighbourhood : List NeighbourValue → Bool → PostValue → Neighbourhood
+neighbourhood ns elects p = record { neighbours = ns; elects = elects; next = p.next; sent = p.sent }
 
 -- one neighbour of them
 abbrev pub turn_of : NeighbourValue → Neighbourhood → Turn

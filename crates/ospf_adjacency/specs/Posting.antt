@@ -1,11 +1,20 @@
--- How packets go out of a link, behind the outputs (RFC 2328, section 8.1).
-use Rattle.std.specs.Prelude.{ℕ, List}
+-- What a part of a step leaves beside its neighbours, and how packets go out of a link (RFC 2328, section 8.1).
+use Rattle.std.specs.Prelude.{◌++◌, ℕ, List}
 use Rattle.std.specs.List.{flat_map}
 use Rattle.ospf_iface.specs.declared.machine.Iface.{Iface}
-use Rattle.ospf_area.specs.Outputs.{OutputsValue, SentValue}
-use Rattle.ospf_area.specs.Sending.{and_sends, datagrams, packet_of, way_out}
+use Rattle.ospf_area.specs.Outputs.{SentValue}
+use Rattle.ospf_area.specs.Sending.{datagrams, packet_of, way_out}
 use Rattle.ospf_area.specs.declared.sending.Own.{Own}
 use Rattle.ospf_adjacency.specs.Packets.{Parcel}
+
+-- the router's next DD number, and the packets that go out
+pub record PostValue : Type 0 where
+  pub next : ℕ
+  pub sent : List Parcel
+
+-- and then these packets
+abbrev pub and_parcels : PostValue → List Parcel → PostValue
+and_parcels p ps = record p { sent = p.sent ++ ps }
 
 -- a packet that goes out of link l, as it is sent
 abbrev pub posted : Own → ℕ → Iface → Parcel → List SentValue
@@ -14,14 +23,3 @@ posted own l i p = datagrams (way_out l i p.destination) (packet_of own p.body)
 -- packets that go out of link l, in their order
 abbrev pub posted_all : Own → ℕ → Iface → List Parcel → List SentValue
 posted_all own l i ps = flat_map (posted own l i) ps
-
--- the outputs while packets go out of one link: the router's own, the link and its interface
-pub record OutboxValue : Type 0 where
-  pub own : Own
-  pub link : ℕ
-  pub iface : Iface
-  pub outputs : OutputsValue
-
--- and then these packets
-abbrev pub and_parcels : OutboxValue → List Parcel → OutboxValue
-and_parcels o ps = record o { outputs = and_sends o.outputs (posted_all o.own o.link o.iface ps) }

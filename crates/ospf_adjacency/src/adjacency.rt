@@ -2,16 +2,15 @@
 
 ghost use Rattle.std.specs.Prelude.{◌≡◌, OnOk};
 ghost use Rattle.ospf_adjacency.specs.Adjacency.{is_broadcast, is_chosen, wants_adjacency, is_beginning, begins_by, event_taken, number_by};
-ghost use Rattle.ospf_adjacency.specs.Packets.{dd_parcel, parcel_if};
-ghost use Rattle.ospf_adjacency.specs.Posting.{and_parcels};
+ghost use Rattle.ospf_adjacency.specs.Descriptions.{event_turn, turn};
 
-use crate::outbox::Outbox;
 use crate::packets::send_dd;
+use crate::post::{OnLink, Post};
 use ospf_base::{Addr, InterfaceKind};
-use ospf_exchange::{Local, begin};
+use ospf_exchange::begin;
 use ospf_iface::Iface;
 use ospf_neighbour::{Effect, NbrEvent, Neighbour};
-use std::alloc::{AllocError, Global};
+use std::alloc::AllocError;
 
 // Whether an address is that of the Designated Router or the Backup.
 fn is_chosen(iface: &Iface, address: Addr) -> bool
@@ -41,47 +40,48 @@ fn is_beginning(effect: Effect) -> bool
 }
 
 // Takes an event; whether an adjacency begins by it. The neighbour then has the router's next Database Description number,
-// `numbers`, which counts up.
-fn count_event(
-    neighbour: &mut Neighbour,
-    event: NbrEvent,
-    dead: u32,
-    numbers: &mut u32,
-    tick: u64,
-) -> bool
+// which counts up.
+fn count_event(neighbour: &mut Neighbour, event: NbrEvent, at: &OnLink, post: &mut Post) -> bool
     ensures begins { result ≡ begins_by event neighbour.old }
-    ensures neighbour { neighbour.new ≡ event_taken event dead numbers.old tick neighbour.old }
-    ensures number { numbers.new ≡ number_by event neighbour.old numbers.old }
+    ensures neighbour {
+        neighbour.new
+            ≡ event_taken event at.now.iface.settings.dead post.old.next at.now.local.tick neighbour.old
+    }
+    ensures number { post.new ≡ record post.old { next = number_by event neighbour.old post.old.next } }
 {
-    let next = *numbers;
-    let change = neighbour.event(event, dead);
+    let next = post.next();
+    let change = neighbour.event(event, at.iface.settings.dead);
     if !is_beginning(change.effect) {
         return false;
     }
-    begin(neighbour, next, tick);
-    *numbers = next.wrapping_add(1);
+    begin(neighbour, next, at.local.tick);
+    post.set_next(next.wrapping_add(1));
     true
 }
 
 /// Takes an event of the neighbour machine (RFC 2328, section 10.3). Where an adjacency begins by it, the neighbour takes
-/// the router's next Database Description number, `numbers`, which counts up, and a first packet goes out to it.
+/// the router's next Database Description number, which counts up, and a first packet goes out to it.
 ///
 /// `AllocError` where memory runs out.
 pub fn take_event(
     neighbour: &mut Neighbour,
     event: NbrEvent,
-    iface: &Iface,
-    local: Local,
-    numbers: &mut u32,
-    out: &mut Outbox,
-    alloc: Global,
+    at: &OnLink,
+    post: &mut Post,
 ) -> Result<(), AllocError>
-    ensures neighbour { neighbour.new ≡ event_taken event iface.now.settings.dead numbers.old local.tick neighbour.old }
-    ensures number { numbers.new ≡ number_by event neighbour.old numbers.old }
-    ensures sent { OnOk result (out.new ≡ and_parcels out.old (parcel_if (begins_by event neighbour.old) (dd_parcel iface.now local.mtu (event_taken event iface.now.settings.dead numbers.old local.tick neighbour.old)))) }
+    ensures neighbour {
+        neighbour.new
+            ≡ event_taken event at.now.iface.settings.dead post.old.next at.now.local.tick neighbour.old
+    }
+    ensures number { post.new.next ≡ number_by event neighbour.old post.old.next }
+    ensures turn {
+        OnOk result
+            (turn neighbour.new post.new
+                ≡ event_turn at.now.iface at.now.local event (turn neighbour.old post.old))
+    }
 {
-    if count_event(neighbour, event, iface.settings.dead, numbers, local.tick) {
-        send_dd(neighbour, iface, local.mtu, out, alloc)?;
+    if count_event(neighbour, event, at, post) {
+        send_dd(neighbour, at, post)?;
     }
     Ok(())
 }

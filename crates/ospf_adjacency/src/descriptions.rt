@@ -1,21 +1,20 @@
 //! Database Descriptions and Requests of one neighbour, with what goes out.
 
-ghost use Rattle.std.specs.Prelude.{◌≡◌, ℕ, not, IfOk, OnOk};
+ghost use Rattle.std.specs.Prelude.{◌≡◌, not, IfOk, OnOk};
 ghost use Rattle.ospf_exchange.specs.Exchange.{dd_answer};
 ghost use Rattle.ospf_exchange.specs.Laws.{is_not_taken};
-ghost use Rattle.ospf_adjacency.specs.Descriptions.{IsAfter, Turn, turn, is_init, dd_dropped, touched, request_turn, dd_turn, event_turn, greeted_turn, answered_turn, exchange_turn, description_turn};
+ghost use Rattle.ospf_adjacency.specs.Descriptions.{turn, is_init, dd_dropped, touched, request_turn, dd_turn, event_turn, greeted_turn, answered_turn, exchange_turn, description_turn};
 
 use crate::adjacency::{take_event, wants_adjacency};
-use crate::outbox::Outbox;
 use crate::packets::{send_dd, send_request};
+use crate::post::{OnLink, Post};
 use ospf_area::turn_one;
 use ospf_base::RouterId;
 use ospf_exchange::{DdAnswer, ExchangeFault, Local, dd_sent, is_not_taken, on_dd};
-use ospf_iface::Iface;
 use ospf_lsdb::Lsdb;
 use ospf_neighbour::{NbrEvent, Neighbour, NeighbourState};
 use ospf_packet::{Description, Headers};
-use std::alloc::{AllocError, Global};
+use std::alloc::AllocError;
 
 /// A neighbour's request list may have changed: LoadingDone where it is empty, and the next Request goes out where one is
 /// due (RFC 2328, sections 10.3 and 10.9).
@@ -23,15 +22,17 @@ use std::alloc::{AllocError, Global};
 /// `AllocError` where memory runs out.
 pub fn request_turn(
     neighbour: &mut Neighbour,
-    iface: &Iface,
-    local: Local,
-    out: &mut Outbox,
-    alloc: Global,
+    at: &OnLink,
+    post: &mut Post,
 ) -> Result<(), AllocError>
-    ensures { OnOk result ((next : ℕ) → IsAfter (request_turn iface.now local (turn neighbour.old next)) neighbour.new next out.old out.new) }
+    ensures {
+        OnOk result
+            (turn neighbour.new post.new
+                ≡ request_turn at.now.iface at.now.local (turn neighbour.old post.old))
+    }
 {
-    if turn_one(neighbour, local.mtu, local.tick) {
-        send_request(neighbour, iface, out, alloc)?;
+    if turn_one(neighbour, at.local.mtu, at.local.tick) {
+        send_request(neighbour, at, post)?;
     }
     Ok(())
 }
@@ -44,47 +45,42 @@ fn is_init(state: NeighbourState) -> bool
 }
 
 // The slave's last packet goes out again.
-fn repeat(
-    neighbour: &mut Neighbour,
-    iface: &Iface,
-    local: Local,
-    out: &mut Outbox,
-    alloc: Global,
-) -> Result<(), AllocError>
-    ensures { OnOk result ((next : ℕ) → IsAfter (dd_turn iface.now local (turn (touched local.tick neighbour.old) next)) neighbour.new next out.old out.new) }
+fn repeat(neighbour: &mut Neighbour, at: &OnLink, post: &mut Post) -> Result<(), AllocError>
+    ensures {
+        OnOk result
+            (turn neighbour.new post.new
+                ≡ dd_turn at.now.iface at.now.local
+                    (turn (touched at.now.local.tick neighbour.old) post.old))
+    }
 {
-    dd_sent(neighbour, local.tick);
-    send_dd(neighbour, iface, local.mtu, out, alloc)
+    dd_sent(neighbour, at.local.tick);
+    send_dd(neighbour, at, post)
 }
 
 // The next packet goes out, and then a Request where one is due.
-fn go_on(
-    neighbour: &mut Neighbour,
-    iface: &Iface,
-    local: Local,
-    out: &mut Outbox,
-    alloc: Global,
-) -> Result<(), AllocError>
-    ensures { OnOk result ((next : ℕ) → IsAfter (request_turn iface.now local (dd_turn iface.now local (turn neighbour.old next))) neighbour.new next out.old out.new) }
+fn go_on(neighbour: &mut Neighbour, at: &OnLink, post: &mut Post) -> Result<(), AllocError>
+    ensures {
+        OnOk result
+            (turn neighbour.new post.new
+                ≡ request_turn at.now.iface at.now.local
+                    (dd_turn at.now.iface at.now.local (turn neighbour.old post.old)))
+    }
 {
-    send_dd(neighbour, iface, local.mtu, out, alloc)?;
-    request_turn(neighbour, iface, local, out, alloc)
+    send_dd(neighbour, at, post)?;
+    request_turn(neighbour, at, post)
 }
 
 // In Init a Database Description is 2-WayReceived first.
-fn greet(
-    neighbour: &mut Neighbour,
-    iface: &Iface,
-    local: Local,
-    numbers: &mut u32,
-    out: &mut Outbox,
-    alloc: Global,
-) -> Result<(), AllocError>
-    ensures { OnOk result (IsAfter (greeted_turn iface.now local (turn neighbour.old numbers.old)) neighbour.new numbers.new out.old out.new) }
+fn greet(neighbour: &mut Neighbour, at: &OnLink, post: &mut Post) -> Result<(), AllocError>
+    ensures {
+        OnOk result
+            (turn neighbour.new post.new
+                ≡ greeted_turn at.now.iface at.now.local (turn neighbour.old post.old))
+    }
 {
     if is_init(neighbour.state()) {
-        let event = NbrEvent::TwoWayReceived(wants_adjacency(iface, neighbour.address()));
-        take_event(neighbour, event, iface, local, numbers, out, alloc)?;
+        let event = NbrEvent::TwoWayReceived(wants_adjacency(&at.iface, neighbour.address()));
+        take_event(neighbour, event, at, post)?;
     }
     Ok(())
 }
@@ -96,14 +92,22 @@ fn exchange(
     description: Description,
     headers: Headers<'_>,
     database: &Lsdb,
-    iface: &Iface,
-    local: Local,
-    numbers: &mut u32,
-    out: &mut Outbox,
-    alloc: Global,
+    at: &OnLink,
+    post: &mut Post,
 ) -> Result<bool, AllocError>
-    ensures turn { OnOk result (IsAfter (exchange_turn iface.now local sender description headers.entry database.now (turn neighbour.old numbers.old)) neighbour.new numbers.new out.old out.new) }
-    ensures taken { IfOk result (λ taken. taken ≡ not (is_not_taken (dd_answer local sender description headers.entry neighbour.old))) }
+    ensures turn {
+        OnOk result
+            (turn neighbour.new post.new
+                ≡ exchange_turn at.now.iface at.now.local sender description headers.entry database.now
+                    (turn neighbour.old post.old))
+    }
+    ensures taken {
+        IfOk result
+            (λ taken.
+                taken
+                    ≡ not (is_not_taken
+                        (dd_answer at.now.local sender description headers.entry neighbour.old)))
+    }
 {
     match on_dd(
         neighbour,
@@ -111,26 +115,26 @@ fn exchange(
         description,
         headers,
         database,
-        local,
-        alloc,
+        at.local,
+        post.alloc(),
     ) {
         Ok(DdAnswer::NotTaken) => Ok(false),
         Ok(DdAnswer::PassedOver) => Ok(true),
         Ok(DdAnswer::Repeats) => {
-            repeat(neighbour, iface, local, out, alloc)?;
+            repeat(neighbour, at, post)?;
             Ok(true)
         }
         Ok(DdAnswer::Sends) => {
-            go_on(neighbour, iface, local, out, alloc)?;
+            go_on(neighbour, at, post)?;
             Ok(true)
         }
         Ok(DdAnswer::Ends) => {
-            request_turn(neighbour, iface, local, out, alloc)?;
+            request_turn(neighbour, at, post)?;
             Ok(true)
         }
         Err(ExchangeFault::Mismatch) => {
             let event = NbrEvent::SeqNumberMismatch;
-            take_event(neighbour, event, iface, local, numbers, out, alloc)?;
+            take_event(neighbour, event, at, post)?;
             Ok(true)
         }
         Err(ExchangeFault::Mtu) => Ok(false),
@@ -166,31 +170,25 @@ pub fn take_description(
     description: Description,
     headers: Headers<'_>,
     database: &Lsdb,
-    iface: &Iface,
-    local: Local,
-    numbers: &mut u32,
-    out: &mut Outbox,
-    alloc: Global,
+    at: &OnLink,
+    post: &mut Post,
 ) -> Result<bool, AllocError>
-    ensures turn { OnOk result (IsAfter (description_turn iface.now local sender description headers.entry database.now (turn neighbour.old numbers.old)) neighbour.new numbers.new out.old out.new) }
-    ensures taken { IfOk result (λ taken. taken ≡ not (dd_dropped local sender description headers.entry neighbour.old)) }
+    ensures turn {
+        OnOk result
+            (turn neighbour.new post.new
+                ≡ description_turn at.now.iface at.now.local sender description headers.entry database.now
+                    (turn neighbour.old post.old))
+    }
+    ensures taken {
+        IfOk result
+            (λ taken. taken ≡ not (dd_dropped at.now.local sender description headers.entry neighbour.old))
+    }
 {
-    if local.mtu < description.mtu {
+    if at.local.mtu < description.mtu {
         return Ok(false);
     }
     let was_init = is_init(neighbour.state());
-    greet(neighbour, iface, local, numbers, out, alloc)?;
-    let taken = exchange(
-        neighbour,
-        sender,
-        description,
-        headers,
-        database,
-        iface,
-        local,
-        numbers,
-        out,
-        alloc,
-    )?;
+    greet(neighbour, at, post)?;
+    let taken = exchange(neighbour, sender, description, headers, database, at, post)?;
     Ok(was_init || taken)
 }

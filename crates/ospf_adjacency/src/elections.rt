@@ -1,16 +1,15 @@
 //! The election that ends a step on a link.
 
-ghost use Rattle.std.specs.Prelude.{◌≡◌, List, Contains, true, map, IfOk, OnOk};
+ghost use Rattle.std.specs.Prelude.{◌≡◌, ◌++◌, List, Contains, true, map, IfOk, OnOk};
 ghost use Rattle.ospf_election.specs.Election.{AreDistinct};
 ghost use Rattle.ospf_election.specs.declared.candidate.Candidate.{Candidate};
 ghost use Rattle.ospf_iface.specs.declared.machine.IfaceChange.{IfaceChange};
 ghost use Rattle.ospf_iface.specs.Machine.{own_candidate, Elects};
 ghost use Rattle.ospf_adjacency.specs.Elections.{AreOfLink, ElectsOn, elects_in, candidate_of, candidates_of, taking_part, adjusted, number_after, first_dds};
 ghost use Rattle.ospf_adjacency.specs.Packets.{Parcel};
-ghost use Rattle.ospf_adjacency.specs.Posting.{and_parcels};
 
 use crate::adjacency::{take_event, wants_adjacency};
-use crate::outbox::Outbox;
+use crate::post::{OnLink, Post};
 use ospf_election::Candidate;
 use ospf_exchange::Local;
 use ospf_iface::{Iface, IfaceEvent, IfaceState};
@@ -66,19 +65,26 @@ fn elect(iface: &mut Iface, candidates: &[Candidate]) -> bool
 // AdjOK? comes to the neighbours of a link.
 fn adjust(
     neighbours: &mut [Neighbour],
-    iface: &Iface,
-    local: Local,
-    numbers: &mut u32,
-    out: &mut Outbox,
-    alloc: Global,
+    at: &OnLink,
+    post: &mut Post,
 ) -> Result<(), AllocError>
-    ensures neighbours { OnOk result (neighbours.new ≡ adjusted iface.now local.tick numbers.old neighbours.old) }
-    ensures number { OnOk result (numbers.new ≡ number_after iface.now numbers.old neighbours.old) }
-    ensures sent { OnOk result (out.new ≡ and_parcels out.old (first_dds iface.now local.mtu local.tick numbers.old neighbours.old)) }
+    ensures neighbours {
+        OnOk result
+            (neighbours.new ≡ adjusted at.now.iface at.now.local.tick post.old.next neighbours.old)
+    }
+    ensures number {
+        OnOk result (post.new.next ≡ number_after at.now.iface post.old.next neighbours.old)
+    }
+    ensures sent {
+        OnOk result
+            (post.new.sent
+                ≡ post.old.sent
+                    ++ first_dds at.now.iface at.now.local.mtu at.now.local.tick post.old.next neighbours.old)
+    }
 {
     for neighbour in neighbours.iter_mut() {
-        let event = NbrEvent::AdjOk(wants_adjacency(iface, neighbour.address()));
-        take_event(neighbour, event, iface, local, numbers, out, alloc)?;
+        let event = NbrEvent::AdjOk(wants_adjacency(&at.iface, neighbour.address()));
+        take_event(neighbour, event, at, post)?;
     }
     Ok(())
 }
@@ -91,17 +97,25 @@ pub fn elect_on(
     iface: &mut Iface,
     neighbours: &mut [Neighbour],
     local: Local,
-    numbers: &mut u32,
-    out: &mut Outbox,
-    alloc: Global,
+    post: &mut Post,
 ) -> Result<(), AllocError>
     requires electing { elects_in iface.old.state ≡ true }
     requires link { AreOfLink iface.old neighbours.old }
-    ensures { OnOk result ((sent : List Parcel) × ElectsOn local.mtu local.tick iface.old neighbours.old numbers.old sent iface.new neighbours.new numbers.new × (out.new ≡ and_parcels out.old sent)) }
+    ensures {
+        OnOk result
+            ((sent : List Parcel)
+                × ElectsOn local.mtu local.tick iface.old neighbours.old post.old.next sent
+                    iface.new neighbours.new post.new.next
+                × (post.new.sent ≡ post.old.sent ++ sent))
+    }
 {
-    let candidates = candidates_of(iface, neighbours, alloc)?;
+    let candidates = candidates_of(iface, neighbours, post.alloc())?;
     if elect(iface, &candidates) {
-        adjust(neighbours, iface, local, numbers, out, alloc)?;
+        let at = OnLink {
+            iface: *iface,
+            local,
+        };
+        adjust(neighbours, &at, post)?;
     }
     Ok(())
 }

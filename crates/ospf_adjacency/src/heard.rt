@@ -3,19 +3,18 @@
 ghost use Rattle.std.specs.Prelude.{◌≡◌, ◌≢◌, ◌∷◌, ◌<◌, ◌||◌, ◌==◌, List, true, false, IsTrue, OnOk, IfOk, length, slice_set, slice_get, Some};
 ghost use Rattle.ospf_neighbour.specs.Neighbour.{NeighbourValue};
 ghost use Rattle.ospf_neighbour.specs.Neighbours.{IsRising};
-ghost use Rattle.ospf_adjacency.specs.Descriptions.{IsAfter, turn};
+ghost use Rattle.ospf_adjacency.specs.Descriptions.{turn};
 ghost use Rattle.std.specs.Prelude.{if◌then◌else◌};
 ghost use Rattle.ospf_adjacency.specs.Adjacency.{wants_adjacency};
-ghost use Rattle.ospf_adjacency.specs.Heard.{AreAfter, names, with_declared, heard, naming_event, hello_turn, bearing_of, is_neighbor_change, is_backup_seen, is_settled, is_waiting, elects_by_hello, place_for, neighbourhood, hello_on};
+ghost use Rattle.ospf_adjacency.specs.Heard.{names, with_declared, heard, naming_event, hello_turn, bearing_of, is_neighbor_change, is_backup_seen, is_settled, is_waiting, elects_by_hello, place_for, neighbourhood, hello_on};
 
 use crate::adjacency::{is_broadcast, take_event, wants_adjacency};
-use crate::outbox::Outbox;
+use crate::post::{OnLink, Post};
 use ospf_base::{Addr, RouterId};
-use ospf_exchange::Local;
 use ospf_iface::{Iface, IfaceState};
 use ospf_neighbour::{Declared, NbrEvent, Neighbour};
 use ospf_packet::{Hello, Neighbours};
-use std::alloc::{AllocError, Global};
+use std::alloc::AllocError;
 
 /// Whether a Hello names a router among the neighbours that its sender has heard. No memory is taken.
 pub fn is_named(neighbours: Neighbours<'_>, router: RouterId) -> bool
@@ -59,17 +58,18 @@ fn take_hello(
     neighbour: &mut Neighbour,
     hello: &Hello,
     named: bool,
-    iface: &Iface,
-    local: Local,
-    numbers: &mut u32,
-    out: &mut Outbox,
-    alloc: Global,
+    at: &OnLink,
+    post: &mut Post,
 ) -> Result<(), AllocError>
-    ensures { OnOk result (IsAfter (hello_turn iface.now local hello.now named (turn neighbour.old numbers.old)) neighbour.new numbers.new out.old out.new) }
+    ensures {
+        OnOk result
+            (turn neighbour.new post.new
+                ≡ hello_turn at.now.iface at.now.local hello.now named (turn neighbour.old post.old))
+    }
 {
-    let event = naming_event(iface, named, neighbour.address());
-    hear(neighbour, iface, hello);
-    take_event(neighbour, event, iface, local, numbers, out, alloc)
+    let event = naming_event(&at.iface, named, neighbour.address());
+    hear(neighbour, &at.iface, hello);
+    take_event(neighbour, event, at, post)
 }
 
 // What an election looks at in a neighbour.
@@ -133,21 +133,26 @@ fn hello_of(
     neighbour: &mut Neighbour,
     hello: &Hello,
     named: bool,
-    iface: &Iface,
-    local: Local,
-    numbers: &mut u32,
-    out: &mut Outbox,
-    alloc: Global,
+    at: &OnLink,
+    post: &mut Post,
 ) -> Result<bool, AllocError>
-    ensures turn { OnOk result (IsAfter (hello_turn iface.now local hello.now named (turn neighbour.old numbers.old)) neighbour.new numbers.new out.old out.new) }
-    ensures elects { IfOk result (λ elects. elects ≡ elects_by_hello iface.now.state neighbour.old neighbour.new) }
+    ensures turn {
+        OnOk result
+            (turn neighbour.new post.new
+                ≡ hello_turn at.now.iface at.now.local hello.now named (turn neighbour.old post.old))
+    }
+    ensures elects {
+        IfOk result
+            (λ elects. elects ≡ elects_by_hello at.now.iface.state neighbour.old neighbour.new)
+    }
 {
     let before = bearing_of(neighbour);
-    take_hello(neighbour, hello, named, iface, local, numbers, out, alloc)?;
+    take_hello(neighbour, hello, named, at, post)?;
     let after = bearing_of(neighbour);
+    let state = at.iface.state;
     Ok(
-        (is_waiting(iface.state) && is_backup_seen(after))
-            || (is_settled(iface.state) && is_neighbor_change(before, after)),
+        (is_waiting(state) && is_backup_seen(after))
+            || (is_settled(state) && is_neighbor_change(before, after)),
     )
 }
 
@@ -188,32 +193,26 @@ pub fn hello_on(
     source: Addr,
     hello: &Hello,
     named: bool,
-    iface: &Iface,
-    local: Local,
-    numbers: &mut u32,
-    out: &mut Outbox,
-    alloc: Global,
+    at: &OnLink,
+    post: &mut Post,
 ) -> Result<bool, AllocError>
     requires { IsRising neighbours.old.items }
-    ensures { IfOk result (λ elects. AreAfter (hello_on iface.now local sender source hello.now named (neighbourhood neighbours.old.items false numbers.old)) neighbours.new.items elects numbers.new out.old out.new) }
+    ensures {
+        IfOk result
+            (λ elects.
+                neighbourhood neighbours.new.items elects post.new
+                    ≡ hello_on at.now.iface at.now.local sender source hello.now named
+                        (neighbourhood neighbours.old.items false post.old))
+    }
 {
-    let at = place_for(neighbours, sender);
-    if is_at(neighbours, at, sender) {
-        let neighbour = &mut neighbours[at];
-        let elects = hello_of(neighbour, hello, named, iface, local, numbers, out, alloc)?;
+    let place = place_for(neighbours, sender);
+    if is_at(neighbours, place, sender) {
+        let neighbour = &mut neighbours[place];
+        let elects = hello_of(neighbour, hello, named, at, post)?;
         return Ok(elects);
     }
-    let mut neighbour = Neighbour::new(alloc, sender, source);
-    let elects = hello_of(
-        &mut neighbour,
-        hello,
-        named,
-        iface,
-        local,
-        numbers,
-        out,
-        alloc,
-    )?;
-    neighbours.insert(at, neighbour)?;
+    let mut neighbour = Neighbour::new(post.alloc(), sender, source);
+    let elects = hello_of(&mut neighbour, hello, named, at, post)?;
+    neighbours.insert(place, neighbour)?;
     Ok(elects)
 }

@@ -1,7 +1,7 @@
 //! Adjacencies (RFC 2328, sections 9.4, 10.3, 10.4 and 10.6): where one is wanted, how one begins, and what keeps it.
 //!
 //! `take_event` takes an event of the neighbour machine, `take_description` a Database Description, and `elect_on` ends a
-//! step on a link with its election and AdjOK?. What goes out is sent through an `Outbox`, behind the outputs.
+//! step on a link with its election and AdjOK?. What goes out is put into a `Post`, which `send_all` sends.
 #![tactic(auto)]
 
 mod adjacency;
@@ -12,9 +12,9 @@ mod heard;
 mod hello_laws;
 mod laws;
 mod links;
-mod outbox;
 mod packets;
 mod packing;
+mod post;
 mod repeating;
 mod resend_laws;
 mod sent;
@@ -33,9 +33,9 @@ pub use crate::laws::{
     only_negotiation_enters, requests_keep_lists, requests_never_enter, requests_say_only,
 };
 pub use crate::links::{go_down, go_up, tick_neighbours, tick_timers};
-pub use crate::outbox::Outbox;
 pub use crate::packets::{send_dd, send_request};
 pub use crate::packing::send_copies;
+pub use crate::post::{OnLink, Post};
 pub use crate::repeating::repeat;
 pub use crate::resend_laws::{
     answers_are_quiet, keys_go_in_order, repeats_are_quiet, updates_are_packed,

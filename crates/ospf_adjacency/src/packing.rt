@@ -6,7 +6,7 @@ ghost use Rattle.ospf_area.specs.Sending.{sent_lsa};
 ghost use Rattle.ospf_adjacency.specs.Posting.{and_parcels};
 ghost use Rattle.ospf_adjacency.specs.Packing.{has_none, bytes_in, packed, update_to, update_room, updates_of};
 
-use crate::outbox::Outbox;
+use crate::post::Post;
 use ospf_base::{Addr, IP_HEADER, LsaKey, PACKET_HEADER};
 use ospf_lsa::Lsa;
 use ospf_lsdb::{EntryView, Lsdb};
@@ -40,15 +40,10 @@ fn sent_copy(copy: &EntryView<'_>, delay: u16, alloc: Global) -> Result<Lsa, All
 }
 
 // An Update with these LSAs goes out.
-fn send(
-    lsas: Vec<Lsa>,
-    destination: Addr,
-    out: &mut Outbox,
-    alloc: Global,
-) -> Result<(), AllocError>
-    ensures { OnOk result (out.new ≡ and_parcels out.old (update_to destination lsas.items ∷ [])) }
+fn send(lsas: Vec<Lsa>, destination: Addr, post: &mut Post) -> Result<(), AllocError>
+    ensures { OnOk result (post.new ≡ and_parcels post.old (update_to destination lsas.items ∷ [])) }
 {
-    out.put(destination, BodyValue::Update(lsas), alloc)
+    post.put(destination, BodyValue::Update(lsas))
 }
 
 // Whether an LSA of so many bytes goes into an Update behind these.
@@ -66,17 +61,22 @@ fn add(
     left: &mut usize,
     room: usize,
     destination: Addr,
-    out: &mut Outbox,
-    alloc: Global,
+    post: &mut Post,
 ) -> Result<(), AllocError>
     requires { left.old ≡ room - bytes_in batch.old.items }
     ensures left { OnOk result (left.new ≡ room - bytes_in batch.new.items) }
-    ensures sent { OnOk result ((rest : List (List ℕ)) → and_parcels out.new (map (update_to destination) (packed room batch.new.items rest)) ≡ and_parcels out.old (map (update_to destination) (packed room batch.old.items (lsa ∷ rest)))) }
+    ensures sent {
+        OnOk result
+            ((rest : List (List ℕ))
+                → and_parcels post.new (map (update_to destination) (packed room batch.new.items rest))
+                    ≡ and_parcels post.old
+                        (map (update_to destination) (packed room batch.old.items (lsa ∷ rest))))
+    }
 {
     let length = lsa.view().as_bytes().len();
     if !goes_in(batch, length, *left) {
-        let full = mem::replace(batch, Vec::new(alloc));
-        send(full, destination, out, alloc)?;
+        let full = mem::replace(batch, Vec::new(post.alloc()));
+        send(full, destination, post)?;
         *left = room;
     }
     *left = left.saturating_sub(length);
@@ -85,7 +85,8 @@ fn add(
 }
 
 /// The copies of these keys go out in Updates, as many in one as fit, in the order of the keys; a key without a copy is
-/// left out, and an LSA that does not fit has an Update of its own. `delay` is InfTransDelay, `mtu` the interface's.
+/// left out, and an LSA that does not fit has an Update of its own. `delay` is InfTransDelay, in ticks, `mtu` the
+/// interface's, in bytes.
 ///
 /// `AllocError` where memory runs out.
 pub fn send_copies(
@@ -94,22 +95,26 @@ pub fn send_copies(
     delay: u16,
     mtu: u16,
     destination: Addr,
-    out: &mut Outbox,
-    alloc: Global,
+    post: &mut Post,
 ) -> Result<(), AllocError>
-    ensures { OnOk result (out.new ≡ and_parcels out.old (updates_of destination mtu delay database.now keys.now.keys)) }
+    ensures {
+        OnOk result
+            (post.new
+                ≡ and_parcels post.old (updates_of destination mtu delay database.now keys.now.keys))
+    }
 {
+    let alloc = post.alloc();
     let room = update_room(mtu);
     let mut batch = Vec::new(alloc);
     let mut left = room;
     for key in keys {
         if let Some(copy) = database.get(key) {
             let lsa = sent_copy(&copy, delay, alloc)?;
-            add(lsa, &mut batch, &mut left, room, destination, out, alloc)?;
+            add(lsa, &mut batch, &mut left, room, destination, post)?;
         }
     }
     if !batch.is_empty() {
-        send(batch, destination, out, alloc)?;
+        send(batch, destination, post)?;
     }
     Ok(())
 }

@@ -1,18 +1,17 @@
 //! What is sent again.
 
-ghost use Rattle.std.specs.Prelude.{◌≡◌, ◌&&◌, ℕ, is_some, IfOk, OnOk};
+ghost use Rattle.std.specs.Prelude.{◌≡◌, ◌&&◌, is_some, IfOk, OnOk};
 ghost use Rattle.ospf_lsdb.specs.Database.{entry_of};
 ghost use Rattle.ospf_flood.specs.Due.{is_due};
-ghost use Rattle.ospf_adjacency.specs.Descriptions.{IsAfter, turn};
+ghost use Rattle.ospf_adjacency.specs.Descriptions.{turn};
 ghost use Rattle.ospf_adjacency.specs.Repeats.{dd_again, request_again, due_keys, repeats_turn};
 
 use crate::answering::send_to;
-use crate::outbox::Outbox;
 use crate::packets::{send_dd, send_request};
+use crate::post::{OnLink, Post};
 use ospf_base::LsaKey;
-use ospf_exchange::{Local, dd_sent, is_dd_due, is_request_repeat_due, next_request};
+use ospf_exchange::{dd_sent, is_dd_due, is_request_repeat_due, next_request};
 use ospf_flood::is_due;
-use ospf_iface::Iface;
 use ospf_lsdb::Lsdb;
 use ospf_neighbour::{Listed, Neighbour};
 use std::alloc::{AllocError, Global};
@@ -49,17 +48,19 @@ fn due_keys(
 // The last Database Description goes out again where it is due.
 fn repeat_dd(
     neighbour: &mut Neighbour,
-    iface: &Iface,
-    local: Local,
+    at: &OnLink,
     retransmit: u16,
-    out: &mut Outbox,
-    alloc: Global,
+    post: &mut Post,
 ) -> Result<(), AllocError>
-    ensures { OnOk result ((next : ℕ) → IsAfter (dd_again iface.now local retransmit (turn neighbour.old next)) neighbour.new next out.old out.new) }
+    ensures {
+        OnOk result
+            (turn neighbour.new post.new
+                ≡ dd_again at.now.iface at.now.local retransmit (turn neighbour.old post.old))
+    }
 {
-    if is_dd_due(neighbour, retransmit, local.tick) {
-        dd_sent(neighbour, local.tick);
-        send_dd(neighbour, iface, local.mtu, out, alloc)?;
+    if is_dd_due(neighbour, retransmit, at.local.tick) {
+        dd_sent(neighbour, at.local.tick);
+        send_dd(neighbour, at, post)?;
     }
     Ok(())
 }
@@ -67,42 +68,50 @@ fn repeat_dd(
 // The last Request goes out again where it is due.
 fn repeat_request(
     neighbour: &mut Neighbour,
-    iface: &Iface,
-    local: Local,
+    at: &OnLink,
     retransmit: u16,
-    out: &mut Outbox,
-    alloc: Global,
+    post: &mut Post,
 ) -> Result<(), AllocError>
-    ensures { OnOk result ((next : ℕ) → IsAfter (request_again iface.now local retransmit (turn neighbour.old next)) neighbour.new next out.old out.new) }
+    ensures {
+        OnOk result
+            (turn neighbour.new post.new
+                ≡ request_again at.now.iface at.now.local retransmit (turn neighbour.old post.old))
+    }
 {
-    if is_request_repeat_due(neighbour, retransmit, local.tick) {
-        next_request(neighbour, local.mtu, local.tick);
-        send_request(neighbour, iface, out, alloc)?;
+    if is_request_repeat_due(neighbour, retransmit, at.local.tick) {
+        next_request(neighbour, at.local.mtu, at.local.tick);
+        send_request(neighbour, at, post)?;
     }
     Ok(())
 }
 
 /// The repeats of a tick to one neighbour (RFC 2328, sections 10.8, 10.9 and 13.6): its Database Description, its Request,
 /// and the copies of what is due on its retransmission list, in the order of their keys. `retransmit` is RxmtInterval,
-/// `delay` InfTransDelay. Answers the keys whose copies went out.
+/// `delay` InfTransDelay, both in ticks. Answers the keys whose copies went out.
 ///
 /// `AllocError` where memory runs out; then the router is to be stopped.
 pub fn repeat(
     neighbour: &mut Neighbour,
     database: &Lsdb,
-    iface: &Iface,
-    local: Local,
+    at: &OnLink,
     retransmit: u16,
     delay: u16,
-    out: &mut Outbox,
-    alloc: Global,
+    post: &mut Post,
 ) -> Result<BTreeSet<LsaKey>, AllocError>
-    ensures turn { OnOk result ((next : ℕ) → IsAfter (repeats_turn iface.now local retransmit delay database.now (turn neighbour.old next)) neighbour.new next out.old out.new) }
-    ensures keys { IfOk result (λ keys. keys.keys ≡ due_keys retransmit local.tick database.now neighbour.old) }
+    ensures turn {
+        OnOk result
+            (turn neighbour.new post.new
+                ≡ repeats_turn at.now.iface at.now.local retransmit delay database.now
+                    (turn neighbour.old post.old))
+    }
+    ensures keys {
+        IfOk result
+            (λ keys. keys.keys ≡ due_keys retransmit at.now.local.tick database.now neighbour.old)
+    }
 {
-    let keys = due_keys(neighbour, database, retransmit, local.tick, alloc)?;
-    repeat_dd(neighbour, iface, local, retransmit, out, alloc)?;
-    repeat_request(neighbour, iface, local, retransmit, out, alloc)?;
-    send_to(neighbour, &keys, database, iface, local, delay, out, alloc)?;
+    let keys = due_keys(neighbour, database, retransmit, at.local.tick, post.alloc())?;
+    repeat_dd(neighbour, at, retransmit, post)?;
+    repeat_request(neighbour, at, retransmit, post)?;
+    send_to(neighbour, &keys, database, at, delay, post)?;
     Ok(keys)
 }

@@ -5,7 +5,7 @@ ghost use Rattle.ospf_adjacency.specs.Packets.{parcel_if};
 ghost use Rattle.ospf_adjacency.specs.Posting.{and_parcels};
 ghost use Rattle.ospf_adjacency.specs.Links.{own_hello, hello_parcel, hello_ticked, is_hello_due};
 
-use crate::outbox::Outbox;
+use crate::post::Post;
 use ospf_base::{ALL_SPF_ROUTERS, RouterId};
 use ospf_iface::Iface;
 use ospf_neighbour::Neighbour;
@@ -24,14 +24,14 @@ fn routers_of(neighbours: &[Neighbour], alloc: Global) -> Result<Vec<RouterId>, 
 pub fn send_hello(
     iface: &Iface,
     neighbours: &[Neighbour],
-    out: &mut Outbox,
-    alloc: Global,
+    post: &mut Post,
 ) -> Result<(), AllocError>
-    ensures { OnOk result (out.new ≡ and_parcels out.old (hello_parcel iface.now neighbours.now ∷ [])) }
+    ensures { OnOk result (post.new ≡ and_parcels post.old (hello_parcel iface.now neighbours.now ∷ [])) }
 {
+    let alloc = post.alloc();
     let routers = routers_of(neighbours, alloc)?;
     let body = iface.hello(alloc, &routers)?;
-    out.put(ALL_SPF_ROUTERS, body, alloc)
+    post.put(ALL_SPF_ROUTERS, body)
 }
 
 /// A tick of a link's Hello timer: the Hello goes out where it is due (RFC 2328, section 9.5).
@@ -40,14 +40,18 @@ pub fn send_hello(
 pub fn send_due_hello(
     iface: &mut Iface,
     neighbours: &[Neighbour],
-    out: &mut Outbox,
-    alloc: Global,
+    post: &mut Post,
 ) -> Result<(), AllocError>
     ensures timer { iface.new ≡ hello_ticked iface.old }
-    ensures sent { OnOk result (out.new ≡ and_parcels out.old (parcel_if (is_hello_due iface.old) (hello_parcel iface.old neighbours.now))) }
+    ensures sent {
+        OnOk result
+            (post.new
+                ≡ and_parcels post.old
+                    (parcel_if (is_hello_due iface.old) (hello_parcel iface.old neighbours.now)))
+    }
 {
     if iface.hello_tick() {
-        send_hello(iface, neighbours, out, alloc)?;
+        send_hello(iface, neighbours, post)?;
     }
     Ok(())
 }

@@ -1,5 +1,5 @@
 -- The neighbours of a link after a Hello and after its timers.
-use Rattle.std.proofs.Common.{◌≡◌, ◌≢◌, ◌||◌, ◌<◌, ◌≤◌, ◌+◌, ℕ, Bool, false, List, [], ◌∷◌, Option, None, Some, length, refl, sym, ap, ◌∙◌, subst, slice_get, inl, inr, arith, length-set}
+use Rattle.std.proofs.Common.{◌≡◌, ◌≢◌, ◌<◌, ◌≤◌, ◌+◌, ℕ, Bool, false, List, [], ◌∷◌, Option, None, Some, length, refl, sym, ap, ◌∙◌, subst, slice_get, inl, inr, arith, length-set}
 use Rattle.std.proofs.lemmas.Bool.Decides.{eqb_tells}
 use Rattle.std.proofs.lemmas.List.Edits.{length-insert}
 use Rattle.ospf_base.specs.declared.ids.Addr.{Addr}
@@ -15,15 +15,12 @@ use Rattle.ospf_neighbour.specs.Neighbour.{NeighbourValue}
 use Rattle.ospf_neighbour.specs.Neighbours.{AreNeighbours, IsRising, neighbour_of}
 use Rattle.ospf_packet.specs.declared.body.Hello.{Hello}
 use Rattle.ospf_exchange.specs.declared.rule.Local.{Local}
-use Rattle.ospf_adjacency.specs.Posting.{OutboxValue}
-use Rattle.ospf_adjacency.specs.Heard.{AreAfter, Neighbourhood, neighbourhood, hello_on, hello_turn, turn_of, sender_of, place_for, put}
+use Rattle.ospf_adjacency.specs.Heard.{Neighbourhood, hello_on, hello_turn, turn_of, sender_of, place_for, put}
 use Rattle.ospf_adjacency.specs.Links.{timed, is_inactive}
 use Rattle.ospf_adjacency.proofs.GoLemmas.{bool_cases, heard_router}
 use Rattle.ospf_adjacency.proofs.HelloLemmas.{place_within}
 use Rattle.ospf_adjacency.proofs.PutLemmas.{not_found, put_found, put_new}
 use Rattle.ospf_adjacency.proofs.StayLemmas.{put_rises, timed_rises}
-use Rattle.ospf_area.specs.State.{LinkValue}
-use Rattle.ospf_links.specs.Parts.{Becomes, hello_comes}
 
 -- one more at most, and none where one is put in place of another
 few_new : (n : NeighbourValue) (ns : List NeighbourValue) → length ns < 255 → ((e : NeighbourValue) → slice_get ns (place_for ns n.router.0) ≡ Some e → e.router.0 ≢ n.router.0) → length (put n ns) ≤ 255
@@ -61,24 +58,6 @@ timed_few (n ∷ ns) = elim (bool_cases (is_inactive n)) [ inl t ↦ (rw t (omeg
 
 pub timed_stays : (ns : List NeighbourValue) → AreNeighbours ns → AreNeighbours (timed ns)
 timed_stays ns are = record { rising = timed_rises ns are.rising; few = omega (arith, timed_few ns, are.few) }
-
--- the link once its neighbours are put back
-pub hello_becomes : (local : Local) (q : RouterId) (source : Addr) (h : Hello) (named : Bool) (link bare after : LinkValue) (ns : List NeighbourValue) (elects due : Bool) (next next' : ℕ) (out out' : OutboxValue)
-    → bare ≡ record link { neighbours = [] } → after ≡ record bare { neighbours = ns; elects = due } → due ≡ bare.elects || elects
-    → AreAfter (hello_on link.iface local q source h named (neighbourhood link.neighbours false next)) ns elects next' out out'
-    → Becomes (hello_comes local q source h named next link) link after next' out out'
-hello_becomes local q source h named link bare after ns elects due next next' out out' is_bare is_after is_due is =
-    let now = hello_on link.iface local q source h named (neighbourhood link.neighbours false next) in
-    let due_is : due ≡ link.elects || elects = is_due ∙ ap (λ (l : LinkValue). l.elects || elects) is_bare in
-    record {
-      link =
-          is_after ∙ ap (λ (l : LinkValue). record l { neighbours = ns; elects = due }) is_bare
-          ∙ ap (λ (b : Bool). record link { neighbours = ns; elects = b }) due_is
-          ∙ ap (λ (l : List NeighbourValue). record link { neighbours = l; elects = link.elects || elects }) is.neighbours
-          ∙ ap (λ (b : Bool). record link { neighbours = now.neighbours; elects = link.elects || b }) is.elects_is;
-      number = is.number;
-      sent = is.sent;
-    }
 
 -- ---- an election
 

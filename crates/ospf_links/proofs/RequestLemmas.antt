@@ -7,11 +7,9 @@ use Rattle.ospf_neighbour.specs.Neighbour.{NeighbourValue}
 use Rattle.ospf_neighbour.specs.Neighbours.{AreNeighbours, neighbour_of}
 use Rattle.ospf_packet.specs.declared.entry.RequestEntry.{RequestEntry}
 use Rattle.ospf_exchange.specs.declared.rule.Local.{Local}
-use Rattle.ospf_adjacency.specs.Descriptions.{IsAfter, Turn, turn}
-use Rattle.ospf_adjacency.specs.Posting.{OutboxValue}
-use Rattle.ospf_adjacency.proofs.TurnLemmas.{turn_is}
-use Rattle.ospf_adjacency.proofs.HelloLemmas.{are_after}
-use Rattle.ospf_adjacency.specs.Heard.{AreAfter, Neighbourhood, neighbourhood, place_for, put_back, turn_of}
+use Rattle.ospf_adjacency.specs.Descriptions.{Turn, turn}
+use Rattle.ospf_adjacency.specs.Posting.{PostValue}
+use Rattle.ospf_adjacency.specs.Heard.{Neighbourhood, neighbourhood, place_for, put_back, turn_of}
 use Rattle.ospf_adjacency.proofs.StayLemmas.{put_rises}
 use Rattle.ospf_adjacency.specs.Answers.{answer_turn}
 use Rattle.ospf_adjacency.proofs.QuietLemmas.{answers_are_quiet}
@@ -22,19 +20,16 @@ use Rattle.ospf_links.proofs.WorkLemmas.{is_found, is_put, named_by}
 answered_router : (i : Iface) (local : Local) (delay : ℕ) (db : List Held) (es : List RequestEntry) (t : Turn) → (answer_turn i local delay db es t).neighbour.router ≡ t.neighbour.router
 answered_router i local delay db es t = (answers_are_quiet i local delay db es t).same.router
 
-pub requested_found : (i : Iface) (local : Local) (q : RouterId) (delay : ℕ) (db : List Held) (es : List RequestEntry) (ns : List NeighbourValue) (next next' k : ℕ) (before after : OutboxValue) (e m : NeighbourValue)
+pub requested_found : (i : Iface) (local : Local) (q : RouterId) (delay : ℕ) (db : List Held) (es : List RequestEntry) (ns : List NeighbourValue) (p p' : PostValue) (k : ℕ) (e m : NeighbourValue)
     → k ≡ place_for ns q.0 → slice_get ns k ≡ Some e → e.router ≡ q
-    → IsAfter (answer_turn i local delay db es (turn e next)) m next' before after
-    → AreAfter (request_on i local q delay db es (neighbourhood ns false next)) (set ns k m) false next' before after
-requested_found i local q delay db es ns next next' k before after e m at there e_is is =
-    let x = neighbourhood ns false next in
-    let ends = answer_turn i local delay db es (turn e next) in
-    let same : m.router ≡ e.router = ap (λ (n : NeighbourValue). n.router) is.neighbour ∙ answered_router i local delay db es (turn e next) in
-    are_after _ (record { neighbours = set ns k m; elects = false; next = next'; sent = ends.sent }) before after
-    (ap (λ (l : List NeighbourValue). record { neighbours = l; elects = false; next = next'; sent = ends.sent }) (is_put ns k q e m at there e_is same)
-    ∙ ap (λ (u : Turn). put_back false u x) (turn_is ends m next' before after is)
-    ∙ ap (λ o. request_by o i local delay db es x) (sym (is_found ns k q e at there e_is)))
-    is.sent
+    → turn m p' ≡ answer_turn i local delay db es (turn e p)
+    → neighbourhood (set ns k m) false p' ≡ request_on i local q delay db es (neighbourhood ns false p)
+requested_found i local q delay db es ns p p' k e m at there e_is is =
+    let x = neighbourhood ns false p in
+    let same : m.router ≡ e.router = ap (λ (t : Turn). t.neighbour.router) is ∙ answered_router i local delay db es (turn e p) in
+    ap (λ (l : List NeighbourValue). neighbourhood l false p') (is_put ns k q e m at there e_is same)
+    ∙ ap (λ (u : Turn). put_back false u x) is
+    ∙ ap (λ (o : Option NeighbourValue). request_by o i local delay db es x) (sym (is_found ns k q e at there e_is))
 
 requested_stays_by : (i : Iface) (local : Local) (q : RouterId) (delay : ℕ) (db : List Held) (es : List RequestEntry) (x : Neighbourhood) → AreNeighbours x.neighbours → (o : Option NeighbourValue) → neighbour_of x.neighbours q ≡ o
     → ((n : NeighbourValue) → o ≡ Some n → n.router ≡ q) → AreNeighbours (request_by o i local delay db es x).neighbours

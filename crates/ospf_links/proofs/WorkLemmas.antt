@@ -1,5 +1,5 @@
 -- One neighbour of a link has its turn.
-use Rattle.std.proofs.Common.{◌≡◌, ◌≢◌, ◌∷◌, ℕ, Bool, false, List, [], None, Some, length, set, sym, ap, ◌∙◌, slice_get, arith, refl, append-nil}
+use Rattle.std.proofs.Common.{◌≡◌, ◌≢◌, ◌∷◌, ◌||◌, ℕ, Bool, false, List, [], None, Some, length, set, sym, subst, ap, ◌∙◌, slice_get, arith, refl, append-nil}
 use Rattle.ospf_base.specs.declared.ids.RouterId.{RouterId}
 use Rattle.ospf_iface.specs.declared.machine.Iface.{Iface}
 use Rattle.ospf_lsa.specs.declared.header.LsaHeader.{LsaHeader}
@@ -7,28 +7,29 @@ use Rattle.ospf_lsdb.specs.Database.{Held}
 use Rattle.ospf_neighbour.specs.Neighbour.{NeighbourValue}
 use Rattle.ospf_neighbour.specs.Neighbours.{IsRising, AreNeighbours, neighbour_of}
 use Rattle.ospf_packet.specs.declared.body.Description.{Description}
+use Rattle.ospf_packet.specs.declared.body.Hello.{Hello}
+use Rattle.ospf_packet.specs.declared.entry.RequestEntry.{RequestEntry}
 use Rattle.ospf_exchange.specs.declared.rule.Local.{Local}
-use Rattle.ospf_adjacency.specs.Descriptions.{IsAfter, Turn, turn, description_turn}
-use Rattle.ospf_adjacency.specs.Posting.{OutboxValue}
+use Rattle.ospf_adjacency.specs.Descriptions.{Turn, turn, description_turn}
+use Rattle.ospf_adjacency.specs.Posting.{PostValue}
 use Rattle.ospf_adjacency.proofs.SameLemmas.{description_keeps_router}
-use Rattle.ospf_adjacency.proofs.TurnLemmas.{turn_is}
-use Rattle.ospf_adjacency.specs.Heard.{AreAfter, Neighbourhood, neighbourhood, turn_of, put_back, elects_by_change, place_for, put}
+use Rattle.ospf_adjacency.specs.Heard.{Neighbourhood, neighbourhood, turn_of, put_back, elects_by_change, hello_on, place_for, put}
 use Rattle.std.proofs.Common.{Option, inl, inr}
 use Rattle.std.proofs.lemmas.Option.{slice_get_past, slice_get_read}
 use Rattle.std.proofs.Common.{get_or}
 use Rattle.std.proofs.Common.{nat_lt, is_some, suc, true}
 use Rattle.std.proofs.lemmas.Bool.Decides.{leb_tells}
 use Rattle.std.proofs.lemmas.Bool.Decides.{eqb_tells}
-use Rattle.ospf_adjacency.proofs.HelloLemmas.{are_after}
 use Rattle.ospf_adjacency.proofs.StayLemmas.{put_rises}
 use Rattle.ospf_links.proofs.NeighbourLemmas.{few_by}
 use Rattle.ospf_adjacency.proofs.PutLemmas.{found, not_found, put_found}
 use Rattle.ospf_area.specs.Outputs.{OutputsValue, SentValue}
 use Rattle.ospf_area.specs.Sending.{and_sends}
 use Rattle.ospf_area.specs.State.{LinkValue}
+use Rattle.ospf_area.specs.declared.flooding.Origin.{Origin}
 use Rattle.ospf_area.specs.declared.sending.Own.{Own}
 use Rattle.ospf_exchange.specs.Laws.{KeepsRouter}
-use Rattle.ospf_links.specs.Parts.{description_by, description_on}
+use Rattle.ospf_links.specs.Parts.{description_at, description_by, description_on, hello_at, left_by, local_of, request_at, request_by, request_on, with_neighbourhood}
 use Rattle.ospf_links.specs.Works.{work_sent, work_sent_on, up_out_on}
 
 -- nothing is sent
@@ -64,19 +65,76 @@ pub is_none : (ns : List NeighbourValue) (k : ℕ) (q : RouterId) → IsRising n
 is_none ns k q rises at other =
     not_found ns q rises (λ o there same. other o (ap (slice_get ns) at ∙ there) (λ j. record { 0 = same j }))
 
-pub described_found : (i : Iface) (local : Local) (q : RouterId) (d : Description) (hs : List LsaHeader) (db : List Held) (ns : List NeighbourValue) (next next' k : ℕ) (before after : OutboxValue) (e m : NeighbourValue) (elects : Bool)
+pub described_found : (i : Iface) (local : Local) (q : RouterId) (d : Description) (hs : List LsaHeader) (db : List Held) (ns : List NeighbourValue) (p p' : PostValue) (k : ℕ) (e m : NeighbourValue) (elects : Bool)
     → k ≡ place_for ns q.0 → slice_get ns k ≡ Some e → e.router ≡ q → m.router ≡ e.router
-    → IsAfter (description_turn i local q d hs db (turn e next)) m next' before after → elects ≡ elects_by_change i.state e m
-    → AreAfter (description_on i local q d hs db (neighbourhood ns false next)) (set ns k m) elects next' before after
-described_found i local q d hs db ns next next' k before after e m elects at there e_is same is due =
-    let x = neighbourhood ns false next in
-    let ends = description_turn i local q d hs db (turn e next) in
-    are_after _ (record { neighbours = set ns k m; elects = elects; next = next'; sent = ends.sent }) before after
-    (ap (λ (l : List NeighbourValue). record { neighbours = l; elects = elects; next = next'; sent = ends.sent }) (is_put ns k q e m at there e_is same)
-    ∙ ap (λ b. put_back b (record { neighbour = m; next = next'; sent = ends.sent }) x) due
-    ∙ ap (λ (u : Turn). put_back (elects_by_change i.state e u.neighbour) u x) (turn_is ends m next' before after is)
-    ∙ ap (λ o. description_by o i local q d hs db x) (sym (is_found ns k q e at there e_is)))
-    is.sent
+    → turn m p' ≡ description_turn i local q d hs db (turn e p) → elects ≡ elects_by_change i.state e m
+    → neighbourhood (set ns k m) elects p' ≡ description_on i local q d hs db (neighbourhood ns false p)
+described_found i local q d hs db ns p p' k e m elects at there e_is same is due =
+    let x = neighbourhood ns false p in
+    ap (λ (l : List NeighbourValue). neighbourhood l elects p') (is_put ns k q e m at there e_is same)
+    ∙ ap (λ (b : Bool). put_back b (turn m p') x) due
+    ∙ ap (λ (u : Turn). put_back (elects_by_change i.state e u.neighbour) u x) is
+    ∙ ap (λ (o : Option NeighbourValue). description_by o i local q d hs db x) (sym (is_found ns k q e at there e_is))
+
+-- ---- neighbours that are put back
+
+or_false : (b : Bool) → b ≡ b || false
+or_false true = refl
+or_false false = refl
+
+-- where an election was due before it stays due
+abbrev pub and_due : Bool → Neighbourhood → Neighbourhood
+and_due b x = record x { elects = b || x.elects }
+
+description_due : (i : Iface) (local : Local) (q : RouterId) (d : Description) (hs : List LsaHeader) (db : List Held) (ns : List NeighbourValue) (b : Bool) (p : PostValue) (o : Option NeighbourValue)
+    → and_due b (description_by o i local q d hs db (neighbourhood ns false p)) ≡ description_by o i local q d hs db (neighbourhood ns b p)
+description_due i local q d hs db ns b p None = ap (λ (c : Bool). neighbourhood ns c p) (sym (or_false b))
+description_due i local q d hs db ns b p (Some n) = refl
+
+request_due : (i : Iface) (local : Local) (q : RouterId) (delay : ℕ) (db : List Held) (es : List RequestEntry) (ns : List NeighbourValue) (b : Bool) (p : PostValue) (o : Option NeighbourValue)
+    → and_due b (request_by o i local delay db es (neighbourhood ns false p)) ≡ request_by o i local delay db es (neighbourhood ns b p)
+request_due i local q delay db es ns b p None = ap (λ (c : Bool). neighbourhood ns c p) (sym (or_false b))
+request_due i local q delay db es ns b p (Some n) = refl
+
+-- the link, and what is left beside it, once its neighbours are put back
+pub record PutBack (x : Neighbourhood) (link after : LinkValue) (p' : PostValue) : Type 0 where
+  pub after_is : after ≡ with_neighbourhood x link
+  pub left_is : p' ≡ left_by x
+
+puts_back : (x : Neighbourhood) (link bare after : LinkValue) (ns : List NeighbourValue) (elects due : Bool) (p' : PostValue)
+    → bare ≡ record link { neighbours = [] } → after ≡ record bare { neighbours = ns; elects = due } → due ≡ bare.elects || elects
+    → neighbourhood ns elects p' ≡ x → PutBack (and_due link.elects x) link after p'
+puts_back x link bare after ns elects due p' is_bare is_after is_due is = record {
+  after_is =
+      is_after ∙ ap (λ (l : LinkValue). record l { neighbours = ns; elects = due }) is_bare
+      ∙ ap (λ (b : Bool). record link { neighbours = ns; elects = b }) (is_due ∙ ap (λ (l : LinkValue). l.elects || elects) is_bare)
+      ∙ ap (λ (y : Neighbourhood). with_neighbourhood (and_due link.elects y) link) is;
+  left_is = ap left_by is;
+}
+
+pub hello_back : (own : Own) (f : Origin) (h : Hello) (named : Bool) (link bare after : LinkValue) (ns : List NeighbourValue) (elects due : Bool) (p p' : PostValue)
+    → bare ≡ record link { neighbours = [] } → after ≡ record bare { neighbours = ns; elects = due } → due ≡ bare.elects || elects
+    → neighbourhood ns elects p' ≡ hello_on link.iface (local_of own link) f.router f.address h named (neighbourhood link.neighbours false p)
+    → PutBack (hello_at own f h named p link) link after p'
+hello_back own f h named link bare after ns elects due p p' is_bare is_after is_due is = puts_back _ link bare after ns elects due p' is_bare is_after is_due is
+
+pub description_back : (own : Own) (f : Origin) (d : Description) (hs : List LsaHeader) (db : List Held) (link bare after : LinkValue) (ns : List NeighbourValue) (elects due : Bool) (p p' : PostValue)
+    → bare ≡ record link { neighbours = [] } → after ≡ record bare { neighbours = ns; elects = due } → due ≡ bare.elects || elects
+    → neighbourhood ns elects p' ≡ description_on link.iface (local_of own link) f.router d hs db (neighbourhood link.neighbours false p)
+    → PutBack (description_at own f d hs db p link) link after p'
+description_back own f d hs db link bare after ns elects due p p' is_bare is_after is_due is =
+    subst (λ (x : Neighbourhood). PutBack x link after p')
+    (description_due link.iface (local_of own link) f.router d hs db link.neighbours link.elects p (neighbour_of link.neighbours f.router))
+    (puts_back _ link bare after ns elects due p' is_bare is_after is_due is)
+
+pub request_back : (own : Own) (f : Origin) (db : List Held) (es : List RequestEntry) (link bare after : LinkValue) (ns : List NeighbourValue) (due : Bool) (p p' : PostValue)
+    → bare ≡ record link { neighbours = [] } → after ≡ record bare { neighbours = ns; elects = due } → due ≡ bare.elects || false
+    → neighbourhood ns false p' ≡ request_on link.iface (local_of own link) f.router link.settings.transmit_delay db es (neighbourhood link.neighbours false p)
+    → PutBack (request_at own f db es p link) link after p'
+request_back own f db es link bare after ns due p p' is_bare is_after is_due is =
+    subst (λ (x : Neighbourhood). PutBack x link after p')
+    (request_due link.iface (local_of own link) f.router link.settings.transmit_delay db es link.neighbours link.elects p (neighbour_of link.neighbours f.router))
+    (puts_back _ link bare after ns false due p' is_bare is_after is_due is)
 
 same_is : (n m : NeighbourValue) → KeepsRouter n m → n.router ≡ m.router
 same_is n m e = sym e.router

@@ -1,6 +1,5 @@
 -- What each part of a step makes of one link, and what goes out of it (RFC 2328, sections 9.3, 9.5, 10.2, 10.5 and 10.6).
-use Rattle.std.specs.Prelude.{◌≡◌, ◌||◌, ℕ, Bool, false, List, [], Option, None, Some, if◌then◌else◌}
-use Rattle.ospf_base.specs.declared.ids.Addr.{Addr}
+use Rattle.std.specs.Prelude.{◌||◌, ℕ, Bool, false, List, [], Option, None, Some, if◌then◌else◌}
 use Rattle.ospf_base.specs.declared.ids.LsaKey.{LsaKey}
 use Rattle.ospf_base.specs.declared.ids.RouterId.{RouterId}
 use Rattle.ospf_iface.specs.declared.machine.Iface.{Iface}
@@ -19,11 +18,11 @@ use Rattle.ospf_area.specs.declared.sending.Own.{Own}
 use Rattle.ospf_area.specs.declared.state.LinkSettings.{LinkSettings}
 use Rattle.ospf_adjacency.specs.Descriptions.{description_turn}
 use Rattle.ospf_adjacency.specs.Packets.{Parcel, parcel_if}
-use Rattle.ospf_adjacency.specs.Heard.{Neighbourhood, elects_by_change, hello_on, put_back, turn_of}
+use Rattle.ospf_adjacency.specs.Heard.{Neighbourhood, elects_by_change, hello_on, neighbourhood, put_back, turn_of}
 use Rattle.ospf_iface.specs.Machine.{is_down}
 use Rattle.ospf_adjacency.specs.Links.{down, elects_by_timers, hello_parcel, hello_ticked, is_hello_due, timed, up, wait_ticked}
 use Rattle.ospf_adjacency.specs.Answers.{answer_turn, answered_keys}
-use Rattle.ospf_adjacency.specs.Posting.{OutboxValue, and_parcels, posted_all}
+use Rattle.ospf_adjacency.specs.Posting.{PostValue, posted_all}
 
 -- what a part needs to know of the router and of a link
 abbrev pub local_by : Own → LinkSettings → Local
@@ -36,25 +35,27 @@ local_of own link = local_by own link.settings
 abbrev pub neighbourhood_of : LinkValue → ℕ → Neighbourhood
 neighbourhood_of link next = record { neighbours = link.neighbours; elects = link.elects; next = next; sent = [] }
 
+-- and where some has
+abbrev pub neighbourhood_at : LinkValue → PostValue → Neighbourhood
+neighbourhood_at link p = neighbourhood link.neighbours link.elects p
+
 -- the link as a part leaves it
 abbrev pub with_neighbourhood : Neighbourhood → LinkValue → LinkValue
 with_neighbourhood x link = record link { neighbours = x.neighbours; elects = x.elects }
 
--- what a part has made of a link, of the router's next DD number, and of what goes out
-pub record Becomes (x : Neighbourhood) (before after : LinkValue) (next : ℕ) (out out' : OutboxValue) : Type 0 where
-  pub link : after ≡ with_neighbourhood x before
-  pub number : next ≡ x.next
-  pub sent : out' ≡ and_parcels out x.sent
+-- and what it leaves beside the link
+abbrev pub left_by : Neighbourhood → PostValue
+left_by x = record { next = x.next; sent = x.sent }
 
 -- ---- packets that come
 
--- a Hello that comes on a link (10.5)
-abbrev pub hello_comes : Local → RouterId → Addr → Hello → Bool → ℕ → LinkValue → Neighbourhood
-hello_comes local q source h named next link = hello_on link.iface local q source h named (neighbourhood_of link next)
+-- a Hello of the router f that comes on a link, and names this router or does not (10.5)
+abbrev pub hello_at : Own → Origin → Hello → Bool → PostValue → LinkValue → Neighbourhood
+hello_at own f h named p link = hello_on link.iface (local_of own link) f.router f.address h named (neighbourhood_at link p)
 
--- a Hello of the router f, which names this router or does not
+-- where nothing has gone out yet
 abbrev pub hello_part : Own → Origin → Hello → Bool → ℕ → LinkValue → Neighbourhood
-hello_part own f h named next link = hello_comes (local_of own link) f.router f.address h named next link
+hello_part own f h named next link = hello_on link.iface (local_of own link) f.router f.address h named (neighbourhood_of link next)
 
 -- a Database Description of a neighbour that may not be there; in Init it may bring an election about (10.6)
 abbrev pub description_by : Option NeighbourValue → Iface → Local → RouterId → Description → List LsaHeader → List Held → Neighbourhood → Neighbourhood
@@ -67,6 +68,10 @@ abbrev pub description_on : Iface → Local → RouterId → Description → Lis
 description_on i local q d headers db x = description_by (neighbour_of x.neighbours q) i local q d headers db x
 
 -- a Database Description that comes on a link
+abbrev pub description_at : Own → Origin → Description → List LsaHeader → List Held → PostValue → LinkValue → Neighbourhood
+description_at own f d headers db p link = description_on link.iface (local_of own link) f.router d headers db (neighbourhood_at link p)
+
+-- where nothing has gone out yet
 abbrev pub description_part : Own → Origin → Description → List LsaHeader → List Held → ℕ → LinkValue → Neighbourhood
 description_part own f d headers db next link = description_on link.iface (local_of own link) f.router d headers db (neighbourhood_of link next)
 
@@ -80,6 +85,10 @@ abbrev pub request_on : Iface → Local → RouterId → ℕ → List Held → L
 request_on i local q delay db entries x = request_by (neighbour_of x.neighbours q) i local delay db entries x
 
 -- a Request that comes on a link
+abbrev pub request_at : Own → Origin → List Held → List RequestEntry → PostValue → LinkValue → Neighbourhood
+request_at own f db entries p link = request_on link.iface (local_of own link) f.router link.settings.transmit_delay db entries (neighbourhood_at link p)
+
+-- where nothing has gone out yet
 abbrev pub request_part : Own → Origin → List Held → List RequestEntry → ℕ → LinkValue → Neighbourhood
 request_part own f db entries next link = request_on link.iface (local_of own link) f.router link.settings.transmit_delay db entries (neighbourhood_of link next)
 

@@ -7,9 +7,9 @@ ghost use Rattle.ospf_links.specs.Parts.{link_down, link_up, up_parcels};
 ghost use Rattle.ospf_adjacency.specs.Posting.{posted_all};
 ghost use Rattle.ospf_links.specs.Works.{changed, up_out_on};
 
-use crate::link::{open, take_out};
+use crate::link::take_out;
+use ospf_adjacency::{Post, go_down, go_up, send_hello};
 use ospf_area::{Area, Link, Outputs, Own, own_of};
-use ospf_adjacency::{go_down, go_up, send_hello};
 use std::alloc::{AllocError, Global};
 
 // A link goes up; where it was down its first Hello goes out.
@@ -21,15 +21,18 @@ fn link_goes_up(
     alloc: Global,
 ) -> Result<(), AllocError>
     ensures after { OnOk result (link.new ≡ link_up link.old) }
-    ensures sent { OnOk result (out.new ≡ and_sends out.old (posted_all own number (up link.old.iface) (up_parcels link.old))) }
+    ensures sent {
+        OnOk result
+            (out.new
+                ≡ and_sends out.old (posted_all own number (up link.old.iface) (up_parcels link.old)))
+    }
 {
     if !go_up(&mut link.iface) {
         return Ok(());
     }
-    let mut outbox = open(out, own, number, &link.iface, alloc);
-    send_hello(&link.iface, link.neighbours.all(), &mut outbox, alloc)?;
-    *out = outbox.into_outputs();
-    Ok(())
+    let mut post = Post::new(0, alloc);
+    send_hello(&link.iface, link.neighbours.all(), &mut post)?;
+    post.send_all(out, own, number, &link.iface)
 }
 
 /// A link of the router goes up (RFC 2328, section 9.3): where it was down its first Hello goes out.

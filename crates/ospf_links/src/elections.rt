@@ -1,14 +1,14 @@
 //! The elections that end a step.
 
-ghost use Rattle.std.specs.Prelude.{◌≡◌, true, List, OnOk};
+ghost use Rattle.std.specs.Prelude.{◌≡◌, ◌++◌, true, List, OnOk};
 ghost use Rattle.ospf_adjacency.specs.Elections.{AreOfLink, ElectsOn, elects_in};
 ghost use Rattle.ospf_adjacency.specs.Packets.{Parcel};
-ghost use Rattle.ospf_adjacency.specs.Posting.{and_parcels, posted_all};
+ghost use Rattle.ospf_adjacency.specs.Posting.{posted_all};
 ghost use Rattle.ospf_area.specs.Sending.{and_sends};
 ghost use Rattle.ospf_links.specs.Elections.{AreReady, Elects, ElectsAt, ElectsLink, ElectsOnLink, IsReady};
 
-use crate::link::{iface_of, local_of, open, put_back, take_out};
-use ospf_adjacency::{Outbox, elect_on};
+use crate::link::{iface_of, local_of, put_back, take_out};
+use ospf_adjacency::{Post, elect_on};
 use ospf_area::{Area, Link, Outputs, Own, own_of};
 use ospf_exchange::Local;
 use ospf_neighbour::Neighbour;
@@ -19,32 +19,35 @@ fn elect_over(
     link: &mut Link,
     all: &mut Vec<Neighbour>,
     local: Local,
-    numbers: &mut u32,
-    out: &mut Outbox,
-    alloc: Global,
+    post: &mut Post,
 ) -> Result<(), AllocError>
     requires electing { elects_in link.old.iface.state ≡ true }
     requires link { AreOfLink link.old.iface all.old.items }
-    ensures elects { OnOk result ((sent : List Parcel) × ElectsOn local.mtu local.tick link.old.iface all.old.items numbers.old sent link.new.iface all.new.items numbers.new × (out.new ≡ and_parcels out.old sent)) }
+    ensures elects {
+        OnOk result
+            ((sent : List Parcel)
+                × ElectsOn local.mtu local.tick link.old.iface all.old.items post.old.next sent
+                    link.new.iface all.new.items post.new.next
+                × (post.new.sent ≡ post.old.sent ++ sent))
+    }
     ensures rest { link.new ≡ record link.old { iface = link.new.iface } }
 {
-    elect_on(&mut link.iface, all, local, numbers, out, alloc)
+    elect_on(&mut link.iface, all, local, post)
 }
 
 // The election of a link on which one is due, and AdjOK?.
-fn link_election(
-    link: &mut Link,
-    local: Local,
-    numbers: &mut u32,
-    out: &mut Outbox,
-    alloc: Global,
-) -> Result<(), AllocError>
+fn link_election(link: &mut Link, local: Local, post: &mut Post) -> Result<(), AllocError>
     requires electing { elects_in link.old.iface.state ≡ true }
     requires others { AreOfLink link.old.iface link.old.neighbours }
-    ensures { OnOk result ((sent : List Parcel) × ElectsOnLink local.mtu local.tick numbers.old link.old link.new numbers.new sent × (out.new ≡ and_parcels out.old sent)) }
+    ensures {
+        OnOk result
+            ((sent : List Parcel)
+                × ElectsOnLink local.mtu local.tick post.old.next link.old link.new post.new.next sent
+                × (post.new.sent ≡ post.old.sent ++ sent))
+    }
 {
-    let mut all = take_out(link, alloc);
-    elect_over(link, &mut all, local, numbers, out, alloc)?;
+    let mut all = take_out(link, post.alloc());
+    elect_over(link, &mut all, local, post)?;
     put_back(link, all, false);
     Ok(())
 }
@@ -59,17 +62,22 @@ fn elect_link(
     alloc: Global,
 ) -> Result<(), AllocError>
     requires { IsReady link.old }
-    ensures { OnOk result ((sent : List Parcel) × ElectsLink own next.old link.old link.new next.new sent × (out.new ≡ and_sends out.old (posted_all own number link.old.iface sent))) }
+    ensures {
+        OnOk result
+            ((sent : List Parcel)
+                × ElectsLink own next.old link.old link.new next.new sent
+                × (out.new ≡ and_sends out.old (posted_all own number link.old.iface sent)))
+    }
 {
     if !link.elects {
         return Ok(());
     }
     let local = local_of(own, link);
     let iface = iface_of(link);
-    let mut outbox = open(out, own, number, &iface, alloc);
-    link_election(link, local, next, &mut outbox, alloc)?;
-    *out = outbox.into_outputs();
-    Ok(())
+    let mut post = Post::new(*next, alloc);
+    link_election(link, local, &mut post)?;
+    *next = post.next();
+    post.send_all(out, own, number, &iface)
 }
 
 // That of one link.

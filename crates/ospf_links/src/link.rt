@@ -4,8 +4,8 @@ ghost use Rattle.std.specs.Prelude.{◌≡◌, ◌||◌, []};
 ghost use Rattle.ospf_neighbour.specs.Neighbours.{AreNeighbours};
 ghost use Rattle.ospf_links.specs.Parts.{local_by, local_of};
 
-use ospf_adjacency::Outbox;
-use ospf_area::{Link, LinkSettings, Outputs, Own};
+use ospf_adjacency::OnLink;
+use ospf_area::{Link, LinkSettings, Own};
 use ospf_exchange::Local;
 use ospf_iface::Iface;
 use ospf_neighbour::Neighbour;
@@ -30,20 +30,6 @@ pub(crate) fn put_back(link: &mut Link, all: Vec<Neighbour>, elects: bool)
     let neighbours = &mut link.neighbours;
     neighbours.all = all;
     link.elects = elects;
-}
-
-// Takes the outputs out, so that packets go out of a link behind them.
-pub(crate) fn open(
-    out: &mut Outputs,
-    own: Own,
-    number: usize,
-    iface: &Iface,
-    alloc: Global,
-) -> Outbox
-    ensures { result ≡ record { own = own; link = number; iface = iface.now; outputs = out.old } }
-{
-    let outputs = mem::replace(out, Outputs::new(alloc));
-    Outbox::new(outputs, own, number, iface)
 }
 
 // The interface of a link.
@@ -77,4 +63,14 @@ pub fn local_of(own: Own, link: &Link) -> Local
     ensures { result ≡ local_of own link.now }
 {
     local_by(own, link.settings)
+}
+
+// A link as its neighbours' parts of a step work on it.
+pub(crate) fn on_link(own: Own, link: &Link) -> OnLink
+    ensures { result ≡ record { iface = link.now.iface; local = local_of own link.now } }
+{
+    OnLink {
+        iface: link.iface,
+        local: local_of(own, link),
+    }
 }

@@ -3,72 +3,97 @@
 ghost use Rattle.std.specs.Prelude.{◌≡◌, OnOk, map};
 ghost use Rattle.std.specs.List.{flat_map};
 ghost use Rattle.ospf_area.specs.Sending.{and_sends};
+ghost use Rattle.ospf_links.specs.Parts.{local_by};
 ghost use Rattle.ospf_links.specs.Repeats.{all_keys, all_repeats, keys_out, keys_to, link_repeated, marked_all, repeated, repeated_links, repeats_out, repeats_to};
 
-use crate::link::{iface_of, local_by, open, put_back, take_out};
+use crate::link::{local_by, put_back, take_out};
 use crate::marks::mark_all;
+use ospf_adjacency::{OnLink, Post, repeat};
 use ospf_area::{Link, LinkSettings, Outputs, Own};
 use ospf_base::LsaKey;
 use ospf_iface::Iface;
 use ospf_lsdb::Lsdb;
 use ospf_neighbour::Neighbour;
-use ospf_adjacency::repeat;
 use std::alloc::{AllocError, Global};
 use std::collections::BTreeSet;
 
-// The repeats to a neighbour on a link of this number.
+// A link out of which packets go again, by its number.
+#[derive(Clone, Copy)]
+struct Repeating {
+    own: Own,
+    number: usize,
+    iface: Iface,
+    settings: LinkSettings,
+}
+
+// The repeats to a neighbour.
 fn repeat_to(
     neighbour: &mut Neighbour,
-    number: usize,
-    iface: &Iface,
-    settings: LinkSettings,
+    on: &Repeating,
     database: &Lsdb,
-    own: Own,
     sent: &mut BTreeSet<LsaKey>,
     out: &mut Outputs,
     alloc: Global,
 ) -> Result<(), AllocError>
-    ensures after { OnOk result (neighbour.new ≡ repeated own iface.now settings database.now neighbour.old) }
-    ensures sent { OnOk result (out.new ≡ and_sends out.old (repeats_to own number iface.now settings database.now neighbour.old)) }
-    ensures marks { OnOk result (sent.new.keys ≡ marked_all (keys_to own settings database.now neighbour.old) sent.old.keys) }
+    ensures after {
+        OnOk result
+            (neighbour.new ≡ repeated on.now.own on.now.iface on.now.settings database.now neighbour.old)
+    }
+    ensures sent {
+        OnOk result
+            (out.new
+                ≡ and_sends out.old
+                    (repeats_to on.now.own on.now.number on.now.iface on.now.settings database.now
+                        neighbour.old))
+    }
+    ensures marks {
+        OnOk result
+            (sent.new.keys
+                ≡ marked_all (keys_to on.now.own on.now.settings database.now neighbour.old) sent.old.keys)
+    }
 {
-    let local = local_by(own, settings);
-    let mut outbox = open(out, own, number, iface, alloc);
-    let keys = repeat(
-        neighbour,
-        database,
-        iface,
-        local,
-        settings.retransmit,
-        settings.transmit_delay,
-        &mut outbox,
-        alloc,
-    )?;
+    let at = OnLink {
+        iface: on.iface,
+        local: local_by(on.own, on.settings),
+    };
+    let mut post = Post::new(0, alloc);
+    let retransmit = on.settings.retransmit;
+    let delay = on.settings.transmit_delay;
+    let keys = repeat(neighbour, database, &at, retransmit, delay, &mut post)?;
     mark_all(sent, &keys)?;
-    *out = outbox.into_outputs();
-    Ok(())
+    post.send_all(out, on.own, on.number, &on.iface)
 }
 
 // The repeats to neighbours.
 fn repeat_to_each(
     all: &mut [Neighbour],
-    number: usize,
-    iface: &Iface,
-    settings: LinkSettings,
+    on: &Repeating,
     database: &Lsdb,
-    own: Own,
     sent: &mut BTreeSet<LsaKey>,
     out: &mut Outputs,
     alloc: Global,
 ) -> Result<(), AllocError>
-    ensures after { OnOk result (all.new ≡ map (repeated own iface.now settings database.now) all.old) }
-    ensures sent { OnOk result (out.new ≡ and_sends out.old (flat_map (repeats_to own number iface.now settings database.now) all.old)) }
-    ensures marks { OnOk result (sent.new.keys ≡ marked_all (flat_map (keys_to own settings database.now) all.old) sent.old.keys) }
+    ensures after {
+        OnOk result
+            (all.new ≡ map (repeated on.now.own on.now.iface on.now.settings database.now) all.old)
+    }
+    ensures sent {
+        OnOk result
+            (out.new
+                ≡ and_sends out.old
+                    (flat_map
+                        (repeats_to on.now.own on.now.number on.now.iface on.now.settings database.now)
+                        all.old))
+    }
+    ensures marks {
+        OnOk result
+            (sent.new.keys
+                ≡ marked_all (flat_map (keys_to on.now.own on.now.settings database.now) all.old)
+                    sent.old.keys)
+    }
 {
     for neighbour in all.iter_mut() {
-        repeat_to(
-            neighbour, number, iface, settings, database, own, sent, out, alloc,
-        )?;
+        repeat_to(neighbour, on, database, sent, out, alloc)?;
     }
     Ok(())
 }
@@ -76,22 +101,33 @@ fn repeat_to_each(
 // The repeats to neighbours that were taken out.
 fn repeat_to_all(
     all: &mut Vec<Neighbour>,
-    number: usize,
-    iface: &Iface,
-    settings: LinkSettings,
+    on: &Repeating,
     database: &Lsdb,
-    own: Own,
     sent: &mut BTreeSet<LsaKey>,
     out: &mut Outputs,
     alloc: Global,
 ) -> Result<(), AllocError>
-    ensures after { OnOk result (all.new.items ≡ map (repeated own iface.now settings database.now) all.old.items) }
-    ensures sent { OnOk result (out.new ≡ and_sends out.old (flat_map (repeats_to own number iface.now settings database.now) all.old.items)) }
-    ensures marks { OnOk result (sent.new.keys ≡ marked_all (flat_map (keys_to own settings database.now) all.old.items) sent.old.keys) }
+    ensures after {
+        OnOk result
+            (all.new.items
+                ≡ map (repeated on.now.own on.now.iface on.now.settings database.now) all.old.items)
+    }
+    ensures sent {
+        OnOk result
+            (out.new
+                ≡ and_sends out.old
+                    (flat_map
+                        (repeats_to on.now.own on.now.number on.now.iface on.now.settings database.now)
+                        all.old.items))
+    }
+    ensures marks {
+        OnOk result
+            (sent.new.keys
+                ≡ marked_all (flat_map (keys_to on.now.own on.now.settings database.now) all.old.items)
+                    sent.old.keys)
+    }
 {
-    repeat_to_each(
-        all, number, iface, settings, database, own, sent, out, alloc,
-    )?;
+    repeat_to_each(all, on, database, sent, out, alloc)?;
     Ok(())
 }
 
@@ -109,13 +145,15 @@ fn repeat_on(
     ensures sent { OnOk result (out.new ≡ and_sends out.old (repeats_out own database.now number link.old)) }
     ensures marks { OnOk result (sent.new.keys ≡ marked_all (keys_out own database.now link.old) sent.old.keys) }
 {
-    let iface = iface_of(link);
-    let settings = link.settings;
+    let on = Repeating {
+        own,
+        number,
+        iface: link.iface,
+        settings: link.settings,
+    };
     let elects = link.elects;
     let mut all = take_out(link, alloc);
-    repeat_to_all(
-        &mut all, number, &iface, settings, database, own, sent, out, alloc,
-    )?;
+    repeat_to_all(&mut all, &on, database, sent, out, alloc)?;
     put_back(link, all, elects);
     Ok(())
 }

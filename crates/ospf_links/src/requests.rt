@@ -6,24 +6,20 @@ ghost use Rattle.ospf_neighbour.specs.Neighbour.{NeighbourValue};
 ghost use Rattle.ospf_neighbour.specs.Neighbours.{IsRising, neighbour_of};
 ghost use Rattle.ospf_area.specs.Sending.{and_sends, own_of};
 ghost use Rattle.ospf_area.specs.State.{LinkValue};
-ghost use Rattle.ospf_adjacency.specs.Heard.{AreAfter, neighbourhood};
-ghost use Rattle.ospf_links.specs.Parts.{Becomes, answered_by, answered_on, neighbourhood_of, request_on, request_part, with_neighbourhood};
-ghost use Rattle.ospf_adjacency.specs.Posting.{posted_all};
+ghost use Rattle.ospf_adjacency.specs.Heard.{neighbourhood};
+ghost use Rattle.ospf_links.specs.Parts.{answered_by, answered_on, left_by, request_at, request_on, request_part, with_neighbourhood};
 ghost use Rattle.ospf_links.specs.Repeats.{marked_all};
 ghost use Rattle.ospf_links.specs.Works.{work_sent, worked};
 
-use crate::link::{iface_of, is_due, local_of, open, put_back, take_out};
+use crate::link::{iface_of, is_due, on_link, put_back, take_out};
 use crate::marks::mark_all;
-use ospf_adjacency::Outbox;
+use ospf_adjacency::take_request as answer_to;
+use ospf_adjacency::{OnLink, Post, is_at, place_for};
 use ospf_area::{Area, Link, Origin, Outputs, Own, own_of};
 use ospf_base::LsaKey;
-use ospf_exchange::Local;
-use ospf_adjacency::{is_at, place_for};
-use ospf_iface::Iface;
 use ospf_lsdb::Lsdb;
 use ospf_neighbour::Neighbour;
 use ospf_packet::Requests;
-use ospf_adjacency::take_request as answer_to;
 use std::alloc::{AllocError, Global};
 use std::collections::BTreeSet;
 
@@ -33,26 +29,34 @@ fn answer_in(
     from: Origin,
     requests: Requests<'_>,
     database: &Lsdb,
-    iface: &Iface,
-    local: Local,
+    at: &OnLink,
     delay: u16,
-    next: &mut u32,
-    out: &mut Outbox,
-    alloc: Global,
+    post: &mut Post,
 ) -> Result<BTreeSet<LsaKey>, AllocError>
     requires rising { IsRising all.old.items }
-    requires exchanging { (n : NeighbourValue) → neighbour_of all.old.items from.router ≡ Some n → is_exchanging n.state ≡ true }
-    ensures turn { OnOk result (AreAfter (request_on iface.now local from.router delay database.now requests.entry (neighbourhood all.old.items false next.old)) all.new.items false next.new out.old out.new) }
-    ensures keys { IfOk result (λ keys. keys.keys ≡ answered_by (neighbour_of all.old.items from.router) database.now requests.entry) }
+    requires exchanging {
+        (n : NeighbourValue) → neighbour_of all.old.items from.router ≡ Some n
+            → is_exchanging n.state ≡ true
+    }
+    ensures turn {
+        OnOk result
+            (neighbourhood all.new.items false post.new
+                ≡ request_on at.now.iface at.now.local from.router delay database.now requests.entry
+                    (neighbourhood all.old.items false post.old))
+    }
+    ensures keys {
+        IfOk result
+            (λ keys.
+                keys.keys
+                    ≡ answered_by (neighbour_of all.old.items from.router) database.now requests.entry)
+    }
 {
     let place = place_for(all, from.router);
     if !is_at(all, place, from.router) {
-        return Ok(BTreeSet::new(alloc));
+        return Ok(BTreeSet::new(post.alloc()));
     }
     let neighbour = &mut all[place];
-    let keys = answer_to(
-        neighbour, requests, database, iface, local, delay, next, out, alloc,
-    )?;
+    let keys = answer_to(neighbour, requests, database, at, delay, post)?;
     Ok(keys)
 }
 
@@ -62,60 +66,38 @@ fn request_comes(
     from: Origin,
     requests: Requests<'_>,
     database: &Lsdb,
-    local: Local,
-    next: &mut u32,
-    out: &mut Outbox,
-    alloc: Global,
+    own: Own,
+    post: &mut Post,
 ) -> Result<BTreeSet<LsaKey>, AllocError>
-    requires exchanging { (n : NeighbourValue) → neighbour_of link.old.neighbours from.router ≡ Some n → is_exchanging n.state ≡ true }
-    ensures turn { OnOk result (Becomes (request_on link.old.iface local from.router link.old.settings.transmit_delay database.now requests.entry (neighbourhood_of link.old next.old)) link.old link.new next.new out.old out.new) }
-    ensures keys { IfOk result (λ keys. keys.keys ≡ answered_by (neighbour_of link.old.neighbours from.router) database.now requests.entry) }
+    requires exchanging {
+        (n : NeighbourValue) → neighbour_of link.old.neighbours from.router ≡ Some n
+            → is_exchanging n.state ≡ true
+    }
+    ensures after {
+        OnOk result
+            (link.new
+                ≡ with_neighbourhood
+                    (request_at own from database.now requests.entry post.old link.old) link.old)
+    }
+    ensures left {
+        OnOk result
+            (post.new ≡ left_by (request_at own from database.now requests.entry post.old link.old))
+    }
+    ensures keys {
+        IfOk result
+            (λ keys.
+                keys.keys
+                    ≡ answered_by (neighbour_of link.old.neighbours from.router) database.now
+                        requests.entry)
+    }
 {
-    let iface = iface_of(link);
+    let at = on_link(own, link);
     let delay = link.settings.transmit_delay;
-    let mut all = take_out(link, alloc);
-    let keys = answer_in(
-        &mut all, from, requests, database, &iface, local, delay, next, out, alloc,
-    )?;
+    let mut all = take_out(link, post.alloc());
+    let keys = answer_in(&mut all, from, requests, database, &at, delay, post)?;
     let due = is_due(link, false);
     put_back(link, all, due);
     Ok(keys)
-}
-
-// And what goes out by it is sent, and marked.
-fn request_on_link(
-    link: &mut Link,
-    from: Origin,
-    requests: Requests<'_>,
-    database: &Lsdb,
-    own: Own,
-    next: &mut u32,
-    sent: &mut BTreeSet<LsaKey>,
-    out: &mut Outputs,
-    alloc: Global,
-) -> Result<(), AllocError>
-    requires { (n : NeighbourValue) → neighbour_of link.old.neighbours from.router ≡ Some n → is_exchanging n.state ≡ true }
-    ensures after { OnOk result (link.new ≡ with_neighbourhood (request_part own from database.now requests.entry next.old link.old) link.old) }
-    ensures number { OnOk result (next.new ≡ (request_part own from database.now requests.entry next.old link.old).next) }
-    ensures sent { OnOk result (out.new ≡ and_sends out.old (posted_all own from.link link.old.iface (request_part own from database.now requests.entry next.old link.old).sent)) }
-    ensures marks { OnOk result (sent.new.keys ≡ marked_all (answered_by (neighbour_of link.old.neighbours from.router) database.now requests.entry) sent.old.keys) }
-{
-    let local = local_of(own, link);
-    let iface = iface_of(link);
-    let mut outbox = open(out, own, from.link, &iface, alloc);
-    let keys = request_comes(
-        link,
-        from,
-        requests,
-        database,
-        local,
-        next,
-        &mut outbox,
-        alloc,
-    )?;
-    mark_all(sent, &keys)?;
-    *out = outbox.into_outputs();
-    Ok(())
 }
 
 /// Takes a Request that comes on a link of the router (RFC 2328, section 10.7) from a neighbour in Exchange or above: the keys
@@ -129,23 +111,46 @@ pub fn take_request(
     out: &mut Outputs,
     alloc: Global,
 ) -> Result<(), AllocError>
-    requires { (link : LinkValue) → slice_get area.old.links from.link ≡ Some link → (n : NeighbourValue) → neighbour_of link.neighbours from.router ≡ Some n → is_exchanging n.state ≡ true }
-    ensures after { OnOk result (area.new ≡ record (worked (request_part (own_of area.old) from area.old.database requests.entry area.old.next_dd) from.link area.old) { sent = marked_all (answered_on (slice_get area.old.links from.link) from.router area.old.database requests.entry) area.old.sent }) }
-    ensures sent { OnOk result (out.new ≡ and_sends out.old (work_sent (request_part (own_of area.old) from area.old.database requests.entry area.old.next_dd) (own_of area.old) from.link area.old.links)) }
+    requires {
+        (link : LinkValue) → slice_get area.old.links from.link ≡ Some link
+            → (n : NeighbourValue) → neighbour_of link.neighbours from.router ≡ Some n
+            → is_exchanging n.state ≡ true
+    }
+    ensures after {
+        OnOk result
+            (area.new
+                ≡ record
+                    (worked
+                        (request_part (own_of area.old) from area.old.database requests.entry
+                            area.old.next_dd)
+                        from.link area.old)
+                    {
+                        sent = marked_all
+                            (answered_on (slice_get area.old.links from.link) from.router
+                                area.old.database requests.entry)
+                            area.old.sent
+                    })
+    }
+    ensures sent {
+        OnOk result
+            (out.new
+                ≡ and_sends out.old
+                    (work_sent
+                        (request_part (own_of area.old) from area.old.database requests.entry
+                            area.old.next_dd)
+                        (own_of area.old) from.link area.old.links))
+    }
 {
     let own = own_of(area);
     match area.links.get_mut(from.link) {
-        Some(link) => request_on_link(
-            link,
-            from,
-            requests,
-            &area.database,
-            own,
-            &mut area.next_dd,
-            &mut area.sent,
-            out,
-            alloc,
-        ),
+        Some(link) => {
+            let iface = iface_of(link);
+            let mut post = Post::new(area.next_dd, alloc);
+            let keys = request_comes(link, from, requests, &area.database, own, &mut post)?;
+            mark_all(&mut area.sent, &keys)?;
+            area.next_dd = post.next();
+            post.send_all(out, own, from.link, &iface)
+        }
         None => Ok(()),
     }
 }

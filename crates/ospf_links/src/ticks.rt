@@ -6,9 +6,9 @@ ghost use Rattle.ospf_area.specs.Sending.{and_sends};
 ghost use Rattle.ospf_adjacency.specs.Links.{elects_by_timers, timed, wait_ticked};
 ghost use Rattle.ospf_links.specs.Parts.{hello_out, hello_sent, link_timed};
 
-use crate::link::{open, put_back, take_out};
+use crate::link::{put_back, take_out};
+use ospf_adjacency::{Post, send_due_hello, tick_timers};
 use ospf_area::{Link, Outputs, Own};
-use ospf_adjacency::{send_due_hello, tick_timers};
 use ospf_neighbour::Neighbour;
 use std::alloc::{AllocError, Global};
 
@@ -51,10 +51,9 @@ fn send_hello_on(
     ensures after { OnOk result (link.new ≡ hello_sent link.old) }
     ensures sent { OnOk result (out.new ≡ and_sends out.old (hello_out own number link.old)) }
 {
-    let mut outbox = open(out, own, number, &link.iface, alloc);
-    send_due_hello(&mut link.iface, link.neighbours.all(), &mut outbox, alloc)?;
-    *out = outbox.into_outputs();
-    Ok(())
+    let mut post = Post::new(0, alloc);
+    send_due_hello(&mut link.iface, link.neighbours.all(), &mut post)?;
+    post.send_all(out, own, number, &link.iface)
 }
 
 /// A tick of the Hello timers of all links: the Hellos that are due go out (RFC 2328, section 9.5).

@@ -1,7 +1,7 @@
-use Rattle.std.proofs.Common.{◌≡◌, ◌∙◌, Bool, List, true, ap, sym, subst, refl, if◌then◌else◌}
+use Rattle.std.proofs.Common.{◌≡◌, ◌∙◌, Bool, List, true, ap, sym, refl, if◌then◌else◌}
 use Rattle.ospf_base.specs.declared.ids.LsaKey.{LsaKey}
 use Rattle.ospf_exchange.specs.Requests.{all_held}
-use Rattle.ospf_adjacency.specs.Descriptions.{IsAfter, Turn, event_turn, turn}
+use Rattle.ospf_adjacency.specs.Descriptions.{event_turn, turn}
 use Rattle.ospf_neighbour.specs.declared.machine.NbrEvent.TheVariants.{BadLsReq}
 use Rattle.ospf_adjacency.specs.Answers.{asked_keys, copies_turn}
 use Rattle.ospf_adjacency.proofs.KeyLists.{answers_are}
@@ -9,16 +9,18 @@ use Rattle.ospf_adjacency.proofs.answering.take_request.Goals as goal
 
 pub returns-in_ok-send_to-in-Ok-Some-clause-turn : goal.returns-in_ok-send_to-in-Ok-Some-clause-turn
 returns-in_ok-send_to-in-Ok-Some-clause-turn c =
-    let before = turn c.args.neighbour.now c.args.numbers.now in
+    let i = c.args.at.now.iface in
+    let local = c.args.at.now.local in
+    let db = c.args.database.now in
+    let before = turn c.args.neighbour.now c.args.post.now in
     let some = rw c.in-Ok-Some.field-0-is at c.in-Ok-Some.ensures.held in
-    let held : all_held c.args.database.now c.args.requests ≡ true = some refl in
+    let held : all_held db c.args.requests ≡ true = some refl in
     let answers = rw c.in-Ok-Some.field-0-is at c.in-Ok-Some.ensures.keys in
-    let are : c.in-Ok-Some.keys.keys ≡ asked_keys c.args.database.now c.args.requests =
-    answers_are c.args.database.now c.args.requests c.in-Ok-Some.keys.keys c.entries-entries.ensures.database.rising answers held in
-    subst (λ (t : Turn). IsAfter t c.send_to.new.neighbour c.args.numbers.now c.args.out.now c.send_to.new.out)
-    (ap (λ (ks : List LsaKey). copies_turn c.args.iface.now c.args.local c.args.delay c.args.database.now ks before) are
-    ∙ ap (λ (b : Bool). if b then copies_turn c.args.iface.now c.args.local c.args.delay c.args.database.now (asked_keys c.args.database.now c.args.requests) before else event_turn c.args.iface.now c.args.local BadLsReq before) (sym held))
-    (c.in_ok-send_to-in-Ok-Some.ensures c.args.numbers.now)
+    let are : c.in-Ok-Some.keys.keys ≡ asked_keys db c.args.requests =
+    answers_are db c.args.requests c.in-Ok-Some.keys.keys c.entries-entries.ensures.database.rising answers held in
+    c.in_ok-send_to-in-Ok-Some.ensures
+    ∙ ap (λ (ks : List LsaKey). copies_turn i local c.args.delay db ks before) are
+    ∙ ap (λ (b : Bool). if b then copies_turn i local c.args.delay db (asked_keys db c.args.requests) before else event_turn i local BadLsReq before) (sym held)
 
 pub returns-in_ok-send_to-in-Ok-Some-clause-keys : goal.returns-in_ok-send_to-in-Ok-Some-clause-keys
 returns-in_ok-send_to-in-Ok-Some-clause-keys c =

@@ -3,15 +3,20 @@ use Rattle.ospf_base.specs.declared.ids.Addr.{Addr}
 use Rattle.ospf_neighbour.specs.Neighbour.{NeighbourValue}
 use Rattle.ospf_neighbour.specs.declared.machine.NbrEvent.TheVariants.{AdjOk}
 use Rattle.ospf_adjacency.specs.Adjacency.{wants_adjacency}
+use Rattle.ospf_adjacency.specs.Descriptions.{Turn}
 use Rattle.ospf_adjacency.proofs.ElectionLemmas.{adjusted-more}
 use Rattle.ospf_adjacency.proofs.elections.adjust.Goals as goal
 
 pub loop-neighbour-preserved : goal.loop-neighbour-preserved
 loop-neighbour-preserved c =
+    let at = c.args.at.now in
+    let before = c.args.post.now in
+    let post = c.loop-neighbour.post in
+    let after = c.take_event.new.post in
     let now = c.loop-neighbour.neighbours in
     let k = c.loop-neighbour.neighbour-index in
-    adjusted-more c.args.iface.now c.args.local.mtu c.args.local.tick c.args.numbers.now c.args.neighbours.now k now c.loop-neighbour.numbers c.take_event.new.numbers
-    c.args.out.now c.loop-neighbour.out c.take_event.new.out _ (get_or now k c.neighbour-item.result) c.take_event.new.neighbour
+    adjusted-more at.iface at.local.mtu at.local.tick before.next c.args.neighbours.now k now post.next after.next
+    before.sent post.sent after.sent _ (get_or now k c.neighbour-item.result) c.take_event.new.neighbour
     c.loop-neighbour.invariant c.loop-neighbour-test.true (ap (λ (d : NeighbourValue). get_or now k d) c.neighbour-item.is)
-    (ap (λ (b : Bool). AdjOk b) (c.wants_adjacency.ensures ∙ ap (λ (a : Addr). wants_adjacency c.args.iface.now a) c.address.ensures))
-    c.take_event.ensures.neighbour c.take_event.ensures.number c.in_ok-take_event.ensures.sent
+    (ap (λ (b : Bool). AdjOk b) (c.wants_adjacency.ensures ∙ ap (λ (a : Addr). wants_adjacency at.iface a) c.address.ensures))
+    c.take_event.ensures.neighbour c.take_event.ensures.number (ap (λ (t : Turn). t.sent) c.in_ok-take_event.ensures.turn)

@@ -1,36 +1,35 @@
-use Rattle.std.proofs.Common.{◌≡◌, ◌≤◌, ◌∙◌, false, subst, List, Some, ap, sym, refl, length, arith, slice_get}
+use Rattle.std.proofs.Common.{◌≡◌, ◌≤◌, ◌∙◌, List, Some, ap, sym, refl, length, arith, slice_get}
 use Rattle.std.proofs.lemmas.Option.{get_or_from_slice_get}
 use Rattle.ospf_neighbour.specs.Neighbour.{NeighbourValue}
-use Rattle.ospf_adjacency.specs.Heard.{AreAfter, hello_on, neighbourhood, place_for}
+use Rattle.ospf_adjacency.specs.Heard.{neighbourhood, place_for}
 use Rattle.ospf_adjacency.proofs.HelloLemmas.{hello_found, hello_new, place_within}
 use Rattle.ospf_adjacency.proofs.heard.hello_on.Goals as goal
 
 pub insert-requires : goal.insert-requires
 insert-requires c =
-    let within : c.place_for-at.result ≤ length c.deref.result.now = rw c.place_for-at.ensures (place_within c.deref.result.now c.args.sender.0) in
+    let within : c.place_for-place.result ≤ length c.deref.result.now = rw c.place_for-place.ensures (place_within c.deref.result.now c.args.sender.0) in
     omega (arith, within, ap (λ (ns : List NeighbourValue). length ns) c.deref.ensures.value)
 
 pub returns-then-is_at : goal.returns-then-is_at
 returns-then-is_at c =
     let ns = c.args.neighbours.now.items in
-    let k = c.place_for-at.result in
+    let k = c.place_for-place.result in
     let e = c.index_mut-neighbour.result.now in
-    let at : k ≡ place_for ns c.args.sender.0 = c.place_for-at.ensures ∙ ap (λ (l : List NeighbourValue). place_for l c.args.sender.0) c.deref.ensures.value in
+    let at : k ≡ place_for ns c.args.sender.0 = c.place_for-place.ensures ∙ ap (λ (l : List NeighbourValue). place_for l c.args.sender.0) c.deref.ensures.value in
     let h = c.if-is_at.ensures.there refl in
     let there : slice_get ns k ≡ Some h.0 = ap (λ (l : List NeighbourValue). slice_get l k) (sym c.deref-2.ensures.value) ∙ h.1 in
     let is : e ≡ h.0 = c.index_mut-neighbour.ensures.value ∙ get_or_from_slice_get ns k h.0 e there in
-    let t = c.in_ok-elects.ensures in
-    hello_found c.args.iface.now c.args.local c.args.sender c.args.source c.args.hello.now c.args.named ns c.args.numbers.now c.hello_of.new.numbers k c.args.out.now c.hello_of.new.out
-    e c.hello_of.new.neighbour c.in_ok-elects.elects at (there ∙ ap (λ (n : NeighbourValue). Some n) (sym is)) (ap (λ (n : NeighbourValue). n.router) is ∙ h.2) t.turn t.elects
+    hello_found c.args.at.now.iface c.args.at.now.local c.args.sender c.args.source c.args.hello.now c.args.named ns c.args.post.now c.hello_of.new.post k
+    e c.hello_of.new.neighbour c.in_ok-elects.elects at (there ∙ ap (λ (n : NeighbourValue). Some n) (sym is)) (ap (λ (n : NeighbourValue). n.router) is ∙ h.2)
+    c.in_ok-elects.ensures.turn c.in_ok-elects.ensures.elects
 
 pub returns : goal.returns
 returns c =
     let ns = c.args.neighbours.now.items in
-    let at : c.place_for-at.result ≡ place_for ns c.args.sender.0 = c.place_for-at.ensures ∙ ap (λ (l : List NeighbourValue). place_for l c.args.sender.0) c.deref.ensures.value in
+    let at : c.place_for-place.result ≡ place_for ns c.args.sender.0 = c.place_for-place.ensures ∙ ap (λ (l : List NeighbourValue). place_for l c.args.sender.0) c.deref.ensures.value in
     let other = c.is_at.ensures.other c.if-is_at.false in
-    subst (λ (l : List NeighbourValue). AreAfter (hello_on c.args.iface.now c.args.local c.args.sender c.args.source c.args.hello.now c.args.named (neighbourhood ns false c.args.numbers.now)) l c.in_ok-elects-2.elects c.hello_of-2.new.numbers c.args.out.now c.hello_of-2.new.out)
-    (sym c.in_ok-insert.ensures.items)
-    (hello_new c.args.iface.now c.args.local c.args.sender c.args.source c.args.hello.now c.args.named ns c.args.numbers.now c.hello_of-2.new.numbers c.place_for-at.result c.args.out.now c.hello_of-2.new.out
+    ap (λ (l : List NeighbourValue). neighbourhood l c.in_ok-elects-2.elects c.hello_of-2.new.post) c.in_ok-insert.ensures.items
+    ∙ hello_new c.args.at.now.iface c.args.at.now.local c.args.sender c.args.source c.args.hello.now c.args.named ns c.args.post.now c.hello_of-2.new.post c.place_for-place.result
     c.new-neighbour.result c.hello_of-2.new.neighbour c.in_ok-elects-2.elects c.requires at
-    (λ o there. other o (ap (λ (l : List NeighbourValue). slice_get l c.place_for-at.result) c.deref-2.ensures.value ∙ there))
-    c.new-neighbour.ensures c.in_ok-elects-2.ensures.turn c.in_ok-elects-2.ensures.elects)
+    (λ o there. other o (ap (λ (l : List NeighbourValue). slice_get l c.place_for-place.result) c.deref-2.ensures.value ∙ there))
+    c.new-neighbour.ensures c.in_ok-elects-2.ensures.turn c.in_ok-elects-2.ensures.elects

@@ -7,5 +7,5 @@ use Rattle.ospf_adjacency.proofs.packing.send_copies.Given as goal
 abbrev pub invariant-loop-key : goal.invariant-loop-key
 invariant-loop-key l = record {
   left : l.left ≡ l.room - bytes_in l.batch.items;
-  sent : and_parcels l.out (map (update_to l.destination) (packed l.room l.batch.items (copies_of l.database l.delay l.key-iterator))) ≡ and_parcels l.fn.out (map (update_to l.destination) (packed l.room [] (copies_of l.database l.delay l.keys.keys)));
+  sent : and_parcels l.post (map (update_to l.destination) (packed l.room l.batch.items (copies_of l.database l.delay l.key-iterator))) ≡ and_parcels l.fn.post (map (update_to l.destination) (packed l.room [] (copies_of l.database l.delay l.keys.keys)));
 }

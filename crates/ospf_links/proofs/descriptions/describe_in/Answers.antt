@@ -1,10 +1,9 @@
-use Rattle.std.proofs.Common.{◌≡◌, ◌∙◌, List, Option, None, Some, IsTrue, Bool, true, false, ap, subst, sym, slice_get}
+use Rattle.std.proofs.Common.{◌≡◌, ◌∙◌, List, Option, None, Some, IsTrue, Bool, true, false, ap, sym, slice_get}
 use Rattle.std.proofs.lemmas.Option.{get_or_from_slice_get}
 use Rattle.ospf_neighbour.specs.Neighbour.{NeighbourValue}
 use Rattle.ospf_neighbour.specs.Neighbours.{neighbour_of}
-use Rattle.ospf_adjacency.specs.Heard.{AreAfter, neighbourhood, place_for}
-use Rattle.ospf_adjacency.proofs.HelloLemmas.{are_still}
-use Rattle.ospf_adjacency.specs.Descriptions.{turn}
+use Rattle.ospf_adjacency.specs.Heard.{neighbourhood, place_for}
+use Rattle.ospf_adjacency.specs.Descriptions.{Turn, turn}
 use Rattle.ospf_links.specs.Parts.{description_by}
 use Rattle.ospf_links.proofs.WorkLemmas.{described_found, described_router, is_none}
 use Rattle.ospf_links.proofs.descriptions.describe_in.Goals as goal
@@ -22,9 +21,8 @@ nobody c =
 
 pub returns-then-not-is_at : goal.returns-then-not-is_at
 returns-then-not-is_at c =
-    let x = neighbourhood c.args.all.now.items false c.args.next.now in
-    subst (λ (o : Option NeighbourValue). AreAfter (description_by o c.args.iface.now c.args.local c.args.from.router c.args.fields c.args.headers c.args.database.now x) c.args.all.now.items false c.args.next.now c.args.out.now c.args.out.now)
-    (sym (nobody c)) (are_still c.args.all.now.items false c.args.next.now c.args.out.now)
+    let x = neighbourhood c.args.all.now.items false c.args.post.now in
+    ap (λ (o : Option NeighbourValue). description_by o c.args.at.now.iface c.args.at.now.local c.args.from.router c.args.fields c.args.headers c.args.database.now x) (sym (nobody c))
 
 -- the neighbour that stands there
 record Stands (c : In_ok-elects) : Type 0 where
@@ -49,7 +47,10 @@ stands c =
 pub returns : goal.returns
 returns c =
     let s = stands c in
+    let i = c.args.at.now.iface in
+    let local = c.args.at.now.local in
     let t = c.in_ok-elects.ensures in
-    described_found c.args.iface.now c.args.local c.args.from.router c.args.fields c.args.headers c.args.database.now c.args.all.now.items c.args.next.now c.describe.new.next c.place_for-place.result
-    c.args.out.now c.describe.new.out c.index_mut-neighbour.result.now c.describe.new.neighbour c.in_ok-elects.elects
-    s.at s.there s.same (described_router c.args.iface.now c.args.local c.args.from.router c.args.fields c.args.headers c.args.database.now (turn c.index_mut-neighbour.result.now c.args.next.now) c.describe.new.neighbour t.turn.neighbour) t.turn t.elects
+    let e = c.index_mut-neighbour.result.now in
+    described_found i local c.args.from.router c.args.fields c.args.headers c.args.database.now c.args.all.now.items c.args.post.now c.describe.new.post c.place_for-place.result
+    e c.describe.new.neighbour c.in_ok-elects.elects s.at s.there s.same
+    (described_router i local c.args.from.router c.args.fields c.args.headers c.args.database.now (turn e c.args.post.now) c.describe.new.neighbour (ap (λ (u : Turn). u.neighbour) t.turn)) t.turn t.elects

@@ -6,5 +6,5 @@ use Rattle.ospf_links.proofs.repeats.repeat_on.Goals as goal
 pub put_back-requires : goal.put_back-requires
 put_back-requires c =
     subst AreNeighbours (sym c.in_ok-repeat_to_all.ensures.after)
-    (repeated_stay c.args.own c.iface_of-iface.result c.link.inside.settings c.args.database.now _
+    (repeated_stay c.args.own c.link.inside.iface c.link.inside.settings c.args.database.now _
     (subst AreNeighbours (sym c.take_out-all.ensures.neighbours) c.take_out-all.ensures.rising))

@@ -6,7 +6,7 @@ use Rattle.ospf_links.proofs.repeats.repeat_to_each.Given as goal
 
 abbrev pub invariant-loop-neighbour : goal.invariant-loop-neighbour
 invariant-loop-neighbour l = record {
-  repeated : l.all ≡ map (repeated l.own l.iface l.settings l.database) (take l.neighbour-index l.initial.all) ++ drop l.neighbour-index l.initial.all;
-  sent : l.out ≡ and_sends l.initial.out (flat_map (repeats_to l.own l.number l.iface l.settings l.database) (take l.neighbour-index l.initial.all));
-  marks : l.sent.keys ≡ marked_all (flat_map (keys_to l.own l.settings l.database) (take l.neighbour-index l.initial.all)) l.initial.sent.keys;
+  repeated : l.all ≡ map (repeated l.on.own l.on.iface l.on.settings l.database) (take l.neighbour-index l.initial.all) ++ drop l.neighbour-index l.initial.all;
+  sent : l.out ≡ and_sends l.initial.out (flat_map (repeats_to l.on.own l.on.number l.on.iface l.on.settings l.database) (take l.neighbour-index l.initial.all));
+  marks : l.sent.keys ≡ marked_all (flat_map (keys_to l.on.own l.on.settings l.database) (take l.neighbour-index l.initial.all)) l.initial.sent.keys;
 }

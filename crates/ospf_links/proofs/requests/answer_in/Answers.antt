@@ -1,9 +1,8 @@
-use Rattle.std.proofs.Common.{◌≡◌, ◌∙◌, List, Option, None, Some, IsTrue, Bool, true, false, ap, subst, sym, slice_get}
+use Rattle.std.proofs.Common.{◌≡◌, ◌∙◌, List, Option, None, Some, IsTrue, Bool, true, false, ap, sym, slice_get}
 use Rattle.std.proofs.lemmas.Option.{get_or_from_slice_get}
 use Rattle.ospf_neighbour.specs.Neighbour.{NeighbourValue}
 use Rattle.ospf_neighbour.specs.Neighbours.{neighbour_of}
-use Rattle.ospf_adjacency.specs.Heard.{AreAfter, neighbourhood, place_for}
-use Rattle.ospf_adjacency.proofs.HelloLemmas.{are_still}
+use Rattle.ospf_adjacency.specs.Heard.{neighbourhood, place_for}
 use Rattle.ospf_links.specs.Parts.{answered_by, request_by}
 use Rattle.ospf_links.proofs.RequestLemmas.{requested_found}
 use Rattle.ospf_links.proofs.WorkLemmas.{is_found, is_none}
@@ -22,13 +21,12 @@ nobody c =
 
 pub returns-then-not-is_at-clause-turn : goal.returns-then-not-is_at-clause-turn
 returns-then-not-is_at-clause-turn c =
-    let x = neighbourhood c.args.all.now.items false c.args.next.now in
-    subst (λ (o : Option NeighbourValue). AreAfter (request_by o c.args.iface.now c.args.local c.args.delay c.args.database.now c.args.requests x) c.args.all.now.items false c.args.next.now c.args.out.now c.args.out.now)
-    (sym (nobody c.before)) (are_still c.args.all.now.items false c.args.next.now c.args.out.now)
+    let x = neighbourhood c.args.all.now.items false c.args.post.now in
+    ap (λ (o : Option NeighbourValue). request_by o c.args.at.now.iface c.args.at.now.local c.args.delay c.args.database.now c.args.requests x) (sym (nobody (goal.at.returns-then-not-is_at-clause-turn c).Then-not-is_at))
 
 pub returns-then-not-is_at-clause-keys : goal.returns-then-not-is_at-clause-keys
 returns-then-not-is_at-clause-keys c =
-    c.new.ensures.empty ∙ ap (λ (o : Option NeighbourValue). answered_by o c.args.database.now c.args.requests) (sym (nobody c.before))
+    c.new.ensures.empty ∙ ap (λ (o : Option NeighbourValue). answered_by o c.args.database.now c.args.requests) (sym (nobody (goal.at.returns-then-not-is_at-clause-keys c).Then-not-is_at))
 
 pub take_request-requires : goal.take_request-requires
 take_request-requires c =
@@ -48,8 +46,8 @@ returns-clause-turn c =
     let h = c.is_at.ensures.there (subst-true c.is_at.result c.if-not-is_at.false) in
     let there : slice_get ns k ≡ Some h.0 = ap (λ (l : List NeighbourValue). slice_get l k) (sym c.deref-2.ensures.value) ∙ h.1 in
     let is : e ≡ h.0 = c.index_mut-neighbour.ensures.value ∙ get_or_from_slice_get ns k h.0 e there in
-    requested_found c.args.iface.now c.args.local c.args.from.router c.args.delay c.args.database.now c.args.requests ns c.args.next.now c.take_request.new.numbers k
-    c.args.out.now c.take_request.new.out e c.take_request.new.neighbour
+    requested_found c.args.at.now.iface c.args.at.now.local c.args.from.router c.args.delay c.args.database.now c.args.requests ns c.args.post.now c.take_request.new.post k
+    e c.take_request.new.neighbour
     (c.place_for-place.ensures ∙ ap (λ (l : List NeighbourValue). place_for l c.args.from.router.0) c.deref.ensures.value) (there ∙ ap (λ (n : NeighbourValue). Some n) (sym is)) (ap (λ (n : NeighbourValue). n.router) is ∙ h.2)
     c.in_ok-keys.ensures.turn
 

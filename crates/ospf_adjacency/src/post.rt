@@ -1,0 +1,128 @@
+//! What a part of a step works on beside neighbours: its link, and what it leaves.
+
+use ospf_area::{Outputs, Own, send, way_out};
+use ospf_base::Addr;
+use ospf_exchange::Local;
+use ospf_iface::Iface;
+use ospf_packet::{BodyValue, PacketValue};
+use std::alloc::{AllocError, Global};
+use std::marker::Model;
+
+/// The link's side of a part of a step: its interface, and what the part needs to know of the router.
+#[derive(Clone, Copy)]
+pub struct OnLink {
+    pub iface: Iface,
+    pub local: Local,
+}
+
+/// A packet that is to go out of a link: where it goes, and what it says.
+#[derive(Drop)]
+struct Parcel {
+    destination: Addr,
+    body: BodyValue,
+}
+
+impl Model for Parcel {
+    ghost use Rattle.ospf_adjacency.specs.Packets as packets;
+
+    ghost Value = { packets.Parcel };
+
+    ghost use Rattle.ospf_packet.specs.Said.{body_meant};
+
+    ghost view = { λ p. record { destination = p.destination; body = body_meant p.body } };
+}
+
+/// What a part of a step at one link leaves beside its neighbours: the router's next Database Description number, and the
+/// packets that go out.
+#[derive(Drop)]
+pub struct Post {
+    next: u32,
+    sent: Vec<Parcel>,
+    alloc: Global,
+}
+
+impl Model for Post {
+    ghost use Rattle.ospf_adjacency.specs.Posting.{PostValue};
+
+    ghost Value = { PostValue };
+
+    ghost view = { λ p. record { next = p.next; sent = p.sent.items } };
+}
+
+impl Post {
+    ghost use Rattle.std.specs.Prelude.{◌≡◌, ◌∷◌, [], OnOk};
+    ghost use Rattle.ospf_area.specs.Sending.{and_sends};
+    ghost use Rattle.ospf_packet.specs.Said.{body_meant};
+    ghost use Rattle.ospf_adjacency.specs.Posting.{and_parcels, posted_all};
+
+    /// Nothing goes out yet; `next` is the router's next Database Description number (RFC 2328, section 10.8).
+    pub fn new(next: u32, alloc: Global) -> Post
+        ensures { result ≡ record { next = next; sent = [] } }
+    {
+        Post {
+            next,
+            sent: Vec::new(alloc),
+            alloc,
+        }
+    }
+
+    /// The router's next Database Description number.
+    pub fn next(&self) -> u32
+        ensures { result ≡ self.now.next }
+    {
+        self.next
+    }
+
+    /// Where its memory comes from.
+    pub fn alloc(&self) -> Global {
+        self.alloc
+    }
+
+    // This is the router's next Database Description number.
+    pub(crate) fn set_next(&mut self, next: u32)
+        ensures { self.new ≡ record self.old { next = next } }
+    {
+        self.next = next;
+    }
+
+    /// A packet is to go out.
+    ///
+    /// `AllocError` where memory runs out.
+    pub fn put(&mut self, destination: Addr, body: BodyValue) -> Result<(), AllocError>
+        ensures next { self.new.next ≡ self.old.next }
+        ensures sent {
+            OnOk result
+                (self.new ≡ and_parcels self.old (record { destination = destination; body = body_meant body } ∷ []))
+        }
+    {
+        self.sent.push(Parcel { destination, body })?;
+        Ok(())
+    }
+
+    /// All goes out of the link of this number, whose interface this is, behind these outputs. A packet that is longer than
+    /// `ospf_packet::LARGEST_PACKET` is not sent.
+    ///
+    /// `AllocError` where memory runs out.
+    pub fn send_all(
+        self,
+        out: &mut Outputs,
+        own: Own,
+        link: usize,
+        iface: &Iface,
+    ) -> Result<(), AllocError>
+        ensures { OnOk result (out.new ≡ and_sends out.old (posted_all own link iface.now self.sent)) }
+    {
+        let alloc = self.alloc;
+        let sent = self.sent;
+        for parcel in sent {
+            let way = way_out(link, iface, parcel.destination);
+            let packet = PacketValue {
+                router: own.router,
+                area: own.area,
+                body: parcel.body,
+            };
+            send(out, way, &packet, alloc)?;
+        }
+        Ok(())
+    }
+}
