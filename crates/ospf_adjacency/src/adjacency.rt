@@ -12,13 +12,6 @@ use ospf_iface::Iface;
 use ospf_neighbour::{Effect, NbrEvent, Neighbour};
 use std::alloc::AllocError;
 
-// Whether an address is that of the Designated Router or the Backup.
-fn is_chosen(iface: &Iface, address: Addr) -> bool
-    ensures { result ≡ is_chosen iface.now address }
-{
-    address.0 == iface.dr.0 || address.0 == iface.backup.0
-}
-
 /// Whether a link is a broadcast link, on which a DR and a Backup are elected (RFC 2328, section 9.4).
 pub fn is_broadcast(iface: &Iface) -> bool
     ensures { result ≡ is_broadcast iface.now }
@@ -33,21 +26,44 @@ pub fn wants_adjacency(iface: &Iface, address: Addr) -> bool
     !is_broadcast(iface) || is_chosen(iface, iface.settings.address) || is_chosen(iface, address)
 }
 
-fn is_beginning(effect: Effect) -> bool
-    ensures { result ≡ is_beginning effect }
+/// Takes an event of the neighbour machine (RFC 2328, section 10.3). Where an adjacency begins by it, the neighbour takes
+/// the router's next Database Description number, which counts up, and a first packet goes out to it.
+///
+/// `AllocError` where memory runs out.
+pub fn take_event(
+    neighbour: &mut Neighbour,
+    event: NbrEvent,
+    at: &OnLink,
+    post: &mut Post,
+) -> Result<(), AllocError>
+    ensures neighbour { neighbour.new
+        ≡ event_taken event at.now.iface.settings.dead post.old.next at.now.local.tick neighbour.old }
+    ensures number { post.new.next ≡ number_by event neighbour.old post.old.next }
+    ensures turn { OnOk result
+        (turn neighbour.new post.new
+        ≡ event_turn at.now.iface at.now.local event (turn neighbour.old post.old)) }
 {
-    matches!(effect, Effect::AdjacencyBegins)
+    if count_event(neighbour, event, at, post) {
+        send_dd(neighbour, at, post)?;
+    }
+    Ok(())
+}
+
+// Whether an address is that of the Designated Router or the Backup.
+fn is_chosen(iface: &Iface, address: Addr) -> bool
+    ensures { result ≡ is_chosen iface.now address }
+{
+    address.0 == iface.dr.0 || address.0 == iface.backup.0
 }
 
 // Takes an event; whether an adjacency begins by it. The neighbour then has the router's next Database Description number,
 // which counts up.
 fn count_event(neighbour: &mut Neighbour, event: NbrEvent, at: &OnLink, post: &mut Post) -> bool
     ensures begins { result ≡ begins_by event neighbour.old }
-    ensures neighbour {
-        neighbour.new
-            ≡ event_taken event at.now.iface.settings.dead post.old.next at.now.local.tick neighbour.old
-    }
-    ensures number { post.new ≡ record post.old { next = number_by event neighbour.old post.old.next } }
+    ensures neighbour { neighbour.new
+        ≡ event_taken event at.now.iface.settings.dead post.old.next at.now.local.tick neighbour.old }
+    ensures number { post.new ≡ record post.old
+        { next = number_by event neighbour.old post.old.next } }
 {
     let next = post.next();
     let change = neighbour.event(event, at.iface.settings.dead);
@@ -59,29 +75,8 @@ fn count_event(neighbour: &mut Neighbour, event: NbrEvent, at: &OnLink, post: &m
     true
 }
 
-/// Takes an event of the neighbour machine (RFC 2328, section 10.3). Where an adjacency begins by it, the neighbour takes
-/// the router's next Database Description number, which counts up, and a first packet goes out to it.
-///
-/// `AllocError` where memory runs out.
-pub fn take_event(
-    neighbour: &mut Neighbour,
-    event: NbrEvent,
-    at: &OnLink,
-    post: &mut Post,
-) -> Result<(), AllocError>
-    ensures neighbour {
-        neighbour.new
-            ≡ event_taken event at.now.iface.settings.dead post.old.next at.now.local.tick neighbour.old
-    }
-    ensures number { post.new.next ≡ number_by event neighbour.old post.old.next }
-    ensures turn {
-        OnOk result
-            (turn neighbour.new post.new
-                ≡ event_turn at.now.iface at.now.local event (turn neighbour.old post.old))
-    }
+fn is_beginning(effect: Effect) -> bool
+    ensures { result ≡ is_beginning effect }
 {
-    if count_event(neighbour, event, at, post) {
-        send_dd(neighbour, at, post)?;
-    }
-    Ok(())
+    matches!(effect, Effect::AdjacencyBegins)
 }

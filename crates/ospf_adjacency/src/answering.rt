@@ -17,49 +17,6 @@ use ospf_packet::Requests;
 use std::alloc::AllocError;
 use std::collections::BTreeSet;
 
-// A copy counts as sent to the neighbour.
-fn resend_copy(neighbour: &mut Neighbour, copy: Option<EntryView<'_>>, tick: u64)
-    ensures { neighbour.new ≡ resent_copy copy.entry tick neighbour.old }
-{
-    if let Some(copy) = copy {
-        neighbour.resend(&copy.instance(), tick);
-    }
-}
-
-// The copies of these keys count as sent to the neighbour.
-fn resend_keys(neighbour: &mut Neighbour, keys: &BTreeSet<LsaKey>, database: &Lsdb, tick: u64)
-    ensures { neighbour.new ≡ resent_keys database.now tick keys.now.keys neighbour.old }
-{
-    for key in keys {
-        resend_copy(neighbour, database.get(key), tick);
-    }
-}
-
-// The copies of these keys go to a neighbour. Most often there are none.
-#[tactic(auto, using(crate::proofs::SendLemmas::none_sent))]
-pub(crate) fn send_to(
-    neighbour: &mut Neighbour,
-    keys: &BTreeSet<LsaKey>,
-    database: &Lsdb,
-    at: &OnLink,
-    delay: u16,
-    post: &mut Post,
-) -> Result<(), AllocError>
-    ensures {
-        OnOk result
-            (turn neighbour.new post.new
-                ≡ copies_turn at.now.iface at.now.local delay database.now keys.now.keys
-                    (turn neighbour.old post.old))
-    }
-{
-    if keys.is_empty() {
-        return Ok(());
-    }
-    let to = to_address(&at.iface, neighbour.address());
-    resend_keys(neighbour, keys, database, at.local.tick);
-    send_copies(keys, database, delay, at.local.mtu, to, post)
-}
-
 /// Takes a Link State Request of a neighbour in Exchange or above (RFC 2328, section 10.7): the copies that it asks for
 /// go out, in the order of their keys, or BadLSReq begins the adjacency anew. `delay` is InfTransDelay, in ticks. Answers
 /// the keys whose copies went out.
@@ -74,12 +31,10 @@ pub fn take_request(
     post: &mut Post,
 ) -> Result<BTreeSet<LsaKey>, AllocError>
     requires { IsTrue (is_exchanging neighbour.old.state) }
-    ensures turn {
-        OnOk result
-            (turn neighbour.new post.new
-                ≡ answer_turn at.now.iface at.now.local delay database.now requests.entry
-                    (turn neighbour.old post.old))
-    }
+    ensures turn { OnOk result
+        (turn neighbour.new post.new
+        ≡ answer_turn at.now.iface at.now.local delay database.now requests.entry
+        (turn neighbour.old post.old)) }
     ensures keys { IfOk result (λ keys. keys.keys ≡ answered_keys database.now requests.entry) }
 {
     // Its contract says that the keys of the database rise.
@@ -96,5 +51,46 @@ pub fn take_request(
             take_event(neighbour, event, at, post)?;
             Ok(BTreeSet::new(post.alloc()))
         }
+    }
+}
+
+// The copies of these keys go to a neighbour. Most often there are none.
+#[tactic(auto, using(crate::proofs::SendLemmas::none_sent))]
+pub(crate) fn send_to(
+    neighbour: &mut Neighbour,
+    keys: &BTreeSet<LsaKey>,
+    database: &Lsdb,
+    at: &OnLink,
+    delay: u16,
+    post: &mut Post,
+) -> Result<(), AllocError>
+    ensures { OnOk result
+        (turn neighbour.new post.new
+        ≡ copies_turn at.now.iface at.now.local delay database.now keys.now.keys
+        (turn neighbour.old post.old)) }
+{
+    if keys.is_empty() {
+        return Ok(());
+    }
+    let to = to_address(&at.iface, neighbour.address());
+    resend_keys(neighbour, keys, database, at.local.tick);
+    send_copies(keys, database, delay, at.local.mtu, to, post)
+}
+
+// The copies of these keys count as sent to the neighbour.
+fn resend_keys(neighbour: &mut Neighbour, keys: &BTreeSet<LsaKey>, database: &Lsdb, tick: u64)
+    ensures { neighbour.new ≡ resent_keys database.now tick keys.now.keys neighbour.old }
+{
+    for key in keys {
+        resend_copy(neighbour, database.get(key), tick);
+    }
+}
+
+// A copy counts as sent to the neighbour.
+fn resend_copy(neighbour: &mut Neighbour, copy: Option<EntryView<'_>>, tick: u64)
+    ensures { neighbour.new ≡ resent_copy copy.entry tick neighbour.old }
+{
+    if let Some(copy) = copy {
+        neighbour.resend(&copy.instance(), tick);
     }
 }

@@ -25,16 +25,60 @@ pub fn request_turn(
     at: &OnLink,
     post: &mut Post,
 ) -> Result<(), AllocError>
-    ensures {
-        OnOk result
-            (turn neighbour.new post.new
-                ≡ request_turn at.now.iface at.now.local (turn neighbour.old post.old))
-    }
+    ensures { OnOk result
+        (turn neighbour.new post.new
+        ≡ request_turn at.now.iface at.now.local (turn neighbour.old post.old)) }
 {
     if turn_one(neighbour, at.local.mtu, at.local.tick) {
         send_request(neighbour, at, post)?;
     }
     Ok(())
+}
+
+/// Whether `take_description` drops a Database Description of the neighbour's router, `sender`, and so changes nothing: its
+/// MTU is over the interface's, or there is no exchange and it begins none. In Init it is 2-WayReceived, and so not dropped
+/// (RFC 2328, section 10.6). No memory is taken.
+pub fn is_dropped(
+    neighbour: &Neighbour,
+    sender: RouterId,
+    description: Description,
+    headers: &Headers<'_>,
+    local: Local,
+) -> bool
+    ensures { result ≡ dd_dropped local sender description headers.now neighbour.now }
+{
+    local.mtu < description.mtu
+        || (!is_init(neighbour.state())
+            && is_not_taken(neighbour, sender, description, headers, local))
+}
+
+/// Takes a Database Description (RFC 2328, section 10.6) of the neighbour's router, `sender`. Answers whether it was taken:
+/// where not, it is dropped, and nothing changes.
+///
+/// `AllocError` where memory runs out.
+pub fn take_description(
+    neighbour: &mut Neighbour,
+    sender: RouterId,
+    description: Description,
+    headers: Headers<'_>,
+    database: &Lsdb,
+    at: &OnLink,
+    post: &mut Post,
+) -> Result<bool, AllocError>
+    ensures turn { OnOk result
+        (turn neighbour.new post.new
+        ≡ description_turn at.now.iface at.now.local sender description headers.entry database.now
+        (turn neighbour.old post.old)) }
+    ensures taken { IfOk result
+        (λ taken. taken ≡ not (dd_dropped at.now.local sender description headers.entry neighbour.old)) }
+{
+    if at.local.mtu < description.mtu {
+        return Ok(false);
+    }
+    let was_init = is_init(neighbour.state());
+    greet(neighbour, at, post)?;
+    let taken = exchange(neighbour, sender, description, headers, database, at, post)?;
+    Ok(was_init || taken)
 }
 
 // Whether a neighbour is in Init.
@@ -44,39 +88,11 @@ fn is_init(state: NeighbourState) -> bool
     matches!(state, NeighbourState::Init)
 }
 
-// The slave's last packet goes out again.
-fn repeat(neighbour: &mut Neighbour, at: &OnLink, post: &mut Post) -> Result<(), AllocError>
-    ensures {
-        OnOk result
-            (turn neighbour.new post.new
-                ≡ dd_turn at.now.iface at.now.local
-                    (turn (touched at.now.local.tick neighbour.old) post.old))
-    }
-{
-    dd_sent(neighbour, at.local.tick);
-    send_dd(neighbour, at, post)
-}
-
-// The next packet goes out, and then a Request where one is due.
-fn go_on(neighbour: &mut Neighbour, at: &OnLink, post: &mut Post) -> Result<(), AllocError>
-    ensures {
-        OnOk result
-            (turn neighbour.new post.new
-                ≡ request_turn at.now.iface at.now.local
-                    (dd_turn at.now.iface at.now.local (turn neighbour.old post.old)))
-    }
-{
-    send_dd(neighbour, at, post)?;
-    request_turn(neighbour, at, post)
-}
-
 // In Init a Database Description is 2-WayReceived first.
 fn greet(neighbour: &mut Neighbour, at: &OnLink, post: &mut Post) -> Result<(), AllocError>
-    ensures {
-        OnOk result
-            (turn neighbour.new post.new
-                ≡ greeted_turn at.now.iface at.now.local (turn neighbour.old post.old))
-    }
+    ensures { OnOk result
+        (turn neighbour.new post.new
+        ≡ greeted_turn at.now.iface at.now.local (turn neighbour.old post.old)) }
 {
     if is_init(neighbour.state()) {
         let event = NbrEvent::TwoWayReceived(wants_adjacency(&at.iface, neighbour.address()));
@@ -95,19 +111,15 @@ fn exchange(
     at: &OnLink,
     post: &mut Post,
 ) -> Result<bool, AllocError>
-    ensures turn {
-        OnOk result
-            (turn neighbour.new post.new
-                ≡ exchange_turn at.now.iface at.now.local sender description headers.entry database.now
-                    (turn neighbour.old post.old))
-    }
-    ensures taken {
-        IfOk result
-            (λ taken.
-                taken
-                    ≡ not (is_not_taken
-                        (dd_answer at.now.local sender description headers.entry neighbour.old)))
-    }
+    ensures turn { OnOk result
+        (turn neighbour.new post.new
+        ≡ exchange_turn at.now.iface at.now.local sender description headers.entry database.now
+        (turn neighbour.old post.old)) }
+    ensures taken { IfOk result
+        (λ taken.
+        taken
+        ≡ not (is_not_taken
+        (dd_answer at.now.local sender description headers.entry neighbour.old))) }
 {
     match on_dd(
         neighbour,
@@ -143,52 +155,24 @@ fn exchange(
     }
 }
 
-/// Whether `take_description` drops a Database Description of the neighbour's router, `sender`, and so changes nothing: its
-/// MTU is over the interface's, or there is no exchange and it begins none. In Init it is 2-WayReceived, and so not dropped
-/// (RFC 2328, section 10.6). No memory is taken.
-pub fn is_dropped(
-    neighbour: &Neighbour,
-    sender: RouterId,
-    description: Description,
-    headers: &Headers<'_>,
-    local: Local,
-) -> bool
-    ensures { result ≡ dd_dropped local sender description headers.now neighbour.now }
+// The slave's last packet goes out again.
+fn repeat(neighbour: &mut Neighbour, at: &OnLink, post: &mut Post) -> Result<(), AllocError>
+    ensures { OnOk result
+        (turn neighbour.new post.new
+        ≡ dd_turn at.now.iface at.now.local
+        (turn (touched at.now.local.tick neighbour.old) post.old)) }
 {
-    local.mtu < description.mtu
-        || (!is_init(neighbour.state())
-            && is_not_taken(neighbour, sender, description, headers, local))
+    dd_sent(neighbour, at.local.tick);
+    send_dd(neighbour, at, post)
 }
 
-/// Takes a Database Description (RFC 2328, section 10.6) of the neighbour's router, `sender`. Answers whether it was taken:
-/// where not, it is dropped, and nothing changes.
-///
-/// `AllocError` where memory runs out.
-pub fn take_description(
-    neighbour: &mut Neighbour,
-    sender: RouterId,
-    description: Description,
-    headers: Headers<'_>,
-    database: &Lsdb,
-    at: &OnLink,
-    post: &mut Post,
-) -> Result<bool, AllocError>
-    ensures turn {
-        OnOk result
-            (turn neighbour.new post.new
-                ≡ description_turn at.now.iface at.now.local sender description headers.entry database.now
-                    (turn neighbour.old post.old))
-    }
-    ensures taken {
-        IfOk result
-            (λ taken. taken ≡ not (dd_dropped at.now.local sender description headers.entry neighbour.old))
-    }
+// The next packet goes out, and then a Request where one is due.
+fn go_on(neighbour: &mut Neighbour, at: &OnLink, post: &mut Post) -> Result<(), AllocError>
+    ensures { OnOk result
+        (turn neighbour.new post.new
+        ≡ request_turn at.now.iface at.now.local
+        (dd_turn at.now.iface at.now.local (turn neighbour.old post.old))) }
 {
-    if at.local.mtu < description.mtu {
-        return Ok(false);
-    }
-    let was_init = is_init(neighbour.state());
-    greet(neighbour, at, post)?;
-    let taken = exchange(neighbour, sender, description, headers, database, at, post)?;
-    Ok(was_init || taken)
+    send_dd(neighbour, at, post)?;
+    request_turn(neighbour, at, post)
 }

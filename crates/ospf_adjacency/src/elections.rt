@@ -16,18 +16,33 @@ use ospf_iface::{Iface, IfaceEvent, IfaceState};
 use ospf_neighbour::{NbrEvent, Neighbour};
 use std::alloc::{AllocError, Global};
 
-// A neighbour as it takes part in an election.
-fn candidate_of(neighbour: &Neighbour) -> Candidate
-    ensures { result ≡ candidate_of neighbour.now }
+/// The election of a link on which one is due (RFC 2328, section 9.4), and AdjOK? where the Designated Router or the Backup
+/// is another.
+///
+/// `AllocError` where memory runs out.
+pub fn elect_on(
+    iface: &mut Iface,
+    neighbours: &mut [Neighbour],
+    local: Local,
+    post: &mut Post,
+) -> Result<(), AllocError>
+    requires electing { elects_in iface.old.state ≡ true }
+    requires link { AreOfLink iface.old neighbours.old }
+    ensures { OnOk result
+        ((sent : List Parcel)
+        × ElectsOn local.mtu local.tick iface.old neighbours.old post.old.next sent
+        iface.new neighbours.new post.new.next
+        × (post.new.sent ≡ post.old.sent ++ sent)) }
 {
-    let declared = neighbour.declared();
-    Candidate {
-        id: neighbour.router(),
-        address: neighbour.address(),
-        priority: declared.priority,
-        dr: declared.dr,
-        backup: declared.backup,
+    let candidates = candidates_of(iface, neighbours, post.alloc())?;
+    if elect(iface, &candidates) {
+        let at = OnLink {
+            iface: *iface,
+            local,
+        };
+        adjust(neighbours, &at, post)?;
     }
+    Ok(())
 }
 
 // Who takes part in a link's election: the router itself, and the neighbours in 2-Way or above.
@@ -48,12 +63,27 @@ fn candidates_of(
     Ok(all)
 }
 
+// A neighbour as it takes part in an election.
+fn candidate_of(neighbour: &Neighbour) -> Candidate
+    ensures { result ≡ candidate_of neighbour.now }
+{
+    let declared = neighbour.declared();
+    Candidate {
+        id: neighbour.router(),
+        address: neighbour.address(),
+        priority: declared.priority,
+        dr: declared.dr,
+        backup: declared.backup,
+    }
+}
+
 // The election; whether AdjOK? is due.
 fn elect(iface: &mut Iface, candidates: &[Candidate]) -> bool
     requires electing { elects_in iface.old.state ≡ true }
     requires distinct { AreDistinct candidates.now }
     requires own { Contains candidates.now (own_candidate iface.old) }
-    ensures { (change : IfaceChange) × Elects candidates.now iface.old iface.new change × (result ≡ change.adj_ok) }
+    ensures { (change : IfaceChange) × Elects candidates.now iface.old iface.new change
+        × (result ≡ change.adj_ok) }
 {
     let change = match iface.state {
         IfaceState::Waiting => iface.event(IfaceEvent::WaitTimer(candidates)),
@@ -63,59 +93,19 @@ fn elect(iface: &mut Iface, candidates: &[Candidate]) -> bool
 }
 
 // AdjOK? comes to the neighbours of a link.
-fn adjust(
-    neighbours: &mut [Neighbour],
-    at: &OnLink,
-    post: &mut Post,
-) -> Result<(), AllocError>
-    ensures neighbours {
-        OnOk result
-            (neighbours.new ≡ adjusted at.now.iface at.now.local.tick post.old.next neighbours.old)
-    }
-    ensures number {
-        OnOk result (post.new.next ≡ number_after at.now.iface post.old.next neighbours.old)
-    }
-    ensures sent {
-        OnOk result
-            (post.new.sent
-                ≡ post.old.sent
-                    ++ first_dds at.now.iface at.now.local.mtu at.now.local.tick post.old.next neighbours.old)
-    }
+fn adjust(neighbours: &mut [Neighbour], at: &OnLink, post: &mut Post) -> Result<(), AllocError>
+    ensures neighbours { OnOk result
+        (neighbours.new ≡ adjusted at.now.iface at.now.local.tick post.old.next neighbours.old) }
+    ensures number { OnOk result (post.new.next
+        ≡ number_after at.now.iface post.old.next neighbours.old) }
+    ensures sent { OnOk result
+        (post.new.sent
+        ≡ post.old.sent
+        ++ first_dds at.now.iface at.now.local.mtu at.now.local.tick post.old.next neighbours.old) }
 {
     for neighbour in neighbours.iter_mut() {
         let event = NbrEvent::AdjOk(wants_adjacency(&at.iface, neighbour.address()));
         take_event(neighbour, event, at, post)?;
-    }
-    Ok(())
-}
-
-/// The election of a link on which one is due (RFC 2328, section 9.4), and AdjOK? where the Designated Router or the Backup
-/// is another.
-///
-/// `AllocError` where memory runs out.
-pub fn elect_on(
-    iface: &mut Iface,
-    neighbours: &mut [Neighbour],
-    local: Local,
-    post: &mut Post,
-) -> Result<(), AllocError>
-    requires electing { elects_in iface.old.state ≡ true }
-    requires link { AreOfLink iface.old neighbours.old }
-    ensures {
-        OnOk result
-            ((sent : List Parcel)
-                × ElectsOn local.mtu local.tick iface.old neighbours.old post.old.next sent
-                    iface.new neighbours.new post.new.next
-                × (post.new.sent ≡ post.old.sent ++ sent))
-    }
-{
-    let candidates = candidates_of(iface, neighbours, post.alloc())?;
-    if elect(iface, &candidates) {
-        let at = OnLink {
-            iface: *iface,
-            local,
-        };
-        adjust(neighbours, &at, post)?;
     }
     Ok(())
 }

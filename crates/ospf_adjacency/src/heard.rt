@@ -16,6 +16,16 @@ use ospf_neighbour::{Declared, NbrEvent, Neighbour};
 use ospf_packet::{Hello, Neighbours};
 use std::alloc::AllocError;
 
+// What an election looks at in a neighbour.
+#[derive(Clone, Copy)]
+pub(crate) struct Bearing {
+    two_way: bool,
+    priority: u8,
+    is_dr: bool,
+    is_backup: bool,
+    sees_none: bool,
+}
+
 /// Whether a Hello names a router among the neighbours that its sender has heard. No memory is taken.
 pub fn is_named(neighbours: Neighbours<'_>, router: RouterId) -> bool
     ensures { result ≡ names neighbours.entry router }
@@ -28,89 +38,6 @@ pub fn is_named(neighbours: Neighbours<'_>, router: RouterId) -> bool
     false
 }
 
-// HelloReceived, and what the Hello declares.
-fn hear(neighbour: &mut Neighbour, iface: &Iface, hello: &Hello)
-    ensures { neighbour.new ≡ heard iface.now hello.now neighbour.old }
-{
-    let _ = neighbour.event(NbrEvent::HelloReceived, iface.settings.dead);
-    if is_broadcast(iface) {
-        neighbour.declare(Declared {
-            priority: hello.priority,
-            dr: hello.designated,
-            backup: hello.backup,
-        });
-    }
-}
-
-// 2-WayReceived, or 1-WayReceived.
-fn naming_event(iface: &Iface, named: bool, address: Addr) -> NbrEvent
-    ensures { result ≡ (if named then NbrEvent.TwoWayReceived (wants_adjacency iface.now address) else NbrEvent.OneWayReceived) }
-{
-    if named {
-        NbrEvent::TwoWayReceived(wants_adjacency(iface, address))
-    } else {
-        NbrEvent::OneWayReceived
-    }
-}
-
-// Takes a Hello of a neighbour.
-fn take_hello(
-    neighbour: &mut Neighbour,
-    hello: &Hello,
-    named: bool,
-    at: &OnLink,
-    post: &mut Post,
-) -> Result<(), AllocError>
-    ensures {
-        OnOk result
-            (turn neighbour.new post.new
-                ≡ hello_turn at.now.iface at.now.local hello.now named (turn neighbour.old post.old))
-    }
-{
-    let event = naming_event(&at.iface, named, neighbour.address());
-    hear(neighbour, &at.iface, hello);
-    take_event(neighbour, event, at, post)
-}
-
-// What an election looks at in a neighbour.
-#[derive(Clone, Copy)]
-pub(crate) struct Bearing {
-    two_way: bool,
-    priority: u8,
-    is_dr: bool,
-    is_backup: bool,
-    sees_none: bool,
-}
-
-fn bearing_of(neighbour: &Neighbour) -> Bearing
-    ensures { result ≡ bearing_of neighbour.now }
-{
-    let declared = neighbour.declared();
-    let address = neighbour.address();
-    Bearing {
-        two_way: neighbour.state().is_two_way(),
-        priority: declared.priority,
-        is_dr: declared.dr.0 == address.0,
-        is_backup: declared.backup.0 == address.0,
-        sees_none: declared.backup.0 == Addr::NOWHERE.0,
-    }
-}
-
-fn is_neighbor_change(before: Bearing, after: Bearing) -> bool
-    ensures { result ≡ is_neighbor_change before after }
-{
-    before.two_way != after.two_way
-        || before.priority != after.priority
-        || before.is_dr != after.is_dr
-        || before.is_backup != after.is_backup
-}
-
-fn is_backup_seen(after: Bearing) -> bool
-    ensures { result ≡ is_backup_seen after }
-{
-    after.two_way && (after.is_backup || (after.is_dr && after.sees_none))
-}
-
 /// Whether an election comes about by NeighborChange: in DR Other, Backup and DR (RFC 2328, section 9.3).
 pub fn is_settled(state: IfaceState) -> bool
     ensures { result ≡ is_settled state }
@@ -118,41 +45,6 @@ pub fn is_settled(state: IfaceState) -> bool
     matches!(
         state,
         IfaceState::DrOther | IfaceState::Backup | IfaceState::Dr
-    )
-}
-
-// Whether an election comes about by BackupSeen and WaitTimer.
-pub(crate) fn is_waiting(state: IfaceState) -> bool
-    ensures { result ≡ is_waiting state }
-{
-    matches!(state, IfaceState::Waiting)
-}
-
-// Takes a Hello of a neighbour; whether an election is due by it.
-fn hello_of(
-    neighbour: &mut Neighbour,
-    hello: &Hello,
-    named: bool,
-    at: &OnLink,
-    post: &mut Post,
-) -> Result<bool, AllocError>
-    ensures turn {
-        OnOk result
-            (turn neighbour.new post.new
-                ≡ hello_turn at.now.iface at.now.local hello.now named (turn neighbour.old post.old))
-    }
-    ensures elects {
-        IfOk result
-            (λ elects. elects ≡ elects_by_hello at.now.iface.state neighbour.old neighbour.new)
-    }
-{
-    let before = bearing_of(neighbour);
-    take_hello(neighbour, hello, named, at, post)?;
-    let after = bearing_of(neighbour);
-    let state = at.iface.state;
-    Ok(
-        (is_waiting(state) && is_backup_seen(after))
-            || (is_settled(state) && is_neighbor_change(before, after)),
     )
 }
 
@@ -173,8 +65,10 @@ pub fn place_for(all: &[Neighbour], router: RouterId) -> usize
 /// Whether the neighbour at a place has this Router ID.
 pub fn is_at(all: &[Neighbour], at: usize, router: RouterId) -> bool
     ensures within { IsTrue result → at < length all.now }
-    ensures there { IsTrue result → (n : NeighbourValue) × (slice_get all.now at ≡ Some n) × (n.router ≡ router) }
-    ensures other { result ≡ false → (n : NeighbourValue) → slice_get all.now at ≡ Some n → n.router ≢ router }
+    ensures there { IsTrue result → (n : NeighbourValue) × (slice_get all.now at ≡ Some n)
+        × (n.router ≡ router) }
+    ensures other { result ≡ false → (n : NeighbourValue) → slice_get all.now at ≡ Some n →
+        n.router ≢ router }
 {
     match all.get(at) {
         Some(neighbour) => neighbour.router().0 == router.0,
@@ -197,13 +91,11 @@ pub fn hello_on(
     post: &mut Post,
 ) -> Result<bool, AllocError>
     requires { IsRising neighbours.old.items }
-    ensures {
-        IfOk result
-            (λ elects.
-                neighbourhood neighbours.new.items elects post.new
-                    ≡ hello_on at.now.iface at.now.local sender source hello.now named
-                        (neighbourhood neighbours.old.items false post.old))
-    }
+    ensures { IfOk result
+        (λ elects.
+        neighbourhood neighbours.new.items elects post.new
+        ≡ hello_on at.now.iface at.now.local sender source hello.now named
+        (neighbourhood neighbours.old.items false post.old)) }
 {
     let place = place_for(neighbours, sender);
     if is_at(neighbours, place, sender) {
@@ -215,4 +107,107 @@ pub fn hello_on(
     let elects = hello_of(&mut neighbour, hello, named, at, post)?;
     neighbours.insert(place, neighbour)?;
     Ok(elects)
+}
+
+// Whether an election comes about by BackupSeen and WaitTimer.
+pub(crate) fn is_waiting(state: IfaceState) -> bool
+    ensures { result ≡ is_waiting state }
+{
+    matches!(state, IfaceState::Waiting)
+}
+
+// Takes a Hello of a neighbour; whether an election is due by it.
+fn hello_of(
+    neighbour: &mut Neighbour,
+    hello: &Hello,
+    named: bool,
+    at: &OnLink,
+    post: &mut Post,
+) -> Result<bool, AllocError>
+    ensures turn { OnOk result
+        (turn neighbour.new post.new
+        ≡ hello_turn at.now.iface at.now.local hello.now named (turn neighbour.old post.old)) }
+    ensures elects { IfOk result
+        (λ elects. elects ≡ elects_by_hello at.now.iface.state neighbour.old neighbour.new) }
+{
+    let before = bearing_of(neighbour);
+    take_hello(neighbour, hello, named, at, post)?;
+    let after = bearing_of(neighbour);
+    let state = at.iface.state;
+    Ok(
+        (is_waiting(state) && is_backup_seen(after))
+            || (is_settled(state) && is_neighbor_change(before, after)),
+    )
+}
+
+fn bearing_of(neighbour: &Neighbour) -> Bearing
+    ensures { result ≡ bearing_of neighbour.now }
+{
+    let declared = neighbour.declared();
+    let address = neighbour.address();
+    Bearing {
+        two_way: neighbour.state().is_two_way(),
+        priority: declared.priority,
+        is_dr: declared.dr.0 == address.0,
+        is_backup: declared.backup.0 == address.0,
+        sees_none: declared.backup.0 == Addr::NOWHERE.0,
+    }
+}
+
+// Takes a Hello of a neighbour.
+fn take_hello(
+    neighbour: &mut Neighbour,
+    hello: &Hello,
+    named: bool,
+    at: &OnLink,
+    post: &mut Post,
+) -> Result<(), AllocError>
+    ensures { OnOk result
+        (turn neighbour.new post.new
+        ≡ hello_turn at.now.iface at.now.local hello.now named (turn neighbour.old post.old)) }
+{
+    let event = naming_event(&at.iface, named, neighbour.address());
+    hear(neighbour, &at.iface, hello);
+    take_event(neighbour, event, at, post)
+}
+
+// 2-WayReceived, or 1-WayReceived.
+fn naming_event(iface: &Iface, named: bool, address: Addr) -> NbrEvent
+    ensures { result ≡ (if named then NbrEvent.TwoWayReceived (wants_adjacency iface.now address)
+        else NbrEvent.OneWayReceived) }
+{
+    if named {
+        NbrEvent::TwoWayReceived(wants_adjacency(iface, address))
+    } else {
+        NbrEvent::OneWayReceived
+    }
+}
+
+// HelloReceived, and what the Hello declares.
+fn hear(neighbour: &mut Neighbour, iface: &Iface, hello: &Hello)
+    ensures { neighbour.new ≡ heard iface.now hello.now neighbour.old }
+{
+    let _ = neighbour.event(NbrEvent::HelloReceived, iface.settings.dead);
+    if is_broadcast(iface) {
+        neighbour.declare(Declared {
+            priority: hello.priority,
+            dr: hello.designated,
+            backup: hello.backup,
+        });
+    }
+}
+
+fn is_backup_seen(after: Bearing) -> bool
+    ensures { result ≡ is_backup_seen after }
+{
+    after.two_way && (after.is_backup || (after.is_dr && after.sees_none))
+}
+
+fn is_neighbor_change(before: Bearing, after: Bearing) -> bool
+    ensures { result ≡ is_neighbor_change before after }
+{
+    before.two_way != after.two_way
+        || before.priority != after.priority
+        || before.is_dr != after.is_dr
+        || before.is_backup != after.is_backup
 }

@@ -37,43 +37,6 @@ pub fn go_down(iface: &mut Iface, neighbours: &mut Vec<Neighbour>) -> bool
     true
 }
 
-// Whether the inactivity timer of a neighbour fires at the next tick.
-fn is_inactive(neighbour: &Neighbour) -> bool
-    ensures { result ≡ is_inactive neighbour.now }
-{
-    neighbour.inactivity() == 1
-}
-
-// Whether a neighbour in 2-Way or above is removed at the next tick.
-fn is_lost(neighbour: &Neighbour) -> bool
-    ensures { result ≡ (is_inactive neighbour.now && is_two_way neighbour.now.state) }
-{
-    is_inactive(neighbour) && neighbour.state().is_two_way()
-}
-
-// Whether some neighbour in 2-Way or above is removed at the next tick.
-fn some_lost(neighbours: &[Neighbour]) -> bool
-    ensures { result ≡ list_any (λ n. is_inactive n && is_two_way n.state) neighbours.now }
-{
-    neighbours.iter().any(|n| is_lost(n))
-}
-
-// The inactivity timers count.
-fn count(neighbours: &mut [Neighbour])
-    ensures { neighbours.new ≡ map inactivity_ticked neighbours.old }
-{
-    for neighbour in neighbours.iter_mut() {
-        let _ = neighbour.inactivity_tick();
-    }
-}
-
-// The inactive neighbours are removed.
-fn remove_inactive(neighbours: &mut Vec<Neighbour>)
-    ensures { neighbours.new.items ≡ filter (λ n. not (is_inactive n)) neighbours.old.items }
-{
-    neighbours.retain(|n| !is_inactive(n));
-}
-
 /// A tick of the inactivity timers of a link's neighbours (RFC 2328, section 10.3): those whose timer fires are removed. No
 /// memory is taken.
 pub fn tick_neighbours(neighbours: &mut Vec<Neighbour>)
@@ -94,4 +57,41 @@ pub fn tick_timers(iface: &mut Iface, neighbours: &mut Vec<Neighbour>) -> bool
     let over = iface.wait_tick();
     tick_neighbours(neighbours);
     (is_waiting(state) && over) || (is_settled(state) && lost)
+}
+
+// The inactive neighbours are removed.
+fn remove_inactive(neighbours: &mut Vec<Neighbour>)
+    ensures { neighbours.new.items ≡ filter (λ n. not (is_inactive n)) neighbours.old.items }
+{
+    neighbours.retain(|n| !is_inactive(n));
+}
+
+// Whether the inactivity timer of a neighbour fires at the next tick.
+fn is_inactive(neighbour: &Neighbour) -> bool
+    ensures { result ≡ is_inactive neighbour.now }
+{
+    neighbour.inactivity() == 1
+}
+
+// The inactivity timers count.
+fn count(neighbours: &mut [Neighbour])
+    ensures { neighbours.new ≡ map inactivity_ticked neighbours.old }
+{
+    for neighbour in neighbours.iter_mut() {
+        let _ = neighbour.inactivity_tick();
+    }
+}
+
+// Whether some neighbour in 2-Way or above is removed at the next tick.
+fn some_lost(neighbours: &[Neighbour]) -> bool
+    ensures { result ≡ list_any (λ n. is_inactive n && is_two_way n.state) neighbours.now }
+{
+    neighbours.iter().any(|n| is_lost(n))
+}
+
+// Whether a neighbour in 2-Way or above is removed at the next tick.
+fn is_lost(neighbour: &Neighbour) -> bool
+    ensures { result ≡ (is_inactive neighbour.now && is_two_way neighbour.now.state) }
+{
+    is_inactive(neighbour) && neighbour.state().is_two_way()
 }

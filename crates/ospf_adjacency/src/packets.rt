@@ -16,10 +16,8 @@ use std::alloc::AllocError;
 /// `AllocError` where memory runs out.
 pub fn send_dd(neighbour: &Neighbour, at: &OnLink, post: &mut Post) -> Result<(), AllocError>
     ensures next { post.new.next ≡ post.old.next }
-    ensures sent {
-        OnOk result
-            (post.new ≡ and_parcels post.old (dd_parcel at.now.iface at.now.local.mtu neighbour.now ∷ []))
-    }
+    ensures sent { OnOk result
+        (post.new ≡ and_parcels post.old (dd_parcel at.now.iface at.now.local.mtu neighbour.now ∷ [])) }
 {
     let exchanging = neighbour.exchanging();
     let headers = Vec::from_slice(post.alloc(), neighbour.last_dd())?;
@@ -39,7 +37,8 @@ pub fn send_dd(neighbour: &Neighbour, at: &OnLink, post: &mut Post) -> Result<()
 ///
 /// `AllocError` where memory runs out.
 pub fn send_request(neighbour: &Neighbour, at: &OnLink, post: &mut Post) -> Result<(), AllocError>
-    ensures { OnOk result (post.new ≡ and_parcels post.old (request_parcel at.now.iface neighbour.now ∷ [])) }
+    ensures { OnOk result (post.new ≡ and_parcels post.old
+        (request_parcel at.now.iface neighbour.now ∷ [])) }
 {
     let body = request_body(neighbour, post.alloc())?;
     post.put(to_address(&at.iface, neighbour.address()), body)

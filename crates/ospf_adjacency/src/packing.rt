@@ -21,6 +21,39 @@ const COUNT: usize = 4;
 /// The bytes in front of the LSAs of an Update.
 const HEAD: usize = IP_HEADER + PACKET_HEADER + COUNT;
 
+/// The copies of these keys go out in Updates, as many in one as fit, in the order of the keys; a key without a copy is
+/// left out, and an LSA that does not fit has an Update of its own. `delay` is InfTransDelay, in ticks, `mtu` the
+/// interface's, in bytes.
+///
+/// `AllocError` where memory runs out.
+pub fn send_copies(
+    keys: &BTreeSet<LsaKey>,
+    database: &Lsdb,
+    delay: u16,
+    mtu: u16,
+    destination: Addr,
+    post: &mut Post,
+) -> Result<(), AllocError>
+    ensures { OnOk result
+        (post.new
+        ≡ and_parcels post.old (updates_of destination mtu delay database.now keys.now.keys)) }
+{
+    let alloc = post.alloc();
+    let room = update_room(mtu);
+    let mut batch = Vec::new(alloc);
+    let mut left = room;
+    for key in keys {
+        if let Some(copy) = database.get(key) {
+            let lsa = sent_copy(&copy, delay, alloc)?;
+            add(lsa, &mut batch, &mut left, room, destination, post)?;
+        }
+    }
+    if !batch.is_empty() {
+        send(batch, destination, post)?;
+    }
+    Ok(())
+}
+
 // How many bytes of LSAs an Update has room for.
 fn update_room(mtu: u16) -> usize
     ensures { result ≡ update_room mtu }
@@ -39,20 +72,6 @@ fn sent_copy(copy: &EntryView<'_>, delay: u16, alloc: Global) -> Result<Lsa, All
     Ok(lsa)
 }
 
-// An Update with these LSAs goes out.
-fn send(lsas: Vec<Lsa>, destination: Addr, post: &mut Post) -> Result<(), AllocError>
-    ensures { OnOk result (post.new ≡ and_parcels post.old (update_to destination lsas.items ∷ [])) }
-{
-    post.put(destination, BodyValue::Update(lsas))
-}
-
-// Whether an LSA of so many bytes goes into an Update behind these.
-fn goes_in(batch: &[Lsa], length: usize, left: usize) -> bool
-    ensures { result ≡ has_none batch.now || nat_le length left }
-{
-    batch.is_empty() || length <= left
-}
-
 // One LSA more: it goes into the Update that is being packed, or that one goes out and a next one begins. `left` is the
 // room that is left in it.
 fn add(
@@ -65,13 +84,11 @@ fn add(
 ) -> Result<(), AllocError>
     requires { left.old ≡ room - bytes_in batch.old.items }
     ensures left { OnOk result (left.new ≡ room - bytes_in batch.new.items) }
-    ensures sent {
-        OnOk result
-            ((rest : List (List ℕ))
-                → and_parcels post.new (map (update_to destination) (packed room batch.new.items rest))
-                    ≡ and_parcels post.old
-                        (map (update_to destination) (packed room batch.old.items (lsa ∷ rest))))
-    }
+    ensures sent { OnOk result
+        ((rest : List (List ℕ))
+        → and_parcels post.new (map (update_to destination) (packed room batch.new.items rest))
+        ≡ and_parcels post.old
+        (map (update_to destination) (packed room batch.old.items (lsa ∷ rest)))) }
 {
     let length = lsa.view().as_bytes().len();
     if !goes_in(batch, length, *left) {
@@ -84,37 +101,17 @@ fn add(
     Ok(())
 }
 
-/// The copies of these keys go out in Updates, as many in one as fit, in the order of the keys; a key without a copy is
-/// left out, and an LSA that does not fit has an Update of its own. `delay` is InfTransDelay, in ticks, `mtu` the
-/// interface's, in bytes.
-///
-/// `AllocError` where memory runs out.
-pub fn send_copies(
-    keys: &BTreeSet<LsaKey>,
-    database: &Lsdb,
-    delay: u16,
-    mtu: u16,
-    destination: Addr,
-    post: &mut Post,
-) -> Result<(), AllocError>
-    ensures {
-        OnOk result
-            (post.new
-                ≡ and_parcels post.old (updates_of destination mtu delay database.now keys.now.keys))
-    }
+// Whether an LSA of so many bytes goes into an Update behind these.
+fn goes_in(batch: &[Lsa], length: usize, left: usize) -> bool
+    ensures { result ≡ has_none batch.now || nat_le length left }
 {
-    let alloc = post.alloc();
-    let room = update_room(mtu);
-    let mut batch = Vec::new(alloc);
-    let mut left = room;
-    for key in keys {
-        if let Some(copy) = database.get(key) {
-            let lsa = sent_copy(&copy, delay, alloc)?;
-            add(lsa, &mut batch, &mut left, room, destination, post)?;
-        }
-    }
-    if !batch.is_empty() {
-        send(batch, destination, post)?;
-    }
-    Ok(())
+    batch.is_empty() || length <= left
+}
+
+// An Update with these LSAs goes out.
+fn send(lsas: Vec<Lsa>, destination: Addr, post: &mut Post) -> Result<(), AllocError>
+    ensures { OnOk result (post.new ≡ and_parcels post.old
+        (update_to destination lsas.items ∷ [])) }
+{
+    post.put(destination, BodyValue::Update(lsas))
 }

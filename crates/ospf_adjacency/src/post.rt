@@ -15,23 +15,6 @@ pub struct OnLink {
     pub local: Local,
 }
 
-/// A packet that is to go out of a link: where it goes, and what it says.
-#[derive(Drop)]
-struct Parcel {
-    destination: Addr,
-    body: BodyValue,
-}
-
-impl Model for Parcel {
-    ghost use Rattle.ospf_adjacency.specs.Packets as packets;
-
-    ghost Value = { packets.Parcel };
-
-    ghost use Rattle.ospf_packet.specs.Said.{body_meant};
-
-    ghost view = { λ p. record { destination = p.destination; body = body_meant p.body } };
-}
-
 /// What a part of a step at one link leaves beside its neighbours: the router's next Database Description number, and the
 /// packets that go out.
 #[derive(Drop)]
@@ -78,22 +61,13 @@ impl Post {
         self.alloc
     }
 
-    // This is the router's next Database Description number.
-    pub(crate) fn set_next(&mut self, next: u32)
-        ensures { self.new ≡ record self.old { next = next } }
-    {
-        self.next = next;
-    }
-
     /// A packet is to go out.
     ///
     /// `AllocError` where memory runs out.
     pub fn put(&mut self, destination: Addr, body: BodyValue) -> Result<(), AllocError>
         ensures next { self.new.next ≡ self.old.next }
-        ensures sent {
-            OnOk result
-                (self.new ≡ and_parcels self.old (record { destination = destination; body = body_meant body } ∷ []))
-        }
+        ensures sent { OnOk result
+            (self.new ≡ and_parcels self.old (record { destination = destination; body = body_meant body } ∷ [])) }
     {
         self.sent.push(Parcel { destination, body })?;
         Ok(())
@@ -110,7 +84,8 @@ impl Post {
         link: usize,
         iface: &Iface,
     ) -> Result<(), AllocError>
-        ensures { OnOk result (out.new ≡ and_sends out.old (posted_all own link iface.now self.sent)) }
+        ensures { OnOk result (out.new ≡ and_sends out.old
+            (posted_all own link iface.now self.sent)) }
     {
         let alloc = self.alloc;
         let sent = self.sent;
@@ -125,4 +100,28 @@ impl Post {
         }
         Ok(())
     }
+
+    // This is the router's next Database Description number.
+    pub(crate) fn set_next(&mut self, next: u32)
+        ensures { self.new ≡ record self.old { next = next } }
+    {
+        self.next = next;
+    }
+}
+
+/// A packet that is to go out of a link: where it goes, and what it says.
+#[derive(Drop)]
+struct Parcel {
+    destination: Addr,
+    body: BodyValue,
+}
+
+impl Model for Parcel {
+    ghost use Rattle.ospf_adjacency.specs.Packets as packets;
+
+    ghost Value = { packets.Parcel };
+
+    ghost use Rattle.ospf_packet.specs.Said.{body_meant};
+
+    ghost view = { λ p. record { destination = p.destination; body = body_meant p.body } };
 }

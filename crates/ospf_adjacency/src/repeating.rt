@@ -17,11 +17,31 @@ use ospf_neighbour::{Listed, Neighbour};
 use std::alloc::{AllocError, Global};
 use std::collections::BTreeSet;
 
-// Whether an entry of a retransmission list is due, and there is a copy of its key.
-fn goes_again(listed: &Listed, database: &Lsdb, retransmit: u16, tick: u64) -> bool
-    ensures { result ≡ (is_due retransmit tick listed.now && is_some (entry_of database.now listed.now.instance.key)) }
+/// The repeats of a tick to one neighbour (RFC 2328, sections 10.8, 10.9 and 13.6): its Database Description, its Request,
+/// and the copies of what is due on its retransmission list, in the order of their keys. `retransmit` is RxmtInterval,
+/// `delay` InfTransDelay, both in ticks. Answers the keys whose copies went out.
+///
+/// `AllocError` where memory runs out; then the router is to be stopped.
+pub fn repeat(
+    neighbour: &mut Neighbour,
+    database: &Lsdb,
+    at: &OnLink,
+    retransmit: u16,
+    delay: u16,
+    post: &mut Post,
+) -> Result<BTreeSet<LsaKey>, AllocError>
+    ensures turn { OnOk result
+        (turn neighbour.new post.new
+        ≡ repeats_turn at.now.iface at.now.local retransmit delay database.now
+        (turn neighbour.old post.old)) }
+    ensures keys { IfOk result
+        (λ keys. keys.keys ≡ due_keys retransmit at.now.local.tick database.now neighbour.old) }
 {
-    is_due(listed, retransmit, tick) && database.get(&listed.instance.key).is_some()
+    let keys = due_keys(neighbour, database, retransmit, at.local.tick, post.alloc())?;
+    repeat_dd(neighbour, at, retransmit, post)?;
+    repeat_request(neighbour, at, retransmit, post)?;
+    send_to(neighbour, &keys, database, at, delay, post)?;
+    Ok(keys)
 }
 
 // The keys of the database of which an entry of the neighbour's retransmission list is due.
@@ -32,7 +52,8 @@ fn due_keys(
     tick: u64,
     alloc: Global,
 ) -> Result<BTreeSet<LsaKey>, AllocError>
-    ensures { IfOk result (λ keys. keys.keys ≡ due_keys retransmit tick database.now neighbour.now) }
+    ensures { IfOk result (λ keys. keys.keys
+        ≡ due_keys retransmit tick database.now neighbour.now) }
 {
     // Its contract says that the keys of the database rise.
     let _entries = database.entries();
@@ -45,6 +66,14 @@ fn due_keys(
     Ok(keys)
 }
 
+// Whether an entry of a retransmission list is due, and there is a copy of its key.
+fn goes_again(listed: &Listed, database: &Lsdb, retransmit: u16, tick: u64) -> bool
+    ensures { result ≡ (is_due retransmit tick listed.now
+        && is_some (entry_of database.now listed.now.instance.key)) }
+{
+    is_due(listed, retransmit, tick) && database.get(&listed.instance.key).is_some()
+}
+
 // The last Database Description goes out again where it is due.
 fn repeat_dd(
     neighbour: &mut Neighbour,
@@ -52,11 +81,9 @@ fn repeat_dd(
     retransmit: u16,
     post: &mut Post,
 ) -> Result<(), AllocError>
-    ensures {
-        OnOk result
-            (turn neighbour.new post.new
-                ≡ dd_again at.now.iface at.now.local retransmit (turn neighbour.old post.old))
-    }
+    ensures { OnOk result
+        (turn neighbour.new post.new
+        ≡ dd_again at.now.iface at.now.local retransmit (turn neighbour.old post.old)) }
 {
     if is_dd_due(neighbour, retransmit, at.local.tick) {
         dd_sent(neighbour, at.local.tick);
@@ -72,46 +99,13 @@ fn repeat_request(
     retransmit: u16,
     post: &mut Post,
 ) -> Result<(), AllocError>
-    ensures {
-        OnOk result
-            (turn neighbour.new post.new
-                ≡ request_again at.now.iface at.now.local retransmit (turn neighbour.old post.old))
-    }
+    ensures { OnOk result
+        (turn neighbour.new post.new
+        ≡ request_again at.now.iface at.now.local retransmit (turn neighbour.old post.old)) }
 {
     if is_request_repeat_due(neighbour, retransmit, at.local.tick) {
         next_request(neighbour, at.local.mtu, at.local.tick);
         send_request(neighbour, at, post)?;
     }
     Ok(())
-}
-
-/// The repeats of a tick to one neighbour (RFC 2328, sections 10.8, 10.9 and 13.6): its Database Description, its Request,
-/// and the copies of what is due on its retransmission list, in the order of their keys. `retransmit` is RxmtInterval,
-/// `delay` InfTransDelay, both in ticks. Answers the keys whose copies went out.
-///
-/// `AllocError` where memory runs out; then the router is to be stopped.
-pub fn repeat(
-    neighbour: &mut Neighbour,
-    database: &Lsdb,
-    at: &OnLink,
-    retransmit: u16,
-    delay: u16,
-    post: &mut Post,
-) -> Result<BTreeSet<LsaKey>, AllocError>
-    ensures turn {
-        OnOk result
-            (turn neighbour.new post.new
-                ≡ repeats_turn at.now.iface at.now.local retransmit delay database.now
-                    (turn neighbour.old post.old))
-    }
-    ensures keys {
-        IfOk result
-            (λ keys. keys.keys ≡ due_keys retransmit at.now.local.tick database.now neighbour.old)
-    }
-{
-    let keys = due_keys(neighbour, database, retransmit, at.local.tick, post.alloc())?;
-    repeat_dd(neighbour, at, retransmit, post)?;
-    repeat_request(neighbour, at, retransmit, post)?;
-    send_to(neighbour, &keys, database, at, delay, post)?;
-    Ok(keys)
 }

@@ -11,13 +11,6 @@ use ospf_iface::Iface;
 use ospf_neighbour::Neighbour;
 use std::alloc::{AllocError, Global};
 
-// The Router IDs of neighbours.
-fn routers_of(neighbours: &[Neighbour], alloc: Global) -> Result<Vec<RouterId>, AllocError>
-    ensures { IfOk result (λ v. v.items ≡ map (λ n. n.router) neighbours.now) }
-{
-    neighbours.iter().map(|n| n.router()).collect(alloc)
-}
-
 /// The Hello of a link goes out (RFC 2328, section 9.5).
 ///
 /// `AllocError` where memory runs out.
@@ -26,7 +19,8 @@ pub fn send_hello(
     neighbours: &[Neighbour],
     post: &mut Post,
 ) -> Result<(), AllocError>
-    ensures { OnOk result (post.new ≡ and_parcels post.old (hello_parcel iface.now neighbours.now ∷ [])) }
+    ensures { OnOk result (post.new ≡ and_parcels post.old
+        (hello_parcel iface.now neighbours.now ∷ [])) }
 {
     let alloc = post.alloc();
     let routers = routers_of(neighbours, alloc)?;
@@ -43,15 +37,20 @@ pub fn send_due_hello(
     post: &mut Post,
 ) -> Result<(), AllocError>
     ensures timer { iface.new ≡ hello_ticked iface.old }
-    ensures sent {
-        OnOk result
-            (post.new
-                ≡ and_parcels post.old
-                    (parcel_if (is_hello_due iface.old) (hello_parcel iface.old neighbours.now)))
-    }
+    ensures sent { OnOk result
+        (post.new
+        ≡ and_parcels post.old
+        (parcel_if (is_hello_due iface.old) (hello_parcel iface.old neighbours.now))) }
 {
     if iface.hello_tick() {
         send_hello(iface, neighbours, post)?;
     }
     Ok(())
+}
+
+// The Router IDs of neighbours.
+fn routers_of(neighbours: &[Neighbour], alloc: Global) -> Result<Vec<RouterId>, AllocError>
+    ensures { IfOk result (λ v. v.items ≡ map (λ n. n.router) neighbours.now) }
+{
+    neighbours.iter().map(|n| n.router()).collect(alloc)
 }

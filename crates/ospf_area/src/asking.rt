@@ -110,7 +110,8 @@ fn turn_link(
     alloc: Global,
 ) -> Result<(), AllocError>
     ensures after { OnOk result (link.new ≡ turned_link own link.old) }
-    ensures sent { OnOk result (out.new ≡ and_sends out.old (turn_requests_on own number link.old)) }
+    ensures sent { OnOk result (out.new ≡ and_sends out.old
+        (turn_requests_on own number link.old)) }
 {
     let iface = link.iface;
     let mtu = link.settings.mtu;

@@ -74,7 +74,8 @@ fn add_links(
 ) -> Result<(), AllocError>
     ensures added { OnOk result (Adds (λ e. (link : Link) × Contains links.entry link
         × LinkGives index.now router link e) edges.old.items edges.new.items) }
-    ensures few { OnOk result (length edges.new.items ≤ length edges.old.items + length links.entry) }
+    ensures few { OnOk result (length edges.new.items
+        ≤ length edges.old.items + length links.entry) }
 {
     for link in links {
         add_link(index, router, link, edges)?;

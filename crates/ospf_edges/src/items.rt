@@ -52,7 +52,8 @@ pub fn are_items_of(items: &[GraphItem], listing: &Listing) -> bool
 
 // Adds the items of an LSA.
 fn push_items(lsa: &Lsa, items: &mut Vec<GraphItem>) -> Result<(), AllocError>
-    ensures { OnOk result (items.new.items ≡ items.old.items ++ items_of (advertisement_of lsa.now)) }
+    ensures { OnOk result (items.new.items ≡ items.old.items
+        ++ items_of (advertisement_of lsa.now)) }
 {
     let view = lsa.view();
     let key = view.key();

@@ -174,7 +174,8 @@ fn answer_or_refuse<R: BufRead + Drop, O: Write, E: Write>(
 
 // What is to be printed of the failures of the area whose LSAs the lines of an input are.
 fn answer_of<R: BufRead + Drop>(alloc: Global, job: &FailuresJob, input: R) -> Result<Answer, Fault>
-    ensures answer { IfOk result (λ answer. IfSome (R.remaining input) (IsAnswerOf job.now answer)) }
+    ensures answer { IfOk result (λ answer. IfSome (R.remaining input)
+        (IsAnswerOf job.now answer)) }
     ensures fault { IfErr result (IsFault (R.remaining input)) }
 {
     let listing = listing_of(alloc, input)?;

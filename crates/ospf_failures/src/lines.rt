@@ -24,7 +24,8 @@ pub fn failure_lines(
     each: bool,
 ) -> Result<String, AllocError>
     requires { totals ≡ totals_of changes.now }
-    ensures { IfOk result (λ lines. string_bytes lines ≡ failure_lines each failure.now changes.now) }
+    ensures { IfOk result (λ lines. string_bytes lines
+        ≡ failure_lines each failure.now changes.now) }
 {
     let mut lines = if each {
         change_lines(alloc, failure, changes)?

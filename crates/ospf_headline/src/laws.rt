@@ -16,28 +16,32 @@ use ospf_spf::walk_law;
 
 /// What is held anywhere was issued, at whatever age.
 pub fn held_lsas_were_issued()
-    ensures { (is_dropped : Event → AreaValue → Bool) (events : List WorldEvent) (start end : World) (lsa : List ℕ) →
+    ensures { (is_dropped : Event → AreaValue → Bool) (events : List WorldEvent) (start end : World)
+        (lsa : List ℕ) →
         IsNew start → Runs is_dropped events start end → HeldAnywhere end lsa → WasIssued end.issued (contents lsa) }
 {}
 
 /// LSAs of one instance held anywhere, at one moment or at two, have equal contents unless their originator issued
 /// both, the second in a low run.
 pub fn held_lsas_agree()
-    ensures { (is_dropped : Event → AreaValue → Bool) (events later : List WorldEvent) (start mid end : World) (a b : List ℕ) →
+    ensures { (is_dropped : Event → AreaValue → Bool) (events later : List WorldEvent)
+        (start mid end : World) (a b : List ℕ) →
         IsNew start → Runs is_dropped events start mid → Runs is_dropped later mid end →
         HeldAnywhere mid a → HeldAnywhere end b → AgreeUnlessIssuedAgain end.issued a b }
 {}
 
 /// Each running router has the table of its own listing.
 pub fn tables_are_exact()
-    ensures { (is_dropped : Event → AreaValue → Bool) (events : List WorldEvent) (start end : World) (r : RouterId) (x : Running) →
+    ensures { (is_dropped : Event → AreaValue → Bool) (events : List WorldEvent) (start end : World)
+        (r : RouterId) (x : Running) →
         IsNew start → Runs is_dropped events start end → router_at end r ≡ Some x → IsTable (adverts x) r x.table }
 {}
 
 /// Where nothing issued collides, and all listed routers run and list the same instances, every walk along next hops
 /// ends on the prefix of its first route at that route's cost, and meets no router twice.
 pub fn walks_arrive()
-    ensures { (is_dropped : Event → AreaValue → Bool) (events : List WorldEvent) (start end : World) (a : RouterId) (x : Running) →
+    ensures { (is_dropped : Event → AreaValue → Bool) (events : List WorldEvent) (start end : World)
+        (a : RouterId) (x : Running) →
         IsNew start → Runs is_dropped events start end → NoCollision end.issued →
         router_at end a ≡ Some x → AllListedAgree end x → WalksArrive end a x }
 {
@@ -46,7 +50,8 @@ pub fn walks_arrive()
 
 /// There each walk by choices arrives, and none turns.
 pub fn chosen_walks_arrive()
-    ensures { (is_dropped : Event → AreaValue → Bool) (events : List WorldEvent) (start end : World) (a : RouterId) (x : Running) →
+    ensures { (is_dropped : Event → AreaValue → Bool) (events : List WorldEvent) (start end : World)
+        (a : RouterId) (x : Running) →
         IsNew start → Runs is_dropped events start end → NoCollision end.issued →
         router_at end a ≡ Some x → AllListedAgree end x → ChosenWalksArrive end a x }
 {
@@ -55,26 +60,30 @@ pub fn chosen_walks_arrive()
 
 /// With floors that are high enough, no two LSAs of one instance are ever issued with different contents.
 pub fn high_floors_exclude_collisions()
-    ensures { (is_dropped : Event → AreaValue → Bool) (events : List WorldEvent) (start end : World) →
+    ensures { (is_dropped : Event → AreaValue → Bool) (events : List WorldEvent)
+        (start end : World) →
         IsNew start → Runs is_dropped events start end → BasesAreHigh end.issued → NoCollision end.issued }
 {}
 
 /// Where MaxSequenceNumber was never issued, the base of each run is the floor of the start at which it began.
 pub fn bases_are_floors()
-    ensures { (is_dropped : Event → AreaValue → Bool) (events : List WorldEvent) (start end : World) →
+    ensures { (is_dropped : Event → AreaValue → Bool) (events : List WorldEvent)
+        (start end : World) →
         IsNew start → Runs is_dropped events start end → NoneLargest end.issued → BasesAreFloors is_dropped start events end }
 {}
 
 /// A neighbour that a router no longer waits for has told of the instance, or a later one, to somebody, unless a newer
 /// LSA took the instance's place or the neighbour is below Exchange.
 pub fn acknowledgement_is_sound()
-    ensures { (is_dropped : Event → AreaValue → Bool) (events : List WorldEvent) (event : WorldEvent) (start before after : World) →
+    ensures { (is_dropped : Event → AreaValue → Bool) (events : List WorldEvent)
+        (event : WorldEvent) (start before after : World) →
         IsNew start → Runs is_dropped events start before → Happens is_dropped event before after → IsSound event before after }
 {}
 
 /// The headline holds of every world that was reached, and of every one that it goes on to.
 pub fn headline()
-    ensures { (is_dropped : Event → AreaValue → Bool) (later : List WorldEvent) (before after : World) →
+    ensures { (is_dropped : Event → AreaValue → Bool) (later : List WorldEvent)
+        (before after : World) →
         IsReached is_dropped before → Runs is_dropped later before after → Headline before after }
 {
     // For the proof.
@@ -96,12 +105,14 @@ pub fn soundness()
 
 /// What goes over a list of events leads on as some list of them does.
 pub fn runs_lead_on()
-    ensures { (is_dropped : Event → AreaValue → Bool) (events : List WorldEvent) (before after : World) (result : Result ℕ WorldFault) →
+    ensures { (is_dropped : Event → AreaValue → Bool) (events : List WorldEvent)
+        (before after : World) (result : Result ℕ WorldFault) →
         IsRun (Comes is_dropped) events before result after → (later : List WorldEvent) × Runs is_dropped later before after }
 {}
 
 /// There are worlds to speak of: in one a router has started, and a second has passed.
 pub fn some_world_ticks()
-    ensures { (start after : World) × (events : List WorldEvent) × (r : RouterId) × (x : Running) × IsNew start ×
+    ensures { (start after : World) × (events : List WorldEvent) × (r : RouterId) × (x : Running)
+        × IsNew start ×
         Runs (λ event s. false) events start after × (router_at after r ≡ Some x) × (x.state.tick ≡ 1) }
 {}

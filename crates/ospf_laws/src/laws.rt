@@ -18,20 +18,24 @@ pub fn accounts_add_up()
 
 /// A part that touches neighbours alone answers for all.
 pub fn quiet_parts_account()
-    ensures { (heard : Option Received) (before : AreaValue) (out : OutputsValue) (after : AreaValue) →
+    ensures { (heard : Option Received) (before : AreaValue) (out : OutputsValue)
+        (after : AreaValue) →
         NeighboursGo heard before out after → Accounts heard before out after }
 {}
 
 /// A step answers for all, and leaves a state as sound as it found.
 pub fn steps_account()
-    ensures accounts { (is_dropped : Event → AreaValue → Bool) (event : Event) (before : AreaValue) (out : OutputsValue) (after : AreaValue) →
+    ensures accounts { (is_dropped : Event → AreaValue → Bool) (event : Event) (before : AreaValue)
+        (out : OutputsValue) (after : AreaValue) →
         IsSoundState before → StepLaws is_dropped event before out after → Accounts (heard_in event) before out after }
-    ensures sound { (is_dropped : Event → AreaValue → Bool) (event : Event) (before : AreaValue) (out : OutputsValue) (after : AreaValue) →
+    ensures sound { (is_dropped : Event → AreaValue → Bool) (event : Event) (before : AreaValue)
+        (out : OutputsValue) (after : AreaValue) →
         IsSoundState before → StepLaws is_dropped event before out after → IsSoundState after }
 {}
 
 /// There are sound states, and steps from them by which time goes on.
 pub fn some_state_ticks()
-    ensures { (before : AreaValue) × (out : OutputsValue) × (after : AreaValue) × IsSoundState before ×
+    ensures { (before : AreaValue) × (out : OutputsValue) × (after : AreaValue)
+        × IsSoundState before ×
         StepLaws (λ event s. false) Event.Tick before out after × (after.tick ≡ 1) × (before.tick ≡ 0) }
 {}

@@ -10,16 +10,20 @@ ghost use Rattle.ospf_laws.specs.Neighbours.{NeighboursGo, Quiet, told_by};
 
 /// What each link does by what is known, and what it does by the packet heard.
 pub fn links_go()
-    ensures quiet { (s after : AreaValue) (out : OutputsValue) (ds : List SentValue) → ChangesLinks s after → out ≡ sends ds → AreRead out.sent →
+    ensures quiet { (s after : AreaValue) (out : OutputsValue) (ds : List SentValue) →
+        ChangesLinks s after → out ≡ sends ds → AreRead out.sent →
         AllEach (LinkQuiet s) s.links after.links → AreKnown s ds → Quiet s out after }
-    ensures goes { (heard : Option Received) (s after : AreaValue) (out : OutputsValue) (ds : List SentValue) → ChangesLinks s after → out ≡ sends ds → AreRead out.sent →
+    ensures goes { (heard : Option Received) (s after : AreaValue) (out : OutputsValue)
+        (ds : List SentValue) → ChangesLinks s after → out ≡ sends ds → AreRead out.sent →
         AllGo s heard s.links after.links → AreKnown s ds → NeighboursGo heard s out after }
 {}
 
 /// And where one link alone does something.
 pub fn one_link_goes()
-    ensures quiet { (l : ℕ) (link link' : LinkValue) (ds : List SentValue) (s : AreaValue) (out : OutputsValue) (after : AreaValue) →
+    ensures quiet { (l : ℕ) (link link' : LinkValue) (ds : List SentValue) (s : AreaValue)
+        (out : OutputsValue) (after : AreaValue) →
         OnOneLink l link link' ds s out after → LinkQuiet s link link' → AreKnown s ds → Quiet s out after }
-    ensures goes { (heard : Option Received) (l : ℕ) (link link' : LinkValue) (ds : List SentValue) (s : AreaValue) (out : OutputsValue) (after : AreaValue) →
+    ensures goes { (heard : Option Received) (l : ℕ) (link link' : LinkValue) (ds : List SentValue)
+        (s : AreaValue) (out : OutputsValue) (after : AreaValue) →
         OnOneLink l link link' ds s out after → LinkGoes s (told_by heard l) link link' → AreKnown s ds → NeighboursGo heard s out after }
 {}

@@ -21,28 +21,32 @@ ghost use Rattle.ospf_laws.specs.Step.{AndRequests, Chain, Event, IsPart, OwnSte
 pub fn chains_put_out()
     ensures none { (s t : AreaValue) (out out' : OutputsValue) → t ≡ s → out' ≡ out →
         PutsOut (λ o. Chain [] s o t) out out' }
-    ensures more { (part : Part) (parts : List Part) (s t u : AreaValue) (out mid_out out' : OutputsValue) →
+    ensures more { (part : Part) (parts : List Part) (s t u : AreaValue)
+        (out mid_out out' : OutputsValue) →
         PutsOut (λ o. IsPart part s o t) out mid_out → PutsOut (λ o. Chain parts t o u) mid_out out' →
         PutsOut (λ o. Chain (part ∷ parts) s o u) out out' }
 {}
 
 /// A chain of an event's parts, that began with no outputs, is a step.
 pub fn steps_are_chains()
-    ensures { (is_dropped : Event → AreaValue → Bool) (event : Event) (before : AreaValue) (out : OutputsValue) (after : AreaValue) →
+    ensures { (is_dropped : Event → AreaValue → Bool) (event : Event) (before : AreaValue)
+        (out : OutputsValue) (after : AreaValue) →
         is_dropped event before ≡ false → AreRead out.sent → PutsOut (λ o. Chain (first_parts event ++ last_parts) before o after) no_outputs out →
         StepLaws is_dropped event before out after }
 {}
 
 /// What is done with an Update, and then what follows, is the chain of its parts.
 pub fn updates_are_chains()
-    ensures { (f : Origin) (slices : List (List ℕ)) (rest : List Part) (s t u : AreaValue) (out mid_out out' : OutputsValue) →
+    ensures { (f : Origin) (slices : List (List ℕ)) (rest : List Part) (s t u : AreaValue)
+        (out mid_out out' : OutputsValue) →
         AreRead out'.sent → TakesUpdate f slices s out mid_out t → PutsOut (λ o. Chain rest t o u) mid_out out' →
         PutsOut (λ o. Chain ((lsa_parts f slices ++ Part.DirectAcknowledgements f ∷ []) ++ rest) s o u) out out' }
 {}
 
 /// And so is what is done with the headers of an Acknowledgment.
 pub fn headers_are_chains()
-    ensures { (f : Origin) (hs : List LsaHeader) (rest : List Part) (s t u : AreaValue) (out out' : OutputsValue) →
+    ensures { (f : Origin) (hs : List LsaHeader) (rest : List Part) (s t u : AreaValue)
+        (out out' : OutputsValue) →
         t ≡ headers_met f hs s → PutsOut (λ o. Chain rest t o u) out out' →
         PutsOut (λ o. Chain (map (λ h. Part.HeaderComes f h) hs ++ rest) s o u) out out' }
 {}
@@ -68,7 +72,8 @@ pub fn acknowledgements_put_out()
 
 /// A flush is a part, with the Requests that come of it.
 pub fn flushes_put_out()
-    ensures { (key : LsaKey) (copy : Entry) (s t : AreaValue) (out out' : OutputsValue) (sent : List SentValue) →
+    ensures { (key : LsaKey) (copy : Entry) (s t : AreaValue) (out out' : OutputsValue)
+        (sent : List SentValue) →
         IsDatabase s.database → entry_of s key ≡ Some copy → AreRead out'.sent → Flushes key s sent t → out' ≡ and_sends out sent →
         PutsOut (λ o. AndRequests (ExpiryPart key copy) s o t) out out' }
 {}

@@ -12,29 +12,6 @@ use ospf_adjacency::{Post, go_down, go_up, send_hello};
 use ospf_area::{Area, Link, Outputs, Own, own_of};
 use std::alloc::{AllocError, Global};
 
-// A link goes up; where it was down its first Hello goes out.
-fn link_goes_up(
-    link: &mut Link,
-    number: usize,
-    own: Own,
-    out: &mut Outputs,
-    alloc: Global,
-) -> Result<(), AllocError>
-    ensures after { OnOk result (link.new ≡ link_up link.old) }
-    ensures sent {
-        OnOk result
-            (out.new
-                ≡ and_sends out.old (posted_all own number (up link.old.iface) (up_parcels link.old)))
-    }
-{
-    if !go_up(&mut link.iface) {
-        return Ok(());
-    }
-    let mut post = Post::new(0, alloc);
-    send_hello(&link.iface, link.neighbours.all(), &mut post)?;
-    post.send_all(out, own, number, &link.iface)
-}
-
 /// A link of the router goes up (RFC 2328, section 9.3): where it was down its first Hello goes out.
 ///
 /// `AllocError` where memory runs out.
@@ -45,13 +22,44 @@ pub fn take_up(
     alloc: Global,
 ) -> Result<(), AllocError>
     ensures after { OnOk result (area.new ≡ changed link_up number area.old) }
-    ensures sent { OnOk result (out.new ≡ and_sends out.old (up_out_on (slice_get area.old.links number) (own_of area.old) number)) }
+    ensures sent { OnOk result (out.new ≡ and_sends out.old
+        (up_out_on (slice_get area.old.links number) (own_of area.old) number)) }
 {
     let own = own_of(area);
     match area.links.get_mut(number) {
         Some(link) => link_goes_up(link, number, own, out, alloc),
         None => Ok(()),
     }
+}
+
+/// A link of the router goes down (RFC 2328, section 9.3): its neighbours are gone. No memory is taken.
+pub fn take_down(area: &mut Area, number: usize, alloc: Global)
+    ensures { area.new ≡ changed link_down number area.old }
+{
+    if let Some(link) = area.links.get_mut(number) {
+        link_down(link, alloc);
+    }
+}
+
+// A link goes up; where it was down its first Hello goes out.
+fn link_goes_up(
+    link: &mut Link,
+    number: usize,
+    own: Own,
+    out: &mut Outputs,
+    alloc: Global,
+) -> Result<(), AllocError>
+    ensures after { OnOk result (link.new ≡ link_up link.old) }
+    ensures sent { OnOk result
+        (out.new
+        ≡ and_sends out.old (posted_all own number (up link.old.iface) (up_parcels link.old))) }
+{
+    if !go_up(&mut link.iface) {
+        return Ok(());
+    }
+    let mut post = Post::new(0, alloc);
+    send_hello(&link.iface, link.neighbours.all(), &mut post)?;
+    post.send_all(out, own, number, &link.iface)
 }
 
 // A link goes down.
@@ -65,13 +73,4 @@ fn link_down(link: &mut Link, alloc: Global)
     }
     let neighbours = &mut link.neighbours;
     neighbours.all = all;
-}
-
-/// A link of the router goes down (RFC 2328, section 9.3): its neighbours are gone. No memory is taken.
-pub fn take_down(area: &mut Area, number: usize, alloc: Global)
-    ensures { area.new ≡ changed link_down number area.old }
-{
-    if let Some(link) = area.links.get_mut(number) {
-        link_down(link, alloc);
-    }
 }

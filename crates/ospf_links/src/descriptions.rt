@@ -9,97 +9,12 @@ ghost use Rattle.ospf_links.specs.Parts.{description_at, description_on, descrip
 ghost use Rattle.ospf_links.specs.Works.{work_sent, worked};
 
 use crate::link::{iface_of, is_due, on_link, put_back, take_out};
-use ospf_adjacency::take_description as describe_to;
-use ospf_adjacency::{OnLink, Post, is_at, is_settled, place_for};
+use ospf_adjacency::{OnLink, Post, is_at, is_settled, place_for, take_description as describe_to};
 use ospf_area::{Area, Link, Origin, Outputs, Own, own_of};
 use ospf_lsdb::Lsdb;
 use ospf_neighbour::Neighbour;
 use ospf_packet::{Description, Headers};
 use std::alloc::{AllocError, Global};
-
-// A Database Description comes to a neighbour. Answers whether an election is due by it.
-fn describe(
-    neighbour: &mut Neighbour,
-    from: Origin,
-    fields: Description,
-    headers: Headers<'_>,
-    database: &Lsdb,
-    at: &OnLink,
-    post: &mut Post,
-) -> Result<bool, AllocError>
-    ensures turn {
-        OnOk result
-            (turn neighbour.new post.new
-                ≡ description_turn at.now.iface at.now.local from.router fields headers.entry database.now
-                    (turn neighbour.old post.old))
-    }
-    ensures elects {
-        IfOk result
-            (λ elects. elects ≡ elects_by_change at.now.iface.state neighbour.old neighbour.new)
-    }
-{
-    let before = neighbour.state().is_two_way();
-    describe_to(neighbour, from.router, fields, headers, database, at, post)?;
-    let after = neighbour.state().is_two_way();
-    Ok(is_settled(at.iface.state) && before != after)
-}
-
-// A Database Description comes to one of the neighbours that were taken out.
-fn describe_in(
-    all: &mut Vec<Neighbour>,
-    from: Origin,
-    fields: Description,
-    headers: Headers<'_>,
-    database: &Lsdb,
-    at: &OnLink,
-    post: &mut Post,
-) -> Result<bool, AllocError>
-    requires { IsRising all.old.items }
-    ensures {
-        IfOk result
-            (λ elects.
-                neighbourhood all.new.items elects post.new
-                    ≡ description_on at.now.iface at.now.local from.router fields headers.entry database.now
-                        (neighbourhood all.old.items false post.old))
-    }
-{
-    let place = place_for(all, from.router);
-    if !is_at(all, place, from.router) {
-        return Ok(false);
-    }
-    let neighbour = &mut all[place];
-    let elects = describe(neighbour, from, fields, headers, database, at, post)?;
-    Ok(elects)
-}
-
-// A Database Description comes on a link.
-fn description_comes(
-    link: &mut Link,
-    from: Origin,
-    fields: Description,
-    headers: Headers<'_>,
-    database: &Lsdb,
-    own: Own,
-    post: &mut Post,
-) -> Result<(), AllocError>
-    ensures after {
-        OnOk result
-            (link.new
-                ≡ with_neighbourhood
-                    (description_at own from fields headers.entry database.now post.old link.old) link.old)
-    }
-    ensures left {
-        OnOk result
-            (post.new ≡ left_by (description_at own from fields headers.entry database.now post.old link.old))
-    }
-{
-    let at = on_link(own, link);
-    let mut all = take_out(link, post.alloc());
-    let elects = describe_in(&mut all, from, fields, headers, database, &at, post)?;
-    let due = is_due(link, elects);
-    put_back(link, all, due);
-    Ok(())
-}
 
 /// Takes a Database Description that comes on a link of the router (RFC 2328, section 10.6). One that is dropped, or whose
 /// sender or link is not there, changes nothing.
@@ -113,23 +28,19 @@ pub fn take_description(
     out: &mut Outputs,
     alloc: Global,
 ) -> Result<(), AllocError>
-    ensures after {
-        OnOk result
-            (area.new
-                ≡ worked
-                    (description_part (own_of area.old) from fields headers.entry area.old.database
-                        area.old.next_dd)
-                    from.link area.old)
-    }
-    ensures sent {
-        OnOk result
-            (out.new
-                ≡ and_sends out.old
-                    (work_sent
-                        (description_part (own_of area.old) from fields headers.entry area.old.database
-                            area.old.next_dd)
-                        (own_of area.old) from.link area.old.links))
-    }
+    ensures after { OnOk result
+        (area.new
+        ≡ worked
+        (description_part (own_of area.old) from fields headers.entry area.old.database
+        area.old.next_dd)
+        from.link area.old) }
+    ensures sent { OnOk result
+        (out.new
+        ≡ and_sends out.old
+        (work_sent
+        (description_part (own_of area.old) from fields headers.entry area.old.database
+        area.old.next_dd)
+        (own_of area.old) from.link area.old.links)) }
 {
     let own = own_of(area);
     match area.links.get_mut(from.link) {
@@ -142,4 +53,78 @@ pub fn take_description(
         }
         None => Ok(()),
     }
+}
+
+// A Database Description comes on a link.
+fn description_comes(
+    link: &mut Link,
+    from: Origin,
+    fields: Description,
+    headers: Headers<'_>,
+    database: &Lsdb,
+    own: Own,
+    post: &mut Post,
+) -> Result<(), AllocError>
+    ensures after { OnOk result
+        (link.new
+        ≡ with_neighbourhood
+        (description_at own from fields headers.entry database.now post.old link.old) link.old) }
+    ensures left { OnOk result
+        (post.new ≡ left_by (description_at own from fields headers.entry database.now post.old link.old)) }
+{
+    let at = on_link(own, link);
+    let mut all = take_out(link, post.alloc());
+    let elects = describe_in(&mut all, from, fields, headers, database, &at, post)?;
+    let due = is_due(link, elects);
+    put_back(link, all, due);
+    Ok(())
+}
+
+// A Database Description comes to one of the neighbours that were taken out.
+fn describe_in(
+    all: &mut Vec<Neighbour>,
+    from: Origin,
+    fields: Description,
+    headers: Headers<'_>,
+    database: &Lsdb,
+    at: &OnLink,
+    post: &mut Post,
+) -> Result<bool, AllocError>
+    requires { IsRising all.old.items }
+    ensures { IfOk result
+        (λ elects.
+        neighbourhood all.new.items elects post.new
+        ≡ description_on at.now.iface at.now.local from.router fields headers.entry database.now
+        (neighbourhood all.old.items false post.old)) }
+{
+    let place = place_for(all, from.router);
+    if !is_at(all, place, from.router) {
+        return Ok(false);
+    }
+    let neighbour = &mut all[place];
+    let elects = describe(neighbour, from, fields, headers, database, at, post)?;
+    Ok(elects)
+}
+
+// A Database Description comes to a neighbour. Answers whether an election is due by it.
+fn describe(
+    neighbour: &mut Neighbour,
+    from: Origin,
+    fields: Description,
+    headers: Headers<'_>,
+    database: &Lsdb,
+    at: &OnLink,
+    post: &mut Post,
+) -> Result<bool, AllocError>
+    ensures turn { OnOk result
+        (turn neighbour.new post.new
+        ≡ description_turn at.now.iface at.now.local from.router fields headers.entry database.now
+        (turn neighbour.old post.old)) }
+    ensures elects { IfOk result
+        (λ elects. elects ≡ elects_by_change at.now.iface.state neighbour.old neighbour.new) }
+{
+    let before = neighbour.state().is_two_way();
+    describe_to(neighbour, from.router, fields, headers, database, at, post)?;
+    let after = neighbour.state().is_two_way();
+    Ok(is_settled(at.iface.state) && before != after)
 }

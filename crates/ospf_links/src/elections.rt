@@ -14,73 +14,21 @@ use ospf_exchange::Local;
 use ospf_neighbour::Neighbour;
 use std::alloc::{AllocError, Global};
 
-// The election, over neighbours that were taken out.
-fn elect_over(
-    link: &mut Link,
-    all: &mut Vec<Neighbour>,
-    local: Local,
-    post: &mut Post,
-) -> Result<(), AllocError>
-    requires electing { elects_in link.old.iface.state ≡ true }
-    requires link { AreOfLink link.old.iface all.old.items }
-    ensures elects {
-        OnOk result
-            ((sent : List Parcel)
-                × ElectsOn local.mtu local.tick link.old.iface all.old.items post.old.next sent
-                    link.new.iface all.new.items post.new.next
-                × (post.new.sent ≡ post.old.sent ++ sent))
-    }
-    ensures rest { link.new ≡ record link.old { iface = link.new.iface } }
+/// The elections that are due, link by link, with AdjOK? (RFC 2328, section 9.4).
+///
+/// `AllocError` where memory runs out.
+pub fn elect(area: &mut Area, out: &mut Outputs, alloc: Global) -> Result<(), AllocError>
+    requires { AreReady area.old.links }
+    ensures { OnOk result (Elects area.old out.old area.new out.new) }
 {
-    elect_on(&mut link.iface, all, local, post)
-}
-
-// The election of a link on which one is due, and AdjOK?.
-fn link_election(link: &mut Link, local: Local, post: &mut Post) -> Result<(), AllocError>
-    requires electing { elects_in link.old.iface.state ≡ true }
-    requires others { AreOfLink link.old.iface link.old.neighbours }
-    ensures {
-        OnOk result
-            ((sent : List Parcel)
-                × ElectsOnLink local.mtu local.tick post.old.next link.old link.new post.new.next sent
-                × (post.new.sent ≡ post.old.sent ++ sent))
+    let count = area.links.len();
+    for number in 0..count {
+        elect_at(area, number, out, alloc)?;
     }
-{
-    let mut all = take_out(link, post.alloc());
-    elect_over(link, &mut all, local, post)?;
-    put_back(link, all, false);
     Ok(())
 }
 
-// And what goes out by it is sent; nothing is done where none is due.
-fn elect_link(
-    link: &mut Link,
-    number: usize,
-    own: Own,
-    next: &mut u32,
-    out: &mut Outputs,
-    alloc: Global,
-) -> Result<(), AllocError>
-    requires { IsReady link.old }
-    ensures {
-        OnOk result
-            ((sent : List Parcel)
-                × ElectsLink own next.old link.old link.new next.new sent
-                × (out.new ≡ and_sends out.old (posted_all own number link.old.iface sent)))
-    }
-{
-    if !link.elects {
-        return Ok(());
-    }
-    let local = local_of(own, link);
-    let iface = iface_of(link);
-    let mut post = Post::new(*next, alloc);
-    link_election(link, local, &mut post)?;
-    *next = post.next();
-    post.send_all(out, own, number, &iface)
-}
-
-// That of one link.
+// The election of the link of this number, where one is due.
 fn elect_at(
     area: &mut Area,
     number: usize,
@@ -97,16 +45,62 @@ fn elect_at(
     }
 }
 
-/// The elections that are due, link by link, with AdjOK? (RFC 2328, section 9.4).
-///
-/// `AllocError` where memory runs out.
-pub fn elect(area: &mut Area, out: &mut Outputs, alloc: Global) -> Result<(), AllocError>
-    requires { AreReady area.old.links }
-    ensures { OnOk result (Elects area.old out.old area.new out.new) }
+// The election of a link, where one is due, and what goes out by it.
+fn elect_link(
+    link: &mut Link,
+    number: usize,
+    own: Own,
+    next: &mut u32,
+    out: &mut Outputs,
+    alloc: Global,
+) -> Result<(), AllocError>
+    requires { IsReady link.old }
+    ensures { OnOk result
+        ((sent : List Parcel)
+        × ElectsLink own next.old link.old link.new next.new sent
+        × (out.new ≡ and_sends out.old (posted_all own number link.old.iface sent))) }
 {
-    let count = area.links.len();
-    for number in 0..count {
-        elect_at(area, number, out, alloc)?;
+    if !link.elects {
+        return Ok(());
     }
+    let local = local_of(own, link);
+    let iface = iface_of(link);
+    let mut post = Post::new(*next, alloc);
+    link_election(link, local, &mut post)?;
+    *next = post.next();
+    post.send_all(out, own, number, &iface)
+}
+
+// The election of a link on which one is due, and AdjOK?.
+fn link_election(link: &mut Link, local: Local, post: &mut Post) -> Result<(), AllocError>
+    requires electing { elects_in link.old.iface.state ≡ true }
+    requires others { AreOfLink link.old.iface link.old.neighbours }
+    ensures { OnOk result
+        ((sent : List Parcel)
+        × ElectsOnLink local.mtu local.tick post.old.next link.old link.new post.new.next sent
+        × (post.new.sent ≡ post.old.sent ++ sent)) }
+{
+    let mut all = take_out(link, post.alloc());
+    elect_over(link, &mut all, local, post)?;
+    put_back(link, all, false);
     Ok(())
+}
+
+// The election, over neighbours that were taken out.
+fn elect_over(
+    link: &mut Link,
+    all: &mut Vec<Neighbour>,
+    local: Local,
+    post: &mut Post,
+) -> Result<(), AllocError>
+    requires electing { elects_in link.old.iface.state ≡ true }
+    requires link { AreOfLink link.old.iface all.old.items }
+    ensures elects { OnOk result
+        ((sent : List Parcel)
+        × ElectsOn local.mtu local.tick link.old.iface all.old.items post.old.next sent
+        link.new.iface all.new.items post.new.next
+        × (post.new.sent ≡ post.old.sent ++ sent)) }
+    ensures rest { link.new ≡ record link.old { iface = link.new.iface } }
+{
+    elect_on(&mut link.iface, all, local, post)
 }

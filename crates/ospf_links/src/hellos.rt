@@ -14,34 +14,6 @@ use ospf_area::{Area, Link, Origin, Outputs, Own, own_of};
 use ospf_packet::{Hello, Neighbours};
 use std::alloc::{AllocError, Global};
 
-// Takes a Hello that comes on a link.
-fn hello_comes(
-    link: &mut Link,
-    from: Origin,
-    hello: &Hello,
-    named: bool,
-    own: Own,
-    post: &mut Post,
-) -> Result<(), AllocError>
-    requires room {
-        neighbour_of link.old.neighbours from.router ≡ None → length link.old.neighbours < 255
-    }
-    ensures after {
-        OnOk result
-            (link.new ≡ with_neighbourhood (hello_at own from hello.now named post.old link.old) link.old)
-    }
-    ensures left {
-        OnOk result (post.new ≡ left_by (hello_at own from hello.now named post.old link.old))
-    }
-{
-    let at = on_link(own, link);
-    let mut all = take_out(link, post.alloc());
-    let elects = hello_on(&mut all, from.router, from.address, hello, named, &at, post)?;
-    let due = is_due(link, elects);
-    put_back(link, all, due);
-    Ok(())
-}
-
 /// Takes a Hello that comes on a link of the router (RFC 2328, section 10.5) and is not dropped: its sender is a neighbour, or
 /// there is room for one more. Where there is no such link nothing is done.
 ///
@@ -54,27 +26,21 @@ pub fn take_hello(
     out: &mut Outputs,
     alloc: Global,
 ) -> Result<(), AllocError>
-    requires room {
-        (link : LinkValue) → slice_get area.old.links from.link ≡ Some link
-            → neighbour_of link.neighbours from.router ≡ None → length link.neighbours < 255
-    }
-    ensures after {
-        OnOk result
-            (area.new
-                ≡ worked
-                    (hello_part (own_of area.old) from hello.now (names neighbours.entry area.old.router)
-                        area.old.next_dd)
-                    from.link area.old)
-    }
-    ensures sent {
-        OnOk result
-            (out.new
-                ≡ and_sends out.old
-                    (work_sent
-                        (hello_part (own_of area.old) from hello.now
-                            (names neighbours.entry area.old.router) area.old.next_dd)
-                        (own_of area.old) from.link area.old.links))
-    }
+    requires room { (link : LinkValue) → slice_get area.old.links from.link ≡ Some link
+        → neighbour_of link.neighbours from.router ≡ None → length link.neighbours < 255 }
+    ensures after { OnOk result
+        (area.new
+        ≡ worked
+        (hello_part (own_of area.old) from hello.now (names neighbours.entry area.old.router)
+        area.old.next_dd)
+        from.link area.old) }
+    ensures sent { OnOk result
+        (out.new
+        ≡ and_sends out.old
+        (work_sent
+        (hello_part (own_of area.old) from hello.now
+        (names neighbours.entry area.old.router) area.old.next_dd)
+        (own_of area.old) from.link area.old.links)) }
 {
     let own = own_of(area);
     let named = is_named(neighbours, area.router);
@@ -88,4 +54,28 @@ pub fn take_hello(
         }
         None => Ok(()),
     }
+}
+
+// Takes a Hello that comes on a link.
+fn hello_comes(
+    link: &mut Link,
+    from: Origin,
+    hello: &Hello,
+    named: bool,
+    own: Own,
+    post: &mut Post,
+) -> Result<(), AllocError>
+    requires room { neighbour_of link.old.neighbours from.router ≡ None →
+        length link.old.neighbours < 255 }
+    ensures after { OnOk result
+        (link.new ≡ with_neighbourhood (hello_at own from hello.now named post.old link.old) link.old) }
+    ensures left { OnOk result (post.new
+        ≡ left_by (hello_at own from hello.now named post.old link.old)) }
+{
+    let at = on_link(own, link);
+    let mut all = take_out(link, post.alloc());
+    let elects = hello_on(&mut all, from.router, from.address, hello, named, &at, post)?;
+    let due = is_due(link, elects);
+    put_back(link, all, due);
+    Ok(())
 }

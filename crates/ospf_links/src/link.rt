@@ -12,6 +12,13 @@ use ospf_neighbour::Neighbour;
 use std::alloc::Global;
 use std::mem;
 
+/// What the parts of a step need to know of the router and this link.
+pub fn local_of(own: Own, link: &Link) -> Local
+    ensures { result ≡ local_of own link.now }
+{
+    local_by(own, link.settings)
+}
+
 // Takes the neighbours of a link out, to be worked on.
 pub(crate) fn take_out(link: &mut Link, alloc: Global) -> Vec<Neighbour>
     ensures neighbours { result.items ≡ link.old.neighbours }
@@ -56,13 +63,6 @@ pub(crate) fn local_by(own: Own, settings: LinkSettings) -> Local
         tick: own.tick,
         passes_over: own.passes_over,
     }
-}
-
-/// What the parts of a step need to know of the router and this link.
-pub fn local_of(own: Own, link: &Link) -> Local
-    ensures { result ≡ local_of own link.now }
-{
-    local_by(own, link.settings)
 }
 
 // A link as its neighbours' parts of a step work on it.

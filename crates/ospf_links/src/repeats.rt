@@ -17,6 +17,30 @@ use ospf_neighbour::Neighbour;
 use std::alloc::{AllocError, Global};
 use std::collections::BTreeSet;
 
+/// What is due on all links is sent again (RFC 2328, sections 10.8, 10.9 and 13.6): Database Descriptions, Requests, and the
+/// copies of what waits on retransmission lists, whose keys are marked as sent.
+///
+/// `AllocError` where memory runs out; then the router is to be stopped.
+pub fn repeat_all(
+    links: &mut [Link],
+    database: &Lsdb,
+    own: Own,
+    sent: &mut BTreeSet<LsaKey>,
+    out: &mut Outputs,
+    alloc: Global,
+) -> Result<(), AllocError>
+    ensures after { OnOk result (links.new ≡ repeated_links own database.now links.old) }
+    ensures sent { OnOk result (out.new ≡ and_sends out.old
+        (all_repeats own database.now links.old)) }
+    ensures marks { OnOk result (sent.new.keys
+        ≡ marked_all (all_keys own database.now links.old) sent.old.keys) }
+{
+    for (number, link) in links.iter_mut().enumerate() {
+        repeat_on(link, number, database, own, sent, out, alloc)?;
+    }
+    Ok(())
+}
+
 // A link out of which packets go again, by its number.
 #[derive(Clone, Copy)]
 struct Repeating {
@@ -24,111 +48,6 @@ struct Repeating {
     number: usize,
     iface: Iface,
     settings: LinkSettings,
-}
-
-// The repeats to a neighbour.
-fn repeat_to(
-    neighbour: &mut Neighbour,
-    on: &Repeating,
-    database: &Lsdb,
-    sent: &mut BTreeSet<LsaKey>,
-    out: &mut Outputs,
-    alloc: Global,
-) -> Result<(), AllocError>
-    ensures after {
-        OnOk result
-            (neighbour.new ≡ repeated on.now.own on.now.iface on.now.settings database.now neighbour.old)
-    }
-    ensures sent {
-        OnOk result
-            (out.new
-                ≡ and_sends out.old
-                    (repeats_to on.now.own on.now.number on.now.iface on.now.settings database.now
-                        neighbour.old))
-    }
-    ensures marks {
-        OnOk result
-            (sent.new.keys
-                ≡ marked_all (keys_to on.now.own on.now.settings database.now neighbour.old) sent.old.keys)
-    }
-{
-    let at = OnLink {
-        iface: on.iface,
-        local: local_by(on.own, on.settings),
-    };
-    let mut post = Post::new(0, alloc);
-    let retransmit = on.settings.retransmit;
-    let delay = on.settings.transmit_delay;
-    let keys = repeat(neighbour, database, &at, retransmit, delay, &mut post)?;
-    mark_all(sent, &keys)?;
-    post.send_all(out, on.own, on.number, &on.iface)
-}
-
-// The repeats to neighbours.
-fn repeat_to_each(
-    all: &mut [Neighbour],
-    on: &Repeating,
-    database: &Lsdb,
-    sent: &mut BTreeSet<LsaKey>,
-    out: &mut Outputs,
-    alloc: Global,
-) -> Result<(), AllocError>
-    ensures after {
-        OnOk result
-            (all.new ≡ map (repeated on.now.own on.now.iface on.now.settings database.now) all.old)
-    }
-    ensures sent {
-        OnOk result
-            (out.new
-                ≡ and_sends out.old
-                    (flat_map
-                        (repeats_to on.now.own on.now.number on.now.iface on.now.settings database.now)
-                        all.old))
-    }
-    ensures marks {
-        OnOk result
-            (sent.new.keys
-                ≡ marked_all (flat_map (keys_to on.now.own on.now.settings database.now) all.old)
-                    sent.old.keys)
-    }
-{
-    for neighbour in all.iter_mut() {
-        repeat_to(neighbour, on, database, sent, out, alloc)?;
-    }
-    Ok(())
-}
-
-// The repeats to neighbours that were taken out.
-fn repeat_to_all(
-    all: &mut Vec<Neighbour>,
-    on: &Repeating,
-    database: &Lsdb,
-    sent: &mut BTreeSet<LsaKey>,
-    out: &mut Outputs,
-    alloc: Global,
-) -> Result<(), AllocError>
-    ensures after {
-        OnOk result
-            (all.new.items
-                ≡ map (repeated on.now.own on.now.iface on.now.settings database.now) all.old.items)
-    }
-    ensures sent {
-        OnOk result
-            (out.new
-                ≡ and_sends out.old
-                    (flat_map
-                        (repeats_to on.now.own on.now.number on.now.iface on.now.settings database.now)
-                        all.old.items))
-    }
-    ensures marks {
-        OnOk result
-            (sent.new.keys
-                ≡ marked_all (flat_map (keys_to on.now.own on.now.settings database.now) all.old.items)
-                    sent.old.keys)
-    }
-{
-    repeat_to_each(all, on, database, sent, out, alloc)?;
-    Ok(())
 }
 
 // The repeats on a link.
@@ -142,8 +61,10 @@ fn repeat_on(
     alloc: Global,
 ) -> Result<(), AllocError>
     ensures after { OnOk result (link.new ≡ link_repeated own database.now link.old) }
-    ensures sent { OnOk result (out.new ≡ and_sends out.old (repeats_out own database.now number link.old)) }
-    ensures marks { OnOk result (sent.new.keys ≡ marked_all (keys_out own database.now link.old) sent.old.keys) }
+    ensures sent { OnOk result (out.new ≡ and_sends out.old
+        (repeats_out own database.now number link.old)) }
+    ensures marks { OnOk result (sent.new.keys
+        ≡ marked_all (keys_out own database.now link.old) sent.old.keys) }
 {
     let on = Repeating {
         own,
@@ -158,24 +79,89 @@ fn repeat_on(
     Ok(())
 }
 
-/// What is due on all links is sent again (RFC 2328, sections 10.8, 10.9 and 13.6): Database Descriptions, Requests, and the
-/// copies of what waits on retransmission lists, whose keys are marked as sent.
-///
-/// `AllocError` where memory runs out; then the router is to be stopped.
-pub fn repeat_all(
-    links: &mut [Link],
+// The repeats to neighbours that were taken out.
+fn repeat_to_all(
+    all: &mut Vec<Neighbour>,
+    on: &Repeating,
     database: &Lsdb,
-    own: Own,
     sent: &mut BTreeSet<LsaKey>,
     out: &mut Outputs,
     alloc: Global,
 ) -> Result<(), AllocError>
-    ensures after { OnOk result (links.new ≡ repeated_links own database.now links.old) }
-    ensures sent { OnOk result (out.new ≡ and_sends out.old (all_repeats own database.now links.old)) }
-    ensures marks { OnOk result (sent.new.keys ≡ marked_all (all_keys own database.now links.old) sent.old.keys) }
+    ensures after { OnOk result
+        (all.new.items
+        ≡ map (repeated on.now.own on.now.iface on.now.settings database.now) all.old.items) }
+    ensures sent { OnOk result
+        (out.new
+        ≡ and_sends out.old
+        (flat_map
+        (repeats_to on.now.own on.now.number on.now.iface on.now.settings database.now)
+        all.old.items)) }
+    ensures marks { OnOk result
+        (sent.new.keys
+        ≡ marked_all (flat_map (keys_to on.now.own on.now.settings database.now) all.old.items)
+        sent.old.keys) }
 {
-    for (number, link) in links.iter_mut().enumerate() {
-        repeat_on(link, number, database, own, sent, out, alloc)?;
+    repeat_to_each(all, on, database, sent, out, alloc)?;
+    Ok(())
+}
+
+// The repeats to neighbours.
+fn repeat_to_each(
+    all: &mut [Neighbour],
+    on: &Repeating,
+    database: &Lsdb,
+    sent: &mut BTreeSet<LsaKey>,
+    out: &mut Outputs,
+    alloc: Global,
+) -> Result<(), AllocError>
+    ensures after { OnOk result
+        (all.new ≡ map (repeated on.now.own on.now.iface on.now.settings database.now) all.old) }
+    ensures sent { OnOk result
+        (out.new
+        ≡ and_sends out.old
+        (flat_map
+        (repeats_to on.now.own on.now.number on.now.iface on.now.settings database.now)
+        all.old)) }
+    ensures marks { OnOk result
+        (sent.new.keys
+        ≡ marked_all (flat_map (keys_to on.now.own on.now.settings database.now) all.old)
+        sent.old.keys) }
+{
+    for neighbour in all.iter_mut() {
+        repeat_to(neighbour, on, database, sent, out, alloc)?;
     }
     Ok(())
+}
+
+// The repeats to a neighbour.
+fn repeat_to(
+    neighbour: &mut Neighbour,
+    on: &Repeating,
+    database: &Lsdb,
+    sent: &mut BTreeSet<LsaKey>,
+    out: &mut Outputs,
+    alloc: Global,
+) -> Result<(), AllocError>
+    ensures after { OnOk result
+        (neighbour.new ≡ repeated on.now.own on.now.iface on.now.settings database.now neighbour.old) }
+    ensures sent { OnOk result
+        (out.new
+        ≡ and_sends out.old
+        (repeats_to on.now.own on.now.number on.now.iface on.now.settings database.now
+        neighbour.old)) }
+    ensures marks { OnOk result
+        (sent.new.keys
+        ≡ marked_all (keys_to on.now.own on.now.settings database.now neighbour.old) sent.old.keys) }
+{
+    let at = OnLink {
+        iface: on.iface,
+        local: local_by(on.own, on.settings),
+    };
+    let mut post = Post::new(0, alloc);
+    let retransmit = on.settings.retransmit;
+    let delay = on.settings.transmit_delay;
+    let keys = repeat(neighbour, database, &at, retransmit, delay, &mut post)?;
+    mark_all(sent, &keys)?;
+    post.send_all(out, on.own, on.number, &on.iface)
 }

@@ -13,8 +13,7 @@ ghost use Rattle.ospf_links.specs.Works.{work_sent, worked};
 
 use crate::link::{iface_of, is_due, on_link, put_back, take_out};
 use crate::marks::mark_all;
-use ospf_adjacency::take_request as answer_to;
-use ospf_adjacency::{OnLink, Post, is_at, place_for};
+use ospf_adjacency::{OnLink, Post, is_at, place_for, take_request as answer_to};
 use ospf_area::{Area, Link, Origin, Outputs, Own, own_of};
 use ospf_base::LsaKey;
 use ospf_lsdb::Lsdb;
@@ -22,83 +21,6 @@ use ospf_neighbour::Neighbour;
 use ospf_packet::Requests;
 use std::alloc::{AllocError, Global};
 use std::collections::BTreeSet;
-
-// A Request comes to one of the neighbours that were taken out.
-fn answer_in(
-    all: &mut Vec<Neighbour>,
-    from: Origin,
-    requests: Requests<'_>,
-    database: &Lsdb,
-    at: &OnLink,
-    delay: u16,
-    post: &mut Post,
-) -> Result<BTreeSet<LsaKey>, AllocError>
-    requires rising { IsRising all.old.items }
-    requires exchanging {
-        (n : NeighbourValue) → neighbour_of all.old.items from.router ≡ Some n
-            → is_exchanging n.state ≡ true
-    }
-    ensures turn {
-        OnOk result
-            (neighbourhood all.new.items false post.new
-                ≡ request_on at.now.iface at.now.local from.router delay database.now requests.entry
-                    (neighbourhood all.old.items false post.old))
-    }
-    ensures keys {
-        IfOk result
-            (λ keys.
-                keys.keys
-                    ≡ answered_by (neighbour_of all.old.items from.router) database.now requests.entry)
-    }
-{
-    let place = place_for(all, from.router);
-    if !is_at(all, place, from.router) {
-        return Ok(BTreeSet::new(post.alloc()));
-    }
-    let neighbour = &mut all[place];
-    let keys = answer_to(neighbour, requests, database, at, delay, post)?;
-    Ok(keys)
-}
-
-// A Request comes on a link. Answers the keys whose copies go out.
-fn request_comes(
-    link: &mut Link,
-    from: Origin,
-    requests: Requests<'_>,
-    database: &Lsdb,
-    own: Own,
-    post: &mut Post,
-) -> Result<BTreeSet<LsaKey>, AllocError>
-    requires exchanging {
-        (n : NeighbourValue) → neighbour_of link.old.neighbours from.router ≡ Some n
-            → is_exchanging n.state ≡ true
-    }
-    ensures after {
-        OnOk result
-            (link.new
-                ≡ with_neighbourhood
-                    (request_at own from database.now requests.entry post.old link.old) link.old)
-    }
-    ensures left {
-        OnOk result
-            (post.new ≡ left_by (request_at own from database.now requests.entry post.old link.old))
-    }
-    ensures keys {
-        IfOk result
-            (λ keys.
-                keys.keys
-                    ≡ answered_by (neighbour_of link.old.neighbours from.router) database.now
-                        requests.entry)
-    }
-{
-    let at = on_link(own, link);
-    let delay = link.settings.transmit_delay;
-    let mut all = take_out(link, post.alloc());
-    let keys = answer_in(&mut all, from, requests, database, &at, delay, post)?;
-    let due = is_due(link, false);
-    put_back(link, all, due);
-    Ok(keys)
-}
 
 /// Takes a Request that comes on a link of the router (RFC 2328, section 10.7) from a neighbour in Exchange or above: the keys
 /// whose copies answer it are marked as sent in this tick. Where its sender or the link is not there nothing is done.
@@ -111,35 +33,28 @@ pub fn take_request(
     out: &mut Outputs,
     alloc: Global,
 ) -> Result<(), AllocError>
-    requires {
-        (link : LinkValue) → slice_get area.old.links from.link ≡ Some link
-            → (n : NeighbourValue) → neighbour_of link.neighbours from.router ≡ Some n
-            → is_exchanging n.state ≡ true
-    }
-    ensures after {
-        OnOk result
-            (area.new
-                ≡ record
-                    (worked
-                        (request_part (own_of area.old) from area.old.database requests.entry
-                            area.old.next_dd)
-                        from.link area.old)
-                    {
-                        sent = marked_all
-                            (answered_on (slice_get area.old.links from.link) from.router
-                                area.old.database requests.entry)
-                            area.old.sent
-                    })
-    }
-    ensures sent {
-        OnOk result
-            (out.new
-                ≡ and_sends out.old
-                    (work_sent
-                        (request_part (own_of area.old) from area.old.database requests.entry
-                            area.old.next_dd)
-                        (own_of area.old) from.link area.old.links))
-    }
+    requires { (link : LinkValue) → slice_get area.old.links from.link ≡ Some link
+        → (n : NeighbourValue) → neighbour_of link.neighbours from.router ≡ Some n
+        → is_exchanging n.state ≡ true }
+    ensures after { OnOk result
+        (area.new
+        ≡ record
+        (worked
+        (request_part (own_of area.old) from area.old.database requests.entry
+        area.old.next_dd)
+        from.link area.old) {
+          sent = marked_all
+              (answered_on (slice_get area.old.links from.link) from.router
+              area.old.database requests.entry)
+              area.old.sent;
+        }) }
+    ensures sent { OnOk result
+        (out.new
+        ≡ and_sends out.old
+        (work_sent
+        (request_part (own_of area.old) from area.old.database requests.entry
+        area.old.next_dd)
+        (own_of area.old) from.link area.old.links)) }
 {
     let own = own_of(area);
     match area.links.get_mut(from.link) {
@@ -153,4 +68,68 @@ pub fn take_request(
         }
         None => Ok(()),
     }
+}
+
+// A Request comes on a link. Answers the keys whose copies go out.
+fn request_comes(
+    link: &mut Link,
+    from: Origin,
+    requests: Requests<'_>,
+    database: &Lsdb,
+    own: Own,
+    post: &mut Post,
+) -> Result<BTreeSet<LsaKey>, AllocError>
+    requires exchanging { (n : NeighbourValue) →
+        neighbour_of link.old.neighbours from.router ≡ Some n
+        → is_exchanging n.state ≡ true }
+    ensures after { OnOk result
+        (link.new
+        ≡ with_neighbourhood
+        (request_at own from database.now requests.entry post.old link.old) link.old) }
+    ensures left { OnOk result
+        (post.new ≡ left_by (request_at own from database.now requests.entry post.old link.old)) }
+    ensures keys { IfOk result
+        (λ keys.
+        keys.keys
+        ≡ answered_by (neighbour_of link.old.neighbours from.router) database.now
+        requests.entry) }
+{
+    let at = on_link(own, link);
+    let delay = link.settings.transmit_delay;
+    let mut all = take_out(link, post.alloc());
+    let keys = answer_in(&mut all, from, requests, database, &at, delay, post)?;
+    let due = is_due(link, false);
+    put_back(link, all, due);
+    Ok(keys)
+}
+
+// A Request comes to one of the neighbours that were taken out.
+fn answer_in(
+    all: &mut Vec<Neighbour>,
+    from: Origin,
+    requests: Requests<'_>,
+    database: &Lsdb,
+    at: &OnLink,
+    delay: u16,
+    post: &mut Post,
+) -> Result<BTreeSet<LsaKey>, AllocError>
+    requires rising { IsRising all.old.items }
+    requires exchanging { (n : NeighbourValue) → neighbour_of all.old.items from.router ≡ Some n
+        → is_exchanging n.state ≡ true }
+    ensures turn { OnOk result
+        (neighbourhood all.new.items false post.new
+        ≡ request_on at.now.iface at.now.local from.router delay database.now requests.entry
+        (neighbourhood all.old.items false post.old)) }
+    ensures keys { IfOk result
+        (λ keys.
+        keys.keys
+        ≡ answered_by (neighbour_of all.old.items from.router) database.now requests.entry) }
+{
+    let place = place_for(all, from.router);
+    if !is_at(all, place, from.router) {
+        return Ok(BTreeSet::new(post.alloc()));
+    }
+    let neighbour = &mut all[place];
+    let keys = answer_to(neighbour, requests, database, at, delay, post)?;
+    Ok(keys)
 }

@@ -12,14 +12,32 @@ use ospf_area::{Link, Outputs, Own};
 use ospf_neighbour::Neighbour;
 use std::alloc::{AllocError, Global};
 
-// The timers of an interface and of neighbours that were taken out.
-fn count(link: &mut Link, all: &mut Vec<Neighbour>) -> bool
-    ensures due { result ≡ link.old.elects || elects_by_timers link.old.iface all.old.items }
-    ensures link { link.new ≡ record link.old { iface = wait_ticked link.old.iface } }
-    ensures neighbours { all.new.items ≡ timed all.old.items }
+/// A tick of the wait timers and the inactivity timers of all links (RFC 2328, sections 9.3 and 10.3). No memory is taken.
+pub fn count_timers(links: &mut [Link], alloc: Global)
+    ensures { links.new ≡ map link_timed links.old }
 {
-    let elects = tick_timers(&mut link.iface, all);
-    link.elects || elects
+    for link in links.iter_mut() {
+        link_timers(link, alloc);
+    }
+}
+
+/// A tick of the Hello timers of all links: the Hellos that are due go out (RFC 2328, section 9.5).
+///
+/// `AllocError` where memory runs out.
+pub fn send_hellos(
+    links: &mut [Link],
+    own: Own,
+    out: &mut Outputs,
+    alloc: Global,
+) -> Result<(), AllocError>
+    ensures after { OnOk result (links.new ≡ map hello_sent links.old) }
+    ensures sent { OnOk result (out.new ≡ and_sends out.old
+        (flat_from (hello_out own) 0 links.old)) }
+{
+    for (number, link) in links.iter_mut().enumerate() {
+        send_hello_on(link, number, own, out, alloc)?;
+    }
+    Ok(())
 }
 
 // A tick of a link's timers.
@@ -31,13 +49,14 @@ fn link_timers(link: &mut Link, alloc: Global)
     put_back(link, all, due);
 }
 
-/// A tick of the wait timers and the inactivity timers of all links (RFC 2328, sections 9.3 and 10.3). No memory is taken.
-pub fn count_timers(links: &mut [Link], alloc: Global)
-    ensures { links.new ≡ map link_timed links.old }
+// The timers of an interface and of neighbours that were taken out.
+fn count(link: &mut Link, all: &mut Vec<Neighbour>) -> bool
+    ensures due { result ≡ link.old.elects || elects_by_timers link.old.iface all.old.items }
+    ensures link { link.new ≡ record link.old { iface = wait_ticked link.old.iface } }
+    ensures neighbours { all.new.items ≡ timed all.old.items }
 {
-    for link in links.iter_mut() {
-        link_timers(link, alloc);
-    }
+    let elects = tick_timers(&mut link.iface, all);
+    link.elects || elects
 }
 
 // A tick of a link's Hello timer.
@@ -54,22 +73,4 @@ fn send_hello_on(
     let mut post = Post::new(0, alloc);
     send_due_hello(&mut link.iface, link.neighbours.all(), &mut post)?;
     post.send_all(out, own, number, &link.iface)
-}
-
-/// A tick of the Hello timers of all links: the Hellos that are due go out (RFC 2328, section 9.5).
-///
-/// `AllocError` where memory runs out.
-pub fn send_hellos(
-    links: &mut [Link],
-    own: Own,
-    out: &mut Outputs,
-    alloc: Global,
-) -> Result<(), AllocError>
-    ensures after { OnOk result (links.new ≡ map hello_sent links.old) }
-    ensures sent { OnOk result (out.new ≡ and_sends out.old (flat_from (hello_out own) 0 links.old)) }
-{
-    for (number, link) in links.iter_mut().enumerate() {
-        send_hello_on(link, number, own, out, alloc)?;
-    }
-    Ok(())
 }

@@ -166,7 +166,8 @@ impl Dated {
     pub(crate) fn expire(&mut self, key: &LsaKey) -> bool
         ensures entry { Puts key.now (option_map expired (held_of self.old key.now)) self.old
             self.new }
-        ensures was_fresh { result ≡ is_some_and (λ h. is_fresh h.entry) (held_of self.old key.now) }
+        ensures was_fresh { result ≡ is_some_and (λ h. is_fresh h.entry)
+            (held_of self.old key.now) }
     {
         let Some(age) = age_in(&self.entries, self.clock, key) else {
             return false;

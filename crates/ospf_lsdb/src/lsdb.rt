@@ -116,7 +116,8 @@ impl Lsdb {
     pub fn expire(&mut self, key: &LsaKey) -> bool
         ensures entry { Puts key.now (option_map expired (held_of self.old key.now)) self.old
             self.new }
-        ensures was_fresh { result ≡ is_some_and (λ h. is_fresh h.entry) (held_of self.old key.now) }
+        ensures was_fresh { result ≡ is_some_and (λ h. is_fresh h.entry)
+            (held_of self.old key.now) }
     {
         is_database(&self.dated);
         let was_fresh = self.dated.expire(key);

@@ -103,7 +103,8 @@ fn wanted_action(
 
 // Whether a wanted LSA is due.
 fn is_due(wanted: &OwnLsa, copy: Option<&EntryView<'_>>, alloc: Global) -> Result<bool, LsaFault>
-    ensures is { IfOk result (λ due. due ≡ is_due (value_of wanted.now) (option_copied copy.entry)) }
+    ensures is { IfOk result (λ due. due
+        ≡ is_due (value_of wanted.now) (option_copied copy.entry)) }
     ensures fault { IfErr result (λ f. IsUnmade (Needs first_number (value_of wanted.now)) f) }
 {
     match copy {

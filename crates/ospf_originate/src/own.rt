@@ -202,7 +202,8 @@ fn wanted_of<'a>(all: &'a [OwnLsa], key: &LsaKey) -> Option<&'a OwnLsa>
 
 // The first wanted LSA of a key.
 fn first_of<'a>(all: &'a [OwnLsa], key: &LsaKey) -> Option<&'a OwnLsa>
-    ensures { option_copied result ≡ find (λ w. same_key (wanted_key (value_of w)) key.now) all.now }
+    ensures { option_copied result ≡ find (λ w. same_key (wanted_key (value_of w)) key.now)
+        all.now }
 {
     all.iter().find(|w| w.key().is_same(key))
 }

@@ -96,7 +96,8 @@ fn lsas_length(lsas: &[Lsa]) -> Option<usize>
     ensures found { IfSome result (λ n. (n ≡ length (lsas_bytes lsas.now))
         × (packet_header + 4 + n ≤ largest_packet)) }
     ensures count { OnSome result (length lsas.now < 2 ^ 32) }
-    ensures none { IfNone result (largest_packet < packet_header + 4 + length (lsas_bytes lsas.now)) }
+    ensures none { IfNone result (largest_packet
+        < packet_header + 4 + length (lsas_bytes lsas.now)) }
 {
     let mut total = 0;
     for lsa in lsas {

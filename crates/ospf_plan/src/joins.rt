@@ -48,7 +48,8 @@ fn pass(
     reached: &mut BTreeSet<usize>,
     joins: &[Join],
 ) -> Result<Vec<Join>, AllocError>
-    ensures after { OnOk result ((q : ℕ) → has reached.new q ≡ after (has reached.old) joins.now q) }
+    ensures after { OnOk result ((q : ℕ) →
+        has reached.new q ≡ after (has reached.old) joins.now q) }
     ensures rest { IfOk result (λ rest. rest.items ≡ left (has reached.old) joins.now) }
 {
     let mut rest = Vec::new(alloc);
@@ -62,7 +63,8 @@ fn pass(
 // Reaches both ends of a join where one is reached. The answer is whether one is.
 fn visit(reached: &mut BTreeSet<usize>, join: &Join) -> Result<bool, AllocError>
     ensures touched { IfOk result (λ t. t ≡ touches (has reached.old) join.now) }
-    ensures after { OnOk result ((q : ℕ) → has reached.new q ≡ marked (has reached.old) join.now q) }
+    ensures after { OnOk result ((q : ℕ) →
+        has reached.new q ≡ marked (has reached.old) join.now q) }
 {
     if !touches(reached, join) {
         return Ok(false);

@@ -73,7 +73,8 @@ impl Router {
     ) -> Result<Router, StartFault>
         ensures started { IfOk result (λ r. IsStarted config.now dd_start floor r) }
         ensures above { OnOk result (floor ≢ max_sequence_number) }
-        ensures refused { IfErr result (λ f. (f ≡ StartFault.Floor) ↔ (floor ≡ max_sequence_number)) }
+        ensures refused { IfErr result (λ f. (f ≡ StartFault.Floor)
+            ↔ (floor ≡ max_sequence_number)) }
     {
         if floor == MAX_SEQUENCE_NUMBER {
             return Err(StartFault::Floor);

@@ -31,7 +31,8 @@ impl Command {
         ensures blank { IfOk result (λ read. IsNone read ↔ IsBlank line.now) }
         ensures not_a_command { IfErr result (λ e. e ≡ LineFault.NotACommand →
             IsUnreadable line.now) }
-        ensures memory { IfErr result (λ e. e ≡ LineFault.Memory → SpellsLongWalk (words line.now)) }
+        ensures memory { IfErr result (λ e. e ≡ LineFault.Memory →
+            SpellsLongWalk (words line.now)) }
     {
         let Some((word, rest)) = first_word(line) else {
             return Ok(None);

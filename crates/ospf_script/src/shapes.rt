@@ -41,7 +41,8 @@ pub(crate) fn router_and_link_in(text: &[u8]) -> Option<(RouterId, usize)>
 // Two numbers.
 pub(crate) fn numbers_in(text: &[u8]) -> Option<(u64, u64)>
     ensures some { IfSome result (λ found. AreNumbers (words text.now) found.0 found.1) }
-    ensures none { IfNone result ((number count : ℕ) → AreNumbers (words text.now) number count → ⊥) }
+    ensures none { IfNone result ((number count : ℕ) → AreNumbers (words text.now) number count →
+        ⊥) }
 {
     let (number, count) = two_words(text)?;
     Some((number_of(number)?, number_of(count)?))

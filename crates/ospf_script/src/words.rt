@@ -36,7 +36,8 @@ pub(crate) fn one_word(text: &[u8]) -> Option<&[u8]>
 // The words of a text that has two.
 pub(crate) fn two_words(text: &[u8]) -> Option<(&[u8], &[u8])>
     ensures some { IfSome result (λ found. words text.now ≡ found.0.now ∷ found.1.now ∷ []) }
-    ensures none { IfNone result ((first second : Text) → words text.now ≡ first ∷ second ∷ [] → ⊥) }
+    ensures none { IfNone result ((first second : Text) → words text.now ≡ first ∷ second ∷ [] →
+        ⊥) }
 {
     let (first, rest) = first_word(text)?;
     let second = one_word(rest)?;

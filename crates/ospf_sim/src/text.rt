@@ -244,7 +244,8 @@ fn tell_same_router<E: Write>(
     err: &mut E,
     streams: &mut FailedStreams,
 ) -> Result<(), Failure>
-    ensures told { OnOk result (Appends (E.contents err.old) (E.contents err.new) same_router_line) }
+    ensures told { OnOk result (Appends (E.contents err.old) (E.contents err.new)
+        same_router_line) }
     ensures begun { OnErr result
         (IsBegun (E.contents err.old) (E.contents err.new) same_router_line) }
     ensures cut { IfErr result (IsErrorCut streams.new) }

@@ -76,7 +76,8 @@ impl Logs {
         later: &mut Vec<(LsaKey, Run)>,
         outputs: Outputs,
     ) -> Result<(), AllocError>
-        ensures logs { OnOk result (LogsTake self.old self.new router first later.old.items outputs) }
+        ensures logs { OnOk result (LogsTake self.old self.new router first later.old.items
+            outputs) }
         ensures runs { OnOk result (BeginAgain (length self.new.issued) outputs.ended
             later.old.items later.new.items) }
         ensures none { OnErr result (self.new ≡ self.old) }
@@ -101,7 +102,8 @@ impl Logs {
         later: &mut Vec<(LsaKey, Run)>,
         outputs: Outputs,
     ) -> Result<(), AllocError>
-        ensures logs { OnOk result (LogsTake self.old self.new router first later.old.items outputs) }
+        ensures logs { OnOk result (LogsTake self.old self.new router first later.old.items
+            outputs) }
         ensures runs { OnOk result (BeginAgain (length self.new.issued) outputs.ended
             later.old.items later.new.items) }
         ensures still { StillHave self.old self.new }
@@ -168,7 +170,8 @@ fn log_taken(log: &mut Vec<Holding>, router: RouterId, taken: &[Instance]) -> Re
 
 // The log of holdings grows by the LSAs that were issued.
 fn log_held(log: &mut Vec<Holding>, router: RouterId, issued: &[Lsa]) -> Result<(), AllocError>
-    ensures ok { OnOk result (log.new.items ≡ log.old.items ++ map (holdings_by router) issued.now) }
+    ensures ok { OnOk result (log.new.items ≡ log.old.items
+        ++ map (holdings_by router) issued.now) }
     ensures still { take (length log.old.items) log.new.items ≡ log.old.items }
 {
     for lsa in issued {

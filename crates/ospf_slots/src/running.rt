@@ -44,7 +44,8 @@ impl RunningRouter {
     ) -> Result<RunningRouter, StartFault>
         ensures begins { IfOk result (λ x. Begins config.now dd_start issued floor.now x) }
         ensures above { OnOk result (floor.now ≢ max_sequence_number) }
-        ensures refused { IfErr result (λ f. (f ≡ fault.Floor) ↔ (floor.now ≡ max_sequence_number)) }
+        ensures refused { IfErr result (λ f. (f ≡ fault.Floor)
+            ↔ (floor.now ≡ max_sequence_number)) }
     {
         let base = *floor;
         let router = Router::start(config, dd_start, base, alloc)?;
@@ -72,7 +73,8 @@ impl RunningRouter {
         router: RouterId,
         alloc: Global,
     ) -> Result<RunningRouter, Stopped>
-        ensures fed { IfOk result (λ x. Fed router (happening event.entry) self logs.old x logs.new) }
+        ensures fed { IfOk result (λ x. Fed router (happening event.entry) self logs.old x
+            logs.new) }
         ensures none { OnErr result (logs.new ≡ logs.old) }
     {
         let (running, outputs) = self.step(event, alloc)?;

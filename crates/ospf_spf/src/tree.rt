@@ -56,7 +56,8 @@ impl Tree {
 
     /// Whether the tree is that of another listing too: whether its graph is the same.
     pub fn holds_for(&self, listing: &Listing) -> bool
-        ensures { IsTrue result ↔ (map graph_part (advertisements_of listing.now) ≡ self.now.graph) }
+        ensures { IsTrue result ↔ (map graph_part (advertisements_of listing.now)
+            ≡ self.now.graph) }
     {
         are_items_of(&self.items, listing)
     }
@@ -67,7 +68,8 @@ impl Tree {
     /// `AllocError` where memory runs out.
     pub fn routes(&self, alloc: Global, listing: &Listing) -> Result<RouteTable, AllocError>
         requires holds { map graph_part (advertisements_of listing.now) ≡ self.now.graph }
-        ensures { IfOk result (λ table. IsTable (advertisements_of listing.now) self.now.root table) }
+        ensures { IfOk result (λ table. IsTable (advertisements_of listing.now) self.now.root
+            table) }
     {
         if !is_listed(listing, self.root) {
             return Ok(RouteTable::empty(alloc));

@@ -26,37 +26,35 @@ use ospf_packet::{Body, Headers, Packet};
 use ospf_update::{on_header, on_update};
 use std::alloc::{AllocError, Global};
 
-// The headers of an Acknowledgment, one after the other.
-fn take_headers(area: &mut Area, from: Origin, headers: Headers<'_>)
-    ensures { area.new ≡ headers_met from headers.entry area.old }
-{
-    for header in headers {
-        on_header(area, from, &header);
-    }
-}
-
-// What a packet says is taken.
-fn take_body(
+/// Takes a datagram that comes on a link. Answers why it is dropped, if it is; then nothing has changed.
+pub(crate) fn take_datagram(
     area: &mut Area,
-    from: Origin,
-    body: Body<'_>,
+    link: usize,
+    source: Addr,
+    destination: Addr,
+    bytes: &[u8],
     out: &mut Outputs,
     alloc: Global,
-) -> Result<(), AllocError>
-    requires { CanTake from (body_said body) area.old }
-    ensures { OnOk result (TakesBody (body_said body.entry) from area.old out.old out.new area.new) }
+) -> Result<Option<Dropped>, AllocError>
+    requires { IsFit area.old }
+    ensures dropped { IfOk result (λ d. d ≡ drop_on (slice_get area.old.links link) area.old source
+        destination (packet_of bytes.now)) }
+    ensures sender { IfOk result (λ d. d ≡ None →
+        IsSenderReady link (packet_of bytes.now) area.old) }
+    ensures takes { IfOk result (λ d. d ≡ None →
+        TakesDatagram link source (packet_of bytes.now) area.old out.old out.new area.new) }
+    ensures unchanged { IfOk result (λ d. d ≢ None → area.new ≡ area.old) }
+    ensures silent { IfOk result (λ d. d ≢ None → out.new ≡ out.old) }
+    ensures memory { OnErr result (drop_on (slice_get area.old.links link) area.old source
+        destination (packet_of bytes.now) ≡ None) }
+    ensures fit { OnOk result (IsFit area.new) }
 {
-    match body {
-        Body::Hello(hello, neighbours) => take_hello(area, from, &hello, neighbours, out, alloc),
-        Body::Description(fields, headers) => {
-            take_description(area, from, fields, headers, out, alloc)
+    match receive_on(area, link, source, destination, bytes) {
+        Ok(packet) => {
+            take_packet(area, link, source, packet, out, alloc)?;
+            Ok(None)
         }
-        Body::Request(requests) => take_request(area, from, requests, out, alloc),
-        Body::Update(lsas) => on_update(area, from, lsas, out, alloc),
-        Body::Acknowledgment(headers) => {
-            take_headers(area, from, headers);
-            Ok(())
-        }
+        Err(dropped) => Ok(Some(dropped)),
     }
 }
 
@@ -69,8 +67,10 @@ fn receive_on<'a>(
     bytes: &'a [u8],
 ) -> Result<Packet<'a>, Dropped>
     ensures packet { IfOk result (λ p. packet_of bytes.now ≡ Some (said p)) }
-    ensures taken { OnOk result (drop_on (slice_get area.now.links link) area.now source destination (packet_of bytes.now) ≡ None) }
-    ensures dropped { IfErr result (λ d. drop_on (slice_get area.now.links link) area.now source destination (packet_of bytes.now) ≡ Some d) }
+    ensures taken { OnOk result (drop_on (slice_get area.now.links link) area.now source destination
+        (packet_of bytes.now) ≡ None) }
+    ensures dropped { IfErr result (λ d. drop_on (slice_get area.now.links link) area.now source
+        destination (packet_of bytes.now) ≡ Some d) }
 {
     let Some(there) = area.links.get(link) else {
         return Err(Dropped::Packet);
@@ -97,11 +97,15 @@ fn take_packet(
     alloc: Global,
 ) -> Result<(), AllocError>
     requires fit { IsFit area.old }
-    requires taken { (destination : Addr) × (drop_on (slice_get area.old.links link) area.old source destination (Some (said packet)) ≡ None) }
+    requires taken { (destination : Addr)
+        × (drop_on (slice_get area.old.links link) area.old source destination (Some (said packet))
+        ≡ None) }
     ensures sender { IsSenderReady link (Some (said packet.entry)) area.old }
-    ensures takes { OnOk result (TakesDatagram link source (Some (said packet.entry)) area.old out.old out.new area.new) }
+    ensures takes { OnOk result (TakesDatagram link source (Some (said packet.entry)) area.old
+        out.old out.new area.new) }
     ensures fit { OnOk result (IsFit area.new) }
 {
+    // For the proof.
     not_dropped_is_taken();
     neighbours_stay_of_link();
     elections_come_about();
@@ -118,30 +122,37 @@ fn take_packet(
     take_body(area, from, packet.body, out, alloc)
 }
 
-/// Takes a datagram that comes on a link. Answers why it is dropped, if it is; then nothing has changed.
-pub(crate) fn take_datagram(
+// What a packet says is taken.
+fn take_body(
     area: &mut Area,
-    link: usize,
-    source: Addr,
-    destination: Addr,
-    bytes: &[u8],
+    from: Origin,
+    body: Body<'_>,
     out: &mut Outputs,
     alloc: Global,
-) -> Result<Option<Dropped>, AllocError>
-    requires { IsFit area.old }
-    ensures dropped { IfOk result (λ d. d ≡ drop_on (slice_get area.old.links link) area.old source destination (packet_of bytes.now)) }
-    ensures sender { IfOk result (λ d. d ≡ None → IsSenderReady link (packet_of bytes.now) area.old) }
-    ensures takes { IfOk result (λ d. d ≡ None → TakesDatagram link source (packet_of bytes.now) area.old out.old out.new area.new) }
-    ensures unchanged { IfOk result (λ d. d ≢ None → area.new ≡ area.old) }
-    ensures silent { IfOk result (λ d. d ≢ None → out.new ≡ out.old) }
-    ensures memory { OnErr result (drop_on (slice_get area.old.links link) area.old source destination (packet_of bytes.now) ≡ None) }
-    ensures fit { OnOk result (IsFit area.new) }
+) -> Result<(), AllocError>
+    requires { CanTake from (body_said body) area.old }
+    ensures { OnOk result (TakesBody (body_said body.entry) from area.old out.old out.new
+        area.new) }
 {
-    match receive_on(area, link, source, destination, bytes) {
-        Ok(packet) => {
-            take_packet(area, link, source, packet, out, alloc)?;
-            Ok(None)
+    match body {
+        Body::Hello(hello, neighbours) => take_hello(area, from, &hello, neighbours, out, alloc),
+        Body::Description(fields, headers) => {
+            take_description(area, from, fields, headers, out, alloc)
         }
-        Err(dropped) => Ok(Some(dropped)),
+        Body::Request(requests) => take_request(area, from, requests, out, alloc),
+        Body::Update(lsas) => on_update(area, from, lsas, out, alloc),
+        Body::Acknowledgment(headers) => {
+            take_headers(area, from, headers);
+            Ok(())
+        }
+    }
+}
+
+// The headers of an Acknowledgment, one after the other.
+fn take_headers(area: &mut Area, from: Origin, headers: Headers<'_>)
+    ensures { area.new ≡ headers_met from headers.entry area.old }
+{
+    for header in headers {
+        on_header(area, from, &header);
     }
 }

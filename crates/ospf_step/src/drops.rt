@@ -15,6 +15,69 @@ use ospf_iface::Iface;
 use ospf_neighbour::{MAX_NEIGHBOURS, Neighbour};
 use ospf_packet::{Body, Description, Headers, Packet};
 
+/// The packet that a datagram is, which came from `source` on a link and is for `destination`, or the first cause that it is
+/// dropped for (RFC 2328, sections 8.2, 10.5 to 10.7, 13 and 13.7). Nothing changes, and no memory is taken.
+pub fn receive<'a>(
+    bytes: &'a [u8],
+    source: Addr,
+    destination: Addr,
+    iface: &Iface,
+    neighbours: &[Neighbour],
+    area: AreaId,
+    local: Local,
+) -> Result<Packet<'a>, Dropped>
+    ensures packet { IfOk result (λ p. packet_of bytes.now ≡ Some (said p)) }
+    ensures taken { OnOk result (drop_of local iface.now neighbours.now area source destination
+        (packet_of bytes.now) ≡ None) }
+    ensures dropped { IfErr result (λ d. drop_of local iface.now neighbours.now area source
+        destination (packet_of bytes.now) ≡ Some d) }
+{
+    let packet = match Packet::read(bytes) {
+        Ok(packet) => packet,
+        Err(_) => return Err(Dropped::Packet),
+    };
+    match drop_of_packet(&packet, source, destination, iface, neighbours, area, local) {
+        Some(dropped) => Err(dropped),
+        None => Ok(packet),
+    }
+}
+
+// The first cause that a packet is dropped for, if there is one.
+fn drop_of_packet(
+    packet: &Packet<'_>,
+    source: Addr,
+    destination: Addr,
+    iface: &Iface,
+    neighbours: &[Neighbour],
+    area: AreaId,
+    local: Local,
+) -> Option<Dropped>
+    ensures { result ≡ drop_of_packet local iface.now neighbours.now area source destination
+        (said packet.now) }
+{
+    if iface.state.is_down() {
+        Some(Dropped::Packet)
+    } else if packet.area.0 != area.0 {
+        Some(Dropped::Area)
+    } else if packet.router.0 == iface.settings.router.0 {
+        Some(Dropped::OwnPacket)
+    } else if !is_destination(iface, destination) {
+        Some(Dropped::Destination)
+    } else if is_foreign(iface, source) {
+        Some(Dropped::Subnet)
+    } else {
+        let sender = sender_in(iface, neighbours, packet.router, source);
+        drop_by_body(
+            &packet.body,
+            iface,
+            neighbours,
+            packet.router,
+            sender,
+            local,
+        )
+    }
+}
+
 // Whether a datagram is for the interface.
 fn is_destination(iface: &Iface, destination: Addr) -> bool
     ensures { result ≡ is_destination iface.now destination }
@@ -30,20 +93,6 @@ fn is_foreign(iface: &Iface, source: Addr) -> bool
 {
     let mask = iface.settings.mask;
     is_broadcast(iface) && source.0 & mask != iface.settings.address.0 & mask
-}
-
-// The neighbour at an address.
-fn at_address(neighbours: &[Neighbour], address: Addr) -> Option<&Neighbour>
-    ensures { option_copied result ≡ at_address neighbours.now address }
-{
-    neighbours.iter().find(|n| n.address().0 == address.0)
-}
-
-// The neighbour of a Router ID.
-fn of_router(neighbours: &[Neighbour], router: RouterId) -> Option<&Neighbour>
-    ensures { option_copied result ≡ neighbour_of neighbours.now router }
-{
-    neighbours.iter().find(|n| n.router().0 == router.0)
 }
 
 // The sender among the neighbours.
@@ -62,27 +111,46 @@ fn sender_in<'a>(
     }
 }
 
-// Whether a router that was not found is a neighbour elsewhere.
-fn is_elsewhere(iface: &Iface, neighbours: &[Neighbour], router: RouterId) -> bool
-    ensures { result ≡ is_elsewhere iface.now neighbours.now router }
+// The neighbour at an address.
+fn at_address(neighbours: &[Neighbour], address: Addr) -> Option<&Neighbour>
+    ensures { option_copied result ≡ at_address neighbours.now address }
 {
-    if is_broadcast(iface) {
-        matches!(of_router(neighbours, router), Some(_))
-    } else {
-        !neighbours.is_empty()
-    }
+    neighbours.iter().find(|n| n.address().0 == address.0)
 }
 
-// Why a Hello of a router that is not known is dropped.
-fn drop_of_new(iface: &Iface, neighbours: &[Neighbour], router: RouterId) -> Option<Dropped>
-    ensures { result ≡ drop_of_new iface.now neighbours.now router }
+// The neighbour of a Router ID.
+fn of_router(neighbours: &[Neighbour], router: RouterId) -> Option<&Neighbour>
+    ensures { option_copied result ≡ neighbour_of neighbours.now router }
 {
-    if is_elsewhere(iface, neighbours, router) {
-        Some(Dropped::WrongRouter)
-    } else if neighbours.len() < MAX_NEIGHBOURS {
-        None
-    } else {
-        Some(Dropped::State)
+    neighbours.iter().find(|n| n.router().0 == router.0)
+}
+
+// By what the packet says.
+fn drop_by_body(
+    body: &Body<'_>,
+    iface: &Iface,
+    neighbours: &[Neighbour],
+    router: RouterId,
+    sender: Option<&Neighbour>,
+    local: Local,
+) -> Option<Dropped>
+    ensures { result ≡ drop_by_body local (body_said body.now) iface.now neighbours.now router
+        (option_copied sender.entry) }
+{
+    match body {
+        Body::Hello(hello, _) => {
+            if iface.agrees(hello) {
+                drop_of_hello(iface, neighbours, router, sender)
+            } else {
+                Some(Dropped::HelloMismatch)
+            }
+        }
+        Body::Description(description, headers) => {
+            drop_of_description(*description, headers, router, sender, local)
+        }
+        Body::Request(_) | Body::Update(_) | Body::Acknowledgment(_) => {
+            drop_below_exchange(router, sender)
+        }
     }
 }
 
@@ -107,6 +175,30 @@ fn drop_of_hello(
     }
 }
 
+// Why a Hello of a router that is not known is dropped.
+fn drop_of_new(iface: &Iface, neighbours: &[Neighbour], router: RouterId) -> Option<Dropped>
+    ensures { result ≡ drop_of_new iface.now neighbours.now router }
+{
+    if is_elsewhere(iface, neighbours, router) {
+        Some(Dropped::WrongRouter)
+    } else if neighbours.len() < MAX_NEIGHBOURS {
+        None
+    } else {
+        Some(Dropped::State)
+    }
+}
+
+// Whether a router that was not found is a neighbour elsewhere.
+fn is_elsewhere(iface: &Iface, neighbours: &[Neighbour], router: RouterId) -> bool
+    ensures { result ≡ is_elsewhere iface.now neighbours.now router }
+{
+    if is_broadcast(iface) {
+        matches!(of_router(neighbours, router), Some(_))
+    } else {
+        !neighbours.is_empty()
+    }
+}
+
 // Why a Database Description is dropped.
 fn drop_of_description(
     description: Description,
@@ -115,7 +207,8 @@ fn drop_of_description(
     sender: Option<&Neighbour>,
     local: Local,
 ) -> Option<Dropped>
-    ensures { result ≡ drop_of_description local router description headers.now (option_copied sender.entry) }
+    ensures { result ≡ drop_of_description local router description headers.now
+        (option_copied sender.entry) }
 {
     match sender {
         None => Some(Dropped::NoNeighbour),
@@ -146,93 +239,5 @@ fn drop_below_exchange(router: RouterId, sender: Option<&Neighbour>) -> Option<D
                 Some(Dropped::State)
             }
         }
-    }
-}
-
-// By what the packet says.
-fn drop_by_body(
-    body: &Body<'_>,
-    iface: &Iface,
-    neighbours: &[Neighbour],
-    router: RouterId,
-    sender: Option<&Neighbour>,
-    local: Local,
-) -> Option<Dropped>
-    ensures { result ≡ drop_by_body local (body_said body.now) iface.now neighbours.now router (option_copied sender.entry) }
-{
-    match body {
-        Body::Hello(hello, _) => {
-            if iface.agrees(hello) {
-                drop_of_hello(iface, neighbours, router, sender)
-            } else {
-                Some(Dropped::HelloMismatch)
-            }
-        }
-        Body::Description(description, headers) => {
-            drop_of_description(*description, headers, router, sender, local)
-        }
-        Body::Request(_) | Body::Update(_) | Body::Acknowledgment(_) => {
-            drop_below_exchange(router, sender)
-        }
-    }
-}
-
-// The first cause that a packet is dropped for, if there is one.
-fn drop_of_packet(
-    packet: &Packet<'_>,
-    source: Addr,
-    destination: Addr,
-    iface: &Iface,
-    neighbours: &[Neighbour],
-    area: AreaId,
-    local: Local,
-) -> Option<Dropped>
-    ensures { result ≡ drop_of_packet local iface.now neighbours.now area source destination (said packet.now) }
-{
-    if iface.state.is_down() {
-        Some(Dropped::Packet)
-    } else if packet.area.0 != area.0 {
-        Some(Dropped::Area)
-    } else if packet.router.0 == iface.settings.router.0 {
-        Some(Dropped::OwnPacket)
-    } else if !is_destination(iface, destination) {
-        Some(Dropped::Destination)
-    } else if is_foreign(iface, source) {
-        Some(Dropped::Subnet)
-    } else {
-        let sender = sender_in(iface, neighbours, packet.router, source);
-        drop_by_body(
-            &packet.body,
-            iface,
-            neighbours,
-            packet.router,
-            sender,
-            local,
-        )
-    }
-}
-
-/// The packet that a datagram is, which came from `source` on a link and is for `destination`, or the first cause that it is
-/// dropped for (RFC 2328, sections 8.2, 10.5 to 10.7, 13 and 13.7). Nothing changes, and no memory is taken.
-pub fn receive<'a>(
-    bytes: &'a [u8],
-    source: Addr,
-    destination: Addr,
-    iface: &Iface,
-    neighbours: &[Neighbour],
-    area: AreaId,
-    local: Local,
-) -> Result<Packet<'a>, Dropped>
-    ensures packet { IfOk result (λ p. packet_of bytes.now ≡ Some (said p)) }
-    ensures taken { OnOk result (drop_of local iface.now neighbours.now area source destination (packet_of bytes.now) ≡ None) }
-    ensures dropped { IfErr result (λ d. drop_of local iface.now neighbours.now area source destination (packet_of bytes.now) ≡ Some d) }
-{
-    let packet = match Packet::read(bytes) {
-        Ok(packet) => packet,
-        Err(_) => return Err(Dropped::Packet),
-    };
-    match drop_of_packet(&packet, source, destination, iface, neighbours, area, local) {
-        Some(dropped) => Err(dropped),
-        None => Ok(packet),
     }
 }

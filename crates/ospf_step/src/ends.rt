@@ -14,12 +14,28 @@ use ospf_area::{Area, Outputs};
 use ospf_originate::{area_stays_sound, own_stay_sound};
 use std::alloc::{AllocError, Global};
 
+/// The elections that are due, the router's own LSAs, and the LSAs that leave the database.
+pub(crate) fn end(area: &mut Area, out: &mut Outputs, alloc: Global) -> Result<(), AllocError>
+    requires { IsFit area.old }
+    ensures ends { OnOk result (Ends area.old out.old out.new area.new) }
+    ensures fit { OnOk result (IsFit area.new) }
+{
+    database_is_one(area);
+    elect(area, out, alloc)?;
+    own_lsas(area, out, alloc)?;
+    remove(area, out, alloc)?;
+    // For the proof.
+    let _sent = out.sent();
+    Ok(())
+}
+
 // As `ospf_links::elect`, and the router stays fit.
 fn elect(area: &mut Area, out: &mut Outputs, alloc: Global) -> Result<(), AllocError>
     requires { IsFit area.old }
     ensures elects { OnOk result (Elects area.old out.old area.new out.new) }
     ensures fit { OnOk result (IsFit area.new) }
 {
+    // For the proof.
     neighbours_stay_of_link();
     ospf_links::elect(area, out, alloc)
 }
@@ -30,6 +46,7 @@ fn own_lsas(area: &mut Area, out: &mut Outputs, alloc: Global) -> Result<(), All
     ensures own { OnOk result (OwnLsas area.old out.old out.new area.new) }
     ensures fit { OnOk result (IsFit area.new) }
 {
+    // For the proof.
     own_stay_sound();
     ospf_originate::own_lsas(area, out, alloc)
 }
@@ -42,20 +59,7 @@ fn remove(area: &mut Area, out: &mut Outputs, alloc: Global) -> Result<(), Alloc
     ensures fit { OnOk result (IsFit area.new) }
 {
     database_is_one(area);
+    // For the proof.
     area_stays_sound();
     ospf_update::remove(area, out, alloc)
-}
-
-/// The elections that are due, the router's own LSAs, and the LSAs that leave the database.
-pub(crate) fn end(area: &mut Area, out: &mut Outputs, alloc: Global) -> Result<(), AllocError>
-    requires { IsFit area.old }
-    ensures ends { OnOk result (Ends area.old out.old out.new area.new) }
-    ensures fit { OnOk result (IsFit area.new) }
-{
-    database_is_one(area);
-    elect(area, out, alloc)?;
-    own_lsas(area, out, alloc)?;
-    remove(area, out, alloc)?;
-    let _sent = out.sent();
-    Ok(())
 }

@@ -25,29 +25,34 @@ ghost use Rattle.ospf_step.specs.Invariants.{NoneWaitsBelow};
 
 /// A datagram that is a packet, by what it says.
 pub fn datagrams_are_chains()
-    ensures hello { (link : ℕ) (source destination : Addr) (bytes : List ℕ) (p : Meaning) → packet_of bytes ≡ Some p →
+    ensures hello { (link : ℕ) (source destination : Addr) (bytes : List ℕ) (p : Meaning) →
+        packet_of bytes ≡ Some p →
         (rest : List Part) (s t u : AreaValue) (out mid_out out' : OutputsValue) → AreRead out'.sent → PutsOut (λ o. Chain rest t o u) mid_out out' →
         (h : Hello) (heard : List RouterId) (named : Bool) → p.body ≡ hello h heard →
         t ≡ worked (hello_part (own_of s) (origin_of link source p) h named s.next_dd) link s →
         mid_out ≡ and_sends out (work_sent (hello_part (own_of s) (origin_of link source p) h named s.next_dd) (own_of s) link s.links) →
         PutsOut (λ o. Chain (first_parts (Event.Datagram link source destination bytes) ++ rest) s o u) out out' }
-    ensures description { (link : ℕ) (source destination : Addr) (bytes : List ℕ) (p : Meaning) → packet_of bytes ≡ Some p →
+    ensures description { (link : ℕ) (source destination : Addr) (bytes : List ℕ) (p : Meaning) →
+        packet_of bytes ≡ Some p →
         (rest : List Part) (s t u : AreaValue) (out mid_out out' : OutputsValue) → AreRead out'.sent → PutsOut (λ o. Chain rest t o u) mid_out out' →
         (d : Description) (headers : List LsaHeader) → IsDatabase s.database → NoneWaitsBelow s link p.router → p.body ≡ description d headers →
         t ≡ worked (description_part (own_of s) (origin_of link source p) d headers s.database s.next_dd) link s →
         mid_out ≡ and_sends out (work_sent (description_part (own_of s) (origin_of link source p) d headers s.database s.next_dd) (own_of s) link s.links) →
         PutsOut (λ o. Chain (first_parts (Event.Datagram link source destination bytes) ++ rest) s o u) out out' }
-    ensures request { (link : ℕ) (source destination : Addr) (bytes : List ℕ) (p : Meaning) → packet_of bytes ≡ Some p →
+    ensures request { (link : ℕ) (source destination : Addr) (bytes : List ℕ) (p : Meaning) →
+        packet_of bytes ≡ Some p →
         (rest : List Part) (s t u : AreaValue) (out mid_out out' : OutputsValue) → AreRead out'.sent → PutsOut (λ o. Chain rest t o u) mid_out out' →
         (entries : List RequestEntry) (marks : List LsaKey) → IsDatabase s.database → p.body ≡ request entries →
         t ≡ record (worked (request_part (own_of s) (origin_of link source p) s.database entries s.next_dd) link s) { sent = marks } →
         mid_out ≡ and_sends out (work_sent (request_part (own_of s) (origin_of link source p) s.database entries s.next_dd) (own_of s) link s.links) →
         PutsOut (λ o. Chain (first_parts (Event.Datagram link source destination bytes) ++ rest) s o u) out out' }
-    ensures update { (link : ℕ) (source destination : Addr) (bytes : List ℕ) (p : Meaning) → packet_of bytes ≡ Some p →
+    ensures update { (link : ℕ) (source destination : Addr) (bytes : List ℕ) (p : Meaning) →
+        packet_of bytes ≡ Some p →
         (rest : List Part) (s t u : AreaValue) (out mid_out out' : OutputsValue) → AreRead out'.sent → PutsOut (λ o. Chain rest t o u) mid_out out' →
         (lsas : List (List ℕ)) → p.body ≡ update lsas → TakesUpdate (origin_of link source p) lsas s out mid_out t →
         PutsOut (λ o. Chain (first_parts (Event.Datagram link source destination bytes) ++ rest) s o u) out out' }
-    ensures acknowledgment { (link : ℕ) (source destination : Addr) (bytes : List ℕ) (p : Meaning) → packet_of bytes ≡ Some p →
+    ensures acknowledgment { (link : ℕ) (source destination : Addr) (bytes : List ℕ) (p : Meaning) →
+        packet_of bytes ≡ Some p →
         (rest : List Part) (s t u : AreaValue) (out mid_out out' : OutputsValue) → AreRead out'.sent → PutsOut (λ o. Chain rest t o u) mid_out out' →
         (headers : List LsaHeader) → p.body ≡ acknowledgment headers → t ≡ headers_met (origin_of link source p) headers s → mid_out ≡ out →
         PutsOut (λ o. Chain (first_parts (Event.Datagram link source destination bytes) ++ rest) s o u) out out' }
@@ -55,9 +60,11 @@ pub fn datagrams_are_chains()
 
 /// A link that goes up or down.
 pub fn link_changes_are_chains()
-    ensures up { (l : ℕ) (rest : List Part) (s t u : AreaValue) (out mid_out out' : OutputsValue) → PutsOut (λ o. Chain rest t o u) mid_out out' →
+    ensures up { (l : ℕ) (rest : List Part) (s t u : AreaValue) (out mid_out out' : OutputsValue) →
+        PutsOut (λ o. Chain rest t o u) mid_out out' →
         AreRead out'.sent → t ≡ changed link_up l s → mid_out ≡ and_sends out (up_out_on (slice_get s.links l) (own_of s) l) →
         PutsOut (λ o. Chain (first_parts (Event.LinkUp l) ++ rest) s o u) out out' }
-    ensures down { (l : ℕ) (rest : List Part) (s t u : AreaValue) (out mid_out out' : OutputsValue) → PutsOut (λ o. Chain rest t o u) mid_out out' →
+    ensures down { (l : ℕ) (rest : List Part) (s t u : AreaValue)
+        (out mid_out out' : OutputsValue) → PutsOut (λ o. Chain rest t o u) mid_out out' →
         t ≡ changed link_down l s → mid_out ≡ out → PutsOut (λ o. Chain (first_parts (Event.LinkDown l) ++ rest) s o u) out out' }
 {}

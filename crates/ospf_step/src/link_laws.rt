@@ -21,7 +21,8 @@ ghost use Rattle.ospf_step.specs.Invariants.{NoneWaitsBelow};
 
 /// A Hello that comes, on a link that may not be there.
 pub fn hellos_put_out()
-    ensures { (f : Origin) (p : Meaning) (h : Hello) (named : Bool) (s t : AreaValue) (out out' : OutputsValue) →
+    ensures { (f : Origin) (p : Meaning) (h : Hello) (named : Bool) (s t : AreaValue)
+        (out out' : OutputsValue) →
         AreRead out'.sent → t ≡ worked (hello_part (own_of s) f h named s.next_dd) f.link s →
         out' ≡ and_sends out (work_sent (hello_part (own_of s) f h named s.next_dd) (own_of s) f.link s.links) →
         PutsOut (λ o. IsPart (Part.HelloComes f p) s o t) out out' }
@@ -29,7 +30,8 @@ pub fn hellos_put_out()
 
 /// A Database Description that comes, of a neighbour that may not be there.
 pub fn descriptions_put_out()
-    ensures { (f : Origin) (p : Meaning) (d : Description) (headers : List LsaHeader) (s t : AreaValue) (out out' : OutputsValue) →
+    ensures { (f : Origin) (p : Meaning) (d : Description) (headers : List LsaHeader)
+        (s t : AreaValue) (out out' : OutputsValue) →
         IsDatabase s.database → NoneWaitsBelow s f.link f.router → p.router ≡ f.router → headers ≡ dd_headers_in p → AreRead out'.sent →
         t ≡ worked (description_part (own_of s) f d headers s.database s.next_dd) f.link s →
         out' ≡ and_sends out (work_sent (description_part (own_of s) f d headers s.database s.next_dd) (own_of s) f.link s.links) →
@@ -38,7 +40,8 @@ pub fn descriptions_put_out()
 
 /// A Request that comes, of a neighbour that may not be there. The keys whose copies go out are marked.
 pub fn requests_put_out()
-    ensures { (f : Origin) (p : Meaning) (entries : List RequestEntry) (marks : List LsaKey) (s t : AreaValue) (out out' : OutputsValue) →
+    ensures { (f : Origin) (p : Meaning) (entries : List RequestEntry) (marks : List LsaKey)
+        (s t : AreaValue) (out out' : OutputsValue) →
         IsDatabase s.database → AreRead out'.sent →
         t ≡ record (worked (request_part (own_of s) f s.database entries s.next_dd) f.link s) { sent = marks } →
         out' ≡ and_sends out (work_sent (request_part (own_of s) f s.database entries s.next_dd) (own_of s) f.link s.links) →

@@ -15,7 +15,26 @@ use ospf_neighbour::Neighbour;
 pub fn database_is_one(area: &Area)
     ensures { IsDatabase area.now.database }
 {
+    // For the proof.
     let _entries = area.database.entries();
+}
+
+/// Nothing waits for the acknowledgement of a neighbour on a link while that is below Exchange (RFC 2328, section 10.1).
+pub fn none_waits_below(area: &Area, link: usize, router: RouterId)
+    ensures { NoneWaitsBelow area.now link router }
+{
+    if let Some(link) = area.links.get(link) {
+        none_waits_among(link.neighbours.all(), router);
+    }
+}
+
+// Nor for one of these.
+fn none_waits_among(all: &[Neighbour], router: RouterId)
+    ensures { (n : NeighbourValue) → neighbour_of all.now router ≡ Some n → HasNoneBelow n }
+{
+    if let Some(neighbour) = neighbour_by(all, router) {
+        none_waits(neighbour);
+    }
 }
 
 // The neighbour of a Router ID.
@@ -29,23 +48,6 @@ fn neighbour_by(all: &[Neighbour], router: RouterId) -> Option<&Neighbour>
 fn none_waits(neighbour: &Neighbour)
     ensures { HasNoneBelow neighbour.now }
 {
+    // For the proof.
     let _exchanges = neighbour.is_exchanging();
-}
-
-// Nor for one of these.
-fn none_waits_among(all: &[Neighbour], router: RouterId)
-    ensures { (n : NeighbourValue) → neighbour_of all.now router ≡ Some n → HasNoneBelow n }
-{
-    if let Some(neighbour) = neighbour_by(all, router) {
-        none_waits(neighbour);
-    }
-}
-
-/// Nothing waits for the acknowledgement of a neighbour on a link while that is below Exchange (RFC 2328, section 10.1).
-pub fn none_waits_below(area: &Area, link: usize, router: RouterId)
-    ensures { NoneWaitsBelow area.now link router }
-{
-    if let Some(link) = area.links.get(link) {
-        none_waits_among(link.neighbours.all(), router);
-    }
 }

@@ -33,22 +33,51 @@ pub struct Taken {
     pub dropped: Option<Dropped>,
 }
 
-// As `ospf_links::take_up`, and the router stays fit.
-fn take_up(area: &mut Area, link: usize, out: &mut Outputs, alloc: Global) -> Result<(), AllocError>
+/// Takes an event. A datagram that is dropped, for the first cause that applies, changes nothing and puts nothing out; what
+/// any other event does is followed by the elections that are due, the router's own LSAs, and the LSAs that leave the
+/// database. Each step keeps the laws of a step, and from a sound state it answers to other routers for all that it does.
+///
+/// `AllocError` where memory runs out; then the router is to be stopped.
+pub fn step(area: &mut Area, event: Event<'_>, alloc: Global) -> Result<Taken, AllocError>
     requires { IsFit area.old }
-    ensures takes { OnOk result (Becomes (changed link_up link area.old) (up_out_on (slice_get area.old.links link) (own_of area.old) link) out.old out.new area.new) }
+    ensures step { IfOk result (λ t. StepsArea (happening event.entry) area.old t.dropped t.out
+        area.new) }
+    ensures laws { IfOk result (λ t. StepLaws is_dropped (happening event.entry) area.old t.out
+        area.new) }
+    ensures accounts { IsSoundState area.old →
+        IfOk result (λ t. Accounts (heard_in (happening event.entry)) area.old t.out area.new) }
+    ensures sound { IsSoundState area.old → OnOk result (IsSoundState area.new) }
+    ensures same { OnOk result (IsSameRouter area.old area.new) }
+    ensures memory { OnErr result (dropped_by (happening event.entry) area.old ≡ None) }
     ensures fit { OnOk result (IsFit area.new) }
 {
-    ospf_links::take_up(area, link, out, alloc)
+    // For the proof.
+    neighbours_stay_of_link();
+    elections_come_about();
+    repeats_are_quiet();
+    area_stays_sound();
+    step_parts(area, event, alloc)
 }
 
-// As `ospf_links::take_down`, and the router stays fit.
-fn take_down(area: &mut Area, link: usize, alloc: Global)
+// An event that is not dropped, and the end of its step.
+fn step_parts(area: &mut Area, event: Event<'_>, alloc: Global) -> Result<Taken, AllocError>
     requires { IsFit area.old }
-    ensures after { area.new ≡ changed link_down link area.old }
-    ensures fit { IsFit area.new }
+    ensures dropped { IfOk result (λ t. t.dropped ≡ dropped_by (happening event.entry) area.old) }
+    ensures sender { IfOk result (λ t. t.dropped ≡ None →
+        IsReadyFor (happening event.entry) area.old) }
+    ensures takes { IfOk result (λ t. t.dropped ≡ None →
+        Takes (happening event.entry) area.old t.out area.new) }
+    ensures unchanged { IfOk result (λ t. t.dropped ≢ None → area.new ≡ area.old) }
+    ensures silent { IfOk result (λ t. t.dropped ≢ None → t.out ≡ no_outputs) }
+    ensures memory { OnErr result (dropped_by (happening event.entry) area.old ≡ None) }
+    ensures fit { OnOk result (IsFit area.new) }
 {
-    ospf_links::take_down(area, link, alloc);
+    let mut out = Outputs::new(alloc);
+    let dropped = take(area, event, &mut out, alloc)?;
+    if dropped.is_none() {
+        end(area, &mut out, alloc)?;
+    }
+    Ok(Taken { out, dropped })
 }
 
 // What an event does before the step ends.
@@ -61,7 +90,8 @@ fn take(
     requires { IsFit area.old }
     ensures dropped { IfOk result (λ d. d ≡ dropped_by (happening event.entry) area.old) }
     ensures sender { IfOk result (λ d. d ≡ None → IsReadyFor (happening event.entry) area.old) }
-    ensures takes { IfOk result (λ d. d ≡ None → TakesEvent (happening event.entry) area.old out.old out.new area.new) }
+    ensures takes { IfOk result (λ d. d ≡ None →
+        TakesEvent (happening event.entry) area.old out.old out.new area.new) }
     ensures unchanged { IfOk result (λ d. d ≢ None → area.new ≡ area.old) }
     ensures silent { IfOk result (λ d. d ≢ None → out.new ≡ out.old) }
     ensures memory { OnErr result (dropped_by (happening event.entry) area.old ≡ None) }
@@ -89,43 +119,21 @@ fn take(
     }
 }
 
-// An event that is not dropped, and the end of its step.
-fn step_parts(area: &mut Area, event: Event<'_>, alloc: Global) -> Result<Taken, AllocError>
+// As `ospf_links::take_up`, and the router stays fit.
+fn take_up(area: &mut Area, link: usize, out: &mut Outputs, alloc: Global) -> Result<(), AllocError>
     requires { IsFit area.old }
-    ensures dropped { IfOk result (λ t. t.dropped ≡ dropped_by (happening event.entry) area.old) }
-    ensures sender { IfOk result (λ t. t.dropped ≡ None → IsReadyFor (happening event.entry) area.old) }
-    ensures takes { IfOk result (λ t. t.dropped ≡ None → Takes (happening event.entry) area.old t.out area.new) }
-    ensures unchanged { IfOk result (λ t. t.dropped ≢ None → area.new ≡ area.old) }
-    ensures silent { IfOk result (λ t. t.dropped ≢ None → t.out ≡ no_outputs) }
-    ensures memory { OnErr result (dropped_by (happening event.entry) area.old ≡ None) }
+    ensures takes { OnOk result (Becomes (changed link_up link area.old)
+        (up_out_on (slice_get area.old.links link) (own_of area.old) link) out.old out.new area.new) }
     ensures fit { OnOk result (IsFit area.new) }
 {
-    let mut out = Outputs::new(alloc);
-    let dropped = take(area, event, &mut out, alloc)?;
-    if dropped.is_none() {
-        end(area, &mut out, alloc)?;
-    }
-    Ok(Taken { out, dropped })
+    ospf_links::take_up(area, link, out, alloc)
 }
 
-/// Takes an event. A datagram that is dropped, for the first cause that applies, changes nothing and puts nothing out; what
-/// any other event does is followed by the elections that are due, the router's own LSAs, and the LSAs that leave the
-/// database. Each step keeps the laws of a step, and from a sound state it answers to other routers for all that it does.
-///
-/// `AllocError` where memory runs out; then the router is to be stopped.
-pub fn step(area: &mut Area, event: Event<'_>, alloc: Global) -> Result<Taken, AllocError>
+// As `ospf_links::take_down`, and the router stays fit.
+fn take_down(area: &mut Area, link: usize, alloc: Global)
     requires { IsFit area.old }
-    ensures step { IfOk result (λ t. StepsArea (happening event.entry) area.old t.dropped t.out area.new) }
-    ensures laws { IfOk result (λ t. StepLaws is_dropped (happening event.entry) area.old t.out area.new) }
-    ensures accounts { IsSoundState area.old → IfOk result (λ t. Accounts (heard_in (happening event.entry)) area.old t.out area.new) }
-    ensures sound { IsSoundState area.old → OnOk result (IsSoundState area.new) }
-    ensures same { OnOk result (IsSameRouter area.old area.new) }
-    ensures memory { OnErr result (dropped_by (happening event.entry) area.old ≡ None) }
-    ensures fit { OnOk result (IsFit area.new) }
+    ensures after { area.new ≡ changed link_down link area.old }
+    ensures fit { IsFit area.new }
 {
-    neighbours_stay_of_link();
-    elections_come_about();
-    repeats_are_quiet();
-    area_stays_sound();
-    step_parts(area, event, alloc)
+    ospf_links::take_down(area, link, alloc);
 }

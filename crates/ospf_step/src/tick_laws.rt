@@ -39,7 +39,8 @@ pub fn repeats_put_out()
 
 /// All of a tick, and then what follows: only the ages and the last links and marks are not told by what was before.
 pub fn ticks_are_chains()
-    ensures { (rest : List Part) (marks : List LsaKey) (s aged t u : AreaValue) (expired : List SentValue) (out mid_out out' : OutputsValue) →
+    ensures { (rest : List Part) (marks : List LsaKey) (s aged t u : AreaValue)
+        (expired : List SentValue) (out mid_out out' : OutputsValue) →
         AreRising aged.links → AreRising (ticked_area aged).links → IsDatabase aged.database → AreRead out'.sent → TickAges s expired aged →
         t ≡ record (ticked_area aged) { links = repeated_links (own_of aged) aged.database (ticked_area aged).links; sent = marks } →
         mid_out ≡ tick_out aged (and_sends out expired) →

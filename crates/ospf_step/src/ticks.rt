@@ -13,6 +13,31 @@ use ospf_originate::area_stays_sound;
 use ospf_update::{age, send_delayed};
 use std::alloc::{AllocError, Global};
 
+/// Takes a tick: ages, timers, Hellos, acknowledgements and repeats.
+pub(crate) fn take_tick(area: &mut Area, out: &mut Outputs, alloc: Global) -> Result<(), AllocError>
+    requires { IsFit area.old }
+    ensures takes { OnOk result (TakesTick area.old out.old out.new area.new) }
+    ensures fit { OnOk result (IsFit area.new) }
+{
+    // For the proof.
+    neighbours_stay_of_link();
+    elections_come_about();
+    repeats_are_quiet();
+    area_stays_sound();
+    beat(area, out, alloc)
+}
+
+// Ages, timers, Hellos, acknowledgements and repeats.
+fn beat(area: &mut Area, out: &mut Outputs, alloc: Global) -> Result<(), AllocError>
+    ensures { OnOk result (TakesTick area.old out.old out.new area.new) }
+{
+    age(area, out, alloc)?;
+    count(area, alloc);
+    say_hello(area, out, alloc)?;
+    acknowledge(area, out, alloc)?;
+    send_again(area, out, alloc)
+}
+
 // The timers of links and neighbours.
 fn count(area: &mut Area, alloc: Global)
     ensures { area.new ≡ timed_area area.old }
@@ -52,28 +77,4 @@ fn send_again(area: &mut Area, out: &mut Outputs, alloc: Global) -> Result<(), A
         out,
         alloc,
     )
-}
-
-// Ages, timers, Hellos, acknowledgements and repeats.
-fn beat(area: &mut Area, out: &mut Outputs, alloc: Global) -> Result<(), AllocError>
-    ensures { OnOk result (TakesTick area.old out.old out.new area.new) }
-{
-    age(area, out, alloc)?;
-    count(area, alloc);
-    say_hello(area, out, alloc)?;
-    acknowledge(area, out, alloc)?;
-    send_again(area, out, alloc)
-}
-
-/// Takes a tick: ages, timers, Hellos, acknowledgements and repeats.
-pub(crate) fn take_tick(area: &mut Area, out: &mut Outputs, alloc: Global) -> Result<(), AllocError>
-    requires { IsFit area.old }
-    ensures takes { OnOk result (TakesTick area.old out.old out.new area.new) }
-    ensures fit { OnOk result (IsFit area.new) }
-{
-    neighbours_stay_of_link();
-    elections_come_about();
-    repeats_are_quiet();
-    area_stays_sound();
-    beat(area, out, alloc)
 }

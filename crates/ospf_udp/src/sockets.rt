@@ -43,7 +43,8 @@ impl<C: Clock + Drop> Sockets<C> {
         period: Duration,
         count: u64,
     ) -> Result<Sockets<C>, OpenFault>
-        ensures { IfOk result (λ sockets. (sockets.ticks.taken ≡ 0) × (sockets.ticks.count ≡ count)) }
+        ensures { IfOk result (λ sockets. (sockets.ticks.taken ≡ 0)
+            × (sockets.ticks.count ≡ count)) }
     {
         let poll = match Poll::new(net) {
             Ok(poll) => poll,

@@ -26,7 +26,8 @@ pub fn send_acks(
     headers: &[LsaHeader],
     alloc: Global,
 ) -> Result<(), AllocError>
-    ensures { OnOk result (out.new ≡ and_sends out.old (acks_out own way settings.mtu headers.now)) }
+    ensures { OnOk result (out.new ≡ and_sends out.old
+        (acks_out own way settings.mtu headers.now)) }
 {
     let sorted = in_order(headers, alloc)?;
     send_packed(out, own, way, ack_room(settings), &sorted, alloc)

@@ -86,7 +86,8 @@ fn add_wire(
 
 // The link of an edge between two routers in the subnet of an end.
 fn wire_of(edges: &[Edge], ends: &[End], edge: &Edge, end: &End) -> Option<Failure>
-    ensures some { IfSome result (λ failure. WireGiven edges.now ends.now edge.now end.now failure) }
+    ensures some { IfSome result (λ failure. WireGiven edges.now ends.now edge.now end.now
+        failure) }
     ensures only { IfSome result (λ failure. (f : Failure) →
         WireGiven edges.now ends.now edge.now end.now f → f ≡ failure) }
     ensures none { IfNone result ((f : Failure) → WireGiven edges.now ends.now edge.now end.now f →
@@ -290,7 +291,8 @@ fn has_wire(wires: &[Failure], first: RouterId, second: RouterId) -> bool
 
 // Whether a failure is a link between two routers in some subnet.
 fn is_wire_of(failure: &Failure, first: RouterId, second: RouterId) -> bool
-    ensures { IsTrue result ↔ ((subnet : Prefix) × (failure.now ≡ Failure.Link first second subnet)) }
+    ensures { IsTrue result ↔ ((subnet : Prefix)
+        × (failure.now ≡ Failure.Link first second subnet)) }
 {
     match *failure {
         Failure::Link { a, b, .. } => are(a, b, first, second),

@@ -127,7 +127,8 @@ fn is_alone(
 ) -> Result<bool, AllocError>
     ensures alone { IfOk result (λ alone. IsTrue alone → (other : Failure) →
         Contains failures.now other → IsIn word.now other → other ≡ first.now) }
-    ensures other { IfOk result (λ alone. alone ≡ false → HasOther failures.now word.now first.now) }
+    ensures other { IfOk result (λ alone. alone ≡ false →
+        HasOther failures.now word.now first.now) }
 {
     for failure in failures {
         if is_in(alloc, failure, word)? && !is_same(failure, first) {

@@ -124,7 +124,8 @@ fn told_in(alloc: Global, lost: &Pairs, live: &Pairs, ends: &[End]) -> Result<Pa
 
 // Adds the prefix of an end, if it is among those that are lost and stands at a router or at one of these networks.
 fn add_told(lost: &Pairs, live: &Pairs, end: &End, told: &mut Vec<u64>) -> Result<(), AllocError>
-    ensures { OnOk result (Adds (ToldGiven lost.now live.now end.now) told.old.items told.new.items) }
+    ensures { OnOk result (Adds (ToldGiven lost.now live.now end.now) told.old.items
+        told.new.items) }
 {
     if is_among(lost, end.prefix) && is_live(live, end.vertex) {
         told.push(place_of(end.prefix))?;

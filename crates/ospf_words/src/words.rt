@@ -246,7 +246,8 @@ fn addresses_arg<'a>(alloc: Global) -> Arg<'a>
 
 // Adds the command `failures` and its words.
 fn with_failures<'a>(program: Command<'a>, alloc: Global) -> Result<Command<'a>, AllocError>
-    ensures { IfOk result (λ c. app_of c ≡ with_subcommand (app_of program.entry) failures_app.top) }
+    ensures { IfOk result (λ c. app_of c
+        ≡ with_subcommand (app_of program.entry) failures_app.top) }
 {
     let failures = Command::new(alloc, "failures")
         .about("Tells what each single failure does to a routing table")
@@ -490,7 +491,8 @@ where
 
 // The addresses that words spell.
 fn parsed_addresses(alloc: Global, words: &[&str]) -> Result<Vec<Addr>, JobFault>
-    ensures spelled { IfOk result (λ addresses. Spell (map (λ w. w.now) words.now) addresses.items) }
+    ensures spelled { IfOk result (λ addresses. Spell (map (λ w. w.now) words.now)
+        addresses.items) }
     ensures fault { IfErr result (IsFaultOfValue (IsFirstWrong (map (λ w. w.now) words.now))) }
 {
     let mut addresses = Vec::with_capacity(alloc, words.len())?;
