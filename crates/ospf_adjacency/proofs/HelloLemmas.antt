@@ -1,5 +1,5 @@
 -- A Hello of a neighbour that was known, and of a new one.
-use Rattle.std.proofs.Common.{◌≡◌, ◌≢◌, ◌≤◌, ◌∷◌, suc, inl, inr, ℕ, Bool, false, List, [], Some, length, set, insert, refl, sym, ap, ◌∙◌, slice_get, unwrap_or, arith, rules}
+use Rattle.std.proofs.Common.{◌≡◌, ◌≢◌, ◌≤◌, ◌∷◌, suc, inl, inr, ℕ, Bool, false, List, [], Some, length, set, insert, sym, ap, ◌∙◌, slice_get, unwrap_or, arith, rules}
 use Rattle.std.proofs.lemmas.Grind.{common_steps}
 use Rattle.std.proofs.lemmas.Bool.Decides.{leb_tells}
 use Rattle.ospf_base.specs.declared.ids.Addr.{Addr}

@@ -1,5 +1,5 @@
 -- Copies where there is no key.
-use Rattle.std.proofs.Common.{◌≡◌, ℕ, List, [], ◌∷◌, length, ap, sym}
+use Rattle.std.proofs.Common.{◌≡◌, ℕ, List, [], ◌∷◌, length, ap}
 use Rattle.std.proofs.lemmas.List.{append-nil}
 use Rattle.ospf_base.specs.declared.ids.LsaKey.{LsaKey}
 use Rattle.ospf_adjacency.specs.Descriptions.{Turn}

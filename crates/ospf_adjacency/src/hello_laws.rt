@@ -1,4 +1,4 @@
-//! Laws: each holds of all links, neighbours and Hellos.
+//! Laws of Hellos, timers and AdjOK?: each holds of all links, neighbours and Hellos.
 
 ghost use Rattle.ospf_adjacency.specs.HelloLaws.{PutsOne, HelloGoes, TimersGo, AdjOkGoes, NeighboursStayOfLink, ElectionsComeAbout};
 
@@ -12,12 +12,12 @@ pub fn hello_goes()
     ensures { HelloGoes }
 {}
 
-/// So it is by the timers.
+/// The timers do to neighbours what a Hello does by `hello_goes`.
 pub fn timers_go()
     ensures { TimersGo }
 {}
 
-/// And by AdjOK?.
+/// AdjOK? does to neighbours what a Hello does by `hello_goes`.
 pub fn adj_ok_goes()
     ensures { AdjOkGoes }
 {}

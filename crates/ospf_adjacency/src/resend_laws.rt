@@ -1,4 +1,4 @@
-//! Laws: each holds of all neighbours and databases.
+//! Laws of answers and repeats: each holds of all neighbours and databases.
 
 ghost use Rattle.ospf_adjacency.specs.ResendLaws.{AnswersAreQuiet, KeysGoInOrder, RepeatsAreQuiet, UpdatesArePacked};
 
@@ -8,7 +8,7 @@ pub fn answers_are_quiet()
     ensures { AnswersAreQuiet }
 {}
 
-/// So it is with what is sent again.
+/// Repeats are as quiet as answers are by `answers_are_quiet`.
 pub fn repeats_are_quiet()
     ensures { RepeatsAreQuiet }
 {}

@@ -18,7 +18,7 @@ pub fn links_go()
         AllGo s heard s.links after.links → AreKnown s ds → NeighboursGo heard s out after }
 {}
 
-/// And where one link alone does something.
+/// Where one link alone does something, what it does by what is known, and by the packet heard.
 pub fn one_link_goes()
     ensures quiet { (l : ℕ) (link link' : LinkValue) (ds : List SentValue) (s : AreaValue)
         (out : OutputsValue) (after : AreaValue) →

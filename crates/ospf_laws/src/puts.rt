@@ -43,7 +43,7 @@ pub fn updates_are_chains()
         PutsOut (λ o. Chain ((lsa_parts f slices ++ Part.DirectAcknowledgements f ∷ []) ++ rest) s o u) out out' }
 {}
 
-/// And so is what is done with the headers of an Acknowledgment.
+/// What is done with the headers of an Acknowledgment, and then what follows, is the chain of its parts.
 pub fn headers_are_chains()
     ensures { (f : Origin) (hs : List LsaHeader) (rest : List Part) (s t u : AreaValue)
         (out out' : OutputsValue) →

@@ -51,11 +51,13 @@ left_by x = record { next = x.next; sent = x.sent }
 
 -- a Hello of the router f that comes on a link, and names this router or does not (10.5)
 abbrev pub hello_at : Own → Origin → Hello → Bool → PostValue → LinkValue → Neighbourhood
-hello_at own f h named p link = hello_on link.iface (local_of own link) f.router f.address h named (neighbourhood_at link p)
+hello_at own f h named p link =
+    hello_on link.iface (local_of own link) f.router f.address h named (neighbourhood_at link p)
 
 -- where nothing has gone out yet
 abbrev pub hello_part : Own → Origin → Hello → Bool → ℕ → LinkValue → Neighbourhood
-hello_part own f h named next link = hello_on link.iface (local_of own link) f.router f.address h named (neighbourhood_of link next)
+hello_part own f h named next link =
+    hello_on link.iface (local_of own link) f.router f.address h named (neighbourhood_of link next)
 
 -- a Database Description of a neighbour that may not be there; in Init it may bring an election about (10.6)
 abbrev pub description_by : Option NeighbourValue → Iface → Local → RouterId → Description → List LsaHeader → List Held → Neighbourhood → Neighbourhood
@@ -68,8 +70,10 @@ abbrev pub description_on : Iface → Local → RouterId → Description → Lis
 description_on i local q d headers db x = description_by (neighbour_of x.neighbours q) i local q d headers db x
 
 -- a Database Description that comes on a link
-abbrev pub description_at : Own → Origin → Description → List LsaHeader → List Held → PostValue → LinkValue → Neighbourhood
-description_at own f d headers db p link = description_on link.iface (local_of own link) f.router d headers db (neighbourhood_at link p)
+abbrev pub description_at : Own → Origin → Description → List LsaHeader → List Held → PostValue → LinkValue
+    → Neighbourhood
+description_at own f d headers db p link =
+    description_on link.iface (local_of own link) f.router d headers db (neighbourhood_at link p)
 
 -- where nothing has gone out yet
 abbrev pub description_part : Own → Origin → Description → List LsaHeader → List Held → ℕ → LinkValue → Neighbourhood
@@ -86,7 +90,9 @@ request_on i local q delay db entries x = request_by (neighbour_of x.neighbours 
 
 -- a Request that comes on a link
 abbrev pub request_at : Own → Origin → List Held → List RequestEntry → PostValue → LinkValue → Neighbourhood
-request_at own f db entries p link = request_on link.iface (local_of own link) f.router link.settings.transmit_delay db entries (neighbourhood_at link p)
+request_at own f db entries p link =
+    request_on link.iface (local_of own link) f.router link.settings.transmit_delay db entries
+    (neighbourhood_at link p)
 
 -- where nothing has gone out yet
 abbrev pub request_part : Own → Origin → List Held → List RequestEntry → ℕ → LinkValue → Neighbourhood

@@ -1,4 +1,4 @@
-//! The causes, in their order.
+//! The causes that a datagram is dropped for, in their order.
 
 ghost use Rattle.std.specs.Prelude.{◌≡◌, IfErr, IfOk, None, OnOk, Some};
 ghost use Rattle.std.specs.Option.{option_copied};

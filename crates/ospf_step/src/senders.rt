@@ -1,4 +1,4 @@
-//! Laws: each holds of all links, neighbours and packets.
+//! Laws of the sender of a packet that is not dropped: each holds of all links, neighbours and packets.
 
 ghost use Rattle.ospf_step.specs.Senders.{SendersAreNeighbours, NotDroppedIsTaken};
 

@@ -3,9 +3,9 @@ use Rattle.ospf_neighbour.specs.Neighbour.{NeighbourValue}
 use Rattle.ospf_neighbour.specs.Neighbours.{AreNeighbours}
 use Rattle.ospf_adjacency.specs.declared.post.OnLink.{OnLink}
 use Rattle.ospf_adjacency.specs.Heard.{Neighbourhood, neighbourhood, hello_on}
-use Rattle.ospf_links.specs.Parts.{hello_at, local_of}
+use Rattle.ospf_links.specs.Parts.{local_of}
 use Rattle.ospf_links.proofs.NeighbourLemmas.{hello_stays}
-use Rattle.ospf_links.proofs.WorkLemmas.{PutBack, hello_back}
+use Rattle.ospf_links.proofs.WorkLemmas.{hello_back}
 use Rattle.ospf_links.proofs.hellos.hello_comes.Goals as goal
 use Rattle.ospf_links.proofs.hellos.hello_comes.Goals.{In_ok-elects}
 
