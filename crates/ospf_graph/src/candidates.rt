@@ -40,6 +40,7 @@ impl Model for Candidates {
 }
 
 impl Candidates {
+    /// No candidates, never looked at.
     pub fn new(alloc: Global) -> Candidates
         ensures { result ≡ record { list = []; looks = 0 } }
     {
@@ -50,7 +51,7 @@ impl Candidates {
     }
 
     /// How often the candidates were looked at.
-    pub fn looks(&self) -> u64
+    pub(crate) fn looks(&self) -> u64
         ensures { result ≡ self.now.looks }
     {
         self.looks

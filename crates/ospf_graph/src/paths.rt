@@ -33,7 +33,7 @@ pub struct VertexStart {
     pub start: Start,
 }
 
-// What a search has reached, and how often it looked at the candidates.
+/// What a search has reached, the place of each vertex there, and how often it looked at the candidates.
 #[derive(Drop)]
 pub struct Searched {
     pub reached: Vec<Reached>,
@@ -63,7 +63,7 @@ pub fn is_same(a: Vertex, b: Vertex) -> bool
     }
 }
 
-// The edges from a vertex, of edges in the order of the vertices that they leave.
+/// The edges from a vertex, of edges in the order of the vertices that they leave.
 pub fn edges_from(edges: &[Edge], vertex: Vertex) -> &[Edge]
     requires { AreEdgesInOrder edges.now }
     ensures same { HaveSameFrom vertex edges.now result.now }
@@ -75,7 +75,7 @@ pub fn edges_from(edges: &[Edge], vertex: Vertex) -> &[Edge]
     if from <= to { &edges[from..to] } else { &[] }
 }
 
-// A path's start, one edge further.
+/// A path's start, one edge further.
 pub fn extended(start: Start, to: Vertex, link_data: u32) -> Start
     ensures { result ≡ extend start to link_data }
 {
@@ -95,7 +95,9 @@ pub fn extended(start: Start, to: Vertex, link_data: u32) -> Start
     }
 }
 
-// The edges in the order of the vertices that they leave, in memory of their own.
+/// The edges in the order of the vertices that they leave, in memory of their own.
+///
+/// `AllocError` where memory runs out.
 pub fn sorted_edges(alloc: Global, edges: &[Edge]) -> Result<Vec<Edge>, AllocError>
     ensures same { IfOk result (λ sorted. IsPermutation edges.now sorted.items) }
     ensures in_order { IfOk result (λ sorted. AreEdgesInOrder sorted.items) }
@@ -105,7 +107,9 @@ pub fn sorted_edges(alloc: Global, edges: &[Edge]) -> Result<Vec<Edge>, AllocErr
     Ok(sorted)
 }
 
-// The search from a root over edges in the order of the vertices that they leave.
+/// The search from a root over edges in the order of the vertices that they leave.
+///
+/// `AllocError` where memory runs out.
 pub fn search(alloc: Global, edges: &[Edge], root: Vertex) -> Result<Searched, AllocError>
     requires fit { IsFit edges.now }
     requires root_fits { vertex_id root < 2 ^ 32 }
@@ -143,6 +147,8 @@ pub fn search(alloc: Global, edges: &[Edge], root: Vertex) -> Result<Searched, A
 }
 
 /// What is reached, in the order of vertices, and how often the search looked at a candidate.
+///
+/// `AllocError` where memory runs out.
 pub fn listed(alloc: Global, reached: &[Reached], looks: u64) -> Result<ShortestPaths, AllocError>
     ensures settled { IfOk result (λ t. IsPermutation (settled_of reached.now) t.settled.items) }
     ensures starts { IfOk result (λ t. IsPermutation (starts_of reached.now) t.starts.items) }
