@@ -1,15 +1,13 @@
 -- Shortest paths that are kept while edges come.
-use Rattle.std.proofs.Common.{◌≡◌, ◌+◌, ◌<◌, ◌≤◌, ◌⊎◌, ◌≢◌, ℕ, List, [], ◌∷◌, ◌++◌, true, sym, ◌∙◌, ap, subst, inl, inr, arith}
+use Rattle.std.proofs.Common.{◌≡◌, ◌+◌, ◌<◌, ◌≤◌, ◌⊎◌, ◌≢◌, ℕ, List, [], ◌∷◌, ◌++◌, sym, ◌∙◌, ap, subst, inl, inr, arith}
 use Rattle.ospf_graph.specs.declared.graph.Edge.{Edge}
 use Rattle.ospf_graph.specs.declared.graph.Vertex.{Vertex}
 use Rattle.ospf_graph.specs.declared.graph.Start.{Start}
 use Rattle.ospf_graph.specs.declared.graph.Start.TheVariants.{Here}
 use Rattle.ospf_graph.specs.Graph.{IsPath, path_cost}
 use Rattle.ospf_incremental.specs.Growth.{Improves, IsGrowing, IsOwed, IsRelaxed}
-use Rattle.ospf_graph.specs.Search.{vertex_eq}
 use Rattle.ospf_graph.specs.Tree.{extend, IsTree}
-use Rattle.ospf_graph.proofs.CandidateLemmas.{same_or_other, vertex_eq-refl, vertex_eq-same}
-use Rattle.ospf_graph.proofs.ListLemmas.{bool_cases}
+use Rattle.ospf_graph.proofs.CandidateLemmas.{same_or_other}
 use Rattle.ospf_graph.proofs.SearchLemmas.{IsPath-push, path_cost-push, start_from-push}
 use Rattle.ospf_graph.proofs.TreeLemmas.{IsPath-map}
 

@@ -1,17 +1,15 @@
 -- Shortest paths that are kept beside their edges.
 use Rattle.std.specs.Prelude.{◌≡◌, ◌<◌, ◌↔◌, ◌⊎◌, ◌^◌, ℕ, List, Contains, map}
-use Rattle.std.specs.List.Sorted.{IsNonDecreasingBy}
 use Rattle.ospf_graph.specs.declared.graph.Edge.{Edge}
 use Rattle.ospf_graph.specs.declared.graph.Vertex.{Vertex}
 use Rattle.ospf_graph.specs.declared.graph.Start.{Start}
 use Rattle.ospf_incremental.specs.declared.grow.Found.{Found}
 use Rattle.ospf_graph.specs.declared.paths.Settled.{Settled}
 use Rattle.ospf_graph.specs.declared.paths.VertexStart.{VertexStart}
-use Rattle.ospf_graph.specs.declared.paths.ShortestPaths.{ShortestPaths}
 use Rattle.ospf_graph.specs.declared.reached.Reached.{Reached}
 use Rattle.ospf_incremental.specs.Growth.{AreNear, HasPlaces, HasStart, IsAt}
-use Rattle.ospf_graph.specs.Search.{AreEdgesInOrder, AtIn, IsFit, StartsIn, vertex_code, vertex_id}
-use Rattle.ospf_graph.specs.Tree.{AreLeast, IsTree}
+use Rattle.ospf_graph.specs.Search.{AreEdgesInOrder, AtIn, IsFit, StartsIn, vertex_id}
+use Rattle.ospf_graph.specs.Tree.{IsTree}
 
 -- their root, the edges, and of each vertex that is reached its distance and the starts of its least paths
 pub record KeptTree : Type 0 where
