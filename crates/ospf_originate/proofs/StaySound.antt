@@ -22,7 +22,7 @@ use Rattle.ospf_lsa.specs.Header.{header_of, key_of_header}
 use Rattle.ospf_lsa.specs.Lsa.{key_of, instance_of}
 use Rattle.ospf_lsa.specs.declared.header.LsaHeader.{LsaHeader}
 use Rattle.ospf_lsdb.proofs.EntryLemmas.{key-entry_from}
-use Rattle.ospf_lsdb.specs.Database.{Ages, Entry, Held, Puts, entry_from, expired, held_of, is_fresh, is_told, key_in, older, reached_at}
+use Rattle.ospf_lsdb.specs.Database.{Ages, Entry, Held, Puts, entry_from, expired, held_of, key_in, older, reached_at}
 use Rattle.ospf_lsdb.specs.Database as lsdb
 use Rattle.ospf_neighbour.specs.Lists.{key_unlisted}
 use Rattle.ospf_neighbour.specs.Neighbours.{max_neighbours}

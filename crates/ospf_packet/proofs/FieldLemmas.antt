@@ -7,7 +7,6 @@ use Rattle.std.proofs.lemmas.Int.{to_z-of_z}
 use Rattle.ospf_base.specs.Bytes.{number_at, signed_at}
 use Rattle.ospf_base.specs.declared.ids.RouterId.{RouterId}
 use Rattle.ospf_lsa.specs.Header.{header_of}
-use Rattle.ospf_lsa.specs.declared.header.LsaHeader.{LsaHeader}
 use Rattle.ospf_packet.specs.Fields.{hello_at, hello_bytes, HelloFits, description_at, description_bytes, DescriptionFits}
 use Rattle.ospf_packet.specs.Spelling.{HeaderEntry, header_entry_bytes, HeaderEntryFits}
 use Rattle.ospf_lsa.specs.Attached.{router_bytes, RouterFits}

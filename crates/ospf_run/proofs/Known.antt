@@ -1,5 +1,5 @@
 -- What seats and writers know of the tables that are published.
-use Rattle.std.proofs.Common.{◌≡◌, refl, ap, sym, subst, ◌∙◌, List, [], ◌∷◌, Result, Ok, Err, IfOk, OnErr}
+use Rattle.std.proofs.Common.{◌≡◌, refl, sym, subst, ◌∙◌, List, [], ◌∷◌, Result, Ok, Err, IfOk, OnErr}
 use mathlib.Core.List.{IsPrefix}
 use Rattle.ospf_published.specs.Known.{Known, Table}
 use Rattle.ospf_run.specs.Lookers.{Follows}

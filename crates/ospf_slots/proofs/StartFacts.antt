@@ -1,12 +1,10 @@
 -- A router that starts can name nothing and asks for nothing.
-use Rattle.std.proofs.Common.{◌≡◌, ℕ, zero, suc, ℤ, List, [], ◌∷◌, length, refl, sym, ap, subst, Contains, slice_get, arith}
+use Rattle.std.proofs.Common.{◌≡◌, ℕ, zero, suc, ℤ, List, [], ◌∷◌, length, refl, sym, ap, subst, Contains, slice_get}
 use Rattle.ospf_area.specs.State.{AreaValue, LinkValue, WaitsIn, neighbours_in}
 use Rattle.ospf_base.specs.declared.ids.Instance.{Instance}
 use Rattle.ospf_base.specs.declared.ids.RouterId.{RouterId}
 use Rattle.ospf_config.specs.declared.config.Config.{Config}
 use Rattle.ospf_config.specs.declared.interface.Interface.{Interface}
-use Rattle.ospf_edges.specs.Listed.{advertisements_of}
-use Rattle.ospf_graph.specs.Routes.{IsTable}
 use Rattle.ospf_headline.specs.World.{IsStarted}
 use Rattle.ospf_headline.specs.declared.logs.Issued.{Issued}
 use Rattle.ospf_headline.specs.declared.logs.Run.{Run}

@@ -1,10 +1,10 @@
 -- Own LSAs that are issued and flushed, with the Requests that come of them, are parts (RFC 2328, sections 12.4 and 14.1).
 use Rattle.std.proofs.Common.{◌||◌, ◌&&◌, ◌≡◌, ◌≤◌, inl, inr, ◌≤ℤ◌, ◌+ℤ◌, ◌++◌, ℕ, ℤ, pos, zero, suc, Bool, true, false, cond, List, [], ◌∷◌, Option, None, Some, option_map, refl, sym, ap, subst, ◌∙◌, if◌then◌else◌, arith, append-nil}
-use Rattle.std.specs.Prelude.{nat_lt, not}
+use Rattle.std.specs.Prelude.{not}
 use Rattle.std.specs.Int.{int_max}
 use Rattle.std.specs.Ordering.{int_eq}
 use Rattle.std.specs.List.{AllByRecursion, Contains}
-use Rattle.std.proofs.lemmas.Bool.{cases_Bool, cond-true, cond-false, ltb-false}
+use Rattle.std.proofs.lemmas.Bool.{cases_Bool, cond-true, cond-false}
 use Rattle.std.proofs.lemmas.Option.{none-some, same_Some}
 use Rattle.ospf_base.specs.Constants.{max_age}
 use Rattle.ospf_base.specs.Keys.{Precedes, same_key}
@@ -13,7 +13,7 @@ use Rattle.ospf_base.proofs.SameKeys.{same_key-apart, same_key-eq, same_key-refl
 use Rattle.ospf_flood.specs.Rules.{max_sequence_number}
 use Rattle.ospf_lsa.specs.Header.{header_of}
 use Rattle.ospf_lsa.specs.Lsa.{key_of}
-use Rattle.ospf_lsdb.specs.Database.{Entry, Held, Installs, IsDatabase, entry_from, expired, held_of, key_at, lsa_of}
+use Rattle.ospf_lsdb.specs.Database.{Entry, Held, Installs, IsDatabase, entry_from, expired, held_of, lsa_of}
 use Rattle.ospf_lsdb.specs.Timers.{KeysRise}
 use Rattle.ospf_lsdb.proofs.EntryLemmas.{key-entry_from}
 use Rattle.ospf_area.specs.Flooding.{flooded_links, flooding_updates, goes_anywhere}
@@ -46,7 +46,7 @@ use Rattle.ospf_originate.proofs.KeepLemmas.{issue_tells, made_key, made_number}
 use Rattle.ospf_originate.proofs.NumberLemmas.{issued_kept}
 use Rattle.ospf_originate.proofs.WantedLemmas.{wanted_own}
 use Rattle.ospf_step.proofs.Works.{read_sent}
-use Rattle.ospf_laws.proofs.CopyFacts.{age_of_held, expired_entry, set_age}
+use Rattle.ospf_laws.proofs.CopyFacts.{age_of_held, expired_entry}
 
 -- ---- outputs
 

@@ -1,5 +1,5 @@
 -- An area without what a failure takes.
-use Rattle.std.proofs.Common.{◌≡◌, ◌+◌, ◌*◌, ◌<◌, ◌≤◌, ◌⊎◌, ℕ, ℤ, suc, Bool, true, false, cond, inl, inr, arith, filter, List, [], ◌∷◌, ◌++◌, map, take, drop, length, get_or, slice_index, refl, sym, ap, ◌∙◌, subst, append-nil, not, Result, Ok, Err, IfOk, IfErr}
+use Rattle.std.proofs.Common.{◌≡◌, ◌+◌, ◌*◌, ◌<◌, ◌≤◌, ℕ, ℤ, suc, Bool, true, false, cond, inl, inr, arith, filter, List, [], ◌∷◌, ◌++◌, map, take, drop, length, get_or, slice_index, refl, sym, ap, ◌∙◌, subst, append-nil, not, Result, Ok, Err, IfOk, IfErr}
 use Rattle.std.specs.List.{AllByRecursion, Contains}
 use Rattle.std.proofs.lemmas.List.Elements.{filter-append}
 use Rattle.std.proofs.lemmas.List.{drop_more, take_more, take-append-drop, map-append}
