@@ -1,4 +1,4 @@
-use Rattle.std.proofs.Common.{◌≡◌, ◌∙◌, ◌||◌, ap, sym, subst, ℕ, Bool, List, [], false}
+use Rattle.std.proofs.Common.{◌≡◌, ◌∙◌, ◌||◌, ap, sym, subst, ℕ, Bool, List, [], false, rules}
 use Rattle.ospf_neighbour.specs.Neighbour.{NeighbourValue}
 use Rattle.ospf_neighbour.specs.Neighbours.{AreNeighbours}
 use Rattle.ospf_adjacency.specs.declared.post.OnLink.{OnLink}
@@ -36,8 +36,8 @@ back c bare after due is_bare is_after is_due =
 
 pub returns-clause-after : goal.returns-clause-after
 returns-clause-after c =
-    (back (goal.at.returns-clause-after c).In_ok-keys c.take_out-all.new.link c.put_back.new.link c.is_due-due.result c.take_out-all.ensures.rest c.put_back.ensures c.is_due-due.ensures).after_is
+    (back (goal.at.returns-clause-after c).In_ok-keys c.take_out-all.new.link c.put_back.new.link _ c.take_out-all.ensures.rest c.put_back.ensures (search rules)).after_is
 
 pub returns-clause-left : goal.returns-clause-left
 returns-clause-left c =
-    (back (goal.at.returns-clause-left c).In_ok-keys c.take_out-all.new.link c.put_back.new.link c.is_due-due.result c.take_out-all.ensures.rest c.put_back.ensures c.is_due-due.ensures).left_is
+    (back (goal.at.returns-clause-left c).In_ok-keys c.take_out-all.new.link c.put_back.new.link _ c.take_out-all.ensures.rest c.put_back.ensures (search rules)).left_is
