@@ -1,9 +1,10 @@
 //! Shortest paths that are kept while edges come and go, beside searches of all edges.
 
 use ospf_base::{Addr, RouterId};
-use ospf_graph::{Edge, NextHop, ShortestPaths, Start, Vertex};
+use ospf_graph::{
+    Edge, NextHop, ShortestPaths, Start, Vertex, distance_at, shortest_paths, starts_at,
+};
 use ospf_incremental::KeptPaths;
-use ospf_graph::{distance_at, shortest_paths, starts_at};
 use rand_core::utils::NextWord;
 use rand_pcg::Pcg32;
 use std::alloc::Global;
@@ -153,6 +154,21 @@ fn what_is_not_changed_is_as_before(rt: HostRuntime) -> Result<(), Fail> {
         }
     }
     assert!(rt; stayed > 12 * 30 * 9);
+    Ok(())
+}
+
+#[test]
+fn few_edges_are_not_searched_anew(rt: HostRuntime) -> Result<(), Fail> {
+    let alloc = rt.alloc();
+    let mut changed = Vec::new(alloc);
+    let kept = KeptPaths::of(alloc, &[], ROOT)?;
+    let kept = kept.grow(alloc, &[], &mut changed)?;
+    let kept = kept.shrink(alloc, &[], &mut changed)?;
+    assert!(rt; changed.is_empty());
+    let only = [edge(ROOT, router(1), 5, 1)];
+    let kept = kept.grow(alloc, &only, &mut changed)?;
+    assert!(rt; changed.as_slice() == [router(1)].as_slice());
+    assert!(rt; kept.distance_of(router(1)) == Some(5));
     Ok(())
 }
 
