@@ -20,11 +20,11 @@ returns-in_err-sockets-clause-stop g c =
     (c.in_err-sockets.ensures.stop (floor_of c.args.settings.now) has)
 
 pub tap_all-requires-clause-files : goal.tap_all-requires-clause-files
-tap_all-requires-clause-files g c κs within =
+tap_all-requires-clause-files g c =
     as_many_configs c.args.files.now c.args.plan.now.configs.items c.requires.are_configs ∙ ap (λ configs. length configs) (sym c.deref-2.ensures.value)
 
 pub tap_all-requires-clause-wires : goal.tap_all-requires-clause-wires
-tap_all-requires-clause-wires g c κs within =
+tap_all-requires-clause-wires g c =
     c.in_ok-sockets.ensures.wires.0 ∙ ap (λ configs. length configs) (c.deref.ensures.value ∙ sym c.deref-2.ensures.value)
 
 pub returns-in_err-wires-clause-stop : goal.returns-in_err-wires-clause-stop
