@@ -37,7 +37,8 @@ pub fn take_event(
     post: &mut Post,
 ) -> Result<(), AllocError>
     ensures neighbour { neighbour.new
-        ≡ event_taken event at.now.iface.settings.dead post.old.next at.now.local.tick neighbour.old }
+        ≡ event_taken event at.now.iface.settings.dead post.old.next at.now.local.tick
+        neighbour.old }
     ensures number { post.new.next ≡ number_by event neighbour.old post.old.next }
     ensures turn { OnOk result
         (turn neighbour.new post.new
@@ -61,7 +62,8 @@ fn is_chosen(iface: &Iface, address: Addr) -> bool
 fn count_event(neighbour: &mut Neighbour, event: NbrEvent, at: &OnLink, post: &mut Post) -> bool
     ensures begins { result ≡ begins_by event neighbour.old }
     ensures neighbour { neighbour.new
-        ≡ event_taken event at.now.iface.settings.dead post.old.next at.now.local.tick neighbour.old }
+        ≡ event_taken event at.now.iface.settings.dead post.old.next at.now.local.tick
+        neighbour.old }
     ensures number { post.new ≡ record post.old
         { next = number_by event neighbour.old post.old.next } }
 {

@@ -70,7 +70,8 @@ pub fn take_description(
         ≡ description_turn at.now.iface at.now.local sender description headers.entry database.now
         (turn neighbour.old post.old)) }
     ensures taken { IfOk result
-        (λ taken. taken ≡ not (dd_dropped at.now.local sender description headers.entry neighbour.old)) }
+        (λ taken. taken
+        ≡ not (dd_dropped at.now.local sender description headers.entry neighbour.old)) }
 {
     if at.local.mtu < description.mtu {
         return Ok(false);

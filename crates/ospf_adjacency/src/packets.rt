@@ -17,7 +17,8 @@ use std::alloc::AllocError;
 pub fn send_dd(neighbour: &Neighbour, at: &OnLink, post: &mut Post) -> Result<(), AllocError>
     ensures next { post.new.next ≡ post.old.next }
     ensures sent { OnOk result
-        (post.new ≡ and_parcels post.old (dd_parcel at.now.iface at.now.local.mtu neighbour.now ∷ [])) }
+        (post.new
+        ≡ and_parcels post.old (dd_parcel at.now.iface at.now.local.mtu neighbour.now ∷ [])) }
 {
     let exchanging = neighbour.exchanging();
     let headers = Vec::from_slice(post.alloc(), neighbour.last_dd())?;

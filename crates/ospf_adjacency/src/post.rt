@@ -8,10 +8,12 @@ use ospf_packet::{BodyValue, PacketValue};
 use std::alloc::{AllocError, Global};
 use std::marker::Model;
 
-/// The link's side of a part of a step: its interface, and what the part needs to know of the router.
+/// The link's side of a part of a step.
 #[derive(Clone, Copy)]
 pub struct OnLink {
+    /// The interface.
     pub iface: Iface,
+    /// What the part needs to know of the router and the interface.
     pub local: Local,
 }
 
@@ -67,7 +69,8 @@ impl Post {
     pub fn put(&mut self, destination: Addr, body: BodyValue) -> Result<(), AllocError>
         ensures next { self.new.next ≡ self.old.next }
         ensures sent { OnOk result
-            (self.new ≡ and_parcels self.old (record { destination = destination; body = body_meant body } ∷ [])) }
+            (self.new ≡ and_parcels self.old
+            (record { destination = destination; body = body_meant body } ∷ [])) }
     {
         self.sent.push(Parcel { destination, body })?;
         Ok(())

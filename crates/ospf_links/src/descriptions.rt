@@ -70,7 +70,8 @@ fn description_comes(
         ≡ with_neighbourhood
         (description_at own from fields headers.entry database.now post.old link.old) link.old) }
     ensures left { OnOk result
-        (post.new ≡ left_by (description_at own from fields headers.entry database.now post.old link.old)) }
+        (post.new
+        ≡ left_by (description_at own from fields headers.entry database.now post.old link.old)) }
 {
     let at = on_link(own, link);
     let mut all = take_out(link, post.alloc());

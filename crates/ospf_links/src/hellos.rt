@@ -68,7 +68,8 @@ fn hello_comes(
     requires room { neighbour_of link.old.neighbours from.router ≡ None →
         length link.old.neighbours < 255 }
     ensures after { OnOk result
-        (link.new ≡ with_neighbourhood (hello_at own from hello.now named post.old link.old) link.old) }
+        (link.new
+        ≡ with_neighbourhood (hello_at own from hello.now named post.old link.old) link.old) }
     ensures left { OnOk result (post.new
         ≡ left_by (hello_at own from hello.now named post.old link.old)) }
 {

@@ -144,7 +144,8 @@ fn repeat_to(
     alloc: Global,
 ) -> Result<(), AllocError>
     ensures after { OnOk result
-        (neighbour.new ≡ repeated on.now.own on.now.iface on.now.settings database.now neighbour.old) }
+        (neighbour.new
+        ≡ repeated on.now.own on.now.iface on.now.settings database.now neighbour.old) }
     ensures sent { OnOk result
         (out.new
         ≡ and_sends out.old
@@ -152,7 +153,8 @@ fn repeat_to(
         neighbour.old)) }
     ensures marks { OnOk result
         (sent.new.keys
-        ≡ marked_all (keys_to on.now.own on.now.settings database.now neighbour.old) sent.old.keys) }
+        ≡ marked_all (keys_to on.now.own on.now.settings database.now neighbour.old)
+        sent.old.keys) }
 {
     let at = OnLink {
         iface: on.iface,
