@@ -256,7 +256,8 @@ fn fresh_in(area: &Area) -> usize
     area.database.fresh()
 }
 
-// A step of the area: what it keeps, and the laws that it keeps.
+// As `ospf_step::step`, in the words of a router: what it keeps, and the laws that it keeps. Its name is not `step`, since that
+// of the type `Step` would differ in case alone.
 fn step_area(area: &mut Area, event: Event<'_>, alloc: Global) -> Result<Taken, AllocError>
     requires { IsKept area.old }
     ensures lawful { IfOk result (λ t. IsLawful (happening event.entry) area.old t.dropped t.out
