@@ -108,8 +108,10 @@ fn event_at<'a>(router: &Router, arrival: Arrival, buffer: &'a [u8; LONGEST]) ->
 // Shows the wire what became of the router, and sends what its step puts out.
 fn show_and_send<W: Wire>(wire: &mut W, router: &Router, sent: &[Sent]) -> Result<(), WireFault>
     requires { W.failed wire.old + 1 < 2 ^ 64 }
+    // On success all of it has gone out, and no failure is counted.
     ensures out { OnOk result (W.traffic wire.new ≡ and_sends sent.now (W.traffic wire.old)) }
     ensures out_failures { OnOk result (W.failed wire.new ≡ W.failed wire.old) }
+    // On a failure some of it has gone out, but not all, and one failure more is counted.
     ensures some_out { OnErr result ((count : ℕ) × (count < length sent.now)
         × (W.traffic wire.new ≡ and_sends (take count sent.now) (W.traffic wire.old))) }
     ensures some_failures { OnErr result (W.failed wire.new ≡ W.failed wire.old + 1) }
@@ -121,8 +123,10 @@ fn show_and_send<W: Wire>(wire: &mut W, router: &Router, sent: &[Sent]) -> Resul
 // Sends them in order, up to a failure.
 fn send_all<W: Wire>(wire: &mut W, sent: &[Sent]) -> Result<(), WireFault>
     requires { W.failed wire.old + 1 < 2 ^ 64 }
+    // On success all of it has gone out, and no failure is counted.
     ensures out { OnOk result (W.traffic wire.new ≡ and_sends sent.now (W.traffic wire.old)) }
     ensures out_failures { OnOk result (W.failed wire.new ≡ W.failed wire.old) }
+    // On a failure some of it has gone out, but not all, and one failure more is counted.
     ensures some_out { OnErr result ((count : ℕ) × (count < length sent.now)
         × (W.traffic wire.new ≡ and_sends (take count sent.now) (W.traffic wire.old))) }
     ensures some_failures { OnErr result (W.failed wire.new ≡ W.failed wire.old + 1) }

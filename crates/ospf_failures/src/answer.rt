@@ -108,6 +108,7 @@ pub fn failures_text<R: BufRead + Drop, O: Write, E: Write>(
     out: &mut O,
     err: &mut E,
 ) -> FailuresStatus
+    // All is printed; or the refusal is told, and nothing is printed.
     ensures answered { IsWhole result → IfSome (R.remaining input)
         (IsAnswered job.now result (O.contents out.old) (O.contents out.new) (E.contents err.old)
         (E.contents err.new)) }
@@ -115,6 +116,7 @@ pub fn failures_text<R: BufRead + Drop, O: Write, E: Write>(
         IfSome (R.remaining input) (IsRefusalTold (E.contents err.old) (E.contents err.new)) }
     ensures unwritten { result ≡ FailuresStatus.Ended Status.Refused →
         O.contents out.new ≡ O.contents out.old }
+    // Or memory or a stream failed, which is told last, as far as it can be; there is no other end.
     ensures cut { (result ≡ FailuresStatus.Ended Status.Memory)
         ⊎ (result ≡ FailuresStatus.Ended Status.Stream) →
         (failed : FailedStreams)

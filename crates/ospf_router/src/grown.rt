@@ -22,8 +22,10 @@ pub(crate) fn grown_to(
     database: &Lsdb,
     alloc: Global,
 ) -> Result<Option<Grown>, AllocError>
+    // A tree that comes of it goes on from the given one, and serves its own listing.
     ensures grown { IfOk result (λ o. IfSome o (IsGrownFrom tree true)) }
     ensures served { IfOk result (λ o. IfSome o (λ g. IsOwnServed g.tree)) }
+    // The database then lists what that tree does, at whatever ages, and stands in order.
     ensures lists { IfOk result (λ o. IfSome o (λ g. ListsAs database.now g.tree.listing)) }
     ensures database { IfOk result (λ o. IfSome o (λ _. IsDatabase database.now)) }
     ensures listing { IfOk result (λ o. IfSome o (λ _. IsListing (listed database.now))) }

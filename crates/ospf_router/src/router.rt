@@ -221,14 +221,17 @@ fn advance(
     event: Event<'_>,
     alloc: Global,
 ) -> Result<Advanced, AllocError>
+    // The area can be stepped, and the routes are those of what it lists.
     requires kept { IsKept area.old }
     requires routes { HasRoutes area.old routes.old.table }
     requires listing { ListsAs area.old.database routes.old.listing }
     requires router { routes.old.router ≡ area.old.router }
+    // The area takes its step by the rules, stays the same router, and can be stepped again.
     ensures lawful { IfOk result (λ a. IsLawful (happening event.entry) area.old a.taken.dropped
         a.taken.out area.new) }
     ensures same { OnOk result (IsSameRouter area.old area.new) }
     ensures kept { OnOk result (IsKept area.new) }
+    // The routes are those of what it lists then, and an event that is dropped needs no memory.
     ensures routes { OnOk result (HasRoutes area.new routes.new.table) }
     ensures listing { OnOk result (ListsAs area.new.database routes.new.listing) }
     ensures changed { IfOk result (λ a. IsTrue a.table_changed
@@ -260,10 +263,12 @@ fn fresh_in(area: &Area) -> usize
 // of the type `Step` would differ in case alone.
 fn step_area(area: &mut Area, event: Event<'_>, alloc: Global) -> Result<Taken, AllocError>
     requires { IsKept area.old }
+    // The event is taken by the rules, and the same router can be stepped again.
     ensures lawful { IfOk result (λ t. IsLawful (happening event.entry) area.old t.dropped t.out
         area.new) }
     ensures same { OnOk result (IsSameRouter area.old area.new) }
     ensures kept { OnOk result (IsKept area.new) }
+    // An event that is dropped changes nothing, and needs no memory.
     ensures unchanged { IfOk result (λ t. IsTrue (is_some t.dropped) → area.new ≡ area.old) }
     ensures memory { OnErr result (dropped_by (happening event.entry) area.old ≡ None) }
 {
@@ -296,12 +301,15 @@ fn refresh(
     routes: &mut KeptRoutes,
     alloc: Global,
 ) -> Result<bool, AllocError>
+    // The routes are of this router, and where they are settled, those of what it lists.
     requires router { routes.old.router ≡ area.now.router }
     requires as_before { IsTrue settled → HasRoutes area.now routes.old.table }
     requires as_listed { IsTrue settled → ListsAs area.now.database routes.old.listing }
+    // Then they are those of what it lists in any case, and a change of the table is told.
     ensures routes { OnOk result (HasRoutes area.now routes.new.table) }
     ensures listing { OnOk result (ListsAs area.now.database routes.new.listing) }
     ensures changed { IfOk result (λ b. IsTrue b ↔ (routes.new.table ≢ routes.old.table)) }
+    // They stay of this router, and routes that are settled need no memory.
     ensures router { routes.new.router ≡ routes.old.router }
     ensures memory { OnErr result (IsTrue settled → ⊥) }
 {

@@ -73,9 +73,11 @@ impl KeptRoutes {
     ///
     /// `AllocError` where memory runs out; then the table is as it was.
     pub fn refresh(&mut self, database: &Lsdb, alloc: Global) -> Result<bool, AllocError>
+        // The table is that of what the database lists, and it is told whether it is another one.
         ensures table { OnOk result (AreRoutes self.old.router database.now self.new.table) }
         ensures listing { OnOk result (ListsAs database.now self.new.listing) }
         ensures changed { IfOk result (λ b. IsTrue b ↔ (self.new.table ≢ self.old.table)) }
+        // The router stays, and where memory runs out the table too.
         ensures router { self.new.router ≡ self.old.router }
         ensures kept { OnErr result (self.new.table ≡ self.old.table) }
     {
@@ -110,11 +112,13 @@ impl KeptRoutes {
     // Goes on from the tree that is kept, as far as LSAs came: whether the table is another one, or nothing where that does not
     // lead to what the database lists.
     fn grow(&mut self, database: &Lsdb, alloc: Global) -> Result<Option<bool>, AllocError>
+        // Where it goes on, the table is that of what the database lists; a change is told.
         ensures table { IfOk result (λ o. IfSome o
             (λ _. AreRoutes self.old.router database.now self.new.table)) }
         ensures listing { IfOk result (λ o. IfSome o (λ _. ListsAs database.now self.new.listing)) }
         ensures changed { IfOk result (λ o. IfSome o
             (λ b. IsTrue b ↔ (self.new.table ≢ self.old.table))) }
+        // The router stays, and where it does not go on, or memory runs out, the table too.
         ensures router { self.new.router ≡ self.old.router }
         ensures kept { IfOk result (λ o. IfNone o (self.new.table ≡ self.old.table)) }
         ensures kept_on_err { OnErr result (self.new.table ≡ self.old.table) }
@@ -136,10 +140,12 @@ impl KeptRoutes {
     // Puts a tree and its routes in place; whether the routes are others than before.
     fn put(&mut self, tree: GrowingTree, alloc: Global) -> Result<bool, AllocError>
         requires { tree.root ≡ self.old.router }
+        // The table is that of the tree's listing, which is kept; a change of the table is told.
         ensures table { OnOk result (IsTable (advertisements_of tree.listing) self.old.router
             self.new.table) }
         ensures listing { OnOk result (self.new.listing ≡ tree.listing) }
         ensures changed { IfOk result (λ b. IsTrue b ↔ (self.new.table ≢ self.old.table)) }
+        // The router stays, and where memory runs out the table too.
         ensures router { self.new.router ≡ self.old.router }
         ensures kept { OnErr result (self.new.table ≡ self.old.table) }
     {
@@ -153,9 +159,11 @@ impl KeptRoutes {
 
     // Makes the routes of what the database lists; whether they are others than before.
     fn renew(&mut self, database: &Lsdb, alloc: Global) -> Result<bool, AllocError>
+        // The table is that of what the database lists, and it is told whether it is another one.
         ensures table { OnOk result (AreRoutes self.old.router database.now self.new.table) }
         ensures listing { OnOk result (self.new.listing ≡ listed database.now) }
         ensures changed { IfOk result (λ b. IsTrue b ↔ (self.new.table ≢ self.old.table)) }
+        // The router stays, and where memory runs out the table too.
         ensures router { self.new.router ≡ self.old.router }
         ensures kept { OnErr result (self.new.table ≡ self.old.table) }
     {

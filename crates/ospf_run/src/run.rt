@@ -63,6 +63,7 @@ pub fn run_text<
         IsRefused (option_map string_bytes settings.now.floor) files.now (E.contents err.old)
         (E.contents err.new) }
     ensures unwritten { result ≡ Status.Refused → O.contents out.new ≡ O.contents out.old }
+    // However it ends, the run has come to its end, or a failure has cut it short.
     ensures not_words { result ≢ Status.Words }
     ensures ended { Ends settings.now.lookup settings.now.ticks
         (option_map string_bytes settings.now.floor) files.now result (O.contents out.old)

@@ -147,8 +147,10 @@ fn run_other<O: Write, V: Watch>(
     watch: &mut V,
     streams: &mut FailedStreams,
 ) -> Result<Result<(), WorldFault>, Failure>
+    // The command is no event, and shows nothing of a router.
     requires no_event { event_in command.now ≡ None }
     requires not_shown { shown_in command.now ≡ None }
+    // All that it prints is written; or a beginning of it, and why no more is.
     ensures done { IfOk result (λ answer. IsDone command.now world.old answer world.new
         (O.contents out.old) (O.contents out.new)) }
     ensures begun { OnErr result

@@ -49,16 +49,19 @@ pub fn sim_text<O: Write, E: Write, V: Watch>(
     err: &mut E,
     watch: &mut V,
 ) -> Simulated
+    // The whole script has run; or what is refused is told.
     ensures done { result.status ≡ Status.Done →
         IsSimulated script.now files.now result.world (O.contents out.old) (O.contents out.new)
         (E.contents err.old) (E.contents err.new) }
     ensures refused { result.status ≡ Status.Refused →
         IsRefused script.now files.now result.world (O.contents out.old) (O.contents out.new)
         (E.contents err.old) (E.contents err.new) }
+    // Where a file could not be read, that or memory ends it, and nothing is printed.
     ensures unread { (file : NamedFile) → IsFirstUnread file (script.now ∷ files.now) →
         (result.status ≡ Status.Stream) ⊎ (result.status ≡ Status.Memory) }
     ensures unwritten { (file : NamedFile) → IsFirstUnread file (script.now ∷ files.now) →
         O.contents out.new ≡ O.contents out.old }
+    // It stops at such a file or at a failure; there is no other end.
     ensures stopped { (result.status ≡ Status.Memory) ⊎ (result.status ≡ Status.Stream) →
         (failed : FailedStreams)
         × IsStopped script.now files.now result.world failed result.status (O.contents out.old)
@@ -86,16 +89,19 @@ fn sim_noted<O: Write, E: Write, V: Watch>(
     watch: &mut V,
     streams: &mut FailedStreams,
 ) -> Simulated
+    // The whole script has run; or what is refused is told.
     ensures done { result.status ≡ Status.Done →
         IsSimulated script.now files.now result.world (O.contents out.old) (O.contents out.new)
         (E.contents err.old) (E.contents err.new) }
     ensures refused { result.status ≡ Status.Refused →
         IsRefused script.now files.now result.world (O.contents out.old) (O.contents out.new)
         (E.contents err.old) (E.contents err.new) }
+    // Where a file could not be read, that or memory ends it, and nothing is printed.
     ensures unread { (file : NamedFile) → IsFirstUnread file (script.now ∷ files.now) →
         (result.status ≡ Status.Stream) ⊎ (result.status ≡ Status.Memory) }
     ensures unwritten { (file : NamedFile) → IsFirstUnread file (script.now ∷ files.now) →
         O.contents out.new ≡ O.contents out.old }
+    // It stops at such a file or at a failure; there is no other end.
     ensures stopped { (result.status ≡ Status.Memory) ⊎ (result.status ≡ Status.Stream) →
         IsStopped script.now files.now result.world streams.new result.status (O.contents out.old)
         (O.contents out.new) (E.contents err.old) (E.contents err.new) }
@@ -117,10 +123,12 @@ fn simulate<O: Write, E: Write, V: Watch>(
     watch: &mut V,
     streams: &mut FailedStreams,
 ) -> Result<Simulated, Failure>
+    // The whole script has run, or what is refused is told; no status says that memory ran out.
     ensures comes { IfOk result (λ s. Comes s.status script.now files.now s.world
         (O.contents out.old) (O.contents out.new) (E.contents err.old) (E.contents err.new)) }
     ensures not_words { IfOk result (λ s. s.status ≢ Status.Words) }
     ensures not_memory { IfOk result (λ s. s.status ≢ Status.Memory) }
+    // Where a file could not be read, the first such is told, and nothing is printed.
     ensures stream { IfOk result (λ s. s.status ≡ Status.Stream →
         IsUnreadTold script.now files.now s.world (O.contents out.old) (O.contents out.new)
         (E.contents err.old) (E.contents err.new)) }
@@ -128,6 +136,7 @@ fn simulate<O: Write, E: Write, V: Watch>(
         IfOk result (λ s. s.status ≡ Status.Stream) }
     ensures unwritten { (file : NamedFile) → IsFirstUnread file (script.now ∷ files.now) →
         O.contents out.new ≡ O.contents out.old }
+    // A failure cuts it, and what is written is a beginning.
     ensures cut { IfErr result (IsCut script.now files.now streams.new
         (O.contents out.old) (O.contents out.new) (E.contents err.old) (E.contents err.new)) }
 {
@@ -155,10 +164,12 @@ fn end_unread<E: Write>(
     err: &mut E,
     streams: &mut FailedStreams,
 ) -> Result<Simulated, Failure>
+    // The file is told, there is no world, and the status is that of a failed stream.
     ensures status { IfOk result (λ s. s.status ≡ Status.Stream) }
     ensures world { IfOk result (λ s. s.world ≡ None) }
     ensures told { OnOk result (Appends (E.contents err.old) (E.contents err.new)
         (unread_line file.now)) }
+    // Or a beginning of that is written, and it is known why no more is.
     ensures begun { OnErr result
         (IsBegun (E.contents err.old) (E.contents err.new) (unread_line file.now)) }
     ensures cut { IfErr result (IsErrorCut streams.new) }

@@ -67,8 +67,10 @@ impl RouteTable {
     ///
     /// `AllocError` where memory runs out.
     pub fn changes(&self, alloc: Global, to: &RouteTable) -> Result<Vec<Change>, AllocError>
+        // The changes, in the order of their prefixes, make the other table of this one.
         ensures applied { IfOk result (λ changes. edited self.now changes.items ≡ to.now) }
         ensures in_order { IfOk result (λ changes. AllPairs IsChangeBefore changes.items) }
+        // They put exactly the new routes, each with a hop, and take away what is gone and no more.
         ensures puts { IfOk result (λ changes. (route : Route) →
             Contains changes.items (Change.Put route) ↔ IsNew self.now to.now route) }
         ensures gone { IfOk result (λ changes. (prefix : Prefix) →
@@ -90,8 +92,10 @@ pub(crate) fn is_before(a: Prefix, b: Prefix) -> bool
 // The changes that lead from one list of routes to the other.
 fn changes_of(alloc: Global, old: &[Route], new: &[Route]) -> Result<Vec<Change>, AllocError>
     requires { AllPairs IsRouteBefore old.now × AllPairs IsRouteBefore new.now }
+    // The changes, in the order of their prefixes, make the second list of the first.
     ensures applied { IfOk result (λ changes. edited old.now changes.items ≡ new.now) }
     ensures in_order { IfOk result (λ changes. AllPairs IsChangeBefore changes.items) }
+    // They put exactly the routes that are new, and take exactly the prefixes that are gone.
     ensures puts { IfOk result (λ changes. (route : Route) →
         Contains changes.items (Change.Put route) ↔ IsNew old.now new.now route) }
     ensures gone { IfOk result (λ changes. (prefix : Prefix) →

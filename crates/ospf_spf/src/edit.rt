@@ -117,10 +117,12 @@ fn copy_changes(alloc: Global, changes: &[Change]) -> Result<Vec<Change>, AllocE
 
 // The routes after the changes. There is room for them.
 fn merged(routes: Vec<Route>, changes: Vec<Change>, room: Vec<Route>) -> Vec<Route>
+    // The routes and the changes stand in order, and there is empty room for both.
     requires table { IsInOrder routes.items }
     requires changes { AllPairs IsChangeBefore changes.items × All PutsHops changes.items }
     requires room { (room.items ≡ []) × (length routes.items + length changes.items
         ≤ vec_capacity room) }
+    // The routes are what the changes make of them, and stand in order.
     ensures edited { result.items ≡ edited routes.items changes.items }
     ensures table { IsInOrder result.items }
 {
@@ -139,8 +141,10 @@ fn merged(routes: Vec<Route>, changes: Vec<Change>, room: Vec<Route>) -> Vec<Rou
 
 // Moves the routes before the prefix, and leaves out the one to it.
 fn part(left: &mut VecDeque<Route>, prefix: Prefix, made: &mut Vec<Route>)
+    // The routes that are left stand in order, and there is room for them.
     requires order { AllPairs IsRouteBefore left.old.items }
     requires room { deque_len left.old + vec_len made.old ≤ vec_capacity made.old }
+    // Those before the prefix are moved, the one to it is left out, and there is room for the rest.
     ensures parted { IsParted prefix left.old.items made.old.items left.new.items made.new.items }
     ensures len { deque_len left.new + vec_len made.new ≤ deque_len left.old + vec_len made.old }
     ensures room { vec_capacity made.old ≤ vec_capacity made.new }
@@ -154,8 +158,10 @@ fn part(left: &mut VecDeque<Route>, prefix: Prefix, made: &mut Vec<Route>)
 // Moves the routes before the prefix.
 fn move_before(left: &mut VecDeque<Route>, prefix: Prefix, made: &mut Vec<Route>)
     requires { deque_len left.old + vec_len made.old ≤ vec_capacity made.old }
+    // The routes at the front that stand before the prefix are moved, up to the first other one.
     ensures moved { IsMoved prefix left.old.items made.old.items left.new.items made.new.items }
     ensures first { FirstIs IsPrefixBefore left.new.items prefix → ⊥ }
+    // None is lost, and there is room for the rest.
     ensures len { deque_len left.new + vec_len made.new ≡ deque_len left.old + vec_len made.old }
     ensures room { vec_capacity made.old ≤ vec_capacity made.new }
 {

@@ -87,9 +87,11 @@ impl GrowingTree {
     ///
     /// `MaxAge` where the age of the LSA is `MAX_AGE`, `Memory` where memory runs out; then the tree is gone.
     pub fn grow(self, alloc: Global, lsa: Lsa) -> Result<Grown, ListingFault>
+        // The root stays, the LSA is in the listing, and where the table stays, it is served still.
         ensures root { IfOk result (λ g. g.tree.root ≡ self.root) }
         ensures listing { IfOk result (λ g. IsPut lsa self.listing g.tree.listing) }
         ensures keeps { IfOk result (λ g. IsTrue g.stays → Keeps self g.tree) }
+        // It fails for want of memory, or for an LSA at the greatest age.
         ensures faults { IfErr result (λ f. (f ≡ fault.MaxAge) ⊎ (f ≡ fault.Memory)) }
         ensures max_age { result ≡ Err fault.MaxAge → (header_of lsa).age ≡ 3600 }
     {

@@ -97,8 +97,10 @@ fn routes_of(
     reaches: &[Reach],
     starts: &[VertexStart],
 ) -> Result<Vec<Route>, AllocError>
+    // The reaches stand in order, and so do the starts.
     requires reaches_in_order { AreReachesInOrder reaches.now }
     requires starts_in_order { AreStartsInOrder starts.now }
+    // A route to each prefix that is reached, in order, each at its best cost and with its hops.
     ensures in_order { IfOk result (λ routes. AllPairs (λ p q. IsPrefixBefore p.prefix q.prefix)
         routes.items) }
     ensures complete { IfOk result (λ routes. (r : Reach) → Contains reaches.now r →
@@ -141,12 +143,14 @@ fn route_at(
     place: usize,
     starts: &[VertexStart],
 ) -> Result<Route, AllocError>
+    // The reaches of a prefix begin at the place, and reaches and starts stand in order.
     requires within { place < length reaches.now }
     requires first { (d : Reach) → 0 < place →
         (slice_index_or reaches.now (place - 1) d).prefix
         ≡ (slice_index_or reaches.now place d).prefix → ⊥ }
     requires reaches_in_order { AreReachesInOrder reaches.now }
     requires starts_in_order { AreStartsInOrder starts.now }
+    // The route is to that prefix, at its best cost and with its hops.
     ensures prefix { IfOk result (λ route. (d : Reach) →
         route.prefix ≡ (slice_index_or reaches.now place d).prefix) }
     ensures route { IfOk result (λ route. IsRouteOf reaches.now starts.now route) }

@@ -37,14 +37,17 @@ pub(crate) fn take_datagram(
     alloc: Global,
 ) -> Result<Option<Dropped>, AllocError>
     requires { IsFit area.old }
+    // It is dropped for the cause that applies, if one does, or else taken by the rules.
     ensures dropped { IfOk result (λ d. d ≡ drop_on (slice_get area.old.links link) area.old source
         destination (packet_of bytes.now)) }
     ensures sender { IfOk result (λ d. d ≡ None →
         IsSenderReady link (packet_of bytes.now) area.old) }
     ensures takes { IfOk result (λ d. d ≡ None →
         TakesDatagram link source (packet_of bytes.now) area.old out.old out.new area.new) }
+    // One that is dropped changes nothing, and puts nothing out.
     ensures unchanged { IfOk result (λ d. d ≢ None → area.new ≡ area.old) }
     ensures silent { IfOk result (λ d. d ≢ None → out.new ≡ out.old) }
+    // One that is dropped needs no memory, and the area is fit for what follows.
     ensures memory { OnErr result (drop_on (slice_get area.old.links link) area.old source
         destination (packet_of bytes.now) ≡ None) }
     ensures fit { OnOk result (IsFit area.new) }
@@ -96,10 +99,12 @@ fn take_packet(
     out: &mut Outputs,
     alloc: Global,
 ) -> Result<(), AllocError>
+    // The area is fit, and there is a destination at which the packet is not dropped.
     requires fit { IsFit area.old }
     requires taken { (destination : Addr)
         × (drop_on (slice_get area.old.links link) area.old source destination (Some (said packet))
         ≡ None) }
+    // The sender is ready, the packet is taken by the rules, and the area is fit for what follows.
     ensures sender { IsSenderReady link (Some (said packet.entry)) area.old }
     ensures takes { OnOk result (TakesDatagram link source (Some (said packet.entry)) area.old
         out.old out.new area.new) }

@@ -40,13 +40,16 @@ pub struct Taken {
 /// `AllocError` where memory runs out; then the router is to be stopped.
 pub fn step(area: &mut Area, event: Event<'_>, alloc: Global) -> Result<Taken, AllocError>
     requires { IsFit area.old }
+    // What the step does by the exact rules, and the laws of a step, which it keeps.
     ensures step { IfOk result (λ t. StepsArea (happening event.entry) area.old t.dropped t.out
         area.new) }
     ensures laws { IfOk result (λ t. StepLaws is_dropped (happening event.entry) area.old t.out
         area.new) }
+    // From a sound state it answers to other routers for what it does, and stays sound.
     ensures accounts { IsSoundState area.old →
         IfOk result (λ t. Accounts (heard_in (happening event.entry)) area.old t.out area.new) }
     ensures sound { IsSoundState area.old → OnOk result (IsSoundState area.new) }
+    // It stays the same router, fit for what follows, and a dropped event needs no memory.
     ensures same { OnOk result (IsSameRouter area.old area.new) }
     ensures memory { OnErr result (dropped_by (happening event.entry) area.old ≡ None) }
     ensures fit { OnOk result (IsFit area.new) }
@@ -62,13 +65,16 @@ pub fn step(area: &mut Area, event: Event<'_>, alloc: Global) -> Result<Taken, A
 // An event that is not dropped, and the end of its step.
 fn step_parts(area: &mut Area, event: Event<'_>, alloc: Global) -> Result<Taken, AllocError>
     requires { IsFit area.old }
+    // The event is dropped for the cause that applies, if one does, or else taken by the rules.
     ensures dropped { IfOk result (λ t. t.dropped ≡ dropped_by (happening event.entry) area.old) }
     ensures sender { IfOk result (λ t. t.dropped ≡ None →
         IsReadyFor (happening event.entry) area.old) }
     ensures takes { IfOk result (λ t. t.dropped ≡ None →
         Takes (happening event.entry) area.old t.out area.new) }
+    // One that is dropped changes nothing, and puts nothing out.
     ensures unchanged { IfOk result (λ t. t.dropped ≢ None → area.new ≡ area.old) }
     ensures silent { IfOk result (λ t. t.dropped ≢ None → t.out ≡ no_outputs) }
+    // One that is dropped needs no memory, and the area is fit for what follows.
     ensures memory { OnErr result (dropped_by (happening event.entry) area.old ≡ None) }
     ensures fit { OnOk result (IsFit area.new) }
 {
@@ -88,12 +94,15 @@ fn take(
     alloc: Global,
 ) -> Result<Option<Dropped>, AllocError>
     requires { IsFit area.old }
+    // The event is dropped for the cause that applies, if one does, or else taken by the rules.
     ensures dropped { IfOk result (λ d. d ≡ dropped_by (happening event.entry) area.old) }
     ensures sender { IfOk result (λ d. d ≡ None → IsReadyFor (happening event.entry) area.old) }
     ensures takes { IfOk result (λ d. d ≡ None →
         TakesEvent (happening event.entry) area.old out.old out.new area.new) }
+    // One that is dropped changes nothing, and puts nothing out.
     ensures unchanged { IfOk result (λ d. d ≢ None → area.new ≡ area.old) }
     ensures silent { IfOk result (λ d. d ≢ None → out.new ≡ out.old) }
+    // One that is dropped needs no memory, and the area is fit for what follows.
     ensures memory { OnErr result (dropped_by (happening event.entry) area.old ≡ None) }
     ensures fit { OnOk result (IsFit area.new) }
 {

@@ -166,6 +166,7 @@ pub fn table_text<W: Wait + Drop, R: BufRead + Drop, O: Write, E: Write>(
     out: &mut O,
     err: &mut E,
 ) -> Status
+    // All is printed; or the line that is refused is told, and nothing is printed.
     ensures done { result ≡ Status.Done →
         IfSome (R.remaining input)
         (λ bytes. IsAnswered bytes job.now.root job.now.addresses.items (O.contents out.old)
@@ -174,6 +175,7 @@ pub fn table_text<W: Wait + Drop, R: BufRead + Drop, O: Write, E: Write>(
         IfSome (R.remaining input)
         (λ bytes. IsRefusalTold bytes (E.contents err.old) (E.contents err.new)) }
     ensures unwritten { result ≡ Status.Refused → O.contents out.new ≡ O.contents out.old }
+    // Or a failure cuts it short, and is told last, as far as it can be; there is no other end.
     ensures cut { (result ≡ Status.Memory) ⊎ (result ≡ Status.Stream) →
         (failed : FailedStreams)
         × IsCutShort (R.remaining input) job.now.root job.now.addresses.items failed
@@ -239,6 +241,7 @@ fn table_noted<W: Wait + Drop, R: BufRead + Drop, O: Write, E: Write>(
     err: &mut E,
     streams: &mut FailedStreams,
 ) -> Status
+    // All is printed; or the line that is refused is told, and nothing is printed.
     ensures done { result ≡ Status.Done →
         IfSome (R.remaining input)
         (λ bytes. IsAnswered bytes job.now.root job.now.addresses.items (O.contents out.old)
@@ -247,6 +250,7 @@ fn table_noted<W: Wait + Drop, R: BufRead + Drop, O: Write, E: Write>(
         IfSome (R.remaining input)
         (λ bytes. IsRefusalTold bytes (E.contents err.old) (E.contents err.new)) }
     ensures unwritten { result ≡ Status.Refused → O.contents out.new ≡ O.contents out.old }
+    // Or a failure cuts it short, and is told last, as far as it can be; there is no other end.
     ensures cut { (result ≡ Status.Memory) ⊎ (result ≡ Status.Stream) →
         IsCutShort (R.remaining input) job.now.root job.now.addresses.items streams.new
         (O.contents out.old) (O.contents out.new) (E.contents err.old) (E.contents err.new) result }
@@ -268,6 +272,7 @@ fn answer_or_refuse<W: Wait + Drop, R: BufRead + Drop, O: Write, E: Write>(
     err: &mut E,
     streams: &mut FailedStreams,
 ) -> Result<Status, Failure>
+    // All is printed; or the line that is refused is told, and nothing is printed.
     ensures done { result ≡ Ok Status.Done →
         IfSome (R.remaining input)
         (λ bytes. IsAnswered bytes job.now.root job.now.addresses.items (O.contents out.old)
@@ -276,6 +281,7 @@ fn answer_or_refuse<W: Wait + Drop, R: BufRead + Drop, O: Write, E: Write>(
         IfSome (R.remaining input)
         (λ bytes. IsRefusalTold bytes (E.contents err.old) (E.contents err.new)) }
     ensures unwritten { result ≡ Ok Status.Refused → O.contents out.new ≡ O.contents out.old }
+    // There is no other status, and a failure cuts short what is printed or told.
     ensures ended { IfOk result (λ status. (status ≡ Status.Done) ⊎ (status ≡ Status.Refused)) }
     ensures cut { IfErr result (IsAnswerCut (R.remaining input) job.now.root job.now.addresses.items
         streams.new (O.contents out.old) (O.contents out.new) (E.contents err.old)
@@ -301,6 +307,7 @@ fn answer<W: Wait + Drop, R: BufRead + Drop, O: Write, E: Write>(
     err: &mut E,
     streams: &mut FailedStreams,
 ) -> Result<(), TableFault>
+    // All is printed; or it is known which line is refused, and nothing is printed or told.
     ensures answer { OnOk result (IfSome (R.remaining input)
         (λ bytes. IsAnswered bytes job.now.root job.now.addresses.items (O.contents out.old)
         (O.contents out.new) (E.contents err.old) (E.contents err.new))) }
@@ -310,6 +317,7 @@ fn answer<W: Wait + Drop, R: BufRead + Drop, O: Write, E: Write>(
         O.contents out.new ≡ O.contents out.old }
     ensures untold { (n : ℕ) (f : EntryFault) → result ≡ Err (TableFault.Entry n f) →
         E.contents err.new ≡ E.contents err.old }
+    // Or a failure cuts short what is printed or told.
     ensures cut { (f : Failure) → result ≡ Err (TableFault.Failure f) →
         IsAnswerCut (R.remaining input) job.now.root job.now.addresses.items streams.new
         (O.contents out.old) (O.contents out.new) (E.contents err.old) (E.contents err.new) f }
@@ -401,8 +409,10 @@ fn print_table<W: Wait + Drop, O: Write>(
     out: &mut O,
     streams: &mut FailedStreams,
 ) -> Result<(), Failure>
+    // The table is published behind the opening one, and the seat has learned it.
     requires seat { seat.old ≡ writer.old }
     requires published { writer.old.tables ≡ opening ++ table.now ∷ [] }
+    // All is printed; or a beginning of it, and it is known why no more is.
     ensures output { OnOk result ((text : List ℕ) × IsOutput table.now addresses.now text
         × Appends (O.contents out.old) (O.contents out.new) text) }
     ensures begun { OnErr result (IsOutputBegun table.now addresses.now (O.contents out.old)

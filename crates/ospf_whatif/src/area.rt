@@ -70,10 +70,12 @@ pub fn without(alloc: Global, listing: &Listing, failure: &Failure) -> Result<Li
 // An LSA after the failure.
 fn lsa_without(alloc: Global, failure: &Failure, lsa: &LsaView) -> Result<Lsa, LsaFault>
     requires listed { IsListed lsa.now }
+    // The LSA has what the failure leaves of it, under the same key, and is below the greatest age.
     ensures advertisement { IfOk result (λ left. advertisement_of left
         ≡ kept failure.now (advertisement_of lsa.now)) }
     ensures key { IfOk result (λ left. key_of left ≡ key_of lsa.now) }
     ensures young { IfOk result (λ left. (header_of left).age < 3600) }
+    // It can be too long only where it has more links than one of the largest size.
     ensures large { result ≡ Err LsaFault.Length → IsLarge (advertisement_of lsa.now) }
 {
     match lsa.kind() {
@@ -86,10 +88,12 @@ fn lsa_without(alloc: Global, failure: &Failure, lsa: &LsaView) -> Result<Lsa, L
 fn router_without(alloc: Global, failure: &Failure, lsa: &LsaView) -> Result<Lsa, LsaFault>
     requires router { IsRouterLsa lsa.now }
     requires listed { IsListed lsa.now }
+    // The LSA has what the failure leaves of it, under the same key, and is below the greatest age.
     ensures advertisement { IfOk result (λ left. advertisement_of left
         ≡ kept failure.now (advertisement_of lsa.now)) }
     ensures key { IfOk result (λ left. key_of left ≡ key_of lsa.now) }
     ensures young { IfOk result (λ left. (header_of left).age < 3600) }
+    // It can be too long only where it has more links than one of the largest size.
     ensures large { result ≡ Err LsaFault.Length → IsLarge (advertisement_of lsa.now) }
 {
     let router = lsa.key().router;

@@ -28,9 +28,11 @@ impl World {
         count: u64,
         alloc: Global,
     ) -> Result<(), WorldFault>
+        // What happens by chance, how far the generator has come, and what stays.
         ensures random { IsRandom count generator.old self.old result self.new }
         ensures drawn { OnOk result (generator.new ≡ drawn_past count generator.old) }
         ensures same { SameSettings self.old self.new }
+        // What holds of every network holds of this one again, and its log of ticks goes on.
         ensures reached { IsReached is_dropped (world_of self.new) }
         ensures headline { Headline (world_of self.old) (world_of self.new) }
         ensures sound { IsSoundBetween (world_of self.old) (world_of self.new) }
@@ -56,9 +58,11 @@ impl World {
     ///
     /// `Memory` where memory runs out, which ends it.
     pub fn random(&mut self, number: u64, count: u64, alloc: Global) -> Result<(), WorldFault>
+        // What happens by chance, and what stays.
         ensures random { IsRandom count (started 64 multiplier_64 number (increment_of 64 0))
             self.old result self.new }
         ensures same { SameSettings self.old self.new }
+        // What holds of every network holds of this one again, and its log of ticks goes on.
         ensures reached { IsReached is_dropped (world_of self.new) }
         ensures headline { Headline (world_of self.old) (world_of self.new) }
         ensures sound { IsSoundBetween (world_of self.old) (world_of self.new) }

@@ -27,7 +27,9 @@ impl World {
     ///
     /// `Memory` where memory runs out, which ends it.
     pub fn round(&mut self, alloc: Global) -> Result<(), WorldFault>
+        // What happens in a round.
         ensures round { IsRound self.old result self.new }
+        // What holds of every network holds of this one again, and its log of ticks goes on.
         ensures reached { IsReached is_dropped (world_of self.new) }
         ensures headline { Headline (world_of self.old) (world_of self.new) }
         ensures sound { IsSoundBetween (world_of self.old) (world_of self.new) }

@@ -59,9 +59,11 @@ impl World {
     /// then nothing is changed. `Memory` where memory runs out: nothing is changed, or else, where `stopped`, the router is
     /// stopped and no log has grown.
     pub fn step(&mut self, event: WorldEvent, alloc: Global) -> Result<(), WorldFault>
+        // What happens, and what stays.
         ensures does { Does event self.old result self.new }
         ensures comes { Comes is_dropped event (world_of self.old) result (world_of self.new) }
         ensures same { SameSettings self.old self.new }
+        // What holds of every network holds of this one again, and its log of ticks goes on.
         ensures reached { IsReached is_dropped (world_of self.new) }
         ensures headline { Headline (world_of self.old) (world_of self.new) }
         ensures sound { IsSound event (world_of self.old) (world_of self.new) }
@@ -78,8 +80,10 @@ impl World {
     ///
     /// `WorldFault::Memory` where memory runs out for one: that is the last.
     pub fn run(&mut self, events: &[WorldEvent], alloc: Global) -> Result<usize, WorldFault>
+        // What happens, and what stays.
         ensures run { IsRun Does events.now self.old result self.new }
         ensures same { SameSettings self.old self.new }
+        // What holds of every network holds of this one again, and its log of ticks goes on.
         ensures reached { IsReached is_dropped (world_of self.new) }
         ensures headline { Headline (world_of self.old) (world_of self.new) }
         ensures sound { IsSoundBetween (world_of self.old) (world_of self.new) }
