@@ -70,6 +70,7 @@ abbrev pub state_in : Option NeighbourValue → NeighbourState
 state_in None = Down
 state_in (Some n) = n.state
 
+-- the state of router q on link l: Down where it is no neighbour there (10.1)
 abbrev pub state_of : AreaValue → ℕ → RouterId → NeighbourState
 state_of s l q = state_in (neighbour s l q)
 
@@ -91,6 +92,7 @@ abbrev pub copy_in : Option Entry → Option (List ℕ)
 copy_in None = None
 copy_in (Some e) = Some (lsa_of e)
 
+-- the database's copy of a key, at the present age, if it has one (12.2)
 abbrev pub copy_of : AreaValue → LsaKey → Option (List ℕ)
 copy_of s key = copy_in (entry_of s key)
 
@@ -109,6 +111,7 @@ abbrev pub kept_in : ℤ → Option Numbering → ℤ
 kept_in floor None = floor
 kept_in floor (Some n) = n.kept
 
+-- the number that the router keeps for a key: the floor, if the key was not numbered (12.1.6)
 abbrev pub kept_number : AreaValue → LsaKey → ℤ
 kept_number s key = kept_in s.floor (numbering_of s.numbering key)
 

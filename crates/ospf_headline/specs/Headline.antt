@@ -23,10 +23,11 @@ IsReached is_dropped w = (events : List WorldEvent) × IsReachedBy is_dropped ev
 pub record Headline (before after : World) : Type 0 where
   -- what is held anywhere was issued, at whatever age
   pub were_issued : (lsa : List ℕ) → HeldAnywhere after lsa → WasIssued after.issued (contents lsa)
-  -- LSAs of one instance have equal contents, unless their originator issued both, the second in a low run
+  -- LSAs of one instance have equal contents, unless both contents were issued, in two runs, the second a low one
   pub held_agree : (a b : List ℕ) → HeldAnywhere before a → HeldAnywhere after b → AgreeUnlessIssuedAgain after.issued a b
   pub held_agree_now : (a b : List ℕ) → HeldAnywhere after a → HeldAnywhere after b → AgreeUnlessIssuedAgain after.issued a b
-  -- each running router has exactly the reachable prefixes of its own listing, at least cost
+  -- each running router has a route to each prefix that it has a way to by its own listing, and no other: at the least
+  -- cost, and with exactly the next hops of the least ways that count
   pub tables : (r : RouterId) (x : Running) → router_at after r ≡ Some x → IsTable (adverts x) r x.table
   -- where nothing issued collides and all listed routers run and list the same, each walk arrives
   pub walks : (r : RouterId) (x : Running) → NoCollision after.issued → router_at after r ≡ Some x → AllListedAgree after x → WalksArrive after r x

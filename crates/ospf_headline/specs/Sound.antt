@@ -61,7 +61,7 @@ pub record IssuedAgain (issued : List Issued) (a b : List ℕ) : Type 0 where
   pub other_run : first.run ≢ second.run
   pub low : IsLow issued second
 
--- two LSAs of one instance have equal contents, unless their originator issued both, the second in a low run
+-- two LSAs of one instance have equal contents, unless both contents were issued, in two runs, the second a low one
 abbrev pub AgreeUnlessIssuedAgain : List Issued → List ℕ → List ℕ → Type 0
 AgreeUnlessIssuedAgain issued a b =
     instance_of a ≡ instance_of b → (contents a ≡ contents b) ⊎ (IssuedAgain issued a b ⊎ IssuedAgain issued b a)
@@ -97,7 +97,7 @@ NoneLargest issued = (k : ℕ) (e : Issued) → IssuedAt issued k e → number_i
 abbrev pub BasesAreFloors : (Event → AreaValue → Bool) → World → List WorldEvent → World → Type 0
 BasesAreFloors is_dropped start events end = (k : ℕ) (e : Issued) → IssuedAt end.issued k e → HasBegun is_dropped start events end (key_of e.lsa).router e.run
 
--- some router named q as holding an instance that covers i
+-- q itself installed, issued or acknowledged an instance that covers i: the log of holdings has it
 pub record HasToldOf (w : World) (q : RouterId) (i : Instance) : Type 0 where
   pub held : Instance
   pub told : Contains w.held (record { router = q; instance = held })

@@ -73,8 +73,8 @@ pub record StaysOnWay (w : World) (x : Running) (address : ℕ) (a : RouterId) (
   pub short : length routers < length (listed_routers (adverts x))
   pub ends : GoesOnToEnd w address a first routers
 
--- the second half of the headline, of one router that runs as x: all walks from it stay on the prefix of its best route,
--- pay that route's cost, meet no router twice, and arrive
+-- of one router that runs as x: all walks from it stay on the prefix of its best route, pay that route's cost, meet no
+-- router twice, and arrive
 abbrev pub WalksArrive : World → RouterId → Running → Type 0
 WalksArrive w a x = (address : ℕ) (first : Route) → IsBest x.table address first →
     (routers : List RouterId) (b : RouterId) (paid : ℕ) → WalksOn w address a routers b paid →

@@ -88,7 +88,7 @@ pub record WasKept (heard : Option Received) (before : AreaValue) (lsa : List �
   pub same : contents old ≡ contents lsa
   pub age : (old ≡ lsa) ⊎ ((heard ≡ None) ⊎ ((header_of lsa).age ≡ max_age))
 
--- an instance stays on q's retransmission list, and its copy in the database
+-- an instance stays on q's retransmission list, and a copy of it that the database has after the step was held before
 pub record WaitsOn (heard : Option Received) (before after : AreaValue) (l : ℕ) (q : RouterId) (i : Instance) : Type 0 where
   pub awaits : Awaits after l q i
   pub kept : (lsa : List ℕ) → HasCopy after lsa → instance_of lsa ≡ i → WasKept heard before lsa

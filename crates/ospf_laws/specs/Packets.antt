@@ -40,12 +40,15 @@ acknowledging_headers_of (request entries) = []
 abbrev pub lsas_in : Meaning → List (List ℕ)
 lsas_in p = lsas_of p.body
 
+-- the headers of a packet that is a DD packet, and of another one none
 abbrev pub dd_headers_in : Meaning → List LsaHeader
 dd_headers_in p = dd_headers_of p.body
 
+-- the headers by which a packet names instances
 abbrev pub headers_in : Meaning → List LsaHeader
 headers_in p = headers_of p.body
 
+-- the headers by which a packet acknowledges (13.7; 13, step 7a)
 abbrev pub acknowledging_headers_in : Meaning → List LsaHeader
 acknowledging_headers_in p = acknowledging_headers_of p.body
 

@@ -53,6 +53,7 @@ pub record AreLinks (count : ℕ) (bytes : List ℕ) : Type 0 where
 
 -- ---- reading
 
+-- the type of a number (appendix A.4.2): 4 is Virtual, and as it are read 0 and those above 4, that no link has
 abbrev pub link_kind : ℕ → LinkKind
 link_kind zero = Virtual
 link_kind (suc zero) = PointToPoint

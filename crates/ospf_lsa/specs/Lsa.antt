@@ -29,6 +29,7 @@ IsRouterLsa lsa = type_of lsa ≡ 1
 abbrev pub IsNetworkLsa : List ℕ → Type 0
 IsNetworkLsa lsa = type_of lsa ≡ 2
 
+-- the kind by the LS type (appendix A.4.1): network for 2, router for any other, of which an LSA has only 1
 abbrev pub kind_of : List ℕ → Kind
 kind_of lsa = if type_of lsa == 2 then Network else Router
 

@@ -24,6 +24,7 @@ pub data BodyMeaning : Type 0 where
   update : (lsas : List (List ℕ)) → BodyMeaning
   acknowledgment : (headers : List LsaHeader) → BodyMeaning
 
+-- what a packet says: the Router ID of its sender, its area, and its body (appendix A.3.1)
 pub record Meaning : Type 0 where
   pub router : RouterId
   pub area : AreaId

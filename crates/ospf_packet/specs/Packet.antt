@@ -17,6 +17,7 @@ use Rattle.ospf_packet.specs.declared.fault.PacketFault.TheVariants as fault
 abbrev pub type_of : List ℕ → ℕ
 type_of packet = slice_index packet 1
 
+-- what stands behind the header (appendix A.3.1)
 abbrev pub body_of : List ℕ → List ℕ
 body_of packet = drop packet_header packet
 
@@ -60,6 +61,7 @@ IsFirstFault packet f = faults.IsFirstBroken fault_order (λ g. IsFreeOf g packe
 
 -- ---- what a packet says
 
+-- what a body of this type says (appendix A.3.2 to A.3.6); of a type that is none of 1 to 4, as an Acknowledgment
 abbrev pub body_at : ℕ → List ℕ → BodyMeaning
 body_at kind body =
     if kind == 1 then hello (hello_at body) (routers_in (drop hello_fields body))

@@ -9,17 +9,20 @@ use Rattle.ospf_packet.specs.Packet.{meaning_of, type_of, body_of}
 use Rattle.ospf_packet.specs.Requests.{request_size}
 use Rattle.ospf_packet.specs.Slices.{lsa_length}
 
--- `IsFirstSlice`, `AreSlices`, `IsBody` and `IsPacket` as tests
+-- a slice stands at the front, as a test (`IsFirstSlice` of Slices)
 abbrev pub is_first_slice : List ℕ → Bool
 is_first_slice bytes = nat_le lsa_header (length bytes) && (nat_le lsa_header (lsa_length bytes) && nat_le (lsa_length bytes) (length bytes))
 
+-- the bytes are so many slices and nothing else, as a test (`AreSlices` of Slices)
 abbrev pub are_slices : ℕ → List ℕ → Bool
 are_slices zero bytes = length bytes == 0
 are_slices (suc n) bytes = is_first_slice bytes && are_slices n (drop (lsa_length bytes) bytes)
 
+-- where the first holds, the second does
 abbrev pub implies : Bool → Bool → Bool
 implies a b = not a || b
 
+-- the body ends with its last entry, as a test (`IsBody` of Packet)
 abbrev pub is_body : ℕ → List ℕ → Bool
 is_body kind body =
     implies (kind == 1) (nat_le hello_fields (length body) && ((length body - hello_fields) % 4 == 0))
@@ -28,6 +31,7 @@ is_body kind body =
     && (implies (kind == 4) (nat_le 4 (length body) && are_slices (number_at 0 4 body) (drop 4 body))
     && implies (kind == 5) (length body % lsa_header == 0))))
 
+-- the bytes are a packet, as a test (`IsPacket` of Packet; section 8.2, appendix A.3)
 unfoldable pub is_packet : List ℕ → Bool
 is_packet packet =
     nat_le packet_header (length packet) && ((slice_index packet 0 == 2) && ((nat_le 1 (type_of packet) && nat_le (type_of packet) 5)

@@ -3,6 +3,7 @@ use Rattle.ospf_laws.specs.Step as laws
 use Rattle.ospf_step.specs.declared.event.Event.{Event}
 use Rattle.ospf_step.specs.declared.event.Event.TheVariants as given
 
+-- the event as the laws read it: a datagram with its bytes, and all else as it is
 abbrev pub happening : Event → laws.Event
 happening (given.Datagram link source destination bytes) = laws.Event.Datagram link source destination bytes.now
 happening given.Tick = laws.Event.Tick

@@ -31,6 +31,7 @@ pub record IsBestLine (table : List Route) (address : ℕ) (line : List ℕ) : T
   pub hops : route.hops ≡ hop ∷ others
   pub line_is : line ≡ found_text address route.prefix route.cost hop ++ codes "\n"
 
+-- the line of an address: no route holds it, or the route of longest prefix that does, with the first of its hops
 abbrev pub IsLookupLine : List Route → ℕ → List ℕ → Type 0
 IsLookupLine table address line = IsNoRouteLine table address line ⊎ IsBestLine table address line
 
