@@ -5,7 +5,6 @@ import tempfile
 
 from program import build
 
-BELOW = ["ospf_base", "ospf_lsa", "ospf_graph", "ospf_incremental", "ospf_edges", "ospf_spf", "ospf_published", "ospf_index", "ospf_fib"]
 ROUTES = (1, 1000, 100000)
 READERS = (1, 2, 3)
 LOOKUPS = 1000000
@@ -19,7 +18,7 @@ def nanoseconds(program, routes, readers, publishes):
 
 def main():
     with tempfile.TemporaryDirectory() as place:
-        program = build(place, "lookups", BELOW, ["1", "1", "1", "0"])
+        program = build(place, "lookups", "ospf_fib", ["1", "1", "1", "0"])
         for routes in ROUTES:
             for readers in READERS:
                 alone = nanoseconds(program, routes, readers, False)

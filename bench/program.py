@@ -7,8 +7,28 @@ HERE = os.path.dirname(os.path.abspath(__file__))
 TOP = os.path.join(HERE, "..")
 
 
-def build(place, name, below, words):
-    """The program of `name`.txt over the crates `below`, each after those that it stands on. `words` let it end soon."""
+def crates_below(name):
+    """The crates of the repository that a crate stands on, and itself, each after those that it stands on."""
+    listed = {}
+    for line in open(os.path.join(TOP, "crates.txt"), encoding="utf-8"):
+        words, colon, libraries = line.split("#")[0].partition(":")
+        if colon:
+            listed[words.split()[0]] = libraries.split()
+    found = []
+
+    def find(crate):
+        for it in listed[crate]:
+            if it in listed and it not in found:
+                find(it)
+        found.append(crate)
+
+    find(name)
+    return found
+
+
+def build(place, name, over, words):
+    """The program of `name`.txt over a crate and all that this stands on. `words` let it end soon."""
+    below = crates_below(over)
     for crate in below:
         shutil.copytree(os.path.join(TOP, "crates", crate), os.path.join(place, "crates", crate))
     shutil.copy(os.path.join(TOP, "HANDLES"), place)

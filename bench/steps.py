@@ -6,11 +6,6 @@ import tempfile
 
 from program import build
 
-BELOW = [
-    "ospf_base", "ospf_lsa", "ospf_packet", "ospf_graph", "ospf_incremental", "ospf_edges", "ospf_spf", "ospf_election", "ospf_iface",
-    "ospf_neighbour", "ospf_config", "ospf_lsdb", "ospf_exchange", "ospf_flood", "ospf_area", "ospf_update", "ospf_adjacency",
-    "ospf_links", "ospf_laws", "ospf_wanted", "ospf_originate", "ospf_step", "ospf_router",
-]
 # Links, neighbours on each, and LSAs.
 SIZES = ((2, 2, 100), (10, 10, 100), (10, 10, 1000), (10, 10, 10000))
 # Fewer than lie between two Hellos.
@@ -39,7 +34,7 @@ def counts(program, size):
 
 def main():
     with tempfile.TemporaryDirectory() as place:
-        program = build(place, "steps", BELOW, ["2", "2", "10", "1", "1"])
+        program = build(place, "steps", "ospf_router", ["2", "2", "10", "1", "1"])
         for size in SIZES:
             links, each, lsas = size
             (tick, update), (tick_count, update_count) = nanoseconds(program, size), counts(program, size)

@@ -5,13 +5,12 @@ import tempfile
 
 from program import build
 
-BELOW = ["ospf_base", "ospf_lsa", "ospf_graph", "ospf_incremental", "ospf_edges", "ospf_spf"]
 ROW, ROWS, ROUNDS = 50, 100, 20
 
 
 def main():
     with tempfile.TemporaryDirectory() as place:
-        program = build(place, "trees", BELOW, ["2", "2", "1"])
+        program = build(place, "trees", "ospf_spf", ["2", "2", "1"])
         words = [program, str(ROW), str(ROWS), str(ROUNDS)]
         made, held, looks = (int(word) for word in subprocess.run(words, check=True, capture_output=True).stdout.split())
         print(f"| {ROW * ROWS:,} | {made / 1e6:.2f} | {held / 1e6:.2f} | {held / made:.3f} | {looks:,} |", flush=True)
