@@ -6,13 +6,54 @@ usage: tests/kit.py WORD..        as rt WORD..
 A crate's stamp is a sum of its sources and of the stamps of the crates that it stands on. `rt` makes each of those anew wherever it
 is asked for: for the program, over its fifty crates, those of 64,000 crates. Here a call remembers the stamps that
 it has made, for as long as it lasts; the next one makes its own. So every stamp is the same, and nothing else is changed.
+
+Other scripts that lean on the inside of the toolchain, which no document promises, ask for it here. Where something of it is not there
+they end with a line that tells so; with any toolchain that has it all they go on.
 """
 import importlib.machinery
 import importlib.util
 import os
 import shutil
+import subprocess
 import sys
 import threading
+
+# The toolchain that these scripts were tried with, as `rt version` tells it.
+TRIED = "rattle-kit-13f logic dac8208d650f15bf"
+
+
+def end_without(what):
+    """Ends where the toolchain has not what a script leans on."""
+    told = subprocess.run(["rt", "version"], stdin=subprocess.DEVNULL, stdout=subprocess.PIPE, text=True, check=False).stdout.strip()
+    name = os.path.basename(sys.argv[0])
+    sys.exit(f"{name}: not there in the toolchain: {what}; tried with {TRIED}, and this is {told or 'another'}")
+
+
+def look_for(owner, what, *names):
+    """Ends where a part of the toolchain has not all of these."""
+    for name in names:
+        if not hasattr(owner, name):
+            end_without(f"{what}.{name}")
+
+
+def file_of_rt():
+    """The file of the command rt, from whose folder its library is imported then."""
+    found = shutil.which("rt")
+    if found is None:
+        sys.exit(f"{os.path.basename(sys.argv[0])}: there is no command rt")
+    file = os.path.realpath(found)
+    if not os.path.isfile(os.path.join(os.path.dirname(file), "rtlib.py")):
+        end_without("bin/rtlib.py")
+    # The toolchain's folder stays as it is.
+    sys.dont_write_bytecode = True
+    sys.path.insert(0, os.path.dirname(file))
+    return file
+
+
+def library():
+    """The library of the command rt."""
+    file_of_rt()
+    return importlib.import_module("rtlib")
 
 
 def quicken(crate_type):
@@ -37,13 +78,15 @@ def quicken(crate_type):
 
 def command():
     """The command rt as a module, and its library beside it."""
-    # The toolchain's folder stays as it is.
-    sys.dont_write_bytecode = True
-    loader = importlib.machinery.SourceFileLoader("rt", os.path.realpath(shutil.which("rt")))
-    sys.path.insert(0, os.path.dirname(loader.path))
+    loader = importlib.machinery.SourceFileLoader("rt", file_of_rt())
     module = importlib.util.module_from_spec(importlib.util.spec_from_loader("rt", loader))
-    loader.exec_module(module)
+    try:
+        loader.exec_module(module)
+    except (ImportError, OSError, SyntaxError, UnicodeDecodeError):
+        end_without("bin/rt, in Python,")
+    look_for(module, "rt", "rtlib", "main")
     crate_type = getattr(module.rtlib, "Crate", None)
+    # A toolchain without stamps has none to make twice.
     if hasattr(crate_type, "stamp"):
         quicken(crate_type)
     return module

@@ -8,10 +8,12 @@ import os
 import shutil
 import sys
 
-sys.path.insert(0, os.path.dirname(os.path.realpath(shutil.which("rt"))))
-import rtlib  # noqa: E402, the command rt as a module
+from kit import library, look_for
 
 folder, name, seconds, *part = sys.argv[1:]
+rtlib = library()
+look_for(rtlib, "rtlib", "RATTLE", "Crate", "crates_below")
+look_for(rtlib.Crate, "rtlib.Crate", "try_unproved")
 crate = next(it for it in rtlib.crates_below(folder) if it.name == name)
 os.chdir(crate.folder)
 rtlib.RATTLE = shutil.which("true")
