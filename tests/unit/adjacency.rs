@@ -1,5 +1,7 @@
 //! Adjacencies of one router: Database Descriptions that come, and an election.
 
+use super::made::{FIRST_NUMBER, require};
+use super::wired::{OWN, count, description, iface};
 use ospf_adjacency::{
     OnLink, Post, elect_on, is_broadcast, is_dropped, request_turn, send_dd, send_request,
     take_description, take_event, wants_adjacency,
@@ -7,38 +9,13 @@ use ospf_adjacency::{
 use ospf_area::{Outputs, Own};
 use ospf_base::{ALL_SPF_ROUTERS, Addr, AreaId, InterfaceKind, RouterId};
 use ospf_exchange::Local;
-use ospf_iface::{Iface, IfaceSettings, IfaceState};
+use ospf_iface::{Iface, IfaceState};
 use ospf_lsa::Lsa;
 use ospf_lsdb::Lsdb;
 use ospf_neighbour::{Declared, NbrEvent, Neighbour, NeighbourState};
 use ospf_packet::{Body, BodyValue, Description, Packet, PacketValue, write_packet};
 use std::alloc::Global;
 use std::test::Fail;
-
-// The router, which is the slave of a neighbour with a higher Router ID.
-const OWN: RouterId = RouterId(1);
-
-// The number that a router uses first.
-const FIRST_NUMBER: i32 = -0x7fff_ffff;
-
-fn iface(kind: InterfaceKind, state: IfaceState) -> Iface {
-    Iface {
-        settings: IfaceSettings {
-            router: OWN,
-            kind,
-            address: Addr(1),
-            mask: 0xffff_ff00,
-            priority: 1,
-            hello: 10,
-            dead: 40,
-        },
-        state,
-        dr: Addr::NOWHERE,
-        backup: Addr::NOWHERE,
-        wait: 0,
-        hello_in: 10,
-    }
-}
 
 fn local(mtu: u16) -> Local {
     Local {
@@ -70,15 +47,6 @@ fn send(post: Post, out: &mut Outputs) -> Result<u32, Fail> {
     Ok(number)
 }
 
-// How many datagrams have gone out.
-fn count(out: &Outputs) -> usize {
-    out.sent().len()
-}
-
-fn require(holds: bool) -> Result<(), Fail> {
-    if holds { Ok(()) } else { Err("not so".into()) }
-}
-
 // A Database Description without headers, taken by a neighbour on a point-to-point link.
 fn hear(
     neighbour: &mut Neighbour,
@@ -108,15 +76,6 @@ fn hear(
     send(post, out)?;
     require(taken != dropped)?;
     Ok(taken)
-}
-
-fn description(mtu: u16, flags: u8, number: u32) -> Description {
-    Description {
-        mtu,
-        options: 2,
-        flags,
-        number,
-    }
 }
 
 // The flags, the number and how many headers a Database Description has.

@@ -1,20 +1,20 @@
 //! Flooding over two links, lists, numbers, marks and Requests.
 
+use super::made::require;
+use super::wired::{area_of, neighbour, waiting};
 use ospf_area::{
     Area, Change, Link, LinkSettings, Origin, Outputs, acknowledge_by, answer_at, change_at,
     count_number, delay_at, flood, is_awaited, is_numbered, is_own, is_requested,
     is_self_originated, is_taken, mark, origin_of, own_of, release, send_request, sent_lsa,
     some_link_loading, to_address, turn_requests, was_sent, way_out,
 };
-use ospf_base::{Addr, Age, AreaId, Instance, InterfaceKind, Kind, LsaKey, RouterId};
+use ospf_base::{Addr, Instance, InterfaceKind, Kind, LsaKey, RouterId};
 use ospf_flood::{Acknowledgement, AcknowledgementCase};
 use ospf_iface::{Iface, IfaceSettings, IfaceState};
 use ospf_lsa::{Lsa, LsaHeader, LsaView};
-use ospf_lsdb::Lsdb;
-use ospf_neighbour::{NbrEvent, Neighbour, NeighbourState, Neighbours};
+use ospf_neighbour::{NeighbourState, Neighbours};
 use ospf_packet::{Body, Packet};
 use std::alloc::Global;
-use std::collections::BTreeSet;
 use std::test::Fail;
 
 // 0x80000001, the number that a router uses first.
@@ -24,9 +24,7 @@ const OWN: RouterId = RouterId(9);
 
 // Router 7's router-LSA of this number, ten ticks old.
 fn lsa_of(alloc: Global, number: i32) -> Result<Lsa, Fail> {
-    let mut lsa = Lsa::router(alloc, RouterId(7), number, &[])?;
-    lsa.set_age(Age::new(10));
-    Ok(lsa)
+    super::made::lsa_of(alloc, 7, number, 10)
 }
 
 const KEY: LsaKey = LsaKey {
@@ -34,23 +32,6 @@ const KEY: LsaKey = LsaKey {
     id: 7,
     router: RouterId(7),
 };
-
-// A neighbour in Full, or one in Loading that has described these.
-fn neighbour(alloc: Global, router: u32, described: &[LsaHeader]) -> Result<Neighbour, Fail> {
-    let mut neighbour = Neighbour::new(alloc, RouterId(router), Addr(router));
-    for event in [
-        NbrEvent::HelloReceived,
-        NbrEvent::TwoWayReceived(true),
-        NbrEvent::NegotiationDone,
-    ] {
-        neighbour.event(event, 40);
-    }
-    if neighbour.is_exchanging() {
-        neighbour.add_requests(described)?;
-    }
-    neighbour.event(NbrEvent::ExchangeDone, 40);
-    Ok(neighbour)
-}
 
 // A link of this address, with the neighbours of these Router IDs.
 fn link(
@@ -117,22 +98,7 @@ fn area(alloc: Global, described: &[LsaHeader]) -> Result<Area, Fail> {
         &[3],
         described,
     )?)?;
-    Ok(Area {
-        router: OWN,
-        area: AreaId(0),
-        stub_router: false,
-        passes_over: false,
-        links,
-        database: Lsdb::new(alloc),
-        direct: Vec::new(alloc),
-        numbering: Vec::new(alloc),
-        floor: i32::MIN,
-        tick: 7,
-        next_dd: 300,
-        sent: BTreeSet::new(alloc),
-        heard: Vec::new(alloc),
-        greatest: i32::MIN,
-    })
+    Ok(area_of(alloc, OWN, links, 7, 300))
 }
 
 const FROM_DR: Origin = Origin {
@@ -152,18 +118,6 @@ const FROM_THIRD: Origin = Origin {
     router: RouterId(3),
     address: Addr(3),
 };
-
-fn require(holds: bool) -> Result<(), Fail> {
-    if holds { Ok(()) } else { Err("not so".into()) }
-}
-
-// How many instances wait for the acknowledgement of the neighbour.
-fn waiting(area: &Area, from: Origin) -> usize {
-    match origin_of(&area.links, from) {
-        Some(neighbour) => neighbour.retransmission().len(),
-        None => 99,
-    }
-}
 
 // The link, the destination and the age of the one LSA of the last datagram.
 fn last_sent(out: &Outputs) -> Result<(usize, Addr, u16), Fail> {

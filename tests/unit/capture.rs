@@ -1,5 +1,6 @@
 //! A capture that was written by hand from the formats (`tests/check-capture` reads it), and what is refused.
 
+use super::written::{HELLO, UPDATE};
 use ospf_base::{ALL_SPF_ROUTERS, Addr};
 use ospf_records::{
     CaptureFault, Moment, checksum_holds, has_one_reading, lengths_are_told, write_datagram,
@@ -15,33 +16,16 @@ static HEADER: &str = "a1b2c3d4 0002 0004 00000000 00000000 0000ffff 00000065";
 static BEFORE_HELLO: &str = "5f5e1000 0003d090 00000040 00000040
     45c00040 00000000 0159ce9f 0a000001 e0000005";
 
-// The first Hello of 1.1.1.1.
-static HELLO: &str = "0201002c 01010101 00000000 f9a0 0000 0000000000000000
-    fffffffc 000a 02 01 00000028 00000000 00000000";
-
 // What stands before the Update: 1,600,000,001 seconds, 96 bytes, and the IP header.
 static BEFORE_UPDATE: &str = "5f5e1001 00000000 00000060 00000060
     45c00060 00000000 0159a483 0a000001 0a000002";
 
-// The Update of 1.1.1.1 with its router-LSA at age 1.
-static UPDATE: &str = "0204004c 01010101 00000000 7730 0000 0000000000000000 00000001
-    0001 0201 01010101 01010101 80000001 e22c 0030 00000002
-    02020202 0a000001 0100000a 0a000000 fffffffc 0300000a";
-
 // The bytes of hexadecimal texts, one after the other, whose spaces and ends of lines mean nothing.
 fn bytes_of(alloc: Global, texts: &[&str]) -> Result<Vec<u8>, AllocError> {
     let mut bytes = Vec::new(alloc);
-    let mut high = None;
     for text in texts {
-        for digit in text.chars().filter_map(|c| c.to_digit(16)) {
-            let digit = (digit % 16) as u8;
-            match high {
-                None => high = Some(digit),
-                Some(first) => {
-                    bytes.push(digit.wrapping_add(first.wrapping_mul(16)))?;
-                    high = None;
-                }
-            }
+        for byte in &super::written::bytes_of(alloc, text)? {
+            bytes.push(*byte)?;
         }
     }
     Ok(bytes)

@@ -1,8 +1,8 @@
 //! Configurations that are accepted, and the least fault of others.
 
 use ospf_base::{Addr, AreaId, InterfaceKind, RouterId};
-use ospf_config::{Config, ConfigFault};
 use ospf_check::explain;
+use ospf_config::{Config, ConfigFault};
 use std::alloc::Global;
 use std::process::Abort;
 use std::test::Fail;

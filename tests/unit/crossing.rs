@@ -1,30 +1,16 @@
 //! The database and the routing table.
 
+use super::made::{FIRST_NUMBER, linked};
 use ospf_base::{Age, RouterId};
-use ospf_lsa::{Link, LinkKind, Lsa};
+use ospf_lsa::Lsa;
 use ospf_lsdb::Lsdb;
 use ospf_spf::RouteTable;
 use std::alloc::Global;
 use std::test::Fail;
 
-const FIRST_NUMBER: i32 = -0x7fff_ffff;
-
 // The router-LSA of a router with a link to another and the stub of its subnet.
 fn linked_lsa(alloc: Global, age: u16) -> Result<Lsa, Fail> {
-    let links = [
-        Link {
-            id: 0x0202_0202,
-            link_data: 0x0a00_0001,
-            kind: LinkKind::PointToPoint,
-            metric: 10,
-        },
-        Link {
-            id: 0x0a00_0000,
-            link_data: 0xffff_fffc,
-            kind: LinkKind::Stub,
-            metric: 10,
-        },
-    ];
+    let links = linked(RouterId(0x0202_0202), 0x0a00_0001);
     let mut lsa = Lsa::router(alloc, RouterId(0x0101_0101), FIRST_NUMBER, &links)?;
     lsa.set_age(Age::new(age));
     Ok(lsa)

@@ -1,5 +1,6 @@
 //! The edges that touch a vertex, beside all edges of the graph.
 
+use super::made::{FIRST_NUMBER, draw};
 use ospf_base::RouterId;
 use ospf_edges::{edges_at, edges_of};
 use ospf_graph::{Edge, Vertex};
@@ -7,19 +8,9 @@ use ospf_lsa::{Link, LinkKind, Listing, Lsa};
 use std::alloc::Global;
 use std::test::Fail;
 
-// The number that a router uses first.
-const FIRST_NUMBER: i32 = -0x7fff_ffff;
 // Routers, and networks of a drawn area are below these; some of them are not listed.
 const ROUTERS: u32 = 7;
 const NETWORKS: u32 = 5;
-
-// The next number drawn.
-fn draw(drawn: &mut u64, below: u32) -> u32 {
-    *drawn = drawn
-        .wrapping_mul(6_364_136_223_846_793_005)
-        .wrapping_add(1_442_695_040_888_963_407);
-    (*drawn >> 33) as u32 % below
-}
 
 fn link(id: u32, link_data: u32, kind: LinkKind, metric: u16) -> Link {
     Link {
@@ -167,7 +158,7 @@ fn small_area(alloc: Global) -> Result<Listing, Fail> {
     Ok(listing)
 }
 
-fn edge(from: Vertex, to: Vertex, cost: u16, link_data: u32) -> Edge {
+pub(crate) fn edge(from: Vertex, to: Vertex, cost: u16, link_data: u32) -> Edge {
     Edge {
         to,
         from,

@@ -1,9 +1,11 @@
 //! The exchange with a neighbour: what the tests in the files of `exchange/` start from, how faults are printed, and the
 //! order of a walk.
 
-use ospf_base::{Addr, Age, AreaId, RouterId};
+use super::made::{FIRST_NUMBER, lsa_of};
+use super::wired::description;
+use ospf_base::{Addr, AreaId, RouterId};
 use ospf_exchange::{DdAnswer, ExchangeFault, Local, begin, on_dd};
-use ospf_lsa::{Lsa, LsaHeader};
+use ospf_lsa::LsaHeader;
 use ospf_lsdb::Lsdb;
 use ospf_neighbour::{NbrEvent, Neighbour};
 use ospf_packet::{Body, BodyValue, Description, Headers, Packet, PacketValue, write_packet};
@@ -13,9 +15,6 @@ use std::test::Fail;
 mod descriptions;
 mod requests;
 mod whole;
-
-// The number that a router uses first.
-const FIRST_NUMBER: i32 = -0x7fff_ffff;
 
 // The router with the lower ID, which becomes the slave.
 const LOW: RouterId = RouterId(0x0101_0101);
@@ -28,17 +27,6 @@ const LOW_NUMBER: u32 = 7000;
 
 // The number with which the higher router begins: the next one is 0.
 const HIGH_NUMBER: u32 = u32::MAX;
-
-// The router-LSA of a router without links, of this number and age.
-fn lsa_of(alloc: Global, router: u32, number: i32, age: u16) -> Result<Lsa, Fail> {
-    let mut lsa = Lsa::router(alloc, RouterId(router), number, &[])?;
-    lsa.set_age(Age::new(age));
-    Ok(lsa)
-}
-
-fn header_of(alloc: Global, router: u32, number: i32) -> Result<LsaHeader, Fail> {
-    Ok(lsa_of(alloc, router, number, 0)?.view().header())
-}
 
 // Installs the LSA of a router, of this number and age, in a tick.
 fn install(
@@ -78,15 +66,6 @@ fn at_tick(router: RouterId, mtu: u16, tick: u64) -> Local {
         mtu,
         tick,
         passes_over: false,
-    }
-}
-
-fn description(mtu: u16, flags: u8, number: u32) -> Description {
-    Description {
-        mtu,
-        options: 2,
-        flags,
-        number,
     }
 }
 

@@ -1,7 +1,7 @@
 //! What failures of small areas change, as it is printed.
 
 use super::failing::Failing;
-use super::made::{FIRST_NUMBER, link, stub, to};
+use super::made::{FIRST, FIRST_NUMBER, SECOND, THIRD, link, stub, to};
 use ospf_base::{RouterId, lsa_sum};
 use ospf_failures::{FailuresJob, FailuresStatus, failures_text};
 use ospf_files::Status;
@@ -10,10 +10,6 @@ use ospf_whatif::{Failure, find_failure, single_failures};
 use std::alloc::Global;
 use std::process::{Abort, ExitCode};
 use std::test::Fail;
-
-const FIRST: RouterId = RouterId(0x0101_0101);
-const SECOND: RouterId = RouterId(0x0202_0202);
-const THIRD: RouterId = RouterId(0x0303_0303);
 
 // The mask of a link's subnet.
 const SUBNET: u32 = 0xffff_fffc;

@@ -1,18 +1,17 @@
 //! The table of acknowledgements, the rules of section 13, and what LSAs do to neighbours and links.
 
-use ospf_base::{
-    ALL_D_ROUTERS, ALL_SPF_ROUTERS, Addr, Age, Instance, InterfaceKind, Kind, LsaKey, MAX_AGE,
-    RouterId,
-};
+use super::made::{header_of, key_of, lsa_of};
+use super::wired::in_exchange as neighbour;
+use ospf_base::{ALL_D_ROUTERS, ALL_SPF_ROUTERS, Addr, Instance, InterfaceKind, MAX_AGE, RouterId};
 use ospf_flood::{
-    Acknowledgement, AcknowledgementCase, LsaRule, Sender, acknowledge, case_of_newer,
-    case_of_same, due_instances, flood_to, flooding_address, is_due, is_flooded_out, is_sent_back,
-    lsa_rule, on_acknowledgement, on_duplicate, sender_at,
+    Acknowledgement, AcknowledgementCase, LsaRule, Sender, acknowledge, case_of_newer, case_of_same,
+    due_instances, flood_to, flooding_address, is_due, is_flooded_out, is_sent_back, lsa_rule,
+    on_acknowledgement, on_duplicate, sender_at,
 };
 use ospf_iface::{Iface, IfaceSettings, IfaceState};
 use ospf_lsa::{Lsa, LsaHeader};
 use ospf_lsdb::Lsdb;
-use ospf_neighbour::{Listed, NbrEvent, Neighbour, NeighbourState};
+use ospf_neighbour::{Listed, Neighbour, NeighbourState};
 use std::alloc::Global;
 use std::test::Fail;
 
@@ -25,25 +24,6 @@ const THIRD: i32 = -0x7fff_fffd;
 
 // The number after which a router begins again.
 const LAST: i32 = 0x7fff_ffff;
-
-// The router-LSA of a router without links, of this number and age.
-fn lsa_of(alloc: Global, router: u32, number: i32, age: u16) -> Result<Lsa, Fail> {
-    let mut lsa = Lsa::router(alloc, RouterId(router), number, &[])?;
-    lsa.set_age(Age::new(age));
-    Ok(lsa)
-}
-
-fn header_of(alloc: Global, router: u32, number: i32) -> Result<LsaHeader, Fail> {
-    Ok(lsa_of(alloc, router, number, 0)?.view().header())
-}
-
-fn key_of(router: u32) -> LsaKey {
-    LsaKey {
-        kind: Kind::Router,
-        id: router,
-        router: RouterId(router),
-    }
-}
 
 fn instance_of(router: u32, header: LsaHeader) -> Instance {
     Instance {
@@ -58,19 +38,6 @@ fn database_of(alloc: Global, number: i32, age: u16, by_flooding: bool) -> Resul
     let mut database = Lsdb::new(alloc);
     database.install(lsa_of(alloc, 7, number, age)?, 5, by_flooding)?;
     Ok(database)
-}
-
-// A neighbour in Exchange.
-fn neighbour(alloc: Global, router: u32) -> Neighbour {
-    let mut neighbour = Neighbour::new(alloc, RouterId(router), Addr(router));
-    for event in [
-        NbrEvent::HelloReceived,
-        NbrEvent::TwoWayReceived(true),
-        NbrEvent::NegotiationDone,
-    ] {
-        neighbour.event(event, 40);
-    }
-    neighbour
 }
 
 // A neighbour in Exchange that has described router 7's LSA of this number.

@@ -1,5 +1,6 @@
 //! Shortest paths that are kept while edges come and go, beside searches of all edges.
 
+use super::edges::edge;
 use ospf_base::{Addr, RouterId};
 use ospf_graph::{
     Edge, NextHop, ShortestPaths, Start, Vertex, distance_at, shortest_paths, starts_at,
@@ -17,15 +18,6 @@ const ROOT: Vertex = Vertex::Router(RouterId(0));
 
 fn router(id: u32) -> Vertex {
     Vertex::Router(RouterId(id))
-}
-
-fn edge(from: Vertex, to: Vertex, cost: u16, link_data: u32) -> Edge {
-    Edge {
-        to,
-        from,
-        cost,
-        link_data,
-    }
 }
 
 // An edge between two routers, from a router to a network, or from a network to a router. Costs are small, so

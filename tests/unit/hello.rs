@@ -1,45 +1,18 @@
 //! Hellos of one link, and its timers.
 
+use super::made::require;
+use super::wired::{LOCAL, OWN, count, iface};
 use ospf_adjacency::{
     OnLink, Post, go_down, go_up, hello_on, is_at, is_named, is_settled, place_for, send_due_hello,
     send_hello, tick_neighbours, tick_timers,
 };
 use ospf_area::{Outputs, Own};
 use ospf_base::{ALL_SPF_ROUTERS, Addr, AreaId, InterfaceKind, RouterId};
-use ospf_exchange::Local;
-use ospf_iface::{Iface, IfaceSettings, IfaceState};
+use ospf_iface::{Iface, IfaceState};
 use ospf_neighbour::{NbrEvent, Neighbour, NeighbourState};
 use ospf_packet::{Body, BodyValue, Hello, Packet, PacketValue, write_packet};
 use std::alloc::Global;
 use std::test::Fail;
-
-const OWN: RouterId = RouterId(1);
-
-fn iface(kind: InterfaceKind, state: IfaceState) -> Iface {
-    Iface {
-        settings: IfaceSettings {
-            router: OWN,
-            kind,
-            address: Addr(1),
-            mask: 0xffff_ff00,
-            priority: 1,
-            hello: 10,
-            dead: 40,
-        },
-        state,
-        dr: Addr::NOWHERE,
-        backup: Addr::NOWHERE,
-        wait: 0,
-        hello_in: 10,
-    }
-}
-
-const LOCAL: Local = Local {
-    router: OWN,
-    mtu: 1500,
-    tick: 7,
-    passes_over: false,
-};
 
 fn hello(priority: u8, dr: Addr, backup: Addr) -> Hello {
     Hello {
@@ -72,15 +45,6 @@ fn sent(post: Post, link: &Iface, alloc: Global) -> Result<(Outputs, u32), Fail>
     let number = post.next();
     post.send_all(&mut out, own, 0, link)?;
     Ok((out, number))
-}
-
-// How many datagrams have gone out.
-fn count(out: &Outputs) -> usize {
-    out.sent().len()
-}
-
-fn require(holds: bool) -> Result<(), Fail> {
-    if holds { Ok(()) } else { Err("not so".into()) }
 }
 
 // A neighbour that has been heard, or that has heard the router too.

@@ -1,20 +1,21 @@
 //! Two routers over one link, each call by hand: what the tests in the files of `links/` start from.
 
+use super::made::{FIRST, FIRST_NUMBER, SECOND};
+use super::wired::area_of;
+use super::written::bytes_of;
 use ospf_area::{Area, Link, LinkSettings, Origin, Outputs, Sent, origin_of, own_of};
 use ospf_base::{Addr, AreaId, InterfaceKind, RouterId};
 use ospf_iface::{Iface, IfaceSettings, IfaceState};
 use ospf_links::{
     count_timers, repeat_all, send_hellos, take_description, take_hello, take_request, take_up,
 };
-use ospf_lsa::{Link as LsaLink, LinkKind, Lsa};
-use ospf_lsdb::Lsdb;
+use ospf_lsa::Lsa;
 use ospf_neighbour::{NeighbourState, Neighbours};
 use ospf_packet::{
     Body, BodyValue, Description, Headers, Hello, Lsas, Neighbours as Named, Packet, PacketValue,
     Requests, write_packet,
 };
 use std::alloc::{AllocError, Global};
-use std::collections::BTreeSet;
 use std::test::Fail;
 
 mod down;
@@ -22,22 +23,6 @@ mod exchange;
 mod lan;
 mod posted;
 mod timers;
-
-// The first Hello of 1.1.1.1.
-static HELLO: &str = "0201002c 01010101 00000000 f9a0 0000 0000000000000000
-    fffffffc 000a 02 01 00000028 00000000 00000000";
-
-// The Update of 1.1.1.1 with its router-LSA at age 1.
-static UPDATE: &str = "0204004c 01010101 00000000 7730 0000 0000000000000000 00000001
-    0001 0201 01010101 01010101 80000001 e22c 0030 00000002
-    02020202 0a000001 0100000a 0a000000 fffffffc 0300000a";
-
-const FIRST: RouterId = RouterId(0x0101_0101);
-
-const SECOND: RouterId = RouterId(0x0202_0202);
-
-// 0x80000001, the number that a router uses first.
-const FIRST_NUMBER: i32 = -0x7fff_ffff;
 
 // ---- routers
 
@@ -76,22 +61,7 @@ fn router_of(
     };
     let mut links = Vec::new(alloc);
     links.push(link)?;
-    let area = Area {
-        router: settings.router,
-        area: AreaId(0),
-        stub_router: false,
-        passes_over: false,
-        links,
-        database: Lsdb::new(alloc),
-        direct: Vec::new(alloc),
-        numbering: Vec::new(alloc),
-        floor: i32::MIN,
-        tick: 0,
-        next_dd,
-        sent: BTreeSet::new(alloc),
-        heard: Vec::new(alloc),
-        greatest: i32::MIN,
-    };
+    let area = area_of(alloc, settings.router, links, 0, next_dd);
     Ok(Router {
         area,
         out: Outputs::new(alloc),
@@ -260,23 +230,6 @@ fn stands(
         && count_sent(router) == count
 }
 
-// The bytes of a hexadecimal text, whose spaces and ends of lines mean nothing.
-fn bytes_of(alloc: Global, text: &str) -> Result<Vec<u8>, AllocError> {
-    let mut bytes = Vec::new(alloc);
-    let mut high = None;
-    for digit in text.chars().filter_map(|c| c.to_digit(16)) {
-        let digit = (digit % 16) as u8;
-        match high {
-            None => high = Some(digit),
-            Some(first) => {
-                bytes.push(digit.wrapping_add(first.wrapping_mul(16)))?;
-                high = None;
-            }
-        }
-    }
-    Ok(bytes)
-}
-
 // Whether a datagram that a router has sent has these bytes.
 fn is_sent(router: &Router, place: usize, text: &str, alloc: Global) -> Result<bool, AllocError> {
     let bytes = bytes_of(alloc, text)?;
@@ -375,20 +328,7 @@ fn sends(router: &Router, place: usize, wanted: &[Says]) -> Result<bool, Fail> {
 
 // The router-LSA of a router on the link between 1.1.1.1 and 2.2.2.2.
 fn lsa_of(alloc: Global, router: RouterId, other: RouterId, address: u32) -> Result<Lsa, Fail> {
-    let links = [
-        LsaLink {
-            id: other.0,
-            link_data: address,
-            kind: LinkKind::PointToPoint,
-            metric: 10,
-        },
-        LsaLink {
-            id: 0x0a00_0000,
-            link_data: 0xffff_fffc,
-            kind: LinkKind::Stub,
-            metric: 10,
-        },
-    ];
+    let links = super::made::linked(other, address);
     Ok(Lsa::router(alloc, router, FIRST_NUMBER, &links)?)
 }
 

@@ -1,5 +1,6 @@
 //! LSAs that were computed elsewhere, recency at its edges, and listings.
 
+use super::made::{FIRST_NUMBER, draw, linked};
 use ospf_base::{Age, Kind, LsaKey, RouterId};
 use ospf_lsa::{
     Link, LinkKind, Listing, ListingFault, Lsa, LsaFault, LsaHeader, LsaView, Recency, newer,
@@ -29,24 +30,8 @@ const NETWORK: [u8; 32] = [
     0x29, 0x10, 0x00, 0x20, 0xff, 0xff, 0xff, 0x00, 0x01, 0x01, 0x01, 0x01, 0x02, 0x02, 0x02, 0x02,
 ];
 
-// The number that a router uses first.
-const FIRST_NUMBER: i32 = -0x7fff_ffff;
-
 fn first_links() -> [Link; 2] {
-    [
-        Link {
-            id: 0x0202_0202,
-            link_data: 0x0a00_0001,
-            kind: LinkKind::PointToPoint,
-            metric: 10,
-        },
-        Link {
-            id: 0x0a00_0000,
-            link_data: 0xffff_fffc,
-            kind: LinkKind::Stub,
-            metric: 10,
-        },
-    ]
+    linked(RouterId(0x0202_0202), 0x0a00_0001)
 }
 
 #[test]
@@ -377,14 +362,6 @@ fn puts_none_that_leaves(rt: HostRuntime) -> Result<(), Fail> {
     assert!(rt; listing.lsas().len() == 1);
     assert!(rt; listing.lsas()[0].view().header().age == Age::new(3599));
     Ok(())
-}
-
-// The next number drawn.
-fn draw(drawn: &mut u64, below: u32) -> u32 {
-    *drawn = drawn
-        .wrapping_mul(6_364_136_223_846_793_005)
-        .wrapping_add(1_442_695_040_888_963_407);
-    (*drawn >> 33) as u32 % below
 }
 
 #[test]

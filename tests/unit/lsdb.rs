@@ -1,6 +1,7 @@
 //! Ages that come to LSRefreshTime and MaxAge, what a database lists, and a database beside a plain one.
 
-use ospf_base::{Age, Kind, LsaKey, MAX_AGE, RouterId};
+use super::made::{FIRST_NUMBER, key_of};
+use ospf_base::{Age, MAX_AGE};
 use ospf_lsa::Lsa;
 use ospf_lsdb::{LS_REFRESH_TIME, Lsdb};
 use rand_core::utils::NextWord;
@@ -15,22 +16,9 @@ use self::plain::{PlainAnswer, PlainLsdb};
 // How many routers have LSAs in the two databases.
 const ROUTERS: u32 = 8;
 
-// The number that a router uses first.
-const FIRST_NUMBER: i32 = -0x7fff_ffff;
-
 // The router-LSA of a router without links, at an age.
 fn lsa_of(alloc: Global, router: u32, age: u16) -> Result<Lsa, Fail> {
-    let mut lsa = Lsa::router(alloc, RouterId(router), FIRST_NUMBER, &[])?;
-    lsa.set_age(Age::new(age));
-    Ok(lsa)
-}
-
-fn key_of(router: u32) -> LsaKey {
-    LsaKey {
-        kind: Kind::Router,
-        id: router,
-        router: RouterId(router),
-    }
+    super::made::lsa_of(alloc, router, FIRST_NUMBER, age)
 }
 
 // How many keys came to an age at the last tick.

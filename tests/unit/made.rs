@@ -1,7 +1,15 @@
-//! Links of router-LSAs, for the tests of what reads listings.
+//! Router-LSAs, their links and keys, and numbers that are drawn.
 
-use ospf_base::RouterId;
-use ospf_lsa::{Link, LinkKind};
+use ospf_base::{Age, Kind, LsaKey, RouterId};
+use ospf_lsa::{Link, LinkKind, Lsa, LsaHeader};
+use std::alloc::Global;
+use std::test::Fail;
+
+pub(crate) const FIRST: RouterId = RouterId(0x0101_0101);
+
+pub(crate) const SECOND: RouterId = RouterId(0x0202_0202);
+
+pub(crate) const THIRD: RouterId = RouterId(0x0303_0303);
 
 /// The number that a router uses first.
 pub(crate) const FIRST_NUMBER: i32 = -0x7fff_ffff;
@@ -24,4 +32,43 @@ pub(crate) fn to(router: RouterId, address: u32, metric: u16) -> Link {
 /// The type 3 link of a prefix.
 pub(crate) fn stub(address: u32, mask: u32, metric: u16) -> Link {
     link(LinkKind::Stub, address, mask, metric)
+}
+
+/// The links of a router at this address on the link between 1.1.1.1 and 2.2.2.2: to the other, and of the prefix.
+pub(crate) fn linked(other: RouterId, address: u32) -> [Link; 2] {
+    [to(other, address, 10), stub(0x0a00_0000, 0xffff_fffc, 10)]
+}
+
+/// A key of router-LSAs.
+pub(crate) fn key_of(router: u32) -> LsaKey {
+    LsaKey {
+        kind: Kind::Router,
+        id: router,
+        router: RouterId(router),
+    }
+}
+
+/// The router-LSA of a router without links, of this number and age.
+pub(crate) fn lsa_of(alloc: Global, router: u32, number: i32, age: u16) -> Result<Lsa, Fail> {
+    let mut lsa = Lsa::router(alloc, RouterId(router), number, &[])?;
+    lsa.set_age(Age::new(age));
+    Ok(lsa)
+}
+
+/// The header of one at age 0.
+pub(crate) fn header_of(alloc: Global, router: u32, number: i32) -> Result<LsaHeader, Fail> {
+    Ok(lsa_of(alloc, router, number, 0)?.view().header())
+}
+
+/// The next number drawn.
+pub(crate) fn draw(drawn: &mut u64, below: u32) -> u32 {
+    *drawn = drawn
+        .wrapping_mul(6_364_136_223_846_793_005)
+        .wrapping_add(1_442_695_040_888_963_407);
+    (*drawn >> 33) as u32 % below
+}
+
+/// Ends a test where something does not hold.
+pub(crate) fn require(holds: bool) -> Result<(), Fail> {
+    if holds { Ok(()) } else { Err("not so".into()) }
 }

@@ -1,10 +1,12 @@
 //! The table of the state machine, each pair of state and event, a neighbour's lists, and the neighbours of an interface.
 
+use super::made::key_of;
+use super::wired::in_exchange;
 use ospf_base::{Addr, Age, Instance, Kind, LsaKey, RouterId};
 use ospf_lsa::LsaHeader;
 use ospf_neighbour::{
-    Effect, Listed, MAX_NEIGHBOURS, NbrEvent, Neighbour, NeighbourFault, NeighbourState,
-    Neighbours, transition,
+    Effect, Listed, MAX_NEIGHBOURS, NbrEvent, Neighbour, NeighbourFault, NeighbourState, Neighbours,
+    transition,
 };
 use std::alloc::Global;
 use std::fmt::Write;
@@ -269,27 +271,6 @@ fn refusals_are_printed(rt: HostRuntime) -> Result<(), Fail> {
     write!(text, "{}; {}", NeighbourFault::Full, NeighbourFault::Memory)?;
     assert_eq!(rt; text.as_str(), "N1 Full; N2 Memory");
     Ok(())
-}
-
-// A neighbour in Exchange.
-fn in_exchange(alloc: Global, id: u32) -> Neighbour {
-    let mut neighbour = neighbour(alloc, id);
-    for event in [
-        NbrEvent::HelloReceived,
-        NbrEvent::TwoWayReceived(true),
-        NbrEvent::NegotiationDone,
-    ] {
-        let _ = neighbour.event(event, 40);
-    }
-    neighbour
-}
-
-fn key_of(router: u32) -> LsaKey {
-    LsaKey {
-        kind: Kind::Router,
-        id: router,
-        router: RouterId(router),
-    }
 }
 
 fn instance_of(router: u32, number: i32) -> Instance {

@@ -1,6 +1,8 @@
 //! Packets that were computed elsewhere, and packets of other routers.
 
-use ospf_base::{Addr, Age, AreaId, RouterId};
+use super::made::{FIRST, SECOND};
+use super::written::{DESCRIPTION, HELLO, REQUEST, UPDATE, bytes_of};
+use ospf_base::{Addr, Age, AreaId};
 use ospf_lsa::{Lsa, LsaHeader, LsaView};
 use ospf_packet::{
     Body, BodyValue, Description, Hello, LARGEST_PACKET, Lsas, Packet, PacketFault, PacketValue,
@@ -12,44 +14,6 @@ use std::test::Fail;
 // The Acknowledgment of 2.2.2.2 for the router-LSA of 1.1.1.1.
 static ACKNOWLEDGMENT: &str = "0205002c 02020202 00000000 9167 0000 0000000000000000
     0000 0201 01010101 01010101 80000001 e22c 0030";
-
-// The Request of 1.1.1.1 for the router-LSA of 2.2.2.2.
-static REQUEST: &str = "02030024 01010101 00000000 f3cd 0000 0000000000000000
-    00000001 02020202 02020202";
-
-// The first Hello of 1.1.1.1.
-static HELLO: &str = "0201002c 01010101 00000000 f9a0 0000 0000000000000000
-    fffffffc 000a 02 01 00000028 00000000 00000000";
-
-// The first Database Description of 2.2.2.2.
-static DESCRIPTION: &str = "02020020 02020202 00000000 f12e 0000 0000000000000000
-    05dc 02 07 000000c8";
-
-// The Update of 1.1.1.1 with its router-LSA at age 1.
-static UPDATE: &str = "0204004c 01010101 00000000 7730 0000 0000000000000000 00000001
-    0001 0201 01010101 01010101 80000001 e22c 0030 00000002
-    02020202 0a000001 0100000a 0a000000 fffffffc 0300000a";
-
-const FIRST: RouterId = RouterId(0x0101_0101);
-
-const SECOND: RouterId = RouterId(0x0202_0202);
-
-// The bytes of a hexadecimal text, whose spaces and ends of lines mean nothing.
-fn bytes_of(alloc: Global, text: &str) -> Result<Vec<u8>, AllocError> {
-    let mut bytes = Vec::new(alloc);
-    let mut high = None;
-    for digit in text.chars().filter_map(|c| c.to_digit(16)) {
-        let digit = (digit % 16) as u8;
-        match high {
-            None => high = Some(digit),
-            Some(first) => {
-                bytes.push(digit.wrapping_add(first.wrapping_mul(16)))?;
-                high = None;
-            }
-        }
-    }
-    Ok(bytes)
-}
 
 // The LSAs in memory of their own.
 fn owned_lsas(alloc: Global, slices: Lsas) -> Result<Vec<Lsa>, Fail> {

@@ -4,7 +4,7 @@ use super::failing::Failing;
 use ospf_check::{check_area_text, check_text};
 use ospf_config::Config;
 use ospf_files::{NamedFile, Status};
-use ospf_plan::{findings, is_slow, AreaFault, Told};
+use ospf_plan::{AreaFault, Told, findings, is_slow};
 use std::alloc::{AllocError, Global};
 use std::test::Fail;
 

@@ -1,15 +1,13 @@
 //! Each cause that a datagram is dropped for.
 
+use super::wired::{LOCAL, OWN, iface_at};
 use ospf_base::{ALL_D_ROUTERS, ALL_SPF_ROUTERS, Addr, AreaId, InterfaceKind, RouterId};
-use ospf_exchange::Local;
-use ospf_iface::{Iface, IfaceSettings, IfaceState};
+use ospf_iface::{Iface, IfaceState};
 use ospf_neighbour::{NbrEvent, Neighbour};
 use ospf_packet::{BodyValue, Description, Hello, PacketValue, write_packet};
 use ospf_step::{Dropped, receive};
 use std::alloc::Global;
 use std::test::Fail;
-
-const OWN: RouterId = RouterId(1);
 
 const AREA: AreaId = AreaId(0);
 
@@ -21,30 +19,8 @@ const THERE: Addr = Addr(0x0a00_0002);
 const NEW: Addr = Addr(0x0a00_0003);
 
 fn iface(kind: InterfaceKind, state: IfaceState) -> Iface {
-    Iface {
-        settings: IfaceSettings {
-            router: OWN,
-            kind,
-            address: HERE,
-            mask: 0xffff_ff00,
-            priority: 1,
-            hello: 10,
-            dead: 40,
-        },
-        state,
-        dr: Addr::NOWHERE,
-        backup: Addr::NOWHERE,
-        wait: 0,
-        hello_in: 10,
-    }
+    iface_at(HERE, kind, state)
 }
-
-const LOCAL: Local = Local {
-    router: OWN,
-    mtu: 1500,
-    tick: 7,
-    passes_over: false,
-};
 
 // Router 2 in 2-Way, at its address.
 fn neighbour(alloc: Global) -> Neighbour {

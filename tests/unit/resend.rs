@@ -1,10 +1,12 @@
 //! Requests that are answered, repeats, and Database Descriptions over an MTU of 576.
 
+use super::made::{key_of, require};
+use super::wired::count;
 use ospf_adjacency::{
     OnLink, Post, repeat, request_turn, take_description, take_event, take_request,
 };
 use ospf_area::{Outputs, Own, Sent};
-use ospf_base::{Addr, Age, AreaId, Instance, InterfaceKind, Kind, LsaKey, RouterId};
+use ospf_base::{Addr, AreaId, Instance, InterfaceKind, RouterId};
 use ospf_exchange::Local;
 use ospf_iface::{Iface, IfaceSettings, IfaceState};
 use ospf_lsa::{Lsa, LsaHeader, LsaView};
@@ -29,10 +31,6 @@ const LOCAL: Local = Local {
     tick: 7,
     passes_over: false,
 };
-
-fn require(holds: bool) -> Result<(), Fail> {
-    if holds { Ok(()) } else { Err("not so".into()) }
-}
 
 fn at_tick(tick: u64) -> Local {
     Local { tick, ..LOCAL }
@@ -80,17 +78,7 @@ fn send(post: Post, out: &mut Outputs) -> Result<(), Fail> {
 
 // The router-LSA of a router without links, ten ticks old.
 fn lsa_of(alloc: Global, router: u32) -> Result<Lsa, Fail> {
-    let mut lsa = Lsa::router(alloc, RouterId(router), FIRST, &[])?;
-    lsa.set_age(Age::new(10));
-    Ok(lsa)
-}
-
-fn key_of(router: u32) -> LsaKey {
-    LsaKey {
-        kind: Kind::Router,
-        id: router,
-        router: RouterId(router),
-    }
+    super::made::lsa_of(alloc, router, FIRST, 10)
 }
 
 // A database with the router-LSAs of the routers up to this one.
@@ -261,11 +249,6 @@ fn repeats(
 }
 
 // ---- what goes out
-
-// How many datagrams have gone out.
-fn count(out: &Outputs) -> usize {
-    out.sent().len()
-}
 
 fn last_bytes(out: &Outputs) -> Result<&[u8], Fail> {
     let last = out.sent().last().ok_or("nothing sent")?;

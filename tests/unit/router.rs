@@ -1,9 +1,5 @@
 //! Two routers on a link, whose datagrams are passed by hand; what is dropped; one that stops.
 
-mod answers;
-mod crafted;
-mod hostile;
-
 use answers::{Answers, is_silent};
 use hex::decode;
 use ospf_base::{Addr, RouterId};
@@ -14,6 +10,10 @@ use std::alloc::Global;
 use std::collections::VecDeque;
 use std::fmt::Write;
 use std::test::Fail;
+
+mod answers;
+mod crafted;
+mod hostile;
 
 const FIRST: &str =
     "router_id = \"1.1.1.1\"\narea = \"0.0.0.0\"\n[[interface]]\nkind = \"point-to-point\"\naddress = \"10.0.0.1/30\"\ncost = 10\n";

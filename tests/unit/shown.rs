@@ -2,8 +2,8 @@
 
 use ospf_base::{Addr, Prefix, RouterId};
 use ospf_fib::Answer;
-use ospf_graph::{Hops, NextHop, Route};
 use ospf_files::{FailedStreams, print_lookup, print_routes};
+use ospf_graph::{Hops, NextHop, Route};
 use std::test::Fail;
 
 static LINES: &str = "10.0.0.0/30 10 attached

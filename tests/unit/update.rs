@@ -1,15 +1,15 @@
 //! A router with two links and three neighbours: what the tests in the files of `update/` start from.
 
-use ospf_area::{Area, Link, LinkSettings, Origin, Outputs, origin_of};
-use ospf_base::{Addr, Age, AreaId, InterfaceKind, RouterId};
+use super::made::lsa_of;
+use super::wired::{area_of, neighbour, waiting};
+use ospf_area::{Area, Link, LinkSettings, Origin, Outputs};
+use ospf_base::{Addr, AreaId, InterfaceKind, RouterId};
 use ospf_iface::{Iface, IfaceSettings, IfaceState};
 use ospf_lsa::{Lsa, LsaHeader};
-use ospf_lsdb::Lsdb;
-use ospf_neighbour::{NbrEvent, Neighbour, Neighbours};
+use ospf_neighbour::Neighbours;
 use ospf_packet::{Body, BodyValue, Packet, PacketValue, write_packet};
 use ospf_update::{on_update, store};
 use std::alloc::Global;
-use std::collections::BTreeSet;
 use std::test::Fail;
 
 mod acknowledgements;
@@ -46,35 +46,7 @@ const FROM_THIRD: Origin = Origin {
     address: Addr(3),
 };
 
-fn require(holds: bool) -> Result<(), Fail> {
-    if holds { Ok(()) } else { Err("not so".into()) }
-}
-
-// The router-LSA of a router without links, of this number and age.
-fn lsa_of(alloc: Global, router: u32, number: i32, age: u16) -> Result<Lsa, Fail> {
-    let mut lsa = Lsa::router(alloc, RouterId(router), number, &[])?;
-    lsa.set_age(Age::new(age));
-    Ok(lsa)
-}
-
 // ---- a router
-
-// A neighbour in Full, or one in Loading that has described these.
-fn neighbour(alloc: Global, router: u32, described: &[LsaHeader]) -> Result<Neighbour, Fail> {
-    let mut neighbour = Neighbour::new(alloc, RouterId(router), Addr(router));
-    for event in [
-        NbrEvent::HelloReceived,
-        NbrEvent::TwoWayReceived(true),
-        NbrEvent::NegotiationDone,
-    ] {
-        neighbour.event(event, 40);
-    }
-    if neighbour.is_exchanging() {
-        neighbour.add_requests(described)?;
-    }
-    neighbour.event(NbrEvent::ExchangeDone, 40);
-    Ok(neighbour)
-}
 
 fn neighbours(alloc: Global, others: &[u32], described: &[LsaHeader]) -> Result<Neighbours, Fail> {
     let mut neighbours = Neighbours::new(alloc);
@@ -145,29 +117,16 @@ fn links(alloc: Global, state: IfaceState, described: &[LsaHeader]) -> Result<Ve
     Ok(links)
 }
 
-fn area_of(alloc: Global, links: Vec<Link>) -> Area {
-    Area {
-        router: OWN,
-        area: AreaId(0),
-        stub_router: false,
-        passes_over: false,
-        links,
-        database: Lsdb::new(alloc),
-        direct: Vec::new(alloc),
-        numbering: Vec::new(alloc),
-        floor: i32::MIN,
-        tick: 7,
-        next_dd: 300,
-        sent: BTreeSet::new(alloc),
-        heard: Vec::new(alloc),
-        greatest: i32::MIN,
-    }
-}
-
 // A router in a state on the broadcast link; neighbour 1 is the Designated Router of it, if the router is not. All are
 // Full, but for neighbour 3 in Loading where it has described this.
 fn area(alloc: Global, state: IfaceState, described: &[LsaHeader]) -> Result<Area, Fail> {
-    Ok(area_of(alloc, links(alloc, state, described)?))
+    Ok(area_of(
+        alloc,
+        OWN,
+        links(alloc, state, described)?,
+        7,
+        300,
+    ))
 }
 
 // Router 7's LSA is installed and flooded, as if it had come from neighbour 3.
@@ -271,14 +230,6 @@ fn delayed(area: &Area) -> usize {
         count = count.wrapping_add(link.delayed.len());
     }
     count
-}
-
-// How many instances wait for the acknowledgement of a neighbour.
-fn waiting(area: &Area, from: Origin) -> usize {
-    match origin_of(&area.links, from) {
-        Some(neighbour) => neighbour.retransmission().len(),
-        None => 99,
-    }
 }
 
 fn all_waiting(area: &Area) -> (usize, usize, usize) {

@@ -1,6 +1,6 @@
 //! What failures do to the tables of a small area.
 
-use super::made::{FIRST_NUMBER, stub, to};
+use super::made::{FIRST, FIRST_NUMBER, SECOND, THIRD, stub, to};
 use ospf_base::{Addr, Prefix, RouterId};
 use ospf_graph::{NextHop, Route};
 use ospf_lsa::{Link, Listing, Lsa};
@@ -9,9 +9,6 @@ use ospf_whatif::{Failure, Loss, RouteChange, effect_of, single_failures, withou
 use std::alloc::Global;
 use std::test::Fail;
 
-const FIRST: RouterId = RouterId(0x0101_0101);
-const SECOND: RouterId = RouterId(0x0202_0202);
-const THIRD: RouterId = RouterId(0x0303_0303);
 const LAST: RouterId = RouterId(0x0404_0404);
 
 // The type 3 link of such an interface.

@@ -1,10 +1,5 @@
 //! Two routers on a link, stepped by world events that are written by hand.
 
-mod acknowledged;
-mod collisions;
-mod random;
-mod restarts;
-
 use super::given::{CONFIG, FIRST, SECOND};
 use super::worlds::{start, two_on_a_link, two_that_run};
 use ospf_base::RouterId;
@@ -12,6 +7,11 @@ use ospf_config::Config;
 use ospf_world::{World, WorldEvent, WorldFault};
 use std::alloc::Global;
 use std::test::Fail;
+
+mod acknowledged;
+mod collisions;
+mod random;
+mod restarts;
 
 const NOBODY: RouterId = RouterId(0x0909_0909);
 

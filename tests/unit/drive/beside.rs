@@ -12,8 +12,7 @@ use std::collections::VecDeque;
 use std::sync::atomic::{AtomicU64, Ordering};
 use std::sync::{Mutex, Wait};
 use std::test::Fail;
-use std::thread;
-use std::thread::{Threads, join};
+use std::thread::{self, Threads, join};
 
 // The router at the other end of the link; it has a network of its own too.
 const SECOND: &str =

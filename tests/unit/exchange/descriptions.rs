@@ -1,8 +1,9 @@
 //! Which Database Descriptions are taken, and what goes out for them.
 
+use super::super::made::{FIRST_NUMBER, header_of, lsa_of};
+use super::super::wired::description;
 use super::{
-    FIRST_NUMBER, HIGH, HIGH_NUMBER, Heard, LOW, LOW_NUMBER, at_tick, description, filled,
-    header_of, hear, install, lsa_of, slave, starting,
+    HIGH, HIGH_NUMBER, Heard, LOW, LOW_NUMBER, at_tick, filled, hear, install, slave, starting,
 };
 use ospf_exchange::{DdAnswer, ExchangeFault, Local};
 use ospf_lsa::LsaHeader;

@@ -1,9 +1,8 @@
 //! Which LSAs are requested of a neighbour, and what its Requests are answered.
 
-use super::{
-    FIRST_NUMBER, HIGH, LOW, at_tick, bytes_of, description, filled, header_of, hear, install,
-    slave, starting,
-};
+use super::super::made::{FIRST_NUMBER, header_of};
+use super::super::wired::description;
+use super::{HIGH, LOW, at_tick, bytes_of, filled, hear, install, slave, starting};
 use ospf_base::{Kind, LsaKey, RouterId};
 use ospf_exchange::{ExchangeFault, is_request_due, is_request_repeat_due, next_request, on_request};
 use ospf_lsa::LsaHeader;

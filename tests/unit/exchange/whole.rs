@@ -1,9 +1,8 @@
 //! When a Database Description is repeated, and whole exchanges of two neighbours.
 
-use super::{
-    FIRST_NUMBER, HIGH, HIGH_NUMBER, Heard, LOW, LOW_NUMBER, at_tick, description, filled,
-    header_of, hear, slave, starting,
-};
+use super::super::made::{FIRST_NUMBER, header_of};
+use super::super::wired::description;
+use super::{HIGH, HIGH_NUMBER, Heard, LOW, LOW_NUMBER, at_tick, filled, hear, slave, starting};
 use ospf_exchange::{DdAnswer, Local, dd_sent, is_dd_due};
 use ospf_lsdb::Lsdb;
 use ospf_neighbour::{Neighbour, NeighbourState};

@@ -10,8 +10,7 @@ use std::alloc::Global;
 use std::sync::Wait;
 use std::sync::atomic::{AtomicU64, Ordering};
 use std::test::Fail;
-use std::thread;
-use std::thread::{Threads, join};
+use std::thread::{self, Threads, join};
 
 // How many tables are published, of how many routes, and how many different ones there are.
 const PUBLISHED: u64 = 500;

@@ -1,8 +1,8 @@
 //! A link that goes down, and one that is not there.
 
+use super::super::made::SECOND;
 use super::{
-    FROM_SECOND, Pair, Router, SECOND, are_in, are_same, counts_sent, goes_up, met, stands,
-    to_first,
+    FROM_SECOND, Pair, Router, are_in, are_same, counts_sent, goes_up, met, stands, to_first,
 };
 use ospf_area::Origin;
 use ospf_base::Addr;

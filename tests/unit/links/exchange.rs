@@ -1,22 +1,16 @@
 //! Two routers meet over a link, and exchange their databases.
 
+use super::super::made::FIRST_NUMBER;
+use super::super::written::{DESCRIPTION, HELLO, REQUEST, UPDATE};
 use super::{
-    FIRST_NUMBER, FROM_FIRST, HELLO, Pair, Router, Says, To, UPDATE, are_in, are_same, count_marked,
-    counts_sent, describes, is_in, is_sent, linked, meet, met, pass_all, sends, wait_for,
+    FROM_FIRST, Pair, Router, Says, To, are_in, are_same, count_marked, counts_sent, describes,
+    is_in, is_sent, linked, meet, met, pass_all, sends, wait_for,
 };
 use ospf_base::RouterId;
 use ospf_lsa::Lsa;
 use ospf_neighbour::NeighbourState;
 use std::alloc::Global;
 use std::test::Fail;
-
-// The first Database Description of 2.2.2.2.
-static DESCRIPTION: &str = "02020020 02020202 00000000 f12e 0000 0000000000000000
-    05dc 02 07 000000c8";
-
-// The Request of 1.1.1.1 for the router-LSA of 2.2.2.2.
-static REQUEST: &str = "02030024 01010101 00000000 f3cd 0000 0000000000000000
-    00000001 02020202 02020202";
 
 fn next_dd(router: &Router) -> u32 {
     router.area.next_dd

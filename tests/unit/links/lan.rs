@@ -1,8 +1,9 @@
 //! The elections of a LAN.
 
+use super::super::made::{FIRST, SECOND, THIRD};
 use super::{
-    FIRST, Router, SECOND, Says, describes, goes_up, hears, iface_state, is_in, router_of, sends,
-    sends_to, stands, ticks,
+    Router, Says, describes, goes_up, hears, iface_state, is_in, router_of, sends, sends_to, stands,
+    ticks,
 };
 use ospf_area::{Link, Origin};
 use ospf_base::{Addr, AreaId, InterfaceKind, RouterId};
@@ -12,8 +13,6 @@ use ospf_neighbour::NeighbourState;
 use ospf_packet::{Body, BodyValue, Hello, Packet, PacketValue, write_packet};
 use std::alloc::Global;
 use std::test::Fail;
-
-const THIRD: RouterId = RouterId(0x0303_0303);
 
 // An interface at 10.1.0.0/24.
 fn broadcast(router: RouterId, address: u32, priority: u8) -> IfaceSettings {

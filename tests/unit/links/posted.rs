@@ -1,8 +1,8 @@
 //! Packets that are posted on a link.
 
-use super::{
-    FIRST, FROM_SECOND, HELLO, Router, are_same, is_sent, point_to_point, router_of, sends_to,
-};
+use super::super::made::FIRST;
+use super::super::written::HELLO;
+use super::{FROM_SECOND, Router, are_same, is_sent, point_to_point, router_of, sends_to};
 use ospf_adjacency::Post;
 use ospf_area::own_of;
 use ospf_base::{ALL_SPF_ROUTERS, Addr};

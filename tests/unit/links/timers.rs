@@ -1,8 +1,10 @@
 //! What two routers repeat on a link, and a neighbour that falls silent.
 
+use super::super::made::{FIRST, SECOND};
+use super::super::written::UPDATE;
 use super::{
-    FIRST, FROM_SECOND, Pair, Router, SECOND, To, UPDATE, are_same, count_marked, counts_sent,
-    is_sent, lsa_of, met, neighbour_state, pass, wait_for,
+    FROM_SECOND, Pair, Router, To, are_same, count_marked, counts_sent, is_sent, lsa_of, met,
+    neighbour_state, pass, wait_for,
 };
 use ospf_area::{flood, own_of};
 use ospf_links::count_timers;

@@ -1,6 +1,7 @@
 //! Acknowledgments that come, and those that go out.
 
-use super::{FIRST, FROM_FIRST, SECOND, all_waiting, area, header_of, headers_in, lsa_of, stores};
+use super::super::made::lsa_of;
+use super::{FIRST, FROM_FIRST, SECOND, all_waiting, area, header_of, headers_in, stores};
 use ospf_area::{Link, Outputs, Own, own_of, way_out};
 use ospf_base::{Addr, RouterId};
 use ospf_iface::IfaceState;

@@ -1,8 +1,9 @@
 //! The table of acknowledgements, over a link.
 
+use super::super::made::lsa_of;
 use super::{
     FIRST, FROM_FIRST, FROM_SECOND, FROM_THIRD, acknowledged, area, delayed, installs, links,
-    lsa_of, stores, takes,
+    stores, takes,
 };
 use ospf_area::{Area, Origin, Outputs, answer_at};
 use ospf_base::MAX_AGE;

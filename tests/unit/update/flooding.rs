@@ -1,8 +1,9 @@
 //! What an Update does on two links with three neighbours: it is flooded, or answered where it is older.
 
+use super::super::made::{lsa_of, require};
 use super::{
     FIRST, FROM_SECOND, FROM_THIRD, SECOND, all_waiting, area, counts, delayed, headers_in, holding,
-    lsa_of, require, takes,
+    takes,
 };
 use ospf_area::{Area, Origin, Outputs, own_of};
 use ospf_base::{ALL_SPF_ROUTERS, Addr};

@@ -1,8 +1,9 @@
 //! LSAs that expire or are flushed, and leave.
 
+use super::super::made::{lsa_of, require};
 use super::{
     FIRST, FROM_FIRST, FROM_SECOND, FROM_THIRD, all_waiting, area, header_of, holding, installs,
-    loading_area, lsa_of, require,
+    loading_area,
 };
 use ospf_area::{Area, Numbering, Outputs};
 use ospf_base::{Age, Instance, Kind, LsaKey, MAX_AGE, RouterId};

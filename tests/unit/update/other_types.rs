@@ -1,6 +1,7 @@
 //! LSAs of types that a router passes over.
 
-use super::{FIRST, FROM_FIRST, acknowledged, area, delayed, lsa_of, takes_bytes, update_of};
+use super::super::made::lsa_of;
+use super::{FIRST, FROM_FIRST, acknowledged, area, delayed, takes_bytes, update_of};
 use ospf_area::Outputs;
 use ospf_base::{lsa_sum, packet_sum};
 use ospf_iface::IfaceState;

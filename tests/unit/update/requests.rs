@@ -1,8 +1,7 @@
 //! Updates that come while a neighbour is asked: one that is no answer, and one of LSAs that the router has.
 
-use super::{
-    FIRST, FROM_THIRD, MTU, SECOND, counts, installs, loading_area, lsa_of, takes_bytes, update_of,
-};
+use super::super::made::lsa_of;
+use super::{FIRST, FROM_THIRD, MTU, SECOND, counts, installs, loading_area, takes_bytes, update_of};
 use ospf_area::{Area, Origin, Outputs, origin_of};
 use ospf_neighbour::NeighbourState;
 use ospf_packet::{Body, Packet};

@@ -1,9 +1,9 @@
 //! Routers that start again. After every step the neighbour told of what is no longer awaited of it, and of what is held and was
 //! never awaited; in the end all are Full, and above a floor nothing collides.
 
+use super::collisions::collide;
 use super::super::given::NO_FLOOR;
 use super::super::worlds::{routers_of, start, three_on_a_network, two_on_a_link};
-use super::collisions::collide;
 use ospf_base::{ALL_D_ROUTERS, ALL_SPF_ROUTERS, Addr, Instance, RouterId};
 use ospf_neighbour::NeighbourState;
 use ospf_world::{World, WorldEvent};
