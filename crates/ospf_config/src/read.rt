@@ -83,9 +83,11 @@ fn config_by_rules(alloc: Global, table: &Table) -> Result<Config, ConfigFault>
 
 // The configuration that a table without faults describes, whose interfaces' values these are.
 fn config_at(alloc: Global, table: &Table, values: &[Value]) -> Result<Config, ConfigFault>
+    // The table has no fault, and the values are those of its interfaces, each a table.
     requires free { (f : ConfigFault) → HasFault (table_view table.now) f → ⊥ }
     requires values { tables_of (items_view values.now) ≡ interface_tables (table_view table.now) }
     requires tables { All (λ v. IsSome (as_table (view v))) values.now }
+    // So it describes a configuration, and memory alone can be wanting.
     ensures ok { IfOk result (IsConfigOf (table_view table.now)) }
     ensures fault { IfErr result (λ f. f ≡ fault.Memory) }
 {

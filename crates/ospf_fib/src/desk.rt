@@ -127,11 +127,13 @@ pub(crate) fn closed<R: Wait>(rt: &R, opened: &Opened, counter: &Counter) -> Sol
 pub(crate) fn show<R: Wait>(copies: Copies, rt: &R) -> (Copies, Result<(), AllocError>)
     requires { (end_of copies.desk.shown.value (drop copies.behind copies.log.items)).list.fib
         ≡ copies.desk.shown.value.known.fib }
+    // Readers find where the log led, under the same place, and nothing is left to hand over.
     ensures shown { IfOk result.1 (λ _. common_of result.0.desk.shown.value
         ≡ end_of copies.desk.shown.value (drop copies.behind copies.log.items)) }
     ensures named { IfOk result.1 (λ _. IsNamed (view result.0.desk.place)
         result.0.desk.shown.value.known.fib) }
     ensures done { IfOk result.1 (λ _. drop result.0.behind result.0.log.items ≡ []) }
+    // Where it is refused they find what they found, and the log waits as it did.
     ensures same { OnErr result.1 ((result.0.desk.shown.value ≡ copies.desk.shown.value)
         × (view result.0.desk.place ≡ view copies.desk.place)) }
     ensures waiting { OnErr result.1 (drop result.0.behind result.0.log.items
@@ -200,9 +202,11 @@ impl OpenDesk {
 
     // Hands changes over. At `Err` nothing was handed over.
     fn hand_over(self, plan: Plan) -> (OpenDesk, Result<(), AllocError>)
+        // The plan is whole: its edit is of its changes, has room, and counts for this table.
         requires edit { plan.edit.changes ≡ plan.changes }
         requires room { length self.end.table + length plan.changes ≤ plan.edit.room }
         requires counter { (arc_value plan.tries).counter ≡ counter_of self.list.fib }
+        // Then the log leads to the edited table, at the end of the same list.
         ensures list { result.0.list ≡ self.list }
         ensures handed { OnOk result.1 (result.0.end.list
             ≡ with_table self.list (edited self.end.table plan.changes)) }
@@ -279,9 +283,11 @@ impl OpenDesk {
 
     // Publishes the table that the changes lead to.
     fn publish<R: Wait>(self, rt: &R, plan: Plan) -> (Desk, Result<Told, AllocError>)
+        // The plan is whole: its edit is of its changes, has room, and counts for this table.
         requires edit { plan.edit.changes ≡ plan.changes }
         requires room { length self.end.table + length plan.changes ≤ plan.edit.room }
         requires counter { (arc_value plan.tries).counter ≡ counter_of self.list.fib }
+        // The list gets the edited table, or stays as it was, and what is told knows it.
         ensures fib { result.0.fib ≡ self.list.fib }
         ensures published { IfOk result.1 (λ _. result.0.tables ≡ self.list.tables
             ++ edited self.end.table plan.changes ∷ []) }

@@ -102,9 +102,11 @@ fn opening_copies<R: Wait>(
     tries: &Arc<Tries>,
     seats: usize,
 ) -> Result<Copies, AllocError>
+    // What is known is the opening table alone.
     requires seats { (1 ≤ seats) × (seats ≤ MAX_SEATS) }
     requires opening { known.now.tables ≡ opening }
     requires counter { (arc_value tries.now).counter ≡ counter_of known.now.fib }
+    // The writer knows its list, which is shown, and the log leads to a table without routes.
     ensures named { IfOk result (λ copies. IsNamed (view copies.desk.place) known.now.fib) }
     ensures shown { IfOk result (λ copies. IsShown copies.desk.shown.value known.now) }
     ensures table { IfOk result (λ copies.
@@ -168,10 +170,12 @@ fn seats_of(
     count: usize,
 ) -> Result<Vec<Seat>, OpenRefused>
     requires { IsNamed (view copies.old.desk.place) known.now.fib }
+    // The copies show what they showed.
     ensures named { IsNamed (view copies.new.desk.place) known.now.fib }
     ensures shown { copies.new.desk.shown ≡ copies.old.desk.shown }
     ensures waiting { drop copies.new.behind copies.new.log.items
         ≡ drop copies.old.behind copies.old.log.items }
+    // There are so many seats, and each knows the list.
     ensures count { IfOk result (λ seats. length seats.items ≡ count) }
     ensures seats { IfOk result (λ seats. All (λ seat. seat ≡ known.now) seats.items) }
 {
@@ -185,10 +189,12 @@ fn seats_of(
 // A seat at the copies, which is told which list they show.
 fn seat_of(copies: &mut Copies, known: &Published) -> Result<Seat, AllocError>
     requires { IsNamed (view copies.old.desk.place) known.now.fib }
+    // The copies show what they showed.
     ensures named { IsNamed (view copies.new.desk.place) known.now.fib }
     ensures shown { copies.new.desk.shown ≡ copies.old.desk.shown }
     ensures waiting { drop copies.new.behind copies.new.log.items
         ≡ drop copies.old.behind copies.old.log.items }
+    // The seat knows the list.
     ensures seat { IfOk result (λ seat. seat ≡ known.now) }
 {
     let mut reader = copies.factory().reader()?;

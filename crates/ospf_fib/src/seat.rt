@@ -119,8 +119,10 @@ impl Seat {
     /// nobody and takes no memory. The seat and what it is told are of one `Fib::open`.
     pub fn learn(&mut self, told: Told)
         requires { told.fib ≡ self.old.fib }
+        // It stays a seat of the same table, and forgets nothing.
         ensures fib { self.new.fib ≡ self.old.fib }
         ensures own { IsPrefix self.old.tables self.new.tables }
+        // It knows what it is told too, and no list that is neither.
         ensures told { IsPrefix told.tables self.new.tables }
         ensures one { (self.new.tables ≡ self.old.tables) ⊎ (self.new.tables ≡ told.tables) }
     {
@@ -147,10 +149,13 @@ fn look_up(
     (Published, Result<Option<Answer>, Closed>),
 )
     requires { IsNamed (view reader.place) known.fib }
+    // The reader stays one of the same table.
     ensures named { IsNamed (view result.0.place) known.fib }
     ensures fib { result.1.0.fib ≡ known.fib }
+    // An answer is that of the last table of a list that goes on where the known one ended.
     ensures known { IfOk result.1.1 (λ _. IsPrefix known.tables result.1.0.tables) }
     ensures answer { IfOk result.1.1 (IsAnswerOfLast result.1.0.tables address choice) }
+    // Without one the known list stays.
     ensures closed { OnErr result.1.1 (result.1.0.tables ≡ known.tables) }
 {
     match reader.enter_as::<Enters>() {

@@ -28,8 +28,10 @@ impl FailedStreams {
 
     /// Writes a text to standard output, which may keep it until it is flushed.
     pub fn write<O: Write>(&mut self, out: &mut O, text: &str) -> Result<(), Failure>
+        // The text is written behind what stood there, and no stream has failed by it.
         ensures same { OnOk result (self.new ≡ self.old) }
         ensures written { OnOk result (Appends (O.contents out.old) (O.contents out.new) text.now) }
+        // Else a beginning of it stands there, and standard output has failed.
         ensures begun { OnErr result (IsBegun (O.contents out.old) (O.contents out.new) text.now) }
         ensures failed { OnErr result (self.new ≡ with_output self.old) }
         ensures cut { IfErr result (IsOutputCut self.new) }
@@ -79,8 +81,10 @@ impl FailedStreams {
 
     /// Writes a text to standard error, and flushes.
     pub fn tell<E: Write>(&mut self, err: &mut E, text: &str) -> Result<(), Failure>
+        // The text is written behind what stood there, and no stream has failed by it.
         ensures told { OnOk result ((self.new ≡ self.old)
             × Appends (E.contents err.old) (E.contents err.new) text.now) }
+        // Else a beginning of it stands there, and standard error has failed, or memory ran out.
         ensures begun { OnErr result (IsBegun (E.contents err.old) (E.contents err.new) text.now) }
         ensures failed { OnErr result (self.new ≡ with_error self.old) }
         ensures failure { IfErr result (λ failure. (failure ≡ Failure.Memory)

@@ -111,12 +111,15 @@ pub fn sorted_edges(alloc: Global, edges: &[Edge]) -> Result<Vec<Edge>, AllocErr
 ///
 /// `AllocError` where memory runs out.
 pub fn search(alloc: Global, edges: &[Edge], root: Vertex) -> Result<Searched, AllocError>
+    // The edges are those of an area, in the order of the vertices that they leave.
     requires fit { IsFit edges.now }
     requires root_fits { vertex_id root < 2 ^ 32 }
     requires in_order { AreEdgesInOrder edges.now }
+    // What is reached is the tree of shortest paths, with no distance past the limit.
     ensures tree { IfOk result (λ s. IsTree (Contains edges.now) root
         (AtIn (settled_of s.reached.items)) (StartsIn (starts_of s.reached.items))) }
     ensures near { IfOk result (λ s. All (λ x. x.distance < 2 ^ 63) (settled_of s.reached.items)) }
+    // Each vertex is found by its place, and the looks are few.
     ensures places { IfOk result (λ s. ArePlaces (get nat_eq s.places) s.reached.items) }
     ensures looks { IfOk result (λ s. s.looks ≤ 2 * length edges.now + 1) }
 {
@@ -150,8 +153,10 @@ pub fn search(alloc: Global, edges: &[Edge], root: Vertex) -> Result<Searched, A
 ///
 /// `AllocError` where memory runs out.
 pub fn listed(alloc: Global, reached: &[Reached], looks: u64) -> Result<ShortestPaths, AllocError>
+    // All that is reached is listed, and nothing else.
     ensures settled { IfOk result (λ t. IsPermutation (settled_of reached.now) t.settled.items) }
     ensures starts { IfOk result (λ t. IsPermutation (starts_of reached.now) t.starts.items) }
+    // It stands in the order of vertices, and the looks are told on.
     ensures settled_in_order { IfOk result (λ t. AreSettledInOrder t.settled.items) }
     ensures starts_in_order { IfOk result (λ t. AreStartsInOrder t.starts.items) }
     ensures looks { IfOk result (λ t. t.looks ≡ looks) }
@@ -176,17 +181,21 @@ pub fn shortest_paths(
     edges: &[Edge],
     root: Vertex,
 ) -> Result<ShortestPaths, AllocError>
+    // The edges and the root are those of an area.
     requires fit { IsFit edges.now }
     requires root_fits { vertex_id root < 2 ^ 32 }
+    // What is found is the tree of shortest paths, and so all that is reached, at least cost.
     ensures tree { IfOk result (λ t. IsTree (Contains edges.now) root (AtIn t.settled.items)
         (StartsIn t.starts.items)) }
     ensures least { IfOk result (λ t. AreLeast (Contains edges.now) root (AtIn t.settled.items)
         (StartsIn t.starts.items)) }
+    // No distance is past the limit, and all stands in the order of vertices.
     ensures near { IfOk result (λ t. All (λ s. s.distance < 2 ^ 63) t.settled.items) }
     ensures settled_in_order { IfOk result (λ t. IsNonDecreasingBy (λ s. vertex_code s.vertex)
         t.settled.items) }
     ensures starts_in_order { IfOk result (λ t. IsNonDecreasingBy (λ b. vertex_code b.vertex)
         t.starts.items) }
+    // Each edge is looked at twice at most: when it is offered, and when it is taken.
     ensures looks { IfOk result (λ t. t.looks ≤ 2 * length edges.now + 1) }
 {
     let sorted = sorted_edges(alloc, edges)?;
@@ -202,8 +211,10 @@ fn reach_root(
     places: &mut HashMap<u64, usize>,
     root: Vertex,
 ) -> Result<(), AllocError>
+    // Nothing is reached yet.
     requires empty { reached.old.items ≡ [] }
     requires no_places { (q : ℕ) → get nat_eq places.old q ≡ None }
+    // Then the root alone is, at distance 0, as its own start.
     ensures settled { OnOk result (settled_of reached.new.items
         ≡ record { vertex = root; distance = 0 } ∷ []) }
     ensures starts { OnOk result (starts_of reached.new.items
@@ -308,12 +319,15 @@ fn take(
     nearest: &mut HashMap<u64, u64>,
     candidates: &mut Candidates,
 ) -> Result<(), AllocError>
+    // The candidate is near enough, and what is reached is found by its place.
     requires near { candidate.distance < 2 ^ 63 }
     requires in_order { AreEdgesInOrder edges.now }
     requires places { ArePlaces (get nat_eq places.old) reached.old.items }
+    // Its vertex, starts and further candidates are those of a turn of the search.
     ensures taken { OnOk result (Takes candidate edges.now (settled_of reached.old.items)
         (settled_of reached.new.items) (starts_of reached.old.items) (starts_of reached.new.items)
         (get nat_eq nearest.old) (get nat_eq nearest.new) candidates.old.list candidates.new.list) }
+    // Places still lead to what is reached, and each new candidate is a look.
     ensures places { OnOk result (ArePlaces (get nat_eq places.new) reached.new.items) }
     ensures looks { OnOk result (candidates.new.looks + length candidates.old.list
         ≤ candidates.old.looks + length candidates.new.list) }

@@ -91,12 +91,16 @@ pub(crate) fn settle(
     waits: &mut Candidates,
     changed: &mut Vec<Vertex>,
 ) -> Result<bool, AllocError>
+    // The edges are in order, and what is found is found by its place, below the limit.
     requires in_order { AreEdgesInOrder edges.now }
     requires near { AreNear found.old.reached.items }
     requires places { HasPlaces found.old }
+    // Where none waits any more, what was a tree but for the edges that waited is one.
     ensures tree { OnTrue result (Settles edges.now waits.old found.old found.new) }
+    // What is found stays below the limit and in its places.
     ensures near { OnOk result (AreNear found.new.reached.items) }
     ensures places { OnOk result (HasPlaces found.new) }
+    // Only vertices that are put behind `changed` are found otherwise than before.
     ensures spares { OnOk result (SparesIn changed.new.items found.old found.new) }
     ensures changed { OnOk result (HoldsAll changed.old.items changed.new.items) }
 {
@@ -131,12 +135,16 @@ fn take_edge(
     waits: &mut Candidates,
     changed: &mut Vec<Vertex>,
 ) -> Result<bool, AllocError>
+    // The edges are in order, and what is found is found by its place, below the limit.
     requires in_order { AreEdgesInOrder edges.now }
     requires near { AreNear found.old.reached.items }
     requires places { HasPlaces found.old }
+    // The edge waits no more, and what it owed is paid in what is found or by edges that wait.
     ensures pays { OnTrue result (Pays edges.now edge found.old found.new waits.old waits.new) }
+    // What is found stays below the limit and in its places.
     ensures near { OnOk result (AreNear found.new.reached.items) }
     ensures places { OnOk result (HasPlaces found.new) }
+    // Only vertices that are put behind `changed` are found otherwise than before.
     ensures spares { OnOk result (SparesIn changed.new.items found.old found.new) }
     ensures changed { OnOk result (HoldsAll changed.old.items changed.new.items) }
 {
@@ -160,14 +168,19 @@ fn step(
     waits: &mut Candidates,
     changed: &mut Vec<Vertex>,
 ) -> Result<(), AllocError>
+    // The edges are in order, and the edge leaves a vertex that is found at this distance.
     requires in_order { AreEdgesInOrder edges.now }
     requires at { IsAt found.old.reached.items edge.from distance }
     requires small { distance + edge.cost < 2 ^ 63 }
+    // What is found is below the limit, and in its places.
     requires near { AreNear found.old.reached.items }
     requires places { HasPlaces found.old }
+    // The edge waits no more, and what it owed is paid in what is found or by edges that wait.
     ensures pays { OnOk result (Pays edges.now edge found.old found.new waits.old waits.new) }
+    // What is found stays below the limit and in its places.
     ensures near { OnOk result (AreNear found.new.reached.items) }
     ensures places { OnOk result (HasPlaces found.new) }
+    // Only vertices that are put behind `changed` are found otherwise than before.
     ensures spares { OnOk result (SparesIn changed.new.items found.old found.new) }
     ensures changed { OnOk result (HoldsAll changed.old.items changed.new.items) }
 {
@@ -180,12 +193,15 @@ fn step(
 
 // Takes an edge. Whether its end is reached nearer than before, or from more starts.
 fn relax(alloc: Global, edge: Edge, distance: u64, found: &mut Found) -> Result<bool, AllocError>
+    // The edge leaves a vertex that is found at this distance.
     requires at { IsAt found.old.reached.items edge.from distance }
     requires near { distance + edge.cost < 2 ^ 63 }
     requires places { HasPlaces found.old }
+    // Its end is nearer, or has more starts; else nothing changes, and it is relaxed.
     ensures improves { OnTrue result (ImprovesIn edge distance found.old found.new) }
     ensures same { OnFalse result (found.new ≡ found.old) }
     ensures relaxed { OnFalse result (IsRelaxedIn found.old edge distance) }
+    // What is found stays in its places.
     ensures places { OnOk result (HasPlaces found.new) }
 {
     let way = distance + edge.cost as u64;
@@ -206,10 +222,12 @@ fn relax(alloc: Global, edge: Edge, distance: u64, found: &mut Found) -> Result<
 
 // Takes an edge whose end is not reached.
 fn relax_new(alloc: Global, edge: Edge, distance: u64, found: &mut Found) -> Result<(), AllocError>
+    // Its end is not found yet, and its beginning is, at this distance.
     requires fresh { place_in found.old edge.to ≡ None }
     requires at { IsAt found.old.reached.items edge.from distance }
     requires near { distance + edge.cost < 2 ^ 63 }
     requires places { HasPlaces found.old }
+    // Then its end is found over it.
     ensures improves { OnOk result (ImprovesIn edge distance found.old found.new) }
     ensures places { OnOk result (HasPlaces found.new) }
 {
@@ -228,11 +246,14 @@ fn relax_nearer(
     to: usize,
     found: &mut Found,
 ) -> Result<(), AllocError>
+    // Both ends are found, and the way over the edge is the shorter one.
     requires place { place_in found.old edge.to ≡ Some to }
     requires at { IsAt found.old.reached.items edge.from distance }
     requires farther { (j : ℕ) → IsAt found.old.reached.items edge.to j → distance + edge.cost < j }
+    // It is below the limit.
     requires near { distance + edge.cost < 2 ^ 63 }
     requires places { HasPlaces found.old }
+    // Then its end is found over it, and no longer over others.
     ensures improves { OnOk result (ImprovesIn edge distance found.old found.new) }
     ensures places { OnOk result (HasPlaces found.new) }
 {
@@ -243,8 +264,10 @@ fn relax_nearer(
 
 // Puts the vertex at this place nearer, with no start.
 fn reset_at(found: &mut Found, place: usize, way: u64)
+    // A vertex is found at this place.
     requires place { place < length found.old.reached.items }
     requires places { HasPlaces found.old }
+    // It is at the new distance, without starts, and all others are as they were.
     ensures reset { ResetsAt place way found.old found.new }
     ensures same { found.new.places ≡ found.old.places }
     ensures places { HasPlaces found.new }
@@ -271,13 +294,16 @@ fn relax_level(
     to: usize,
     found: &mut Found,
 ) -> Result<bool, AllocError>
+    // Both ends are found, and the way over the edge is as long as the shortest.
     requires place { place_in found.old edge.to ≡ Some to }
     requires at { IsAt found.old.reached.items edge.from distance }
     requires level { IsAt found.old.reached.items edge.to (distance + edge.cost) }
     requires places { HasPlaces found.old }
+    // Its end gets the starts that it lacked; else nothing changes, and it is relaxed.
     ensures improves { OnTrue result (ImprovesIn edge distance found.old found.new) }
     ensures same { OnFalse result (found.new ≡ found.old) }
     ensures relaxed { OnFalse result (IsRelaxedIn found.old edge distance) }
+    // What is found stays in its places.
     ensures places { OnOk result (HasPlaces found.new) }
 {
     if brings_nothing(found, edge, to) {

@@ -42,8 +42,10 @@ impl KeptPaths {
     ///
     /// `AllocError` where memory runs out.
     pub fn of(alloc: Global, edges: &[Edge], root: Vertex) -> Result<KeptPaths, AllocError>
+        // The edges and the root are those of an area.
         requires fit { IsFit edges.now }
         requires root_fits { vertex_id root < 2 ^ 32 }
+        // What is kept is the tree of shortest paths from this root over just these edges.
         ensures root { IfOk result (λ k. k.root ≡ root) }
         ensures edges { IfOk result (λ k. IsPermutation edges.now k.edges) }
         ensures tree { IfOk result (λ k. IsKeptTree k) }
@@ -74,13 +76,16 @@ impl KeptPaths {
     ///
     /// `AllocError` where memory runs out.
     pub fn shortest(&self, alloc: Global) -> Result<ShortestPaths, AllocError>
+        // What is found is the tree of shortest paths, and so all that is reached, at least cost.
         ensures tree { IfOk result (IsTreeOver self.now.edges self.now.root) }
         ensures least { IfOk result (AreLeastOver self.now.edges self.now.root) }
+        // No distance is past the limit, and all that is kept is told, in the order of vertices.
         ensures near { IfOk result (λ t. All (λ s. s.distance < 2 ^ 63) t.settled.items) }
         ensures settled { IfOk result (λ t. IsPermutation self.now.settled t.settled.items) }
         ensures starts { IfOk result (λ t. IsPermutation self.now.starts t.starts.items) }
         ensures settled_in_order { IfOk result (λ t. AreSettledInOrder t.settled.items) }
         ensures starts_in_order { IfOk result (λ t. AreStartsInOrder t.starts.items) }
+        // No candidate was looked at.
         ensures looks { IfOk result (λ t. t.looks ≡ 0) }
     {
         let paths = listed(alloc, &self.found.reached, 0)?;
@@ -100,9 +105,11 @@ impl KeptPaths {
         changed: &mut Vec<Vertex>,
     ) -> Result<KeptPaths, AllocError>
         requires fit { IsFit more.now }
+        // What is kept is the tree of shortest paths from the same root, over the added edges too.
         ensures root { IfOk result (λ k. k.root ≡ self.root) }
         ensures edges { IfOk result (λ k. AddsEdges more.now self.edges k.edges) }
         ensures tree { IfOk result (λ k. IsKeptTree k) }
+        // Only vertices that are put behind `changed` are reached otherwise than before.
         ensures same { IfOk result (λ k. IsSameBut changed.new.items self k) }
         ensures changed { OnOk result (HoldsAll changed.old.items changed.new.items) }
     {
@@ -134,9 +141,11 @@ impl KeptPaths {
         less: &[Edge],
         changed: &mut Vec<Vertex>,
     ) -> Result<KeptPaths, AllocError>
+        // What is kept is the tree of shortest paths from the same root, over the edges left.
         ensures root { IfOk result (λ k. k.root ≡ self.root) }
         ensures edges { IfOk result (λ k. TakesEdges less.now self.edges k.edges) }
         ensures tree { IfOk result (λ k. IsKeptTree k) }
+        // Only vertices that are put behind `changed` are reached otherwise than before.
         ensures same { IfOk result (λ k. IsSameBut changed.new.items self k) }
         ensures changed { OnOk result (HoldsAll changed.old.items changed.new.items) }
     {
@@ -178,9 +187,11 @@ impl KeptPaths {
         changed: &mut Vec<Vertex>,
     ) -> Result<KeptPaths, AllocError>
         requires fit { IsFit more.now }
+        // What is kept is the tree of shortest paths from the same root, over the changed edges.
         ensures root { IfOk result (λ k. k.root ≡ self.root) }
         ensures edges { IfOk result (λ k. ChangesEdges less.now more.now self.edges k.edges) }
         ensures tree { IfOk result (λ k. IsKeptTree k) }
+        // Only vertices that are put behind `changed` are reached otherwise than before.
         ensures same { IfOk result (λ k. IsSameBut changed.new.items self k) }
         ensures changed { OnOk result (HoldsAll changed.old.items changed.new.items) }
     {
@@ -196,9 +207,11 @@ impl KeptPaths {
 
 // The shortest paths, by a search.
 fn anew(alloc: Global, edges: Vec<Edge>, root: Vertex) -> Result<KeptPaths, AllocError>
+    // The edges and the root are those of an area, in order.
     requires fit { IsFit edges.items }
     requires root_fits { vertex_id root < 2 ^ 32 }
     requires in_order { AreEdgesInOrder edges.items }
+    // What is kept is the tree of shortest paths from this root over just these edges.
     ensures root { IfOk result (λ k. k.root ≡ root) }
     ensures edges { IfOk result (λ k. k.edges ≡ edges.items) }
     ensures tree { IfOk result (λ k. IsKeptTree k) }

@@ -84,8 +84,10 @@ pub(crate) fn leave(
     changed: &mut Vec<Vertex>,
 ) -> Result<Found, AllocError>
     requires { HasPlaces found }
+    // The marked vertices are gone, and all others are found as they were, in their places.
     ensures places { IfOk result (λ left. HasPlaces left) }
     ensures left { IfOk result (λ left. LeavesIn (get nat_eq marks.now) found left) }
+    // What is marked and was found is put behind `changed`.
     ensures changed { OnOk result (HoldsAll changed.old.items changed.new.items) }
     ensures marked { OnOk result (HoldsMarked (get nat_eq marks.now) found changed.new.items) }
 {

@@ -152,10 +152,12 @@ fn blocks_before(starts: &[u32], range: usize) -> usize
 // Names this range for the blocks before this one that have none yet.
 fn name_before(directory: &mut Vec<u32>, past: usize, range: u32)
     requires { past ≤ vec_capacity directory.old }
+    // The directory has its room, and is filled up to this block, if it ended before.
     ensures room { vec_capacity directory.old ≤ vec_capacity directory.new }
     ensures more { length directory.old.items ≤ past → length directory.new.items ≡ past }
     ensures all { past ≤ length directory.old.items →
         length directory.new.items ≡ length directory.old.items }
+    // Blocks that had a name keep it, and each new one has this range.
     ensures same { (block : ℕ) → block < length directory.old.items →
         get_or directory.new.items block 0 ≡ get_or directory.old.items block 0 }
     ensures named { (block : ℕ) → length directory.old.items ≤ block →
@@ -172,10 +174,12 @@ fn name_before(directory: &mut Vec<u32>, past: usize, range: u32)
 // The range that has an address, which lies from one range on and up to another. Prefixes are mostly spread
 // evenly over a block, so it is first looked for where it would stand then.
 fn range_near(starts: &[u32], from: usize, last: usize, address: u32) -> usize
+    // The ranges stand in order, and the address lies within these.
     requires in_order { IsRising starts.now }
     requires within { (from ≤ last) × (last < length starts.now) × (last < 2 ^ 32) }
     requires low { get_or starts.now from 0 ≤ address }
     requires high { last + 1 < length starts.now → address < get_or starts.now (last + 1) 0 }
+    // The range is the one that has it.
     ensures within { result < length starts.now }
     ensures exact { IsInRange starts.now result address }
 {
@@ -200,10 +204,12 @@ fn guess_between(from: usize, last: usize, address: u32) -> usize
 
 // The range that has an address, which lies from one range on and before another.
 fn range_between(starts: &[u32], from: usize, to: usize, address: u32) -> usize
+    // The ranges stand in order, and the address lies within these.
     requires in_order { IsRising starts.now }
     requires within { (from < to) × (to ≤ length starts.now) }
     requires low { get_or starts.now from 0 ≤ address }
     requires high { to < length starts.now → address < get_or starts.now to 0 }
+    // The range is the one that has it.
     ensures within { result < length starts.now }
     ensures exact { IsInRange starts.now result address }
 {

@@ -63,15 +63,19 @@ impl Numbering {
 
     // The number of the set that has these hops. They may be those that came last.
     fn number(&mut self, last: usize, hops: &[NextHop]) -> usize
+        // The sets are chained, and one came last.
         requires chained { AreChained self.old }
         requires within { last < vec_len self.old.sets.sets }
+        // There is room for one more.
         requires room_sets { vec_len self.old.sets.sets < vec_capacity self.old.sets.sets }
         requires room_hops { vec_len self.old.sets.hops + length hops.now
             ≤ vec_capacity self.old.sets.hops }
         requires room_links { vec_len self.old.links < vec_capacity self.old.links }
+        // They stay chained, the number is of a set with just these hops,
         ensures chained { AreChained self.new }
         ensures within { result < vec_len self.new.sets.sets }
         ensures exact { hops_of self.new.sets result ≡ hops.now }
+        // and no other set is new or changes.
         ensures grown { IsGrown (length hops.now) self.old self.new }
     {
         if are_same(self.sets.get(last), hops) {

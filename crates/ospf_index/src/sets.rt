@@ -36,11 +36,14 @@ impl HopSets {
 
     /// Puts a set at the end, for which there is room.
     pub fn push(&mut self, hops: &[NextHop])
+        // The sets stand, and have room for one more.
         requires stand { AreSets self.old }
         requires room_sets { vec_len self.old.sets < vec_capacity self.old.sets }
         requires room_hops { vec_len self.old.hops + length hops.now ≤ vec_capacity self.old.hops }
+        // They stand, and this one comes behind all others.
         ensures stand { AreSets self.new }
         ensures lists { lists_of self.new ≡ lists_of self.old ++ hops.now ∷ [] }
+        // How long the lists are then, and that no room is lost.
         ensures sets { vec_len self.new.sets ≡ vec_len self.old.sets + 1 }
         ensures hops { vec_len self.new.hops ≡ vec_len self.old.hops + length hops.now }
         ensures sets_room { vec_capacity self.old.sets ≤ vec_capacity self.new.sets }

@@ -42,11 +42,14 @@ impl Sweep {
 
     // Begins a range. The last one is left out where it has no address.
     fn begin_range(&mut self, start: u32, place: usize)
+        // There is room for one more range.
         requires starts { vec_len self.old.ranges.starts < vec_capacity self.old.ranges.starts }
         requires places { vec_len self.old.ranges.places < vec_capacity self.old.ranges.places }
+        // It comes behind the last one, or in its place, and no route opens or ends by it.
         ensures begun { IsBegun self.old.ranges.starts.items self.old.ranges.places.items start
             place self.new.ranges.starts.items self.new.ranges.places.items }
         ensures opened { self.new.opened ≡ self.old.opened }
+        // No room is lost, and the lists are longer by one at most.
         ensures starts_room { vec_capacity self.old.ranges.starts
             ≤ vec_capacity self.new.ranges.starts }
         ensures places_room { vec_capacity self.old.ranges.places
@@ -98,11 +101,14 @@ impl Sweep {
 
     // Ends the routes that end at the limit or before it. The next route does not begin before it.
     fn close_to(&mut self, routes: &[Route], begun: usize, limit: u32)
+        // The sweep stands before the limit, and no route is left behind.
         requires order { AllPairs IsRouteBefore routes.now }
         requires swept { IsSweptTo routes.now begun self.old }
         requires ahead { (k : ℕ) → begun ≤ k → k < length routes.now →
             limit ≤ (blocks_of routes.now).first k }
+        // There is room for what is left.
         requires room { HasRoom (2 * length routes.now + 1) self.old (length routes.now - begun) }
+        // It stands there still, all that is open goes on behind the limit, and room is left.
         ensures swept { IsSweptTo routes.now begun self.new }
         ensures open { 0 < length self.new.opened.items →
             limit < (blocks_of routes.now).end
@@ -118,10 +124,12 @@ impl Sweep {
 
     // Opens the route at this place, which is the next.
     fn open(&mut self, routes: &[Route], place: usize)
+        // The sweep stands before this route, with room for what is left.
         requires order { AllPairs IsRouteBefore routes.now }
         requires within { place < length routes.now }
         requires swept { IsSweptTo routes.now place self.old }
         requires room { HasRoom (2 * length routes.now + 1) self.old (length routes.now - place) }
+        // Then it stands behind it.
         ensures swept { IsSweptTo routes.now (place + 1) self.new }
         ensures room { HasRoom (2 * length routes.now + 1) self.new
             (length routes.now - (place + 1)) }

@@ -140,8 +140,10 @@ impl Listing {
     /// `MaxAge` where its age is `MAX_AGE`, else `Memory` where none of its key is listed and memory
     /// runs out. The listing is unchanged by each.
     pub fn put(&mut self, lsa: Lsa) -> Result<(), ListingFault>
+        // The LSA stands in its place; where it is refused the listing is unchanged.
         ensures ok { OnOk result (IsPut lsa self.old self.new) }
         ensures err { OnErr result (self.new ≡ self.old) }
+        // `MaxAge` just where it is that old, and want of memory only where its key was not listed.
         ensures faults { IfErr result (λ f. (f ≡ fault.MaxAge) ⊎ (f ≡ fault.Memory)) }
         ensures max_age { (result ≡ Err fault.MaxAge) ↔ ((header_of lsa).age ≡ 3600) }
         ensures memory { result ≡ Err fault.Memory → HasKey self.old (key_of lsa) → ⊥ }
@@ -242,9 +244,12 @@ fn place_of(lsas: &[Lsa], key: &LsaKey) -> Option<usize>
 fn put_in(lsas: &mut Vec<Lsa>, lsa: Lsa) -> Result<(), AllocError>
     requires listing { IsListing lsas.old.items }
     requires listed { IsListed lsa }
+    // The LSA stands in its place.
     ensures ok { OnOk result (IsPut lsa lsas.old.items lsas.new.items) }
+    // Want of memory comes only where its key was not listed, and changes nothing.
     ensures err { OnErr result (lsas.new.items ≡ lsas.old.items) }
     ensures none { OnErr result (HasKey lsas.old.items (key_of lsa) → ⊥) }
+    // What is listed stays a listing.
     ensures listing { IsListing lsas.new.items }
 {
     match search(lsas, &lsa.view().key()) {

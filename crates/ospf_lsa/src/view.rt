@@ -51,9 +51,11 @@ impl<'a> LsaView<'a> {
 
     /// The bytes of the LSA.
     pub fn as_bytes(&self) -> &'a [u8]
+        // The bytes are those of the LSA, and so what the grammar says of one holds of them:
         ensures bytes { result.now ≡ self.now }
         ensures valid { IsLsa self.now }
         ensures long { 20 ≤ length self.now }
+        // it has a body of its kind, and there are two kinds.
         ensures router { IsRouterLsa self.now → HasLinks self.now }
         ensures network { IsNetworkLsa self.now → HasRouters self.now }
         ensures kind { IsRouterLsa self.now ⊎ IsNetworkLsa self.now }

@@ -288,8 +288,10 @@ fn stop(entries: &mut BTreeMap<LsaKey, Stored>, key: &LsaKey)
 
 // Looks at the entry of each of these keys, and counts the looks.
 fn look_at_all(entries: &mut BTreeMap<LsaKey, Stored>, keys: Reached<'_>) -> u64
+    // The map is one, and the keys can be counted.
     requires count { length keys < 2 ^ 64 }
     requires ordered { IsOrdered key_cmp entries.old }
+    // The entries of these keys stop, all others stay, and each key is a look.
     ensures entry { Stops (among keys.entry) entries.old.entries entries.new.entries }
     ensures ordered { IsOrdered key_cmp entries.new }
     ensures looks { result ≡ length keys.entry }

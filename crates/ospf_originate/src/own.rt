@@ -65,9 +65,11 @@ fn wanted_by(area: &Area, alloc: Global) -> Result<Vec<OwnLsa>, AllocError>
 
 // All that is due.
 fn due_now(area: &Area, all: &[OwnLsa], alloc: Global) -> Result<Vec<Due>, AllocError>
+    // These are the LSAs that are wanted, their numbers are kept, and each can be made.
     requires wants { map value_of all.now ≡ wants area.now }
     requires numbered { AreNumbered area.now }
     requires made { AllByRecursion CanBeMade (wants area.now) }
+    // Then just what is due is told, each with a number that is used.
     ensures is { IfOk result (λ v. IsDue area.now v.items) }
     ensures used { IfOk result (λ v. AllByRecursion HasUsedNumber v.items) }
 {

@@ -60,8 +60,10 @@ impl Published {
     /// Keeps the longer list of its own and the other's, which belongs to the same forwarding table.
     pub fn take_later(&mut self, other: &Published)
         requires { other.now.fib ≡ self.old.fib }
+        // It is a list of the same forwarding table, and one of the two.
         ensures fib { self.new.fib ≡ self.old.fib }
         ensures one { (self.new.tables ≡ self.old.tables) ⊎ (self.new.tables ≡ other.now.tables) }
+        // It begins with each of them.
         ensures own { IsPrefix self.old.tables self.new.tables }
         ensures others { IsPrefix other.now.tables self.new.tables }
     {
