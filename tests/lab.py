@@ -22,6 +22,8 @@ LOOK = 0.5
 # So long before its last tick our router has to have settled, so that all are asked while it runs.
 SECONDS_TO_ASK, SECONDS_TO_READ = 6, 3
 NEEDED = {"frr": "/usr/lib/frr/ospfd", "bird2": "/usr/sbin/bird", "iproute2": "ip"}
+# A program that is compiled with checks would keep memory that was given back, to see it used.
+GIVEN_BACK = {"ASAN_OPTIONS": "quarantine_size_mb=0:thread_local_quarantine_size_kb=0"}
 # The second lets it read this script where folders are closed to others.
 ONLY_RAW = ["setpriv", "--bounding-set=-all,+net_raw,+dac_read_search", "--inh-caps=-all"]
 LIBRARY = ctypes.CDLL(None, use_errno=True)
@@ -31,11 +33,6 @@ def missing():
     """What these tests want and this machine does not have."""
     found = [] if os.geteuid() == 0 else ["root"]
     return found + [name for name, path in NEEDED.items() if shutil.which(path) is None]
-
-
-def is_checked(program):
-    """Whether a program is compiled with checks, which keep memory that was given back."""
-    return "compiled with checks" in said(program, "--version")
 
 
 def said(*words):
@@ -115,7 +112,8 @@ class Node:
     def spawn(self, *words, out=None, err="log"):
         """Starts a program within the namespace; what it says on standard error is kept."""
         with open(self.path(err), "a", encoding="utf-8") as log:
-            child = subprocess.Popen(["ip", "netns", "exec", self.space, *words], stdin=subprocess.DEVNULL, stdout=out or log, stderr=log, cwd=self.folder, text=True)
+            how = {"stdin": subprocess.DEVNULL, "stdout": out or log, "stderr": log, "cwd": self.folder, "env": {**os.environ, **GIVEN_BACK}}
+            child = subprocess.Popen(["ip", "netns", "exec", self.space, *words], text=True, **how)
         self.children.append(child)
         return child
 
@@ -155,7 +153,8 @@ class Frr(Node):
             lines += [f" ip ospf cost {side.cost}", f" ip ospf priority {side.priority}"]
         # Each address of a passive interface waits for RouterDeadInterval too, and then changes the router-LSA.
         lines += ["interface s0", " ip ospf cost 5", f" ip ospf hello-interval {HELLO}", f" ip ospf dead-interval {DEAD}"] if self.stubs else []
-        lines += ["router ospf", f" ospf router-id {self.router}", " passive-interface s0", " network 0.0.0.0/0 area 0.0.0.0", *([" default-information originate always"] if self.has_external else [])]
+        lines += ["router ospf", f" ospf router-id {self.router}", " passive-interface s0", " network 0.0.0.0/0 area 0.0.0.0"]
+        lines += [" default-information originate always"] if self.has_external else []
         self.write("ospfd.conf", "\n".join(lines) + "\n")
         self.write("zebra.conf", "hostname zebra\n")
         shutil.chown(self.folder, "frr", "frr")
@@ -221,7 +220,8 @@ class Bird(Node):
         lines += '    interface "s0" { stub; cost 5; };\n' if self.stubs else ""
         static = 'protocol static { ipv4; route 203.0.113.0/24 blackhole; }\n' if self.has_external else ""
         given = "export where source = RTS_STATIC;" if self.has_external else "export none;"
-        text = f"router id {self.router};\nprotocol device {{ scan time 1; }}\n{static}protocol ospf v2 o {{\n  tick 1;\n  ipv4 {{ import all; {given} }};\n  area 0 {{\n{lines}  }};\n}}\n"
+        text = f"router id {self.router};\nprotocol device {{ scan time 1; }}\n{static}"
+        text += f"protocol ospf v2 o {{\n  tick 1;\n  ipv4 {{ import all; {given} }};\n  area 0 {{\n{lines}  }};\n}}\n"
         self.write("bird.conf", text)
         self.spawn(self.program, "-f", "-c", "bird.conf", "-s", self.path("ctl"), "-P", self.path("pid"))
 
@@ -294,12 +294,12 @@ class Ours(Node):
 
     def listen(self):
         """Keeps what passes over the devices from now on: of areas whose databases no router shows."""
-        def opened(device):
+        def tap_of(device):
             made = socket.socket(socket.AF_PACKET, socket.SOCK_DGRAM, 0)
             made.bind((device, EVERYTHING))
             made.setblocking(False)
             return made
-        self.taps = [inside(self.space, lambda side=side: opened(side.device)) for side in self.sides]
+        self.taps = [inside(self.space, lambda side=side: tap_of(side.device)) for side in self.sides]
 
     def lsas(self):
         """The newest LSAs that passed."""
