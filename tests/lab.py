@@ -48,7 +48,9 @@ def versions(program):
     """What runs beside what."""
     frr = re.search(r"version (\S+)", said(NEEDED["frr"], "--version"))
     bird = re.search(r"version (\S+)", said(NEEDED["bird2"], "--version"))
-    return f"{said(program, '--version').strip()}, FRR {frr and frr[1]}, BIRD {bird and bird[1]}, Linux {os.uname().release}"
+    # Where no program is built yet, ./ospfd compiles one now.
+    ours = subprocess.run([program, "--version"], stdout=subprocess.PIPE, text=True, check=True).stdout.strip()
+    return f"{ours}, FRR {frr and frr[1]}, BIRD {bird and bird[1]}, Linux {os.uname().release}"
 
 
 def inside(space, make):
