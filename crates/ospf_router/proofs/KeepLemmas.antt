@@ -1,25 +1,23 @@
--- Routes that are those of a database still, since it lists what it did.
-use Rattle.std.proofs.Common.{◌≡◌, ◌≤◌, ◌⊎◌, inl, inr, ℕ, Bool, true, false, List, [], ◌∷◌, filter, map, length, refl, sym, ap, subst, ◌∙◌, arith, Option, None, Some, option_map}
+-- A listing with each LSA that a database lists, and with as many, is what the database lists.
+use Rattle.std.proofs.Common.{◌≡◌, ◌≢◌, ◌≤◌, ◌⊎◌, inl, inr, ℕ, zero, suc, Bool, true, false, List, [], ◌∷◌, filter, map, length, refl, sym, ap, subst, ◌∙◌, arith, Option, None, Some, option_map}
+use Rattle.std.specs.List.{AllByRecursion, Contains}
 use Rattle.ospf_base.proofs.KeyOrder.{Precedes-irrefl, Precedes-trans}
 use Rattle.ospf_base.proofs.SameKeys.{same_key-eq, same_key-refl}
 use Rattle.ospf_base.specs.Keys.{Precedes, same_key}
 use Rattle.ospf_base.specs.Sums.{contents}
 use Rattle.ospf_base.specs.declared.ids.LsaKey.{LsaKey}
-use Rattle.ospf_base.specs.declared.ids.RouterId.{RouterId}
-use Rattle.ospf_graph.specs.Routes.{IsTable}
-use Rattle.ospf_graph.specs.declared.route.Route.{Route}
+use Rattle.ospf_laws.proofs.ListFacts.{Contains-filter, Contains-map, Contains-map_cases, find-some}
+use Rattle.ospf_lsa.specs.Listing as listing
+use Rattle.ospf_lsa.specs.Listing.{IsListing, IsPut}
+use Rattle.ospf_lsa.specs.Lsa.{key_of}
 use Rattle.ospf_lsdb.specs.Counts.{fresh_count}
-use Rattle.ospf_lsdb.specs.Database.{Entry, Held, IsDatabase, IsRising, entries, entry_of, held_of, is_fresh, key_at, listed}
+use Rattle.ospf_lsdb.specs.Database.{Entry, Held, IsDatabase, IsRising, entries, entry_of, held_of, is_fresh, key_at, key_in, listed, lsa_of}
 use Rattle.ospf_lsdb.specs.Places.{AllAfter}
+use Rattle.ospf_lsdb.proofs.EntryLemmas.{key_of-contents}
 use Rattle.ospf_lsdb.proofs.MapLemmas.{after-none, bool_cases}
-use Rattle.ospf_router.proofs.ListLemmas.{fresh_of, listed_fresh, same_told}
+use Rattle.ospf_router.proofs.ListLemmas.{fresh_of, listed_fresh}
 use Rattle.ospf_router.proofs.SameListings.{same_listing}
-use Rattle.ospf_router.specs.Listings.{ListsAs}
-use Rattle.ospf_router.specs.Routes.{AreRoutes}
-
--- each entry below MaxAge stood there before, with the same contents
-abbrev pub KeepsFresh : List Held → List Held → Type 0
-KeepsFresh a b = (key : LsaKey) (e : Entry) → entry_of b key ≡ Some e → is_fresh e ≡ true → (d : Entry) × (entry_of a key ≡ Some d) × (is_fresh d ≡ true) × (d.contents ≡ e.contents)
+use Rattle.ospf_router.specs.Listings.{AreListedAt, ListsAs, ListsEntry, StayListed}
 
 -- ---- the entries below MaxAge alone
 
@@ -177,23 +175,6 @@ is_held (x ∷ xs) key h is fresh = by (same_key (key_at x) key) refl (is_fresh 
     by false k true e later = rw e (rest_held x (fresh_held xs) key k ∙ later (sym (rest_held x xs key k) ∙ is) fresh)
     by false k false e later = rw e (later (sym (rest_held x xs key k) ∙ is) fresh)
 
-entry_held : (db : List Held) (key : LsaKey) (d : Entry) → entry_of db key ≡ Some d → (h : Held) × (held_of db key ≡ Some h) × (h.entry ≡ d)
-entry_held db key d is = by (held_of db key) refl is
-  where
-    by : (o : Option Held) → held_of db key ≡ o → option_map (λ h. h.entry) o ≡ Some d → (h : Held) × (held_of db key ≡ Some h) × (h.entry ≡ d)
-    by None at is = absurd (cc)
-    by (Some h) at is = (h, at, some_entry h.entry d is)
-      where
-        some_entry : (x y : Entry) → Some x ≡ Some y → x ≡ y
-        some_entry x y same = cc
-
-among_fresh : (a b : List Held) → IsRising b → KeepsFresh a b → AreAmong (fresh_held a) (fresh_held b)
-among_fresh a b rb keeps key h is =
-    let there = fresh_is b key h rb is in
-    let kept = keeps key h.entry (ap (λ (o : Option Held). option_map (λ x. x.entry) o) there.0) there.1 in
-    let old = entry_held a key kept.0 kept.1 in
-    (old.0, is_held a key old.0 old.1 (ap is_fresh old.2 ∙ kept.2), ap (λ (e : Entry). e.contents) old.2 ∙ kept.3)
-
 contents_fresh : (db : List Held) → contents_of (fresh_held db) ≡ fresh_of (entries db)
 contents_fresh [] = refl
 contents_fresh (h ∷ hs) = by (is_fresh h.entry) refl (contents_fresh hs)
@@ -202,23 +183,132 @@ contents_fresh (h ∷ hs) = by (is_fresh h.entry) refl (contents_fresh hs)
     by true e rest = rw e (ap (λ xs. h.entry.contents ∷ xs) rest)
     by false e rest = rw e rest
 
--- as many below MaxAge, and each as it was: those are the same
-same_fresh : (a b : List Held) → IsRising a → IsRising b → KeepsFresh a b → fresh_count b ≡ fresh_count a → fresh_of (entries b) ≡ fresh_of (entries a)
-same_fresh a b ra rb keeps count =
-    let front = is_front (fresh_held a) (fresh_held b) (fresh_rising a ra) (fresh_rising b rb) (among_fresh a b rb keeps) in
-    sym (contents_fresh b) ∙ front.same count ∙ contents_fresh a
+-- ---- a listing as entries
 
--- so the routes are the same
-pub still_routes : (router : RouterId) (a b : List Held) (table : List Route) → AreRoutes router a table → IsDatabase b → KeepsFresh a b → fresh_count b ≡ fresh_count a → AreRoutes router b table
-still_routes router a b table was is_b keeps count =
-    let same = same_fresh a b was.database.rising is_b.rising keeps count in
-    let lists : fresh_of (entries b) ≡ map contents (listed a) = same ∙ sym (listed_fresh a) in
-    record {
-      database = is_b;
-      listing = same_listing b (listed a) lists was.listing;
-      routes = subst (λ told. IsTable told router table) (same_told (listed a) (listed b) (sym (listed_fresh b ∙ lists))) was.routes;
-    }
+held_as : List ℕ → Held
+held_as lsa = record { entry = record { age = 0; contents = contents lsa; tick = 0; by_flooding = false }; reached = false }
 
--- and what was listed is listed still
-pub still_lists : (a b : List Held) (lsas : List (List ℕ)) → IsDatabase a → IsDatabase b → KeepsFresh a b → fresh_count b ≡ fresh_count a → ListsAs a lsas → ListsAs b lsas
-still_lists a b lsas is_a is_b keeps count lists = listed_fresh b ∙ same_fresh a b is_a.rising is_b.rising keeps count ∙ sym (listed_fresh a) ∙ lists
+helds_of : List (List ℕ) → List Held
+helds_of lsas = map held_as lsas
+
+key_as : (lsa : List ℕ) → key_at (held_as lsa) ≡ key_of lsa
+unfolding held_as
+key_as lsa = sym (key_of-contents lsa)
+
+contents_as : (lsas : List (List ℕ)) → contents_of (helds_of lsas) ≡ map contents lsas
+unfolding helds_of held_as
+contents_as [] = refl
+contents_as (l ∷ ls) = ap (λ xs. contents l ∷ xs) (contents_as ls)
+
+many_as : (lsas : List (List ℕ)) → length (helds_of lsas) ≡ length lsas
+unfolding helds_of
+many_as [] = refl
+many_as (l ∷ ls) = ap suc (many_as ls)
+
+after_as : (k : LsaKey) (lsas : List (List ℕ)) → AllByRecursion (λ o. Precedes k (key_of o)) lsas → AllAfter k (helds_of lsas)
+unfolding helds_of
+after_as k [] after = tt
+after_as k (l ∷ ls) after = (subst (λ (q : LsaKey). Precedes k q) (sym (key_as l)) after.0, after_as k ls after.1)
+
+rising_as : (lsas : List (List ℕ)) → listing.IsRising lsas → IsRising (helds_of lsas)
+unfolding helds_of
+rising_as [] rises = tt
+rising_as (l ∷ ls) rises = (subst (λ (q : LsaKey). AllAfter q (helds_of ls)) (sym (key_as l)) (after_as (key_of l) ls rises.0), rising_as ls rises.1)
+
+-- an LSA of a later place bears a later key
+later_key : (k : LsaKey) (lsas : List (List ℕ)) (lsa : List ℕ) → AllByRecursion (λ o. Precedes k (key_of o)) lsas → Contains lsas lsa → Precedes k (key_of lsa)
+later_key k [] lsa all (n, within, is) = absurd (omega arith)
+later_key k (l ∷ ls) lsa all (zero, within, is) = subst (λ (x : List ℕ). Precedes k (key_of x)) is all.0
+later_key k (l ∷ ls) lsa all (suc n, within, is) = later_key k ls lsa all.1 (n, omega arith, is)
+
+-- what is held at the key of an LSA that is listed
+held_there : (lsas : List (List ℕ)) (lsa : List ℕ) → listing.IsRising lsas → Contains lsas lsa → (g : Held) × (held_of (helds_of lsas) (key_of lsa) ≡ Some g) × (g.entry.contents ≡ contents lsa)
+unfolding helds_of held_as
+held_there [] lsa rises (n, within, is) = absurd (omega arith)
+held_there (l ∷ ls) lsa rises (zero, within, is) =
+    (held_as l, subst (λ (k : LsaKey). held_of (helds_of (l ∷ ls)) k ≡ Some (held_as l)) (key_as l ∙ ap key_of is) (first_held (held_as l) (helds_of ls)), contents_same is)
+  where
+    contents_same : l ≡ lsa → (held_as l).entry.contents ≡ contents lsa
+    contents_same same = ap contents same
+held_there (l ∷ ls) lsa rises (suc n, within, is) =
+    let rest = held_there ls lsa rises.1 (n, omega arith, is) in
+    let behind : Precedes (key_of l) (key_of lsa) = later_key (key_of l) ls lsa rises.0 (n, omega arith, is) in
+    (rest.0, rest_held (held_as l) (helds_of ls) (key_of lsa) (apart behind) ∙ rest.1, rest.2)
+  where
+    apart : Precedes (key_of l) (key_of lsa) → same_key (key_at (held_as l)) (key_of lsa) ≡ false
+    apart behind = elim (bool_cases (same_key (key_at (held_as l)) (key_of lsa))) [
+      | inl one ↦ absurd (Precedes-irrefl (key_of l) (subst (λ (q : LsaKey). Precedes (key_of l) q) (sym (sym (key_as l) ∙ same_key-eq (key_at (held_as l)) (key_of lsa) one)) behind))
+      | inr two ↦ two
+    ]
+
+-- ---- what the database has at a key
+
+key_held : (db : List Held) (key : LsaKey) (h : Held) → held_of db key ≡ Some h → key_at h ≡ key
+key_held db key h at = same_key-eq (key_at h) key (find-some (λ x. same_key (key_at x) key) db h at).1
+
+entry_held : (db : List Held) (key : LsaKey) (e : Entry) → entry_of db key ≡ Some e → (h : Held) × (held_of db key ≡ Some h) × (h.entry ≡ e)
+entry_held db key e is = by (held_of db key) refl is
+  where
+    by : (o : Option Held) → held_of db key ≡ o → option_map (λ h. h.entry) o ≡ Some e → (h : Held) × (held_of db key ≡ Some h) × (h.entry ≡ e)
+    by None at is = absurd (cc)
+    by (Some h) at is = (h, at, some_entry h.entry e is)
+      where
+        some_entry : (x y : Entry) → Some x ≡ Some y → x ≡ y
+        some_entry x y same = cc
+
+pub key_entry : (db : List Held) (key : LsaKey) (e : Entry) → entry_of db key ≡ Some e → key_in e.contents ≡ key
+key_entry db key e at = let h = entry_held db key e at in ap (λ (x : Entry). key_in x.contents) (sym h.2) ∙ key_held db key h.0 h.1
+
+-- ---- all of it
+
+module _ (db : List Held) (lsas : List (List ℕ)) (is : IsDatabase db) (listing_is : IsListing lsas) (all : (key : LsaKey) → AreListedAt db key lsas) where
+  all_among : AreAmong (helds_of lsas) (fresh_held db)
+  all_among key h at =
+      let there = fresh_is db key h is.rising at in
+      let lsa = all key h.entry (ap (λ (o : Option Held). option_map (λ x. x.entry) o) there.0) there.1 in
+      let found = held_there lsas lsa.0 listing_is.rising lsa.1 in
+      let same : key_of lsa.0 ≡ key = key_of-contents lsa.0 ∙ ap key_in lsa.2 ∙ key_held db key h there.0 in
+      (found.0, subst (λ (k : LsaKey). held_of (helds_of lsas) k ≡ Some found.0) same found.1, found.2 ∙ lsa.2)
+
+  pub fresh_all : fresh_count db ≡ length lsas → fresh_of (entries db) ≡ map contents lsas
+  fresh_all many =
+      let front = is_front (helds_of lsas) (fresh_held db) (rising_as lsas listing_is.rising) (fresh_rising db is.rising) all_among in
+      sym (contents_fresh db) ∙ front.same (many ∙ sym (many_as lsas)) ∙ contents_as lsas
+
+  pub lists_all : fresh_count db ≡ length lsas → ListsAs db lsas
+  lists_all many = listed_fresh db ∙ fresh_all many
+
+  pub listing_all : fresh_count db ≡ length lsas → IsListing (listed db)
+  listing_all many = same_listing db lsas (fresh_all many) listing_is
+
+-- ---- what a database lists has each of its entries below MaxAge
+
+pub lists_each : (db : List Held) (lsas : List (List ℕ)) (key : LsaKey) → ListsAs db lsas → AreListedAt db key lsas
+lists_each db lsas key lists e at fresh =
+    let h = entry_held db key e at in
+    let within : Contains (entries db) e = subst (λ (x : Entry). Contains (entries db) x) h.2 (Contains-map (λ x. x.entry) db h.0 (find-some (λ x. same_key (key_at x) key) db h.0 h.1).0) in
+    let among : Contains (fresh_of (entries db)) e.contents = Contains-map (λ x. x.contents) (filter is_fresh (entries db)) e (Contains-filter is_fresh (entries db) e within fresh) in
+    let told : Contains (map contents lsas) e.contents = subst (λ (cs : List (List ℕ)). Contains cs e.contents) (sym (listed_fresh db) ∙ lists) among in
+    Contains-map_cases contents lsas e.contents told
+
+-- ---- an entry that is put
+
+module _ (db : List Held) (key : LsaKey) (entry : Entry) (at : entry_of db key ≡ Some entry) (old new : List (List ℕ)) (put : IsPut (lsa_of entry) old new) where
+  some_entry : (e : Entry) → Some entry ≡ Some e → entry ≡ e
+  some_entry e same = cc
+
+  pub put_listed : AreListedAt db key new
+  put_listed e is fresh = (lsa_of entry, (put (lsa_of entry)).1 (inl refl), ap (λ (x : Entry). x.contents) (some_entry e (sym at ∙ is)))
+
+  pub put_stay : StayListed db old new
+  put_stay k was e is fresh = by (same_key k key) refl
+    where
+      by : (b : Bool) → same_key k key ≡ b → ListsEntry new e
+      by true one = put_listed e (subst (λ (q : LsaKey). entry_of db q ≡ Some e) (same_key-eq k key one) is) fresh
+      by false two =
+          let there = was e is fresh in
+          let key_there : key_of there.0 ≡ k = key_of-contents there.0 ∙ ap key_in there.2 ∙ key_entry db k e is in
+          let key_put : key_of (lsa_of entry) ≡ key = key_of-contents (lsa_of entry) ∙ key_entry db key entry at in
+          let other : key_of there.0 ≢ key_of (lsa_of entry) = λ same.
+          let one : same_key k key ≡ true = subst (λ (q : LsaKey). same_key k q ≡ true) (sym key_there ∙ same ∙ key_put) (same_key-refl k) in cc in
+          (there.0, (put there.0).1 (inr (there.1, other)), there.2)

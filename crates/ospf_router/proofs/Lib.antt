@@ -6,3 +6,4 @@ mod ServedLemmas
 mod ListingFacts
 pub mod StartLemmas
 mod SettledLemmas
+mod TouchedChains

@@ -1,5 +1,5 @@
 -- Tables that a tree serves are those of a database that lists what the tree's listing has.
-use Rattle.std.proofs.Common.{◌≡◌, ℕ, List, true, refl, sym, subst, ◌∙◌}
+use Rattle.std.proofs.Common.{◌≡◌, ℕ, Bool, List, Option, None, Some, Result, Ok, Err, IfOk, IfSome, refl, sym, subst, ◌∙◌}
 use Rattle.ospf_base.specs.declared.ids.RouterId.{RouterId}
 use Rattle.ospf_edges.specs.Listed.{advertisements_of}
 use Rattle.ospf_graph.specs.Advertisements.{Advertisement}
@@ -29,13 +29,19 @@ pub routes_served : (db : List Held) (router : RouterId) (tree : GrowingValue) (
 routes_served db router tree table is listing same root own serves =
     routes_of db router tree.listing table is listing same (subst (λ (r : RouterId). IsTable (advertisements_of tree.listing) r table) root (serves (advertisements_of tree.listing) own))
 
+-- what is said of a value that may not be there
+pub each_some : {T E : Type 0} (r : Result (Option T) E) (P Q : T → Type 0) → ((x : T) → P x → Q x) → IfOk r (λ o. IfSome o P) → IfOk r (λ o. IfSome o Q)
+each_some (Ok (Some x)) P Q f h = f x h
+each_some (Ok None) P Q f h = tt
+each_some (Err e) P Q f h = tt
+
 -- a tree that has not grown yet
-pub from_itself : (tree : GrowingValue) → (let g : Grown = record { tree = tree; stays = true } in IsGrownFrom tree true g)
-from_itself tree = record { root = refl; keeps = λ is. (is, λ table serves. serves) }
+pub from_itself : (grown : Grown) → IsGrownFrom grown.tree grown.stays grown
+from_itself grown = record { root = refl; keeps = λ is. (is, λ table serves. serves) }
 
 -- one LSA more
-pub grown_more : (tree : GrowingValue) (mid new : Grown) → IsGrownFrom tree true mid → IsGrownFrom mid.tree mid.stays new → IsGrownFrom tree true new
-grown_more tree mid new first then =
+pub grown_more : (tree : GrowingValue) (stays : Bool) (mid new : Grown) → IsGrownFrom tree stays mid → IsGrownFrom mid.tree mid.stays new → IsGrownFrom tree stays new
+grown_more tree stays mid new first then =
     record {
       root = then.root ∙ first.root;
       keeps = λ is. let k = then.keeps is in let j = first.keeps k.0 in (j.0, λ table serves. k.1 table (j.1 table serves));

@@ -1,37 +1,74 @@
--- The routes after a step that lists what was listed before.
-use Rattle.std.proofs.Common.{◌≡◌, ◌⊎◌, inl, inr, ℕ, IsTrue, is_some, List, [], Option, sym, ◌∙◌, subst}
+-- What is listed after a step was listed before, but at the keys that it took or issued.
+use Rattle.std.proofs.Common.{◌≡◌, ◌≢◌, IsTrue, is_some, ◌⊎◌, inl, inr, ℕ, Bool, true, false, List, [], Option, None, Some, sym, ap, ◌∙◌, subst, refl}
+use Rattle.std.specs.List.{All, Contains}
+use Rattle.std.proofs.lemmas.List.Elements.{All-contains}
+use Rattle.ospf_base.specs.declared.ids.Instance.{Instance}
+use Rattle.ospf_laws.proofs.ListFacts.{Contains-nil}
+use Rattle.ospf_laws.specs.Words.{Brings}
+use Rattle.ospf_lsa.specs.Lsa.{key_of}
 use Rattle.ospf_area.specs.Outputs.{OutputsValue}
 use Rattle.ospf_area.specs.State.{AreaValue}
-use Rattle.ospf_base.specs.declared.ids.RouterId.{RouterId}
-use Rattle.ospf_graph.specs.declared.route.Route.{Route}
-use Rattle.ospf_laws.proofs.KeptChains.{step_keeps}
-use Rattle.ospf_laws.specs.Step.{Event}
-use Rattle.ospf_lsdb.specs.Counts.{fresh_count}
-use Rattle.ospf_lsdb.specs.Database.{IsDatabase}
+use Rattle.ospf_base.specs.declared.ids.LsaKey.{LsaKey}
+use Rattle.ospf_laws.specs.Step.{Event, StepLaws}
+use Rattle.ospf_lsdb.specs.Database.{Entry, Held, entry_of, is_fresh}
 use Rattle.ospf_step.specs.declared.dropped.Dropped.{Dropped}
-use Rattle.ospf_router.proofs.KeepLemmas.{still_lists, still_routes}
-use Rattle.ospf_router.specs.Listings.{ListsAs}
-use Rattle.ospf_router.specs.Routes.{AreRoutes}
 use Rattle.ospf_step.specs.Drops.{is_dropped}
-use Rattle.ospf_step.specs.Same.{IsSameRouter}
-use Rattle.ospf_router.specs.Routers.{HasRoutes}
-use Rattle.ospf_router.specs.Steps.{IsLawful}
+use Rattle.ospf_router.proofs.KeepLemmas.{lists_each}
+use Rattle.ospf_router.proofs.TouchedChains.{step_keeps}
+use Rattle.ospf_router.specs.Listings.{AreListedAt, ListsAs, ListsBut, ListsEntry, StayListed}
+use Rattle.ospf_router.specs.Touched.{KeepsBut, Touches}
 
-module _ (e : Event) (s t : AreaValue) (dropped : Option Dropped) (out : OutputsValue) (table : List Route) (before after : ℕ) where
-  -- a step that is dropped, or takes and issues nothing and leaves as many LSAs below MaxAge
-  abbrev pub IsSettled : Type 0
-  IsSettled = IsTrue (is_some dropped) ⊎ ((out.taken ≡ []) × (out.issued ≡ []) × (after ≡ before))
+module _ (out : OutputsValue) (s t : AreaValue) (lsas : List (List ℕ)) (keeps : KeepsBut out s t) (lists : ListsAs s.database lsas) where
+  none_at : (key : LsaKey) (e : Entry) → entry_of t.database key ≡ Some e → entry_of t.database key ≡ None → ⊥
+  none_at key e is none = let no : None ≡ Some e = sym none ∙ is in cc
 
-  pub settled_routes : IsLawful e s dropped out t → IsSameRouter s t → IsDatabase t.database → HasRoutes s table → (IsTrue (is_some dropped) → t ≡ s)
-      → before ≡ fresh_count s.database → after ≡ fresh_count t.database → IsSettled → HasRoutes t table
-  settled_routes lawful same is routes unchanged was now (inl gone) = subst (λ (x : AreaValue). HasRoutes x table) (sym (unchanged gone)) routes
-  settled_routes lawful same is routes unchanged was now (inr (taken, issued, count)) =
-      let keeps = step_keeps is_dropped e s out t lawful.laws (taken, issued) in
-      let still = still_routes s.router s.database t.database table routes is keeps (sym now ∙ count ∙ was) in
-      subst (λ (r : RouterId). AreRoutes r t.database table) (sym same.router) still
+  old_at : (key : LsaKey) (e : Entry) → entry_of t.database key ≡ Some e → is_fresh e ≡ false → AreListedAt t.database key lsas
+  old_at key e at old d is fresh = absurd (let same : Some d ≡ Some e = sym is ∙ at in let one : d ≡ e = (cc) in let no : is_fresh e ≡ true = subst (λ (x : Entry). is_fresh x ≡ true) one fresh in cc)
 
-  pub settled_listing : (lsas : List (List ℕ)) → IsLawful e s dropped out t → IsDatabase t.database → HasRoutes s table → ListsAs s.database lsas → (IsTrue (is_some dropped) → t ≡ s)
-      → before ≡ fresh_count s.database → after ≡ fresh_count t.database → IsSettled → ListsAs t.database lsas
-  settled_listing lsas lawful is routes lists unchanged was now (inl gone) = subst (λ (x : AreaValue). ListsAs x.database lsas) (sym (unchanged gone)) lists
-  settled_listing lsas lawful is routes lists unchanged was now (inr (taken, issued, count)) =
-      still_lists s.database t.database lsas routes.database is (step_keeps is_dropped e s out t lawful.laws (taken, issued)) (sym now ∙ count ∙ was) lists
+  fresh_at : (key : LsaKey) (e : Entry) → entry_of t.database key ≡ Some e → is_fresh e ≡ true → Touches out key ⊎ AreListedAt t.database key lsas
+  fresh_at key e at fresh = elim (keeps key e at fresh) [
+    | inl touched ↦ inl touched
+    | inr d ↦ inr (λ x is young. let same : Some e ≡ Some x = sym at ∙ is in let one : e ≡ x = (cc) in let l = lists_each s.database lsas key lists d.0 d.1 d.2 in subst (λ (y : Entry). ListsEntry lsas y) one (l.0, l.1, l.2 ∙ d.3))
+  ]
+
+  pub lists_but : ListsBut out t.database lsas
+  lists_but key = by (entry_of t.database key) refl
+    where
+      by : (o : Option Entry) → entry_of t.database key ≡ o → Touches out key ⊎ AreListedAt t.database key lsas
+      by None at = inr (λ e is fresh. absurd (none_at key e is at))
+      by (Some e) at = go (is_fresh e) refl
+        where
+          go : (b : Bool) → is_fresh e ≡ b → Touches out key ⊎ AreListedAt t.database key lsas
+          go true fresh = fresh_at key e at fresh
+          go false old = inr (old_at key e at old)
+
+pub step_lists : (e : Event) (s t : AreaValue) (out : OutputsValue) (lsas : List (List ℕ)) → StepLaws is_dropped e s out t → ListsAs s.database lsas → ListsBut out t.database lsas
+step_lists e s t out lsas laws lists = lists_but out s t lsas (step_keeps is_dropped e s out t laws) lists
+
+-- a step that is dropped
+pub dropped_same : (dropped : Option Dropped) (s t : AreaValue) (P : AreaValue → Type 0) → (dropped ≢ None → t ≡ s) → IsTrue (is_some dropped) → P s → P t
+dropped_same None s t P same is h = absurd (cc)
+dropped_same (Some cause) s t P same is h = subst P (sym (same (λ none. cc))) h
+
+-- once what was taken is listed and then what was issued, all is
+pub all_listed : (out : OutputsValue) (db : List Held) (first mid last : List (List ℕ)) → ListsBut out db first → All (λ (i : Instance). AreListedAt db i.key mid) out.taken → StayListed db first mid
+    → All (λ (lsa : List ℕ). AreListedAt db (key_of lsa) last) out.issued → StayListed db mid last → (key : LsaKey) → AreListedAt db key last
+all_listed out db first mid last but taken stay issued stay_last key = elim (but key) [
+  | inl touched ↦ subst (λ (k : LsaKey). AreListedAt db k last) touched.2 (by touched.0 touched.1)
+  | inr was ↦ stay_last key (stay key was)
+]
+  where
+    by : (i : Instance) → Brings out i → AreListedAt db i.key last
+    by i (Brings.Takes c) = stay_last i.key (All-contains (λ (j : Instance). AreListedAt db j.key mid) out.taken i taken c)
+    by i (Brings.Issues lsa c e) = subst (λ (k : LsaKey). AreListedAt db k last) (ap (λ (j : Instance). j.key) e) (All-contains (λ (l : List ℕ). AreListedAt db (key_of l) last) out.issued lsa issued c)
+
+-- where nothing was taken or issued, all is
+pub none_brought : (out : OutputsValue) (db : List Held) (lsas : List (List ℕ)) → ListsBut out db lsas → out.taken ≡ [] → out.issued ≡ [] → (key : LsaKey) → AreListedAt db key lsas
+none_brought out db lsas but taken issued key = elim (but key) [
+  | inl touched ↦ absurd (by touched.0 touched.1)
+  | inr was ↦ was
+]
+  where
+    by : (i : Instance) → Brings out i → ⊥
+    by i (Brings.Takes c) = Contains-nil i (subst (λ (is : List Instance). Contains is i) taken c)
+    by i (Brings.Issues lsa c e) = Contains-nil lsa (subst (λ (ls : List (List ℕ)). Contains ls lsa) issued c)

@@ -5,3 +5,4 @@ pub mod Routers
 pub mod Starts
 pub mod Steps
 pub mod Text
+pub mod Touched

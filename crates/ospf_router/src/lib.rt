@@ -8,7 +8,7 @@
 #![tactic(auto)]
 
 mod fault;
-mod grown;
+mod followed;
 mod listed;
 mod router;
 mod routes;

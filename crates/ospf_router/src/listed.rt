@@ -33,21 +33,6 @@ pub(crate) fn lists_as(database: &Lsdb, listing: &Listing) -> bool
     left.next().is_none()
 }
 
-/// The first entry below `MAX_AGE` that is not the LSA at its place of the listing, if there is one. No memory is taken.
-pub(crate) fn first_other<'a>(database: &'a Lsdb, listing: &Listing) -> Option<EntryView<'a>> {
-    let mut left = listing.lsas().iter();
-    for entry in database.entries() {
-        if entry.age().ticks() == MAX_AGE {
-            continue;
-        }
-        match left.next() {
-            Some(lsa) if is_entry_of(&entry, lsa) => {}
-            _ => return Some(entry),
-        }
-    }
-    None
-}
-
 // Whether an entry is this LSA, at whatever age.
 fn is_entry_of(entry: &EntryView, lsa: &Lsa) -> bool
     ensures { IsTrue result → contents lsa.now ≡ entry.now.contents }

@@ -4,9 +4,7 @@ ghost use Rattle.std.specs.Prelude.{◌≡◌, ◌≢◌, ◌<◌, ◌⊎◌, �
 ghost use Rattle.ospf_base.specs.Sums.{contents};
 ghost use Rattle.ospf_edges.specs.Listed.{advertisements_of};
 ghost use Rattle.ospf_flood.specs.Rules.{max_sequence_number};
-ghost use Rattle.ospf_lsdb.specs.Counts.{fresh_count};
-ghost use Rattle.ospf_lsdb.specs.Database.{IsDatabase};
-ghost use Rattle.ospf_router.specs.Listings.{ListsAs};
+ghost use Rattle.ospf_router.specs.Listings.{ListsAs, ListsBut};
 ghost use Rattle.ospf_step.specs.Same.{IsSameRouter};
 ghost use Rattle.ospf_step.specs.Drops.{dropped_by};
 ghost use Rattle.ospf_step.specs.Events.{happening};
@@ -26,7 +24,7 @@ use ospf_lsa::Listing;
 use ospf_neighbour::Neighbour;
 use ospf_originate::starts_sound;
 use ospf_spf::RouteTable;
-use ospf_step::{Dropped, Event, Taken, step};
+use ospf_step::{Dropped, Event, Taken};
 use std::alloc::{AllocError, Global};
 use std::marker::Model;
 
@@ -239,82 +237,38 @@ fn advance(
     ensures router { routes.new.router ≡ routes.old.router }
     ensures memory { OnErr result (dropped_by (happening event.entry) area.old ≡ None) }
 {
-    let before = fresh_in(area);
-    let taken = step_area(area, event, alloc)?;
-    let settled = is_settled(&taken, before, fresh_in(area));
-    let table_changed = refresh(settled, area, routes, alloc)?;
+    let taken = ospf_step::step(area, event, alloc)?;
+    let table_changed = refresh(&taken, area, routes, alloc)?;
     Ok(Advanced {
         taken,
         table_changed,
     })
 }
 
-// How many LSAs of the database are below `MAX_AGE`.
-fn fresh_in(area: &Area) -> usize
-    ensures count { result ≡ fresh_count area.now.database }
-    ensures database { IsDatabase area.now.database }
-{
-    // Its contract says that it is a database.
-    let _entries = area.database.entries();
-    area.database.fresh()
-}
-
-// As `ospf_step::step`, in the words of a router: what it keeps, and the laws that it keeps. Its name is not `step`, since that
-// of the type `Step` would differ in case alone.
-fn step_area(area: &mut Area, event: Event<'_>, alloc: Global) -> Result<Taken, AllocError>
-    requires { IsKept area.old }
-    // The event is taken by the rules, and the same router can be stepped again.
-    ensures lawful { IfOk result (λ t. IsLawful (happening event.entry) area.old t.dropped t.out
-        area.new) }
-    ensures same { OnOk result (IsSameRouter area.old area.new) }
-    ensures kept { OnOk result (IsKept area.new) }
-    // An event that is dropped changes nothing, and needs no memory.
-    ensures unchanged { IfOk result (λ t. IsTrue (is_some t.dropped) → area.new ≡ area.old) }
-    ensures memory { OnErr result (dropped_by (happening event.entry) area.old ≡ None) }
-{
-    step(area, event, alloc)
-}
-
-// Whether a step lists what was listed before: it is dropped, or brings nothing, and as many LSAs are below `MAX_AGE` as were.
-fn is_settled(taken: &Taken, before: usize, after: usize) -> bool
-    ensures dropped { IsTrue (is_some taken.now.dropped) → IsTrue result }
-    ensures settled { IsTrue result → IsTrue (is_some taken.now.dropped)
-        ⊎ ((taken.now.out.taken ≡ []) × (taken.now.out.issued ≡ []) × (after ≡ before)) }
-{
-    if taken.dropped.is_some() {
-        return true;
-    }
-    brings_none(&taken.out) && after == before
-}
-
-// Whether nothing was installed from an Update or issued. If so, what is listed after a step was so before.
-fn brings_none(out: &Outputs) -> bool
-    ensures { IsTrue result → (out.now.taken ≡ []) × (out.now.issued ≡ []) }
-{
-    out.taken.is_empty() && out.issued.is_empty()
-}
-
-// The routes after a step: one that lists what was listed before leaves them, with no look at the database.
+// The routes after a step: where its datagram is dropped they stay, with no look at the database.
 fn refresh(
-    settled: bool,
+    taken: &Taken,
     area: &Area,
     routes: &mut KeptRoutes,
     alloc: Global,
 ) -> Result<bool, AllocError>
-    // The routes are of this router, and where they are settled, those of what it lists.
+    // The routes are of this router and, where the datagram is dropped, those of what it lists.
     requires router { routes.old.router ≡ area.now.router }
-    requires as_before { IsTrue settled → HasRoutes area.now routes.old.table }
-    requires as_listed { IsTrue settled → ListsAs area.now.database routes.old.listing }
+    requires as_before { IsTrue (is_some taken.now.dropped) → HasRoutes area.now routes.old.table }
+    requires as_listed { IsTrue (is_some taken.now.dropped) →
+        ListsAs area.now.database routes.old.listing }
+    // What it lists otherwise was listed before, but at the keys that were taken or issued.
+    requires listed { ListsBut taken.now.out area.now.database routes.old.listing }
     // Then they are those of what it lists in any case, and a change of the table is told.
     ensures routes { OnOk result (HasRoutes area.now routes.new.table) }
     ensures listing { OnOk result (ListsAs area.now.database routes.new.listing) }
     ensures changed { IfOk result (λ b. IsTrue b ↔ (routes.new.table ≢ routes.old.table)) }
-    // They stay of this router, and routes that are settled need no memory.
+    // They stay of this router, and a datagram that is dropped needs no memory.
     ensures router { routes.new.router ≡ routes.old.router }
-    ensures memory { OnErr result (IsTrue settled → ⊥) }
+    ensures memory { OnErr result (IsTrue (is_some taken.now.dropped) → ⊥) }
 {
-    if settled {
+    if taken.dropped.is_some() {
         return Ok(false);
     }
-    routes.refresh(&area.database, alloc)
+    routes.follow(&taken.out, &area.database, alloc)
 }

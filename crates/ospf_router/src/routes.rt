@@ -5,11 +5,12 @@ ghost use Rattle.ospf_edges.specs.Listed.{advertisements_of};
 ghost use Rattle.ospf_graph.specs.Routes.{IsTable};
 ghost use Rattle.ospf_lsa.specs.Listing.{IsListing};
 ghost use Rattle.ospf_lsdb.specs.Database.{IsDatabase, listed};
-ghost use Rattle.ospf_router.specs.Listings.{ListsAs};
+ghost use Rattle.ospf_router.specs.Listings.{ListsAs, ListsBut};
 ghost use Rattle.ospf_router.specs.Routes.{AreRoutes};
 
-use crate::grown::grown_to;
+use crate::followed::{followed, lists_as_many};
 use crate::listed::lists_as;
+use ospf_area::Outputs;
 use ospf_base::RouterId;
 use ospf_lsa::Listing;
 use ospf_lsdb::Lsdb;
@@ -84,9 +85,35 @@ impl KeptRoutes {
         if self.is_current(database) {
             return Ok(false);
         }
-        match self.grow(database, alloc)? {
+        self.renew(database, alloc)
+    }
+
+    /// As `refresh`, behind a step that put this out. Of the database only what it has at the keys that were taken and issued
+    /// is looked at, and the paths go on from there, as long as no LSA leaves what is listed. Where nothing was taken or issued
+    /// and none leaves, no memory is taken.
+    ///
+    /// `AllocError` where memory runs out; then the table is as it was.
+    pub fn follow(
+        &mut self,
+        out: &Outputs,
+        database: &Lsdb,
+        alloc: Global,
+    ) -> Result<bool, AllocError>
+        requires { ListsBut out.now database.now self.old.listing }
+        // The table is that of what the database lists, and it is told whether it is another one.
+        ensures table { OnOk result (AreRoutes self.old.router database.now self.new.table) }
+        ensures listing { OnOk result (ListsAs database.now self.new.listing) }
+        ensures changed { IfOk result (λ b. IsTrue b ↔ (self.new.table ≢ self.old.table)) }
+        // The router stays, and where memory runs out the table too.
+        ensures router { self.new.router ≡ self.old.router }
+        ensures kept { OnErr result (self.new.table ≡ self.old.table) }
+    {
+        if self.is_still(out, database) {
+            return Ok(false);
+        }
+        match self.grow(out, database, alloc)? {
             Some(changed) => Ok(changed),
-            None => self.renew(database, alloc),
+            None => self.refresh(database, alloc),
         }
     }
 
@@ -109,9 +136,27 @@ impl KeptRoutes {
         }
     }
 
+    // Whether nothing was taken or issued, and as many LSAs are listed as the database has below `MAX_AGE`. No memory is taken.
+    fn is_still(&self, out: &Outputs, database: &Lsdb) -> bool
+        requires { ListsBut out.now database.now self.now.listing }
+        ensures routes { IsTrue result → AreRoutes self.now.router database.now self.now.table }
+        ensures listing { IsTrue result → ListsAs database.now self.now.listing }
+    {
+        match &self.tree {
+            Some(tree) => brings_none(out) && lists_as_many(database, tree),
+            None => false,
+        }
+    }
+
     // Goes on from the tree that is kept, as far as LSAs came: whether the table is another one, or nothing where that does not
     // lead to what the database lists.
-    fn grow(&mut self, database: &Lsdb, alloc: Global) -> Result<Option<bool>, AllocError>
+    fn grow(
+        &mut self,
+        out: &Outputs,
+        database: &Lsdb,
+        alloc: Global,
+    ) -> Result<Option<bool>, AllocError>
+        requires { ListsBut out.now database.now self.old.listing }
         // Where it goes on, the table is that of what the database lists; a change is told.
         ensures table { IfOk result (λ o. IfSome o
             (λ _. AreRoutes self.old.router database.now self.new.table)) }
@@ -126,7 +171,7 @@ impl KeptRoutes {
         let Some(tree) = self.tree.take() else {
             return Ok(None);
         };
-        let Some(grown) = grown_to(tree, database, alloc)? else {
+        let Some(grown) = followed(tree, out, database, alloc)? else {
             return Ok(None);
         };
         if grown.stays {
@@ -173,6 +218,13 @@ impl KeptRoutes {
         let tree = GrowingTree::of(alloc, listing, self.router)?;
         self.put(tree, alloc)
     }
+}
+
+// Whether nothing was installed from an Update or issued.
+fn brings_none(out: &Outputs) -> bool
+    ensures { IsTrue result → (out.now.taken ≡ []) × (out.now.issued ≡ []) }
+{
+    out.taken.is_empty() && out.issued.is_empty()
 }
 
 // Whether two tables are one.

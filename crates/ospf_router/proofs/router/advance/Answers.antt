@@ -1,12 +1,16 @@
-use Rattle.ospf_router.proofs.SettledLemmas.{settled_listing, settled_routes}
+use Rattle.ospf_router.proofs.SettledLemmas.{dropped_same, step_lists}
+use Rattle.ospf_area.specs.State.{AreaValue}
+use Rattle.ospf_router.specs.Listings.{ListsAs}
+use Rattle.ospf_router.specs.Routers.{HasRoutes}
 use Rattle.ospf_router.proofs.router.advance.Goals as goal
 
 pub refresh-requires-clause-as_before : goal.refresh-requires-clause-as_before
 refresh-requires-clause-as_before c = λ t.
-    settled_routes _ _ _ _ _ _ _ _ c.in_ok-taken.ensures.lawful c.in_ok-taken.ensures.same c.fresh_in.ensures.database c.requires.routes
-    c.in_ok-taken.ensures.unchanged c.fresh_in-before.ensures.count c.fresh_in.ensures.count (c.is_settled-settled.ensures.settled t)
+    dropped_same _ _ _ (λ (s : AreaValue). HasRoutes s c.args.routes.now.table) c.in_ok-taken.ensures.step.unchanged t c.requires.routes
 
 pub refresh-requires-clause-as_listed : goal.refresh-requires-clause-as_listed
 refresh-requires-clause-as_listed c = λ t.
-    settled_listing _ _ _ _ _ _ _ _ _ c.in_ok-taken.ensures.lawful c.fresh_in.ensures.database c.requires.routes c.requires.listing
-    c.in_ok-taken.ensures.unchanged c.fresh_in-before.ensures.count c.fresh_in.ensures.count (c.is_settled-settled.ensures.settled t)
+    dropped_same _ _ _ (λ (s : AreaValue). ListsAs s.database c.args.routes.now.listing) c.in_ok-taken.ensures.step.unchanged t c.requires.listing
+
+pub refresh-requires-clause-listed : goal.refresh-requires-clause-listed
+refresh-requires-clause-listed c = step_lists _ _ _ _ _ c.in_ok-taken.ensures.laws c.requires.listing

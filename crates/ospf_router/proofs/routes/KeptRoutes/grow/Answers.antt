@@ -1,9 +1,9 @@
-use Rattle.std.proofs.Common.{◌≡◌, ◌∙◌, Option, Some, IfSome, IsTrue, true, ap, subst, sym}
+use Rattle.std.proofs.Common.{◌≡◌, ◌∙◌, ℕ, List, Option, Some, IfSome, IsTrue, true, ap, subst, sym}
 use Rattle.ospf_base.specs.declared.ids.RouterId.{RouterId}
 use Rattle.ospf_lsa.specs.Listing.{IsListing}
 use Rattle.ospf_lsdb.specs.Database.{IsDatabase, listed}
-use Rattle.ospf_router.specs.Kept.{IsGrownFrom, IsOwnServed, IsServed}
-use Rattle.ospf_router.specs.Listings.{ListsAs}
+use Rattle.ospf_router.specs.Kept.{IsGrownFrom, IsOwnServed, IsServed, lsas_in}
+use Rattle.ospf_router.specs.Listings.{ListsAs, ListsBut}
 use Rattle.ospf_router.specs.Routes.{AreRoutes, RoutesValue}
 use Rattle.ospf_router.proofs.ServedLemmas.{routes_of, routes_served}
 use Rattle.ospf_router.proofs.routes.KeptRoutes.grow.Goals as goal
@@ -51,3 +51,8 @@ returns-clause-table c =
     let d = (goal.at.returns-clause-table c).In-Some-2 in
     let is = routes_of c.args.database.now c.self.inside.router c.in-Some-2.grown.tree.listing c.put.new.self.table (database d) (listing d) (lists d) c.in_ok-changed.ensures.table in
     subst (λ (r : RouterId). AreRoutes r c.args.database.now c.put.new.self.table) (ap (λ (r : RoutesValue). r.router) c.self.view_is) is
+
+pub followed-requires : goal.followed-requires
+followed-requires c =
+    let e = sym (ap (λ (r : RoutesValue). r.listing) c.self.view_is) ∙ ap lsas_in (sym c.take.ensures.value ∙ c.in-Some.is) in
+    subst (λ (l : List (List ℕ)). ListsBut c.args.out.now c.args.database.now l) e c.requires
