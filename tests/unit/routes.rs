@@ -1,19 +1,23 @@
 //! Tables that are kept while LSAs come, change and go, beside tables that are made of all LSAs.
 
-use super::made::{link, stub, to};
+use super::made::{key_of, link, lsa_of, stub, to};
 use ospf_base::{Kind, LsaKey, RouterId};
 use ospf_lsa::{Link, LinkKind, Lsa};
 use ospf_lsdb::Lsdb;
-use ospf_router::KeptRoutes;
+use ospf_router::{KeptRoutes, Outputs};
 use ospf_spf::RouteTable;
 use rand_core::utils::NextWord;
 use rand_pcg::Pcg32;
 use std::alloc::Global;
+use std::process::Abort;
 use std::test::Fail;
 
 const ROUTERS: u32 = 7;
 const NETWORKS: u32 = 3;
 const STEPS: u64 = 400;
+
+// Prefixes at one router alone, so that most changes touch few of all.
+const OWN_STUBS: u32 = 6;
 
 const ROOT: RouterId = RouterId(1);
 
@@ -39,8 +43,12 @@ struct Area {
 
 fn empty_area(alloc: Global) -> Result<Area, Fail> {
     let mut links = Vec::new(alloc);
-    for _ in 0..ROUTERS {
-        links.push(Vec::new(alloc))?;
+    for router in 0..ROUTERS {
+        let mut own = Vec::new(alloc);
+        for number in 0..OWN_STUBS {
+            own.push(stub(0x0a04_0000 | router << 12 | number << 8, MASK, 1))?;
+        }
+        links.push(own)?;
     }
     let mut members = Vec::new(alloc);
     for _ in 0..NETWORKS {
@@ -65,24 +73,51 @@ fn drawn_link(own: u32, chance: &mut Pcg32) -> Link {
     }
 }
 
-fn tell_router(area: &Area, router: u32, database: &mut Lsdb, alloc: Global) -> Result<(), Fail> {
+// A database, and what a step brings into it.
+#[derive(Drop)]
+struct Stepped {
+    database: Lsdb,
+    out: Outputs,
+}
+
+fn empty_step(alloc: Global) -> Stepped {
+    Stepped {
+        database: Lsdb::new(alloc),
+        out: Outputs::new(alloc),
+    }
+}
+
+// Puts an LSA into the database: the root's own is issued, any other taken.
+fn bring(lsa: Lsa, stepped: &mut Stepped, alloc: Global) -> Result<(), Fail> {
+    let key = lsa.view().key();
+    stepped.database.install(lsa, 0, true)?;
+    let Some(entry) = stepped.database.get(&key) else {
+        return Ok(());
+    };
+    if key.router == ROOT {
+        stepped.out.issued.push(entry.copy(alloc)?)?;
+    } else {
+        stepped.out.taken.push(entry.instance())?;
+    }
+    Ok(())
+}
+
+fn tell_router(area: &Area, router: u32, stepped: &mut Stepped, alloc: Global) -> Result<(), Fail> {
     let links = &area.links[router as usize];
     let lsa = Lsa::router(alloc, router_of(router), area.number, links)?;
-    database.install(lsa, 0, true)?;
-    Ok(())
+    bring(lsa, stepped, alloc)
 }
 
 fn tell_network(
     area: &Area,
     network: u32,
     by: RouterId,
-    database: &mut Lsdb,
+    stepped: &mut Stepped,
     alloc: Global,
 ) -> Result<(), Fail> {
     let members = &area.members[network as usize];
     let lsa = Lsa::network(alloc, network_of(network), by, area.number, MASK, members)?;
-    database.install(lsa, 0, true)?;
-    Ok(())
+    bring(lsa, stepped, alloc)
 }
 
 fn flush(key: &LsaKey, database: &mut Lsdb) {
@@ -93,7 +128,7 @@ fn flush(key: &LsaKey, database: &mut Lsdb) {
 // One change by chance: a link or a member comes or goes, two LSAs come at once, or one is flushed.
 fn change(
     area: &mut Area,
-    database: &mut Lsdb,
+    stepped: &mut Stepped,
     chance: &mut Pcg32,
     alloc: Global,
 ) -> Result<(), Fail> {
@@ -105,25 +140,25 @@ fn change(
         0..6 => {
             let more = drawn_link(router, chance);
             area.links[router as usize].push(more)?;
-            tell_router(area, router, database, alloc)
+            tell_router(area, router, stepped, alloc)
         }
         6..8 => {
             area.links[router as usize].push(to(router_of(other), router, 2))?;
             area.links[other as usize].push(to(router_of(router), other, 2))?;
-            tell_router(area, router, database, alloc)?;
-            tell_router(area, other, database, alloc)
+            tell_router(area, router, stepped, alloc)?;
+            tell_router(area, other, stepped, alloc)
         }
         8..12 => {
             area.members[network as usize].push(router_of(router))?;
-            tell_network(area, network, router_of(other), database, alloc)
+            tell_network(area, network, router_of(other), stepped, alloc)
         }
         12 => {
             area.members[network as usize].pop();
-            tell_network(area, network, router_of(other), database, alloc)
+            tell_network(area, network, router_of(other), stepped, alloc)
         }
         13 => {
             area.links[router as usize].pop();
-            tell_router(area, router, database, alloc)
+            tell_router(area, router, stepped, alloc)
         }
         14 => {
             let key = LsaKey {
@@ -131,7 +166,7 @@ fn change(
                 id: router_of(router).0,
                 router: router_of(router),
             };
-            flush(&key, database);
+            flush(&key, &mut stepped.database);
             Ok(())
         }
         _ => {
@@ -140,7 +175,7 @@ fn change(
                 id: network_of(network),
                 router: router_of(other),
             };
-            flush(&key, database);
+            flush(&key, &mut stepped.database);
             Ok(())
         }
     }
@@ -151,23 +186,128 @@ fn is_same(alloc: Global, one: &RouteTable, other: &RouteTable) -> Result<bool, 
     Ok(one.changes(alloc, other)?.is_empty())
 }
 
+// What is kept of the routes: by all that the database lists, and behind each step.
+#[derive(Drop)]
+struct Kept {
+    refreshed: KeptRoutes,
+    followed: KeptRoutes,
+    last: RouteTable,
+}
+
+fn nothing_kept(alloc: Global) -> Kept {
+    Kept {
+        refreshed: KeptRoutes::new(ROOT, alloc),
+        followed: KeptRoutes::new(ROOT, alloc),
+        last: RouteTable::empty(alloc),
+    }
+}
+
+// Follows a step both ways, beside the table of all LSAs.
+fn follow(
+    kept: &mut Kept,
+    stepped: &Stepped,
+    alloc: Global,
+    rt: &impl Abort,
+) -> Result<(), Fail> {
+    let database = &stepped.database;
+    let refreshed = kept.refreshed.refresh(database, alloc)?;
+    let followed = kept.followed.follow(&stepped.out, database, alloc)?;
+    let whole = RouteTable::of(alloc, &database.listing(alloc)?, ROOT)?;
+    assert!(rt; is_same(alloc, kept.refreshed.table(), &whole)?);
+    assert!(rt; is_same(alloc, kept.followed.table(), &whole)?);
+    let is_other = !is_same(alloc, &kept.last, &whole)?;
+    assert_eq!(rt; refreshed, is_other);
+    assert_eq!(rt; followed, is_other);
+    kept.last = whole;
+    Ok(())
+}
+
 #[test]
 fn kept_tables_are_those_of_all_lsas(rt: HostRuntime) -> Result<(), Fail> {
     let alloc = rt.alloc();
     for seed in 0..8 {
         let mut chance = Pcg32::new(seed, 5);
         let mut area = empty_area(alloc)?;
-        let mut database = Lsdb::new(alloc);
-        let mut kept = KeptRoutes::new(ROOT, alloc);
-        let mut last = RouteTable::empty(alloc);
-        for step in 0..STEPS {
-            change(&mut area, &mut database, &mut chance, alloc)?;
-            let has_changed = kept.refresh(&database, alloc)?;
-            let whole = RouteTable::of(alloc, &database.listing(alloc)?, ROOT)?;
-            assert!(rt; is_same(alloc, kept.table(), &whole)?, "seed {seed}, step {step}");
-            assert!(rt; has_changed != is_same(alloc, &last, &whole)?, "seed {seed}, step {step}");
-            last = whole;
+        let mut stepped = empty_step(alloc);
+        let mut kept = nothing_kept(alloc);
+        for _ in 0..STEPS {
+            stepped.out = Outputs::new(alloc);
+            change(&mut area, &mut stepped, &mut chance, alloc)?;
+            follow(&mut kept, &stepped, alloc, &rt)?;
         }
     }
+    Ok(())
+}
+
+// An area in which all routers but the root have told of their links to it.
+fn told_area(stepped: &mut Stepped, alloc: Global) -> Result<Area, Fail> {
+    let mut area = empty_area(alloc)?;
+    for router in 1..ROUTERS {
+        area.links[0].push(to(router_of(router), router, 2))?;
+        area.links[router as usize].push(to(ROOT, router, 2))?;
+        tell_router(&area, router, stepped, alloc)?;
+    }
+    Ok(area)
+}
+
+#[test]
+fn a_root_that_comes_reaches_all_at_once(rt: HostRuntime) -> Result<(), Fail> {
+    let alloc = rt.alloc();
+    let mut stepped = empty_step(alloc);
+    let mut kept = nothing_kept(alloc);
+    let area = told_area(&mut stepped, alloc)?;
+    follow(&mut kept, &stepped, alloc, &rt)?;
+    assert!(rt; kept.followed.table().routes().is_empty());
+    stepped.out = Outputs::new(alloc);
+    tell_router(&area, 0, &mut stepped, alloc)?;
+    follow(&mut kept, &stepped, alloc, &rt)?;
+    assert_eq!(rt; kept.followed.table().routes().len(), (ROUTERS * OWN_STUBS) as usize);
+    Ok(())
+}
+
+#[test]
+fn an_lsa_that_expires_takes_its_routes(rt: HostRuntime) -> Result<(), Fail> {
+    let alloc = rt.alloc();
+    let mut stepped = empty_step(alloc);
+    let mut kept = nothing_kept(alloc);
+    let area = told_area(&mut stepped, alloc)?;
+    tell_router(&area, 0, &mut stepped, alloc)?;
+    follow(&mut kept, &stepped, alloc, &rt)?;
+    stepped.out = Outputs::new(alloc);
+    stepped.database.expire(&key_of(router_of(1).0));
+    follow(&mut kept, &stepped, alloc, &rt)?;
+    assert_eq!(rt; kept.followed.table().routes().len(), ((ROUTERS - 1) * OWN_STUBS) as usize);
+    Ok(())
+}
+
+#[test]
+fn an_lsa_that_is_taken_at_max_age_is_not_listed(rt: HostRuntime) -> Result<(), Fail> {
+    let alloc = rt.alloc();
+    let mut stepped = empty_step(alloc);
+    let mut kept = nothing_kept(alloc);
+    let area = told_area(&mut stepped, alloc)?;
+    tell_router(&area, 0, &mut stepped, alloc)?;
+    follow(&mut kept, &stepped, alloc, &rt)?;
+    stepped.out = Outputs::new(alloc);
+    bring(lsa_of(alloc, router_of(1).0, 9, 3600)?, &mut stepped, alloc)?;
+    follow(&mut kept, &stepped, alloc, &rt)?;
+    assert_eq!(rt; kept.followed.table().routes().len(), ((ROUTERS - 1) * OWN_STUBS) as usize);
+    Ok(())
+}
+
+#[test]
+fn a_stub_that_goes_takes_one_route(rt: HostRuntime) -> Result<(), Fail> {
+    let alloc = rt.alloc();
+    let mut stepped = empty_step(alloc);
+    let mut kept = nothing_kept(alloc);
+    let mut area = told_area(&mut stepped, alloc)?;
+    tell_router(&area, 0, &mut stepped, alloc)?;
+    follow(&mut kept, &stepped, alloc, &rt)?;
+    area.number += 1;
+    area.links[1].remove(0);
+    stepped.out = Outputs::new(alloc);
+    tell_router(&area, 1, &mut stepped, alloc)?;
+    follow(&mut kept, &stepped, alloc, &rt)?;
+    assert_eq!(rt; kept.followed.table().routes().len(), (ROUTERS * OWN_STUBS - 1) as usize);
     Ok(())
 }

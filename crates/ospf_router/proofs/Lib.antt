@@ -7,3 +7,4 @@ mod ListingFacts
 pub mod StartLemmas
 mod SettledLemmas
 mod TouchedChains
+mod TurnLemmas

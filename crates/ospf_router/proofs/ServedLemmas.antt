@@ -1,20 +1,23 @@
--- Tables that a tree serves are those of a database that lists what the tree's listing has.
-use Rattle.std.proofs.Common.{◌≡◌, ℕ, Bool, List, Option, None, Some, Result, Ok, Err, IfOk, IfSome, refl, sym, subst, ◌∙◌}
+-- Tables of a tree's listing are those of a database that lists the same.
+use Rattle.std.proofs.Common.{◌≡◌, ℕ, List, Option, None, Some, Result, Ok, Err, IfOk, IfSome, refl, sym, subst, ◌∙◌}
+use Rattle.std.specs.List.{Contains}
 use Rattle.ospf_base.specs.declared.ids.RouterId.{RouterId}
+use Rattle.ospf_base.specs.declared.prefix.Prefix.{Prefix}
 use Rattle.ospf_edges.specs.Listed.{advertisements_of}
 use Rattle.ospf_graph.specs.Advertisements.{Advertisement}
 use Rattle.ospf_graph.specs.Routes.{IsTable}
 use Rattle.ospf_graph.specs.declared.route.Route.{Route}
 use Rattle.ospf_lsa.specs.Listing.{IsListing}
 use Rattle.ospf_lsdb.specs.Database.{Held, IsDatabase, listed}
-use Rattle.ospf_router.specs.Kept.{IsGrownFrom, IsOwnServed}
+use Rattle.ospf_router.specs.Kept.{IsGrownFrom}
+use Rattle.ospf_router.specs.declared.followed.Grown.{Grown}
 use Rattle.ospf_router.specs.Listings.{ListsAs}
 use Rattle.ospf_router.specs.Routes.{AreRoutes}
 use Rattle.ospf_router.proofs.ListLemmas.{same_told}
-use Rattle.ospf_spf.specs.Growing.{GrowingValue, Serves}
-use Rattle.ospf_spf.specs.declared.growing.Grown.{Grown}
+use Rattle.ospf_spf.specs.Ends.{IsSpared, SparesBut}
+use Rattle.ospf_spf.specs.Growing.{GrowingValue}
 
--- the table of a tree's own listing is that of the database
+-- the table of a listing is that of the database
 pub routes_of : (db : List Held) (router : RouterId) (lsas : List (List ℕ)) (table : List Route) → IsDatabase db → IsListing (listed db) → ListsAs db lsas
     → IsTable (advertisements_of lsas) router table → AreRoutes router db table
 routes_of db router lsas table is listing same table_is =
@@ -24,11 +27,6 @@ routes_of db router lsas table is listing same table_is =
       routes = subst (λ (a : List Advertisement). IsTable a router table) (sym (same_told (listed db) lsas same)) table_is;
     }
 
-pub routes_served : (db : List Held) (router : RouterId) (tree : GrowingValue) (table : List Route) → IsDatabase db → IsListing (listed db) → ListsAs db tree.listing
-    → tree.root ≡ router → IsOwnServed tree → Serves tree table → AreRoutes router db table
-routes_served db router tree table is listing same root own serves =
-    routes_of db router tree.listing table is listing same (subst (λ (r : RouterId). IsTable (advertisements_of tree.listing) r table) root (serves (advertisements_of tree.listing) own))
-
 -- what is said of a value that may not be there
 pub each_some : {T E : Type 0} (r : Result (Option T) E) (P Q : T → Type 0) → ((x : T) → P x → Q x) → IfOk r (λ o. IfSome o P) → IfOk r (λ o. IfSome o Q)
 each_some (Ok (Some x)) P Q f h = f x h
@@ -36,13 +34,22 @@ each_some (Ok None) P Q f h = tt
 each_some (Err e) P Q f h = tt
 
 -- a tree that has not grown yet
-pub from_itself : (grown : Grown) → IsGrownFrom grown.tree grown.stays grown
-from_itself grown = record { root = refl; keeps = λ is. (is, λ table serves. serves) }
+pub from_itself : (grown : Grown) → IsGrownFrom grown.tree grown.touched.items grown
+from_itself grown = record { root = refl; kept = λ p m. m; spares = λ p free. record { routes = λ r of is. is; ways = λ w. w } }
+
+spared_then : (A B C : List Advertisement) (root : RouterId) (p : Prefix) → IsSpared A B root p → IsSpared B C root p → IsSpared A C root p
+spared_then A B C root p first then = record { routes = λ r of is. then.routes r of (first.routes r of is); ways = λ w. first.ways (then.ways w) }
 
 -- one LSA more
-pub grown_more : (tree : GrowingValue) (stays : Bool) (mid new : Grown) → IsGrownFrom tree stays mid → IsGrownFrom mid.tree mid.stays new → IsGrownFrom tree stays new
-grown_more tree stays mid new first then =
+pub grown_more : (tree : GrowingValue) (before : List Prefix) (mid new : Grown) → IsGrownFrom tree before mid → IsGrownFrom mid.tree mid.touched.items new → IsGrownFrom tree before new
+grown_more tree before mid new first then =
     record {
       root = then.root ∙ first.root;
-      keeps = λ is. let k = then.keeps is in let j = first.keeps k.0 in (j.0, λ table serves. k.1 table (j.1 table serves));
+      kept = λ p m. then.kept p (first.kept p m);
+      spares = λ p free.
+          let A = advertisements_of tree.listing in
+          let B = advertisements_of mid.tree.listing in
+          let C = advertisements_of new.tree.listing in
+          spared_then A B C tree.root p (first.spares p (λ m. free (then.kept p m)))
+          (subst (λ (r : RouterId). IsSpared B C r p) first.root (then.spares p free));
     }

@@ -1,22 +1,29 @@
 //! A tree that follows what a step of a router brings into its database.
 
-ghost use Rattle.std.specs.Prelude.{◌≡◌, All, IfOk, IfSome, IsTrue, length, true};
+ghost use Rattle.std.specs.Prelude.{◌≡◌, [], All, IfOk, IfSome, IsTrue, length};
 ghost use Rattle.ospf_lsa.specs.Listing.{IsListing, IsPut};
 ghost use Rattle.ospf_lsa.specs.Lsa.{key_of};
 ghost use Rattle.ospf_lsdb.specs.Counts.{fresh_count};
 ghost use Rattle.ospf_lsdb.specs.Database.{IsDatabase, lsa_of, listed};
-ghost use Rattle.ospf_router.specs.Kept.{IsGrownFrom, IsOwnServed};
+ghost use Rattle.ospf_router.specs.Kept.{IsGrownFrom};
 ghost use Rattle.ospf_router.specs.Listings.{AreListedAt, ListsAs, ListsBut, StayListed};
 
 use ospf_area::Outputs;
-use ospf_base::{Instance, LsaKey, MAX_AGE};
+use ospf_base::{Instance, LsaKey, MAX_AGE, Prefix};
 use ospf_lsa::{ListingFault, Lsa};
 use ospf_lsdb::{EntryView, Lsdb};
-use ospf_spf::{GrowingTree, Grown};
+use ospf_spf::GrowingTree;
 use std::alloc::{AllocError, Global};
 
+/// A tree that has grown, with the prefixes to which routes may be others, some perhaps more than once.
+#[derive(Drop)]
+pub(crate) struct Grown {
+    pub(crate) tree: GrowingTree,
+    pub(crate) touched: Vec<Prefix>,
+}
+
 /// The tree once each LSA that a step took or issued is listed as the database has it, if its listing is then what the
-/// database lists; else nothing. It tells too whether the table stays.
+/// database lists; else nothing.
 pub(crate) fn followed(
     tree: GrowingTree,
     out: &Outputs,
@@ -24,15 +31,17 @@ pub(crate) fn followed(
     alloc: Global,
 ) -> Result<Option<Grown>, AllocError>
     requires { ListsBut out.now database.now tree.listing }
-    // A tree that comes of it goes on from the given one, and serves its own listing.
-    ensures grown { IfOk result (λ o. IfSome o (IsGrownFrom tree true)) }
-    ensures served { IfOk result (λ o. IfSome o (λ g. IsOwnServed g.tree)) }
+    // A tree that comes of it goes on from the given one.
+    ensures grown { IfOk result (λ o. IfSome o (IsGrownFrom tree [])) }
     // The database then lists what that tree does, at whatever ages, and stands in order.
     ensures lists { IfOk result (λ o. IfSome o (λ g. ListsAs database.now g.tree.listing)) }
     ensures database { IfOk result (λ o. IfSome o (λ _. IsDatabase database.now)) }
     ensures listing { IfOk result (λ o. IfSome o (λ _. IsListing (listed database.now))) }
 {
-    let grown = Grown { tree, stays: true };
+    let grown = Grown {
+        tree,
+        touched: Vec::new(alloc),
+    };
     let Some(taken) = with_taken(grown, &out.taken, database, alloc)? else {
         return Ok(None);
     };
@@ -51,7 +60,6 @@ pub(crate) fn lists_as_many(database: &Lsdb, tree: &GrowingTree) -> bool
     ensures many { IsTrue result → fresh_count database.now ≡ length tree.now.listing }
     ensures database { IsDatabase database.now }
     ensures listing { IsListing tree.now.listing }
-    ensures served { IsOwnServed tree.now }
 {
     // Its contract says that it is a database.
     let _entries = database.entries();
@@ -65,7 +73,7 @@ fn with_taken(
     database: &Lsdb,
     alloc: Global,
 ) -> Result<Option<Grown>, AllocError>
-    ensures grown { IfOk result (λ o. IfSome o (IsGrownFrom grown.tree grown.stays)) }
+    ensures grown { IfOk result (λ o. IfSome o (IsGrownFrom grown.tree grown.touched.items)) }
     ensures listed { IfOk result (λ o. IfSome o
         (λ g. All (λ i. AreListedAt database.now i.key g.tree.listing) taken.now)) }
     ensures stay { IfOk result (λ o. IfSome o
@@ -88,7 +96,7 @@ fn with_issued(
     database: &Lsdb,
     alloc: Global,
 ) -> Result<Option<Grown>, AllocError>
-    ensures grown { IfOk result (λ o. IfSome o (IsGrownFrom grown.tree grown.stays)) }
+    ensures grown { IfOk result (λ o. IfSome o (IsGrownFrom grown.tree grown.touched.items)) }
     ensures listed { IfOk result (λ o. IfSome o
         (λ g. All (λ lsa. AreListedAt database.now (key_of lsa) g.tree.listing) issued.now)) }
     ensures stay { IfOk result (λ o. IfSome o
@@ -111,7 +119,7 @@ fn with_key(
     database: &Lsdb,
     alloc: Global,
 ) -> Result<Option<Grown>, AllocError>
-    ensures grown { IfOk result (λ o. IfSome o (IsGrownFrom grown.tree grown.stays)) }
+    ensures grown { IfOk result (λ o. IfSome o (IsGrownFrom grown.tree grown.touched.items)) }
     ensures listed { IfOk result (λ o. IfSome o
         (λ g. AreListedAt database.now key.now g.tree.listing)) }
     ensures stay { IfOk result (λ o. IfSome o
@@ -132,19 +140,16 @@ fn with_entry(
     entry: &EntryView<'_>,
     alloc: Global,
 ) -> Result<Option<Grown>, AllocError>
-    ensures grown { IfOk result (λ o. IfSome o (IsGrownFrom grown.tree grown.stays)) }
+    ensures grown { IfOk result (λ o. IfSome o (IsGrownFrom grown.tree grown.touched.items)) }
     ensures put { IfOk result (λ o. IfSome o
         (λ g. IsPut (lsa_of entry.now) grown.tree.listing g.tree.listing)) }
 {
-    let Grown { tree, stays } = grown;
+    let Grown { tree, mut touched } = grown;
     let Ok(lsa) = entry.copy(alloc) else {
         return Err(AllocError);
     };
-    match tree.grow(alloc, lsa) {
-        Ok(next) => Ok(Some(Grown {
-            tree: next.tree,
-            stays: stays && next.stays,
-        })),
+    match tree.grow(alloc, lsa, &mut touched) {
+        Ok(tree) => Ok(Some(Grown { tree, touched })),
         Err(ListingFault::Memory) => Err(AllocError),
         Err(ListingFault::MaxAge | ListingFault::Twice) => Ok(None),
     }

@@ -13,6 +13,7 @@ mod listed;
 mod router;
 mod routes;
 mod start;
+mod turned;
 
 pub use crate::fault::{StartFault, Stopped};
 pub use crate::router::{Router, Step};

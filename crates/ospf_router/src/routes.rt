@@ -1,15 +1,18 @@
 //! The routing table of a database, with the listing and the tree that it was made of.
 
-ghost use Rattle.std.specs.Prelude.{◌≡◌, ◌≢◌, ◌↔◌, [], IsTrue, IfOk, IfNone, IfSome, None, OnErr, OnOk};
+ghost use Rattle.std.specs.Prelude.{◌≡◌, ◌≢◌, ◌↔◌, List, [], IsTrue, IfOk, IfNone, IfSome, None, OnErr, OnOk};
 ghost use Rattle.ospf_edges.specs.Listed.{advertisements_of};
+ghost use Rattle.ospf_graph.specs.Advertisements.{Advertisement};
 ghost use Rattle.ospf_graph.specs.Routes.{IsTable};
 ghost use Rattle.ospf_lsa.specs.Listing.{IsListing};
 ghost use Rattle.ospf_lsdb.specs.Database.{IsDatabase, listed};
 ghost use Rattle.ospf_router.specs.Listings.{ListsAs, ListsBut};
 ghost use Rattle.ospf_router.specs.Routes.{AreRoutes};
+ghost use Rattle.ospf_spf.specs.Ends.{SparesBut};
 
-use crate::followed::{followed, lists_as_many};
+use crate::followed::{Grown, followed, lists_as_many};
 use crate::listed::lists_as;
+use crate::turned::turn_table;
 use ospf_area::Outputs;
 use ospf_base::RouterId;
 use ospf_lsa::Listing;
@@ -17,6 +20,9 @@ use ospf_lsdb::Lsdb;
 use ospf_spf::{GrowingTree, RouteTable};
 use std::alloc::{AllocError, Global};
 use std::marker::Model;
+
+// Where more than one prefix is touched for so many ends, the table is made anew.
+const ENDS_A_PREFIX: usize = 4;
 
 /// The routing table of a router over what its database lists (RFC 2328, section 16.1), kept with the listing that it is of
 /// and the shortest paths over it. Where the database lists an LSA anew, the paths go on from there, and the table is
@@ -92,7 +98,7 @@ impl KeptRoutes {
     /// is looked at, and the paths go on from there, as long as no LSA leaves what is listed. Where nothing was taken or issued
     /// and none leaves, no memory is taken.
     ///
-    /// `AllocError` where memory runs out; then the table is as it was.
+    /// `AllocError` where memory runs out; then some routes may be the new ones.
     pub fn follow(
         &mut self,
         out: &Outputs,
@@ -104,9 +110,8 @@ impl KeptRoutes {
         ensures table { OnOk result (AreRoutes self.old.router database.now self.new.table) }
         ensures listing { OnOk result (ListsAs database.now self.new.listing) }
         ensures changed { IfOk result (λ b. IsTrue b ↔ (self.new.table ≢ self.old.table)) }
-        // The router stays, and where memory runs out the table too.
+        // The router stays.
         ensures router { self.new.router ≡ self.old.router }
-        ensures kept { OnErr result (self.new.table ≡ self.old.table) }
     {
         if self.is_still(out, database) {
             return Ok(false);
@@ -163,10 +168,9 @@ impl KeptRoutes {
         ensures listing { IfOk result (λ o. IfSome o (λ _. ListsAs database.now self.new.listing)) }
         ensures changed { IfOk result (λ o. IfSome o
             (λ b. IsTrue b ↔ (self.new.table ≢ self.old.table))) }
-        // The router stays, and where it does not go on, or memory runs out, the table too.
+        // The router stays, and where it does not go on the table too.
         ensures router { self.new.router ≡ self.old.router }
         ensures kept { IfOk result (λ o. IfNone o (self.new.table ≡ self.old.table)) }
-        ensures kept_on_err { OnErr result (self.new.table ≡ self.old.table) }
     {
         let Some(tree) = self.tree.take() else {
             return Ok(None);
@@ -174,12 +178,30 @@ impl KeptRoutes {
         let Some(grown) = followed(tree, out, database, alloc)? else {
             return Ok(None);
         };
-        if grown.stays {
-            self.tree = Some(grown.tree);
-            return Ok(Some(false));
-        }
-        let changed = self.put(grown.tree, alloc)?;
+        let changed = self.turn(grown, alloc)?;
         Ok(Some(changed))
+    }
+
+    // Puts a tree that has grown in place, and makes the table that of it; whether it is another one.
+    fn turn(&mut self, grown: Grown, alloc: Global) -> Result<bool, AllocError>
+        requires root { grown.tree.root ≡ self.old.router }
+        requires turned { (A : List Advertisement) × IsTable A self.old.router self.old.table
+            × SparesBut grown.touched.items A (advertisements_of grown.tree.listing) self.old.router }
+        // The table is that of the tree's listing, which is kept; a change of the table is told.
+        ensures table { OnOk result (IsTable (advertisements_of grown.tree.listing) self.old.router
+            self.new.table) }
+        ensures listing { OnOk result (self.new.listing ≡ grown.tree.listing) }
+        ensures changed { IfOk result (λ b. IsTrue b ↔ (self.new.table ≢ self.old.table)) }
+        ensures router { self.new.router ≡ self.old.router }
+    {
+        self.tree = None;
+        let Grown { tree, touched } = grown;
+        if touched.len() > tree.ends() / ENDS_A_PREFIX {
+            return self.put(tree, alloc);
+        }
+        let changed = turn_table(&mut self.table, &tree, &touched, alloc)?;
+        self.tree = Some(tree);
+        Ok(changed)
     }
 
     // Puts a tree and its routes in place; whether the routes are others than before.

@@ -52,13 +52,13 @@ before_rest p xs j ordered first l e le lt =
     ]
 
 -- all that the list has from a place on
-from_place : (P : Route → Type 0) (xs : List Route) (j : ℕ) → ((l : ℕ) (e : Route) → j ≤ l → l < length xs → P (get_or xs l e)) → All P (drop j xs)
+pub from_place : (P : Route → Type 0) (xs : List Route) (j : ℕ) → ((l : ℕ) (e : Route) → j ≤ l → l < length xs → P (get_or xs l e)) → All P (drop j xs)
 from_place P xs j h k d lt =
     let long = length-drop j xs in
     rw get_or-drop (h (j + k) d (omega arith) (omega arith))
 
 -- and up to a place
-to_place : (P : Route → Type 0) (xs : List Route) (j : ℕ) → j ≤ length xs → ((l : ℕ) (e : Route) → l < j → P (get_or xs l e)) → All P (take j xs)
+pub to_place : (P : Route → Type 0) (xs : List Route) (j : ℕ) → j ≤ length xs → ((l : ℕ) (e : Route) → l < j → P (get_or xs l e)) → All P (take j xs)
 to_place P xs j le h k d lt =
     let long = length-take-le j xs le in
     let less : k < j = omega arith in

@@ -15,13 +15,13 @@ use Rattle.ospf_spf.proofs.HopLemmas.{adds_same}
 use Rattle.ospf_spf.specs.Reach.{AreReachesInOrder, HasHopOf, IsChosenEnd, IsGroup, IsRouteOf, prefix_code}
 use Rattle.ospf_spf.specs.declared.routes.Reach.{Reach}
 
-code_same : (p q : Prefix) → prefix_code p ≡ prefix_code q → p ≡ q
+pub code_same : (p q : Prefix) → prefix_code p ≡ prefix_code q → p ≡ q
 code_same p q h =
     let a = p.short in
     let b = q.short in
     prefix_same p q (omega arith) (omega arith)
 
-code_before : (p q : Prefix) → prefix_code p < prefix_code q → IsPrefixBefore p q
+pub code_before : (p q : Prefix) → prefix_code p < prefix_code q → IsPrefixBefore p q
 code_before p q h =
     let a = p.short in
     let b = q.short in

@@ -11,13 +11,13 @@ use Rattle.ospf_base.specs.declared.ids.RouterId.{RouterId}
 use Rattle.ospf_base.specs.declared.prefix.Prefix.{Prefix}
 use Rattle.ospf_lsa.specs.Listing.{IsPut}
 use Rattle.ospf_lsa.specs.Lsa.{key_of, kind_of}
-use Rattle.ospf_edges.specs.Given.{AreEndsAt, IsEdgesOf}
+use Rattle.ospf_edges.specs.Given.{AreEndsAt, IsEdgesOf, IsEndsOf}
 use Rattle.ospf_edges.specs.Listed.{advertisement_by, advertisement_of, advertisements_of}
 use Rattle.ospf_edges.specs.declared.end.End.{End}
 use Rattle.ospf_graph.specs.Advertisements.{Advertisement, IsListed, IsNetwork, router_lsa, network_lsa}
 use Rattle.ospf_graph.specs.Elsewhere.{AreSameBut, vertex_of}
 use Rattle.ospf_graph.specs.Graph.{IsEdge}
-use Rattle.ospf_incremental.specs.Kept.{ChangesEdges, IsSameBut, KeptTree}
+use Rattle.ospf_incremental.specs.Kept.{ChangesEdges, IsKeptTree, IsSameBut, KeptTree}
 use Rattle.ospf_graph.specs.Routes.{IsEnd}
 use Rattle.ospf_graph.specs.Search.{AtIn, StartsIn}
 use Rattle.ospf_graph.specs.Tree.{IsTree}
@@ -29,8 +29,10 @@ use Rattle.ospf_graph.proofs.ElsewhereLemmas.{edges_elsewhere, touching_or_not}
 use Rattle.ospf_graph.proofs.CandidateLemmas.{same_or_other}
 use Rattle.ospf_graph.proofs.ListLemmas.{member_of_map, member_to_map}
 use Rattle.ospf_graph.proofs.TreeLemmas.{IsTree-map}
-use Rattle.ospf_spf.specs.Growing.{AreAlike, AreGone, AreServed, IsGrownOver, IsTurn, Keeps, growing}
-use Rattle.ospf_spf.specs.declared.growing.Around.{Around}
+use Rattle.ospf_spf.specs.Ends.{IsSpared, ReplacesEnds}
+use Rattle.ospf_spf.specs.Growing.{AreGone, HasEndOf, IsGrownOver, IsTurn, IsUntouched}
+use Rattle.ospf_spf.specs.declared.growing.Turn.{Turn}
+use Rattle.ospf_spf.proofs.RouteFrame.{IsKeptHere, kept_routes}
 
 -- ---- the LSA that is put
 
@@ -71,25 +73,25 @@ module _ (lsa : List ℕ) (old new : List (List ℕ)) (put : IsPut lsa old new) 
 
 -- ---- edges
 
-module _ (old new : List (List ℕ)) (v : Vertex) (root : RouterId) (paths : KeptTree) (before after : Around) (turn : IsTurn old new v root paths before after)
-    (gone : List Edge) (went : AreGone before.edges.items after.edges.items gone) (edges : List Edge) (changes : ChangesEdges gone after.edges.items paths.edges edges) where
+module _ (old new : List (List ℕ)) (root : RouterId) (paths : KeptTree) (ends : List End) (t : Turn) (turn : IsTurn old new root paths ends t)
+    (gone : List Edge) (went : AreGone t.before.edges.items t.after.edges.items gone) (edges : List Edge) (changes : ChangesEdges gone t.after.edges.items paths.edges edges) where
   -- an edge that did not go is there
   edge_in : (e : Edge) → IsEdge (advertisements_of old) e → (Contains gone e → ⊥) → IsEdge (advertisements_of new) e
   edge_in e is stays =
-      elim (touching_or_not v e) [
+      elim (touching_or_not t.vertex e) [
         | inl here ↦ elim (went.all e ((turn.before_is.edges e).1 (is, here))) [
           | inl left ↦ absurd (stays left)
           | inr there ↦ ((turn.after_is.edges e).0 there).0
         ]
-        | inr away ↦ (edges_elsewhere v (advertisements_of old) (advertisements_of new) turn.same e away).0 is
+        | inr away ↦ (edges_elsewhere t.vertex (advertisements_of old) (advertisements_of new) turn.same e away).0 is
       ]
 
   edge_out : (e : Edge) → IsEdge (advertisements_of new) e → Contains edges e
   edge_out e is =
-      elim (touching_or_not v e) [
+      elim (touching_or_not t.vertex e) [
         | inl here ↦ (changes e).1 (inr ((turn.after_is.edges e).1 (is, here)))
         | inr away ↦
-            (let was = (edges_elsewhere v (advertisements_of old) (advertisements_of new) turn.same e away).1 is in
+            (let was = (edges_elsewhere t.vertex (advertisements_of old) (advertisements_of new) turn.same e away).1 is in
             let stays : Contains gone e → ⊥ = λ left. elim ((turn.before_is.edges e).0 (went.within e left)).1 [ inl from ↦ away.0 from | inr to ↦ away.1 to ] in
             (changes e).1 (inl ((turn.over.edges_are e).1 was, stays)))
       ]
@@ -183,57 +185,132 @@ tree_as P root At At' Starts Starts' at starts t =
       spread = λ e d x is a b s. (starts e.to _).0 (t.spread e d x is ((at e.from d).1 a) ((at e.to _).1 b) ((starts e.from x).1 s));
     }
 
--- ---- tables
+-- ---- the tree of a listing
 
-module _ (old new : List (List ℕ)) (v : Vertex) (root : RouterId) (paths grown : KeptTree) (before after : Around)
-    (turn : IsTurn old new v root paths before after) (same : IsSameBut [] paths grown) (alike : AreAlike grown.settled v before after) where
-  at_is : (w : Vertex) (d : ℕ) → AtIn paths.settled w d ↔ AtIn grown.settled w d
-  at_is w d = same.distance w d (λ m. absurd (let low = m.1 in omega arith))
+pub tree_over : (root : RouterId) (lsas : List (List ℕ)) (paths : KeptTree) → paths.root ≡ Router root → IsEdgesOf (advertisements_of lsas) paths.edges → IsKeptTree paths
+    → IsTree (IsEdge (advertisements_of lsas)) (Router root) (AtIn paths.settled) (StartsIn paths.starts)
+tree_over root lsas paths root_is edges_are tree =
+    subst (λ (r : Vertex). IsTree (IsEdge (advertisements_of lsas)) r (AtIn paths.settled) (StartsIn paths.starts)) root_is
+    (IsTree-map (Contains paths.edges) (IsEdge (advertisements_of lsas)) (λ e. (edges_are e).0) (λ e. (edges_are e).1) paths.root (AtIn paths.settled) (StartsIn paths.starts) tree)
 
-  starts_are : (w : Vertex) (x : Start) → StartsIn paths.starts w x ↔ StartsIn grown.starts w x
-  starts_are w x = same.starts w x (λ m. absurd (let low = m.1 in omega arith))
+pub own_tree : (root : RouterId) (lsas : List (List ℕ)) (paths : KeptTree) (ends : List End) → IsGrownOver root lsas paths ends
+    → IsTree (IsEdge (advertisements_of lsas)) (Router root) (AtIn paths.settled) (StartsIn paths.starts)
+own_tree root lsas paths ends over = tree_over root lsas paths over.root_is over.edges_are over.tree
 
-  ends_are : (p : Prefix) (w : Vertex) (d c : ℕ) → AtIn paths.settled w d → IsEnd (advertisements_of old) p w c ↔ IsEnd (advertisements_of new) p w c
-  ends_are p w d c at =
-      elim (same_or_other w v) [
-        | inl here ↦ elim alike.ends [
-          | inl ends ↦ (
-            same_ends (advertisements_of old) (advertisements_of new) v before.ends.items after.ends.items turn.before_is.ends turn.after_is.ends ends p w c here,
-            same_ends (advertisements_of new) (advertisements_of old) v after.ends.items before.ends.items turn.after_is.ends turn.before_is.ends (sym ends) p w c here,
-          )
-          | inr far ↦ absurd (far d (subst (λ u. AtIn grown.settled u d) here ((at_is w d).0 at)))
-        ]
-        | inr other ↦ ends_elsewhere v (advertisements_of old) (advertisements_of new) turn.same p w c other
-      ]
+-- ---- the ends of the new listing
 
+module _ (old new : List (List ℕ)) (root : RouterId) (paths : KeptTree) (ends : List End) (t : Turn) (turn : IsTurn old new root paths ends t) where
+  end_of : Prefix → Vertex → ℕ → End
+  end_of p w c = record { prefix = p; vertex = w; cost = c }
+
+  -- an end elsewhere is one of both
+  pub elsewhere : (p : Prefix) (w : Vertex) (c : ℕ) → w ≢ t.vertex → IsEnd (advertisements_of old) p w c ↔ IsEnd (advertisements_of new) p w c
+  elsewhere = ends_elsewhere t.vertex (advertisements_of old) (advertisements_of new) turn.same
+
+  module _ (same : t.before.ends.items ≡ t.after.ends.items) where
+    pub end_to : (p : Prefix) (w : Vertex) (c : ℕ) → IsEnd (advertisements_of old) p w c → IsEnd (advertisements_of new) p w c
+    end_to p w c is = elim (same_or_other w t.vertex) [
+      | inl here ↦ same_ends (advertisements_of old) (advertisements_of new) t.vertex t.before.ends.items t.after.ends.items turn.before_is.ends turn.after_is.ends same p w c here is
+      | inr other ↦ (elsewhere p w c other).0 is
+    ]
+
+    pub end_from : (p : Prefix) (w : Vertex) (c : ℕ) → IsEnd (advertisements_of new) p w c → IsEnd (advertisements_of old) p w c
+    end_from p w c is = elim (same_or_other w t.vertex) [
+      | inl here ↦ same_ends (advertisements_of new) (advertisements_of old) t.vertex t.after.ends.items t.before.ends.items turn.after_is.ends turn.before_is.ends (sym same) p w c here is
+      | inr other ↦ (elsewhere p w c other).1 is
+    ]
+
+    -- so the list stays
+    pub ends_stay : IsEndsOf (advertisements_of new) ends
+    ends_stay e = (
+      λ m. end_to e.prefix e.vertex e.cost ((turn.over.ends_are e).0 m),
+      λ is. (turn.over.ends_are e).1 (end_from e.prefix e.vertex e.cost is),
+    )
+
+  -- with those at the vertex replaced, it is that of the new listing
+  pub ends_turn : (made : List End) → ReplacesEnds t.vertex t.after.ends.items ends made → IsEndsOf (advertisements_of new) made
+  ends_turn made replaces e = (
+    λ m. elim ((replaces e).0 m) [
+      | inl was ↦ (elsewhere e.prefix e.vertex e.cost was.1).0 ((turn.over.ends_are e).0 was.0)
+      | inr come ↦ ((turn.after_is.ends e).0 come).0
+    ],
+    λ is. elim (same_or_other e.vertex t.vertex) [
+      | inl here ↦ (replaces e).1 (inr ((turn.after_is.ends e).1 (is, here)))
+      | inr other ↦ (replaces e).1 (inl ((turn.over.ends_are e).1 ((elsewhere e.prefix e.vertex e.cost other).1 is), other))
+    ],
+  )
+
+  -- ---- a prefix without an end in either listing
+
+  module _ (p : Prefix) (none_before : HasEndOf ends p → ⊥) (none_after : HasEndOf t.after.ends.items p → ⊥) where
+    none_old : (w : Vertex) (c : ℕ) → IsEnd (advertisements_of old) p w c → ⊥
+    none_old w c is = none_before (record { prefix = p; vertex = w; cost = c }, (turn.over.ends_are (record { prefix = p; vertex = w; cost = c })).1 is, refl)
+
+    none_new : (w : Vertex) (c : ℕ) → IsEnd (advertisements_of new) p w c → ⊥
+    none_new w c is = elim (same_or_other w t.vertex) [
+      | inl here ↦ none_after (record { prefix = p; vertex = w; cost = c }, (turn.after_is.ends (record { prefix = p; vertex = w; cost = c })).1 (is, here), refl)
+      | inr other ↦ none_old w c ((elsewhere p w c other).1 is)
+    ]
+
+    pub without_ends : IsSpared (advertisements_of old) (advertisements_of new) root p
+    without_ends =
+        record {
+          routes = λ r of is. absurd (none_old is.way.end is.way.end_cost (subst (λ (q : Prefix). IsEnd (advertisements_of old) q is.way.end is.way.end_cost) of is.way.ends));
+          ways = λ w. absurd (none_new w.end w.end_cost w.ends);
+        }
+
+-- ---- a prefix whose ends and vertices stay
+
+module _ (old new : List (List ℕ)) (root : RouterId) (paths grown : KeptTree) (ends : List End) (t : Turn) (turn : IsTurn old new root paths ends t)
+    (now : IsTree (IsEdge (advertisements_of new)) (Router root) (AtIn grown.settled) (StartsIn grown.starts)) (changed : List Vertex) (same : IsSameBut changed paths grown) (has_root : t.before.has_root ≡ t.after.has_root) where
   listed_to : IsListed (advertisements_of old) root → IsListed (advertisements_of new) root
-  listed_to h = turn.after_is.root_is.0 (sym alike.listed ∙ turn.before_is.root_is.1 h)
+  listed_to h = turn.after_is.root_is.0 (sym has_root ∙ turn.before_is.root_is.1 h)
 
   listed_from : IsListed (advertisements_of new) root → IsListed (advertisements_of old) root
-  listed_from h = turn.before_is.root_is.0 (alike.listed ∙ turn.after_is.root_is.1 h)
+  listed_from h = turn.before_is.root_is.0 (has_root ∙ turn.after_is.root_is.1 h)
 
-  served_before : (adverts : List Advertisement) → AreServed (growing root new grown) adverts → AreServed (growing root old paths) adverts
-  served_before adverts s =
-      record {
-        listed = (λ h. s.listed.0 (listed_to h), λ h. listed_from (s.listed.1 h));
-        tree_is = tree_as (IsEdge adverts) (Router root) (AtIn grown.settled) (AtIn paths.settled) (StartsIn grown.starts) (StartsIn paths.starts)
-            (λ w d. ((at_is w d).1, (at_is w d).0)) (λ w x. ((starts_are w x).1, (starts_are w x).0)) s.tree_is;
-        ends = λ p w d c at.
-            let first = ends_are p w d c at in
-            let then = s.ends p w d c ((at_is w d).0 at) in
-            (λ h. then.0 (first.0 h), λ h. first.1 (then.1 h));
-      }
+  stays_if : (w : Vertex) (d : ℕ) → (Contains changed w → ⊥) → AtIn paths.settled w d ↔ AtIn grown.settled w d
+  stays_if w d free = same.distance w d free
 
-  pub keeps : Keeps (growing root old paths) (growing root new grown)
-  keeps table serves = λ adverts s. serves adverts (served_before adverts s)
+  none_in : (w : Vertex) → changed ≡ [] → Contains changed w → ⊥
+  none_in w none m = let low = (subst (λ (vs : List Vertex). Contains vs w) none m).1 in omega arith
 
--- ---- the tree's own listing
+  module _ (p : Prefix) where
+    -- the vertices of its ends that are reached are none that changed, and its ends there are the same
+    kept_here : IsUntouched (advertisements_of new) changed grown.settled t p → IsKeptHere (advertisements_of old) (advertisements_of new) paths grown p
+    kept_here (IsUntouched.Unreached none far) =
+        record {
+          to = λ w d c at is. let after = (stays_if w d (none_in w none)).0 at in elim (same_or_other w t.vertex) [
+            | inl here ↦ absurd (far d (subst (λ u. AtIn grown.settled u d) here after))
+            | inr other ↦ (after, (elsewhere old new root paths ends t turn p w c other).0 is)
+          ];
+          from = λ w d c at is. elim (same_or_other w t.vertex) [
+            | inl here ↦ absurd (far d (subst (λ u. AtIn grown.settled u d) here at))
+            | inr other ↦ ((stays_if w d (none_in w none)).1 at, (elsewhere old new root paths ends t turn p w c other).1 is)
+          ];
+          starts = λ w d c x at is. same.starts w x (none_in w none);
+        }
+    kept_here (IsUntouched.Unchanged alike free) =
+        let end_in : (w : Vertex) (c : ℕ) → IsEnd (advertisements_of old) p w c → IsEnd (advertisements_of new) p w c = λ w c is. elim (same_or_other w t.vertex) [
+          | inl here ↦ elim alike [
+            | inl ends_same ↦ end_to old new root paths ends t turn ends_same p w c is
+            | inr none ↦ absurd (none.0 (record { prefix = p; vertex = w; cost = c }, (turn.before_is.ends (record { prefix = p; vertex = w; cost = c })).1 (is, here), refl))
+          ]
+          | inr other ↦ (elsewhere old new root paths ends t turn p w c other).0 is
+        ] in
+        let end_out : (w : Vertex) (c : ℕ) → IsEnd (advertisements_of new) p w c → IsEnd (advertisements_of old) p w c = λ w c is. elim (same_or_other w t.vertex) [
+          | inl here ↦ elim alike [
+            | inl ends_same ↦ end_from old new root paths ends t turn ends_same p w c is
+            | inr none ↦ absurd (none.1 (record { prefix = p; vertex = w; cost = c }, (turn.after_is.ends (record { prefix = p; vertex = w; cost = c })).1 (is, here), refl))
+          ]
+          | inr other ↦ (elsewhere old new root paths ends t turn p w c other).1 is
+        ] in
+        record {
+          to = λ w d c at is. ((stays_if w d (λ m. free w c m (end_in w c is))).0 at, end_in w c is);
+          from = λ w d c at is. ((stays_if w d (λ m. free w c m is)).1 at, end_out w c is);
+          starts = λ w d c x at is. same.starts w x (λ m. free w c m (end_in w c is));
+        }
 
-module _ (root : RouterId) (lsas : List (List ℕ)) (paths : KeptTree) (over : IsGrownOver root lsas paths) where
-  own_tree : IsTree (IsEdge (advertisements_of lsas)) (Router root) (AtIn paths.settled) (StartsIn paths.starts)
-  own_tree =
-      subst (λ (r : Vertex). IsTree (IsEdge (advertisements_of lsas)) r (AtIn paths.settled) (StartsIn paths.starts)) over.root_is
-      (IsTree-map (Contains paths.edges) (IsEdge (advertisements_of lsas)) (λ e. (over.edges_are e).0) (λ e. (over.edges_are e).1) paths.root (AtIn paths.settled) (StartsIn paths.starts) over.tree)
-
-  pub own_served : AreServed (growing root lsas paths) (advertisements_of lsas)
-  own_served = record { listed = (λ h. h, λ h. h); tree_is = own_tree; ends = λ p v d c at. (λ h. h, λ h. h) }
+    pub spared : IsUntouched (advertisements_of new) changed grown.settled t p → IsSpared (advertisements_of old) (advertisements_of new) root p
+    spared untouched =
+        kept_routes (advertisements_of old) (advertisements_of new) root paths grown (own_tree root old paths ends turn.over) now listed_to listed_from p (kept_here untouched)

@@ -1,8 +1,10 @@
 pub mod KeptLemmas
 pub mod GrowingLemmas
+pub mod EndLemmas
 pub mod SameEnds
 pub mod PrefixOrder
 pub mod RouteLemmas
+pub mod RouteFrame
 pub mod HopLemmas
 pub mod NetworkLemmas
 pub mod ReachLemmas
@@ -13,4 +15,5 @@ pub mod LookupLemmas
 pub mod SameRoute
 pub mod EditLemmas
 pub mod ChangeLemmas
+pub mod PutLemmas
 pub mod OrderLemmas

@@ -83,7 +83,7 @@ edited_table routes (c ∷ cs) table hops =
     subst (λ (l : List Route). IsInOrder l) (sym (edited_more routes c cs))
     (edited_table (changed routes c) cs (changed_table routes c table (All-head PutsHops c cs hops)) (All-tail PutsHops c cs hops))
 
-three_orders : (p q : Prefix) → IsPrefixBefore p q ⊎ ((p ≡ q) ⊎ IsPrefixBefore q p)
+pub three_orders : (p q : Prefix) → IsPrefixBefore p q ⊎ ((p ≡ q) ⊎ IsPrefixBefore q p)
 three_orders p q = by (prefix_cmp p q) (prefixes_told.ranks p q)
   where
     by : (o : Ordering) → MatchOrdering o (IsPrefixBefore p q) (p ≡ q) (IsPrefixBefore q p) → IsPrefixBefore p q ⊎ ((p ≡ q) ⊎ IsPrefixBefore q p)

@@ -153,7 +153,7 @@ fn step_at(old: Prefix, new: Prefix) -> Step
 }
 
 // Whether two routes to one prefix are the same.
-fn is_same_route(a: &Route, b: &Route) -> bool
+pub(crate) fn is_same_route(a: &Route, b: &Route) -> bool
     requires { a.now.prefix ≡ b.now.prefix }
     ensures { IsTrue result ↔ (a.now ≡ b.now) }
 {

@@ -1,20 +1,27 @@
 //! The tree of shortest paths that grows with its listing.
 
-ghost use Rattle.std.specs.Prelude.{◌≡◌, ◌⊎◌, ℕ, List, [], Contains, Err, IfErr, IfOk, IfSome, IsTrue};
+ghost use Rattle.std.specs.Prelude.{◌≡◌, ◌≢◌, ◌↔◌, ◌⊎◌, ℕ, List, [], Contains, Err, IfErr, IfNone, IfOk, IfSome, IsTrue, OnOk};
+ghost use Rattle.ospf_base.specs.declared.prefix.Prefix.{Prefix};
 ghost use Rattle.ospf_edges.specs.Listed.{advertisement_of, advertisements_of};
+ghost use Rattle.ospf_graph.specs.Advertisements.{IsListed};
 ghost use Rattle.ospf_graph.specs.Elsewhere.{vertex_of};
-ghost use Rattle.ospf_graph.specs.Routes.{IsTable};
+ghost use Rattle.ospf_graph.specs.Routes.{IsEnd, IsTable};
 ghost use Rattle.ospf_graph.specs.Search.{AtIn};
 ghost use Rattle.ospf_graph.specs.declared.graph.Edge.{Edge};
 ghost use Rattle.ospf_lsa.specs.Header.{header_of};
 ghost use Rattle.ospf_lsa.specs.Listing.{IsPut};
 ghost use Rattle.ospf_lsa.specs.declared.listing.ListingFault.TheVariants as fault;
-ghost use Rattle.ospf_spf.specs.Growing.{AreAlike, AreGone, AreServed, IsAround, IsTurn, Keeps, Serves, growing};
+ghost use Rattle.ospf_spf.specs.Changes.{PutsHops, prefix_of};
+ghost use Rattle.ospf_spf.specs.Ends.{HoldsPrefixes, IsRight, SparesBut};
+ghost use Rattle.ospf_graph.specs.declared.graph.Vertex.{Vertex};
+ghost use Rattle.ospf_spf.specs.Growing.{AreGone, HasEndOf, HasSameEnds, IsAround, IsTurn, IsUntouched};
 
-use crate::routes::table_of;
+use crate::changes::Change;
+use crate::ends::{ends_in_order, ends_to, replace_ends};
+use crate::routes::{route_by, table_of};
 use crate::table::RouteTable;
-use ospf_base::{Kind, RouterId};
-use ospf_edges::{End, edges_at, edges_of, ends_at, ends_of, is_listed};
+use ospf_base::{Kind, Prefix, RouterId};
+use ospf_edges::{End, edges_at, edges_of, ends_at, is_listed};
 use ospf_graph::{Edge, Vertex};
 use ospf_incremental::KeptPaths;
 use ospf_lsa::{Listing, ListingFault, Lsa};
@@ -27,6 +34,8 @@ pub struct GrowingTree {
     root: RouterId,
     listing: Listing,
     paths: KeptPaths,
+    // Those of the listing, in the order of their prefixes.
+    ends: Vec<End>,
 }
 
 impl Model for GrowingTree {
@@ -34,9 +43,9 @@ impl Model for GrowingTree {
 
     ghost Value = { GrowingValue };
 
-    ghost view = { λ t. record { root = t.root; listing = t.listing; settled = t.paths.settled; starts = t.paths.starts } };
+    ghost view = { λ t. record { root = t.root; listing = t.listing } };
 
-    ghost invariant = { λ t. IsGrownOver t.root t.listing t.paths };
+    ghost invariant = { λ t. IsGrownOver t.root t.listing t.paths t.ends.items };
 }
 
 impl GrowingTree {
@@ -49,17 +58,18 @@ impl GrowingTree {
     {
         let edges = edges_of(alloc, &listing)?;
         let paths = KeptPaths::of(alloc, &edges, Vertex::Router(root))?;
+        let ends = ends_in_order(alloc, &listing)?;
         Ok(GrowingTree {
             root,
             listing,
             paths,
+            ends,
         })
     }
 
     /// The listing.
     pub fn listing(&self) -> &Listing
-        ensures listing { result.now ≡ self.now.listing }
-        ensures served { AreServed self.now (advertisements_of self.now.listing) }
+        ensures { result.now ≡ self.now.listing }
     {
         &self.listing
     }
@@ -69,28 +79,57 @@ impl GrowingTree {
     ///
     /// `AllocError` where memory runs out.
     pub fn routes(&self, alloc: Global) -> Result<RouteTable, AllocError>
-        ensures table { IfOk result (IsTable (advertisements_of self.now.listing) self.now.root) }
-        ensures serves { IfOk result (Serves self.now) }
+        ensures { IfOk result (IsTable (advertisements_of self.now.listing) self.now.root) }
     {
         if !is_listed(&self.listing, self.root) {
             return Ok(RouteTable::empty(alloc));
         }
         let paths = self.paths.shortest(alloc)?;
-        let ends = ends_of(alloc, &self.listing)?;
-        let routes = table_of(alloc, &paths, &ends)?;
+        let routes = table_of(alloc, &paths, &self.ends)?;
         Ok(RouteTable::of_routes(routes))
     }
 
+    /// The change that makes a table that table at a prefix: its route, or that there is none.
+    ///
+    /// `AllocError` where memory runs out.
+    pub fn change_to(&self, alloc: Global, prefix: Prefix) -> Result<Change, AllocError>
+        ensures prefix { IfOk result (λ change. prefix_of change ≡ prefix) }
+        ensures right { IfOk result
+            (IsRight (advertisements_of self.now.listing) self.now.root) }
+        ensures hops { IfOk result (λ change. PutsHops change) }
+    {
+        if !is_listed(&self.listing, self.root) {
+            return Ok(Change::Gone(prefix));
+        }
+        let found = route_by(alloc, prefix, ends_to(&self.ends, prefix), &self.paths)?;
+        match found {
+            Some(route) => Ok(Change::Put(route)),
+            None => Ok(Change::Gone(prefix)),
+        }
+    }
+
+    /// How many ends there are.
+    pub fn ends(&self) -> usize {
+        self.ends.len()
+    }
+
     /// The tree once an LSA is put into its listing, in the place of the one of its key if one is listed. The paths go on from
-    /// those that are there, but for what hung on edges that went. If the answer is that the table stays, each table that
-    /// served the tree serves it still.
+    /// those that are there, but for what hung on edges that went. The prefixes to which routes may be others are put behind
+    /// `touched`, some perhaps more than once.
     ///
     /// `MaxAge` where the age of the LSA is `MAX_AGE`, `Memory` where memory runs out; then the tree is gone.
-    pub fn grow(self, alloc: Global, lsa: Lsa) -> Result<Grown, ListingFault>
-        // The root stays, the LSA is in the listing, and where the table stays, it is served still.
-        ensures root { IfOk result (λ g. g.tree.root ≡ self.root) }
-        ensures listing { IfOk result (λ g. IsPut lsa self.listing g.tree.listing) }
-        ensures keeps { IfOk result (λ g. IsTrue g.stays → Keeps self g.tree) }
+    pub fn grow(
+        self,
+        alloc: Global,
+        lsa: Lsa,
+        touched: &mut Vec<Prefix>,
+    ) -> Result<GrowingTree, ListingFault>
+        // The root stays, the LSA is in the listing, and routes are others at prefixes that are touched alone.
+        ensures root { IfOk result (λ t. t.root ≡ self.root) }
+        ensures listing { IfOk result (λ t. IsPut lsa self.listing t.listing) }
+        ensures spares { IfOk result (λ t. SparesBut touched.new.items
+            (advertisements_of self.listing) (advertisements_of t.listing) self.root) }
+        ensures touched { OnOk result (HoldsPrefixes touched.old.items touched.new.items) }
         // It fails for want of memory, or for an LSA at the greatest age.
         ensures faults { IfErr result (λ f. (f ≡ fault.MaxAge) ⊎ (f ≡ fault.Memory)) }
         ensures max_age { result ≡ Err fault.MaxAge → (header_of lsa).age ≡ 3600 }
@@ -105,18 +144,24 @@ impl GrowingTree {
         let Ok(after) = said_of(alloc, &listing, vertex, root) else {
             return Err(ListingFault::Memory);
         };
-        match turned(alloc, root, listing, self.paths, vertex, before, after) {
+        let turn = Turn {
+            vertex,
+            before,
+            after,
+        };
+        match turned(alloc, root, listing, self.paths, self.ends, turn, touched) {
             Ok(grown) => Ok(grown),
             Err(AllocError) => Err(ListingFault::Memory),
         }
     }
 }
 
-/// A tree whose listing has got an LSA, and whether the routing table stays for certain.
+// An LSA that is put: its vertex, and what the listings without it and with it say of that.
 #[derive(Drop)]
-pub struct Grown {
-    pub tree: GrowingTree,
-    pub stays: bool,
+struct Turn {
+    vertex: Vertex,
+    before: Around,
+    after: Around,
 }
 
 // What a listing says of a vertex: the edges that touch it, the ends at it, and whether the root is listed.
@@ -158,32 +203,107 @@ fn said_of(
     })
 }
 
-// The tree of the listing, by the paths of the listing before it.
+// The tree of the listing, by the paths and the ends of the listing before it.
 fn turned(
     alloc: Global,
     root: RouterId,
     listing: Listing,
     paths: KeptPaths,
-    vertex: Vertex,
-    before: Around,
-    after: Around,
-) -> Result<Grown, AllocError>
-    requires turn { (old : List (List ℕ)) × IsTurn old listing vertex root paths before after }
-    ensures root { IfOk result (λ g. g.tree.root ≡ root) }
-    ensures listing { IfOk result (λ g. g.tree.listing ≡ listing) }
-    ensures keeps { (old : List (List ℕ)) → IsTurn old listing vertex root paths before after →
-        IfOk result (λ g. IsTrue g.stays → Keeps (growing root old paths) g.tree) }
+    ends: Vec<End>,
+    turn: Turn,
+    touched: &mut Vec<Prefix>,
+) -> Result<GrowingTree, AllocError>
+    requires { (old : List (List ℕ)) × IsTurn old listing root paths ends.items turn }
+    ensures root { IfOk result (λ t. t.root ≡ root) }
+    ensures listing { IfOk result (λ t. t.listing ≡ listing) }
+    ensures spares { (old : List (List ℕ)) → IsTurn old listing root paths ends.items turn →
+        OnOk result (SparesBut touched.new.items (advertisements_of old) (advertisements_of listing)
+        root) }
+    ensures touched { OnOk result (HoldsPrefixes touched.old.items touched.new.items) }
 {
-    let gone = gone_of(alloc, &before.edges, &after.edges)?;
+    let gone = gone_of(alloc, &turn.before.edges, &turn.after.edges)?;
     let mut changed = Vec::new(alloc);
-    let paths = paths.change(alloc, &gone, &after.edges, &mut changed)?;
-    let stays = serves_still(&changed, &before, &after, &paths, vertex);
-    let tree = GrowingTree {
+    let paths = paths.change(alloc, &gone, &turn.after.edges, &mut changed)?;
+    let mut ends = ends;
+    if is_same_answer(turn.before.has_root, turn.after.has_root) {
+        touch_turn(alloc, &listing, &changed, &turn, &paths, touched)?;
+    } else {
+        touch(&ends, touched)?;
+        touch(&turn.after.ends, touched)?;
+    }
+    if !are_same_ends(&turn.before.ends, &turn.after.ends) {
+        replace_ends(&mut ends, turn.vertex, &turn.after.ends)?;
+    }
+    Ok(GrowingTree {
         root,
         listing,
         paths,
-    };
-    Ok(Grown { tree, stays })
+        ends,
+    })
+}
+
+// Puts the prefixes of ends behind others.
+fn touch(ends: &[End], touched: &mut Vec<Prefix>) -> Result<(), AllocError>
+    ensures kept { OnOk result (HoldsPrefixes touched.old.items touched.new.items) }
+    ensures ends { OnOk result ((p : Prefix) → HasEndOf ends.now p → Contains touched.new.items p) }
+{
+    for end in ends {
+        touched.push(end.prefix)?;
+    }
+    Ok(())
+}
+
+// Puts the prefixes whose ends or vertices are others behind others.
+fn touch_turn(
+    alloc: Global,
+    listing: &Listing,
+    changed: &[Vertex],
+    turn: &Turn,
+    paths: &KeptPaths,
+    touched: &mut Vec<Prefix>,
+) -> Result<(), AllocError>
+    ensures kept { OnOk result (HoldsPrefixes touched.old.items touched.new.items) }
+    ensures rest { OnOk result ((p : Prefix) → (Contains touched.new.items p → ⊥) →
+        IsUntouched (advertisements_of listing.now) changed.now paths.now.settled turn.now p) }
+{
+    if changed.is_empty() && is_unreached(paths, turn.vertex) {
+        return Ok(());
+    }
+    touch_own(turn, touched)?;
+    touch_changed(alloc, listing, changed, touched)?;
+    Ok(())
+}
+
+// Puts the prefixes of the vertex's ends behind others, unless it has the same ends as before.
+fn touch_own(turn: &Turn, touched: &mut Vec<Prefix>) -> Result<(), AllocError>
+    ensures kept { OnOk result (HoldsPrefixes touched.old.items touched.new.items) }
+    ensures own { OnOk result ((p : Prefix) → (Contains touched.new.items p → ⊥) →
+        HasSameEnds turn.now p) }
+{
+    if are_same_ends(&turn.before.ends, &turn.after.ends) {
+        return Ok(());
+    }
+    touch(&turn.before.ends, touched)?;
+    touch(&turn.after.ends, touched)?;
+    Ok(())
+}
+
+// Puts the prefixes of the ends at some vertices behind others.
+fn touch_changed(
+    alloc: Global,
+    listing: &Listing,
+    changed: &[Vertex],
+    touched: &mut Vec<Prefix>,
+) -> Result<(), AllocError>
+    ensures kept { OnOk result (HoldsPrefixes touched.old.items touched.new.items) }
+    ensures changed { OnOk result ((p : Prefix) (v : Vertex) (c : ℕ) → Contains changed.now v →
+        IsEnd (advertisements_of listing.now) p v c → Contains touched.new.items p) }
+{
+    for vertex in changed {
+        let ends = ends_at(alloc, listing, *vertex)?;
+        touch(&ends, touched)?;
+    }
+    Ok(())
 }
 
 // The edges that do not stand among others in their order: those that go, and perhaps others that stand elsewhere.
@@ -211,36 +331,6 @@ fn place_from(edges: &[Edge], place: usize, edge: &Edge) -> Option<usize>
         }
     }
     None
-}
-
-// Whether the table that served before serves now, for certain.
-fn serves_still(
-    changed: &[Vertex],
-    before: &Around,
-    after: &Around,
-    paths: &KeptPaths,
-    vertex: Vertex,
-) -> bool
-    ensures none { IsTrue result → changed.now ≡ [] }
-    ensures alike { IsTrue result → AreAlike paths.now.settled vertex before.now after.now }
-{
-    if !changed.is_empty() {
-        return false;
-    }
-    are_alike(before, after, paths, vertex)
-}
-
-// Whether the listings say the same of the vertex as far as the paths reach.
-fn are_alike(before: &Around, after: &Around, paths: &KeptPaths, vertex: Vertex) -> bool
-    ensures { IsTrue result → AreAlike paths.now.settled vertex before.now after.now }
-{
-    if !is_same_answer(before.has_root, after.has_root) {
-        return false;
-    }
-    if are_same_ends(&before.ends, &after.ends) {
-        return true;
-    }
-    is_unreached(paths, vertex)
 }
 
 // Whether both say the same of the root.

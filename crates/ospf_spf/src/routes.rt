@@ -1,6 +1,6 @@
 //! Routes, from what the shortest paths reach.
 
-ghost use Rattle.std.specs.Prelude.{◌≡◌, ◌≤◌, ◌<◌, ◌↔◌, ◌⊎◌, ◌^◌, [], ℕ, List, All, AllPairs, Contains, IsTrue, IfOk, OnOk, MatchOption, IsPermutation, ◌-◌, false, length, slice_index_or};
+ghost use Rattle.std.specs.Prelude.{◌≡◌, ◌≤◌, ◌<◌, ◌↔◌, ◌⊎◌, ◌^◌, [], ℕ, List, All, AllPairs, Contains, IsTrue, IfOk, OnOk, MatchOption, IfNone, IfSome, IsPermutation, ◌-◌, false, length, slice_index_or};
 ghost use Rattle.ospf_base.specs.declared.prefix.Prefix.{Prefix};
 ghost use Rattle.ospf_base.specs.Prefixes.{IsPrefixBefore};
 ghost use Rattle.ospf_graph.specs.declared.graph.Vertex.{Vertex};
@@ -10,6 +10,7 @@ ghost use Rattle.ospf_graph.specs.Advertisements.{Advertisement, IsListed};
 ghost use Rattle.ospf_graph.specs.Routes.{IsTable};
 ghost use Rattle.ospf_graph.specs.Search.{AtIn, vertex_code};
 ghost use Rattle.ospf_graph.specs.Tree.{hop_of_start};
+ghost use Rattle.ospf_spf.specs.Ends.{IsRouteBy};
 ghost use Rattle.ospf_spf.specs.Kept.{AreTold, IsTreeOf};
 ghost use Rattle.ospf_spf.specs.declared.routes.Reach.{Reach};
 ghost use Rattle.ospf_base.specs.declared.ids.RouterId.{RouterId};
@@ -22,6 +23,7 @@ use ospf_graph::{
     Hops, NextHop, Route, Settled, ShortestPaths, Start, Vertex, VertexStart, distance_at, is_same,
     starts_at,
 };
+use ospf_incremental::KeptPaths;
 use std::alloc::{AllocError, Global};
 
 // Up to twice as many hops are gathered before doubles are looked for.
@@ -55,6 +57,29 @@ pub(crate) fn table_of(
     Ok(routes)
 }
 
+/// The route to a prefix over paths that are kept, of ends that have all of the prefix; nothing where the paths reach none.
+///
+/// `AllocError` where memory runs out.
+pub(crate) fn route_by(
+    alloc: Global,
+    prefix: Prefix,
+    ends: &[End],
+    paths: &KeptPaths,
+) -> Result<Option<Route>, AllocError>
+    ensures none { IfOk result (λ o. IfNone o ((r : Reach) →
+        IsReachOf ends.now paths.now.settled r → r.prefix ≡ prefix → ⊥)) }
+    ensures prefix { IfOk result (λ o. IfSome o (λ route. route.prefix ≡ prefix)) }
+    ensures route { IfOk result (λ o. IfSome o
+        (IsRouteBy ends.now paths.now.settled paths.now.starts)) }
+{
+    let reaches = reaches_by(alloc, ends, paths)?;
+    let Some(cost) = least_cost(prefix, &reaches) else {
+        return Ok(None);
+    };
+    let hops = hops_by(alloc, prefix, cost, &reaches, paths)?;
+    Ok(Some(Route { prefix, cost, hops }))
+}
+
 // The ends that are reached.
 fn reaches_of(alloc: Global, ends: &[End], settled: &[Settled]) -> Result<Vec<Reach>, AllocError>
     requires near { All (λ s. s.distance < 2 ^ 63) settled.now }
@@ -76,6 +101,24 @@ fn reaches_of(alloc: Global, ends: &[End], settled: &[Settled]) -> Result<Vec<Re
     Ok(reaches)
 }
 
+// The ends that kept paths reach.
+fn reaches_by(alloc: Global, ends: &[End], paths: &KeptPaths) -> Result<Vec<Reach>, AllocError>
+    ensures { IfOk result (λ reaches. (r : Reach) →
+        Contains reaches.items r ↔ IsReachOf ends.now paths.now.settled r) }
+{
+    let mut reaches = Vec::new(alloc);
+    for end in ends {
+        if let Some(distance) = paths.distance_of(end.vertex) {
+            reaches.push(Reach {
+                prefix: end.prefix,
+                vertex: end.vertex,
+                cost: distance + end.cost as u64,
+            })?;
+        }
+    }
+    Ok(reaches)
+}
+
 // Puts reaches into the order of their prefixes.
 fn sort_reaches(reaches: &mut Vec<Reach>)
     ensures same { IsPermutation reaches.old.items reaches.new.items }
@@ -85,7 +128,7 @@ fn sort_reaches(reaches: &mut Vec<Reach>)
 }
 
 // The place of a prefix in the order of prefixes.
-fn prefix_order(prefix: Prefix) -> u64
+pub(crate) fn prefix_order(prefix: Prefix) -> u64
     ensures { result ≡ prefix_code prefix }
 {
     prefix.address.0 as u64 * 64 + prefix.length as u64
@@ -130,7 +173,7 @@ fn is_first(reaches: &[Reach], place: usize) -> bool
 }
 
 // Whether two prefixes are one.
-fn is_same_prefix(a: Prefix, b: Prefix) -> bool
+pub(crate) fn is_same_prefix(a: Prefix, b: Prefix) -> bool
     ensures { IsTrue result ↔ (a ≡ b) }
 {
     a == b
@@ -240,6 +283,29 @@ fn hops_of(
     Ok(Hops::of(hops))
 }
 
+// The hops of a prefix at its least cost, over kept paths.
+fn hops_by(
+    alloc: Global,
+    prefix: Prefix,
+    cost: u64,
+    reaches: &[Reach],
+    paths: &KeptPaths,
+) -> Result<Hops, AllocError>
+    ensures { IfOk result (λ hops. AddsHops (HasHopOf reaches.now paths.now.starts prefix cost) []
+        hops) }
+{
+    let network = chosen_network(prefix, cost, reaches);
+    let mut hops = Vec::new(alloc);
+    let mut left = FEW_HOPS;
+    for reach in reaches {
+        if counts(*reach, prefix, cost, network) {
+            add_hops_by(paths, reach.vertex, &mut hops)?;
+            left = leave_once(&mut hops, left);
+        }
+    }
+    Ok(Hops::of(hops))
+}
+
 // The network that counts at a prefix and cost: the one of the largest Link State ID (own choice among
 // networks of one prefix).
 fn chosen_network(prefix: Prefix, cost: u64, reaches: &[Reach]) -> Option<u32>
@@ -325,6 +391,17 @@ fn add_hops(
         if is_same(begun.vertex, vertex) {
             hops.push(hop_from(begun.start))?;
         }
+    }
+    Ok(())
+}
+
+// Gathers the hops of all starts of a vertex, over kept paths.
+fn add_hops_by(paths: &KeptPaths, vertex: Vertex, hops: &mut Vec<NextHop>) -> Result<(), AllocError>
+    ensures { OnOk result (GathersHops (HasHop paths.now.starts vertex) hops.old.items
+        hops.new.items) }
+{
+    for start in paths.starts_of(vertex) {
+        hops.push(hop_from(*start))?;
     }
     Ok(())
 }

@@ -1,8 +1,9 @@
-use Rattle.std.proofs.Common.{◌∙◌, ℕ, List, Option, IfSome, IsTrue, true, ap, subst, sym}
+use Rattle.std.proofs.Common.{◌∙◌, ℕ, List, Option, IfSome, [], ap, subst, sym}
 use Rattle.std.specs.List.{All}
 use Rattle.ospf_area.specs.Outputs.{OutputsValue}
 use Rattle.ospf_base.specs.declared.ids.Instance.{Instance}
 use Rattle.ospf_base.specs.declared.ids.LsaKey.{LsaKey}
+use Rattle.ospf_base.specs.declared.prefix.Prefix.{Prefix}
 use Rattle.ospf_lsa.specs.Lsa.{key_of}
 use Rattle.ospf_router.specs.Kept.{IsGrownFrom}
 use Rattle.ospf_router.specs.Listings.{AreListedAt, StayListed}
@@ -11,15 +12,16 @@ use Rattle.ospf_router.proofs.ServedLemmas.{grown_more}
 use Rattle.ospf_router.proofs.SettledLemmas.{all_listed}
 use Rattle.ospf_router.proofs.followed.followed.Goals as goal
 use Rattle.ospf_router.proofs.followed.followed.Goals.{In-Some-2}
-use Rattle.ospf_spf.specs.declared.growing.Grown.{Grown}
+use Rattle.ospf_router.specs.declared.followed.Grown.{Grown}
 
 module _ (c : In-Some-2) where
-  from : IsGrownFrom c.args.tree true c.in-Some-2.grown
+  from : IsGrownFrom c.args.tree [] c.in-Some-2.grown
   from =
       let mid = c.in-Some.taken in
-      grown_more c.args.tree true mid c.in-Some-2.grown
-      (subst (λ (o : Option Grown). IfSome o (λ g. IsGrownFrom c.args.tree true g)) c.in-Some.is c.in_ok-taken.ensures.grown)
-      (subst (λ (o : Option Grown). IfSome o (λ g. IsGrownFrom mid.tree mid.stays g)) c.in-Some-2.is c.in_ok-grown.ensures.grown)
+      grown_more c.args.tree [] mid c.in-Some-2.grown
+      (subst (λ (o : Option Grown). IfSome o (λ g. IsGrownFrom c.args.tree [] g)) c.in-Some.is
+      (subst (λ (ps : List Prefix). IfSome c.in_ok-taken.field-0 (λ g. IsGrownFrom c.args.tree ps g)) c.new.ensures.items c.in_ok-taken.ensures.grown))
+      (subst (λ (o : Option Grown). IfSome o (λ g. IsGrownFrom mid.tree mid.touched.items g)) c.in-Some-2.is c.in_ok-grown.ensures.grown)
 
   -- of what each key has, all is listed
   all : (key : LsaKey) → AreListedAt c.args.database.now key c.in-Some-2.grown.tree.listing

@@ -6,7 +6,7 @@ use Rattle.ospf_router.specs.Kept.{IsGrownFrom}
 use Rattle.ospf_router.specs.Listings.{AreListedAt, StayListed}
 use Rattle.ospf_router.proofs.ServedLemmas.{grown_more}
 use Rattle.ospf_router.proofs.followed.with_issued.Goals as goal
-use Rattle.ospf_spf.specs.declared.growing.Grown.{Grown}
+use Rattle.ospf_router.specs.declared.followed.Grown.{Grown}
 
 pub loop-lsa-preserved : goal.loop-lsa-preserved
 loop-lsa-preserved c =
@@ -20,8 +20,8 @@ loop-lsa-preserved c =
     let here = subst (λ (o : Option Grown). IfSome o (λ g. AreListedAt db c.key.result g.tree.listing)) c.in-Some.is c.in_ok-more.ensures.listed in
     let key_is = c.key.ensures ∙ ap key_of (c.view.ensures.same ∙ c.lsa-item.is) in
     record {
-      grown = grown_more c.args.grown.tree c.args.grown.stays mid new inv.grown
-          (subst (λ (o : Option Grown). IfSome o (λ g. IsGrownFrom mid.tree mid.stays g)) c.in-Some.is c.in_ok-more.ensures.grown);
+      grown = grown_more c.args.grown.tree c.args.grown.touched.items mid new inv.grown
+          (subst (λ (o : Option Grown). IfSome o (λ g. IsGrownFrom mid.tree mid.touched.items g)) c.in-Some.is c.in_ok-more.ensures.grown);
       listed = λ k d lt. below_more (λ (j : ℕ). (x : List ℕ) → AreListedAt db (key_of (get_or issued j x)) new.tree.listing) i
           (λ j less x. stay (key_of (get_or issued j x)) (inv.listed j x less))
           (λ x. subst (λ (y : LsaKey). AreListedAt db y new.tree.listing) (key_is ∙ ap key_of (get_or_default issued i _ x c.loop-lsa-test.true)) here) k lt d;

@@ -5,7 +5,7 @@ use Rattle.ospf_router.specs.Listings.{AreListedAt, StayListed}
 use Rattle.ospf_router.proofs.KeepLemmas.{put_listed, put_stay}
 use Rattle.ospf_router.proofs.ServedLemmas.{each_some}
 use Rattle.ospf_router.proofs.followed.with_key.Goals as goal
-use Rattle.ospf_spf.specs.declared.growing.Grown.{Grown}
+use Rattle.ospf_router.specs.declared.followed.Grown.{Grown}
 
 pub returns-clause-listed : goal.returns-clause-listed
 returns-clause-listed c =

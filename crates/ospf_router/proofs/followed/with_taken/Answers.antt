@@ -5,7 +5,7 @@ use Rattle.ospf_router.specs.Kept.{IsGrownFrom}
 use Rattle.ospf_router.specs.Listings.{AreListedAt, StayListed}
 use Rattle.ospf_router.proofs.ServedLemmas.{grown_more}
 use Rattle.ospf_router.proofs.followed.with_taken.Goals as goal
-use Rattle.ospf_spf.specs.declared.growing.Grown.{Grown}
+use Rattle.ospf_router.specs.declared.followed.Grown.{Grown}
 
 pub loop-instance-preserved : goal.loop-instance-preserved
 loop-instance-preserved c =
@@ -18,8 +18,8 @@ loop-instance-preserved c =
     let stay = subst (λ (o : Option Grown). IfSome o (λ g. StayListed db mid.tree.listing g.tree.listing)) c.in-Some.is c.in_ok-more.ensures.stay in
     let here = rw c.in-Some.is at c.in_ok-more.ensures.listed in
     record {
-      grown = grown_more c.args.grown.tree c.args.grown.stays mid new inv.grown
-          (subst (λ (o : Option Grown). IfSome o (λ g. IsGrownFrom mid.tree mid.stays g)) c.in-Some.is c.in_ok-more.ensures.grown);
+      grown = grown_more c.args.grown.tree c.args.grown.touched.items mid new inv.grown
+          (subst (λ (o : Option Grown). IfSome o (λ g. IsGrownFrom mid.tree mid.touched.items g)) c.in-Some.is c.in_ok-more.ensures.grown);
       listed = λ k d lt. below_more (λ (j : ℕ). (x : Instance) → AreListedAt db (get_or taken j x).key new.tree.listing) i
           (λ j less x. stay (get_or taken j x).key (inv.listed j x less))
           (λ x. subst (λ (y : Instance). AreListedAt db y.key new.tree.listing) (get_or_default taken i _ x c.loop-instance-test.true) here) k lt d;

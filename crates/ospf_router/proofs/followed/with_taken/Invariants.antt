@@ -7,7 +7,7 @@ use Rattle.ospf_router.proofs.followed.with_taken.Given as goal
 abbrev pub invariant-loop-instance : goal.invariant-loop-instance
 invariant-loop-instance l =
     record {
-      grown : IsGrownFrom l.fn.grown.tree l.fn.grown.stays l.next;
+      grown : IsGrownFrom l.fn.grown.tree l.fn.grown.touched.items l.next;
       listed : (k : ℕ) (d : Instance) → k < l.instance-index → AreListedAt l.database (get_or l.taken k d).key l.next.tree.listing;
       stay : StayListed l.database l.fn.grown.tree.listing l.next.tree.listing;
     }

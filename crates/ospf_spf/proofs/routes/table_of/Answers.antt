@@ -15,11 +15,12 @@ returns c =
     let made = rw c.deref.ensures.value at c.in_ok-reaches.ensures in
     λ adverts root listed tree ends_are.
     table_is adverts root c.args.ends.now c.args.paths.now.settled.items c.args.paths.now.starts.items reaches
-    listed ends_are tree
+    listed tree
     (λ r. (
       λ m. (made r).0 (Contains-permutation _ _ r (IsPermutation-sym _ _ c.sort_reaches.ensures.same) m),
       λ m. Contains-permutation _ _ r c.sort_reaches.ensures.same ((made r).1 m),
     ))
+    ends_are
     c.in_ok-routes.routes.items
     c.in_ok-routes.ensures.in_order
     (rw c.deref-2.ensures.value at c.in_ok-routes.ensures.complete)

@@ -4,7 +4,7 @@ use Rattle.ospf_router.specs.Kept.{IsServed, lsas_in}
 use Rattle.ospf_router.specs.Listings.{AreListedAt, ListsAs, ListsBut}
 use Rattle.ospf_router.specs.Routes.{AreRoutes, RoutesValue}
 use Rattle.ospf_router.proofs.KeepLemmas.{listing_all, lists_all}
-use Rattle.ospf_router.proofs.ServedLemmas.{routes_served}
+use Rattle.ospf_router.proofs.ServedLemmas.{routes_of}
 use Rattle.ospf_router.proofs.SettledLemmas.{none_brought}
 use Rattle.ospf_router.proofs.routes.KeptRoutes.is_still.Goals as goal
 use Rattle.ospf_router.proofs.routes.KeptRoutes.is_still.Goals.{Then-brings_none}
@@ -25,8 +25,8 @@ returns-then-brings_none-clause-routes c = λ t.
     let db = c.args.database.now in
     let e = c.lists_as_many.ensures in
     let kept : IsServed c.self.inside.router c.self.inside.table (Some tree) = subst (λ (o : Option GrowingValue). IsServed c.self.inside.router c.self.inside.table o) c.in-Some.is c.self.invariant in
-    let is = routes_served db c.self.inside.router tree c.self.inside.table e.database (listing_all db tree.listing e.database e.listing (all_listed d) (e.many t))
-    (lists_all db tree.listing e.database e.listing (all_listed d) (e.many t)) kept.0 e.served kept.1 in
+    let is = routes_of db c.self.inside.router tree.listing c.self.inside.table e.database (listing_all db tree.listing e.database e.listing (all_listed d) (e.many t))
+    (lists_all db tree.listing e.database e.listing (all_listed d) (e.many t)) kept.1 in
     subst (λ (r : RoutesValue). AreRoutes r.router db r.table) c.self.view_is is
 
 pub returns-then-brings_none-clause-listing : goal.returns-then-brings_none-clause-listing

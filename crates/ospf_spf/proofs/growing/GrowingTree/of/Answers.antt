@@ -16,4 +16,6 @@ invariant_of-result c =
         λ is. Contains-permutation _ _ e same ((made e).1 is),
       );
       tree = c.in_ok-paths.ensures.tree;
+      ends_are = c.in_ok-ends.ensures.ends;
+      ends_in_order = c.in_ok-ends.ensures.in_order;
     }

@@ -1,0 +1,38 @@
+//! A table that is made that of a tree, prefix by prefix.
+
+ghost use Rattle.std.specs.Prelude.{◌≢◌, ◌↔◌, List, IfOk, IsTrue, OnOk};
+ghost use Rattle.ospf_edges.specs.Listed.{advertisements_of};
+ghost use Rattle.ospf_graph.specs.Advertisements.{Advertisement};
+ghost use Rattle.ospf_graph.specs.Routes.{IsTable};
+ghost use Rattle.ospf_spf.specs.Ends.{SparesBut};
+
+use ospf_base::Prefix;
+use ospf_spf::{GrowingTree, RouteTable};
+use std::alloc::{AllocError, Global};
+
+/// Makes a table that of a tree by its routes to the prefixes at which the two may differ. Whether it is another one then.
+///
+/// `AllocError` where memory runs out; then some prefixes may be those of the tree.
+pub(crate) fn turn_table(
+    table: &mut RouteTable,
+    tree: &GrowingTree,
+    touched: &[Prefix],
+    alloc: Global,
+) -> Result<bool, AllocError>
+    requires { (A : List Advertisement) × IsTable A tree.now.root table.old
+        × SparesBut touched.now A (advertisements_of tree.now.listing) tree.now.root }
+    ensures table { OnOk result (IsTable (advertisements_of tree.now.listing) tree.now.root
+        table.new) }
+    ensures changed { IfOk result (λ b. IsTrue b ↔ (table.new ≢ table.old)) }
+{
+    // For the proof.
+    let _in_order = table.routes();
+    let mut is_other = false;
+    for prefix in touched {
+        let change = tree.change_to(alloc, *prefix)?;
+        if table.change(change)? {
+            is_other = true;
+        }
+    }
+    Ok(is_other)
+}
