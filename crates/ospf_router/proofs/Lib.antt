@@ -8,3 +8,7 @@ pub mod StartLemmas
 mod SettledLemmas
 mod TouchedChains
 mod TurnLemmas
+mod SameEnds
+mod EndLemmas
+mod RouteFrame
+mod GrowingLemmas

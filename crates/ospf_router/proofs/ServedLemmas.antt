@@ -14,8 +14,8 @@ use Rattle.ospf_router.specs.declared.followed.Grown.{Grown}
 use Rattle.ospf_router.specs.Listings.{ListsAs}
 use Rattle.ospf_router.specs.Routes.{AreRoutes}
 use Rattle.ospf_router.proofs.ListLemmas.{same_told}
-use Rattle.ospf_spf.specs.Ends.{IsSpared, SparesBut}
-use Rattle.ospf_spf.specs.Growing.{GrowingValue}
+use Rattle.ospf_router.specs.Ends.{IsSpared, SparesBut}
+use Rattle.ospf_router.specs.Growing.{GrowingValue}
 
 -- the table of a listing is that of the database
 pub routes_of : (db : List Held) (router : RouterId) (lsas : List (List ℕ)) (table : List Route) → IsDatabase db → IsListing (listed db) → ListsAs db lsas

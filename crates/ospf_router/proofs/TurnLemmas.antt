@@ -15,7 +15,7 @@ use Rattle.ospf_spf.proofs.EditLemmas.{told}
 use Rattle.ospf_spf.proofs.OrderLemmas.{changed_table, put_at, three_orders}
 use Rattle.ospf_spf.proofs.PrefixOrder.{prefixes_told}
 use Rattle.ospf_spf.specs.Changes.{PutsHops, Reaches, changed, prefix_of, put_of, stands_before}
-use Rattle.ospf_spf.specs.Ends.{IsRight, SparesBut}
+use Rattle.ospf_router.specs.Ends.{IsRight, SparesBut}
 use Rattle.ospf_spf.specs.Table.{IsInOrder}
 use Rattle.ospf_spf.specs.declared.changes.Change.{Change}
 use Rattle.ospf_spf.specs.declared.changes.Change.TheVariants.{Put, Gone}

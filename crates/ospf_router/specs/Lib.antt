@@ -1,3 +1,5 @@
+pub mod Ends
+pub mod Growing
 pub mod Kept
 pub mod Listings
 pub mod Routes

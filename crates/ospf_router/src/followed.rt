@@ -8,11 +8,11 @@ ghost use Rattle.ospf_lsdb.specs.Database.{IsDatabase, lsa_of, listed};
 ghost use Rattle.ospf_router.specs.Kept.{IsGrownFrom};
 ghost use Rattle.ospf_router.specs.Listings.{AreListedAt, ListsAs, ListsBut, StayListed};
 
+use crate::growing::GrowingTree;
 use ospf_area::Outputs;
 use ospf_base::{Instance, LsaKey, MAX_AGE, Prefix};
 use ospf_lsa::{ListingFault, Lsa};
 use ospf_lsdb::{EntryView, Lsdb};
-use ospf_spf::GrowingTree;
 use std::alloc::{AllocError, Global};
 
 /// A tree that has grown, with the prefixes to which routes may be others, some perhaps more than once.

@@ -7,8 +7,10 @@
 //! are in `specs/Routes`.
 #![tactic(auto)]
 
+mod ends;
 mod fault;
 mod followed;
+mod growing;
 mod listed;
 mod router;
 mod routes;

@@ -8,21 +8,19 @@ ghost use Rattle.ospf_lsa.specs.Listing.{IsListing};
 ghost use Rattle.ospf_lsdb.specs.Database.{IsDatabase, listed};
 ghost use Rattle.ospf_router.specs.Listings.{ListsAs, ListsBut};
 ghost use Rattle.ospf_router.specs.Routes.{AreRoutes};
-ghost use Rattle.ospf_spf.specs.Ends.{SparesBut};
+ghost use Rattle.ospf_router.specs.Ends.{SparesBut};
 
 use crate::followed::{Grown, followed, lists_as_many};
+use crate::growing::GrowingTree;
 use crate::listed::lists_as;
 use crate::turned::turn_table;
 use ospf_area::Outputs;
 use ospf_base::RouterId;
 use ospf_lsa::Listing;
 use ospf_lsdb::Lsdb;
-use ospf_spf::{GrowingTree, RouteTable};
+use ospf_spf::RouteTable;
 use std::alloc::{AllocError, Global};
 use std::marker::Model;
-
-// Where more than one prefix is touched for so many ends, the table is made anew.
-const ENDS_A_PREFIX: usize = 4;
 
 /// The routing table of a router over what its database lists (RFC 2328, section 16.1), kept with the listing that it is of
 /// and the shortest paths over it. Where the database lists an LSA anew, the paths go on from there, and the table is
@@ -89,9 +87,10 @@ impl KeptRoutes {
         ensures kept { OnErr result (self.new.table ≡ self.old.table) }
     {
         if self.is_current(database) {
-            return Ok(false);
+            Ok(false)
+        } else {
+            self.renew(database, alloc)
         }
-        self.renew(database, alloc)
     }
 
     /// As `refresh`, behind a step that put this out. Of the database only what it has at the keys that were taken and issued
@@ -147,10 +146,10 @@ impl KeptRoutes {
         ensures routes { IsTrue result → AreRoutes self.now.router database.now self.now.table }
         ensures listing { IsTrue result → ListsAs database.now self.now.listing }
     {
-        match &self.tree {
-            Some(tree) => brings_none(out) && lists_as_many(database, tree),
-            None => false,
-        }
+        let Some(tree) = &self.tree else {
+            return false;
+        };
+        brings_none(out) && lists_as_many(database, tree)
     }
 
     // Goes on from the tree that is kept, as far as LSAs came: whether the table is another one, or nothing where that does not
@@ -196,7 +195,9 @@ impl KeptRoutes {
     {
         self.tree = None;
         let Grown { tree, touched } = grown;
-        if touched.len() > tree.ends() / ENDS_A_PREFIX {
+        // Where more prefixes are touched than there are LSAs, all routes are made at once.
+        let all = tree.listing().lsas().len();
+        if touched.len() > all {
             return self.put(tree, alloc);
         }
         let changed = turn_table(&mut self.table, &tree, &touched, alloc)?;

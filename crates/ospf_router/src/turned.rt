@@ -4,10 +4,11 @@ ghost use Rattle.std.specs.Prelude.{◌≢◌, ◌↔◌, List, IfOk, IsTrue, On
 ghost use Rattle.ospf_edges.specs.Listed.{advertisements_of};
 ghost use Rattle.ospf_graph.specs.Advertisements.{Advertisement};
 ghost use Rattle.ospf_graph.specs.Routes.{IsTable};
-ghost use Rattle.ospf_spf.specs.Ends.{SparesBut};
+ghost use Rattle.ospf_router.specs.Ends.{SparesBut};
 
+use crate::growing::GrowingTree;
 use ospf_base::Prefix;
-use ospf_spf::{GrowingTree, RouteTable};
+use ospf_spf::RouteTable;
 use std::alloc::{AllocError, Global};
 
 /// Makes a table that of a tree by its routes to the prefixes at which the two may differ. Whether it is another one then.

@@ -1,10 +1,6 @@
 pub mod KeptLemmas
-pub mod GrowingLemmas
-pub mod EndLemmas
-pub mod SameEnds
 pub mod PrefixOrder
 pub mod RouteLemmas
-pub mod RouteFrame
 pub mod HopLemmas
 pub mod NetworkLemmas
 pub mod ReachLemmas

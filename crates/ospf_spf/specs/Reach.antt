@@ -97,6 +97,12 @@ pub record IsRouteOf (reaches : List Reach) (starts : List VertexStart) (route :
   pub cost : IsBestCost reaches route.prefix route.cost
   pub hops : AddsHops (HasHopOf reaches starts route.prefix route.cost) [] route.hops
 
+-- the least cost, and the hops of the chosen ends at it, of those of these ends that are reached
+pub record IsRouteBy (ends : List End) (settled : List Settled) (starts : List VertexStart) (route : Route) : Type 0 where
+  pub reaches : List Reach
+  pub reaches_are : (r : Reach) → Contains reaches r ↔ IsReachOf ends settled r
+  pub route_is : IsRouteOf reaches starts route
+
 -- the place of a prefix in the order of prefixes
 abbrev pub prefix_code : Prefix → ℕ
 prefix_code p = p.address.0 * 64 + p.length

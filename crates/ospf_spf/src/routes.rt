@@ -10,7 +10,7 @@ ghost use Rattle.ospf_graph.specs.Advertisements.{Advertisement, IsListed};
 ghost use Rattle.ospf_graph.specs.Routes.{IsTable};
 ghost use Rattle.ospf_graph.specs.Search.{AtIn, vertex_code};
 ghost use Rattle.ospf_graph.specs.Tree.{hop_of_start};
-ghost use Rattle.ospf_spf.specs.Ends.{IsRouteBy};
+ghost use Rattle.ospf_spf.specs.Reach.{IsRouteBy};
 ghost use Rattle.ospf_spf.specs.Kept.{AreTold, IsTreeOf};
 ghost use Rattle.ospf_spf.specs.declared.routes.Reach.{Reach};
 ghost use Rattle.ospf_base.specs.declared.ids.RouterId.{RouterId};
@@ -41,7 +41,7 @@ pub struct Reach {
 /// section 16.1): to each prefix that the root has a way to, in the order of the prefixes.
 ///
 /// `AllocError` where memory runs out.
-pub(crate) fn table_of(
+pub fn table_of(
     alloc: Global,
     paths: &ShortestPaths,
     ends: &[End],
@@ -60,7 +60,7 @@ pub(crate) fn table_of(
 /// The route to a prefix over paths that are kept, of ends that have all of the prefix; nothing where the paths reach none.
 ///
 /// `AllocError` where memory runs out.
-pub(crate) fn route_by(
+pub fn route_by(
     alloc: Global,
     prefix: Prefix,
     ends: &[End],
@@ -127,8 +127,8 @@ fn sort_reaches(reaches: &mut Vec<Reach>)
     reaches.sort_unstable_by_key(|r| prefix_order(r.prefix));
 }
 
-// The place of a prefix in the order of prefixes.
-pub(crate) fn prefix_order(prefix: Prefix) -> u64
+/// The place of a prefix in the order of prefixes.
+pub fn prefix_order(prefix: Prefix) -> u64
     ensures { result ≡ prefix_code prefix }
 {
     prefix.address.0 as u64 * 64 + prefix.length as u64

@@ -10,8 +10,8 @@ use Rattle.ospf_router.specs.declared.followed.Grown.{Grown}
 use Rattle.ospf_router.proofs.ServedLemmas.{routes_of}
 use Rattle.ospf_router.proofs.routes.KeptRoutes.grow.Goals as goal
 use Rattle.ospf_router.proofs.routes.KeptRoutes.grow.Goals.{In-Some-2}
-use Rattle.ospf_spf.specs.Ends.{SparesBut}
-use Rattle.ospf_spf.specs.Growing.{GrowingValue}
+use Rattle.ospf_router.specs.Ends.{SparesBut}
+use Rattle.ospf_router.specs.Growing.{GrowingValue}
 
 pub followed-requires : goal.followed-requires
 followed-requires c =

@@ -5,7 +5,7 @@ use Rattle.ospf_router.specs.Listings.{ListsAs}
 use Rattle.ospf_router.specs.Routes.{AreRoutes, RoutesValue}
 use Rattle.ospf_router.proofs.ServedLemmas.{routes_of}
 use Rattle.ospf_router.proofs.routes.KeptRoutes.is_current.Goals as goal
-use Rattle.ospf_spf.specs.Growing.{GrowingValue}
+use Rattle.ospf_router.specs.Growing.{GrowingValue}
 
 pub returns-in-Some-clause-routes : goal.returns-in-Some-clause-routes
 returns-in-Some-clause-routes c = λ t.

@@ -8,7 +8,7 @@ use Rattle.ospf_router.proofs.ServedLemmas.{routes_of}
 use Rattle.ospf_router.proofs.SettledLemmas.{none_brought}
 use Rattle.ospf_router.proofs.routes.KeptRoutes.is_still.Goals as goal
 use Rattle.ospf_router.proofs.routes.KeptRoutes.is_still.Goals.{Then-brings_none}
-use Rattle.ospf_spf.specs.Growing.{GrowingValue}
+use Rattle.ospf_router.specs.Growing.{GrowingValue}
 
 kept_is : (c : Then-brings_none) → c.args.self.now.listing ≡ c.in-Some.tree.listing
 kept_is c = sym (ap (λ (r : RoutesValue). r.listing) c.self.view_is) ∙ ap lsas_in c.in-Some.is

@@ -6,11 +6,11 @@ use Rattle.ospf_edges.specs.Listed.{advertisements_of}
 use Rattle.ospf_graph.specs.Routes.{IsTable}
 use Rattle.ospf_graph.specs.declared.route.Route.{Route}
 use Rattle.ospf_router.specs.Routes.{RoutesValue}
-use Rattle.ospf_spf.specs.Ends.{SparesBut}
+use Rattle.ospf_router.specs.Ends.{SparesBut}
 use Rattle.ospf_router.proofs.routes.KeptRoutes.turn.Goals as goal
 
-pub returns-then-len-ends-clause-changed : goal.returns-then-len-ends-clause-changed
-returns-then-len-ends-clause-changed c =
+pub returns-then-len-all-clause-changed : goal.returns-then-len-all-clause-changed
+returns-then-len-all-clause-changed c =
     subst (λ (t : List Route). IfOk c.put.result (λ b. IsTrue b ↔ (c.put.new.self.table ≢ t))) (ap (λ (r : RoutesValue). r.table) c.self.view_is) c.put.ensures.changed
 
 pub turn_table-requires : goal.turn_table-requires

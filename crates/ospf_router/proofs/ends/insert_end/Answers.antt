@@ -1,0 +1,26 @@
+use Rattle.std.proofs.Common.{rules, of_calls, leb, leb-true, subst, sym, get_or, arith}
+use Rattle.std.proofs.lemmas.List.Sorted.{IsNonDecreasingBy-insert, IsPartitionPoint-from_clause, IsPartitionedBy-leb}
+use Rattle.ospf_edges.specs.declared.end.End.{End}
+use Rattle.ospf_graph.proofs.Runs.{not_upto}
+use Rattle.ospf_incremental.proofs.KeptGrowth.{inserted}
+use Rattle.ospf_router.specs.Ends.{AreEndsInOrder}
+use Rattle.ospf_spf.specs.Reach.{prefix_code}
+use Rattle.ospf_router.proofs.ends.insert_end.Goals as goal
+
+pub returns-clause-in_order : goal.returns-clause-in_order
+returns-clause-in_order c =
+    let key = λ (e : End). prefix_code e.prefix in
+    let n = c.prefix_order-order.result in
+    let is = c.prefix_order-order.ensures in
+    let ends = c.args.ends.now.items in
+    let i = c.partition_point-place.result in
+    let order = subst (λ l. AreEndsInOrder l) (sym c.deref.ensures.value) c.requires in
+    let q = rw c.deref.ensures.value at (IsPartitionPoint-from_clause (λ e. leb (key e) n) _ _ c.partition_point-place.ensures.partitioned (IsPartitionedBy-leb key _ n order) (λ a r q k. search (rules, of_calls))) in
+    let bound = rw c.deref.ensures.value at c.partition_point-place.ensures.bound in
+    rw c.in_ok-insert.ensures.items
+    (IsNonDecreasingBy-insert key ends i c.args.end c.requires bound
+    (λ k d lt. let low = leb-true (key (get_or ends k d)) n (q.0 k d (omega arith) lt) in omega arith)
+    (λ k d le lt. let high = not_upto (key (get_or ends k d)) n (q.1 k d le lt) in omega arith))
+
+pub returns-clause-members : goal.returns-clause-members
+returns-clause-members c = λ e. rw c.in_ok-insert.ensures.items (inserted c.args.ends.now.items c.partition_point-place.result c.args.end e)

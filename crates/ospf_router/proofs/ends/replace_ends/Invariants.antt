@@ -1,0 +1,12 @@
+use Rattle.std.proofs.Common.{◌≡◌, ◌≢◌, ◌↔◌, ◌⊎◌, take}
+use Rattle.std.specs.List.{Contains}
+use Rattle.ospf_edges.specs.declared.end.End.{End}
+use Rattle.ospf_router.specs.Ends.{AreEndsInOrder, ReplacesEnds}
+use Rattle.ospf_router.proofs.ends.replace_ends.Given as goal
+
+abbrev pub invariant-loop-end : goal.invariant-loop-end
+invariant-loop-end l =
+    record {
+      in_order : AreEndsInOrder l.ends.items;
+      members : ReplacesEnds l.fn.vertex (take l.end-index l.at) l.fn.ends.items l.ends.items;
+    }
