@@ -6,11 +6,13 @@ use Rattle.ospf_lsa.specs.Lsa.{key_of}
 use Rattle.ospf_lsa.specs.declared.header.LsaHeader.{LsaHeader}
 use Rattle.ospf_lsdb.specs.Database as lsdb
 use Rattle.ospf_lsdb.specs.Database.{Held, entry_from}
-use Rattle.ospf_area.specs.Flooding.{goes_anywhere, released}
+use Rattle.ospf_area.specs.Flooding.{flooded_links, goes_anywhere, released}
 use Rattle.ospf_update.specs.Meets.{flooded_area, InstallsIn, Stores}
 use Rattle.ospf_area.specs.Numbers.{counts, greatest_after, marked}
-use Rattle.ospf_area.specs.State.{AreaValue}
+use Rattle.ospf_area.specs.Sending.{own_of}
+use Rattle.ospf_area.specs.State.{AreaValue, LinkValue}
 use Rattle.ospf_area.specs.declared.flooding.Origin.{Origin}
+use Rattle.ospf_area.specs.declared.sending.Own.{Own}
 
 abbrev releasing : LsaKey → AreaValue → AreaValue
 releasing key s = record s { links = released key s.links }
@@ -62,3 +64,14 @@ Stores-steps lsa from s a b c d e u v w key h by_flooding went is_u is_v is_w is
     (subst (λ (by : Bool). InstallsIn lsa by b c) is_by is_c)
     (is_d ∙ ap (λ (k : LsaKey). marking k went c) the_key ∙ ap (λ (x : Bool). marking (key_of lsa) x c) the_flag)
     (is_e ∙ ap (λ (k : LsaKey). counting k h.number d) the_key ∙ ap (λ (n : ℤ). counting (key_of lsa) n d) the_number)
+
+-- the links of a router are flooded, of which the code has a view and its tick at hand
+pub floods : (lsa : List ℕ) (from : Option Origin) (key : LsaKey) (s a view : AreaValue) (own : Own) (now new : List LinkValue)
+    → own ≡ own_of s → a ≡ record s { links = released key s.links } → view ≡ a → now ≡ view.links
+    → new ≡ flooded_links (key_of lsa) (header_of lsa) from own.tick now → record view { links = new } ≡ flooded_area lsa from a
+floods lsa from key s a view own now new is_own is_a is_view is_now is_new =
+    let tick : own.tick ≡ a.tick = ap (λ (o : Own). o.tick) is_own ∙ sym (ap (λ (x : AreaValue). x.tick) is_a) in
+    let links : now ≡ a.links = is_now ∙ ap (λ (x : AreaValue). x.links) is_view in
+    ap (λ (x : AreaValue). record x { links = new }) is_view
+    ∙ ap (λ (ls : List LinkValue). record a { links = ls })
+    (is_new ∙ ap (λ (t : ℕ). flooded_links (key_of lsa) (header_of lsa) from t now) tick ∙ ap (λ (ls : List LinkValue). flooded_links (key_of lsa) (header_of lsa) from a.tick ls) links)

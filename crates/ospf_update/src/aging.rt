@@ -1,17 +1,20 @@
 //! LSAs at MaxAge: ages that rise, copies that are flooded to all, and flushes.
 
-ghost use Rattle.std.specs.Prelude.{◌≡◌, List, OnOk, IfOk, option_map};
+ghost use Rattle.std.specs.Prelude.{◌≡◌, None, List, OnOk, IfOk, option_map};
 ghost use Rattle.ospf_base.specs.Constants.{max_age};
 ghost use Rattle.ospf_lsdb.specs.Database.{Puts, expired, held_of, reached_at};
 ghost use Rattle.ospf_area.specs.Outputs.{SentValue};
 ghost use Rattle.ospf_update.specs.Aging.{turned_area, turn_out, noted, copy_flooded_by, copy_flooded, copy_flood_out_by, copy_flood_out, copy_sent, copy_out, copies_sent, copies_out, AgesRise, TickAges, Flushes};
-ghost use Rattle.ospf_area.specs.Sending.{and_sends};
+ghost use Rattle.ospf_area.specs.Flooding.{flooding_updates, goes_anywhere};
+ghost use Rattle.ospf_area.specs.Sending.{and_sends, own_of};
 ghost use Rattle.ospf_area.specs.State.{copy_of};
+ghost use Rattle.ospf_lsa.specs.Header.{header_of};
+ghost use Rattle.ospf_lsa.specs.Lsa.{key_of};
+ghost use Rattle.ospf_update.specs.Meets.{flooded_area};
 
-use crate::meeting::flood_in;
-use ospf_area::{Area, Outputs, mark, own_of, turn_requests};
+use ospf_area::{Area, Outputs, flood, mark, own_of, turn_requests};
 use ospf_base::{LsaKey, MAX_AGE};
-use ospf_lsa::Lsa;
+use ospf_lsa::{Lsa, LsaView};
 use std::alloc::{AllocError, Global};
 
 /// LoadingDone and the next Requests of all neighbours, where they are due (RFC 2328, sections 10.3 and 10.9): after each
@@ -83,8 +86,26 @@ fn flood_copy(
     let Some(copy) = copy_of(area, &key, alloc)? else {
         return Ok(());
     };
-    let flooded = flood_in(area, &copy.view(), None, out, alloc)?;
-    note(area, key, flooded.anywhere)
+    let went = flood_to_all(area, &copy.view(), out, alloc)?;
+    note(area, key, went)
+}
+
+// Floods an LSA to all neighbours. Answers whether it went out.
+fn flood_to_all(
+    area: &mut Area,
+    lsa: &LsaView,
+    out: &mut Outputs,
+    alloc: Global,
+) -> Result<bool, AllocError>
+    ensures after { OnOk result (area.new ≡ flooded_area lsa.now None area.old) }
+    ensures went { IfOk result (λ went. went
+        ≡ goes_anywhere (key_of lsa.now) (header_of lsa.now) None area.old.links) }
+    ensures sent { OnOk result (out.new ≡ and_sends out.old
+        (flooding_updates (own_of area.old) lsa.now None area.old.links)) }
+{
+    let own = own_of(area);
+    let flooded = flood(&mut area.links, lsa, None, own, out, alloc)?;
+    Ok(flooded.anywhere)
 }
 
 fn copy_of(area: &Area, key: &LsaKey, alloc: Global) -> Result<Option<Lsa>, AllocError>

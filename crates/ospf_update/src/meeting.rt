@@ -43,28 +43,6 @@ pub fn on_header(area: &mut Area, from: Origin, header: &LsaHeader)
     }
 }
 
-/// Floods an LSA out of all links (RFC 2328, section 13.3).
-///
-/// `AllocError` where memory runs out; then the router is to be stopped.
-pub fn flood_in(
-    area: &mut Area,
-    lsa: &LsaView,
-    from: Option<Origin>,
-    out: &mut Outputs,
-    alloc: Global,
-) -> Result<Flooded, AllocError>
-    ensures after { OnOk result (area.new ≡ flooded_area lsa.now from area.old) }
-    ensures anywhere { IfOk result (λ f. f.anywhere
-        ≡ goes_anywhere (key_of lsa.now) (header_of lsa.now) from area.old.links) }
-    ensures back { IfOk result (λ f. f.back
-        ≡ flooded_back (key_of lsa.now) (header_of lsa.now) from area.old.links) }
-    ensures sent { OnOk result (out.new ≡ and_sends out.old
-        (flooding_updates (own_of area.old) lsa.now from area.old.links)) }
-{
-    let own = own_of(area);
-    flood(&mut area.links, lsa, from, own, out, alloc)
-}
-
 /// Stores an LSA and floods it (section 13, step 5): its old copy leaves all retransmission lists, then it is flooded,
 /// then it takes the old copy's place. `from` tells where it came from; without it, it is the router's own.
 ///
@@ -81,10 +59,14 @@ pub fn store(
         ≡ flooded_back (key_of lsa) (header_of lsa) from (released (key_of lsa) area.old.links)) }
     ensures sent { OnOk result (out.new ≡ and_sends out.old (store_updates lsa from area.old)) }
 {
+    let own = own_of(area);
     let key = lsa.view().key();
     let header = lsa.view().header();
+    // (13, step 5c) Before the flood, which lists the new instance.
     release_in(area, &key);
-    let flooded = flood_in(area, &lsa.view(), from, out, alloc)?;
+    // (13, step 5b)
+    let flooded = flood(&mut area.links, &lsa.view(), from, own, out, alloc)?;
+    // (13, step 5d)
     install_in(area, lsa, from.is_some())?;
     mark_in(area, key, flooded.anywhere)?;
     count_number(area, key, &header)?;
@@ -156,11 +138,18 @@ pub(crate) fn follow(
     ensures { OnOk result (MeetsRule rule from lsa.now area.old out.old out.new area.new) }
 {
     match rule {
-        None | Some(LsaRule::TooSoon) => Ok(()),
+        None => Ok(()),
+        // (13, step 4)
         Some(LsaRule::AcknowledgesExpired) => on_expired(area, from, lsa, out),
+        // (13, step 5a)
+        Some(LsaRule::TooSoon) => Ok(()),
+        // (13, step 5)
         Some(LsaRule::Installs) => admit(area, from, lsa, out, alloc),
+        // (13, step 6)
         Some(LsaRule::BadRequest) => restart(area, from, out, alloc),
+        // (13, step 7)
         Some(LsaRule::Duplicate) => on_same(area, from, lsa),
+        // (13, step 8)
         Some(LsaRule::Stale) => reply(area, from, lsa.key(), out, alloc),
     }
 }
@@ -296,9 +285,12 @@ fn admit(
     let Ok(copy) = Lsa::copy(alloc, lsa) else {
         return Err(AllocError);
     };
+    // (13, steps 5b to 5d)
     let flooded = store(area, copy, Some(from), out, alloc)?;
+    // (13, step 5e)
     let answer = answer_at(&area.links, case_of_newer(flooded.back), from);
     acknowledge_by(area, answer, from, &lsa.header())?;
+    // (13, step 5f)
     hear(area, lsa.key())?;
     take(out, lsa.instance())
 }
@@ -315,11 +307,13 @@ fn hear(area: &mut Area, key: LsaKey) -> Result<(), AllocError>
 fn on_same(area: &mut Area, from: Origin, lsa: &LsaView) -> Result<(), AllocError>
     ensures { OnOk result (area.new ≡ duplicated from lsa.now area.old) }
 {
+    // (13, step 7a)
     let instance = lsa.instance();
     let implied = is_awaited(&area.links, from, &instance);
     let answer = answer_at(&area.links, case_of_same(implied), from);
     let tick = area.tick;
     change_at(&mut area.links, from, Change::Acknowledges(instance), tick);
+    // (13, step 7b)
     acknowledge_by(area, answer, from, &lsa.header())
 }
 

@@ -4,7 +4,7 @@ ghost use Rattle.std.specs.Prelude.{◌≡◌, ◌↔◌, IfOk, IsTrue, OnOk, tr
 ghost use Rattle.ospf_area.specs.Sending.{and_sends};
 ghost use Rattle.ospf_neighbour.specs.Neighbour.{is_empty};
 ghost use Rattle.ospf_update.specs.Aging.{turned_area, turn_out};
-ghost use Rattle.ospf_update.specs.Updates.{IsOtherLsa, IsTurned, leaves_turned, MeetsAndTurns, PassesOver, TakesSlice, TakesSlices, TakesUpdate};
+ghost use Rattle.ospf_update.specs.Updates.{IsOtherLsa, IsTurned, leaves_turned, PassesOver, TakesSlice, TakesUpdate};
 
 use crate::acks::send_direct;
 use crate::aging::turn_in;
@@ -31,27 +31,16 @@ pub fn on_update(
 ) -> Result<(), AllocError>
     ensures { OnOk result (TakesUpdate from lsas.entry area.old out.old out.new area.new) }
 {
-    take_slices(area, from, lsas, out, alloc)?;
+    let mut is_turned = false;
+    for bytes in lsas {
+        is_turned = take_lsa(area, from, bytes, is_turned, out, alloc)?;
+    }
     send_direct(area, from, out, alloc)
 }
 
-fn take_slices(
-    area: &mut Area,
-    from: Origin,
-    lsas: Lsas<'_>,
-    out: &mut Outputs,
-    alloc: Global,
-) -> Result<(), AllocError>
-    ensures { OnOk result (TakesSlices from lsas.entry area.old out.old out.new area.new) }
-{
-    let mut is_turned = false;
-    for bytes in lsas {
-        is_turned = take_slice(area, from, bytes, is_turned, out, alloc)?;
-    }
-    Ok(())
-}
-
-fn take_slice(
+// An LSA, and then LoadingDone and the Requests that come of it. No neighbour is visited for these where none waited for a
+// turn before, and the rule leaves it so. Answers whether none waits now.
+fn take_lsa(
     area: &mut Area,
     from: Origin,
     bytes: &[u8],
@@ -63,31 +52,17 @@ fn take_slice(
     ensures takes { OnOk result (TakesSlice from bytes.now area.old out.old out.new area.new) }
     ensures turned { IfOk result (λ turned. turned ≡ true → IsTurned area.new) }
 {
-    match LsaView::read(bytes) {
-        Ok(lsa) => take_lsa(area, from, &lsa, is_turned, out, alloc),
+    // (13, steps 1 to 3)
+    let lsa = match LsaView::read(bytes) {
+        Ok(lsa) => lsa,
         Err(_) => {
             pass_over(area, from, bytes)?;
-            Ok(is_turned)
+            return Ok(is_turned);
         }
-    }
-}
-
-// An LSA, and then LoadingDone and the Requests that come of it. No neighbour is visited for these where none waited for a
-// turn before, and the rule leaves it so. Answers whether none waits now.
-fn take_lsa(
-    area: &mut Area,
-    from: Origin,
-    lsa: &LsaView,
-    is_turned: bool,
-    out: &mut Outputs,
-    alloc: Global,
-) -> Result<bool, AllocError>
-    requires { is_turned ≡ true → IsTurned area.old }
-    ensures takes { OnOk result (MeetsAndTurns from lsa.now area.old out.old out.new area.new) }
-    ensures turned { IfOk result (λ turned. turned ≡ true → IsTurned area.new) }
-{
-    let rule = rule_met(area, from, lsa);
-    follow(rule, area, from, lsa, out, alloc)?;
+    };
+    // (13, steps 4 to 8)
+    let rule = rule_met(area, from, &lsa);
+    follow(rule, area, from, &lsa, out, alloc)?;
     if is_turned && leaves_turned(rule) {
         return Ok(true);
     }

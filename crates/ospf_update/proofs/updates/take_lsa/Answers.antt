@@ -1,16 +1,27 @@
-use Rattle.std.proofs.Common.{sym, ◌∙◌}
+-- ospf_update/proofs/updates/take_lsa/Answers.antt
+use Rattle.std.proofs.Common.{◌≡◌, ◌∙◌, ℕ, List, subst, sym}
+use Rattle.ospf_area.specs.Outputs.{OutputsValue}
+use Rattle.ospf_area.specs.State.{AreaValue}
+use Rattle.ospf_area.specs.declared.flooding.Origin.{Origin}
+use Rattle.ospf_lsa.specs.Lsa.{IsLsa}
+use Rattle.ospf_update.specs.Updates.{MeetsAndTurns, TakesSlice}
 use Rattle.ospf_update.proofs.TurnLemmas.{rule_rests, turn_rests, turns_none}
 use Rattle.ospf_update.proofs.updates.take_lsa.Goals as goal
 
+-- bytes that were read as an LSA meet what that LSA meets
+met : (f : Origin) (lsa bytes : List ℕ) (s t : AreaValue) (o o' : OutputsValue) → lsa ≡ bytes → IsLsa bytes → MeetsAndTurns f lsa s o o' t → TakesSlice f bytes s o o' t
+met f lsa bytes s t o o' is valid meets = TakesSlice.Met valid (subst (λ (l : List ℕ). MeetsAndTurns f l s o o' t) is meets)
+
 pub returns-then-leaves_turned-clause-takes : goal.returns-then-leaves_turned-clause-takes
 returns-then-leaves_turned-clause-takes c =
-    turns_none c.rule_met-rule.result c.args.from c.args.lsa.now c.args.area.now c.args.out.now c.follow.new.out c.follow.new.area c.rule_met-rule.ensures c.in_ok-follow.ensures
-    (rule_rests c.rule_met-rule.result c.args.from c.args.lsa.now c.args.area.now c.args.out.now c.follow.new.out c.follow.new.area (sym c.leaves_turned.ensures ∙ c.if-leaves_turned.true) c.in_ok-follow.ensures
-    (c.requires c.if-is_turned.true))
+    met c.args.from c.in-Ok.lsa c.args.bytes.now c.args.area.now c.follow.new.area c.args.out.now c.follow.new.out c.in-Ok.ensures.ok.0 c.in-Ok.ensures.ok.1
+    (turns_none c.rule_met-rule.result c.args.from c.in-Ok.lsa c.args.area.now c.args.out.now c.follow.new.out c.follow.new.area c.rule_met-rule.ensures c.in_ok-follow.ensures
+    (rule_rests c.rule_met-rule.result c.args.from c.in-Ok.lsa c.args.area.now c.args.out.now c.follow.new.out c.follow.new.area (sym c.leaves_turned.ensures ∙ c.if-leaves_turned.true) c.in_ok-follow.ensures
+    (c.requires c.if-is_turned.true)))
 
 pub returns-then-leaves_turned-clause-turned : goal.returns-then-leaves_turned-clause-turned
 returns-then-leaves_turned-clause-turned c = λ is.
-    rule_rests c.rule_met-rule.result c.args.from c.args.lsa.now c.args.area.now c.args.out.now c.follow.new.out c.follow.new.area (sym c.leaves_turned.ensures ∙ c.if-leaves_turned.true) c.in_ok-follow.ensures
+    rule_rests c.rule_met-rule.result c.args.from c.in-Ok.lsa c.args.area.now c.args.out.now c.follow.new.out c.follow.new.area (sym c.leaves_turned.ensures ∙ c.if-leaves_turned.true) c.in_ok-follow.ensures
     (c.requires c.if-is_turned.true)
 
 pub returns-clause-turned : goal.returns-clause-turned
