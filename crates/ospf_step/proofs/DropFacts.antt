@@ -69,6 +69,11 @@ alone i ns q source kind none is =
 
 -- ---- what it needs
 
+-- a datagram that is not dropped is a packet that is not
+pub not_dropped_as : (s : AreaValue) (link : ℕ) (source destination : Addr) (o : Option Meaning) (m : Meaning) → o ≡ Some m → drop_on (slice_get s.links link) s source destination o ≡ None
+    → drop_on (slice_get s.links link) s source destination (Some m) ≡ None
+not_dropped_as s link source destination o m is taken = subst (λ (x : Option Meaning). drop_on (slice_get s.links link) s source destination x ≡ None) is taken
+
 module _ (law : NotDroppedIsTaken) (s : AreaValue) (link : ℕ) (source destination : Addr) (m : Meaning) (fit : IsFit s) (is : drop_on (slice_get s.links link) s source destination (Some m) ≡ None) where
   packet_is : (a : LinkValue) → slice_get s.links link ≡ Some a → drop_of_packet (local_of (own_of s) a) a.iface a.neighbours s.area source destination m ≡ None
   packet_is a at = subst (λ (o : Option LinkValue). drop_on o s source destination (Some m) ≡ None) at is

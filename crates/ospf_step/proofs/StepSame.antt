@@ -1,5 +1,5 @@
 -- No step changes the Router ID or the number of links.
-use Rattle.std.proofs.Common.{◌≡◌, ℕ, zero, suc, List, Option, None, Some, Result, Ok, Err, IfOk, OnOk, ◌≢◌, map, length, slice_get, refl, sym, ap, subst, ◌∙◌}
+use Rattle.std.proofs.Common.{◌≡◌, false, is_some, true, ℕ, zero, suc, List, Option, None, Some, Result, Ok, Err, IfOk, OnOk, ◌≢◌, map, length, slice_get, refl, sym, ap, subst, ◌∙◌}
 use Rattle.std.proofs.lemmas.List.{length-map, length-set}
 use Rattle.ospf_base.specs.declared.ids.Addr.{Addr}
 use Rattle.ospf_base.specs.declared.ids.LsaKey.{LsaKey}
@@ -103,11 +103,23 @@ takes_same e s out s' is =
     let both = then s is.mid s' first (ends_as is.mid is.mid_out out s' is.end) in
     record { router = both.own; links = both.many }
 
--- the clauses of a step as one
-pub as_one : (r : Result Taken AllocError) (e : Event) (s s' : AreaValue) → IfOk r (λ t. t.dropped ≡ dropped_by e s) → IfOk r (λ t. t.dropped ≡ None → Takes e s t.out s') → IfOk r (λ t. t.dropped ≢ None → s' ≡ s)
-    → IfOk r (λ t. t.dropped ≢ None → t.out ≡ no_outputs) → IfOk r (λ t. StepsArea e s t.dropped t.out s')
-as_one (Ok t) e s s' cause takes unchanged silent = record { cause = cause; unchanged = unchanged; silent = silent; takes = takes }
-as_one (Err x) e s s' cause takes unchanged silent = tt
+-- a step whose event was taken, and that has ended
+pub taken_steps : (e : Event) (s mid after : AreaValue) (o mid_out out : OutputsValue) (d : Option Dropped) → o ≡ no_outputs → is_some d ≡ false → d ≡ dropped_by e s
+    → (d ≡ None → TakesEvent e s o mid_out mid) → Ends mid mid_out out after → StepsArea e s d out after
+taken_steps e s mid after o mid_out out (Some d) empty taken cause takes ends = absurd cc
+taken_steps e s mid after o mid_out out None empty taken cause takes ends = record {
+  cause = cause;
+  unchanged = λ some. absurd (some refl);
+  silent = λ some. absurd (some refl);
+  takes = λ none. record { mid = mid; mid_out = mid_out; event = subst (λ (x : OutputsValue). TakesEvent e s x mid_out mid) empty (takes none); end = ends };
+}
+
+-- a step whose event was dropped
+pub dropped_steps : (e : Event) (s after : AreaValue) (o out : OutputsValue) (d : Option Dropped) → o ≡ no_outputs → is_some d ≡ true → d ≡ dropped_by e s
+    → (d ≢ None → after ≡ s) → (d ≢ None → out ≡ o) → StepsArea e s d out after
+dropped_steps e s after o out None empty dropped cause unchanged silent = absurd cc
+dropped_steps e s after o out (Some d) empty dropped cause unchanged silent =
+    record { cause = cause; unchanged = unchanged; silent = λ some. silent some ∙ empty; takes = λ none. absurd cc }
 
 pub step_same : (r : Result Taken AllocError) (e : Event) (s s' : AreaValue) → IfOk r (λ t. StepsArea e s t.dropped t.out s') → OnOk r (IsSameRouter s s')
 step_same (Err x) e s s' is = tt

@@ -52,13 +52,28 @@ pub(crate) fn take_datagram(
         destination (packet_of bytes.now) ≡ None) }
     ensures fit { OnOk result (IsFit area.new) }
 {
-    match receive_on(area, link, source, destination, bytes) {
-        Ok(packet) => {
-            take_packet(area, link, source, packet, out, alloc)?;
-            Ok(None)
-        }
-        Err(dropped) => Ok(Some(dropped)),
-    }
+    // For the proof.
+    not_dropped_is_taken();
+    neighbours_stay_of_link();
+    elections_come_about();
+    description_keeps_router();
+    answers_are_quiet();
+    area_stays_sound();
+    // (8.2)
+    let packet = match receive_on(area, link, source, destination, bytes) {
+        Ok(packet) => packet,
+        Err(dropped) => return Ok(Some(dropped)),
+    };
+    // For the proof.
+    database_is_one(area);
+    none_waits_below(area, link, packet.router);
+    let from = Origin {
+        link,
+        router: packet.router,
+        address: source,
+    };
+    take_body(area, from, packet.body, out, alloc)?;
+    Ok(None)
 }
 
 // The packet that a datagram is, or why it is dropped.
@@ -90,43 +105,6 @@ fn receive_on<'a>(
     )
 }
 
-// A packet that is not dropped is taken.
-fn take_packet(
-    area: &mut Area,
-    link: usize,
-    source: Addr,
-    packet: Packet<'_>,
-    out: &mut Outputs,
-    alloc: Global,
-) -> Result<(), AllocError>
-    // The area is fit, and there is a destination at which the packet is not dropped.
-    requires fit { IsFit area.old }
-    requires taken { (destination : Addr)
-        × (drop_on (slice_get area.old.links link) area.old source destination (Some (said packet))
-        ≡ None) }
-    // The sender is ready, the packet is taken by the rules, and the area is fit for what follows.
-    ensures sender { IsSenderReady link (Some (said packet.entry)) area.old }
-    ensures takes { OnOk result (TakesDatagram link source (Some (said packet.entry)) area.old
-        out.old out.new area.new) }
-    ensures fit { OnOk result (IsFit area.new) }
-{
-    // For the proof.
-    not_dropped_is_taken();
-    neighbours_stay_of_link();
-    elections_come_about();
-    description_keeps_router();
-    answers_are_quiet();
-    area_stays_sound();
-    database_is_one(area);
-    none_waits_below(area, link, packet.router);
-    let from = Origin {
-        link,
-        router: packet.router,
-        address: source,
-    };
-    take_body(area, from, packet.body, out, alloc)
-}
-
 // What a packet says is taken.
 fn take_body(
     area: &mut Area,
@@ -140,12 +118,17 @@ fn take_body(
         area.new) }
 {
     match body {
+        // (10.5)
         Body::Hello(hello, neighbours) => take_hello(area, from, &hello, neighbours, out, alloc),
+        // (10.6)
         Body::Description(fields, headers) => {
             take_description(area, from, fields, headers, out, alloc)
         }
+        // (10.7)
         Body::Request(requests) => take_request(area, from, requests, out, alloc),
+        // (13)
         Body::Update(lsas) => on_update(area, from, lsas, out, alloc),
+        // (13.7)
         Body::Acknowledgment(headers) => {
             take_headers(area, from, headers);
             Ok(())

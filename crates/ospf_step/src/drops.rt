@@ -55,6 +55,7 @@ fn drop_of_packet(
     ensures { result ≡ drop_of_packet local iface.now neighbours.now area source destination
         (said packet.now) }
 {
+    // (9.1, 8.2) In this order: the interface, the Area ID, the Router ID, the destination and the source.
     if iface.state.is_down() {
         Some(Dropped::Packet)
     } else if packet.area.0 != area.0 {
@@ -66,6 +67,7 @@ fn drop_of_packet(
     } else if is_foreign(iface, source) {
         Some(Dropped::Subnet)
     } else {
+        // (8.2) Its sender is known by its address, or by its Router ID.
         let sender = sender_in(iface, neighbours, packet.router, source);
         drop_by_body(
             &packet.body,

@@ -20,9 +20,13 @@ pub(crate) fn end(area: &mut Area, out: &mut Outputs, alloc: Global) -> Result<(
     ensures ends { OnOk result (Ends area.old out.old out.new area.new) }
     ensures fit { OnOk result (IsFit area.new) }
 {
+    // For the proof.
     database_is_one(area);
+    // (9.4)
     elect(area, out, alloc)?;
+    // (12.4)
     own_lsas(area, out, alloc)?;
+    // (14)
     remove(area, out, alloc)?;
     // For the proof.
     let _sent = out.sent();
@@ -58,8 +62,8 @@ fn remove(area: &mut Area, out: &mut Outputs, alloc: Global) -> Result<(), Alloc
     ensures removes { OnOk result (Removes area.old out.old out.new area.new) }
     ensures fit { OnOk result (IsFit area.new) }
 {
-    database_is_one(area);
     // For the proof.
+    database_is_one(area);
     area_stays_sound();
     ospf_update::remove(area, out, alloc)
 }

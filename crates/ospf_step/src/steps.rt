@@ -59,30 +59,12 @@ pub fn step(area: &mut Area, event: Event<'_>, alloc: Global) -> Result<Taken, A
     elections_come_about();
     repeats_are_quiet();
     area_stays_sound();
-    step_parts(area, event, alloc)
-}
-
-// An event that is not dropped, and the end of its step.
-fn step_parts(area: &mut Area, event: Event<'_>, alloc: Global) -> Result<Taken, AllocError>
-    requires { IsFit area.old }
-    // The event is dropped for the cause that applies, if one does, or else taken by the rules.
-    ensures dropped { IfOk result (λ t. t.dropped ≡ dropped_by (happening event.entry) area.old) }
-    ensures sender { IfOk result (λ t. t.dropped ≡ None →
-        IsReadyFor (happening event.entry) area.old) }
-    ensures takes { IfOk result (λ t. t.dropped ≡ None →
-        Takes (happening event.entry) area.old t.out area.new) }
-    // One that is dropped changes nothing, and puts nothing out.
-    ensures unchanged { IfOk result (λ t. t.dropped ≢ None → area.new ≡ area.old) }
-    ensures silent { IfOk result (λ t. t.dropped ≢ None → t.out ≡ no_outputs) }
-    // One that is dropped needs no memory, and the area is fit for what follows.
-    ensures memory { OnErr result (dropped_by (happening event.entry) area.old ≡ None) }
-    ensures fit { OnOk result (IsFit area.new) }
-{
     let mut out = Outputs::new(alloc);
     let dropped = take(area, event, &mut out, alloc)?;
-    if dropped.is_none() {
-        end(area, &mut out, alloc)?;
+    if dropped.is_some() {
+        return Ok(Taken { out, dropped });
     }
+    end(area, &mut out, alloc)?;
     Ok(Taken { out, dropped })
 }
 
@@ -107,20 +89,24 @@ fn take(
     ensures fit { OnOk result (IsFit area.new) }
 {
     match event {
+        // (8.2)
         Event::Datagram {
             link,
             source,
             destination,
             bytes,
         } => take_datagram(area, link, source, destination, bytes, out, alloc),
+        // (14)
         Event::Tick => {
             take_tick(area, out, alloc)?;
             Ok(None)
         }
+        // (9.3, InterfaceUp)
         Event::LinkUp { link } => {
             take_up(area, link, out, alloc)?;
             Ok(None)
         }
+        // (9.3, InterfaceDown)
         Event::LinkDown { link } => {
             take_down(area, link, alloc);
             Ok(None)

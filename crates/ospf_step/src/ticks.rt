@@ -30,10 +30,15 @@ pub(crate) fn take_tick(area: &mut Area, out: &mut Outputs, alloc: Global) -> Re
 fn beat(area: &mut Area, out: &mut Outputs, alloc: Global) -> Result<(), AllocError>
     ensures { OnOk result (TakesTick area.old out.old out.new area.new) }
 {
+    // (14)
     age(area, out, alloc)?;
+    // (9.3, 10.3)
     count_timers(area, alloc);
+    // (9.5)
     send_hellos(area, out, alloc)?;
+    // (13.5)
     send_delayed(area, out, alloc)?;
+    // (10.8, 10.9, 13.6)
     repeat_all(area, out, alloc)
 }
 
