@@ -3,10 +3,9 @@
 use super::made::{FIRST_NUMBER, require};
 use super::wired::{OWN, count, description, iface};
 use ospf_adjacency::{
-    OnLink, Post, elect_on, is_broadcast, is_dropped, request_turn, send_dd, send_request,
-    take_description, take_event, wants_adjacency,
+    elect_on, is_broadcast, is_dropped, take_description, take_event, wants_adjacency,
 };
-use ospf_area::{Outputs, Own};
+use ospf_area::{OnLink, Outputs, Own, Post, request_turn, send_dd, send_request};
 use ospf_base::{ALL_SPF_ROUTERS, Addr, AreaId, InterfaceKind, RouterId};
 use ospf_exchange::Local;
 use ospf_iface::{Iface, IfaceState};

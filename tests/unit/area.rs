@@ -3,10 +3,10 @@
 use super::made::require;
 use super::wired::{area_of, neighbour, waiting};
 use ospf_area::{
-    Area, Change, Link, LinkSettings, Origin, Outputs, acknowledge_by, answer_at, change_at,
-    count_number, delay_at, flood, is_awaited, is_numbered, is_own, is_requested,
+    Area, Change, Link, LinkSettings, OnLink, Origin, Outputs, Post, acknowledge_by, answer_at,
+    change_at, count_number, delay_at, flood, is_awaited, is_numbered, is_own, is_requested,
     is_self_originated, is_taken, mark, origin_of, own_of, release, send_request, sent_lsa,
-    some_link_loading, to_address, turn_requests, was_sent, way_out,
+    some_link_loading, to_address, turn_requests, was_sent,
 };
 use ospf_base::{Addr, Instance, InterfaceKind, Kind, LsaKey, RouterId};
 use ospf_flood::{Acknowledgement, AcknowledgementCase};
@@ -450,24 +450,20 @@ fn numbers_and_marks(rt: HostRuntime) -> Result<(), Fail> {
     Ok(())
 }
 
-// Where a packet to neighbour 2 goes, and from which address.
-fn to_neighbour(link: &Link) -> (Addr, Addr) {
-    let to = to_address(&link.iface, Addr(2));
-    (to, way_out(0, &link.iface, to).source)
-}
-
 // The age of router 7's LSA as it is sent out of the link.
 fn sent_age(link: &Link, alloc: Global) -> Result<u16, Fail> {
     let aged = sent_lsa(link.settings, &lsa_of(alloc, FIRST)?.view(), alloc)?;
     Ok(aged.view().header().age.ticks())
 }
 
-// Sends neighbour 2 a Request. Answers how many datagrams there are.
-fn requests_sent(area: &Area, link: &Link, alloc: Global) -> Result<usize, Fail> {
+// Sends neighbour 2 a Request.
+fn request_sent(area: &Area, link: &Link, alloc: Global) -> Result<Outputs, Fail> {
     let mut out = Outputs::new(alloc);
     let other = origin_of(&area.links, FROM_OTHER).ok_or("no neighbour")?;
-    send_request(other, 0, &link.iface, own_of(area), &mut out, alloc)?;
-    Ok(out.sent.len())
+    let mut post = Post::new(0, alloc);
+    send_request(other, &OnLink::of(own_of(area), link), &mut post)?;
+    post.send_all(&mut out, own_of(area), 0, &link.iface)?;
+    Ok(out)
 }
 
 // Everything on the way out that no other test calls.
@@ -476,9 +472,11 @@ fn ways_out(rt: HostRuntime) -> Result<(), Fail> {
     let alloc = rt.alloc();
     let area = area(alloc, &[])?;
     let link = area.links.first().ok_or("no link")?;
-    let way = to_neighbour(link);
     let age = sent_age(link, alloc)?;
-    let sent = requests_sent(&area, link, alloc)?;
-    assert_eq!(rt; (way, age, sent), ((Addr(2), Addr(101)), 13, 1));
+    let out = request_sent(&area, link, alloc)?;
+    let sent = out.sent.first().ok_or("nothing is sent")?;
+    let to = to_address(&link.iface, Addr(2));
+    assert_eq!(rt; (sent.destination, sent.source), (to, Addr(101)));
+    assert_eq!(rt; (to, age, out.sent.len()), (Addr(2), 13, 1));
     Ok(())
 }

@@ -3,10 +3,10 @@
 use super::made::require;
 use super::wired::{LOCAL, OWN, count, iface};
 use ospf_adjacency::{
-    OnLink, Post, go_down, go_up, hello_on, is_at, is_named, is_settled, place_for, send_due_hello,
-    send_hello, tick_neighbours, tick_timers,
+    go_down, go_up, hello_on, is_at, is_named, is_settled, place_for, send_due_hello, send_hello,
+    tick_neighbours, tick_timers,
 };
-use ospf_area::{Outputs, Own};
+use ospf_area::{OnLink, Outputs, Own, Post};
 use ospf_base::{ALL_SPF_ROUTERS, Addr, AreaId, InterfaceKind, RouterId};
 use ospf_iface::{Iface, IfaceState};
 use ospf_neighbour::{NbrEvent, Neighbour, NeighbourState};

@@ -2,10 +2,8 @@
 
 use super::made::{key_of, require};
 use super::wired::count;
-use ospf_adjacency::{
-    OnLink, Post, repeat, request_turn, take_description, take_event, take_request,
-};
-use ospf_area::{Outputs, Own, Sent};
+use ospf_adjacency::{repeat, take_description, take_event, take_request};
+use ospf_area::{OnLink, Outputs, Own, Post, Sent, request_turn};
 use ospf_base::{Addr, AreaId, Instance, InterfaceKind, RouterId};
 use ospf_exchange::Local;
 use ospf_iface::{Iface, IfaceSettings, IfaceState};

@@ -16,7 +16,7 @@ use Rattle.ospf_neighbour.specs.Neighbour.{NeighbourValue}
 use Rattle.ospf_neighbour.specs.Neighbours.{IsRising}
 use Rattle.ospf_adjacency.specs.Adjacency.{begins_by, event_taken, number_by}
 use Rattle.ospf_adjacency.specs.Elections.{AreOfLink, ElectsOn, adj_ok_for, adjusted, number_after, first_dds, candidate_of, taking_part, candidates_of}
-use Rattle.ospf_adjacency.specs.Packets.{Parcel, dd_parcel, parcel_if}
+use Rattle.ospf_area.specs.Packets.{Parcel, dd_parcel, parcel_if}
 use Rattle.ospf_area.proofs.PlaceLemmas.{read_left, write_left}
 
 -- ---- who takes part

@@ -12,7 +12,7 @@ use Rattle.ospf_neighbour.specs.Neighbours.{neighbour_of}
 use Rattle.ospf_packet.specs.declared.body.Hello.{Hello}
 use Rattle.ospf_exchange.specs.declared.rule.Local.{Local}
 use Rattle.ospf_adjacency.specs.Adjacency.{event_taken, number_by}
-use Rattle.ospf_adjacency.specs.Descriptions.{Turn}
+use Rattle.ospf_area.specs.Turns.{Turn}
 use Rattle.ospf_adjacency.specs.Elections.{adj_ok_for}
 use Rattle.ospf_adjacency.specs.Laws.{KeepsLists, NoLists, NeverEnters}
 use Rattle.ospf_adjacency.specs.Heard.{Neighbourhood, turn_of, hello_turn, put, sender_of}

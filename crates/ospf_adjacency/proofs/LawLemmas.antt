@@ -24,7 +24,8 @@ use Rattle.ospf_exchange.specs.declared.rule.Local.{Local}
 use Rattle.ospf_exchange.proofs.LawLemmas.{keeps_dd}
 use Rattle.ospf_exchange.proofs.NotTakenLemmas.{not_taken}
 use Rattle.ospf_adjacency.specs.Adjacency.{event_taken, wants_adjacency}
-use Rattle.ospf_adjacency.specs.Descriptions.{Turn, event_turn, request_turn, dd_turn, is_init, greeted_turn, answered_turn, exchange_turn, description_turn, dd_dropped}
+use Rattle.ospf_adjacency.specs.Descriptions.{event_turn, dd_turn, is_init, greeted_turn, answered_turn, exchange_turn, description_turn, dd_dropped}
+use Rattle.ospf_area.specs.Turns.{Turn, request_turn}
 use Rattle.ospf_adjacency.specs.Laws.{GoesOn, SameLists, KeepsLists, HasNoneBelow}
 use Rattle.ospf_adjacency.proofs.MemberLemmas.{map_has, map_from, none_of_empty, none_of_nil}
 

@@ -8,7 +8,6 @@ pub mod PutLemmas
 pub mod HelloLemmas
 pub mod GoLemmas
 pub mod StayLemmas
-pub mod PostLemmas
 pub mod ElectionLemmas
 pub mod TurnLemmas
 pub mod MemberLemmas

@@ -1,8 +1,8 @@
 -- One LSA more is packed.
 use Rattle.std.proofs.Common.{◌≡◌, ℕ, ◌+◌, ◌-◌, ◌||◌, Bool, true, false, List, [], ◌∷◌, ◌++◌, length, map, ap, ◌∙◌, arith, nat_le, if◌then◌else◌}
 use Rattle.ospf_base.specs.declared.ids.Addr.{Addr}
-use Rattle.ospf_adjacency.specs.Posting.{PostValue, and_parcels}
-use Rattle.ospf_adjacency.proofs.PostLemmas.{parcels_more}
+use Rattle.ospf_area.specs.Posting.{PostValue, and_parcels}
+use Rattle.ospf_area.proofs.PostLemmas.{parcels_more}
 use Rattle.ospf_adjacency.specs.Packing.{bytes_in, goes_in, has_none, packed, update_to}
 
 bytes_in-push : (batch : List (List ℕ)) (lsa : List ℕ) → bytes_in (batch ++ lsa ∷ []) ≡ bytes_in batch + length lsa

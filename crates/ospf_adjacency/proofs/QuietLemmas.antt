@@ -22,10 +22,11 @@ use Rattle.ospf_exchange.specs.Timers.{dd_due, request_repeat_due}
 use Rattle.ospf_exchange.specs.declared.rule.Local.{Local}
 use Rattle.ospf_area.specs.Sending.{sent_lsa, to_address}
 use Rattle.ospf_adjacency.specs.Adjacency.{event_taken}
-use Rattle.ospf_adjacency.specs.Descriptions.{Turn, event_turn, dd_turn, touched}
+use Rattle.ospf_adjacency.specs.Descriptions.{event_turn, dd_turn, touched}
+use Rattle.ospf_area.specs.Turns.{Turn}
 use Rattle.ospf_adjacency.specs.Laws.{GoesOn, KeepsLists, NeverEnters, SaysOnly}
 use Rattle.ospf_exchange.specs.Laws.{KeepsRouter}
-use Rattle.ospf_adjacency.specs.Packets.{Parcel, dd_parcel, request_parcel}
+use Rattle.ospf_area.specs.Packets.{Parcel, dd_parcel, request_parcel}
 use Rattle.ospf_adjacency.proofs.MemberLemmas.{cons_cases, cons_first, cons_rest, map_from, none_of_nil}
 use Rattle.ospf_adjacency.proofs.LawLemmas.{event_keeps}
 use Rattle.ospf_adjacency.proofs.SayLemmas.{events_say_only}

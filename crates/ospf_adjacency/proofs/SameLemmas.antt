@@ -18,7 +18,8 @@ use Rattle.ospf_exchange.specs.declared.fault.ExchangeFault.TheVariants as fault
 use Rattle.ospf_exchange.specs.declared.rule.Local.{Local}
 use Rattle.ospf_exchange.proofs.RouterLemmas.{keep_routers}
 use Rattle.ospf_adjacency.specs.Adjacency.{event_taken, wants_adjacency}
-use Rattle.ospf_adjacency.specs.Descriptions.{Turn, event_turn, request_turn, dd_turn, is_init, greeted_turn, answered_turn, exchange_turn}
+use Rattle.ospf_adjacency.specs.Descriptions.{event_turn, dd_turn, is_init, greeted_turn, answered_turn, exchange_turn}
+use Rattle.ospf_area.specs.Turns.{Turn, request_turn}
 use Rattle.ospf_adjacency.specs.Laws.{DescriptionKeepsRouter}
 use Rattle.ospf_adjacency.proofs.LawLemmas.{bool_cases}
 

@@ -23,9 +23,10 @@ use Rattle.ospf_exchange.specs.declared.rule.Local.{Local}
 use Rattle.ospf_exchange.proofs.LawLemmas.{keeps_dd}
 use Rattle.ospf_area.specs.Asking.{loaded}
 use Rattle.ospf_adjacency.specs.Adjacency.{event_taken, begins_by, wants_adjacency}
-use Rattle.ospf_adjacency.specs.Descriptions.{Turn, event_turn, request_turn, dd_turn, touched, is_init, greeted_turn, answered_turn, exchange_turn}
+use Rattle.ospf_adjacency.specs.Descriptions.{event_turn, dd_turn, touched, is_init, greeted_turn, answered_turn, exchange_turn}
+use Rattle.ospf_area.specs.Turns.{Turn, request_turn}
 use Rattle.ospf_adjacency.specs.Laws.{SaysOnly, AllSayOnly, KeepsLists, EventsSayOnly, RequestsSayOnly, DescriptionSaysOnly}
-use Rattle.ospf_adjacency.specs.Packets.{Parcel, parcel_if, dd_parcel, request_parcel}
+use Rattle.ospf_area.specs.Packets.{Parcel, parcel_if, dd_parcel, request_parcel}
 use Rattle.ospf_adjacency.proofs.LawLemmas.{bool_cases, event_keeps}
 use Rattle.ospf_adjacency.proofs.MemberLemmas.{cons_cases, none_of_nil}
 

@@ -10,7 +10,8 @@ use Rattle.ospf_packet.specs.declared.entry.RequestEntry.{RequestEntry}
 use Rattle.ospf_exchange.specs.Requests.{all_held, is_asked}
 use Rattle.ospf_exchange.specs.declared.rule.Local.{Local}
 use Rattle.ospf_area.specs.Sending.{to_address}
-use Rattle.ospf_adjacency.specs.Descriptions.{Turn, event_turn}
+use Rattle.ospf_adjacency.specs.Descriptions.{event_turn}
+use Rattle.ospf_area.specs.Turns.{Turn}
 use Rattle.ospf_adjacency.specs.Packing.{updates_of}
 
 -- ---- copies to one neighbour

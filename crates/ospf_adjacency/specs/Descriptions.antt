@@ -12,22 +12,14 @@ use Rattle.ospf_neighbour.specs.declared.machine.NeighbourState.TheVariants.{Ini
 use Rattle.ospf_packet.specs.declared.body.Description.{Description}
 use Rattle.ospf_exchange.specs.Exchange.{after_dd, dd_answer}
 use Rattle.ospf_exchange.specs.Laws.{is_not_taken}
-use Rattle.ospf_area.specs.Asking.{loaded, turned}
-use Rattle.ospf_exchange.specs.Requests.{asked_next, request_due}
 use Rattle.ospf_exchange.specs.declared.description.DdAnswer.{DdAnswer}
 use Rattle.ospf_exchange.specs.declared.description.DdAnswer.TheVariants as answer
 use Rattle.ospf_exchange.specs.declared.fault.ExchangeFault.{ExchangeFault}
 use Rattle.ospf_exchange.specs.declared.fault.ExchangeFault.TheVariants as fault
 use Rattle.ospf_exchange.specs.declared.rule.Local.{Local}
 use Rattle.ospf_adjacency.specs.Adjacency.{wants_adjacency, begins_by, event_taken, number_by}
-use Rattle.ospf_adjacency.specs.Packets.{Parcel, parcel_if, dd_parcel, request_parcel}
-use Rattle.ospf_adjacency.specs.Posting.{PostValue}
-
--- where a neighbour stands in a part of a step: the router's next DD number, and what goes out
-pub record Turn : Type 0 where
-  pub neighbour : NeighbourValue
-  pub next : ℕ
-  pub sent : List Parcel
+use Rattle.ospf_area.specs.Packets.{parcel_if, dd_parcel}
+use Rattle.ospf_area.specs.Turns.{Turn, request_turn}
 
 -- an event, and the first DD packet where an adjacency begins by it (10.3, 10.8)
 abbrev pub event_turn : Iface → Local → NbrEvent → Turn → Turn
@@ -35,15 +27,6 @@ event_turn i local e t = record {
   neighbour = event_taken e i.settings.dead t.next local.tick t.neighbour;
   next = number_by e t.neighbour t.next;
   sent = t.sent ++ parcel_if (begins_by e t.neighbour) (dd_parcel i local.mtu (event_taken e i.settings.dead t.next local.tick t.neighbour));
-}
-
--- ---- requests
-
--- LoadingDone where nothing is left to request, and the next Request where one is due (10.3, 10.9)
-abbrev pub request_turn : Iface → Local → Turn → Turn
-request_turn i local t = record t {
-  neighbour = turned local.mtu local.tick t.neighbour;
-  sent = t.sent ++ parcel_if (request_due (loaded t.neighbour)) (request_parcel i (asked_next local.mtu local.tick (loaded t.neighbour)));
 }
 
 -- ---- Database Descriptions
@@ -87,9 +70,3 @@ description_turn i local sender d headers db t = if nat_lt local.mtu d.mtu then 
 -- so not dropped (10.6)
 abbrev pub dd_dropped : Local → RouterId → Description → List LsaHeader → NeighbourValue → Bool
 dd_dropped local sender d headers n = nat_lt local.mtu d.mtu || (not (is_init n.state) && is_not_taken (dd_answer local sender d headers n))
-
--- ---- where it begins, and where it ends
-
--- a neighbour, and what a part leaves beside it
-abbrev pub turn : NeighbourValue → PostValue → Turn
-turn n p = record { neighbour = n; next = p.next; sent = p.sent }

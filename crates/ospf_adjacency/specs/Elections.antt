@@ -14,7 +14,7 @@ use Rattle.ospf_neighbour.specs.Machine.{is_two_way}
 use Rattle.ospf_neighbour.specs.Neighbour.{NeighbourValue}
 use Rattle.ospf_neighbour.specs.Neighbours.{IsRising}
 use Rattle.ospf_adjacency.specs.Adjacency.{wants_adjacency, begins_by, event_taken, number_by}
-use Rattle.ospf_adjacency.specs.Packets.{Parcel, dd_parcel, parcel_if}
+use Rattle.ospf_area.specs.Packets.{Parcel, dd_parcel, parcel_if}
 
 -- ---- who takes part
 

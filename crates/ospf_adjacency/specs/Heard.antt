@@ -17,9 +17,10 @@ use Rattle.ospf_packet.specs.declared.body.Hello.{Hello}
 use Rattle.ospf_exchange.specs.declared.rule.Local.{Local}
 use Rattle.ospf_area.specs.Changes.{after_event}
 use Rattle.ospf_adjacency.specs.Adjacency.{is_broadcast, wants_adjacency}
-use Rattle.ospf_adjacency.specs.Descriptions.{Turn, event_turn}
-use Rattle.ospf_adjacency.specs.Packets.{Parcel}
-use Rattle.ospf_adjacency.specs.Posting.{PostValue}
+use Rattle.ospf_adjacency.specs.Descriptions.{event_turn}
+use Rattle.ospf_area.specs.Turns.{Turn}
+use Rattle.ospf_area.specs.Packets.{Parcel}
+use Rattle.ospf_area.specs.Posting.{PostValue}
 use Rattle.ospf_adjacency.specs.declared.heard.Bearing.{Bearing}
 
 -- a Hello names the router among the neighbours that were heard (10.5)

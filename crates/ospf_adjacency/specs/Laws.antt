@@ -18,11 +18,12 @@ use Rattle.ospf_exchange.specs.Exchange.{dd_fields, describes}
 use Rattle.ospf_exchange.specs.Laws.{HasHeader, HasInstance, KeepsRouter}
 use Rattle.ospf_exchange.specs.declared.rule.Local.{Local}
 use Rattle.ospf_adjacency.specs.Adjacency.{event_taken}
-use Rattle.ospf_adjacency.specs.Descriptions.{Turn, event_turn, request_turn, description_turn, dd_dropped}
+use Rattle.ospf_adjacency.specs.Descriptions.{event_turn, description_turn, dd_dropped}
+use Rattle.ospf_area.specs.Turns.{Turn, request_turn}
 use Rattle.ospf_area.specs.Packing.{IsFilled}
 use Rattle.ospf_area.specs.Sending.{packet_of}
 use Rattle.ospf_area.specs.declared.sending.Own.{Own}
-use Rattle.ospf_adjacency.specs.Packets.{Parcel, dd_body}
+use Rattle.ospf_area.specs.Packets.{Parcel, dd_body}
 
 -- a neighbour goes on: new on its lists are copies of the database and, on the request list, what it told; a list is left only
 -- below Exchange

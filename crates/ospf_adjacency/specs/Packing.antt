@@ -6,7 +6,7 @@ use Rattle.ospf_base.specs.declared.ids.LsaKey.{LsaKey}
 use Rattle.ospf_lsdb.specs.Database.{Entry, Held, entry_of, lsa_of}
 use Rattle.ospf_packet.specs.Meaning.{update}
 use Rattle.ospf_area.specs.Sending.{sent_lsa}
-use Rattle.ospf_adjacency.specs.Packets.{Parcel}
+use Rattle.ospf_area.specs.Packets.{Parcel}
 
 -- ---- copies
 

@@ -10,8 +10,9 @@ use Rattle.ospf_exchange.specs.Requests.{asked_next}
 use Rattle.ospf_exchange.specs.Timers.{dd_due, request_repeat_due}
 use Rattle.ospf_exchange.specs.declared.rule.Local.{Local}
 use Rattle.ospf_flood.specs.Due.{is_due}
-use Rattle.ospf_adjacency.specs.Descriptions.{Turn, dd_turn, touched}
-use Rattle.ospf_adjacency.specs.Packets.{request_parcel}
+use Rattle.ospf_adjacency.specs.Descriptions.{dd_turn, touched}
+use Rattle.ospf_area.specs.Turns.{Turn}
+use Rattle.ospf_area.specs.Packets.{request_parcel}
 use Rattle.ospf_adjacency.specs.Answers.{copies_turn}
 
 -- the last DD packet, in ExStart and by the master in Exchange (10.8)

@@ -13,10 +13,10 @@ use Rattle.ospf_exchange.specs.declared.rule.Local.{Local}
 use Rattle.ospf_area.specs.Packing.{ArePacked}
 use Rattle.ospf_area.specs.Sending.{packet_of, sent_lsa}
 use Rattle.ospf_area.specs.declared.sending.Own.{Own}
-use Rattle.ospf_adjacency.specs.Descriptions.{Turn}
+use Rattle.ospf_area.specs.Turns.{Turn}
 use Rattle.ospf_adjacency.specs.Laws.{GoesOn, NeverEnters, SaysOnly}
 use Rattle.ospf_exchange.specs.Laws.{KeepsRouter}
-use Rattle.ospf_adjacency.specs.Packets.{Parcel}
+use Rattle.ospf_area.specs.Packets.{Parcel}
 use Rattle.ospf_adjacency.specs.Answers.{answer_turn, answered_keys}
 use Rattle.ospf_adjacency.specs.Packing.{copies_of, update_to, updates_of}
 use Rattle.ospf_adjacency.specs.Repeats.{due_keys, repeats_turn}

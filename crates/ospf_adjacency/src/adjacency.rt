@@ -2,10 +2,10 @@
 
 ghost use Rattle.std.specs.Prelude.{◌≡◌, OnOk};
 ghost use Rattle.ospf_adjacency.specs.Adjacency.{is_broadcast, is_chosen, wants_adjacency, is_beginning, begins_by, event_taken, number_by};
-ghost use Rattle.ospf_adjacency.specs.Descriptions.{event_turn, turn};
+ghost use Rattle.ospf_adjacency.specs.Descriptions.{event_turn};
+ghost use Rattle.ospf_area.specs.Turns.{turn};
 
-use crate::packets::send_dd;
-use crate::post::{OnLink, Post};
+use ospf_area::{OnLink, Post, send_dd};
 use ospf_base::{Addr, InterfaceKind};
 use ospf_exchange::begin;
 use ospf_iface::Iface;

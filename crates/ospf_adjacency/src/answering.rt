@@ -2,13 +2,12 @@
 
 ghost use Rattle.std.specs.Prelude.{◌≡◌, IsTrue, IfOk, OnOk};
 ghost use Rattle.ospf_neighbour.specs.Machine.{is_exchanging};
-ghost use Rattle.ospf_adjacency.specs.Descriptions.{turn};
+ghost use Rattle.ospf_area.specs.Turns.{turn};
 ghost use Rattle.ospf_adjacency.specs.Answers.{resent_copy, resent_keys, copies_turn, answered_keys, answer_turn};
 
 use crate::adjacency::take_event;
 use crate::packing::send_copies;
-use crate::post::{OnLink, Post};
-use ospf_area::to_address;
+use ospf_area::{OnLink, Post, to_address};
 use ospf_base::LsaKey;
 use ospf_exchange::{ExchangeFault, on_request};
 use ospf_lsdb::{EntryView, Lsdb};

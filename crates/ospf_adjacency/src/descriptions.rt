@@ -1,39 +1,19 @@
-//! Database Descriptions and Requests of one neighbour, with what goes out.
+//! Database Descriptions of one neighbour, with what goes out.
 
 ghost use Rattle.std.specs.Prelude.{◌≡◌, not, IfOk, OnOk};
 ghost use Rattle.ospf_exchange.specs.Exchange.{dd_answer};
 ghost use Rattle.ospf_exchange.specs.Laws.{is_not_taken};
-ghost use Rattle.ospf_adjacency.specs.Descriptions.{turn, is_init, dd_dropped, touched, request_turn, dd_turn, event_turn, greeted_turn, answered_turn, exchange_turn, description_turn};
+ghost use Rattle.ospf_adjacency.specs.Descriptions.{is_init, dd_dropped, touched, dd_turn, event_turn, greeted_turn, answered_turn, exchange_turn, description_turn};
+ghost use Rattle.ospf_area.specs.Turns.{turn, request_turn};
 
 use crate::adjacency::{take_event, wants_adjacency};
-use crate::packets::{send_dd, send_request};
-use crate::post::{OnLink, Post};
-use ospf_area::turn_one;
+use ospf_area::{OnLink, Post, request_turn, send_dd};
 use ospf_base::RouterId;
 use ospf_exchange::{DdAnswer, ExchangeFault, Local, dd_sent, is_not_taken, on_dd};
 use ospf_lsdb::Lsdb;
 use ospf_neighbour::{NbrEvent, Neighbour, NeighbourState};
 use ospf_packet::{Description, Headers};
 use std::alloc::AllocError;
-
-/// A neighbour's request list may have changed: LoadingDone where it is empty, and the next Request goes out where one is
-/// due (RFC 2328, sections 10.3 and 10.9).
-///
-/// `AllocError` where memory runs out.
-pub fn request_turn(
-    neighbour: &mut Neighbour,
-    at: &OnLink,
-    post: &mut Post,
-) -> Result<(), AllocError>
-    ensures { OnOk result
-        (turn neighbour.new post.new
-        ≡ request_turn at.now.iface at.now.local (turn neighbour.old post.old)) }
-{
-    if turn_one(neighbour, at.local.mtu, at.local.tick) {
-        send_request(neighbour, at, post)?;
-    }
-    Ok(())
-}
 
 /// Whether `take_description` drops a Database Description of the neighbour's router, `sender`, and so changes nothing: its
 /// MTU is over the interface's, or there is no exchange and it begins none. In Init it is 2-WayReceived, and so not dropped

@@ -3,13 +3,13 @@
 ghost use Rattle.std.specs.Prelude.{◌≡◌, ◌≢◌, ◌∷◌, ◌<◌, ◌||◌, ◌==◌, List, true, false, IsTrue, OnOk, IfOk, length, slice_set, slice_get, Some};
 ghost use Rattle.ospf_neighbour.specs.Neighbour.{NeighbourValue};
 ghost use Rattle.ospf_neighbour.specs.Neighbours.{IsRising};
-ghost use Rattle.ospf_adjacency.specs.Descriptions.{turn};
+ghost use Rattle.ospf_area.specs.Turns.{turn};
 ghost use Rattle.std.specs.Prelude.{if◌then◌else◌};
 ghost use Rattle.ospf_adjacency.specs.Adjacency.{wants_adjacency};
 ghost use Rattle.ospf_adjacency.specs.Heard.{names, with_declared, heard, naming_event, hello_turn, bearing_of, is_neighbor_change, is_backup_seen, is_settled, is_waiting, elects_by_hello, place_for, neighbourhood, hello_on};
 
 use crate::adjacency::{is_broadcast, take_event, wants_adjacency};
-use crate::post::{OnLink, Post};
+use ospf_area::{OnLink, Post};
 use ospf_base::{Addr, RouterId};
 use ospf_iface::{Iface, IfaceState};
 use ospf_neighbour::{Declared, NbrEvent, Neighbour};

@@ -15,16 +15,14 @@ mod heard;
 mod hello_laws;
 mod laws;
 mod links;
-mod packets;
 mod packing;
-mod post;
 mod repeating;
 mod resend_laws;
 mod sent;
 
 pub use crate::adjacency::{is_broadcast, take_event, wants_adjacency};
 pub use crate::answering::take_request;
-pub use crate::descriptions::{is_dropped, request_turn, take_description};
+pub use crate::descriptions::{is_dropped, take_description};
 pub use crate::elections::elect_on;
 pub use crate::heard::{hello_on, is_at, is_named, is_settled, place_for};
 pub use crate::hello_laws::{
@@ -36,9 +34,7 @@ pub use crate::laws::{
     only_negotiation_enters, requests_keep_lists, requests_never_enter, requests_say_only,
 };
 pub use crate::links::{go_down, go_up, tick_neighbours, tick_timers};
-pub use crate::packets::{send_dd, send_request};
 pub use crate::packing::send_copies;
-pub use crate::post::{OnLink, Post};
 pub use crate::repeating::repeat;
 pub use crate::resend_laws::{
     answers_are_quiet, keys_go_in_order, repeats_are_quiet, updates_are_packed,

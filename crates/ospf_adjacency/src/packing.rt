@@ -3,10 +3,10 @@
 ghost use Rattle.std.specs.Prelude.{◌≡◌, ◌-◌, ◌||◌, nat_le, ◌∷◌, [], List, ℕ, map, IfOk, OnOk};
 ghost use Rattle.ospf_lsdb.specs.Database.{lsa_of};
 ghost use Rattle.ospf_area.specs.Sending.{sent_lsa};
-ghost use Rattle.ospf_adjacency.specs.Posting.{and_parcels};
+ghost use Rattle.ospf_area.specs.Posting.{and_parcels};
 ghost use Rattle.ospf_adjacency.specs.Packing.{has_none, bytes_in, packed, update_to, update_room, updates_of};
 
-use crate::post::Post;
+use ospf_area::Post;
 use ospf_base::{Addr, IP_HEADER, LsaKey, PACKET_HEADER};
 use ospf_lsa::Lsa;
 use ospf_lsdb::{EntryView, Lsdb};

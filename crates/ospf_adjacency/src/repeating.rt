@@ -3,12 +3,11 @@
 ghost use Rattle.std.specs.Prelude.{◌≡◌, ◌&&◌, is_some, IfOk, OnOk};
 ghost use Rattle.ospf_lsdb.specs.Database.{entry_of};
 ghost use Rattle.ospf_flood.specs.Due.{is_due};
-ghost use Rattle.ospf_adjacency.specs.Descriptions.{turn};
+ghost use Rattle.ospf_area.specs.Turns.{turn};
 ghost use Rattle.ospf_adjacency.specs.Repeats.{dd_again, request_again, due_keys, repeats_turn};
 
 use crate::answering::send_to;
-use crate::packets::{send_dd, send_request};
-use crate::post::{OnLink, Post};
+use ospf_area::{OnLink, Post, send_dd, send_request};
 use ospf_base::LsaKey;
 use ospf_exchange::{dd_sent, is_dd_due, is_request_repeat_due, next_request};
 use ospf_flood::is_due;

@@ -5,6 +5,9 @@ pub mod Sending
 pub mod Flooding
 pub mod Changes
 pub mod Asking
+pub mod Packets
+pub mod Posting
+pub mod Turns
 pub mod Numbers
 pub mod Standing
 pub mod Packing

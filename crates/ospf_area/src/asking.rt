@@ -1,67 +1,43 @@
 //! What comes of request lists that are shorter: LoadingDone, and the next Requests.
 
 ghost use Rattle.std.specs.Prelude.{◌≡◌, IfOk, OnOk, map};
-ghost use Rattle.std.specs.List.{flat_map};
 ghost use Rattle.ospf_neighbour.specs.Neighbours.{AreNeighbours};
 ghost use Rattle.ospf_exchange.specs.Requests.{request_due};
-ghost use Rattle.ospf_packet.specs.Said.{body_meant, meant};
-ghost use Rattle.ospf_area.specs.Sending.{and_sends, packet_of};
-ghost use Rattle.ospf_area.specs.Asking.{loaded, turned, entry_for, request_body, request_to, turn_request, turned_link, turned_links, turn_requests_on, turn_requests};
+ghost use Rattle.ospf_packet.specs.Said.{body_meant};
+ghost use Rattle.ospf_area.specs.Asking.{loaded, turned, entry_for, request_body, turned_link, turned_links, turn_requests_on, turn_requests};
+ghost use Rattle.ospf_area.specs.Posting.{and_parcels};
+ghost use Rattle.ospf_area.specs.Sending.{and_sends};
+ghost use Rattle.ospf_area.specs.Turns.{all_next_parcels, request_turn, turn};
 
 use crate::outputs::Outputs;
-use crate::sending::{Own, send, to_address, way_out};
+use crate::packets::send_request;
+use crate::post::{OnLink, Post};
+use crate::sending::Own;
 use crate::state::Link;
 use ospf_exchange::{is_request_due, next_request};
-use ospf_iface::Iface;
 use ospf_lsa::LsaHeader;
 use ospf_neighbour::{NbrEvent, Neighbour};
-use ospf_packet::{BodyValue, PacketValue, RequestEntry};
+use ospf_packet::{BodyValue, RequestEntry};
 use std::alloc::{AllocError, Global};
 
-/// The Request that names the first entries of the request list (RFC 2328, section 10.9).
+/// A neighbour's request list may have changed: LoadingDone where it is empty, and the next Request goes out where one is
+/// due (RFC 2328, sections 10.3 and 10.9).
 ///
 /// `AllocError` where memory runs out.
-pub fn request_body(neighbour: &Neighbour, alloc: Global) -> Result<BodyValue, AllocError>
-    ensures { IfOk result (λ b. body_meant b ≡ request_body neighbour.now) }
-{
-    let mut entries = Vec::new(alloc);
-    for header in neighbour.asked_headers() {
-        entries.push(entry_for(header))?;
-    }
-    Ok(BodyValue::Request(entries))
-}
-
-/// Sends the last Request to a neighbour (RFC 2328, section 10.9).
-///
-/// `AllocError` where memory runs out.
-pub fn send_request(
-    neighbour: &Neighbour,
-    number: usize,
-    iface: &Iface,
-    own: Own,
-    out: &mut Outputs,
-    alloc: Global,
+pub fn request_turn(
+    neighbour: &mut Neighbour,
+    at: &OnLink,
+    post: &mut Post,
 ) -> Result<(), AllocError>
-    ensures { OnOk result (out.new ≡ and_sends out.old
-        (request_to own number iface.now neighbour.now)) }
+    ensures after { neighbour.new ≡ turned at.now.local.mtu at.now.local.tick neighbour.old }
+    ensures turn { OnOk result
+        (turn neighbour.new post.new
+        ≡ request_turn at.now.iface at.now.local (turn neighbour.old post.old)) }
 {
-    let packet = request_packet(neighbour, own, alloc)?;
-    let way = way_out(number, iface, to_address(iface, neighbour.address()));
-    send(out, way, &packet, alloc)
-}
-
-/// LoadingDone and the next Request of one neighbour, where they are due (RFC 2328, sections 10.3 and 10.9). Answers
-/// whether that Request is to be sent. No memory is taken.
-pub fn turn_one(neighbour: &mut Neighbour, mtu: u16, tick: u64) -> bool
-    ensures after { neighbour.new ≡ turned mtu tick neighbour.old }
-    ensures due { result ≡ request_due (loaded neighbour.old) }
-{
-    let _ = neighbour.event(NbrEvent::LoadingDone, 0);
-    if !is_request_due(neighbour) {
-        return false;
+    if turn_one(neighbour, at.local.mtu, at.local.tick) {
+        send_request(neighbour, at, post)?;
     }
-    next_request(neighbour, mtu, tick);
-    true
+    Ok(())
 }
 
 /// LoadingDone and the next Requests of all neighbours, where they are due (sections 10.3 and 10.9).
@@ -82,26 +58,34 @@ pub fn turn_requests(
     Ok(())
 }
 
-fn entry_for(header: &LsaHeader) -> RequestEntry
-    ensures { result ≡ entry_for header.now }
+// The Request that names the first entries of the request list (RFC 2328, section 10.9).
+//
+// `AllocError` where memory runs out.
+pub(crate) fn request_body(neighbour: &Neighbour, alloc: Global) -> Result<BodyValue, AllocError>
+    ensures { IfOk result (λ b. body_meant b ≡ request_body neighbour.now) }
 {
-    RequestEntry {
-        kind: u32::from(header.kind),
-        id: header.id,
-        router: header.router,
+    let mut entries = Vec::new(alloc);
+    for header in neighbour.asked_headers() {
+        entries.push(entry_for(header))?;
     }
+    Ok(BodyValue::Request(entries))
 }
 
-fn request_packet(neighbour: &Neighbour, own: Own, alloc: Global) -> Result<PacketValue, AllocError>
-    ensures { IfOk result (λ p. meant p ≡ packet_of own (request_body neighbour.now)) }
+// LoadingDone and the next Request of one neighbour, where they are due (RFC 2328, sections 10.3 and 10.9). Answers
+// whether that Request is to be sent. No memory is taken.
+fn turn_one(neighbour: &mut Neighbour, mtu: u16, tick: u64) -> bool
+    ensures after { neighbour.new ≡ turned mtu tick neighbour.old }
+    ensures due { result ≡ request_due (loaded neighbour.old) }
 {
-    Ok(PacketValue {
-        router: own.router,
-        area: own.area,
-        body: request_body(neighbour, alloc)?,
-    })
+    let _ = neighbour.event(NbrEvent::LoadingDone, 0);
+    if !is_request_due(neighbour) {
+        return false;
+    }
+    next_request(neighbour, mtu, tick);
+    true
 }
 
+// LoadingDone and the next Requests of a link's neighbours.
 fn turn_link(
     link: &mut Link,
     number: usize,
@@ -113,49 +97,34 @@ fn turn_link(
     ensures sent { OnOk result (out.new ≡ and_sends out.old
         (turn_requests_on own number link.old)) }
 {
-    let iface = link.iface;
-    let mtu = link.settings.mtu;
+    let at = OnLink::of(own, link);
+    let mut post = Post::new(0, alloc);
     let neighbours = &mut link.neighbours;
-    turn_all(&mut neighbours.all, number, &iface, mtu, own, out, alloc)
+    turn_all(&mut neighbours.all, &at, &mut post)?;
+    post.send_all(out, own, number, &at.iface)
 }
 
-fn turn_all(
-    neighbours: &mut [Neighbour],
-    number: usize,
-    iface: &Iface,
-    mtu: u16,
-    own: Own,
-    out: &mut Outputs,
-    alloc: Global,
-) -> Result<(), AllocError>
+// LoadingDone and the next Requests of neighbours.
+fn turn_all(neighbours: &mut [Neighbour], at: &OnLink, post: &mut Post) -> Result<(), AllocError>
     requires few { AreNeighbours neighbours.old }
-    ensures after { OnOk result (neighbours.new ≡ map (turned mtu own.tick) neighbours.old) }
-    ensures sent { OnOk result (out.new ≡ and_sends out.old
-        (flat_map (turn_request own number iface.now mtu) neighbours.old)) }
+    ensures after { OnOk result (neighbours.new
+        ≡ map (turned at.now.local.mtu at.now.local.tick) neighbours.old) }
+    ensures sent { OnOk result (post.new
+        ≡ and_parcels post.old (all_next_parcels at.now.iface at.now.local neighbours.old)) }
     ensures still { AreNeighbours neighbours.new }
 {
     for neighbour in neighbours.iter_mut() {
-        turn(neighbour, number, iface, mtu, own, out, alloc)?;
+        request_turn(neighbour, at, post)?;
     }
     Ok(())
 }
 
-// LoadingDone and the next Request of one neighbour, with what is sent.
-fn turn(
-    neighbour: &mut Neighbour,
-    number: usize,
-    iface: &Iface,
-    mtu: u16,
-    own: Own,
-    out: &mut Outputs,
-    alloc: Global,
-) -> Result<(), AllocError>
-    ensures after { neighbour.new ≡ turned mtu own.tick neighbour.old }
-    ensures sent { OnOk result (out.new ≡ and_sends out.old
-        (turn_request own number iface.now mtu neighbour.old)) }
+fn entry_for(header: &LsaHeader) -> RequestEntry
+    ensures { result ≡ entry_for header.now }
 {
-    if turn_one(neighbour, mtu, own.tick) {
-        send_request(neighbour, number, iface, own, out, alloc)?;
+    RequestEntry {
+        kind: u32::from(header.kind),
+        id: header.id,
+        router: header.router,
     }
-    Ok(())
 }

@@ -9,11 +9,13 @@ mod laws;
 mod lists;
 mod numbers;
 mod outputs;
+mod packets;
+mod post;
 mod sending;
 mod standing;
 mod state;
 
-pub use crate::asking::{request_body, send_request, turn_one, turn_requests};
+pub use crate::asking::{request_turn, turn_requests};
 pub use crate::changes::{Change, change_at, delay_at};
 pub use crate::flooding::{Flooded, Origin, flood};
 pub use crate::laws::{
@@ -24,7 +26,9 @@ pub use crate::laws::{
 pub use crate::lists::release;
 pub use crate::numbers::{count_number, is_numbered, is_own, is_self_originated, mark, was_sent};
 pub use crate::outputs::{Outputs, Sent};
-pub use crate::sending::{Own, Way, own_of, send, send_lsa, sent_lsa, to_address, way_out};
+pub use crate::packets::{description_body, send_dd, send_lsa, send_request};
+pub use crate::post::{OnLink, Post, local_by, local_of};
+pub use crate::sending::{Own, Way, own_of, sent_lsa, to_address};
 pub use crate::standing::{
     acknowledge_by, answer_at, is_awaited, is_requested, is_taken, origin_of, some_link_loading,
 };

@@ -1,16 +1,15 @@
-//! How packets are sent.
+//! How a packet is sent, and what of the router it is sent with.
 
-ghost use Rattle.std.specs.Prelude.{◌≡◌, ◌∷◌, [], IfOk, OnOk, Err, map};
-ghost use Rattle.ospf_packet.specs.Meaning as meaning;
+ghost use Rattle.std.specs.Prelude.{◌≡◌, IfOk, OnOk};
 ghost use Rattle.ospf_packet.specs.Said.{meant};
-ghost use Rattle.ospf_area.specs.Sending.{own_of, and_sends, datagrams, way_out, to_address, sent_lsa, update_out};
+ghost use Rattle.ospf_area.specs.Sending.{own_of, and_sends, datagrams, way_out, to_address, sent_lsa};
 
 use crate::outputs::{Outputs, Sent};
 use crate::state::{Area, LinkSettings};
 use ospf_base::{ALL_SPF_ROUTERS, Addr, AreaId, InterfaceKind, RouterId};
 use ospf_iface::Iface;
 use ospf_lsa::{Lsa, LsaView};
-use ospf_packet::{BodyValue, PacketValue, WriteFault, write_packet};
+use ospf_packet::{PacketValue, WriteFault, write_packet};
 use std::alloc::{AllocError, Global};
 
 /// What a call needs to know of the router.
@@ -44,17 +43,6 @@ pub fn own_of(area: &Area) -> Own
     }
 }
 
-/// The way out of a link, from the interface's address.
-pub fn way_out(number: usize, iface: &Iface, destination: Addr) -> Way
-    ensures { result ≡ way_out number iface.now destination }
-{
-    Way {
-        link: number,
-        source: iface.settings.address,
-        destination,
-    }
-}
-
 /// Where packets to a neighbour go, but for flooded Updates and delayed acknowledgements (RFC 2328, section 8.1).
 pub fn to_address(iface: &Iface, address: Addr) -> Addr
     ensures { result ≡ to_address iface.now address }
@@ -65,10 +53,34 @@ pub fn to_address(iface: &Iface, address: Addr) -> Addr
     }
 }
 
-/// Sends a packet. One that is longer than `ospf_packet::LARGEST_PACKET` is not sent.
+/// The LSA as it is sent out of a link: older by InfTransDelay (RFC 2328, section 13.3, step 5).
 ///
 /// `AllocError` where memory runs out.
-pub fn send(
+pub fn sent_lsa(settings: LinkSettings, lsa: &LsaView, alloc: Global) -> Result<Lsa, AllocError>
+    ensures { IfOk result (λ l. l ≡ sent_lsa settings.transmit_delay lsa.now) }
+{
+    let Ok(mut copy) = Lsa::copy(alloc, lsa) else {
+        return Err(AllocError);
+    };
+    copy.set_age(lsa.header().age.after(settings.transmit_delay));
+    Ok(copy)
+}
+
+// The way out of a link, from the interface's address.
+pub(crate) fn way_out(number: usize, iface: &Iface, destination: Addr) -> Way
+    ensures { result ≡ way_out number iface.now destination }
+{
+    Way {
+        link: number,
+        source: iface.settings.address,
+        destination,
+    }
+}
+
+// Sends a packet. One that is longer than `ospf_packet::LARGEST_PACKET` is not sent.
+//
+// `AllocError` where memory runs out.
+pub(crate) fn send(
     out: &mut Outputs,
     way: Way,
     packet: &PacketValue,
@@ -89,39 +101,4 @@ pub fn send(
         bytes,
     })?;
     Ok(())
-}
-
-/// The LSA as it is sent out of a link: older by InfTransDelay (RFC 2328, section 13.3, step 5).
-///
-/// `AllocError` where memory runs out.
-pub fn sent_lsa(settings: LinkSettings, lsa: &LsaView, alloc: Global) -> Result<Lsa, AllocError>
-    ensures { IfOk result (λ l. l ≡ sent_lsa settings.transmit_delay lsa.now) }
-{
-    let Ok(mut copy) = Lsa::copy(alloc, lsa) else {
-        return Err(AllocError);
-    };
-    copy.set_age(lsa.header().age.after(settings.transmit_delay));
-    Ok(copy)
-}
-
-/// Sends one LSA in an Update of its own.
-///
-/// `AllocError` where memory runs out.
-pub fn send_lsa(
-    out: &mut Outputs,
-    own: Own,
-    way: Way,
-    lsa: Lsa,
-    alloc: Global,
-) -> Result<(), AllocError>
-    ensures { OnOk result (out.new ≡ and_sends out.old (update_out own way (lsa ∷ []))) }
-{
-    let mut lsas = Vec::new(alloc);
-    lsas.push(lsa)?;
-    let packet = PacketValue {
-        router: own.router,
-        area: own.area,
-        body: BodyValue::Update(lsas),
-    };
-    send(out, way, &packet, alloc)
 }

@@ -21,4 +21,4 @@ pub use crate::laws::{
 };
 pub use crate::request::{is_request_due, next_request, on_request};
 pub use crate::rule::{Local, is_other};
-pub use crate::timers::{begin, dd_sent, is_dd_due, is_request_repeat_due};
+pub use crate::timers::{begin, beginning, dd_sent, is_dd_due, is_request_repeat_due};

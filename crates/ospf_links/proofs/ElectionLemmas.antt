@@ -1,12 +1,12 @@
 -- The elections that end a step.
 use Rattle.std.proofs.Common.{◌≡◌, ◌∙◌, ℕ, zero, suc, Bool, true, false, List, [], ◌∷◌, Option, None, Some, set, slice_get, refl, sym, ap, subst, inl, inr, ◌⊎◌}
-use Rattle.ospf_adjacency.specs.Packets.{Parcel}
+use Rattle.ospf_area.specs.Packets.{Parcel}
 use Rattle.ospf_area.specs.Sending.{own_of}
 use Rattle.ospf_area.specs.Outputs.{OutputsValue}
 use Rattle.ospf_area.specs.Sending.{and_sends}
 use Rattle.ospf_area.specs.State.{AreaValue, LinkValue}
 use Rattle.ospf_area.specs.declared.sending.Own.{Own}
-use Rattle.ospf_adjacency.specs.Posting.{posted_all}
+use Rattle.ospf_area.specs.Posting.{posted_all}
 use Rattle.ospf_links.specs.Elections.{IsReady, AreReady, ElectsAt, ElectsFrom, ElectsIf, ElectsLink, ElectsThere}
 
 -- the election of a link that is there

@@ -6,7 +6,7 @@ use Rattle.ospf_base.specs.declared.ids.Addr.{Addr}
 use Rattle.ospf_base.specs.declared.ids.RouterId.{RouterId}
 use Rattle.ospf_iface.specs.Machine.{is_changed}
 use Rattle.ospf_adjacency.specs.Elections.{ElectsOn, adjusted}
-use Rattle.ospf_adjacency.specs.Packets.{Parcel}
+use Rattle.ospf_area.specs.Packets.{Parcel}
 use Rattle.ospf_adjacency.proofs.ElectionLemmas.{length-adjusted}
 use Rattle.ospf_adjacency.proofs.StayLemmas.{adjusted_rises}
 use Rattle.std.proofs.Common.{if◌then◌else◌, true, false}

@@ -8,7 +8,7 @@ use Rattle.ospf_neighbour.proofs.NeighbourLemmas.{AreNeighbours-same, routers}
 use Rattle.ospf_area.specs.declared.sending.Own.{Own}
 use Rattle.ospf_area.specs.declared.state.LinkSettings.{LinkSettings}
 use Rattle.ospf_adjacency.proofs.QuietLemmas.{repeats_are_quiet}
-use Rattle.ospf_links.specs.Parts.{local_by}
+use Rattle.ospf_area.specs.Posting.{local_by}
 use Rattle.ospf_links.specs.Repeats.{repeated}
 
 repeated_router : (own : Own) (i : Iface) (settings : LinkSettings) (db : List Held) (n : NeighbourValue) → (repeated own i settings db n).router ≡ n.router

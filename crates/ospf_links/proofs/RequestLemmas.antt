@@ -7,8 +7,8 @@ use Rattle.ospf_neighbour.specs.Neighbour.{NeighbourValue}
 use Rattle.ospf_neighbour.specs.Neighbours.{AreNeighbours, neighbour_of}
 use Rattle.ospf_packet.specs.declared.entry.RequestEntry.{RequestEntry}
 use Rattle.ospf_exchange.specs.declared.rule.Local.{Local}
-use Rattle.ospf_adjacency.specs.Descriptions.{Turn, turn}
-use Rattle.ospf_adjacency.specs.Posting.{PostValue}
+use Rattle.ospf_area.specs.Turns.{Turn, turn}
+use Rattle.ospf_area.specs.Posting.{PostValue}
 use Rattle.ospf_adjacency.specs.Heard.{Neighbourhood, neighbourhood, place_for, put_back, turn_of}
 use Rattle.ospf_adjacency.proofs.StayLemmas.{put_rises}
 use Rattle.ospf_adjacency.specs.Answers.{answer_turn}

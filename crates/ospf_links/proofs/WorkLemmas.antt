@@ -10,8 +10,9 @@ use Rattle.ospf_packet.specs.declared.body.Description.{Description}
 use Rattle.ospf_packet.specs.declared.body.Hello.{Hello}
 use Rattle.ospf_packet.specs.declared.entry.RequestEntry.{RequestEntry}
 use Rattle.ospf_exchange.specs.declared.rule.Local.{Local}
-use Rattle.ospf_adjacency.specs.Descriptions.{Turn, turn, description_turn}
-use Rattle.ospf_adjacency.specs.Posting.{PostValue}
+use Rattle.ospf_adjacency.specs.Descriptions.{description_turn}
+use Rattle.ospf_area.specs.Turns.{Turn, turn}
+use Rattle.ospf_area.specs.Posting.{PostValue, local_of}
 use Rattle.ospf_adjacency.proofs.SameLemmas.{description_keeps_router}
 use Rattle.ospf_adjacency.specs.Heard.{Neighbourhood, neighbourhood, turn_of, put_back, elects_by_change, hello_on, place_for, put}
 use Rattle.std.proofs.Common.{Option, inl, inr}
@@ -29,7 +30,7 @@ use Rattle.ospf_area.specs.State.{LinkValue}
 use Rattle.ospf_area.specs.declared.flooding.Origin.{Origin}
 use Rattle.ospf_area.specs.declared.sending.Own.{Own}
 use Rattle.ospf_exchange.specs.Laws.{KeepsRouter}
-use Rattle.ospf_links.specs.Parts.{description_at, description_by, description_on, hello_at, left_by, local_of, request_at, request_by, request_on, with_neighbourhood}
+use Rattle.ospf_links.specs.Parts.{description_at, description_by, description_on, hello_at, left_by, request_at, request_by, request_on, with_neighbourhood}
 use Rattle.ospf_links.specs.Works.{work_sent, work_sent_on, up_out_on}
 
 -- nothing is sent

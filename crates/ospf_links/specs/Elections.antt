@@ -1,12 +1,12 @@
 -- The elections that end a step, with AdjOK? (RFC 2328, section 9.4).
 use Rattle.std.specs.Prelude.{◌≡◌, ℕ, zero, suc, Bool, true, false, List, [], Option, None, Some, set, length, slice_get}
 use Rattle.ospf_adjacency.specs.Elections.{AreOfLink, ElectsOn, elects_in}
-use Rattle.ospf_adjacency.specs.Packets.{Parcel}
+use Rattle.ospf_area.specs.Packets.{Parcel}
 use Rattle.ospf_area.specs.Outputs.{OutputsValue}
 use Rattle.ospf_area.specs.Sending.{and_sends, own_of}
 use Rattle.ospf_area.specs.State.{AreaValue, LinkValue}
 use Rattle.ospf_area.specs.declared.sending.Own.{Own}
-use Rattle.ospf_adjacency.specs.Posting.{posted_all}
+use Rattle.ospf_area.specs.Posting.{posted_all}
 
 -- the election of a link on which one is due, and AdjOK? (9.4)
 pub record ElectsOnLink (mtu tick next : ℕ) (before after : LinkValue) (next' : ℕ) (sent : List Parcel) : Type 0 where

@@ -15,21 +15,13 @@ use Rattle.ospf_area.specs.Outputs.{SentValue}
 use Rattle.ospf_area.specs.State.{LinkValue}
 use Rattle.ospf_area.specs.declared.flooding.Origin.{Origin}
 use Rattle.ospf_area.specs.declared.sending.Own.{Own}
-use Rattle.ospf_area.specs.declared.state.LinkSettings.{LinkSettings}
 use Rattle.ospf_adjacency.specs.Descriptions.{description_turn}
-use Rattle.ospf_adjacency.specs.Packets.{Parcel, parcel_if}
+use Rattle.ospf_area.specs.Packets.{Parcel, parcel_if}
 use Rattle.ospf_adjacency.specs.Heard.{Neighbourhood, elects_by_change, hello_on, neighbourhood, put_back, turn_of}
 use Rattle.ospf_iface.specs.Machine.{is_down}
 use Rattle.ospf_adjacency.specs.Links.{down, elects_by_timers, hello_parcel, hello_ticked, is_hello_due, timed, up, wait_ticked}
 use Rattle.ospf_adjacency.specs.Answers.{answer_turn, answered_keys}
-use Rattle.ospf_adjacency.specs.Posting.{PostValue, posted_all}
-
--- what a part needs to know of the router and of a link
-abbrev pub local_by : Own → LinkSettings → Local
-local_by own settings = record { router = own.router; mtu = settings.mtu; tick = own.tick; passes_over = own.passes_over }
-
-abbrev pub local_of : Own → LinkValue → Local
-local_of own link = local_by own link.settings
+use Rattle.ospf_area.specs.Posting.{PostValue, local_of, posted_all}
 
 -- the link's neighbours as a part finds them: nothing has gone out yet
 abbrev pub neighbourhood_of : LinkValue → ℕ → Neighbourhood

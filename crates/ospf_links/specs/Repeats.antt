@@ -5,7 +5,7 @@ use Rattle.ospf_base.specs.declared.ids.LsaKey.{LsaKey}
 use Rattle.ospf_iface.specs.declared.machine.Iface.{Iface}
 use Rattle.ospf_lsdb.specs.Database.{Held}
 use Rattle.ospf_neighbour.specs.Neighbour.{NeighbourValue}
-use Rattle.ospf_adjacency.specs.Descriptions.{Turn}
+use Rattle.ospf_area.specs.Turns.{Turn}
 use Rattle.ospf_area.specs.Numbers.{marked}
 use Rattle.ospf_area.specs.Outputs.{SentValue}
 use Rattle.ospf_area.specs.Places.{flat_from}
@@ -13,8 +13,7 @@ use Rattle.ospf_area.specs.State.{LinkValue}
 use Rattle.ospf_area.specs.declared.sending.Own.{Own}
 use Rattle.ospf_area.specs.declared.state.LinkSettings.{LinkSettings}
 use Rattle.ospf_adjacency.specs.Repeats.{due_keys, repeats_turn}
-use Rattle.ospf_links.specs.Parts.{local_by}
-use Rattle.ospf_adjacency.specs.Posting.{posted_all}
+use Rattle.ospf_area.specs.Posting.{local_by, posted_all}
 
 -- copies of these keys went out in Updates in this tick (13, step 8)
 abbrev pub marked_all : List LsaKey → List LsaKey → List LsaKey

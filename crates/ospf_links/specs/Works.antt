@@ -6,7 +6,7 @@ use Rattle.ospf_area.specs.declared.sending.Own.{Own}
 use Rattle.ospf_adjacency.specs.Heard.{Neighbourhood}
 use Rattle.ospf_adjacency.specs.Links.{up}
 use Rattle.ospf_links.specs.Parts.{up_parcels, with_neighbourhood}
-use Rattle.ospf_adjacency.specs.Posting.{posted_all}
+use Rattle.ospf_area.specs.Posting.{posted_all}
 
 -- ---- parts on the neighbours of a link
 

@@ -4,12 +4,12 @@ ghost use Rattle.std.specs.Prelude.{◌≡◌, OnOk, slice_get};
 ghost use Rattle.ospf_area.specs.Sending.{and_sends, own_of};
 ghost use Rattle.ospf_adjacency.specs.Links.{up};
 ghost use Rattle.ospf_links.specs.Parts.{link_down, link_up, up_parcels};
-ghost use Rattle.ospf_adjacency.specs.Posting.{posted_all};
+ghost use Rattle.ospf_area.specs.Posting.{posted_all};
 ghost use Rattle.ospf_links.specs.Works.{changed, up_out_on};
 
 use crate::link::take_out;
-use ospf_adjacency::{Post, go_down, go_up, send_hello};
-use ospf_area::{Area, Link, Outputs, Own, own_of};
+use ospf_adjacency::{go_down, go_up, send_hello};
+use ospf_area::{Area, Link, Outputs, Own, Post, own_of};
 use std::alloc::{AllocError, Global};
 
 /// A link of the router goes up (RFC 2328, section 9.3): where it was down its first Hello goes out.

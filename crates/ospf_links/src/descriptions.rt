@@ -3,14 +3,15 @@
 ghost use Rattle.std.specs.Prelude.{◌≡◌, false, IfOk, OnOk};
 ghost use Rattle.ospf_neighbour.specs.Neighbours.{IsRising};
 ghost use Rattle.ospf_area.specs.Sending.{and_sends, own_of};
-ghost use Rattle.ospf_adjacency.specs.Descriptions.{description_turn, turn};
+ghost use Rattle.ospf_adjacency.specs.Descriptions.{description_turn};
+ghost use Rattle.ospf_area.specs.Turns.{turn};
 ghost use Rattle.ospf_adjacency.specs.Heard.{elects_by_change, neighbourhood};
 ghost use Rattle.ospf_links.specs.Parts.{description_at, description_on, description_part, left_by, with_neighbourhood};
 ghost use Rattle.ospf_links.specs.Works.{work_sent, worked};
 
-use crate::link::{iface_of, is_due, on_link, put_back, take_out};
-use ospf_adjacency::{OnLink, Post, is_at, is_settled, place_for, take_description as describe_to};
-use ospf_area::{Area, Link, Origin, Outputs, Own, own_of};
+use crate::link::{iface_of, is_due, put_back, take_out};
+use ospf_adjacency::{is_at, is_settled, place_for, take_description as describe_to};
+use ospf_area::{Area, Link, OnLink, Origin, Outputs, Own, Post, own_of};
 use ospf_lsdb::Lsdb;
 use ospf_neighbour::Neighbour;
 use ospf_packet::{Description, Headers};
@@ -73,7 +74,7 @@ fn description_comes(
         (post.new
         ≡ left_by (description_at own from fields headers.entry database.now post.old link.old)) }
 {
-    let at = on_link(own, link);
+    let at = OnLink::of(own, link);
     let mut all = take_out(link, post.alloc());
     let elects = describe_in(&mut all, from, fields, headers, database, &at, post)?;
     let due = is_due(link, elects);

@@ -2,14 +2,14 @@
 
 ghost use Rattle.std.specs.Prelude.{◌≡◌, ◌++◌, true, List, OnOk};
 ghost use Rattle.ospf_adjacency.specs.Elections.{AreOfLink, ElectsOn, elects_in};
-ghost use Rattle.ospf_adjacency.specs.Packets.{Parcel};
-ghost use Rattle.ospf_adjacency.specs.Posting.{posted_all};
+ghost use Rattle.ospf_area.specs.Packets.{Parcel};
+ghost use Rattle.ospf_area.specs.Posting.{posted_all};
 ghost use Rattle.ospf_area.specs.Sending.{and_sends};
 ghost use Rattle.ospf_links.specs.Elections.{AreReady, Elects, ElectsAt, ElectsLink, ElectsOnLink, IsReady};
 
-use crate::link::{iface_of, local_of, put_back, take_out};
-use ospf_adjacency::{Post, elect_on};
-use ospf_area::{Area, Link, Outputs, Own, own_of};
+use crate::link::{iface_of, put_back, take_out};
+use ospf_adjacency::elect_on;
+use ospf_area::{Area, Link, Outputs, Own, Post, local_of, own_of};
 use ospf_exchange::Local;
 use ospf_neighbour::Neighbour;
 use std::alloc::{AllocError, Global};

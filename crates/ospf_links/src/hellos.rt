@@ -8,9 +8,9 @@ ghost use Rattle.ospf_adjacency.specs.Heard.{names};
 ghost use Rattle.ospf_links.specs.Parts.{hello_at, hello_part, left_by, with_neighbourhood};
 ghost use Rattle.ospf_links.specs.Works.{work_sent, worked};
 
-use crate::link::{iface_of, is_due, on_link, put_back, take_out};
-use ospf_adjacency::{Post, hello_on, is_named};
-use ospf_area::{Area, Link, Origin, Outputs, Own, own_of};
+use crate::link::{iface_of, is_due, put_back, take_out};
+use ospf_adjacency::{hello_on, is_named};
+use ospf_area::{Area, Link, OnLink, Origin, Outputs, Own, Post, own_of};
 use ospf_packet::{Hello, Neighbours};
 use std::alloc::{AllocError, Global};
 
@@ -73,7 +73,7 @@ fn hello_comes(
     ensures left { OnOk result (post.new
         ≡ left_by (hello_at own from hello.now named post.old link.old)) }
 {
-    let at = on_link(own, link);
+    let at = OnLink::of(own, link);
     let mut all = take_out(link, post.alloc());
     let elects = hello_on(&mut all, from.router, from.address, hello, named, &at, post)?;
     let due = is_due(link, elects);

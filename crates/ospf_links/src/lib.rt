@@ -19,7 +19,6 @@ pub use crate::changes::{take_down, take_up};
 pub use crate::descriptions::take_description;
 pub use crate::elections::elect;
 pub use crate::hellos::take_hello;
-pub use crate::link::local_of;
 pub use crate::repeats::repeat_all;
 pub use crate::requests::take_request;
 pub use crate::ticks::{count_timers, send_hellos};

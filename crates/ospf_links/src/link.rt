@@ -2,22 +2,12 @@
 
 ghost use Rattle.std.specs.Prelude.{◌≡◌, ◌||◌, []};
 ghost use Rattle.ospf_neighbour.specs.Neighbours.{AreNeighbours};
-ghost use Rattle.ospf_links.specs.Parts.{local_by, local_of};
 
-use ospf_adjacency::OnLink;
-use ospf_area::{Link, LinkSettings, Own};
-use ospf_exchange::Local;
+use ospf_area::Link;
 use ospf_iface::Iface;
 use ospf_neighbour::Neighbour;
 use std::alloc::Global;
 use std::mem;
-
-/// What the parts of a step need to know of the router and this link.
-pub fn local_of(own: Own, link: &Link) -> Local
-    ensures { result ≡ local_of own link.now }
-{
-    local_by(own, link.settings)
-}
 
 // Takes the neighbours of a link out, to be worked on.
 pub(crate) fn take_out(link: &mut Link, alloc: Global) -> Vec<Neighbour>
@@ -51,26 +41,4 @@ pub(crate) fn is_due(link: &Link, elects: bool) -> bool
     ensures { result ≡ link.now.elects || elects }
 {
     link.elects || elects
-}
-
-// What the parts of a step need to know of the router and a link of these settings.
-pub(crate) fn local_by(own: Own, settings: LinkSettings) -> Local
-    ensures { result ≡ local_by own settings }
-{
-    Local {
-        router: own.router,
-        mtu: settings.mtu,
-        tick: own.tick,
-        passes_over: own.passes_over,
-    }
-}
-
-// A link as its neighbours' parts of a step work on it.
-pub(crate) fn on_link(own: Own, link: &Link) -> OnLink
-    ensures { result ≡ record { iface = link.now.iface; local = local_of own link.now } }
-{
-    OnLink {
-        iface: link.iface,
-        local: local_of(own, link),
-    }
 }

@@ -3,13 +3,13 @@
 ghost use Rattle.std.specs.Prelude.{◌≡◌, OnOk, map};
 ghost use Rattle.std.specs.List.{flat_map};
 ghost use Rattle.ospf_area.specs.Sending.{and_sends};
-ghost use Rattle.ospf_links.specs.Parts.{local_by};
+ghost use Rattle.ospf_area.specs.Posting.{local_by};
 ghost use Rattle.ospf_links.specs.Repeats.{all_keys, all_repeats, keys_out, keys_to, link_repeated, marked_all, repeated, repeated_links, repeats_out, repeats_to};
 
-use crate::link::{local_by, put_back, take_out};
+use crate::link::{put_back, take_out};
 use crate::marks::mark_all;
-use ospf_adjacency::{OnLink, Post, repeat};
-use ospf_area::{Link, LinkSettings, Outputs, Own};
+use ospf_adjacency::repeat;
+use ospf_area::{Link, LinkSettings, OnLink, Outputs, Own, Post, local_by};
 use ospf_base::LsaKey;
 use ospf_iface::Iface;
 use ospf_lsdb::Lsdb;

@@ -11,10 +11,10 @@ ghost use Rattle.ospf_links.specs.Parts.{answered_by, answered_on, left_by, requ
 ghost use Rattle.ospf_links.specs.Repeats.{marked_all};
 ghost use Rattle.ospf_links.specs.Works.{work_sent, worked};
 
-use crate::link::{iface_of, is_due, on_link, put_back, take_out};
+use crate::link::{iface_of, is_due, put_back, take_out};
 use crate::marks::mark_all;
-use ospf_adjacency::{OnLink, Post, is_at, place_for, take_request as answer_to};
-use ospf_area::{Area, Link, Origin, Outputs, Own, own_of};
+use ospf_adjacency::{is_at, place_for, take_request as answer_to};
+use ospf_area::{Area, Link, OnLink, Origin, Outputs, Own, Post, own_of};
 use ospf_base::LsaKey;
 use ospf_lsdb::Lsdb;
 use ospf_neighbour::Neighbour;
@@ -94,7 +94,7 @@ fn request_comes(
         ≡ answered_by (neighbour_of link.old.neighbours from.router) database.now
         requests.entry) }
 {
-    let at = on_link(own, link);
+    let at = OnLink::of(own, link);
     let delay = link.settings.transmit_delay;
     let mut all = take_out(link, post.alloc());
     let keys = answer_in(&mut all, from, requests, database, &at, delay, post)?;

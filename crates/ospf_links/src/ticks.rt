@@ -7,8 +7,8 @@ ghost use Rattle.ospf_adjacency.specs.Links.{elects_by_timers, timed, wait_ticke
 ghost use Rattle.ospf_links.specs.Parts.{hello_out, hello_sent, link_timed};
 
 use crate::link::{put_back, take_out};
-use ospf_adjacency::{Post, send_due_hello, tick_timers};
-use ospf_area::{Link, Outputs, Own};
+use ospf_adjacency::{send_due_hello, tick_timers};
+use ospf_area::{Link, Outputs, Own, Post};
 use ospf_neighbour::Neighbour;
 use std::alloc::{AllocError, Global};
 

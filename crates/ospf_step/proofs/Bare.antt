@@ -9,16 +9,17 @@ use Rattle.ospf_neighbour.specs.declared.machine.NbrEvent.{NbrEvent}
 use Rattle.ospf_packet.specs.Meaning.{BodyMeaning}
 use Rattle.ospf_exchange.specs.declared.rule.Local.{Local}
 use Rattle.ospf_adjacency.specs.Adjacency.{begins_by, event_taken, number_by}
-use Rattle.ospf_adjacency.specs.Descriptions.{Turn, event_turn}
+use Rattle.ospf_adjacency.specs.Descriptions.{event_turn}
+use Rattle.ospf_area.specs.Turns.{Turn}
 use Rattle.ospf_adjacency.specs.Elections.{adj_ok_for, first_dds}
-use Rattle.ospf_adjacency.specs.Packets.{Parcel, dd_parcel, parcel_if}
+use Rattle.ospf_area.specs.Packets.{Parcel, dd_parcel, parcel_if}
 use Rattle.ospf_adjacency.proofs.MemberLemmas.{cons_cases}
 use Rattle.ospf_area.specs.Sending.{own_of}
 use Rattle.ospf_area.specs.State.{AreaValue}
 use Rattle.ospf_laws.specs.Links.{AreKnown}
 use Rattle.ospf_laws.specs.Packets.{lsas_of, headers_of}
 use Rattle.ospf_laws.proofs.ListFacts.{Contains-nil}
-use Rattle.ospf_adjacency.specs.Posting.{posted_all}
+use Rattle.ospf_area.specs.Posting.{posted_all}
 use Rattle.ospf_step.proofs.Known.{posted_known, says_nothing}
 
 abbrev pub IsBare : BodyMeaning → Type 0

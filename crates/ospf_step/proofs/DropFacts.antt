@@ -15,7 +15,7 @@ use Rattle.ospf_packet.specs.Meaning.{BodyMeaning, Meaning, hello, description, 
 use Rattle.ospf_adjacency.specs.Adjacency.{is_broadcast, is_broadcast_kind}
 use Rattle.ospf_area.specs.Sending.{own_of}
 use Rattle.ospf_area.specs.State.{AreaValue, LinkValue}
-use Rattle.ospf_links.specs.Parts.{local_of}
+use Rattle.ospf_area.specs.Posting.{local_of}
 use Rattle.ospf_step.specs.Receipt.{agrees, drop_by_body, drop_of_hello, drop_of_new, drop_of_packet, is_destination, is_elsewhere, is_foreign, sender_in}
 use Rattle.ospf_step.specs.Senders.{CanBeTaken, NotDroppedIsTaken}
 use Rattle.ospf_step.specs.declared.dropped.Dropped.{Dropped}

@@ -8,7 +8,7 @@ use Rattle.ospf_iface.specs.declared.machine.Iface.{Iface}
 use Rattle.ospf_neighbour.specs.Neighbour.{NeighbourValue}
 use Rattle.ospf_neighbour.specs.Neighbours.{neighbour_of}
 use Rattle.ospf_adjacency.specs.Elections.{adjusted, first_dds}
-use Rattle.ospf_adjacency.specs.Packets.{Parcel}
+use Rattle.ospf_area.specs.Packets.{Parcel}
 use Rattle.ospf_adjacency.specs.HelloLaws as hellos
 use Rattle.ospf_adjacency.proofs.GoLemmas.{adj_ok_goes}
 use Rattle.ospf_area.specs.Outputs.{AreRead, OutputsValue, SentValue, sends}
@@ -21,7 +21,7 @@ use Rattle.ospf_laws.proofs.LinkParts.{each_same, part_quiet, quiet_same}
 use Rattle.ospf_laws.proofs.ListFacts.{Contains-nil}
 use Rattle.ospf_laws.proofs.PutParts.{puts_sent}
 use Rattle.ospf_links.specs.Elections.{Elects, ElectsFrom, ElectsIf, ElectsThere}
-use Rattle.ospf_adjacency.specs.Posting.{posted_all}
+use Rattle.ospf_area.specs.Posting.{posted_all}
 use Rattle.ospf_step.proofs.Bare.{AreBare, bare_known, first_bare}
 use Rattle.ospf_step.proofs.Going.{link_quiet, same_goes}
 use Rattle.ospf_step.proofs.Known.{both_known, none_known}

@@ -12,7 +12,7 @@ use Rattle.ospf_neighbour.specs.Neighbour.{NeighbourValue}
 use Rattle.ospf_packet.specs.Meaning.{BodyMeaning, hello, description, request, update, acknowledgment}
 use Rattle.ospf_exchange.specs.Laws.{HasHeader}
 use Rattle.ospf_adjacency.specs.Laws.{SaysOnly}
-use Rattle.ospf_adjacency.specs.Packets.{Parcel}
+use Rattle.ospf_area.specs.Packets.{Parcel}
 use Rattle.ospf_area.specs.Outputs.{SentValue}
 use Rattle.ospf_area.specs.Places.{flat_from}
 use Rattle.ospf_area.specs.Sending.{own_of, packet_of, way_out}
@@ -26,7 +26,7 @@ use Rattle.ospf_laws.proofs.AckFacts.{flat_map-members}
 use Rattle.ospf_laws.proofs.CopyFacts.{HasHeader-held}
 use Rattle.ospf_laws.proofs.ListFacts.{Contains-nil}
 use Rattle.ospf_laws.proofs.SentFacts.{datagrams-packet}
-use Rattle.ospf_adjacency.specs.Posting.{posted, posted_all}
+use Rattle.ospf_area.specs.Posting.{posted, posted_all}
 
 -- what a packet says is known
 pub record SaysKnown (s : AreaValue) (b : BodyMeaning) : Type 0 where

@@ -12,13 +12,14 @@ use Rattle.ospf_lsdb.specs.Database.{Held}
 use Rattle.ospf_neighbour.specs.Neighbour.{NeighbourValue, new_neighbour}
 use Rattle.ospf_adjacency.specs.Adjacency.{number_by}
 use Rattle.ospf_adjacency.specs.Elections.{AreOfLink, adj_ok_for, adjusted, elects_in}
-use Rattle.ospf_adjacency.specs.Packets.{Parcel}
+use Rattle.ospf_area.specs.Packets.{Parcel}
 use Rattle.ospf_area.specs.State.{LinkValue}
 use Rattle.ospf_area.specs.declared.sending.Own.{Own}
 use Rattle.ospf_adjacency.specs.HelloLaws.{ElectionsComeAbout, NeighboursStayOfLink}
 use Rattle.ospf_adjacency.specs.Links.{elects_by_timers, hello_ticked, inactivity_ticked, is_inactive, timed}
 use Rattle.ospf_links.specs.Elections.{AreReady, ElectsIf, ElectsOnLink}
-use Rattle.ospf_links.specs.Parts.{hello_sent, link_down, link_timed, link_up, local_by}
+use Rattle.ospf_links.specs.Parts.{hello_sent, link_down, link_timed, link_up}
+use Rattle.ospf_area.specs.Posting.{local_by}
 use Rattle.ospf_links.specs.Repeats.{link_repeated, repeated}
 use Rattle.ospf_adjacency.specs.ResendLaws.{RepeatsAreQuiet}
 use Rattle.ospf_update.specs.Acks.{undelayed_link}

@@ -6,8 +6,8 @@ use Rattle.ospf_neighbour.specs.Neighbour.{NeighbourValue}
 use Rattle.ospf_neighbour.specs.Neighbours.{neighbour_of}
 use Rattle.ospf_packet.specs.declared.body.Hello.{Hello}
 use Rattle.ospf_exchange.specs.declared.rule.Local.{Local}
-use Rattle.ospf_adjacency.specs.Descriptions.{Turn}
-use Rattle.ospf_adjacency.specs.Packets.{parcel_if}
+use Rattle.ospf_area.specs.Turns.{Turn}
+use Rattle.ospf_area.specs.Packets.{parcel_if}
 use Rattle.ospf_adjacency.specs.Heard.{heard, hello_turn, naming_event, sender_of, turn_of}
 use Rattle.ospf_adjacency.specs.HelloLaws as hellos
 use Rattle.ospf_iface.specs.Machine.{is_down}
@@ -24,8 +24,8 @@ use Rattle.ospf_laws.specs.Puts.{PutsOut}
 use Rattle.ospf_laws.proofs.LinkParts.{one_quiet, quiet_same}
 use Rattle.ospf_laws.proofs.ListFacts.{Contains-nil}
 use Rattle.ospf_laws.proofs.PutParts.{puts_sent}
-use Rattle.ospf_links.specs.Parts.{hello_out, hello_part, hello_sent, link_down, link_timed, link_up, local_of, neighbourhood_of, up_parcels, with_neighbourhood}
-use Rattle.ospf_adjacency.specs.Posting.{posted_all}
+use Rattle.ospf_links.specs.Parts.{hello_out, hello_part, hello_sent, link_down, link_timed, link_up, neighbourhood_of, up_parcels, with_neighbourhood}
+use Rattle.ospf_area.specs.Posting.{local_of, posted_all}
 use Rattle.ospf_links.specs.Works.{changed, changed_on, up_out_on, work_sent, worked}
 use Rattle.ospf_step.specs.Invariants.{AreRising}
 use Rattle.ospf_step.proofs.Bare.{AreBare, bare_if, bare_known, event_bare}

@@ -15,9 +15,10 @@ use Rattle.ospf_neighbour.specs.Neighbours.{IsRising, neighbour_of}
 use Rattle.ospf_packet.specs.Meaning.{BodyMeaning, hello, description, request, update, acknowledgment, Meaning}
 use Rattle.ospf_packet.specs.declared.body.Description.{Description}
 use Rattle.ospf_packet.specs.declared.entry.RequestEntry.{RequestEntry}
-use Rattle.ospf_adjacency.specs.Descriptions.{Turn, description_turn}
+use Rattle.ospf_adjacency.specs.Descriptions.{description_turn}
+use Rattle.ospf_area.specs.Turns.{Turn}
 use Rattle.ospf_adjacency.specs.Laws.{NeverEnters, SaysOnly}
-use Rattle.ospf_adjacency.specs.Packets.{Parcel}
+use Rattle.ospf_area.specs.Packets.{Parcel}
 use Rattle.ospf_adjacency.proofs.LawLemmas.{description_goes}
 use Rattle.ospf_adjacency.proofs.SameLemmas.{description_keeps_router}
 use Rattle.ospf_adjacency.proofs.SayLemmas.{description_says_only}
@@ -41,8 +42,8 @@ use Rattle.ospf_laws.proofs.LinkParts.{goes_same, link_same, one_goes, one_quiet
 use Rattle.ospf_laws.proofs.ListFacts.{Contains-map_cases, Contains-nil}
 use Rattle.ospf_laws.proofs.LsaFacts.{header_names, same_contents}
 use Rattle.ospf_laws.proofs.StateFacts.{copy_of-has, neighbour-router, same_router}
-use Rattle.ospf_links.specs.Parts.{description_by, description_part, local_by, local_of, neighbourhood_of, request_by, request_part, with_neighbourhood}
-use Rattle.ospf_adjacency.specs.Posting.{posted_all}
+use Rattle.ospf_links.specs.Parts.{description_by, description_part, neighbourhood_of, request_by, request_part, with_neighbourhood}
+use Rattle.ospf_area.specs.Posting.{local_by, local_of, posted_all}
 use Rattle.ospf_links.specs.Repeats.{all_repeats, link_repeated, repeated, repeated_links, repeats_for, repeats_out, repeats_to}
 use Rattle.ospf_links.specs.Works.{work_sent, worked}
 use Rattle.ospf_step.specs.Invariants.{AreRising, NoneWaitsBelow}

@@ -15,7 +15,7 @@ use Rattle.ospf_laws.proofs.LinkParts.{each_same, link_same, map_each, part_goes
 use Rattle.ospf_laws.proofs.ListFacts.{Contains-nil}
 use Rattle.ospf_laws.proofs.PutParts.{puts_sent}
 use Rattle.ospf_links.specs.Parts.{with_neighbourhood}
-use Rattle.ospf_adjacency.specs.Posting.{posted_all}
+use Rattle.ospf_area.specs.Posting.{posted_all}
 use Rattle.ospf_links.specs.Works.{work_next_on, work_sent, work_sent_on, worked, worked_links_on}
 use Rattle.ospf_step.proofs.Known.{none_known}
 

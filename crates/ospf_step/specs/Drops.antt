@@ -5,7 +5,7 @@ use Rattle.ospf_area.specs.Sending.{own_of}
 use Rattle.ospf_area.specs.State.{AreaValue, LinkValue}
 use Rattle.ospf_laws.specs.Step.{Event}
 use Rattle.ospf_laws.specs.Step.Event.{Datagram, Tick, LinkUp, LinkDown}
-use Rattle.ospf_links.specs.Parts.{local_of}
+use Rattle.ospf_area.specs.Posting.{local_of}
 use Rattle.ospf_packet.specs.Meaning.{Meaning}
 use Rattle.ospf_packet.specs.PacketOf.{packet_of}
 use Rattle.ospf_step.specs.Receipt.{drop_of}

@@ -3,7 +3,7 @@
 ghost use Rattle.std.specs.Prelude.{◌≡◌, ◌≢◌, None, Some, IfErr, IfOk, OnErr, OnOk, slice_get};
 ghost use Rattle.ospf_area.specs.Sending.{own_of};
 ghost use Rattle.ospf_laws.specs.Puts.{headers_met};
-ghost use Rattle.ospf_links.specs.Parts.{local_of};
+ghost use Rattle.ospf_area.specs.Posting.{local_of};
 ghost use Rattle.ospf_packet.specs.PacketOf.{packet_of};
 ghost use Rattle.ospf_packet.specs.Said.{body_said, said};
 ghost use Rattle.ospf_step.specs.Drops.{drop_on};
@@ -18,9 +18,9 @@ use crate::senders::not_dropped_is_taken;
 use ospf_adjacency::{
     answers_are_quiet, description_keeps_router, elections_come_about, neighbours_stay_of_link,
 };
-use ospf_area::{Area, Origin, Outputs, own_of};
+use ospf_area::{Area, Origin, Outputs, local_of, own_of};
 use ospf_base::Addr;
-use ospf_links::{local_of, take_description, take_hello, take_request};
+use ospf_links::{take_description, take_hello, take_request};
 use ospf_originate::area_stays_sound;
 use ospf_packet::{Body, Headers, Packet};
 use ospf_update::{on_header, on_update};

@@ -1,14 +1,17 @@
 -- As many headers in a packet as fit.
-use Rattle.std.proofs.Common.{◌≡◌, ◌<◌, ◌≤◌, ℕ, zero, suc, min, List, [], ◌∷◌, ◌++◌, length, take, drop, refl, sym, ap, ◌∙◌, arith}
+use Rattle.std.proofs.Common.{◌≡◌, ◌<◌, ◌≤◌, ℕ, zero, suc, min, List, [], ◌∷◌, ◌++◌, length, map, take, drop, refl, sym, ap, ◌∙◌, arith}
 use Rattle.std.specs.List.{flat_map}
 use Rattle.std.proofs.lemmas.List.{length-drop}
 use Rattle.ospf_lsa.specs.declared.header.LsaHeader.{LsaHeader}
-use Rattle.ospf_update.specs.Acks.{cut, packets, ack_out, packed_out}
-use Rattle.ospf_area.specs.Outputs.{OutputsValue}
-use Rattle.ospf_area.specs.Sending.{and_sends}
+use Rattle.ospf_update.specs.Acks.{ack_out, ack_parcel, ack_parcels, ack_room, acks_out, cut, in_order, packed_parcels, packets}
+use Rattle.ospf_base.specs.declared.ids.Addr.{Addr}
+use Rattle.ospf_iface.specs.declared.machine.Iface.{Iface}
+use Rattle.ospf_area.specs.Outputs.{SentValue}
+use Rattle.ospf_area.specs.Posting.{PostValue, and_parcels, posted_all}
+use Rattle.ospf_area.specs.Sending.{way_out}
+use Rattle.ospf_area.specs.State.{LinkValue}
 use Rattle.ospf_area.specs.declared.sending.Own.{Own}
-use Rattle.ospf_area.specs.declared.sending.Way.{Way}
-use Rattle.ospf_area.proofs.SendingLemmas.{sends_more}
+use Rattle.ospf_area.proofs.PostLemmas.{parcels_more, posted-first}
 
 cut_none : (n room : ℕ) → cut n room [] ≡ []
 unfolding cut
@@ -25,9 +28,6 @@ cut_same (suc n) (suc m) room (h ∷ hs) pos le le' =
     let long = length-drop k (h ∷ hs) in
     ap (λ l. take k (h ∷ hs) ∷ l) (cut_same n m room (drop k (h ∷ hs)) pos (omega arith) (omega arith))
 
-pub packed_none : (own : Own) (way : Way) (room : ℕ) → packed_out own way room [] ≡ []
-packed_none own way room = ap (flat_map (ack_out own way)) (cut_none 0 room)
-
 packets_step : (room : ℕ) (hs : List LsaHeader) → 0 < room → 0 < length hs → packets room hs ≡ take (min room (length hs)) hs ∷ packets room (drop (min room (length hs)) hs)
 unfolding cut
 packets_step room [] pos some = absurd (omega arith)
@@ -36,21 +36,37 @@ packets_step room (h ∷ hs) pos some =
     let long = length-drop k (h ∷ hs) in
     ap (λ l. take k (h ∷ hs) ∷ l) (cut_same (length hs) (length (drop k (h ∷ hs))) room (drop k (h ∷ hs)) pos (omega arith) (omega arith))
 
-pub packed_step : (own : Own) (way : Way) (room : ℕ) (hs : List LsaHeader) → 0 < room → 0 < length hs
-    → packed_out own way room hs ≡ ack_out own way (take (min room (length hs)) hs) ++ packed_out own way room (drop (min room (length hs)) hs)
-packed_step own way room hs pos some = ap (flat_map (ack_out own way)) (packets_step room hs pos some)
+pub packed_step : (to : Addr) (room : ℕ) (hs : List LsaHeader) → 0 < room → 0 < length hs
+    → packed_parcels to room hs ≡ ack_parcel to (take (min room (length hs)) hs) ∷ packed_parcels to room (drop (min room (length hs)) hs)
+packed_step to room hs pos some = ap (map (ack_parcel to)) (packets_step room hs pos some)
 
--- one packet is sent
-pub packed_on : (out out' : OutputsValue) (own : Own) (way : Way) (room : ℕ) (hs front back : List LsaHeader) (k : ℕ) → 0 < room → 0 < length hs
-    → k ≡ min room (length hs) → front ≡ take k hs → back ≡ drop k hs → out' ≡ and_sends out (ack_out own way front)
-    → and_sends out' (packed_out own way room back) ≡ and_sends out (packed_out own way room hs)
-packed_on out out' own way room hs front back k pos some is_k is_front is_back is_out =
-    ap (λ (o : OutputsValue). and_sends o (packed_out own way room back)) is_out
-    ∙ sends_more out (ack_out own way front) (packed_out own way room back)
-    ∙ ap (λ (l : List LsaHeader). and_sends out (ack_out own way l ++ packed_out own way room back)) (is_front ∙ ap (λ (n : ℕ). take n hs) is_k)
-    ∙ ap (λ (l : List LsaHeader). and_sends out (ack_out own way (take (min room (length hs)) hs) ++ packed_out own way room l)) (is_back ∙ ap (λ (n : ℕ). drop n hs) is_k)
-    ∙ ap (and_sends out) (sym (packed_step own way room hs pos some))
+-- one packet is to go out
+pub packed_on : (p p' : PostValue) (to : Addr) (room : ℕ) (hs front back : List LsaHeader) (k : ℕ) → 0 < room → 0 < length hs
+    → k ≡ min room (length hs) → front ≡ take k hs → back ≡ drop k hs → p' ≡ and_parcels p (ack_parcel to front ∷ [])
+    → and_parcels p' (packed_parcels to room back) ≡ and_parcels p (packed_parcels to room hs)
+packed_on p p' to room hs front back k pos some is_k is_front is_back is_left =
+    ap (λ (q : PostValue). and_parcels q (packed_parcels to room back)) is_left
+    ∙ parcels_more p (ack_parcel to front ∷ []) (packed_parcels to room back)
+    ∙ ap (λ (l : List LsaHeader). and_parcels p (ack_parcel to l ∷ packed_parcels to room back)) (is_front ∙ ap (λ (n : ℕ). take n hs) is_k)
+    ∙ ap (λ (l : List LsaHeader). and_parcels p (ack_parcel to (take (min room (length hs)) hs) ∷ packed_parcels to room l)) (is_back ∙ ap (λ (n : ℕ). drop n hs) is_k)
+    ∙ ap (and_parcels p) (sym (packed_step to room hs pos some))
 
-pub packed_end : (own : Own) (way : Way) (room : ℕ) (hs : List LsaHeader) → length hs ≤ 0 → packed_out own way room hs ≡ []
-packed_end own way room [] le = packed_none own way room
-packed_end own way room (h ∷ hs) le = absurd (omega arith)
+pub packed_end : (to : Addr) (room : ℕ) (hs : List LsaHeader) → length hs ≤ 0 → packed_parcels to room hs ≡ []
+packed_end to room [] le = ap (map (ack_parcel to)) (cut_none 0 room)
+packed_end to room (h ∷ hs) le = absurd (omega arith)
+
+-- ---- as they go out
+
+posted_each : (own : Own) (l : ℕ) (i : Iface) (to : Addr) (hss : List (List LsaHeader)) → posted_all own l i (map (ack_parcel to) hss) ≡ flat_map (ack_out own (way_out l i to)) hss
+posted_each own l i to [] = refl
+posted_each own l i to (hs ∷ hss) = ap (λ (ds : List SentValue). ack_out own (way_out l i to) hs ++ ds) (posted_each own l i to hss)
+
+-- the acknowledgements of a link, by what the code has at hand of it
+pub acks_posted : (own : Own) (l n : ℕ) (to : Iface → Addr) (link view : LinkValue) (hs : List LsaHeader) (address : Addr) (o p : PostValue)
+    → view ≡ link → o ≡ record { next = n; sent = [] } → address ≡ to view.iface → p ≡ and_parcels o (ack_parcels address view.settings.mtu hs)
+    → posted_all own l view.iface p.sent ≡ acks_out own (way_out l link.iface (to link.iface)) link.settings.mtu hs
+acks_posted own l n to link view hs address o p is_view is_new is_address is_left =
+    posted-first own l view.iface n o p (ack_parcels address view.settings.mtu hs) is_new is_left
+    ∙ posted_each own l view.iface address (packets (ack_room view.settings.mtu) (in_order hs))
+    ∙ ap (λ (a : Addr). acks_out own (way_out l view.iface a) view.settings.mtu hs) is_address
+    ∙ ap (λ (x : LinkValue). acks_out own (way_out l x.iface (to x.iface)) x.settings.mtu hs) is_view

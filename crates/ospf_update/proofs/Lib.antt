@@ -12,3 +12,4 @@ pub mod ReachLemmas
 pub mod TurnLemmas
 pub mod PackLemmas
 pub mod PassLemmas
+pub mod PostLemmas

@@ -2,10 +2,12 @@
 use Rattle.std.specs.Prelude.{◌==◌, ◌&&◌, ◌||◌, ◌+◌, ◌-◌, ◌/◌, ℕ, zero, suc, min, Bool, Option, None, Some, List, [], ◌∷◌, drop, length, map, nat_lt, slice_get, take, if◌then◌else◌}
 use Rattle.std.specs.List.{flat_map}
 use Rattle.ospf_base.specs.Constants.{ip_header, lsa_header, packet_header}
+use Rattle.ospf_base.specs.declared.ids.Addr.{Addr}
 use Rattle.ospf_flood.specs.Links.{flooding_address}
 use Rattle.ospf_lsa.specs.declared.header.LsaHeader.{LsaHeader}
 use Rattle.ospf_packet.specs.Meaning as meaning
 use Rattle.ospf_area.specs.Outputs.{SentValue}
+use Rattle.ospf_area.specs.Packets.{Parcel}
 use Rattle.ospf_area.specs.Places.{flat_from}
 use Rattle.ospf_area.specs.Sending.{datagrams, own_of, packet_of, to_address, way_out}
 use Rattle.ospf_area.specs.State.{AreaValue, LinkValue}
@@ -57,6 +59,19 @@ packed_out own way room hs = flat_map (ack_out own way) (packets room hs)
 
 abbrev pub acks_out : Own → Way → ℕ → List LsaHeader → List SentValue
 acks_out own way mtu hs = packed_out own way (ack_room mtu) (in_order hs)
+
+-- ---- as they are put to go out
+
+abbrev pub ack_parcel : Addr → List LsaHeader → Parcel
+ack_parcel destination hs = record { destination = destination; body = meaning.acknowledgment hs }
+
+-- so many headers in each
+abbrev pub packed_parcels : Addr → ℕ → List LsaHeader → List Parcel
+packed_parcels destination room hs = map (ack_parcel destination) (packets room hs)
+
+-- in order of key, as many in each as fit
+abbrev pub ack_parcels : Addr → ℕ → List LsaHeader → List Parcel
+ack_parcels destination mtu hs = packed_parcels destination (ack_room mtu) (in_order hs)
 
 -- ---- direct ones, at the end of an Update
 

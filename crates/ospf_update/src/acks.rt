@@ -1,36 +1,33 @@
 //! How acknowledgements are sent.
 
-ghost use Rattle.std.specs.Prelude.{◌≡◌, ◌<◌, [], IfOk, OnOk, Some, slice_get, map};
+ghost use Rattle.std.specs.Prelude.{◌≡◌, ◌<◌, ◌∷◌, [], IfOk, OnOk, Some, slice_get, map};
 ghost use Rattle.std.specs.Ordering.{is_lt};
-ghost use Rattle.ospf_update.specs.Acks.{header_precedes, in_order, ack_room, ack_out, packed_out, acks_out, direct_out_on, direct_out, delayed_out_on, delayed_out, undelayed_link, undelayed};
+ghost use Rattle.ospf_update.specs.Acks.{header_precedes, in_order, ack_room, ack_parcel, ack_parcels, packed_parcels, direct_out_on, direct_out, delayed_out_on, delayed_out, undelayed_link, undelayed};
+ghost use Rattle.ospf_area.specs.Posting.{and_parcels};
 ghost use Rattle.ospf_area.specs.Sending.{and_sends, own_of};
 
-use ospf_area::{
-    Area, Link, LinkSettings, Origin, Outputs, Own, Way, own_of, send, to_address, way_out,
-};
-use ospf_base::{IP_HEADER, LSA_HEADER, PACKET_HEADER};
+use ospf_area::{Area, Link, LinkSettings, Origin, Outputs, Own, Post, own_of, to_address};
+use ospf_base::{Addr, IP_HEADER, LSA_HEADER, PACKET_HEADER};
 use ospf_flood::flooding_address;
 use ospf_lsa::LsaHeader;
-use ospf_packet::{BodyValue, PacketValue};
+use ospf_packet::BodyValue;
 use std::alloc::{AllocError, Global};
 use std::cmp::Ordering;
 
-/// Sends Acknowledgments of headers, in order of key, as many in each as fit.
+/// Acknowledgments of headers go out, in order of key, as many in each as fit.
 ///
 /// `AllocError` where memory runs out.
 pub fn send_acks(
-    out: &mut Outputs,
-    own: Own,
-    way: Way,
-    settings: LinkSettings,
     headers: &[LsaHeader],
-    alloc: Global,
+    settings: LinkSettings,
+    destination: Addr,
+    post: &mut Post,
 ) -> Result<(), AllocError>
-    ensures { OnOk result (out.new ≡ and_sends out.old
-        (acks_out own way settings.mtu headers.now)) }
+    ensures { OnOk result (post.new ≡ and_parcels post.old
+        (ack_parcels destination settings.mtu headers.now)) }
 {
-    let sorted = in_order(headers, alloc)?;
-    send_packed(out, own, way, ack_room(settings), &sorted, alloc)
+    let sorted = in_order(headers, post.alloc())?;
+    send_packed(&sorted, ack_room(settings), destination, post)
 }
 
 /// Sends the direct acknowledgements of an Update to its sender (RFC 2328, section 13.5).
@@ -85,43 +82,32 @@ fn by_key(a: &LsaHeader, b: &LsaHeader) -> Ordering
     (a.kind, a.id, a.router).cmp(&(b.kind, b.id, b.router))
 }
 
-// Sends headers, so many in a packet.
+// Headers go out, so many in a packet.
 fn send_packed(
-    out: &mut Outputs,
-    own: Own,
-    way: Way,
-    room: usize,
     headers: &[LsaHeader],
-    alloc: Global,
+    room: usize,
+    destination: Addr,
+    post: &mut Post,
 ) -> Result<(), AllocError>
     requires { 0 < room }
-    ensures { OnOk result (out.new ≡ and_sends out.old (packed_out own way room headers.now)) }
+    ensures { OnOk result (post.new ≡ and_parcels post.old
+        (packed_parcels destination room headers.now)) }
 {
     let mut rest = headers;
     while rest.len() > 0 {
         let (now, later) = rest.split_at(room.min(rest.len()));
-        send_ack(out, own, way, now, alloc)?;
+        send_ack(now, destination, post)?;
         rest = later;
     }
     Ok(())
 }
 
-fn send_ack(
-    out: &mut Outputs,
-    own: Own,
-    way: Way,
-    headers: &[LsaHeader],
-    alloc: Global,
-) -> Result<(), AllocError>
-    ensures { OnOk result (out.new ≡ and_sends out.old (ack_out own way headers.now)) }
+fn send_ack(headers: &[LsaHeader], destination: Addr, post: &mut Post) -> Result<(), AllocError>
+    ensures { OnOk result (post.new ≡ and_parcels post.old
+        (ack_parcel destination headers.now ∷ [])) }
 {
-    let headers = Vec::from_slice(alloc, headers)?;
-    let packet = PacketValue {
-        router: own.router,
-        area: own.area,
-        body: BodyValue::Acknowledgment(headers),
-    };
-    send(out, way, &packet, alloc)
+    let headers = Vec::from_slice(post.alloc(), headers)?;
+    post.put(destination, BodyValue::Acknowledgment(headers))
 }
 
 fn ack_room(settings: LinkSettings) -> usize
@@ -159,12 +145,10 @@ fn send_direct_on(
     ensures { OnOk result (out.new ≡ and_sends out.old
         (direct_out_on own from headers.now (Some link.now))) }
 {
-    let way = way_out(
-        from.link,
-        &link.iface,
-        to_address(&link.iface, from.address),
-    );
-    send_acks(out, own, way, link.settings, headers, alloc)
+    let mut post = Post::new(0, alloc);
+    let to = to_address(&link.iface, from.address);
+    send_acks(headers, link.settings, to, &mut post)?;
+    post.send_all(out, own, from.link, &link.iface)
 }
 
 fn send_delayed_on(
@@ -177,8 +161,10 @@ fn send_delayed_on(
     ensures after { OnOk result (link.new ≡ undelayed_link link.old) }
     ensures sent { OnOk result (out.new ≡ and_sends out.old (delayed_out_on own number link.old)) }
 {
-    let way = way_out(number, &link.iface, flooding_address(&link.iface));
-    send_acks(out, own, way, link.settings, &link.delayed, alloc)?;
+    let mut post = Post::new(0, alloc);
+    let to = flooding_address(&link.iface);
+    send_acks(&link.delayed, link.settings, to, &mut post)?;
+    post.send_all(out, own, number, &link.iface)?;
     link.delayed.clear();
     Ok(())
 }

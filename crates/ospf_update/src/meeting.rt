@@ -1,36 +1,31 @@
 //! What an LSA of an Update does, and a header of an Acknowledgment.
 
-ghost use Rattle.std.specs.Prelude.{◌≡◌, ◌==◌, [], IfOk, None, OnOk, Some, slice_get};
+ghost use Rattle.std.specs.Prelude.{◌≡◌, ◌==◌, IfOk, None, OnOk, Some, slice_get};
 ghost use Rattle.ospf_base.specs.Constants.{max_age};
 ghost use Rattle.ospf_exchange.specs.Headers.{copy_of};
 ghost use Rattle.ospf_lsa.specs.Header.{key_of_header};
 ghost use Rattle.ospf_lsa.specs.Header.{header_of};
 ghost use Rattle.ospf_lsa.specs.Lsa.{key_of, instance_of};
-ghost use Rattle.ospf_area.specs.Flooding.{flooded_back, flooding_updates, goes_anywhere, released};
+ghost use Rattle.ospf_area.specs.Flooding.{flooded_back, released};
 ghost use Rattle.ospf_area.specs.Numbers.{marked};
-ghost use Rattle.ospf_update.specs.Meets.{flooded_area, InstallsIn, store_updates, Stores, rule_met, heard_by, Admits, AnswersExpired, RestartsExchange, first_description, first_dd_on, duplicated, reply_to, lsa_out_on, Replies, MeetsRule, MeetsLsa, named_by, header_met};
+ghost use Rattle.ospf_update.specs.Meets.{InstallsIn, store_updates, Stores, rule_met, heard_by, Admits, AnswersExpired, RestartsExchange, first_dd_on, duplicated, reply_to, lsa_out_on, Replies, MeetsRule, MeetsLsa, named_by, header_met};
 ghost use Rattle.ospf_area.specs.Outputs.{and_takes};
-ghost use Rattle.ospf_packet.specs.Meaning as meaning;
-ghost use Rattle.ospf_packet.specs.Said.{meant};
-ghost use Rattle.ospf_area.specs.Sending.{and_sends, own_of, packet_of};
+ghost use Rattle.ospf_area.specs.Sending.{and_sends, own_of};
 ghost use Rattle.ospf_area.specs.State.{entry_of};
 
 use ospf_area::{
-    Area, Change, Flooded, Link, Origin, Outputs, Own, acknowledge_by, answer_at, change_at,
-    count_number, flood, is_awaited, is_requested, is_self_originated, is_taken, mark, own_of,
-    release, send, send_lsa, sent_lsa, some_link_loading, to_address, was_sent, way_out,
+    Area, Change, Flooded, Link, Origin, Outputs, Own, Post, acknowledge_by, answer_at, change_at,
+    count_number, description_body, flood, is_awaited, is_requested, is_self_originated, is_taken,
+    mark, own_of, release, send_lsa, sent_lsa, some_link_loading, to_address, was_sent,
 };
-use ospf_base::{Instance, LsaKey, MAX_AGE, OPTIONS};
+use ospf_base::{Instance, LsaKey, MAX_AGE};
+use ospf_exchange::beginning;
 use ospf_flood::{
     AcknowledgementCase, LsaRule, case_of_newer, case_of_same, is_sent_back, lsa_rule,
 };
 use ospf_lsa::{Lsa, LsaHeader, LsaView, Recency, newer};
 use ospf_lsdb::EntryView;
-use ospf_packet::{BodyValue, Description, PacketValue};
 use std::alloc::{AllocError, Global};
-
-/// I, M and MS.
-const FIRST_FLAGS: u8 = 7;
 
 /// Takes a header of an Acknowledgment from the neighbour of the origin, which is in Exchange or above (RFC 2328, section
 /// 13.7). No memory is taken.
@@ -226,31 +221,11 @@ fn send_first_dd_on(
     ensures { OnOk result (out.new ≡ and_sends out.old
         (first_dd_on own from number (Some link.now))) }
 {
-    let packet = first_packet(link, own, number, alloc);
-    let way = way_out(
-        from.link,
-        &link.iface,
-        to_address(&link.iface, from.address),
-    );
-    send(out, way, &packet, alloc)
-}
-
-// The first packet of an exchange.
-fn first_packet(link: &Link, own: Own, number: u32, alloc: Global) -> PacketValue
-    ensures { meant result ≡ packet_of own
-        (meaning.description (first_description link.now.settings.mtu number) []) }
-{
-    let fields = Description {
-        mtu: link.settings.mtu,
-        options: OPTIONS,
-        flags: FIRST_FLAGS,
-        number,
-    };
-    PacketValue {
-        router: own.router,
-        area: own.area,
-        body: BodyValue::Description(fields, Vec::new(alloc)),
-    }
+    let mut post = Post::new(number, alloc);
+    let first = beginning(number, own.tick);
+    let body = description_body(link.settings.mtu, first, Vec::new(alloc));
+    post.put(to_address(&link.iface, from.address), body)?;
+    post.send_all(out, own, from.link, &link.iface)
 }
 
 fn on_expired(
@@ -381,11 +356,8 @@ fn send_back_on(
     ensures { OnOk result (out.new ≡ and_sends out.old
         (lsa_out_on own from lsa.now (Some link.now))) }
 {
+    let mut post = Post::new(0, alloc);
     let copy = sent_lsa(link.settings, lsa, alloc)?;
-    let way = way_out(
-        from.link,
-        &link.iface,
-        to_address(&link.iface, from.address),
-    );
-    send_lsa(out, own, way, copy, alloc)
+    send_lsa(copy, to_address(&link.iface, from.address), &mut post)?;
+    post.send_all(out, own, from.link, &link.iface)
 }

@@ -3,8 +3,7 @@
 use super::super::made::FIRST;
 use super::super::written::HELLO;
 use super::{FROM_SECOND, Router, are_same, is_sent, point_to_point, router_of, sends_to};
-use ospf_adjacency::Post;
-use ospf_area::own_of;
+use ospf_area::{Post, own_of};
 use ospf_base::{ALL_SPF_ROUTERS, Addr};
 use ospf_iface::Iface;
 use ospf_packet::{BodyValue, Hello};

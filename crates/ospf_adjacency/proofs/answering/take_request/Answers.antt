@@ -1,7 +1,8 @@
 use Rattle.std.proofs.Common.{◌≡◌, ◌∙◌, Bool, List, true, ap, sym, refl, if◌then◌else◌}
 use Rattle.ospf_base.specs.declared.ids.LsaKey.{LsaKey}
 use Rattle.ospf_exchange.specs.Requests.{all_held}
-use Rattle.ospf_adjacency.specs.Descriptions.{event_turn, turn}
+use Rattle.ospf_adjacency.specs.Descriptions.{event_turn}
+use Rattle.ospf_area.specs.Turns.{turn}
 use Rattle.ospf_neighbour.specs.declared.machine.NbrEvent.TheVariants.{BadLsReq}
 use Rattle.ospf_adjacency.specs.Answers.{asked_keys, copies_turn}
 use Rattle.ospf_adjacency.proofs.KeyLists.{answers_are}

@@ -3,7 +3,7 @@ use Rattle.ospf_base.specs.declared.ids.Addr.{Addr}
 use Rattle.ospf_neighbour.specs.Neighbour.{NeighbourValue}
 use Rattle.ospf_neighbour.specs.declared.machine.NbrEvent.TheVariants.{AdjOk}
 use Rattle.ospf_adjacency.specs.Adjacency.{wants_adjacency}
-use Rattle.ospf_adjacency.specs.Descriptions.{Turn}
+use Rattle.ospf_area.specs.Turns.{Turn}
 use Rattle.ospf_adjacency.proofs.ElectionLemmas.{adjusted-more}
 use Rattle.ospf_adjacency.proofs.elections.adjust.Goals as goal
 

@@ -1,5 +1,5 @@
 use Rattle.std.proofs.Common.{◌≡◌, ◌-◌, [], map}
-use Rattle.ospf_adjacency.specs.Posting.{and_parcels}
+use Rattle.ospf_area.specs.Posting.{and_parcels}
 use Rattle.ospf_adjacency.specs.Packing.{bytes_in, packed, update_to, copies_of}
 use Rattle.ospf_adjacency.proofs.packing.send_copies.Given as goal
 

@@ -1,6 +1,6 @@
 use Rattle.std.proofs.Common.{◌∙◌, List, ap}
 use Rattle.ospf_base.specs.declared.ids.LsaKey.{LsaKey}
-use Rattle.ospf_adjacency.specs.Descriptions.{Turn, turn}
+use Rattle.ospf_area.specs.Turns.{Turn, turn}
 use Rattle.ospf_adjacency.specs.Answers.{copies_turn}
 use Rattle.ospf_adjacency.specs.Repeats.{dd_again, request_again}
 use Rattle.ospf_adjacency.proofs.repeating.repeat.Goals as goal

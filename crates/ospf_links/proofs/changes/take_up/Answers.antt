@@ -5,7 +5,7 @@ use Rattle.ospf_area.specs.State.{AreaValue, LinkValue}
 use Rattle.ospf_area.specs.declared.sending.Own.{Own}
 use Rattle.ospf_adjacency.specs.Links.{up}
 use Rattle.ospf_links.specs.Parts.{up_parcels}
-use Rattle.ospf_adjacency.specs.Posting.{posted_all}
+use Rattle.ospf_area.specs.Posting.{posted_all}
 use Rattle.ospf_links.specs.Works.{up_out_on}
 use Rattle.ospf_links.proofs.WorkLemmas.{is_past, is_there, up_unsent}
 use Rattle.ospf_links.proofs.changes.take_up.Goals as goal

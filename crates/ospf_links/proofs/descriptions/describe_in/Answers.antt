@@ -3,7 +3,7 @@ use Rattle.std.proofs.lemmas.Option.{get_or_from_slice_get}
 use Rattle.ospf_neighbour.specs.Neighbour.{NeighbourValue}
 use Rattle.ospf_neighbour.specs.Neighbours.{neighbour_of}
 use Rattle.ospf_adjacency.specs.Heard.{neighbourhood, place_for}
-use Rattle.ospf_adjacency.specs.Descriptions.{Turn, turn}
+use Rattle.ospf_area.specs.Turns.{Turn, turn}
 use Rattle.ospf_links.specs.Parts.{description_by}
 use Rattle.ospf_links.proofs.WorkLemmas.{described_found, described_router, is_none}
 use Rattle.ospf_links.proofs.descriptions.describe_in.Goals as goal

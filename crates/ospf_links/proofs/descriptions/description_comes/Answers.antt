@@ -1,9 +1,10 @@
 use Rattle.std.proofs.Common.{◌≡◌, ◌∙◌, ap, sym, subst, List, false}
 use Rattle.ospf_neighbour.specs.Neighbour.{NeighbourValue}
 use Rattle.ospf_neighbour.specs.Neighbours.{AreNeighbours}
-use Rattle.ospf_adjacency.specs.declared.post.OnLink.{OnLink}
+use Rattle.ospf_area.specs.declared.post.OnLink.{OnLink}
 use Rattle.ospf_adjacency.specs.Heard.{Neighbourhood, neighbourhood}
-use Rattle.ospf_links.specs.Parts.{description_on, local_of}
+use Rattle.ospf_links.specs.Parts.{description_on}
+use Rattle.ospf_area.specs.Posting.{local_of}
 use Rattle.ospf_links.proofs.WorkLemmas.{described_stays, description_back}
 use Rattle.ospf_links.proofs.descriptions.description_comes.Goals as goal
 use Rattle.ospf_links.proofs.descriptions.description_comes.Goals.{In_ok-elects}
@@ -14,7 +15,7 @@ described : (c : In_ok-elects) → neighbourhood c.describe_in.new.all.items c.i
 described c =
     let on = λ (a : OnLink) (ns : List NeighbourValue). description_on a.iface a.local c.args.from.router c.args.fields c.args.headers c.args.database.now (neighbourhood ns false c.args.post.now) in
     c.in_ok-elects.ensures
-    ∙ ap (λ (a : OnLink). on a c.take_out-all.result.items) c.on_link-at.ensures
+    ∙ ap (λ (a : OnLink). on a c.take_out-all.result.items) c.of-at.ensures
     ∙ ap (λ (ns : List NeighbourValue). on (record { iface = c.args.link.now.iface; local = local_of c.args.own c.args.link.now }) ns) c.take_out-all.ensures.neighbours
 
 pub put_back-requires : goal.put_back-requires

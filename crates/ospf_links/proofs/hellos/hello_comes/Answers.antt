@@ -1,9 +1,9 @@
 use Rattle.std.proofs.Common.{◌≡◌, ◌∙◌, ap, sym, subst, List, false}
 use Rattle.ospf_neighbour.specs.Neighbour.{NeighbourValue}
 use Rattle.ospf_neighbour.specs.Neighbours.{AreNeighbours}
-use Rattle.ospf_adjacency.specs.declared.post.OnLink.{OnLink}
+use Rattle.ospf_area.specs.declared.post.OnLink.{OnLink}
 use Rattle.ospf_adjacency.specs.Heard.{Neighbourhood, neighbourhood, hello_on}
-use Rattle.ospf_links.specs.Parts.{local_of}
+use Rattle.ospf_area.specs.Posting.{local_of}
 use Rattle.ospf_links.proofs.NeighbourLemmas.{hello_stays}
 use Rattle.ospf_links.proofs.WorkLemmas.{hello_back}
 use Rattle.ospf_links.proofs.hellos.hello_comes.Goals as goal
@@ -15,7 +15,7 @@ heard : (c : In_ok-elects) → neighbourhood c.hello_on.new.neighbours.items c.i
 heard c =
     let on = λ (a : OnLink) (ns : List NeighbourValue). hello_on a.iface a.local c.args.from.router c.args.from.address c.args.hello.now c.args.named (neighbourhood ns false c.args.post.now) in
     c.in_ok-elects.ensures
-    ∙ ap (λ (a : OnLink). on a c.take_out-all.result.items) c.on_link-at.ensures
+    ∙ ap (λ (a : OnLink). on a c.take_out-all.result.items) c.of-at.ensures
     ∙ ap (λ (ns : List NeighbourValue). on (record { iface = c.args.link.now.iface; local = local_of c.args.own c.args.link.now }) ns) c.take_out-all.ensures.neighbours
 
 pub put_back-requires : goal.put_back-requires

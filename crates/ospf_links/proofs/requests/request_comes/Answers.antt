@@ -1,10 +1,11 @@
 use Rattle.std.proofs.Common.{◌≡◌, ◌∙◌, ◌||◌, ap, sym, subst, ℕ, Bool, List, [], false, rules}
 use Rattle.ospf_neighbour.specs.Neighbour.{NeighbourValue}
 use Rattle.ospf_neighbour.specs.Neighbours.{AreNeighbours}
-use Rattle.ospf_adjacency.specs.declared.post.OnLink.{OnLink}
+use Rattle.ospf_area.specs.declared.post.OnLink.{OnLink}
 use Rattle.ospf_adjacency.specs.Heard.{Neighbourhood, neighbourhood}
 use Rattle.ospf_area.specs.State.{LinkValue}
-use Rattle.ospf_links.specs.Parts.{local_of, request_at, request_on}
+use Rattle.ospf_links.specs.Parts.{request_at, request_on}
+use Rattle.ospf_area.specs.Posting.{local_of}
 use Rattle.ospf_links.proofs.RequestLemmas.{requested_stays}
 use Rattle.ospf_links.proofs.WorkLemmas.{PutBack, request_back}
 use Rattle.ospf_links.proofs.requests.request_comes.Goals as goal
@@ -17,8 +18,8 @@ requested c =
     let on = λ (a : OnLink) (delay : ℕ) (ns : List NeighbourValue). request_on a.iface a.local c.args.from.router delay c.args.database.now c.args.requests (neighbourhood ns false c.args.post.now) in
     let delay = c.args.link.now.settings.transmit_delay in
     c.in_ok-keys.ensures.turn
-    ∙ ap (λ (l : LinkValue). on c.on_link-at.result l.settings.transmit_delay c.take_out-all.result.items) c.link.view_is
-    ∙ ap (λ (a : OnLink). on a delay c.take_out-all.result.items) c.on_link-at.ensures
+    ∙ ap (λ (l : LinkValue). on c.of-at.result l.settings.transmit_delay c.take_out-all.result.items) c.link.view_is
+    ∙ ap (λ (a : OnLink). on a delay c.take_out-all.result.items) c.of-at.ensures
     ∙ ap (λ (ns : List NeighbourValue). on (record { iface = c.args.link.now.iface; local = local_of c.args.own c.args.link.now }) delay ns) c.take_out-all.ensures.neighbours
 
 pub put_back-requires : goal.put_back-requires

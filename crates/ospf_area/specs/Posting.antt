@@ -1,11 +1,22 @@
--- What a part of a step leaves beside its neighbours, and how packets go out of a link (RFC 2328, section 8.1).
+-- What a part of a step at a link works with, what it leaves beside its neighbours, and how packets go out (RFC 2328,
+-- section 8.1).
 use Rattle.std.specs.Prelude.{◌++◌, ℕ, List}
 use Rattle.std.specs.List.{flat_map}
 use Rattle.ospf_iface.specs.declared.machine.Iface.{Iface}
 use Rattle.ospf_area.specs.Outputs.{SentValue}
 use Rattle.ospf_area.specs.Sending.{datagrams, packet_of, way_out}
 use Rattle.ospf_area.specs.declared.sending.Own.{Own}
-use Rattle.ospf_adjacency.specs.Packets.{Parcel}
+use Rattle.ospf_area.specs.Packets.{Parcel}
+use Rattle.ospf_area.specs.State.{LinkValue}
+use Rattle.ospf_area.specs.declared.state.LinkSettings.{LinkSettings}
+use Rattle.ospf_exchange.specs.declared.rule.Local.{Local}
+
+-- what a part needs to know of the router and of a link
+abbrev pub local_by : Own → LinkSettings → Local
+local_by own settings = record { router = own.router; mtu = settings.mtu; tick = own.tick; passes_over = own.passes_over }
+
+abbrev pub local_of : Own → LinkValue → Local
+local_of own link = local_by own link.settings
 
 -- the router's next DD number, and the packets that go out
 pub record PostValue : Type 0 where

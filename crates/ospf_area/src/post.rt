@@ -1,6 +1,11 @@
 //! What a part of a step works on beside neighbours: its link, and what it leaves.
 
-use ospf_area::{Outputs, Own, send, way_out};
+ghost use Rattle.std.specs.Prelude.{◌≡◌};
+ghost use Rattle.ospf_area.specs.Posting.{local_by, local_of};
+
+use crate::outputs::Outputs;
+use crate::sending::{Own, send, way_out};
+use crate::state::{Link, LinkSettings};
 use ospf_base::Addr;
 use ospf_exchange::Local;
 use ospf_iface::Iface;
@@ -17,6 +22,21 @@ pub struct OnLink {
     pub local: Local,
 }
 
+impl OnLink {
+    ghost use Rattle.std.specs.Prelude.{◌≡◌};
+    ghost use Rattle.ospf_area.specs.Posting.{local_of};
+
+    /// A link as its neighbours' parts of a step work on it.
+    pub fn of(own: Own, link: &Link) -> OnLink
+        ensures { result ≡ record { iface = link.now.iface; local = local_of own link.now } }
+    {
+        OnLink {
+            iface: link.iface,
+            local: local_of(own, link),
+        }
+    }
+}
+
 /// What a part of a step at one link leaves beside its neighbours: the router's next Database Description number, and the
 /// packets that go out.
 #[derive(Drop)]
@@ -27,7 +47,7 @@ pub struct Post {
 }
 
 impl Model for Post {
-    ghost use Rattle.ospf_adjacency.specs.Posting.{PostValue};
+    ghost use Rattle.ospf_area.specs.Posting.{PostValue};
 
     ghost Value = { PostValue };
 
@@ -38,7 +58,7 @@ impl Post {
     ghost use Rattle.std.specs.Prelude.{◌≡◌, ◌∷◌, [], OnOk};
     ghost use Rattle.ospf_area.specs.Sending.{and_sends};
     ghost use Rattle.ospf_packet.specs.Said.{body_meant};
-    ghost use Rattle.ospf_adjacency.specs.Posting.{and_parcels, posted_all};
+    ghost use Rattle.ospf_area.specs.Posting.{and_parcels, posted_all};
 
     /// Nothing goes out yet; `next` is the router's next Database Description number (RFC 2328, section 10.8).
     pub fn new(next: u32, alloc: Global) -> Post
@@ -104,11 +124,30 @@ impl Post {
         Ok(())
     }
 
-    // This is the router's next Database Description number.
-    pub(crate) fn set_next(&mut self, next: u32)
+    /// This is the router's next Database Description number.
+    pub fn set_next(&mut self, next: u32)
         ensures { self.new ≡ record self.old { next = next } }
     {
         self.next = next;
+    }
+}
+
+/// What the parts of a step need to know of the router and this link.
+pub fn local_of(own: Own, link: &Link) -> Local
+    ensures { result ≡ local_of own link.now }
+{
+    local_by(own, link.settings)
+}
+
+/// What the parts of a step need to know of the router and a link of these settings.
+pub fn local_by(own: Own, settings: LinkSettings) -> Local
+    ensures { result ≡ local_by own settings }
+{
+    Local {
+        router: own.router,
+        mtu: settings.mtu,
+        tick: own.tick,
+        passes_over: own.passes_over,
     }
 }
 
@@ -120,7 +159,7 @@ struct Parcel {
 }
 
 impl Model for Parcel {
-    ghost use Rattle.ospf_adjacency.specs.Packets as packets;
+    ghost use Rattle.ospf_area.specs.Packets as packets;
 
     ghost Value = { packets.Parcel };
 

@@ -1,7 +1,7 @@
 use Rattle.std.proofs.Common.{◌≡◌}
 use Rattle.ospf_area.specs.Sending.{and_sends}
-use Rattle.ospf_adjacency.specs.Posting.{posted_all}
-use Rattle.ospf_adjacency.proofs.post.Post.send_all.Given as goal
+use Rattle.ospf_area.specs.Posting.{posted_all}
+use Rattle.ospf_area.proofs.post.Post.send_all.Given as goal
 
 -- what is left is still to go out
 abbrev pub invariant-loop-parcel : goal.invariant-loop-parcel

@@ -4,7 +4,7 @@ use Rattle.ospf_base.specs.Constants.{router_options}
 use Rattle.ospf_base.specs.declared.ids.Addr.{Addr}
 use Rattle.ospf_iface.specs.declared.machine.Iface.{Iface}
 use Rattle.ospf_neighbour.specs.Neighbour.{NeighbourValue}
-use Rattle.ospf_packet.specs.Meaning.{BodyMeaning, description}
+use Rattle.ospf_packet.specs.Meaning.{BodyMeaning, description, update}
 use Rattle.ospf_area.specs.Asking.{request_body}
 use Rattle.ospf_area.specs.Sending.{to_address}
 
@@ -27,3 +27,7 @@ dd_parcel i mtu n = record { destination = to_address i n.address; body = dd_bod
 -- the last Request sent to the neighbour, or to be sent to it (10.9)
 abbrev pub request_parcel : Iface → NeighbourValue → Parcel
 request_parcel i n = record { destination = to_address i n.address; body = request_body n }
+
+-- an Update of one LSA
+abbrev pub lsa_parcel : Addr → List ℕ → Parcel
+lsa_parcel destination lsa = record { destination = destination; body = update (lsa ∷ []) }

@@ -1,0 +1,35 @@
+-- Where one neighbour stands in a part of a step, and what comes of its request list (RFC 2328, sections 10.3 and 10.9).
+use Rattle.std.specs.Prelude.{◌++◌, ℕ, List, []}
+use Rattle.std.specs.List.{flat_map}
+use Rattle.ospf_exchange.specs.Requests.{asked_next, request_due}
+use Rattle.ospf_exchange.specs.declared.rule.Local.{Local}
+use Rattle.ospf_iface.specs.declared.machine.Iface.{Iface}
+use Rattle.ospf_neighbour.specs.Neighbour.{NeighbourValue}
+use Rattle.ospf_area.specs.Asking.{loaded, turned}
+use Rattle.ospf_area.specs.Packets.{Parcel, parcel_if, request_parcel}
+use Rattle.ospf_area.specs.Posting.{PostValue}
+
+-- where a neighbour stands in a part of a step: the router's next DD number, and what goes out
+pub record Turn : Type 0 where
+  pub neighbour : NeighbourValue
+  pub next : ℕ
+  pub sent : List Parcel
+
+-- a neighbour, and what a part leaves beside it
+abbrev pub turn : NeighbourValue → PostValue → Turn
+turn n p = record { neighbour = n; next = p.next; sent = p.sent }
+
+-- LoadingDone where nothing is left to request, and the next Request where one is due (10.3, 10.9)
+abbrev pub request_turn : Iface → Local → Turn → Turn
+request_turn i local t = record t {
+  neighbour = turned local.mtu local.tick t.neighbour;
+  sent = t.sent ++ parcel_if (request_due (loaded t.neighbour)) (request_parcel i (asked_next local.mtu local.tick (loaded t.neighbour)));
+}
+
+-- the next Request of a neighbour, where one is due (10.9)
+abbrev pub next_parcels : Iface → Local → NeighbourValue → List Parcel
+next_parcels i local n = (request_turn i local (record { neighbour = n; next = 0; sent = [] })).sent
+
+-- the next Requests of neighbours
+abbrev pub all_next_parcels : Iface → Local → List NeighbourValue → List Parcel
+all_next_parcels i local ns = flat_map (next_parcels i local) ns

@@ -1,0 +1,73 @@
+//! What goes out on a link.
+
+ghost use Rattle.std.specs.Prelude.{◌≡◌, ◌∷◌, [], OnOk};
+ghost use Rattle.ospf_base.specs.Constants.{router_options};
+ghost use Rattle.ospf_area.specs.Packets.{dd_parcel, lsa_parcel, request_parcel};
+ghost use Rattle.ospf_area.specs.Posting.{and_parcels};
+ghost use Rattle.ospf_packet.specs.Meaning as meaning;
+ghost use Rattle.ospf_packet.specs.Said.{body_meant};
+
+use crate::asking::request_body;
+use crate::post::{OnLink, Post};
+use crate::sending::to_address;
+use ospf_base::{Addr, OPTIONS};
+use ospf_lsa::{Lsa, LsaHeader};
+use ospf_neighbour::{Exchanging, Neighbour};
+use ospf_packet::{BodyValue, Description};
+use std::alloc::AllocError;
+
+/// A Database Description with these headers, of an exchange that stands so (RFC 2328, section 10.8).
+pub fn description_body(mtu: u16, exchanging: Exchanging, headers: Vec<LsaHeader>) -> BodyValue
+    ensures { body_meant result ≡ meaning.description
+        (record {
+          mtu = mtu;
+          options = router_options;
+          flags = exchanging.flags;
+          number = exchanging.number;
+        })
+        headers.items }
+{
+    let fields = Description {
+        mtu,
+        options: OPTIONS,
+        flags: exchanging.flags,
+        number: exchanging.number,
+    };
+    BodyValue::Description(fields, headers)
+}
+
+/// The last Database Description of a neighbour goes out to it (RFC 2328, section 10.8).
+///
+/// `AllocError` where memory runs out.
+pub fn send_dd(neighbour: &Neighbour, at: &OnLink, post: &mut Post) -> Result<(), AllocError>
+    ensures next { post.new.next ≡ post.old.next }
+    ensures sent { OnOk result
+        (post.new
+        ≡ and_parcels post.old (dd_parcel at.now.iface at.now.local.mtu neighbour.now ∷ [])) }
+{
+    let headers = Vec::from_slice(post.alloc(), neighbour.last_dd())?;
+    let body = description_body(at.local.mtu, neighbour.exchanging(), headers);
+    post.put(to_address(&at.iface, neighbour.address()), body)
+}
+
+/// The last Request of a neighbour goes out to it (RFC 2328, section 10.9).
+///
+/// `AllocError` where memory runs out.
+pub fn send_request(neighbour: &Neighbour, at: &OnLink, post: &mut Post) -> Result<(), AllocError>
+    ensures { OnOk result (post.new ≡ and_parcels post.old
+        (request_parcel at.now.iface neighbour.now ∷ [])) }
+{
+    let body = request_body(neighbour, post.alloc())?;
+    post.put(to_address(&at.iface, neighbour.address()), body)
+}
+
+/// An LSA goes out in an Update of its own.
+///
+/// `AllocError` where memory runs out.
+pub fn send_lsa(lsa: Lsa, destination: Addr, post: &mut Post) -> Result<(), AllocError>
+    ensures { OnOk result (post.new ≡ and_parcels post.old (lsa_parcel destination lsa ∷ [])) }
+{
+    let mut lsas = Vec::new(post.alloc());
+    lsas.push(lsa)?;
+    post.put(destination, BodyValue::Update(lsas))
+}
