@@ -3,7 +3,7 @@
 ghost use Rattle.std.specs.Prelude.{◌≡◌, ◌≢◌, ◌<◌, ◌↔◌, IfErr, IfOk, IfSome, OnErr, OnOk, length, slice_get};
 ghost use Rattle.ospf_flood.specs.Rules.{max_sequence_number};
 ghost use Rattle.ospf_router.specs.declared.fault.StartFault.TheVariants as fault;
-ghost use Rattle.ospf_slots.specs.Running.{Begins, Fed, Goes, Settles, delivery};
+ghost use Rattle.ospf_slots.specs.Running.{Begins, Fed, Settles, delivery};
 ghost use Rattle.ospf_router.specs.Steps.{happening};
 
 use crate::logs::Logs;
@@ -67,7 +67,7 @@ impl RunningRouter {
     ///
     /// `Stopped` where memory runs out: then no log has grown.
     pub(crate) fn feed(
-        self,
+        mut self,
         event: Event<'_>,
         logs: &mut Logs,
         router: RouterId,
@@ -77,15 +77,15 @@ impl RunningRouter {
             logs.new) }
         ensures none { OnErr result (logs.new ≡ logs.old) }
     {
-        let (running, outputs) = self.step(event, alloc)?;
-        running.settle(outputs, logs, router)
+        let Step { out, .. } = self.router.step(event, alloc)?;
+        self.settle(out, logs, router)
     }
 
     /// A datagram that was sent comes in on a link of the router.
     ///
     /// `Stopped` where memory runs out: then no log has grown.
     pub(crate) fn deliver(
-        self,
+        mut self,
         place: usize,
         link: usize,
         logs: &mut Logs,
@@ -98,16 +98,8 @@ impl RunningRouter {
         ensures none { OnErr result (logs.new ≡ logs.old) }
     {
         let event = arrival(&logs.datagrams()[place], link);
-        let (running, outputs) = self.step(event, alloc)?;
-        running.settle(outputs, logs, router)
-    }
-
-    // A step of the router, and what it puts out.
-    fn step(mut self, event: Event<'_>, alloc: Global) -> Result<(RunningRouter, Outputs), Stopped>
-        ensures { IfOk result (λ p. Goes (happening event.entry) self p.1 p.0) }
-    {
-        let Step { out, .. } = self.router.step(event, alloc)?;
-        Ok((self, out))
+        let Step { out: outputs, .. } = self.router.step(event, alloc)?;
+        self.settle(outputs, logs, router)
     }
 
     // The logs grow by what a step of the router put out, and its runs go on.
