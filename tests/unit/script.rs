@@ -100,8 +100,21 @@ fn events(rt: HostRuntime) -> Result<(), Fail> {
         &rt,
         alloc,
         "round 20",
-        &Command::Round { count: 20 },
+        &Command::Round {
+            count: 20,
+            most: None,
+        },
         "round 20",
+    )?;
+    spells(
+        &rt,
+        alloc,
+        "round  020 18446744073709551615 ",
+        &Command::Round {
+            count: 20,
+            most: Some(u64::MAX),
+        },
+        "round 20 18446744073709551615",
     )?;
     let random = Command::Random {
         number: 7,
@@ -166,7 +179,7 @@ fn printing(rt: HostRuntime) -> Result<(), Fail> {
 }
 
 // Each is refused for one reason.
-const UNREADABLE: [&[u8]; 26] = [
+const UNREADABLE: [&[u8]; 32] = [
     b"nonsense",
     b"TICK 1.1.1.1",
     b"tick",
@@ -190,6 +203,12 @@ const UNREADABLE: [&[u8]; 26] = [
     b"start 1.1.1.1 1 8000000g",
     b"start 1.1.1.1 1 +0000000",
     b"start 1.1.1.1 1 80000000 1",
+    b"round",
+    b"round x",
+    b"round 1 x",
+    b"round 1 +2",
+    b"round 1 18446744073709551616",
+    b"round 1 2 3",
     b"walk 1.1.1.1",
     b"walk 1.1.1.1 10.9.9",
     b"walk 1.1.1.1 10.9.9.9 0 4294967296",

@@ -4,7 +4,7 @@ use super::given::{CONFIG, FIRST, SECOND};
 use super::worlds::{start, two_on_a_link, two_that_run};
 use ospf_base::RouterId;
 use ospf_config::Config;
-use ospf_world::{World, WorldEvent, WorldFault};
+use ospf_world::{MOST_OFFERS, World, WorldEvent, WorldFault};
 use std::alloc::Global;
 use std::test::Fail;
 
@@ -133,6 +133,36 @@ fn two_routers_agree(rt: HostRuntime) -> Result<(), Fail> {
     assert_eq!(rt; world.issued().len(), 4);
     assert!(rt; world.held().len() >= 4);
     assert_eq!(rt; world.ticks().len(), 40);
+    Ok(())
+}
+
+// How many of the two have a neighbour.
+fn met(world: &World) -> Result<usize, Fail> {
+    let mut count = 0;
+    for router in [FIRST, SECOND] {
+        if !world.router(router)?.neighbours(0).is_empty() {
+            count += 1;
+        }
+    }
+    Ok(count)
+}
+
+// The first two datagrams are a Hello of each.
+#[test]
+fn a_round_offers_as_many_as_it_may(rt: HostRuntime) -> Result<(), Fail> {
+    let alloc = rt.alloc();
+    for (most, expected) in [(0, 0), (1, 1), (2, 2), (MOST_OFFERS, 2), (u64::MAX, 2)] {
+        let mut world = two_that_run(alloc)?;
+        world.round_of(most, alloc)?;
+        assert_eq!(rt; met(&world)?, expected, "{most}");
+    }
+    let mut world = two_that_run(alloc)?;
+    for _ in 0..20u32 {
+        world.round_of(0, alloc)?;
+    }
+    assert_eq!(rt; met(&world)?, 0);
+    world.round(alloc)?;
+    assert_eq!(rt; met(&world)?, 2);
     Ok(())
 }
 

@@ -1,12 +1,12 @@
 -- Words spell one value, and one command.
-use Rattle.std.proofs.Common.{◌≡◌, inl, inr, ℕ, ℤ, List, [], ◌∷◌, refl, sym, ap, ◌∙◌}
+use Rattle.std.proofs.Common.{◌≡◌, inl, inr, ℕ, ℤ, Option, None, Some, List, [], ◌∷◌, refl, sym, ap, ◌∙◌}
 use Rattle.std.specs.Int.{w32, cast_signed, from_be_bytes, to_be_bytes}
 use Rattle.std.specs.declared.net.ipv4_addr.Ipv4Addr.{Ipv4Addr}
 use Rattle.std.proofs.NetLemmas.Theorems.{IsIpv4Text_unique}
 use Rattle.std.proofs.lemmas.Nat.{from_be_bytes-to_be_bytes_4}
 use Rattle.ospf_base.specs.declared.ids.Addr.{Addr}
 use Rattle.ospf_base.specs.declared.ids.RouterId.{RouterId}
-use Rattle.ospf_script.specs.Commands.{AreChoices, AreNumbers, BeginsWalk, IsCountAlone, IsDelivery, IsRouterAlone, IsRouterAndLink, IsStart, IsWalk, Takes, name_of, no_floor}
+use Rattle.ospf_script.specs.Commands.{AreChoices, AreNumbers, AreRounds, BeginsWalk, IsCountAlone, IsDelivery, IsRouterAlone, IsRouterAndLink, IsStart, IsWalk, Takes, name_of, no_floor}
 use Rattle.ospf_script.specs.Laws.{IsOneCommand, WordsSpellOneCommand}
 use Rattle.ospf_script.specs.Values.{IsAddress, IsDecimal, IsDotted32, IsFloor, IsRouter}
 use Rattle.ospf_script.specs.Words.{Text}
@@ -72,6 +72,16 @@ numbers_one : (ws : List Text) (m n i j : ℕ) → AreNumbers ws m i → AreNumb
 numbers_one (a ∷ b ∷ []) m n i j h k = (decimal_one 64 a m n h.0 k.0, decimal_one 64 b i j h.1 k.1)
 numbers_one ws m n i j h k = absurd h
 
+rounds_one : (ws : List Text) (m n : ℕ) (i j : Option ℕ) → AreRounds ws m i → AreRounds ws n j → (m ≡ n) × (i ≡ j)
+rounds_one ws m n None None h k = (count_one ws m n h k, refl)
+rounds_one ws m n (Some i) (Some j) h k =
+    let all = numbers_one ws m n i j h k in
+    (all.0, ap (λ most. Some most) all.1)
+rounds_one (a ∷ []) m n None (Some j) h k = absurd k
+rounds_one ws m n None (Some j) h k = absurd h
+rounds_one (a ∷ []) m n (Some i) None h k = absurd h
+rounds_one ws m n (Some i) None h k = absurd k
+
 delivery_one : (ws : List Text) (m n : ℕ) (r s : RouterId) (i j : ℕ) → IsDelivery ws m r i → IsDelivery ws n s j → (m ≡ n) × (r ≡ s) × (i ≡ j)
 delivery_one (a ∷ b ∷ c ∷ []) m n r s i j h k = (decimal_one 64 a m n h.0 k.0, router_one b r s h.1 k.1, decimal_one 64 c i j h.2 k.2)
 delivery_one ws m n r s i j h k = absurd h
@@ -121,7 +131,9 @@ takes_one ws (command.LinkDown r m) (command.LinkDown s n) e h k =
 takes_one ws (command.Deliver m r i) (command.Deliver n s j) e h k =
     let all = delivery_one ws m n r s i j h k in
     let one = all.0 in let two = all.1 in let three = all.2 in cc
-takes_one ws (command.Round m) (command.Round n) e h k = ap command.Round (count_one ws m n h k)
+takes_one ws (command.Round m i) (command.Round n j) e h k =
+    let all = rounds_one ws m n i j h k in
+    let one = all.0 in let two = all.1 in cc
 takes_one ws (command.Random m i) (command.Random n j) e h k =
     let all = numbers_one ws m n i j h k in
     let one = all.0 in let two = all.1 in cc

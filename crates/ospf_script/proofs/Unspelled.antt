@@ -1,8 +1,8 @@
 -- Where words are not what a command takes, they spell no command of that name.
-use Rattle.std.proofs.Common.{◌≡◌, ◌==◌, if◌then◌else◌, ℕ, ℤ, ◌+◌, ◌*◌, List, [], ◌∷◌, length, get_or, refl, subst, sym, ap, ◌∙◌}
+use Rattle.std.proofs.Common.{◌≡◌, ◌==◌, if◌then◌else◌, ℕ, ℤ, Option, ◌+◌, ◌*◌, List, [], ◌∷◌, length, get_or, refl, subst, sym, ap, ◌∙◌}
 use Rattle.ospf_base.specs.declared.ids.Addr.{Addr}
 use Rattle.ospf_base.specs.declared.ids.RouterId.{RouterId}
-use Rattle.ospf_script.specs.Commands.{AreNumbers, IsCountAlone, IsDelivery, IsRouterAlone, IsRouterAndLink, IsStart, IsUnreadable, IsWalk, Spells, Takes, name_of}
+use Rattle.ospf_script.specs.Commands.{AreNumbers, AreRounds, IsDelivery, IsRouterAlone, IsRouterAndLink, IsStart, IsUnreadable, IsWalk, Spells, Takes, name_of}
 use Rattle.ospf_script.specs.Names.{IsOfRouter, name_text}
 use Rattle.ospf_script.specs.Words.{IsBlank, Text, words}
 use Rattle.ospf_script.proofs.Parts.{words-blank}
@@ -40,8 +40,8 @@ pub no_delivery : (ws : List Text) → ((datagram : ℕ) (router : RouterId) (li
 no_delivery ws h (command.Deliver datagram router link) e t = h datagram router link t
 no_delivery ws h c e t = cc
 
-pub no_round : (ws : List Text) → ((count : ℕ) → IsCountAlone ws count → ⊥) → IsNone names.Round ws
-no_round ws h (command.Round count) e t = h count t
+pub no_round : (ws : List Text) → ((count : ℕ) (most : Option ℕ) → AreRounds ws count most → ⊥) → IsNone names.Round ws
+no_round ws h (command.Round count most) e t = h count most t
 no_round ws h c e t = cc
 
 pub no_random : (ws : List Text) → ((number count : ℕ) → AreNumbers ws number count → ⊥) → IsNone names.Random ws

@@ -1,5 +1,5 @@
 -- Which words spell which command.
-use Rattle.std.specs.Prelude.{◌≡◌, ◌⊎◌, ⊤, ℕ, ℤ, List, [], ◌∷◌, ◌<◌, length}
+use Rattle.std.specs.Prelude.{◌≡◌, ◌⊎◌, ⊤, ℕ, ℤ, List, [], ◌∷◌, ◌<◌, length, Option, None, Some}
 use Rattle.std.specs.Int.{w32, cast_signed}
 use Rattle.ospf_base.specs.declared.ids.Addr.{Addr}
 use Rattle.ospf_base.specs.declared.ids.RouterId.{RouterId}
@@ -41,6 +41,11 @@ IsRouterAndLink ws router link = IsTwo (λ a b. IsRouter a router × IsDecimal 6
 
 abbrev pub AreNumbers : List Text → ℕ → ℕ → Type 0
 AreNumbers ws number count = IsTwo (λ a b. IsDecimal 64 a number × IsDecimal 64 b count) ws
+
+-- a count of rounds, and how many datagrams each offers at most, where that is given
+abbrev pub AreRounds : List Text → ℕ → Option ℕ → Type 0
+AreRounds ws count None = IsCountAlone ws count
+AreRounds ws count (Some most) = AreNumbers ws count most
 
 abbrev pub IsDelivery : List Text → ℕ → RouterId → ℕ → Type 0
 IsDelivery ws datagram router link = IsThree (λ a b c. IsDecimal 64 a datagram × IsRouter b router × IsDecimal 64 c link) ws
@@ -90,7 +95,7 @@ name_of (command.Tick router) = name.Tick
 name_of (command.LinkUp router link) = name.Up
 name_of (command.LinkDown router link) = name.Down
 name_of (command.Deliver datagram router link) = name.Deliver
-name_of (command.Round count) = name.Round
+name_of (command.Round count most) = name.Round
 name_of (command.Random number count) = name.Random
 name_of (command.Neighbours router) = name.Neighbours
 name_of (command.Listing router) = name.Listing
@@ -106,7 +111,7 @@ Takes (command.Tick router) ws = IsRouterAlone ws router
 Takes (command.LinkUp router link) ws = IsRouterAndLink ws router link
 Takes (command.LinkDown router link) ws = IsRouterAndLink ws router link
 Takes (command.Deliver datagram router link) ws = IsDelivery ws datagram router link
-Takes (command.Round count) ws = IsCountAlone ws count
+Takes (command.Round count most) ws = AreRounds ws count most
 Takes (command.Random number count) ws = AreNumbers ws number count
 Takes (command.Neighbours router) ws = IsRouterAlone ws router
 Takes (command.Listing router) ws = IsRouterAlone ws router

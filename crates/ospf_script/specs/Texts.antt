@@ -1,5 +1,5 @@
 -- Commands as they are printed.
-use Rattle.std.specs.Prelude.{ℕ, ℤ, ◌-◌, List, ◌++◌, codes, decimal, false, flat_map, length, replicate}
+use Rattle.std.specs.Prelude.{ℕ, ℤ, ◌-◌, List, [], ◌++◌, Option, None, Some, codes, decimal, false, flat_map, length, replicate}
 use Rattle.std.specs.Fmt.{digits}
 use Rattle.std.specs.Int.{w32, cast_unsigned}
 use Rattle.ospf_base.specs.Text.{number_text}
@@ -19,6 +19,11 @@ floor_text floor = hexadecimal 8 (cast_unsigned w32 floor)
 abbrev pub choices_text : List ℕ → Text
 choices_text choices = flat_map (λ choice. codes " " ++ decimal choice) choices
 
+-- how many datagrams at most, where that is given, behind a space
+abbrev pub most_text : Option ℕ → Text
+most_text None = []
+most_text (Some most) = codes " " ++ decimal most
+
 abbrev pub command_text : Command → Text
 command_text (command.Start router dd_start floor) =
     codes "start " ++ number_text router.0 ++ codes " " ++ decimal dd_start ++ codes " " ++ floor_text floor
@@ -28,7 +33,7 @@ command_text (command.LinkUp router link) = codes "up " ++ number_text router.0 
 command_text (command.LinkDown router link) = codes "down " ++ number_text router.0 ++ codes " " ++ decimal link
 command_text (command.Deliver datagram router link) =
     codes "deliver " ++ decimal datagram ++ codes " " ++ number_text router.0 ++ codes " " ++ decimal link
-command_text (command.Round count) = codes "round " ++ decimal count
+command_text (command.Round count most) = codes "round " ++ decimal count ++ most_text most
 command_text (command.Random number count) = codes "random " ++ decimal number ++ codes " " ++ decimal count
 command_text (command.Neighbours router) = codes "neighbours " ++ number_text router.0
 command_text (command.Listing router) = codes "listing " ++ number_text router.0

@@ -36,9 +36,10 @@ pub enum Command {
         router: RouterId,
         link: usize,
     },
-    /// `round COUNT`: so many rounds.
+    /// `round COUNT [MOST]`: so many rounds, and how many datagrams each offers at most where that is given.
     Round {
         count: u64,
+        most: Option<u64>,
     },
     /// `random NUMBER COUNT`: so many events, drawn by the number.
     Random {

@@ -10,7 +10,7 @@ ghost use Rattle.ospf_script.specs.declared.name.Name.TheVariants as names;
 use crate::command::Command;
 use crate::fault::LineFault;
 use crate::name::Name;
-use crate::shapes::{count_in, delivery_in, numbers_in, router_and_link_in, router_in, start_in};
+use crate::shapes::{delivery_in, numbers_in, rounds_in, router_and_link_in, router_in, start_in};
 use crate::walk::walk_in;
 use crate::words::first_word;
 use std::alloc::Global;
@@ -105,8 +105,8 @@ fn of_name(name: Name, text: &[u8]) -> Option<Command>
             })
         }
         Name::Round => {
-            let count = count_in(text)?;
-            Some(Command::Round { count })
+            let (count, most) = rounds_in(text)?;
+            Some(Command::Round { count, most })
         }
         Name::Random => {
             let (number, count) = numbers_in(text)?;

@@ -1,8 +1,8 @@
 //! The words behind the names of commands.
 
-ghost use Rattle.std.specs.Prelude.{◌≡◌, ℕ, ℤ, IfSome, IfNone};
+ghost use Rattle.std.specs.Prelude.{◌≡◌, ℕ, ℤ, IfSome, IfNone, Option};
 ghost use Rattle.ospf_base.specs.declared.ids.RouterId.{RouterId};
-ghost use Rattle.ospf_script.specs.Commands.{AreNumbers, IsCountAlone, IsDelivery, IsRouterAlone, IsRouterAndLink, IsStart};
+ghost use Rattle.ospf_script.specs.Commands.{AreNumbers, AreRounds, IsCountAlone, IsDelivery, IsRouterAlone, IsRouterAndLink, IsStart};
 ghost use Rattle.ospf_script.specs.Words.{words};
 
 use crate::values::{floor_of, number_of, router_of, short_number_of};
@@ -21,11 +21,24 @@ pub(crate) fn router_in(text: &[u8]) -> Option<RouterId>
 }
 
 // A count alone.
-pub(crate) fn count_in(text: &[u8]) -> Option<u64>
+fn count_in(text: &[u8]) -> Option<u64>
     ensures some { IfSome result (IsCountAlone (words text.now)) }
     ensures none { IfNone result ((count : ℕ) → IsCountAlone (words text.now) count → ⊥) }
 {
     number_of(one_word(text)?)
+}
+
+// A count, and how many datagrams at most, where that is given.
+pub(crate) fn rounds_in(text: &[u8]) -> Option<(u64, Option<u64>)>
+    ensures some { IfSome result (λ found. AreRounds (words text.now) found.0 found.1) }
+    ensures none { IfNone result ((count : ℕ) (most : Option ℕ) →
+        AreRounds (words text.now) count most → ⊥) }
+{
+    if let Some(count) = count_in(text) {
+        return Some((count, None));
+    }
+    let (count, most) = numbers_in(text)?;
+    Some((count, Some(most)))
 }
 
 // A Router ID and a link.

@@ -32,7 +32,11 @@ impl Display for Command {
                 router,
                 link,
             } => write!(f, "deliver {datagram} {router} {link}"),
-            Command::Round { count } => write!(f, "round {count}"),
+            Command::Round {
+                count,
+                most: Some(most),
+            } => write!(f, "round {count} {most}"),
+            Command::Round { count, most: None } => write!(f, "round {count}"),
             Command::Random { number, count } => write!(f, "random {number} {count}"),
             Command::Neighbours { router } => write!(f, "neighbours {router}"),
             Command::Listing { router } => write!(f, "listing {router}"),

@@ -11,7 +11,7 @@ use Rattle.ospf_script.specs.declared.command.Command.{Command}
 use Rattle.ospf_script.specs.declared.command.Command.TheVariants as command
 use Rattle.ospf_sim.specs.Worlds.{WorldValue, EventDoes, IsRandom}
 use Rattle.ospf_sim.specs.Begun.{IsDoneBegun, IsShownBegun, IsWalkBegun}
-use Rattle.ospf_sim.specs.Commands.{Answer, AreRounds, DoesBy, DoesShown, IsDone, IsShownOn, IsWalked, IsWalkedOn, event_in, shown_in}
+use Rattle.ospf_sim.specs.Commands.{Answer, AreRounds, DoesBy, DoesShown, IsDone, IsShownOn, IsWalked, IsWalkedOn, event_in, most_of, shown_in}
 use Rattle.ospf_sim.specs.declared.show.View.{View}
 
 pub event_done : (c : Command) (e : WorldEvent) (w w' : WorldValue) (answer : Answer) (o : Option (List ℕ)) → event_in c ≡ Some e → EventDoes e w answer w'
@@ -31,10 +31,10 @@ shown_done c shown w (Ok answer) a b no_event is h = record {
   written = h.written;
 }
 
-pub rounds_done : (c : Command) (count : ℕ) (w w' : WorldValue) (answer : Answer) (o : Option (List ℕ)) → c ≡ command.Round count → AreRounds count w answer w'
+pub rounds_done : (c : Command) (count n : ℕ) (most : Option ℕ) (w w' : WorldValue) (answer : Answer) (o : Option (List ℕ)) → c ≡ command.Round count most → n ≡ most_of most → AreRounds n count w answer w'
     → IsDone c w answer w' o o
-rounds_done c count w w' answer o is rounds =
-    subst (λ d. IsDone d w answer w' o o) (sym is) (record { text = []; does = (rounds, refl); written = nothing_written o })
+rounds_done c count n most w w' answer o is most_is rounds =
+    subst (λ d. IsDone d w answer w' o o) (sym is) (record { text = []; does = (subst (λ m. AreRounds m count w answer w') most_is rounds, refl); written = nothing_written o })
 
 pub random_done : (c : Command) (number count : ℕ) (w w' : WorldValue) (answer : Answer) (o : Option (List ℕ)) → c ≡ command.Random number count
     → IsRandom number count w answer w' → IsDone c w answer w' o o

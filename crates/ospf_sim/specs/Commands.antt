@@ -9,7 +9,7 @@ use Rattle.ospf_router.specs.Routers.{RouterValue}
 use Rattle.ospf_script.specs.Words.{Text}
 use Rattle.ospf_script.specs.declared.command.Command.{Command}
 use Rattle.ospf_script.specs.declared.command.Command.TheVariants as command
-use Rattle.ospf_sim.specs.Worlds.{WorldValue, EventDoes, IsRound, IsRandom, IsWalkFrom, LendsRouter, IsNotLent}
+use Rattle.ospf_sim.specs.Worlds.{WorldValue, EventDoes, IsRoundOf, IsRandom, most_offers, IsWalkFrom, LendsRouter, IsNotLent}
 use Rattle.ospf_world.specs.declared.walk.Walk.{Walk}
 use Rattle.ospf_sim.specs.Shown.{view_lines, walk_line}
 use Rattle.ospf_sim.specs.declared.show.View.{View}
@@ -19,12 +19,17 @@ use Rattle.ospf_sim.specs.declared.show.View.TheVariants as view
 abbrev pub Answer : Type 0
 Answer = Result (Unit {0}) WorldFault
 
--- so many rounds, one after another, up to the first that is refused
-pub data AreRounds : ℕ → WorldValue → Answer → WorldValue → Type 0 where
-  no_round : {w : WorldValue} → AreRounds 0 w (Ok tt) w
-  one_round : {count : ℕ} {w mid w' : WorldValue} {answer : Answer} → IsRound w (Ok tt) mid → AreRounds count mid answer w'
-      → AreRounds (suc count) w answer w'
-  refused_round : {count : ℕ} {w w' : WorldValue} {fault : WorldFault} → IsRound w (Err fault) w' → AreRounds (suc count) w (Err fault) w'
+-- so many rounds of so many datagrams at most, one after another, up to the first that is refused
+pub data AreRounds (most : ℕ) : ℕ → WorldValue → Answer → WorldValue → Type 0 where
+  no_round : {w : WorldValue} → AreRounds most 0 w (Ok tt) w
+  one_round : {count : ℕ} {w mid w' : WorldValue} {answer : Answer} → IsRoundOf most w (Ok tt) mid → AreRounds most count mid answer w'
+      → AreRounds most (suc count) w answer w'
+  refused_round : {count : ℕ} {w w' : WorldValue} {fault : WorldFault} → IsRoundOf most w (Err fault) w' → AreRounds most (suc count) w (Err fault) w'
+
+-- how many datagrams a round offers at most: as many as the line says, or as a round does where it says nothing
+abbrev pub most_of : Option ℕ → ℕ
+most_of None = most_offers
+most_of (Some most) = most
 
 -- what is printed of a router that runs; of another one nothing, and it is said why
 pub data IsShown (view : View) (w : WorldValue) (r : RouterId) (answer : Answer) (text : Text) : Type 0 where
@@ -58,7 +63,7 @@ shown_in _ = None
 
 -- what the other commands do
 abbrev pub DoesOther : Command → WorldValue → Answer → Text → WorldValue → Type 0
-DoesOther (command.Round count) w answer text w' = AreRounds count w answer w' × (text ≡ [])
+DoesOther (command.Round count most) w answer text w' = AreRounds (most_of most) count w answer w' × (text ≡ [])
 DoesOther (command.Random number count) w answer text w' = IsRandom number count w answer w' × (text ≡ [])
 DoesOther (command.Walk from address choices) w answer text w' = IsWalked w from address.0 choices.items answer text × (w' ≡ w)
 DoesOther _ w answer text w' = ⊥

@@ -13,7 +13,7 @@ use Rattle.ospf_world.specs.Worlds.{IsLent, ShareRouter, new_world, world_of}
 use Rattle.ospf_world.specs.declared.walk.Walk.{Walk}
 use Rattle.rand_pcg.specs.Lcg.{increment_of, started}
 use Rattle.rand_pcg.specs.Pcg.{multiplier_64}
-pub use Rattle.ospf_world.specs.Rounds.{IsRound}
+pub use Rattle.ospf_world.specs.Rounds.{IsRoundOf, most_offers}
 pub use Rattle.ospf_world.specs.Worlds.{WorldValue}
 
 -- what an event does: what it names happens to the router that it names, exactly

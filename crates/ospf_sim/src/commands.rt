@@ -3,7 +3,7 @@
 ghost use Rattle.std.specs.Prelude.{◌≡◌, IfErr, IfOk, None, OnErr};
 ghost use Rattle.ospf_files.specs.Streams.{IsOutputCut};
 ghost use Rattle.ospf_sim.specs.Begun.{IsDoneBegun, IsShownBegun, IsWalkBegun};
-ghost use Rattle.ospf_sim.specs.Commands.{AreRounds, event_in, IsDone, IsShownOn, IsWalkedOn, shown_in};
+ghost use Rattle.ospf_sim.specs.Commands.{AreRounds, event_in, IsDone, IsShownOn, IsWalkedOn, most_of, shown_in};
 ghost use Rattle.ospf_sim.specs.Worlds.{IsRandom};
 
 use crate::show::{View, write_view, write_walk};
@@ -11,7 +11,7 @@ use crate::watch::Watch;
 use ospf_base::{Addr, RouterId};
 use ospf_files::{FailedStreams, Failure};
 use ospf_script::Command;
-use ospf_world::{World, WorldEvent, WorldFault};
+use ospf_world::{MOST_OFFERS, World, WorldEvent, WorldFault};
 use rand_pcg::Lcg64Xsh32;
 use std::alloc::Global;
 use std::io::Write;
@@ -158,7 +158,10 @@ fn run_other<O: Write, V: Watch>(
     ensures cut { IfErr result (IsOutputCut streams.new) }
 {
     match command {
-        Command::Round { count } => Ok(run_watched(world, *count, alloc, watch)),
+        Command::Round { count, most } => {
+            let most = most_of(most);
+            Ok(run_watched(world, *count, most, alloc, watch))
+        }
         Command::Random { number, count } => Ok(draw_watched(world, *number, *count, alloc, watch)),
         Command::Walk {
             from,
@@ -169,16 +172,25 @@ fn run_other<O: Write, V: Watch>(
     }
 }
 
+// How many datagrams a round offers at most.
+#[tactic(auto, unfolding(ospf_world::specs::Rounds::most_offers))]
+fn most_of(most: &Option<u64>) -> u64
+    ensures { result ≡ most_of most.now }
+{
+    most.unwrap_or(MOST_OFFERS)
+}
+
 // So many rounds, and their end is told.
 fn run_watched<V: Watch>(
     world: &mut World,
     count: u64,
+    most: u64,
     alloc: Global,
     watch: &mut V,
 ) -> Result<(), WorldFault>
-    ensures { AreRounds count world.old result world.new }
+    ensures { AreRounds most count world.old result world.new }
 {
-    let answer = run_rounds(world, count, alloc, watch);
+    let answer = run_rounds(world, count, most, alloc, watch);
     watch.ends_line();
     answer
 }
@@ -187,14 +199,15 @@ fn run_watched<V: Watch>(
 fn run_rounds<V: Watch>(
     world: &mut World,
     count: u64,
+    most: u64,
     alloc: Global,
     watch: &mut V,
 ) -> Result<(), WorldFault>
-    ensures { AreRounds count world.old result world.new }
+    ensures { AreRounds most count world.old result world.new }
 {
     for done in 0..count {
         watch.begins_round(done, count);
-        match world.round(alloc) {
+        match world.round_of(most, alloc) {
             Ok(()) => {}
             Err(fault) => return Err(fault),
         }

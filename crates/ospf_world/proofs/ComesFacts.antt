@@ -114,21 +114,21 @@ comes event w w' k s s' result at get slots steps = by steps
     by (SlotSteps.Taken none (SlotTakes.Stops r is ok after same)) = Comes.Stops (refused ∙ none) ok r is (subst (λ r. Becomes (world_of w) (world_of w') r None) (ap router_in is) (now None after)) (same_logs w w' same)
     by (SlotSteps.Taken none (SlotTakes.Stepped e fed ok g)) = goes e (refused ∙ none) fed ok g
 
--- what an event does at a router that the world has, and where the routers stand then
+-- what an event does at a router that the world has, and where the routers stand then and how they are configured
 pub steps_in : (event : WorldEvent) (w w' : WorldValue) (k : ℕ) (result : Result (Unit {0}) WorldFault) → place_of w.slots (router_in event).0 ≡ Some k → w'.offered ≡ w.offered → w'.ticks ≡ w.ticks ++ ticked_by event result (length w.logs.datagrams) →
     ((before : SlotValue) → slice_get w.slots k ≡ Some before → (after : SlotValue) × (w'.slots ≡ slice_set w.slots k after) × SlotSteps event before w.logs result after w'.logs) →
-    Does event w result w' × ((r : ℕ) → place_of w'.slots r ≡ place_of w.slots r)
+    Does event w result w' × ((r : ℕ) → place_of w'.slots r ≡ place_of w.slots r) × (map config_of w'.slots ≡ map config_of w.slots)
 steps_in event w w' k result placed_at offered ticks steps = by (slice_get_cases w.slots k).1
   where
     within : k < length w.slots
     within = at_within w.slots (router_in event).0 k (placed w.slots (router_in event).0 k placed_at)
 
-    with_slot : (s : SlotValue) → slice_get w.slots k ≡ Some s → ((s' : SlotValue) × (w'.slots ≡ slice_set w.slots k s') × SlotSteps event s w.logs result s' w'.logs) → Does event w result w' × ((r : ℕ) → place_of w'.slots r ≡ place_of w.slots r)
+    with_slot : (s : SlotValue) → slice_get w.slots k ≡ Some s → ((s' : SlotValue) × (w'.slots ≡ slice_set w.slots k s') × SlotSteps event s w.logs result s' w'.logs) → Does event w result w' × ((r : ℕ) → place_of w'.slots r ≡ place_of w.slots r) × (map config_of w'.slots ≡ map config_of w.slots)
     with_slot s get (s', slots, step) =
         let kept = config_kept event s s' w.logs w'.logs result step in
-        (Does.AtRouter s s' (record { place = k; stands = placed_at; was = get; is = slots }) step ticks offered, λ r. ap (λ slots. place_of slots r) slots ∙ place_set w.slots k s s' get kept r 0)
+        (Does.AtRouter s s' (record { place = k; stands = placed_at; was = get; is = slots }) step ticks offered, (λ r. ap (λ slots. place_of slots r) slots ∙ place_set w.slots k s s' get kept r 0), ap (map config_of) slots ∙ configs_set w.slots k s s' get kept)
 
-    by : ((s : SlotValue) × (k < length w.slots) × (slice_get w.slots k ≡ Some s) × (get_or w.slots k s ≡ s)) ⊎ ((length w.slots ≤ k) × (slice_get w.slots k ≡ None)) → Does event w result w' × ((r : ℕ) → place_of w'.slots r ≡ place_of w.slots r)
+    by : ((s : SlotValue) × (k < length w.slots) × (slice_get w.slots k ≡ Some s) × (get_or w.slots k s ≡ s)) ⊎ ((length w.slots ≤ k) × (slice_get w.slots k ≡ None)) → Does event w result w' × ((r : ℕ) → place_of w'.slots r ≡ place_of w.slots r) × (map config_of w'.slots ≡ map config_of w.slots)
     by (inl (s, lt, get, _)) = with_slot s get (steps s get)
     by (inr (le, _)) = let lt = within in absurd (omega (arith, lt, le))
 

@@ -1,4 +1,4 @@
-pub mod OfferLists
+pub mod OfferFacts
 pub mod PlaceFacts
 pub mod TickFacts
 mod WorldFacts

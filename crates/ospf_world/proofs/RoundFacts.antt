@@ -9,7 +9,7 @@ use Rattle.ospf_headline.specs.declared.logs.Datagram.{Datagram}
 use Rattle.ospf_slots.specs.Slots.{SlotValue}
 use Rattle.ospf_router.specs.Steps.{is_dropped}
 use Rattle.ospf_world.specs.Does.{Does}
-use Rattle.ospf_world.specs.Rounds.{AreNextOffers, AreOffered, IsRound, OffersMore, OffersNext, most_offers, offers_of, passed, ticks}
+use Rattle.ospf_world.specs.Rounds.{AreNextOffers, AreOffered, IsRound, IsRoundOf, OffersMore, OffersNext, most_offers, offers_of, passed, ticks}
 use Rattle.ospf_world.specs.Worlds.{WorldValue, world_of}
 use Rattle.ospf_world.proofs.ListFacts.{none_left, one_left}
 use Rattle.ospf_world.proofs.RandomFacts.{LeadsOn, leads_further, leads_nowhere}
@@ -81,20 +81,20 @@ next_ends w v w' events answer f (AreNextOffers.Next g at is) was run said =
 
 -- ---- what comes of a round
 
-most_is : 10000 ≡ most_offers
+pub round_is : (w w' : WorldValue) (result : Result (Unit {0}) WorldFault) → IsRoundOf 10000 w result w' → IsRound w result w'
 unfolding most_offers
-most_is = refl
+round_is w w' result round = round
 
 run_ticks : (w w' : WorldValue) (events : List WorldEvent) (answer told : Result ℕ WorldFault) → events ≡ ticks w.slots → answer ≡ told → IsRun Does events w answer w' → IsRun Does (ticks w.slots) w told w'
 run_ticks w w' events answer told same said run =
     subst (λ (r : Result ℕ WorldFault). IsRun Does (ticks w.slots) w r w') said (subst (λ (es : List WorldEvent). IsRun Does es w answer w') same run)
 
-pub round_goes : (w mid w' : WorldValue) (events : List WorldEvent) (answer : Result ℕ WorldFault) (refused : ℕ) (result : Result (Unit {0}) WorldFault) → events ≡ ticks w.slots → IsRun Does events w answer mid → answer ≡ Ok refused → AreOffered 10000 mid result w' → IsRound w result w'
-round_goes w mid w' events answer refused result are run said rest =
-    IsRound.Goes refused mid (run_ticks w mid events answer (Ok refused) are said run) (subst (λ (n : ℕ). AreOffered n mid result w') most_is rest)
+pub round_goes : (most : ℕ) (w mid w' : WorldValue) (events : List WorldEvent) (answer : Result ℕ WorldFault) (refused : ℕ) (result : Result (Unit {0}) WorldFault) → events ≡ ticks w.slots → IsRun Does events w answer mid → answer ≡ Ok refused → AreOffered most mid result w' → IsRoundOf most w result w'
+round_goes most w mid w' events answer refused result are run said rest =
+    IsRoundOf.Goes refused mid (run_ticks w mid events answer (Ok refused) are said run) rest
 
-pub round_ticks_end : (w w' : WorldValue) (events : List WorldEvent) (answer : Result ℕ WorldFault) (f : WorldFault) → events ≡ ticks w.slots → IsRun Does events w answer w' → answer ≡ Err f → IsRound w (Err f) w'
-round_ticks_end w w' events answer f are run said = IsRound.TicksEnd f (run_ticks w w' events answer (Err f) are said run) refl
+pub round_ticks_end : (most : ℕ) (w w' : WorldValue) (events : List WorldEvent) (answer : Result ℕ WorldFault) (f : WorldFault) → events ≡ ticks w.slots → IsRun Does events w answer w' → answer ≡ Err f → IsRoundOf most w (Err f) w'
+round_ticks_end most w w' events answer f are run said = IsRoundOf.TicksEnd f (run_ticks w w' events answer (Err f) are said run) refl
 
 -- ---- as a list of events
 
@@ -113,8 +113,8 @@ offered_leads (suc most) w w' result (OffersMore.Last part is) = next_leads w w'
 offered_leads (suc most) w w' result (OffersMore.More mid part rest) = leads_further (world_of w) (world_of mid) (world_of w') (next_leads w mid (Ok true) part) (offered_leads most mid w' result rest)
 offered_leads (suc most) w w' result (OffersMore.Ended f part is) = next_leads w w' (Err f) part
 
-pub round_leads : (w w' : WorldValue) (result : Result (Unit {0}) WorldFault) → IsRound w result w' → LeadsOn (world_of w) (world_of w')
-round_leads w w' result (IsRound.NoRoom is same) = leads_nowhere (world_of w) (world_of w') (ap world_of same)
-round_leads w w' result (IsRound.TicksEnd f run is) = run_leads (ticks w.slots) w w' (Err f) run
-round_leads w w' result (IsRound.Goes n mid run rest) =
-    leads_further (world_of w) (world_of mid) (world_of w') (run_leads (ticks w.slots) w mid (Ok n) run) (offered_leads most_offers mid w' result rest)
+pub round_leads : (most : ℕ) (w w' : WorldValue) (result : Result (Unit {0}) WorldFault) → IsRoundOf most w result w' → LeadsOn (world_of w) (world_of w')
+round_leads most w w' result (IsRoundOf.NoRoom is same) = leads_nowhere (world_of w) (world_of w') (ap world_of same)
+round_leads most w w' result (IsRoundOf.TicksEnd f run is) = run_leads (ticks w.slots) w w' (Err f) run
+round_leads most w w' result (IsRoundOf.Goes n mid run rest) =
+    leads_further (world_of w) (world_of mid) (world_of w') (run_leads (ticks w.slots) w mid (Ok n) run) (offered_leads most mid w' result rest)

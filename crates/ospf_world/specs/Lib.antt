@@ -1,3 +1,4 @@
+pub mod Networks
 pub mod Offers
 pub mod Draws
 pub mod Ticks

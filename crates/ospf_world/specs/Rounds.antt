@@ -1,17 +1,18 @@
 -- Rounds: a tick of each router that runs, and then the datagrams that no round has offered.
 use Rattle.std.specs.Prelude.{◌≡◌, ◌==◌, ◌+◌, ◌&&◌, ℕ, zero, suc, Bool, true, false, not, List, [], ◌∷◌, Option, None, Some, Result, Ok, Err, find, is_some, option_and_then, slice_get, if◌then◌else◌}
 use Rattle.std.specs.List.{flat_map}
-use Rattle.ospf_world.specs.Offers.{address_at, offers_to}
+use Rattle.ospf_world.specs.Offers.{address_at, is_offered, offers_to}
 use Rattle.ospf_config.specs.declared.address.InterfaceAddress.{InterfaceAddress}
 use Rattle.ospf_headline.specs.Runs.{IsRun}
 use Rattle.ospf_headline.specs.declared.event.WorldEvent.{WorldEvent}
-use Rattle.ospf_headline.specs.declared.event.WorldEvent.TheVariants.{Tick}
+use Rattle.ospf_headline.specs.declared.event.WorldEvent.TheVariants.{Deliver, Tick}
 use Rattle.ospf_headline.specs.declared.event.WorldFault.{WorldFault}
 use Rattle.ospf_headline.specs.declared.event.WorldFault.TheVariants as fault
 use Rattle.ospf_headline.specs.declared.logs.Datagram.{Datagram}
 use Rattle.ospf_slots.specs.Slots.{SlotValue}
 use Rattle.ospf_world.specs.Does.{Does}
 use Rattle.ospf_world.specs.Worlds.{WorldValue}
+use Rattle.ospf_world.specs.declared.networks.LinkPlace.{LinkPlace}
 
 -- ---- which events
 
@@ -38,6 +39,24 @@ offers_at d from g s = if is_some s.running && not (is_sender g s) then offers_t
 abbrev pub offers_by : ℕ → Datagram → List SlotValue → Option InterfaceAddress → List WorldEvent
 offers_by d g slots None = []
 offers_by d g slots (Some from) = flat_map (offers_at d from g) slots
+
+-- it is offered to an interface of this address of a router: another one sent it, and this one runs
+abbrev pub is_offered_to : InterfaceAddress → Datagram → SlotValue → InterfaceAddress → Bool
+is_offered_to from g s to = is_some s.running && not (is_sender g s) && is_offered from g.sent.destination to
+
+-- what is offered of it to an interface of this address, if there is that, of a router on this link
+abbrev pub offer_to : ℕ → InterfaceAddress → Datagram → SlotValue → ℕ → Option InterfaceAddress → List WorldEvent
+offer_to d from g s link None = []
+offer_to d from g s link (Some to) = if is_offered_to from g s to then Deliver d s.config.router_id link ∷ [] else []
+
+-- on this link of a router, if there is that
+abbrev pub offer_on : ℕ → InterfaceAddress → Datagram → ℕ → Option SlotValue → List WorldEvent
+offer_on d from g link None = []
+offer_on d from g link (Some s) = offer_to d from g s link (address_at s.config link)
+
+-- at a place
+abbrev pub offer_at : ℕ → InterfaceAddress → Datagram → List SlotValue → LinkPlace → List WorldEvent
+offer_at d from g slots at = offer_on d from g at.link (slice_get slots at.place)
 
 -- the offers of datagram d, in the order of the configurations
 abbrev pub offers_of : List SlotValue → ℕ → Datagram → List WorldEvent
@@ -73,13 +92,17 @@ abbrev pub AreOffered : ℕ → WorldValue → Result (Unit {0}) WorldFault → 
 AreOffered zero before result after = (after ≡ before) × (result ≡ Ok tt)
 AreOffered (suc most) before result after = OffersMore (OffersNext before) (AreOffered most) result after
 
--- how many datagrams a round offers at most
+-- a round of so many datagrams at most: the ticks, and then the datagrams that no round has offered, with those that arise on the way. Refusals are passed over, and
+-- memory that runs out ends it, that for the list of ticks before anything is done
+pub data IsRoundOf (most : ℕ) (before : WorldValue) (result : Result (Unit {0}) WorldFault) (after : WorldValue) : Type 0 where
+  NoRoom : result ≡ Err (fault.Memory false) → after ≡ before → IsRoundOf most before result after
+  TicksEnd : (f : WorldFault) → IsRun Does (ticks before.slots) before (Err f) after → result ≡ Err f → IsRoundOf most before result after
+  Goes : (refused : ℕ) (mid : WorldValue) → IsRun Does (ticks before.slots) before (Ok refused) mid → AreOffered most mid result after → IsRoundOf most before result after
+
+-- how many datagrams a round offers at most, where nothing else is asked for
 unfoldable pub most_offers : ℕ
 most_offers = 10000
 
--- a round: the ticks, and then the datagrams that no round has offered, with those that arise on the way. Refusals are passed over, and
--- memory that runs out ends it, that for the list of ticks before anything is done
-pub data IsRound (before : WorldValue) (result : Result (Unit {0}) WorldFault) (after : WorldValue) : Type 0 where
-  NoRoom : result ≡ Err (fault.Memory false) → after ≡ before → IsRound before result after
-  TicksEnd : (f : WorldFault) → IsRun Does (ticks before.slots) before (Err f) after → result ≡ Err f → IsRound before result after
-  Goes : (refused : ℕ) (mid : WorldValue) → IsRun Does (ticks before.slots) before (Ok refused) mid → AreOffered most_offers mid result after → IsRound before result after
+-- a round: one of as many
+abbrev pub IsRound : (before : WorldValue) → Result (Unit {0}) WorldFault → (after : WorldValue) → Type 0
+IsRound before result after = IsRoundOf most_offers before result after

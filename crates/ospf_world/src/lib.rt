@@ -8,6 +8,7 @@
 #![tactic(auto)]
 
 mod chance;
+mod networks;
 mod offers;
 mod parts;
 mod random;
@@ -17,7 +18,7 @@ mod walk;
 mod world;
 
 pub use crate::chance::{Words, chosen, draw, drawn_at};
-pub use crate::offers::{push_offers, sending_address};
+pub use crate::rounds::MOST_OFFERS;
 pub use crate::ticks::Ticked;
 pub use crate::walk::Walk;
 pub use crate::world::World;

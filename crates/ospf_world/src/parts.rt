@@ -1,17 +1,19 @@
 //! Many routers and their logs, before anything is said of what led there.
 
-ghost use Rattle.std.specs.Prelude.{◌≡◌, ◌<◌, ◌+◌, ◌++◌, Some, length, slice_get, slice_set};
-ghost use Rattle.ospf_slots.specs.Slots.{SlotSteps, SlotValue, router_in};
+ghost use Rattle.std.specs.Prelude.{◌≡◌, ◌<◌, ◌+◌, ◌++◌, IfOk, length};
+ghost use Rattle.ospf_slots.specs.Slots.{router_in};
 ghost use Rattle.ospf_world.specs.Does.{Does};
-ghost use Rattle.ospf_world.specs.Ticks.{ticked_by};
+ghost use Rattle.ospf_world.specs.Rounds.{offers_of, sender_in};
 ghost use Rattle.ospf_world.specs.Worlds.{Adds, Lends, LendsSlot, Opens, place_in, world_of};
 
+use crate::networks::{Networks, links_at, network_of, networks_of};
+use crate::offers::{address_of, offers_at};
 use crate::ticks::{Ticked, step_slot};
 use ospf_base::RouterId;
-use ospf_config::Config;
+use ospf_config::{Config, InterfaceAddress};
 use ospf_router::Router;
-use ospf_slots::{Logs, Slot, WorldEvent, WorldFault};
-use std::alloc::Global;
+use ospf_slots::{Datagram, Logs, Slot, WorldEvent, WorldFault};
+use std::alloc::{AllocError, Global};
 use std::collections::BTreeMap;
 use std::marker::Model;
 
@@ -21,6 +23,8 @@ pub(crate) struct Parts {
     pub(crate) slots: Vec<Slot>,
     // Where the router of a Router ID stands among the slots.
     places: BTreeMap<u32, usize>,
+    // Where the interfaces on each network stand.
+    networks: Networks,
     pub(crate) logs: Logs,
     pub(crate) ticks: Vec<Ticked>,
     // How many datagrams the rounds have offered.
@@ -28,13 +32,15 @@ pub(crate) struct Parts {
 }
 
 impl Model for Parts {
-    ghost use Rattle.ospf_world.specs.Worlds.{ArePlaces, WorldValue};
+    ghost use Rattle.std.specs.Prelude.{map};
+    ghost use Rattle.ospf_world.specs.Networks.{AreNetworks};
+    ghost use Rattle.ospf_world.specs.Worlds.{ArePlaces, WorldValue, config_of};
 
     ghost Value = { WorldValue };
 
     ghost view = { λ w. record { slots = w.slots.items; logs = w.logs; ticks = w.ticks.items; offered = w.offered } };
 
-    ghost invariant = { λ w. ArePlaces w.places w.slots.items };
+    ghost invariant = { λ w. ArePlaces w.places w.slots.items × AreNetworks w.networks (map config_of w.slots.items) };
 }
 
 impl Parts {
@@ -49,9 +55,13 @@ impl Parts {
         for config in configs {
             add(&mut slots, &mut places, config)?;
         }
+        let Ok(networks) = networks_of(&slots, alloc) else {
+            return Err(WorldFault::Memory { stopped: false });
+        };
         Ok(Parts {
             slots,
             places,
+            networks,
             logs: Logs::new(alloc),
             ticks: Vec::new(alloc),
             offered: 0,
@@ -73,16 +83,40 @@ impl Parts {
         ensures { Does event.now self.old result self.new }
     {
         match place(&self.places, router_of(event)) {
-            Some(place) => step_at(
-                &mut self.slots,
-                place,
-                event,
-                &mut self.logs,
-                &mut self.ticks,
-                alloc,
-            ),
+            Some(place) => {
+                let slot = &mut self.slots[place];
+                step_slot(slot, event, &mut self.logs, &mut self.ticks, alloc)
+            }
             None => Err(WorldFault::NoRouter),
         }
+    }
+
+    /// The offers of a datagram, which stands at this place of the log: to the interfaces on the network that it went out to.
+    ///
+    /// `AllocError` where memory runs out.
+    pub(crate) fn offers_of(
+        &self,
+        place: usize,
+        sent: &Datagram,
+        alloc: Global,
+    ) -> Result<Vec<WorldEvent>, AllocError>
+        ensures { IfOk result (λ events. events.items ≡ offers_of self.now.slots place sent.now) }
+    {
+        match self.source_of(sent) {
+            Some(from) => {
+                let links = links_at(&self.networks, network_of(&from));
+                offers_at(&self.slots, links, place, &from, sent, alloc)
+            }
+            None => Ok(Vec::new(alloc)),
+        }
+    }
+
+    // The address of the interface that a datagram went out of.
+    fn source_of(&self, sent: &Datagram) -> Option<InterfaceAddress>
+        ensures { result ≡ sender_in self.now.slots sent.now }
+    {
+        let place = place(&self.places, sent.router)?;
+        address_of(self.slots[place].config(), sent.sent.link)
     }
 
     /// One more datagram counts as offered.
@@ -149,24 +183,4 @@ fn router_of(event: &WorldEvent) -> RouterId
         WorldEvent::LinkDown { router, .. } => *router,
         WorldEvent::Deliver { router, .. } => *router,
     }
-}
-
-// What an event comes to at the slot at a place.
-fn step_at(
-    slots: &mut Vec<Slot>,
-    place: usize,
-    event: &WorldEvent,
-    logs: &mut Logs,
-    ticks: &mut Vec<Ticked>,
-    alloc: Global,
-) -> Result<(), WorldFault>
-    requires { place < length slots.old.items }
-    ensures steps { (before : SlotValue) → slice_get slots.old.items place ≡ Some before →
-        (after : SlotValue) × (slots.new.items ≡ slice_set slots.old.items place after)
-        × SlotSteps event.now before logs.old result after logs.new }
-    ensures ticks { ticks.new.items ≡ ticks.old.items
-        ++ ticked_by event.now result (length logs.old.datagrams) }
-{
-    let slot = &mut slots[place];
-    step_slot(slot, event, logs, ticks, alloc)
 }

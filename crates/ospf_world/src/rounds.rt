@@ -1,23 +1,20 @@
 //! Rounds: a tick of each router that runs, and then the datagrams that no round has offered.
 
-ghost use Rattle.std.specs.Prelude.{◌≡◌, ◌++◌, IfOk, OnOk, Some, find, option_copied, option_map};
+ghost use Rattle.std.specs.Prelude.{◌≡◌, ◌++◌, IfOk, OnOk, option_map};
 ghost use Rattle.ospf_headline.specs.Headline.{Headline, IsReached};
 ghost use Rattle.ospf_router.specs.Steps.{is_dropped};
-ghost use Rattle.ospf_world.specs.Rounds as rounds;
-ghost use Rattle.ospf_world.specs.Rounds.{AreNextOffers, AreOffered, IsRound, OffersNext, is_sender, offers_at, sender_in, tick_of, ticks};
+ghost use Rattle.ospf_world.specs.Rounds.{AreNextOffers, AreOffered, IsRound, IsRoundOf, OffersNext, tick_of, ticks};
 ghost use Rattle.ospf_world.specs.Sounds.{IsSoundBetween};
 ghost use Rattle.ospf_world.specs.Ticks.{TicksOn};
 ghost use Rattle.ospf_world.specs.Worlds.{world_of};
 
-use crate::offers::{push_offers, sending_address};
 use crate::world::World;
-use ospf_config::InterfaceAddress;
-use ospf_headline::{Datagram, WorldEvent, WorldFault, headline, runs_lead_on, soundness};
+use ospf_headline::{WorldEvent, WorldFault, headline, runs_lead_on, soundness};
 use ospf_slots::Slot;
 use std::alloc::{AllocError, Global};
 
-/// How many datagrams a round offers at most.
-const MOST_OFFERS: u64 = 10_000;
+/// How many datagrams a round offers at most, where nothing else is asked for.
+pub const MOST_OFFERS: u64 = 10_000;
 
 impl World {
     /// A round: a tick of each router that runs, in the order of the configurations, and then, in the order in which they were
@@ -36,6 +33,23 @@ impl World {
         ensures ticks { TicksOn (world_of self.old) self.old.ticks (world_of self.new)
             self.new.ticks }
     {
+        self.round_of(MOST_OFFERS, alloc)
+    }
+
+    /// A round, as `round` has it, that offers so many datagrams at most. Where a round offers fewer than routers send in it,
+    /// those that wait grow more and more, and what is repeated meanwhile adds to them: then an area may never agree.
+    ///
+    /// `Memory` where memory runs out, which ends it.
+    pub fn round_of(&mut self, most: u64, alloc: Global) -> Result<(), WorldFault>
+        // What happens in a round.
+        ensures round { IsRoundOf most self.old result self.new }
+        // What holds of every network holds of this one again, and its log of ticks goes on.
+        ensures reached { IsReached is_dropped (world_of self.new) }
+        ensures headline { Headline (world_of self.old) (world_of self.new) }
+        ensures sound { IsSoundBetween (world_of self.old) (world_of self.new) }
+        ensures ticks { TicksOn (world_of self.old) self.old.ticks (world_of self.new)
+            self.new.ticks }
+    {
         // For the proof.
         headline();
         soundness();
@@ -45,7 +59,7 @@ impl World {
             return Err(WorldFault::Memory { stopped: false });
         };
         match self.run(&ticks, alloc) {
-            Ok(_refused) => self.offer(MOST_OFFERS, alloc),
+            Ok(_refused) => self.offer(most, alloc),
             Err(fault) => Err(fault),
         }
     }
@@ -91,7 +105,7 @@ impl World {
     {
         let place = self.offered();
         match self.datagrams().get(place) {
-            Some(sent) => Ok(Some(offers_of(self.slots(), place, sent, alloc)?)),
+            Some(sent) => Ok(Some(self.offers_of(place, sent, alloc)?)),
             None => Ok(None),
         }
     }
@@ -116,76 +130,6 @@ fn push_tick(events: &mut Vec<WorldEvent>, slot: &Slot) -> Result<(), AllocError
     if slot.runs() {
         let router = slot.config().router_id;
         events.push(WorldEvent::Tick { router })?;
-    }
-    Ok(())
-}
-
-// The offers of the datagram at this place of the log.
-fn offers_of(
-    slots: &[Slot],
-    place: usize,
-    sent: &Datagram,
-    alloc: Global,
-) -> Result<Vec<WorldEvent>, AllocError>
-    ensures { IfOk result (λ events. events.items ≡ rounds.offers_of slots.now place sent.now) }
-{
-    match source_of(slots, sent) {
-        Some(from) => offers_from(slots, place, &from, sent, alloc),
-        None => Ok(Vec::new(alloc)),
-    }
-}
-
-// The address of the interface that a datagram went out of.
-#[tactic(auto, unfolding(crate::specs::Rounds::sender_in))]
-fn source_of(slots: &[Slot], sent: &Datagram) -> Option<InterfaceAddress>
-    ensures { result ≡ sender_in slots.now sent.now }
-{
-    let slot = sender(slots, sent)?;
-    sending_address(slot.config(), sent.sent.link)
-}
-
-// The router that sent a datagram.
-fn sender<'a>(slots: &'a [Slot], sent: &Datagram) -> Option<&'a Slot>
-    ensures { option_copied result ≡ find (is_sender sent.now) slots.now }
-{
-    slots
-        .iter()
-        .find(|slot| slot.config().router_id.0 == sent.router.0)
-}
-
-// The offers of a datagram that went out of an interface of this address.
-fn offers_from(
-    slots: &[Slot],
-    place: usize,
-    from: &InterfaceAddress,
-    sent: &Datagram,
-    alloc: Global,
-) -> Result<Vec<WorldEvent>, AllocError>
-    ensures { IfOk result (λ events. events.items
-        ≡ rounds.offers_by place sent.now slots.now (Some from.now)) }
-{
-    let mut events = Vec::new(alloc);
-    for slot in slots {
-        push_offers_at(&mut events, place, from, sent, slot)?;
-    }
-    Ok(events)
-}
-
-// Adds what a router is offered of a datagram that another one sent, where it runs.
-#[tactic(auto, unfolding(crate::specs::Rounds::offers_at))]
-fn push_offers_at(
-    events: &mut Vec<WorldEvent>,
-    place: usize,
-    from: &InterfaceAddress,
-    sent: &Datagram,
-    slot: &Slot,
-) -> Result<(), AllocError>
-    ensures { OnOk result (events.new.items ≡ events.old.items
-        ++ offers_at place from.now sent.now slot.now) }
-{
-    let config = slot.config();
-    if slot.runs() && config.router_id.0 != sent.router.0 {
-        push_offers(events, place, from, sent.sent.destination, config)?;
     }
     Ok(())
 }

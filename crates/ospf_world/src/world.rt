@@ -1,12 +1,13 @@
 //! Worlds.
 
-ghost use Rattle.std.specs.Prelude.{◌≡◌, ◌<◌, ◌+◌, ◌++◌, length};
+ghost use Rattle.std.specs.Prelude.{◌≡◌, ◌<◌, ◌+◌, ◌++◌, IfOk, length};
 ghost use Rattle.ospf_headline.specs.Headline.{Headline, IsReached};
 ghost use Rattle.ospf_headline.specs.Runs.{IsRun, is_memory};
 ghost use Rattle.ospf_headline.specs.Sound.{IsSound};
 ghost use Rattle.ospf_headline.specs.World.{Comes};
 ghost use Rattle.ospf_router.specs.Steps.{is_dropped};
 ghost use Rattle.ospf_world.specs.Does.{Does};
+ghost use Rattle.ospf_world.specs.Rounds.{offers_of};
 ghost use Rattle.ospf_world.specs.Sounds.{IsSoundBetween};
 ghost use Rattle.ospf_world.specs.Ticks.{TicksOn, ticked_by};
 ghost use Rattle.ospf_world.specs.Worlds.{Lends, Opens, SameSettings, world_of};
@@ -18,7 +19,7 @@ use ospf_config::Config;
 use ospf_headline::{headline, runs_lead_on, soundness};
 use ospf_router::Router;
 use ospf_slots::{Datagram, Holding, Issued, Slot, WorldEvent, WorldFault};
-use std::alloc::Global;
+use std::alloc::{AllocError, Global};
 use std::marker::Model;
 
 /// Many routers, started, stopped and stepped by events, and the logs of all that they sent, issued and held.
@@ -166,6 +167,18 @@ impl World {
         ensures { result ≡ self.now.offered }
     {
         self.parts.offered
+    }
+
+    // The offers of a datagram, which stands at this place of the log.
+    pub(crate) fn offers_of(
+        &self,
+        place: usize,
+        sent: &Datagram,
+        alloc: Global,
+    ) -> Result<Vec<WorldEvent>, AllocError>
+        ensures { IfOk result (λ events. events.items ≡ offers_of self.now.slots place sent.now) }
+    {
+        self.parts.offers_of(place, sent, alloc)
     }
 
     // One more datagram counts as offered.

@@ -21,7 +21,7 @@ returns-in_err-datagram-in-Deliver-clause-none c =
 
 pub returns-in_err-count-in-Round-clause-none : goal.returns-in_err-count-in-Round-clause-none
 returns-in_err-count-in-Round-clause-none c =
-    if_none c.from_residual-in_err-count-in-Round.result _ (λ other command e. no_round _ (rw c.in_err-count-in-Round.was at c.count_in.ensures.none) command (e ∙ c.in-Round.is))
+    if_none c.from_residual-in_err-count-in-Round.result _ (λ other command e. no_round _ (rw c.in_err-count-in-Round.was at c.rounds_in.ensures.none) command (e ∙ c.in-Round.is))
 
 pub returns-in_err-number-in-Random-clause-none : goal.returns-in_err-number-in-Random-clause-none
 returns-in_err-number-in-Random-clause-none c =

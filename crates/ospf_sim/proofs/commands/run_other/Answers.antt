@@ -2,7 +2,7 @@ use Rattle.ospf_sim.proofs.Done.{random_done, rounds_done, walk_begun, walk_done
 use Rattle.ospf_sim.proofs.commands.run_other.Goals as goal
 
 pub returns-in-Round-clause-done : goal.returns-in-Round-clause-done
-returns-in-Round-clause-done g c = rounds_done _ _ _ _ _ _ c.in-Round.is c.run_watched.ensures
+returns-in-Round-clause-done g c = rounds_done _ _ _ _ _ _ _ _ c.in-Round.is c.most_of-most.ensures c.run_watched.ensures
 
 pub returns-in-Random-clause-done : goal.returns-in-Random-clause-done
 returns-in-Random-clause-done g c = random_done _ _ _ _ _ _ _ c.in-Random.is c.draw_watched.ensures

@@ -2,13 +2,13 @@ use Rattle.ospf_sim.proofs.Rounds.{leads_at_start, leads_further, leads_to_end, 
 use Rattle.ospf_sim.proofs.commands.run_rounds.Goals as goal
 
 pub loop-done-init : goal.loop-done-init
-loop-done-init g c = leads_at_start _ _
+loop-done-init g c = leads_at_start _ _ _
 
 pub loop-done-preserved : goal.loop-done-preserved
-loop-done-preserved g c = leads_further _ _ _ _ _ c.loop-done-test.true c.loop-done.invariant c.in-Ok.ensures.round
+loop-done-preserved g c = leads_further _ _ _ _ _ _ c.loop-done-test.true c.loop-done.invariant c.in-Ok.ensures.round
 
 pub returns-in-Err : goal.returns-in-Err
-returns-in-Err g c = leads_to_refusal _ _ _ _ _ _ c.loop-done-test.true c.loop-done.invariant c.in-Err.ensures.round
+returns-in-Err g c = leads_to_refusal _ _ _ _ _ _ _ c.loop-done-test.true c.loop-done.invariant c.in-Err.ensures.round
 
 pub returns : goal.returns
-returns g c = leads_to_end _ _ _ _ c.loop-done-test.false c.loop-done.invariant
+returns g c = leads_to_end _ _ _ _ _ c.loop-done-test.false c.loop-done.invariant

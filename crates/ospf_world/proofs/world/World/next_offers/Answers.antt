@@ -1,11 +1,12 @@
+use Rattle.std.proofs.Common.{refl}
 use Rattle.ospf_world.proofs.RoundFacts.{next_none, next_some}
 use Rattle.ospf_world.proofs.world.World.next_offers.Goals as goal
 
 pub returns-in_ok-offers_of-in-Some : goal.returns-in_ok-offers_of-in-Some
 returns-in_ok-offers_of-in-Some c =
     let found = c.in-Some.ensures.lookup in
-    next_some c.args.self.now c.datagrams.result.now c.slots.result.now c.offered-place.result c.in-Some.sent.now c.in_ok-offers_of-in-Some.field-0.items
-    c.datagrams.ensures c.slots.ensures c.offered-place.ensures found.3.0 found.1 c.in_ok-offers_of-in-Some.ensures
+    next_some c.args.self.now c.datagrams.result.now c.args.self.now.slots c.offered-place.result c.in-Some.sent.now c.in_ok-offers_of-in-Some.field-0.items
+    c.datagrams.ensures refl c.offered-place.ensures found.3.0 found.1 c.in_ok-offers_of-in-Some.ensures
 
 pub returns-in-None : goal.returns-in-None
 returns-in-None c =
