@@ -1,5 +1,5 @@
 -- What stands written where a failure cuts what is to be written.
-use Rattle.std.proofs.Common.{◌≡◌, ◌∙◌, ap, sym, subst, ◌<◌, ℕ, List, [], ◌∷◌, ◌++◌, length, take, drop, get_or, map, Option, None, Some, suc}
+use Rattle.std.proofs.Common.{◌≡◌, ◌∙◌, ap, refl, sym, subst, ◌<◌, ℕ, List, [], ◌∷◌, ◌++◌, length, take, drop, get_or, map, Option, None, Some, suc}
 use Rattle.std.specs.Io.KnownBytes.{Appends, Keeps}
 use Rattle.ospf_config.specs.declared.config.Config.{Config}
 use Rattle.ospf_files.proofs.Listed.{files_split}
@@ -17,7 +17,7 @@ use Rattle.ospf_script.specs.declared.command.Command.{Command}
 use Rattle.ospf_script.specs.declared.script.Line.{Line}
 use Rattle.ospf_sim.specs.Begun.{IsAnswerCut, IsCut, IsCutAt, IsFileCut, IsLineCut, IsOpeningCut, IsScriptCut, IsTellingCut, IsWorldCut, in_fault, in_file, in_refusal, in_same_router, in_script, in_twins, in_unreadable, no_config, no_room, no_world}
 use Rattle.ospf_sim.specs.Commands.{Answer, Does, IsDone}
-use Rattle.ospf_sim.specs.Scripts.{IsRun, LinesCome, unreadable_line}
+use Rattle.ospf_sim.specs.Scripts.{EndsAt, IsRun, LinesCome, unreadable_line}
 use Rattle.ospf_sim.specs.Simulations.{WorldComes, same_router_line}
 use Rattle.ospf_sim.specs.Worlds.{WorldValue}
 use Rattle.ospf_sim.proofs.Lines.{entries_split}
@@ -80,6 +80,10 @@ unreadable_cut (Some n) number entries script w w' failed a b c x y z f is same 
       run = run.run;
       cut = in_unreadable run.unreadable cut;
     }
+
+pub early_cut : (lines : List Line) (number : ℕ) (script : Text) (w w' : WorldValue) (failed : FailedStreams) (a b c x y z : Option (List ℕ)) (f : Failure) → map entry_of lines ≡ numbered_from 1 script
+    → EndsAt (map entry_of lines) number w w' a b x y → IsTellingCut (unreadable_line number) failed b c y z f → IsCutAt (numbered_from 1 script) w failed a c x z f
+early_cut lines number script w w' failed a b c x y z f same ends cut = unreadable_cut (Some number) number (map entry_of lines) script w w' failed a b c x y z f refl same ends cut
 
 -- a file is cut, and those before it hold a configuration each
 pub file_cut : (files : List NamedFile) (i : ℕ) (file : NamedFile) (configs : List Config) (failed : FailedStreams) (x y z : Option (List ℕ)) (f : Failure) → i < length files

@@ -1,6 +1,6 @@
 -- Lines that run one after another.
-use Rattle.std.proofs.Common.{◌≡◌, ◌∙◌, ap, sym, subst, refl, ◌+◌, ◌<◌, ℕ, suc, List, [], ◌∷◌, ◌++◌, length, take, drop, get_or, map, Bool, true, false, Option, None, Some, append-nil, append_assoc}
-use Rattle.std.proofs.lemmas.List.{take_more, take-append-drop, map-append}
+use Rattle.std.proofs.Common.{◌≡◌, ◌∙◌, ap, sym, subst, refl, ◌+◌, ◌<◌, ◌≤◌, ℕ, suc, List, [], ◌∷◌, ◌++◌, length, take, drop, get_or, map, Bool, true, false, Option, None, Some, append-nil, append_assoc}
+use Rattle.std.proofs.lemmas.List.{take_all, take_more, take-append-drop, map-append}
 use Rattle.std.proofs.Math.Seq.{drop-cons}
 use Rattle.std.specs.Io.KnownBytes.{Appends, Keeps}
 use Rattle.ospf_script.specs.Lines.{entry_of, numbered_from}
@@ -111,3 +111,15 @@ script_early (Some n) number entries script w w' a b c x y z is same run kept to
       out_written = subst (Appends a c) (append-nil run.run.out) (both_written a b c run.run.out [] run.run.out_written kept);
       err_written = both_written x y z run.run.err (unreadable_line number) run.run.err_written told;
     }
+
+-- lines that have all run
+pub whole_at : (lines : List Line) (i : ℕ) (script : Text) (w w' : WorldValue) (a b c x y : Option (List ℕ)) → length lines ≤ i → map entry_of lines ≡ numbered_from 1 script
+    → IsRun (map entry_of (take i lines)) w w' a b x y → Keeps b c → IsRun (numbered_from 1 script) w w' a c x y
+whole_at lines i script w w' a b c x y past same run kept =
+    let all : IsRun (map entry_of lines) w w' a b x y = subst (λ (ls : List Line). IsRun (map entry_of ls) w w' a b x y) (take_all i lines past) run in
+    script_whole None (map entry_of lines) script w w' a b c x y refl same all kept
+
+-- and those up to one that cannot be read, of which it is told
+pub early_at : (lines : List Line) (number : ℕ) (script : Text) (w w' : WorldValue) (a b c x y z : Option (List ℕ)) → map entry_of lines ≡ numbered_from 1 script
+    → EndsAt (map entry_of lines) number w w' a b x y → Appends b c [] → Appends y z (unreadable_line number) → EndsEarly script w w' a c x z
+early_at lines number script w w' a b c x y z same ends kept told = script_early (Some number) number (map entry_of lines) script w w' a b c x y z refl same ends kept told

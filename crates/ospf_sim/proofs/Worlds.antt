@@ -60,7 +60,7 @@ run_comes Words start script files world a b x y z comes read run = tt
 run_comes Memory start script files world a b x y z comes read run = tt
 run_comes Stream start script files world a b x y z comes read run = tt
 
-found_runs : (found : Option WorldValue) (start : WorldValue) (status : Status) (script : NamedFile) (files : List NamedFile) (world : Option WorldValue) (a b x y z : Option (List ℕ))
+pub found_runs : (found : Option WorldValue) (start : WorldValue) (status : Status) (script : NamedFile) (files : List NamedFile) (world : Option WorldValue) (a b x y z : Option (List ℕ))
     → found ≡ Some start → WorldComes files found x y → AreRead (script ∷ files) → RunsTo status script start world a b y z → Comes status script files world a b x z
 found_runs None start status script files world a b x y z is comes read run = absurd (cc is)
 found_runs (Some w) start status script files world a b x y z is comes read run =

@@ -31,42 +31,15 @@ pub(crate) fn run_script<O: Write, E: Write, V: Watch>(
         (O.contents out.old) (O.contents out.new) (E.contents err.old) (E.contents err.new)) }
 {
     let lines = lines(alloc, script)?;
-    let ended = run_lines(world, &lines, out, err, alloc, watch, streams)?;
-    match ended {
-        None => {
-            streams.flush(out)?;
-            Ok(true)
-        }
-        Some(number) => {
-            tell_unreadable(alloc, number, out, err, streams)?;
-            Ok(false)
-        }
-    }
-}
-
-// Runs lines, up to the first that cannot be read: the answer is its number.
-fn run_lines<O: Write, E: Write, V: Watch>(
-    world: &mut World,
-    lines: &[Line<'_>],
-    out: &mut O,
-    err: &mut E,
-    alloc: Global,
-    watch: &mut V,
-    streams: &mut FailedStreams,
-) -> Result<Option<u64>, Failure>
-    ensures comes { IfOk result (λ ended. LinesCome ended (map entry_of lines.now) world.old
-        world.new (O.contents out.old) (O.contents out.new) (E.contents err.old)
-        (E.contents err.new)) }
-    ensures cut { IfErr result (IsCutAt (map entry_of lines.now) world.old streams.new
-        (O.contents out.old) (O.contents out.new) (E.contents err.old) (E.contents err.new)) }
-{
-    for line in lines {
+    for line in &lines {
         let is_read = run_line(world, line, out, err, alloc, watch, streams)?;
         if !is_read {
-            return Ok(Some(line.number));
+            tell_unreadable(alloc, line.number, out, err, streams)?;
+            return Ok(false);
         }
     }
-    Ok(None)
+    streams.flush(out)?;
+    Ok(true)
 }
 
 // Runs a line. The answer is whether it can be read. Where that fails, no more than a beginning of what it writes was

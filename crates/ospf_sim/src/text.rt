@@ -68,52 +68,14 @@ pub fn sim_text<O: Write, E: Write, V: Watch>(
         (O.contents out.new) (E.contents err.old) (E.contents err.new) }
     ensures not_words { result.status ≢ Status.Words }
 {
-    sim_noted(
-        alloc,
-        script,
-        files,
-        out,
-        err,
-        watch,
-        &mut FailedStreams::none(),
-    )
-}
-
-// Runs a simulation, as `sim_text`, and notes which streams fail.
-fn sim_noted<O: Write, E: Write, V: Watch>(
-    alloc: Global,
-    script: &NamedFile,
-    files: &[NamedFile],
-    out: &mut O,
-    err: &mut E,
-    watch: &mut V,
-    streams: &mut FailedStreams,
-) -> Simulated
-    // The whole script has run; or what is refused is told.
-    ensures done { result.status ≡ Status.Done →
-        IsSimulated script.now files.now result.world (O.contents out.old) (O.contents out.new)
-        (E.contents err.old) (E.contents err.new) }
-    ensures refused { result.status ≡ Status.Refused →
-        IsRefused script.now files.now result.world (O.contents out.old) (O.contents out.new)
-        (E.contents err.old) (E.contents err.new) }
-    // Where a file could not be read, that or memory ends it, and nothing is printed.
-    ensures unread { (file : NamedFile) → IsFirstUnread file (script.now ∷ files.now) →
-        (result.status ≡ Status.Stream) ⊎ (result.status ≡ Status.Memory) }
-    ensures unwritten { (file : NamedFile) → IsFirstUnread file (script.now ∷ files.now) →
-        O.contents out.new ≡ O.contents out.old }
-    // It stops at such a file or at a failure; there is no other end.
-    ensures stopped { (result.status ≡ Status.Memory) ⊎ (result.status ≡ Status.Stream) →
-        IsStopped script.now files.now result.world streams.new result.status (O.contents out.old)
-        (O.contents out.new) (E.contents err.old) (E.contents err.new) }
-    ensures not_words { result.status ≢ Status.Words }
-{
-    match simulate(alloc, script, files, out, err, watch, streams) {
+    let mut streams = FailedStreams::none();
+    match simulate(alloc, script, files, out, err, watch, &mut streams) {
         Ok(simulated) => simulated,
-        Err(failure) => end_failed(failure, err, streams),
+        Err(failure) => end_failed(failure, err, &mut streams),
     }
 }
 
-// Runs a script, if all files could be read.
+// Runs a script in a world of the configurations in files, if all files could be read.
 fn simulate<O: Write, E: Write, V: Watch>(
     alloc: Global,
     script: &NamedFile,
@@ -140,9 +102,22 @@ fn simulate<O: Write, E: Write, V: Watch>(
     ensures cut { IfErr result (IsCut script.now files.now streams.new
         (O.contents out.old) (O.contents out.new) (E.contents err.old) (E.contents err.new)) }
 {
-    match unread_of(script, files) {
-        Some(file) => end_unread(alloc, file, err, streams),
-        None => run_in_world(alloc, script, files, out, err, watch, streams),
+    if let Some(file) = unread_of(script, files) {
+        return end_unread(alloc, file, err, streams);
+    }
+    match new_world(alloc, files, err, streams)? {
+        Some(mut world) => {
+            let whole = run_script(&mut world, script.text(), out, err, alloc, watch, streams)?;
+            let status = status_of(whole);
+            Ok(Simulated {
+                status,
+                world: Some(world),
+            })
+        }
+        None => Ok(Simulated {
+            status: Status::Refused,
+            world: None,
+        }),
     }
 }
 
@@ -180,32 +155,6 @@ fn end_unread<E: Write>(
             world: None,
         }),
         Err(failure) => Err(failure),
-    }
-}
-
-// Runs a script in a world of the configurations in files.
-fn run_in_world<O: Write, E: Write, V: Watch>(
-    alloc: Global,
-    script: &NamedFile,
-    files: &[NamedFile],
-    out: &mut O,
-    err: &mut E,
-    watch: &mut V,
-    streams: &mut FailedStreams,
-) -> Result<Simulated, Failure>
-    requires { AreRead (script.now ∷ files.now) }
-    ensures comes { IfOk result (λ s. Comes s.status script.now files.now s.world
-        (O.contents out.old) (O.contents out.new) (E.contents err.old) (E.contents err.new)) }
-    ensures ended { IfOk result (λ s. (s.status ≡ Status.Done) ⊎ (s.status ≡ Status.Refused)) }
-    ensures cut { IfErr result (IsCut script.now files.now streams.new
-        (O.contents out.old) (O.contents out.new) (E.contents err.old) (E.contents err.new)) }
-{
-    match new_world(alloc, files, err, streams)? {
-        Some(world) => run_to_end(alloc, world, script, out, err, watch, streams),
-        None => Ok(Simulated {
-            status: Status::Refused,
-            world: None,
-        }),
     }
 }
 
@@ -270,29 +219,6 @@ fn same_router_line(alloc: Global) -> Result<String, AllocError>
     ensures { IfOk result (λ line. string_bytes line ≡ same_router_line) }
 {
     format!(in alloc; "{}\n", WorldFault::SameRouter.text())
-}
-
-// Runs a script in a world.
-fn run_to_end<O: Write, E: Write, V: Watch>(
-    alloc: Global,
-    mut world: World,
-    script: &NamedFile,
-    out: &mut O,
-    err: &mut E,
-    watch: &mut V,
-    streams: &mut FailedStreams,
-) -> Result<Simulated, Failure>
-    ensures runs { IfOk result (λ s. RunsTo s.status script.now world s.world (O.contents out.old)
-        (O.contents out.new) (E.contents err.old) (E.contents err.new)) }
-    ensures cut { IfErr result (IsScriptCut (text_in script.now) world streams.new
-        (O.contents out.old) (O.contents out.new) (E.contents err.old) (E.contents err.new)) }
-{
-    let whole = run_script(&mut world, script.text(), out, err, alloc, watch, streams)?;
-    let status = status_of(whole);
-    Ok(Simulated {
-        status,
-        world: Some(world),
-    })
 }
 
 // How a simulation ends whose lines could all be read, or not.

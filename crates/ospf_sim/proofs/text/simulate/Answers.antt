@@ -1,28 +1,60 @@
-use Rattle.std.proofs.Common.{refl}
-use Rattle.ospf_files.proofs.Cut.{cut_then}
+use Rattle.std.proofs.Common.{inl, refl, subst}
+use Rattle.ospf_files.proofs.Cut.{cut_then, for_failure}
+use Rattle.ospf_files.specs.Files.{text_in}
 use Rattle.ospf_files.specs.Streams.{IsErrorCut}
-use Rattle.ospf_sim.specs.Begun.{IsCut, in_unread}
-use Rattle.ospf_sim.proofs.Files.{ended_well, none_unread, not_memory, unread_told}
+use Rattle.ospf_script.specs.Words.{Text}
+use Rattle.ospf_sim.specs.Begun.{IsCut, IsScriptCut, in_unread, in_world}
+use Rattle.ospf_sim.proofs.Cuts.{script_cut}
+use Rattle.ospf_sim.proofs.Files.{none_unread, unread_told}
+use Rattle.ospf_sim.proofs.Worlds.{found_runs, no_world_told, runs_to}
 use Rattle.ospf_sim.proofs.text.simulate.Goals as goal
-
-pub returns-in-None-clause-unread : goal.returns-in-None-clause-unread
-returns-in-None-clause-unread g c = λ file first. absurd (none_unread _ file c.in-None.ensures.none first)
-
-pub returns-in-None-clause-unwritten : goal.returns-in-None-clause-unwritten
-returns-in-None-clause-unwritten g c = λ file first. absurd (none_unread _ file c.in-None.ensures.none first)
 
 pub returns-in-Some-clause-stream : goal.returns-in-Some-clause-stream
 returns-in-Some-clause-stream g c =
     unread_told _ _ c.in-Some.file.now c.end_unread.result _ _ _ _ c.in-Some.ensures.some refl c.end_unread.ensures.world c.end_unread.ensures.told
-
-pub returns-in-None-clause-not_memory : goal.returns-in-None-clause-not_memory
-returns-in-None-clause-not_memory g c = not_memory c.run_in_world.result c.run_in_world.ensures.ended
-
-pub returns-in-None-clause-stream : goal.returns-in-None-clause-stream
-returns-in-None-clause-stream g c = ended_well _ _ c.run_in_world.result _ _ _ _ c.run_in_world.ensures.ended
 
 pub returns-in-Some-clause-cut : goal.returns-in-Some-clause-cut
 returns-in-Some-clause-cut g c =
     cut_then c.end_unread.result (IsErrorCut c.end_unread.new.streams)
     (IsCut c.args.script.now c.args.files.now c.end_unread.new.streams (g.O.Write.contents c.args.out.now) (g.O.Write.contents c.args.out.now) (g.E.Write.contents c.args.err.now) (g.E.Write.contents c.end_unread.new.err))
     (λ f begun cut. in_unread c.in-Some.file.now cut c.in-Some.ensures.some begun refl) c.end_unread.ensures.begun c.end_unread.ensures.cut
+
+pub returns-in_err-world-clause-cut : goal.returns-in_err-world-clause-cut
+returns-in_err-world-clause-cut g c =
+    for_failure c.from_residual.result c.in_err-world.field-0.0
+    (IsCut c.args.script.now c.args.files.now c.new_world.new.streams (g.O.Write.contents c.args.out.now) (g.O.Write.contents c.args.out.now) (g.E.Write.contents c.args.err.now) (g.E.Write.contents c.new_world.new.err))
+    c.from_residual.ensures.1 (in_world c.in_default.ensures.none c.in_err-world.ensures.cut refl)
+
+pub returns-in_err-whole-in-Some-2-clause-unwritten : goal.returns-in_err-whole-in-Some-2-clause-unwritten
+returns-in_err-whole-in-Some-2-clause-unwritten g c = λ file first. absurd (none_unread _ file c.in_default.ensures.none first)
+
+pub returns-in_err-whole-in-Some-2-clause-cut : goal.returns-in_err-whole-in-Some-2-clause-cut
+returns-in_err-whole-in-Some-2-clause-cut g c =
+    let cut = subst (λ (text : Text). IsScriptCut text c.in-Some-2.world c.run_script.new.streams (g.O.Write.contents c.args.out.now) (g.O.Write.contents c.run_script.new.out) (g.E.Write.contents c.new_world.new.err) (g.E.Write.contents c.run_script.new.err) c.in_err-whole-in-Some-2.field-0.0)
+    c.text.ensures c.in_err-whole-in-Some-2.ensures.cut in
+    for_failure c.from_residual-in_err-whole-in-Some-2.result c.in_err-whole-in-Some-2.field-0.0
+    (IsCut c.args.script.now c.args.files.now c.run_script.new.streams (g.O.Write.contents c.args.out.now) (g.O.Write.contents c.run_script.new.out) (g.E.Write.contents c.args.err.now) (g.E.Write.contents c.run_script.new.err))
+    c.from_residual-in_err-whole-in-Some-2.ensures.1
+    (script_cut c.in_ok-world.field-0 c.in-Some-2.world c.args.script.now c.args.files.now _ _ _ _ _ _ _ c.in-Some-2.is c.in_ok-world.ensures.comes c.in_default.ensures.none cut)
+
+pub returns-in_ok-whole-in-Some-2-clause-comes : goal.returns-in_ok-whole-in-Some-2-clause-comes
+returns-in_ok-whole-in-Some-2-clause-comes g c =
+    found_runs c.in_ok-world.field-0 c.in-Some-2.world c.status_of-status.result c.args.script.now c.args.files.now _ _ _ _ _ _ c.in-Some-2.is c.in_ok-world.ensures.comes c.in_default.ensures.none
+    (runs_to c.in_ok-whole-in-Some-2.whole c.status_of-status.result c.args.script.now _ _ _ _ _ _ _ c.status_of-status.ensures c.text.ensures c.in_ok-whole-in-Some-2.ensures.comes)
+
+pub returns-in_ok-whole-in-Some-2-clause-unread : goal.returns-in_ok-whole-in-Some-2-clause-unread
+returns-in_ok-whole-in-Some-2-clause-unread g c = λ file first. absurd (none_unread _ file c.in_default.ensures.none first)
+
+pub returns-in_ok-whole-in-Some-2-clause-unwritten : goal.returns-in_ok-whole-in-Some-2-clause-unwritten
+returns-in_ok-whole-in-Some-2-clause-unwritten g c = λ file first. absurd (none_unread _ file c.in_default.ensures.none first)
+
+pub returns-in-None-clause-comes : goal.returns-in-None-clause-comes
+returns-in-None-clause-comes g c = inl (record {
+  read = c.in_default.ensures.none;
+  no_world = no_world_told c.in_ok-world.field-0 _ _ _ c.in-None.is c.in_ok-world.ensures.comes;
+  none = refl;
+  same_out = refl;
+})
+
+pub returns-in-None-clause-unread : goal.returns-in-None-clause-unread
+returns-in-None-clause-unread g c = λ file first. absurd (none_unread _ file c.in_default.ensures.none first)

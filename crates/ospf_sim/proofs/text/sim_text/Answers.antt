@@ -2,7 +2,7 @@ use Rattle.std.proofs.Common.{inl, subst}
 use Rattle.ospf_sim.specs.Simulations.{Comes}
 use Rattle.ospf_sim.specs.Stopped.{is_failure}
 use Rattle.ospf_sim.proofs.Files.{stopped_unread}
-use Rattle.ospf_sim.proofs.text.sim_noted.Goals as goal
+use Rattle.ospf_sim.proofs.text.sim_text.Goals as goal
 
 pub returns-in-Ok-clause-done : goal.returns-in-Ok-clause-done
 returns-in-Ok-clause-done g c = λ is.
@@ -13,15 +13,17 @@ pub returns-in-Ok-clause-unread : goal.returns-in-Ok-clause-unread
 returns-in-Ok-clause-unread g c = λ file first. inl (c.in-Ok.ensures.unread file first)
 
 pub returns-in-Ok-clause-stopped : goal.returns-in-Ok-clause-stopped
-returns-in-Ok-clause-stopped g c = stopped_unread _ _ c.in-Ok.simulated _ _ _ _ _ c.in-Ok.ensures.not_memory c.in-Ok.ensures.stream
+returns-in-Ok-clause-stopped g c = λ ended. (c.simulate.new.streams, stopped_unread _ _ c.in-Ok.simulated _ _ _ _ _ c.in-Ok.ensures.not_memory c.in-Ok.ensures.stream ended)
 
 pub returns-in-Err-clause-stopped : goal.returns-in-Err-clause-stopped
-returns-in-Err-clause-stopped g c = λ _.
-    is_failure c.end_failed.ensures.world (record {
-      cause = c.in-Err.failure;
-      failed_then = c.simulate.new.streams;
-      err_then = g.E.Write.contents c.simulate.new.err;
-      cut = c.in-Err.ensures.cut;
-      last = c.end_failed.ensures.told;
-      status_is = c.end_failed.ensures.status;
-    })
+returns-in-Err-clause-stopped g c = λ _. (
+  c.end_failed.new.streams,
+  is_failure c.end_failed.ensures.world (record {
+    cause = c.in-Err.failure;
+    failed_then = c.simulate.new.streams;
+    err_then = g.E.Write.contents c.simulate.new.err;
+    cut = c.in-Err.ensures.cut;
+    last = c.end_failed.ensures.told;
+    status_is = c.end_failed.ensures.status;
+  }),
+)
