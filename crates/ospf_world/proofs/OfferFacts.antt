@@ -1,5 +1,5 @@
 -- The offers of a datagram to the interfaces on its network.
-use Rattle.std.proofs.Common.{◌≡◌, ◌==◌, ◌<◌, ◌≤◌, ◌&&◌, ◌+◌, ◌++◌, if◌then◌else◌, ℕ, zero, suc, Bool, true, false, not, List, [], ◌∷◌, Option, None, Some, ◌∙◌, ap, sym, refl, drop, add-one, append-nil, get_or, length, map, filter, find, is_some, slice_get, option_map, option_and_then}
+use Rattle.std.proofs.Common.{◌≡◌, ◌==◌, ◌<◌, ◌≤◌, ◌&&◌, ◌+◌, ◌++◌, if◌then◌else◌, ℕ, zero, suc, Bool, true, false, not, List, [], ◌∷◌, Option, None, Some, ◌∙◌, ap, sym, refl, drop, add-one, append-nil, get_or, length, map, filter, is_some, slice_get, option_map, option_and_then}
 use Rattle.std.specs.BTreeMap as tree
 use Rattle.std.specs.Global.{Vec}
 use Rattle.std.specs.List.{enumerate_from, flat_map}
@@ -16,7 +16,7 @@ use Rattle.ospf_slots.specs.Slots.{SlotValue}
 use Rattle.ospf_world.specs.Networks.{AreNetworks, links_at, links_from, links_on, router_links}
 use Rattle.ospf_world.specs.Offers.{address_at, is_for, is_offered, offers_to}
 use Rattle.ospf_world.specs.Rounds.{is_offered_to, is_sender, offer_at, offer_on, offer_to, offers_at, offers_by, offers_of, sender_in}
-use Rattle.ospf_world.specs.Worlds.{ArePlaces, config_of, place_of}
+use Rattle.ospf_world.specs.Worlds.{config_of, place_of}
 use Rattle.ospf_world.specs.declared.networks.LinkPlace.{LinkPlace}
 use Rattle.ospf_world.proofs.PlaceFacts.{not_placed, placed, slot_at}
 

@@ -4,7 +4,7 @@ use Rattle.ospf_config.specs.declared.config.Config.{Config}
 use Rattle.ospf_headline.specs.declared.logs.Datagram.{Datagram}
 use Rattle.ospf_slots.specs.Slots.{SlotValue}
 use Rattle.ospf_world.specs.Offers.{address_at}
-use Rattle.ospf_world.specs.Worlds.{place_in, place_of}
+use Rattle.ospf_world.specs.Worlds.{place_in}
 use Rattle.ospf_world.proofs.OfferFacts.{source_at, source_nowhere}
 use Rattle.ospf_world.proofs.PlaceFacts.{placed, at_within}
 use Rattle.ospf_world.proofs.parts.Parts.source_of.Goals as goal
