@@ -1,4 +1,4 @@
-use Rattle.std.proofs.Common.{◌≡◌, ◌≢◌, ◌⊎◌, ◌≤◌, ◌+◌, ◌++◌, ◌∷◌, [], inl, inr, false, true, List, ap, get_or, length, subst, sym, take, ◌∙◌}
+use Rattle.std.proofs.Common.{◌≡◌, ◌≢◌, ◌⊎◌, ◌≤◌, ◌+◌, ◌++◌, ◌∷◌, [], inl, inr, false, true, List, ap, rules, get_or, length, subst, sym, take, ◌∙◌}
 use Rattle.std.proofs.lemmas.List.{take_all, take_more}
 use Rattle.ospf_base.specs.declared.prefix.Prefix.{Prefix}
 use Rattle.ospf_edges.specs.Listed.{advertisements_of}
@@ -52,5 +52,6 @@ returns-clause-table c =
 pub returns-clause-changed : goal.returns-clause-changed
 returns-clause-changed c =
     let q = c.requires in
-    turned_changed (advertisements_of c.args.tree.now.listing) c.args.tree.now.root c.args.table.now q.0 c.loop-prefix.table c.args.touched.now c.loop-prefix.is_other
-    (all_turned c) q.1 q.2
+    let told = turned_changed (advertisements_of c.args.tree.now.listing) c.args.tree.now.root c.args.table.now q.0 c.loop-prefix.table c.args.touched.now c.loop-prefix.is_other
+    (all_turned c) q.1 q.2 in
+    search (rules, told)
