@@ -116,6 +116,9 @@ fn events(rt: HostRuntime) -> Result<(), Fail> {
         },
         "round 20 18446744073709551615",
     )?;
+    spells(&rt, alloc, "start all", &Command::StartAll, "start all")?;
+    spells(&rt, alloc, " up  all ", &Command::UpAll, "up all")?;
+    spells(&rt, alloc, "down all", &Command::DownAll, "down all")?;
     let random = Command::Random {
         number: 7,
         count: 5000,
@@ -155,6 +158,19 @@ fn printing(rt: HostRuntime) -> Result<(), Fail> {
         &Command::Floor { router: ONE },
         "floor 1.1.1.1",
     )?;
+    spells(
+        &rt,
+        alloc,
+        "neighbors 1.1.1.1",
+        &Command::Neighbours { router: ONE },
+        "neighbours 1.1.1.1",
+    )?;
+    let said = |text: &str| Ok::<_, LineFault>(Command::Say {
+        text: String::from_str(alloc, text)?,
+    });
+    spells(&rt, alloc, "say", &said("")?, "say ")?;
+    spells(&rt, alloc, "say  two   words ", &said("two words")?, "say two words")?;
+    spells(&rt, alloc, "say \u{e9} all", &said("\u{e9} all")?, "say \u{e9} all")?;
     let walk = |choices: Vec<u32>| Command::Walk {
         from: ONE,
         address: Addr(0x0a09_0909),
@@ -179,7 +195,7 @@ fn printing(rt: HostRuntime) -> Result<(), Fail> {
 }
 
 // Each is refused for one reason.
-const UNREADABLE: [&[u8]; 32] = [
+const UNREADABLE: [&[u8]; 39] = [
     b"nonsense",
     b"TICK 1.1.1.1",
     b"tick",
@@ -203,6 +219,13 @@ const UNREADABLE: [&[u8]; 32] = [
     b"start 1.1.1.1 1 8000000g",
     b"start 1.1.1.1 1 +0000000",
     b"start 1.1.1.1 1 80000000 1",
+    b"start all 1",
+    b"start ALL",
+    b"tick all",
+    b"up all 0",
+    b"neighbor 1.1.1.1",
+    b"neighbors",
+    b"say \xff",
     b"round",
     b"round x",
     b"round 1 x",
@@ -257,6 +280,13 @@ fn numbered(rt: HostRuntime) -> Result<(), Fail> {
     ];
     assert_eq!(rt; found.len(), 5);
     for (line, (number, text)) in found.iter().zip(expected) {
+        assert_eq!(rt; line.number, number);
+        assert_eq!(rt; line.text, text);
+    }
+    let commented = lines(rt.alloc(), b"# all of it\r\nround 1 # one # only\nround 2#")?;
+    let expected: [(u64, &[u8]); 3] = [(1, b""), (2, b"round 1 "), (3, b"round 2")];
+    assert_eq!(rt; commented.len(), 3);
+    for (line, (number, text)) in commented.iter().zip(expected) {
         assert_eq!(rt; line.number, number);
         assert_eq!(rt; line.text, text);
     }

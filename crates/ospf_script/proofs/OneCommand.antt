@@ -6,13 +6,13 @@ use Rattle.std.proofs.NetLemmas.Theorems.{IsIpv4Text_unique}
 use Rattle.std.proofs.lemmas.Nat.{from_be_bytes-to_be_bytes_4}
 use Rattle.ospf_base.specs.declared.ids.Addr.{Addr}
 use Rattle.ospf_base.specs.declared.ids.RouterId.{RouterId}
-use Rattle.ospf_script.specs.Commands.{AreChoices, AreNumbers, AreRounds, BeginsWalk, IsCountAlone, IsDelivery, IsRouterAlone, IsRouterAndLink, IsStart, IsWalk, Takes, name_of, no_floor}
+use Rattle.ospf_script.specs.Commands.{AreChoices, AreNumbers, AreRounds, BeginsWalk, IsAll, IsCountAlone, IsDelivery, IsRouterAlone, IsRouterAndLink, IsStart, IsWalk, Takes, name_of, no_floor}
 use Rattle.ospf_script.specs.Laws.{IsOneCommand, WordsSpellOneCommand}
 use Rattle.ospf_script.specs.Values.{IsAddress, IsDecimal, IsDotted32, IsFloor, IsRouter}
 use Rattle.ospf_script.specs.Words.{Text}
 use Rattle.ospf_script.specs.declared.command.Command.{Command}
 use Rattle.ospf_script.specs.declared.command.Command.TheVariants as command
-use Rattle.ospf_script.proofs.Unspelled.{name_text-injective}
+use Rattle.ospf_script.proofs.Unspelled.{word_is_one}
 
 -- ---- values
 
@@ -114,6 +114,15 @@ walk_one ws r s a b cs ds h k =
     let there : AreChoices k.0 cs = rw ends.2 at h.2 in
     (ends.0, ends.1, choices_one k.0 cs ds there k.2)
 
+-- one word is no Router ID with other words
+start_not_all : (ws : List Text) (r : RouterId) (n : ℕ) (f : ℤ) → IsStart ws r n f → IsAll ws → ⊥
+start_not_all (a ∷ []) r n f h all = elim h [ inl x ↦ x | inr x ↦ x ]
+start_not_all _ r n f h all = all
+
+link_not_all : (ws : List Text) (r : RouterId) (n : ℕ) → IsRouterAndLink ws r n → IsAll ws → ⊥
+link_not_all (a ∷ []) r n h all = h
+link_not_all _ r n h all = all
+
 -- ---- commands
 
 takes_one : (ws : List Text) (c d : Command) → name_of c ≡ name_of d → Takes c ws → Takes d ws → IsOneCommand c d
@@ -142,8 +151,18 @@ takes_one ws (command.Listing r) (command.Listing s) e h k = ap command.Listing 
 takes_one ws (command.Table r) (command.Table s) e h k = ap command.Table (router_alone_one ws r s h k)
 takes_one ws (command.Walk r a cs) (command.Walk s b ds) e h k = walk_one ws r s a b cs.items ds.items h k
 takes_one ws (command.Floor r) (command.Floor s) e h k = ap command.Floor (router_alone_one ws r s h k)
+takes_one ws (command.Say text) (command.Say other) e h k = h ∙ sym k
+takes_one ws command.StartAll command.StartAll e h k = refl
+takes_one ws command.UpAll command.UpAll e h k = refl
+takes_one ws command.DownAll command.DownAll e h k = refl
+takes_one ws (command.Start r m f) command.StartAll e h k = absurd (start_not_all ws r m f h k)
+takes_one ws command.StartAll (command.Start s n g) e h k = absurd (start_not_all ws s n g k h)
+takes_one ws (command.LinkUp r m) command.UpAll e h k = absurd (link_not_all ws r m h k)
+takes_one ws command.UpAll (command.LinkUp s n) e h k = absurd (link_not_all ws s n k h)
+takes_one ws (command.LinkDown r m) command.DownAll e h k = absurd (link_not_all ws r m h k)
+takes_one ws command.DownAll (command.LinkDown s n) e h k = absurd (link_not_all ws s n k h)
 takes_one ws c d e h k = let none : ⊥ = cc in absurd none
 
 pub one_command : WordsSpellOneCommand
 one_command [] c d h k = absurd h
-one_command (a ∷ ws) c d h k = takes_one ws c d (name_text-injective (name_of c) (name_of d) (sym h.0 ∙ k.0)) h.1 k.1
+one_command (a ∷ ws) c d h k = takes_one ws c d (word_is_one a (name_of c) (name_of d) h.0 k.0) h.1 k.1

@@ -1,5 +1,5 @@
 -- What spells a value is ASCII, and so is text.
-use Rattle.std.proofs.Common.{rules, ◌≡◌, ◌<◌, ◌≤◌, ◌^◌, ℕ, List, [], ◌∷◌, codes, length, Option, Some, None, IfNone, arith, subst, sym}
+use Rattle.std.proofs.Common.{rules, ◌≡◌, ◌<◌, ◌≤◌, ◌^◌, ℕ, List, [], ◌∷◌, codes, length, Option, Some, None, IfNone, arith, subst, sym, inl, inr, false, true, IsTrue, ◌↔◌}
 use Rattle.std.specs.Char.{digit_value}
 use Rattle.std.specs.Str.{IsAscii, IsUtf8}
 use Rattle.std.specs.Str.Parse.{AllDigits, digits_value}
@@ -9,7 +9,8 @@ use Rattle.std.proofs.lemmas.Fmt.{IsAscii-decimal}
 use Rattle.std.proofs.lemmas.Str.{IsAscii-append, IsUtf8-from_ascii}
 use Rattle.std.proofs.lemmas.Str.Ascii.{IsAscii-nil, IsAscii-cons}
 use Rattle.ospf_base.specs.Text.{IsDottedNumber}
-use Rattle.ospf_script.specs.Names.{name_text}
+use Rattle.ospf_script.specs.Names.{IsWordOf, name_text}
+use Rattle.ospf_script.specs.Words.{Text}
 use Rattle.ospf_script.specs.declared.name.Name.{Name}
 use Rattle.ospf_script.specs.declared.name.Name.TheVariants as name
 
@@ -52,3 +53,14 @@ eight_digits_fit ds digits eight =
 pub names_are_text : (name : Name) → IsUtf8 (name_text name)
 names_are_text name.Start = search rules
 names_are_text _ = search rules
+
+american_is_text : IsUtf8 (codes "neighbors")
+american_is_text = search rules
+
+pub words_are_text : (word : Text) (n : Name) → IsWordOf word n → IsUtf8 word
+words_are_text word name.Neighbours is = elim is [ inl british ↦ subst IsUtf8 (sym british) (names_are_text name.Neighbours) | inr american ↦ subst IsUtf8 (sym american) american_is_text ]
+words_are_text word n is = subst IsUtf8 (sym is) (names_are_text n)
+
+-- what is told not to hold does not
+pub untold : (P : Type 0) → (IsTrue false ↔ P) → P → ⊥
+untold P told holds = let h : false ≡ true = told.1 holds in cc

@@ -1,9 +1,9 @@
 -- Which words spell which command.
-use Rattle.std.specs.Prelude.{◌≡◌, ◌⊎◌, ⊤, ℕ, ℤ, List, [], ◌∷◌, ◌<◌, length, Option, None, Some}
+use Rattle.std.specs.Prelude.{◌≡◌, ◌⊎◌, ⊤, ℕ, ℤ, List, [], ◌∷◌, ◌++◌, ◌<◌, codes, flat_map, length, string_bytes, Option, None, Some}
 use Rattle.std.specs.Int.{w32, cast_signed}
 use Rattle.ospf_base.specs.declared.ids.Addr.{Addr}
 use Rattle.ospf_base.specs.declared.ids.RouterId.{RouterId}
-use Rattle.ospf_script.specs.Names.{name_text}
+use Rattle.ospf_script.specs.Names.{IsWordOf, name_text}
 use Rattle.ospf_script.specs.Values.{IsAddress, IsDecimal, IsFloor, IsRouter}
 use Rattle.ospf_script.specs.Words.{IsBlank, Text, words}
 use Rattle.ospf_script.specs.declared.command.Command.{Command}
@@ -86,6 +86,15 @@ IsWalk ws from address choices = (rest : List Text) × BeginsWalk ws from addres
 abbrev pub IsLongWalk : List Text → Type 0
 IsLongWalk ws = (from : RouterId) × (address : Addr) × (rest : List Text) × BeginsWalk ws from address rest × AreManyChoices rest
 
+-- the word `all` alone
+abbrev pub IsAll : List Text → Type 0
+IsAll ws = IsOne (λ a. a ≡ codes "all") ws
+
+-- words with a space between two
+abbrev pub spaced : List Text → Text
+spaced [] = []
+spaced (a ∷ ws) = a ++ flat_map (λ b. 32 ∷ b) ws
+
 -- ---- commands
 
 abbrev pub name_of : Command → Name
@@ -102,6 +111,10 @@ name_of (command.Listing router) = name.Listing
 name_of (command.Table router) = name.Table
 name_of (command.Walk from address choices) = name.Walk
 name_of (command.Floor router) = name.Floor
+name_of (command.Say text) = name.Say
+name_of command.StartAll = name.Start
+name_of command.UpAll = name.Up
+name_of command.DownAll = name.Down
 
 -- the words behind its name
 abbrev pub Takes : Command → List Text → Type 0
@@ -118,11 +131,15 @@ Takes (command.Listing router) ws = IsRouterAlone ws router
 Takes (command.Table router) ws = IsRouterAlone ws router
 Takes (command.Walk from address choices) ws = IsWalk ws from address choices.items
 Takes (command.Floor router) ws = IsRouterAlone ws router
+Takes (command.Say text) ws = string_bytes text ≡ spaced ws
+Takes command.StartAll ws = IsAll ws
+Takes command.UpAll ws = IsAll ws
+Takes command.DownAll ws = IsAll ws
 
 -- the words spell the command: its name, and what it takes
 abbrev pub Spells : List Text → Command → Type 0
 Spells [] c = ⊥
-Spells (a ∷ ws) c = (a ≡ name_text (name_of c)) × Takes c ws
+Spells (a ∷ ws) c = IsWordOf a (name_of c) × Takes c ws
 
 -- ---- lines
 
@@ -134,3 +151,11 @@ pub record IsUnreadable (line : Text) : Type 0 where
 -- the words spell a walk with a choice or more
 abbrev pub SpellsLongWalk : List Text → Type 0
 SpellsLongWalk ws = (rest : List Text) × (ws ≡ name_text name.Walk ∷ rest) × IsLongWalk rest
+
+-- the words spell a text to be printed
+abbrev pub SpellsText : List Text → Type 0
+SpellsText ws = (rest : List Text) × (ws ≡ name_text name.Say ∷ rest)
+
+-- they spell a command that needs room: for the choices of a walk, or for a text
+abbrev pub NeedsRoom : List Text → Type 0
+NeedsRoom ws = SpellsLongWalk ws ⊎ SpellsText ws

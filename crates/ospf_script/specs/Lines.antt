@@ -1,6 +1,6 @@
 -- Lines of a text, with their numbers: a line ends with a line feed, before which a carriage return may stand, or with the text.
-use Rattle.std.specs.Prelude.{ℕ, List}
-use Rattle.std.specs.List.{enumerate_from}
+use Rattle.std.specs.Prelude.{◌==◌, ℕ, List, map, take}
+use Rattle.std.specs.List.{enumerate_from, position_or_len}
 use Rattle.std.specs.Str.Lines as std
 use Rattle.ospf_script.specs.Words.{Text}
 use Rattle.ospf_script.specs.declared.script.Line.{Line}
@@ -13,6 +13,10 @@ lines_of text = std.lines text
 abbrev pub entry_of : Line → ℕ × Text
 entry_of line = (line.number, line.text.now)
 
--- the lines with their numbers, from this one on
+-- a line without its comment: that stands from the first # on
+abbrev pub uncommented : Text → Text
+uncommented line = take (position_or_len (λ b. b == 35) line) line
+
+-- the lines without their comments, with their numbers, from this one on
 abbrev pub numbered_from : ℕ → Text → List (ℕ × Text)
-numbered_from number text = enumerate_from number (lines_of text)
+numbered_from number text = enumerate_from number (map uncommented (lines_of text))

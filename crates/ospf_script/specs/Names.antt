@@ -1,5 +1,5 @@
 -- The words that commands begin with.
-use Rattle.std.specs.Prelude.{⊤, codes}
+use Rattle.std.specs.Prelude.{◌≡◌, ◌⊎◌, ⊤, codes}
 use Rattle.ospf_script.specs.Words.{Text}
 use Rattle.ospf_script.specs.declared.name.Name.{Name}
 use Rattle.ospf_script.specs.declared.name.Name.TheVariants as name
@@ -18,6 +18,12 @@ name_text name.Listing = codes "listing"
 name_text name.Table = codes "table"
 name_text name.Walk = codes "walk"
 name_text name.Floor = codes "floor"
+name_text name.Say = codes "say"
+
+-- the word is the name, or stands for it
+abbrev pub IsWordOf : Text → Name → Type 0
+IsWordOf word name.Neighbours = (word ≡ codes "neighbours") ⊎ (word ≡ codes "neighbors")
+IsWordOf word n = word ≡ name_text n
 
 -- the commands of a router alone
 abbrev pub IsOfRouter : Name → Type 0

@@ -1,5 +1,5 @@
 -- Commands as they are printed.
-use Rattle.std.specs.Prelude.{ℕ, ℤ, ◌-◌, List, [], ◌++◌, Option, None, Some, codes, decimal, false, flat_map, length, replicate}
+use Rattle.std.specs.Prelude.{ℕ, ℤ, ◌-◌, List, [], ◌++◌, Option, None, Some, codes, decimal, false, flat_map, length, replicate, string_bytes}
 use Rattle.std.specs.Fmt.{digits}
 use Rattle.std.specs.Int.{w32, cast_unsigned}
 use Rattle.ospf_base.specs.Text.{number_text}
@@ -41,3 +41,7 @@ command_text (command.Table router) = codes "table " ++ number_text router.0
 command_text (command.Walk from address choices) =
     codes "walk " ++ number_text from.0 ++ codes " " ++ number_text address.0 ++ choices_text choices.items
 command_text (command.Floor router) = codes "floor " ++ number_text router.0
+command_text (command.Say text) = codes "say " ++ string_bytes text
+command_text command.StartAll = codes "start all"
+command_text command.UpAll = codes "up all"
+command_text command.DownAll = codes "down all"

@@ -69,4 +69,14 @@ pub enum Command {
     Floor {
         router: RouterId,
     },
+    /// `say WORD..`: the words are printed, with a space between two.
+    Say {
+        text: String,
+    },
+    /// `start all`: each router starts, with 1 as the first DD sequence number that it sends, and above no floor.
+    StartAll,
+    /// `up all`: each link of each router comes up.
+    UpAll,
+    /// `down all`: each link of each router goes down.
+    DownAll,
 }

@@ -9,6 +9,7 @@ mod laws;
 mod name;
 mod places;
 mod read;
+mod say;
 mod script;
 mod shapes;
 mod show;

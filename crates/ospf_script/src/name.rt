@@ -16,11 +16,12 @@ pub(crate) enum Name {
     Table,
     Walk,
     Floor,
+    Say,
 }
 
 impl Name {
     ghost use Rattle.std.specs.Prelude.{◌≡◌, IfSome, IfNone};
-    ghost use Rattle.ospf_script.specs.Names.{name_text};
+    ghost use Rattle.ospf_script.specs.Names.{IsWordOf, name_text};
     ghost use Rattle.ospf_script.specs.declared.name.Name.{Name};
 
     // The word itself.
@@ -41,13 +42,14 @@ impl Name {
             Name::Table => "table",
             Name::Walk => "walk",
             Name::Floor => "floor",
+            Name::Say => "say",
         }
     }
 
     // The name that a word is, if it is one.
     pub(crate) fn read(word: &[u8]) -> Option<Name>
-        ensures some { IfSome result (λ name. word.now ≡ name_text name) }
-        ensures none { IfNone result ((name : Name) → word.now ≡ name_text name → ⊥) }
+        ensures some { IfSome result (IsWordOf word.now) }
+        ensures none { IfNone result ((name : Name) → IsWordOf word.now name → ⊥) }
     {
         match str::from_utf8(word) {
             Ok(text) => Name::of_text(text),
@@ -57,8 +59,8 @@ impl Name {
 
     // The name that a text is, if it is one.
     fn of_text(text: &str) -> Option<Name>
-        ensures some { IfSome result (λ name. text.now ≡ name_text name) }
-        ensures none { IfNone result ((name : Name) → text.now ≡ name_text name → ⊥) }
+        ensures some { IfSome result (IsWordOf text.now) }
+        ensures none { IfNone result ((name : Name) → IsWordOf text.now name → ⊥) }
     {
         let name = match text {
             "start" => Name::Start,
@@ -69,11 +71,12 @@ impl Name {
             "deliver" => Name::Deliver,
             "round" => Name::Round,
             "random" => Name::Random,
-            "neighbours" => Name::Neighbours,
+            "neighbours" | "neighbors" => Name::Neighbours,
             "listing" => Name::Listing,
             "table" => Name::Table,
             "walk" => Name::Walk,
             "floor" => Name::Floor,
+            "say" => Name::Say,
             _ => return None,
         };
         Some(name)

@@ -1,6 +1,6 @@
 //! The lines of a script.
 
-ghost use Rattle.std.specs.Prelude.{◌≡◌, ◌≢◌, IfOk, IfErr, IfSome, IfNone};
+ghost use Rattle.std.specs.Prelude.{◌≡◌, ◌≢◌, ◌⊎◌, IfOk, IfErr, IfSome, IfNone};
 ghost use Rattle.ospf_script.specs.Commands.{IsLongWalk, Takes, name_of};
 ghost use Rattle.ospf_script.specs.Names.{IsOfRouter};
 ghost use Rattle.ospf_script.specs.Words.{words};
@@ -10,6 +10,7 @@ ghost use Rattle.ospf_script.specs.declared.name.Name.TheVariants as names;
 use crate::command::Command;
 use crate::fault::LineFault;
 use crate::name::Name;
+use crate::say::{is_all, text_in};
 use crate::shapes::{delivery_in, numbers_in, rounds_in, router_and_link_in, router_in, start_in};
 use crate::walk::walk_in;
 use crate::words::first_word;
@@ -17,7 +18,7 @@ use std::alloc::Global;
 
 impl Command {
     ghost use Rattle.std.specs.Prelude.{◌≡◌, ◌↔◌, IfOk, IfErr, IfSome, IsNone};
-    ghost use Rattle.ospf_script.specs.Commands.{IsUnreadable, Spells, SpellsLongWalk};
+    ghost use Rattle.ospf_script.specs.Commands.{IsUnreadable, NeedsRoom, Spells};
     ghost use Rattle.ospf_script.specs.Words.{IsBlank, words};
 
     /// Reads a line of a script, without its end: the command that its words spell, or `None` of a blank line.
@@ -25,14 +26,13 @@ impl Command {
     /// Words stand between spaces, and nothing else ends one. Numbers are decimal digits, of 32 bits where they are a first
     /// DD sequence number or a choice, else of 64; a floor is eight hexadecimal digits of either case, and 80000000 where
     /// it is left out. The error is `NotACommand` where the words of a line that is not blank spell none. `Memory` comes
-    /// only where there was no room for the choices of a walk.
+    /// only where there was no room for the choices of a walk, or for a text to be printed.
     pub fn read(alloc: Global, line: &[u8]) -> Result<Option<Command>, LineFault>
         ensures command { IfOk result (λ read. IfSome read (Spells (words line.now))) }
         ensures blank { IfOk result (λ read. IsNone read ↔ IsBlank line.now) }
         ensures not_a_command { IfErr result (λ e. e ≡ LineFault.NotACommand →
             IsUnreadable line.now) }
-        ensures memory { IfErr result (λ e. e ≡ LineFault.Memory →
-            SpellsLongWalk (words line.now)) }
+        ensures memory { IfErr result (λ e. e ≡ LineFault.Memory → NeedsRoom (words line.now)) }
     {
         let Some((word, rest)) = first_word(line) else {
             return Ok(None);
@@ -54,7 +54,7 @@ fn of_words(alloc: Global, name: Name, text: &[u8]) -> Result<Command, LineFault
     ensures not_a_command { IfErr result (λ e. e ≡ LineFault.NotACommand → (command : Command) →
         name_of command ≡ name → Takes command (words text.now) → ⊥) }
     ensures memory { IfErr result (λ e. e ≡ LineFault.Memory →
-        (name ≡ names.Walk) × IsLongWalk (words text.now)) }
+        ((name ≡ names.Walk) × IsLongWalk (words text.now)) ⊎ (name ≡ names.Say)) }
 {
     match name {
         Name::Walk => match walk_in(alloc, text) {
@@ -65,6 +65,10 @@ fn of_words(alloc: Global, name: Name, text: &[u8]) -> Result<Command, LineFault
             }),
             Err(fault) => Err(fault),
         },
+        Name::Say => match text_in(alloc, text) {
+            Ok(text) => Ok(Command::Say { text }),
+            Err(fault) => Err(fault),
+        },
         _ => match of_name(name, text) {
             Some(command) => Ok(command),
             None => Err(LineFault::NotACommand),
@@ -72,14 +76,17 @@ fn of_words(alloc: Global, name: Name, text: &[u8]) -> Result<Command, LineFault
     }
 }
 
-// The command of a name that is not `walk`, and of the words behind it.
+// The command of a name that is neither `walk` nor `say`, and of the words behind it.
 fn of_name(name: Name, text: &[u8]) -> Option<Command>
     ensures named { IfSome result (λ command. name_of command ≡ name) }
     ensures some { IfSome result (λ command. Takes command (words text.now)) }
-    ensures none { IfNone result (name ≢ names.Walk → (command : Command) → name_of command ≡ name →
-        Takes command (words text.now) → ⊥) }
+    ensures none { IfNone result (name ≢ names.Walk → name ≢ names.Say → (command : Command) →
+        name_of command ≡ name → Takes command (words text.now) → ⊥) }
 {
     match name {
+        Name::Start if is_all(text) => Some(Command::StartAll),
+        Name::Up if is_all(text) => Some(Command::UpAll),
+        Name::Down if is_all(text) => Some(Command::DownAll),
         Name::Start => {
             let (router, dd_start, floor) = start_in(text)?;
             Some(Command::Start {
@@ -112,7 +119,7 @@ fn of_name(name: Name, text: &[u8]) -> Option<Command>
             let (number, count) = numbers_in(text)?;
             Some(Command::Random { number, count })
         }
-        Name::Walk => None,
+        Name::Walk | Name::Say => None,
         _ => of_router(name, text),
     }
 }

@@ -2,7 +2,7 @@
 
 ghost use Rattle.std.specs.Prelude.{◌≡◌, ◌<◌, ◌∷◌, [], length, map, IfOk, IfSome, IfNone};
 ghost use Rattle.std.specs.Str.Lines.{strip_carriage_return};
-ghost use Rattle.ospf_script.specs.Lines.{entry_of, lines_of, numbered_from};
+ghost use Rattle.ospf_script.specs.Lines.{entry_of, lines_of, numbered_from, uncommented};
 
 use crate::places::place_of;
 use std::alloc::{AllocError, Global};
@@ -12,7 +12,7 @@ use std::alloc::{AllocError, Global};
 pub struct Line<'a> {
     /// From 1 on.
     pub number: u64,
-    /// Its bytes, without its end.
+    /// Its bytes, without its end and its comment.
     pub text: &'a [u8],
 }
 
@@ -34,7 +34,7 @@ pub fn first_line(text: &[u8]) -> Option<(&[u8], &[u8])>
     }
 }
 
-/// The lines of a text, in order.
+/// The lines of a text, in order, without their comments: one begins with `#`.
 ///
 /// The error says that memory ran out.
 pub fn lines(alloc: Global, text: &[u8]) -> Result<Vec<Line<'_>>, AllocError>
@@ -45,7 +45,8 @@ pub fn lines(alloc: Global, text: &[u8]) -> Result<Vec<Line<'_>>, AllocError>
     let mut number = 0;
     while let Some((line, behind)) = first_line(rest) {
         number += 1;
-        found.push(Line { number, text: line })?;
+        let text = without_comment(line);
+        found.push(Line { number, text })?;
         rest = behind;
     }
     Ok(found)
@@ -59,4 +60,12 @@ fn without_return(line: &[u8]) -> &[u8]
         [text @ .., b'\r'] => text,
         _ => line,
     }
+}
+
+// A line without its comment.
+fn without_comment(line: &[u8]) -> &[u8]
+    ensures { result.now ≡ uncommented line.now }
+{
+    let (text, _) = line.split_at(place_of(line, b'#'));
+    text
 }

@@ -1,7 +1,7 @@
 //! Commands as text.
 
 ghost use Rattle.std.specs.Fmt.{WritesOnOk};
-ghost use Rattle.ospf_script.specs.Texts.{choices_text, floor_text};
+ghost use Rattle.ospf_script.specs.Texts.{choices_text, floor_text, most_text};
 
 use crate::command::Command;
 use std::fmt::{self, Display, Formatter, Write};
@@ -32,11 +32,10 @@ impl Display for Command {
                 router,
                 link,
             } => write!(f, "deliver {datagram} {router} {link}"),
-            Command::Round {
-                count,
-                most: Some(most),
-            } => write!(f, "round {count} {most}"),
-            Command::Round { count, most: None } => write!(f, "round {count}"),
+            Command::Round { count, most } => {
+                write!(f, "round {count}")?;
+                write_most(f, most)
+            }
             Command::Random { number, count } => write!(f, "random {number} {count}"),
             Command::Neighbours { router } => write!(f, "neighbours {router}"),
             Command::Listing { router } => write!(f, "listing {router}"),
@@ -50,6 +49,10 @@ impl Display for Command {
                 write_choices(f, choices)
             }
             Command::Floor { router } => write!(f, "floor {router}"),
+            Command::Say { text } => write!(f, "say {text}"),
+            Command::StartAll => f.write_str("start all"),
+            Command::UpAll => f.write_str("up all"),
+            Command::DownAll => f.write_str("down all"),
         }
     }
 }
@@ -60,6 +63,16 @@ pub(crate) fn write_floor<W: Write>(f: &mut Formatter<W>, floor: i32) -> fmt::Re
 {
     let bits = floor.cast_unsigned();
     write!(f, "{bits:08x}")
+}
+
+// How many datagrams at most, where that is given, behind a space.
+fn write_most<W: Write>(f: &mut Formatter<W>, most: &Option<u64>) -> fmt::Result
+    ensures { WritesOnOk W.Write.write_str_gives f.old result (most_text most.now) f.new }
+{
+    match most {
+        Some(most) => write!(f, " {most}"),
+        None => Ok(()),
+    }
 }
 
 // Choices, each behind a space.

@@ -1,17 +1,20 @@
 -- Commands that are done.
 use Rattle.std.proofs.Common.{◌≡◌, sym, subst, refl, ℕ, List, [], Option, None, Some, Result, Ok, Err, IfOk, OnErr}
-use Rattle.std.specs.Prelude.{Vec}
+use Rattle.std.specs.Io.KnownBytes.{Appends}
+use Rattle.std.specs.Prelude.{String, Vec}
 use Rattle.std.specs.declared.alloc.Global.{Global}
 use Rattle.ospf_base.specs.declared.ids.Addr.{Addr}
 use Rattle.ospf_base.specs.declared.ids.RouterId.{RouterId}
 use Rattle.ospf_files.proofs.Written.{nothing_written}
+use Rattle.ospf_files.specs.Streams.{IsBegun}
 use Rattle.ospf_files.specs.declared.status.Failure.{Failure}
 use Rattle.ospf_headline.specs.declared.event.WorldEvent.{WorldEvent}
 use Rattle.ospf_script.specs.declared.command.Command.{Command}
 use Rattle.ospf_script.specs.declared.command.Command.TheVariants as command
 use Rattle.ospf_sim.specs.Worlds.{WorldValue, EventDoes, IsRandom}
 use Rattle.ospf_sim.specs.Begun.{IsDoneBegun, IsShownBegun, IsWalkBegun}
-use Rattle.ospf_sim.specs.Commands.{Answer, AreRounds, DoesBy, DoesShown, IsDone, IsShownOn, IsWalked, IsWalkedOn, event_in, most_of, shown_in}
+use Rattle.ospf_sim.specs.Commands.{Answer, AreRounds, Does, DoesBy, DoesShown, IsDone, IsShownOn, IsWalked, IsWalkedOn, event_in, most_of, shown_in}
+use Rattle.ospf_sim.specs.Shown.{said_line}
 use Rattle.ospf_sim.specs.declared.show.View.{View}
 
 pub event_done : (c : Command) (e : WorldEvent) (w w' : WorldValue) (answer : Answer) (o : Option (List ℕ)) → event_in c ≡ Some e → EventDoes e w answer w'
@@ -68,3 +71,18 @@ walk_begun c from address choices given w (Ok answer) a b is same h = tt
 walk_begun c from address choices given w (Err failure) a b is same h =
     subst (λ d. IsDoneBegun d w w a b) (sym is)
     (record { answer = h.answer; text = h.text; does = (subst (λ list. IsWalked w from address.0 list h.answer h.text) same h.walked, refl); begun = h.begun })
+
+-- a text that is said, and a beginning of it
+pub said_done : (c : Command) (said : String Global) (w : WorldValue) (result : Result Answer Failure) (a b : Option (List ℕ)) → c ≡ command.Say said
+    → IfOk result (λ answer. (answer ≡ Ok tt) × Appends a b (said_line said)) → IfOk result (λ answer. IsDone c w answer w a b)
+said_done c said w (Err failure) a b is h = h
+said_done c said w (Ok answer) a b is h = subst (λ d. IsDone d w answer w a b) (sym is) (record { text = said_line said; does = (h.0, refl, refl); written = h.1 })
+
+pub said_begun : (c : Command) (said : String Global) (w : WorldValue) (result : Result Answer Failure) (a b : Option (List ℕ)) → c ≡ command.Say said
+    → OnErr result (IsBegun a b (said_line said)) → OnErr result (IsDoneBegun c w w a b)
+said_begun c said w (Ok answer) a b is h = tt
+said_begun c said w (Err failure) a b is h = subst (λ d. IsDoneBegun d w w a b) (sym is) (record { answer = Ok tt; text = said_line said; does = (refl, refl, refl); begun = h })
+
+-- what comes about at all routers
+pub all_done : (c d : Command) (w w' : WorldValue) (answer : Answer) (o : Option (List ℕ)) → c ≡ d → Does d w answer [] w' → IsDone c w answer w' o o
+all_done c d w w' answer o is does = subst (λ e. IsDone e w answer w' o o) (sym is) (record { text = []; does = does; written = nothing_written o })

@@ -7,3 +7,4 @@ pub mod Done
 pub mod Worlds
 pub mod Lent
 pub mod Cuts
+pub mod Alls

@@ -12,7 +12,7 @@ use Rattle.ospf_files.specs.declared.status.Failure.{Failure}
 use Rattle.ospf_files.specs.declared.status.Failure.TheVariants as failure
 use Rattle.ospf_files.specs.declared.streams.FailedStreams.{FailedStreams}
 use Rattle.ospf_headline.specs.declared.event.WorldFault.{WorldFault}
-use Rattle.ospf_script.specs.Commands.{IsUnreadable, Spells, SpellsLongWalk}
+use Rattle.ospf_script.specs.Commands.{IsUnreadable, NeedsRoom, Spells}
 use Rattle.ospf_script.specs.Lines.{numbered_from}
 use Rattle.ospf_script.specs.Words.{Text, words}
 use Rattle.ospf_script.specs.declared.command.Command.{Command}
@@ -77,10 +77,10 @@ pub record IsRefusalCut (number : ℕ) (line : Text) (w : WorldValue) (failed : 
   pub printed : Appends out_old out_then text
   pub told : IsTellingCut (refusal_line number fault) failed out_then out_new err_old err_new f
 
--- a line is cut: before it does anything, where there is no room for the choices of a walk; in what it prints; in its refusal;
+-- a line is cut: before it does anything, where there is no room for the choices of a walk or for a text; in what it prints; in its refusal;
 -- or where it cannot be read, and that is not told whole
 pub data IsLineCut (number : ℕ) (line : Text) (w : WorldValue) (failed : FailedStreams) (out_old out_new err_old err_new : Option (List ℕ)) : Failure → Type 0 where
-  no_choices : SpellsLongWalk (words line) → out_new ≡ out_old → err_new ≡ err_old
+  no_room_for : NeedsRoom (words line) → out_new ≡ out_old → err_new ≡ err_old
       → IsLineCut number line w failed out_old out_new err_old err_new failure.Memory
   in_print : {f : Failure} → IsOutputCut failed f → IsPrintBegun line w out_old out_new → err_new ≡ err_old
       → IsLineCut number line w failed out_old out_new err_old err_new f

@@ -11,7 +11,9 @@ use Rattle.ospf_script.specs.declared.command.Command.{Command}
 use Rattle.ospf_script.specs.declared.command.Command.TheVariants as command
 use Rattle.ospf_sim.specs.Worlds.{WorldValue, EventDoes, IsRoundOf, IsRandom, most_offers, IsWalkFrom, LendsRouter, IsNotLent}
 use Rattle.ospf_world.specs.declared.walk.Walk.{Walk}
-use Rattle.ospf_sim.specs.Shown.{view_lines, walk_line}
+use Rattle.ospf_sim.specs.All.{ComesAbout}
+use Rattle.ospf_sim.specs.Shown.{said_line, view_lines, walk_line}
+use Rattle.ospf_sim.specs.declared.all.All.TheVariants as all
 use Rattle.ospf_sim.specs.declared.show.View.{View}
 use Rattle.ospf_sim.specs.declared.show.View.TheVariants as view
 
@@ -66,6 +68,10 @@ abbrev pub DoesOther : Command → WorldValue → Answer → Text → WorldValue
 DoesOther (command.Round count most) w answer text w' = AreRounds (most_of most) count w answer w' × (text ≡ [])
 DoesOther (command.Random number count) w answer text w' = IsRandom number count w answer w' × (text ≡ [])
 DoesOther (command.Walk from address choices) w answer text w' = IsWalked w from address.0 choices.items answer text × (w' ≡ w)
+DoesOther (command.Say said) w answer text w' = (answer ≡ Ok tt) × (text ≡ said_line said) × (w' ≡ w)
+DoesOther command.StartAll w answer text w' = ComesAbout all.Starts w answer w' × (text ≡ [])
+DoesOther command.UpAll w answer text w' = ComesAbout all.Up w answer w' × (text ≡ [])
+DoesOther command.DownAll w answer text w' = ComesAbout all.Down w answer w' × (text ≡ [])
 DoesOther _ w answer text w' = ⊥
 
 abbrev pub DoesShown : Option (RouterId × View) → Command → WorldValue → Answer → Text → WorldValue → Type 0

@@ -1,4 +1,5 @@
 pub mod Worlds
+pub mod All
 pub mod Shown
 pub mod Commands
 pub mod Scripts

@@ -1,5 +1,6 @@
 -- What a printing line of a script prints.
-use Rattle.std.specs.Prelude.{ℕ, zero, suc, List, [], ◌++◌, Option, codes, decimal, flat_map}
+use Rattle.std.specs.Prelude.{ℕ, zero, suc, List, [], ◌++◌, Option, String, codes, decimal, flat_map, string_bytes}
+use Rattle.std.specs.declared.alloc.Global.{Global}
 use Rattle.ospf_area.specs.State.{AreaValue}
 use Rattle.ospf_base.specs.Text.{number_text}
 use Rattle.ospf_headline.specs.declared.walk.WalkEnd.{WalkEnd}
@@ -78,3 +79,7 @@ end_text Turns = codes "turns"
 abbrev pub walk_line : Walk → Text
 walk_line walk =
     routers_text walk.routers.items ++ codes "cost " ++ decimal walk.cost ++ codes " " ++ end_text walk.end ++ codes "\n"
+
+-- a text that is said
+abbrev pub said_line : String Global → Text
+said_line said = string_bytes said ++ codes "\n"

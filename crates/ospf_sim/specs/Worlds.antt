@@ -14,7 +14,7 @@ use Rattle.ospf_world.specs.declared.walk.Walk.{Walk}
 use Rattle.rand_pcg.specs.Lcg.{increment_of, started}
 use Rattle.rand_pcg.specs.Pcg.{multiplier_64}
 pub use Rattle.ospf_world.specs.Rounds.{IsRoundOf, most_offers}
-pub use Rattle.ospf_world.specs.Worlds.{WorldValue}
+pub use Rattle.ospf_world.specs.Worlds.{SlotValue, WorldValue}
 
 -- what an event does: what it names happens to the router that it names, exactly
 abbrev pub EventDoes : WorldEvent → WorldValue → Result (Unit {0}) WorldFault → WorldValue → Type 0

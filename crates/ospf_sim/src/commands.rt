@@ -1,12 +1,15 @@
 //! Commands that are done.
 
-ghost use Rattle.std.specs.Prelude.{◌≡◌, IfErr, IfOk, None, OnErr};
-ghost use Rattle.ospf_files.specs.Streams.{IsOutputCut};
+ghost use Rattle.std.specs.Prelude.{◌≡◌, IfErr, IfOk, None, Ok, OnErr};
+ghost use Rattle.std.specs.Io.KnownBytes.{Appends};
+ghost use Rattle.ospf_files.specs.Streams.{IsBegun, IsOutputCut};
 ghost use Rattle.ospf_sim.specs.Begun.{IsDoneBegun, IsShownBegun, IsWalkBegun};
 ghost use Rattle.ospf_sim.specs.Commands.{AreRounds, event_in, IsDone, IsShownOn, IsWalkedOn, most_of, shown_in};
+ghost use Rattle.ospf_sim.specs.Shown.{said_line};
 ghost use Rattle.ospf_sim.specs.Worlds.{IsRandom};
 
-use crate::show::{View, write_view, write_walk};
+use crate::all::{All, run_all};
+use crate::show::{View, write_said, write_view, write_walk};
 use crate::watch::Watch;
 use ospf_base::{Addr, RouterId};
 use ospf_files::{FailedStreams, Failure};
@@ -168,6 +171,10 @@ fn run_other<O: Write, V: Watch>(
             address,
             choices,
         } => show_walk(world, *from, *address, choices, out, alloc, streams),
+        Command::Say { text } => show_said(text, out, alloc, streams),
+        Command::StartAll => Ok(run_all(world, All::Starts, alloc)),
+        Command::UpAll => Ok(run_all(world, All::Up, alloc)),
+        Command::DownAll => Ok(run_all(world, All::Down, alloc)),
         _ => Ok(Ok(())),
     }
 }
@@ -277,4 +284,21 @@ fn show_walk<O: Write>(
         }
         Err(fault) => Ok(Err(fault)),
     }
+}
+
+// Prints what is said. Where that fails, a beginning of it was written.
+fn show_said<O: Write>(
+    said: &String,
+    out: &mut O,
+    alloc: Global,
+    streams: &mut FailedStreams,
+) -> Result<Result<(), WorldFault>, Failure>
+    ensures said { IfOk result (λ answer. (answer ≡ Ok tt)
+        × Appends (O.contents out.old) (O.contents out.new) (said_line said.now)) }
+    ensures begun { OnErr result
+        (IsBegun (O.contents out.old) (O.contents out.new) (said_line said.now)) }
+    ensures cut { IfErr result (IsOutputCut streams.new) }
+{
+    write_said(alloc, said, out, streams)?;
+    Ok(Ok(()))
 }

@@ -4,6 +4,7 @@
 //! `sim_text` runs a script. What each command does stands in `specs/Commands`, what it prints in `specs/Shown`.
 #![tactic(auto)]
 
+mod all;
 mod commands;
 mod configs;
 mod script;

@@ -3,7 +3,7 @@
 ghost use Rattle.std.specs.Prelude.{◌≡◌, IfErr, IfOk, OnErr, OnOk, flat_map, string_bytes};
 ghost use Rattle.std.specs.Io.KnownBytes.{Appends};
 ghost use Rattle.ospf_files.specs.Streams.{IsBegun, IsOutputCut};
-ghost use Rattle.ospf_sim.specs.Shown.{end_text, floor_line, link_lines, listed_line, listing_lines, neighbour_line, neighbours_lines, state_text, table_lines, view_lines, walk_line};
+ghost use Rattle.ospf_sim.specs.Shown.{end_text, floor_line, link_lines, listed_line, listing_lines, neighbour_line, neighbours_lines, said_line, state_text, table_lines, view_lines, walk_line};
 
 use ospf_files::{FailedStreams, Failure, print_routes};
 use ospf_headline::WalkEnd;
@@ -64,6 +64,30 @@ pub(crate) fn write_walk<O: Write>(
 {
     let line = walk_line(alloc, walk)?;
     streams.write(out, &line)
+}
+
+// Writes a text that is said. Where that fails, a beginning of it was written.
+pub(crate) fn write_said<O: Write>(
+    alloc: Global,
+    said: &String,
+    out: &mut O,
+    streams: &mut FailedStreams,
+) -> Result<(), Failure>
+    ensures written { OnOk result
+        (Appends (O.contents out.old) (O.contents out.new) (said_line said.now)) }
+    ensures begun { OnErr result
+        (IsBegun (O.contents out.old) (O.contents out.new) (said_line said.now)) }
+    ensures cut { IfErr result (IsOutputCut streams.new) }
+{
+    let line = said_line(alloc, said)?;
+    streams.write(out, &line)
+}
+
+// The line of a text that is said.
+fn said_line(alloc: Global, said: &String) -> Result<String, AllocError>
+    ensures { IfOk result (λ line. string_bytes line ≡ said_line said.now) }
+{
+    format!(in alloc; "{said}\n")
 }
 
 // Writes the neighbours of a router, by link and Router ID.

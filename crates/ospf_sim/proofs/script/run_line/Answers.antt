@@ -1,7 +1,7 @@
 use Rattle.std.proofs.Common.{[], refl}
 use Rattle.ospf_files.proofs.Cut.{for_failure}
 use Rattle.ospf_files.proofs.Written.{nothing_written}
-use Rattle.ospf_sim.specs.Begun.{IsLineCut, in_print, no_choices}
+use Rattle.ospf_sim.specs.Begun.{IsLineCut, in_print, no_room_for}
 use Rattle.ospf_sim.specs.Scripts.{is_passed_over}
 use Rattle.ospf_sim.proofs.Cuts.{refusal_cut}
 use Rattle.ospf_sim.proofs.Lines.{line_taken}
@@ -41,4 +41,4 @@ returns-in_err-tell_answer-in-Ok-Some-clause-cut g c =
     (refusal_cut _ _ _ _ _ _ _ _ _ _ _ _ _ spelled c.in_ok-answer-in-Ok-Some.ensures.done c.in_err-tell_answer-in-Ok-Some.ensures.cut)
 
 pub returns-in-Err-Memory-clause-cut : goal.returns-in-Err-Memory-clause-cut
-returns-in-Err-Memory-clause-cut g c = no_choices (c.in-Err-Memory.ensures.memory c.in-Err-Memory.field-0-is) refl refl
+returns-in-Err-Memory-clause-cut g c = no_room_for (c.in-Err-Memory.ensures.memory c.in-Err-Memory.field-0-is) refl refl

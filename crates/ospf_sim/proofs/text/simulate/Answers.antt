@@ -1,6 +1,5 @@
 use Rattle.std.proofs.Common.{inl, refl, subst}
 use Rattle.ospf_files.proofs.Cut.{cut_then, for_failure}
-use Rattle.ospf_files.specs.Files.{text_in}
 use Rattle.ospf_files.specs.Streams.{IsErrorCut}
 use Rattle.ospf_script.specs.Words.{Text}
 use Rattle.ospf_sim.specs.Begun.{IsCut, IsScriptCut, in_unread, in_world}
