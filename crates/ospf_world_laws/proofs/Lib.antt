@@ -1,4 +1,5 @@
 pub mod Config
+pub mod DownLemmas
 pub mod States
 pub mod Steps
 pub mod Works

@@ -17,7 +17,7 @@ use Rattle.ospf_whatif.specs.Failure.{kept_links, takes}
 use Rattle.ospf_whatif.specs.declared.failure.Failure.{Failure}
 use Rattle.ospf_whatif.specs.declared.failure.Failure.TheVariants as fails
 use Rattle.ospf_whatif.proofs.WithoutLemmas.{kept_links-append}
-use Rattle.ospf_whatif_laws.specs.Wanted.{AreSpared, IsLeft, IsOfNetwork, IsWireUp, wanted_links}
+use Rattle.ospf_world_laws.specs.Wanted.{AreSpared, IsLeft, IsOfNetwork, IsWireUp, wanted_links}
 use Rattle.ospf_wanted.proofs.SaidLemmas.{up_is}
 
 -- ---- links that are all kept, or all taken
