@@ -5,6 +5,7 @@ use ospf_base::Addr;
 use ospf_check::{check_area_text, check_text};
 use ospf_failures::failures_text;
 use ospf_files::{FailedStreams, Failure, NamedFile, Status};
+use ospf_inspect::inspect_text;
 use ospf_sim::{Watch, sim_text};
 use ospf_table::table_text;
 use ospf_words::{CheckJob, Job, JobFault, job, not_text};
@@ -344,6 +345,7 @@ fn status_of<R: Wait, O: Write, E: Write>(
         Ok(Job::Failures(failures)) => {
             return Ok(failures_text(alloc, &failures, input, out, err).code());
         }
+        Ok(Job::Inspect(inspect)) => inspect_text(alloc, &inspect, input, out, err),
         Ok(Job::Check(check)) => {
             let CheckJob {
                 files,

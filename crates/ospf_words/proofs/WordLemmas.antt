@@ -1,5 +1,5 @@
 -- Texts that spell addresses.
-use Rattle.std.proofs.Common.{◌≡◌, ◌⊎◌, ◌∙◌, ◌+◌, ◌<◌, ◌^◌, ◌++◌, ℕ, suc, zero, List, [], ◌∷◌, Ok, Err, Result, IsErrAnd, IfErr, Bor, map, take, length, drop, get_or, subst, refl, ap, ap₂, sym, Option, Some, None, option_map, unwrap_or, inl, inr, arith, codes, slice_index, string_bytes}
+use Rattle.std.proofs.Common.{◌≡◌, ◌⊎◌, ◌∙◌, ◌+◌, ◌<◌, ◌^◌, ◌++◌, ℕ, suc, zero, List, [], ◌∷◌, Ok, Err, Result, IsErrAnd, IfErr, Bor, map, take, length, drop, get_or, subst, refl, ap, ap₂, sym, Option, Some, None, Contains, option_map, unwrap_or, inl, inr, arith, codes, slice_index, string_bytes}
 use Rattle.std.proofs.lemmas.List.{map-append, take_more}
 use Rattle.std.proofs.lemmas.Option.{none-some}
 use Rattle.std.specs.declared.net.parser.AddrParseError.{AddrParseError}
@@ -11,8 +11,8 @@ use Rattle.ospf_base.specs.Text.{IsDottedNumber, ReadsAddress, ReadsRouterId}
 use Rattle.ospf_base.specs.declared.ids.RouterId.{RouterId}
 use Rattle.ospf_base.specs.declared.ids.Addr.{Addr}
 use Rattle.ospf_words.specs.Job.{IsFaultOfNoValue, IsFaultOfValue, IsFaultOfWords}
-use Rattle.ospf_words.specs.Unasked.{IsFirstWrong, IsNoAddress, IsNoJob, IsNoNumber, IsUnasked, IsWrongValue}
-use Rattle.ospf_words.specs.Words.{IsNumber, Spell, command_app}
+use Rattle.ospf_words.specs.Unasked.{IsFirstWrong, IsNoAddress, IsNoJob, IsNoNumber, IsUnasked, IsWrongValue, LacksInPath}
+use Rattle.ospf_words.specs.Words.{AreChoices, IsNumber, Spell, command_app}
 use Rattle.ospf_words.specs.declared.jobs.JobFault.{JobFault}
 use Rattle.ospf_words.specs.declared.jobs.JobFault.TheVariants as fault
 
@@ -47,6 +47,30 @@ pub spell_more : (words : List (Bor (List ℕ))) (i : ℕ) (d : Bor (List ℕ)) 
 spell_more words i d addresses a below spelled reads =
     let next : suc i ≡ i + 1 = omega arith in
     subst (λ n. Spell (texts_of (take n words)) (addresses ++ a ∷ [])) next (spell_suc words i d addresses a below spelled reads)
+
+choices_suc : (words : List (Bor (List ℕ))) (i : ℕ) (d : Bor (List ℕ)) (choices : List ℕ) (n : ℕ) → i < length words
+    → AreChoices (texts_of (take i words)) choices → IsNumber (get_or words i d).now n
+    → AreChoices (texts_of (take (suc i) words)) (choices ++ n ∷ [])
+choices_suc [] i d choices n below so_far is = absurd (omega arith)
+choices_suc (w ∷ words) zero d [] n below so_far is = (is, tt)
+choices_suc (w ∷ words) zero d (b ∷ rest) n below so_far is = absurd so_far
+choices_suc (w ∷ words) (suc i) d [] n below so_far is = absurd so_far
+choices_suc (w ∷ words) (suc i) d (b ∷ rest) n below so_far is =
+    (so_far.0, choices_suc words i d rest n (omega arith) so_far.1 is)
+
+-- one more text, and the choice that it spells
+pub choice_more : (words : List (Bor (List ℕ))) (i : ℕ) (d : Bor (List ℕ)) (choices : List ℕ) (n : ℕ) → i < length words
+    → AreChoices (texts_of (take i words)) choices → IsNumber (get_or words i d).now n
+    → AreChoices (texts_of (take (i + 1) words)) (choices ++ n ∷ [])
+choice_more words i d choices n below so_far is =
+    let next : suc i ≡ i + 1 = omega arith in
+    subst (λ m. AreChoices (texts_of (take m words)) (choices ++ n ∷ [])) next (choices_suc words i d choices n below so_far is)
+
+-- a word is among the texts
+pub has_word : (words : List (Bor (List ℕ))) (i : ℕ) (d : Bor (List ℕ)) → i < length words → Contains (texts_of words) (get_or words i d).now
+has_word [] i d below = absurd (omega arith)
+has_word (w ∷ words) zero d below = (zero, omega arith, refl)
+has_word (w ∷ words) (suc i) d below = let h = has_word words i d (omega arith) in (suc h.0, omega (arith, h.1), h.2)
 
 -- the two halves of what there is
 pub both_halves : {S X Y : Type 0} (s : Option S) (f : S → X) (g : S → Y) (x : X) (y : Y) → Some x ≡ option_map f s
@@ -136,7 +160,27 @@ wrong_value rows root w is_root first = inl (record { rows = rows; table = refl;
 
 -- what a run is to look up spells no address
 pub wrong_lookup : (rows : List Row) (w : List ℕ) → first_of (codes "lookup") rows ≡ Some w → IsNoAddress w → IsWrongValue (Some (codes "run", rows)) w
-wrong_lookup rows w has wrong = inr (inr (record { rows = rows; run = refl; has_lookup = has; wrong = wrong }))
+wrong_lookup rows w has wrong = inr (inr (inr (record { rows = rows; run = refl; has_lookup = has; wrong = wrong })))
+
+-- the router after `path` spells no address
+pub wrong_from : (rows : List Row) (from w : List ℕ) → first_of (codes "from") rows ≡ Some from
+    → ((w ≡ from) × (e : AddrParseError) × ReadsRouterId from (Err e)) → IsWrongValue (Some (codes "path", rows)) w
+wrong_from rows from w has h = inr (inr (inl (record {
+  rows = rows;
+  path = refl;
+  has_end = inl (has ∙ ap Some (sym h.0));
+  wrong = λ a is. h.2 (record { 0 = a.0 }) (subst (λ t. IsDottedNumber t a.0) h.0 is);
+})))
+
+-- the address after `path` spells none
+pub wrong_to : (rows : List Row) (to w : List ℕ) → first_of (codes "address") rows ≡ Some to
+    → ((w ≡ to) × (e : AddrParseError) × ReadsAddress to (Err e)) → IsWrongValue (Some (codes "path", rows)) w
+wrong_to rows to w has h = inr (inr (inl (record {
+  rows = rows;
+  path = refl;
+  has_end = inr (has ∙ ap Some (sym h.0));
+  wrong = λ a is. h.2 a (subst (λ t. IsDottedNumber t a.0) h.0 is);
+})))
 
 -- the root after `failures` spells no address
 pub wrong_failing_root : (rows : List Row) (root w : List ℕ) → first_of (codes "root") rows ≡ Some root
@@ -169,6 +213,8 @@ pub no_root : (rows : List Row) → first_of (codes "root") rows ≡ None → Is
 no_root rows none = record {
   no_table = λ others same. ap (first_of (codes "root")) (sym (same_rows (codes "table") rows others same)) ∙ none;
   no_failures = λ others same. other (codes "table") (codes "failures") rows others (λ (e : 116 ≡ 102). omega (arith, e)) same;
+  no_lsas = λ others same. other (codes "table") (codes "lsas") rows others (λ (e : 116 ≡ 108). omega (arith, e)) same;
+  no_path = λ others same. other (codes "table") (codes "path") rows others (λ (e : 116 ≡ 112). omega (arith, e)) same;
   no_check = λ others same. other (codes "table") (codes "check") rows others (λ (e : 116 ≡ 99). omega (arith, e)) same;
   no_sim = λ others same. other (codes "table") (codes "sim") rows others (λ (e : 116 ≡ 115). omega (arith, e)) same;
   no_run = λ others same. other (codes "table") (codes "run") rows others (λ (e : 116 ≡ 114). omega (arith, e)) same;
@@ -179,9 +225,23 @@ pub no_failing_root : (rows : List Row) → first_of (codes "root") rows ≡ Non
 no_failing_root rows none = record {
   no_table = λ others same. other (codes "failures") (codes "table") rows others (λ (e : 102 ≡ 116). omega (arith, e)) same;
   no_failures = λ others same. ap (first_of (codes "root")) (sym (same_rows (codes "failures") rows others same)) ∙ none;
+  no_lsas = λ others same. other (codes "failures") (codes "lsas") rows others (λ (e : 102 ≡ 108). omega (arith, e)) same;
+  no_path = λ others same. other (codes "failures") (codes "path") rows others (λ (e : 102 ≡ 112). omega (arith, e)) same;
   no_check = λ others same. other (codes "failures") (codes "check") rows others (λ (e : 102 ≡ 99). omega (arith, e)) same;
   no_sim = λ others same. other (codes "failures") (codes "sim") rows others (λ (e : 102 ≡ 115). omega (arith, e)) same;
   no_run = λ others same. other (codes "failures") (codes "run") rows others (λ (e : 102 ≡ 114). omega (arith, e)) same;
+}
+
+-- `path` without one of its ends, or a choice
+pub no_way : (rows : List Row) → LacksInPath rows → IsNoJob (Some (codes "path", rows))
+no_way rows lacks = record {
+  no_table = λ others same. other (codes "path") (codes "table") rows others (λ (e : 112 ≡ 116). omega (arith, e)) same;
+  no_failures = λ others same. other (codes "path") (codes "failures") rows others (λ (e : 112 ≡ 102). omega (arith, e)) same;
+  no_lsas = λ others same. other (codes "path") (codes "lsas") rows others (λ (e : 112 ≡ 108). omega (arith, e)) same;
+  no_path = λ others same. subst LacksInPath (same_rows (codes "path") rows others same) lacks;
+  no_check = λ others same. other (codes "path") (codes "check") rows others (λ (e : 112 ≡ 99). omega (arith, e)) same;
+  no_sim = λ others same. other (codes "path") (codes "sim") rows others (λ (e : 112 ≡ 115). omega (arith, e)) same;
+  no_run = λ others same. other (codes "path") (codes "run") rows others (λ (e : 112 ≡ 114). omega (arith, e)) same;
 }
 
 -- `check` without files
@@ -189,6 +249,8 @@ pub no_files : (rows : List Row) → all_of (codes "files") rows ≡ None → Is
 no_files rows none = record {
   no_table = λ others same. other (codes "check") (codes "table") rows others (λ (e : 99 ≡ 116). omega (arith, e)) same;
   no_failures = λ others same. other (codes "check") (codes "failures") rows others (λ (e : 99 ≡ 102). omega (arith, e)) same;
+  no_lsas = λ others same. other (codes "check") (codes "lsas") rows others (λ (e : 99 ≡ 108). omega (arith, e)) same;
+  no_path = λ others same. other (codes "check") (codes "path") rows others (λ (e : 99 ≡ 112). omega (arith, e)) same;
   no_check = λ others same. ap (all_of (codes "files")) (sym (same_rows (codes "check") rows others same)) ∙ none;
   no_sim = λ others same. other (codes "check") (codes "sim") rows others (λ (e : 99 ≡ 115). omega (arith, e)) same;
   no_run = λ others same. other (codes "check") (codes "run") rows others (λ (e : 99 ≡ 114). omega (arith, e)) same;
@@ -199,6 +261,8 @@ pub no_simulation : (rows : List Row) → (first_of (codes "script") rows ≡ No
 no_simulation rows none = record {
   no_table = λ others same. other (codes "sim") (codes "table") rows others (λ (e : 115 ≡ 116). omega (arith, e)) same;
   no_failures = λ others same. other (codes "sim") (codes "failures") rows others (λ (e : 115 ≡ 102). omega (arith, e)) same;
+  no_lsas = λ others same. other (codes "sim") (codes "lsas") rows others (λ (e : 115 ≡ 108). omega (arith, e)) same;
+  no_path = λ others same. other (codes "sim") (codes "path") rows others (λ (e : 115 ≡ 112). omega (arith, e)) same;
   no_check = λ others same. other (codes "sim") (codes "check") rows others (λ (e : 115 ≡ 99). omega (arith, e)) same;
   no_sim = λ others same.
       let one : rows ≡ others = same_rows (codes "sim") rows others same in
@@ -215,6 +279,8 @@ pub no_running : (rows : List Row) → RunWants rows → IsNoJob (Some (codes "r
 no_running rows none = record {
   no_table = λ others same. other (codes "run") (codes "table") rows others (λ (e : 114 ≡ 116). omega (arith, e)) same;
   no_failures = λ others same. other (codes "run") (codes "failures") rows others (λ (e : 114 ≡ 102). omega (arith, e)) same;
+  no_lsas = λ others same. other (codes "run") (codes "lsas") rows others (λ (e : 114 ≡ 108). omega (arith, e)) same;
+  no_path = λ others same. other (codes "run") (codes "path") rows others (λ (e : 114 ≡ 112). omega (arith, e)) same;
   no_check = λ others same. other (codes "run") (codes "check") rows others (λ (e : 114 ≡ 99). omega (arith, e)) same;
   no_sim = λ others same. other (codes "run") (codes "sim") rows others (λ (e : 114 ≡ 115). omega (arith, e)) same;
   no_run = λ others same. subst RunWants (same_rows (codes "run") rows others same) none;

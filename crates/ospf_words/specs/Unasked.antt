@@ -1,5 +1,5 @@
 -- Why the program's words ask for no job.
-use Rattle.std.specs.Prelude.{◌≡◌, ◌<◌, ◌^◌, ◌⊎◌, ℕ, List, [], ◌∷◌, ◌++◌, Option, Some, None, ⊤, codes, unwrap_or, string_bytes}
+use Rattle.std.specs.Prelude.{◌≡◌, ◌<◌, ◌^◌, ◌⊎◌, ℕ, List, [], ◌∷◌, ◌++◌, Option, Some, None, Contains, ⊤, codes, unwrap_or, string_bytes}
 use Rattle.ospf_base.specs.Text.{IsDottedNumber}
 use Rattle.ospf_base.specs.declared.ids.Addr.{Addr}
 use Rattle.clap.specs.Kinds.{IsAmong}
@@ -38,6 +38,13 @@ pub record IsWrongInFailures (entered : Option (Text × List Row)) (word : Text)
   pub has_root : first_of (codes "root") rows ≡ Some word
   pub wrong : IsNoAddress word
 
+-- the router or the address after `path` spells none
+pub record IsWrongInPath (entered : Option (Text × List Row)) (word : Text) : Type 0 where
+  pub rows : List Row
+  pub path : entered ≡ Some (codes "path", rows)
+  pub has_end : (first_of (codes "from") rows ≡ Some word) ⊎ (first_of (codes "address") rows ≡ Some word)
+  pub wrong : IsNoAddress word
+
 -- what is to be looked up in a run spells no address
 pub record IsWrongInRun (entered : Option (Text × List Row)) (word : Text) : Type 0 where
   pub rows : List Row
@@ -47,16 +54,26 @@ pub record IsWrongInRun (entered : Option (Text × List Row)) (word : Text) : Ty
 
 -- the first word that is to be an address, and spells none
 abbrev pub IsWrongValue : Option (Text × List Row) → Text → Type 0
-IsWrongValue entered word = IsWrongInTable entered word ⊎ IsWrongInFailures entered word ⊎ IsWrongInRun entered word
+IsWrongValue entered word = IsWrongInTable entered word ⊎ IsWrongInFailures entered word ⊎ IsWrongInPath entered word ⊎ IsWrongInRun entered word
 
 -- there is no text that is read as a number of 64 bits
 abbrev pub IsNoNumber : Option Text → Type 0
 IsNoNumber text = (t : Text) (number : ℕ) → text ≡ Some t → IsNumber t number → number < 2 ^ 64 → ⊥
 
--- what the words enter is no `table` and no `failures` with a root, no `check` with files, no `sim` with both, and no `run` with numbers and files
+-- some text is read as no number of 32 bits
+abbrev pub HasNoChoice : List Text → Type 0
+HasNoChoice texts = (text : Text) × Contains texts text × ((number : ℕ) → IsNumber text number → number < 2 ^ 32 → ⊥)
+
+-- what `path` lacks: one of its ends, or a choice
+abbrev pub LacksInPath : List Row → Type 0
+LacksInPath rows = (first_of (codes "from") rows ≡ None) ⊎ (first_of (codes "address") rows ≡ None) ⊎ HasNoChoice (unwrap_or (all_of (codes "choices") rows) [])
+
+-- what the words enter is no `table` and no `failures` with a root, no `lsas`, no `path` with both ends and choices, no `check` with files, no `sim` with both, and no `run` with numbers and files
 pub record IsNoJob (entered : Option (Text × List Row)) : Type 0 where
   pub no_table : (rows : List Row) → entered ≡ Some (codes "table", rows) → first_of (codes "root") rows ≡ None
   pub no_failures : (rows : List Row) → entered ≡ Some (codes "failures", rows) → first_of (codes "root") rows ≡ None
+  pub no_lsas : (rows : List Row) → entered ≡ Some (codes "lsas", rows) → ⊥
+  pub no_path : (rows : List Row) → entered ≡ Some (codes "path", rows) → LacksInPath rows
   pub no_check : (rows : List Row) → entered ≡ Some (codes "check", rows) → all_of (codes "files") rows ≡ None
   pub no_sim : (rows : List Row) → entered ≡ Some (codes "sim", rows) → (first_of (codes "script") rows ≡ None) ⊎ (all_of (codes "files") rows ≡ None)
   pub no_run : (rows : List Row) → entered ≡ Some (codes "run", rows)

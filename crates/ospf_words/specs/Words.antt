@@ -1,6 +1,6 @@
 -- What the program's words ask for, as `clap` reads them.
 use Rattle.std.specs.Str.Parse.{IsNumeral, digits_value, without_leading_plus}
-use Rattle.std.specs.Prelude.{◌≡◌, ℕ, true, false, Bool, List, [], ◌∷◌, Option, Some, None, Ok, ⊤, codes, map, option_map, string_bytes, unwrap_or}
+use Rattle.std.specs.Prelude.{◌≡◌, ℕ, true, false, Bool, List, [], ◌∷◌, Option, Some, None, Ok, ⊤, codes, map, option_map, string_bytes, unwrap_or, vec_items}
 use Rattle.ospf_base.specs.Text.{ReadsAddress, ReadsRouterId}
 use Rattle.ospf_base.specs.declared.ids.Addr.{Addr}
 use Rattle.clap.specs.Lexer.{usize_max}
@@ -8,16 +8,22 @@ use Rattle.clap.specs.Words.{App, Row, Rule, Text, all_of, first_of, one_of, new
 use Rattle.clap.specs.declared.builder.action.ArgAction.TheVariants.{Append, SetTrue}
 use Rattle.clap.specs.declared.builder.value_parser.ValueParser.TheVariants.{Unsigned}
 use Rattle.ospf_words.specs.declared.jobs.CheckJob.{CheckJob}
+use Rattle.ospf_base.specs.declared.ids.RouterId.{RouterId}
 use Rattle.ospf_failures.specs.declared.answer.FailuresJob.{FailuresJob}
+use Rattle.ospf_inspect.specs.declared.answer.InspectJob.{InspectJob}
+use Rattle.ospf_inspect.specs.declared.answer.InspectJob.TheVariants.{Lsas, Tables, Path}
 use Rattle.ospf_words.specs.declared.jobs.Job.{Job}
 use Rattle.ospf_words.specs.declared.jobs.Job.TheVariants as job
 use Rattle.ospf_words.specs.declared.jobs.RunJob.{RunJob}
 use Rattle.ospf_words.specs.declared.jobs.SimJob.{SimJob}
 use Rattle.ospf_table.specs.declared.table.TableJob.{TableJob}
 
--- one word has to be there
+-- a word of this name has to be there
+abbrev pub one_rule : Text → Rule
+one_rule name = record (new_rule name) { required = true; value_names = 1 }
+
 abbrev pub root_rule : Rule
-root_rule = record (new_rule (codes "root")) { required = true; value_names = 1 }
+root_rule = one_rule (codes "root")
 
 -- any number of words
 abbrev pub addresses_rule : Rule
@@ -52,9 +58,25 @@ check_app = with_rule (with_rule (with_rule (new_app (codes "check")) (flag_rule
 abbrev pub failures_app : App
 failures_app = with_rule (with_rule (with_rule (new_app (codes "failures")) root_rule) (flag_rule (codes "each"))) (flag_rule (codes "strict"))
 
--- one word has to be there
 abbrev pub script_rule : Rule
-script_rule = record (new_rule (codes "script")) { required = true; value_names = 1 }
+script_rule = one_rule (codes "script")
+
+-- the command `lsas`, without words
+abbrev pub lsas_app : App
+lsas_app = new_app (codes "lsas")
+
+-- any number of numbers of 32 bits
+abbrev pub choices_rule : Rule
+choices_rule = record (new_rule (codes "choices")) {
+  action = Some Append;
+  range = Some (record { start_inclusive = 0; end_inclusive = usize_max });
+  value_names = 1;
+  parser = Some (Unsigned 0 4294967295);
+}
+
+-- the command `path`: a router, an address, then choices
+abbrev pub path_app : App
+path_app = with_rule (with_rule (with_rule (new_app (codes "path")) (one_rule (codes "from"))) (one_rule (codes "address"))) choices_rule
 
 -- an option of this name, with a word
 abbrev pub option_rule : Text → Rule
@@ -88,7 +110,8 @@ ospfd_app = record (new_app (codes "ospfd")) {
 -- the program and its commands
 abbrev pub command_app : App
 command_app =
-    with_subcommand (with_subcommand (with_subcommand (with_subcommand (with_subcommand ospfd_app table_app.top) failures_app.top) check_app.top) sim_app.top) run_app.top
+    with_subcommand (with_subcommand (with_subcommand (with_subcommand (with_subcommand (with_subcommand (with_subcommand ospfd_app table_app.top) failures_app.top)
+    lsas_app.top) path_app.top) check_app.top) sim_app.top) run_app.top
 
 -- each text spells the address at its place
 abbrev pub Spell : List Text → List Addr → Type 0
@@ -117,6 +140,34 @@ pub record IsFailuresJob (rows : List Row) (f : FailuresJob) : Type 0 where
   pub each : IsFlag (one_of (codes "each") rows) f.each
   pub strict : IsFlag (one_of (codes "strict") rows) f.strict
 
+-- a text is read as this number
+abbrev pub IsNumber : Text → ℕ → Type 0
+IsNumber text number = IsNumeral 10 (without_leading_plus text) × (digits_value 10 (without_leading_plus text) ≡ number)
+
+-- each text is read as the choice at its place
+abbrev pub AreChoices : List Text → List ℕ → Type 0
+AreChoices [] [] = ⊤
+AreChoices (text ∷ texts) (choice ∷ choices) = IsNumber text choice × AreChoices texts choices
+AreChoices _ _ = ⊥
+
+-- the router, the address and the choices that `clap` reads after `path`
+pub record IsPathJob (rows : List Row) (from : RouterId) (address : Addr) (choices : List ℕ) : Type 0 where
+  pub from_text : Text
+  pub has_from : first_of (codes "from") rows ≡ Some from_text
+  pub from_is : ReadsRouterId from_text (Ok from)
+  pub address_text : Text
+  pub has_address : first_of (codes "address") rows ≡ Some address_text
+  pub address_is : ReadsAddress address_text (Ok address)
+  pub choices_are : AreChoices (unwrap_or (all_of (codes "choices") rows) []) choices
+
+-- what is to be printed of LSAs: by `lsas` each in words, by `table` with `all` as its root, and no addresses, all tables, and by `path` a way
+abbrev pub IsInspectJob : Option (Text × List Row) → InspectJob → Type 0
+IsInspectJob entered Lsas = (rows : List Row) × (entered ≡ Some (codes "lsas", rows))
+IsInspectJob entered Tables =
+    (rows : List Row) × (entered ≡ Some (codes "table", rows)) × (first_of (codes "root") rows ≡ Some (codes "all")) × (unwrap_or (all_of (codes "addresses") rows) [] ≡ [])
+IsInspectJob entered (Path from address choices) =
+    (rows : List Row) × (entered ≡ Some (codes "path", rows)) × IsPathJob rows from address (vec_items choices)
+
 -- the files that `clap` reads after `check`, and the flags
 pub record IsCheckJob (rows : List Row) (c : CheckJob) : Type 0 where
   pub texts : List Text
@@ -133,10 +184,6 @@ pub record IsSimJob (rows : List Row) (s : SimJob) : Type 0 where
   pub files : map string_bytes s.files.items ≡ texts
   pub dot : option_map string_bytes s.dot ≡ first_of (codes "dot") rows
   pub pcap : option_map string_bytes s.pcap ≡ first_of (codes "pcap") rows
-
--- a text is read as this number
-abbrev pub IsNumber : Text → ℕ → Type 0
-IsNumber text number = IsNumeral 10 (without_leading_plus text) × (digits_value 10 (without_leading_plus text) ≡ number)
 
 -- the address that a text spells, if there is one
 abbrev pub IsAddressIfAny : Option Text → Option Addr → Type 0
@@ -163,6 +210,7 @@ pub record IsRunJob (rows : List Row) (r : RunJob) : Type 0 where
 abbrev pub IsJobOf : Option (Text × List Row) → Job → Type 0
 IsJobOf entered (job.Table t) = (rows : List Row) × (entered ≡ Some (codes "table", rows)) × IsTableJob rows t
 IsJobOf entered (job.Failures f) = (rows : List Row) × (entered ≡ Some (codes "failures", rows)) × IsFailuresJob rows f
+IsJobOf entered (job.Inspect i) = IsInspectJob entered i
 IsJobOf entered (job.Check c) = (rows : List Row) × (entered ≡ Some (codes "check", rows)) × IsCheckJob rows c
 IsJobOf entered (job.Sim s) = (rows : List Row) × (entered ≡ Some (codes "sim", rows)) × IsSimJob rows s
 IsJobOf entered (job.Run r) = (rows : List Row) × (entered ≡ Some (codes "run", rows)) × IsRunJob rows r

@@ -8,6 +8,7 @@ use clap::error::ErrorKind;
 use ospf_base::Addr;
 use ospf_failures::FailuresJob;
 use ospf_files::{FailedStreams, Failure, Status};
+use ospf_inspect::InspectJob;
 use ospf_table::TableJob;
 use std::alloc::AllocError;
 use std::io::{self, Write};
@@ -20,6 +21,8 @@ pub enum Job {
     Table(TableJob),
     /// Tells what each failure does to the routing table of a router over the LSAs on standard input.
     Failures(FailuresJob),
+    /// Prints what the LSAs on standard input say.
+    Inspect(InspectJob),
     /// Checks configurations.
     Check(CheckJob),
     /// Runs a script in a world of routers.

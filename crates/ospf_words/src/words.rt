@@ -1,11 +1,11 @@
 //! The words of the command line.
 
 ghost use Rattle.clap.specs.Faults.{fault_of};
-ghost use Rattle.std.specs.Prelude.{OnOk, [], ◌≡◌, ◌∷◌, false, map, option_map, codes, string_bytes, Ok, Err, Some, IfOk, IfErr};
+ghost use Rattle.std.specs.Prelude.{OnOk, [], ◌≡◌, ◌∷◌, false, map, option_map, codes, string_bytes, Ok, Err, Some, IfNone, IfOk, IfErr, IfSome};
 ghost use Rattle.clap.specs.Words.{app_of, found_of, rows_of, rule_of, subcommand_rows_of, with_subcommand};
 ghost use Rattle.ospf_words.specs.Job.{IsFaultOfNoValue, IsFaultOfValue, IsHelp};
-ghost use Rattle.ospf_words.specs.Unasked.{IsFirstWrong, IsJobIfAny, IsNoAddress, IsUnasked, IsWrongValue};
-ghost use Rattle.ospf_words.specs.Words.{IsAddressIfAny, IsAsked, Spell, addresses_rule, check_app, command_app, failures_app, files_rule, flag_rule, option_rule, ospfd_app, root_rule, run_app, script_rule, sim_app, table_app, tick_rule, ticks_rule};
+ghost use Rattle.ospf_words.specs.Unasked.{IsFirstWrong, IsJobIfAny, IsNoAddress, IsUnasked, HasNoChoice, IsWrongValue};
+ghost use Rattle.ospf_words.specs.Words.{AreChoices, IsAddressIfAny, IsAsked, Spell, addresses_rule, check_app, choices_rule, command_app, failures_app, files_rule, flag_rule, lsas_app, one_rule, option_rule, ospfd_app, path_app, root_rule, run_app, script_rule, sim_app, table_app, tick_rule, ticks_rule};
 
 use crate::build::VERSION;
 use crate::jobs::{CheckJob, Job, JobFault, RunJob, SimJob};
@@ -14,6 +14,7 @@ use clap::error::ErrorKind;
 use clap::{Arg, ArgAction, ArgMatches, Command};
 use ospf_base::Addr;
 use ospf_failures::FailuresJob;
+use ospf_inspect::InspectJob;
 use ospf_table::TableJob;
 use std::alloc::{AllocError, Global};
 use std::str::FromStr;
@@ -27,7 +28,9 @@ const HELP: &str = "Exit status:
   5  a file or a stream failed
 
 Examples:
+  ospfd lsas < lsas.txt
   ospfd table 1.1.1.1 192.168.2.9 < lsas.txt
+  ospfd path 1.1.1.1 192.168.2.9 < lsas.txt
   ospfd check first.toml second.toml
   ospfd sim script first.toml second.toml
   ospfd run 60 first.toml second.toml
@@ -40,6 +43,8 @@ const TABLE_HELP: &str = "Output:
       LOCAL>ROUTER            over the point-to-point interface LOCAL
       LOCAL>ROUTER@ADDRESS    over the broadcast interface LOCAL, to ADDRESS
   lookup ADDRESS PREFIX COST HOP, or lookup ADDRESS none, for each ADDRESS
+Where ROOT is `all`, and no ADDRESS follows, each router's table stands below a line
+  router R
 
 Exit status:
   0  done; where the root's router-LSA is not listed, standard error says so
@@ -48,8 +53,52 @@ Exit status:
   4  memory ran out
   5  standard input was not read, or standard output not written
 
-Example:
+Examples:
   ospfd table 1.1.1.1 192.168.2.9 < lsas.txt
+  ospfd table all < lsas.txt
+";
+
+// What `lsas --help` says.
+const LSAS_HELP: &str = "Output:
+  router R age N number N sum N
+                              a router-LSA, and a line for each of its links:
+    router S from ADDRESS cost N
+    network ADDRESS from ADDRESS cost N
+    stub PREFIX cost N
+    virtual S unused
+  network PREFIX of ADDRESS by R age N number N sum N
+                              a network-LSA, and a line for each attached router:
+    router S
+A link or router is `one-way` where the LSA at its other end does not name it back;
+a network-LSA is `unused` where another of its Link State ID stands for the network.
+
+Exit status:
+  0  done
+  3  a line was refused: its number and fault are on standard error
+  4  memory ran out
+  5  standard input was not read, or standard output not written
+
+Example:
+  ospfd lsas < lsas.txt
+";
+
+// What `path --help` says below its words.
+const PATH_HELP: &str = "Output:
+  R HOP cost N hop I of N     a line a router on the way: the hop that it takes, what
+                              its link costs, and which of its hops that is, from 0
+  PREFIX cost N arrived       the prefix that was reached, and what all of it cost
+  R no route                  in place of these, where a router has no route
+Each CHOICE is of one router, in turn: which hop it takes, modulo their number.
+
+Exit status:
+  0  done; where the router-LSA of FROM is not listed, standard error says so
+  2  the words fit no command, or one is no address
+  3  a line was refused: its number and fault are on standard error
+  4  memory ran out
+  5  standard input was not read, or standard output not written
+
+Example:
+  ospfd path 1.1.1.1 192.168.2.9 0 1 < lsas.txt
 ";
 
 // What `failures --help` says below its words.
@@ -144,8 +193,14 @@ Example:
   ospfd run --tick 100 --lookup 192.168.2.9 60 first.toml second.toml
 ";
 
+// The word that stands for all roots.
+const ALL: &str = "all";
+
 // The most ticks of a run.
 const MOST_TICKS: u64 = 1_000_000;
+
+// The greatest choice of a hop.
+const MOST_CHOICE: u64 = 4_294_967_295;
 
 // The most milliseconds of a tick, and those of one where nothing is said.
 const MOST_MILLISECONDS: u64 = 1000;
@@ -190,6 +245,8 @@ fn command<'a>(alloc: Global) -> Result<Command<'a>, AllocError>
 {
     let program = with_table(program(alloc)?, alloc)?;
     let program = with_failures(program, alloc)?;
+    let program = with_lsas(program, alloc)?;
+    let program = with_path(program, alloc)?;
     let program = with_check(program, alloc)?;
     let program = with_sim(program, alloc)?;
     with_run(program, alloc)
@@ -228,7 +285,7 @@ fn root_arg<'a>(alloc: Global) -> Arg<'a>
 {
     Arg::new(alloc, "root")
         .value_name("ROOT")
-        .help("The Router ID of the router whose table is computed")
+        .help("The Router ID of the router whose table is computed, or all")
         .required(true)
 }
 
@@ -278,6 +335,64 @@ fn strict_arg<'a>(alloc: Global) -> Arg<'a>
         .long("strict")
         .action(ArgAction::SetTrue)
         .help("Ends with status 1 where a failure cuts a prefix off")
+}
+
+// Adds the command `lsas`.
+fn with_lsas<'a>(program: Command<'a>, alloc: Global) -> Result<Command<'a>, AllocError>
+    ensures { IfOk result (λ c. app_of c ≡ with_subcommand (app_of program.entry) lsas_app.top) }
+{
+    let lsas = Command::new(alloc, "lsas")
+        .about("Prints LSAs in hexadecimal, one a line, on standard input, in words")
+        .after_help(LSAS_HELP);
+    program.subcommand(lsas)
+}
+
+// Adds the command `path` and its words.
+fn with_path<'a>(program: Command<'a>, alloc: Global) -> Result<Command<'a>, AllocError>
+    ensures { IfOk result (λ c. app_of c ≡ with_subcommand (app_of program.entry) path_app.top) }
+{
+    let path = Command::new(alloc, "path")
+        .about("Prints the way from a router to an address, by the tables of all routers")
+        .after_help(PATH_HELP)
+        .arg(from_arg(alloc))?
+        .arg(address_arg(alloc))?
+        .arg(choices_arg(alloc))?;
+    program.subcommand(path)
+}
+
+// The router that a way begins at.
+fn from_arg<'a>(alloc: Global) -> Arg<'a>
+    ensures rule { rule_of result ≡ one_rule (codes "from") }
+    ensures local { result.global ≡ false }
+{
+    Arg::new(alloc, "from")
+        .value_name("FROM")
+        .help("The Router ID of the router that it begins at")
+        .required(true)
+}
+
+// The address that a way leads to.
+fn address_arg<'a>(alloc: Global) -> Arg<'a>
+    ensures rule { rule_of result ≡ one_rule (codes "address") }
+    ensures local { result.global ≡ false }
+{
+    Arg::new(alloc, "address")
+        .value_name("ADDRESS")
+        .help("The address that it leads to")
+        .required(true)
+}
+
+// The hops that are taken on a way.
+fn choices_arg<'a>(alloc: Global) -> Arg<'a>
+    ensures rule { rule_of result ≡ choices_rule }
+    ensures local { result.global ≡ false }
+{
+    Arg::new(alloc, "choices")
+        .value_name("CHOICE")
+        .help("Which hop each router takes, 0 to 4294967295, modulo their number")
+        .num_args(0..)
+        .action(ArgAction::Append)
+        .value_parser(ValueParser::unsigned(0, MOST_CHOICE))
 }
 
 // Adds the command `check` and its words.
@@ -447,6 +562,12 @@ fn entered_job(alloc: Global, matches: &ArgMatches<'_>) -> Result<Option<Job>, J
     if let Some(values) = matches.subcommand_matches("failures") {
         return failures_job(alloc, values);
     }
+    if matches.subcommand_matches("lsas").is_some() {
+        return Ok(Some(Job::Inspect(InspectJob::Lsas)));
+    }
+    if let Some(values) = matches.subcommand_matches("path") {
+        return path_job(alloc, values);
+    }
     if let Some(values) = matches.subcommand_matches("check") {
         return Ok(check_job(alloc, values)?);
     }
@@ -459,7 +580,7 @@ fn entered_job(alloc: Global, matches: &ArgMatches<'_>) -> Result<Option<Job>, J
     Ok(None)
 }
 
-// The values of `table`: its job, if they have a root.
+// The values of `table`: its job, if they have a root. For all roots there are no addresses.
 fn table_job(alloc: Global, values: &ArgMatches<'_>) -> Result<Option<Job>, JobFault>
     ensures ok { IfOk result (IsJobIfAny (Some (codes "table", rows_of (found_of values.now)))) }
     ensures fault { IfErr result (IsFaultOfValue
@@ -469,6 +590,9 @@ fn table_job(alloc: Global, values: &ArgMatches<'_>) -> Result<Option<Job>, JobF
         return Ok(None);
     };
     let addresses = values.get_strs("addresses").unwrap_or(&[]);
+    if root == ALL && addresses.is_empty() {
+        return Ok(Some(Job::Inspect(InspectJob::Tables)));
+    }
     Ok(Some(Job::Table(TableJob {
         root: parsed(alloc, root)?,
         addresses: parsed_addresses(alloc, addresses)?,
@@ -517,6 +641,48 @@ fn failures_job(alloc: Global, values: &ArgMatches<'_>) -> Result<Option<Job>, J
     let each = values.get_flag("each");
     let strict = values.get_flag("strict");
     Ok(Some(Job::Failures(FailuresJob { root, each, strict })))
+}
+
+// The values of `path`: its job, if they have both ends, and all choices are read.
+fn path_job(alloc: Global, values: &ArgMatches<'_>) -> Result<Option<Job>, JobFault>
+    ensures ok { IfOk result (IsJobIfAny (Some (codes "path", rows_of (found_of values.now)))) }
+    ensures fault { IfErr result (IsFaultOfValue
+        (IsWrongValue (Some (codes "path", rows_of (found_of values.now))))) }
+{
+    let Some(from) = values.get_str("from") else {
+        return Ok(None);
+    };
+    let Some(address) = values.get_str("address") else {
+        return Ok(None);
+    };
+    let words = values.get_strs("choices").unwrap_or(&[]);
+    let Some(choices) = choices_of(alloc, words)? else {
+        return Ok(None);
+    };
+    let from = parsed(alloc, from)?;
+    let address = parsed(alloc, address)?;
+    Ok(Some(Job::Inspect(InspectJob::Path {
+        from,
+        address,
+        choices,
+    })))
+}
+
+// The choices that words spell, if each spells one.
+fn choices_of(alloc: Global, words: &[&str]) -> Result<Option<Vec<u32>>, AllocError>
+    ensures some { IfOk result (λ choices. IfSome choices
+        (λ c. AreChoices (map (λ w. w.now) words.now) c.items)) }
+    ensures none { IfOk result (λ choices. IfNone choices
+        (HasNoChoice (map (λ w. w.now) words.now))) }
+{
+    let mut choices = Vec::with_capacity(alloc, words.len())?;
+    for word in words {
+        let Ok(choice) = word.parse::<u32>() else {
+            return Ok(None);
+        };
+        choices.push(choice)?;
+    }
+    Ok(Some(choices))
 }
 
 // The values of `check`: its job, if they have files.

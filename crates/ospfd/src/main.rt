@@ -9,6 +9,7 @@ use ospf_failures::failures_text;
 use ospf_files::{
     FailedStreams, Failure, NamedFile, Status, read_file, read_files, tell_unwritten,
 };
+use ospf_inspect::inspect_text;
 use ospf_notes::{Line, Notes};
 use ospf_records::write_records;
 use ospf_run::{Settings, run_text};
@@ -190,6 +191,10 @@ where
             let input = BufReader::new(alloc, rt.reader())?;
             let status = failures_text(alloc, &failures, input, &mut out, err);
             return Ok(ExitCode::from(status));
+        }
+        Ok(Job::Inspect(inspect)) => {
+            let input = BufReader::new(alloc, rt.reader())?;
+            inspect_text(alloc, &inspect, input, &mut out, err)
         }
         Ok(Job::Check(check)) => run_check(rt, check, &mut out, err)?,
         Ok(Job::Sim(sim)) => run_sim(rt, sim, &mut out, err, line)?,

@@ -1,4 +1,7 @@
-use Rattle.std.proofs.Common.{rules, ◌≡◌, ◌∙◌, ap, sym, refl, subst, codes, [], Some, unwrap_or}
+use Rattle.std.proofs.Common.{rules, arith, ◌≡◌, ◌∙◌, ap, sym, refl, subst, codes, [], Some, unwrap_or}
+use Rattle.std.specs.Cmp.Lexicographic.{bytes_decides}
+use Rattle.std.proofs.lemmas.Bool.Decides.{nat_tests}
+use Rattle.std.proofs.lemmas.List.{nil_from_length}
 use Rattle.clap.specs.Words.{all_of, first_of, found_of, rows_of}
 use Rattle.clap.proofs.WalkLemmas.{first_value-rows, raw_values-rows}
 use Rattle.ospf_words.specs.Job.{IsFaultOfValue}
@@ -39,6 +42,21 @@ returns-in_err-parsed_addresses-clause-fault c =
     (address_wrong c.in-Some.root.now c.in_ok-parsed.field-0 _ w c.in_ok-parsed.ensures.value
     (subst (λ texts. IsFirstWrong texts w) addresses h)))
     c.in_err-parsed_addresses.ensures.fault))
+
+pub returns-then-is_empty-clause-ok : goal.returns-then-is_empty-clause-ok
+returns-then-is_empty-clause-ok c =
+    let found = found_of c.args.values.now in
+    let rows = rows_of found in
+    let all : c.in-Some.root.now ≡ codes "all" = (bytes_decides c.in-Some.root.now (codes "all")).0 (sym c.eq.ensures ∙ c.if-eq.true) in
+    let addresses : texts_of c.unwrap_or-addresses.result.now ≡ unwrap_or (all_of (codes "addresses") rows) [] =
+    ap (λ a. texts_of a.now) c.unwrap_or-addresses.ensures ∙ texts_or_none c.get_strs.result _ refl
+    ∙ ap (λ o. unwrap_or o []) (named (λ n. all_of n (rows_of found)) _ _ (codes "addresses") (search rules) (c.get_strs.ensures ∙ raw_values-rows found _)) in
+    let empty = nil_from_length c.unwrap_or-addresses.result.now (grind (arith, nat_tests, c.if-is_empty.true, c.is_empty.ensures)) in (
+      rows,
+      refl,
+      sym (named (λ n. first_of n (rows_of found)) _ _ (codes "root") (search rules) (c.in-Some.ensures ∙ first_value-rows found _)) ∙ ap Some all,
+      sym addresses ∙ ap texts_of empty,
+    )
 
 pub returns-clause-ok : goal.returns-clause-ok
 returns-clause-ok c =

@@ -1,0 +1,5 @@
+mod LineLemmas
+mod Marks
+mod Texts
+mod Ways
+mod AnswerLemmas

@@ -1,0 +1,9 @@
+use Rattle.std.proofs.Common.{string_bytes, take}
+use Rattle.ospf_edges.specs.Listed.{advertisements_of}
+use Rattle.ospf_inspect.specs.Lines.{AreLines}
+use Rattle.ospf_inspect.specs.Lsas.{SaysOfLsa}
+use Rattle.ospf_inspect.proofs.lsas.lsas_text.Given as goal
+
+-- the LSAs so far
+abbrev pub invariant-loop-lsa : goal.invariant-loop-lsa
+invariant-loop-lsa l = AreLines (SaysOfLsa (advertisements_of l.listing)) (take l.lsa-index l.lsa-items) (string_bytes l.text)

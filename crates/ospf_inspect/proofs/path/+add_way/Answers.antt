@@ -1,0 +1,60 @@
+use Rattle.std.proofs.Common.{rules, ◌≡◌, ◌∙◌, ◌++◌, ℕ, suc, List, ap, arith, refl, subst, sym, string_bytes}
+use Rattle.std.proofs.lemmas.Result.{IfOk-weaker}
+use Rattle.ospf_edges.specs.Listed.{advertisements_of}
+use Rattle.ospf_graph.specs.declared.hop.NextHop.TheVariants as hops
+use Rattle.ospf_inspect.specs.Path.{HasNone}
+use Rattle.ospf_inspect.proofs.Ways.{arrives_said, goes_on_said, hop_linked, leg_said, strays_said, takes_it, turns_said}
+use Rattle.ospf_inspect.proofs.path.+add_way.Goals as goal
+
+pub returns-in_default : goal.returns-in_default
+returns-in_default t c =
+    let adverts = advertisements_of c.args.listing.now in
+    let none : HasNone adverts c.args.address.0 c.args.way.at = record { table = c.in_ok-table.table; is_table = c.in_ok-table.ensures; none = c.in_default.ensures.none } in
+    let pushed : string_bytes c.push_str.new.self ≡ string_bytes c.args.text.now ++ string_bytes c.in_ok-no_route_line.field-0 = search rules in
+    strays_said adverts c.args.address.0 c.args.way.most c.args.way.choices.now c.args.way.at c.args.way.paid (string_bytes c.args.text.now) (string_bytes c.push_str.new.self)
+    (string_bytes c.in_ok-no_route_line.field-0) none c.in_ok-no_route_line.ensures pushed
+
+pub returns-in_default-next_of : goal.returns-in_default-next_of
+returns-in_default-next_of t c =
+    let adverts = advertisements_of c.args.listing.now in
+    let first = c.first_of-choice.ensures.first in
+    let here = c.in_default-next_of.ensures.none in
+    let takes = takes_it adverts c.args.address.0 c.args.way.choices.now c.first_of-choice.result.0 c.args.way.at c.in_ok-table.table c.in-Some.route.now c.hop_at-hop.result hops.Attached
+    c.in_ok-table.ensures c.in-Some.ensures.found c.hop_at-hop.ensures first here in
+    let leg = leg_said c.args.way.choices.now c.first_of-choice.result.0 c.args.way.at c.in-Some.route.now c.hop_at-hop.result hops.Attached c.in-Some.route.now.cost c.leg_of.result
+    (string_bytes c.in_ok-leg_line.field-0) c.in_ok-leg_line.ensures c.leg_of.ensures first here in
+    let mid : string_bytes c.push_str-in_default-next_of.new.self ≡ string_bytes c.args.text.now ++ string_bytes c.in_ok-leg_line.field-0 = search rules in
+    let new : string_bytes c.push_str-in_default-next_of-2.new.self ≡ string_bytes c.push_str-in_default-next_of.new.self ++ string_bytes c.in_ok-arrived_line.field-0 = search rules in
+    arrives_said adverts c.args.address.0 c.args.way.most c.args.way.choices.now c.args.way.at c.args.way.paid (string_bytes c.args.text.now)
+    (string_bytes c.push_str-in_default-next_of-2.new.self) c.in-Some.route.now (string_bytes c.in_ok-leg_line.field-0) (string_bytes c.in_ok-arrived_line.field-0)
+    (string_bytes c.push_str-in_default-next_of.new.self) takes leg c.in_ok-arrived_line.ensures mid new
+
+pub returns-then-way-eq0 : goal.returns-then-way-eq0
+returns-then-way-eq0 t c =
+    let adverts = advertisements_of c.args.listing.now in
+    let takes = takes_it adverts c.args.address.0 c.args.way.choices.now c.first_of-choice.result.0 c.args.way.at c.in_ok-table.table c.in-Some.route.now c.hop_at-hop.result c.hop_at-hop.result
+    c.in_ok-table.ensures c.in-Some.ensures.found c.hop_at-hop.ensures c.first_of-choice.ensures.first refl in
+    let pushed : string_bytes c.push_str-then-way-eq0.new.self ≡ string_bytes c.args.text.now ++ string_bytes c.in_ok-turns_line.field-0 = search rules in
+    turns_said adverts c.args.address.0 c.args.way.most c.args.way.choices.now c.args.way.at c.args.way.paid (string_bytes c.args.text.now) (string_bytes c.push_str-then-way-eq0.new.self)
+    c.in-Some.route.now c.hop_at-hop.result c.in-Some-next_of.next (string_bytes c.in_ok-turns_line.field-0) (omega (arith, c.if-way-eq0.true)) takes c.in-Some-next_of.ensures.found
+    c.in_ok-turns_line.ensures pushed
+
+pub cost_of-cost-requires : goal.cost_of-cost-requires
+cost_of-cost-requires t c =
+    hop_linked (advertisements_of c.args.listing.now) c.args.way.at c.in_ok-table.table c.args.address.0 c.in-Some.route.now _ c.hop_at-hop.result c.in_ok-table.ensures
+    c.in-Some.ensures.found c.hop_at-hop.ensures c.in-Some-next_of.ensures.other
+
+pub returns : goal.returns
+returns t c =
+    let adverts = advertisements_of c.args.listing.now in
+    let first = c.first_of-choice.ensures.first in
+    let takes = takes_it adverts c.args.address.0 c.args.way.choices.now c.first_of-choice.result.0 c.args.way.at c.in_ok-table.table c.in-Some.route.now c.hop_at-hop.result c.hop_at-hop.result
+    c.in_ok-table.ensures c.in-Some.ensures.found c.hop_at-hop.ensures first refl in
+    let leg = leg_said c.args.way.choices.now c.first_of-choice.result.0 c.args.way.at c.in-Some.route.now c.hop_at-hop.result c.hop_at-hop.result c.cost_of-cost.result c.leg_of-2.result
+    (string_bytes c.in_ok-leg_line-2.field-0) c.in_ok-leg_line-2.ensures c.leg_of-2.ensures first refl in
+    let mid : string_bytes c.push_str-2.new.self ≡ string_bytes c.args.text.now ++ string_bytes c.in_ok-leg_line-2.field-0 = search rules in
+    IfOk-weaker c.add_way.result _ _ (λ v h.
+    goes_on_said adverts c.args.address.0 c.args.way.most c.args.way.choices.now c.args.way.at c.args.way.paid (string_bytes c.args.text.now) (string_bytes c.add_way.new.text)
+    c.in-Some.route.now c.hop_at-hop.result c.in-Some-next_of.next c.cost_of-cost.result _ c.first_of-choice.result.1.now (string_bytes c.in_ok-leg_line-2.field-0)
+    (string_bytes c.push_str-2.new.self) h.0 (omega (arith, c.if-way-eq0.false)) takes c.in-Some-next_of.ensures.found c.cost_of-cost.ensures c.first_of-choice.ensures.later leg mid h.1 h.2)
+    c.add_way.ensures

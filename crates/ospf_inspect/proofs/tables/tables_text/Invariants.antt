@@ -1,0 +1,9 @@
+use Rattle.std.proofs.Common.{string_bytes, take}
+use Rattle.ospf_edges.specs.Listed.{advertisements_of}
+use Rattle.ospf_inspect.specs.Lines.{AreLines}
+use Rattle.ospf_inspect.specs.Tables.{SaysTableOf}
+use Rattle.ospf_inspect.proofs.tables.tables_text.Given as goal
+
+-- the tables so far
+abbrev pub invariant-loop-lsa : goal.invariant-loop-lsa
+invariant-loop-lsa l = AreLines (SaysTableOf (advertisements_of l.listing)) (take l.lsa-index l.lsa-items) (string_bytes l.text)

@@ -1,0 +1,129 @@
+-- What is printed of the LSAs that the lines of an input are, and how that ends.
+use Rattle.std.specs.Prelude.{◌≡◌, ◌⊎◌, ℕ, List, [], IfSome, Option, length, string_bytes, vec_items}
+use Rattle.std.specs.Io.KnownBytes.{Appends}
+use Rattle.ospf_edges.specs.Listed.{advertisements_of}
+use Rattle.ospf_files.specs.Status.{failure_line, failure_status}
+use Rattle.ospf_files.specs.Streams.{IsBegun, IsErrorFailed, IsOutputFailed, IsTold}
+use Rattle.ospf_files.specs.declared.status.Failure.{Failure}
+use Rattle.ospf_files.specs.declared.status.Failure.TheVariants as failure
+use Rattle.ospf_files.specs.declared.status.Status.{Status}
+use Rattle.ospf_files.specs.declared.status.Status.TheVariants as status
+use Rattle.ospf_files.specs.declared.streams.FailedStreams.{FailedStreams}
+use Rattle.ospf_table.specs.Line.{Reads, Refuses}
+use Rattle.ospf_table.specs.Output.{IsWarning}
+use Rattle.ospf_table.specs.Refusal.{refusal_line}
+use Rattle.ospf_table.specs.declared.table.EntryFault.{EntryFault}
+use Rattle.ospf_inspect.specs.Lines.{AreLines}
+use Rattle.ospf_inspect.specs.Lsas.{SaysOfLsa}
+use Rattle.ospf_inspect.specs.Path.{SaysPath}
+use Rattle.ospf_inspect.specs.Tables.{SaysTableOf}
+use Rattle.ospf_inspect.specs.declared.answer.Answer.{Answer}
+use Rattle.ospf_inspect.specs.declared.answer.Fault.{Fault}
+use Rattle.ospf_inspect.specs.declared.answer.Fault.TheVariants as fault
+use Rattle.ospf_inspect.specs.declared.answer.InspectJob.{InspectJob}
+use Rattle.ospf_inspect.specs.declared.answer.InspectJob.TheVariants.{Lsas, Tables, Path}
+
+-- ---- what is printed
+
+-- the listing in words; the table of each router; or the way between two
+abbrev pub Says : InspectJob → List (List ℕ) → List ℕ → Type 0
+Says Lsas listing text = AreLines (SaysOfLsa (advertisements_of listing)) listing text
+Says Tables listing text = AreLines (SaysTableOf (advertisements_of listing)) listing text
+Says (Path from address choices) listing text = SaysPath (advertisements_of listing) from address.0 (vec_items choices) (length listing) text
+
+-- the warning of the router that a way begins at
+abbrev pub Warns : InspectJob → List (List ℕ) → List ℕ → Type 0
+Warns Lsas listing text = text ≡ []
+Warns Tables listing text = text ≡ []
+Warns (Path from address choices) listing text = IsWarning listing from text
+
+-- the answer for the LSAs that the lines of the input are, and its warning
+pub record IsAnswer (job : InspectJob) (text warning input : List ℕ) : Type 0 where
+  pub listing : List (List ℕ)
+  pub reads : Reads input [] listing
+  pub warns : Warns job listing warning
+  pub says : Says job listing text
+
+-- the answer stands on standard output, and its warning on standard error
+pub record IsAnswered (job : InspectJob) (out_old out_new err_old err_new : Option (List ℕ)) (input : List ℕ) : Type 0 where
+  pub text : List ℕ
+  pub warning : List ℕ
+  pub is : IsAnswer job text warning input
+  pub out : Appends out_old out_new text
+  pub err : Appends err_old err_new warning
+
+-- what is said of an input that is refused, of its first line that is
+pub record IsRefusal (text input : List ℕ) : Type 0 where
+  pub number : ℕ
+  pub fault : EntryFault
+  pub refused : Refuses input [] number fault
+  pub text_is : text ≡ refusal_line number fault
+
+-- the refusal stands on standard error
+pub record IsRefusalTold (err_old err_new : Option (List ℕ)) (input : List ℕ) : Type 0 where
+  pub text : List ℕ
+  pub is : IsRefusal text input
+  pub told : Appends err_old err_new text
+
+-- ---- what stands written where it ends early
+
+-- a beginning of the refusal
+pub record IsRefusalBegun (err_old err_new : Option (List ℕ)) (input : List ℕ) : Type 0 where
+  pub text : List ℕ
+  pub is : IsRefusal text input
+  pub begun : IsBegun err_old err_new text
+
+-- a beginning of the warning
+pub record IsWarningBegun (job : InspectJob) (err_old err_new : Option (List ℕ)) (input : List ℕ) : Type 0 where
+  pub text : List ℕ
+  pub warning : List ℕ
+  pub is : IsAnswer job text warning input
+  pub begun : IsBegun err_old err_new warning
+
+-- the warning, and a beginning of the answer
+pub record IsAnswerBegun (job : InspectJob) (out_old out_new err_old err_new : Option (List ℕ)) (input : List ℕ) : Type 0 where
+  pub text : List ℕ
+  pub warning : List ℕ
+  pub is : IsAnswer job text warning input
+  pub err : Appends err_old err_new warning
+  pub begun : IsBegun out_old out_new text
+
+-- it ended by a failure: before anything was written; at the refusal; at the warning; or at the answer
+pub data EndsBy (input : Option (List ℕ)) (job : InspectJob) (failed : FailedStreams) (out_old out_new err_old err_new : Option (List ℕ)) : Failure → Type 0 where
+  unwritten : {f : Failure} → out_new ≡ out_old → err_new ≡ err_old → EndsBy input job failed out_old out_new err_old err_new f
+  in_refusal : {f : Failure} → (f ≡ failure.Memory) ⊎ (f ≡ failure.Error) → IsErrorFailed failed → out_new ≡ out_old → IfSome input (IsRefusalBegun err_old err_new)
+      → EndsBy input job failed out_old out_new err_old err_new f
+  in_warning : {f : Failure} → (f ≡ failure.Memory) ⊎ (f ≡ failure.Error) → IsErrorFailed failed → out_new ≡ out_old → IfSome input (IsWarningBegun job err_old err_new)
+      → EndsBy input job failed out_old out_new err_old err_new f
+  in_answer : {f : Failure} → (f ≡ failure.Memory) ⊎ (f ≡ failure.Output) → IsOutputFailed failed → IfSome input (IsAnswerBegun job out_old out_new err_old err_new)
+      → EndsBy input job failed out_old out_new err_old err_new f
+
+-- it ended by a failure, which was told last, as far as that could be written
+pub record IsCutShort (input : Option (List ℕ)) (job : InspectJob) (failed : FailedStreams) (out_old out_new err_old err_new : Option (List ℕ)) (end : Status) : Type 0 where
+  pub cause : Failure
+  pub failed_then : FailedStreams
+  pub err_then : Option (List ℕ)
+  pub ends : EndsBy input job failed_then out_old out_new err_old err_then cause
+  pub last : IsTold failed_then failed err_then err_new (failure_line cause)
+  pub end_is : end ≡ failure_status cause
+
+-- ---- on the way
+
+-- why there is no answer
+abbrev pub IsFault : Option (List ℕ) → Fault → Type 0
+IsFault input (fault.Refused text) = IfSome input (IsRefusal (string_bytes text))
+IsFault input (fault.Failure f) = Unit {0}
+
+-- the answer for the input
+abbrev pub IsAnswerOf : InspectJob → Answer → List ℕ → Type 0
+IsAnswerOf job answer input = IsAnswer job (string_bytes answer.text) (string_bytes answer.warning) input
+
+-- the answer is printed, or the refusal is told
+pub data IsSaid (input : Option (List ℕ)) (job : InspectJob) (out_old out_new err_old err_new : Option (List ℕ)) : Status → Type 0 where
+  is_answered : IfSome input (IsAnswered job out_old out_new err_old err_new) → IsSaid input job out_old out_new err_old err_new status.Done
+  is_refused : out_new ≡ out_old → IfSome input (IsRefusalTold err_old err_new) → IsSaid input job out_old out_new err_old err_new status.Refused
+
+-- one of these, or it ended early
+abbrev pub IsEnding : Option (List ℕ) → InspectJob → FailedStreams → Option (List ℕ) → Option (List ℕ) → Option (List ℕ) → Option (List ℕ) → Status → Type 0
+IsEnding input job failed out_old out_new err_old err_new end =
+    IsSaid input job out_old out_new err_old err_new end ⊎ IsCutShort input job failed out_old out_new err_old err_new end

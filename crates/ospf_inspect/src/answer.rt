@@ -1,0 +1,243 @@
+//! What the LSAs of an area say, for LSAs that are read as lines of text.
+
+ghost use Rattle.std.specs.Prelude.{◌≡◌, ◌≢◌, ◌⊎◌, List, [], Option, ℕ, IfErr, IfOk, IfSome, string_bytes};
+ghost use Rattle.ospf_files.specs.declared.streams.FailedStreams.{FailedStreams};
+ghost use Rattle.ospf_table.specs.Line.{Reads, Refuses};
+ghost use Rattle.ospf_table.specs.Output.{IsWarning};
+ghost use Rattle.ospf_inspect.specs.Answer.{EndsBy, IsAnswerOf, IsAnswered, IsCutShort, IsEnding, IsFault, IsRefusal, IsRefusalTold, IsSaid, Says, Warns};
+ghost use Rattle.ospf_inspect.specs.declared.answer.InspectJob.{InspectJob};
+
+use crate::lsas::lsas_text;
+use crate::path::path_text;
+use crate::tables::tables_text;
+use ospf_base::{Addr, RouterId};
+use ospf_files::{FailedStreams, Failure, Status};
+use ospf_lsa::Listing;
+use ospf_table::{EntryFault, TableFault, is_unlisted, read_listing};
+use std::alloc::{AllocError, Global};
+use std::io::{BufRead, Write};
+
+/// What is to be printed of the LSAs of an area.
+#[derive(Debug, Drop)]
+pub enum InspectJob {
+    /// Each LSA in words.
+    Lsas,
+    /// The routing table of each router.
+    Tables,
+    /// The way from a router to an address, with the choices of hops on it.
+    Path {
+        from: RouterId,
+        address: Addr,
+        choices: Vec<u32>,
+    },
+}
+
+// Why nothing is to be printed: the input is refused, and this is said of it, or something failed.
+#[derive(Drop)]
+pub(crate) enum Fault {
+    Refused(String),
+    Failure(Failure),
+}
+
+impl From<AllocError> for Fault {
+    ghost use Rattle.std.specs.Prelude.{◌≡◌};
+    ghost use Rattle.ospf_files.specs.declared.status.Failure.TheVariants as failure;
+    ghost use Rattle.ospf_inspect.specs.declared.answer.Fault.TheVariants as fault;
+
+    ghost from_gives = { λ _ f. f ≡ fault.Failure failure.Memory };
+
+    fn from(_error: AllocError) -> Fault {
+        Fault::Failure(Failure::Memory)
+    }
+}
+
+/// Reads LSAs, one a line in hexadecimal as `ospf_table::table_text` does, and prints what is asked of them: each in words, the
+/// routing table of each router, or the way from a router to an address.
+///
+/// Where LSAs are listed and the router-LSA of the router that a way begins at is not among them, `err` says so. The first line
+/// that is refused is told on `err`; then nothing is printed, with status `Refused`. Status `Memory` says that memory ran out, and
+/// `Stream` that a read or a write failed; what it was is told on `err`, as far as that can be written. Then no more than a
+/// beginning is printed.
+pub fn inspect_text<R: BufRead + Drop, O: Write, E: Write>(
+    alloc: Global,
+    job: &InspectJob,
+    input: R,
+    out: &mut O,
+    err: &mut E,
+) -> Status
+    // All is printed; or the refusal is told, and nothing is printed.
+    ensures answered { result ≡ Status.Done → IfSome (R.remaining input)
+        (IsAnswered job.now (O.contents out.old) (O.contents out.new) (E.contents err.old)
+        (E.contents err.new)) }
+    ensures refused { result ≡ Status.Refused →
+        IfSome (R.remaining input) (IsRefusalTold (E.contents err.old) (E.contents err.new)) }
+    ensures unwritten { result ≡ Status.Refused → O.contents out.new ≡ O.contents out.old }
+    // Or memory or a stream failed, which is told last, as far as it can be; there is no other end.
+    ensures cut { (result ≡ Status.Memory) ⊎ (result ≡ Status.Stream) →
+        (failed : FailedStreams)
+        × IsCutShort (R.remaining input) job.now failed (O.contents out.old) (O.contents out.new)
+        (E.contents err.old) (E.contents err.new) result }
+    ensures not_words { result ≢ Status.Words }
+{
+    inspect_noted(alloc, job, input, out, err, &mut FailedStreams::none())
+}
+
+// What is to be printed.
+#[derive(Drop)]
+struct Answer {
+    warning: String,
+    text: String,
+}
+
+// Prints what is asked of LSAs, as `inspect_text`, and notes which streams fail.
+fn inspect_noted<R: BufRead + Drop, O: Write, E: Write>(
+    alloc: Global,
+    job: &InspectJob,
+    input: R,
+    out: &mut O,
+    err: &mut E,
+    streams: &mut FailedStreams,
+) -> Status
+    ensures { IsEnding (R.remaining input) job.now streams.new (O.contents out.old)
+        (O.contents out.new) (E.contents err.old) (E.contents err.new) result }
+{
+    match answer_or_refuse(alloc, job, input, out, err, streams) {
+        Ok(status) => status,
+        Err(failure) => failure.tell(err, streams),
+    }
+}
+
+// Prints the answer, or tells what is refused. The answer is the status to end with.
+fn answer_or_refuse<R: BufRead + Drop, O: Write, E: Write>(
+    alloc: Global,
+    job: &InspectJob,
+    input: R,
+    out: &mut O,
+    err: &mut E,
+    streams: &mut FailedStreams,
+) -> Result<Status, Failure>
+    ensures said { IfOk result (IsSaid (R.remaining input) job.now (O.contents out.old)
+        (O.contents out.new) (E.contents err.old) (E.contents err.new)) }
+    ensures cut { IfErr result (EndsBy (R.remaining input) job.now streams.new (O.contents out.old)
+        (O.contents out.new) (E.contents err.old) (E.contents err.new)) }
+{
+    match answer_of(alloc, job, input) {
+        Ok(answer) => print(job, &answer, out, err, streams),
+        Err(Fault::Refused(text)) => refuse(&text, err, streams),
+        Err(Fault::Failure(failure)) => Err(failure),
+    }
+}
+
+// What is to be printed of the LSAs that the lines of an input are.
+fn answer_of<R: BufRead + Drop>(alloc: Global, job: &InspectJob, input: R) -> Result<Answer, Fault>
+    ensures answer { IfOk result (λ answer. IfSome (R.remaining input)
+        (IsAnswerOf job.now answer)) }
+    ensures fault { IfErr result (IsFault (R.remaining input)) }
+{
+    let listing = listing_of(alloc, input)?;
+    let warning = warning_of(alloc, job, &listing)?;
+    let text = text_of(alloc, job, &listing)?;
+    Ok(Answer { warning, text })
+}
+
+// The listing of the lines of an input.
+fn listing_of<R: BufRead + Drop>(alloc: Global, input: R) -> Result<Listing, Fault>
+    ensures whole { IfOk result (λ listing. IfSome (R.remaining input)
+        (λ bytes. Reads bytes [] listing)) }
+    ensures fault { IfErr result (IsFault (R.remaining input)) }
+{
+    match read_listing(alloc, input) {
+        Ok(listing) => Ok(listing),
+        Err(TableFault::Entry { number, fault }) => Err(line_refused(alloc, number, fault)),
+        Err(TableFault::Failure(failure)) => Err(Fault::Failure(failure)),
+    }
+}
+
+// The refusal of a line.
+fn line_refused(alloc: Global, number: u64, fault: EntryFault) -> Fault
+    ensures { (input : Option (List ℕ)) → IfSome input (λ bytes. Refuses bytes [] number fault) →
+        IsFault input result }
+{
+    match format!(in alloc; "line {number}: {}\n", fault.text()) {
+        Ok(text) => Fault::Refused(text),
+        Err(error) => Fault::from(error),
+    }
+}
+
+// What is said of the router that a way begins at.
+fn warning_of(alloc: Global, job: &InspectJob, listing: &Listing) -> Result<String, AllocError>
+    ensures { IfOk result (λ text. Warns job.now listing.now (string_bytes text)) }
+{
+    match job {
+        InspectJob::Lsas | InspectJob::Tables => Ok(String::new(alloc)),
+        InspectJob::Path { from, .. } => unlisted_text(alloc, listing, *from),
+    }
+}
+
+// What is said of a router: that its router-LSA is not listed, where others are.
+fn unlisted_text(alloc: Global, listing: &Listing, router: RouterId) -> Result<String, AllocError>
+    ensures { IfOk result (λ text. IsWarning listing.now router (string_bytes text)) }
+{
+    if is_unlisted(listing, router) {
+        let text = format!(in alloc; "{router}: no router-LSA of this router\n")?;
+        Ok(text)
+    } else {
+        Ok(String::new(alloc))
+    }
+}
+
+// What is printed of a listing.
+fn text_of(alloc: Global, job: &InspectJob, listing: &Listing) -> Result<String, AllocError>
+    ensures { IfOk result (λ text. Says job.now listing.now (string_bytes text)) }
+{
+    match job {
+        InspectJob::Lsas => lsas_text(alloc, listing),
+        InspectJob::Tables => tables_text(alloc, listing),
+        InspectJob::Path {
+            from,
+            address,
+            choices,
+        } => path_text(alloc, listing, *from, *address, choices),
+    }
+}
+
+// Prints an answer, behind its warning.
+fn print<O: Write, E: Write>(
+    job: &InspectJob,
+    answer: &Answer,
+    out: &mut O,
+    err: &mut E,
+    streams: &mut FailedStreams,
+) -> Result<Status, Failure>
+    ensures said { (input : Option (List ℕ)) → IfSome input (IsAnswerOf job.now answer.now) →
+        IfOk result (IsSaid input job.now (O.contents out.old) (O.contents out.new)
+        (E.contents err.old) (E.contents err.new)) }
+    ensures cut { (input : Option (List ℕ)) → IfSome input (IsAnswerOf job.now answer.now) →
+        IfErr result (EndsBy input job.now streams.new (O.contents out.old) (O.contents out.new)
+        (E.contents err.old) (E.contents err.new)) }
+{
+    match streams.tell(err, &answer.warning) {
+        Ok(()) => {}
+        Err(failure) => return Err(failure),
+    }
+    match streams.print(out, &answer.text) {
+        Ok(()) => Ok(Status::Done),
+        Err(failure) => Err(failure),
+    }
+}
+
+// Tells a refusal.
+fn refuse<E: Write>(text: &str, err: &mut E, streams: &mut FailedStreams) -> Result<Status, Failure>
+    ensures said { (input : Option (List ℕ)) (job : InspectJob) (out : Option (List ℕ)) →
+        IfSome input (IsRefusal text.now) →
+        IfOk result (IsSaid input job out out (E.contents err.old) (E.contents err.new)) }
+    ensures cut { (input : Option (List ℕ)) (job : InspectJob) (out : Option (List ℕ)) →
+        IfSome input (IsRefusal text.now) →
+        IfErr result (EndsBy input job streams.new out out (E.contents err.old)
+        (E.contents err.new)) }
+{
+    match streams.tell(err, text) {
+        Ok(()) => Ok(Status::Refused),
+        Err(failure) => Err(failure),
+    }
+}

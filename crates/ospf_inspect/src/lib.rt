@@ -1,0 +1,16 @@
+//! What the LSAs of an area say, as text: each LSA in words, the routing tables of all routers, and the way from one to an
+//! address.
+//!
+//! `inspect_text` is the whole: it reads lines of LSAs, and prints. `lsas_text`, `tables_text` and `path_text` are what it prints of
+//! a listing.
+#![tactic(auto)]
+
+mod answer;
+mod lsas;
+mod path;
+mod tables;
+
+pub use crate::answer::{InspectJob, inspect_text};
+pub use crate::lsas::lsas_text;
+pub use crate::path::path_text;
+pub use crate::tables::tables_text;

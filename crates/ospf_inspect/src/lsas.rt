@@ -1,0 +1,405 @@
+//! The LSAs of a listing in words.
+
+ghost use Rattle.std.specs.Prelude.{◌≡◌, ◌↔◌, IfOk, IsTrue, List, [], codes, false, string_bytes};
+ghost use Rattle.std.specs.Fmt.{WritesOnOk};
+ghost use Rattle.ospf_lsa.specs.Header.{header_of};
+ghost use Rattle.ospf_lsa.specs.Lsa.{IsNetworkLsa, IsRouterLsa, instance_of};
+ghost use Rattle.ospf_graph.specs.Advertisements.{Advertisement};
+ghost use Rattle.ospf_graph.specs.declared.graph.Vertex.TheVariants as vertex;
+ghost use Rattle.ospf_edges.specs.Given.{StandsFor};
+ghost use Rattle.ospf_edges.specs.Listed.{advertisements_of};
+ghost use Rattle.ospf_edges.specs.Near.{AreEdgesAt};
+ghost use Rattle.ospf_script.specs.Texts.{hexadecimal};
+ghost use Rattle.ospf_inspect.specs.Lines.{AreLines};
+ghost use Rattle.ospf_inspect.specs.Lsas.{Joins, SaysOfAttached, SaysOfLink, SaysOfLsa, SaysOfNetwork, SaysOfRouter, link_line, member_text, name_of, network_line, one_way, router_line, stub_text, unused, virtual_text, way_of};
+
+use ospf_base::{Addr, Instance, Kind, RouterId};
+use ospf_edges::edges_at;
+use ospf_graph::{Edge, Vertex, is_same};
+use ospf_lsa::{Attached, Link, LinkKind, Links, Listing, Lsa, LsaView};
+use ospf_script::FloorShown;
+use std::alloc::{AllocError, Global};
+use std::fmt::{self, Display, Formatter, Write};
+
+// What is said of a link whose other end does not name its router, and of an LSA that another stands for.
+const ONE_WAY: &str = " one-way";
+
+const UNUSED: &str = " unused";
+
+/// The LSAs of a listing in words, in their order: whose each is, its age, LS sequence number and checksum, and below it a line
+/// for each link or attached router (RFC 2328, appendix A.4). A link or an attached router is `one-way` where no edge of the graph
+/// leads there, so that no path goes over it: the LSA at its other end does not name it back (section 16.1). A network-LSA is
+/// `unused` where one of a larger Advertising Router has its Link State ID.
+///
+/// `AllocError` where memory runs out.
+pub fn lsas_text(alloc: Global, listing: &Listing) -> Result<String, AllocError>
+    ensures { IfOk result (λ text. AreLines (SaysOfLsa (advertisements_of listing.now)) listing.now
+        (string_bytes text)) }
+{
+    let mut text = String::new(alloc);
+    for lsa in listing.lsas() {
+        text.push_str(&lsa_text(alloc, listing, lsa)?)?;
+    }
+    Ok(text)
+}
+
+// An LSA in words.
+fn lsa_text(alloc: Global, listing: &Listing, lsa: &Lsa) -> Result<String, AllocError>
+    ensures { IfOk result (λ text. SaysOfLsa (advertisements_of listing.now) lsa.now
+        (string_bytes text)) }
+{
+    let view = lsa.view();
+    match view.kind() {
+        Kind::Router => router_text(alloc, listing, &view),
+        Kind::Network => network_text(alloc, listing, &view),
+    }
+}
+
+// What names the instance of an LSA, and its age.
+#[derive(Clone, Copy)]
+struct Shown {
+    age: u16,
+    instance: Instance,
+}
+
+/// As ` age 5 number 80000002 sum e02d`.
+impl Display for Shown {
+    ghost use Rattle.std.specs.Prelude.{Some};
+    ghost use Rattle.ospf_inspect.specs.Lsas.{instance_text};
+
+    ghost output = { λ shown. Some (instance_text shown.age shown.instance) };
+
+    fn fmt<W: Write>(&self, f: &mut Formatter<W>) -> fmt::Result {
+        let Instance { number, sum, .. } = self.instance;
+        let (number, sum) = (FloorShown(number), Sum(sum));
+        write!(f, " age {} number {number} sum {sum}", self.age)
+    }
+}
+
+// A checksum, in four hexadecimal digits.
+#[derive(Clone, Copy)]
+struct Sum(u16);
+
+/// As `e02d`.
+impl Display for Sum {
+    ghost use Rattle.std.specs.Prelude.{Some};
+    ghost use Rattle.ospf_script.specs.Texts.{hexadecimal};
+
+    ghost output = { λ sum. Some (hexadecimal 4 sum.0) };
+
+    fn fmt<W: Write>(&self, f: &mut Formatter<W>) -> fmt::Result {
+        write_sum(f, self.0)
+    }
+}
+
+// A number in four hexadecimal digits.
+fn write_sum<W: Write>(f: &mut Formatter<W>, sum: u16) -> fmt::Result
+    ensures { WritesOnOk W.Write.write_str_gives f.old result (hexadecimal 4 sum) f.new }
+{
+    write!(f, "{sum:04x}")
+}
+
+// What names the instance of an LSA, and its age.
+fn shown_of(lsa: &LsaView) -> Shown
+    ensures age { result.age ≡ (header_of lsa.now).age }
+    ensures instance { result.instance ≡ instance_of lsa.now }
+{
+    Shown {
+        age: lsa.header().age.ticks(),
+        instance: lsa.instance(),
+    }
+}
+
+// A router-LSA in words.
+fn router_text(alloc: Global, listing: &Listing, lsa: &LsaView) -> Result<String, AllocError>
+    requires { IsRouterLsa lsa.now }
+    ensures { IfOk result (λ text. SaysOfRouter (advertisements_of listing.now) lsa.now
+        (string_bytes text)) }
+{
+    let router = lsa.key().router;
+    let edges = edges_at(alloc, listing, Vertex::Router(router))?;
+    let mut text = router_line(alloc, router, shown_of(lsa))?;
+    text.push_str(&links_text(alloc, &edges, router, lsa.links())?)?;
+    Ok(text)
+}
+
+// The line of a router-LSA itself.
+fn router_line(alloc: Global, router: RouterId, shown: Shown) -> Result<String, AllocError>
+    ensures { IfOk result (λ line. string_bytes line
+        ≡ router_line router shown.age shown.instance) }
+{
+    let line = format!(in alloc; "router {router}{shown}\n")?;
+    Ok(line)
+}
+
+// The links of a router in words, by the edges that touch it.
+fn links_text(
+    alloc: Global,
+    edges: &[Edge],
+    router: RouterId,
+    links: Links,
+) -> Result<String, AllocError>
+    ensures { (adverts : List Advertisement) → AreEdgesAt adverts (vertex.Router router) edges.now →
+        IfOk result (λ text. AreLines (SaysOfLink adverts router) links.entry
+        (string_bytes text)) }
+{
+    let mut text = String::new(alloc);
+    for link in links {
+        text.push_str(&link_text(alloc, edges, router, link)?)?;
+    }
+    Ok(text)
+}
+
+// A link of a router in words, by the edges that touch the router.
+fn link_text(
+    alloc: Global,
+    edges: &[Edge],
+    router: RouterId,
+    link: Link,
+) -> Result<String, AllocError>
+    ensures { (adverts : List Advertisement) → AreEdgesAt adverts (vertex.Router router) edges.now →
+        IfOk result (λ text. SaysOfLink adverts router link (string_bytes text)) }
+{
+    let from = Vertex::Router(router);
+    match link.kind {
+        LinkKind::PointToPoint => {
+            let mark = one_way_unless(joins(edges, from, Vertex::Router(RouterId(link.id))));
+            router_link_line(alloc, way_of(link), mark)
+        }
+        LinkKind::Transit => {
+            let mark = one_way_unless(joins(edges, from, Vertex::Network(link.id)));
+            network_link_line(alloc, way_of(link), mark)
+        }
+        LinkKind::Stub => stub_line(alloc, link),
+        LinkKind::Virtual => virtual_line(alloc, RouterId(link.id)),
+    }
+}
+
+// The line of a link to a router.
+fn router_link_line(alloc: Global, way: Way, mark: &str) -> Result<String, AllocError>
+    ensures { IfOk result (λ line. string_bytes line ≡ link_line (codes "router") way mark.now) }
+{
+    let line = format!(in alloc; "  router {way}{mark}\n")?;
+    Ok(line)
+}
+
+// The line of a link to a transit network.
+fn network_link_line(alloc: Global, way: Way, mark: &str) -> Result<String, AllocError>
+    ensures { IfOk result (λ line. string_bytes line ≡ link_line (codes "network") way mark.now) }
+{
+    let line = format!(in alloc; "  network {way}{mark}\n")?;
+    Ok(line)
+}
+
+// Where a link of type 1 or 2 leads, the address that it is from, and its cost.
+#[derive(Clone, Copy)]
+pub(crate) struct Way {
+    to: Addr,
+    from: Addr,
+    cost: u16,
+}
+
+/// As `2.2.2.2 from 10.0.0.1 cost 10`.
+impl Display for Way {
+    ghost use Rattle.std.specs.Prelude.{Some};
+    ghost use Rattle.ospf_inspect.specs.Lsas.{way_text};
+
+    ghost output = { λ way. Some (way_text way) };
+
+    fn fmt<W: Write>(&self, f: &mut Formatter<W>) -> fmt::Result {
+        write!(f, "{} from {} cost {}", self.to, self.from, self.cost)
+    }
+}
+
+// Where a link leads.
+fn way_of(link: Link) -> Way
+    ensures { result ≡ way_of link }
+{
+    Way {
+        to: Addr(link.id),
+        from: Addr(link.link_data),
+        cost: link.metric,
+    }
+}
+
+// The line of a stub network.
+fn stub_line(alloc: Global, link: Link) -> Result<String, AllocError>
+    ensures { IfOk result (λ line. string_bytes line ≡ stub_text link) }
+{
+    let prefix = Under {
+        address: link.id,
+        mask: link.link_data,
+    };
+    let line = format!(in alloc; "  stub {prefix} cost {}\n", link.metric)?;
+    Ok(line)
+}
+
+// The line of a virtual link.
+fn virtual_line(alloc: Global, to: RouterId) -> Result<String, AllocError>
+    ensures { IfOk result (λ line. string_bytes line ≡ virtual_text to.0) }
+{
+    let line = format!(in alloc; "  virtual {to} unused\n")?;
+    Ok(line)
+}
+
+// Whether one of the edges leads from one vertex to the other.
+fn joins(edges: &[Edge], from: Vertex, to: Vertex) -> bool
+    ensures { IsTrue result ↔ Joins edges.now from to }
+{
+    edges
+        .iter()
+        .any(|edge| is_same(edge.from, from) && is_same(edge.to, to))
+}
+
+// The mark of what is there both ways, or one way alone.
+fn one_way_unless(both_ways: bool) -> &'static str
+    ensures both { IsTrue both_ways → result.now ≡ [] }
+    ensures one { both_ways ≡ false → result.now ≡ one_way }
+{
+    if both_ways { "" } else { ONE_WAY }
+}
+
+// The addresses under a mask.
+#[derive(Clone, Copy)]
+struct Under {
+    address: u32,
+    mask: u32,
+}
+
+/// As `10.0.0.0/30`.
+impl Display for Under {
+    ghost use Rattle.std.specs.Prelude.{Some};
+    ghost use Rattle.ospf_inspect.specs.Lsas.{prefix_under};
+
+    ghost output = { λ under. Some (prefix_under under.address under.mask) };
+
+    fn fmt<W: Write>(&self, f: &mut Formatter<W>) -> fmt::Result {
+        let first = Addr(self.address & self.mask);
+        write!(f, "{first}/{}", self.mask.count_ones())
+    }
+}
+
+// A network-LSA in words.
+fn network_text(alloc: Global, listing: &Listing, lsa: &LsaView) -> Result<String, AllocError>
+    requires { IsNetworkLsa lsa.now }
+    ensures { IfOk result (λ text. SaysOfNetwork (advertisements_of listing.now) lsa.now
+        (string_bytes text)) }
+{
+    let key = lsa.key();
+    let edges = edges_at(alloc, listing, Vertex::Network(key.id))?;
+    let mark = unused_unless(stands_for(listing, key.id, key.router));
+    let mut text = network_line(alloc, name_of(lsa), shown_of(lsa), mark)?;
+    text.push_str(&attached_text(alloc, &edges, key.id, lsa.attached())?)?;
+    Ok(text)
+}
+
+// The line of a network-LSA itself.
+fn network_line(
+    alloc: Global,
+    name: NetworkName,
+    shown: Shown,
+    mark: &str,
+) -> Result<String, AllocError>
+    ensures { IfOk result (λ line. string_bytes line
+        ≡ network_line name shown.age shown.instance mark.now) }
+{
+    let line = format!(in alloc; "network {name}{shown}{mark}\n")?;
+    Ok(line)
+}
+
+// What names a network-LSA.
+#[derive(Clone, Copy)]
+pub(crate) struct NetworkName {
+    id: Addr,
+    mask: u32,
+    router: RouterId,
+}
+
+/// As `10.1.0.0/24 of 10.1.0.2 by 2.2.2.2`.
+impl Display for NetworkName {
+    ghost use Rattle.std.specs.Prelude.{Some};
+    ghost use Rattle.ospf_inspect.specs.Lsas.{name_text};
+
+    ghost output = { λ name. Some (name_text name) };
+
+    fn fmt<W: Write>(&self, f: &mut Formatter<W>) -> fmt::Result {
+        let prefix = Under {
+            address: self.id.0,
+            mask: self.mask,
+        };
+        write!(f, "{prefix} of {} by {}", self.id, self.router)
+    }
+}
+
+// The name of a network-LSA.
+fn name_of(lsa: &LsaView) -> NetworkName
+    requires { IsNetworkLsa lsa.now }
+    ensures { result ≡ name_of lsa.now }
+{
+    let key = lsa.key();
+    NetworkName {
+        id: Addr(key.id),
+        mask: lsa.mask(),
+        router: key.router,
+    }
+}
+
+// Whether the network-LSA of a router is the one that stands for its Link State ID.
+fn stands_for(listing: &Listing, id: u32, router: RouterId) -> bool
+    ensures { IsTrue result ↔ StandsFor (advertisements_of listing.now) id router }
+{
+    match listing.network(id) {
+        Some(lsa) => lsa.view().key().router.0 <= router.0,
+        None => true,
+    }
+}
+
+// The mark of an LSA that is used, or not.
+fn unused_unless(used: bool) -> &'static str
+    ensures used { IsTrue used → result.now ≡ [] }
+    ensures other { used ≡ false → result.now ≡ unused }
+{
+    if used { "" } else { UNUSED }
+}
+
+// The routers that a network names, in words, by the edges that touch it.
+fn attached_text(
+    alloc: Global,
+    edges: &[Edge],
+    network: u32,
+    attached: Attached,
+) -> Result<String, AllocError>
+    ensures { (adverts : List Advertisement) →
+        AreEdgesAt adverts (vertex.Network network) edges.now →
+        IfOk result (λ text. AreLines (SaysOfAttached adverts network) attached.entry
+        (string_bytes text)) }
+{
+    let mut text = String::new(alloc);
+    for router in attached {
+        text.push_str(&member_text(alloc, edges, network, router)?)?;
+    }
+    Ok(text)
+}
+
+// A router that a network names, in words, by the edges that touch the network.
+fn member_text(
+    alloc: Global,
+    edges: &[Edge],
+    network: u32,
+    router: RouterId,
+) -> Result<String, AllocError>
+    ensures { (adverts : List Advertisement) →
+        AreEdgesAt adverts (vertex.Network network) edges.now →
+        IfOk result (λ text. SaysOfAttached adverts network router (string_bytes text)) }
+{
+    let both_ways = joins(edges, Vertex::Network(network), Vertex::Router(router));
+    member_line(alloc, router, one_way_unless(both_ways))
+}
+
+// The line of a router that a network names.
+fn member_line(alloc: Global, router: RouterId, mark: &str) -> Result<String, AllocError>
+    ensures { IfOk result (λ line. string_bytes line ≡ member_text router mark.now) }
+{
+    let line = format!(in alloc; "  router {router}{mark}\n")?;
+    Ok(line)
+}

@@ -1,0 +1,251 @@
+//! What is printed of the LSAs of small areas: each in words, all tables, and ways.
+
+use super::failing::Failing;
+use super::made::{FIRST, FIRST_NUMBER, SECOND, THIRD, link, stub, to};
+use ospf_base::{Addr, Age, RouterId};
+use ospf_files::Status;
+use ospf_inspect::{InspectJob, inspect_text};
+use ospf_lsa::{Link, LinkKind, Lsa};
+use std::alloc::Global;
+use std::process::Abort;
+use std::test::Fail;
+
+// The mask of a link's subnet, and that of a network.
+const SUBNET: u32 = 0xffff_fffc;
+const NETWORK: u32 = 0xffff_ff00;
+
+// An LSA of a router at this age.
+fn router(alloc: Global, id: RouterId, age: u16, links: &[Link]) -> Result<Lsa, Fail> {
+    let mut lsa = Lsa::router(alloc, id, FIRST_NUMBER, links)?;
+    lsa.set_age(Age::new(age));
+    Ok(lsa)
+}
+
+// Three routers: 10.0.0.0/30 between the first two at cost 10, with a second link at cost 10 beside it, from 10.0.0.5; the
+// network 10.1.0.0/24 of the last two, whose Designated Router is the second, at cost 5; and a stub of the last, which has a
+// link to 4.4.4.4 too, of which there is no LSA, and a virtual one.
+fn area(alloc: Global) -> Result<Vec<Lsa>, Fail> {
+    let network = 0x0a01_0002;
+    let mut lsas = Vec::new(alloc);
+    lsas.push(router(
+        alloc,
+        FIRST,
+        7,
+        &[
+            to(SECOND, 0x0a00_0001, 10),
+            stub(0x0a00_0000, SUBNET, 10),
+            to(SECOND, 0x0a00_0005, 10),
+        ],
+    )?)?;
+    lsas.push(router(
+        alloc,
+        SECOND,
+        0,
+        &[
+            to(FIRST, 0x0a00_0002, 10),
+            link(LinkKind::Transit, network, network, 5),
+        ],
+    )?)?;
+    lsas.push(router(
+        alloc,
+        THIRD,
+        3599,
+        &[
+            link(LinkKind::Transit, network, 0x0a01_0003, 5),
+            to(RouterId(0x0404_0404), 0x0a00_0009, 3),
+            stub(0xac10_0003, 0xffff_ffff, 1),
+            link(LinkKind::Virtual, 0x0101_0101, 0x0a00_0009, 4),
+        ],
+    )?)?;
+    lsas.push(Lsa::network(
+        alloc,
+        network,
+        SECOND,
+        FIRST_NUMBER,
+        NETWORK,
+        &[FIRST, SECOND, THIRD],
+    )?)?;
+    Ok(lsas)
+}
+
+// LSAs as lines.
+fn lines(alloc: Global, lsas: &[Lsa]) -> Result<String, Fail> {
+    let mut text = String::new(alloc);
+    for lsa in lsas {
+        text.push_str(&hex::encode(alloc, lsa.view().as_bytes())?)?;
+        text.push_str("\n")?;
+    }
+    Ok(text)
+}
+
+// The checksum of an LSA, as it is printed.
+fn sum(alloc: Global, lsa: &Lsa) -> Result<String, Fail> {
+    let sum = lsa.view().instance().sum;
+    Ok(format!(in alloc; "{sum:04x}")?)
+}
+
+// What is printed of a job over an input, and told.
+fn expect(
+    rt: &impl Abort,
+    alloc: Global,
+    job: &InspectJob,
+    input: &str,
+    wanted: (Status, &str, &str),
+) -> Result<(), Fail> {
+    let (mut out, mut err) = (Vec::new(alloc), Vec::new(alloc));
+    let status = inspect_text(alloc, job, input.as_bytes(), &mut out, &mut err);
+    assert_eq!(rt; str::from_utf8(&out)?, wanted.1);
+    assert_eq!(rt; str::from_utf8(&err)?, wanted.2);
+    assert_eq!(rt; status, wanted.0);
+    Ok(())
+}
+
+fn path(alloc: Global, from: RouterId, address: u32, choices: &[u32]) -> Result<InspectJob, Fail> {
+    Ok(InspectJob::Path {
+        from,
+        address: Addr(address),
+        choices: choices.to_vec(alloc)?,
+    })
+}
+
+#[test]
+fn lsas_stand_in_words(rt: HostRuntime) -> Result<(), Fail> {
+    let alloc = rt.alloc();
+    let lsas = area(alloc)?;
+    let (first, second, third, network) = (
+        sum(alloc, &lsas[0])?,
+        sum(alloc, &lsas[1])?,
+        sum(alloc, &lsas[2])?,
+        sum(alloc, &lsas[3])?,
+    );
+    let wanted = format!(in alloc;
+        "router 1.1.1.1 age 7 number 80000001 sum {first}\n\
+        \x20 router 2.2.2.2 from 10.0.0.1 cost 10\n\
+        \x20 stub 10.0.0.0/30 cost 10\n\
+        \x20 router 2.2.2.2 from 10.0.0.5 cost 10\n\
+        router 2.2.2.2 age 0 number 80000001 sum {second}\n\
+        \x20 router 1.1.1.1 from 10.0.0.2 cost 10\n\
+        \x20 network 10.1.0.2 from 10.1.0.2 cost 5\n\
+        router 3.3.3.3 age 3599 number 80000001 sum {third}\n\
+        \x20 network 10.1.0.2 from 10.1.0.3 cost 5\n\
+        \x20 router 4.4.4.4 from 10.0.0.9 cost 3 one-way\n\
+        \x20 stub 172.16.0.3/32 cost 1\n\
+        \x20 virtual 1.1.1.1 unused\n\
+        network 10.1.0.0/24 of 10.1.0.2 by 2.2.2.2 age 0 number 80000001 sum {network}\n\
+        \x20 router 1.1.1.1 one-way\n\
+        \x20 router 2.2.2.2\n\
+        \x20 router 3.3.3.3\n"
+    )?;
+    let input = lines(alloc, &lsas)?;
+    expect(&rt, alloc, &InspectJob::Lsas, &input, (Status::Done, &wanted, ""))
+}
+
+#[test]
+fn network_lsa_that_another_stands_for_is_unused(rt: HostRuntime) -> Result<(), Fail> {
+    let alloc = rt.alloc();
+    let network = 0x0a01_0002;
+    let mut lsas = Vec::new(alloc);
+    for router in [SECOND, THIRD] {
+        lsas.push(Lsa::network(alloc, network, router, FIRST_NUMBER, NETWORK, &[FIRST])?)?;
+    }
+    let (second, third) = (sum(alloc, &lsas[0])?, sum(alloc, &lsas[1])?);
+    let wanted = format!(in alloc;
+        "network 10.1.0.0/24 of 10.1.0.2 by 2.2.2.2 age 0 number 80000001 sum {second} unused\n\
+        \x20 router 1.1.1.1 one-way\n\
+        network 10.1.0.0/24 of 10.1.0.2 by 3.3.3.3 age 0 number 80000001 sum {third}\n\
+        \x20 router 1.1.1.1 one-way\n"
+    )?;
+    let input = lines(alloc, &lsas)?;
+    expect(&rt, alloc, &InspectJob::Lsas, &input, (Status::Done, &wanted, ""))
+}
+
+#[test]
+fn tables_of_all_routers_stand_below_their_names(rt: HostRuntime) -> Result<(), Fail> {
+    let alloc = rt.alloc();
+    let input = lines(alloc, &area(alloc)?)?;
+    let wanted = "router 1.1.1.1\n\
+        10.0.0.0/30 10 attached\n\
+        10.1.0.0/24 15 10.0.0.1>2.2.2.2,10.0.0.5>2.2.2.2\n\
+        172.16.0.3/32 16 10.0.0.1>2.2.2.2,10.0.0.5>2.2.2.2\n\
+        router 2.2.2.2\n\
+        10.0.0.0/30 20 10.0.0.2>1.1.1.1\n\
+        10.1.0.0/24 5 attached\n\
+        172.16.0.3/32 6 10.1.0.2>3.3.3.3@10.1.0.3\n\
+        router 3.3.3.3\n\
+        10.0.0.0/30 25 10.1.0.3>2.2.2.2@10.1.0.2\n\
+        10.1.0.0/24 5 attached\n\
+        172.16.0.3/32 1 attached\n";
+    expect(&rt, alloc, &InspectJob::Tables, &input, (Status::Done, wanted, ""))
+}
+
+#[test]
+fn way_goes_from_router_to_router(rt: HostRuntime) -> Result<(), Fail> {
+    let alloc = rt.alloc();
+    let input = lines(alloc, &area(alloc)?)?;
+    let first = "1.1.1.1 10.0.0.1>2.2.2.2 cost 10 hop 0 of 2\n\
+        2.2.2.2 10.1.0.2>3.3.3.3@10.1.0.3 cost 5 hop 0 of 1\n\
+        3.3.3.3 attached cost 1 hop 0 of 1\n\
+        172.16.0.3/32 cost 16 arrived\n";
+    let second = "1.1.1.1 10.0.0.5>2.2.2.2 cost 10 hop 1 of 2\n\
+        2.2.2.2 10.1.0.2>3.3.3.3@10.1.0.3 cost 5 hop 0 of 1\n\
+        3.3.3.3 attached cost 1 hop 0 of 1\n\
+        172.16.0.3/32 cost 16 arrived\n";
+    for (choices, wanted) in [
+        (&[][..], first),
+        (&[2, 7, 0, 9][..], first),
+        (&[1][..], second),
+        (&[3, 1][..], second),
+    ] {
+        let job = path(alloc, FIRST, 0xac10_0003, choices)?;
+        expect(&rt, alloc, &job, &input, (Status::Done, wanted, ""))?;
+    }
+    Ok(())
+}
+
+#[test]
+fn way_ends_where_there_is_no_route(rt: HostRuntime) -> Result<(), Fail> {
+    let alloc = rt.alloc();
+    let input = lines(alloc, &area(alloc)?)?;
+    let job = path(alloc, FIRST, 0x0a09_0001, &[])?;
+    expect(&rt, alloc, &job, &input, (Status::Done, "1.1.1.1 no route\n", ""))?;
+    let stranger = path(alloc, RouterId(0x0909_0909), 0xac10_0003, &[])?;
+    let told = "9.9.9.9: no router-LSA of this router\n";
+    expect(&rt, alloc, &stranger, &input, (Status::Done, "9.9.9.9 no route\n", told))?;
+    expect(&rt, alloc, &job, "", (Status::Done, "1.1.1.1 no route\n", ""))
+}
+
+#[test]
+fn refused_line_is_told_and_nothing_printed(rt: HostRuntime) -> Result<(), Fail> {
+    let alloc = rt.alloc();
+    let mut input = lines(alloc, &area(alloc)?)?;
+    input.push_str("zz\n")?;
+    let way = path(alloc, FIRST, 0xac10_0003, &[])?;
+    for job in [&InspectJob::Lsas, &InspectJob::Tables, &way] {
+        expect(&rt, alloc, job, &input, (Status::Refused, "", "line 5: not hex\n"))?;
+    }
+    Ok(())
+}
+
+#[test]
+fn empty_input_prints_nothing(rt: HostRuntime) -> Result<(), Fail> {
+    let alloc = rt.alloc();
+    for job in [&InspectJob::Lsas, &InspectJob::Tables] {
+        expect(&rt, alloc, job, "", (Status::Done, "", ""))?;
+    }
+    Ok(())
+}
+
+#[test]
+fn output_that_fails_is_told(rt: HostRuntime) -> Result<(), Fail> {
+    let alloc = rt.alloc();
+    let input = lines(alloc, &area(alloc)?)?;
+    // The text, and then its flush.
+    for left in 0..2 {
+        let (mut out, mut err) = (Failing { left }, Vec::new(alloc));
+        let job = InspectJob::Lsas;
+        let status = inspect_text(alloc, &job, input.as_bytes(), &mut out, &mut err);
+        assert_eq!(rt; status, Status::Stream);
+        assert_eq!(rt; str::from_utf8(&err)?, "standard output: not written\n");
+    }
+    Ok(())
+}
