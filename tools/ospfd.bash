@@ -1,0 +1,30 @@
+# Completion of ospfd's words in bash.
+_ospfd() {
+    local word=${COMP_WORDS[COMP_CWORD]} before=${COMP_WORDS[COMP_CWORD - 1]} command=${COMP_WORDS[1]}
+    local commands="table failures lsas path check sim run help" options files=
+    if [ "$COMP_CWORD" -eq 1 ]; then
+        mapfile -t COMPREPLY < <(compgen -W "$commands --help --version" -- "$word")
+        return
+    fi
+    case $before in
+    --tick | --lookup | --floor) return ;;
+    --dot | --pcap)
+        mapfile -t COMPREPLY < <(compgen -f -- "$word")
+        return
+        ;;
+    esac
+    case $command in
+    table) options="--help" ;;
+    failures) options="--each --strict --help" ;;
+    check) options="--explain --area --help" files=yes ;;
+    sim) options="--dot --pcap --help" files=yes ;;
+    run) options="--tick --lookup --floor --pcap --help" files=yes ;;
+    help) options=$commands ;;
+    *) options="--help" ;;
+    esac
+    mapfile -t COMPREPLY < <(
+        compgen -W "$options" -- "$word"
+        [ -z "$files" ] || compgen -f -- "$word"
+    )
+}
+complete -o filenames -F _ospfd ospfd
