@@ -157,6 +157,18 @@ impl Router {
         }
     }
 
+    /// Its part of the area: links with their interfaces and neighbours, and the database (RFC 2328, sections 9, 10 and 12.2);
+    /// `None` of one that has stopped. No memory is taken.
+    pub fn area(&self) -> Option<&Area>
+        ensures some { IfSome result (λ s. self.now.area ≡ Some s.now) }
+        ensures none { result ≡ None → self.now.area ≡ None }
+    {
+        match &self.area {
+            Some(area) => Some(area),
+            None => None,
+        }
+    }
+
     /// Whether the router has a link of this number. No memory is taken.
     pub fn has_link(&self, link: usize) -> bool
         ensures { IsTrue result ↔ (link < self.now.links) }
