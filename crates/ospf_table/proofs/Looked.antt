@@ -1,5 +1,5 @@
 -- Lookups in the one table that is published.
-use Rattle.std.proofs.Common.{◌≡◌, ◌∙◌, ap, sym, subst, refl, ◌%◌, ℕ, List, [], ◌∷◌, ◌++◌, length, slice_get, Option, None, Some, inl, inr, arith, length-append}
+use Rattle.std.proofs.Common.{◌≡◌, ◌∙◌, ◌+◌, ◌<◌, ap, sym, subst, refl, ◌%◌, ℕ, List, [], ◌∷◌, ◌++◌, length, get_or, take, slice_get, Option, None, Some, inl, inr, arith, length-append}
 use mathlib.Core.List.{IsPrefix}
 use Rattle.ospf_base.specs.declared.ids.Addr.{Addr}
 use Rattle.ospf_graph.specs.declared.hop.NextHop.{NextHop}
@@ -7,7 +7,10 @@ use Rattle.ospf_published.specs.Known.{Table, opening}
 use Rattle.ospf_fib.specs.declared.answer.Answer.{Answer}
 use Rattle.ospf_fib.specs.Answers.{IsAnswer, IsAnswerOfLast}
 use Rattle.ospf_files.specs.Shown.{lookup_line}
-use Rattle.ospf_table.specs.Output.{IsLookupLine}
+use Rattle.ospf_graph.specs.declared.route.Route.{Route}
+use Rattle.std.proofs.lemmas.List.{take_more}
+use Rattle.ospf_table.specs.Output.{AreLookups, IsLookupLine}
+use Rattle.ospf_table.proofs.Written.{more_lookups}
 
 -- a list of two tables ends with the second
 last_of : (before : List Table) (t last : Table) → opening ++ t ∷ [] ≡ before ++ last ∷ [] → last ≡ t
@@ -47,3 +50,18 @@ both_begin (x ∷ xs) (y ∷ ys) p q = let rest = both_begin xs ys (p.0, cc (p.1
 -- a list of two tables begins no list of one
 pub no_opening : (table : Table) → IsPrefix (opening ++ table ∷ []) opening → ⊥
 no_opening table p = cc (p.1)
+
+-- ---- as text
+
+-- the line of one address more
+pub next_lookup : (table : List Route) (addresses : List Addr) (i : ℕ) (d : Addr) (lines line text : List ℕ) → i < length addresses → text ≡ lines ++ line
+    → AreLookups table (take i addresses) lines → IsLookupLine table (get_or addresses i d).0 line → AreLookups table (take (i + 1) addresses) text
+next_lookup table addresses i d lines line text within text_is so_far is =
+    subst (AreLookups table (take (i + 1) addresses)) (sym text_is)
+    (subst (λ (front : List Addr). AreLookups table front (lines ++ line)) (sym (take_more addresses i d within))
+    (more_lookups table (take i addresses) lines (get_or addresses i d) line so_far is))
+
+-- the first of the hops, and the others
+pub first_item : (hops : List NextHop) (hop : NextHop) → slice_get hops 0 ≡ Some hop → (others : List NextHop) × (hops ≡ hop ∷ others)
+first_item [] hop e = absurd (cc e)
+first_item (x ∷ xs) hop e = (xs, cc e)

@@ -15,7 +15,7 @@ use Rattle.ospf_table.specs.Cut.{AreLookupsBegun, IsOutputBegun, IsWarned}
 use Rattle.ospf_table.specs.Output.{IsLookupLine, AreLookups, IsAnswered, IsOutput, IsWarning, no_more, one_more}
 
 -- the line of one address more
-more_lookups : (table : List Route) (addresses : List Addr) (lines : List ℕ) (address : Addr) (line : List ℕ) → AreLookups table addresses lines
+pub more_lookups : (table : List Route) (addresses : List Addr) (lines : List ℕ) (address : Addr) (line : List ℕ) → AreLookups table addresses lines
     → IsLookupLine table address.0 line → AreLookups table (addresses ++ address ∷ []) (lines ++ line)
 more_lookups table _ _ address line no_more is = subst (AreLookups table (address ∷ [])) (append-nil line) (one_more is no_more)
 more_lookups table _ _ address line (one_more {address = first} {rest = rest} {line = first_line} {lines = lines} first_is are) is =

@@ -6,7 +6,9 @@
 mod entries;
 mod line;
 mod lookup;
+mod output;
 mod table;
 
 pub use crate::line::{LineFault, lsa_line};
+pub use crate::output::output_text;
 pub use crate::table::{EntryFault, TableFault, TableJob, is_unlisted, read_listing, table_text};

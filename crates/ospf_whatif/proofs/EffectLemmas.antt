@@ -19,7 +19,7 @@ use Rattle.ospf_spf.specs.declared.changes.Change.{Change}
 use Rattle.ospf_spf.specs.declared.changes.Change.TheVariants as change
 use Rattle.ospf_spf.proofs.PrefixOrder.{prefix_cmp, prefixes_told}
 use Rattle.ospf_spf.proofs.SameRoute.{route_same}
-use Rattle.ospf_whatif.specs.Effect.{IsChangeBy, IsEffect, IsLoss, IsRouteChangeBefore}
+use Rattle.ospf_whatif.specs.Effect.{IsChangeBy, IsEffectIn, IsLoss, IsRouteChangeBefore, TakesAway}
 use Rattle.ospf_whatif.specs.Failure.{without}
 use Rattle.ospf_whatif.specs.Told.{IsTold, place_of}
 use Rattle.ospf_whatif.specs.declared.effect.Loss.{Loss}
@@ -103,16 +103,20 @@ reach_or_not (x ∷ xs) p =
 
 -- ---- changes after a failure
 
-module _ (f : Failure) (A : List Advertisement) (root : RouterId) (before after : List Route) (is_before : IsTable A root before)
-    (is_after : IsTable (without f A) root after) (changes : List Change)
+-- what a failure leaves takes away
+pub takes_away : (f : Failure) (A : List Advertisement) (root : RouterId) (before : List Route) → IsTable A root before → TakesAway (without f A) root before
+takes_away f A root before is_before = λ after is_after route there. failures_take_away f A root before after is_before is_after route there
+
+module _ (left : List Advertisement) (root : RouterId) (before after : List Route) (order_before : AllPairs IsRouteBefore before) (less : TakesAway left root before)
+    (is_after : IsTable left root after) (changes : List Change)
     (puts : (route : Route) → Contains changes (change.Put route) ↔ IsNew before after route)
     (gone : (prefix : Prefix) → Contains changes (change.Gone prefix) ↔ IsGone before after prefix) where
   -- each is about a prefix that was reached
   pub all_reached : (c : Change) → Contains changes c → Reaches before (prefix_of c)
-  all_reached (change.Put route) m = let is = (puts route).0 m in let old = failures_take_away f A root before after is_before is_after route is.0 in (old.0, old.1, old.2)
+  all_reached (change.Put route) m = let is = (puts route).0 m in let old = less after is_after route is.0 in (old.0, old.1, old.2)
   all_reached (change.Gone prefix) m = ((gone prefix).0 m).0
 
-  left_out : (route : Route) (loss : Loss) → IsLoss (without f A) after route loss → Contains after route → ⊥
+  left_out : (route : Route) (loss : Loss) → IsLoss left after route loss → Contains after route → ⊥
   left_out route Gone h m = h.0 (route, m, refl)
   left_out route Cut h m = h.0 (route, m, refl)
   left_out route (Dearer new) h m =
@@ -121,27 +125,27 @@ module _ (f : Failure) (A : List Advertisement) (root : RouterId) (before after 
       omega arith
   left_out route (Moved new) h m = h.3 (ap (λ r. r.hops) (one_route after is_after.in_order new route h.0 m h.1))
 
-  module _ (told : List ℕ) (told_are : (p : Prefix) → Contains told (place_of p) ↔ (Contains changes (change.Gone p) × IsTold (without f A) p)) where
-    loss_is : (c : Change) → Contains changes c → (here : RouteChange) → IsChangeBy before told c here → IsLoss (without f A) after here.before here.loss
+  module _ (told : List ℕ) (told_are : (p : Prefix) → Contains told (place_of p) ↔ (Contains changes (change.Gone p) × IsTold left p)) where
+    loss_is : (c : Change) → Contains changes c → (here : RouteChange) → IsChangeBy before told c here → IsLoss left after here.before here.loss
     loss_is (change.Put route) m here is =
         let new = (puts route).0 m in
-        let old = failures_take_away f A root before after is_before is_after route new.0 in
-        let same : old.0 ≡ here.before = one_route before is_before.in_order old.0 here.before old.1 is.before_in (old.2 ∙ sym is.prefix_is) in
+        let old = less after is_after route new.0 in
+        let same : old.0 ≡ here.before = one_route before order_before old.0 here.before old.1 is.before_in (old.2 ∙ sym is.prefix_is) in
         let low : here.before.cost ≤ route.cost = subst (λ (r : Route). r.cost ≤ route.cost) same old.3 in
         elim is.loss_is [
-          | inl dear ↦ subst (λ l. IsLoss (without f A) after here.before l) (sym dear.1) (new.0, sym is.prefix_is, dear.0)
+          | inl dear ↦ subst (λ l. IsLoss left after here.before l) (sym dear.1) (new.0, sym is.prefix_is, dear.0)
           | inr moved ↦
               let cost : route.cost ≡ here.before.cost = (let high = moved.0 in omega arith) in
-              subst (λ l. IsLoss (without f A) after here.before l) (sym moved.1)
+              subst (λ l. IsLoss left after here.before l) (sym moved.1)
               (new.0, sym is.prefix_is, cost, (λ hops. new.1 (subst (λ r. Contains before r) (sym (route_same route here.before (sym is.prefix_is) cost hops)) is.before_in)))
         ]
     loss_is (change.Gone prefix) m here is =
         let lost = (gone prefix).0 m in
         let none : Reaches after here.before.prefix → ⊥ = λ r. lost.1 (subst (λ q. Reaches after q) is.prefix_is r) in
         elim is.loss_is [
-          | inl cut ↦ subst (λ l. IsLoss (without f A) after here.before l) (sym cut.1) (none, subst (λ q. IsTold (without f A) q) (sym is.prefix_is) ((told_are prefix).0 cut.0).1)
-          | inr away ↦ subst (λ l. IsLoss (without f A) after here.before l) (sym away.1)
-              (none, (λ t. away.0 ((told_are prefix).1 (m, subst (λ q. IsTold (without f A) q) is.prefix_is t))))
+          | inl cut ↦ subst (λ l. IsLoss left after here.before l) (sym cut.1) (none, subst (λ q. IsTold left q) (sym is.prefix_is) ((told_are prefix).0 cut.0).1)
+          | inr away ↦ subst (λ l. IsLoss left after here.before l) (sym away.1)
+              (none, (λ t. away.0 ((told_are prefix).1 (m, subst (λ q. IsTold left q) is.prefix_is t))))
         ]
 
     module _ (effect : List RouteChange) (zip : AllZip (IsChangeBy before told) changes effect) where
@@ -156,7 +160,7 @@ module _ (f : Failure) (A : List Advertisement) (root : RouterId) (before after 
         listed_at c m same =
             let y = zip_to (IsChangeBy before told) changes effect zip c m in
             let here = y.0 in
-            let is : here.before ≡ route = one_route before is_before.in_order here.before route y.2.before_in had (y.2.prefix_is ∙ same) in
+            let is : here.before ≡ route = one_route before order_before here.before route y.2.before_in had (y.2.prefix_is ∙ same) in
             (here.loss, subst (λ r. Contains effect (record { before = r; loss = here.loss })) is y.1)
 
         listed_from : (Contains after route → ⊥) → (loss : Loss) × Contains effect (record { before = route; loss = loss })
@@ -164,11 +168,11 @@ module _ (f : Failure) (A : List Advertisement) (root : RouterId) (before after 
             elim (reach_or_not after route.prefix) [
               | inl r ↦
                   listed_at (change.Put r.0)
-                  ((puts r.0).1 (r.1, (λ m. not (subst (λ x. Contains after x) (one_route before is_before.in_order r.0 route m had r.2) r.1)))) r.2
+                  ((puts r.0).1 (r.1, (λ m. not (subst (λ x. Contains after x) (one_route before order_before r.0 route m had r.2) r.1)))) r.2
               | inr none ↦ listed_at (change.Gone route.prefix) ((gone route.prefix).1 ((route, had, refl), none)) refl
             ]
 
-      pub effect_is : AllPairs IsChangeBefore changes → IsEffect A root f before effect
+      pub effect_is : AllPairs IsChangeBefore changes → IsEffectIn left root before effect
       effect_is order = record {
         after = after;
         is_after = is_after;

@@ -3,7 +3,6 @@ use Rattle.std.proofs.Common.{◌≡◌, ◌+◌, ◌<◌, ◌≤◌, ◌∙◌,
 use Rattle.std.proofs.lemmas.List.{take_all}
 use Rattle.std.specs.List.{Contains}
 use Rattle.ospf_graph.proofs.ListLemmas.{more_members}
-use Rattle.ospf_whatif.specs.Name.{HasName, IsIn, IsOnlyIn, failure_text}
 use Rattle.ospf_whatif.specs.declared.failure.Failure.{Failure}
 
 -- what holds of all before, and of one more

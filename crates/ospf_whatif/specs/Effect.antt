@@ -26,13 +26,23 @@ IsLoss left after route (Moved new) = Contains after new × (new.prefix ≡ rout
 abbrev pub IsRouteChangeBefore : RouteChange → RouteChange → Type 0
 IsRouteChangeBefore c d = IsRouteBefore c.before d.before
 
--- what becomes of the routes of a table where something fails: in order, so each once, exactly those that the table of what is left does not have
-pub record IsEffect (adverts : List Advertisement) (root : RouterId) (failure : Failure) (before : List Route) (effect : List RouteChange) : Type 0 where
+-- what becomes of the routes of a table where the area is left as `left`: in order, so each once, exactly those that the table of what is left does not have
+pub record IsEffectIn (left : List Advertisement) (root : RouterId) (before : List Route) (effect : List RouteChange) : Type 0 where
   pub after : List Route
-  pub is_after : IsTable (without failure adverts) root after
+  pub is_after : IsTable left root after
   pub in_order : AllPairs IsRouteChangeBefore effect
   pub listed : (route : Route) → ((loss : Loss) × Contains effect (record { before = route; loss = loss })) ↔ (Contains before route × (Contains after route → ⊥))
-  pub losses : All (λ c. IsLoss (without failure adverts) after c.before c.loss) effect
+  pub losses : All (λ c. IsLoss left after c.before c.loss) effect
+
+-- what becomes of them where something fails
+abbrev pub IsEffect : List Advertisement → RouterId → Failure → List Route → List RouteChange → Type 0
+IsEffect adverts root failure before effect = IsEffectIn (without failure adverts) root before effect
+
+-- each prefix that a router reaches in what is left had a route in its table, at no higher cost
+abbrev pub TakesAway : List Advertisement → RouterId → List Route → Type 0
+TakesAway left root before =
+    (after : List Route) → IsTable left root after → (route : Route) → Contains after route →
+    (old : Route) × Contains before old × (old.prefix ≡ route.prefix) × (old.cost ≤ route.cost)
 
 -- ---- by the change at a prefix
 

@@ -4,3 +4,4 @@ pub mod Single
 pub mod Laws
 pub mod Told
 pub mod Name
+pub mod Left

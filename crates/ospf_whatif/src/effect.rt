@@ -9,9 +9,10 @@ ghost use Rattle.ospf_spf.specs.declared.changes.Change.{Change};
 ghost use Rattle.ospf_whatif.specs.Effect.{IsChangeBy, IsEffect, IsLossBy};
 ghost use Rattle.ospf_whatif.specs.Failure.{HasLarge};
 
-use crate::area::{WithoutFault, without};
+use crate::area::WithoutFault;
 use crate::failure::Failure;
-use crate::told::{is_among, told_of};
+use crate::left::Left;
+use crate::told::is_among;
 use ospf_base::{Prefix, RouterId};
 use ospf_graph::{Pairs, Route};
 use ospf_lsa::Listing;
@@ -55,16 +56,13 @@ pub fn effect_of(
         failure.now table.now effect.items) }
     ensures large { result ≡ Err WithoutFault.Links → HasLarge (advertisements_of listing.now) }
 {
-    let left = without(alloc, listing, failure)?;
-    let after = RouteTable::of(alloc, &left, root)?;
-    let changes = table.changes(alloc, &after)?;
-    let told = told_of(alloc, &left, &changes)?;
-    let effect = changes_by(alloc, table.routes(), &changes, &told)?;
+    let left = Left::of(alloc, listing, failure)?;
+    let effect = left.effect(alloc, root, table)?;
     Ok(effect)
 }
 
 // What becomes of each route at whose prefix something changes.
-fn changes_by(
+pub(crate) fn changes_by(
     alloc: Global,
     routes: &[Route],
     changes: &[Change],

@@ -1,18 +1,17 @@
 //! Which prefixes somebody tells, of those that are reached no more.
 
-ghost use Rattle.std.specs.Prelude.{◌≡◌, ◌↔◌, ℕ, [], Contains, IfOk, IsTrue, OnOk};
+ghost use Rattle.std.specs.Prelude.{◌≡◌, ◌↔◌, ℕ, List, [], Contains, IfOk, IsTrue, OnOk};
 ghost use Rattle.ospf_base.specs.declared.prefix.Prefix.{Prefix};
-ghost use Rattle.ospf_edges.specs.Given.{Adds};
-ghost use Rattle.ospf_edges.specs.Listed.{advertisements_of};
+ghost use Rattle.ospf_graph.specs.Advertisements.{Advertisement};
+ghost use Rattle.ospf_edges.specs.Given.{Adds, IsEdgesOf, IsEndsOf};
 ghost use Rattle.ospf_spf.specs.declared.changes.Change.{Change};
 ghost use Rattle.ospf_whatif.specs.Single.{GivenBy};
 ghost use Rattle.ospf_whatif.specs.Told as spec;
 ghost use Rattle.ospf_whatif.specs.Told.{IsLiveAmong, IsTold, LiveGiven, LostGiven, ToldGiven};
 
 use ospf_base::Prefix;
-use ospf_edges::{End, edges_of, ends_of};
+use ospf_edges::End;
 use ospf_graph::{Edge, Pairs, Vertex, pair_order};
-use ospf_lsa::Listing;
 use ospf_spf::Change;
 use std::alloc::{AllocError, Global};
 
@@ -23,22 +22,23 @@ pub(crate) fn is_among(prefixes: &Pairs, prefix: Prefix) -> bool
     prefixes.has(prefix.address.0, prefix.length as u32)
 }
 
-/// The prefixes that are reached no more by these changes, and that somebody tells in an area. It goes over the
-/// area once, and not at all where no prefix is lost.
+/// The prefixes that are reached no more by these changes, and that somebody tells in the area of these edges and ends. It
+/// goes over them once, and not at all where no prefix is lost.
 pub(crate) fn told_of(
     alloc: Global,
-    listing: &Listing,
+    edges: &[Edge],
+    ends: &[End],
     changes: &[Change],
 ) -> Result<Pairs, AllocError>
-    ensures { IfOk result (λ told. (p : Prefix) →
-        Contains told (spec.place_of p)
-        ↔ (Contains changes.now (Change.Gone p) × IsTold (advertisements_of listing.now) p)) }
+    ensures { IfOk result (λ told. (adverts : List Advertisement) → IsEdgesOf adverts edges.now →
+        IsEndsOf adverts ends.now → (p : Prefix) → Contains told (spec.place_of p)
+        ↔ (Contains changes.now (Change.Gone p) × IsTold adverts p)) }
 {
     let lost = lost_in(alloc, changes)?;
     if lost.is_empty() {
         return Ok(Pairs::of(lost));
     }
-    let told = told_among(alloc, listing, &Pairs::of(lost))?;
+    let told = told_among(alloc, edges, ends, &Pairs::of(lost))?;
     Ok(told)
 }
 
@@ -74,15 +74,18 @@ fn place_of(prefix: Prefix) -> u64
 }
 
 // The prefixes among some that somebody tells.
-fn told_among(alloc: Global, listing: &Listing, lost: &Pairs) -> Result<Pairs, AllocError>
-    ensures { IfOk result (λ told. (p : Prefix) →
-        Contains told (spec.place_of p)
-        ↔ (Contains lost.now (spec.place_of p) × IsTold (advertisements_of listing.now) p)) }
+fn told_among(
+    alloc: Global,
+    edges: &[Edge],
+    ends: &[End],
+    lost: &Pairs,
+) -> Result<Pairs, AllocError>
+    ensures { IfOk result (λ told. (adverts : List Advertisement) → IsEdgesOf adverts edges.now →
+        IsEndsOf adverts ends.now → (p : Prefix) → Contains told (spec.place_of p)
+        ↔ (Contains lost.now (spec.place_of p) × IsTold adverts p)) }
 {
-    let edges = edges_of(alloc, listing)?;
-    let ends = ends_of(alloc, listing)?;
-    let live = live_in(alloc, &edges)?;
-    let told = told_in(alloc, lost, &live, &ends)?;
+    let live = live_in(alloc, edges)?;
+    let told = told_in(alloc, lost, &live, ends)?;
     Ok(told)
 }
 

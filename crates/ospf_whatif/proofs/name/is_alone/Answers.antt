@@ -1,5 +1,4 @@
-use Rattle.std.proofs.Common.{rules, ◌≡◌, ◌≤◌, true, false, length, arith}
-use Rattle.ospf_whatif.specs.declared.failure.Failure.{Failure}
+use Rattle.std.proofs.Common.{rules, ◌≡◌, ◌≤◌, length, arith}
 use Rattle.ospf_whatif.specs.Name.{IsIn}
 use Rattle.ospf_whatif.proofs.NameLemmas.{each_more, each_of_all}
 use Rattle.ospf_whatif.proofs.name.is_alone.Goals as goal
