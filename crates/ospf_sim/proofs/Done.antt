@@ -15,7 +15,7 @@ use Rattle.ospf_sim.specs.Worlds.{WorldValue, EventDoes, IsRandom}
 use Rattle.ospf_sim.specs.Begun.{IsDoneBegun, IsShownBegun, IsWalkBegun}
 use Rattle.ospf_sim.specs.Commands.{Answer, AreRounds, Does, DoesBy, DoesShown, IsDone, IsShownOn, IsWalked, IsWalkedOn, event_in, most_of, shown_in}
 use Rattle.ospf_sim.specs.Shown.{said_line}
-use Rattle.ospf_sim.specs.declared.show.View.{View}
+use Rattle.ospf_views.specs.declared.views.View.{View}
 
 pub event_done : (c : Command) (e : WorldEvent) (w w' : WorldValue) (answer : Answer) (o : Option (List ℕ)) → event_in c ≡ Some e → EventDoes e w answer w'
     → IsDone c w answer w' o o

@@ -1,4 +1,3 @@
-pub mod Pieces
 pub mod Rounds
 pub mod Lines
 pub mod Files

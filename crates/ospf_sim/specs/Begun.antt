@@ -20,7 +20,7 @@ use Rattle.ospf_sim.specs.Commands.{Answer, Does, IsShown, IsWalked}
 use Rattle.ospf_sim.specs.Scripts.{IsRun, refusal_line, unreadable_line}
 use Rattle.ospf_sim.specs.Simulations.{IsWorldOf, same_router_line}
 use Rattle.ospf_sim.specs.Worlds.{HaveTwins, WorldValue}
-use Rattle.ospf_sim.specs.declared.show.View.{View}
+use Rattle.ospf_views.specs.declared.views.View.{View}
 
 -- ---- one line
 

@@ -12,10 +12,11 @@ use Rattle.ospf_script.specs.declared.command.Command.TheVariants as command
 use Rattle.ospf_sim.specs.Worlds.{WorldValue, EventDoes, IsRoundOf, IsRandom, most_offers, IsWalkFrom, LendsRouter, IsNotLent}
 use Rattle.ospf_world.specs.declared.walk.Walk.{Walk}
 use Rattle.ospf_sim.specs.All.{ComesAbout}
-use Rattle.ospf_sim.specs.Shown.{said_line, view_lines, walk_line}
+use Rattle.ospf_sim.specs.Shown.{said_line, walk_line}
+use Rattle.ospf_views.specs.Shown.{view_lines}
 use Rattle.ospf_sim.specs.declared.all.All.TheVariants as all
-use Rattle.ospf_sim.specs.declared.show.View.{View}
-use Rattle.ospf_sim.specs.declared.show.View.TheVariants as view
+use Rattle.ospf_views.specs.declared.views.View.{View}
+use Rattle.ospf_views.specs.declared.views.View.TheVariants as view
 
 -- what is answered to a line: that it is done, or why it is refused
 abbrev pub Answer : Type 0

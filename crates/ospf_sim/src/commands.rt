@@ -9,11 +9,12 @@ ghost use Rattle.ospf_sim.specs.Shown.{said_line};
 ghost use Rattle.ospf_sim.specs.Worlds.{IsRandom};
 
 use crate::all::{All, run_all};
-use crate::show::{View, write_said, write_view, write_walk};
+use crate::show::{write_said, write_walk};
 use crate::watch::Watch;
 use ospf_base::{Addr, RouterId};
 use ospf_files::{FailedStreams, Failure};
 use ospf_script::Command;
+use ospf_views::{View, write_view};
 use ospf_world::{MOST_OFFERS, World, WorldEvent, WorldFault};
 use rand_pcg::Lcg64Xsh32;
 use std::alloc::Global;

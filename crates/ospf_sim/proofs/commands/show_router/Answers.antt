@@ -2,7 +2,7 @@ use Rattle.std.proofs.Common.{[], Ok, refl}
 use Rattle.ospf_files.proofs.Written.{nothing_written, whatever}
 use Rattle.ospf_sim.specs.Begun.{IsShownBegun}
 use Rattle.ospf_sim.specs.Commands.{is_not_shown, is_shown}
-use Rattle.ospf_sim.specs.Shown.{view_lines}
+use Rattle.ospf_views.specs.Shown.{view_lines}
 use Rattle.ospf_sim.proofs.Lent.{lent, not_lent}
 use Rattle.ospf_sim.proofs.commands.show_router.Goals as goal
 

@@ -1,6 +1,6 @@
 use Rattle.std.specs.Io.KnownBytes.{Appends}
-use Rattle.ospf_sim.specs.Shown.{links_lines}
-use Rattle.ospf_sim.proofs.show.write_neighbours.Given as goal
+use Rattle.ospf_views.specs.Shown.{links_lines}
+use Rattle.ospf_views.proofs.views.write_neighbours.Given as goal
 
 -- the neighbours of the links so far are written
 abbrev pub invariant-loop-link : goal.invariant-loop-link

@@ -2,9 +2,9 @@ use Rattle.std.proofs.Common.{subst}
 use Rattle.std.specs.Io.KnownBytes.{Appends}
 use Rattle.ospf_files.proofs.Written.{whatever}
 use Rattle.ospf_files.specs.Streams.{IsBegun}
-use Rattle.ospf_sim.specs.Shown.{link_lines}
-use Rattle.ospf_sim.proofs.Pieces.{link_written, links_begun, no_links_written}
-use Rattle.ospf_sim.proofs.show.write_neighbours.Goals as goal
+use Rattle.ospf_views.specs.Shown.{link_lines}
+use Rattle.ospf_views.proofs.Pieces.{link_written, links_begun, no_links_written}
+use Rattle.ospf_views.proofs.views.write_neighbours.Goals as goal
 
 pub loop-link-init : goal.loop-link-init
 loop-link-init g c = no_links_written _ _

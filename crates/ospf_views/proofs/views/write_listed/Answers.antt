@@ -1,6 +1,6 @@
 use Rattle.ospf_files.proofs.Written.{piece_begun, piece_written, whatever}
-use Rattle.ospf_sim.specs.Shown.{listed_line}
-use Rattle.ospf_sim.proofs.show.write_listed.Goals as goal
+use Rattle.ospf_views.specs.Shown.{listed_line}
+use Rattle.ospf_views.proofs.views.write_listed.Goals as goal
 
 pub loop-lsa-preserved : goal.loop-lsa-preserved
 loop-lsa-preserved g c =

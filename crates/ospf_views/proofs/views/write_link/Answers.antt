@@ -1,6 +1,6 @@
 use Rattle.ospf_files.proofs.Written.{piece_begun, piece_written, whatever}
-use Rattle.ospf_sim.specs.Shown.{neighbour_line}
-use Rattle.ospf_sim.proofs.show.write_link.Goals as goal
+use Rattle.ospf_views.specs.Shown.{neighbour_line}
+use Rattle.ospf_views.proofs.views.write_link.Goals as goal
 
 pub loop-neighbour-preserved : goal.loop-neighbour-preserved
 loop-neighbour-preserved g c =

@@ -5,7 +5,7 @@ use Rattle.ospf_area.specs.State.{AreaValue}
 use Rattle.ospf_router.specs.Routers.{neighbours_on}
 use Rattle.ospf_files.proofs.Written.{both_written, front_begun, nothing_written, rest_begun}
 use Rattle.ospf_files.specs.Streams.{IsBegun}
-use Rattle.ospf_sim.specs.Shown.{link_lines, links_lines}
+use Rattle.ospf_views.specs.Shown.{link_lines, links_lines}
 
 links_more : (area : Option AreaValue) (link : ℕ) → links_lines link area ++ link_lines link (neighbours_on area link) ≡ links_lines (suc link) area
 unfolding links_lines

@@ -1,8 +1,8 @@
 use Rattle.std.proofs.Common.{take}
 use Rattle.std.specs.Prelude.{flat_map}
 use Rattle.std.specs.Io.KnownBytes.{Appends}
-use Rattle.ospf_sim.specs.Shown.{neighbour_line}
-use Rattle.ospf_sim.proofs.show.write_link.Given as goal
+use Rattle.ospf_views.specs.Shown.{neighbour_line}
+use Rattle.ospf_views.proofs.views.write_link.Given as goal
 
 -- the neighbours so far are written
 abbrev pub invariant-loop-neighbour : goal.invariant-loop-neighbour

@@ -1,7 +1,7 @@
 use Rattle.ospf_files.specs.Streams.{IsOutputCut, no_room}
 use Rattle.ospf_files.proofs.Cut.{for_memory}
 use Rattle.ospf_files.proofs.Written.{nothing_begun, whatever}
-use Rattle.ospf_sim.proofs.show.write_lsa.Goals as goal
+use Rattle.ospf_views.proofs.views.write_lsa.Goals as goal
 
 pub returns-in_err-line-clause-begun : goal.returns-in_err-line-clause-begun
 returns-in_err-line-clause-begun g c = whatever _ (nothing_begun _ _)
