@@ -43,7 +43,7 @@ offered_done most i before now all comes =
 
 -- ---- the next datagram
 
-past : (ds : List Datagram) (i : ℕ) → length ds ≤ i → slice_get ds i ≡ None
+pub past : (ds : List Datagram) (i : ℕ) → length ds ≤ i → slice_get ds i ≡ None
 past [] i all = refl
 past (d ∷ ds) zero all = absurd (omega arith)
 past (d ∷ ds) (suc i) all = past ds i (omega arith)
@@ -61,7 +61,7 @@ next_some w ds slots place g events log are at within is offers =
 
 -- ---- what comes of one datagram
 
-run_from : (w v w' : WorldValue) (events offers : List WorldEvent) (answer told : Result ℕ WorldFault) → v ≡ passed w → events ≡ offers → answer ≡ told → IsRun Does events v answer w' → IsRun Does offers (passed w) told w'
+pub run_from : (w v w' : WorldValue) (events offers : List WorldEvent) (answer told : Result ℕ WorldFault) → v ≡ passed w → events ≡ offers → answer ≡ told → IsRun Does events v answer w' → IsRun Does offers (passed w) told w'
 run_from w v w' events offers answer told is same said run =
     subst (λ (r : Result ℕ WorldFault). IsRun Does offers (passed w) r w') said
     (subst (λ (es : List WorldEvent). IsRun Does es (passed w) answer w') same
@@ -85,7 +85,7 @@ pub round_is : (w w' : WorldValue) (result : Result (Unit {0}) WorldFault) → I
 unfolding most_offers
 round_is w w' result round = round
 
-run_ticks : (w w' : WorldValue) (events : List WorldEvent) (answer told : Result ℕ WorldFault) → events ≡ ticks w.slots → answer ≡ told → IsRun Does events w answer w' → IsRun Does (ticks w.slots) w told w'
+pub run_ticks : (w w' : WorldValue) (events : List WorldEvent) (answer told : Result ℕ WorldFault) → events ≡ ticks w.slots → answer ≡ told → IsRun Does events w answer w' → IsRun Does (ticks w.slots) w told w'
 run_ticks w w' events answer told same said run =
     subst (λ (r : Result ℕ WorldFault). IsRun Does (ticks w.slots) w r w') said (subst (λ (es : List WorldEvent). IsRun Does es w answer w') same run)
 
@@ -98,7 +98,7 @@ round_ticks_end most w w' events answer f are run said = IsRoundOf.TicksEnd f (r
 
 -- ---- as a list of events
 
-run_leads : (events : List WorldEvent) (w w' : WorldValue) (answer : Result ℕ WorldFault) → IsRun Does events w answer w' → LeadsOn (world_of w) (world_of w')
+pub run_leads : (events : List WorldEvent) (w w' : WorldValue) (answer : Result ℕ WorldFault) → IsRun Does events w answer w' → LeadsOn (world_of w) (world_of w')
 run_leads events w w' answer run = run_happens is_dropped events (world_of w) (world_of w') answer (run_comes events w w' answer run)
 
 next_leads : (w w' : WorldValue) (answer : Result Bool WorldFault) → OffersNext w answer w' → LeadsOn (world_of w) (world_of w')

@@ -3,7 +3,7 @@
 //!
 //! `World::step` takes an event, `World::run` a list of them. `World::round` is a tick of each router that runs, and
 //! then offers what was sent (RFC 2328, section 8.1), `World::random` draws events by chance, and `World::walk` goes
-//! along next hops. What an event does stands in `specs/Does`, whom a datagram is offered to in `specs/Offers`, and
+//! along next hops. An `EventWatch` is told of each event. What an event does stands in `specs/Does`, whom a datagram is offered to in `specs/Offers`, and
 //! what chance draws in `specs/Draws`.
 #![tactic(auto)]
 
@@ -15,11 +15,15 @@ mod random;
 mod rounds;
 mod ticks;
 mod walk;
+mod watch;
+mod watched;
 mod world;
 
 pub use crate::chance::{Words, chosen, draw, drawn_at};
-pub use crate::rounds::MOST_OFFERS;
+pub use crate::networks::network_of;
+pub use crate::rounds::{MOST_OFFERS, ticks_of};
 pub use crate::ticks::Ticked;
 pub use crate::walk::Walk;
+pub use crate::watch::{EventWatch, Unwatched};
 pub use crate::world::World;
 pub use ospf_slots::{Datagram, Holding, Issued, Logs, Run, Slot, WorldEvent, WorldFault};

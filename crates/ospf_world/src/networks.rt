@@ -46,7 +46,7 @@ pub(crate) fn links_at(networks: &Networks, network: u32) -> &[LinkPlace]
 }
 
 /// The number of the network that an interface is attached to.
-pub(crate) fn network_of(address: &InterfaceAddress) -> u32
+pub fn network_of(address: &InterfaceAddress) -> u32
     ensures { result ≡ network_part address.now }
 {
     address.address.0 & mask_of(address.length)

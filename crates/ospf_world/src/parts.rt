@@ -111,8 +111,8 @@ impl Parts {
         }
     }
 
-    // The address of the interface that a datagram went out of.
-    fn source_of(&self, sent: &Datagram) -> Option<InterfaceAddress>
+    /// The address of the interface that a datagram went out of.
+    pub(crate) fn source_of(&self, sent: &Datagram) -> Option<InterfaceAddress>
         ensures { result ≡ sender_in self.now.slots sent.now }
     {
         let place = place(&self.places, sent.router)?;

@@ -12,6 +12,7 @@ ghost use Rattle.rand_pcg.specs.Lcg.{increment_of, started};
 ghost use Rattle.rand_pcg.specs.Pcg.{multiplier_64};
 
 use crate::chance::{Words, chosen, draw, drawn_at};
+use crate::watch::{EventWatch, Unwatched};
 use crate::world::{World, is_memory};
 use ospf_headline::{WorldEvent, WorldFault, headline, soundness};
 use rand_pcg::Lcg64Xsh32;
@@ -39,6 +40,30 @@ impl World {
         ensures ticks { TicksOn (world_of self.old) self.old.ticks (world_of self.new)
             self.new.ticks }
     {
+        self.draw_events_watched(generator, count, &mut Unwatched, alloc)
+    }
+
+    /// So many events by chance, as `draw_events` has them. A watch is told of each.
+    ///
+    /// `Memory` where memory runs out, which ends it.
+    pub fn draw_events_watched<W: EventWatch>(
+        &mut self,
+        generator: &mut Lcg64Xsh32,
+        count: u64,
+        watch: &mut W,
+        alloc: Global,
+    ) -> Result<(), WorldFault>
+        // What happens by chance, how far the generator has come, and what stays.
+        ensures random { IsRandom count generator.old self.old result self.new }
+        ensures drawn { OnOk result (generator.new ≡ drawn_past count generator.old) }
+        ensures same { SameSettings self.old self.new }
+        // What holds of every network holds of this one again, and its log of ticks goes on.
+        ensures reached { IsReached is_dropped (world_of self.new) }
+        ensures headline { Headline (world_of self.old) (world_of self.new) }
+        ensures sound { IsSoundBetween (world_of self.old) (world_of self.new) }
+        ensures ticks { TicksOn (world_of self.old) self.old.ticks (world_of self.new)
+            self.new.ticks }
+    {
         // For the proof.
         headline();
         soundness();
@@ -46,7 +71,7 @@ impl World {
         for i in 0..count {
             let words = draw(generator);
             let event = self.draw_event(&words);
-            match self.meet(event, alloc) {
+            match self.meet(event, watch, alloc) {
                 Ok(()) => {}
                 Err(fault) => return Err(fault),
             }
@@ -91,7 +116,12 @@ impl World {
     }
 
     // Meets an event, where there is one: passes over a refusal, unless memory ran out.
-    fn meet(&mut self, event: Option<WorldEvent>, alloc: Global) -> Result<(), WorldFault>
+    fn meet<W: EventWatch>(
+        &mut self,
+        event: Option<WorldEvent>,
+        watch: &mut W,
+        alloc: Global,
+    ) -> Result<(), WorldFault>
         ensures meets { Meets event self.old result self.new }
         ensures same { SameSettings self.old self.new }
         ensures ticks { TicksOn (world_of self.old) self.old.ticks (world_of self.new)
@@ -100,7 +130,7 @@ impl World {
         let Some(event) = event else {
             return Ok(());
         };
-        match self.step(event, alloc) {
+        match self.step_watched(event, watch, alloc) {
             Ok(()) => Ok(()),
             Err(fault) => {
                 if is_memory(&fault) {

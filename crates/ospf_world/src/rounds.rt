@@ -8,6 +8,7 @@ ghost use Rattle.ospf_world.specs.Sounds.{IsSoundBetween};
 ghost use Rattle.ospf_world.specs.Ticks.{TicksOn};
 ghost use Rattle.ospf_world.specs.Worlds.{world_of};
 
+use crate::watch::{EventWatch, Unwatched};
 use crate::world::World;
 use ospf_headline::{WorldEvent, WorldFault, headline, runs_lead_on, soundness};
 use ospf_slots::Slot;
@@ -50,6 +51,27 @@ impl World {
         ensures ticks { TicksOn (world_of self.old) self.old.ticks (world_of self.new)
             self.new.ticks }
     {
+        self.round_watched(most, &mut Unwatched, alloc)
+    }
+
+    /// A round, as `round_of` has it. A watch is told of each event.
+    ///
+    /// `Memory` where memory runs out, which ends it.
+    pub fn round_watched<W: EventWatch>(
+        &mut self,
+        most: u64,
+        watch: &mut W,
+        alloc: Global,
+    ) -> Result<(), WorldFault>
+        // What happens in a round.
+        ensures round { IsRoundOf most self.old result self.new }
+        // What holds of every network holds of this one again, and its log of ticks goes on.
+        ensures reached { IsReached is_dropped (world_of self.new) }
+        ensures headline { Headline (world_of self.old) (world_of self.new) }
+        ensures sound { IsSoundBetween (world_of self.old) (world_of self.new) }
+        ensures ticks { TicksOn (world_of self.old) self.old.ticks (world_of self.new)
+            self.new.ticks }
+    {
         // For the proof.
         headline();
         soundness();
@@ -58,20 +80,25 @@ impl World {
         let Ok(ticks) = ticks_of(self.slots(), alloc) else {
             return Err(WorldFault::Memory { stopped: false });
         };
-        match self.run(&ticks, alloc) {
-            Ok(_refused) => self.offer(most, alloc),
+        match self.run_watched(&ticks, watch, alloc) {
+            Ok(_refused) => self.offer(most, watch, alloc),
             Err(fault) => Err(fault),
         }
     }
 
     // Offers so many datagrams at most.
-    fn offer(&mut self, most: u64, alloc: Global) -> Result<(), WorldFault>
+    fn offer<W: EventWatch>(
+        &mut self,
+        most: u64,
+        watch: &mut W,
+        alloc: Global,
+    ) -> Result<(), WorldFault>
         ensures offered { AreOffered most self.old result self.new }
         ensures ticks { TicksOn (world_of self.old) self.old.ticks (world_of self.new)
             self.new.ticks }
     {
         for i in 0..most {
-            match self.offer_next(alloc) {
+            match self.offer_next(watch, alloc) {
                 Ok(true) => {}
                 Ok(false) => return Ok(()),
                 Err(fault) => return Err(fault),
@@ -81,7 +108,11 @@ impl World {
     }
 
     // Offers the next datagram, if there is one.
-    fn offer_next(&mut self, alloc: Global) -> Result<bool, WorldFault>
+    fn offer_next<W: EventWatch>(
+        &mut self,
+        watch: &mut W,
+        alloc: Global,
+    ) -> Result<bool, WorldFault>
         ensures offers { OffersNext self.old result self.new }
         ensures ticks { TicksOn (world_of self.old) self.old.ticks (world_of self.new)
             self.new.ticks }
@@ -89,7 +120,7 @@ impl World {
         match self.next_offers(alloc) {
             Ok(Some(offers)) => {
                 self.pass_one();
-                match self.run(&offers, alloc) {
+                match self.run_watched(&offers, watch, alloc) {
                     Ok(_refused) => Ok(true),
                     Err(fault) => Err(fault),
                 }
@@ -111,8 +142,10 @@ impl World {
     }
 }
 
-// The ticks of a round.
-fn ticks_of(slots: &[Slot], alloc: Global) -> Result<Vec<WorldEvent>, AllocError>
+/// The ticks of a round.
+///
+/// `AllocError` where memory runs out.
+pub fn ticks_of(slots: &[Slot], alloc: Global) -> Result<Vec<WorldEvent>, AllocError>
     ensures { IfOk result (λ events. events.items ≡ ticks slots.now) }
 {
     let mut events = Vec::new(alloc);

@@ -7,16 +7,17 @@ ghost use Rattle.ospf_headline.specs.Sound.{IsSound};
 ghost use Rattle.ospf_headline.specs.World.{Comes};
 ghost use Rattle.ospf_router.specs.Steps.{is_dropped};
 ghost use Rattle.ospf_world.specs.Does.{Does};
-ghost use Rattle.ospf_world.specs.Rounds.{offers_of};
+ghost use Rattle.ospf_world.specs.Rounds.{offers_of, sender_in};
 ghost use Rattle.ospf_world.specs.Sounds.{IsSoundBetween};
 ghost use Rattle.ospf_world.specs.Ticks.{TicksOn, ticked_by};
 ghost use Rattle.ospf_world.specs.Worlds.{Lends, Opens, SameSettings, world_of};
 
 use crate::parts::Parts;
 use crate::ticks::Ticked;
+use crate::watch::Unwatched;
 use ospf_base::RouterId;
-use ospf_config::Config;
-use ospf_headline::{headline, runs_lead_on, soundness};
+use ospf_config::{Config, InterfaceAddress};
+use ospf_headline::{headline, soundness};
 use ospf_router::Router;
 use ospf_slots::{Datagram, Holding, Issued, Slot, WorldEvent, WorldFault};
 use std::alloc::{AllocError, Global};
@@ -91,24 +92,7 @@ impl World {
         ensures ticks { TicksOn (world_of self.old) self.old.ticks (world_of self.new)
             self.new.ticks }
     {
-        // For the proof.
-        headline();
-        soundness();
-        runs_lead_on();
-        let _ = &self.parts;
-        let mut refused = 0;
-        for event in events {
-            match self.step(*event, alloc) {
-                Ok(()) => {}
-                Err(fault) => {
-                    if is_memory(&fault) {
-                        return Err(fault);
-                    }
-                    refused += 1;
-                }
-            }
-        }
-        Ok(refused)
+        self.run_watched(events, &mut Unwatched, alloc)
     }
 
     /// The router, where it runs. No memory is taken.
@@ -155,22 +139,24 @@ impl World {
         &self.parts.ticks
     }
 
-    // What the type tells: some list of events led here.
-    pub(crate) fn reached(&self)
+    /// What the type tells: some list of events led here.
+    pub fn reached(&self)
         ensures { IsReached is_dropped (world_of self.now) }
     {
         let _ = &self.parts;
     }
 
-    // How many datagrams the rounds have offered.
-    pub(crate) fn offered(&self) -> usize
+    /// How many datagrams the rounds have offered.
+    pub fn offered(&self) -> usize
         ensures { result ≡ self.now.offered }
     {
         self.parts.offered
     }
 
-    // The offers of a datagram, which stands at this place of the log.
-    pub(crate) fn offers_of(
+    /// The offers of a datagram, which stands at this place of the log, in the order of the configurations.
+    ///
+    /// `AllocError` where memory runs out.
+    pub fn offers_of(
         &self,
         place: usize,
         sent: &Datagram,
@@ -181,8 +167,15 @@ impl World {
         self.parts.offers_of(place, sent, alloc)
     }
 
-    // One more datagram counts as offered.
-    pub(crate) fn pass_one(&mut self)
+    /// The address of the interface that a datagram went out of.
+    pub fn source_of(&self, sent: &Datagram) -> Option<InterfaceAddress>
+        ensures { result ≡ sender_in self.now.slots sent.now }
+    {
+        self.parts.source_of(sent)
+    }
+
+    /// One more datagram counts as offered: no later round offers it.
+    pub fn pass_one(&mut self)
         requires { self.old.offered < length self.old.logs.datagrams }
         ensures { self.new ≡ record self.old { offered = self.old.offered + 1 } }
     {

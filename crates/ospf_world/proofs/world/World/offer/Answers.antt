@@ -4,25 +4,25 @@ use Rattle.ospf_world.proofs.TickFacts.{ticks_further, ticks_nowhere}
 use Rattle.ospf_world.proofs.world.World.offer.Goals as goal
 
 pub returns-in-Ok-false-clause-offered : goal.returns-in-Ok-false-clause-offered
-returns-in-Ok-false-clause-offered c = offered_last c.args.most c.loop-i.i c.args.self.now c.loop-i.self c.offer_next.new.self c.offer_next.result c.in-Ok-false.field-0 c.loop-i-test.true c.offer_next.ensures.offers c.in-Ok-false.is c.in-Ok-false.field-0-test c.loop-i.invariant.comes
+returns-in-Ok-false-clause-offered g c = offered_last c.args.most c.loop-i.i c.args.self.now c.loop-i.self c.offer_next.new.self c.offer_next.result c.in-Ok-false.field-0 c.loop-i-test.true c.offer_next.ensures.offers c.in-Ok-false.is c.in-Ok-false.field-0-test c.loop-i.invariant.comes
 
 pub returns-in-Err-clause-offered : goal.returns-in-Err-clause-offered
-returns-in-Err-clause-offered c = offered_ends c.args.most c.loop-i.i c.args.self.now c.loop-i.self c.offer_next.new.self c.offer_next.result c.in-Err.fault c.loop-i-test.true c.offer_next.ensures.offers c.in-Err.is c.loop-i.invariant.comes
+returns-in-Err-clause-offered g c = offered_ends c.args.most c.loop-i.i c.args.self.now c.loop-i.self c.offer_next.new.self c.offer_next.result c.in-Err.fault c.loop-i-test.true c.offer_next.ensures.offers c.in-Err.is c.loop-i.invariant.comes
 
 pub loop-i-preserved : goal.loop-i-preserved
-loop-i-preserved c = record {
+loop-i-preserved g c = record {
   comes = offered_more c.args.most c.loop-i.i c.args.self.now c.loop-i.self c.offer_next.new.self c.offer_next.result c.in-Ok-true.field-0 c.loop-i-test.true c.offer_next.ensures.offers c.in-Ok-true.is c.in-Ok-true.field-0-test c.loop-i.invariant.comes;
   ticks = ticks_further _ _ _ _ _ _ c.loop-i.invariant.ticks c.offer_next.ensures.ticks;
 }
 
 pub returns-in-Ok-false-clause-ticks : goal.returns-in-Ok-false-clause-ticks
-returns-in-Ok-false-clause-ticks c = ticks_further _ _ _ _ _ _ c.loop-i.invariant.ticks c.offer_next.ensures.ticks
+returns-in-Ok-false-clause-ticks g c = ticks_further _ _ _ _ _ _ c.loop-i.invariant.ticks c.offer_next.ensures.ticks
 
 pub returns-in-Err-clause-ticks : goal.returns-in-Err-clause-ticks
-returns-in-Err-clause-ticks c = ticks_further _ _ _ _ _ _ c.loop-i.invariant.ticks c.offer_next.ensures.ticks
+returns-in-Err-clause-ticks g c = ticks_further _ _ _ _ _ _ c.loop-i.invariant.ticks c.offer_next.ensures.ticks
 
 pub loop-i-init : goal.loop-i-init
-loop-i-init c = record {
+loop-i-init g c = record {
   comes = search rules;
   ticks = ticks_nowhere _ _ _ _ refl refl;
 }

@@ -3,10 +3,10 @@ use Rattle.ospf_world.specs.Draws.{drawn_past}
 use Rattle.ospf_world.proofs.RandomFacts.{Comes_to}
 use Rattle.ospf_world.specs.Ticks.{TicksOn}
 use Rattle.ospf_world.specs.Worlds.{SameSettings, world_of}
-use Rattle.ospf_world.proofs.world.World.draw_events.Given as goal
+use Rattle.ospf_world.proofs.world.World.draw_events_watched.Given as goal
 
 abbrev pub invariant-loop-i : goal.invariant-loop-i
-invariant-loop-i l = record {
+invariant-loop-i g l = record {
   comes : Comes_to l.count l.initial.generator l.initial.self (l.count - l.i) l.generator l.self;
   drawn : l.generator ≡ drawn_past l.i l.initial.generator;
   same : SameSettings l.initial.self l.self;

@@ -1,0 +1,2 @@
+pub mod LossFacts
+pub mod KeepFacts

@@ -1,0 +1,84 @@
+//! Runs and rounds that are watched.
+
+ghost use Rattle.std.specs.Prelude.{◌≡◌, ◌++◌, length};
+ghost use Rattle.ospf_headline.specs.Headline.{Headline, IsReached};
+ghost use Rattle.ospf_headline.specs.Runs.{IsRun};
+ghost use Rattle.ospf_headline.specs.Sound.{IsSound};
+ghost use Rattle.ospf_headline.specs.World.{Comes};
+ghost use Rattle.ospf_router.specs.Steps.{is_dropped};
+ghost use Rattle.ospf_world.specs.Does.{Does};
+ghost use Rattle.ospf_world.specs.Sounds.{IsSoundBetween};
+ghost use Rattle.ospf_world.specs.Ticks.{TicksOn, ticked_by};
+ghost use Rattle.ospf_world.specs.Worlds.{SameSettings, world_of};
+
+use crate::watch::EventWatch;
+use crate::world::{World, is_memory};
+use ospf_headline::{WorldEvent, WorldFault, headline, runs_lead_on, soundness};
+use std::alloc::Global;
+
+impl World {
+    /// What an event names happens to the router that it names, as by `step`. A watch is told of it.
+    ///
+    /// The faults are those of `step`.
+    pub fn step_watched<W: EventWatch>(
+        &mut self,
+        event: WorldEvent,
+        watch: &mut W,
+        alloc: Global,
+    ) -> Result<(), WorldFault>
+        // What happens, and what stays.
+        ensures does { Does event self.old result self.new }
+        ensures comes { Comes is_dropped event (world_of self.old) result (world_of self.new) }
+        ensures same { SameSettings self.old self.new }
+        // What holds of every network holds of this one again, and its log of ticks goes on.
+        ensures reached { IsReached is_dropped (world_of self.new) }
+        ensures headline { Headline (world_of self.old) (world_of self.new) }
+        ensures sound { IsSound event (world_of self.old) (world_of self.new) }
+        ensures ticks { self.new.ticks ≡ self.old.ticks
+            ++ ticked_by event result (length self.old.logs.datagrams) }
+    {
+        watch.comes(self, &event);
+        let result = self.step(event, alloc);
+        watch.came(self, &event, &result);
+        result
+    }
+
+    /// The events in their order, as `run` takes them. A watch is told of each.
+    ///
+    /// `WorldFault::Memory` where memory runs out for one: that is the last.
+    pub fn run_watched<W: EventWatch>(
+        &mut self,
+        events: &[WorldEvent],
+        watch: &mut W,
+        alloc: Global,
+    ) -> Result<usize, WorldFault>
+        // What happens, and what stays.
+        ensures run { IsRun Does events.now self.old result self.new }
+        ensures same { SameSettings self.old self.new }
+        // What holds of every network holds of this one again, and its log of ticks goes on.
+        ensures reached { IsReached is_dropped (world_of self.new) }
+        ensures headline { Headline (world_of self.old) (world_of self.new) }
+        ensures sound { IsSoundBetween (world_of self.old) (world_of self.new) }
+        ensures ticks { TicksOn (world_of self.old) self.old.ticks (world_of self.new)
+            self.new.ticks }
+    {
+        // For the proof.
+        headline();
+        soundness();
+        runs_lead_on();
+        self.reached();
+        let mut refused = 0;
+        for event in events {
+            match self.step_watched(*event, watch, alloc) {
+                Ok(()) => {}
+                Err(fault) => {
+                    if is_memory(&fault) {
+                        return Err(fault);
+                    }
+                    refused += 1;
+                }
+            }
+        }
+        Ok(refused)
+    }
+}
