@@ -1,0 +1,7 @@
+use Rattle.std.proofs.Common.{◌≡◌, ◌++◌, take}
+use Rattle.std.specs.List.{flat_map}
+use Rattle.ospf_journal.specs.Changes.{standing_change}
+use Rattle.ospf_journal.proofs.told.push_standing.Given as goal
+
+abbrev pub invariant-loop-neighbour : goal.invariant-loop-neighbour
+invariant-loop-neighbour l = l.changes.items ≡ l.initial.changes.items ++ flat_map (standing_change l.link l.before) (take l.neighbour-index l.now)

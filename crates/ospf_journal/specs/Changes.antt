@@ -1,0 +1,193 @@
+-- What changes of a router in a step, as a journal tells it.
+use Rattle.std.specs.Prelude.{◌≡◌, ◌==◌, ◌&&◌, ◌++◌, ◌↔◌, ℕ, zero, suc, Bool, true, false, not, List, [], ◌∷◌, AllPairs, Contains, Option, None, Some, find, flat_map, is_some, length, map, max, slice_get, if◌then◌else◌}
+use Rattle.ospf_base.specs.Addresses.{nowhere}
+use Rattle.ospf_base.specs.Keys.{same_key}
+use Rattle.ospf_base.specs.declared.ids.LsaKey.{LsaKey}
+use Rattle.ospf_base.specs.declared.ids.RouterId.{RouterId}
+use Rattle.ospf_base.specs.declared.prefix.Prefix.{Prefix}
+use Rattle.ospf_graph.specs.declared.route.Route.{Route}
+use Rattle.ospf_iface.specs.declared.machine.IfaceState.{IfaceState}
+use Rattle.ospf_iface.specs.declared.machine.IfaceState.TheVariants as iface
+use Rattle.ospf_neighbour.specs.declared.machine.NeighbourState.{NeighbourState}
+use Rattle.ospf_neighbour.specs.declared.machine.NeighbourState.TheVariants as state
+use Rattle.ospf_spf.specs.Changes as tables
+use Rattle.ospf_spf.specs.declared.changes.Change as spf
+use Rattle.ospf_spf.specs.declared.changes.Change.TheVariants as put
+use Rattle.ospf_journal.specs.Seen.{SeenLinkValue, SeenValue}
+use Rattle.ospf_journal.specs.declared.change.Change.{Change}
+use Rattle.ospf_journal.specs.declared.change.Change.TheVariants as change
+use Rattle.ospf_journal.specs.declared.change.DroppedAt.{DroppedAt}
+use Rattle.ospf_journal.specs.declared.seen.SeenIface.{SeenIface}
+use Rattle.ospf_journal.specs.declared.seen.SeenNeighbour.{SeenNeighbour}
+use Rattle.ospf_journal.specs.declared.seen.SeenOwn.{SeenOwn}
+
+-- ---- neighbours
+
+-- the places of a neighbour's states in their order (RFC 2328, section 10.1)
+abbrev pub state_place : NeighbourState → ℕ
+state_place state.Down = 0
+state_place state.Init = 1
+state_place state.TwoWay = 2
+state_place state.ExStart = 3
+state_place state.Exchange = 4
+state_place state.Loading = 5
+state_place state.Full = 6
+
+-- the neighbours of a link; none where there is no link
+abbrev pub neighbours_of_link : Option SeenLinkValue → List SeenNeighbour
+neighbours_of_link None = []
+neighbours_of_link (Some link) = link.neighbours
+
+abbrev pub seen_on : List SeenLinkValue → ℕ → List SeenNeighbour
+seen_on links link = neighbours_of_link (slice_get links link)
+
+-- the neighbour of a Router ID
+abbrev pub seen_as : List SeenNeighbour → RouterId → Option SeenNeighbour
+seen_as ns q = find (λ n. n.router.0 == q.0) ns
+
+-- its state: one that is not there is Down
+abbrev pub seen_state : Option SeenNeighbour → NeighbourState
+seen_state None = state.Down
+seen_state (Some n) = n.state
+
+-- a neighbour's state is another one
+abbrev pub state_change : ℕ → RouterId → (before now : NeighbourState) → List Change
+state_change link q before now =
+    if state_place before == state_place now then [] else change.Neighbour link q before now ∷ []
+
+-- what changed of a neighbour that is there
+abbrev pub standing_change : ℕ → List SeenNeighbour → SeenNeighbour → List Change
+standing_change link before n = state_change link n.router (seen_state (seen_as before n.router)) n.state
+
+-- one that was there is no more
+abbrev pub gone_change : ℕ → List SeenNeighbour → SeenNeighbour → List Change
+gone_change link now n = if is_some (seen_as now n.router) then [] else state_change link n.router n.state state.Down
+
+-- the neighbours of a link whose state is another one: those that are there, and then those that are gone, each by Router ID
+abbrev pub link_changes : ℕ → (before now : List SeenNeighbour) → List Change
+link_changes link before now = flat_map (standing_change link before) now ++ flat_map (gone_change link now) before
+
+-- those of the first so many links
+abbrev pub links_changes : (before now : List SeenLinkValue) → ℕ → List Change
+links_changes before now zero = []
+links_changes before now (suc link) =
+    links_changes before now link ++ link_changes link (seen_on before link) (seen_on now link)
+
+-- ---- interfaces
+
+-- the places of an interface's states in their order (9.1)
+abbrev pub iface_place : IfaceState → ℕ
+iface_place iface.Down = 0
+iface_place iface.Waiting = 1
+iface_place iface.PointToPoint = 2
+iface_place iface.DrOther = 3
+iface_place iface.Backup = 4
+iface_place iface.Dr = 5
+
+-- an interface that is down
+abbrev pub down_iface : SeenIface
+down_iface = record { state = iface.Down; dr = nowhere; backup = nowhere }
+
+-- the interface of a link: one that is down, where there is no link
+abbrev pub iface_of_link : Option SeenLinkValue → SeenIface
+iface_of_link None = down_iface
+iface_of_link (Some link) = link.iface
+
+abbrev pub iface_on : List SeenLinkValue → ℕ → SeenIface
+iface_on links link = iface_of_link (slice_get links link)
+
+abbrev pub is_same_iface : SeenIface → SeenIface → Bool
+is_same_iface a b = (iface_place a.state == iface_place b.state) && (a.dr.0 == b.dr.0) && (a.backup.0 == b.backup.0)
+
+-- its state, the Designated Router or the Backup is another one
+abbrev pub iface_change : ℕ → (before now : SeenIface) → List Change
+iface_change link before now =
+    if is_same_iface before now then [] else change.Interface link before.state now ∷ []
+
+-- those of the first so many links
+abbrev pub ifaces_changes : (before now : List SeenLinkValue) → ℕ → List Change
+ifaces_changes before now zero = []
+ifaces_changes before now (suc link) =
+    ifaces_changes before now link ++ iface_change link (iface_on before link) (iface_on now link)
+
+-- ---- own LSAs
+
+-- what was seen of the LSA of a key
+abbrev pub own_as : List SeenOwn → LsaKey → Option SeenOwn
+own_as owns key = find (λ o. same_key o.key key) owns
+
+-- it was issued at this tick, which is not that of the last time (12.4)
+abbrev pub is_issued : (before now : Option ℕ) → Bool
+is_issued before None = false
+is_issued None (Some at) = true
+is_issued (Some last) (Some at) = not (last == at)
+
+abbrev pub issued_before : Option SeenOwn → Option ℕ
+issued_before None = None
+issued_before (Some o) = o.issued_at
+
+abbrev pub flushed_before : Option SeenOwn → Bool
+flushed_before None = false
+flushed_before (Some o) = o.is_flushed
+
+abbrev pub held_before : Option SeenOwn → Bool
+held_before None = false
+held_before (Some o) = o.is_held
+
+abbrev pub issue_change : Option SeenOwn → SeenOwn → List Change
+issue_change before o = if is_issued (issued_before before) o.issued_at then change.Issued o.key o.number ∷ [] else []
+
+-- it came to MaxAge (14.1)
+abbrev pub flush_change : Option SeenOwn → SeenOwn → List Change
+flush_change before o = if o.is_flushed && not (flushed_before before) then change.Flushed o.key o.number ∷ [] else []
+
+-- it left the database (14)
+abbrev pub removal_change : Option SeenOwn → SeenOwn → List Change
+removal_change before o = if held_before before && not o.is_held then change.Removed o.key ∷ [] else []
+
+abbrev pub change_of_own : Option SeenOwn → SeenOwn → List Change
+change_of_own before o = issue_change before o ++ flush_change before o ++ removal_change before o
+
+abbrev pub own_change : List SeenOwn → SeenOwn → List Change
+own_change before o = change_of_own (own_as before o.key) o
+
+abbrev pub own_changes : (before now : List SeenOwn) → List Change
+own_changes before now = flat_map (own_change before) now
+
+-- ---- routes
+
+-- the changes that lead from one table to the other, in the order of tables, and no other
+pub record LeadsOn (before now : List Route) (routes : List spf.Change) : Type 0 where
+  pub applied : tables.edited before routes ≡ now
+  pub in_order : AllPairs tables.IsChangeBefore routes
+  pub puts : (route : Route) → Contains routes (put.Put route) ↔ tables.IsNew before now route
+  pub gone : (prefix : Prefix) → Contains routes (put.Gone prefix) ↔ tables.IsGone before now prefix
+
+-- as a journal tells it
+abbrev pub route_change : spf.Change → Change
+route_change (put.Put route) = change.Route route
+route_change (put.Gone prefix) = change.NoRoute prefix
+
+-- ---- a step
+
+-- a datagram that is dropped
+abbrev pub drop_change : Option DroppedAt → List Change
+drop_change None = []
+drop_change (Some dropped) = change.Dropped dropped ∷ []
+
+-- all but the routes: the datagram that is dropped, the neighbours whose state is another one, link by link, then the interfaces, and then the own LSAs
+abbrev pub standing_changes : (before now : SeenValue) → Option DroppedAt → List Change
+standing_changes before now dropped =
+    drop_change dropped ++ links_changes before.links now.links (max (length before.links) (length now.links))
+    ++ ifaces_changes before.links now.links (max (length before.links) (length now.links))
+    ++ own_changes before.own now.own
+
+-- the changes of a table go on from these changes to those
+pub record LeadsAlong (before now : List Route) (changes changes' : List Change) : Type 0 where
+  pub routes : List spf.Change
+  pub leads : LeadsOn before now routes
+  pub all : changes' ≡ changes ++ map route_change routes
+
+-- the changes of a step that leads from the one to the other: these, and behind them the routes that are others
+abbrev pub AreChanges : (before now : SeenValue) → Option DroppedAt → List Change → Type 0
+AreChanges before now dropped changes = LeadsAlong before.table now.table (standing_changes before now dropped) changes

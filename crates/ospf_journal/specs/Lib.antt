@@ -1,0 +1,5 @@
+pub mod Seen
+pub mod Changes
+pub mod Lines
+pub mod Objects
+pub mod Causes
