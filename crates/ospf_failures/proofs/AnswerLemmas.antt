@@ -1,6 +1,7 @@
--- How a listing of failures ends.
-use Rattle.std.proofs.Common.{◌≡◌, ◌≢◌, ◌∙◌, ◌↔◌, ◌⊎◌, ℕ, List, [], ap, sym, refl, subst, inl, inr, IsTrue, Option, IfSome, string_bytes}
+-- How what is asked of failures ends.
+use Rattle.std.proofs.Common.{◌≡◌, ◌≢◌, ◌∙◌, ◌⊎◌, ◌++◌, ◌∷◌, ◌↔◌, ℕ, Bool, true, false, IsTrue, List, [], ap, sym, refl, subst, inl, inr, Option, IfSome, string_bytes}
 use Rattle.std.specs.Io.KnownBytes.{Appends}
+use Rattle.ospf_edges.specs.Listed.{advertisements_of}
 use Rattle.ospf_files.specs.Status.{failure_line, failure_status}
 use Rattle.ospf_files.specs.Streams.{IsBegun, IsTold, with_error, with_output}
 use Rattle.ospf_files.specs.declared.status.Failure.{Failure}
@@ -9,52 +10,47 @@ use Rattle.ospf_files.specs.declared.status.Status.{Status}
 use Rattle.ospf_files.specs.declared.status.Status.TheVariants as status
 use Rattle.ospf_files.specs.declared.streams.FailedStreams.{FailedStreams}
 use Rattle.ospf_table.proofs.Lines.{map_some}
-use Rattle.ospf_failures.specs.Answer.{EndsBy, IsAnswerBegun, IsAnswerOf, IsAnswered, IsCutShort, IsEnd, IsEnding, IsRefusal, IsRefusalBegun, IsRefusalTold, IsSaid, IsWarningBegun, IsWhole, in_answer, in_refusal, in_warning, is_answered, is_refused}
-use Rattle.ospf_failures.specs.Reports.{HasCut, IsReported, ReportValue, reports_text}
-use Rattle.ospf_edges.specs.Listed.{advertisements_of}
-use Rattle.ospf_graph.specs.Routes.{IsTable}
-use Rattle.ospf_graph.specs.declared.route.Route.{Route}
 use Rattle.ospf_table.specs.Line.{Reads}
-use Rattle.ospf_table.specs.Output.{IsWarning}
 use Rattle.ospf_whatif.specs.Failure.{HasLarge}
+use Rattle.ospf_failures.specs.Answer.{EndsBy, IsAnswerBegun, IsAnswerOf, IsAnswered, IsCutShort, IsEnding, IsFault, IsRefusal, IsRefusalBegun, IsRefusalOf, IsRefusalTold, IsSaid, IsUnserved, IsWarningBegun, IsEndBy, IsWhole, SaysOf, WarnsOf, end_by, in_answer, in_refusal, in_warning, is_answered, is_refused, names_of, of_name, root_of}
+use Rattle.ospf_failures.specs.Without.{IsFaultOfNames, IsFirstUnnamed}
 use Rattle.ospf_failures.specs.declared.answer.Answer.{Answer}
 use Rattle.ospf_failures.specs.declared.answer.FailuresJob.{FailuresJob}
 use Rattle.ospf_failures.specs.declared.answer.FailuresStatus.{FailuresStatus}
 use Rattle.ospf_failures.specs.declared.answer.FailuresStatus.TheVariants.{CutOff, Ended}
+use Rattle.ospf_failures.specs.declared.answer.Fault.{Fault}
+use Rattle.ospf_failures.specs.declared.answer.Fault.TheVariants as fault
 
 -- ---- an answer
 
-pub answer_made : (input : Option (List ℕ)) (job : FailuresJob) (answer : Answer) (listing : List (List ℕ)) (printed : List ReportValue)
-    → IfSome input (λ bytes. Reads bytes [] listing) → (HasLarge (advertisements_of listing) → ⊥) → IsWarning listing job.root (string_bytes answer.warning)
-    → ((table : List Route) × IsTable (advertisements_of listing) job.root table × IsReported (advertisements_of listing) job.root table printed)
-    → string_bytes answer.text ≡ reports_text job.each printed → (IsTrue answer.has_cut ↔ HasCut printed) → IfSome input (IsAnswerOf job answer)
-answer_made input job answer listing printed reads small warned made text_is cuts =
-    map_some input (λ bytes. Reads bytes [] listing) (IsAnswerOf job answer) (λ bytes read. record {
-      printed = printed;
-      is = record {
-        listing = listing;
-        reads = read;
-        small = small;
-        warned = warned;
-        table = made.0;
-        is_table = made.1;
-        reported = made.2;
-        text_is = text_is;
-      };
-      cuts = cuts;
-    }) reads
+-- how it ends
+pub whole_end : (strict cut : Bool) → IsWhole (end_by strict cut)
+whole_end true true = inr refl
+whole_end true false = inl refl
+whole_end false true = inl refl
+whole_end false false = inl refl
+
+pub end_is : (P : Type 0) (strict cut : Bool) → (IsTrue cut ↔ P) → IsEndBy strict P (end_by strict cut)
+end_is P true true is = (refl, is.0 refl)
+end_is P true false is = (refl, λ e p. let t : false ≡ true = is.1 p in cc)
+end_is P false true is = (refl, λ e p. cc)
+end_is P false false is = (refl, λ e p. cc)
+
+pub answer_made : (input : Option (List ℕ)) (job : FailuresJob) (answer : Answer) (listing : List (List ℕ)) → IfSome input (λ bytes. Reads bytes [] listing)
+    → (HasLarge (advertisements_of listing) → ⊥) → WarnsOf (root_of job) listing (string_bytes answer.warning)
+    → SaysOf job (advertisements_of listing) (string_bytes answer.said.text) answer.said.end → IfSome input (IsAnswerOf job answer)
+answer_made input job answer listing reads small warned says =
+    map_some input (λ bytes. Reads bytes [] listing) (IsAnswerOf job answer)
+    (λ bytes read. record { listing = listing; reads = read; small = small; warned = warned; says = says }) reads
 
 module _ (input : Option (List ℕ)) (job : FailuresJob) (answer : Answer) (is : IfSome input (IsAnswerOf job answer)) where
-  pub answer_said : (end : FailuresStatus) (a b x y : Option (List ℕ)) (warning text : List ℕ) → IsWhole end
-      → ((printed : List ReportValue) → (IsTrue answer.has_cut ↔ HasCut printed) → IsEnd job.strict printed end) → warning ≡ string_bytes answer.warning
-      → text ≡ string_bytes answer.text → Appends x y warning → Appends a b text → IsSaid input job a b x y end
-  answer_said end a b x y warning text whole ends warning_is text_is err out =
-      is_answered whole (map_some input (IsAnswerOf job answer) (IsAnswered job end a b x y) (λ bytes of_it. record {
-        printed = of_it.printed;
-        text = string_bytes answer.text;
+  pub answer_said : (a b x y : Option (List ℕ)) (warning text : List ℕ) → IsWhole answer.said.end → warning ≡ string_bytes answer.warning
+      → text ≡ string_bytes answer.said.text → Appends x y warning → Appends a b text → IsSaid input job a b x y answer.said.end
+  answer_said a b x y warning text whole warning_is text_is err out =
+      is_answered whole (map_some input (IsAnswerOf job answer) (IsAnswered job answer.said.end a b x y) (λ bytes of_it. record {
+        text = string_bytes answer.said.text;
         warning = string_bytes answer.warning;
-        is = of_it.is;
-        ends = ends of_it.printed of_it.cuts;
+        is = of_it;
         out = subst (Appends a b) text_is out;
         err = subst (Appends x y) warning_is err;
       }) is)
@@ -63,39 +59,71 @@ module _ (input : Option (List ℕ)) (job : FailuresJob) (answer : Answer) (is :
       → failed ≡ with_error before → warning ≡ string_bytes answer.warning → IsBegun x y warning → EndsBy input job failed a a x y f
   warning_cut f before failed a x y warning why failed_is warning_is begun =
       in_warning why (ap (λ (s : FailedStreams). s.error) failed_is) refl (map_some input (IsAnswerOf job answer) (IsWarningBegun job x y) (λ bytes of_it. record {
-        printed = of_it.printed;
-        text = string_bytes answer.text;
+        end = answer.said.end;
+        text = string_bytes answer.said.text;
         warning = string_bytes answer.warning;
-        is = of_it.is;
+        is = of_it;
         begun = subst (IsBegun x y) warning_is begun;
       }) is)
 
   pub answer_cut : (f : Failure) (before failed : FailedStreams) (a b x y : Option (List ℕ)) (warning text : List ℕ) → (f ≡ failure.Memory) ⊎ (f ≡ failure.Output)
-      → failed ≡ with_output before → warning ≡ string_bytes answer.warning → text ≡ string_bytes answer.text → Appends x y warning → IsBegun a b text
+      → failed ≡ with_output before → warning ≡ string_bytes answer.warning → text ≡ string_bytes answer.said.text → Appends x y warning → IsBegun a b text
       → EndsBy input job failed a b x y f
   answer_cut f before failed a b x y warning text why failed_is warning_is text_is err begun =
       in_answer why (ap (λ (s : FailedStreams). s.output) failed_is) (map_some input (IsAnswerOf job answer) (IsAnswerBegun job a b x y) (λ bytes of_it. record {
-        printed = of_it.printed;
-        text = string_bytes answer.text;
+        end = answer.said.end;
+        text = string_bytes answer.said.text;
         warning = string_bytes answer.warning;
-        is = of_it.is;
+        is = of_it;
         err = subst (Appends x y) warning_is err;
         begun = subst (IsBegun a b) text_is begun;
       }) is)
 
 -- ---- a refusal
 
-pub refusal_said : (input : Option (List ℕ)) (job : FailuresJob) (a x y : Option (List ℕ)) (text : List ℕ) → IfSome input (λ bytes. IsRefusal bytes text)
-    → Appends x y text → IsSaid input job a a x y (Ended status.Refused)
-refusal_said input job a x y text is told =
-    is_refused refl (map_some input (λ bytes. IsRefusal bytes text) (IsRefusalTold x y) (λ bytes refusal. record { text = text; is = refusal; told = told }) is)
+pub refusal_said : (input : Option (List ℕ)) (job : FailuresJob) (s : Status) (a x y : Option (List ℕ)) (text : List ℕ) → IsRefusalOf input job text s
+    → Appends x y text → IsSaid input job a a x y (Ended s)
+refusal_said input job status.Refused a x y text is told =
+    is_refused (inl refl) (λ e. absurd (cc e)) refl
+    (map_some input (λ bytes. IsRefusal job bytes text status.Refused) (IsRefusalTold job status.Refused x y) (λ bytes refusal. record { text = text; is = refusal; told = told }) is)
+refusal_said input job status.Words a x y text is told =
+    is_refused (inr refl) (λ e. is.0) refl
+    (map_some input (λ bytes. IsRefusal job bytes text status.Words) (IsRefusalTold job status.Words x y) (λ bytes refusal. record { text = text; is = refusal; told = told }) is.1)
+refusal_said input job status.Done a x y text is told = absurd is
+refusal_said input job status.Memory a x y text is told = absurd is
+refusal_said input job status.Stream a x y text is told = absurd is
 
-pub refusal_cut : (input : Option (List ℕ)) (job : FailuresJob) (f : Failure) (before failed : FailedStreams) (a x y : Option (List ℕ)) (text : List ℕ)
-    → IfSome input (λ bytes. IsRefusal bytes text) → (f ≡ failure.Memory) ⊎ (f ≡ failure.Error) → failed ≡ with_error before → IsBegun x y text
-    → EndsBy input job failed a a x y f
-refusal_cut input job f before failed a x y text is why failed_is begun =
-    in_refusal why (ap (λ (s : FailedStreams). s.error) failed_is) refl
-    (map_some input (λ bytes. IsRefusal bytes text) (IsRefusalBegun x y) (λ bytes refusal. record { text = text; is = refusal; begun = begun }) is)
+refused_begun : (input : Option (List ℕ)) (job : FailuresJob) (s : Status) (x y : Option (List ℕ)) (text : List ℕ) → IsRefusalOf input job text s → IsBegun x y text
+    → IfSome input (IsRefusalBegun job x y)
+refused_begun input job status.Refused x y text is begun =
+    map_some input (λ bytes. IsRefusal job bytes text status.Refused) (IsRefusalBegun job x y)
+    (λ bytes refusal. record { s = status.Refused; text = text; is = refusal; begun = begun }) is
+refused_begun input job status.Words x y text is begun =
+    map_some input (λ bytes. IsRefusal job bytes text status.Words) (IsRefusalBegun job x y)
+    (λ bytes refusal. record { s = status.Words; text = text; is = refusal; begun = begun }) is.1
+refused_begun input job status.Done x y text is begun = absurd is
+refused_begun input job status.Memory x y text is begun = absurd is
+refused_begun input job status.Stream x y text is begun = absurd is
+
+pub refusal_cut : (input : Option (List ℕ)) (job : FailuresJob) (s : Status) (f : Failure) (before failed : FailedStreams) (a x y : Option (List ℕ)) (text : List ℕ)
+    → IsRefusalOf input job text s → (f ≡ failure.Memory) ⊎ (f ≡ failure.Error) → failed ≡ with_error before → IsBegun x y text → EndsBy input job failed a a x y f
+refusal_cut input job s f before failed a x y text is why failed_is begun =
+    in_refusal why (ap (λ (s : FailedStreams). s.error) failed_is) refl (refused_begun input job s x y text is begun)
+
+-- some name is that of nothing
+some_name : {A : Type 0} (xs ys : List A) (x : A) → xs ++ x ∷ ys ≡ [] → ⊥
+some_name [] ys x e = cc e
+some_name (y ∷ xs) ys x e = cc e
+
+pub names_refused : (input : Option (List ℕ)) (job : FailuresJob) (listing : List (List ℕ)) (f : Fault) → IfSome input (λ bytes. Reads bytes [] listing)
+    → (HasLarge (advertisements_of listing) → ⊥) → IsFaultOfNames (IsFirstUnnamed (advertisements_of listing) (names_of job)) f → IsFault input job f
+names_refused input job listing (fault.Refused text) reads small is = absurd is
+names_refused input job listing (fault.Unnamed text) reads small is = (
+  λ none. some_name is.1.first.before is.1.first.after is.0 (sym is.1.first.names_are ∙ none),
+  map_some input (λ bytes. Reads bytes [] listing) (λ bytes. IsRefusal job bytes (string_bytes text) status.Words)
+      (λ bytes read. of_name listing is.0 read small is.1 is.2) reads,
+)
+names_refused input job listing (fault.Failure f) reads small is = tt
 
 -- ---- the end
 
@@ -111,8 +139,21 @@ early failure.Output = inr refl
 early failure.Error = inr refl
 early failure.Closed = inr refl
 
+-- what is refused is no other status
+not_done : (s : Status) → IsUnserved s → s ≡ status.Done → ⊥
+not_done s (inl r) e = cc (r, e)
+not_done s (inr w) e = cc (w, e)
+
+not_memory : (s : Status) → IsUnserved s → s ≡ status.Memory → ⊥
+not_memory s (inl r) e = cc (r, e)
+not_memory s (inr w) e = cc (w, e)
+
+not_stream : (s : Status) → IsUnserved s → s ≡ status.Stream → ⊥
+not_stream s (inl r) e = cc (r, e)
+not_stream s (inr w) e = cc (w, e)
+
 module _ (input : Option (List ℕ)) (job : FailuresJob) (failed : FailedStreams) (a b x y : Option (List ℕ)) where
-  -- ended early it is neither whole nor refused, nor for the words
+  -- ended early it is neither whole nor refused
   not_early : (end : FailuresStatus) (s : Status) → IsCutShort input job failed a b x y end → end ≡ Ended s → (s ≡ status.Memory) ⊎ (s ≡ status.Stream)
   not_early end s cut is =
       let same : Ended s ≡ Ended (failure_status cut.cause) = sym is ∙ cut.end_is in
@@ -121,22 +162,29 @@ module _ (input : Option (List ℕ)) (job : FailuresJob) (failed : FailedStreams
 
   pub whole_answered : (end : FailuresStatus) → IsEnding input job failed a b x y end → IsWhole end → IfSome input (IsAnswered job end a b x y)
   whole_answered end (inl (is_answered w h)) whole = h
-  whole_answered _ (inl (is_refused same told)) (inl e) = absurd (cc e)
-  whole_answered _ (inl (is_refused same told)) (inr e) = absurd (cc e)
+  whole_answered _ (inl (is_refused {s = s} unserved names same told)) (inl e) = let is : s ≡ status.Done = cc e in absurd (not_done s unserved is)
+  whole_answered _ (inl (is_refused unserved names same told)) (inr e) = absurd (cc e)
   whole_answered end (inr cut) (inl e) = elim (not_early end status.Done cut e) [ inl m ↦ absurd (cc m) | inr t ↦ absurd (cc t) ]
   whole_answered end (inr cut) (inr e) = let same : CutOff ≡ Ended (failure_status cut.cause) = sym e ∙ cut.end_is in absurd (cc same)
 
-  pub refused_told : (end : FailuresStatus) → IsEnding input job failed a b x y end → end ≡ Ended status.Refused → IfSome input (IsRefusalTold x y)
-  refused_told end (inl (is_answered (inl w) h)) e = absurd (cc (w, e))
-  refused_told end (inl (is_answered (inr w) h)) e = absurd (cc (w, e))
-  refused_told _ (inl (is_refused same told)) e = told
-  refused_told end (inr cut) e = elim (not_early end status.Refused cut e) [ inl m ↦ absurd (cc m) | inr t ↦ absurd (cc t) ]
+  -- whole, it is not refused
+  whole_served : (end : FailuresStatus) (s : Status) → IsWhole end → IsUnserved s → end ≡ Ended s → ⊥
+  whole_served end s (inl w) unserved e = let same : Ended s ≡ Ended status.Done = sym e ∙ w in let is : s ≡ status.Done = cc same in not_done s unserved is
+  whole_served end s (inr w) unserved e = let same : Ended s ≡ CutOff = sym e ∙ w in cc same
 
-  pub refused_unwritten : (end : FailuresStatus) → IsEnding input job failed a b x y end → end ≡ Ended status.Refused → b ≡ a
-  refused_unwritten end (inl (is_answered (inl w) h)) e = absurd (cc (w, e))
-  refused_unwritten end (inl (is_answered (inr w) h)) e = absurd (cc (w, e))
-  refused_unwritten _ (inl (is_refused same told)) e = same
-  refused_unwritten end (inr cut) e = elim (not_early end status.Refused cut e) [ inl m ↦ absurd (cc m) | inr t ↦ absurd (cc t) ]
+  early_served : (end : FailuresStatus) (s : Status) → IsCutShort input job failed a b x y end → IsUnserved s → end ≡ Ended s → ⊥
+  early_served end s cut unserved e = elim (not_early end s cut e) [ inl m ↦ not_memory s unserved m | inr t ↦ not_stream s unserved t ]
+
+  pub refused_told : (end : FailuresStatus) → IsEnding input job failed a b x y end → (s : Status) → IsUnserved s → end ≡ Ended s → IfSome input (IsRefusalTold job s x y)
+  refused_told end (inl (is_answered w h)) s unserved e = absurd (whole_served end s w unserved e)
+  refused_told _ (inl (is_refused {s = t} of_it names same told)) s unserved e =
+      let is : t ≡ s = cc e in subst (λ (u : Status). IfSome input (IsRefusalTold job u x y)) is told
+  refused_told end (inr cut) s unserved e = absurd (early_served end s cut unserved e)
+
+  pub refused_unwritten : (end : FailuresStatus) → IsEnding input job failed a b x y end → (s : Status) → IsUnserved s → end ≡ Ended s → b ≡ a
+  refused_unwritten end (inl (is_answered w h)) s unserved e = absurd (whole_served end s w unserved e)
+  refused_unwritten _ (inl (is_refused of_it names same told)) s unserved e = same
+  refused_unwritten end (inr cut) s unserved e = absurd (early_served end s cut unserved e)
 
   pub early_cut : (end : FailuresStatus) → IsEnding input job failed a b x y end → (end ≡ Ended status.Memory) ⊎ (end ≡ Ended status.Stream)
       → IsCutShort input job failed a b x y end
@@ -144,12 +192,11 @@ module _ (input : Option (List ℕ)) (job : FailuresJob) (failed : FailedStreams
   early_cut end (inl (is_answered (inl w) h)) (inr e) = absurd (cc (w, e))
   early_cut end (inl (is_answered (inr w) h)) (inl e) = absurd (cc (w, e))
   early_cut end (inl (is_answered (inr w) h)) (inr e) = absurd (cc (w, e))
-  early_cut _ (inl (is_refused same told)) (inl e) = absurd (cc e)
-  early_cut _ (inl (is_refused same told)) (inr e) = absurd (cc e)
+  early_cut _ (inl (is_refused {s = s} unserved names same told)) (inl e) = let is : s ≡ status.Memory = cc e in absurd (not_memory s unserved is)
+  early_cut _ (inl (is_refused {s = s} unserved names same told)) (inr e) = let is : s ≡ status.Stream = cc e in absurd (not_stream s unserved is)
   early_cut end (inr cut) e = cut
 
-  pub not_words : (end : FailuresStatus) → IsEnding input job failed a b x y end → end ≢ Ended status.Words
-  not_words end (inl (is_answered (inl w) h)) e = absurd (cc (w, e))
-  not_words end (inl (is_answered (inr w) h)) e = absurd (cc (w, e))
-  not_words _ (inl (is_refused same told)) e = absurd (cc e)
-  not_words end (inr cut) e = elim (not_early end status.Words cut e) [ inl m ↦ absurd (cc m) | inr t ↦ absurd (cc t) ]
+  pub not_words : (end : FailuresStatus) → IsEnding input job failed a b x y end → names_of job ≡ [] → end ≢ Ended status.Words
+  not_words end (inl (is_answered w h)) none e = whole_served end status.Words w (inr refl) e
+  not_words _ (inl (is_refused {s = s} unserved names same told)) none e = let is : s ≡ status.Words = cc e in names is none
+  not_words end (inr cut) none e = early_served end status.Words cut (inr refl) e

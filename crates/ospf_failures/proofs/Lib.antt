@@ -1,3 +1,5 @@
 pub mod ReportLemmas
 pub mod AnswerLemmas
 pub mod LargeLemmas
+pub mod OverallLemmas
+pub mod WithoutLemmas

@@ -15,7 +15,7 @@ use Rattle.ospf_whatif.specs.Effect.{IsEffect}
 
 -- ---- what a test lets through, and nothing else, stays in a filter
 
-kept_of : {X : Type 0} (p : X → Bool) (xs : List X) (x : X) → Contains (filter p xs) x → Contains xs x × (p x ≡ true)
+pub kept_of : {X : Type 0} (p : X → Bool) (xs : List X) (x : X) → Contains (filter p xs) x → Contains xs x × (p x ≡ true)
 kept_of p [] x c = absurd (omega (arith, c.1))
 kept_of p (y ∷ xs) x c = go (p y) refl c (kept_of p xs x)
   where
@@ -26,7 +26,7 @@ kept_of p (y ∷ xs) x c = go (p y) refl c (kept_of p xs x)
       | inr rest ↦ let r = rec rest in (member_later y xs x r.0, r.1)
     ]
 
-of_kept : {X : Type 0} (p : X → Bool) (xs : List X) (x : X) → Contains xs x → p x ≡ true → Contains (filter p xs) x
+pub of_kept : {X : Type 0} (p : X → Bool) (xs : List X) (x : X) → Contains xs x → p x ≡ true → Contains (filter p xs) x
 of_kept p [] x c t = absurd (omega (arith, c.1))
 of_kept p (y ∷ xs) x c t = go (p y) refl (member_cases y xs x c) (λ rest. of_kept p xs x rest t)
   where
@@ -38,17 +38,17 @@ of_kept p (y ∷ xs) x c t = go (p y) refl (member_cases y xs x c) (λ rest. of_
 
 -- ---- failures but that of the root
 
-abbrev is_other : RouterId → Failure → Bool
+abbrev pub is_other : RouterId → Failure → Bool
 is_other root f = not (is_of root f)
 
-other_to : (root : RouterId) (f : Failure) → is_other root f ≡ true → f ≡ Router root → ⊥
+pub other_to : (root : RouterId) (f : Failure) → is_other root f ≡ true → f ≡ Router root → ⊥
 other_to root f e is =
     let same : (root.0 == root.0) ≡ true = eq-eqb root.0 root.0 refl in
     let here : is_other root (Router root) ≡ true = subst (λ (g : Failure). is_other root g ≡ true) is e in
     let wrong : not true ≡ true = subst (λ (b : Bool). not b ≡ true) same here in
     cc
 
-other_from : (root : RouterId) (f : Failure) → (f ≡ Router root → ⊥) → is_other root f ≡ true
+pub other_from : (root : RouterId) (f : Failure) → (f ≡ Router root → ⊥) → is_other root f ≡ true
 other_from root (Link a b subnet) differs = refl
 other_from root (Links a b) differs = refl
 other_from root (Attachment router network) differs = refl

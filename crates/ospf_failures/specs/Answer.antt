@@ -1,16 +1,19 @@
 -- What is printed of the failures of the area whose LSAs are the lines of an input, and how that ends.
-use Rattle.std.specs.Prelude.{◌≡◌, ◌⊎◌, ◌↔◌, ℕ, Bool, true, List, [], ◌∷◌, ◌++◌, IfSome, IsTrue, Option, codes, string_bytes}
+use Rattle.std.specs.Prelude.{◌≡◌, ◌≢◌, ◌⊎◌, ◌&&◌, ℕ, Bool, true, List, [], ◌∷◌, ◌++◌, IfSome, Option, None, Some, String, if◌then◌else◌, codes, string_bytes, vec_items}
 use Rattle.std.specs.Io.KnownBytes.{Appends}
+use Rattle.std.specs.declared.alloc.Global.{Global}
 use Rattle.ospf_base.specs.Text.{number_text}
 use Rattle.ospf_base.specs.declared.ids.RouterId.{RouterId}
 use Rattle.ospf_lsa.specs.Lsa.{key_of}
 use Rattle.ospf_edges.specs.Listed.{advertisement_of, advertisements_of}
+use Rattle.ospf_graph.specs.Advertisements.{Advertisement}
 use Rattle.ospf_graph.specs.Routes.{IsTable}
 use Rattle.ospf_graph.specs.declared.route.Route.{Route}
 use Rattle.ospf_files.specs.Status.{code_of, failure_line, failure_status}
 use Rattle.ospf_files.specs.Streams.{IsBegun, IsErrorFailed, IsOutputFailed, IsTold}
 use Rattle.ospf_files.specs.declared.status.Failure.{Failure}
 use Rattle.ospf_files.specs.declared.status.Failure.TheVariants as failure
+use Rattle.ospf_files.specs.declared.status.Status.{Status}
 use Rattle.ospf_files.specs.declared.status.Status.TheVariants as status
 use Rattle.ospf_files.specs.declared.streams.FailedStreams.{FailedStreams}
 use Rattle.ospf_table.specs.Line.{Reads, Refuses}
@@ -18,13 +21,17 @@ use Rattle.ospf_table.specs.Output.{IsWarning}
 use Rattle.ospf_table.specs.Refusal.{refusal_line}
 use Rattle.ospf_table.specs.declared.table.EntryFault.{EntryFault}
 use Rattle.ospf_whatif.specs.Failure.{HasLarge, IsLarge}
+use Rattle.ospf_failures.specs.Overall.{AreOveralls, CutsSomewhere, overalls_text}
 use Rattle.ospf_failures.specs.Reports.{HasCut, IsReported, ReportValue, reports_text}
+use Rattle.ospf_failures.specs.Without.{IsFirstUnnamed, IsTableWithout, unnamed_line}
 use Rattle.ospf_failures.specs.declared.answer.Answer.{Answer}
 use Rattle.ospf_failures.specs.declared.answer.Fault.{Fault}
 use Rattle.ospf_failures.specs.declared.answer.Fault.TheVariants as fault
 use Rattle.ospf_failures.specs.declared.answer.FailuresJob.{FailuresJob}
+use Rattle.ospf_failures.specs.declared.answer.FailuresJob.TheVariants.{All, Root, Without}
 use Rattle.ospf_failures.specs.declared.answer.FailuresStatus.{FailuresStatus}
 use Rattle.ospf_failures.specs.declared.answer.FailuresStatus.TheVariants.{CutOff, Ended}
+use Rattle.ospf_failures.specs.declared.overall.Overall.{Overall}
 
 -- ---- statuses
 
@@ -32,14 +39,35 @@ abbrev pub exit_code_of : FailuresStatus → ℕ
 exit_code_of (Ended s) = code_of s
 exit_code_of CutOff = 1
 
--- where it is asked to be strict, that a prefix is cut off is told by the status
+-- where it is asked to be strict, that this holds is told by the status
+abbrev pub IsEndBy : Bool → Type 0 → FailuresStatus → Type 0
+IsEndBy strict P (Ended s) = (s ≡ status.Done) × ((strict ≡ true) → P → ⊥)
+IsEndBy strict P CutOff = (strict ≡ true) × P
+
+-- that a prefix is cut off is
 abbrev pub IsEnd : Bool → List ReportValue → FailuresStatus → Type 0
-IsEnd strict printed (Ended s) = (s ≡ status.Done) × ((strict ≡ true) → HasCut printed → ⊥)
-IsEnd strict printed CutOff = (strict ≡ true) × HasCut printed
+IsEnd strict printed end = IsEndBy strict (HasCut printed) end
+
+abbrev pub end_by : Bool → Bool → FailuresStatus
+end_by strict cut = if strict && cut then CutOff else Ended status.Done
 
 -- all is printed
 abbrev pub IsWhole : FailuresStatus → Type 0
 IsWhole end = (end ≡ Ended status.Done) ⊎ (end ≡ CutOff)
+
+-- ---- what is asked
+
+-- the router that is asked of
+abbrev pub root_of : FailuresJob → Option RouterId
+root_of (Root root each strict) = Some root
+root_of (All each strict) = None
+root_of (Without root names addresses) = Some root
+
+-- the names of parts that are to be left out
+abbrev pub names_of : FailuresJob → List (String Global)
+names_of (Root root each strict) = []
+names_of (All each strict) = []
+names_of (Without root names addresses) = vec_items names
 
 -- ---- what is refused
 
@@ -57,69 +85,100 @@ pub record IsFirstLarge (listing : List (List ℕ)) (router : RouterId) : Type 0
 abbrev pub large_line : RouterId → List ℕ
 large_line router = number_text router.0 ++ codes ": more than 1361 links\n"
 
--- what is said of an input that is refused: of its first line that is, or else of its first router of too many links
-pub data IsRefusal (input : List ℕ) (text : List ℕ) : Type 0 where
-  of_line : (number : ℕ) (fault : EntryFault) → Refuses input [] number fault → text ≡ refusal_line number fault → IsRefusal input text
-  of_router : (listing : List (List ℕ)) (router : RouterId) → Reads input [] listing → IsFirstLarge listing router → text ≡ large_line router → IsRefusal input text
+-- what is said of an input that is refused, of its first line that is, or else of its first router of too many links; and of words that are refused,
+-- of the first name of nothing in the area
+pub data IsRefusal (job : FailuresJob) (input : List ℕ) (text : List ℕ) : Status → Type 0 where
+  of_line : (number : ℕ) (fault : EntryFault) → Refuses input [] number fault → text ≡ refusal_line number fault → IsRefusal job input text status.Refused
+  of_router : (listing : List (List ℕ)) (router : RouterId) → Reads input [] listing → IsFirstLarge listing router → text ≡ large_line router
+      → IsRefusal job input text status.Refused
+  of_name : (listing : List (List ℕ)) (name : String Global) → Reads input [] listing → (HasLarge (advertisements_of listing) → ⊥)
+      → IsFirstUnnamed (advertisements_of listing) (names_of job) name → text ≡ unnamed_line name → IsRefusal job input text status.Words
+
+-- the input or the words are refused
+abbrev pub IsUnserved : Status → Type 0
+IsUnserved s = (s ≡ status.Refused) ⊎ (s ≡ status.Words)
 
 -- ---- what is printed
 
--- the reports of the area whose LSAs the lines of the input are, at the root, as text; and the warning of the root
-pub record IsAnswer (input : List ℕ) (root : RouterId) (each : Bool) (printed : List ReportValue) (text warning : List ℕ) : Type 0 where
+-- the reports of the area at the root, as text
+pub record SaysChanges (adverts : List Advertisement) (root : RouterId) (each strict : Bool) (text : List ℕ) (end : FailuresStatus) : Type 0 where
+  pub table : List Route
+  pub is_table : IsTable adverts root table
+  pub printed : List ReportValue
+  pub reported : IsReported adverts root table printed
+  pub text_is : text ≡ reports_text each printed
+  pub ends : IsEnd strict printed end
+
+-- what each failure changes at all routers, as text
+pub record SaysOverall (adverts : List Advertisement) (each strict : Bool) (text : List ℕ) (end : FailuresStatus) : Type 0 where
+  pub printed : List Overall
+  pub are : AreOveralls adverts each printed
+  pub text_is : text ≡ overalls_text printed
+  pub ends : IsEndBy strict (CutsSomewhere printed) end
+
+-- what is asked of the area, and the status that it ends with
+abbrev pub SaysOf : FailuresJob → List Advertisement → List ℕ → FailuresStatus → Type 0
+SaysOf (Root root each strict) adverts text end = SaysChanges adverts root each strict text end
+SaysOf (All each strict) adverts text end = SaysOverall adverts each strict text end
+SaysOf (Without root names addresses) adverts text end = IsTableWithout adverts (vec_items names) root (vec_items addresses) text × (end ≡ Ended status.Done)
+
+-- what is said of the root, if there is one
+abbrev pub WarnsOf : Option RouterId → List (List ℕ) → List ℕ → Type 0
+WarnsOf (Some root) listing text = IsWarning listing root text
+WarnsOf None listing text = text ≡ []
+
+-- the answer of the area whose LSAs the lines of the input are; and the warning of the root
+pub record IsAnswer (job : FailuresJob) (end : FailuresStatus) (input text warning : List ℕ) : Type 0 where
   pub listing : List (List ℕ)
   pub reads : Reads input [] listing
   pub small : HasLarge (advertisements_of listing) → ⊥
-  pub warned : IsWarning listing root warning
-  pub table : List Route
-  pub is_table : IsTable (advertisements_of listing) root table
-  pub reported : IsReported (advertisements_of listing) root table printed
-  pub text_is : text ≡ reports_text each printed
+  pub warned : WarnsOf (root_of job) listing warning
+  pub says : SaysOf job (advertisements_of listing) text end
 
--- the answer stands on standard output, its warning on standard error, and the status is that of the reports
+-- the answer stands on standard output, its warning on standard error, and the status is that of the answer
 pub record IsAnswered (job : FailuresJob) (end : FailuresStatus) (out_old out_new err_old err_new : Option (List ℕ)) (input : List ℕ) : Type 0 where
-  pub printed : List ReportValue
   pub text : List ℕ
   pub warning : List ℕ
-  pub is : IsAnswer input job.root job.each printed text warning
-  pub ends : IsEnd job.strict printed end
+  pub is : IsAnswer job end input text warning
   pub out : Appends out_old out_new text
   pub err : Appends err_old err_new warning
 
 -- the refusal stands on standard error
-pub record IsRefusalTold (err_old err_new : Option (List ℕ)) (input : List ℕ) : Type 0 where
+pub record IsRefusalTold (job : FailuresJob) (s : Status) (err_old err_new : Option (List ℕ)) (input : List ℕ) : Type 0 where
   pub text : List ℕ
-  pub is : IsRefusal input text
+  pub is : IsRefusal job input text s
   pub told : Appends err_old err_new text
 
 -- ---- what stands written where it ends early
 
 -- a beginning of the refusal
-pub record IsRefusalBegun (err_old err_new : Option (List ℕ)) (input : List ℕ) : Type 0 where
+pub record IsRefusalBegun (job : FailuresJob) (err_old err_new : Option (List ℕ)) (input : List ℕ) : Type 0 where
+  pub s : Status
   pub text : List ℕ
-  pub is : IsRefusal input text
+  pub is : IsRefusal job input text s
   pub begun : IsBegun err_old err_new text
 
 -- a beginning of the warning
 pub record IsWarningBegun (job : FailuresJob) (err_old err_new : Option (List ℕ)) (input : List ℕ) : Type 0 where
-  pub printed : List ReportValue
+  pub end : FailuresStatus
   pub text : List ℕ
   pub warning : List ℕ
-  pub is : IsAnswer input job.root job.each printed text warning
+  pub is : IsAnswer job end input text warning
   pub begun : IsBegun err_old err_new warning
 
 -- the warning, and a beginning of the answer
 pub record IsAnswerBegun (job : FailuresJob) (out_old out_new err_old err_new : Option (List ℕ)) (input : List ℕ) : Type 0 where
-  pub printed : List ReportValue
+  pub end : FailuresStatus
   pub text : List ℕ
   pub warning : List ℕ
-  pub is : IsAnswer input job.root job.each printed text warning
+  pub is : IsAnswer job end input text warning
   pub err : Appends err_old err_new warning
   pub begun : IsBegun out_old out_new text
 
 -- it ended by a failure: before anything was written; at the refusal; at the warning; or at the answer
 pub data EndsBy (input : Option (List ℕ)) (job : FailuresJob) (failed : FailedStreams) (out_old out_new err_old err_new : Option (List ℕ)) : Failure → Type 0 where
   unwritten : {f : Failure} → out_new ≡ out_old → err_new ≡ err_old → EndsBy input job failed out_old out_new err_old err_new f
-  in_refusal : {f : Failure} → (f ≡ failure.Memory) ⊎ (f ≡ failure.Error) → IsErrorFailed failed → out_new ≡ out_old → IfSome input (IsRefusalBegun err_old err_new)
+  in_refusal : {f : Failure} → (f ≡ failure.Memory) ⊎ (f ≡ failure.Error) → IsErrorFailed failed → out_new ≡ out_old → IfSome input (IsRefusalBegun job err_old err_new)
       → EndsBy input job failed out_old out_new err_old err_new f
   in_warning : {f : Failure} → (f ≡ failure.Memory) ⊎ (f ≡ failure.Error) → IsErrorFailed failed → out_new ≡ out_old → IfSome input (IsWarningBegun job err_old err_new)
       → EndsBy input job failed out_old out_new err_old err_new f
@@ -137,22 +196,28 @@ pub record IsCutShort (input : Option (List ℕ)) (job : FailuresJob) (failed : 
 
 -- ---- on the way
 
--- why there is no answer
-abbrev pub IsFault : Option (List ℕ) → Fault → Type 0
-IsFault input (fault.Refused text) = IfSome input (λ bytes. IsRefusal bytes (string_bytes text))
-IsFault input (fault.Failure f) = Unit {0}
+-- what is to be said of a refusal that ends with this status
+abbrev pub IsRefusalOf : Option (List ℕ) → FailuresJob → List ℕ → Status → Type 0
+IsRefusalOf input job text status.Refused = IfSome input (λ bytes. IsRefusal job bytes text status.Refused)
+IsRefusalOf input job text status.Words = (names_of job ≢ []) × IfSome input (λ bytes. IsRefusal job bytes text status.Words)
+IsRefusalOf input job text _ = ⊥
 
--- the answer for the input, and whether some failure cuts a prefix off
-pub record IsAnswerOf (job : FailuresJob) (answer : Answer) (input : List ℕ) : Type 0 where
-  pub printed : List ReportValue
-  pub is : IsAnswer input job.root job.each printed (string_bytes answer.text) (string_bytes answer.warning)
-  pub cuts : IsTrue answer.has_cut ↔ HasCut printed
+-- why there is no answer
+abbrev pub IsFault : Option (List ℕ) → FailuresJob → Fault → Type 0
+IsFault input job (fault.Refused text) = IsRefusalOf input job (string_bytes text) status.Refused
+IsFault input job (fault.Unnamed text) = IsRefusalOf input job (string_bytes text) status.Words
+IsFault input job (fault.Failure f) = Unit {0}
+
+-- the answer for the input
+abbrev pub IsAnswerOf : FailuresJob → Answer → List ℕ → Type 0
+IsAnswerOf job answer input = IsAnswer job answer.said.end input (string_bytes answer.said.text) (string_bytes answer.warning)
 
 -- the answer is printed, or the refusal is told
 pub data IsSaid (input : Option (List ℕ)) (job : FailuresJob) (out_old out_new err_old err_new : Option (List ℕ)) : FailuresStatus → Type 0 where
   is_answered : {end : FailuresStatus} → IsWhole end → IfSome input (IsAnswered job end out_old out_new err_old err_new)
       → IsSaid input job out_old out_new err_old err_new end
-  is_refused : out_new ≡ out_old → IfSome input (IsRefusalTold err_old err_new) → IsSaid input job out_old out_new err_old err_new (Ended status.Refused)
+  is_refused : {s : Status} → IsUnserved s → (s ≡ status.Words → names_of job ≢ []) → out_new ≡ out_old → IfSome input (IsRefusalTold job s err_old err_new)
+      → IsSaid input job out_old out_new err_old err_new (Ended s)
 
 -- one of these, or it ended early
 abbrev pub IsEnding : Option (List ℕ) → FailuresJob → FailedStreams → Option (List ℕ) → Option (List ℕ) → Option (List ℕ) → Option (List ℕ) → FailuresStatus → Type 0

@@ -1,19 +1,24 @@
-//! What the failures of an area change in a router's table, for LSAs that are read as lines of text.
+//! What is asked of the failures of an area, for LSAs that are read as lines of text.
 
 ghost use Rattle.std.specs.Prelude.{◌≡◌, ◌≢◌, ◌⊎◌, ◌↔◌, ◌<◌, List, [], Option, ℕ, length, IfNone, IfOk, IfErr, IfSome, IsTrue, string_bytes};
 ghost use Rattle.ospf_edges.specs.Listed.{advertisement_of, advertisements_of};
+ghost use Rattle.ospf_files.specs.declared.status.Status.{Status};
 ghost use Rattle.ospf_files.specs.declared.streams.FailedStreams.{FailedStreams};
 ghost use Rattle.ospf_table.specs.Line.{Reads, Refuses};
 ghost use Rattle.ospf_table.specs.Output.{IsWarning};
 ghost use Rattle.ospf_whatif.specs.Failure.{HasLarge, IsLarge};
-ghost use Rattle.ospf_failures.specs.Answer.{EndsBy, IsAnswerOf, IsAnswered, IsCutShort, IsEnd, IsEnding, IsFault, IsFirstLarge, IsRefusal, IsRefusalTold, IsSaid, IsWhole};
+ghost use Rattle.ospf_failures.specs.Answer.{EndsBy, IsAnswerOf, IsAnswered, IsCutShort, IsEnding, IsFault, IsFirstLarge, IsRefusalOf, IsRefusalTold, IsSaid, IsUnserved, IsWhole, SaysChanges, SaysOf, SaysOverall, WarnsOf, end_by, names_of};
 ghost use Rattle.ospf_failures.specs.declared.answer.FailuresJob.{FailuresJob};
 ghost use Rattle.ospf_graph.specs.Routes.{IsTable};
 ghost use Rattle.ospf_graph.specs.declared.route.Route.{Route};
-ghost use Rattle.ospf_failures.specs.Reports.{HasCut, IsReported, ReportValue};
+ghost use Rattle.ospf_failures.specs.Overall.{AreOveralls};
+ghost use Rattle.ospf_failures.specs.Reports.{IsReported};
+ghost use Rattle.ospf_failures.specs.Without.{IsFaultOfNames, IsFirstUnnamed};
 
+use crate::overall::{Overall, cuts_somewhere, overalls, overalls_text};
 use crate::report::{Report, has_cut, reports, reports_text};
-use ospf_base::{Kind, RouterId};
+use crate::without::text_without;
+use ospf_base::{Addr, Kind, RouterId};
 use ospf_files::{FailedStreams, Failure, Status};
 use ospf_lsa::{Links, Listing, LsaView};
 use ospf_spf::RouteTable;
@@ -26,15 +31,48 @@ use std::process::ExitCode;
 // The most links of a router-LSA that can be made anew: one of `ospf_base::LARGEST_LSA` bytes.
 const MOST_LINKS: usize = 1361;
 
-/// The failures of an area that are asked for.
-#[derive(Clone, Copy, Debug, PartialEq, Eq)]
-pub struct FailuresJob {
-    /// The router in whose table the changes are.
-    pub root: RouterId,
-    /// Whether each changed prefix has a line.
-    pub each: bool,
-    /// Whether a prefix that is cut off is told by the status.
-    pub strict: bool,
+/// What is asked of the failures of an area.
+#[derive(Debug, Drop)]
+pub enum FailuresJob {
+    /// What each failure but its own changes in a router's table.
+    Root {
+        root: RouterId,
+        /// Whether each changed prefix has a line.
+        each: bool,
+        /// Whether a prefix that is cut off is told by the status.
+        strict: bool,
+    },
+    /// What each failure changes in the tables of all routers but the one that fails.
+    All {
+        /// Whether each changed prefix of a router has a line.
+        each: bool,
+        /// Whether a prefix that is cut off from a router is told by the status.
+        strict: bool,
+    },
+    /// The routing table of a router in the area without some of its parts.
+    Without {
+        root: RouterId,
+        /// The names of the parts, as `ospf_whatif::find_failure` takes them.
+        names: Vec<String>,
+        /// The addresses to look up in the table.
+        addresses: Vec<Addr>,
+    },
+}
+
+impl FailuresJob {
+    ghost use Rattle.std.specs.Prelude.{◌≡◌};
+    ghost use Rattle.ospf_failures.specs.Answer.{root_of};
+
+    // The router that is asked of, if it is one.
+    fn root(&self) -> Option<RouterId>
+        ensures { result ≡ root_of self.now }
+    {
+        match self {
+            FailuresJob::Root { root, .. } => Some(*root),
+            FailuresJob::All { .. } => None,
+            FailuresJob::Without { root, .. } => Some(*root),
+        }
+    }
 }
 
 /// How it ends.
@@ -61,10 +99,12 @@ impl FailuresStatus {
     }
 }
 
-// Why nothing is to be printed: the input is refused, and this is said of it, or something failed.
+// Why nothing is to be printed: the input is refused, or a name is that of nothing in the area, and this is said of it; or
+// something failed.
 #[derive(Drop)]
 pub(crate) enum Fault {
     Refused(String),
+    Unnamed(String),
     Failure(Failure),
 }
 
@@ -92,15 +132,18 @@ impl From<FailuresStatus> for ExitCode {
     }
 }
 
-/// Reads LSAs, one a line in hexadecimal as `ospf_table::table_text` does, and prints what each single failure of the
-/// area but that of the root changes in the root's routing table: with `each` a line a prefix that it changes, then a line
-/// of how many there are. Those that cut off most prefixes come first.
+/// Reads LSAs, one a line in hexadecimal as `ospf_table::table_text` does, and prints what is asked of the failures of
+/// their area. For a root it is what each single failure but its own changes in the root's routing table: with `each` a
+/// line a prefix that it changes, then a line of how many there are; those that cut off most prefixes come first. Over all
+/// routers it is the same, added up, and a line of a prefix begins with the router in whose table it changes. Or it is the
+/// root's routing table in the area without the parts that are named, with lookups, as `table_text` prints it.
 ///
 /// Where LSAs are listed and the root's router-LSA is not among them, `err` says so. The status is `Ended(Done)`, or with
 /// `strict` `CutOff` where some failure cuts a prefix off. The first line that is refused is told on `err`, or where none
 /// is the first router whose router-LSA has more than 1,361 links; then nothing is printed, with status
-/// `Ended(Refused)`. Status `Ended(Memory)` says that memory ran out, and `Ended(Stream)` that a read or a write failed;
-/// what it was is told on `err`, as far as that can be written. Then no more than a beginning is printed.
+/// `Ended(Refused)`. Then the first name of nothing in the area is, with status `Ended(Words)`. Status `Ended(Memory)`
+/// says that memory ran out, and `Ended(Stream)` that a read or a write failed; what it was is told on `err`, as far as
+/// that can be written. Then no more than a beginning is printed.
 pub fn failures_text<R: BufRead + Drop, O: Write, E: Write>(
     alloc: Global,
     job: &FailuresJob,
@@ -112,9 +155,10 @@ pub fn failures_text<R: BufRead + Drop, O: Write, E: Write>(
     ensures answered { IsWhole result → IfSome (R.remaining input)
         (IsAnswered job.now result (O.contents out.old) (O.contents out.new) (E.contents err.old)
         (E.contents err.new)) }
-    ensures refused { result ≡ FailuresStatus.Ended Status.Refused →
-        IfSome (R.remaining input) (IsRefusalTold (E.contents err.old) (E.contents err.new)) }
-    ensures unwritten { result ≡ FailuresStatus.Ended Status.Refused →
+    ensures refused { (s : Status) → IsUnserved s → result ≡ FailuresStatus.Ended s →
+        IfSome (R.remaining input)
+        (IsRefusalTold job.now s (E.contents err.old) (E.contents err.new)) }
+    ensures unwritten { (s : Status) → IsUnserved s → result ≡ FailuresStatus.Ended s →
         O.contents out.new ≡ O.contents out.old }
     // Or memory or a stream failed, which is told last, as far as it can be; there is no other end.
     ensures cut { (result ≡ FailuresStatus.Ended Status.Memory)
@@ -122,20 +166,26 @@ pub fn failures_text<R: BufRead + Drop, O: Write, E: Write>(
         (failed : FailedStreams)
         × IsCutShort (R.remaining input) job.now failed (O.contents out.old) (O.contents out.new)
         (E.contents err.old) (E.contents err.new) result }
-    ensures not_words { result ≢ FailuresStatus.Ended Status.Words }
+    ensures not_words { names_of job.now ≡ [] → result ≢ FailuresStatus.Ended Status.Words }
 {
     failures_noted(alloc, job, input, out, err, &mut FailedStreams::none())
 }
 
-// What is to be printed, and whether some failure cuts a prefix off.
+// What is printed on standard output, and the status to end with.
+#[derive(Drop)]
+struct Said {
+    text: String,
+    end: FailuresStatus,
+}
+
+// What is to be printed.
 #[derive(Drop)]
 struct Answer {
     warning: String,
-    text: String,
-    has_cut: bool,
+    said: Said,
 }
 
-// Prints what failures change, as `failures_text`, and notes which streams fail.
+// Prints what is asked, as `failures_text`, and notes which streams fail.
 fn failures_noted<R: BufRead + Drop, O: Write, E: Write>(
     alloc: Global,
     job: &FailuresJob,
@@ -168,8 +218,9 @@ fn answer_or_refuse<R: BufRead + Drop, O: Write, E: Write>(
         (O.contents out.new) (E.contents err.old) (E.contents err.new)) }
 {
     match answer_of(alloc, job, input) {
-        Ok(answer) => print(job, &answer, out, err, streams),
-        Err(Fault::Refused(text)) => refuse(&text, err, streams),
+        Ok(answer) => print(&answer, out, err, streams),
+        Err(Fault::Refused(text)) => refuse(&text, Status::Refused, err, streams),
+        Err(Fault::Unnamed(text)) => refuse(&text, Status::Words, err, streams),
         Err(Fault::Failure(failure)) => Err(failure),
     }
 }
@@ -178,25 +229,27 @@ fn answer_or_refuse<R: BufRead + Drop, O: Write, E: Write>(
 fn answer_of<R: BufRead + Drop>(alloc: Global, job: &FailuresJob, input: R) -> Result<Answer, Fault>
     ensures answer { IfOk result (λ answer. IfSome (R.remaining input)
         (IsAnswerOf job.now answer)) }
-    ensures fault { IfErr result (IsFault (R.remaining input)) }
+    ensures whole { IfOk result (λ answer. IsWhole answer.said.end) }
+    ensures fault { IfErr result (IsFault (R.remaining input) job.now) }
 {
-    let listing = listing_of(alloc, input)?;
-    let warning = warning_of(alloc, &listing, job.root)?;
-    let printed = reports_at(alloc, &listing, job.root)?;
-    let text = reports_text(alloc, &printed, job.each)?;
-    Ok(Answer {
-        warning,
-        text,
-        has_cut: has_cut(&printed),
-    })
+    let listing = listing_of(alloc, job, input)?;
+    let warning = warning_of(alloc, &listing, job.root())?;
+    match said_of(alloc, job, listing) {
+        Ok(said) => Ok(Answer { warning, said }),
+        Err(fault) => Err(fault),
+    }
 }
 
 // The listing of the lines of an input, none of whose routers has too many links.
-fn listing_of<R: BufRead + Drop>(alloc: Global, input: R) -> Result<Listing, Fault>
+fn listing_of<R: BufRead + Drop>(
+    alloc: Global,
+    job: &FailuresJob,
+    input: R,
+) -> Result<Listing, Fault>
     ensures whole { IfOk result (λ listing. IfSome (R.remaining input)
         (λ bytes. Reads bytes [] listing)) }
     ensures small { IfOk result (λ listing. HasLarge (advertisements_of listing) → ⊥) }
-    ensures fault { IfErr result (IsFault (R.remaining input)) }
+    ensures fault { IfErr result (IsFault (R.remaining input) job.now) }
 {
     let listing = match read_listing(alloc, input) {
         Ok(listing) => listing,
@@ -213,8 +266,8 @@ fn listing_of<R: BufRead + Drop>(alloc: Global, input: R) -> Result<Listing, Fau
 
 // The refusal of a line.
 fn line_refused(alloc: Global, number: u64, fault: EntryFault) -> Fault
-    ensures { (input : Option (List ℕ)) → IfSome input (λ bytes. Refuses bytes [] number fault) →
-        IsFault input result }
+    ensures { (input : Option (List ℕ)) (job : FailuresJob) →
+        IfSome input (λ bytes. Refuses bytes [] number fault) → IsFault input job result }
 {
     match format!(in alloc; "line {number}: {}\n", fault.text()) {
         Ok(text) => Fault::Refused(text),
@@ -264,9 +317,9 @@ fn are_more(links: Links, most: usize) -> bool
 
 // The refusal of a router of too many links.
 fn router_refused(alloc: Global, router: RouterId) -> Fault
-    ensures { (input : Option (List ℕ)) (listing : List (List ℕ)) →
+    ensures { (input : Option (List ℕ)) (job : FailuresJob) (listing : List (List ℕ)) →
         IfSome input (λ bytes. Reads bytes [] listing) → IsFirstLarge listing router →
-        IsFault input result }
+        IsFault input job result }
 {
     match format!(in alloc; "{router}: more than 1361 links\n") {
         Ok(text) => Fault::Refused(text),
@@ -274,8 +327,22 @@ fn router_refused(alloc: Global, router: RouterId) -> Fault
     }
 }
 
-// What is said of the root: that its router-LSA is not listed, where others are.
-fn warning_of(alloc: Global, listing: &Listing, root: RouterId) -> Result<String, AllocError>
+// What is said of the root, if there is one.
+fn warning_of(
+    alloc: Global,
+    listing: &Listing,
+    root: Option<RouterId>,
+) -> Result<String, AllocError>
+    ensures { IfOk result (λ text. WarnsOf root listing.now (string_bytes text)) }
+{
+    match root {
+        Some(root) => unlisted_text(alloc, listing, root),
+        None => Ok(String::new(alloc)),
+    }
+}
+
+// What is said of a root: that its router-LSA is not listed, where others are.
+fn unlisted_text(alloc: Global, listing: &Listing, root: RouterId) -> Result<String, AllocError>
     ensures { IfOk result (λ text. IsWarning listing.now root (string_bytes text)) }
 {
     if is_unlisted(listing, root) {
@@ -284,6 +351,57 @@ fn warning_of(alloc: Global, listing: &Listing, root: RouterId) -> Result<String
     } else {
         Ok(String::new(alloc))
     }
+}
+
+// What is asked of a listing none of whose routers has too many links.
+fn said_of(alloc: Global, job: &FailuresJob, listing: Listing) -> Result<Said, Fault>
+    requires { HasLarge (advertisements_of listing) → ⊥ }
+    ensures said { IfOk result (λ said. SaysOf job.now (advertisements_of listing)
+        (string_bytes said.text) said.end) }
+    ensures whole { IfOk result (λ said. IsWhole said.end) }
+    ensures fault { IfErr result (IsFaultOfNames
+        (IsFirstUnnamed (advertisements_of listing) (names_of job.now))) }
+{
+    match job {
+        FailuresJob::Root { root, each, strict } => {
+            let said = changes_said(alloc, &listing, *root, *each, *strict)?;
+            Ok(said)
+        }
+        FailuresJob::All { each, strict } => {
+            let said = overalls_said(alloc, &listing, *each, *strict)?;
+            Ok(said)
+        }
+        FailuresJob::Without {
+            root,
+            names,
+            addresses,
+        } => match text_without(alloc, listing, *root, names, addresses) {
+            Ok(text) => Ok(Said {
+                text,
+                end: FailuresStatus::Ended(Status::Done),
+            }),
+            Err(fault) => Err(fault),
+        },
+    }
+}
+
+// What each failure changes at a root.
+fn changes_said(
+    alloc: Global,
+    listing: &Listing,
+    root: RouterId,
+    each: bool,
+    strict: bool,
+) -> Result<Said, AllocError>
+    requires { HasLarge (advertisements_of listing.now) → ⊥ }
+    ensures said { IfOk result (λ said. SaysChanges (advertisements_of listing.now) root each strict
+        (string_bytes said.text) said.end) }
+    ensures whole { IfOk result (λ said. IsWhole said.end) }
+{
+    let printed = reports_at(alloc, listing, root)?;
+    let text = reports_text(alloc, &printed, each)?;
+    let end = end_of(strict, has_cut(&printed));
+    Ok(Said { text, end })
 }
 
 // The reports of a listing none of whose routers has too many links.
@@ -301,36 +419,40 @@ fn reports_at(alloc: Global, listing: &Listing, root: RouterId) -> Result<Vec<Re
     }
 }
 
-// Prints an answer, behind its warning.
-fn print<O: Write, E: Write>(
-    job: &FailuresJob,
-    answer: &Answer,
-    out: &mut O,
-    err: &mut E,
-    streams: &mut FailedStreams,
-) -> Result<FailuresStatus, Failure>
-    ensures said { (input : Option (List ℕ)) → IfSome input (IsAnswerOf job.now answer.now) →
-        IfOk result (IsSaid input job.now (O.contents out.old) (O.contents out.new)
-        (E.contents err.old) (E.contents err.new)) }
-    ensures cut { (input : Option (List ℕ)) → IfSome input (IsAnswerOf job.now answer.now) →
-        IfErr result (EndsBy input job.now streams.new (O.contents out.old) (O.contents out.new)
-        (E.contents err.old) (E.contents err.new)) }
+// What each failure changes at all routers.
+fn overalls_said(
+    alloc: Global,
+    listing: &Listing,
+    each: bool,
+    strict: bool,
+) -> Result<Said, AllocError>
+    requires { HasLarge (advertisements_of listing.now) → ⊥ }
+    ensures said { IfOk result (λ said. SaysOverall (advertisements_of listing.now) each strict
+        (string_bytes said.text) said.end) }
+    ensures whole { IfOk result (λ said. IsWhole said.end) }
 {
-    match streams.tell(err, &answer.warning) {
-        Ok(()) => {}
-        Err(failure) => return Err(failure),
-    }
-    match streams.print(out, &answer.text) {
-        Ok(()) => Ok(end_of(job.strict, answer.has_cut)),
-        Err(failure) => Err(failure),
+    let printed = overalls_at(alloc, listing, each)?;
+    let text = overalls_text(alloc, &printed)?;
+    let end = end_of(strict, cuts_somewhere(&printed));
+    Ok(Said { text, end })
+}
+
+// What each failure changes, of a listing none of whose routers has too many links.
+fn overalls_at(alloc: Global, listing: &Listing, each: bool) -> Result<Vec<Overall>, AllocError>
+    requires { HasLarge (advertisements_of listing.now) → ⊥ }
+    ensures { IfOk result (λ printed. AreOveralls (advertisements_of listing.now) each
+        printed.items) }
+{
+    match overalls(alloc, listing, each) {
+        Ok(printed) => Ok(printed),
+        Err(WithoutFault::Memory) => Err(AllocError),
+        Err(WithoutFault::Links) => unreachable!(),
     }
 }
 
 // How it ends where all is printed.
 fn end_of(strict: bool, has_cut: bool) -> FailuresStatus
-    ensures whole { IsWhole result }
-    ensures end { (printed : List ReportValue) → (IsTrue has_cut ↔ HasCut printed) →
-        IsEnd strict printed result }
+    ensures { result ≡ end_by strict has_cut }
 {
     if strict && has_cut {
         FailuresStatus::CutOff
@@ -339,22 +461,50 @@ fn end_of(strict: bool, has_cut: bool) -> FailuresStatus
     }
 }
 
-// Tells a refusal.
+// Prints an answer, behind its warning.
+fn print<O: Write, E: Write>(
+    answer: &Answer,
+    out: &mut O,
+    err: &mut E,
+    streams: &mut FailedStreams,
+) -> Result<FailuresStatus, Failure>
+    requires { IsWhole answer.now.said.end }
+    ensures said { (input : Option (List ℕ)) (job : FailuresJob) →
+        IfSome input (IsAnswerOf job answer.now) →
+        IfOk result (IsSaid input job (O.contents out.old) (O.contents out.new)
+        (E.contents err.old) (E.contents err.new)) }
+    ensures cut { (input : Option (List ℕ)) (job : FailuresJob) →
+        IfSome input (IsAnswerOf job answer.now) →
+        IfErr result (EndsBy input job streams.new (O.contents out.old) (O.contents out.new)
+        (E.contents err.old) (E.contents err.new)) }
+{
+    match streams.tell(err, &answer.warning) {
+        Ok(()) => {}
+        Err(failure) => return Err(failure),
+    }
+    match streams.print(out, &answer.said.text) {
+        Ok(()) => Ok(answer.said.end),
+        Err(failure) => Err(failure),
+    }
+}
+
+// Tells a refusal, which ends with this status.
 fn refuse<E: Write>(
     text: &str,
+    status: Status,
     err: &mut E,
     streams: &mut FailedStreams,
 ) -> Result<FailuresStatus, Failure>
     ensures said { (input : Option (List ℕ)) (job : FailuresJob) (out : Option (List ℕ)) →
-        IfSome input (λ bytes. IsRefusal bytes text.now) →
+        IsRefusalOf input job text.now status →
         IfOk result (IsSaid input job out out (E.contents err.old) (E.contents err.new)) }
     ensures cut { (input : Option (List ℕ)) (job : FailuresJob) (out : Option (List ℕ)) →
-        IfSome input (λ bytes. IsRefusal bytes text.now) →
+        IsRefusalOf input job text.now status →
         IfErr result (EndsBy input job streams.new out out (E.contents err.old)
         (E.contents err.new)) }
 {
     match streams.tell(err, text) {
-        Ok(()) => Ok(FailuresStatus::Ended(Status::Refused)),
+        Ok(()) => Ok(FailuresStatus::Ended(status)),
         Err(failure) => Err(failure),
     }
 }

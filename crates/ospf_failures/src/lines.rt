@@ -71,7 +71,11 @@ fn change_lines(
 }
 
 // The line of a route that a failure changes.
-fn change_line(alloc: Global, failure: &Failure, change: &RouteChange) -> Result<String, AllocError>
+pub(crate) fn change_line(
+    alloc: Global,
+    failure: &Failure,
+    change: &RouteChange,
+) -> Result<String, AllocError>
     ensures { IfOk result (λ line. string_bytes line ≡ change_line failure.now change.now) }
 {
     let before = &change.before;

@@ -135,7 +135,7 @@ pub fn has_cut(reports: &[Report]) -> bool
 type Rank = (Reverse<[usize; 4]>, [u32; 5]);
 
 // What decides between failures that change equally many.
-fn place_of(failure: Failure) -> [u32; 5]
+pub(crate) fn place_of(failure: Failure) -> [u32; 5]
     ensures { result ≡ place_of failure }
 {
     match failure {
@@ -165,7 +165,7 @@ fn other_failures(
 }
 
 // Whether a failure is that of a router.
-fn is_of(failure: &Failure, router: RouterId) -> bool
+pub(crate) fn is_of(failure: &Failure, router: RouterId) -> bool
     ensures { result ≡ is_of router failure.now }
 {
     match *failure {

@@ -39,11 +39,7 @@ fn routes_text(alloc: Global, routes: &[Route]) -> Result<String, AllocError>
 }
 
 // The lines of addresses.
-fn lookups_text(
-    alloc: Global,
-    table: &RouteTable,
-    addresses: &[Addr],
-) -> Result<String, AllocError>
+fn lookups_text(alloc: Global, table: &RouteTable, addresses: &[Addr]) -> Result<String, AllocError>
     ensures { IfOk result (λ text. AreLookups table.now addresses.now (string_bytes text)) }
 {
     let mut text = String::new(alloc);

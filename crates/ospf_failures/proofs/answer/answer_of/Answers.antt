@@ -1,14 +1,16 @@
-use Rattle.std.proofs.Common.{◌≡◌, ◌↔◌, ◌∙◌, List, IsTrue, ap, subst, string_bytes}
-use Rattle.ospf_failures.specs.Reports.{HasCut, ReportValue, reports_text}
-use Rattle.ospf_failures.proofs.AnswerLemmas.{answer_made}
+use Rattle.std.proofs.Common.{Option, string_bytes, subst}
+use Rattle.ospf_base.specs.declared.ids.RouterId.{RouterId}
+use Rattle.ospf_failures.specs.Answer.{WarnsOf}
+use Rattle.ospf_failures.proofs.AnswerLemmas.{answer_made, names_refused}
 use Rattle.ospf_failures.proofs.answer.answer_of.Goals as goal
 
-pub returns-clause-answer : goal.returns-clause-answer
-returns-clause-answer g c =
-    let printed = c.in_ok-printed.printed.items in
-    let text_is : string_bytes c.in_ok-text.text ≡ reports_text c.args.job.now.each printed =
-    c.in_ok-text.ensures ∙ ap (λ (l : List ReportValue). reports_text c.args.job.now.each l) c.deref.ensures.value in
-    let cuts : IsTrue c.has_cut.result ↔ HasCut printed = subst (λ (l : List ReportValue). IsTrue c.has_cut.result ↔ HasCut l) c.deref-2.ensures.value c.has_cut.ensures in
-    answer_made (g.R.Read.remaining c.args.input) c.args.job.now
-    (record { warning = c.in_ok-warning.warning; text = c.in_ok-text.text; has_cut = c.has_cut.result }) c.in_ok-listing.listing printed
-    c.in_ok-listing.ensures.whole c.in_ok-listing.ensures.small c.in_ok-warning.ensures c.in_ok-printed.ensures text_is cuts
+pub returns-in-Ok-clause-answer : goal.returns-in-Ok-clause-answer
+returns-in-Ok-clause-answer g c =
+    answer_made (g.R.Read.remaining c.args.input) c.args.job.now (record { warning = c.in_ok-warning.warning; said = c.in-Ok.said }) c.in_ok-listing.listing
+    c.in_ok-listing.ensures.whole c.in_ok-listing.ensures.small
+    (subst (λ (r : Option RouterId). WarnsOf r c.in_ok-listing.listing (string_bytes c.in_ok-warning.warning)) c.root.ensures c.in_ok-warning.ensures) c.in-Ok.ensures.said
+
+pub returns-in-Err-clause-fault : goal.returns-in-Err-clause-fault
+returns-in-Err-clause-fault g c =
+    names_refused (g.R.Read.remaining c.args.input) c.args.job.now c.in_ok-listing.listing c.in-Err.fault c.in_ok-listing.ensures.whole c.in_ok-listing.ensures.small
+    c.in-Err.ensures.fault

@@ -1,4 +1,4 @@
-use Rattle.std.proofs.Common.{rules, ◌≡◌, ◌≤◌, ◌++◌, ℕ, List, [], length, subst, sym, arith, string_bytes}
+use Rattle.std.proofs.Common.{rules, ◌≡◌, ◌≤◌, ◌++◌, List, [], length, subst, sym, arith, string_bytes}
 use Rattle.std.proofs.lemmas.List.{take_all}
 use Rattle.ospf_base.specs.declared.ids.Addr.{Addr}
 use Rattle.ospf_table.specs.Output.{AreLookups, no_more}

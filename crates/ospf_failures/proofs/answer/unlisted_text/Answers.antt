@@ -1,6 +1,6 @@
 use Rattle.std.proofs.Common.{rules, ◌≡◌, inl, refl, string_bytes}
 use Rattle.ospf_table.specs.Output.{unlisted_line}
-use Rattle.ospf_failures.proofs.answer.warning_of.Goals as goal
+use Rattle.ospf_failures.proofs.answer.unlisted_text.Goals as goal
 
 pub returns-in_ok-text : goal.returns-in_ok-text
 returns-in_ok-text c =

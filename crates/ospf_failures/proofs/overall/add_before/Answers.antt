@@ -1,0 +1,9 @@
+use Rattle.std.proofs.Common.{rules}
+use Rattle.ospf_edges.specs.Listed.{advertisements_of}
+use Rattle.ospf_failures.proofs.OverallLemmas.{table_more}
+use Rattle.ospf_failures.proofs.overall.add_before.Goals as goal
+
+pub returns-in_ok-push-in-Router-clause-tables : goal.returns-in_ok-push-in-Router-clause-tables
+returns-in_ok-push-in-Router-clause-tables c = λ all.
+    table_more (advertisements_of c.args.listing.now) c.args.befores.now.items c.push.new.self.items (record { root = c.in-Router.root; table = c.in_ok-table-in-Router.table })
+    (search rules) c.in_ok-table-in-Router.ensures all

@@ -1,0 +1,136 @@
+//! The routing table of a router in an area without some of its parts.
+
+ghost use Rattle.std.specs.Prelude.{◌≡◌, IfErr, IfOk, string_bytes};
+ghost use Rattle.std.specs.List.{AllZip};
+ghost use Rattle.ospf_edges.specs.Listed.{advertisements_of};
+ghost use Rattle.ospf_whatif.specs.Failure.{HasLarge, without};
+ghost use Rattle.ospf_failures.specs.Without.{AreNamed, IsFaultOfNames, IsFirstAmong, IsFirstUnnamed, IsNamedBy, IsTableWithout, IsUnnamedHere, SaysTableOfLeft, without_all};
+
+use crate::answer::Fault;
+use ospf_base::{Addr, RouterId};
+use ospf_lsa::Listing;
+use ospf_spf::RouteTable;
+use ospf_table::output_text;
+use ospf_whatif::{Failure, WithoutFault, find_failure, single_failures, without};
+use std::alloc::{AllocError, Global};
+
+// What is printed of the table of a router in the area of a listing, without the parts that are named, and of addresses
+// that are looked up in it.
+pub(crate) fn text_without(
+    alloc: Global,
+    listing: Listing,
+    root: RouterId,
+    names: &[String],
+    addresses: &[Addr],
+) -> Result<String, Fault>
+    requires { HasLarge (advertisements_of listing) → ⊥ }
+    ensures text { IfOk result (λ text. IsTableWithout (advertisements_of listing) names.now root
+        addresses.now (string_bytes text)) }
+    ensures fault { IfErr result (IsFaultOfNames
+        (IsFirstUnnamed (advertisements_of listing) names.now)) }
+{
+    match failures_of(alloc, &listing, names) {
+        Ok(failures) => {
+            let text = table_without(alloc, listing, root, &failures, addresses)?;
+            Ok(text)
+        }
+        Err(fault) => Err(fault),
+    }
+}
+
+// The parts of an area that are named.
+fn failures_of(alloc: Global, listing: &Listing, names: &[String]) -> Result<Vec<Failure>, Fault>
+    ensures named { IfOk result (λ failures. AreNamed (advertisements_of listing.now) names.now
+        failures.items) }
+    ensures fault { IfErr result (IsFaultOfNames
+        (IsFirstUnnamed (advertisements_of listing.now) names.now)) }
+{
+    let single = single_failures(alloc, listing)?;
+    match named_among(alloc, &single, names) {
+        Ok(failures) => Ok(failures),
+        Err(fault) => Err(fault),
+    }
+}
+
+// Those of some that are named.
+fn named_among(alloc: Global, single: &[Failure], names: &[String]) -> Result<Vec<Failure>, Fault>
+    ensures named { IfOk result (λ failures. AllZip (IsNamedBy single.now) names.now
+        failures.items) }
+    ensures fault { IfErr result (IsFaultOfNames (IsFirstAmong single.now names.now)) }
+{
+    let mut failures = Vec::new(alloc);
+    for name in names {
+        match named_one(alloc, single, name) {
+            Ok(failure) => failures.push(failure).map_err(AllocError::from)?,
+            Err(fault) => return Err(fault),
+        }
+    }
+    Ok(failures)
+}
+
+// That of some which is named.
+fn named_one(alloc: Global, single: &[Failure], name: &String) -> Result<Failure, Fault>
+    ensures named { IfOk result (IsNamedBy single.now name.now) }
+    ensures fault { IfErr result (IsFaultOfNames (IsUnnamedHere single.now name.now)) }
+{
+    match find_failure(alloc, single, name)? {
+        Some(failure) => Ok(failure),
+        None => Err(unnamed(alloc, name)),
+    }
+}
+
+// What is to be said of a name that names nothing.
+fn unnamed(alloc: Global, name: &String) -> Fault
+    ensures { IsFaultOfNames (λ n. n ≡ name.now) result }
+{
+    match format!(in alloc; "{name}: no such element\n") {
+        Ok(text) => Fault::Unnamed(text),
+        Err(error) => Fault::from(error),
+    }
+}
+
+// What is printed of the table of a router in the area of a listing without these parts, and of addresses that are looked up in
+// it.
+fn table_without(
+    alloc: Global,
+    listing: Listing,
+    root: RouterId,
+    failures: &[Failure],
+    addresses: &[Addr],
+) -> Result<String, AllocError>
+    requires { HasLarge (advertisements_of listing) → ⊥ }
+    ensures { IfOk result (λ text. SaysTableOfLeft
+        (without_all failures.now (advertisements_of listing)) root addresses.now
+        (string_bytes text)) }
+{
+    let left = left_of(alloc, listing, failures)?;
+    let table = RouteTable::of(alloc, &left, root)?;
+    let text = output_text(alloc, &table, addresses)?;
+    Ok(text)
+}
+
+// The listing of an area without parts of it.
+fn left_of(alloc: Global, listing: Listing, failures: &[Failure]) -> Result<Listing, AllocError>
+    requires { HasLarge (advertisements_of listing) → ⊥ }
+    ensures { IfOk result (λ left. advertisements_of left
+        ≡ without_all failures.now (advertisements_of listing)) }
+{
+    let mut left = listing;
+    for failure in failures {
+        left = left_by(alloc, &left, failure)?;
+    }
+    Ok(left)
+}
+
+// The listing of an area without a part of it.
+fn left_by(alloc: Global, listing: &Listing, failure: &Failure) -> Result<Listing, AllocError>
+    requires { HasLarge (advertisements_of listing.now) → ⊥ }
+    ensures { IfOk result (λ left. advertisements_of left
+        ≡ without failure.now (advertisements_of listing.now)) }
+{
+    match without(alloc, listing, failure) {
+        Ok(left) => Ok(left),
+        Err(WithoutFault::Memory) => Err(AllocError),
+        Err(WithoutFault::Links) => unreachable!(),
+    }
+}
