@@ -5,3 +5,4 @@ pub mod Unspelled
 pub mod TextLines
 pub mod Zeros
 pub mod OneCommand
+pub mod Named

@@ -5,5 +5,6 @@ pub mod Faults
 pub mod Names
 pub mod Commands
 pub mod Texts
+pub mod Hints
 pub mod Views
 pub mod Laws

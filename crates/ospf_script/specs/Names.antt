@@ -1,5 +1,7 @@
 -- The words that commands begin with.
-use Rattle.std.specs.Prelude.{◌≡◌, ◌⊎◌, ⊤, codes}
+use Rattle.std.specs.Prelude.{◌≡◌, ◌⊎◌, ◌||◌, ⊤, Bool, List, [], ◌∷◌, Option, codes}
+use Rattle.std.specs.List.{find}
+use Rattle.std.specs.Str.{bytes_eq}
 use Rattle.ospf_script.specs.Words.{Text}
 use Rattle.ospf_script.specs.declared.name.Name.{Name}
 use Rattle.ospf_script.specs.declared.name.Name.TheVariants as name
@@ -24,6 +26,19 @@ name_text name.Say = codes "say"
 abbrev pub IsWordOf : Text → Name → Type 0
 IsWordOf word name.Neighbours = (word ≡ codes "neighbours") ⊎ (word ≡ codes "neighbors")
 IsWordOf word n = word ≡ name_text n
+
+abbrev pub is_word_of : Text → Name → Bool
+is_word_of word name.Neighbours = bytes_eq word (codes "neighbours") || bytes_eq word (codes "neighbors")
+is_word_of word n = bytes_eq word (name_text n)
+
+abbrev pub all_names : List Name
+all_names =
+    name.Start ∷ name.Stop ∷ name.Tick ∷ name.Up ∷ name.Down ∷ name.Deliver ∷ name.Round ∷ name.Random ∷ name.Neighbours ∷ name.Listing
+    ∷ name.Table ∷ name.Walk ∷ name.Floor ∷ name.Say ∷ []
+
+-- the name that a word is, if it is one
+abbrev pub name_in : Text → Option Name
+name_in word = find (is_word_of word) all_names
 
 -- the commands of a router alone
 abbrev pub IsOfRouter : Name → Type 0

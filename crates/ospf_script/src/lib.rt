@@ -5,6 +5,7 @@
 
 mod command;
 mod fault;
+mod hint;
 mod laws;
 mod name;
 mod places;
@@ -20,6 +21,7 @@ mod words;
 
 pub use crate::command::Command;
 pub use crate::fault::LineFault;
+pub use crate::hint::Hint;
 pub use crate::laws::words_spell_one_command;
 pub use crate::script::{Line, first_line, lines};
 pub use crate::values::floor_of;

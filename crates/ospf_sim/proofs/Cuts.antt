@@ -1,5 +1,5 @@
 -- What stands written where a failure cuts what is to be written.
-use Rattle.std.proofs.Common.{◌≡◌, ◌∙◌, ap, refl, sym, subst, ◌<◌, ℕ, List, [], ◌∷◌, ◌++◌, length, take, drop, get_or, map, Option, None, Some, suc}
+use Rattle.std.proofs.Common.{◌≡◌, ◌∙◌, sym, subst, ◌<◌, ℕ, List, [], ◌∷◌, length, take, drop, get_or, map, Option, None, Some, suc}
 use Rattle.std.specs.Io.KnownBytes.{Appends, Keeps}
 use Rattle.ospf_config.specs.declared.config.Config.{Config}
 use Rattle.ospf_files.proofs.Listed.{files_split}
@@ -17,8 +17,8 @@ use Rattle.ospf_script.specs.declared.command.Command.{Command}
 use Rattle.ospf_script.specs.declared.script.Line.{Line}
 use Rattle.ospf_sim.specs.Begun.{IsAnswerCut, IsCut, IsCutAt, IsFileCut, IsLineCut, IsOpeningCut, IsScriptCut, IsTellingCut, IsWorldCut, in_fault, in_file, in_refusal, in_same_router, in_script, in_twins, in_unreadable, no_config, no_room, no_world}
 use Rattle.ospf_sim.specs.Commands.{Answer, Does, IsDone}
-use Rattle.ospf_sim.specs.Scripts.{EndsAt, IsRun, LinesCome, unreadable_line}
-use Rattle.ospf_sim.specs.Simulations.{WorldComes, same_router_line}
+use Rattle.ospf_sim.specs.Scripts.{EndsAt, IsRun, unreadable_line}
+use Rattle.ospf_sim.specs.Simulations.{WorldComes}
 use Rattle.ospf_sim.specs.Worlds.{WorldValue}
 use Rattle.ospf_sim.proofs.Lines.{entries_split}
 
@@ -62,28 +62,20 @@ line_cut lines i d w mid failed a b c x y z f within so_far cut =
     }
 
 -- of a line that cannot be read that is not told whole, and those before it have run
-pub unreadable_cut : (ended : Option ℕ) (number : ℕ) (entries : List (ℕ × Text)) (script : Text) (w w' : WorldValue) (failed : FailedStreams) (a b c x y z : Option (List ℕ)) (f : Failure)
-    → ended ≡ Some number → entries ≡ numbered_from 1 script → LinesCome ended entries w w' a b x y → IsTellingCut (unreadable_line number) failed b c y z f
-    → IsCutAt (numbered_from 1 script) w failed a c x z f
-unreadable_cut None number entries script w w' failed a b c x y z f is same run cut = absurd (cc is)
-unreadable_cut (Some n) number entries script w w' failed a b c x y z f is same run cut =
-    let one : n ≡ number = cc is in
-    record {
-      before = run.before;
-      number = number;
-      line = run.line;
-      after = run.after;
-      lines_are = sym same ∙ run.lines_are ∙ ap (λ k. run.before ++ (k, run.line) ∷ run.after) one;
-      mid = w';
-      out_then = b;
-      err_then = y;
-      run = run.run;
-      cut = in_unreadable run.unreadable cut;
-    }
-
-pub early_cut : (lines : List Line) (number : ℕ) (script : Text) (w w' : WorldValue) (failed : FailedStreams) (a b c x y z : Option (List ℕ)) (f : Failure) → map entry_of lines ≡ numbered_from 1 script
-    → EndsAt (map entry_of lines) number w w' a b x y → IsTellingCut (unreadable_line number) failed b c y z f → IsCutAt (numbered_from 1 script) w failed a c x z f
-early_cut lines number script w w' failed a b c x y z f same ends cut = unreadable_cut (Some number) number (map entry_of lines) script w w' failed a b c x y z f refl same ends cut
+pub early_cut : (lines : List Line) (number : ℕ) (line script : Text) (w w' : WorldValue) (failed : FailedStreams) (a b c x y z : Option (List ℕ)) (f : Failure) → map entry_of lines ≡ numbered_from 1 script
+    → EndsAt (map entry_of lines) number line w w' a b x y → IsTellingCut (unreadable_line number line) failed b c y z f → IsCutAt (numbered_from 1 script) w failed a c x z f
+early_cut lines number line script w w' failed a b c x y z f same ends cut = record {
+  before = ends.before;
+  number = number;
+  line = line;
+  after = ends.after;
+  lines_are = sym same ∙ ends.lines_are;
+  mid = w';
+  out_then = b;
+  err_then = y;
+  run = ends.run;
+  cut = in_unreadable ends.unreadable cut;
+}
 
 -- a file is cut, and those before it hold a configuration each
 pub file_cut : (files : List NamedFile) (i : ℕ) (file : NamedFile) (configs : List Config) (failed : FailedStreams) (x y z : Option (List ℕ)) (f : Failure) → i < length files
@@ -96,13 +88,13 @@ file_cut files i file configs failed x y z _ within at are same (in_fault {f = f
 
 -- files hold configurations that open no world
 opened_cut : (configs : List Config) (files : List NamedFile) (failed : FailedStreams) (x y z : Option (List ℕ)) (f : Failure) → AreConfigs files configs → y ≡ x
-    → IsOpeningCut configs failed y z f → IsWorldCut files failed x z f
+    → IsOpeningCut files configs failed y z f → IsWorldCut files failed x z f
 opened_cut configs files failed x y z _ are same (no_room untold) = no_world (untold ∙ same)
-opened_cut configs files failed x y z _ are same (in_twins {f = f} cut twins begun) =
-    in_same_router configs cut are twins (subst (λ (old : Option (List ℕ)). IsBegun old z same_router_line) same begun)
+opened_cut configs files failed x y z _ are same (in_twins {f = f} text cut twins begins) =
+    in_same_router configs text cut are twins (subst (λ (old : Option (List ℕ)). IsBegun old z text) same begins)
 
 pub opening_cut : (found : Option (List Config)) (configs : List Config) (files : List NamedFile) (failed : FailedStreams) (x y z : Option (List ℕ)) (f : Failure) → found ≡ Some configs
-    → ConfigsCome files found x y → IsOpeningCut configs failed y z f → IsWorldCut files failed x z f
+    → ConfigsCome files found x y → IsOpeningCut files configs failed y z f → IsWorldCut files failed x z f
 opening_cut None configs files failed x y z f is comes cut = absurd (cc is)
 opening_cut (Some cs) configs files failed x y z f is comes cut =
     let one : cs ≡ configs = cc is in

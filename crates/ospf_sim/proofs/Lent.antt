@@ -1,5 +1,5 @@
 -- What a world answers that is asked for a router, and what comes of configurations.
-use Rattle.std.proofs.Common.{◌≡◌, ◌∙◌, ap, sym, subst, refl, List, None, Some, Result, Ok, Err, false}
+use Rattle.std.proofs.Common.{◌≡◌, ap, sym, subst, refl, List, None, Some, Result, Ok, Err}
 use Rattle.std.specs.Borrow.{Bor}
 use Rattle.ospf_base.specs.declared.ids.RouterId.{RouterId}
 use Rattle.ospf_config.specs.declared.config.Config.{Config}
@@ -7,7 +7,7 @@ use Rattle.ospf_headline.specs.World.{Member, member, of_member, unless_stopped}
 use Rattle.ospf_headline.specs.declared.event.WorldFault.{WorldFault}
 use Rattle.ospf_headline.specs.declared.event.WorldFault.TheVariants as fault
 use Rattle.ospf_router.specs.Routers.{RouterValue}
-use Rattle.ospf_sim.specs.Worlds.{HaveTwins, IsNewOf, IsNotLent, LendsRouter, WorldValue}
+use Rattle.ospf_sim.specs.Worlds.{IsNewOf, IsNotLent, LendsRouter, WorldValue}
 use Rattle.ospf_world.specs.Worlds as worlds
 use Rattle.ospf_world.specs.Worlds.{Begins, IsLent, Lends, NoMemory, NoRouter, NotRunning, Runs, SameRouter, new_world, world_of}
 
@@ -38,11 +38,3 @@ pub is_new : (configs : List Config) (w : WorldValue) → worlds.Opens configs (
 is_new configs w (Begins apart same) = (apart, same_world w (new_world configs) (Ok w) refl same)
 is_new configs w (SameRouter twins same) = absurd (cc same)
 is_new configs w (NoMemory same) = absurd (cc same)
-
-pub have_twins : (configs : List Config) (f : WorldFault) → f ≡ fault.SameRouter → worlds.Opens configs (Err f) → HaveTwins configs
-have_twins configs f is (Begins apart same) = absurd (cc same)
-have_twins configs f is (SameRouter twins same) = twins
-have_twins configs f is (NoMemory same) =
-    let one : f ≡ fault.Memory false = cc in
-    let none : fault.SameRouter ≡ fault.Memory false = sym is ∙ one in
-    absurd (cc none)

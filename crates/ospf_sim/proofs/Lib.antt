@@ -8,3 +8,4 @@ pub mod Worlds
 pub mod Lent
 pub mod Cuts
 pub mod Alls
+pub mod Shared

@@ -1,5 +1,5 @@
 -- Lines that run one after another.
-use Rattle.std.proofs.Common.{◌≡◌, ◌∙◌, ap, sym, subst, refl, ◌+◌, ◌<◌, ◌≤◌, ℕ, suc, List, [], ◌∷◌, ◌++◌, length, take, drop, get_or, map, Bool, true, false, Option, None, Some, append-nil, append_assoc}
+use Rattle.std.proofs.Common.{◌≡◌, ◌∙◌, ap, sym, subst, refl, ◌+◌, ◌<◌, ◌≤◌, ℕ, suc, List, [], ◌∷◌, ◌++◌, length, take, drop, get_or, map, Bool, true, false, Option, append-nil, append_assoc}
 use Rattle.std.proofs.lemmas.List.{take_all, take_more, take-append-drop, map-append}
 use Rattle.std.proofs.Math.Seq.{drop-cons}
 use Rattle.std.specs.Io.KnownBytes.{Appends, Keeps}
@@ -11,7 +11,7 @@ use Rattle.ospf_script.specs.declared.script.Line.{Line}
 use Rattle.ospf_sim.specs.Worlds.{WorldValue}
 use Rattle.ospf_files.proofs.Written.{both_written, kept_written, nothing_written}
 use Rattle.ospf_sim.specs.Commands.{Answer, IsDone}
-use Rattle.ospf_sim.specs.Scripts.{EndsAt, IsRun, IsRunLine, LineComes, LinesCome, EndsEarly, RunsLine, RunsLines, is_taken, no_line, one_line, told_of, unreadable_line}
+use Rattle.ospf_sim.specs.Scripts.{EndsAt, IsRun, IsRunLine, LineComes, EndsEarly, RunsLine, RunsLines, is_taken, no_line, one_line, told_of, unreadable_line}
 
 -- one line more
 more_lines : (lines : List (ℕ × Text)) (number : ℕ) (line : Text) (w mid w' : WorldValue) (outs out errs err : Text) → RunsLines lines w mid outs errs
@@ -54,13 +54,12 @@ entries_split lines i d within =
 
 pub line_ends : (lines : List Line) (i : ℕ) (d : Line) (w mid w' : WorldValue) (a b c x y z : Option (List ℕ)) (read : Bool) → i < length lines → read ≡ false
     → IsRun (map entry_of (take i lines)) w mid a b x y → LineComes read (get_or lines i d) mid w' b c y z
-    → EndsAt (map entry_of lines) (get_or lines i d).number w w' a c x z
+    → EndsAt (map entry_of lines) (get_or lines i d).number (get_or lines i d).text.now w w' a c x z
 line_ends lines i d w mid w' a b c x y z true within is so_far last = absurd (cc is)
 line_ends lines i d w mid w' a b c x y z false within is so_far last =
     let line = get_or lines i d in
     record {
       before = map entry_of (take i lines);
-      line = line.text.now;
       after = map entry_of (drop (suc i) lines);
       lines_are = entries_split lines i d within;
       unreadable = last.unreadable;
@@ -80,46 +79,32 @@ line_taken number line c w w' answer a b z x y spelled done out err = record {
   err_written = err;
 }
 
--- the lines of a script that have all run
-pub script_whole : (ended : Option ℕ) (entries : List (ℕ × Text)) (script : Text) (w w' : WorldValue) (a b c x y : Option (List ℕ)) → ended ≡ None → entries ≡ numbered_from 1 script
-    → LinesCome ended entries w w' a b x y → Keeps b c → IsRun (numbered_from 1 script) w w' a c x y
-script_whole (Some number) entries script w w' a b c x y is same run kept = absurd (cc is)
-script_whole None entries script w w' a b c x y is same run kept = record {
-  out = run.out;
-  err = run.err;
-  runs = subst (λ lines. RunsLines lines w w' run.out run.err) same run.runs;
-  out_written = kept_written a b c run.out run.out_written kept;
-  err_written = run.err_written;
-}
-
--- those of one that ends early, of which it is told
-pub script_early : (ended : Option ℕ) (number : ℕ) (entries : List (ℕ × Text)) (script : Text) (w w' : WorldValue) (a b c x y z : Option (List ℕ)) → ended ≡ Some number
-    → entries ≡ numbered_from 1 script → LinesCome ended entries w w' a b x y → Appends b c [] → Appends y z (unreadable_line number) → EndsEarly script w w' a c x z
-script_early None number entries script w w' a b c x y z is same run kept told = absurd (cc is)
-script_early (Some n) number entries script w w' a b c x y z is same run kept told =
-    let one : n ≡ number = cc is in
-    record {
-      number = number;
-      before = run.before;
-      line = run.line;
-      after = run.after;
-      lines_are = sym same ∙ run.lines_are ∙ ap (λ k. run.before ++ (k, run.line) ∷ run.after) one;
-      unreadable = run.unreadable;
-      out = run.run.out;
-      err = run.run.err;
-      runs = run.run.runs;
-      out_written = subst (Appends a c) (append-nil run.run.out) (both_written a b c run.run.out [] run.run.out_written kept);
-      err_written = both_written x y z run.run.err (unreadable_line number) run.run.err_written told;
-    }
-
 -- lines that have all run
 pub whole_at : (lines : List Line) (i : ℕ) (script : Text) (w w' : WorldValue) (a b c x y : Option (List ℕ)) → length lines ≤ i → map entry_of lines ≡ numbered_from 1 script
     → IsRun (map entry_of (take i lines)) w w' a b x y → Keeps b c → IsRun (numbered_from 1 script) w w' a c x y
 whole_at lines i script w w' a b c x y past same run kept =
     let all : IsRun (map entry_of lines) w w' a b x y = subst (λ (ls : List Line). IsRun (map entry_of ls) w w' a b x y) (take_all i lines past) run in
-    script_whole None (map entry_of lines) script w w' a b c x y refl same all kept
+    record {
+      out = all.out;
+      err = all.err;
+      runs = subst (λ entries. RunsLines entries w w' all.out all.err) same all.runs;
+      out_written = kept_written a b c all.out all.out_written kept;
+      err_written = all.err_written;
+    }
 
 -- and those up to one that cannot be read, of which it is told
-pub early_at : (lines : List Line) (number : ℕ) (script : Text) (w w' : WorldValue) (a b c x y z : Option (List ℕ)) → map entry_of lines ≡ numbered_from 1 script
-    → EndsAt (map entry_of lines) number w w' a b x y → Appends b c [] → Appends y z (unreadable_line number) → EndsEarly script w w' a c x z
-early_at lines number script w w' a b c x y z same ends kept told = script_early (Some number) number (map entry_of lines) script w w' a b c x y z refl same ends kept told
+pub early_at : (lines : List Line) (number : ℕ) (line script : Text) (w w' : WorldValue) (a b c x y z : Option (List ℕ)) → map entry_of lines ≡ numbered_from 1 script
+    → EndsAt (map entry_of lines) number line w w' a b x y → Appends b c [] → Appends y z (unreadable_line number line) → EndsEarly script w w' a c x z
+early_at lines number line script w w' a b c x y z same ends kept told = record {
+  number = number;
+  before = ends.before;
+  line = line;
+  after = ends.after;
+  lines_are = sym same ∙ ends.lines_are;
+  unreadable = ends.unreadable;
+  out = ends.run.out;
+  err = ends.run.err;
+  runs = ends.run.runs;
+  out_written = subst (Appends a c) (append-nil ends.run.out) (both_written a b c ends.run.out [] ends.run.out_written kept);
+  err_written = both_written x y z ends.run.err (unreadable_line number line) ends.run.err_written told;
+}

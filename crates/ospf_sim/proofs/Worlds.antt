@@ -1,6 +1,5 @@
 -- Worlds of configurations, and what runs in them.
-use Rattle.std.proofs.Common.{◌≡◌, ◌∙◌, sym, subst, refl, inr, ℕ, List, ◌∷◌, Bool, true, false, Option, None, Some, Result, Ok, Err, IfOk}
-use Rattle.std.specs.Io.KnownBytes.{Appends}
+use Rattle.std.proofs.Common.{ap, suc, length, [], ◌≡◌, ◌∙◌, sym, subst, refl, inr, ℕ, List, ◌∷◌, Bool, true, false, Option, None, Some, Result, Ok, Err, IfOk}
 use Rattle.ospf_config.specs.declared.config.Config.{Config}
 use Rattle.ospf_files.specs.Files.{text_in}
 use Rattle.ospf_files.specs.Listed.{AreConfigs, AreRead, ConfigsCome}
@@ -12,18 +11,31 @@ use Rattle.ospf_script.specs.Words.{Text}
 use Rattle.ospf_sim.specs.Worlds.{WorldValue}
 use Rattle.ospf_sim.specs.Scripts.{ScriptComes}
 use Rattle.ospf_sim.specs.declared.text.Simulated.{Simulated}
-use Rattle.ospf_sim.specs.Simulations.{Comes, IsNoWorld, Opens, RunsTo, WorldComes, same_router, same_router_line, status_for}
+use Rattle.ospf_sim.specs.Simulations.{Comes, IsNoWorld, Opens, RunsTo, WorldComes, same_router, status_for}
+use Rattle.ospf_sim.specs.Twins.{AreTwinsTold}
 
 pub world_comes : (found : Option (List Config)) (configs : List Config) (files : List NamedFile) (result : Result (Option WorldValue) Failure) (x y z : Option (List ℕ))
-    → found ≡ Some configs → ConfigsCome files found x y → IfOk result (λ world. Opens configs world y z) → IfOk result (λ world. WorldComes files world x z)
+    → found ≡ Some configs → ConfigsCome files found x y → IfOk result (λ world. Opens files configs world y z) → IfOk result (λ world. WorldComes files world x z)
 world_comes None configs files result x y z is comes opens = absurd (cc is)
 world_comes (Some cs) configs files (Err failure) x y z is comes opens = opens
 world_comes (Some cs) configs files (Ok None) x y z is comes opens =
     let one : cs ≡ configs = cc is in
-    same_router configs (subst (AreConfigs files) one comes.0) opens.0 (subst (λ old. Appends old z same_router_line) comes.1 opens.1)
+    same_router configs (subst (AreConfigs files) one comes.0) (subst (λ old. AreTwinsTold files configs old z) comes.1 opens)
 world_comes (Some cs) configs files (Ok (Some w)) x y z is comes opens =
     let one : cs ≡ configs = cc is in
     (record { configs = configs; are_configs = subst (AreConfigs files) one comes.0; new = opens.0 }, opens.1 ∙ comes.1)
+
+many_files : (files : List NamedFile) (configs : List Config) → AreConfigs files configs → length files ≡ length configs
+many_files [] [] are = refl
+many_files (file ∷ files) (config ∷ configs) are = ap suc (many_files files configs are.1)
+many_files [] (config ∷ configs) are = absurd are
+many_files (file ∷ files) [] are = absurd are
+
+-- as many files as configurations in them
+pub as_many : (found : Option (List Config)) (configs : List Config) (files : List NamedFile) (x y : Option (List ℕ)) → found ≡ Some configs → ConfigsCome files found x y
+    → length files ≡ length configs
+as_many None configs files x y is comes = absurd (cc is)
+as_many (Some cs) configs files x y is comes = let one : cs ≡ configs = cc is in many_files files configs (subst (AreConfigs files) one comes.0)
 
 pub no_world_told : (found : Option WorldValue) (files : List NamedFile) (x y : Option (List ℕ)) → found ≡ None → WorldComes files found x y → IsNoWorld files x y
 no_world_told None files x y is comes = comes

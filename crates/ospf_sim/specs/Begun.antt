@@ -18,8 +18,9 @@ use Rattle.ospf_script.specs.Words.{Text, words}
 use Rattle.ospf_script.specs.declared.command.Command.{Command}
 use Rattle.ospf_sim.specs.Commands.{Answer, Does, IsShown, IsWalked}
 use Rattle.ospf_sim.specs.Scripts.{IsRun, refusal_line, unreadable_line}
-use Rattle.ospf_sim.specs.Simulations.{IsWorldOf, same_router_line}
-use Rattle.ospf_sim.specs.Worlds.{HaveTwins, WorldValue}
+use Rattle.ospf_sim.specs.Simulations.{IsWorldOf}
+use Rattle.ospf_sim.specs.Twins.{SharesRouter}
+use Rattle.ospf_sim.specs.Worlds.{WorldValue}
 use Rattle.ospf_sim.specs.declared.show.View.{View}
 
 -- ---- one line
@@ -86,7 +87,7 @@ pub data IsLineCut (number : ℕ) (line : Text) (w : WorldValue) (failed : Faile
       → IsLineCut number line w failed out_old out_new err_old err_new f
   in_refusal : {f : Failure} → IsRefusalCut number line w failed out_old out_new err_old err_new f
       → IsLineCut number line w failed out_old out_new err_old err_new f
-  in_unreadable : {f : Failure} → IsUnreadable line → IsTellingCut (unreadable_line number) failed out_old out_new err_old err_new f
+  in_unreadable : {f : Failure} → IsUnreadable line → IsTellingCut (unreadable_line number line) failed out_old out_new err_old err_new f
       → IsLineCut number line w failed out_old out_new err_old err_new f
 
 -- ---- a script
@@ -121,10 +122,10 @@ pub data IsFileCut (file : NamedFile) (failed : FailedStreams) (err_old err_new 
       → IsBegun err_old err_new (refused_line file fault) → IsFileCut file failed err_old err_new f
 
 -- configurations open no world: nothing is told, for want of memory, or a beginning of that two of them are of one router
-pub data IsOpeningCut (configs : List Config) (failed : FailedStreams) (err_old err_new : Option (List ℕ)) : Failure → Type 0 where
-  no_room : err_new ≡ err_old → IsOpeningCut configs failed err_old err_new failure.Memory
-  in_twins : {f : Failure} → IsErrorCut failed f → HaveTwins configs → IsBegun err_old err_new same_router_line
-      → IsOpeningCut configs failed err_old err_new f
+pub data IsOpeningCut (files : List NamedFile) (configs : List Config) (failed : FailedStreams) (err_old err_new : Option (List ℕ)) : Failure → Type 0 where
+  no_room : err_new ≡ err_old → IsOpeningCut files configs failed err_old err_new failure.Memory
+  in_twins : {f : Failure} (text : Text) → IsErrorCut failed f → SharesRouter files configs text → IsBegun err_old err_new text
+      → IsOpeningCut files configs failed err_old err_new f
 
 -- there is no world of files: nothing is told, for want of memory, or a beginning of why the first that is refused is that,
 -- or of that two of them are of one router
@@ -132,8 +133,8 @@ pub data IsWorldCut (files : List NamedFile) (failed : FailedStreams) (err_old e
   no_world : err_new ≡ err_old → IsWorldCut files failed err_old err_new failure.Memory
   in_file : {f : Failure} (file : NamedFile) (fault : ConfigFault) → IsErrorCut failed f → IsFirstRefused file fault files
       → IsBegun err_old err_new (refused_line file fault) → IsWorldCut files failed err_old err_new f
-  in_same_router : {f : Failure} (configs : List Config) → IsErrorCut failed f → AreConfigs files configs → HaveTwins configs
-      → IsBegun err_old err_new same_router_line → IsWorldCut files failed err_old err_new f
+  in_same_router : {f : Failure} (configs : List Config) (text : Text) → IsErrorCut failed f → AreConfigs files configs → SharesRouter files configs text
+      → IsBegun err_old err_new text → IsWorldCut files failed err_old err_new f
 
 -- a simulation is cut: at the first file that could not be read, before there is a world, or in its script
 pub data IsCut (script : NamedFile) (files : List NamedFile) (failed : FailedStreams) (out_old out_new err_old err_new : Option (List ℕ)) : Failure → Type 0 where

@@ -3,6 +3,7 @@ pub mod All
 pub mod Shown
 pub mod Commands
 pub mod Scripts
+pub mod Twins
 pub mod Simulations
 pub mod Begun
 pub mod Stopped

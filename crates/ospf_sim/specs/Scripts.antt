@@ -1,9 +1,10 @@
 -- What a script does: its lines one after another, up to one that cannot be read.
-use Rattle.std.specs.Prelude.{◌≡◌, ℕ, Bool, true, false, List, [], ◌∷◌, ◌++◌, Ok, Err, Option, None, Some, codes, decimal}
+use Rattle.std.specs.Prelude.{◌≡◌, ℕ, Bool, true, false, List, [], ◌∷◌, ◌++◌, Ok, Err, Option, codes, decimal}
 use Rattle.std.specs.Io.KnownBytes.{Appends}
 use Rattle.ospf_headline.specs.Text.{world_fault_text}
 use Rattle.ospf_headline.specs.declared.event.WorldFault.{WorldFault}
 use Rattle.ospf_script.specs.Commands.{IsUnreadable, Spells}
+use Rattle.ospf_script.specs.Hints.{hint_text}
 use Rattle.ospf_script.specs.Lines.{numbered_from}
 use Rattle.ospf_script.specs.Words.{IsBlank, Text, words}
 use Rattle.ospf_script.specs.declared.command.Command.{Command}
@@ -16,8 +17,16 @@ abbrev pub refusal_line : ℕ → WorldFault → Text
 refusal_line number fault = codes "line " ++ decimal number ++ codes ": " ++ world_fault_text fault ++ codes "\n"
 
 -- a line that cannot be read
-abbrev pub unreadable_line : ℕ → Text
-unreadable_line number = codes "line " ++ decimal number ++ codes ": not a command\n"
+abbrev pub not_a_command_line : ℕ → Text
+not_a_command_line number = codes "line " ++ decimal number ++ codes ": not a command\n"
+
+-- what helps with it
+abbrev pub hint_line : Text → Text
+hint_line line = codes "  " ++ hint_text (words line) ++ codes "\n"
+
+-- a line that cannot be read, and behind it what helps with it
+abbrev pub unreadable_line : ℕ → Text → Text
+unreadable_line number line = not_a_command_line number ++ hint_line line
 
 -- what is told on standard error of what was answered to a line
 abbrev pub told_of : ℕ → Answer → Text
@@ -46,9 +55,8 @@ pub record IsRun (lines : List (ℕ × Text)) (w w' : WorldValue) (out_old out_n
   pub err_written : Appends err_old err_new err
 
 -- the line of this number is the first that cannot be read, and those before it have run
-pub record EndsAt (lines : List (ℕ × Text)) (number : ℕ) (w w' : WorldValue) (out_old out_new err_old err_new : Option (List ℕ)) : Type 0 where
+pub record EndsAt (lines : List (ℕ × Text)) (number : ℕ) (line : Text) (w w' : WorldValue) (out_old out_new err_old err_new : Option (List ℕ)) : Type 0 where
   pub before : List (ℕ × Text)
-  pub line : Text
   pub after : List (ℕ × Text)
   pub lines_are : lines ≡ before ++ (number, line) ∷ after
   pub unreadable : IsUnreadable line
@@ -73,11 +81,6 @@ abbrev pub LineComes : Bool → Line → WorldValue → WorldValue → Option (L
 LineComes true line = IsRunLine line.number line.text.now
 LineComes false line = IsNotRead line.text.now
 
--- all lines have run, or those before one that cannot be read
-abbrev pub LinesCome : Option ℕ → List (ℕ × Text) → WorldValue → WorldValue → Option (List ℕ) → Option (List ℕ) → Option (List ℕ) → Option (List ℕ) → Type 0
-LinesCome None lines = IsRun lines
-LinesCome (Some number) lines = EndsAt lines number
-
 -- a script of which a line cannot be read: the lines before it have run, and of the first such line it is told that it is no command
 pub record EndsEarly (script : Text) (w w' : WorldValue) (out_old out_new err_old err_new : Option (List ℕ)) : Type 0 where
   pub number : ℕ
@@ -90,7 +93,7 @@ pub record EndsEarly (script : Text) (w w' : WorldValue) (out_old out_new err_ol
   pub err : Text
   pub runs : RunsLines before w w' out err
   pub out_written : Appends out_old out_new out
-  pub err_written : Appends err_old err_new (err ++ unreadable_line number)
+  pub err_written : Appends err_old err_new (err ++ unreadable_line number line)
 
 -- a whole script, or up to a line that cannot be read
 abbrev pub ScriptComes : Bool → Text → WorldValue → WorldValue → Option (List ℕ) → Option (List ℕ) → Option (List ℕ) → Option (List ℕ) → Type 0

@@ -1,6 +1,5 @@
 -- What a simulation comes to: its files, its configurations, and the run of its script.
-use Rattle.std.specs.Prelude.{◌≡◌, ◌⊎◌, ℕ, List, ◌∷◌, Option, None, Some, Bool, true, false, codes, ⊤}
-use Rattle.std.specs.Io.KnownBytes.{Appends}
+use Rattle.std.specs.Prelude.{◌≡◌, ◌⊎◌, ℕ, List, ◌∷◌, Option, None, Some, Bool, true, false, ⊤}
 use Rattle.ospf_config.specs.declared.config.Config.{Config}
 use Rattle.ospf_files.specs.Files.{text_in}
 use Rattle.ospf_files.specs.Listed.{AreConfigs, AreRead, IsRefusalTold}
@@ -8,15 +7,11 @@ use Rattle.ospf_files.specs.declared.files.NamedFile.{NamedFile}
 use Rattle.ospf_files.specs.declared.status.Status.{Status}
 use Rattle.ospf_files.specs.declared.status.Status.TheVariants as status
 use Rattle.ospf_script.specs.Lines.{numbered_from}
-use Rattle.ospf_script.specs.Words.{Text}
-use Rattle.ospf_sim.specs.Worlds.{HaveTwins, IsNewOf, WorldValue}
+use Rattle.ospf_sim.specs.Twins.{AreTwinsTold}
+use Rattle.ospf_sim.specs.Worlds.{IsNewOf, WorldValue}
 use Rattle.ospf_sim.specs.Scripts.{EndsEarly, IsRun, ScriptComes}
 
 -- ---- worlds
-
--- the line of configurations of which two have one Router ID
-abbrev pub same_router_line : Text
-same_router_line = codes "W7 SameRouter\n"
 
 -- a world of the configurations in the files, in which nothing runs
 pub record IsWorldOf (files : List NamedFile) (w : WorldValue) : Type 0 where
@@ -27,12 +22,12 @@ pub record IsWorldOf (files : List NamedFile) (w : WorldValue) : Type 0 where
 -- there is no such world, and it is told why: a file holds no configuration, or two routers have one Router ID
 pub data IsNoWorld (files : List NamedFile) (old new : Option (List ℕ)) : Type 0 where
   no_config : IsRefusalTold files old new → IsNoWorld files old new
-  same_router : (configs : List Config) → AreConfigs files configs → HaveTwins configs → Appends old new same_router_line → IsNoWorld files old new
+  same_router : (configs : List Config) → AreConfigs files configs → AreTwinsTold files configs old new → IsNoWorld files old new
 
 -- a new world of configurations, or it is told that two of them are of one router
-abbrev pub Opens : List Config → Option WorldValue → Option (List ℕ) → Option (List ℕ) → Type 0
-Opens configs (Some w) old new = IsNewOf configs w × (new ≡ old)
-Opens configs None old new = HaveTwins configs × Appends old new same_router_line
+abbrev pub Opens : List NamedFile → List Config → Option WorldValue → Option (List ℕ) → Option (List ℕ) → Type 0
+Opens files configs (Some w) old new = IsNewOf configs w × (new ≡ old)
+Opens files configs None old new = AreTwinsTold files configs old new
 
 abbrev pub WorldComes : List NamedFile → Option WorldValue → Option (List ℕ) → Option (List ℕ) → Type 0
 WorldComes files (Some w) old new = IsWorldOf files w × (new ≡ old)

@@ -40,7 +40,3 @@ IsNotLent w r fault = of_member unless_stopped (member (world_of w) r) ≡ Some 
 -- a world of these configurations, no two of one Router ID, in which nothing runs and nothing has happened
 abbrev pub IsNewOf : List Config → WorldValue → Type 0
 IsNewOf configs w = (ShareRouter configs → ⊥) × (w ≡ new_world configs)
-
--- two configurations, at different places, of one Router ID
-abbrev pub HaveTwins : List Config → Type 0
-HaveTwins configs = ShareRouter configs

@@ -10,6 +10,7 @@ mod configs;
 mod script;
 mod show;
 mod text;
+mod twins;
 mod watch;
 
 pub use crate::text::{Simulated, sim_text};

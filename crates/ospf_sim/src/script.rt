@@ -4,12 +4,12 @@ ghost use Rattle.std.specs.Prelude.{◌≡◌, [], IfErr, IfOk, OnOk, map, strin
 ghost use Rattle.std.specs.Io.KnownBytes.{Appends};
 ghost use Rattle.ospf_script.specs.Lines.{entry_of};
 ghost use Rattle.ospf_sim.specs.Begun.{IsAnswerCut, IsCutAt, IsLineCut, IsScriptCut, IsTellingCut};
-ghost use Rattle.ospf_sim.specs.Scripts.{LineComes, LinesCome, ScriptComes, refusal_line, told_of, unreadable_line};
+ghost use Rattle.ospf_sim.specs.Scripts.{LineComes, ScriptComes, hint_line, not_a_command_line, refusal_line, told_of, unreadable_line};
 
 use crate::commands::run_command;
 use crate::watch::Watch;
 use ospf_files::{FailedStreams, Failure};
-use ospf_script::{Command, Line, LineFault, RefusalShown, lines};
+use ospf_script::{Command, Hint, Line, LineFault, RefusalShown, lines};
 use ospf_world::{World, WorldFault};
 use std::alloc::{AllocError, Global};
 use std::io::Write;
@@ -34,7 +34,7 @@ pub(crate) fn run_script<O: Write, E: Write, V: Watch>(
     for line in &lines {
         let is_read = run_line(world, line, out, err, alloc, watch, streams)?;
         if !is_read {
-            tell_unreadable(alloc, line.number, out, err, streams)?;
+            tell_unreadable(alloc, line, out, err, streams)?;
             return Ok(false);
         }
     }
@@ -137,27 +137,46 @@ fn tell_behind<O: Write, E: Write>(
     streams.tell(err, line)
 }
 
-// Tells that a line cannot be read.
+// Tells that a line cannot be read, and behind that what helps with it.
 fn tell_unreadable<O: Write, E: Write>(
     alloc: Global,
-    number: u64,
+    line: &Line<'_>,
     out: &mut O,
     err: &mut E,
     streams: &mut FailedStreams,
 ) -> Result<(), Failure>
     ensures out { OnOk result (Appends (O.contents out.old) (O.contents out.new) []) }
-    ensures err { OnOk result
-        (Appends (E.contents err.old) (E.contents err.new) (unreadable_line number)) }
-    ensures cut { IfErr result (IsTellingCut (unreadable_line number) streams.new
+    ensures err { OnOk result (Appends (E.contents err.old) (E.contents err.new)
+        (unreadable_line line.now.number line.now.text.now)) }
+    ensures cut { IfErr result
+        (IsTellingCut (unreadable_line line.now.number line.now.text.now) streams.new
         (O.contents out.old) (O.contents out.new) (E.contents err.old) (E.contents err.new)) }
 {
-    let line = unreadable_line(alloc, number)?;
-    tell_behind(&line, out, err, streams)
+    let told = unreadable_line(alloc, line.number, line.text)?;
+    tell_behind(&told, out, err, streams)
 }
 
-// The line of a line that cannot be read.
-fn unreadable_line(alloc: Global, number: u64) -> Result<String, AllocError>
-    ensures { IfOk result (λ line. string_bytes line ≡ unreadable_line number) }
+// The lines of a line that cannot be read.
+fn unreadable_line(alloc: Global, number: u64, text: &[u8]) -> Result<String, AllocError>
+    ensures { IfOk result (λ line. string_bytes line ≡ unreadable_line number text.now) }
+{
+    let mut lines = not_a_command_line(alloc, number)?;
+    let hint = hint_line(alloc, text)?;
+    lines.push_str(&hint)?;
+    Ok(lines)
+}
+
+// The line of it.
+fn not_a_command_line(alloc: Global, number: u64) -> Result<String, AllocError>
+    ensures { IfOk result (λ line. string_bytes line ≡ not_a_command_line number) }
 {
     format!(in alloc; "line {number}: {}\n", LineFault::NotACommand)
+}
+
+// What helps with it.
+fn hint_line(alloc: Global, text: &[u8]) -> Result<String, AllocError>
+    ensures { IfOk result (λ line. string_bytes line ≡ hint_line text.now) }
+{
+    let hint = Hint(text);
+    format!(in alloc; "  {hint}\n")
 }

@@ -1,6 +1,6 @@
 //! Simulations.
 
-ghost use Rattle.std.specs.Prelude.{◌≡◌, ◌≢◌, ◌⊎◌, ◌∷◌, IfErr, IfOk, IfSome, IfNone, None, OnErr, OnOk, string_bytes};
+ghost use Rattle.std.specs.Prelude.{◌≡◌, ◌≢◌, ◌⊎◌, ◌∷◌, IfErr, IfOk, IfSome, IfNone, None, OnErr, OnOk, length};
 ghost use Rattle.std.specs.Io.KnownBytes.{Appends};
 ghost use Rattle.ospf_files.specs.Files.{text_in, unread_line};
 ghost use Rattle.ospf_files.specs.declared.files.NamedFile.{NamedFile};
@@ -9,16 +9,18 @@ ghost use Rattle.ospf_files.specs.Listed.{AreRead, IsFirstUnread};
 ghost use Rattle.ospf_files.specs.Status.{failure_line, failure_status};
 ghost use Rattle.ospf_files.specs.Streams.{IsBegun, IsErrorCut, IsTold};
 ghost use Rattle.ospf_sim.specs.Begun.{IsCut, IsOpeningCut, IsScriptCut, IsWorldCut};
-ghost use Rattle.ospf_sim.specs.Simulations.{Comes, IsRefused, IsSimulated, Opens, RunsTo, WorldComes, same_router_line, status_for};
+ghost use Rattle.ospf_sim.specs.Simulations.{Comes, IsRefused, IsSimulated, Opens, RunsTo, WorldComes, status_for};
 ghost use Rattle.ospf_sim.specs.Stopped.{IsStopped, IsUnreadTold};
+ghost use Rattle.ospf_sim.specs.Twins.{AreFirstTwins, AreTwinsTold};
 
 use crate::configs::{read_configs, tell_unread};
 use crate::script::run_script;
+use crate::twins::{first_twins, twins_lines};
 use crate::watch::Watch;
 use ospf_config::Config;
 use ospf_files::{FailedStreams, Failure, NamedFile, Status, first_unread};
-use ospf_world::{World, WorldFault};
-use std::alloc::{AllocError, Global};
+use ospf_world::World;
+use std::alloc::Global;
 use std::io::Write;
 
 /// What came of a simulation.
@@ -171,7 +173,7 @@ fn new_world<E: Write>(
         (IsWorldCut files.now streams.new (E.contents err.old) (E.contents err.new)) }
 {
     match read_configs(alloc, files, err, streams)? {
-        Some(configs) => open_world(alloc, configs, err, streams),
+        Some(configs) => open_world(alloc, files, configs, err, streams),
         None => Ok(None),
     }
 }
@@ -179,46 +181,45 @@ fn new_world<E: Write>(
 // The world of configurations, in which nothing runs; where two are of one router it is told.
 fn open_world<E: Write>(
     alloc: Global,
+    files: &[NamedFile],
     configs: Vec<Config>,
     err: &mut E,
     streams: &mut FailedStreams,
 ) -> Result<Option<World>, Failure>
-    ensures opens { IfOk result (λ world. Opens configs.items world (E.contents err.old)
+    requires { length files.now ≡ length configs.items }
+    ensures opens { IfOk result (λ world. Opens files.now configs.items world (E.contents err.old)
         (E.contents err.new)) }
-    ensures cut { IfErr result
-        (IsOpeningCut configs.items streams.new (E.contents err.old) (E.contents err.new)) }
+    ensures cut { IfErr result (IsOpeningCut files.now configs.items streams.new
+        (E.contents err.old) (E.contents err.new)) }
 {
+    if let Some(twins) = first_twins(&configs) {
+        tell_twins(alloc, files, &configs, twins, err, streams)?;
+        return Ok(None);
+    }
     match World::new(configs, alloc) {
         Ok(world) => Ok(Some(world)),
-        Err(WorldFault::SameRouter) => {
-            tell_same_router(alloc, err, streams)?;
-            Ok(None)
-        }
         Err(_) => Err(Failure::Memory),
     }
 }
 
 // Tells that two routers have one Router ID. Where that fails, a beginning of it was written.
-fn tell_same_router<E: Write>(
+fn tell_twins<E: Write>(
     alloc: Global,
+    files: &[NamedFile],
+    configs: &[Config],
+    twins: (usize, usize),
     err: &mut E,
     streams: &mut FailedStreams,
 ) -> Result<(), Failure>
-    ensures told { OnOk result (Appends (E.contents err.old) (E.contents err.new)
-        same_router_line) }
-    ensures begun { OnErr result
-        (IsBegun (E.contents err.old) (E.contents err.new) same_router_line) }
-    ensures cut { IfErr result (IsErrorCut streams.new) }
+    requires files { length files.now ≡ length configs.now }
+    requires twins { AreFirstTwins configs.now twins.0 twins.1 }
+    ensures told { OnOk result
+        (AreTwinsTold files.now configs.now (E.contents err.old) (E.contents err.new)) }
+    ensures cut { IfErr result (IsOpeningCut files.now configs.now streams.new
+        (E.contents err.old) (E.contents err.new)) }
 {
-    let line = same_router_line(alloc)?;
-    streams.tell(err, &line)
-}
-
-// The line of two routers of one Router ID.
-fn same_router_line(alloc: Global) -> Result<String, AllocError>
-    ensures { IfOk result (λ line. string_bytes line ≡ same_router_line) }
-{
-    format!(in alloc; "{}\n", WorldFault::SameRouter.text())
+    let lines = twins_lines(alloc, files, configs, twins)?;
+    streams.tell(err, &lines)
 }
 
 // How a simulation ends whose lines could all be read, or not.

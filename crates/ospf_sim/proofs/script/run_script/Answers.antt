@@ -36,14 +36,14 @@ returns-in_err-tell_unreadable-clause-cut g c =
     for_failure c.from_residual-in_err-tell_unreadable.result c.in_err-tell_unreadable.field-0.0
     (IsScriptCut c.args.script.now c.args.world.now c.tell_unreadable.new.streams (g.O.Write.contents c.args.out.now) (g.O.Write.contents c.tell_unreadable.new.out) (g.E.Write.contents c.args.err.now) (g.E.Write.contents c.tell_unreadable.new.err))
     c.from_residual-in_err-tell_unreadable.ensures.1
-    (in_line (early_cut c.deref-line-items.result.now _ c.args.script.now _ _ _ _ _ _ _ _ _ _ entries
+    (in_line (early_cut c.deref-line-items.result.now _ _ c.args.script.now _ _ _ _ _ _ _ _ _ _ entries
     (line_ends c.deref-line-items.result.now c.loop-line.line-index _ _ _ _ _ _ _ _ _ _ c.in_ok-is_read.is_read c.loop-line-test.true c.if-not-is_read.true c.loop-line.invariant c.in_ok-is_read.ensures.comes)
     c.in_err-tell_unreadable.ensures.cut))
 
 pub returns-then-not-is_read-clause-comes : goal.returns-then-not-is_read-clause-comes
 returns-then-not-is_read-clause-comes g c =
     let entries : map entry_of c.deref-line-items.result.now ≡ numbered_from 1 c.args.script.now = ap (map entry_of) c.deref-line-items.ensures.value ∙ c.in_ok-lines.ensures in
-    early_at c.deref-line-items.result.now _ c.args.script.now _ _ _ _ _ _ _ _ entries
+    early_at c.deref-line-items.result.now _ _ c.args.script.now _ _ _ _ _ _ _ _ entries
     (line_ends c.deref-line-items.result.now c.loop-line.line-index _ _ _ _ _ _ _ _ _ _ c.in_ok-is_read.is_read c.loop-line-test.true c.if-not-is_read.true c.loop-line.invariant c.in_ok-is_read.ensures.comes)
     c.in_ok-tell_unreadable.ensures.out c.in_ok-tell_unreadable.ensures.err
 

@@ -1,0 +1,103 @@
+//! What is told behind a line that spells no command.
+
+ghost use Rattle.std.specs.Prelude.{◌≡◌, ◌++◌, None, codes};
+ghost use Rattle.std.specs.Fmt.{WritesOnOk};
+ghost use Rattle.ospf_script.specs.Hints.{byte_text, form_text, hint_of, hint_text, word_text};
+ghost use Rattle.ospf_script.specs.Texts.{hexadecimal};
+ghost use Rattle.ospf_script.specs.Words.{words};
+
+use crate::name::Name;
+use crate::words::first_word;
+use std::fmt::{self, Display, Formatter, Write};
+
+/// What helps with a line that spells no command, by its text: behind a first word that begins none, which words begin one,
+/// else the form of the command that it begins.
+#[derive(Clone, Copy, Debug, PartialEq, Eq)]
+pub struct Hint<'a>(pub &'a [u8]);
+
+/// As `tick R`.
+impl Display for Hint<'_> {
+    ghost use Rattle.std.specs.Prelude.{Some};
+    ghost use Rattle.ospf_script.specs.Hints.{hint_text};
+    ghost use Rattle.ospf_script.specs.Words.{words};
+
+    ghost output = { λ hint. Some (hint_text (words hint.0.now)) };
+
+    fn fmt<W: Write>(&self, f: &mut Formatter<W>) -> fmt::Result {
+        write_hint(f, self.0)
+    }
+}
+
+// The hint of a line.
+fn write_hint<W: Write>(f: &mut Formatter<W>, line: &[u8]) -> fmt::Result
+    ensures { WritesOnOk W.Write.write_str_gives f.old result (hint_text (words line.now)) f.new }
+{
+    let Some((word, _)) = first_word(line) else {
+        return Ok(());
+    };
+    match Name::read(word) {
+        Some(name) => f.write_str(form_of(name)),
+        None => write_names(f, word),
+    }
+}
+
+// That a word begins no command, and which words do.
+fn write_names<W: Write>(f: &mut Formatter<W>, word: &[u8]) -> fmt::Result
+    ensures { WritesOnOk W.Write.write_str_gives f.old result (hint_of word.now None) f.new }
+{
+    write_word(f, word)?;
+    f.write_str(
+        ": no command; there are start, stop, tick, up, down, deliver, round, random, neighbours, listing, table, walk, floor, say",
+    )
+}
+
+// A word, so that it can be read whatever its bytes are.
+fn write_word<W: Write>(f: &mut Formatter<W>, word: &[u8]) -> fmt::Result
+    ensures { WritesOnOk W.Write.write_str_gives f.old result (word_text word.now) f.new }
+{
+    for byte in word {
+        write_byte(f, *byte)?;
+    }
+    Ok(())
+}
+
+// A byte of a word.
+fn write_byte<W: Write>(f: &mut Formatter<W>, byte: u8) -> fmt::Result
+    ensures { WritesOnOk W.Write.write_str_gives f.old result (byte_text byte) f.new }
+{
+    if byte < b'!' || byte > b'~' {
+        write_hexadecimal(f, byte)
+    } else {
+        f.write_char(char::from(byte))
+    }
+}
+
+// A byte that is not printed, by its number.
+fn write_hexadecimal<W: Write>(f: &mut Formatter<W>, byte: u8) -> fmt::Result
+    ensures { WritesOnOk W.Write.write_str_gives f.old result
+        (codes "\\x" ++ hexadecimal 2 byte) f.new }
+{
+    write!(f, "\\x{byte:02x}")
+}
+
+// The form of a command.
+fn form_of(name: Name) -> &'static str
+    ensures { result.now ≡ form_text name }
+{
+    match name {
+        Name::Start => "start R DD [FLOOR], or start all",
+        Name::Stop => "stop R",
+        Name::Tick => "tick R",
+        Name::Up => "up R LINK, or up all",
+        Name::Down => "down R LINK, or down all",
+        Name::Deliver => "deliver N R LINK",
+        Name::Round => "round COUNT [MOST]",
+        Name::Random => "random NUMBER COUNT",
+        Name::Neighbours => "neighbours R",
+        Name::Listing => "listing R",
+        Name::Table => "table R",
+        Name::Walk => "walk R ADDRESS CHOICE..",
+        Name::Floor => "floor R",
+        Name::Say => "say WORD..",
+    }
+}
