@@ -1,5 +1,5 @@
 -- What stands written where a failure cuts what is to be written.
-use Rattle.std.proofs.Common.{◌≡◌, ◌∙◌, ap, refl, sym, subst, ◌<◌, ℕ, List, [], ◌∷◌, ◌++◌, length, take, drop, get_or, map, Option, None, Some, suc}
+use Rattle.std.proofs.Common.{◌≡◌, ◌∙◌, sym, subst, ◌<◌, ℕ, List, [], ◌∷◌, length, take, drop, get_or, map, Option, None, Some, suc}
 use Rattle.std.specs.Io.KnownBytes.{Appends, Keeps}
 use Rattle.ospf_config.specs.declared.config.Config.{Config}
 use Rattle.ospf_files.proofs.Listed.{files_split}

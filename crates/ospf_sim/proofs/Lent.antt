@@ -1,5 +1,5 @@
 -- What a world answers that is asked for a router, and what comes of configurations.
-use Rattle.std.proofs.Common.{◌≡◌, ◌∙◌, ap, sym, subst, refl, List, None, Some, Result, Ok, Err, false}
+use Rattle.std.proofs.Common.{◌≡◌, ap, sym, subst, refl, List, None, Some, Result, Ok, Err}
 use Rattle.std.specs.Borrow.{Bor}
 use Rattle.ospf_base.specs.declared.ids.RouterId.{RouterId}
 use Rattle.ospf_config.specs.declared.config.Config.{Config}

@@ -7,4 +7,4 @@ pub mod Worlds
 pub mod Lent
 pub mod Cuts
 pub mod Alls
-pub mod Twins
+pub mod Shared

@@ -1,6 +1,5 @@
 -- Worlds of configurations, and what runs in them.
 use Rattle.std.proofs.Common.{ap, suc, length, [], ◌≡◌, ◌∙◌, sym, subst, refl, inr, ℕ, List, ◌∷◌, Bool, true, false, Option, None, Some, Result, Ok, Err, IfOk}
-use Rattle.std.specs.Io.KnownBytes.{Appends}
 use Rattle.ospf_config.specs.declared.config.Config.{Config}
 use Rattle.ospf_files.specs.Files.{text_in}
 use Rattle.ospf_files.specs.Listed.{AreConfigs, AreRead, ConfigsCome}

@@ -16,9 +16,17 @@ use Rattle.ospf_sim.specs.Commands.{Answer, Does}
 abbrev pub refusal_line : ℕ → WorldFault → Text
 refusal_line number fault = codes "line " ++ decimal number ++ codes ": " ++ world_fault_text fault ++ codes "\n"
 
+-- a line that cannot be read
+abbrev pub not_a_command_line : ℕ → Text
+not_a_command_line number = codes "line " ++ decimal number ++ codes ": not a command\n"
+
+-- what helps with it
+abbrev pub hint_line : Text → Text
+hint_line line = codes "  " ++ hint_text (words line) ++ codes "\n"
+
 -- a line that cannot be read, and behind it what helps with it
 abbrev pub unreadable_line : ℕ → Text → Text
-unreadable_line number line = codes "line " ++ decimal number ++ codes ": not a command\n  " ++ hint_text (words line) ++ codes "\n"
+unreadable_line number line = not_a_command_line number ++ hint_line line
 
 -- what is told on standard error of what was answered to a line
 abbrev pub told_of : ℕ → Answer → Text

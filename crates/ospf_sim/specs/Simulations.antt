@@ -7,7 +7,6 @@ use Rattle.ospf_files.specs.declared.files.NamedFile.{NamedFile}
 use Rattle.ospf_files.specs.declared.status.Status.{Status}
 use Rattle.ospf_files.specs.declared.status.Status.TheVariants as status
 use Rattle.ospf_script.specs.Lines.{numbered_from}
-use Rattle.ospf_script.specs.Words.{Text}
 use Rattle.ospf_sim.specs.Twins.{AreTwinsTold}
 use Rattle.ospf_sim.specs.Worlds.{IsNewOf, WorldValue}
 use Rattle.ospf_sim.specs.Scripts.{EndsEarly, IsRun, ScriptComes}

@@ -22,10 +22,15 @@ pub record AreFirstTwins (configs : List Config) (i j : ℕ) : Type 0 where
   pub twins : HasTwinBefore configs j i
   pub first : (k l : ℕ) → l < j → HasTwinBefore configs l k → ⊥
 
--- the fault, and behind it the Router ID and the files
+-- the line of the fault
+abbrev pub same_router_line : Text
+same_router_line = codes "W7 SameRouter\n"
+
+-- and behind it the Router ID and the files
 abbrev pub same_router_lines : RouterId → NamedFile → NamedFile → Text
 same_router_lines router one other =
-    codes "W7 SameRouter\n  " ++ number_text router.0 ++ codes ": " ++ string_bytes one.name ++ codes ", " ++ string_bytes other.name ++ codes "\n"
+    same_router_line ++ (codes "  " ++ number_text router.0 ++ codes ": ") ++ string_bytes one.name ++ codes ", " ++ string_bytes other.name
+    ++ codes "\n"
 
 -- the files hold configurations of which two have one Router ID, and this is told of the first that has that of an earlier one
 pub record SharesRouter (files : List NamedFile) (configs : List Config) (text : Text) : Type 0 where

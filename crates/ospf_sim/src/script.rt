@@ -4,7 +4,7 @@ ghost use Rattle.std.specs.Prelude.{◌≡◌, [], IfErr, IfOk, OnOk, map, strin
 ghost use Rattle.std.specs.Io.KnownBytes.{Appends};
 ghost use Rattle.ospf_script.specs.Lines.{entry_of};
 ghost use Rattle.ospf_sim.specs.Begun.{IsAnswerCut, IsCutAt, IsLineCut, IsScriptCut, IsTellingCut};
-ghost use Rattle.ospf_sim.specs.Scripts.{LineComes, ScriptComes, refusal_line, told_of, unreadable_line};
+ghost use Rattle.ospf_sim.specs.Scripts.{LineComes, ScriptComes, hint_line, not_a_command_line, refusal_line, told_of, unreadable_line};
 
 use crate::commands::run_command;
 use crate::watch::Watch;
@@ -160,9 +160,23 @@ fn tell_unreadable<O: Write, E: Write>(
 fn unreadable_line(alloc: Global, number: u64, text: &[u8]) -> Result<String, AllocError>
     ensures { IfOk result (λ line. string_bytes line ≡ unreadable_line number text.now) }
 {
-    format!(in alloc;
-        "line {number}: {}\n  {}\n",
-        LineFault::NotACommand,
-        Hint(text)
-    )
+    let mut lines = not_a_command_line(alloc, number)?;
+    let hint = hint_line(alloc, text)?;
+    lines.push_str(&hint)?;
+    Ok(lines)
+}
+
+// The line of it.
+fn not_a_command_line(alloc: Global, number: u64) -> Result<String, AllocError>
+    ensures { IfOk result (λ line. string_bytes line ≡ not_a_command_line number) }
+{
+    format!(in alloc; "line {number}: {}\n", LineFault::NotACommand)
+}
+
+// What helps with it.
+fn hint_line(alloc: Global, text: &[u8]) -> Result<String, AllocError>
+    ensures { IfOk result (λ line. string_bytes line ≡ hint_line text.now) }
+{
+    let hint = Hint(text);
+    format!(in alloc; "  {hint}\n")
 }

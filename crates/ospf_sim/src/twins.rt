@@ -1,8 +1,10 @@
 //! Configurations of one Router ID.
 
-ghost use Rattle.std.specs.Prelude.{◌≡◌, ◌<◌, ℕ, IfNone, IfOk, IfSome, length, string_bytes};
-ghost use Rattle.ospf_sim.specs.Twins.{AreFirstTwins, HasTwinBefore, SharesRouter};
+ghost use Rattle.std.specs.Prelude.{◌≡◌, ◌++◌, ◌<◌, ℕ, codes, IfNone, IfOk, IfSome, length, string_bytes};
+ghost use Rattle.ospf_base.specs.Text.{number_text};
+ghost use Rattle.ospf_sim.specs.Twins.{AreFirstTwins, HasTwinBefore, SharesRouter, same_router_line, same_router_lines};
 
+use ospf_base::RouterId;
 use ospf_config::Config;
 use ospf_files::NamedFile;
 use ospf_world::WorldFault;
@@ -49,9 +51,40 @@ pub(crate) fn twins_lines(
 {
     let (earlier, later) = twins;
     let router = configs[earlier].router_id;
-    let (one, other) = (&files[earlier].name, &files[later].name);
-    format!(in alloc;
-        "{}\n  {router}: {one}, {other}\n",
-        WorldFault::SameRouter.text()
-    )
+    twins_text(alloc, router, &files[earlier], &files[later])
+}
+
+// The fault, and behind it a Router ID and two files.
+fn twins_text(
+    alloc: Global,
+    router: RouterId,
+    one: &NamedFile,
+    other: &NamedFile,
+) -> Result<String, AllocError>
+    ensures { IfOk result (λ text. string_bytes text
+        ≡ same_router_lines router one.now other.now) }
+{
+    let mut lines = same_router_line(alloc)?;
+    let begins = router_text(alloc, router)?;
+    lines.push_str(&begins)?;
+    lines.push_str(&one.name)?;
+    lines.push_str(", ")?;
+    lines.push_str(&other.name)?;
+    lines.push_str("\n")?;
+    Ok(lines)
+}
+
+// The fault.
+fn same_router_line(alloc: Global) -> Result<String, AllocError>
+    ensures { IfOk result (λ line. string_bytes line ≡ same_router_line) }
+{
+    format!(in alloc; "{}\n", WorldFault::SameRouter.text())
+}
+
+// The Router ID that two files have.
+fn router_text(alloc: Global, router: RouterId) -> Result<String, AllocError>
+    ensures { IfOk result (λ text. string_bytes text
+        ≡ codes "  " ++ number_text router.0 ++ codes ": ") }
+{
+    format!(in alloc; "  {router}: ")
 }

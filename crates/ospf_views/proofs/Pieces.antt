@@ -26,7 +26,7 @@ link_written area a b c link h k =
 pub no_links_written : (area : Option AreaValue) (o : Option (List ℕ)) → Appends o o (links_lines 0 area)
 no_links_written area o = subst (Appends o o) (sym (no_links area)) (nothing_written o)
 
-last_or_before : (link count : ℕ) → link < suc count → (link ≡ count) ⊎ (link < count)
+pub last_or_before : (link count : ℕ) → link < suc count → (link ≡ count) ⊎ (link < count)
 last_or_before zero zero within = inl refl
 last_or_before zero (suc count) within = inr (omega arith)
 last_or_before (suc link) zero within = absurd (omega arith)

@@ -1,7 +1,6 @@
-use Rattle.std.proofs.Common.{◌≡◌, ◌∙◌, refl, rules, sym, subst}
+use Rattle.std.proofs.Common.{refl}
 use Rattle.ospf_files.specs.Streams.{IsErrorCut}
 use Rattle.ospf_files.proofs.Cut.{cut_then, for_memory, ok_then}
-use Rattle.ospf_script.specs.Words.{Text}
 use Rattle.ospf_sim.specs.Begun.{IsOpeningCut, in_twins, no_room}
 use Rattle.ospf_sim.specs.Twins.{SharesRouter}
 use Rattle.ospf_sim.proofs.text.tell_twins.Goals as goal
@@ -14,12 +13,12 @@ returns-in_err-lines-clause-cut g c =
 
 pub returns-clause-told : goal.returns-clause-told
 returns-clause-told g c =
-    let shared : SharesRouter c.args.files.now c.args.configs.now c.deref.result.now = rw c.deref.ensures.value c.in_ok-lines.ensures in
+    let shared : SharesRouter c.args.files.now c.args.configs.now c.deref.result.now = rw c.deref.ensures c.in_ok-lines.ensures in
     ok_then c.tell.result (λ told. (c.deref.result.now, shared, told.1)) c.tell.ensures.told
 
 pub returns-clause-cut : goal.returns-clause-cut
 returns-clause-cut g c =
-    let shared : SharesRouter c.args.files.now c.args.configs.now c.deref.result.now = rw c.deref.ensures.value c.in_ok-lines.ensures in
+    let shared : SharesRouter c.args.files.now c.args.configs.now c.deref.result.now = rw c.deref.ensures c.in_ok-lines.ensures in
     cut_then c.tell.result (IsErrorCut c.tell.new.self)
     (IsOpeningCut c.args.files.now c.args.configs.now c.tell.new.self (g.E.Write.contents c.args.err.now) (g.E.Write.contents c.tell.new.err))
     (λ f begun cut. in_twins c.deref.result.now cut shared begun) c.tell.ensures.begun c.tell.ensures.cut
