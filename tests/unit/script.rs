@@ -2,7 +2,7 @@
 
 use ospf_base::{Addr, Instance, Kind, LsaKey, RouterId};
 use ospf_script::{
-    Command, FloorShown, LineFault, ListedShown, NeighbourShown, RefusalShown, WalkShown,
+    Command, FloorShown, Hint, LineFault, ListedShown, NeighbourShown, RefusalShown, WalkShown,
     first_line, lines, words_spell_one_command,
 };
 use std::alloc::Global;
@@ -245,6 +245,36 @@ fn unreadable(rt: HostRuntime) {
             Err(LineFault::NotACommand)
         );
     }
+}
+
+const NAMES: &str = "start, stop, tick, up, down, deliver, round, random, neighbours, listing, table, walk, floor, say";
+
+#[test]
+fn hints(rt: HostRuntime) -> Result<(), Fail> {
+    let alloc = rt.alloc();
+    let forms: [(&[u8], &str); 7] = [
+        (b"tick", "tick R"),
+        (b" start  1.1.1.1 ", "start R DD [FLOOR], or start all"),
+        (b"neighbors", "neighbours R"),
+        (b"deliver 1 2", "deliver N R LINK"),
+        (b"round x", "round COUNT [MOST]"),
+        (b"say \xff", "say WORD.."),
+        (b"  ", ""),
+    ];
+    for (line, form) in forms {
+        assert_eq!(rt; format!(in alloc; "{}", Hint(line))?.as_str(), form);
+    }
+    let words: [(&[u8], &str); 4] = [
+        (b"tikc 1.1.1.1", "tikc"),
+        (b"Tick", "Tick"),
+        (b"tick\t1.1.1.1", "tick\\x091.1.1.1"),
+        (b"\x7f~!\xc3\xa9", "\\x7f~!\\xc3\\xa9"),
+    ];
+    for (line, word) in words {
+        let hint = format!(in alloc; "{word}: no command; there are {NAMES}")?;
+        assert_eq!(rt; format!(in alloc; "{}", Hint(line))?, hint);
+    }
+    Ok(())
 }
 
 #[test]
