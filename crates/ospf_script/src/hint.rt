@@ -10,8 +10,8 @@ use crate::name::Name;
 use crate::words::first_word;
 use std::fmt::{self, Display, Formatter, Write};
 
-/// What helps with a line that spells no command, by its text: behind a first word that begins none, which words begin one,
-/// else the form of the command that it begins.
+/// What helps with a line that spells no command, by its text: behind a first word that begins
+/// none, which words begin one, else the form of the command that it begins.
 #[derive(Clone, Copy, Debug, PartialEq, Eq)]
 pub struct Hint<'a>(pub &'a [u8]);
 
