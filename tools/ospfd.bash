@@ -7,14 +7,14 @@ _ospfd() {
         return
     fi
     case $before in
-    --tick | --lookup | --floor) return ;;
+    --tick | --lookup | --floor | --without) return ;;
     --dot | --pcap)
         mapfile -t COMPREPLY < <(compgen -f -- "$word")
         return
         ;;
     esac
     case $command in
-    table) options="--help" ;;
+    table) options="--without --help" ;;
     failures) options="--each --strict --help" ;;
     check) options="--explain --area --help" files=yes ;;
     sim) options="--dot --pcap --help" files=yes ;;

@@ -2,7 +2,7 @@
 
 use super::failing::Failing;
 use super::made::{FIRST, FIRST_NUMBER, SECOND, THIRD, link, stub, to};
-use ospf_base::{RouterId, lsa_sum};
+use ospf_base::{Addr, RouterId, lsa_sum};
 use ospf_failures::{FailuresJob, FailuresStatus, failures_text};
 use ospf_files::Status;
 use ospf_lsa::{Link, LinkKind, Listing, Lsa};
@@ -140,13 +140,23 @@ struct Case<'a> {
 }
 
 fn expect(rt: &impl Abort, alloc: Global, case: &Case<'_>) -> Result<(), Fail> {
-    let job = FailuresJob {
+    let job = FailuresJob::Root {
         root: case.root,
         each: case.each,
         strict: case.strict,
     };
+    expect_of(rt, alloc, &job, case)
+}
+
+// What is wanted of another job than that of the case.
+fn expect_of(
+    rt: &impl Abort,
+    alloc: Global,
+    job: &FailuresJob,
+    case: &Case<'_>,
+) -> Result<(), Fail> {
     let (mut out, mut err) = (Vec::new(alloc), Vec::new(alloc));
-    let status = failures_text(alloc, &job, case.input.as_bytes(), &mut out, &mut err);
+    let status = failures_text(alloc, job, case.input.as_bytes(), &mut out, &mut err);
     assert_eq!(rt; str::from_utf8(&out)?, case.out);
     assert_eq!(rt; str::from_utf8(&err)?, case.err);
     assert_eq!(rt; status, case.status);
@@ -352,11 +362,143 @@ fn router_of_too_many_links_is_refused(rt: HostRuntime) -> Result<(), Fail> {
     Ok(())
 }
 
+// What is wanted over all routers.
+fn expect_all(
+    rt: &impl Abort,
+    alloc: Global,
+    lsas: &[Lsa],
+    job: FailuresJob,
+    status: FailuresStatus,
+    out: &str,
+) -> Result<(), Fail> {
+    let input = lines(alloc, lsas)?;
+    let case = Case {
+        root: FIRST,
+        each: false,
+        strict: false,
+        input: &input,
+        status,
+        out,
+        err: "",
+    };
+    expect_of(rt, alloc, &job, &case)
+}
+
+#[test]
+fn failures_over_all_routers(rt: HostRuntime) -> Result<(), Fail> {
+    let alloc = rt.alloc();
+    let lsas = ring(alloc)?;
+    let sums = "2.2.2.2-3.3.3.3@10.0.0.4/30 cut 0 gone 3 cost 3 hops 1 routers 3\n\
+        1.1.1.1-2.2.2.2@10.0.0.0/30 cut 0 gone 3 cost 2 hops 1 routers 3\n\
+        1.1.1.1-3.3.3.3@10.0.0.8/30 cut 0 gone 3 cost 0 hops 0 routers 3\n\
+        3.3.3.3 cut 0 gone 2 cost 0 hops 1 routers 2\n\
+        2.2.2.2 cut 0 gone 0 cost 3 hops 0 routers 2\n\
+        1.1.1.1 cut 0 gone 0 cost 0 hops 1 routers 1\n";
+    let job = FailuresJob::All {
+        each: false,
+        strict: true,
+    };
+    expect_all(&rt, alloc, &lsas, job, DONE, sums)?;
+    let each = "1.1.1.1 2.2.2.2-3.3.3.3@10.0.0.4/30 gone 10.0.0.4/30\n\
+        1.1.1.1 2.2.2.2-3.3.3.3@10.0.0.4/30 cost 172.16.0.3/32 21>31 10.0.0.9>3.3.3.3\n\
+        2.2.2.2 2.2.2.2-3.3.3.3@10.0.0.4/30 gone 10.0.0.4/30\n\
+        2.2.2.2 2.2.2.2-3.3.3.3@10.0.0.4/30 hops 10.0.0.8/30 40 10.0.0.2>1.1.1.1\n\
+        2.2.2.2 2.2.2.2-3.3.3.3@10.0.0.4/30 cost 172.16.0.3/32 11>41 10.0.0.2>1.1.1.1\n\
+        3.3.3.3 2.2.2.2-3.3.3.3@10.0.0.4/30 cost 10.0.0.0/30 20>40 10.0.0.10>1.1.1.1\n\
+        3.3.3.3 2.2.2.2-3.3.3.3@10.0.0.4/30 gone 10.0.0.4/30\n\
+        2.2.2.2-3.3.3.3@10.0.0.4/30 cut 0 gone 3 cost 3 hops 1 routers 3\n\
+        1.1.1.1 1.1.1.1-2.2.2.2@10.0.0.0/30 gone 10.0.0.0/30\n\
+        1.1.1.1 1.1.1.1-2.2.2.2@10.0.0.0/30 cost 10.0.0.4/30 20>40 10.0.0.9>3.3.3.3\n\
+        1.1.1.1 1.1.1.1-2.2.2.2@10.0.0.0/30 cost 172.16.0.3/32 21>31 10.0.0.9>3.3.3.3\n\
+        2.2.2.2 1.1.1.1-2.2.2.2@10.0.0.0/30 gone 10.0.0.0/30\n\
+        2.2.2.2 1.1.1.1-2.2.2.2@10.0.0.0/30 hops 10.0.0.8/30 40 10.0.0.5>3.3.3.3\n\
+        3.3.3.3 1.1.1.1-2.2.2.2@10.0.0.0/30 gone 10.0.0.0/30\n\
+        1.1.1.1-2.2.2.2@10.0.0.0/30 cut 0 gone 3 cost 2 hops 1 routers 3\n\
+        1.1.1.1 1.1.1.1-3.3.3.3@10.0.0.8/30 gone 10.0.0.8/30\n\
+        2.2.2.2 1.1.1.1-3.3.3.3@10.0.0.8/30 gone 10.0.0.8/30\n\
+        3.3.3.3 1.1.1.1-3.3.3.3@10.0.0.8/30 gone 10.0.0.8/30\n\
+        1.1.1.1-3.3.3.3@10.0.0.8/30 cut 0 gone 3 cost 0 hops 0 routers 3\n\
+        1.1.1.1 3.3.3.3 gone 172.16.0.3/32\n\
+        2.2.2.2 3.3.3.3 hops 10.0.0.8/30 40 10.0.0.2>1.1.1.1\n\
+        2.2.2.2 3.3.3.3 gone 172.16.0.3/32\n\
+        3.3.3.3 cut 0 gone 2 cost 0 hops 1 routers 2\n\
+        1.1.1.1 2.2.2.2 cost 10.0.0.4/30 20>40 10.0.0.9>3.3.3.3\n\
+        1.1.1.1 2.2.2.2 cost 172.16.0.3/32 21>31 10.0.0.9>3.3.3.3\n\
+        3.3.3.3 2.2.2.2 cost 10.0.0.0/30 20>40 10.0.0.10>1.1.1.1\n\
+        2.2.2.2 cut 0 gone 0 cost 3 hops 0 routers 2\n\
+        2.2.2.2 1.1.1.1 hops 10.0.0.8/30 40 10.0.0.5>3.3.3.3\n\
+        1.1.1.1 cut 0 gone 0 cost 0 hops 1 routers 1\n";
+    let job = FailuresJob::All {
+        each: true,
+        strict: false,
+    };
+    expect_all(&rt, alloc, &lsas, job, DONE, each)
+}
+
+// What is wanted of the table of the first router without parts of the ring.
+fn expect_without(
+    rt: &impl Abort,
+    alloc: Global,
+    names: &[&str],
+    status: FailuresStatus,
+    out: &str,
+    err: &str,
+) -> Result<(), Fail> {
+    let input = lines(alloc, &ring(alloc)?)?;
+    let mut owned = Vec::new(alloc);
+    for name in names {
+        owned.push(String::from_str(alloc, name)?)?;
+    }
+    let job = FailuresJob::Without {
+        root: FIRST,
+        names: owned,
+        addresses: vec![in alloc; Addr(0xac10_0003), Addr(0x0a09_0909)]?,
+    };
+    let case = Case {
+        root: FIRST,
+        each: false,
+        strict: false,
+        input: &input,
+        status,
+        out,
+        err,
+    };
+    expect_of(rt, alloc, &job, &case)
+}
+
+#[test]
+fn tables_without_parts(rt: HostRuntime) -> Result<(), Fail> {
+    let alloc = rt.alloc();
+    let without_link = "10.0.0.4/30 40 10.0.0.9>3.3.3.3\n\
+        10.0.0.8/30 30 attached\n\
+        172.16.0.3/32 31 10.0.0.9>3.3.3.3\n\
+        lookup 172.16.0.3 172.16.0.3/32 31 10.0.0.9>3.3.3.3\n\
+        lookup 10.9.9.9 none\n";
+    expect_without(&rt, alloc, &["10.0.0.0/30"], DONE, without_link, "")?;
+    let name = "1.1.1.1-2.2.2.2@10.0.0.0/30";
+    expect_without(&rt, alloc, &[name], DONE, without_link, "")?;
+    let alone = "10.0.0.8/30 30 attached\n\
+        lookup 172.16.0.3 none\n\
+        lookup 10.9.9.9 none\n";
+    // A name is one of the area as it was read, in whatever order.
+    expect_without(&rt, alloc, &[name, "3.3.3.3"], DONE, alone, "")?;
+    expect_without(&rt, alloc, &["3.3.3.3", name, name], DONE, alone, "")
+}
+
+#[test]
+fn names_of_nothing_are_refused(rt: HostRuntime) -> Result<(), Fail> {
+    let alloc = rt.alloc();
+    let words = FailuresStatus::Ended(Status::Words);
+    let names = ["3.3.3.3", "10.0.0.8/29", "9.9.9.9"];
+    expect_without(&rt, alloc, &names, words, "", "10.0.0.8/29: no such element\n")?;
+    expect_without(&rt, alloc, &["@10.0.0.0"], words, "", "@10.0.0.0: no such element\n")
+}
+
 #[test]
 fn failed_stream_is_told(rt: HostRuntime) -> Result<(), Fail> {
     let alloc = rt.alloc();
     let input = lines(alloc, &chain(alloc)?)?;
-    let job = FailuresJob {
+    let job = FailuresJob::Root {
         root: FIRST,
         each: false,
         strict: true,

@@ -94,6 +94,11 @@ pub texts_or_none : (words : Option (Bor (List (Bor (List ℕ))))) (none : Bor (
 texts_or_none (Some words) none is_empty = refl
 texts_or_none None none is_empty = ap texts_of is_empty
 
+-- where there are words there are texts of them
+pub some_texts : {S : Type 0} (text : S → List ℕ) (texts : List S) (words : List (Bor (List ℕ))) → map text texts ≡ texts_of words → (words ≡ [] → ⊥) → texts ≡ [] → ⊥
+some_texts text texts [] is some none = some refl
+some_texts text texts (w ∷ words) is some none = let e : [] ≡ w.now ∷ texts_of words = sym (ap (map text) none) ∙ is in cc
+
 -- ---- words that ask for no job
 
 -- an error that is handed on, or turned into another

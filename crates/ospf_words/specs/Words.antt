@@ -1,6 +1,7 @@
 -- What the program's words ask for, as `clap` reads them.
 use Rattle.std.specs.Str.Parse.{IsNumeral, digits_value, without_leading_plus}
-use Rattle.std.specs.Prelude.{◌≡◌, ℕ, true, false, Bool, List, [], ◌∷◌, Option, Some, None, Ok, ⊤, codes, map, option_map, string_bytes, unwrap_or, vec_items}
+use Rattle.std.specs.declared.alloc.Global.{Global}
+use Rattle.std.specs.Prelude.{◌≡◌, ◌≢◌, ℕ, true, false, Bool, List, [], ◌∷◌, Option, Some, None, Ok, ⊤, String, codes, map, option_map, string_bytes, unwrap_or, vec_items}
 use Rattle.ospf_base.specs.Text.{ReadsAddress, ReadsRouterId}
 use Rattle.ospf_base.specs.declared.ids.Addr.{Addr}
 use Rattle.clap.specs.Lexer.{usize_max}
@@ -10,6 +11,7 @@ use Rattle.clap.specs.declared.builder.value_parser.ValueParser.TheVariants.{Uns
 use Rattle.ospf_words.specs.declared.jobs.CheckJob.{CheckJob}
 use Rattle.ospf_base.specs.declared.ids.RouterId.{RouterId}
 use Rattle.ospf_failures.specs.declared.answer.FailuresJob.{FailuresJob}
+use Rattle.ospf_failures.specs.declared.answer.FailuresJob.TheVariants.{All, Root, Without}
 use Rattle.ospf_inspect.specs.declared.answer.InspectJob.{InspectJob}
 use Rattle.ospf_inspect.specs.declared.answer.InspectJob.TheVariants.{Lsas, Tables, Path}
 use Rattle.ospf_words.specs.declared.jobs.Job.{Job}
@@ -33,9 +35,13 @@ addresses_rule = record (new_rule (codes "addresses")) {
   value_names = 1;
 }
 
--- the command `table`: a root, then addresses
+-- an option that may be given more than once, with a word each time
+abbrev pub without_rule : Rule
+without_rule = record (new_rule (codes "without")) { long = Some (codes "without"); action = Some Append; value_names = 1 }
+
+-- the command `table`: a root, then addresses, and what is left out
 abbrev pub table_app : App
-table_app = with_rule (with_rule (new_app (codes "table")) root_rule) addresses_rule
+table_app = with_rule (with_rule (with_rule (new_app (codes "table")) root_rule) addresses_rule) without_rule
 
 -- one word or more
 abbrev pub files_rule : Rule
@@ -119,12 +125,22 @@ Spell [] [] = ⊤
 Spell (text ∷ texts) (address ∷ addresses) = ReadsAddress text (Ok address) × Spell texts addresses
 Spell _ _ = ⊥
 
--- the root and the addresses that `clap` reads after `table`
+-- the root and the addresses that `clap` reads after `table`, where nothing is to be left out
 pub record IsTableJob (rows : List Row) (t : TableJob) : Type 0 where
   pub text : Text
   pub has_root : first_of (codes "root") rows ≡ Some text
   pub root : ReadsRouterId text (Ok t.root)
   pub addresses : Spell (unwrap_or (all_of (codes "addresses") rows) []) t.addresses.items
+  pub whole : unwrap_or (all_of (codes "without") rows) [] ≡ []
+
+-- the root and the addresses that `clap` reads after `table`, and the names of what is to be left out
+pub record IsWithoutJob (rows : List Row) (root : RouterId) (names : List (String Global)) (addresses : List Addr) : Type 0 where
+  pub text : Text
+  pub has_root : first_of (codes "root") rows ≡ Some text
+  pub root_is : ReadsRouterId text (Ok root)
+  pub addresses_are : Spell (unwrap_or (all_of (codes "addresses") rows) []) addresses
+  pub names_are : map string_bytes names ≡ unwrap_or (all_of (codes "without") rows) []
+  pub some : names ≢ []
 
 -- whether a flag is given, by the text that `clap` keeps of it
 pub record IsFlag (text : Option Text) (given : Bool) : Type 0 where
@@ -133,12 +149,25 @@ pub record IsFlag (text : Option Text) (given : Bool) : Type 0 where
   pub unset : text ≡ Some (codes "false") → given ≡ false
 
 -- the root that `clap` reads after `failures`, and the flags
-pub record IsFailuresJob (rows : List Row) (f : FailuresJob) : Type 0 where
+pub record IsRootJob (rows : List Row) (root : RouterId) (each strict : Bool) : Type 0 where
   pub text : Text
   pub has_root : first_of (codes "root") rows ≡ Some text
-  pub root : ReadsRouterId text (Ok f.root)
-  pub each : IsFlag (one_of (codes "each") rows) f.each
-  pub strict : IsFlag (one_of (codes "strict") rows) f.strict
+  pub root_is : ReadsRouterId text (Ok root)
+  pub each_is : IsFlag (one_of (codes "each") rows) each
+  pub strict_is : IsFlag (one_of (codes "strict") rows) strict
+
+-- the flags that `clap` reads after `failures`, and `all` as its root
+pub record IsAllJob (rows : List Row) (each strict : Bool) : Type 0 where
+  pub has_all : first_of (codes "root") rows ≡ Some (codes "all")
+  pub each_is : IsFlag (one_of (codes "each") rows) each
+  pub strict_is : IsFlag (one_of (codes "strict") rows) strict
+
+-- what is asked of failures: by `failures` at a root, or with `all` as its root at all routers, and by `table` the table without what is named
+abbrev pub IsFailuresJob : Option (Text × List Row) → FailuresJob → Type 0
+IsFailuresJob entered (Root root each strict) = (rows : List Row) × (entered ≡ Some (codes "failures", rows)) × IsRootJob rows root each strict
+IsFailuresJob entered (All each strict) = (rows : List Row) × (entered ≡ Some (codes "failures", rows)) × IsAllJob rows each strict
+IsFailuresJob entered (Without root names addresses) =
+    (rows : List Row) × (entered ≡ Some (codes "table", rows)) × IsWithoutJob rows root (vec_items names) (vec_items addresses)
 
 -- a text is read as this number
 abbrev pub IsNumber : Text → ℕ → Type 0
@@ -160,11 +189,12 @@ pub record IsPathJob (rows : List Row) (from : RouterId) (address : Addr) (choic
   pub address_is : ReadsAddress address_text (Ok address)
   pub choices_are : AreChoices (unwrap_or (all_of (codes "choices") rows) []) choices
 
--- what is to be printed of LSAs: by `lsas` each in words, by `table` with `all` as its root, and no addresses, all tables, and by `path` a way
+-- what is to be printed of LSAs: by `lsas` each in words, by `table` with `all` as its root, no addresses and nothing left out, all tables, and by `path` a way
 abbrev pub IsInspectJob : Option (Text × List Row) → InspectJob → Type 0
 IsInspectJob entered Lsas = (rows : List Row) × (entered ≡ Some (codes "lsas", rows))
 IsInspectJob entered Tables =
     (rows : List Row) × (entered ≡ Some (codes "table", rows)) × (first_of (codes "root") rows ≡ Some (codes "all")) × (unwrap_or (all_of (codes "addresses") rows) [] ≡ [])
+    × (unwrap_or (all_of (codes "without") rows) [] ≡ [])
 IsInspectJob entered (Path from address choices) =
     (rows : List Row) × (entered ≡ Some (codes "path", rows)) × IsPathJob rows from address (vec_items choices)
 
@@ -209,7 +239,7 @@ pub record IsRunJob (rows : List Row) (r : RunJob) : Type 0 where
 -- the job is that of the command that the words enter, with the values that they give it
 abbrev pub IsJobOf : Option (Text × List Row) → Job → Type 0
 IsJobOf entered (job.Table t) = (rows : List Row) × (entered ≡ Some (codes "table", rows)) × IsTableJob rows t
-IsJobOf entered (job.Failures f) = (rows : List Row) × (entered ≡ Some (codes "failures", rows)) × IsFailuresJob rows f
+IsJobOf entered (job.Failures f) = IsFailuresJob entered f
 IsJobOf entered (job.Inspect i) = IsInspectJob entered i
 IsJobOf entered (job.Check c) = (rows : List Row) × (entered ≡ Some (codes "check", rows)) × IsCheckJob rows c
 IsJobOf entered (job.Sim s) = (rows : List Row) × (entered ≡ Some (codes "sim", rows)) × IsSimJob rows s

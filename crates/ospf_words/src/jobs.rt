@@ -19,7 +19,7 @@ use thiserror::Error;
 pub enum Job {
     /// Computes the routing table of a router over the LSAs on standard input.
     Table(TableJob),
-    /// Tells what each failure does to the routing table of a router over the LSAs on standard input.
+    /// Tells what failures do to the area of the LSAs on standard input.
     Failures(FailuresJob),
     /// Prints what the LSAs on standard input say.
     Inspect(InspectJob),

@@ -1,11 +1,11 @@
 //! The words of the command line.
 
 ghost use Rattle.clap.specs.Faults.{fault_of};
-ghost use Rattle.std.specs.Prelude.{OnOk, [], ◌≡◌, ◌∷◌, false, map, option_map, codes, string_bytes, Ok, Err, Some, IfNone, IfOk, IfErr, IfSome};
-ghost use Rattle.clap.specs.Words.{app_of, found_of, rows_of, rule_of, subcommand_rows_of, with_subcommand};
+ghost use Rattle.std.specs.Prelude.{OnOk, [], ◌≡◌, ◌≢◌, ◌∷◌, false, map, option_map, unwrap_or, codes, string_bytes, Ok, Err, Some, IfNone, IfOk, IfErr, IfSome};
+ghost use Rattle.clap.specs.Words.{all_of, app_of, found_of, rows_of, rule_of, subcommand_rows_of, with_subcommand};
 ghost use Rattle.ospf_words.specs.Job.{IsFaultOfNoValue, IsFaultOfValue, IsHelp};
 ghost use Rattle.ospf_words.specs.Unasked.{IsFirstWrong, IsJobIfAny, IsNoAddress, IsUnasked, HasNoChoice, IsWrongValue};
-ghost use Rattle.ospf_words.specs.Words.{AreChoices, IsAddressIfAny, IsAsked, Spell, addresses_rule, check_app, choices_rule, command_app, failures_app, files_rule, flag_rule, lsas_app, one_rule, option_rule, ospfd_app, path_app, root_rule, run_app, script_rule, sim_app, table_app, tick_rule, ticks_rule};
+ghost use Rattle.ospf_words.specs.Words.{AreChoices, IsAddressIfAny, IsAsked, Spell, addresses_rule, check_app, choices_rule, command_app, failures_app, files_rule, flag_rule, lsas_app, one_rule, option_rule, ospfd_app, path_app, root_rule, run_app, script_rule, sim_app, table_app, tick_rule, ticks_rule, without_rule};
 
 use crate::build::VERSION;
 use crate::jobs::{CheckJob, Job, JobFault, RunJob, SimJob};
@@ -45,16 +45,20 @@ const TABLE_HELP: &str = "Output:
   lookup ADDRESS PREFIX COST HOP, or lookup ADDRESS none, for each ADDRESS
 Where ROOT is `all`, and no ADDRESS follows, each router's table stands below a line
   router R
+With --without it is the table of the area without what is named, as in `failures`:
+a link R-S@SUBNET (or SUBNET alone), links R-S, an interface R@NETWORK, a network
+@NETWORK or a router R.
 
 Exit status:
   0  done; where the root's router-LSA is not listed, standard error says so
-  2  the words fit no command, or one is no address
+  2  the words fit no command, one is no address, or a NAME is of nothing there
   3  a line was refused: its number and fault are on standard error
   4  memory ran out
   5  standard input was not read, or standard output not written
 
 Examples:
   ospfd table 1.1.1.1 192.168.2.9 < lsas.txt
+  ospfd table 1.1.1.1 --without 2.2.2.2 --without @10.1.0.3 < lsas.txt
   ospfd table all < lsas.txt
 ";
 
@@ -111,6 +115,8 @@ const FAILURES_HELP: &str = "Output:
   FAILURE gone PREFIX         reached no more, and nobody tells it any more
   FAILURE cost PREFIX OLD>NEW HOPS
   FAILURE hops PREFIX COST HOPS
+Where ROOT is `all` these are added up over all routers, ` routers N` says at how many
+of them anything changes, and a line of a route begins with its router.
 A failure is one of
   R-S@SUBNET                  the link of two routers
   R-S                         all links of two routers that name no subnet
@@ -126,8 +132,9 @@ Exit status:
   4  memory ran out
   5  standard input was not read, or standard output not written
 
-Example:
+Examples:
   ospfd failures 1.1.1.1 < lsas.txt
+  ospfd failures --strict all < lsas.txt
 ";
 
 // What `check --help` says below its words.
@@ -274,7 +281,8 @@ fn with_table<'a>(program: Command<'a>, alloc: Global) -> Result<Command<'a>, Al
         .about("Computes a routing table from LSAs in hexadecimal, one a line, on standard input")
         .after_help(TABLE_HELP)
         .arg(root_arg(alloc))?
-        .arg(addresses_arg(alloc))?;
+        .arg(addresses_arg(alloc))?
+        .arg(without_arg(alloc))?;
     program.subcommand(table)
 }
 
@@ -299,6 +307,18 @@ fn addresses_arg<'a>(alloc: Global) -> Arg<'a>
         .help("Addresses to look up in the table")
         .num_args(0..)
         .action(ArgAction::Append)
+}
+
+// The parts of the area that are left out.
+fn without_arg<'a>(alloc: Global) -> Arg<'a>
+    ensures rule { rule_of result ≡ without_rule }
+    ensures local { result.global ≡ false }
+{
+    Arg::new(alloc, "without")
+        .long("without")
+        .value_name("NAME")
+        .action(ArgAction::Append)
+        .help("Leaves a part of the area out, by its name in `failures`")
 }
 
 // Adds the command `failures` and its words.
@@ -580,8 +600,23 @@ fn entered_job(alloc: Global, matches: &ArgMatches<'_>) -> Result<Option<Job>, J
     Ok(None)
 }
 
-// The values of `table`: its job, if they have a root. For all roots there are no addresses.
+// The values of `table`: its job, if they have a root.
 fn table_job(alloc: Global, values: &ArgMatches<'_>) -> Result<Option<Job>, JobFault>
+    ensures ok { IfOk result (IsJobIfAny (Some (codes "table", rows_of (found_of values.now)))) }
+    ensures fault { IfErr result (IsFaultOfValue
+        (IsWrongValue (Some (codes "table", rows_of (found_of values.now))))) }
+{
+    let names = values.get_strs("without").unwrap_or(&[]);
+    if names.is_empty() {
+        whole_job(alloc, values)
+    } else {
+        without_job(alloc, values, names)
+    }
+}
+
+// The values of `table` where nothing is left out: its job, if they have a root. For all roots there are no addresses.
+fn whole_job(alloc: Global, values: &ArgMatches<'_>) -> Result<Option<Job>, JobFault>
+    requires { unwrap_or (all_of (codes "without") (rows_of (found_of values.now))) [] ≡ [] }
     ensures ok { IfOk result (IsJobIfAny (Some (codes "table", rows_of (found_of values.now)))) }
     ensures fault { IfErr result (IsFaultOfValue
         (IsWrongValue (Some (codes "table", rows_of (found_of values.now))))) }
@@ -596,6 +631,33 @@ fn table_job(alloc: Global, values: &ArgMatches<'_>) -> Result<Option<Job>, JobF
     Ok(Some(Job::Table(TableJob {
         root: parsed(alloc, root)?,
         addresses: parsed_addresses(alloc, addresses)?,
+    })))
+}
+
+// The values of `table` where parts of these names are left out: its job, if they have a root.
+fn without_job(
+    alloc: Global,
+    values: &ArgMatches<'_>,
+    names: &[&str],
+) -> Result<Option<Job>, JobFault>
+    requires names { map (λ w. w.now) names.now
+        ≡ unwrap_or (all_of (codes "without") (rows_of (found_of values.now))) [] }
+    requires some { names.now ≢ [] }
+    ensures ok { IfOk result (IsJobIfAny (Some (codes "table", rows_of (found_of values.now)))) }
+    ensures fault { IfErr result (IsFaultOfValue
+        (IsWrongValue (Some (codes "table", rows_of (found_of values.now))))) }
+{
+    let Some(root) = values.get_str("root") else {
+        return Ok(None);
+    };
+    let addresses = values.get_strs("addresses").unwrap_or(&[]);
+    let root = parsed(alloc, root)?;
+    let addresses = parsed_addresses(alloc, addresses)?;
+    let names = owned(alloc, names)?;
+    Ok(Some(Job::Failures(FailuresJob::Without {
+        root,
+        names,
+        addresses,
     })))
 }
 
@@ -637,10 +699,13 @@ fn failures_job(alloc: Global, values: &ArgMatches<'_>) -> Result<Option<Job>, J
     let Some(word) = values.get_str("root") else {
         return Ok(None);
     };
-    let root = parsed(alloc, word)?;
     let each = values.get_flag("each");
     let strict = values.get_flag("strict");
-    Ok(Some(Job::Failures(FailuresJob { root, each, strict })))
+    if word == ALL {
+        return Ok(Some(Job::Failures(FailuresJob::All { each, strict })));
+    }
+    let root = parsed(alloc, word)?;
+    Ok(Some(Job::Failures(FailuresJob::Root { root, each, strict })))
 }
 
 // The values of `path`: its job, if they have both ends, and all choices are read.

@@ -1,4 +1,5 @@
-use Rattle.std.proofs.Common.{rules, ◌≡◌, ◌∙◌, sym, refl, subst, codes, Some}
+use Rattle.std.specs.Cmp.Lexicographic.{bytes_decides}
+use Rattle.std.proofs.Common.{rules, ◌≡◌, ◌∙◌, ap, sym, refl, subst, codes, Some}
 use Rattle.clap.specs.Words.{first_of, found_of, rows_of}
 use Rattle.clap.proofs.WalkLemmas.{first_value-rows, one_text-rows}
 use Rattle.ospf_words.specs.Job.{IsFaultOfValue}
@@ -21,6 +22,27 @@ returns-in_err-root-clause-fault c =
     (value_weaker _ _ c.in_err-root.field-0.0 (λ w h. wrong_failing_root rows c.in-Some.word.now w is_root h)
     c.in_err-root.ensures.fault))
 
+pub returns-then-eq-clause-ok : goal.returns-then-eq-clause-ok
+returns-then-eq-clause-ok c =
+    let found = found_of c.args.values.now in
+    let all : c.in-Some.word.now ≡ codes "all" = (bytes_decides c.in-Some.word.now (codes "all")).0 (sym c.eq.ensures ∙ c.if-eq.true) in (
+      rows_of found,
+      refl,
+      record {
+        has_all = sym (named (λ n. first_of n (rows_of found)) _ _ (codes "root") (search rules) (c.in-Some.ensures ∙ first_value-rows found _)) ∙ ap Some all;
+        each_is = record {
+          none = λ e. c.get_flag-each.ensures.none (one_text-rows found (codes "each") ∙ e);
+          set = λ e. c.get_flag-each.ensures.value (one_text-rows found (codes "each") ∙ e);
+          unset = λ e. c.get_flag-each.ensures.other (one_text-rows found (codes "each") ∙ e);
+        };
+        strict_is = record {
+          none = λ e. c.get_flag-strict.ensures.none (one_text-rows found (codes "strict") ∙ e);
+          set = λ e. c.get_flag-strict.ensures.value (one_text-rows found (codes "strict") ∙ e);
+          unset = λ e. c.get_flag-strict.ensures.other (one_text-rows found (codes "strict") ∙ e);
+        };
+      },
+    )
+
 pub returns-clause-ok : goal.returns-clause-ok
 returns-clause-ok c =
     let found = found_of c.args.values.now in (
@@ -29,13 +51,13 @@ returns-clause-ok c =
       record {
         text = c.in-Some.word.now;
         has_root = sym (named (λ n. first_of n (rows_of found)) _ _ (codes "root") (search rules) (c.in-Some.ensures ∙ first_value-rows found _));
-        root = search (c.in_ok-root.ensures.value);
-        each = record {
+        root_is = search (c.in_ok-root.ensures.value);
+        each_is = record {
           none = λ e. c.get_flag-each.ensures.none (one_text-rows found (codes "each") ∙ e);
           set = λ e. c.get_flag-each.ensures.value (one_text-rows found (codes "each") ∙ e);
           unset = λ e. c.get_flag-each.ensures.other (one_text-rows found (codes "each") ∙ e);
         };
-        strict = record {
+        strict_is = record {
           none = λ e. c.get_flag-strict.ensures.none (one_text-rows found (codes "strict") ∙ e);
           set = λ e. c.get_flag-strict.ensures.value (one_text-rows found (codes "strict") ∙ e);
           unset = λ e. c.get_flag-strict.ensures.other (one_text-rows found (codes "strict") ∙ e);
