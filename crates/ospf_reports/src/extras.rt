@@ -30,7 +30,14 @@ pub(crate) fn print_extras<O: Write>(
         (IsBegun (O.contents out.old) (O.contents out.new) (extra_lines extras.now id router.now)) }
     ensures cut { IfErr result (IsOutputCut streams.new) }
 {
-    print_viewed(alloc, extras.neighbours, View::Neighbours, router, out, streams)?;
+    print_viewed(
+        alloc,
+        extras.neighbours,
+        View::Neighbours,
+        router,
+        out,
+        streams,
+    )?;
     print_viewed(alloc, extras.listing, View::Listing, router, out, streams)?;
     print_drops(alloc, id, &extras.drops, out, streams)?;
     print_floor(alloc, router, extras.floor, out, streams)
@@ -103,7 +110,10 @@ fn drop_line(alloc: Global, drops: &Drops) -> Result<String, AllocError>
     ensures { IfOk result (λ line. string_bytes line ≡ drop_line drops.now) }
 {
     let Drops {
-        link, cause, count, ..
+        link,
+        cause,
+        count,
+        ..
     } = drops;
     let line = format!(in alloc; "drops {link} {cause} {count}\n")?;
     Ok(line)

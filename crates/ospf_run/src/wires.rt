@@ -36,10 +36,7 @@ pub(crate) fn open_wires<'a, N: Net, C: Clock + Copy + Drop>(
         match open_wire(net, clock, alloc, settings, config)? {
             Ok(wire) => put(&mut wires, wire)?,
             Err(no_socket) => {
-                return Err(Stop::Obstacle(Obstacle::NoSocket(
-                    &files[place],
-                    no_socket,
-                )));
+                return Err(Stop::Obstacle(Obstacle::NoSocket(&files[place], no_socket)));
             }
         }
     }

@@ -45,6 +45,7 @@ pub enum SocketCause {
 
 // What Linux says of too many open files, in the machine and in the program.
 const TOO_MANY_IN_ALL: i32 = 23;
+
 const TOO_MANY: i32 = 24;
 
 impl SocketCause {

@@ -50,8 +50,11 @@ impl<C: Clock + Drop> UdpWire<C> {
         ticks: Option<u64>,
         ending: Option<Ending>,
     ) -> Result<UdpWire<C>, OpenFault>
-        ensures opened { IfOk result (λ wire. wire ≡ record { failed = 0; handed = 0;
-            span = record { ticks = ticks; may_be_told = is_some ending } }) }
+        ensures opened { IfOk result (λ wire. wire ≡ record {
+          failed = 0;
+          handed = 0;
+          span = record { ticks = ticks; may_be_told = is_some ending };
+        }) }
         ensures fault { IfErr result (IsUnopened config.now.interfaces.items) }
     {
         let ticks = Ticks::new(clock, period, ticks, ending);
