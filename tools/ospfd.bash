@@ -7,7 +7,7 @@ _ospfd() {
         return
     fi
     case $before in
-    --tick | --lookup | --floor | --without) return ;;
+    --tick | --lookup | --floor | --every | --without) return ;;
     --dot | --pcap)
         mapfile -t COMPREPLY < <(compgen -f -- "$word")
         return
@@ -18,7 +18,7 @@ _ospfd() {
     failures) options="--each --strict --help" ;;
     check) options="--explain --area --help" files=yes ;;
     sim) options="--dot --pcap --help" files=yes ;;
-    run) options="--tick --lookup --floor --pcap --help" files=yes ;;
+    run) options="--tick --lookup --floor --neighbours --listing --drops --every --until-eof --pcap --help" files=yes ;;
     help) options=$commands ;;
     *) options="--help" ;;
     esac

@@ -7,8 +7,8 @@ use super::program::Nobody;
 use ospf_base::Addr;
 use ospf_check::check_text;
 use ospf_files::{NamedFile, Status};
-use ospf_router::{Router, Sent};
-use ospf_run::{Config, Settings, Tap, run_text};
+use ospf_router::{Router, Sent, Step};
+use ospf_run::{Config, Drops, Settings, Tap, run_text};
 use ospf_sim::sim_text;
 use ospf_table::{TableJob, table_text};
 use std::alloc::{AllocError, Global};
@@ -45,11 +45,15 @@ impl Tap for Nobody {
 
     fn hears(&mut self, _link: usize, _packet: &[u8]) {}
 
-    fn sees(&mut self, _router: &Router) {}
+    fn sees(&mut self, _router: &Router, _step: &Step) {}
 
     fn sends(&mut self, _sent: &Sent) {}
 
     fn ends(&mut self) {}
+
+    fn drops(&self, alloc: Global) -> Result<Vec<Drops>, AllocError> {
+        Ok(Vec::new(alloc))
+    }
 }
 
 fn file(alloc: Global, name: &str, text: &str) -> Result<NamedFile, AllocError> {
@@ -124,10 +128,14 @@ fn run<R: Net + Threads + Wait + Clock + Copy + Send + Drop + 'static, O: Write,
         Given::Refused => "8",
     };
     let settings = Settings {
-        ticks: 1,
+        ticks: Some(1),
+        ending: None,
         milliseconds: 1,
         lookup: None,
         floor: Some(String::from_str(alloc, floor)?),
+        neighbours: false,
+        listing: false,
+        drops: false,
     };
     let text = format!(in alloc; "{CONFIG}port = 17109\n")?;
     let files = [file(alloc, "a.toml", &text)?];

@@ -3,7 +3,7 @@
 use ospf_base::Addr;
 use ospf_config::Config;
 use ospf_drive::{Arrival, LONGEST, Wire, WireFault};
-use ospf_udp::{OpenFault, UdpWire};
+use ospf_udp::{Ending, NoSocket, OpenFault, SocketCause, UdpWire};
 use std::alloc::Global;
 use std::fmt::Write;
 use std::io;
@@ -49,7 +49,15 @@ fn send_useless<N: Net>(net: &N) -> io::Result<()> {
 fn useless_datagrams_are_passed_over(rt: HostRuntime) -> Result<(), Fail> {
     let alloc = rt.alloc();
     let config = config(alloc, PLUG)?;
-    let mut wire = UdpWire::open(&rt, alloc, rt, &config, Duration::from_secs(2), 1)?;
+    let mut wire = UdpWire::open(
+        &rt,
+        alloc,
+        rt,
+        &config,
+        Duration::from_secs(2),
+        Some(1),
+        None,
+    )?;
     send_useless(&rt)?;
     let datagram = Arrival::Datagram {
         link: 0,
@@ -73,8 +81,13 @@ fn wires_that_are_not_opened(rt: HostRuntime) -> Result<(), Fail> {
     let portless = config(alloc, "")?;
     let taken = config(alloc, "port = 17108\npeers = [17107]\n")?;
     let _holder = UdpSocket::bind(&rt, "127.0.0.1:17108")?;
-    for (config, expected) in [(&portless, OpenFault::NoPort), (&taken, OpenFault::Socket)] {
-        match UdpWire::open(&rt, alloc, rt, config, Duration::from_secs(1), 1) {
+    let in_use = OpenFault::Socket(NoSocket {
+        port: taken.interfaces[0].port,
+        cause: SocketCause::InUse,
+    });
+    for (config, expected) in [(&portless, OpenFault::NoPort), (&taken, in_use)] {
+        let second = Duration::from_secs(1);
+        match UdpWire::open(&rt, alloc, rt, config, second, Some(1), None) {
             Ok(_) => return Err(Fail::from("opened")),
             Err(fault) => assert_eq!(rt; fault, expected),
         }
@@ -85,9 +98,40 @@ fn wires_that_are_not_opened(rt: HostRuntime) -> Result<(), Fail> {
 #[test]
 fn refusals_are_printed(rt: HostRuntime) -> Result<(), Fail> {
     let mut text = String::new(rt.alloc());
-    for fault in [OpenFault::NoPort, OpenFault::Socket, OpenFault::Memory] {
+    for fault in [OpenFault::NoPort, OpenFault::Memory] {
         write!(text, "{fault}; ")?;
     }
-    assert_eq!(rt; text.as_str(), "no port; socket; out of memory; ");
+    for cause in [
+        SocketCause::InUse,
+        SocketCause::NotPermitted,
+        SocketCause::NotAvailable,
+        SocketCause::TooMany,
+        SocketCause::Refused,
+    ] {
+        let none = OpenFault::Socket(NoSocket { port: None, cause });
+        write!(text, "{none}; ")?;
+    }
+    let port = config(rt.alloc(), PLUG)?.interfaces[0].port;
+    let cause = SocketCause::InUse;
+    write!(text, "{}", NoSocket { port, cause })?;
+    let expected = "no port; out of memory; sockets is in use; sockets: permission denied; \
+        sockets: address not available; sockets: too many open files; \
+        sockets: refused by the system; port 17106 is in use";
+    assert_eq!(rt; text.as_str(), expected);
+    Ok(())
+}
+
+#[test]
+fn ends_where_it_is_told(rt: HostRuntime) -> Result<(), Fail> {
+    let alloc = rt.alloc();
+    let config = config(alloc, "port = 17109\npeers = [17110]\n")?;
+    let ending = Ending::new(alloc)?;
+    let long = Duration::from_secs(1000);
+    let told = Some(ending.another()?);
+    let mut wire = UdpWire::open(&rt, alloc, rt, &config, long, None, told)?;
+    ending.tell();
+    let mut buffer = [0; LONGEST];
+    assert_eq!(rt; wire.recv(&mut buffer), Ok(Arrival::LinkUp { link: 0 }));
+    assert_eq!(rt; wire.recv(&mut buffer), Ok(Arrival::End));
     Ok(())
 }

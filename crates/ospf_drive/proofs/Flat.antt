@@ -10,7 +10,7 @@ use Rattle.ospf_drive.proofs.Going.{chain-append, events_done-append, events_of-
 use Rattle.ospf_drive.proofs.Turning.{events_of-some, not_end-of}
 use Rattle.ospf_drive.specs.Drives.{Ended, FailsToHear, FailsToPublish, FailsToSend, GoesOn, Stops, last_told}
 use Rattle.ospf_drive.specs.Moments.{Moment, Done, HasNoEnd, IsChain, event_of, events_done, events_of, sent_by, tables_of}
-use Rattle.ospf_drive.specs.Traffic.{Heard, Carried, IsOver, and_goes, ticks_in}
+use Rattle.ospf_drive.specs.Traffic.{Heard, Carried, EndsAfter, IsOver, and_goes, ticks_in}
 use Rattle.ospf_drive.specs.Traffic.Carried.{Ticks}
 use Rattle.ospf_drive.specs.Traffic.Heard.{End}
 use Rattle.ospf_drive.specs.Whole.{AllTicksAreTaken, Whole, DrivesAreWhole}
@@ -176,11 +176,11 @@ whole a b (Err fault.Stopped) d = stands_still d.goes_on d.ends
 whole a b (Err fault.Publish) d = unpublished d.goes_on d.ends
 whole a b (Err fault.Thread) d = absurd d.ends
 
--- all ticks that were counted are taken
+-- as many ticks are taken as stand before the end
 pub all_ticks : AllTicksAreTaken
-all_ticks a b told handed count d counted =
+all_ticks a b told handed span d counted =
     let goes : b.traffic ≡ and_goes (End ∷ []) [] (and_goes d.goes_on.taken (sent_by d.goes_on.steps) a.traffic) = d.ends.0.traffic ∙ ap (and_goes (End ∷ []) []) d.goes_on.traffic in
-    let there : b.traffic ≡ and_goes (End ∷ []) [] (and_goes d.goes_on.taken (sent_by d.goes_on.steps) (Ticks handed count)) = goes ∙ ap (λ (t : Carried). and_goes (End ∷ []) [] (and_goes d.goes_on.taken (sent_by d.goes_on.steps) t)) counted in
-    let over : IsOver (and_goes (End ∷ []) [] (and_goes d.goes_on.taken (sent_by d.goes_on.steps) (Ticks handed count))) = subst (λ (t : Carried). IsOver t) there d.ends.0.over in
-    let same : (handed + ticks_in d.goes_on.taken) + (0 + 0) ≡ count = over in
-    omega (arith, same)
+    let there : b.traffic ≡ and_goes (End ∷ []) [] (and_goes d.goes_on.taken (sent_by d.goes_on.steps) (Ticks handed span)) = goes ∙ ap (λ (t : Carried). and_goes (End ∷ []) [] (and_goes d.goes_on.taken (sent_by d.goes_on.steps) t)) counted in
+    let over : EndsAfter span ((handed + ticks_in d.goes_on.taken) + (0 + 0)) = subst (λ (t : Carried). IsOver t) there d.ends.0.over in
+    let same : (handed + ticks_in d.goes_on.taken) + (0 + 0) ≡ handed + ticks_in d.goes_on.taken = omega arith in
+    subst (λ (n : ℕ). EndsAfter span n) same over

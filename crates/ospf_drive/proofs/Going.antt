@@ -54,15 +54,15 @@ ticks_in-append (x ∷ xs) ys = let h = ticks_in-append xs ys in omega (arith, h
 
 pub goes-append : (hs hs' : List Heard) (s s' : List SentValue) (t : Carried) → and_goes hs' s' (and_goes hs s t) ≡ and_goes (hs ++ hs') (s ++ s') t
 goes-append hs hs' s s' (Full t) = simp append_assoc
-goes-append hs hs' s s' (Ticks n count) =
+goes-append hs hs' s s' (Ticks n span) =
     let sum : ticks_in (hs ++ hs') ≡ ticks_in hs + ticks_in hs' = ticks_in-append hs hs' in
     let all : (n + ticks_in hs) + ticks_in hs' ≡ n + ticks_in (hs ++ hs') = omega (arith, sum) in
-    ap (λ (m : ℕ). Ticks m count) all
+    ap (λ (m : ℕ). Ticks m span) all
 goes-append hs hs' s s' Untold = refl
 
 goes-none : (t : Carried) → t ≡ and_goes [] [] t
 goes-none (Full t) = simp append-nil
-goes-none (Ticks n count) = let none : n ≡ n + 0 = omega arith in ap (λ (m : ℕ). Ticks m count) none
+goes-none (Ticks n span) = let none : n ≡ n + 0 = omega arith in ap (λ (m : ℕ). Ticks m span) none
 goes-none Untold = refl
 
 -- a writer's known tables, where none was published

@@ -8,11 +8,11 @@ use Rattle.ospf_drive.specs.Traffic.Carried.{Full, Ticks, Untold}
 -- nothing went out
 pub sends_none : (t : Carried) → t ≡ and_sends [] t
 sends_none (Full t) = simp append-nil
-sends_none (Ticks n count) = refl
+sends_none (Ticks n span) = refl
 sends_none Untold = refl
 
 -- and then one more
 pub sends_more : (xs ys : List SentValue) (t : Carried) → and_sends ys (and_sends xs t) ≡ and_sends (xs ++ ys) t
 sends_more xs ys (Full t) = simp append_assoc
-sends_more xs ys (Ticks n count) = refl
+sends_more xs ys (Ticks n span) = refl
 sends_more xs ys Untold = refl

@@ -26,13 +26,13 @@ is_end-heard arrival.End buffer not = absurd (not refl)
 -- an arrival was heard, and nothing went out
 pub goes-heard : (h : Heard) (t : Carried) → and_hears h t ≡ and_goes (h ∷ []) [] t
 goes-heard h (Full t) = simp append-nil
-goes-heard h (Ticks n count) = let one : n + tick_in h ≡ n + (tick_in h + 0) = omega arith in ap (λ (m : ℕ). Ticks m count) one
+goes-heard h (Ticks n span) = let one : n + tick_in h ≡ n + (tick_in h + 0) = omega arith in ap (λ (m : ℕ). Ticks m span) one
 goes-heard h Untold = refl
 
 -- an arrival was heard, and these datagrams went out
 pub goes-sent : (h : Heard) (sent : List SentValue) (t : Carried) → and_sends sent (and_hears h t) ≡ and_goes (h ∷ []) sent t
 goes-sent h sent (Full t) = refl
-goes-sent h sent (Ticks n count) = let one : n + tick_in h ≡ n + (tick_in h + 0) = omega arith in ap (λ (m : ℕ). Ticks m count) one
+goes-sent h sent (Ticks n span) = let one : n + tick_in h ≡ n + (tick_in h + 0) = omega arith in ap (λ (m : ℕ). Ticks m span) one
 goes-sent h sent Untold = refl
 
 -- an arrival of no event

@@ -36,7 +36,7 @@ pub record GoesOn (a b : Moment) (told : Option Known) : Type 0 where
 abbrev pub Goes : Moment → List Heard → List SentValue → Moment → Type 0
 Goes a taken out b = b.traffic ≡ and_goes taken out a.traffic
 
--- the end came, and nothing else: where the wire counts its ticks, after the last of them
+-- the end came, and nothing else: where the wire counts its ticks, after as many as its span says
 pub record Ended (a b : Moment) : Type 0 where
   pub router : b.router ≡ a.router
   pub traffic : Goes a (End ∷ []) [] b

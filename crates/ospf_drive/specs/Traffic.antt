@@ -1,7 +1,8 @@
 -- What a wire has handed over and sent.
-use Rattle.std.specs.Prelude.{⊤, ◌≡◌, ◌+◌, ℕ, List, [], ◌∷◌, ◌++◌, take}
+use Rattle.std.specs.Prelude.{⊤, ◌≡◌, ◌+◌, ◌≤◌, ℕ, Bool, true, false, Option, None, Some, List, [], ◌∷◌, ◌++◌, take}
 use Rattle.ospf_base.specs.declared.ids.Addr.{Addr}
 use Rattle.ospf_area.specs.Outputs.{SentValue}
+use Rattle.ospf_drive.specs.declared.span.Span.{Span}
 use Rattle.ospf_drive.specs.declared.wire.Arrival.{Arrival}
 use Rattle.ospf_drive.specs.declared.wire.Arrival.TheVariants as arrival
 
@@ -27,10 +28,10 @@ pub record Traffic : Type 0 where
   pub taken : List Heard
   pub out : List SentValue
 
--- what a wire tells of that: all of it; only how many ticks it has handed over, of so many before the end; or nothing
+-- what a wire tells of that: all of it; only how many ticks it has handed over, and when the end comes; or nothing
 pub data Carried : Type 0 where
   Full : Traffic → Carried
-  Ticks : (handed count : ℕ) → Carried
+  Ticks : (handed : ℕ) (span : Span) → Carried
   Untold : Carried
 
 -- how many ticks an arrival is
@@ -46,22 +47,34 @@ ticks_in (h ∷ hs) = tick_in h + ticks_in hs
 -- and then this arrival
 abbrev pub and_hears : Heard → Carried → Carried
 and_hears h (Full t) = Full (record { taken = t.taken ++ h ∷ []; out = t.out })
-and_hears h (Ticks handed count) = Ticks (handed + tick_in h) count
+and_hears h (Ticks handed span) = Ticks (handed + tick_in h) span
 and_hears h Untold = Untold
 
 -- and then these datagrams
 abbrev pub and_sends : List SentValue → Carried → Carried
 and_sends sent (Full t) = Full (record { taken = t.taken; out = t.out ++ sent })
-and_sends sent (Ticks handed count) = Ticks handed count
+and_sends sent (Ticks handed span) = Ticks handed span
 and_sends sent Untold = Untold
 
 -- and then these arrivals and these datagrams
 abbrev pub and_goes : List Heard → List SentValue → Carried → Carried
 and_goes taken out (Full t) = Full (record { taken = t.taken ++ taken; out = t.out ++ out })
-and_goes taken out (Ticks handed count) = Ticks (handed + ticks_in taken) count
+and_goes taken out (Ticks handed span) = Ticks (handed + ticks_in taken) span
 and_goes taken out Untold = Untold
 
--- where the ticks are counted, all have been handed over
+-- the end may come when so many ticks were handed over: all that there are, or no more than these where the wire may be told to
+-- end; any number where it can be told and there is no last tick; and never where there is none and it cannot
+abbrev pub MayEndAfter : Option ℕ → Bool → ℕ → Type 0
+MayEndAfter (Some ticks) false handed = handed ≡ ticks
+MayEndAfter (Some ticks) true handed = handed ≤ ticks
+MayEndAfter None false handed = ⊥
+MayEndAfter None true handed = ⊤
+
+-- so many ticks have been handed over where the end comes
+abbrev pub EndsAfter : Span → ℕ → Type 0
+EndsAfter span handed = MayEndAfter span.ticks span.may_be_told handed
+
+-- where the ticks are counted, the end may come now
 abbrev pub IsOver : Carried → Type 0
-IsOver (Ticks handed count) = handed ≡ count
+IsOver (Ticks handed span) = EndsAfter span handed
 IsOver _ = ⊤

@@ -6,11 +6,12 @@ use Rattle.ospf_published.specs.Known.{Known, Table}
 use Rattle.ospf_router.specs.Routers.{stopped}
 use Rattle.ospf_drive.specs.Drives.{Drives, last_told}
 use Rattle.ospf_drive.specs.Moments.{Moment, Done, HasNoEnd, IsChain, events_done, events_of, left_by, sent_by, tables_of}
-use Rattle.ospf_drive.specs.Traffic.{Heard, IsOver, and_goes, ticks_in}
+use Rattle.ospf_drive.specs.Traffic.{EndsAfter, Heard, IsOver, and_goes, ticks_in}
 use Rattle.ospf_drive.specs.Traffic.Carried.{Ticks}
 use Rattle.ospf_drive.specs.Traffic.Heard.{End}
 use Rattle.ospf_drive.specs.declared.fault.DriveFault.{DriveFault}
 use Rattle.ospf_drive.specs.declared.fault.DriveFault.TheVariants as fault
+use Rattle.ospf_drive.specs.declared.span.Span.{Span}
 
 -- the last of them is an end, and no other
 pub record EndsInEnd (taken : List Heard) : Type 0 where
@@ -22,7 +23,7 @@ pub record EndsInEnd (taken : List Heard) : Type 0 where
 pub record IsLast (steps before : List Done) (last : Done) : Type 0 where
   pub is : steps ≡ before ++ last ∷ []
 
--- the end came last, where the wire counts its ticks after the last of them: each arrival that is not passed over was a step, all that these sent went out, and each table that one
+-- the end came last, where the wire counts its ticks after as many as its span says: each arrival that is not passed over was a step, all that these sent went out, and each table that one
 -- of them changed was published. The last of these publishes is told
 pub record EndsWell (a b : Moment) (taken : List Heard) (steps : List Done) (out : List SentValue) (tables : List Table) (told : Option Known) : Type 0 where
   pub ended : EndsInEnd taken
@@ -105,6 +106,8 @@ pub record Whole (a b : Moment) (result : Result (Option Known) DriveFault) : Ty
 abbrev pub DrivesAreWhole : Type 0
 DrivesAreWhole = (a b : Moment) (result : Result (Option Known) DriveFault) → Drives a b result → Whole a b result
 
--- where the wire counts its ticks, a driver that comes to the end has taken all of them, and no more
+-- where the wire counts its ticks, a driver that comes to the end has taken as many as stand before the end: all of them, and no
+-- more, where the wire cannot be told to end
 abbrev pub AllTicksAreTaken : Type 0
-AllTicksAreTaken = (a b : Moment) (told : Option Known) (handed count : ℕ) (drives : Drives a b (Ok told)) → a.traffic ≡ Ticks handed count → handed + ticks_in drives.goes_on.taken ≡ count
+AllTicksAreTaken = (a b : Moment) (told : Option Known) (handed : ℕ) (span : Span) (drives : Drives a b (Ok told)) → a.traffic ≡ Ticks handed span
+    → EndsAfter span (handed + ticks_in drives.goes_on.taken)

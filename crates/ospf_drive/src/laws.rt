@@ -8,7 +8,8 @@ pub fn drives_are_whole()
     ensures { DrivesAreWhole }
 {}
 
-/// Where a wire counts its ticks, a driver that came to the end has taken all of them, and no more.
+/// Where a wire counts its ticks, a driver that came to the end has taken as many as stand before the end: all of them, and no
+/// more, where the wire cannot be told to end.
 pub fn all_ticks_are_taken()
     ensures { AllTicksAreTaken }
 {}

@@ -6,6 +6,7 @@ mod driver;
 mod fault;
 mod laws;
 mod memory;
+mod span;
 mod turn;
 mod wire;
 
@@ -14,5 +15,6 @@ pub use crate::driver::drive;
 pub use crate::fault::DriveFault;
 pub use crate::laws::{all_ticks_are_taken, drives_are_whole};
 pub use crate::memory::{MemoryWire, Scripted};
+pub use crate::span::Span;
 pub use crate::wire::{Arrival, LONGEST, Wire, WireFault};
-pub use ospf_router::{Router, Sent};
+pub use ospf_router::{Router, Sent, Step};

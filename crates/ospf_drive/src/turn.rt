@@ -10,7 +10,7 @@ ghost use Rattle.ospf_drive.specs.Turns.{Turns};
 use crate::fault::DriveFault;
 use crate::wire::{Arrival, LONGEST, Wire, WireFault};
 use ospf_fib::{Told, Writer};
-use ospf_router::{Event, Router, Sent};
+use ospf_router::{Event, Router, Sent, Step};
 use std::alloc::Global;
 use std::sync::Wait;
 
@@ -50,7 +50,7 @@ pub(crate) fn turn<W: Wire, R: Wait + Drop>(
     let Ok(step) = router.step(event, alloc) else {
         return Err(DriveFault::Stopped);
     };
-    let Ok(()) = show_and_send(wire, router, step.out.sent()) else {
+    let Ok(()) = show_and_send(wire, router, &step) else {
         return Err(DriveFault::Send);
     };
     if !step.table_changed {
@@ -106,18 +106,19 @@ fn event_at<'a>(router: &Router, arrival: Arrival, buffer: &'a [u8; LONGEST]) ->
 }
 
 // Shows the wire what became of the router, and sends what its step puts out.
-fn show_and_send<W: Wire>(wire: &mut W, router: &Router, sent: &[Sent]) -> Result<(), WireFault>
+fn show_and_send<W: Wire>(wire: &mut W, router: &Router, step: &Step) -> Result<(), WireFault>
     requires { W.failed wire.old + 1 < 2 ^ 64 }
     // On success all of it has gone out, and no failure is counted.
-    ensures out { OnOk result (W.traffic wire.new ≡ and_sends sent.now (W.traffic wire.old)) }
+    ensures out { OnOk result (W.traffic wire.new
+        ≡ and_sends step.now.out.sent (W.traffic wire.old)) }
     ensures out_failures { OnOk result (W.failed wire.new ≡ W.failed wire.old) }
     // On a failure some of it has gone out, but not all, and one failure more is counted.
-    ensures some_out { OnErr result ((count : ℕ) × (count < length sent.now)
-        × (W.traffic wire.new ≡ and_sends (take count sent.now) (W.traffic wire.old))) }
+    ensures some_out { OnErr result ((count : ℕ) × (count < length step.now.out.sent)
+        × (W.traffic wire.new ≡ and_sends (take count step.now.out.sent) (W.traffic wire.old))) }
     ensures some_failures { OnErr result (W.failed wire.new ≡ W.failed wire.old + 1) }
 {
-    wire.sees(router);
-    send_all(wire, sent)
+    wire.sees(router, step);
+    send_all(wire, step.out.sent())
 }
 
 // Sends them in order, up to a failure.

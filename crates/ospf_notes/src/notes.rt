@@ -1,12 +1,15 @@
-//! What is kept and shown of routers while they run: a capture of what they send, a line on a terminal, and messages of
-//! neighbours whose LSAs a router refuses.
+//! What is kept and shown of routers while they run: a capture of what they send, their tables from time to time, what they
+//! drop, a line on a terminal, and messages of neighbours whose LSAs a router refuses.
 
+use crate::dropped::Counts;
 use crate::line::Line;
 use crate::others::{Described, Others};
-use ospf_files::NamedFile;
+use crate::tables::Tables;
+use ospf_base::RouterId;
+use ospf_files::{Failure, NamedFile};
 use ospf_neighbour::NeighbourState;
 use ospf_records::{CaptureFault, Moment, write_datagram, write_header};
-use ospf_run::{Config, Router, Sent, Tap};
+use ospf_run::{Config, Drops, Router, Sent, Step, Tap};
 use std::alloc::{AllocError, Global};
 use std::io::{self, ErrorKind, Write};
 use std::sync::{Arc, Mutex, Wait};
@@ -15,41 +18,73 @@ use std::time::Clock;
 // No router has more links.
 const MOST_LINKS: usize = 1 << 16;
 
-/// What is noted of one router. The notes of all routers of a run share a capture and a line.
+/// What is to be noted of a run.
 #[derive(Drop)]
-pub struct Notes<R: Wait + Clock + Copy + Drop, F: Write + Drop, T: Write + Drop> {
+pub struct Noted<F: Write + Drop, T: Write + Drop, O: Write + Drop> {
+    /// How many ticks the run has, if one is the last.
+    pub of: Option<u64>,
+    /// Where what is sent is captured, if it is.
+    pub capture: Option<F>,
+    /// Where messages go, and how far the run has come.
+    pub line: Line<T>,
+    /// Where tables are printed while the routers run, if they are.
+    pub tables: Option<Tables<O>>,
+    /// Whether it is counted what the routers drop.
+    pub drops: bool,
+}
+
+/// What is noted of one router. The notes of all routers of a run share a capture, tables, counts and a line.
+#[derive(Drop)]
+pub struct Notes<R: Wait + Clock + Copy + Drop, F: Write + Drop, T: Write + Drop, O: Write + Drop> {
     rt: R,
     alloc: Global,
-    shared: Arc<Mutex<Shared<F, T>>, Global>,
+    shared: Arc<Mutex<Shared<F, T, O>>, Global>,
     captures: bool,
     shows: bool,
-    // How many ticks the run has, and how many the router has taken.
-    of: u64,
+    // After how many ticks a table is printed, if one is.
+    every: Option<u64>,
+    // How many ticks the run has, if one is the last, and how many the router has taken.
+    of: Option<u64>,
     ticks: u64,
     has_ticked: bool,
     full: usize,
+    // What the router dropped, if that is counted.
+    counts: Option<Counts>,
     teller: Teller,
 }
 
-impl<R: Wait + Clock + Copy + Drop, F: Write + Drop, T: Write + Drop> Notes<R, F, T> {
-    /// What is noted of a run of so many ticks: what is sent in the file, if there is one; on the line how far the run has come,
-    /// if it is on a terminal, and which neighbours describe what a router refuses. The capture's head is written.
+impl<R: Wait + Clock + Copy + Drop, F: Write + Drop, T: Write + Drop, O: Write + Drop> Notes<
+    R,
+    F,
+    T,
+    O,
+> {
+    /// The notes of a run, which note this. The capture's head is written.
     ///
     /// `AllocError` where memory runs out.
     pub fn new(
         rt: R,
         alloc: Global,
-        of: u64,
-        capture: Option<F>,
-        line: Line<T>,
-    ) -> Result<Notes<R, F, T>, AllocError> {
+        noted: Noted<F, T, O>,
+    ) -> Result<Notes<R, F, T, O>, AllocError> {
+        let Noted {
+            of,
+            capture,
+            line,
+            tables,
+            drops,
+        } = noted;
         let (captures, shows) = (capture.is_some(), line.has_terminal());
+        let every = tables.as_ref().map(|it| it.every());
         let mut head = Vec::new(alloc);
         write_header(&mut head)?;
         let mut shared = Shared {
             capture,
             is_written: true,
+            tables,
+            failure: None,
             line,
+            drops: Vec::new(alloc),
             ticks: 0,
             full: 0,
             running: 0,
@@ -62,10 +97,12 @@ impl<R: Wait + Clock + Copy + Drop, F: Write + Drop, T: Write + Drop> Notes<R, F
             shared,
             captures,
             shows,
+            every,
             of,
             ticks: 0,
             has_ticked: false,
             full: 0,
+            counts: Counts::if_wanted(drops, alloc),
             teller: Teller::none(alloc),
         })
     }
@@ -74,10 +111,63 @@ impl<R: Wait + Clock + Copy + Drop, F: Write + Drop, T: Write + Drop> Notes<R, F
     pub fn is_written(&self) -> bool {
         self.shared.lock(&self.rt).is_written
     }
+
+    /// Why tables are printed no more, or drops are not known, if that is so.
+    pub fn failure(&self) -> Option<Failure> {
+        self.shared.lock(&self.rt).failure
+    }
+
+    // What is noted of a step of the router.
+    fn follow(&mut self, router: &Router, step: &Step) {
+        self.tell_others(router);
+        if let Some(counts) = &mut self.counts {
+            counts.sees(self.teller.router, step);
+        }
+        if self.has_ticked {
+            self.has_ticked = false;
+            self.print_table(router);
+            self.show(router);
+        }
+    }
+
+    // Tells of a neighbour that describes an LSA which the router refuses, once.
+    fn tell_others(&mut self, router: &Router) {
+        let due = match &mut self.teller.others {
+            Some(others) => others.due(router),
+            None => None,
+        };
+        if let Some(described) = due {
+            let mut all = self.shared.lock(&self.rt);
+            all.tell(&self.teller.file, described);
+        }
+    }
+
+    // Prints the router's table, where one is due after this tick.
+    fn print_table(&mut self, router: &Router) {
+        let Some(every) = self.every else {
+            return;
+        };
+        if self.ticks.checked_rem(every) == Some(0) {
+            let mut all = self.shared.lock(&self.rt);
+            all.print_table(self.alloc, self.teller.router, self.ticks, router);
+        }
+    }
+
+    // Shows how far the run has come.
+    fn show(&mut self, router: &Router) {
+        if !self.shows {
+            return;
+        }
+        let before = self.full;
+        self.full = full_neighbours(router);
+        let mut all = self.shared.lock(&self.rt);
+        all.note(&self.rt, self.ticks, self.of, self.full, before);
+    }
 }
 
-impl<R: Wait + Clock + Copy + Drop, F: Write + Drop, T: Write + Drop> Tap for Notes<R, F, T> {
-    fn another(&self, file: &NamedFile, config: &Config) -> Result<Notes<R, F, T>, AllocError> {
+impl<R: Wait + Clock + Copy + Drop, F: Write + Drop, T: Write + Drop, O: Write + Drop> Tap
+    for Notes<R, F, T, O> {
+    fn another(&self, file: &NamedFile, config: &Config) -> Result<Notes<R, F, T, O>, AllocError> {
         let teller = Teller::new(self.alloc, file, config)?;
         let shared = Arc::try_clone(&self.shared)?;
         {
@@ -90,10 +180,12 @@ impl<R: Wait + Clock + Copy + Drop, F: Write + Drop, T: Write + Drop> Tap for No
             shared,
             captures: self.captures,
             shows: self.shows,
+            every: self.every,
             of: self.of,
             ticks: 0,
             has_ticked: false,
             full: 0,
+            counts: Counts::if_wanted(self.counts.is_some(), self.alloc),
             teller,
         })
     }
@@ -107,25 +199,13 @@ impl<R: Wait + Clock + Copy + Drop, F: Write + Drop, T: Write + Drop> Tap for No
         if let Some(others) = &mut self.teller.others {
             others.hears(link, packet);
         }
+        if let Some(counts) = &mut self.counts {
+            counts.hears(link);
+        }
     }
 
-    fn sees(&mut self, router: &Router) {
-        let due = match &mut self.teller.others {
-            Some(others) => others.due(router),
-            None => None,
-        };
-        if let Some(described) = due {
-            let mut all = self.shared.lock(&self.rt);
-            all.tell(&self.teller.file, described);
-        }
-        if !self.shows || !self.has_ticked {
-            return;
-        }
-        self.has_ticked = false;
-        let before = self.full;
-        self.full = full_neighbours(router);
-        let mut all = self.shared.lock(&self.rt);
-        all.note(&self.rt, self.ticks, self.of, self.full, before);
+    fn sees(&mut self, router: &Router, step: &Step) {
+        self.follow(router, step);
     }
 
     fn sends(&mut self, sent: &Sent) {
@@ -138,24 +218,44 @@ impl<R: Wait + Clock + Copy + Drop, F: Write + Drop, T: Write + Drop> Tap for No
     }
 
     fn ends(&mut self) {
-        self.shared.lock(&self.rt).end();
+        let counted = match &mut self.counts {
+            Some(counts) => counts.take(self.alloc),
+            None => Ok(Vec::new(self.alloc)),
+        };
+        let mut all = self.shared.lock(&self.rt);
+        all.keep(counted);
+        all.end();
+    }
+
+    fn drops(&self, alloc: Global) -> Result<Vec<Drops>, AllocError> {
+        let all = self.shared.lock(&self.rt);
+        if let Some(Failure::Memory) = all.failure {
+            return Err(AllocError);
+        }
+        all.drops.to_vec(alloc)
     }
 }
 
 // What the notes of all routers share.
 #[derive(Drop)]
-struct Shared<F: Write + Drop, T: Write + Drop> {
+struct Shared<F: Write + Drop, T: Write + Drop, O: Write + Drop> {
     // `None` where nothing is captured, or no more.
     capture: Option<F>,
     is_written: bool,
+    // `None` where no tables are printed, or no more.
+    tables: Option<Tables<O>>,
+    // Why tables are printed no more, or some drops are not kept.
+    failure: Option<Failure>,
     line: Line<T>,
+    // What routers have dropped that have ended.
+    drops: Vec<Drops>,
     // The most ticks that a router has taken.
     ticks: u64,
     full: usize,
     running: usize,
 }
 
-impl<F: Write + Drop, T: Write + Drop> Shared<F, T> {
+impl<F: Write + Drop, T: Write + Drop, O: Write + Drop> Shared<F, T, O> {
     // Writes to the capture, up to the first write that fails.
     fn write(&mut self, bytes: Result<Vec<u8>, io::Error>) {
         let Some(file) = &mut self.capture else {
@@ -172,15 +272,48 @@ impl<F: Write + Drop, T: Write + Drop> Shared<F, T> {
     }
 
     // A router took its tick of this number, and has so many Full neighbours in place of so many before.
-    fn note<C: Clock>(&mut self, clock: &C, ticks: u64, of: u64, full: usize, before: usize) {
+    fn note<C: Clock>(
+        &mut self,
+        clock: &C,
+        ticks: u64,
+        of: Option<u64>,
+        full: usize,
+        before: usize,
+    ) {
         self.full = self.full.saturating_add(full).saturating_sub(before);
         self.ticks = self.ticks.max(ticks);
         let (ticks, full) = (self.ticks, self.full);
         if let Some(terminal) = self.line.begin(clock) {
-            let _ = write!(
-                terminal,
-                "\r\x1b[Ktick {ticks} of {of}, {full} neighbours Full"
-            );
+            let _ = match of {
+                Some(of) => write!(
+                    terminal,
+                    "\r\x1b[Ktick {ticks} of {of}, {full} neighbours Full"
+                ),
+                None => write!(terminal, "\r\x1b[Ktick {ticks}, {full} neighbours Full"),
+            };
+        }
+    }
+
+    // Prints the table of a router that has taken so many ticks, up to the first that fails.
+    fn print_table(&mut self, alloc: Global, id: RouterId, ticks: u64, router: &Router) {
+        let Some(tables) = &mut self.tables else {
+            return;
+        };
+        self.line.erase();
+        if let Err(failure) = tables.print(alloc, id, ticks, router) {
+            self.tables = None;
+            self.failure = Some(failure);
+        }
+    }
+
+    // Keeps what a router has dropped that ends.
+    fn keep(&mut self, counted: Result<Vec<Drops>, AllocError>) {
+        let kept = match counted {
+            Ok(counted) => self.drops.extend_from_slice(&counted),
+            Err(error) => Err(error),
+        };
+        if kept.is_err() {
+            self.failure = Some(Failure::Memory);
         }
     }
 
@@ -208,9 +341,10 @@ impl<F: Write + Drop, T: Write + Drop> Shared<F, T> {
     }
 }
 
-// What is told of one router: by the name of its file, and of LSAs of other types if it refuses them.
+// What is told of one router: by its Router ID, by the name of its file, and of LSAs of other types if it refuses them.
 #[derive(Drop)]
 struct Teller {
+    router: RouterId,
     file: String,
     others: Option<Others>,
 }
@@ -219,6 +353,7 @@ impl Teller {
     // The router of no file, of which nothing is told.
     fn none(alloc: Global) -> Teller {
         Teller {
+            router: RouterId(0),
             file: String::new(alloc),
             others: None,
         }
@@ -231,7 +366,11 @@ impl Teller {
             Some(Others::new(alloc))
         };
         let file = String::from_str(alloc, &file.name)?;
-        Ok(Teller { file, others })
+        Ok(Teller {
+            router: config.router_id,
+            file,
+            others,
+        })
     }
 }
 

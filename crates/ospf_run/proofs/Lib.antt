@@ -1,4 +1,3 @@
-mod Planned
 mod Known
 mod Lists
 mod Ends

@@ -15,7 +15,7 @@ use Rattle.ospf_files.specs.declared.files.NamedFile.{NamedFile}
 use Rattle.ospf_published.specs.Known.{Known}
 use Rattle.ospf_run.specs.Lookers.{IsFrom}
 use Rattle.ospf_run.specs.Runs.{AreOutcomes, Begins, IsOutcome, Terms, Trio, Trios}
-use Rattle.ospf_run.specs.declared.finish.Outcome.{Outcome}
+use Rattle.ospf_reports.specs.declared.outcome.Outcome.{Outcome}
 use Rattle.ospf_run.specs.declared.look.Looker.{Looker}
 
 -- the front of a list, with one more
@@ -79,7 +79,7 @@ all_over {J} {W} f P jobs wires over all = go jobs (subst (λ (ws : List W). All
 
 -- what began and what came of it, router by router
 pub trios_of : {J : Type 0} (begins : J → Moment) (terms : Terms) (configs : List Config) (jobs : List J) (drivens : List Driven) (seats : List Known) (lookers : List Looker)
-    → Pairs (λ config job. Begins terms.floor config (begins job).router (begins job).known) configs jobs → All (λ job. (begins job).traffic ≡ Ticks 0 terms.ticks) jobs → Pairs (λ job driven. IsDriven (begins job) driven) jobs drivens
+    → Pairs (λ config job. Begins terms.floor config (begins job).router (begins job).known) configs jobs → All (λ job. (begins job).traffic ≡ Ticks 0 terms.span) jobs → Pairs (λ job driven. IsDriven (begins job) driven) jobs drivens
     → Pairs (λ job seat. seat ≡ (begins job).known) jobs seats → Pairs IsFrom seats lookers → Trios terms configs drivens lookers
 trios_of begins terms [] [] [] [] [] p n q r s = tt
 trios_of begins terms [] [] [] [] (l ∷ ls) p n q r s = absurd s
@@ -91,7 +91,7 @@ trios_of begins terms (c ∷ cs) (j ∷ js) [] ks ls p n q r s = absurd q
 trios_of begins terms (c ∷ cs) (j ∷ js) (d ∷ ds) [] ls p n q r s = absurd r
 trios_of begins terms (c ∷ cs) (j ∷ js) (d ∷ ds) (k ∷ ks) [] p n q r s = absurd s
 trios_of begins terms (c ∷ cs) (j ∷ js) (d ∷ ds) (k ∷ ks) (l ∷ ls) p n q r s =
-    (record { a = begins j; begins = p.0; counted = of_first (λ job. (begins job).traffic ≡ Ticks 0 terms.ticks) (j ∷ js) j refl (omega (arith)) n; ended = q.0; looks = subst (λ (known : Known). IsFrom known l) r.0 s.0 }, trios_of begins terms cs js ds ks ls p.1 (of_later (λ job. (begins job).traffic ≡ Ticks 0 terms.ticks) (j ∷ js) js refl n) q.1 r.1 s.1)
+    (record { a = begins j; begins = p.0; counted = of_first (λ job. (begins job).traffic ≡ Ticks 0 terms.span) (j ∷ js) j refl (omega (arith)) n; ended = q.0; looks = subst (λ (known : Known). IsFrom known l) r.0 s.0 }, trios_of begins terms cs js ds ks ls p.1 (of_later (λ job. (begins job).traffic ≡ Ticks 0 terms.span) (j ∷ js) js refl n) q.1 r.1 s.1)
 
 -- the first of those that are left
 pub record HasFirst (terms : Terms) (config : Config) (configs : List Config) (drivens : List Driven) (lookers : List Looker) : Type 0 where

@@ -1,88 +1,85 @@
 -- How runs end.
-use Rattle.std.proofs.Common.{◌≡◌, refl, sym, subst, ℕ, Bool, List, Option, None, Some, Result, Ok, Err, IfErr, IfOk, OnOk, is_some, option_map}
+use Rattle.std.proofs.Common.{◌≡◌, refl, sym, subst, ℕ, List, Option, Result, Ok, Err, IfErr, IfOk, OnOk}
 use Rattle.std.specs.Result.{IsErrAnd}
 use Rattle.std.specs.Io.KnownBytes.{Appends}
-use Rattle.ospf_base.specs.declared.ids.Addr.{Addr}
 use Rattle.ospf_files.specs.Status.{failure_line}
 use Rattle.ospf_files.specs.Streams.{IsTold}
 use Rattle.ospf_files.specs.declared.files.NamedFile.{NamedFile}
 use Rattle.ospf_files.specs.declared.status.Failure.{Failure}
 use Rattle.ospf_files.specs.declared.status.Status.{Status}
 use Rattle.ospf_files.specs.declared.streams.FailedStreams.{FailedStreams}
-use Rattle.ospf_run.specs.Cut.{Ends, EndsBy, IsReportCut, IsRunCut, comes, cut_short, in_report, last_status}
-use Rattle.ospf_run.specs.Obstacles.{Hinders, obstacle_line, obstacle_status}
-use Rattle.ospf_run.specs.Plans.{floor_refused, greatest, no_config, no_number, no_port, same_router}
-use Rattle.ospf_run.specs.Printed.{IsReported}
-use Rattle.ospf_run.specs.Runs.{Comes, HaveRun, floor_of, no_socket, ran, refused, unread}
-use Rattle.ospf_run.specs.declared.finish.Outcome.{Outcome}
+use Rattle.ospf_run.specs.Cut.{Ends, EndsBy, IsRunCut, comes, cut_short, in_report, last_status}
+use Rattle.ospf_prepare.specs.Obstacles.{Hinders, obstacle_line, obstacle_status}
+use Rattle.ospf_prepare.specs.Plans.{floor_refused, greatest, no_config, no_number, no_port, same_router}
+use Rattle.ospf_reports.specs.Printed.{IsReportCut, IsReported}
+use Rattle.ospf_run.specs.Runs.{AreExtras, Asked, Comes, HaveRun, asked_of, no_socket, ran, refused, unread}
+use Rattle.ospf_reports.specs.declared.outcome.Extras.{Extras}
+use Rattle.ospf_reports.specs.declared.outcome.Outcome.{Outcome}
 use Rattle.ospf_run.specs.declared.settings.Settings.{Settings}
-use Rattle.ospf_run.specs.declared.stop.Obstacle.{Obstacle}
-use Rattle.ospf_run.specs.declared.stop.Obstacle.TheVariants as obstacle
-
-pub mapped : {A B : Type 0} (f : A → B) (x : Option A) → is_some x ≡ is_some (option_map f x)
-mapped f None = refl
-mapped f (Some a) = refl
+use Rattle.ospf_prepare.specs.declared.stop.Obstacle.{Obstacle}
+use Rattle.ospf_prepare.specs.declared.stop.Obstacle.TheVariants as obstacle
 
 -- what keeps the routers from running is told
-pub obstacle_comes : (lookup : Option Addr) (ticks : ℕ) (floor : Option (List ℕ)) (files : List NamedFile) (o : Obstacle) (oo eo en : Option (List ℕ))
-    → Hinders floor files o → Appends eo en (obstacle_line o) → Comes lookup ticks floor files (obstacle_status o) oo oo eo en
-obstacle_comes lookup ticks floor files obstacle.NoNumber oo eo en is told = refused refl (floor_refused (no_number is told)) refl
-obstacle_comes lookup ticks floor files obstacle.GreatestFloor oo eo en is told = refused refl (floor_refused (greatest is told)) refl
-obstacle_comes lookup ticks floor files (obstacle.Unread file) oo eo en is told =
+pub obstacle_comes : (asked : Asked) (files : List NamedFile) (o : Obstacle) (oo eo en : Option (List ℕ))
+    → Hinders asked.floor files o → Appends eo en (obstacle_line o) → Comes asked files (obstacle_status o) oo oo eo en
+obstacle_comes asked files obstacle.NoNumber oo eo en is told = refused refl (floor_refused (no_number is told)) refl
+obstacle_comes asked files obstacle.GreatestFloor oo eo en is told = refused refl (floor_refused (greatest is told)) refl
+obstacle_comes asked files (obstacle.Unread file) oo eo en is told =
     unread refl (record { least = is.0; has_floor = is.1; file = file.now; first = is.2; told = told }) refl
-obstacle_comes lookup ticks floor files (obstacle.NoConfig file fault) oo eo en is told =
+obstacle_comes asked files (obstacle.NoConfig file fault) oo eo en is told =
     refused refl (no_config is.0 is.1 is.2 (record { file = file.now; fault = fault; refused = is.3; told = told })) refl
-obstacle_comes lookup ticks floor files obstacle.SameRouter oo eo en is told =
+obstacle_comes asked files obstacle.SameRouter oo eo en is told =
     refused refl (same_router is.1.least is.1.has_floor is.1.read is.0 is.1.are_configs is.2 told) refl
-obstacle_comes lookup ticks floor files (obstacle.NoPort file) oo eo en is told =
+obstacle_comes asked files (obstacle.NoPort file) oo eo en is told =
     refused refl (no_port is.1.least is.1.has_floor is.1.read is.0 is.1.are_configs is.2 file.now is.3 told) refl
-obstacle_comes lookup ticks floor files (obstacle.NoSocket file) oo eo en is told =
-    no_socket refl is.0.configs is.0.least is.0.plan (record { file = file.now; among = is.1; told = told }) refl
+obstacle_comes asked files (obstacle.NoSocket file none) oo eo en is told =
+    no_socket refl is.0 is.1 is.2 (record { file = file.now; no_socket = none; socketless = is.3; told = told }) refl
 
 -- what came of the routers is reported
-pub report_comes : (lookup : Option Addr) (ticks : ℕ) (floor : Option (List ℕ)) (files : List NamedFile) (outcomes outcomes' : List Outcome) (floors : Bool) (s : Status)
-    (oo on eo en : Option (List ℕ)) → HaveRun lookup ticks floor files outcomes → outcomes' ≡ outcomes → floors ≡ is_some floor
-    → IsReported floors outcomes' s oo on eo en → Comes lookup ticks floor files s oo on eo en
-report_comes lookup ticks floor files outcomes outcomes' floors s oo on eo en has same wanted reported =
+pub report_comes : (asked : Asked) (files : List NamedFile) (outcomes outcomes' : List Outcome) (extras : Extras) (s : Status)
+    (oo on eo en : Option (List ℕ)) → HaveRun asked files outcomes → AreExtras asked extras → outcomes' ≡ outcomes
+    → IsReported extras outcomes' s oo on eo en → Comes asked files s oo on eo en
+report_comes asked files outcomes outcomes' extras s oo on eo en has wanted same reported =
     ran (record {
       configs = has.configs;
       least = has.least;
       plan = has.plan;
       reports = record {
         outcomes = outcomes;
+        extras = extras;
         are = has.are;
-        reported = subst (λ (b : Bool). IsReported b outcomes s oo on eo en) wanted (subst (λ (os : List Outcome). IsReported floors os s oo on eo en) same reported);
+        wanted = wanted;
+        reported = subst (λ (os : List Outcome). IsReported extras os s oo on eo en) same reported;
       };
     })
 
 -- and their report may be cut
-pub report_cut : (lookup : Option Addr) (ticks : ℕ) (floor : Option (List ℕ)) (files : List NamedFile) (outcomes outcomes' : List Outcome) (floors : Bool) (failed : FailedStreams)
-    (f : Failure) (oo on eo en : Option (List ℕ)) → HaveRun lookup ticks floor files outcomes → outcomes' ≡ outcomes → floors ≡ is_some floor
-    → IsReportCut floors outcomes' failed oo on eo en f → IsRunCut lookup ticks floor files failed oo on eo en f
-report_cut lookup ticks floor files outcomes outcomes' floors failed f oo on eo en has same wanted cut =
-    in_report outcomes has
-    (subst (λ (b : Bool). IsReportCut b outcomes failed oo on eo en f) wanted (subst (λ (os : List Outcome). IsReportCut floors os failed oo on eo en f) same cut))
+pub report_cut : (asked : Asked) (files : List NamedFile) (outcomes outcomes' : List Outcome) (extras : Extras) (failed : FailedStreams)
+    (f : Failure) (oo on eo en : Option (List ℕ)) → HaveRun asked files outcomes → AreExtras asked extras → outcomes' ≡ outcomes
+    → IsReportCut extras outcomes' failed oo on eo en f → IsRunCut asked files failed oo on eo en f
+report_cut asked files outcomes outcomes' extras failed f oo on eo en has wanted same cut =
+    in_report outcomes extras has wanted (subst (λ (os : List Outcome). IsReportCut extras os failed oo on eo en f) same cut)
 
 -- a status, or a failure
 pub ends_by : (settings : Settings) (files : List NamedFile) (failed : FailedStreams) (oo on eo en : Option (List ℕ)) (r : Result Status Failure)
-    → IfOk r (λ s. Comes settings.lookup settings.ticks (floor_of settings) files s oo on eo en)
-    → IfErr r (λ f. IsRunCut settings.lookup settings.ticks (floor_of settings) files failed oo on eo en f) → EndsBy settings files failed oo on eo en r
+    → IfOk r (λ s. Comes (asked_of settings) files s oo on eo en)
+    → IfErr r (λ f. IsRunCut (asked_of settings) files failed oo on eo en f) → EndsBy settings files failed oo on eo en r
 ends_by settings files failed oo on eo en (Ok s) come cut = come
 ends_by settings files failed oo on eo en (Err f) come cut = cut
 
 -- a failure that is passed on
 pub ends_by_failure : (settings : Settings) (files : List NamedFile) (failed : FailedStreams) (oo on eo en : Option (List ℕ)) (r : Result Status Failure) (f : Failure)
-    → IsErrAnd r (λ x. x ≡ f) → IsRunCut settings.lookup settings.ticks (floor_of settings) files failed oo on eo en f → EndsBy settings files failed oo on eo en r
+    → IsErrAnd r (λ x. x ≡ f) → IsRunCut (asked_of settings) files failed oo on eo en f → EndsBy settings files failed oo on eo en r
 ends_by_failure settings files failed oo on eo en (Ok s) f is cut = absurd is
 ends_by_failure settings files failed oo on eo en (Err x) f is cut =
-    subst (λ (y : Failure). IsRunCut settings.lookup settings.ticks (floor_of settings) files failed oo on eo en y) (sym is) cut
+    subst (λ (y : Failure). IsRunCut (asked_of settings) files failed oo on eo en y) (sym is) cut
 
 -- the failure that cuts a run is told last
 pub all_ends : (settings : Settings) (files : List NamedFile) (said : Result Status Failure) (s : Status) (then last : FailedStreams) (oo on eo em en : Option (List ℕ))
     → EndsBy settings files then oo on eo em said → s ≡ last_status said → OnOk said (en ≡ em) → IfErr said (λ f. IsTold then last em en (failure_line f))
-    → Ends settings.lookup settings.ticks (floor_of settings) files s oo on eo en
+    → Ends (asked_of settings) files s oo on eo en
 all_ends settings files (Ok status) s then last oo on eo em en comes_so is same told =
-    comes (subst (λ (e : Option (List ℕ)). Comes settings.lookup settings.ticks (floor_of settings) files s oo on eo e) (sym same)
-    (subst (λ (t : Status). Comes settings.lookup settings.ticks (floor_of settings) files t oo on eo em) (sym is) comes_so))
+    comes (subst (λ (e : Option (List ℕ)). Comes (asked_of settings) files s oo on eo e) (sym same)
+    (subst (λ (t : Status). Comes (asked_of settings) files t oo on eo em) (sym is) comes_so))
 all_ends settings files (Err f) s then last oo on eo em en cut is same told =
     cut_short last (record { cause = f; failed_then = then; err_then = em; cut = cut; last = told; status_is = is })

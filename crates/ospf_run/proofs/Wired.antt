@@ -1,24 +1,41 @@
 -- Wires that are made.
-use Rattle.std.proofs.Common.{◌≡◌, ap, sym, subst, ◌<◌, ◌+◌, ◌^◌, ℕ, All, arith, List, Option, Some, IfSome, length, get_or}
-use Rattle.std.proofs.lemmas.List.Elements.{Contains-get_or}
-use Rattle.std.specs.Prelude.{Contains}
-use Rattle.ospf_files.specs.declared.files.NamedFile.{NamedFile}
-use Rattle.ospf_run.specs.Wires.{IsFresh}
+use Rattle.std.proofs.Common.{◌≡◌, ap, subst, ◌<◌, ◌+◌, ◌^◌, ℕ, All, arith, List, Result, Ok, Err, IfErr, IfOk, length, get_or}
+use Rattle.ospf_config.specs.declared.config.Config.{Config}
+use Rattle.ospf_config.specs.declared.interface.Interface.{Interface}
 use Rattle.ospf_drive.specs.Traffic.Carried.{Ticks}
+use Rattle.ospf_drive.specs.declared.span.Span.{Span}
+use Rattle.ospf_files.specs.declared.files.NamedFile.{NamedFile}
+use Rattle.ospf_prepare.proofs.Planned.{at_item}
+use Rattle.ospf_prepare.specs.Obstacles.{IsSocketless}
+use Rattle.ospf_run.specs.Wires.{IsFresh}
+use Rattle.ospf_udp.specs.Faults.{IsPortIn}
 use Rattle.ospf_udp.specs.Wires.{UdpValue}
-
--- the file at a place is one of the files
-pub is_one_of : (files : List NamedFile) (file : NamedFile) (i : ℕ) → i < length files → file ≡ get_or files i file → Contains files file
-is_one_of files file i within is = subst (λ (f : NamedFile). Contains files f) (sym is) (Contains-get_or files i file within)
+use Rattle.ospf_udp.specs.declared.fault.NoSocket.{NoSocket}
 
 -- a wire that came is fresh
-pub has_wire : (ticks : ℕ) (found : Option UdpValue) (wire : UdpValue) → found ≡ Some wire → IfSome found (IsFresh ticks) → IsFresh ticks wire
-has_wire ticks found wire is fresh = subst (λ (w : Option UdpValue). IfSome w (IsFresh ticks)) is fresh
+pub has_wire : (span : Span) (found : Result UdpValue NoSocket) (wire : UdpValue) → found ≡ Ok wire → IfOk found (IsFresh span) → IsFresh span wire
+has_wire span found wire is fresh = subst (λ (w : Result UdpValue NoSocket). IfOk w (IsFresh span)) is fresh
 
 -- such wires may fail once more
-pub all_fresh : (ticks : ℕ) (wires : List UdpValue) → All (IsFresh ticks) wires → All (λ wire. wire.failed + 1 < 2 ^ 64) wires
-all_fresh ticks wires all = λ k d within. let none : (get_or wires k d).failed ≡ 0 = ap (λ (w : UdpValue). w.failed) (all k d within) in omega (arith, none)
+pub all_fresh : (span : Span) (wires : List UdpValue) → All (IsFresh span) wires → All (λ wire. wire.failed + 1 < 2 ^ 64) wires
+all_fresh span wires all = λ k d within. let none : (get_or wires k d).failed ≡ 0 = ap (λ (w : UdpValue). w.failed) (all k d within) in omega (arith, none)
 
 -- and their ticks are counted
-pub all_counted : (ticks : ℕ) (wires : List UdpValue) → All (IsFresh ticks) wires → All (λ wire. Ticks wire.handed wire.count ≡ Ticks 0 ticks) wires
-all_counted ticks wires all = λ k d within. ap (λ (w : UdpValue). Ticks w.handed w.count) (all k d within)
+pub all_counted : (span : Span) (wires : List UdpValue) → All (IsFresh span) wires → All (λ wire. Ticks wire.handed wire.span ≡ Ticks 0 span) wires
+all_counted span wires all = λ k d within. ap (λ (w : UdpValue). Ticks w.handed w.span) (all k d within)
+
+-- the socket that could not be made is of the file at a place
+pub socketless : (files : List NamedFile) (configs : List Config) (i : ℕ) (file : NamedFile) (config : Config) (none : NoSocket) → i < length files → file ≡ get_or files i file
+    → i < length configs → config ≡ get_or configs i config → IsPortIn config.interfaces.items none.port → IsSocketless file files configs none
+socketless files configs i file config none in_files file_is in_configs config_is port = record {
+  place = i;
+  config = config;
+  file_at = at_item files i file in_files file_is;
+  config_at = at_item configs i config in_configs config_is;
+  port = port;
+}
+
+-- the fault of a wire that was not opened
+pub not_opened : (found : Result UdpValue NoSocket) (none : NoSocket) (interfaces : List Interface) → found ≡ Err none → IfErr found (λ n. IsPortIn interfaces n.port)
+    → IsPortIn interfaces none.port
+not_opened found none interfaces is port = subst (λ (w : Result UdpValue NoSocket). IfErr w (λ n. IsPortIn interfaces n.port)) is port

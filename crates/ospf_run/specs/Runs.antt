@@ -1,12 +1,13 @@
 -- Routers that run: how they begin, and what comes of them.
-use Rattle.std.specs.Prelude.{⊤, ◌≡◌, ◌+◌, ℕ, ℤ, Bool, List, [], ◌∷◌, Option, None, Some, Result, Ok, Err, is_some, option_map, string_bytes}
+use Rattle.std.specs.Prelude.{⊤, ◌≡◌, ◌+◌, ℕ, ℤ, Bool, false, List, [], ◌∷◌, Option, None, Some, Result, Ok, Err, is_some, option_map, string_bytes}
 use Rattle.ospf_base.specs.declared.ids.Addr.{Addr}
 use Rattle.ospf_config.specs.declared.config.Config.{Config}
 use Rattle.ospf_drive.specs.Driven.{DrivesToEnd, IsDriven, Outcome as Driven}
 use Rattle.ospf_drive.specs.Moments.{Moment}
-use Rattle.ospf_drive.specs.Traffic.{ticks_in}
+use Rattle.ospf_drive.specs.Traffic.{EndsAfter, ticks_in}
 use Rattle.ospf_drive.specs.Traffic.Carried.{Ticks}
 use Rattle.ospf_drive.specs.declared.fault.DriveFault.{DriveFault}
+use Rattle.ospf_drive.specs.declared.span.Span.{Span}
 use Rattle.ospf_fib.specs.Answers.{IsAnswerOfLast}
 use Rattle.ospf_files.specs.declared.status.Status.{Status}
 use Rattle.ospf_files.specs.declared.status.Status.TheVariants.{Refused, Stream}
@@ -15,14 +16,15 @@ use Rattle.ospf_published.specs.Known.{Known, Table, opening}
 use Rattle.ospf_router.specs.Routers.{RouterValue}
 use Rattle.ospf_router.specs.Starts.{IsStarted}
 use Rattle.ospf_run.specs.Lookers.{IsFrom}
-use Rattle.ospf_run.specs.Plans.{IsPlan, IsRefused, IsUnreadTold}
-use Rattle.ospf_run.specs.Printed.{IsReported}
+use Rattle.ospf_prepare.specs.Plans.{IsPlan, IsRefused, IsUnreadTold}
+use Rattle.ospf_reports.specs.Printed.{IsReported}
 use Rattle.ospf_run.specs.Wires.{IsSocketTold}
-use Rattle.ospf_run.specs.declared.finish.Looked.{Looked}
-use Rattle.ospf_run.specs.declared.finish.Outcome.{Outcome}
-use Rattle.ospf_run.specs.declared.finish.Shown.{Shown}
+use Rattle.ospf_reports.specs.declared.outcome.Extras.{Extras}
+use Rattle.ospf_reports.specs.declared.outcome.Looked.{Looked}
+use Rattle.ospf_reports.specs.declared.outcome.Outcome.{Outcome}
+use Rattle.ospf_reports.specs.declared.outcome.Shown.{Shown}
 use Rattle.ospf_run.specs.declared.look.Looker.{Looker}
-use Rattle.ospf_run.specs.declared.plan.Plan.{Plan}
+use Rattle.ospf_prepare.specs.declared.plan.Plan.{Plan}
 use Rattle.ospf_run.specs.declared.settings.Settings.{Settings}
 
 -- a router begins with its configuration, DD sequence number 1 and the floor, and the empty table is published
@@ -30,9 +32,9 @@ pub record Begins (floor : ℤ) (config : Config) (router : RouterValue) (known 
   pub started : IsStarted config 1 floor router
   pub opened : known.tables ≡ opening
 
--- what routers begin with beside their configurations: how many ticks come before the end, and the floor of their numbers
+-- what routers begin with beside their configurations: when the end comes, and the floor of their numbers
 pub record Terms : Type 0 where
-  pub ticks : ℕ
+  pub span : Span
   pub floor : ℤ
 
 -- what a lookup in the table that was published last finds, if an address was asked for
@@ -41,13 +43,13 @@ IsLookedUp None tables None = ⊤
 IsLookedUp (Some address) tables (Some looked) = (looked.address ≡ address) × IsAnswerOfLast tables address 0 looked.answer
 IsLookedUp _ tables _ = ⊥
 
--- a driver that began there came to the end, with this router, when all ticks were taken that its wire counts, and the lookup is
--- in the table that it published last
+-- a driver that began there came to the end, with this router, when as many ticks were taken as the span of its wire says, and the
+-- lookup is in the table that it published last
 pub record ComesToEnd (lookup : Option Addr) (a : Moment) (shown : Shown) : Type 0 where
   pub known : Known
   pub told : Option Known
   pub drives : DrivesToEnd a shown.router known told
-  pub ticked : (handed count : ℕ) → a.traffic ≡ Ticks handed count → handed + ticks_in drives.drives.goes_on.taken ≡ count
+  pub ticked : (handed : ℕ) (span : Span) → a.traffic ≡ Ticks handed span → EndsAfter span (handed + ticks_in drives.drives.goes_on.taken)
   pub looked : IsLookedUp lookup known.tables shown.looked
 
 -- what came of a router whose driver began there
@@ -55,13 +57,13 @@ abbrev pub Came : Option Addr → Moment → Result Shown DriveFault → Type 0
 Came lookup a (Ok shown) = ComesToEnd lookup a shown
 Came lookup a (Err f) = IsDriven a (Err f)
 
--- the router of a configuration begins over a wire of so many ticks, and this came of it
+-- the router of a configuration begins over a wire with the span, and this came of it
 pub record IsOutcome (lookup : Option Addr) (terms : Terms) (file : NamedFile) (config : Config) (outcome : Outcome) : Type 0 where
   pub file_is : outcome.file.now ≡ file
   pub router_is : outcome.router ≡ config.router_id
   pub a : Moment
   pub begins : Begins terms.floor config a.router a.known
-  pub counted : a.traffic ≡ Ticks 0 terms.ticks
+  pub counted : a.traffic ≡ Ticks 0 terms.span
   pub came : Came lookup a outcome.came
 
 -- what came of the routers of files, in their order
@@ -71,16 +73,48 @@ AreOutcomes lookup terms (file ∷ files) (config ∷ configs) (outcome ∷ outc
     IsOutcome lookup terms file config outcome × AreOutcomes lookup terms files configs outcomes
 AreOutcomes lookup terms _ _ _ = ⊥
 
--- ---- on the way
+-- ---- what is asked for
+
+-- what is asked for of a run: an address to look up, when the end comes, the text of a floor, and what is to be printed of each router
+pub record Asked : Type 0 where
+  pub lookup : Option Addr
+  pub span : Span
+  pub floor : Option (List ℕ)
+  pub neighbours : Bool
+  pub listing : Bool
+  pub drops : Bool
 
 -- the text of the floor that is asked for
 abbrev pub floor_of : Settings → Option (List ℕ)
 floor_of settings = option_map string_bytes settings.floor
 
+-- after so many ticks, if there is a last one, or where that is told
+abbrev pub span_of : Settings → Span
+span_of settings = record { ticks = settings.ticks; may_be_told = is_some settings.ending }
+
+abbrev pub asked_of : Settings → Asked
+asked_of settings = record {
+  lookup = settings.lookup;
+  span = span_of settings;
+  floor = floor_of settings;
+  neighbours = settings.neighbours;
+  listing = settings.listing;
+  drops = settings.drops;
+}
+
+-- what is printed beside tables and lookups is what is asked for: no drops where none are, and a floor where there is one
+pub record AreExtras (asked : Asked) (extras : Extras) : Type 0 where
+  pub neighbours : extras.neighbours ≡ asked.neighbours
+  pub listing : extras.listing ≡ asked.listing
+  pub no_drops : asked.drops ≡ false → extras.drops.items ≡ []
+  pub floor : extras.floor ≡ is_some asked.floor
+
+-- ---- on the way
+
 -- what came of the routers of a plan, in their order, where so much is asked for
 abbrev pub ComeOf : Settings → Plan → List NamedFile → List Outcome → Type 0
 ComeOf settings plan files outcomes =
-    AreOutcomes settings.lookup (record { ticks = settings.ticks; floor = plan.floor }) files plan.configs.items outcomes
+    AreOutcomes settings.lookup (record { span = span_of settings; floor = plan.floor }) files plan.configs.items outcomes
 
 -- what the last publish of a driver told: all that its writer has published; nothing where that is the empty table alone
 abbrev pub IsTold : Known → Option Known → Type 0
@@ -97,7 +131,7 @@ pub record Ran (a : Moment) (driven : Driven) (looker : Looker) : Type 0 where
 pub record Trio (terms : Terms) (config : Config) (driven : Driven) (looker : Looker) : Type 0 where
   pub a : Moment
   pub begins : Begins terms.floor config a.router a.known
-  pub counted : a.traffic ≡ Ticks 0 terms.ticks
+  pub counted : a.traffic ≡ Ticks 0 terms.span
   pub ended : IsDriven a driven
   pub looks : IsFrom a.known looker
 
@@ -106,36 +140,38 @@ Trios terms [] [] [] = ⊤
 Trios terms (config ∷ configs) (driven ∷ drivens) (looker ∷ lookers) = Trio terms config driven looker × Trios terms configs drivens lookers
 Trios terms _ _ _ = ⊥
 
--- what came of the routers of a plan is printed and told
-pub record Reports (lookup : Option Addr) (floors : Bool) (terms : Terms) (files : List NamedFile) (configs : List Config) (status : Status) (out_old out_new err_old err_new : Option (List ℕ)) : Type 0 where
+-- what came of the routers of a plan is printed and told, with what is asked for beside it
+pub record Reports (asked : Asked) (terms : Terms) (files : List NamedFile) (configs : List Config) (status : Status) (out_old out_new err_old err_new : Option (List ℕ)) : Type 0 where
   pub outcomes : List Outcome
-  pub are : AreOutcomes lookup terms files configs outcomes
-  pub reported : IsReported floors outcomes status out_old out_new err_old err_new
+  pub extras : Extras
+  pub are : AreOutcomes asked.lookup terms files configs outcomes
+  pub wanted : AreExtras asked extras
+  pub reported : IsReported extras outcomes status out_old out_new err_old err_new
 
 -- ---- runs
 
--- the plan of the files was run, with so many ticks, and this came of its routers
-pub record HaveRun (lookup : Option Addr) (ticks : ℕ) (floor : Option (List ℕ)) (files : List NamedFile) (outcomes : List Outcome) : Type 0 where
+-- the plan of the files was run, with the span, and this came of its routers
+pub record HaveRun (asked : Asked) (files : List NamedFile) (outcomes : List Outcome) : Type 0 where
   pub configs : List Config
   pub least : ℤ
-  pub plan : IsPlan floor files configs least
-  pub are : AreOutcomes lookup (record { ticks = ticks; floor = least }) files configs outcomes
+  pub plan : IsPlan asked.floor files configs least
+  pub are : AreOutcomes asked.lookup (record { span = asked.span; floor = least }) files configs outcomes
 
--- the plan of the files was run, with so many ticks: what came of each router is printed and told
-pub record IsRun (lookup : Option Addr) (ticks : ℕ) (floor : Option (List ℕ)) (files : List NamedFile) (status : Status) (out_old out_new err_old err_new : Option (List ℕ)) : Type 0 where
+-- the plan of the files was run, with the span: what came of each router is printed and told
+pub record IsRun (asked : Asked) (files : List NamedFile) (status : Status) (out_old out_new err_old err_new : Option (List ℕ)) : Type 0 where
   pub configs : List Config
   pub least : ℤ
-  pub plan : IsPlan floor files configs least
-  pub reports : Reports lookup (is_some floor) (record { ticks = ticks; floor = least }) files configs status out_old out_new err_old err_new
+  pub plan : IsPlan asked.floor files configs least
+  pub reports : Reports asked (record { span = asked.span; floor = least }) files configs status out_old out_new err_old err_new
 
 -- how a run comes to its end: it is refused, a file could not be read, a socket could not be made, or it was run
-pub data Comes (lookup : Option Addr) (ticks : ℕ) (floor : Option (List ℕ)) (files : List NamedFile) (status : Status) (out_old out_new err_old err_new : Option (List ℕ)) : Type 0 where
-  refused : status ≡ Refused → IsRefused floor files err_old err_new → out_new ≡ out_old → Comes lookup ticks floor files status out_old out_new err_old err_new
-  unread : status ≡ Stream → IsUnreadTold floor files err_old err_new → out_new ≡ out_old → Comes lookup ticks floor files status out_old out_new err_old err_new
-  no_socket : status ≡ Stream → (configs : List Config) (least : ℤ) → IsPlan floor files configs least → IsSocketTold files err_old err_new
-      → out_new ≡ out_old → Comes lookup ticks floor files status out_old out_new err_old err_new
-  ran : IsRun lookup ticks floor files status out_old out_new err_old err_new → Comes lookup ticks floor files status out_old out_new err_old err_new
+pub data Comes (asked : Asked) (files : List NamedFile) (status : Status) (out_old out_new err_old err_new : Option (List ℕ)) : Type 0 where
+  refused : status ≡ Refused → IsRefused asked.floor files err_old err_new → out_new ≡ out_old → Comes asked files status out_old out_new err_old err_new
+  unread : status ≡ Stream → IsUnreadTold asked.floor files err_old err_new → out_new ≡ out_old → Comes asked files status out_old out_new err_old err_new
+  no_socket : status ≡ Stream → (configs : List Config) (least : ℤ) → IsPlan asked.floor files configs least → IsSocketTold files configs err_old err_new
+      → out_new ≡ out_old → Comes asked files status out_old out_new err_old err_new
+  ran : IsRun asked files status out_old out_new err_old err_new → Comes asked files status out_old out_new err_old err_new
 
--- the plan of the files was run as is asked for, and this came of its routers
-abbrev pub RunsTo : Settings → List NamedFile → List Outcome → Type 0
-RunsTo settings files outcomes = HaveRun settings.lookup settings.ticks (floor_of settings) files outcomes
+-- the plan of the files was run as is asked for, and this came of its routers, with what is to be printed beside it
+abbrev pub RunsTo : Settings → List NamedFile → List Outcome → Extras → Type 0
+RunsTo settings files outcomes extras = HaveRun (asked_of settings) files outcomes × AreExtras (asked_of settings) extras

@@ -1,23 +1,24 @@
 -- The sockets of routers.
-use Rattle.std.specs.Prelude.{◌≡◌, ℕ, List, ◌++◌, All, Contains, Option, codes, length, string_bytes}
+use Rattle.std.specs.Prelude.{◌≡◌, ℕ, List, All, Option, length}
 use Rattle.std.specs.Io.KnownBytes.{Appends}
+use Rattle.ospf_config.specs.declared.config.Config.{Config}
+use Rattle.ospf_drive.specs.declared.span.Span.{Span}
 use Rattle.ospf_files.specs.declared.files.NamedFile.{NamedFile}
+use Rattle.ospf_prepare.specs.Obstacles.{IsSocketless, no_socket_line}
 use Rattle.ospf_udp.specs.Wires.{UdpValue}
+use Rattle.ospf_udp.specs.declared.fault.NoSocket.{NoSocket}
 
--- the line of a file of whose interfaces one has no socket
-abbrev pub no_socket_line : NamedFile → List ℕ
-no_socket_line file = string_bytes file.name ++ codes ": socket\n"
-
--- one of the files has no wire, and that is told
-pub record IsSocketTold (files : List NamedFile) (old new : Option (List ℕ)) : Type 0 where
+-- a socket of the router of one of the files could not be made, and that is told
+pub record IsSocketTold (files : List NamedFile) (configs : List Config) (old new : Option (List ℕ)) : Type 0 where
   pub file : NamedFile
-  pub among : Contains files file
-  pub told : Appends old new (no_socket_line file)
+  pub no_socket : NoSocket
+  pub socketless : IsSocketless file files configs no_socket
+  pub told : Appends old new (no_socket_line file no_socket)
 
--- a wire that has not failed yet and has handed over none of so many ticks
-abbrev pub IsFresh : ℕ → UdpValue → Type 0
-IsFresh ticks wire = wire ≡ record { failed = 0; handed = 0; count = ticks }
+-- a wire that has not failed yet and has handed over no tick, with this span
+abbrev pub IsFresh : Span → UdpValue → Type 0
+IsFresh span wire = wire ≡ record { failed = 0; handed = 0; span = span }
 
 -- so many such wires
-abbrev pub AreWires : ℕ → ℕ → List UdpValue → Type 0
-AreWires ticks count wires = (length wires ≡ count) × All (IsFresh ticks) wires
+abbrev pub AreWires : Span → ℕ → List UdpValue → Type 0
+AreWires span count wires = (length wires ≡ count) × All (IsFresh span) wires

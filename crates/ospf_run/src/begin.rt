@@ -7,10 +7,10 @@ ghost use Rattle.ospf_published.specs.Known.{opening};
 ghost use Rattle.ospf_router.specs.Starts.{IsStarted};
 ghost use Rattle.ospf_run.specs.Runs.{Begins};
 
-use crate::list::put;
 use ospf_config::Config;
 use ospf_drive::{Job, Wire};
 use ospf_fib::{Fib, OpenRefused, Seat, Writer};
+use ospf_prepare::put;
 use ospf_router::{Router, StartFault};
 use std::alloc::{AllocError, Global};
 use std::sync::Wait;

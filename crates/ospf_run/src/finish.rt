@@ -5,42 +5,20 @@ ghost use mathlib.Core.List.{IsPrefix};
 ghost use Rattle.ospf_drive.specs.Moments.{Moment};
 ghost use Rattle.ospf_fib.specs.Answers.{IsAnswerOfLast};
 ghost use Rattle.ospf_published.specs.Known.{opening};
-ghost use Rattle.ospf_run.specs.Obstacles.{FailsPlan};
+ghost use Rattle.ospf_prepare.specs.Obstacles.{FailsPlan};
 ghost use Rattle.ospf_run.specs.Runs.{AreOutcomes, Came, IsLookedUp, IsTold, Ran, Terms, Trios};
 
-use crate::list::put;
 use crate::look::Looker;
-use ospf_base::{Addr, RouterId};
+use ospf_base::Addr;
 use ospf_config::Config;
 use ospf_drive::{DriveFault, Driven, all_ticks_are_taken};
 use ospf_fib::{Answer, Closed, Seat, Told, Writer};
 use ospf_files::{Failure, NamedFile};
-use ospf_router::Router;
+use ospf_prepare::put;
+use ospf_reports::{Looked, Outcome, Shown};
 use std::alloc::Global;
 use std::sync::Wait;
 use std::thread::Threads;
-
-/// An address, and what a lookup found for it.
-#[derive(Clone, Copy)]
-pub(crate) struct Looked {
-    pub address: Addr,
-    pub answer: Option<Answer>,
-}
-
-/// A router whose driver came to the end, and what a lookup in the table that was published last found.
-#[derive(Drop)]
-pub(crate) struct Shown {
-    pub router: Router,
-    pub looked: Option<Looked>,
-}
-
-/// What came of the router of a file.
-#[derive(Drop)]
-pub(crate) struct Outcome<'a> {
-    pub file: &'a NamedFile,
-    pub router: RouterId,
-    pub came: Result<Shown, DriveFault>,
-}
 
 /// What came of the routers of files, in their order.
 pub(crate) fn finish_all<'a, R: Wait + Drop, S: Threads>(

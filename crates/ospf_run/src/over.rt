@@ -6,19 +6,20 @@ ghost use Rattle.ospf_drive.specs.Driven.{IsDriven, Pairs};
 ghost use Rattle.ospf_drive.specs.Moments.{at};
 ghost use Rattle.ospf_flood.specs.Rules.{max_sequence_number};
 ghost use Rattle.ospf_run.specs.Lookers.{IsFrom};
-ghost use Rattle.ospf_run.specs.Obstacles.{FailsPlan};
-ghost use Rattle.ospf_run.specs.Runs.{Begins, ComeOf, Terms, Trios};
+ghost use Rattle.ospf_prepare.specs.Obstacles.{FailsPlan};
+ghost use Rattle.ospf_run.specs.Runs.{Begins, ComeOf, Terms, Trios, span_of};
 ghost use Rattle.ospf_drive.specs.Traffic.Carried.{Ticks};
 
 use crate::begin::begin_all;
-use crate::finish::{Outcome, finish_all};
+use crate::finish::finish_all;
 use crate::look::{Done, Looker, start_looker};
-use crate::plan::Plan;
 use crate::settings::Settings;
 use ospf_base::Addr;
 use ospf_drive::{Driven, Job, Wire, drive_all};
 use ospf_fib::Seat;
 use ospf_files::{Failure, NamedFile};
+use ospf_prepare::Plan;
+use ospf_reports::Outcome;
 use std::alloc::{AllocError, Global};
 use std::sync::atomic::{AtomicBool, Ordering};
 use std::sync::{Arc, Wait};
@@ -42,7 +43,7 @@ pub(crate) fn run_over<
     requires files { length files.now ≡ length plan.now.configs.items }
     requires wires { length wires.items ≡ length plan.now.configs.items }
     requires fresh { All (λ wire. W.failed wire + 1 < 2 ^ 64) wires.items }
-    requires counted { All (λ wire. W.traffic wire ≡ Ticks 0 settings.now.ticks) wires.items }
+    requires counted { All (λ wire. W.traffic wire ≡ Ticks 0 (span_of settings.now)) wires.items }
     ensures outcomes { IfOk result (λ all. ComeOf settings.now plan.now files.now all.items) }
     ensures early { IfErr result (FailsPlan files.now) }
 {
@@ -73,7 +74,7 @@ fn drive_and_look<
     requires { All (λ job. W.failed job.1 + 1 < 2 ^ 64) jobs.items }
     ensures { (terms : Terms) (configs : List Config) →
         Pairs (λ config job. Begins terms.floor config job.0 job.2) configs jobs.items →
-        All (λ job. W.traffic job.1 ≡ Ticks 0 terms.ticks) jobs.items →
+        All (λ job. W.traffic job.1 ≡ Ticks 0 terms.span) jobs.items →
         Pairs (λ job seat. seat ≡ job.2) jobs.items seats.items →
         IfOk result (λ ended. Trios terms configs ended.0.items ended.1.items) }
 {

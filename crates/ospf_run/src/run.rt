@@ -1,23 +1,21 @@
 //! Runs.
 
-ghost use Rattle.std.specs.Prelude.{◌≡◌, ◌≢◌, ℕ, List, Option, IfErr, IfOk, OnOk, option_map, string_bytes};
+ghost use Rattle.std.specs.Prelude.{◌≡◌, ◌≢◌, [], ℕ, List, Option, IfErr, IfOk, OnOk, false};
 ghost use Rattle.ospf_files.specs.Status.{failure_line};
 ghost use Rattle.ospf_files.specs.Streams.{IsTold};
 ghost use Rattle.ospf_run.specs.Cut.{EndsBy, Ends, last_status};
-ghost use Rattle.ospf_run.specs.Obstacles.{IsStop};
-ghost use Rattle.ospf_run.specs.Plans.{IsPlanAt, IsRefused};
-ghost use Rattle.ospf_run.specs.Runs.{ComeOf, IsRun, RunsTo, floor_of};
+ghost use Rattle.ospf_prepare.specs.Obstacles.{IsStop};
+ghost use Rattle.ospf_prepare.specs.Plans.{IsPlanAt, IsRefused};
+ghost use Rattle.ospf_run.specs.Runs.{ComeOf, IsRun, RunsTo, asked_of, floor_of};
 
-use crate::finish::Outcome;
 use crate::over::run_over;
-use crate::plan::{Plan, prepare};
-use crate::print::report;
 use crate::settings::Settings;
-use crate::stop::{Stop, status_of, tell_obstacle};
 use crate::tap::{Tap, tap_all};
 use crate::wires::open_wires;
 use ospf_files::{FailedStreams, Failure, NamedFile, Status};
-use std::alloc::Global;
+use ospf_prepare::{Plan, Stop, prepare, status_of, tell_obstacle};
+use ospf_reports::{Drops, Extras, Outcome, report};
+use std::alloc::{AllocError, Global};
 use std::io::Write;
 use std::net::Net;
 use std::sync::Wait;
@@ -26,10 +24,12 @@ use std::time::Clock;
 
 /// Runs a router for each configuration that files hold, in a thread of its own, over UDP on this machine.
 ///
-/// Each starts with DD sequence number 1 and the floor. All sockets are made before any link goes up. At the end each router
-/// whose driver came to the end is written to `out`, in the order of the files: `router` and its Router ID, its routing table,
-/// what a lookup of the address in it found, where one is asked for, and the floor of its numbers, where one is given. Why
-/// another driver ended is told on `err`. The tap is told meanwhile what comes of each router, each time from its thread.
+/// Each starts with DD sequence number 1 and the floor. All sockets are made before any link goes up. At the end, which comes after
+/// the last tick, if there is a last one, or where it is told, each router whose driver came to the end is written to `out`, in
+/// the order of the files: `router` and its Router ID, its routing table, what a lookup of the address in it found, where one is
+/// asked for, its neighbours, what it lists and what it dropped, where these are, and the floor of its numbers, where one is
+/// given. Why another driver ended is told on `err`. The tap is told meanwhile what comes of each router, each time from its
+/// thread.
 ///
 /// These end the run before a socket is made, the first that holds, each told on `err`: a floor that is none, with status
 /// `Refused`; a file that could not be read, with status `Stream`; the first file that holds no configuration, two
@@ -56,17 +56,14 @@ pub fn run_text<
     err: &mut E,
 ) -> Status
     ensures done { result ≡ Status.Done →
-        IsRun settings.now.lookup settings.now.ticks (option_map string_bytes settings.now.floor)
-        files.now Status.Done (O.contents out.old) (O.contents out.new) (E.contents err.old)
-        (E.contents err.new) }
+        IsRun (asked_of settings.now) files.now Status.Done (O.contents out.old)
+        (O.contents out.new) (E.contents err.old) (E.contents err.new) }
     ensures refused { result ≡ Status.Refused →
-        IsRefused (option_map string_bytes settings.now.floor) files.now (E.contents err.old)
-        (E.contents err.new) }
+        IsRefused (floor_of settings.now) files.now (E.contents err.old) (E.contents err.new) }
     ensures unwritten { result ≡ Status.Refused → O.contents out.new ≡ O.contents out.old }
     // However it ends, the run has come to its end, or a failure has cut it short.
     ensures not_words { result ≢ Status.Words }
-    ensures ended { Ends settings.now.lookup settings.now.ticks
-        (option_map string_bytes settings.now.floor) files.now result (O.contents out.old)
+    ensures ended { Ends (asked_of settings.now) files.now result (O.contents out.old)
         (O.contents out.new) (E.contents err.old) (E.contents err.new) }
 {
     let ran = run(rt, alloc, settings, files, tap);
@@ -75,7 +72,8 @@ pub fn run_text<
     end(said, err, &mut streams)
 }
 
-// Runs routers of the configurations in files, if they can run. What comes of them, in their order.
+// Runs routers of the configurations in files, if they can run. What comes of them, in their order, and what is to be printed
+// beside it.
 fn run<
     'a,
     R: Net + Threads + Wait + Clock + Copy + Send + Drop + 'static,
@@ -86,12 +84,14 @@ fn run<
     settings: &Settings,
     files: &'a [NamedFile],
     tap: &T,
-) -> Result<Vec<Outcome<'a>>, Stop<'a>>
-    ensures outcomes { IfOk result (λ all. RunsTo settings.now files.now all.items) }
+) -> Result<(Vec<Outcome<'a>>, Extras), Stop<'a>>
+    ensures ran { IfOk result (λ ran. RunsTo settings.now files.now ran.0.items ran.1) }
     ensures stop { IfErr result (IsStop (floor_of settings.now) files.now) }
 {
     let plan = prepare(alloc, &settings.floor, files)?;
-    run_plan(rt, alloc, settings, files, &plan, tap)
+    let outcomes = run_plan(rt, alloc, settings, files, &plan, tap)?;
+    let drops = drops_of(alloc, settings, tap)?;
+    Ok((outcomes, settings.extras(drops)))
 }
 
 // Runs a plan over sockets of this machine, and tells a tap of it. What comes of its routers, in their order.
@@ -117,31 +117,39 @@ fn run_plan<
     Ok(outcomes)
 }
 
+// What the routers dropped, if that is asked for.
+fn drops_of<T: Tap + Drop>(
+    alloc: Global,
+    settings: &Settings,
+    tap: &T,
+) -> Result<Vec<Drops>, AllocError>
+    ensures { IfOk result (λ drops. settings.now.drops ≡ false → drops.items ≡ []) }
+{
+    if settings.drops {
+        tap.drops(alloc)
+    } else {
+        Ok(Vec::new(alloc))
+    }
+}
+
 // Writes what came of the routers that settings and files ask for, or tells why they did not run to their end. The answer is
 // the status to end with.
 fn say<O: Write, E: Write>(
     alloc: Global,
     settings: &Settings,
     files: &[NamedFile],
-    ran: Result<Vec<Outcome<'_>>, Stop<'_>>,
+    ran: Result<(Vec<Outcome<'_>>, Extras), Stop<'_>>,
     out: &mut O,
     err: &mut E,
     streams: &mut FailedStreams,
 ) -> Result<Status, Failure>
-    requires outcomes { IfOk ran (λ all. RunsTo settings.now files.now all.items) }
+    requires ran { IfOk ran (λ all. RunsTo settings.now files.now all.0.items all.1) }
     requires stop { IfErr ran (IsStop (floor_of settings.now) files.now) }
     ensures { EndsBy settings.now files.now streams.new (O.contents out.old) (O.contents out.new)
         (E.contents err.old) (E.contents err.new) result }
 {
     match ran {
-        Ok(outcomes) => report(
-            alloc,
-            &outcomes,
-            settings.floor.is_some(),
-            out,
-            err,
-            streams,
-        ),
+        Ok((outcomes, extras)) => report(alloc, &outcomes, &extras, out, err, streams),
         Err(stop) => tell_stop(alloc, settings, files, stop, err, streams),
     }
 }

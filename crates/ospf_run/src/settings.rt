@@ -1,18 +1,55 @@
 //! What a run is asked for, beside its configurations.
 
-ghost use Rattle.std.specs.Prelude.{◌≤◌};
+ghost use Rattle.std.specs.Prelude.{◌≡◌, [], false};
+ghost use Rattle.ospf_run.specs.Runs.{AreExtras, asked_of, span_of};
 
 use ospf_base::Addr;
+use ospf_drive::Span;
+use ospf_reports::{Drops, Extras};
+use ospf_udp::Ending;
 
 /// What a run is asked for, beside its configurations.
-#[derive(Debug, Drop)]
+#[derive(Drop)]
 pub struct Settings {
-    /// How many ticks there are, 1 to 1,000,000.
-    pub ticks: u64,
+    /// How many ticks there are, 1 to 1,000,000; `None` where no tick is the last.
+    pub ticks: Option<u64>,
+    /// What ends the run before the last tick, where it is told.
+    pub ending: Option<Ending>,
     /// The milliseconds of a tick, 1 to 1,000.
     pub milliseconds: u64,
     /// The address that is looked up in the table of each router.
     pub lookup: Option<Addr>,
     /// The text of the floor of the LS sequence numbers of each router's own LSAs.
     pub floor: Option<String>,
+    /// Whether the neighbours of each router are printed.
+    pub neighbours: bool,
+    /// Whether the LSAs that each router lists are printed.
+    pub listing: bool,
+    /// Whether it is printed how many packets each router dropped.
+    pub drops: bool,
+}
+
+impl Settings {
+    /// When the end comes.
+    pub(crate) fn span(&self) -> Span
+        ensures { result ≡ span_of self.now }
+    {
+        Span {
+            ticks: self.ticks,
+            may_be_told: self.ending.is_some(),
+        }
+    }
+
+    /// What is printed beside tables and lookups. Of drops there are none where they are not asked for.
+    pub(crate) fn extras(&self, drops: Vec<Drops>) -> Extras
+        requires { self.now.drops ≡ false → drops.items ≡ [] }
+        ensures { AreExtras (asked_of self.now) result }
+    {
+        Extras {
+            neighbours: self.neighbours,
+            listing: self.listing,
+            drops,
+            floor: self.floor.is_some(),
+        }
+    }
 }

@@ -3,11 +3,12 @@
 ghost use Rattle.std.specs.Prelude.{◌≡◌, IfOk, length};
 ghost use Rattle.ospf_drive.specs.Driven.{Pairs};
 
-use crate::list::put;
 use ospf_config::Config;
 use ospf_drive::{Arrival, LONGEST, Wire, WireFault};
 use ospf_files::NamedFile;
-use ospf_router::{Router, Sent};
+use ospf_prepare::put;
+use ospf_reports::Drops;
+use ospf_router::{Router, Sent, Step};
 use std::alloc::{AllocError, Global};
 
 /// What is told of the routers while they run, each in a thread of its own. What a tap makes of it is its own affair: no router
@@ -24,14 +25,20 @@ pub trait Tap {
     /// A packet has come in on a link of the router, which takes it or not.
     fn hears(&mut self, link: usize, packet: &[u8]);
 
-    /// The router is so after a step.
-    fn sees(&mut self, router: &Router);
+    /// The router is so after a step, which gave this.
+    fn sees(&mut self, router: &Router, step: &Step);
 
     /// The router's datagram went out.
     fn sends(&mut self, sent: &Sent);
 
     /// The router's wire has come to its end, or failed: its driver ends.
     fn ends(&mut self);
+
+    /// How many packets the routers dropped, of which this tap's and those made of it were told, by link and cause; none where
+    /// nobody counts.
+    ///
+    /// `AllocError` where memory runs out.
+    fn drops(&self, alloc: Global) -> Result<Vec<Drops>, AllocError>;
 }
 
 /// A wire of which a tap is told.
@@ -59,9 +66,9 @@ impl<W: Wire + Drop, T: Tap + Drop> Wire for TappedWire<W, T> {
         received
     }
 
-    fn sees(&mut self, router: &Router) {
-        self.wire.sees(router);
-        self.tap.sees(router);
+    fn sees(&mut self, router: &Router, step: &Step) {
+        self.wire.sees(router, step);
+        self.tap.sees(router, step);
     }
 
     fn send(&mut self, sent: &Sent) -> Result<(), WireFault> {

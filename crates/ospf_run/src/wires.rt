@@ -1,15 +1,17 @@
 //! The sockets of routers.
 
-ghost use Rattle.std.specs.Prelude.{◌≡◌, IfErr, IfOk, IfSome, length};
-ghost use Rattle.ospf_run.specs.Obstacles.{IsStopOfPlan};
+ghost use Rattle.std.specs.Prelude.{◌≡◌, All, IfErr, IfOk, length};
+ghost use Rattle.ospf_prepare.specs.Obstacles.{IsStopOfPlan};
+ghost use Rattle.ospf_prepare.specs.Plans.{HasPorts};
+ghost use Rattle.ospf_run.specs.Runs.{span_of};
 ghost use Rattle.ospf_run.specs.Wires.{AreWires, IsFresh};
+ghost use Rattle.ospf_udp.specs.Faults.{IsPortIn};
 
-use crate::list::put;
 use crate::settings::Settings;
-use crate::stop::{Obstacle, Stop};
 use ospf_config::Config;
 use ospf_files::NamedFile;
-use ospf_udp::{OpenFault, UdpWire};
+use ospf_prepare::{Obstacle, Stop, put};
+use ospf_udp::{NoSocket, OpenFault, UdpWire};
 use std::alloc::{AllocError, Global};
 use std::net::Net;
 use std::time::{Clock, Duration};
@@ -23,34 +25,46 @@ pub(crate) fn open_wires<'a, N: Net, C: Clock + Copy + Drop>(
     files: &'a [NamedFile],
     configs: &[Config],
 ) -> Result<Vec<UdpWire<C>>, Stop<'a>>
-    requires { length files.now ≡ length configs.now }
-    ensures wires { IfOk result (λ w. AreWires settings.now.ticks (length configs.now) w.items) }
-    ensures stop { IfErr result (IsStopOfPlan files.now) }
+    requires files { length files.now ≡ length configs.now }
+    requires ports { All HasPorts configs.now }
+    ensures wires { IfOk result (λ w. AreWires (span_of settings.now) (length configs.now)
+        w.items) }
+    ensures stop { IfErr result (IsStopOfPlan files.now configs.now) }
 {
     let mut wires = Vec::with_capacity(alloc, configs.len())?;
     for (place, config) in configs.iter().enumerate() {
         match open_wire(net, clock, alloc, settings, config)? {
-            Some(wire) => put(&mut wires, wire)?,
-            None => return Err(Stop::Obstacle(Obstacle::NoSocket(&files[place]))),
+            Ok(wire) => put(&mut wires, wire)?,
+            Err(no_socket) => {
+                return Err(Stop::Obstacle(Obstacle::NoSocket(&files[place], no_socket)));
+            }
         }
     }
     Ok(wires)
 }
 
-// The wire of a router whose interfaces have ports; `None` where a socket could not be made.
+// The wire of a router whose interfaces have ports, or the socket that could not be made.
 fn open_wire<N: Net, C: Clock + Drop>(
     net: &N,
     clock: C,
     alloc: Global,
     settings: &Settings,
     config: &Config,
-) -> Result<Option<UdpWire<C>>, AllocError>
-    ensures { IfOk result (λ found. IfSome found (IsFresh settings.now.ticks)) }
+) -> Result<Result<UdpWire<C>, NoSocket>, AllocError>
+    requires { HasPorts config.now }
+    ensures opened { IfOk result (λ found. IfOk found (IsFresh (span_of settings.now))) }
+    ensures not_opened { IfOk result (λ found. IfErr found
+        (λ no_socket. IsPortIn config.now.interfaces.items no_socket.port)) }
 {
     let period = Duration::from_millis(settings.milliseconds);
-    match UdpWire::open(net, alloc, clock, config, period, settings.ticks) {
-        Ok(wire) => Ok(Some(wire)),
+    let ending = match &settings.ending {
+        Some(ending) => Some(ending.another()?),
+        None => None,
+    };
+    match UdpWire::open(net, alloc, clock, config, period, settings.ticks, ending) {
+        Ok(wire) => Ok(Ok(wire)),
         Err(OpenFault::Memory) => Err(AllocError),
-        Err(OpenFault::NoPort | OpenFault::Socket) => Ok(None),
+        Err(OpenFault::Socket(no_socket)) => Ok(Err(no_socket)),
+        Err(OpenFault::NoPort) => unreachable!(),
     }
 }

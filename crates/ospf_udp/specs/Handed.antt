@@ -1,9 +1,14 @@
 -- What is handed over, and how many ticks that is.
-use Rattle.std.specs.Prelude.{⊤, ℕ, Option, None, Some}
+use Rattle.std.specs.Prelude.{⊤, ◌<◌, ℕ, Option, None, Some}
 use Rattle.ospf_drive.specs.declared.wire.Arrival.{Arrival}
 use Rattle.ospf_drive.specs.declared.wire.Arrival.TheVariants as arrival
 use Rattle.ospf_udp.specs.declared.sockets.Looked.{Looked}
 use Rattle.ospf_udp.specs.declared.sockets.Looked.TheVariants as looked
+
+-- so many ticks are fewer than there are
+abbrev pub HasMore : Option ℕ → ℕ → Type 0
+HasMore (Some ticks) taken = taken < ticks
+HasMore None taken = ⊤
 
 -- how many ticks an arrival is
 abbrev pub tick_of : Arrival → ℕ

@@ -1,3 +1,4 @@
+pub mod Faults
 pub mod Frames
 pub mod Handed
 pub mod Wires

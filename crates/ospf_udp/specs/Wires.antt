@@ -1,8 +1,9 @@
 -- A wire of sockets: nobody can say what a socket carries, but its ticks are counted.
 use Rattle.std.specs.Prelude.{ℕ}
+use Rattle.ospf_drive.specs.declared.span.Span.{Span}
 
--- how often it has failed, and how many ticks it has handed over, of so many
+-- how often it has failed, how many ticks it has handed over, and when the end comes
 pub record UdpValue : Type 0 where
   pub failed : ℕ
   pub handed : ℕ
-  pub count : ℕ
+  pub span : Span

@@ -1,10 +1,12 @@
 //! The sockets of the links.
 
-ghost use Rattle.std.specs.Prelude.{◌≡◌, ◌+◌, IfOk, IfSome, OnErr, Some};
+ghost use Rattle.std.specs.Prelude.{◌≡◌, ◌+◌, IfErr, IfOk, IfSome, OnErr, Some, is_some};
+ghost use Rattle.ospf_drive.specs.Traffic.{MayEndAfter};
 ghost use Rattle.ospf_drive.specs.declared.wire.Arrival.TheVariants as arrivals;
+ghost use Rattle.ospf_udp.specs.Faults.{IsRefusedAt, IsUnopened, IsUnopenedAt};
 ghost use Rattle.ospf_udp.specs.Handed.{AreFromOutside, IsFromOutside, tick_next, tick_of};
 
-use crate::fault::OpenFault;
+use crate::fault::{NoSocket, OpenFault, SocketCause};
 use crate::frame::{Frame, read_frame, write_frame};
 use crate::ticks::{Beat, Ticks};
 use mio::net::UdpSocket;
@@ -14,7 +16,7 @@ use ospf_drive::{Arrival, LONGEST, Sent};
 use std::alloc::{AllocError, Global};
 use std::io::{self, ErrorKind};
 use std::net::{Ipv4Addr, Net, SocketAddr};
-use std::time::{Clock, Duration};
+use std::time::Clock;
 
 /// The sockets of a router's links, in the order of its interfaces, and its ticks.
 #[derive(Drop)]
@@ -38,17 +40,15 @@ impl<C: Clock + Drop> Sockets<C> {
     pub(crate) fn open<N: Net>(
         net: &N,
         alloc: Global,
-        clock: C,
         config: &Config,
-        period: Duration,
-        count: u64,
+        ticks: Ticks<C>,
     ) -> Result<Sockets<C>, OpenFault>
-        ensures { IfOk result (λ sockets. (sockets.ticks.taken ≡ 0)
-            × (sockets.ticks.count ≡ count)) }
+        ensures ticks { IfOk result (λ sockets. sockets.ticks ≡ ticks) }
+        ensures fault { IfErr result (IsUnopened config.now.interfaces.items) }
     {
         let poll = match Poll::new(net) {
             Ok(poll) => poll,
-            Err(error) => return Err(socket_fault(&error)),
+            Err(error) => return Err(socket_fault(&error, None)),
         };
         let mut outlets = Vec::with_capacity(alloc, config.interfaces.len())?;
         for interface in &config.interfaces {
@@ -59,7 +59,7 @@ impl<C: Clock + Drop> Sockets<C> {
             poll,
             events: Events::with_capacity(alloc, 16)?,
             outlets,
-            ticks: Ticks::new(clock, period, count),
+            ticks,
             up: 0,
             first: 0,
             ticked: false,
@@ -67,13 +67,15 @@ impl<C: Clock + Drop> Sockets<C> {
         })
     }
 
-    /// Waits for what comes next: first the links come up, then come ticks and datagrams, and after the last tick the end.
+    /// Waits for what comes next: first the links come up, then come ticks and datagrams, and the end after the last tick, or
+    /// where the ending was told.
     pub(crate) fn next_arrival(&mut self, buffer: &mut [u8; LONGEST]) -> io::Result<Arrival>
         ensures handed { IfOk result (λ arrival. self.new.ticks.taken
             ≡ self.old.ticks.taken + tick_of arrival) }
         ensures over { IfOk result (λ arrival. arrival ≡ arrivals.End →
-            self.new.ticks.taken ≡ self.new.ticks.count) }
-        ensures count { self.new.ticks.count ≡ self.old.ticks.count }
+            MayEndAfter self.new.ticks.most (is_some self.new.ticks.ending) self.new.ticks.taken) }
+        ensures most { self.new.ticks.most ≡ self.old.ticks.most }
+        ensures ending { self.new.ticks.ending ≡ self.old.ticks.ending }
         ensures none { OnErr result (self.new.ticks.taken ≡ self.old.ticks.taken) }
     {
         if let Some(arrival) = self.next_up() {
@@ -125,8 +127,9 @@ impl<C: Clock + Drop> Sockets<C> {
         ensures handed { IfOk result (λ next. self.new.ticks.taken
             ≡ self.old.ticks.taken + tick_next next) }
         ensures over { IfOk result (λ next. next ≡ Some arrivals.End →
-            self.new.ticks.taken ≡ self.new.ticks.count) }
-        ensures count { self.new.ticks.count ≡ self.old.ticks.count }
+            MayEndAfter self.new.ticks.most (is_some self.new.ticks.ending) self.new.ticks.taken) }
+        ensures most { self.new.ticks.most ≡ self.old.ticks.most }
+        ensures ending { self.new.ticks.ending ≡ self.old.ticks.ending }
         ensures none { OnErr result (self.new.ticks.taken ≡ self.old.ticks.taken) }
     {
         let wait = match self.ticks.beat()? {
@@ -209,11 +212,16 @@ enum Looked {
     Arrived(Arrival),
 }
 
-// Why a socket could not be made.
-fn socket_fault(error: &io::Error) -> OpenFault {
+// Why the socket of a port could not be made, or no socket at all.
+fn socket_fault(error: &io::Error, port: Option<Port>) -> OpenFault
+    ensures { IsRefusedAt port result }
+{
     match error.kind() {
         ErrorKind::OutOfMemory => OpenFault::Memory,
-        _ => OpenFault::Socket,
+        _ => OpenFault::Socket(NoSocket {
+            port,
+            cause: SocketCause::of(error),
+        }),
     }
 }
 
@@ -224,14 +232,16 @@ fn open_outlet<N: Net>(
     poll: &Poll,
     interface: &Interface,
     token: usize,
-) -> Result<Outlet, OpenFault> {
+) -> Result<Outlet, OpenFault>
+    ensures { IfErr result (IsUnopenedAt interface.now.port) }
+{
     let Some(port) = interface.port else {
         return Err(OpenFault::NoPort);
     };
     let peers = copy_ports(alloc, &interface.peers)?;
     match bind(net, poll, port, token) {
         Ok(socket) => Ok(Outlet { socket, peers }),
-        Err(error) => Err(socket_fault(&error)),
+        Err(error) => Err(socket_fault(&error, Some(port))),
     }
 }
 

@@ -1,8 +1,12 @@
 //! Ticks of a steady clock.
 
-ghost use Rattle.std.specs.Prelude.{◌≡◌, ◌+◌, ◌<◌, ◌≤◌, IfOk, OnErr, OnOk};
+ghost use Rattle.std.specs.Prelude.{◌≡◌, ◌+◌, ◌≤◌, IfOk, IfSome, IsTrue, OnErr, OnOk, false, is_some, true};
+ghost use Rattle.ospf_drive.specs.Traffic.{MayEndAfter};
+ghost use Rattle.std.proofs.Props.{props};
+ghost use Rattle.ospf_udp.specs.Handed.{HasMore};
 ghost use Rattle.ospf_udp.specs.declared.ticks.Beat.TheVariants as beats;
 
+use crate::ending::Ending;
 use std::io::{self, ErrorKind};
 use std::time::{Clock, Duration, Instant};
 
@@ -15,34 +19,46 @@ pub(crate) struct Ticks<C: Clock + Drop> {
     due: Option<Instant>,
     // How many were taken.
     pub(crate) taken: u64,
-    // How many there are in all.
-    pub(crate) count: u64,
-    ghost within: { taken ≤ count },
+    // How many there are in all, if there is a last one.
+    pub(crate) most: Option<u64>,
+    // What tells that no more come, if it can be told.
+    pub(crate) ending: Option<Ending>,
+    ghost within: { IfSome most (λ ticks. taken ≤ ticks) } by { Prim.hlevel props },
 }
 
 impl<C: Clock + Drop> Ticks<C> {
-    /// So many ticks, one a period.
-    pub(crate) fn new(clock: C, period: Duration, count: u64) -> Ticks<C>
+    /// So many ticks, one a period, up to the ending, if there is one.
+    pub(crate) fn new(
+        clock: C,
+        period: Duration,
+        most: Option<u64>,
+        ending: Option<Ending>,
+    ) -> Ticks<C>
         ensures taken { result.taken ≡ 0 }
-        ensures count { result.count ≡ count }
+        ensures most { result.most ≡ most }
+        ensures ending { is_some result.ending ≡ is_some ending }
     {
         Ticks {
             clock,
             period,
             due: None,
             taken: 0,
-            count,
+            most,
+            ending,
         }
     }
 
-    /// Whether a tick is due. None is any more where all were taken.
+    /// Whether a tick is due. None is any more where all were taken, or the ending was told.
     pub(crate) fn beat(&mut self) -> io::Result<Beat>
         ensures taken { self.new.taken ≡ self.old.taken }
-        ensures count { self.new.count ≡ self.old.count }
-        ensures due { IfOk result (λ beat. beat ≡ beats.Due → self.new.taken < self.new.count) }
-        ensures over { IfOk result (λ beat. beat ≡ beats.Over → self.new.taken ≡ self.new.count) }
+        ensures most { self.new.most ≡ self.old.most }
+        ensures ending { self.new.ending ≡ self.old.ending }
+        ensures due { IfOk result (λ beat. beat ≡ beats.Due →
+            HasMore self.new.most self.new.taken) }
+        ensures over { IfOk result (λ beat. beat ≡ beats.Over →
+            MayEndAfter self.new.most (is_some self.new.ending) self.new.taken) }
     {
-        if self.taken == self.count {
+        if self.is_over() {
             return Ok(Beat::Over);
         }
         let now = Instant::now(&self.clock)?;
@@ -56,22 +72,49 @@ impl<C: Clock + Drop> Ticks<C> {
 
     /// A tick that is due is taken.
     pub(crate) fn take(&mut self) -> io::Result<()>
-        requires { self.old.taken < self.old.count }
+        requires { HasMore self.old.most self.old.taken }
         ensures taken { OnOk result (self.new.taken ≡ self.old.taken + 1) }
-        ensures count { self.new.count ≡ self.old.count }
+        ensures most { self.new.most ≡ self.old.most }
+        ensures ending { self.new.ending ≡ self.old.ending }
         ensures none { OnErr result (self.new.taken ≡ self.old.taken) }
     {
+        let Some(taken) = self.taken.checked_add(1) else {
+            return Err(io::Error::from(ErrorKind::InvalidInput));
+        };
         if let Some(due) = self.due {
             self.due = Some(after(due, self.period)?);
         }
-        self.taken += 1;
+        self.taken = taken;
         Ok(())
+    }
+
+    // Whether no tick comes any more; where one does, there is one more.
+    fn is_over(&self) -> bool
+        ensures over { IsTrue result →
+            MayEndAfter self.now.most (is_some self.now.ending) self.now.taken }
+        ensures more { result ≡ false → HasMore self.now.most self.now.taken }
+    {
+        match self.most {
+            Some(most) if self.taken == most => true,
+            Some(_) | None => self.is_told(),
+        }
+    }
+
+    // Whether the ending was told.
+    fn is_told(&self) -> bool
+        ensures { IsTrue result → is_some self.now.ending ≡ true }
+    {
+        match &self.ending {
+            Some(ending) => ending.is_told(),
+            None => false,
+        }
     }
 
     // When the next tick is due: a period from now, where none was asked for before.
     fn next(&mut self, now: Instant) -> io::Result<Instant>
         ensures taken { self.new.taken ≡ self.old.taken }
-        ensures count { self.new.count ≡ self.old.count }
+        ensures most { self.new.most ≡ self.old.most }
+        ensures ending { self.new.ending ≡ self.old.ending }
     {
         if let Some(due) = self.due {
             return Ok(due);

@@ -1,9 +1,12 @@
 //! The wire.
 
-ghost use Rattle.std.specs.Prelude.{◌≡◌, IfOk};
+ghost use Rattle.std.specs.Prelude.{◌≡◌, IfErr, IfOk, is_some};
+ghost use Rattle.ospf_udp.specs.Faults.{IsUnopened};
 
+use crate::ending::Ending;
 use crate::fault::OpenFault;
 use crate::sockets::Sockets;
+use crate::ticks::Ticks;
 use ospf_config::Config;
 use ospf_drive::{Arrival, LONGEST, Sent, Wire, WireFault};
 use std::alloc::Global;
@@ -13,10 +16,10 @@ use std::time::{Clock, Duration};
 
 /// A wire with one socket for each link, on 127.0.0.1. A datagram is the source address, the destination address and the packet;
 /// one that is shorter than the addresses, or longer than any packet, is passed over. First the links come up; a tick comes each
-/// period, and none is lost where a step was slow; after the last tick comes the end.
+/// period, and none is lost where a step was slow; the end comes after the last tick, or within a tick of when it is told.
 ///
-/// It waits by the system, and takes no processor while nothing comes. It tells how many ticks it has handed over, of how many, and
-/// nothing else of its traffic: nobody can say what a socket carries.
+/// It waits by the system, and takes no processor while nothing comes. It tells how many ticks it has handed over, and when the
+/// end comes, and nothing else of its traffic: nobody can say what a socket carries.
 #[derive(Drop)]
 pub struct UdpWire<C: Clock + Drop> {
     sockets: Sockets<C>,
@@ -24,15 +27,17 @@ pub struct UdpWire<C: Clock + Drop> {
 }
 
 impl<C: Clock + Drop> Model for UdpWire<C> {
+    ghost use Rattle.std.specs.Prelude.{is_some};
     ghost use Rattle.ospf_udp.specs.Wires.{UdpValue};
 
     ghost Value = { UdpValue };
 
-    ghost view = { λ w. record { failed = w.failed; handed = w.sockets.ticks.taken; count = w.sockets.ticks.count } };
+    ghost view = { λ w. record { failed = w.failed; handed = w.sockets.ticks.taken; span = record { ticks = w.sockets.ticks.most; may_be_told = is_some w.sockets.ticks.ending } } };
 }
 
 impl<C: Clock + Drop> UdpWire<C> {
-    /// Makes a socket for each interface of a configuration: so many ticks, one a period, will come.
+    /// Makes a socket for each interface of a configuration: so many ticks, one a period, will come, or ticks without a last one
+    /// where there is no number; and the end before that, where it is told by the ending, if there is one.
     ///
     /// `NoPort` where an interface has no port, `Socket` where a socket could not be made, and `Memory` where memory ran out; for
     /// the first interface at which one of them holds.
@@ -42,11 +47,18 @@ impl<C: Clock + Drop> UdpWire<C> {
         clock: C,
         config: &Config,
         period: Duration,
-        count: u64,
+        ticks: Option<u64>,
+        ending: Option<Ending>,
     ) -> Result<UdpWire<C>, OpenFault>
-        ensures { IfOk result (λ wire. wire ≡ record { failed = 0; handed = 0; count = count }) }
+        ensures opened { IfOk result (λ wire. wire ≡ record {
+          failed = 0;
+          handed = 0;
+          span = record { ticks = ticks; may_be_told = is_some ending };
+        }) }
+        ensures fault { IfErr result (IsUnopened config.now.interfaces.items) }
     {
-        let sockets = Sockets::open(net, alloc, clock, config, period, count)?;
+        let ticks = Ticks::new(clock, period, ticks, ending);
+        let sockets = Sockets::open(net, alloc, config, ticks)?;
         Ok(UdpWire { sockets, failed: 0 })
     }
 }
@@ -54,7 +66,7 @@ impl<C: Clock + Drop> UdpWire<C> {
 impl<C: Clock + Drop> Wire for UdpWire<C> {
     ghost use Rattle.ospf_drive.specs.Traffic.Carried.{Ticks};
 
-    ghost traffic = { λ wire. Ticks wire.handed wire.count };
+    ghost traffic = { λ wire. Ticks wire.handed wire.span };
 
     ghost failed = { λ wire. wire.failed };
 

@@ -1,5 +1,5 @@
 -- Texts that spell addresses.
-use Rattle.std.proofs.Common.{◌≡◌, ◌⊎◌, ◌∙◌, ◌+◌, ◌<◌, ◌^◌, ◌++◌, ℕ, suc, zero, List, [], ◌∷◌, Ok, Err, Result, IsErrAnd, IfErr, Bor, map, take, length, drop, get_or, subst, refl, ap, ap₂, sym, Option, Some, None, Contains, option_map, unwrap_or, inl, inr, arith, codes, slice_index, string_bytes}
+use Rattle.std.proofs.Common.{◌≡◌, ◌⊎◌, ◌∙◌, ◌+◌, ◌<◌, ◌^◌, ◌++◌, ℕ, suc, zero, List, [], ◌∷◌, Ok, Err, Result, IsErrAnd, IfErr, IfNone, IfOk, IfSome, Bor, map, take, length, drop, get_or, subst, refl, ap, ap₂, sym, Option, Some, None, Contains, option_map, unwrap_or, inl, inr, arith, codes, slice_index, string_bytes}
 use Rattle.std.proofs.lemmas.List.{map-append, take_more}
 use Rattle.std.proofs.lemmas.Option.{none-some}
 use Rattle.std.specs.declared.net.parser.AddrParseError.{AddrParseError}
@@ -11,8 +11,10 @@ use Rattle.ospf_base.specs.Text.{IsDottedNumber, ReadsAddress, ReadsRouterId}
 use Rattle.ospf_base.specs.declared.ids.RouterId.{RouterId}
 use Rattle.ospf_base.specs.declared.ids.Addr.{Addr}
 use Rattle.ospf_words.specs.Job.{IsFaultOfNoValue, IsFaultOfValue, IsFaultOfWords}
-use Rattle.ospf_words.specs.Unasked.{IsFirstWrong, IsNoAddress, IsNoJob, IsNoNumber, IsUnasked, IsWrongValue, LacksInPath}
-use Rattle.ospf_words.specs.Words.{AreChoices, IsNumber, Spell, command_app}
+use Rattle.ospf_words.specs.Unasked.{IsFirstWrong, IsJobIfAny, IsNoAddress, IsNoJob, IsNoNumber, IsUncounted, IsWrongValue, LacksInPath, LacksInRun}
+use Rattle.ospf_words.specs.Words.{AreChoices, IsNumber, IsNumberIfAny, IsRunWith, Spell, command_app}
+use Rattle.ospf_words.specs.declared.jobs.Job.{Job}
+use Rattle.ospf_words.specs.declared.jobs.Job.TheVariants as job
 use Rattle.ospf_words.specs.declared.jobs.JobFault.{JobFault}
 use Rattle.ospf_words.specs.declared.jobs.JobFault.TheVariants as fault
 
@@ -111,10 +113,10 @@ value_weaker P Q (fault.Words e) k h = absurd h
 value_weaker P Q (fault.Address w) k h = k (string_bytes w) h
 value_weaker P Q fault.Memory k h = tt
 
-pub value_unasked : (words : List (List ℕ)) (f : JobFault) → IsFaultOfValue (IsWrongValue (subcommand_of command_app words)) f → IsUnasked words f
-value_unasked words (fault.Words e) h = absurd h
-value_unasked words (fault.Address w) h = h
-value_unasked words fault.Memory h = tt
+pub value_uncounted : (words : List (List ℕ)) (f : JobFault) → IsFaultOfValue (IsWrongValue (subcommand_of command_app words)) f → IsUncounted words f
+value_uncounted words (fault.Words e) h = absurd h
+value_uncounted words (fault.Address w) h = h
+value_uncounted words fault.Memory h = tt
 
 -- the texts before a place, the one there and those after it
 split_at : (words : List (Bor (List ℕ))) (i : ℕ) (d : Bor (List ℕ)) → i < length words
@@ -275,9 +277,9 @@ no_simulation rows none = record {
   no_run = λ others same. other (codes "sim") (codes "run") rows others (λ (e : 115 ≡ 114). omega (arith, e)) same;
 }
 
--- what `run` wants: two numbers, and files
+-- what `run` wants: its ticks, and more
 abbrev RunWants : List Row → Type 0
-RunWants rows = IsNoNumber (one_of (codes "ticks") rows) ⊎ IsNoNumber (one_of (codes "tick") rows) ⊎ (all_of (codes "files") rows ≡ None)
+RunWants rows = IsNoNumber (one_of (codes "ticks") rows) ⊎ LacksInRun rows
 
 -- `run` without one of them
 pub no_running : (rows : List Row) → RunWants rows → IsNoJob (Some (codes "run", rows))
@@ -290,6 +292,20 @@ no_running rows none = record {
   no_sim = λ others same. other (codes "run") (codes "sim") rows others (λ (e : 114 ≡ 115). omega (arith, e)) same;
   no_run = λ others same. subst RunWants (same_rows (codes "run") rows others same) none;
 }
+
+-- what `run` reads behind its ticks
+pub run_read : (rows : List Row) (ticks : Option ℕ) (r : Result (Option Job) JobFault) → IfOk r (λ found. IfSome found (IsRunWith rows ticks))
+    → IfOk r (λ found. IfNone found (LacksInRun rows)) → IfOk r (IsJobIfAny (Some (codes "run", rows)))
+run_read rows ticks (Err f) some none = tt
+run_read rows ticks (Ok None) some none = no_running rows (inr none)
+run_read rows ticks (Ok (Some (job.Run r))) some none = (rows, refl, some.0)
+run_read rows ticks (Ok (Some j)) some none = absurd some
+
+-- what holds without a job holds with one
+pub of_any_job : {E : Type 0} (r : Result (Option Job) E) (P : Type 0) → P → IfOk r (λ found. IfSome found (λ _. P))
+of_any_job (Ok (Some j)) P p = p
+of_any_job (Ok None) P p = tt
+of_any_job (Err e) P p = tt
 
 -- ---- numbers
 
@@ -305,16 +321,25 @@ pub no_number_read : {E : Type 0} (gives : List ℕ → Result ℕ E → Type 0)
 no_number_read gives refuses o r some is = λ t n at number small.
     let refused = subst (λ q. ReadsOne gives t q) is (some t at) in refuses t refused.0 n refused.1 number small
 
+-- the number of a text, if there is one
+pub number_if_any : {E : Type 0} (gives : List ℕ → Result ℕ E → Type 0) → ((t : List ℕ) (n : ℕ) → gives t (Ok n) → IsNumber t n)
+    → ((t : List ℕ) (e : E) (n : ℕ) → gives t (Err e) → IsNumber t n → n < 2 ^ 64 → ⊥) → (o : Option (List ℕ)) (r : Option ℕ)
+    → (o ≡ None → r ≡ None) → ((t : List ℕ) → o ≡ Some t → ReadsOne gives t r) → IsNumberIfAny o r
+number_if_any gives reads refuses None None none some = tt
+number_if_any gives reads refuses None (Some n) none some = absurd (none-some n (sym (none refl)))
+number_if_any gives reads refuses (Some t) (Some n) none some = reads t n (some t refl)
+number_if_any gives reads refuses (Some t) None none some = λ n number small. let refused = some t refl in refuses t refused.0 n refused.1 number small
+
 -- what `clap` refuses
-pub words_refused : (words : List (List ℕ)) (e : Error) (f : JobFault) → HasKind (fault_of command_app words) e → IsFaultOfWords e f → IsUnasked words f
+pub words_refused : (words : List (List ℕ)) (e : Error) (f : JobFault) → HasKind (fault_of command_app words) e → IsFaultOfWords e f → IsUncounted words f
 words_refused words e f kinds is = elim is [
-  | inl h ↦ subst (IsUnasked words) (sym h.1) tt
-  | inr h ↦ subst (IsUnasked words) (sym h.1) (inl (elim kinds [ inl memory ↦ absurd (h.0 memory) | inr among ↦ among ]))
+  | inl h ↦ subst (IsUncounted words) (sym h.1) tt
+  | inr h ↦ subst (IsUncounted words) (sym h.1) (inl (elim kinds [ inl memory ↦ absurd (h.0 memory) | inr among ↦ among ]))
 ]
 
 -- where `clap` refuses nothing and reads no job
 pub no_job_refused : (words : List (List ℕ)) (f : JobFault) → fault_of command_app words ≡ [] → IsNoJob (subcommand_of command_app words)
-    → IsFaultOfNoValue f → IsUnasked words f
+    → IsFaultOfNoValue f → IsUncounted words f
 no_job_refused words (fault.Words e) none no_job is = inr (none, no_job)
 no_job_refused words (fault.Address w) none no_job is = absurd is
 no_job_refused words fault.Memory none no_job is = tt

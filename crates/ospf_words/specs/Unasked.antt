@@ -8,7 +8,8 @@ use Rattle.clap.specs.Faults.{fault_of}
 use Rattle.ospf_words.specs.declared.jobs.Job.{Job}
 use Rattle.ospf_words.specs.declared.jobs.JobFault.{JobFault}
 use Rattle.ospf_words.specs.declared.jobs.JobFault.TheVariants as fault
-use Rattle.ospf_words.specs.Words.{IsJobOf, IsNumber, Spell, command_app}
+use Rattle.ospf_words.specs.Job.{IsFaultOfValue}
+use Rattle.ospf_words.specs.Words.{IsJobOf, IsNumber, Spell, command_app, endless_app}
 
 -- the text spells no address
 abbrev pub IsNoAddress : Text → Type 0
@@ -68,6 +69,10 @@ HasNoChoice texts = (text : Text) × Contains texts text × ((number : ℕ) → 
 abbrev pub LacksInPath : List Row → Type 0
 LacksInPath rows = (first_of (codes "from") rows ≡ None) ⊎ (first_of (codes "address") rows ≡ None) ⊎ HasNoChoice (unwrap_or (all_of (codes "choices") rows) [])
 
+-- what `run` lacks beside its ticks: the number of milliseconds, or files
+abbrev pub LacksInRun : List Row → Type 0
+LacksInRun rows = IsNoNumber (one_of (codes "tick") rows) ⊎ (all_of (codes "files") rows ≡ None)
+
 -- what the words enter is no `table` and no `failures` with a root, no `lsas`, no `path` with both ends and choices, no `check` with files, no `sim` with both, and no `run` with numbers and files
 pub record IsNoJob (entered : Option (Text × List Row)) : Type 0 where
   pub no_table : (rows : List Row) → entered ≡ Some (codes "table", rows) → first_of (codes "root") rows ≡ None
@@ -77,16 +82,21 @@ pub record IsNoJob (entered : Option (Text × List Row)) : Type 0 where
   pub no_check : (rows : List Row) → entered ≡ Some (codes "check", rows) → all_of (codes "files") rows ≡ None
   pub no_sim : (rows : List Row) → entered ≡ Some (codes "sim", rows) → (first_of (codes "script") rows ≡ None) ⊎ (all_of (codes "files") rows ≡ None)
   pub no_run : (rows : List Row) → entered ≡ Some (codes "run", rows)
-      → IsNoNumber (one_of (codes "ticks") rows) ⊎ IsNoNumber (one_of (codes "tick") rows) ⊎ (all_of (codes "files") rows ≡ None)
+      → IsNoNumber (one_of (codes "ticks") rows) ⊎ LacksInRun rows
 
 -- the job, or none where there is none
 abbrev pub IsJobIfAny : Option (Text × List Row) → Option Job → Type 0
 IsJobIfAny entered (Some job) = IsJobOf entered job
 IsJobIfAny entered None = IsNoJob entered
 
--- the words are refused for this: `clap` refuses them by an error of this kind, or a value is no address
-abbrev pub IsUnasked : List Text → JobFault → Type 0
-IsUnasked words (fault.Words e) =
+-- the words are refused for this, where the ticks of a run are a number: `clap` refuses them by an error of this kind, or a value is
+-- no address
+abbrev pub IsUncounted : List Text → JobFault → Type 0
+IsUncounted words (fault.Words e) =
     IsAmong (kind_of e) (fault_of command_app words) ⊎ ((fault_of command_app words ≡ []) × IsNoJob (subcommand_of command_app words))
-IsUnasked words (fault.Address word) = IsWrongValue (subcommand_of command_app words) (string_bytes word)
-IsUnasked words fault.Memory = ⊤
+IsUncounted words (fault.Address word) = IsWrongValue (subcommand_of command_app words) (string_bytes word)
+IsUncounted words fault.Memory = ⊤
+
+-- the words are refused for this: for that, or where they ask for a run without a last tick a value is no address
+abbrev pub IsUnasked : List Text → JobFault → Type 0
+IsUnasked words f = IsUncounted words f ⊎ IsFaultOfValue (IsWrongValue (subcommand_of endless_app words)) f

@@ -1,9 +1,10 @@
 -- What the program's words ask for, as `clap` reads them.
 use Rattle.std.specs.Str.Parse.{IsNumeral, digits_value, without_leading_plus}
 use Rattle.std.specs.declared.alloc.Global.{Global}
-use Rattle.std.specs.Prelude.{◌≡◌, ◌≢◌, ℕ, true, false, Bool, List, [], ◌∷◌, Option, Some, None, Ok, ⊤, String, codes, map, option_map, string_bytes, unwrap_or, vec_items}
+use Rattle.std.specs.Prelude.{◌≡◌, ◌≢◌, ℕ, true, false, Bool, List, [], ◌∷◌, Option, Some, None, Ok, ⊤, String, codes, map, option_map, string_bytes, unwrap_or, vec_items, ◌⊎◌, ◌<◌, ◌^◌}
 use Rattle.ospf_base.specs.Text.{ReadsAddress, ReadsRouterId}
 use Rattle.ospf_base.specs.declared.ids.Addr.{Addr}
+use Rattle.clap.specs.Faults.{fault_of}
 use Rattle.clap.specs.Lexer.{usize_max}
 use Rattle.clap.specs.Words.{App, Row, Rule, Text, all_of, first_of, one_of, new_app, new_rule, subcommand_of, with_rule, with_subcommand}
 use Rattle.clap.specs.declared.builder.action.ArgAction.TheVariants.{Append, SetTrue}
@@ -101,11 +102,17 @@ ticks_rule = record (new_rule (codes "ticks")) { required = true; value_names = 
 abbrev pub tick_rule : Rule
 tick_rule = record (option_rule (codes "tick")) { defaults = codes "1000" ∷ []; parser = Some (Unsigned 1 1000) }
 
--- the command `run`: ticks, files, and options
-abbrev pub run_app : App
-run_app =
-    with_rule (with_rule (with_rule (with_rule (with_rule (with_rule (new_app (codes "run")) ticks_rule) files_rule) tick_rule) (option_rule (codes "lookup")))
-    (option_rule (codes "floor"))) (option_rule (codes "pcap"))
+-- after how many ticks tables are printed
+abbrev pub every_rule : Rule
+every_rule = record (option_rule (codes "every")) { parser = Some (Unsigned 1 1000000) }
+
+-- the command `run`: ticks of this rule, files, and options
+abbrev pub run_app : Rule → App
+run_app ticks =
+    with_rule (with_rule (with_rule (with_rule (with_rule
+    (with_rule (with_rule (with_rule (with_rule (with_rule (with_rule (new_app (codes "run")) ticks) files_rule) tick_rule) (option_rule (codes "lookup")))
+    (option_rule (codes "floor"))) (option_rule (codes "pcap")))
+    (flag_rule (codes "neighbours"))) (flag_rule (codes "listing"))) (flag_rule (codes "drops"))) every_rule) (flag_rule (codes "until-eof"))
 
 -- the program, before its commands
 abbrev pub ospfd_app : App
@@ -113,11 +120,19 @@ ospfd_app = record (new_app (codes "ospfd")) {
   top = record (new_app (codes "ospfd")).top { no_binary_name = true; has_version = true; subcommand_required = true };
 }
 
--- the program and its commands
-abbrev pub command_app : App
-command_app =
+-- the program and its commands, where the ticks of a run are of this rule
+abbrev pub app_with : Rule → App
+app_with ticks =
     with_subcommand (with_subcommand (with_subcommand (with_subcommand (with_subcommand (with_subcommand (with_subcommand ospfd_app table_app.top) failures_app.top)
-    lsas_app.top) path_app.top) check_app.top) sim_app.top) run_app.top
+    lsas_app.top) path_app.top) check_app.top) sim_app.top) (run_app ticks).top
+
+-- where they are a number
+abbrev pub command_app : App
+command_app = app_with ticks_rule
+
+-- and where any word may stand in their place
+abbrev pub endless_app : App
+endless_app = app_with (one_rule (codes "ticks"))
 
 -- each text spells the address at its place
 abbrev pub Spell : List Text → List Addr → Type 0
@@ -221,11 +236,21 @@ IsAddressIfAny (Some text) (Some address) = ReadsAddress text (Ok address)
 IsAddressIfAny None None = ⊤
 IsAddressIfAny _ _ = ⊥
 
+-- the number that a text is read as, if there is a text
+abbrev pub IsNumberIfAny : Option Text → Option ℕ → Type 0
+IsNumberIfAny (Some text) (Some number) = IsNumber text number
+IsNumberIfAny (Some text) None = (number : ℕ) → IsNumber text number → number < 2 ^ 64 → ⊥
+IsNumberIfAny None None = ⊤
+IsNumberIfAny None (Some number) = ⊥
+
+-- how many ticks a run has: those that a text is read as; without a last one where `forever` stands in their place
+abbrev pub HasTicks : List Row → Option ℕ → Type 0
+HasTicks rows (Some ticks) = (text : Text) × (one_of (codes "ticks") rows ≡ Some text) × IsNumber text ticks
+HasTicks rows None = first_of (codes "ticks") rows ≡ Some (codes "forever")
+
 -- the ticks, the files and the options that `clap` reads after `run`
 pub record IsRunJob (rows : List Row) (r : RunJob) : Type 0 where
-  pub ticks_text : Text
-  pub has_ticks : one_of (codes "ticks") rows ≡ Some ticks_text
-  pub ticks : IsNumber ticks_text r.ticks
+  pub ticks : HasTicks rows r.ticks
   pub tick_text : Text
   pub has_tick : one_of (codes "tick") rows ≡ Some tick_text
   pub tick : IsNumber tick_text r.milliseconds
@@ -235,6 +260,20 @@ pub record IsRunJob (rows : List Row) (r : RunJob) : Type 0 where
   pub lookup : IsAddressIfAny (first_of (codes "lookup") rows) r.lookup
   pub floor : option_map string_bytes r.floor ≡ first_of (codes "floor") rows
   pub pcap : option_map string_bytes r.pcap ≡ first_of (codes "pcap") rows
+  pub every : IsNumberIfAny (one_of (codes "every") rows) r.every
+  pub until_eof : IsFlag (one_of (codes "until-eof") rows) r.until_eof
+  pub neighbours : IsFlag (one_of (codes "neighbours") rows) r.neighbours
+  pub listing : IsFlag (one_of (codes "listing") rows) r.listing
+  pub drops : IsFlag (one_of (codes "drops") rows) r.drops
+
+-- the job of a run with these ticks
+abbrev pub IsRunWith : List Row → Option ℕ → Job → Type 0
+IsRunWith rows ticks (job.Run r) = IsRunJob rows r × (r.ticks ≡ ticks)
+IsRunWith rows ticks _ = ⊥
+
+-- and of one without a last tick
+abbrev pub IsEndlessJob : List Row → Job → Type 0
+IsEndlessJob rows = IsRunWith rows None
 
 -- the job is that of the command that the words enter, with the values that they give it
 abbrev pub IsJobOf : Option (Text × List Row) → Job → Type 0
@@ -245,6 +284,18 @@ IsJobOf entered (job.Check c) = (rows : List Row) × (entered ≡ Some (codes "c
 IsJobOf entered (job.Sim s) = (rows : List Row) × (entered ≡ Some (codes "sim", rows)) × IsSimJob rows s
 IsJobOf entered (job.Run r) = (rows : List Row) × (entered ≡ Some (codes "run", rows)) × IsRunJob rows r
 
--- the job is what `clap` reads in the words
+-- the words enter a run without a last tick, and the job is that
+abbrev pub IsEndlessIn : Option (Text × List Row) → Job → Type 0
+IsEndlessIn entered j = (rows : List Row) × (entered ≡ Some (codes "run", rows)) × IsEndlessJob rows j
+
+-- the job is that of such a run, as `clap` reads the words where any word stands in place of the ticks
+abbrev pub IsEndless : List Text → Job → Type 0
+IsEndless words = IsEndlessIn (subcommand_of endless_app words)
+
+-- the job is what `clap` reads in the words, with ticks that are a number, or without a last one
 abbrev pub IsAsked : List Text → Job → Type 0
-IsAsked words = IsJobOf (subcommand_of command_app words)
+IsAsked words j = IsJobOf (subcommand_of command_app words) j ⊎ IsEndless words j
+
+-- `clap` refuses nothing of them in one of these readings
+abbrev pub IsAccepted : List Text → Type 0
+IsAccepted words = (fault_of command_app words ≡ []) ⊎ (fault_of endless_app words ≡ [])

@@ -58,14 +58,24 @@ pub struct SimJob {
 /// Routers that are to run.
 #[derive(Debug, Drop)]
 pub struct RunJob {
-    /// How many ticks there are.
-    pub ticks: u64,
+    /// How many ticks there are; `None` where no tick is the last.
+    pub ticks: Option<u64>,
+    /// Whether the run ends where standard input ends.
+    pub until_eof: bool,
     /// The milliseconds of a tick.
     pub milliseconds: u64,
     /// The address that is looked up in the table of each router.
     pub lookup: Option<Addr>,
     /// The text of the floor of the LS sequence numbers of each router's own LSAs.
     pub floor: Option<String>,
+    /// Whether the neighbours of each router are printed at the end.
+    pub neighbours: bool,
+    /// Whether the LSAs that each router lists are printed at the end.
+    pub listing: bool,
+    /// Whether it is printed at the end how many packets each router dropped.
+    pub drops: bool,
+    /// After how many ticks the tables are printed, again and again.
+    pub every: Option<u64>,
     /// The file into which all datagrams are written.
     pub pcap: Option<String>,
     /// The names of the configurations' files.

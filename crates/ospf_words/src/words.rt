@@ -2,10 +2,10 @@
 
 ghost use Rattle.clap.specs.Faults.{fault_of};
 ghost use Rattle.std.specs.Prelude.{OnOk, [], ◌≡◌, ◌≢◌, ◌∷◌, false, map, option_map, unwrap_or, codes, string_bytes, Ok, Err, Some, IfNone, IfOk, IfErr, IfSome};
-ghost use Rattle.clap.specs.Words.{all_of, app_of, found_of, rows_of, rule_of, subcommand_rows_of, with_subcommand};
+ghost use Rattle.clap.specs.Words.{all_of, app_of, found_of, rows_of, rule_of, subcommand_rows_of, with_subcommand, subcommand_of};
 ghost use Rattle.ospf_words.specs.Job.{IsFaultOfNoValue, IsFaultOfValue, IsHelp};
-ghost use Rattle.ospf_words.specs.Unasked.{IsFirstWrong, IsJobIfAny, IsNoAddress, IsUnasked, HasNoChoice, IsWrongValue};
-ghost use Rattle.ospf_words.specs.Words.{AreChoices, IsAddressIfAny, IsAsked, Spell, addresses_rule, check_app, choices_rule, command_app, failures_app, files_rule, flag_rule, lsas_app, one_rule, option_rule, ospfd_app, path_app, root_rule, run_app, script_rule, sim_app, table_app, tick_rule, ticks_rule, without_rule};
+ghost use Rattle.ospf_words.specs.Unasked.{IsFirstWrong, IsJobIfAny, IsNoAddress, IsUnasked, HasNoChoice, IsWrongValue, IsUncounted, LacksInRun};
+ghost use Rattle.ospf_words.specs.Words.{AreChoices, IsAddressIfAny, IsAsked, Spell, addresses_rule, check_app, choices_rule, command_app, failures_app, files_rule, flag_rule, lsas_app, one_rule, option_rule, ospfd_app, path_app, root_rule, run_app, script_rule, sim_app, table_app, tick_rule, ticks_rule, without_rule, HasTicks, IsAccepted, IsEndless, IsEndlessIn, IsEndlessJob, IsJobOf, IsRunWith, app_with, endless_app, every_rule};
 
 use crate::build::VERSION;
 use crate::jobs::{CheckJob, Job, JobFault, RunJob, SimJob};
@@ -181,13 +181,20 @@ Example:
 ";
 
 // What `run --help` says below its words.
-const RUN_HELP: &str =
-    "Output, when the last tick has passed, for each router in the order of the files:
+const RUN_HELP: &str = "Output, when the run has ended, for each router in the order of the files:
   router R                    its Router ID
   PREFIX COST HOPS            its routing table, a line a route, as of `table`
   lookup ADDRESS ..           with --lookup, what the table sends the address to
+  LINK R STATE                with --neighbours, a line a neighbour: the number of
+                              the link, its Router ID, the state it is in
+  KIND ID R NUMBER SUM        with --listing, a line an LSA: router or network, its
+                              Link State ID, Advertising Router, number, checksum
+  drops LINK CAUSE N          with --drops, how many packets were dropped, and why
   floor NUMBER                with --floor, the greatest number of its own LSAs
   FILE: U2 Send               on standard error, in place of these, where it failed
+With --every N, each N ticks of a router, its table below a line
+  router R tick N
+`forever` runs until it is killed, or with --until-eof until standard input ends.
 
 Exit status:
   0  all routers came to the end
@@ -198,10 +205,14 @@ Exit status:
 
 Example:
   ospfd run --tick 100 --lookup 192.168.2.9 60 first.toml second.toml
+  ospfd run --until-eof --every 10 forever first.toml
 ";
 
 // The word that stands for all roots.
 const ALL: &str = "all";
+
+// The word that stands in place of the ticks of a run without a last one.
+const FOREVER: &str = "forever";
 
 // The most ticks of a run.
 const MOST_TICKS: u64 = 1_000_000;
@@ -219,7 +230,7 @@ pub fn not_text(alloc: Global) -> JobFault
     ensures fault { IsFaultOfNoValue result }
     ensures not_help { IsHelp result → ⊥ }
 {
-    let told = match command(alloc) {
+    let told = match command(alloc, ticks_arg(alloc)) {
         Ok(mut command) => command.error(ErrorKind::InvalidValue, "a word is not UTF-8"),
         Err(error) => Err(error),
     };
@@ -229,16 +240,31 @@ pub fn not_text(alloc: Global) -> JobFault
     }
 }
 
-/// Reads the program's words, without its own name.
+/// Reads the program's words, without its own name. The word `forever` may stand in place of the ticks of a run.
 ///
 /// The error is `Words` where they fit no command, or ask for help or the version, `Address` with the
 /// first word that is to be an address and is none, and `Memory` where memory ran out.
 pub fn job(alloc: Global, words: &[&str]) -> Result<Job, JobFault>
     ensures ok { IfOk result (IsAsked (map (λ w. w.now) words.now)) }
-    ensures accepted { OnOk result (fault_of command_app (map (λ w. w.now) words.now) ≡ []) }
+    ensures accepted { OnOk result (IsAccepted (map (λ w. w.now) words.now)) }
     ensures fault { IfErr result (IsUnasked (map (λ w. w.now) words.now)) }
 {
-    let mut command = command(alloc)?;
+    match counted_job(alloc, words) {
+        Err(JobFault::Words(error)) => match endless_job(alloc, words)? {
+            Some(job) => Ok(job),
+            None => Err(JobFault::Words(error)),
+        },
+        counted => counted,
+    }
+}
+
+// Reads words where the ticks of a run are a number.
+fn counted_job(alloc: Global, words: &[&str]) -> Result<Job, JobFault>
+    ensures ok { IfOk result (IsJobOf (subcommand_of command_app (map (λ w. w.now) words.now))) }
+    ensures accepted { OnOk result (fault_of command_app (map (λ w. w.now) words.now) ≡ []) }
+    ensures fault { IfErr result (IsUncounted (map (λ w. w.now) words.now)) }
+{
+    let mut command = command(alloc, ticks_arg(alloc))?;
     let matches = command.try_get_matches_from_mut(words)?;
     match entered_job(alloc, &matches)? {
         Some(job) => Ok(job),
@@ -246,9 +272,27 @@ pub fn job(alloc: Global, words: &[&str]) -> Result<Job, JobFault>
     }
 }
 
-// The words that the program knows.
-fn command<'a>(alloc: Global) -> Result<Command<'a>, AllocError>
-    ensures { IfOk result (λ c. app_of c ≡ command_app) }
+// Reads words where the ticks of a run are any word: the job is that of a run without a last tick, if they ask for one.
+fn endless_job(alloc: Global, words: &[&str]) -> Result<Option<Job>, JobFault>
+    ensures ok { IfOk result (λ found. IfSome found (IsEndless (map (λ w. w.now) words.now))) }
+    ensures accepted { IfOk result (λ found. IfSome found
+        (λ _. fault_of endless_app (map (λ w. w.now) words.now) ≡ [])) }
+    ensures fault { IfErr result (IsFaultOfValue
+        (IsWrongValue (subcommand_of endless_app (map (λ w. w.now) words.now)))) }
+{
+    let mut command = command(alloc, any_ticks_arg(alloc))?;
+    let matches = match command.try_get_matches_from_mut(words) {
+        Ok(matches) => matches,
+        Err(error) if error.kind() == ErrorKind::OutOfMemory => return Err(JobFault::Memory),
+        Err(_) => return Ok(None),
+    };
+    entered_endless(alloc, &matches)
+}
+
+// The words that the program knows, where a run has these ticks.
+fn command<'a>(alloc: Global, ticks: Arg<'a>) -> Result<Command<'a>, AllocError>
+    requires { ticks.global ≡ false }
+    ensures { IfOk result (λ c. app_of c ≡ app_with (rule_of ticks.entry)) }
 {
     let program = with_table(program(alloc)?, alloc)?;
     let program = with_failures(program, alloc)?;
@@ -256,7 +300,7 @@ fn command<'a>(alloc: Global) -> Result<Command<'a>, AllocError>
     let program = with_path(program, alloc)?;
     let program = with_check(program, alloc)?;
     let program = with_sim(program, alloc)?;
-    with_run(program, alloc)
+    with_run(program, ticks, alloc)
 }
 
 // The program, before its commands.
@@ -508,19 +552,30 @@ fn pcap_arg<'a>(alloc: Global) -> Arg<'a>
     )
 }
 
-// Adds the command `run` and its words.
-fn with_run<'a>(program: Command<'a>, alloc: Global) -> Result<Command<'a>, AllocError>
-    ensures { IfOk result (λ c. app_of c ≡ with_subcommand (app_of program.entry) run_app.top) }
+// Adds the command `run` and its words, with these ticks.
+fn with_run<'a>(
+    program: Command<'a>,
+    ticks: Arg<'a>,
+    alloc: Global,
+) -> Result<Command<'a>, AllocError>
+    requires { ticks.global ≡ false }
+    ensures { IfOk result (λ c. app_of c ≡ with_subcommand (app_of program.entry)
+        (run_app (rule_of ticks.entry)).top) }
 {
     let run = Command::new(alloc, "run")
         .about("Runs a router for each configuration, each in a thread, over UDP on this machine")
         .after_help(RUN_HELP)
-        .arg(ticks_arg(alloc))?
+        .arg(ticks)?
         .arg(files_arg(alloc))?
         .arg(tick_arg(alloc))?
         .arg(lookup_arg(alloc))?
         .arg(floor_arg(alloc))?
-        .arg(pcap_arg(alloc))?;
+        .arg(pcap_arg(alloc))?
+        .arg(neighbours_arg(alloc))?
+        .arg(listing_arg(alloc))?
+        .arg(drops_arg(alloc))?
+        .arg(every_arg(alloc))?
+        .arg(until_eof_arg(alloc))?;
     program.subcommand(run)
 }
 
@@ -531,9 +586,17 @@ fn ticks_arg<'a>(alloc: Global) -> Arg<'a>
 {
     Arg::new(alloc, "ticks")
         .value_name("TICKS")
-        .help("How many ticks the routers run, 1 to 1000000")
+        .help("How many ticks the routers run, 1 to 1000000, or forever")
         .required(true)
         .value_parser(ValueParser::unsigned(1, MOST_TICKS))
+}
+
+// The word in place of the ticks.
+fn any_ticks_arg<'a>(alloc: Global) -> Arg<'a>
+    ensures rule { rule_of result ≡ one_rule (codes "ticks") }
+    ensures local { result.global ≡ false }
+{
+    Arg::new(alloc, "ticks").value_name("TICKS").required(true)
 }
 
 // The milliseconds of a tick.
@@ -571,6 +634,62 @@ fn floor_arg<'a>(alloc: Global) -> Arg<'a>
         .help("What the numbers of own LSAs begin above, in eight hexadecimal digits")
 }
 
+// Whether neighbours are printed.
+fn neighbours_arg<'a>(alloc: Global) -> Arg<'a>
+    ensures rule { rule_of result ≡ flag_rule (codes "neighbours") }
+    ensures local { result.global ≡ false }
+{
+    Arg::new(alloc, "neighbours")
+        .long("neighbours")
+        .action(ArgAction::SetTrue)
+        .help("Prints the neighbours of each router at the end, as `sim` does")
+}
+
+// Whether listings are printed.
+fn listing_arg<'a>(alloc: Global) -> Arg<'a>
+    ensures rule { rule_of result ≡ flag_rule (codes "listing") }
+    ensures local { result.global ≡ false }
+{
+    Arg::new(alloc, "listing")
+        .long("listing")
+        .action(ArgAction::SetTrue)
+        .help("Prints the LSAs that each router lists at the end, as `sim` does")
+}
+
+// Whether it is printed what was dropped.
+fn drops_arg<'a>(alloc: Global) -> Arg<'a>
+    ensures rule { rule_of result ≡ flag_rule (codes "drops") }
+    ensures local { result.global ≡ false }
+{
+    Arg::new(alloc, "drops")
+        .long("drops")
+        .action(ArgAction::SetTrue)
+        .help("Prints how many packets each router dropped, by link and cause, at the end")
+}
+
+// After how many ticks tables are printed.
+fn every_arg<'a>(alloc: Global) -> Arg<'a>
+    ensures rule { rule_of result ≡ every_rule }
+    ensures local { result.global ≡ false }
+{
+    Arg::new(alloc, "every")
+        .long("every")
+        .value_name("N")
+        .help("Prints the table of each router each N ticks, 1 to 1000000")
+        .value_parser(ValueParser::unsigned(1, MOST_TICKS))
+}
+
+// Whether the run ends where standard input ends.
+fn until_eof_arg<'a>(alloc: Global) -> Arg<'a>
+    ensures rule { rule_of result ≡ flag_rule (codes "until-eof") }
+    ensures local { result.global ≡ false }
+{
+    Arg::new(alloc, "until-eof")
+        .long("until-eof")
+        .action(ArgAction::SetTrue)
+        .help("Ends the run, within a tick, where standard input ends")
+}
+
 // The job of the command that the words entered, if its values make one.
 fn entered_job(alloc: Global, matches: &ArgMatches<'_>) -> Result<Option<Job>, JobFault>
     ensures ok { IfOk result (IsJobIfAny (subcommand_rows_of matches.now)) }
@@ -596,6 +715,18 @@ fn entered_job(alloc: Global, matches: &ArgMatches<'_>) -> Result<Option<Job>, J
     }
     if let Some(values) = matches.subcommand_matches("run") {
         return run_job(alloc, values);
+    }
+    Ok(None)
+}
+
+// The job of a run without a last tick, if the words entered that and its values make one.
+fn entered_endless(alloc: Global, matches: &ArgMatches<'_>) -> Result<Option<Job>, JobFault>
+    ensures ok { IfOk result (λ found. IfSome found
+        (IsEndlessIn (subcommand_rows_of matches.now))) }
+    ensures fault { IfErr result (IsFaultOfValue (IsWrongValue (subcommand_rows_of matches.now))) }
+{
+    if let Some(values) = matches.subcommand_matches("run") {
+        return endless_run(alloc, values);
     }
     Ok(None)
 }
@@ -820,6 +951,36 @@ fn run_job(alloc: Global, values: &ArgMatches<'_>) -> Result<Option<Job>, JobFau
     let Some(ticks) = values.get_one::<u64>("ticks") else {
         return Ok(None);
     };
+    run_with(alloc, values, Some(ticks))
+}
+
+// The values of `run`: its job without a last tick, if that is asked for and they have files.
+fn endless_run(alloc: Global, values: &ArgMatches<'_>) -> Result<Option<Job>, JobFault>
+    ensures ok { IfOk result (λ found. IfSome found
+        (IsEndlessJob (rows_of (found_of values.now)))) }
+    ensures fault { IfErr result (IsFaultOfValue
+        (IsWrongValue (Some (codes "run", rows_of (found_of values.now))))) }
+{
+    match values.get_str("ticks") {
+        Some(word) if word == FOREVER => run_with(alloc, values, None),
+        _ => Ok(None),
+    }
+}
+
+// The values of `run`: its job with these ticks, if they have files.
+fn run_with(
+    alloc: Global,
+    values: &ArgMatches<'_>,
+    ticks: Option<u64>,
+) -> Result<Option<Job>, JobFault>
+    requires { HasTicks (rows_of (found_of values.now)) ticks }
+    ensures some { IfOk result (λ found. IfSome found
+        (IsRunWith (rows_of (found_of values.now)) ticks)) }
+    ensures none { IfOk result (λ found. IfNone found
+        (LacksInRun (rows_of (found_of values.now)))) }
+    ensures fault { IfErr result (IsFaultOfValue
+        (IsWrongValue (Some (codes "run", rows_of (found_of values.now))))) }
+{
     let Some(milliseconds) = values.get_one::<u64>("tick") else {
         return Ok(None);
     };
@@ -830,11 +991,21 @@ fn run_job(alloc: Global, values: &ArgMatches<'_>) -> Result<Option<Job>, JobFau
     let lookup = parsed_if_any(alloc, values.get_str("lookup"))?;
     let floor = owned_if_any(alloc, values.get_str("floor"))?;
     let pcap = owned_if_any(alloc, values.get_str("pcap"))?;
+    let every = values.get_one::<u64>("every");
+    let until_eof = values.get_flag("until-eof");
+    let neighbours = values.get_flag("neighbours");
+    let listing = values.get_flag("listing");
+    let drops = values.get_flag("drops");
     Ok(Some(Job::Run(RunJob {
         ticks,
+        until_eof,
         milliseconds,
         lookup,
         floor,
+        neighbours,
+        listing,
+        drops,
+        every,
         pcap,
         files,
     })))

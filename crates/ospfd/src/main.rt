@@ -10,19 +10,20 @@ use ospf_files::{
     FailedStreams, Failure, NamedFile, Status, read_file, read_files, tell_unwritten,
 };
 use ospf_inspect::inspect_text;
-use ospf_notes::{Line, Notes};
+use ospf_notes::{Line, Noted, Notes, Tables};
+use ospf_prepare::prepare;
 use ospf_records::write_records;
-use ospf_run::{Settings, run_text};
+use ospf_run::{Ending, Settings, run_text};
 use ospf_sim::{Simulated, sim_text};
 use ospf_table::table_text;
 use ospf_words::{CheckJob, Job, JobFault, RunJob, SimJob, job, not_text};
 use std::alloc::Global;
-use std::io::{self, BufReader, BufWriter, ErrorKind, IsTerminal, Write};
+use std::io::{self, BufReader, BufWriter, ErrorKind, IsTerminal, Read, Write};
 use std::net::Net;
 use std::process::ExitCode;
 use std::rt::Runtime;
 use std::sync::Wait;
-use std::thread::Threads;
+use std::thread::{self, Threads};
 use std::time::Clock;
 use std::{env, fs};
 
@@ -107,76 +108,145 @@ fn open_capture<R: Runtime, E: Write>(
     }
 }
 
-// Runs routers of the configurations in files, and notes what they send and how far they have come.
+// Runs routers of the configurations in files, and notes what is wanted of them.
 fn run_noted<
     R: Runtime + AllocGlobal + Net + Threads + Wait + Clock + Copy + Send + Drop + 'static,
     O: Write,
     E: Write,
     F: Write + Send + Drop + 'static,
     T: Write + Send + Drop + 'static,
+    P: Write + Send + Drop + 'static,
 >(
     rt: &R,
     settings: &Settings,
     files: &[NamedFile],
-    pcap: Option<(String, F)>,
+    pcap: Option<&str>,
+    noted: Noted<F, T, P>,
     out: &mut O,
     err: &mut E,
-    line: Line<T>,
 ) -> io::Result<Status> {
     let alloc = rt.alloc();
-    let (name, capture) = pcap.unzip();
-    let notes = Notes::new(*rt, alloc, settings.ticks, capture, line)?;
+    let notes = Notes::new(*rt, alloc, noted)?;
     let status = run_text(rt, alloc, settings, files, &notes, out, err);
-    match name {
-        Some(name) if !notes.is_written() => {
-            let _ = tell_unwritten(&name, err);
+    match (pcap, notes.failure()) {
+        (Some(name), _) if !notes.is_written() => {
+            let _ = tell_unwritten(name, err);
             Ok(Status::Stream)
+        }
+        (_, Some(failure)) if status.code() == Status::Done.code() => {
+            Ok(failure.tell(err, &mut FailedStreams::none()))
         }
         _ => Ok(status),
     }
 }
 
-// Runs routers of the configurations in the files of these names.
+// Tells the ending where standard input ends, or cannot be read any more.
+fn await_end<R: Runtime>(rt: &R, ending: &Ending) {
+    let mut buffer = [0; 4096];
+    let mut input = rt.reader();
+    for _ in 0..u64::MAX {
+        match input.read(&mut buffer) {
+            Ok(0) => break,
+            Ok(_) => {}
+            Err(error) if error.kind() == ErrorKind::Interrupted => {}
+            Err(_) => break,
+        }
+    }
+    ending.tell();
+}
+
+// What ends a run where standard input ends, which a thread waits for. No one waits for the thread: where the run ends first, it
+// ends with the program.
+fn end_of_input<R: Runtime + AllocGlobal + Threads + Wait + Copy + Send + Drop + 'static>(
+    rt: &R,
+) -> io::Result<Ending> {
+    let ending = Ending::new(rt.alloc())?;
+    let told = ending.another()?;
+    let rt = *rt;
+    match thread::spawn(&rt, move || await_end(&rt, &told)) {
+        Ok(_thread) => Ok(ending),
+        Err(_) => Err(io::Error::from(ErrorKind::OutOfMemory)),
+    }
+}
+
+// What is asked for of a run.
+fn settings_of<R: Runtime + AllocGlobal + Threads + Wait + Copy + Send + Drop + 'static>(
+    rt: &R,
+    job: RunJob,
+) -> io::Result<(Settings, Vec<String>)> {
+    let ending = if job.until_eof {
+        Some(end_of_input(rt)?)
+    } else {
+        None
+    };
+    Ok((
+        Settings {
+            ticks: job.ticks,
+            ending,
+            milliseconds: job.milliseconds,
+            lookup: job.lookup,
+            floor: job.floor,
+            neighbours: job.neighbours,
+            listing: job.listing,
+            drops: job.drops,
+        },
+        job.files,
+    ))
+}
+
+// Runs routers of the configurations in the files of these names. The file for a capture is opened where these can run: else it
+// stays as it was.
 fn run_routers<
     R: Runtime + AllocGlobal + Net + Threads + Wait + Clock + Copy + Send + Drop + 'static,
     O: Write,
     E: Write,
     T: Write + Send + Drop + 'static,
->(rt: &R, job: RunJob, out: &mut O, err: &mut E, line: Line<T>) -> io::Result<Status>
+    P: Write + Send + Drop + 'static,
+>(
+    rt: &R,
+    mut job: RunJob,
+    out: &mut O,
+    err: &mut E,
+    line: Line<T>,
+    printer: P,
+) -> io::Result<Status>
 where
     R::File: Send + 'static,
 {
-    let RunJob {
-        ticks,
-        milliseconds,
-        lookup,
-        floor,
-        pcap,
-        files,
-    } = job;
+    let (pcap, every) = (job.pcap.take(), job.every);
+    let (settings, files) = settings_of(rt, job)?;
     let files = read_files(rt, files)?;
-    let settings = Settings {
-        ticks,
-        milliseconds,
-        lookup,
-        floor,
+    let capture = match &pcap {
+        Some(name) if prepare(rt.alloc(), &settings.floor, &files).is_ok() => {
+            match open_capture(rt, name, err)? {
+                Some(file) => Some(file),
+                None => return Ok(Status::Stream),
+            }
+        }
+        _ => None,
     };
-    match pcap {
-        None => run_noted::<R, O, E, R::File, T>(rt, &settings, &files, None, out, err, line),
-        Some(name) => match open_capture(rt, &name, err)? {
-            Some(file) => run_noted(rt, &settings, &files, Some((name, file)), out, err, line),
-            None => Ok(Status::Stream),
-        },
-    }
+    let tables = match every {
+        Some(every) => Some(Tables::new(every, BufWriter::new(rt.alloc(), printer)?)),
+        None => None,
+    };
+    let noted = Noted {
+        of: settings.ticks,
+        capture,
+        line,
+        tables,
+        drops: settings.drops,
+    };
+    run_noted(rt, &settings, &files, pcap.as_deref(), noted, out, err)
 }
 
-// Does what the program's words say, and tells by the line how far it has come, if standard error is a terminal. Where it fails,
-// memory ran out.
+// Does what the program's words say, and tells by the line how far it has come, if standard error is a terminal. What is printed
+// while something runs goes to the printer, which is standard output too. Where it fails, memory ran out.
 fn run<
     R: Runtime + AllocGlobal + Net + Threads + Wait + Clock + Copy + Send + Drop + 'static,
     E: Write,
     T: Write + Send + Drop + 'static,
->(rt: &R, err: &mut E, line: Line<T>) -> io::Result<ExitCode>
+    P: Write + Send + Drop + 'static,
+>(rt: &R, err: &mut E, line: Line<T>, printer: P) -> io::Result<ExitCode>
 where
     R::File: Send + 'static,
 {
@@ -198,7 +268,7 @@ where
         }
         Ok(Job::Check(check)) => run_check(rt, check, &mut out, err)?,
         Ok(Job::Sim(sim)) => run_sim(rt, sim, &mut out, err, line)?,
-        Ok(Job::Run(routers)) => run_routers(rt, routers, &mut out, err, line)?,
+        Ok(Job::Run(routers)) => run_routers(rt, routers, &mut out, err, line, printer)?,
         Err(fault) => fault.tell(&mut out, err),
     };
     Ok(ExitCode::from(status))
@@ -207,7 +277,12 @@ where
 fn main(rt: HostRuntime) -> ExitCode {
     let err = rt.stderr();
     let is_terminal = err.is_terminal();
-    match run(&rt, &mut rt.stderr(), Line::new(err, is_terminal)) {
+    match run(
+        &rt,
+        &mut rt.stderr(),
+        Line::new(err, is_terminal),
+        rt.stdout(),
+    ) {
         Ok(code) => code,
         Err(_) => ExitCode::from(Failure::Memory.tell(
             &mut rt.stderr(),

@@ -12,7 +12,7 @@ returns-in_default-event_at g c = record {
 
 pub returns-then-not-step : goal.returns-then-not-step
 returns-then-not-step g c =
-    let sent = rw c.sent.ensures.sent at c.in-Ok-show_and_send.ensures.out in
+    let sent = c.in-Ok-show_and_send.ensures.out in
     record {
       ok = stepped_quietly (heard c.in-Ok.arrival c.recv.new.buffer) (happening c.in-Some.event) c.in-Ok-step.step (is_end-heard c.in-Ok.arrival c.recv.new.buffer c.in_default-arrival.not-End) c.in-Some.ensures.some c.in-Ok.ensures.taken c.in-Ok-step.ensures.taken sent c.in-Ok.ensures.taken_failures c.in-Ok-show_and_send.ensures.out_failures c.if-not-step.true;
       err = tt;
@@ -20,7 +20,7 @@ returns-then-not-step g c =
 
 pub returns-in-Ok-publish : goal.returns-in-Ok-publish
 returns-in-Ok-publish g c =
-    let sent = rw c.sent.ensures.sent at c.in-Ok-show_and_send.ensures.out in
+    let sent = c.in-Ok-show_and_send.ensures.out in
     record {
       ok = stepped_published (heard c.in-Ok.arrival c.recv.new.buffer) (happening c.in-Some.event) c.in-Ok-step.step (is_end-heard c.in-Ok.arrival c.recv.new.buffer c.in_default-arrival.not-End) c.in-Some.ensures.some c.in-Ok.ensures.taken c.in-Ok-step.ensures.taken sent c.in-Ok.ensures.taken_failures c.in-Ok-show_and_send.ensures.out_failures c.if-not-step.false c.table.ensures c.in-Ok-publish.ensures.fib c.in-Ok-publish.ensures.published c.in-Ok-publish.ensures.told;
       err = tt;
@@ -28,7 +28,7 @@ returns-in-Ok-publish g c =
 
 pub returns : goal.returns
 returns g c =
-    let sent = rw c.sent.ensures.sent at c.in-Ok-show_and_send.ensures.out in
+    let sent = c.in-Ok-show_and_send.ensures.out in
     record {
       ok = tt;
       err = failed_to_publish (heard c.in-Ok.arrival c.recv.new.buffer) (happening c.in-Some.event) c.in-Ok-step.step c.in-Some.ensures.some c.in-Ok.ensures.taken c.in-Ok-step.ensures.taken sent (c.in-Ok-show_and_send.ensures.out_failures ∙ c.in-Ok.ensures.taken_failures) c.if-not-step.false (same_known c.args.writer.now c.publish.new.self c.in-Err.ensures.fib c.in-Err.ensures.refused);
@@ -36,7 +36,7 @@ returns g c =
 
 pub returns-in_default-show_and_send : goal.returns-in_default-show_and_send
 returns-in_default-show_and_send g c =
-    let some_out = rw c.sent.ensures.sent at c.in_default-show_and_send.ensures.some_out in
+    let some_out = c.in_default-show_and_send.ensures.some_out in
     record {
       ok = tt;
       err = failed_to_send (heard c.in-Ok.arrival c.recv.new.buffer) (happening c.in-Some.event) c.in-Ok-step.step some_out.0 c.in-Some.ensures.some c.in-Ok.ensures.taken c.in-Ok-step.ensures.taken some_out.1 some_out.2 (c.in_default-show_and_send.ensures.some_failures ∙ ap (λ (n : ℕ). n + 1) c.in-Ok.ensures.taken_failures);

@@ -17,6 +17,6 @@ returns-in-Ok-look_if_asked g c = λ a ran.
       known = c.in-Ok.driven.1;
       told = c.in-Ok.driven.2;
       drives = drives;
-      ticked = λ handed count counted. c.all_ticks_are_taken.ensures a _ c.in-Ok.driven.2 handed count drives.drives counted;
+      ticked = λ handed span counted. c.all_ticks_are_taken.ensures a _ c.in-Ok.driven.2 handed span drives.drives counted;
       looked = c.in-Ok-look_if_asked.ensures;
     }

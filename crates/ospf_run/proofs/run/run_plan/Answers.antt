@@ -1,23 +1,25 @@
-use Rattle.std.proofs.Common.{◌≡◌, ◌+◌, ◌<◌, ◌^◌, ◌∙◌, ap, length, subst, sym}
+use Rattle.std.proofs.Common.{All, ◌≡◌, ◌+◌, ◌<◌, ◌^◌, ◌∙◌, ap, length, subst, sym}
 use Rattle.ospf_drive.specs.Traffic.Carried.{Ticks}
 use Rattle.ospf_run.proofs.Lists.{all_paired, as_many}
-use Rattle.ospf_run.proofs.Planned.{as_many_configs, passed_on, stopped_early}
+use Rattle.ospf_prepare.proofs.Planned.{as_many_configs, passed_on, stopped_early}
 use Rattle.ospf_run.proofs.Wired.{all_counted, all_fresh}
-use Rattle.ospf_run.specs.Obstacles.{IsStop, no_memory}
-use Rattle.ospf_run.specs.Plans.{HasPlan}
-use Rattle.ospf_run.specs.Runs.{floor_of}
-use Rattle.ospf_run.specs.declared.stop.Stop.TheVariants as stop
+use Rattle.ospf_prepare.specs.Obstacles.{IsStop, IsStopOfPlan, no_memory}
+use Rattle.ospf_prepare.specs.Plans.{HasPlan, HasPorts}
+use Rattle.ospf_run.specs.Runs.{floor_of, span_of}
+use Rattle.ospf_prepare.specs.declared.stop.Stop.TheVariants as stop
 use Rattle.ospf_udp.specs.Wires.{UdpValue}
 use Rattle.ospf_run.proofs.run.run_plan.Goals as goal
 
-pub open_wires-requires : goal.open_wires-requires
-open_wires-requires g c = as_many_configs c.args.files.now c.args.plan.now.configs.items c.requires.are_configs ∙ ap (λ configs. length configs) (sym c.deref.ensures.value)
+pub open_wires-requires-clause-files : goal.open_wires-requires-clause-files
+open_wires-requires-clause-files g c = as_many_configs c.args.files.now c.args.plan.now.configs.items c.requires.are_configs ∙ ap (λ configs. length configs) (sym c.deref.ensures.value)
+
+pub open_wires-requires-clause-ports : goal.open_wires-requires-clause-ports
+open_wires-requires-clause-ports g c = subst (λ configs. All HasPorts configs) (sym c.deref.ensures.value) c.requires.ports
 
 pub returns-in_err-sockets-clause-stop : goal.returns-in_err-sockets-clause-stop
 returns-in_err-sockets-clause-stop g c =
-    let has : HasPlan (floor_of c.args.settings.now) c.args.files.now = record { configs = c.args.plan.now.configs.items; least = c.args.plan.now.floor; plan = c.requires } in
     passed_on c.from_residual.result c.in_err-sockets.field-0.0 (IsStop (floor_of c.args.settings.now) c.args.files.now) c.from_residual.ensures.1
-    (c.in_err-sockets.ensures.stop (floor_of c.args.settings.now) has)
+    (subst (λ configs. IsStopOfPlan c.args.files.now configs c.in_err-sockets.field-0.0) c.deref.ensures.value c.in_err-sockets.ensures.stop (floor_of c.args.settings.now) c.args.plan.now.floor c.requires)
 
 pub tap_all-requires-clause-files : goal.tap_all-requires-clause-files
 tap_all-requires-clause-files g c =
@@ -43,14 +45,14 @@ pub run_over-requires-clause-fresh : goal.run_over-requires-clause-fresh
 run_over-requires-clause-fresh g c κs within =
     all_paired (λ wire it. it.wire ≡ wire) (λ (w : UdpValue). w.failed + 1 < 2 ^ 64) (λ it. it.wire.failed + 1 < 2 ^ 64) c.in_ok-sockets.sockets.items c.in_ok-wires.wires.items
     (λ wire it is fresh. subst (λ (w : UdpValue). w.failed + 1 < 2 ^ 64) (sym is) fresh) c.in_ok-wires.ensures
-    (all_fresh c.args.settings.now.ticks c.in_ok-sockets.sockets.items c.in_ok-sockets.ensures.wires.1)
+    (all_fresh (span_of c.args.settings.now) c.in_ok-sockets.sockets.items c.in_ok-sockets.ensures.wires.1)
 
 pub run_over-requires-clause-counted : goal.run_over-requires-clause-counted
 run_over-requires-clause-counted g c κs within =
-    all_paired (λ wire it. it.wire ≡ wire) (λ (w : UdpValue). Ticks w.handed w.count ≡ Ticks 0 c.args.settings.now.ticks) (λ it. Ticks it.wire.handed it.wire.count ≡ Ticks 0 c.args.settings.now.ticks)
+    all_paired (λ wire it. it.wire ≡ wire) (λ (w : UdpValue). Ticks w.handed w.span ≡ Ticks 0 (span_of c.args.settings.now)) (λ it. Ticks it.wire.handed it.wire.span ≡ Ticks 0 (span_of c.args.settings.now))
     c.in_ok-sockets.sockets.items c.in_ok-wires.wires.items
-    (λ wire it is counted. subst (λ (w : UdpValue). Ticks w.handed w.count ≡ Ticks 0 c.args.settings.now.ticks) (sym is) counted) c.in_ok-wires.ensures
-    (all_counted c.args.settings.now.ticks c.in_ok-sockets.sockets.items c.in_ok-sockets.ensures.wires.1)
+    (λ wire it is counted. subst (λ (w : UdpValue). Ticks w.handed w.span ≡ Ticks 0 (span_of c.args.settings.now)) (sym is) counted) c.in_ok-wires.ensures
+    (all_counted (span_of c.args.settings.now) c.in_ok-sockets.sockets.items c.in_ok-sockets.ensures.wires.1)
 
 pub returns-in_err-outcomes-clause-stop : goal.returns-in_err-outcomes-clause-stop
 returns-in_err-outcomes-clause-stop g c =

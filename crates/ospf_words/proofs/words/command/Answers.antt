@@ -1,6 +1,6 @@
 use Rattle.std.proofs.Common.{ap, ◌∙◌}
 use Rattle.std.proofs.lemmas.Result.{IfOk-weaker}
-use Rattle.clap.specs.Words.{App, with_subcommand}
+use Rattle.clap.specs.Words.{App, rule_of, with_subcommand}
 use Rattle.ospf_words.specs.Words.{check_app, failures_app, lsas_app, path_app, run_app, sim_app, table_app}
 use Rattle.ospf_words.proofs.words.command.Goals as goal
 
@@ -12,4 +12,4 @@ returns c =
     let with_path = c.in_ok-program-5.ensures ∙ ap (λ (a : App). with_subcommand a path_app.top) with_lsas in
     let with_check = c.in_ok-program-6.ensures ∙ ap (λ (a : App). with_subcommand a check_app.top) with_path in
     let with_sim = c.in_ok-program-7.ensures ∙ ap (λ (a : App). with_subcommand a sim_app.top) with_check in
-    IfOk-weaker c.with_run.result _ _ (λ r is. is ∙ ap (λ (a : App). with_subcommand a run_app.top) with_sim) c.with_run.ensures
+    IfOk-weaker c.with_run.result _ _ (λ r is. is ∙ ap (λ (a : App). with_subcommand a (run_app (rule_of c.args.ticks)).top) with_sim) c.with_run.ensures

@@ -3,4 +3,8 @@ use Rattle.ospf_udp.proofs.sockets.Sockets.next_arrival.Given as goal
 
 -- no tick was taken
 abbrev pub invariant-loop : goal.invariant-loop
-invariant-loop g l = (l.self.ticks.taken ≡ l.fn.self.ticks.taken) × (l.self.ticks.count ≡ l.fn.self.ticks.count)
+invariant-loop g l = record {
+  taken : l.self.ticks.taken ≡ l.fn.self.ticks.taken;
+  most : l.self.ticks.most ≡ l.fn.self.ticks.most;
+  ending : l.self.ticks.ending ≡ l.fn.self.ticks.ending;
+}

@@ -1,0 +1,14 @@
+//! What is found of routers that are to run, before any socket is made.
+//!
+//! `prepare` reads the floor and the configurations in files, and answers the plan of what is to run, or the first thing
+//! that keeps it from running: an `Obstacle`, which says what is told of it and which status it ends with. What is
+//! refused, and in which order, stands in `specs/Plans` and `specs/Obstacles`.
+#![tactic(auto)]
+
+mod list;
+mod plan;
+mod stop;
+
+pub use crate::list::put;
+pub use crate::plan::{Plan, prepare};
+pub use crate::stop::{Obstacle, Stop, line_about, status_of, tell_obstacle};

@@ -1,0 +1,51 @@
+//! What came of routers that ran.
+
+use ospf_base::{Addr, RouterId};
+use ospf_drive::DriveFault;
+use ospf_fib::Answer;
+use ospf_files::NamedFile;
+use ospf_router::{Dropped, Router};
+
+/// An address, and what a lookup found for it.
+#[derive(Clone, Copy)]
+pub struct Looked {
+    pub address: Addr,
+    pub answer: Option<Answer>,
+}
+
+/// A router whose driver came to the end, and what a lookup in the table that was published last found.
+#[derive(Drop)]
+pub struct Shown {
+    pub router: Router,
+    pub looked: Option<Looked>,
+}
+
+/// What came of the router of a file.
+#[derive(Drop)]
+pub struct Outcome<'a> {
+    pub file: &'a NamedFile,
+    pub router: RouterId,
+    pub came: Result<Shown, DriveFault>,
+}
+
+/// How many packets a router dropped that came in on a link, for one cause.
+#[derive(Clone, Copy, Debug, PartialEq, Eq)]
+pub struct Drops {
+    pub router: RouterId,
+    pub link: usize,
+    pub cause: Dropped,
+    pub count: u64,
+}
+
+/// What is printed of each router beside its table and a lookup.
+#[derive(Debug, Drop)]
+pub struct Extras {
+    /// Its neighbours.
+    pub neighbours: bool,
+    /// The LSAs that it lists.
+    pub listing: bool,
+    /// What it dropped, of all routers.
+    pub drops: Vec<Drops>,
+    /// The floor of its numbers.
+    pub floor: bool,
+}
