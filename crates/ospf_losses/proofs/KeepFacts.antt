@@ -30,13 +30,14 @@ keeps_more percent i word offers kept kept' d g g' g'' within draws grows keeps 
     let next_is : g'' ≡ (pcg32 g').1 = ap (λ (p : ℕ × Lcg). p.1) draws in
     let rest = drop (i + 1) offers in
     let here : kept_offers percent (drop i offers) g' ≡ kept_offers percent (offer ∷ rest) g' =
-        at_drop_more (λ (os : List WorldEvent). kept_offers percent os g') offers i d within in
+    at_drop_more (λ (os : List WorldEvent). kept_offers percent os g') offers i d within in
     let step = one percent offer rest g' kept in
-    let grown : kept' ≡ kept ++ kept_offer percent (pcg32 g').0 offer [] = grows ∙ ap (λ (w : ℕ). kept ++ kept_offer percent w offer []) word_is in
-    (ap (λ (k : List WorldEvent). k ++ (kept_offers percent rest g'').0) grown
-        ∙ ap (λ (h : Lcg). (kept ++ kept_offer percent (pcg32 g').0 offer []) ++ (kept_offers percent rest h).0) next_is
-        ∙ step.0 ∙ ap (λ (p : List WorldEvent × Lcg). kept ++ p.0) (sym here) ∙ keeps.0,
-     ap (λ (h : Lcg). (kept_offers percent rest h).1) next_is ∙ step.1 ∙ ap (λ (p : List WorldEvent × Lcg). p.1) (sym here) ∙ keeps.1)
+    let grown : kept' ≡ kept ++ kept_offer percent (pcg32 g').0 offer [] = grows ∙ ap (λ (w : ℕ). kept ++ kept_offer percent w offer []) word_is in (
+      ap (λ (k : List WorldEvent). k ++ (kept_offers percent rest g'').0) grown
+          ∙ ap (λ (h : Lcg). (kept ++ kept_offer percent (pcg32 g').0 offer []) ++ (kept_offers percent rest h).0) next_is
+          ∙ step.0 ∙ ap (λ (p : List WorldEvent × Lcg). kept ++ p.0) (sym here) ∙ keeps.0,
+      ap (λ (h : Lcg). (kept_offers percent rest h).1) next_is ∙ step.1 ∙ ap (λ (p : List WorldEvent × Lcg). p.1) (sym here) ∙ keeps.1,
+    )
 
 nothing : (percent : ℕ) (kept : List WorldEvent) (g : Lcg) → (kept ++ (kept_offers percent [] g).0 ≡ kept) × ((kept_offers percent [] g).1 ≡ g)
 unfolding kept_offers
