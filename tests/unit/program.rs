@@ -762,10 +762,11 @@ fn reads_the_words_of_a_run(rt: HostRuntime) -> Result<(), Fail> {
     let Ok(Job::Run(run)) = job(rt.alloc(), &["run", "60", "a.toml", "b.toml"]) else {
         return Err(Fail::from("words"));
     };
-    assert_eq!(rt; run.ticks, 60);
+    assert_eq!(rt; run.ticks, Some(60));
     assert_eq!(rt; run.milliseconds, 1000);
     assert!(rt; run.lookup.is_none());
-    assert!(rt; run.floor.is_none() && run.pcap.is_none());
+    assert!(rt; run.floor.is_none() && run.pcap.is_none() && run.every.is_none());
+    assert!(rt; !run.neighbours && !run.listing && !run.drops && !run.until_eof);
     assert_eq!(rt; run.files.len(), 2);
     let words = [
         "run",
@@ -783,11 +784,35 @@ fn reads_the_words_of_a_run(rt: HostRuntime) -> Result<(), Fail> {
     let Ok(Job::Run(run)) = job(rt.alloc(), &words) else {
         return Err(Fail::from("words"));
     };
-    assert_eq!(rt; run.ticks, 120);
+    assert_eq!(rt; run.ticks, Some(120));
     assert_eq!(rt; run.milliseconds, 20);
     assert_eq!(rt; run.lookup, Some("192.168.2.9".parse::<Addr>()?));
     assert_eq!(rt; run.floor.as_deref(), Some("80000007"));
     assert_eq!(rt; run.pcap.as_deref(), Some("sent.pcap"));
     assert_eq!(rt; run.files.len(), 1);
+    Ok(())
+}
+
+#[test]
+fn reads_a_run_without_a_last_tick(rt: HostRuntime) -> Result<(), Fail> {
+    let words = [
+        "run",
+        "--neighbours",
+        "--listing",
+        "--drops",
+        "--every",
+        "10",
+        "--until-eof",
+        "forever",
+        "a.toml",
+    ];
+    let Ok(Job::Run(run)) = job(rt.alloc(), &words) else {
+        return Err(Fail::from("words"));
+    };
+    assert!(rt; run.ticks.is_none() && run.until_eof);
+    assert!(rt; run.neighbours && run.listing && run.drops);
+    assert_eq!(rt; run.every, Some(10));
+    assert_eq!(rt; run.files.len(), 1);
+    assert!(rt; job(rt.alloc(), &["run", "never", "a.toml"]).is_err());
     Ok(())
 }
