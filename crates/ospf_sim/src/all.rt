@@ -5,7 +5,7 @@ ghost use Rattle.ospf_sim.specs.All.{ComesAbout, all_of, config_events, link_eve
 
 use ospf_base::RouterId;
 use ospf_config::Config;
-use ospf_world::{Slot, World, WorldEvent, WorldFault};
+use ospf_world::{EventWatch, Slot, World, WorldEvent, WorldFault};
 use std::alloc::{AllocError, Global};
 
 // The first DD sequence number of each router that starts with all others.
@@ -23,13 +23,18 @@ pub(crate) enum All {
 }
 
 // That comes about at each router, one after another in the order of the configurations. What is refused is passed over.
-pub(crate) fn run_all(world: &mut World, all: All, alloc: Global) -> Result<(), WorldFault>
+pub(crate) fn run_all<V: EventWatch>(
+    world: &mut World,
+    all: All,
+    watch: &mut V,
+    alloc: Global,
+) -> Result<(), WorldFault>
     ensures { ComesAbout all world.old result world.new }
 {
     let Ok(events) = events_of(all, world.slots(), alloc) else {
         return Err(WorldFault::Memory { stopped: false });
     };
-    match world.run(&events, alloc) {
+    match world.run_watched(&events, watch, alloc) {
         Ok(_refused) => Ok(()),
         Err(fault) => Err(fault),
     }

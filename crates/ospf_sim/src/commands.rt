@@ -40,7 +40,7 @@ pub(crate) fn run_command<O: Write, V: Watch>(
     ensures cut { IfErr result (IsOutputCut streams.new) }
 {
     match event_of(command) {
-        Some(event) => Ok(world.step(event, alloc)),
+        Some(event) => Ok(world.step_watched(event, watch, alloc)),
         None => run_quiet(world, command, out, alloc, watch, streams),
     }
 }
@@ -173,9 +173,9 @@ fn run_other<O: Write, V: Watch>(
             choices,
         } => show_walk(world, *from, *address, choices, out, alloc, streams),
         Command::Say { text } => show_said(text, out, alloc, streams),
-        Command::StartAll => Ok(run_all(world, All::Starts, alloc)),
-        Command::UpAll => Ok(run_all(world, All::Up, alloc)),
-        Command::DownAll => Ok(run_all(world, All::Down, alloc)),
+        Command::StartAll => Ok(run_all(world, All::Starts, watch, alloc)),
+        Command::UpAll => Ok(run_all(world, All::Up, watch, alloc)),
+        Command::DownAll => Ok(run_all(world, All::Down, watch, alloc)),
         _ => Ok(Ok(())),
     }
 }
@@ -215,7 +215,7 @@ fn run_rounds<V: Watch>(
 {
     for done in 0..count {
         watch.begins_round(done, count);
-        match world.round_of(most, alloc) {
+        match world.round_watched(most, watch, alloc) {
             Ok(()) => {}
             Err(fault) => return Err(fault),
         }
@@ -253,7 +253,7 @@ fn run_events<V: Watch>(
     while done < count {
         watch.draws_events(done, count);
         let part = (count - done).min(EVENTS_AT_ONCE);
-        match world.draw_events(&mut generator, part, alloc) {
+        match world.draw_events_watched(&mut generator, part, watch, alloc) {
             Ok(()) => done += part,
             Err(fault) => return Err(fault),
         }

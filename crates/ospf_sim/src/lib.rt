@@ -15,4 +15,4 @@ mod watch;
 
 pub use crate::text::{Simulated, sim_text};
 pub use crate::watch::Watch;
-pub use ospf_world::World;
+pub use ospf_world::{EventWatch, World, WorldEvent, WorldFault};

@@ -4,12 +4,12 @@ use Rattle.ospf_sim.specs.All.{all_of}
 use Rattle.ospf_sim.proofs.Alls.{all_come, some_come}
 use Rattle.ospf_sim.proofs.all.run_all.Goals as goal
 
-pub returns-in-Ok-run : goal.returns-in-Ok-run
-returns-in-Ok-run c =
+pub returns-in-Ok-run_watched : goal.returns-in-Ok-run_watched
+returns-in-Ok-run_watched g c =
     let events_are : c.deref.result.now ≡ flat_map (all_of c.args.all) c.args.world.now.slots = c.deref.ensures.value ∙ c.in-Ok.ensures ∙ ap (flat_map (all_of c.args.all)) c.slots.ensures in
-    all_come c.args.all c.args.world.now c.run.new.self c.deref.result.now c.run.result c.in-Ok-run._refused events_are c.in-Ok-run.is c.run.ensures.run
+    all_come c.args.all c.args.world.now c.run_watched.new.self c.deref.result.now c.run_watched.result c.in-Ok-run_watched._refused events_are c.in-Ok-run_watched.is c.run_watched.ensures.run
 
 pub returns : goal.returns
-returns c =
+returns g c =
     let events_are : c.deref.result.now ≡ flat_map (all_of c.args.all) c.args.world.now.slots = c.deref.ensures.value ∙ c.in-Ok.ensures ∙ ap (flat_map (all_of c.args.all)) c.slots.ensures in
-    some_come c.args.all c.args.world.now c.run.new.self c.deref.result.now c.run.result c.in-Err.fault events_are c.in-Err.is c.run.ensures.run
+    some_come c.args.all c.args.world.now c.run_watched.new.self c.deref.result.now c.run_watched.result c.in-Err.fault events_are c.in-Err.is c.run_watched.ensures.run
