@@ -8,7 +8,7 @@ _ospfd() {
     fi
     case $before in
     --tick | --lookup | --floor | --every | --without) return ;;
-    --dot | --pcap)
+    --dot | --pcap | --log)
         mapfile -t COMPREPLY < <(compgen -f -- "$word")
         return
         ;;
@@ -17,8 +17,8 @@ _ospfd() {
     table) options="--without --help" ;;
     failures) options="--each --strict --help" ;;
     check) options="--explain --area --help" files=yes ;;
-    sim) options="--dot --pcap --help" files=yes ;;
-    run) options="--tick --lookup --floor --neighbours --listing --drops --every --until-eof --pcap --help" files=yes ;;
+    sim) options="--dot --pcap --log --json --help" files=yes ;;
+    run) options="--tick --lookup --floor --neighbours --listing --drops --every --until-eof --pcap --log --json --help" files=yes ;;
     help) options=$commands ;;
     *) options="--help" ;;
     esac

@@ -6,7 +6,7 @@ use ospf_check::{check_area_text, check_text};
 use ospf_failures::failures_text;
 use ospf_files::{FailedStreams, Failure, NamedFile, Status};
 use ospf_inspect::inspect_text;
-use ospf_sim::{Watch, sim_text};
+use ospf_sim::{EventWatch, Watch, World, WorldEvent, WorldFault, sim_text};
 use ospf_table::table_text;
 use ospf_words::{CheckJob, Job, JobFault, job, not_text};
 use std::alloc::{AllocError, Global};
@@ -321,6 +321,12 @@ fn unread(alloc: Global, names: Vec<String>) -> Result<Vec<NamedFile>, AllocErro
 // Nobody is told how far a simulation has come.
 #[derive(Drop)]
 pub(crate) struct Nobody;
+
+impl EventWatch for Nobody {
+    fn comes(&mut self, _world: &World, _event: &WorldEvent) {}
+
+    fn came(&mut self, _world: &World, _event: &WorldEvent, _answer: &Result<(), WorldFault>) {}
+}
 
 impl Watch for Nobody {
     fn begins_round(&mut self, _done: u64, _count: u64) {}
@@ -766,6 +772,7 @@ fn reads_the_words_of_a_run(rt: HostRuntime) -> Result<(), Fail> {
     assert_eq!(rt; run.milliseconds, 1000);
     assert!(rt; run.lookup.is_none());
     assert!(rt; run.floor.is_none() && run.pcap.is_none() && run.every.is_none());
+    assert!(rt; run.log.is_none() && !run.json);
     assert!(rt; !run.neighbours && !run.listing && !run.drops && !run.until_eof);
     assert_eq!(rt; run.files.len(), 2);
     let words = [
@@ -803,6 +810,9 @@ fn reads_a_run_without_a_last_tick(rt: HostRuntime) -> Result<(), Fail> {
         "--every",
         "10",
         "--until-eof",
+        "--log",
+        "area.log",
+        "--json",
         "forever",
         "a.toml",
     ];
@@ -812,6 +822,8 @@ fn reads_a_run_without_a_last_tick(rt: HostRuntime) -> Result<(), Fail> {
     assert!(rt; run.ticks.is_none() && run.until_eof);
     assert!(rt; run.neighbours && run.listing && run.drops);
     assert_eq!(rt; run.every, Some(10));
+    assert_eq!(rt; run.log.as_deref(), Some("area.log"));
+    assert!(rt; run.json);
     assert_eq!(rt; run.files.len(), 1);
     assert!(rt; job(rt.alloc(), &["run", "never", "a.toml"]).is_err());
     Ok(())

@@ -92,7 +92,8 @@ option_rule name = record (new_rule name) { long = Some name; value_names = 1 }
 -- the command `sim`: a script, files, and the options of what is to be written
 abbrev pub sim_app : App
 sim_app =
-    with_rule (with_rule (with_rule (with_rule (new_app (codes "sim")) script_rule) files_rule) (option_rule (codes "dot"))) (option_rule (codes "pcap"))
+    with_rule (with_rule (with_rule (with_rule (with_rule (with_rule (new_app (codes "sim")) script_rule) files_rule) (option_rule (codes "dot")))
+    (option_rule (codes "pcap"))) (option_rule (codes "log"))) (flag_rule (codes "json"))
 
 -- how many ticks: a number of at least one
 abbrev pub ticks_rule : Rule
@@ -109,10 +110,11 @@ every_rule = record (option_rule (codes "every")) { parser = Some (Unsigned 1 10
 -- the command `run`: ticks of this rule, files, and options
 abbrev pub run_app : Rule → App
 run_app ticks =
-    with_rule (with_rule (with_rule (with_rule (with_rule
+    with_rule (with_rule (with_rule (with_rule (with_rule (with_rule (with_rule
     (with_rule (with_rule (with_rule (with_rule (with_rule (with_rule (new_app (codes "run")) ticks) files_rule) tick_rule) (option_rule (codes "lookup")))
     (option_rule (codes "floor"))) (option_rule (codes "pcap")))
-    (flag_rule (codes "neighbours"))) (flag_rule (codes "listing"))) (flag_rule (codes "drops"))) every_rule) (flag_rule (codes "until-eof"))
+    (flag_rule (codes "neighbours"))) (flag_rule (codes "listing"))) (flag_rule (codes "drops"))) every_rule) (flag_rule (codes "until-eof")))
+    (option_rule (codes "log"))) (flag_rule (codes "json"))
 
 -- the program, before its commands
 abbrev pub ospfd_app : App
@@ -229,6 +231,8 @@ pub record IsSimJob (rows : List Row) (s : SimJob) : Type 0 where
   pub files : map string_bytes s.files.items ≡ texts
   pub dot : option_map string_bytes s.dot ≡ first_of (codes "dot") rows
   pub pcap : option_map string_bytes s.pcap ≡ first_of (codes "pcap") rows
+  pub log : option_map string_bytes s.log ≡ first_of (codes "log") rows
+  pub json : IsFlag (one_of (codes "json") rows) s.json
 
 -- the address that a text spells, if there is one
 abbrev pub IsAddressIfAny : Option Text → Option Addr → Type 0
@@ -265,6 +269,8 @@ pub record IsRunJob (rows : List Row) (r : RunJob) : Type 0 where
   pub neighbours : IsFlag (one_of (codes "neighbours") rows) r.neighbours
   pub listing : IsFlag (one_of (codes "listing") rows) r.listing
   pub drops : IsFlag (one_of (codes "drops") rows) r.drops
+  pub log : option_map string_bytes r.log ≡ first_of (codes "log") rows
+  pub json : IsFlag (one_of (codes "json") rows) r.json
 
 -- the job of a run with these ticks
 abbrev pub IsRunWith : List Row → Option ℕ → Job → Type 0

@@ -53,6 +53,10 @@ pub struct SimJob {
     pub dot: Option<String>,
     /// The file into which all datagrams are written.
     pub pcap: Option<String>,
+    /// The file into which a journal is written.
+    pub log: Option<String>,
+    /// Whether the journal's lines are JSON.
+    pub json: bool,
 }
 
 /// Routers that are to run.
@@ -78,6 +82,10 @@ pub struct RunJob {
     pub every: Option<u64>,
     /// The file into which all datagrams are written.
     pub pcap: Option<String>,
+    /// The file into which a journal is written.
+    pub log: Option<String>,
+    /// Whether the journal's lines are JSON.
+    pub json: bool,
     /// The names of the configurations' files.
     pub files: Vec<String>,
 }

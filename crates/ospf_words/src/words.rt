@@ -517,7 +517,9 @@ fn with_sim<'a>(program: Command<'a>, alloc: Global) -> Result<Command<'a>, Allo
         .arg(script_arg(alloc))?
         .arg(files_arg(alloc))?
         .arg(dot_arg(alloc))?
-        .arg(pcap_arg(alloc))?;
+        .arg(pcap_arg(alloc))?
+        .arg(log_arg(alloc))?
+        .arg(json_arg(alloc))?;
     program.subcommand(sim)
 }
 
@@ -552,6 +554,28 @@ fn pcap_arg<'a>(alloc: Global) -> Arg<'a>
     )
 }
 
+// The file into which a journal is written.
+fn log_arg<'a>(alloc: Global) -> Arg<'a>
+    ensures rule { rule_of result ≡ option_rule (codes "log") }
+    ensures local { result.global ≡ false }
+{
+    Arg::new(alloc, "log")
+        .long("log")
+        .value_name("FILE")
+        .help("Writes a line for each change of a router, as it happens")
+}
+
+// Whether the journal's lines are JSON.
+fn json_arg<'a>(alloc: Global) -> Arg<'a>
+    ensures rule { rule_of result ≡ flag_rule (codes "json") }
+    ensures local { result.global ≡ false }
+{
+    Arg::new(alloc, "json")
+        .long("json")
+        .action(ArgAction::SetTrue)
+        .help("Writes the lines of the log as JSON objects")
+}
+
 // Adds the command `run` and its words, with these ticks.
 fn with_run<'a>(
     program: Command<'a>,
@@ -575,7 +599,9 @@ fn with_run<'a>(
         .arg(listing_arg(alloc))?
         .arg(drops_arg(alloc))?
         .arg(every_arg(alloc))?
-        .arg(until_eof_arg(alloc))?;
+        .arg(until_eof_arg(alloc))?
+        .arg(log_arg(alloc))?
+        .arg(json_arg(alloc))?;
     program.subcommand(run)
 }
 
@@ -923,11 +949,15 @@ fn sim_job(alloc: Global, values: &ArgMatches<'_>) -> Result<Option<Job>, AllocE
     let files = owned(alloc, files)?;
     let dot = owned_if_any(alloc, values.get_str("dot"))?;
     let pcap = owned_if_any(alloc, values.get_str("pcap"))?;
+    let log = owned_if_any(alloc, values.get_str("log"))?;
+    let json = values.get_flag("json");
     Ok(Some(Job::Sim(SimJob {
         script,
         files,
         dot,
         pcap,
+        log,
+        json,
     })))
 }
 
@@ -991,11 +1021,13 @@ fn run_with(
     let lookup = parsed_if_any(alloc, values.get_str("lookup"))?;
     let floor = owned_if_any(alloc, values.get_str("floor"))?;
     let pcap = owned_if_any(alloc, values.get_str("pcap"))?;
+    let log = owned_if_any(alloc, values.get_str("log"))?;
     let every = values.get_one::<u64>("every");
     let until_eof = values.get_flag("until-eof");
     let neighbours = values.get_flag("neighbours");
     let listing = values.get_flag("listing");
     let drops = values.get_flag("drops");
+    let json = values.get_flag("json");
     Ok(Some(Job::Run(RunJob {
         ticks,
         until_eof,
@@ -1007,6 +1039,8 @@ fn run_with(
         drops,
         every,
         pcap,
+        log,
+        json,
         files,
     })))
 }

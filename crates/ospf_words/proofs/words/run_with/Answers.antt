@@ -47,6 +47,7 @@ returns-clause-some c =
         lookup = subst (λ o. IsAddressIfAny o c.in_ok-lookup.lookup) (c.get_str.ensures ∙ first_value-rows found (codes "lookup")) c.in_ok-lookup.ensures.value;
         floor = c.in_ok-floor.ensures ∙ c.get_str-2.ensures ∙ first_value-rows found (codes "floor");
         pcap = c.in_ok-pcap.ensures ∙ c.get_str-3.ensures ∙ first_value-rows found (codes "pcap");
+        log = c.in_ok-log.ensures ∙ c.get_str-4.ensures ∙ first_value-rows found (codes "log");
         every = number_if_any (λ bs r. ParsesUnsigned 64 10 bs r × ExplainsUnsignedError 10 bs r × HasUnsignedDigitsIfOk bs r)
             (λ t n h. (h.0.0.0, sym h.0.1)) (λ t e n h number small. h.0 (number.0, subst (λ v. v < 2 ^ 64) (sym number.1) small))
             (one_of (codes "every") rows) c.get_one-every.result (λ e. c.get_one-every.ensures.none (one_text-rows found (codes "every") ∙ e))
@@ -70,6 +71,11 @@ returns-clause-some c =
           none = λ e. c.get_flag-drops.ensures.none (one_text-rows found (codes "drops") ∙ e);
           set = λ e. c.get_flag-drops.ensures.value (one_text-rows found (codes "drops") ∙ e);
           unset = λ e. c.get_flag-drops.ensures.other (one_text-rows found (codes "drops") ∙ e);
+        };
+        json = record {
+          none = λ e. c.get_flag-json.ensures.none (one_text-rows found (codes "json") ∙ e);
+          set = λ e. c.get_flag-json.ensures.value (one_text-rows found (codes "json") ∙ e);
+          unset = λ e. c.get_flag-json.ensures.other (one_text-rows found (codes "json") ∙ e);
         };
       },
       refl,

@@ -1,6 +1,6 @@
 use Rattle.std.proofs.Common.{rules, ◌≡◌, ◌∙◌, ap, sym, refl, codes, string_bytes, inl, inr, Some}
 use Rattle.clap.specs.Words.{all_of, first_of, found_of, rows_of}
-use Rattle.clap.proofs.WalkLemmas.{first_value-rows, raw_values-rows}
+use Rattle.clap.proofs.WalkLemmas.{first_value-rows, one_text-rows, raw_values-rows}
 use Rattle.ospf_words.proofs.WordLemmas.{named, no_simulation, texts_of}
 use Rattle.ospf_words.proofs.words.sim_job.Goals as goal
 
@@ -27,5 +27,11 @@ returns c =
         files = search (c.in_ok-files.ensures);
         dot = c.in_ok-dot.ensures ∙ named (λ n. first_of n (rows_of found)) _ _ (codes "dot") (search rules) (c.get_str-2.ensures ∙ first_value-rows found _);
         pcap = c.in_ok-pcap.ensures ∙ named (λ n. first_of n (rows_of found)) _ _ (codes "pcap") (search rules) (c.get_str-3.ensures ∙ first_value-rows found _);
+        log = c.in_ok-log.ensures ∙ named (λ n. first_of n (rows_of found)) _ _ (codes "log") (search rules) (c.get_str-4.ensures ∙ first_value-rows found _);
+        json = record {
+          none = λ e. c.get_flag-json.ensures.none (one_text-rows found (codes "json") ∙ e);
+          set = λ e. c.get_flag-json.ensures.value (one_text-rows found (codes "json") ∙ e);
+          unset = λ e. c.get_flag-json.ensures.other (one_text-rows found (codes "json") ∙ e);
+        };
       },
     )
