@@ -8,11 +8,15 @@
 #![tactic(auto)]
 
 mod dropped;
+mod events;
+mod journal;
 mod line;
 mod notes;
 mod others;
 mod tables;
 
+pub use crate::events::Events;
+pub use crate::journal::Journal;
 pub use crate::line::Line;
 pub use crate::notes::{Noted, Notes};
 pub use crate::tables::Tables;

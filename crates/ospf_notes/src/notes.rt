@@ -2,11 +2,13 @@
 //! drop, a line on a terminal, and messages of neighbours whose LSAs a router refuses.
 
 use crate::dropped::Counts;
+use crate::journal::Journal;
 use crate::line::Line;
 use crate::others::{Described, Others};
 use crate::tables::Tables;
 use ospf_base::RouterId;
 use ospf_files::{Failure, NamedFile};
+use ospf_journal::Seen;
 use ospf_neighbour::NeighbourState;
 use ospf_records::{CaptureFault, Moment, write_datagram, write_header};
 use ospf_run::{Config, Drops, Router, Sent, Step, Tap};
@@ -31,6 +33,8 @@ pub struct Noted<F: Write + Drop, T: Write + Drop, O: Write + Drop> {
     pub tables: Option<Tables<O>>,
     /// Whether it is counted what the routers drop.
     pub drops: bool,
+    /// Where a journal is written, if one is.
+    pub journal: Option<Journal<F>>,
 }
 
 /// What is noted of one router. The notes of all routers of a run share a capture, tables, counts and a line.
@@ -50,6 +54,8 @@ pub struct Notes<R: Wait + Clock + Copy + Drop, F: Write + Drop, T: Write + Drop
     full: usize,
     // What the router dropped, if that is counted.
     counts: Option<Counts>,
+    // What was seen of the router, if a journal is written.
+    seen: Option<Seen>,
     teller: Teller,
 }
 
@@ -73,8 +79,10 @@ impl<R: Wait + Clock + Copy + Drop, F: Write + Drop, T: Write + Drop, O: Write +
             line,
             tables,
             drops,
+            journal,
         } = noted;
         let (captures, shows) = (capture.is_some(), line.has_terminal());
+        let seen = first_seen(journal.is_some(), alloc);
         let every = tables.as_ref().map(|it| it.every());
         let mut head = Vec::new(alloc);
         write_header(&mut head)?;
@@ -82,6 +90,7 @@ impl<R: Wait + Clock + Copy + Drop, F: Write + Drop, T: Write + Drop, O: Write +
             capture,
             is_written: true,
             tables,
+            journal,
             failure: None,
             line,
             drops: Vec::new(alloc),
@@ -103,6 +112,7 @@ impl<R: Wait + Clock + Copy + Drop, F: Write + Drop, T: Write + Drop, O: Write +
             has_ticked: false,
             full: 0,
             counts: Counts::if_wanted(drops, alloc),
+            seen,
             teller: Teller::none(alloc),
         })
     }
@@ -110,6 +120,14 @@ impl<R: Wait + Clock + Copy + Drop, F: Write + Drop, T: Write + Drop, O: Write +
     /// Whether the capture, if there is one, could be written so far.
     pub fn is_written(&self) -> bool {
         self.shared.lock(&self.rt).is_written
+    }
+
+    /// Whether the journal, if there is one, could be written so far.
+    pub fn is_logged(&self) -> bool {
+        match &self.shared.lock(&self.rt).journal {
+            Some(journal) => journal.is_written(),
+            None => true,
+        }
     }
 
     /// Why tables are printed no more, or drops are not known, if that is so.
@@ -123,10 +141,28 @@ impl<R: Wait + Clock + Copy + Drop, F: Write + Drop, T: Write + Drop, O: Write +
         if let Some(counts) = &mut self.counts {
             counts.sees(self.teller.router, step);
         }
+        self.log(router);
         if self.has_ticked {
             self.has_ticked = false;
             self.print_table(router);
             self.show(router);
+        }
+    }
+
+    // Writes what changed of the router into the journal, if there is one.
+    fn log(&mut self, router: &Router) {
+        let Some(seen) = &mut self.seen else {
+            return;
+        };
+        let changes = seen.follow(router, None, self.alloc);
+        if let Ok(changes) = &changes {
+            if changes.is_empty() {
+                return;
+            }
+        }
+        let mut all = self.shared.lock(&self.rt);
+        if let Some(journal) = &mut all.journal {
+            journal.write(self.alloc, self.ticks, self.teller.router, changes);
         }
     }
 
@@ -186,6 +222,7 @@ impl<R: Wait + Clock + Copy + Drop, F: Write + Drop, T: Write + Drop, O: Write +
             has_ticked: false,
             full: 0,
             counts: Counts::if_wanted(self.counts.is_some(), self.alloc),
+            seen: first_seen(self.seen.is_some(), self.alloc),
             teller,
         })
     }
@@ -244,6 +281,8 @@ struct Shared<F: Write + Drop, T: Write + Drop, O: Write + Drop> {
     is_written: bool,
     // `None` where no tables are printed, or no more.
     tables: Option<Tables<O>>,
+    // `None` where no journal is written.
+    journal: Option<Journal<F>>,
     // Why tables are printed no more, or some drops are not kept.
     failure: Option<Failure>,
     line: Line<T>,
@@ -371,6 +410,15 @@ impl Teller {
             file,
             others,
         })
+    }
+}
+
+// What is seen of a router before its first step, if a journal is written.
+fn first_seen(is_wanted: bool, alloc: Global) -> Option<Seen> {
+    if is_wanted {
+        Some(Seen::nothing(alloc))
+    } else {
+        None
     }
 }
 

@@ -10,7 +10,7 @@ use ospf_files::{
     FailedStreams, Failure, NamedFile, Status, read_file, read_files, tell_unwritten,
 };
 use ospf_inspect::inspect_text;
-use ospf_notes::{Line, Noted, Notes, Tables};
+use ospf_notes::{Events, Journal, Line, Noted, Notes, Tables};
 use ospf_prepare::prepare;
 use ospf_records::write_records;
 use ospf_run::{Ending, Settings, run_text};
@@ -79,17 +79,44 @@ fn run_sim<R: Runtime + AllocGlobal + Clock + Copy + Drop, O: Write, E: Write, T
         files,
         dot,
         pcap,
+        log,
+        json,
     } = job;
     let script = read_file(rt, script)?;
     let files = read_files(rt, files)?;
-    let mut screen = Screen::new(*rt, line);
+    let Some(journal) = open_journal(rt, log.as_deref(), json, err)? else {
+        return Ok(Status::Stream);
+    };
+    let mut screen = Screen::new(*rt, line, Events::new(rt.alloc(), journal));
     let Simulated { status, world } = sim_text(rt.alloc(), &script, &files, out, err, &mut screen);
+    if let Some(name) = log.as_deref() {
+        if !screen.is_logged() {
+            let _ = tell_unwritten(name, err);
+            return Ok(Status::Stream);
+        }
+    }
     if let Some(world) = world {
         if !write_records(rt, &world, dot.as_deref(), pcap.as_deref(), err)? {
             return Ok(Status::Stream);
         }
     }
     Ok(status)
+}
+
+// A journal in the file of this name, emptied, if one is wanted; where it cannot be written that is told, and there is no answer.
+fn open_journal<R: Runtime, E: Write>(
+    rt: &R,
+    name: Option<&str>,
+    json: bool,
+    err: &mut E,
+) -> io::Result<Option<Option<Journal<R::File>>>> {
+    match name {
+        None => Ok(Some(None)),
+        Some(name) => match open_capture(rt, name, err)? {
+            Some(file) => Ok(Some(Some(Journal::new(file, json)))),
+            None => Ok(None),
+        },
+    }
 }
 
 // The file for a capture, emptied; where it cannot be written it is told.
@@ -108,6 +135,13 @@ fn open_capture<R: Runtime, E: Write>(
     }
 }
 
+// The names of the files that a run writes, of those that are wanted.
+#[derive(Clone, Copy)]
+struct Written<'a> {
+    pcap: Option<&'a str>,
+    log: Option<&'a str>,
+}
+
 // Runs routers of the configurations in files, and notes what is wanted of them.
 fn run_noted<
     R: Runtime + AllocGlobal + Net + Threads + Wait + Clock + Copy + Send + Drop + 'static,
@@ -120,7 +154,7 @@ fn run_noted<
     rt: &R,
     settings: &Settings,
     files: &[NamedFile],
-    pcap: Option<&str>,
+    written: Written<'_>,
     noted: Noted<F, T, P>,
     out: &mut O,
     err: &mut E,
@@ -128,12 +162,16 @@ fn run_noted<
     let alloc = rt.alloc();
     let notes = Notes::new(*rt, alloc, noted)?;
     let status = run_text(rt, alloc, settings, files, &notes, out, err);
-    match (pcap, notes.failure()) {
-        (Some(name), _) if !notes.is_written() => {
+    match (written.pcap, written.log, notes.failure()) {
+        (Some(name), _, _) if !notes.is_written() => {
             let _ = tell_unwritten(name, err);
             Ok(Status::Stream)
         }
-        (_, Some(failure)) if status.code() == Status::Done.code() => {
+        (_, Some(name), _) if !notes.is_logged() => {
+            let _ = tell_unwritten(name, err);
+            Ok(Status::Stream)
+        }
+        (_, _, Some(failure)) if status.code() == Status::Done.code() => {
             Ok(failure.tell(err, &mut FailedStreams::none()))
         }
         _ => Ok(status),
@@ -213,17 +251,23 @@ fn run_routers<
 where
     R::File: Send + 'static,
 {
-    let (pcap, every) = (job.pcap.take(), job.every);
+    let (pcap, log, json, every) = (job.pcap.take(), job.log.take(), job.json, job.every);
     let (settings, files) = settings_of(rt, job)?;
     let files = read_files(rt, files)?;
-    let capture = match &pcap {
-        Some(name) if prepare(rt.alloc(), &settings.floor, &files).is_ok() => {
-            match open_capture(rt, name, err)? {
-                Some(file) => Some(file),
-                None => return Ok(Status::Stream),
-            }
-        }
-        _ => None,
+    let runs = prepare(rt.alloc(), &settings.floor, &files).is_ok();
+    let written = Written {
+        pcap: if runs { pcap.as_deref() } else { None },
+        log: if runs { log.as_deref() } else { None },
+    };
+    let capture = match written.pcap {
+        Some(name) => match open_capture(rt, name, err)? {
+            Some(file) => Some(file),
+            None => return Ok(Status::Stream),
+        },
+        None => None,
+    };
+    let Some(journal) = open_journal(rt, written.log, json, err)? else {
+        return Ok(Status::Stream);
     };
     let tables = match every {
         Some(every) => Some(Tables::new(every, BufWriter::new(rt.alloc(), printer)?)),
@@ -235,8 +279,9 @@ where
         line,
         tables,
         drops: settings.drops,
+        journal,
     };
-    run_noted(rt, &settings, &files, pcap.as_deref(), noted, out, err)
+    run_noted(rt, &settings, &files, written, noted, out, err)
 }
 
 // Does what the program's words say, and tells by the line how far it has come, if standard error is a terminal. What is printed

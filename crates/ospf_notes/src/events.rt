@@ -1,0 +1,133 @@
+//! The journal of a simulation.
+
+use crate::journal::Journal;
+use ospf_base::RouterId;
+use ospf_journal::{Change, DroppedAt, Seen, dropped_of};
+use ospf_world::{EventWatch, World, WorldEvent, WorldFault};
+use std::alloc::{AllocError, Global};
+use std::collections::BTreeMap;
+use std::io::Write;
+
+/// Writes a journal of the routers of a simulation, if one is wanted. The tick of a line is how many ticks its router has taken.
+#[derive(Drop)]
+pub struct Events<F: Write + Drop> {
+    alloc: Global,
+    journal: Option<Journal<F>>,
+    routers: BTreeMap<RouterId, Followed>,
+    // What the delivery that comes next is dropped for.
+    dropped: Option<DroppedAt>,
+}
+
+// What is kept of a router.
+#[derive(Drop)]
+struct Followed {
+    ticks: u64,
+    seen: Seen,
+}
+
+impl<F: Write + Drop> Events<F> {
+    /// Nothing has happened yet.
+    pub fn new(alloc: Global, journal: Option<Journal<F>>) -> Events<F> {
+        Events {
+            alloc,
+            journal,
+            routers: BTreeMap::new(alloc),
+            dropped: None,
+        }
+    }
+
+    /// Whether all could be written so far.
+    pub fn is_written(&self) -> bool {
+        match &self.journal {
+            Some(journal) => journal.is_written(),
+            None => true,
+        }
+    }
+
+    // What changed of a router by an event that came about there; and how many ticks it has taken.
+    fn follow(
+        &mut self,
+        world: &World,
+        event: &WorldEvent,
+    ) -> (u64, Result<Vec<Change>, AllocError>) {
+        let (alloc, dropped) = (self.alloc, self.dropped.take());
+        let Ok(followed) = self.followed(router_of(event)) else {
+            return (0, Err(AllocError));
+        };
+        if let WorldEvent::Tick { .. } = event {
+            followed.ticks = followed.ticks.saturating_add(1);
+        }
+        let changes = match world.router(router_of(event)) {
+            Ok(router) => followed.seen.follow(router, dropped, alloc),
+            Err(_) => followed.seen.end(alloc),
+        };
+        (followed.ticks, changes)
+    }
+
+    // What is kept of a router.
+    fn followed(&mut self, router: RouterId) -> Result<&mut Followed, AllocError> {
+        if self.routers.get(&router).is_none() {
+            let first = Followed {
+                ticks: 0,
+                seen: Seen::nothing(self.alloc),
+            };
+            self.routers.insert(router, first)?;
+        }
+        match self.routers.get_mut(&router) {
+            Some(followed) => Ok(followed),
+            None => Err(AllocError),
+        }
+    }
+}
+
+impl<F: Write + Drop> EventWatch for Events<F> {
+    fn comes(&mut self, world: &World, event: &WorldEvent) {
+        if self.journal.is_some() {
+            self.dropped = drop_of(world, event);
+        }
+    }
+
+    fn came(&mut self, world: &World, event: &WorldEvent, _answer: &Result<(), WorldFault>) {
+        if self.journal.is_none() {
+            return;
+        }
+        let (ticks, changes) = self.follow(world, event);
+        if let Some(journal) = &mut self.journal {
+            journal.write(self.alloc, ticks, router_of(event), changes);
+        }
+    }
+}
+
+// The router that an event names.
+fn router_of(event: &WorldEvent) -> RouterId {
+    match event {
+        WorldEvent::Start { router, .. }
+        | WorldEvent::Stop { router }
+        | WorldEvent::Tick { router }
+        | WorldEvent::LinkUp { router, .. }
+        | WorldEvent::LinkDown { router, .. }
+        | WorldEvent::Deliver { router, .. } => *router,
+    }
+}
+
+// What a delivery will be dropped for, if it is.
+fn drop_of(world: &World, event: &WorldEvent) -> Option<DroppedAt> {
+    let WorldEvent::Deliver {
+        datagram,
+        router,
+        link,
+    } = event
+    else {
+        return None;
+    };
+    let sent = &world.datagrams().get(*datagram)?.sent;
+    let Ok(router) = world.router(*router) else {
+        return None;
+    };
+    let cause = dropped_of(router, *link, sent.source, sent.destination, &sent.bytes)?;
+    Some(DroppedAt {
+        link: *link,
+        source: sent.source,
+        cause,
+    })
+}
