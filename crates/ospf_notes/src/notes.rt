@@ -82,10 +82,8 @@ impl<R: Wait + Clock + Copy + Drop, F: Write + Drop, T: Write + Drop, O: Write +
             journal,
         } = noted;
         let (captures, shows) = (capture.is_some(), line.has_terminal());
-        let seen = first_seen(journal.is_some(), alloc);
+        let logs = journal.is_some();
         let every = tables.as_ref().map(|it| it.every());
-        let mut head = Vec::new(alloc);
-        write_header(&mut head)?;
         let mut shared = Shared {
             capture,
             is_written: true,
@@ -98,7 +96,7 @@ impl<R: Wait + Clock + Copy + Drop, F: Write + Drop, T: Write + Drop, O: Write +
             full: 0,
             running: 0,
         };
-        shared.write(Ok(head));
+        shared.write(Ok(capture_head(alloc)?));
         let shared = share(shared, alloc)?;
         Ok(Notes {
             rt,
@@ -112,7 +110,7 @@ impl<R: Wait + Clock + Copy + Drop, F: Write + Drop, T: Write + Drop, O: Write +
             has_ticked: false,
             full: 0,
             counts: Counts::if_wanted(drops, alloc),
-            seen,
+            seen: first_seen(logs, alloc),
             teller: Teller::none(alloc),
         })
     }
@@ -411,6 +409,13 @@ impl Teller {
             others,
         })
     }
+}
+
+// The head of a capture.
+fn capture_head(alloc: Global) -> Result<Vec<u8>, AllocError> {
+    let mut head = Vec::new(alloc);
+    write_header(&mut head)?;
+    Ok(head)
 }
 
 // What is seen of a router before its first step, if a journal is written.
