@@ -8,7 +8,8 @@ use std::alloc::{AllocError, Global};
 use std::collections::BTreeMap;
 use std::io::Write;
 
-/// Writes a journal of the routers of a simulation, if one is wanted. The tick of a line is how many ticks its router has taken.
+/// Writes a journal of the routers of a simulation, if one is wanted. The tick of a line is the most that a router has taken by
+/// then, so that lines of routers that started at several times are told apart by it.
 #[derive(Drop)]
 pub struct Events<F: Write + Drop> {
     alloc: Global,
@@ -16,6 +17,8 @@ pub struct Events<F: Write + Drop> {
     routers: BTreeMap<RouterId, Followed>,
     // What the delivery that comes next is dropped for.
     dropped: Option<DroppedAt>,
+    // The most ticks that a router has taken.
+    now: u64,
 }
 
 // What is kept of a router.
@@ -33,6 +36,7 @@ impl<F: Write + Drop> Events<F> {
             journal,
             routers: BTreeMap::new(alloc),
             dropped: None,
+            now: 0,
         }
     }
 
@@ -44,24 +48,20 @@ impl<F: Write + Drop> Events<F> {
         }
     }
 
-    // What changed of a router by an event that came about there; and how many ticks it has taken.
-    fn follow(
-        &mut self,
-        world: &World,
-        event: &WorldEvent,
-    ) -> (u64, Result<Vec<Change>, AllocError>) {
+    // What changed of a router by an event that came about there.
+    fn follow(&mut self, world: &World, event: &WorldEvent) -> Result<Vec<Change>, AllocError> {
         let (alloc, dropped) = (self.alloc, self.dropped.take());
-        let Ok(followed) = self.followed(router_of(event)) else {
-            return (0, Err(AllocError));
-        };
+        let followed = self.followed(router_of(event))?;
         if let WorldEvent::Tick { .. } = event {
             followed.ticks = followed.ticks.saturating_add(1);
         }
+        let ticks = followed.ticks;
         let changes = match world.router(router_of(event)) {
             Ok(router) => followed.seen.follow(router, dropped, alloc),
             Err(_) => followed.seen.end(alloc),
         };
-        (followed.ticks, changes)
+        self.now = self.now.max(ticks);
+        changes
     }
 
     // What is kept of a router.
@@ -91,9 +91,10 @@ impl<F: Write + Drop> EventWatch for Events<F> {
         if self.journal.is_none() {
             return;
         }
-        let (ticks, changes) = self.follow(world, event);
+        let changes = self.follow(world, event);
+        let (alloc, now) = (self.alloc, self.now);
         if let Some(journal) = &mut self.journal {
-            journal.write(self.alloc, ticks, router_of(event), changes);
+            journal.write(alloc, now, router_of(event), changes);
         }
     }
 }
