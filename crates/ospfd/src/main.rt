@@ -142,6 +142,51 @@ struct Written<'a> {
     log: Option<&'a str>,
 }
 
+// Of a run that is refused.
+const NOTHING_WRITTEN: Written<'static> = Written {
+    pcap: None,
+    log: None,
+};
+
+// The files that a run writes.
+#[derive(Drop)]
+struct Opened<F: Write + Drop> {
+    capture: Option<F>,
+    journal: Option<Journal<F>>,
+}
+
+// The files of these names, emptied; where one cannot be written that is told, and there is no answer.
+fn open_written<R: Runtime, E: Write>(
+    rt: &R,
+    written: Written<'_>,
+    json: bool,
+    err: &mut E,
+) -> io::Result<Option<Opened<R::File>>> {
+    let capture = match written.pcap {
+        Some(name) => match open_capture(rt, name, err)? {
+            Some(file) => Some(file),
+            None => return Ok(None),
+        },
+        None => None,
+    };
+    match open_journal(rt, written.log, json, err)? {
+        Some(journal) => Ok(Some(Opened { capture, journal })),
+        None => Ok(None),
+    }
+}
+
+// Where tables are printed while routers run, if they are.
+fn tables_of<R: Runtime + AllocGlobal, P: Write + Drop>(
+    rt: &R,
+    every: Option<u64>,
+    printer: P,
+) -> io::Result<Option<Tables<BufWriter<P>>>> {
+    match every {
+        Some(every) => Ok(Some(Tables::new(every, BufWriter::new(rt.alloc(), printer)?))),
+        None => Ok(None),
+    }
+}
+
 // Runs routers of the configurations in files, and notes what is wanted of them.
 fn run_noted<
     R: Runtime + AllocGlobal + Net + Threads + Wait + Clock + Copy + Send + Drop + 'static,
@@ -254,30 +299,22 @@ where
     let (pcap, log, json, every) = (job.pcap.take(), job.log.take(), job.json, job.every);
     let (settings, files) = settings_of(rt, job)?;
     let files = read_files(rt, files)?;
-    let runs = prepare(rt.alloc(), &settings.floor, &files).is_ok();
-    let written = Written {
-        pcap: if runs { pcap.as_deref() } else { None },
-        log: if runs { log.as_deref() } else { None },
+    let written = if prepare(rt.alloc(), &settings.floor, &files).is_ok() {
+        Written {
+            pcap: pcap.as_deref(),
+            log: log.as_deref(),
+        }
+    } else {
+        NOTHING_WRITTEN
     };
-    let capture = match written.pcap {
-        Some(name) => match open_capture(rt, name, err)? {
-            Some(file) => Some(file),
-            None => return Ok(Status::Stream),
-        },
-        None => None,
-    };
-    let Some(journal) = open_journal(rt, written.log, json, err)? else {
+    let Some(Opened { capture, journal }) = open_written(rt, written, json, err)? else {
         return Ok(Status::Stream);
-    };
-    let tables = match every {
-        Some(every) => Some(Tables::new(every, BufWriter::new(rt.alloc(), printer)?)),
-        None => None,
     };
     let noted = Noted {
         of: settings.ticks,
         capture,
         line,
-        tables,
+        tables: tables_of(rt, every, printer)?,
         drops: settings.drops,
         journal,
     };
