@@ -207,26 +207,37 @@ fn run_noted<
     let alloc = rt.alloc();
     let notes = Notes::new(*rt, alloc, noted)?;
     let status = run_text(rt, alloc, settings, files, &notes, out, err);
-    match (written.pcap, written.log, notes.failure()) {
-        (Some(name), _, _) if !notes.is_written() => {
-            let _ = tell_unwritten(name, err);
-            Ok(Status::Stream)
+    let unwritten = unless(notes.is_written(), written.pcap);
+    let unlogged = unless(notes.is_logged(), written.log);
+    if let Some(name) = unwritten.or(unlogged) {
+        let _ = tell_unwritten(name, err);
+        return Ok(Status::Stream);
+    }
+    Ok(status_after(status, notes.failure(), err))
+}
+
+// The name, unless its file could be written.
+fn unless(is_written: bool, name: Option<&str>) -> Option<&str> {
+    if is_written { None } else { name }
+}
+
+// How a run ends whose notes met this failure, which is told unless something else was told before.
+fn status_after<E: Write>(status: Status, failure: Option<Failure>, err: &mut E) -> Status {
+    match failure {
+        Some(failure) => {
+            if status.code() == Status::Done.code() {
+                failure.tell(err, &mut FailedStreams::none())
+            } else {
+                status
+            }
         }
-        (_, Some(name), _) if !notes.is_logged() => {
-            let _ = tell_unwritten(name, err);
-            Ok(Status::Stream)
-        }
-        (_, _, Some(failure)) if status.code() == Status::Done.code() => {
-            Ok(failure.tell(err, &mut FailedStreams::none()))
-        }
-        _ => Ok(status),
+        None => status,
     }
 }
 
-// Tells the ending where standard input ends, or cannot be read any more.
-fn await_end<R: Runtime>(rt: &R, ending: &Ending) {
+// Tells the ending where the input ends, or cannot be read any more.
+fn await_end<I: Read>(mut input: I, ending: &Ending) {
     let mut buffer = [0; 4096];
-    let mut input = rt.reader();
     for _ in 0..u64::MAX {
         match input.read(&mut buffer) {
             Ok(0) => break,
@@ -238,27 +249,29 @@ fn await_end<R: Runtime>(rt: &R, ending: &Ending) {
     ending.tell();
 }
 
-// What ends a run where standard input ends, which a thread waits for. No one waits for the thread: where the run ends first, it
-// ends with the program.
-fn end_of_input<R: Runtime + AllocGlobal + Threads + Wait + Copy + Send + Drop + 'static>(
+// What ends a run where the input ends, which a thread waits for. No one waits for the thread: where the run ends first, it ends
+// with the program.
+fn end_of_input<R: Threads, I: Read + Send + Drop + 'static>(
     rt: &R,
+    alloc: Global,
+    input: I,
 ) -> io::Result<Ending> {
-    let ending = Ending::new(rt.alloc())?;
+    let ending = Ending::new(alloc)?;
     let told = ending.another()?;
-    let rt = *rt;
-    match thread::spawn(&rt, move || await_end(&rt, &told)) {
+    match thread::spawn(rt, move || await_end(input, &told)) {
         Ok(_thread) => Ok(ending),
         Err(_) => Err(io::Error::from(ErrorKind::OutOfMemory)),
     }
 }
 
 // What is asked for of a run.
-fn settings_of<R: Runtime + AllocGlobal + Threads + Wait + Copy + Send + Drop + 'static>(
+fn settings_of<R: AllocGlobal + Threads, I: Read + Send + Drop + 'static>(
     rt: &R,
     job: RunJob,
+    input: I,
 ) -> io::Result<(Settings, Vec<String>)> {
     let ending = if job.until_eof {
-        Some(end_of_input(rt)?)
+        Some(end_of_input(rt, rt.alloc(), input)?)
     } else {
         None
     };
@@ -285,19 +298,21 @@ fn run_routers<
     E: Write,
     T: Write + Send + Drop + 'static,
     P: Write + Send + Drop + 'static,
+    I: Read + Send + Drop + 'static,
 >(
     rt: &R,
     mut job: RunJob,
     out: &mut O,
     err: &mut E,
     line: Line<T>,
-    printer: P,
+    console: (P, I),
 ) -> io::Result<Status>
 where
     R::File: Send + 'static,
 {
+    let (printer, input) = console;
     let (pcap, log, json, every) = (job.pcap.take(), job.log.take(), job.json, job.every);
-    let (settings, files) = settings_of(rt, job)?;
+    let (settings, files) = settings_of(rt, job, input)?;
     let files = read_files(rt, files)?;
     let written = if prepare(rt.alloc(), &settings.floor, &files).is_ok() {
         Written {
@@ -321,14 +336,15 @@ where
     run_noted(rt, &settings, &files, written, noted, out, err)
 }
 
-// Does what the program's words say, and tells by the line how far it has come, if standard error is a terminal. What is printed
-// while something runs goes to the printer, which is standard output too. Where it fails, memory ran out.
+// Does what the program's words say, and tells by the line how far it has come, if standard error is a terminal. The
+// console is standard output, for what is printed while something runs, and standard input, for what is waited for then. Where it fails, memory ran out.
 fn run<
     R: Runtime + AllocGlobal + Net + Threads + Wait + Clock + Copy + Send + Drop + 'static,
     E: Write,
     T: Write + Send + Drop + 'static,
     P: Write + Send + Drop + 'static,
->(rt: &R, err: &mut E, line: Line<T>, printer: P) -> io::Result<ExitCode>
+    I: Read + Send + Drop + 'static,
+>(rt: &R, err: &mut E, line: Line<T>, console: (P, I)) -> io::Result<ExitCode>
 where
     R::File: Send + 'static,
 {
@@ -350,7 +366,7 @@ where
         }
         Ok(Job::Check(check)) => run_check(rt, check, &mut out, err)?,
         Ok(Job::Sim(sim)) => run_sim(rt, sim, &mut out, err, line)?,
-        Ok(Job::Run(routers)) => run_routers(rt, routers, &mut out, err, line, printer)?,
+        Ok(Job::Run(routers)) => run_routers(rt, routers, &mut out, err, line, console)?,
         Err(fault) => fault.tell(&mut out, err),
     };
     Ok(ExitCode::from(status))
@@ -363,7 +379,7 @@ fn main(rt: HostRuntime) -> ExitCode {
         &rt,
         &mut rt.stderr(),
         Line::new(err, is_terminal),
-        rt.stdout(),
+        (rt.stdout(), rt.stdin()),
     ) {
         Ok(code) => code,
         Err(_) => ExitCode::from(Failure::Memory.tell(
