@@ -236,7 +236,7 @@ fn status_after<E: Write>(status: Status, failure: Option<Failure>, err: &mut E)
 }
 
 // Tells the ending where the input ends, or cannot be read any more.
-fn await_end<I: Read>(mut input: I, ending: &Ending) {
+fn await_end<I: Read + Drop>(mut input: I, ending: &Ending) {
     let mut buffer = [0; 4096];
     for _ in 0..u64::MAX {
         match input.read(&mut buffer) {
