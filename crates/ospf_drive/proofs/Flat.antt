@@ -2,7 +2,7 @@
 use Rattle.std.proofs.Common.{◌≡◌, ◌++◌, ◌+◌, ℕ, List, [], ◌∷◌, Option, Some, Ok, Err, take, refl, ap, sym, subst, ◌∙◌, arith}
 use Rattle.std.proofs.lemmas.List.{append-nil}
 use Rattle.ospf_area.specs.Outputs.{SentValue}
-use Rattle.ospf_laws.specs.Step.{Event}
+use Rattle.ospf_step.specs.Step.{Event}
 use Rattle.ospf_published.specs.Known.{Known}
 use Rattle.ospf_router.specs.Routers.{stopped}
 use Rattle.ospf_router.specs.Steps.{Steps}

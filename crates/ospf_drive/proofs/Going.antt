@@ -3,7 +3,7 @@ use Rattle.std.proofs.Common.{◌≡◌, ◌++◌, ℕ, List, [], ◌∷◌, Opt
 use Rattle.std.proofs.lemmas.List.{append-nil}
 use Rattle.ospf_published.specs.Known.{Known, Table}
 use Rattle.ospf_area.specs.Outputs.{SentValue}
-use Rattle.ospf_laws.specs.Step.{Event}
+use Rattle.ospf_step.specs.Step.{Event}
 use Rattle.ospf_router.specs.Routers.{RouterValue}
 use Rattle.ospf_drive.proofs.Turning.{same_known}
 use Rattle.ospf_drive.specs.Drives.{GoesOn, last_told}

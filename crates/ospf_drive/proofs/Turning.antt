@@ -4,7 +4,7 @@ use Rattle.std.proofs.lemmas.List.{append-nil}
 use Rattle.logbook.specs.Pages.{Book}
 use Rattle.ospf_published.specs.Known.{Known, Table}
 use Rattle.ospf_area.specs.Outputs.{SentValue}
-use Rattle.ospf_laws.specs.Step.{Event}
+use Rattle.ospf_step.specs.Step.{Event}
 use Rattle.ospf_router.specs.Routers.{RouterValue}
 use Rattle.ospf_router.specs.Steps.{Steps}
 use Rattle.ospf_router.specs.declared.router.Step.{Step}

@@ -2,7 +2,7 @@
 use Rattle.std.specs.Prelude.{◌≡◌, ◌+◌, ◌<◌, ◌++◌, ℕ, List, [], ◌∷◌, true, Option, None, Some, Result, Ok, Err, take, length}
 use Rattle.ospf_published.specs.Known.{Known, Table}
 use Rattle.ospf_area.specs.Outputs.{SentValue}
-use Rattle.ospf_laws.specs.Step.{Event}
+use Rattle.ospf_step.specs.Step.{Event}
 use Rattle.ospf_router.specs.Routers.{stopped}
 use Rattle.ospf_router.specs.Steps.{Steps}
 use Rattle.ospf_drive.specs.Moments.{Moment, Done, event_of, events_of, events_done, HasNoEnd, IsChain, left_by, sent_by, tables_of}

@@ -8,10 +8,9 @@ use Rattle.ospf_base.specs.declared.ids.RouterId.{RouterId}
 use Rattle.ospf_lsa.specs.Lsa.{key_of}
 use Rattle.ospf_area.specs.Outputs.{OutputsValue}
 use Rattle.ospf_lsdb.specs.Moments.{among}
-use Rattle.ospf_laws.specs.Step.{Event, heard_in}
-use Rattle.ospf_laws.proofs.LsaFacts.{same_contents}
-use Rattle.ospf_laws.proofs.ListFacts.{slice_get-append_left}
-use Rattle.ospf_laws.proofs.StepAccounts.{StepLaws-accounts}
+use Rattle.ospf_step.specs.Step.{Event, heard_in}
+use Rattle.ospf_step.proofs.StateFacts.{same_contents, slice_get-append_left}
+use Rattle.ospf_step.proofs.StepAccounts.{StepLaws-accounts}
 use Rattle.ospf_area.specs.State.{AreaValue}
 use Rattle.ospf_headline.specs.World.{Comes, World, WorldEvent, Issued, Run, Running, router_at, run_of, Steps, Becomes, SameLogs, IsNew, Happens, Runs}
 use Rattle.ospf_headline.specs.declared.event.WorldEvent.TheVariants.{Start}

@@ -7,9 +7,9 @@ use Rattle.ospf_lsa.specs.Lsa.{key_of}
 use Rattle.ospf_packet.specs.Meaning.{Meaning}
 use Rattle.ospf_packet.specs.PacketOf.{packet_of}
 use Rattle.ospf_area.specs.State.{kept_number}
-use Rattle.ospf_laws.specs.Headers.{Lists}
-use Rattle.ospf_laws.specs.Packets.{lsas_in, headers_in}
-use Rattle.ospf_laws.specs.Words.{CanName, HasCopy, Asks, IsSoundState}
+use Rattle.ospf_step.specs.Headers.{Lists}
+use Rattle.ospf_step.specs.Packets.{lsas_in, headers_in}
+use Rattle.ospf_step.specs.Words.{CanName, HasCopy, Asks, IsSoundState}
 use Rattle.ospf_headline.specs.World.{World, Issued, Datagram, Running, router_at, run_of, HasItsTable}
 use Rattle.ospf_headline.specs.Sound.{IssuedAt, WasIssued, number_in}
 

@@ -15,16 +15,15 @@ use Rattle.ospf_packet.specs.Meaning.{BodyMeaning, hello, description, request, 
 use Rattle.ospf_packet.specs.PacketOf.{packet_of}
 use Rattle.ospf_area.specs.Outputs.{OutputsValue, SentValue}
 use Rattle.ospf_area.specs.State.{AreaValue, kept_number}
-use Rattle.ospf_laws.specs.Headers.{Lists}
-use Rattle.ospf_laws.specs.Packets.{Received, lsas_in, headers_in, headers_of, dd_headers_in, dd_headers_of, acknowledging_headers_in, acknowledging_headers_of}
-use Rattle.ospf_laws.specs.Words.{CanName, HasCopy, Asks, Brings, IsSoundState}
+use Rattle.ospf_step.specs.Headers.{Lists}
+use Rattle.ospf_step.specs.Packets.{Received, lsas_in, headers_in, headers_of, dd_headers_in, dd_headers_of, acknowledging_headers_in, acknowledging_headers_of}
+use Rattle.ospf_step.specs.Words.{CanName, HasCopy, Asks, Brings, IsSoundState}
 use Rattle.ospf_lsdb.specs.Moments.{among}
 use Rattle.ospf_update.specs.Removal.{lowest_number}
-use Rattle.ospf_laws.specs.Accounts.{Accounts, Has, Hears, IsAcknowledged, IsDescribed, Sends}
-use Rattle.ospf_laws.specs.Step.{Event, heard_in}
-use Rattle.ospf_laws.proofs.StateFacts.{same_router}
-use Rattle.ospf_laws.proofs.ListFacts.{Contains-nil, slice_get-append_right, Contains-map_cases, Contains-map, slice_get-append_cases, slice_get-append_left, slice_get-map_cases, Contains-from_slice_get, slice_get-from_Contains}
-use Rattle.ospf_laws.proofs.StepAccounts.{StepLaws-accounts, StepLaws-sound}
+use Rattle.ospf_step.specs.Accounts.{Accounts, Has, Hears, IsAcknowledged, IsDescribed, Sends}
+use Rattle.ospf_step.specs.Step.{Event, heard_in}
+use Rattle.ospf_step.proofs.StateFacts.{same_router, Contains-nil, slice_get-append_right, Contains-map_cases, Contains-map, slice_get-append_cases, slice_get-append_left, slice_get-map_cases, Contains-from_slice_get, slice_get-from_Contains}
+use Rattle.ospf_step.proofs.StepAccounts.{StepLaws-accounts, StepLaws-sound}
 use Rattle.ospf_headline.specs.World.{World, Issued, Datagram, Holding, Running, router_at, run_of, Steps, Becomes, HasItsTable}
 use Rattle.ospf_headline.specs.Sound.{WasIssued, IssuedAt, number_in}
 use Rattle.ospf_headline.proofs.Facts.{Facts, IsAfter, IsKnownTo}

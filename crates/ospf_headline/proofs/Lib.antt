@@ -8,3 +8,6 @@ pub mod Pigeons
 pub mod ChosenWalks
 pub mod Witness
 pub mod RunLemmas
+pub mod StartFacts
+pub mod RunningFacts
+pub mod SlotFacts

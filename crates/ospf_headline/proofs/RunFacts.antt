@@ -16,14 +16,13 @@ use Rattle.ospf_packet.specs.PacketOf.{packet_of}
 use Rattle.ospf_neighbour.specs.Machine.{is_exchanging}
 use Rattle.ospf_area.specs.Outputs.{OutputsValue}
 use Rattle.ospf_area.specs.State.{AreaValue, Awaits, state_of, kept_number}
-use Rattle.ospf_laws.specs.Words.{CanName, HasCopy, Asks, IsSoundState}
-use Rattle.ospf_laws.specs.Accounts.{IsAcknowledged, HasWord, MayLeave, IsReplaced, WaitsOn}
-use Rattle.ospf_laws.specs.Packets.{Received}
-use Rattle.ospf_laws.specs.Step.{Event, heard_in}
-use Rattle.ospf_laws.proofs.LsaFacts.{same_contents}
-use Rattle.ospf_laws.proofs.ListFacts.{Contains-nil, Contains-from_slice_get}
-use Rattle.ospf_laws.proofs.StepAccounts.{StepLaws-accounts}
-use Rattle.ospf_laws.specs.Step.Event.{Tick, LinkUp, LinkDown}
+use Rattle.ospf_step.specs.Words.{CanName, HasCopy, Asks, IsSoundState}
+use Rattle.ospf_step.specs.Accounts.{IsAcknowledged, HasWord, MayLeave, IsReplaced, WaitsOn}
+use Rattle.ospf_step.specs.Packets.{Received}
+use Rattle.ospf_step.specs.Step.{Event, heard_in}
+use Rattle.ospf_step.proofs.StateFacts.{same_contents, Contains-nil, Contains-from_slice_get}
+use Rattle.ospf_step.proofs.StepAccounts.{StepLaws-accounts}
+use Rattle.ospf_step.specs.Step.Event.{Tick, LinkUp, LinkDown}
 use Rattle.ospf_headline.specs.World.{Comes, World, WorldEvent, Issued, Datagram, Running, router_at, run_of, Steps, Becomes, SameLogs, IsStarted, IsNew, Happens, Runs, stepped_by, HasItsTable}
 use Rattle.ospf_headline.specs.declared.event.WorldEvent.TheVariants.{Start, Stop, Tick as TickOf, LinkUp as LinkUpOf, LinkDown as LinkDownOf, Deliver}
 use Rattle.ospf_headline.specs.Sound.{WasIssued, HeldAnywhere, IssuedAgain, AgreeUnlessIssuedAgain, NoCollision, BasesAreHigh, IssuedAt, number_in, HasToldOf, IsSoundFor, SoundFor, IsSound}

@@ -1,7 +1,7 @@
 -- What is gone over, happens.
 use Rattle.std.proofs.Common.{◌++◌, ℕ, Bool, List, [], ◌∷◌, Ok, Err, Result, refl, take}
 use Rattle.ospf_area.specs.State.{AreaValue}
-use Rattle.ospf_laws.specs.Step.{Event}
+use Rattle.ospf_step.specs.Step.{Event}
 use Rattle.ospf_headline.specs.declared.event.WorldFault.TheVariants as fault
 use Rattle.ospf_headline.specs.World.{Comes, Happens, Runs, World, WorldEvent, WorldFault}
 use Rattle.ospf_headline.specs.Runs.{GoesOver, IsRun, RunsOn}

@@ -12,7 +12,7 @@ use Rattle.ospf_lsa.specs.Listing.{IsRising}
 use Rattle.ospf_graph.specs.Advertisements.{Advertisement}
 use Rattle.ospf_edges.specs.Listed.{advertisement_by, advertisement_of, advertisements_of}
 use Rattle.ospf_headline.specs.Listings.{ListsInstance, ListTheSame, AgreeByInstance}
-use Rattle.ospf_laws.proofs.AckFacts.{first_or_later}
+use Rattle.ospf_step.proofs.SentFacts.{first_or_later}
 
 -- what an LSA says does not depend on its age
 kind_same : (a b : ℕ) (rest : List ℕ) → kind_of (a ∷ b ∷ rest) ≡ kind_of (0 ∷ 0 ∷ rest)

@@ -13,10 +13,8 @@ use Rattle.ospf_graph.specs.Walk.{HaveTables, IsBest, IsStep, IsWalk, IsOnWay, I
 use Rattle.ospf_graph.specs.declared.route.Route.{Route}
 use Rattle.ospf_spf.specs.Walks as spf
 use Rattle.ospf_area.specs.State.{copy_in, entry_of}
-use Rattle.ospf_laws.specs.Words.{HasCopy}
-use Rattle.ospf_laws.proofs.LsaFacts.{same_contents}
-use Rattle.ospf_laws.proofs.StateFacts.{key_of-lsa_of}
-use Rattle.ospf_laws.proofs.ListFacts.{Contains-map, Contains-map_cases, Contains-filter_cases}
+use Rattle.ospf_step.specs.Words.{HasCopy}
+use Rattle.ospf_step.proofs.StateFacts.{same_contents, key_of-lsa_of, Contains-map, Contains-map_cases, Contains-filter_cases}
 use Rattle.ospf_headline.specs.Listings.{ListTheSame, AgreeByInstance}
 use Rattle.ospf_headline.specs.Sound.{NoCollision}
 use Rattle.ospf_headline.specs.World.{World, Running, router_at, listing, HasItsTable}

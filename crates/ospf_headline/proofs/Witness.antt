@@ -8,11 +8,10 @@ use Rattle.ospf_base.specs.declared.ids.RouterId.{RouterId}
 use Rattle.ospf_edges.specs.Listed.{advertisements_of}
 use Rattle.ospf_area.specs.Outputs.{no_outputs}
 use Rattle.ospf_update.specs.Removal.{lowest_number}
-use Rattle.ospf_laws.specs.Step.{Event}
-use Rattle.ospf_laws.specs.Words.{CanName}
-use Rattle.ospf_laws.proofs.ListFacts.{Contains-nil}
-use Rattle.ospf_laws.proofs.StateFacts.{same_router}
-use Rattle.ospf_laws.proofs.Witness.{at_tick, ticks}
+use Rattle.ospf_step.specs.Step.{Event}
+use Rattle.ospf_step.specs.Words.{CanName}
+use Rattle.ospf_step.proofs.StateFacts.{Contains-nil, same_router}
+use Rattle.ospf_step.proofs.Witness.{at_tick, ticks}
 use Rattle.ospf_headline.specs.declared.event.WorldEvent.TheVariants.{Start, Tick}
 use Rattle.ospf_headline.specs.World.{Comes, World, Member, Running, WorldEvent, router_at, run_of, Becomes, HasItsTable, IsStarted, Steps, Runs, IsNew}
 

@@ -5,3 +5,6 @@ pub mod Runs
 pub mod Sound
 pub mod Walks
 pub mod Headline
+pub mod Logs
+pub mod Running
+pub mod Slots

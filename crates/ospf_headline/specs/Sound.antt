@@ -10,11 +10,11 @@ use Rattle.ospf_packet.specs.PacketOf.{packet_of}
 use Rattle.ospf_neighbour.specs.Machine.{is_exchanging}
 use Rattle.ospf_area.specs.Outputs.{OutputsValue}
 use Rattle.ospf_area.specs.State.{AreaValue, Awaits, state_of}
-use Rattle.ospf_laws.specs.Packets.{lsas_in}
-use Rattle.ospf_laws.specs.Words.{Holds, HasCopy, Brings}
+use Rattle.ospf_step.specs.Packets.{lsas_in}
+use Rattle.ospf_step.specs.Words.{Holds, HasCopy, Brings}
 use Rattle.ospf_flood.specs.Rules.{max_sequence_number}
-use Rattle.ospf_laws.specs.Accounts.{IsReplaced}
-use Rattle.ospf_laws.specs.Step.{Event, heard_in}
+use Rattle.ospf_step.specs.Accounts.{IsReplaced}
+use Rattle.ospf_step.specs.Step.{Event, heard_in}
 use Rattle.ospf_headline.specs.declared.event.WorldEvent.TheVariants.{Start}
 use Rattle.ospf_headline.specs.World.{World, WorldEvent, Issued, Datagram, Run, Running, router_at, stepped_by, Comes, Runs, LogsGrow}
 

@@ -14,11 +14,11 @@ use Rattle.ospf_base.specs.Keys.{same_key}
 use Rattle.ospf_flood.specs.Rules.{max_sequence_number}
 use Rattle.ospf_area.specs.Outputs.{OutputsValue}
 use Rattle.ospf_area.specs.State.{AreaValue, copy_of, kept_number}
-use Rattle.ospf_laws.specs.Words.{CanName, Asks}
+use Rattle.ospf_step.specs.Words.{CanName, Asks}
 use Rattle.ospf_update.specs.Removal.{lowest_number}
 use Rattle.ospf_lsdb.specs.Moments.{among}
-use Rattle.ospf_laws.specs.Step.{Event, StepLaws}
-use Rattle.ospf_laws.specs.Step.Event.{Tick, LinkUp, LinkDown}
+use Rattle.ospf_step.specs.Step.{Event, StepLaws}
+use Rattle.ospf_step.specs.Step.Event.{Tick, LinkUp, LinkDown}
 pub use Rattle.ospf_headline.specs.declared.event.WorldEvent.{WorldEvent}
 pub use Rattle.ospf_headline.specs.declared.event.WorldFault.{WorldFault}
 pub use Rattle.ospf_headline.specs.declared.logs.Run.{Run}

@@ -1,7 +1,7 @@
 -- Why a router drops a datagram (RFC 2328, section 8.2).
 use Rattle.std.specs.Prelude.{Option, None, Some}
 use Rattle.ospf_area.specs.State.{AreaValue}
-use Rattle.ospf_laws.specs.Step.{Event}
+use Rattle.ospf_step.specs.Step.{Event}
 use Rattle.ospf_step.specs.Drops.{dropped_by}
 use Rattle.ospf_step.specs.declared.dropped.Dropped.{Dropped}
 

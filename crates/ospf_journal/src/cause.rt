@@ -1,7 +1,7 @@
 //! Why a router drops a datagram.
 
 ghost use Rattle.std.specs.Prelude.{◌≡◌};
-ghost use Rattle.ospf_laws.specs.Step.Event.{Datagram};
+ghost use Rattle.ospf_step.specs.Step.Event.{Datagram};
 ghost use Rattle.ospf_journal.specs.Causes.{cause_of};
 ghost use Rattle.ospf_step.specs.Drops.{dropped_by};
 

@@ -2,7 +2,7 @@
 use Rattle.std.proofs.lemmas.Option.{none-some}
 use Rattle.std.proofs.Common.{◌≡◌, ◌≢◌, ◌≤◌, ◌<◌, ◌++◌, ◌+◌, ℕ, ℤ, zero, suc, slice_get, Some, List, [], ◌∷◌, AllPairs, get_or, length, map, take, refl, sym, ap, subst, ◌∙◌, arith, add-one}
 use Rattle.std.specs.List.{AllByRecursion}
-use Rattle.ospf_laws.proofs.ListFacts.{Contains-nil}
+use Rattle.ospf_step.proofs.StateFacts.{Contains-nil}
 use Rattle.std.specs.Prelude.{slice_index_or}
 use Rattle.ospf_config.specs.Conflicts.{Conflict}
 use Rattle.ospf_config.specs.Conflicts.Conflict.{one_address}
@@ -26,7 +26,7 @@ use Rattle.ospf_config.specs.declared.interface.Interface.{Interface}
 use Rattle.ospf_area.specs.State.{AreaValue, LinkValue, WaitsIn, copy_in, neighbours_in}
 use Rattle.ospf_iface.specs.declared.machine.Iface.{Iface}
 use Rattle.ospf_neighbour.specs.Neighbour.{NeighbourValue}
-use Rattle.ospf_laws.specs.Words.{IsSoundState}
+use Rattle.ospf_step.specs.Words.{IsSoundState}
 use Rattle.ospf_neighbour.specs.Neighbours.{max_neighbours, neighbour_of}
 use Rattle.ospf_step.specs.Fit.{IsFit, IsFitLink}
 use Rattle.ospf_router.specs.Starts.{AreLinksOf, IsAreaOf, IsLinkOf, area_of}

@@ -22,10 +22,10 @@ use Rattle.ospf_area.specs.State.{AreaValue, entry_of}
 use Rattle.ospf_area.specs.declared.flooding.Origin.{Origin}
 use Rattle.ospf_update.specs.Meets.{MeetsRule, heard_by, replied, rule_met, taken_off}
 use Rattle.ospf_update.proofs.PassLemmas.{passed}
-use Rattle.ospf_laws.specs.Parts.{AgesPart, AnswersAll, ExpiryPart, IssuePart, LsaPart, RemovalPart, leaves_if}
-use Rattle.ospf_laws.specs.Step.{AndRequests, Chain, Event, ExpiryStep, IsPart, OwnStep, Part, StepLaws, Then, Times}
-use Rattle.ospf_laws.specs.Step.Part.{HelloComes, DdComes, RequestComes, LsaComes, HeaderComes, DirectAcknowledgements, LinkChanges, Ages, Timers, Hellos, Acknowledgements, Repeats, Requests, Elections, OwnLsas, Removals}
-use Rattle.ospf_laws.specs.Words.{Brings}
+use Rattle.ospf_step.specs.Parts.{AgesPart, AnswersAll, ExpiryPart, IssuePart, LsaPart, RemovalPart, leaves_if}
+use Rattle.ospf_step.specs.Step.{AndRequests, Chain, Event, ExpiryStep, IsPart, OwnStep, Part, StepLaws, Then, Times}
+use Rattle.ospf_step.specs.Step.Part.{HelloComes, DdComes, RequestComes, LsaComes, HeaderComes, DirectAcknowledgements, LinkChanges, Ages, Timers, Hellos, Acknowledgements, Repeats, Requests, Elections, OwnLsas, Removals}
+use Rattle.ospf_step.specs.Words.{Brings}
 use Rattle.ospf_router.specs.Touched.{KeepsBut, Touches}
 
 by_entries : (out : OutputsValue) (s t : AreaValue) → ((key : LsaKey) → entry_of t key ≡ entry_of s key) → KeepsBut out s t

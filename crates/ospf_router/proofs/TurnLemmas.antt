@@ -10,7 +10,7 @@ use Rattle.ospf_graph.proofs.TableLemmas.{same_route, sorted_unique}
 use Rattle.ospf_graph.specs.Advertisements.{Advertisement}
 use Rattle.ospf_graph.specs.Routes.{IsRoute, IsRouteBefore, IsTable, Way}
 use Rattle.ospf_graph.specs.declared.route.Route.{Route}
-use Rattle.ospf_laws.proofs.ListFacts.{Contains-filter, Contains-filter_cases}
+use Rattle.ospf_step.proofs.StateFacts.{Contains-filter, Contains-filter_cases}
 use Rattle.ospf_spf.proofs.EditLemmas.{told}
 use Rattle.ospf_spf.proofs.OrderLemmas.{changed_table, put_at, three_orders}
 use Rattle.ospf_spf.proofs.PrefixOrder.{prefixes_told}

@@ -5,7 +5,7 @@ use Rattle.ospf_area.specs.State.{AreaValue, neighbour, neighbours_in}
 use Rattle.ospf_base.specs.declared.ids.Instance.{Instance}
 use Rattle.ospf_base.specs.declared.ids.RouterId.{RouterId}
 use Rattle.ospf_graph.specs.declared.route.Route.{Route}
-use Rattle.ospf_laws.specs.Words.{IsSoundState}
+use Rattle.ospf_step.specs.Words.{IsSoundState}
 use Rattle.ospf_lsdb.specs.Database.{listed}
 use Rattle.ospf_neighbour.specs.Neighbour.{NeighbourValue}
 use Rattle.ospf_router.specs.Listings.{ListsAs}

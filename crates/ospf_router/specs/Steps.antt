@@ -2,8 +2,8 @@
 use Rattle.std.specs.Prelude.{◌≡◌, ◌≢◌, ◌↔◌, IsTrue, Option, Some}
 use Rattle.ospf_area.specs.Outputs.{OutputsValue}
 use Rattle.ospf_area.specs.State.{AreaValue}
-use Rattle.ospf_laws.specs.Accounts.{Accounts}
-use Rattle.ospf_laws.specs.Step.{Event, StepLaws, heard_in}
+use Rattle.ospf_step.specs.Accounts.{Accounts}
+use Rattle.ospf_step.specs.Step.{Event, StepLaws, heard_in}
 use Rattle.ospf_step.specs.declared.dropped.Dropped.{Dropped}
 use Rattle.ospf_step.specs.Steps.{StepsArea}
 use Rattle.ospf_router.specs.Routers.{HasRoutes, RouterValue}

@@ -4,7 +4,7 @@ use Rattle.ospf_base.specs.declared.ids.Instance.{Instance}
 use Rattle.ospf_base.specs.declared.ids.LsaKey.{LsaKey}
 use Rattle.ospf_area.specs.Outputs.{OutputsValue}
 use Rattle.ospf_area.specs.State.{AreaValue, entry_of}
-use Rattle.ospf_laws.specs.Words.{Brings}
+use Rattle.ospf_step.specs.Words.{Brings}
 use Rattle.ospf_lsdb.specs.Database.{Entry, is_fresh}
 
 -- an instance of this key is taken or issued

@@ -9,7 +9,7 @@ use Rattle.ospf_files.specs.declared.files.NamedFile.{NamedFile}
 use Rattle.ospf_run.proofs.Lists.{HasFirst, taken_off}
 use Rattle.ospf_run.specs.Lookers.{IsFrom}
 use Rattle.ospf_run.specs.Runs.{AreOutcomes, Came, IsOutcome, Ran, Terms, Trios}
-use Rattle.ospf_reports.specs.declared.outcome.Outcome.{Outcome}
+use Rattle.ospf_run.specs.declared.outcome.Outcome.{Outcome}
 use Rattle.ospf_run.specs.declared.look.Looker.{Looker}
 
 -- the first of those that are left has run

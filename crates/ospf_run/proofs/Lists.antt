@@ -15,7 +15,7 @@ use Rattle.ospf_files.specs.declared.files.NamedFile.{NamedFile}
 use Rattle.ospf_published.specs.Known.{Known}
 use Rattle.ospf_run.specs.Lookers.{IsFrom}
 use Rattle.ospf_run.specs.Runs.{AreOutcomes, Begins, IsOutcome, Terms, Trio, Trios}
-use Rattle.ospf_reports.specs.declared.outcome.Outcome.{Outcome}
+use Rattle.ospf_run.specs.declared.outcome.Outcome.{Outcome}
 use Rattle.ospf_run.specs.declared.look.Looker.{Looker}
 
 -- the front of a list, with one more

@@ -9,15 +9,15 @@ use Rattle.ospf_files.specs.declared.status.Failure.{Failure}
 use Rattle.ospf_files.specs.declared.status.Status.{Status}
 use Rattle.ospf_files.specs.declared.streams.FailedStreams.{FailedStreams}
 use Rattle.ospf_run.specs.Cut.{Ends, EndsBy, IsRunCut, comes, cut_short, in_report, last_status}
-use Rattle.ospf_prepare.specs.Obstacles.{Hinders, obstacle_line, obstacle_status}
-use Rattle.ospf_prepare.specs.Plans.{floor_refused, greatest, no_config, no_number, no_port, same_router}
-use Rattle.ospf_reports.specs.Printed.{IsReportCut, IsReported}
+use Rattle.ospf_udp.specs.Obstacles.{Hinders, obstacle_line, obstacle_status}
+use Rattle.ospf_udp.specs.Plans.{floor_refused, greatest, no_config, no_number, no_port, same_router}
+use Rattle.ospf_run.specs.Printed.{IsReportCut, IsReported}
 use Rattle.ospf_run.specs.Runs.{AreExtras, Asked, Comes, HaveRun, asked_of, no_socket, ran, refused, unread}
-use Rattle.ospf_reports.specs.declared.outcome.Extras.{Extras}
-use Rattle.ospf_reports.specs.declared.outcome.Outcome.{Outcome}
+use Rattle.ospf_run.specs.declared.outcome.Extras.{Extras}
+use Rattle.ospf_run.specs.declared.outcome.Outcome.{Outcome}
 use Rattle.ospf_run.specs.declared.settings.Settings.{Settings}
-use Rattle.ospf_prepare.specs.declared.stop.Obstacle.{Obstacle}
-use Rattle.ospf_prepare.specs.declared.stop.Obstacle.TheVariants as obstacle
+use Rattle.ospf_udp.specs.declared.stop.Obstacle.{Obstacle}
+use Rattle.ospf_udp.specs.declared.stop.Obstacle.TheVariants as obstacle
 
 -- what keeps the routers from running is told
 pub obstacle_comes : (asked : Asked) (files : List NamedFile) (o : Obstacle) (oo eo en : Option (List ℕ))

@@ -6,10 +6,10 @@ use Rattle.ospf_files.specs.declared.status.Status.{Status}
 use Rattle.ospf_files.specs.declared.status.Status.TheVariants as status
 use Rattle.std.specs.List.{list_any}
 use Rattle.ospf_run.specs.Cut.{Ends, comes, cut_short}
-use Rattle.ospf_prepare.specs.Plans.{IsRefused}
-use Rattle.ospf_reports.specs.Printed.{is_early, is_failed}
+use Rattle.ospf_udp.specs.Plans.{IsRefused}
+use Rattle.ospf_run.specs.Printed.{is_early, is_failed}
 use Rattle.ospf_run.specs.Runs.{Asked, Comes, IsRun, refused, unread, no_socket, ran}
-use Rattle.ospf_reports.specs.declared.outcome.Outcome.{Outcome}
+use Rattle.ospf_run.specs.declared.outcome.Outcome.{Outcome}
 
 not_refused : (a b : Bool) → cond a status.Stream (cond b status.Memory status.Done) ≡ status.Refused → ⊥
 not_refused true b is = absurd (cc is)

@@ -5,8 +5,8 @@ use Rattle.ospf_config.specs.declared.interface.Interface.{Interface}
 use Rattle.ospf_drive.specs.Traffic.Carried.{Ticks}
 use Rattle.ospf_drive.specs.declared.span.Span.{Span}
 use Rattle.ospf_files.specs.declared.files.NamedFile.{NamedFile}
-use Rattle.ospf_prepare.proofs.Planned.{at_item}
-use Rattle.ospf_prepare.specs.Obstacles.{IsSocketless}
+use Rattle.ospf_udp.proofs.Planned.{at_item}
+use Rattle.ospf_udp.specs.Obstacles.{IsSocketless}
 use Rattle.ospf_run.specs.Wires.{IsFresh}
 use Rattle.ospf_udp.specs.Faults.{IsPortIn}
 use Rattle.ospf_udp.specs.Wires.{UdpValue}

@@ -6,13 +6,13 @@ use Rattle.ospf_files.specs.declared.files.NamedFile.{NamedFile}
 use Rattle.ospf_files.specs.declared.status.Failure.{Failure}
 use Rattle.ospf_files.specs.declared.status.Status.{Status}
 use Rattle.ospf_files.specs.declared.streams.FailedStreams.{FailedStreams}
-use Rattle.ospf_prepare.specs.Obstacles.{Hinders, IsEarly, obstacle_line}
-use Rattle.ospf_reports.specs.Printed.{IsReportCut}
+use Rattle.ospf_udp.specs.Obstacles.{Hinders, IsEarly, obstacle_line}
+use Rattle.ospf_run.specs.Printed.{IsReportCut}
 use Rattle.ospf_run.specs.Runs.{AreExtras, Asked, Comes, HaveRun, asked_of}
-use Rattle.ospf_reports.specs.declared.outcome.Extras.{Extras}
-use Rattle.ospf_reports.specs.declared.outcome.Outcome.{Outcome}
+use Rattle.ospf_run.specs.declared.outcome.Extras.{Extras}
+use Rattle.ospf_run.specs.declared.outcome.Outcome.{Outcome}
 use Rattle.ospf_run.specs.declared.settings.Settings.{Settings}
-use Rattle.ospf_prepare.specs.declared.stop.Obstacle.{Obstacle}
+use Rattle.ospf_udp.specs.declared.stop.Obstacle.{Obstacle}
 
 -- a run is cut: before anything is written; or what is told of what keeps the routers from running; or their report
 pub data IsRunCut (asked : Asked) (files : List NamedFile) (failed : FailedStreams) (out_old out_new err_old err_new : Option (List ℕ)) (f : Failure) : Type 0 where

@@ -1,3 +1,4 @@
+pub mod Printed
 pub mod Lookers
 pub mod Runs
 pub mod Wires

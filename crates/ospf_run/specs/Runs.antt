@@ -16,15 +16,15 @@ use Rattle.ospf_published.specs.Known.{Known, Table, opening}
 use Rattle.ospf_router.specs.Routers.{RouterValue}
 use Rattle.ospf_router.specs.Starts.{IsStarted}
 use Rattle.ospf_run.specs.Lookers.{IsFrom}
-use Rattle.ospf_prepare.specs.Plans.{IsPlan, IsRefused, IsUnreadTold}
-use Rattle.ospf_reports.specs.Printed.{IsReported}
+use Rattle.ospf_udp.specs.Plans.{IsPlan, IsRefused, IsUnreadTold}
+use Rattle.ospf_run.specs.Printed.{IsReported}
 use Rattle.ospf_run.specs.Wires.{IsSocketTold}
-use Rattle.ospf_reports.specs.declared.outcome.Extras.{Extras}
-use Rattle.ospf_reports.specs.declared.outcome.Looked.{Looked}
-use Rattle.ospf_reports.specs.declared.outcome.Outcome.{Outcome}
-use Rattle.ospf_reports.specs.declared.outcome.Shown.{Shown}
+use Rattle.ospf_run.specs.declared.outcome.Extras.{Extras}
+use Rattle.ospf_run.specs.declared.outcome.Looked.{Looked}
+use Rattle.ospf_run.specs.declared.outcome.Outcome.{Outcome}
+use Rattle.ospf_run.specs.declared.outcome.Shown.{Shown}
 use Rattle.ospf_run.specs.declared.look.Looker.{Looker}
-use Rattle.ospf_prepare.specs.declared.plan.Plan.{Plan}
+use Rattle.ospf_udp.specs.declared.plan.Plan.{Plan}
 use Rattle.ospf_run.specs.declared.settings.Settings.{Settings}
 
 -- a router begins with its configuration, DD sequence number 1 and the floor, and the empty table is published

@@ -4,7 +4,7 @@ use Rattle.std.specs.Io.KnownBytes.{Appends}
 use Rattle.ospf_config.specs.declared.config.Config.{Config}
 use Rattle.ospf_drive.specs.declared.span.Span.{Span}
 use Rattle.ospf_files.specs.declared.files.NamedFile.{NamedFile}
-use Rattle.ospf_prepare.specs.Obstacles.{IsSocketless, no_socket_line}
+use Rattle.ospf_udp.specs.Obstacles.{IsSocketless, no_socket_line}
 use Rattle.ospf_udp.specs.Wires.{UdpValue}
 use Rattle.ospf_udp.specs.declared.fault.NoSocket.{NoSocket}
 

@@ -10,8 +10,8 @@ ghost use Rattle.ospf_run.specs.Runs.{Begins};
 use ospf_config::Config;
 use ospf_drive::{Job, Wire};
 use ospf_fib::{Fib, OpenRefused, Seat, Writer};
-use ospf_prepare::put;
 use ospf_router::{Router, StartFault};
+use ospf_udp::put;
 use std::alloc::{AllocError, Global};
 use std::sync::Wait;
 

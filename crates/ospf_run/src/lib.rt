@@ -3,22 +3,30 @@
 //! `run_text` is the whole: it reads configurations, opens sockets, drives the routers, looks an address up beside them, and
 //! prints their tables, and tells a `Tap` what goes on meanwhile. What came of each router stands in `specs/Runs`, and what
 //! stands written where a failure cuts a run short in `specs/Cut`. What is refused before a socket is made is found by
-//! `ospf_prepare`, and what is printed is what `ospf_reports` says.
+//! `prepare` of `ospf_udp`. All that is printed stands in `specs/Printed`: `print_at_tick` prints a table while routers
+//! run, and `report` what came of them, and answers the status to end with.
 #![tactic(auto)]
 
+mod at_tick;
 mod begin;
+mod extras;
 mod finish;
 mod look;
+mod outcome;
 mod over;
+mod print;
 mod run;
 mod settings;
+mod status;
 mod tap;
 mod wires;
 
+pub use crate::at_tick::print_at_tick;
+pub use crate::outcome::{Drops, Extras, Looked, Outcome, Shown};
+pub use crate::print::report;
 pub use crate::run::run_text;
 pub use crate::settings::Settings;
 pub use crate::tap::Tap;
 pub use ospf_config::Config;
-pub use ospf_reports::Drops;
 pub use ospf_router::{Router, Sent, Step};
 pub use ospf_udp::Ending;

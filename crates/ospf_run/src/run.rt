@@ -4,17 +4,18 @@ ghost use Rattle.std.specs.Prelude.{◌≡◌, ◌≢◌, [], ℕ, List, Option,
 ghost use Rattle.ospf_files.specs.Status.{failure_line};
 ghost use Rattle.ospf_files.specs.Streams.{IsTold};
 ghost use Rattle.ospf_run.specs.Cut.{EndsBy, Ends, last_status};
-ghost use Rattle.ospf_prepare.specs.Obstacles.{IsStop};
-ghost use Rattle.ospf_prepare.specs.Plans.{IsPlanAt, IsRefused};
+ghost use Rattle.ospf_udp.specs.Obstacles.{IsStop};
+ghost use Rattle.ospf_udp.specs.Plans.{IsPlanAt, IsRefused};
 ghost use Rattle.ospf_run.specs.Runs.{ComeOf, IsRun, RunsTo, asked_of, floor_of};
 
+use crate::outcome::{Drops, Extras, Outcome};
 use crate::over::run_over;
+use crate::print::report;
 use crate::settings::Settings;
 use crate::tap::{Tap, tap_all};
 use crate::wires::open_wires;
 use ospf_files::{FailedStreams, Failure, NamedFile, Status};
-use ospf_prepare::{Plan, Stop, prepare, status_of, tell_obstacle};
-use ospf_reports::{Drops, Extras, Outcome, report};
+use ospf_udp::{Plan, Stop, prepare, status_of, tell_obstacle};
 use std::alloc::{AllocError, Global};
 use std::io::Write;
 use std::net::Net;

@@ -3,9 +3,9 @@
 ghost use Rattle.std.specs.Prelude.{◌≡◌, [], false};
 ghost use Rattle.ospf_run.specs.Runs.{AreExtras, asked_of, span_of};
 
+use crate::outcome::{Drops, Extras};
 use ospf_base::Addr;
 use ospf_drive::Span;
-use ospf_reports::{Drops, Extras};
 use ospf_udp::Ending;
 
 /// What a run is asked for, beside its configurations.

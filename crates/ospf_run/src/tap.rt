@@ -3,12 +3,13 @@
 ghost use Rattle.std.specs.Prelude.{◌≡◌, IfOk, length};
 ghost use Rattle.ospf_drive.specs.Driven.{Pairs};
 
+use crate::outcome::Drops;
+use ospf_base::Addr;
 use ospf_config::Config;
 use ospf_drive::{Arrival, LONGEST, Wire, WireFault};
 use ospf_files::NamedFile;
-use ospf_prepare::put;
-use ospf_reports::Drops;
 use ospf_router::{Router, Sent, Step};
+use ospf_udp::put;
 use std::alloc::{AllocError, Global};
 
 /// What is told of the routers while they run, each in a thread of its own. What a tap makes of it is its own affair: no router
@@ -22,8 +23,8 @@ pub trait Tap {
     /// A tick of the router has come.
     fn ticks(&mut self);
 
-    /// A packet has come in on a link of the router, which takes it or not.
-    fn hears(&mut self, link: usize, packet: &[u8]);
+    /// A packet has come in on a link of the router from this source, which the router takes or not.
+    fn hears(&mut self, link: usize, source: Addr, packet: &[u8]);
 
     /// The router is so after a step, which gave this.
     fn sees(&mut self, router: &Router, step: &Step);
@@ -56,8 +57,15 @@ impl<W: Wire + Drop, T: Tap + Drop> Wire for TappedWire<W, T> {
     fn recv(&mut self, buffer: &mut [u8; LONGEST]) -> Result<Arrival, WireFault> {
         let received = self.wire.recv(buffer);
         match received {
-            Ok(Arrival::Datagram { link, length, .. }) if length <= LONGEST => {
-                self.tap.hears(link, &buffer[..length]);
+            Ok(
+                Arrival::Datagram {
+                    link,
+                    source,
+                    length,
+                    ..
+                },
+            ) if length <= LONGEST => {
+                self.tap.hears(link, source, &buffer[..length]);
             }
             Ok(Arrival::Tick) => self.tap.ticks(),
             Ok(Arrival::End) | Err(WireFault) => self.tap.ends(),

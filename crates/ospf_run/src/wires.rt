@@ -1,8 +1,8 @@
 //! The sockets of routers.
 
 ghost use Rattle.std.specs.Prelude.{◌≡◌, All, IfErr, IfOk, length};
-ghost use Rattle.ospf_prepare.specs.Obstacles.{IsStopOfPlan};
-ghost use Rattle.ospf_prepare.specs.Plans.{HasPorts};
+ghost use Rattle.ospf_udp.specs.Obstacles.{IsStopOfPlan};
+ghost use Rattle.ospf_udp.specs.Plans.{HasPorts};
 ghost use Rattle.ospf_run.specs.Runs.{span_of};
 ghost use Rattle.ospf_run.specs.Wires.{AreWires, IsFresh};
 ghost use Rattle.ospf_udp.specs.Faults.{IsPortIn};
@@ -10,8 +10,7 @@ ghost use Rattle.ospf_udp.specs.Faults.{IsPortIn};
 use crate::settings::Settings;
 use ospf_config::Config;
 use ospf_files::NamedFile;
-use ospf_prepare::{Obstacle, Stop, put};
-use ospf_udp::{NoSocket, OpenFault, UdpWire};
+use ospf_udp::{NoSocket, Obstacle, OpenFault, Stop, UdpWire, put};
 use std::alloc::{AllocError, Global};
 use std::net::Net;
 use std::time::{Clock, Duration};

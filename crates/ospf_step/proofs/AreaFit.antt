@@ -33,7 +33,7 @@ use Rattle.ospf_update.specs.Removal.{Removes, RemovesAll, leaving}
 use Rattle.ospf_update.specs.Updates.{TakesSlice, TakesSlices, TakesUpdate}
 use Rattle.ospf_update.specs.Updates.TakesSlice.{Met, PassedOver}
 use Rattle.ospf_update.proofs.PassLemmas.{passed}
-use Rattle.ospf_laws.specs.Puts.{headers_met}
+use Rattle.ospf_step.specs.Puts.{headers_met}
 use Rattle.ospf_originate.specs.Steps.{Acts, ActsInTurn, Issues, IssuesIf, OwnLsas, wants}
 use Rattle.ospf_originate.specs.Wanted.{WantedValue, wanted_of}
 use Rattle.ospf_originate.specs.declared.action.Due.{Due}

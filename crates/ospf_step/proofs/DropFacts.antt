@@ -25,8 +25,7 @@ use Rattle.ospf_step.specs.Drops.{drop_on}
 use Rattle.ospf_step.specs.Fit.{IsFit, IsFitLink}
 use Rattle.ospf_step.specs.Ready.{CanTake, CanTakeOn}
 use Rattle.ospf_step.specs.Takes.{origin_of}
-use Rattle.ospf_step.proofs.PutLemmas.{eq_false}
-use Rattle.ospf_step.proofs.SetLemmas.{all_at}
+use Rattle.ospf_step.proofs.FitLemmas.{eq_false, all_at}
 use Rattle.ospf_step.proofs.StepFit.{CanCome}
 
 -- a cause that does not apply

@@ -14,17 +14,15 @@ use Rattle.ospf_adjacency.proofs.GoLemmas.{adj_ok_goes}
 use Rattle.ospf_area.specs.Outputs.{AreRead, OutputsValue, SentValue, sends}
 use Rattle.ospf_area.specs.Sending.{and_sends, own_of}
 use Rattle.ospf_area.specs.State.{AreaValue, LinkValue}
-use Rattle.ospf_laws.specs.Links.{AllEach, AreKnown, ChangesLinks, Each, LinkQuiet}
-use Rattle.ospf_laws.specs.Neighbours.{Quiet}
-use Rattle.ospf_laws.specs.Puts.{PutsOut}
-use Rattle.ospf_laws.proofs.LinkParts.{each_same, part_quiet, quiet_same}
-use Rattle.ospf_laws.proofs.ListFacts.{Contains-nil}
-use Rattle.ospf_laws.proofs.PutParts.{puts_sent}
+use Rattle.ospf_step.specs.Links.{AllEach, AreKnown, ChangesLinks, Each, LinkQuiet}
+use Rattle.ospf_step.specs.Neighbours.{Quiet}
+use Rattle.ospf_step.specs.Puts.{PutsOut}
+use Rattle.ospf_step.proofs.LinkParts.{each_same, part_quiet, quiet_same}
+use Rattle.ospf_step.proofs.StateFacts.{Contains-nil}
+use Rattle.ospf_step.proofs.PutParts.{puts_sent}
 use Rattle.ospf_links.specs.Elections.{Elects, ElectsFrom, ElectsIf, ElectsThere}
 use Rattle.ospf_area.specs.Posting.{posted_all}
-use Rattle.ospf_step.proofs.Bare.{AreBare, bare_known, first_bare}
-use Rattle.ospf_step.proofs.Going.{link_quiet, same_goes}
-use Rattle.ospf_step.proofs.Known.{both_known, none_known}
+use Rattle.ospf_step.proofs.Known.{AreBare, bare_known, first_bare, link_quiet, same_goes, both_known, none_known}
 use Rattle.ospf_step.proofs.Works.{read_sent}
 
 -- ---- one link

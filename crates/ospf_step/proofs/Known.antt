@@ -1,5 +1,5 @@
--- Packets that have copies of the database, and name what the router can name.
-use Rattle.std.proofs.Common.{◌≡◌, ◌⊎◌, ◌++◌, inl, inr, ℕ, suc, List, [], ◌∷◌, Some, slice_get, refl, sym, subst}
+-- What parts of a step that hold no LSA send and know.
+use Rattle.std.proofs.Common.{◌≡◌, ◌⊎◌, ◌++◌, inl, inr, ℕ, suc, List, [], ◌∷◌, Some, slice_get, refl, sym, subst, Bool, true, false, arith, rules, map, Option, None, ◌∙◌}
 use Rattle.std.specs.List.{Contains}
 use Rattle.std.proofs.lemmas.List.Elements.{Contains-append_cases}
 use Rattle.ospf_base.specs.Sums.{contents}
@@ -11,23 +11,35 @@ use Rattle.ospf_lsdb.specs.Database.{IsDatabase}
 use Rattle.ospf_neighbour.specs.Neighbour.{NeighbourValue}
 use Rattle.ospf_packet.specs.Meaning.{BodyMeaning, hello, description, request, update, acknowledgment}
 use Rattle.ospf_exchange.specs.Laws.{HasHeader}
-use Rattle.ospf_adjacency.specs.Laws.{SaysOnly}
-use Rattle.ospf_area.specs.Packets.{Parcel}
+use Rattle.ospf_adjacency.specs.Laws.{SaysOnly, KeepsLists}
+use Rattle.ospf_area.specs.Packets.{Parcel, dd_parcel, parcel_if}
 use Rattle.ospf_area.specs.Outputs.{SentValue}
 use Rattle.ospf_area.specs.Places.{flat_from}
 use Rattle.ospf_area.specs.Sending.{own_of, packet_of, way_out}
 use Rattle.ospf_area.specs.State.{AreaValue, LinkValue, neighbour}
-use Rattle.ospf_laws.specs.Accounts.{WasHeld}
-use Rattle.ospf_laws.specs.Headers.{IsOf, Lists}
-use Rattle.ospf_laws.specs.Links.{AreKnown, IsIn, IsKnownPacket}
-use Rattle.ospf_laws.specs.Packets.{lsas_of, headers_of}
-use Rattle.ospf_laws.specs.Words.{CanName, Holds, list_in}
-use Rattle.ospf_laws.proofs.AckFacts.{flat_map-members}
-use Rattle.ospf_laws.proofs.CopyFacts.{HasHeader-held}
-use Rattle.ospf_laws.proofs.ListFacts.{Contains-nil}
-use Rattle.ospf_laws.proofs.SentFacts.{datagrams-packet}
+use Rattle.ospf_step.specs.Accounts.{WasHeld}
+use Rattle.ospf_step.specs.Headers.{IsOf, Lists}
+use Rattle.ospf_step.specs.Links.{AreKnown, IsIn, IsKnownPacket, EntersNot, LinkQuiet}
+use Rattle.ospf_step.specs.Packets.{lsas_of, headers_of}
+use Rattle.ospf_step.specs.Words.{CanName, Holds, list_in}
+use Rattle.ospf_step.proofs.SentFacts.{flat_map-members, datagrams-packet}
+use Rattle.ospf_step.proofs.StateFacts.{HasHeader-held, Contains-nil, HasInstance-held}
 use Rattle.ospf_area.specs.Posting.{posted, posted_all}
+use Rattle.std.proofs.lemmas.Grind.{common_steps}
+use Rattle.ospf_neighbour.specs.declared.machine.NbrEvent.{NbrEvent}
+use Rattle.ospf_exchange.specs.declared.rule.Local.{Local}
+use Rattle.ospf_adjacency.specs.Adjacency.{begins_by, event_taken, number_by}
+use Rattle.ospf_adjacency.specs.Descriptions.{event_turn}
+use Rattle.ospf_area.specs.Turns.{Turn}
+use Rattle.ospf_adjacency.specs.Elections.{adj_ok_for, first_dds}
+use Rattle.ospf_adjacency.proofs.MemberLemmas.{cons_cases}
+use Rattle.std.proofs.lemmas.Bool.{false≢true}
+use Rattle.ospf_neighbour.specs.Neighbours.{neighbour_of}
+use Rattle.ospf_step.specs.Neighbours.{Goes, GoesOn}
+use Rattle.ospf_adjacency.specs.Laws as adjacency
+use Rattle.ospf_adjacency.specs.HelloLaws as hellos
 
+-- Packets that have copies of the database, and name what the router can name.
 -- what a packet says is known
 pub record SaysKnown (s : AreaValue) (b : BodyMeaning) : Type 0 where
   pub lsas : (lsa : List ℕ) → Contains (lsas_of b) lsa → WasHeld s (contents lsa)
@@ -91,3 +103,93 @@ says_known s l q n at is (description fields headers) says = record {
     go h (inl old) = inl old
     go h (inr (inl told)) = inr (inl told)
     go h (inr (inr has)) = inr (inr (HasHeader-held s h is has))
+
+-- Packets without headers and LSAs: Hellos, and the first DD packets.
+abbrev pub IsBare : BodyMeaning → Type 0
+IsBare b = (lsas_of b ≡ []) × (headers_of b ≡ [])
+
+abbrev pub AreBare : List Parcel → Type 0
+AreBare ps = (p : Parcel) → Contains ps p → IsBare p.body
+
+-- bare packets are known
+pub bare_known : (s : AreaValue) (l : ℕ) (i : Iface) (ps : List Parcel) → AreBare ps → AreKnown s (posted_all (own_of s) l i ps)
+bare_known s l i ps bare = posted_known s l i ps (λ p inside. says_nothing s p.body (bare p inside).0 (bare p inside).1)
+
+pub bare_if : (b : Bool) (p : Parcel) → (b ≡ true → IsBare p.body) → AreBare (parcel_if b p)
+bare_if true p bare q c = elim (cons_cases p [] q c) [ inl is ↦ subst (λ (x : Parcel). IsBare x.body) is (bare refl) | inr none ↦ absurd (Contains-nil q none) ]
+bare_if false p bare q c = absurd (Contains-nil q c)
+
+-- an adjacency that begins has no headers yet
+begun_bare : (e : NbrEvent) (dead next tick : ℕ) (n : NeighbourValue) → begins_by e n ≡ true → (event_taken e dead next tick n).last_dd ≡ []
+begun_bare e dead next tick n is = first_of (search rules, grind (arith, common_steps))
+
+-- by an event there goes out a bare packet at most
+pub event_bare : (i : Iface) (local : Local) (e : NbrEvent) (t : Turn) → (p : Parcel) → Contains (event_turn i local e t).sent p → Contains t.sent p ⊎ IsBare p.body
+event_bare i local e t p c =
+    let m = event_taken e i.settings.dead t.next local.tick t.neighbour in
+    elim (Contains-append_cases t.sent (parcel_if (begins_by e t.neighbour) (dd_parcel i local.mtu m)) p c) [
+      | inl old ↦ inl old
+      | inr new ↦ inr (bare_if (begins_by e t.neighbour) (dd_parcel i local.mtu m) (λ is. (refl, begun_bare e i.settings.dead t.next local.tick t.neighbour is)) p new)
+    ]
+
+-- and by AdjOK?
+pub first_bare : (i : Iface) (mtu tick next : ℕ) (ns : List NeighbourValue) → AreBare (first_dds i mtu tick next ns)
+first_bare i mtu tick next [] p c = absurd (Contains-nil p c)
+first_bare i mtu tick next (n ∷ ns) p c =
+    let e = adj_ok_for i n in
+    let m = event_taken e i.settings.dead next tick n in
+    elim (Contains-append_cases (parcel_if (begins_by e n) (dd_parcel i mtu m)) (first_dds i mtu tick (number_by e n next) ns) p c) [
+      | inl here ↦ bare_if (begins_by e n) (dd_parcel i mtu m) (λ is. (refl, begun_bare e i.settings.dead next tick n is)) p here
+      | inr later ↦ first_bare i mtu tick (number_by e n next) ns p later
+    ]
+
+-- Neighbours that go on by the words of the layers below do so by those of the area.
+-- what keeps its lists, or has lost them, goes on
+pub keeps_goes : (s : AreaValue) (told : List LsaHeader) (n m : NeighbourValue) → KeepsLists n m → GoesOn s told n m
+keeps_goes s told n m (inl k) = record {
+  requests = λ h c. inl (subst (λ hs. Contains hs h) k.requests c);
+  retransmission = λ i w. inl (subst (λ ls. Contains (map (λ l. l.instance) ls) i) k.retransmission w);
+  summary = λ h c. inl (subst (λ hs. Contains hs h) k.summary c);
+  last_dd = λ h c. inl (subst (λ hs. Contains hs h) k.last_dd c);
+  stays = λ i w. inl (subst (λ ls. Contains (map (λ l. l.instance) ls) i) (sym k.retransmission) w);
+}
+keeps_goes s told n m (inr (gone, low)) = record {
+  requests = λ h c. absurd (Contains-nil h (subst (λ hs. Contains hs h) gone.requests c));
+  retransmission = λ i w. absurd (Contains-nil i (subst (λ ls. Contains (map (λ l. l.instance) ls) i) gone.retransmission w));
+  summary = λ h c. absurd (Contains-nil h (subst (λ hs. Contains hs h) gone.summary c));
+  last_dd = λ h c. absurd (Contains-nil h (subst (λ hs. Contains hs h) gone.last_dd c));
+  stays = λ i w. inr low;
+}
+
+-- what goes on by the words of the layers below does so by those of the area
+pub goes_on : (s : AreaValue) (told : List LsaHeader) (n m : NeighbourValue) → IsDatabase s.database → adjacency.GoesOn s.database told n m → GoesOn s told n m
+goes_on s told n m is g = record {
+  requests = g.requests;
+  retransmission = λ i w. elim (g.retransmission i w) [ inl old ↦ inl old | inr has ↦ inr (HasInstance-held s i is has) ];
+  summary = λ h c. elim (g.summary h c) [ inl old ↦ inl old | inr has ↦ inr (HasHeader-held s h is has) ];
+  last_dd = λ h c. elim (g.last_dd h c) [ inl old ↦ inl old | inr new ↦ inr (elim new [ inl listed ↦ inl listed | inr has ↦ inr (HasHeader-held s h is has) ]) ];
+  stays = g.stays;
+}
+
+goes_by : (s : AreaValue) (told : List LsaHeader) (o o' : Option NeighbourValue) → hellos.Goes o o' → Goes s told o o'
+goes_by s told None None g = tt
+goes_by s told None (Some m) g = record { requests = g.0.requests; retransmission = g.0.retransmission; summary = g.0.summary; last_dd = g.0.last_dd }
+goes_by s told (Some n) None g = tt
+goes_by s told (Some n) (Some m) g = keeps_goes s told n m g.0
+
+enters_by : (o o' : Option NeighbourValue) → hellos.Goes o o' → EntersNot o o'
+enters_by None None g up = up
+enters_by None (Some m) g up = absurd (false≢true (sym g.1 ∙ up))
+enters_by (Some n) None g up = absurd (false≢true up)
+enters_by (Some n) (Some m) g up = g.1 up
+
+-- the neighbours of a link go by Hellos, timers and the like
+pub link_quiet : (s : AreaValue) (b a : LinkValue) → ((q : RouterId) → hellos.Goes (neighbour_of b.neighbours q) (neighbour_of a.neighbours q)) → ((h : LsaHeader) → Contains a.delayed h → Contains b.delayed h) → LinkQuiet s b a
+link_quiet s b a goes waiting = record {
+  link = record { goes = λ q. goes_by s [] (neighbour_of b.neighbours q) (neighbour_of a.neighbours q) (goes q); waiting = waiting };
+  enters = λ q. enters_by (neighbour_of b.neighbours q) (neighbour_of a.neighbours q) (goes q);
+}
+
+pub same_goes : (o : Option NeighbourValue) → hellos.Goes o o
+same_goes None = tt
+same_goes (Some n) = (inl (record { summary = refl; last_dd = refl; requests = refl; retransmission = refl }), λ up. up)

@@ -1,19 +1,35 @@
-mod Known
-mod Bare
-mod Going
+pub mod QuietAccounts
+pub mod NeighbourAccounts
+pub mod FloodingAccounts
+pub mod OfferFacts
+pub mod NumberFacts
+pub mod Compose
+pub mod Accountable
+pub mod StoreAccounts
+pub mod ShrinkAccounts
+pub mod MeetAccounts
+pub mod SentFacts
+pub mod PartAccounts
+pub mod StepAccounts
+pub mod TurnAccounts
+pub mod StateFacts
+pub mod Witness
+pub mod Chains
+pub mod AgingChains
+pub mod RemovalChains
+pub mod LinkParts
+pub mod PutParts
+pub mod KeptChains
+pub mod Known
 mod Works
 mod Parts
 mod Turns
 mod Elections
 mod OwnParts
-pub mod LastParts
-pub mod TickChain
-pub mod EventChains
+pub mod StepChains
 pub mod SenderLemmas
-mod FitLemmas
 mod AreaFit
-mod SetLemmas
-mod PutLemmas
+pub mod FitLemmas
 mod PartFit
 mod LinkFit
 mod StepFit

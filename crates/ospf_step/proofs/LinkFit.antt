@@ -25,10 +25,8 @@ use Rattle.ospf_adjacency.specs.ResendLaws.{RepeatsAreQuiet}
 use Rattle.ospf_update.specs.Acks.{undelayed_link}
 use Rattle.ospf_originate.specs.Sound.{IsSetUp}
 use Rattle.ospf_step.specs.Fit.{IsFitLink}
-use Rattle.ospf_step.proofs.FitLemmas.{AllFit, ids, ids_map, of_link}
+use Rattle.ospf_step.proofs.FitLemmas.{AllFit, ids, ids_map, of_link, as_many, Stays, all_at}
 use Rattle.ospf_step.proofs.PartFit.{or_cases}
-use Rattle.ospf_step.proofs.PutLemmas.{as_many}
-use Rattle.ospf_step.proofs.SetLemmas.{Stays, all_at}
 
 -- a link whose interface has the same settings, and whose neighbours are as many at most
 pub fewer_set_up : (a b : LinkValue) → b.iface.settings ≡ a.iface.settings → length b.neighbours ≤ length a.neighbours → IsSetUp a → IsSetUp b

@@ -24,18 +24,17 @@ use Rattle.ospf_area.specs.State.{AreaValue, entry_of, kept_in, kept_number, num
 use Rattle.ospf_area.proofs.NumberLemmas.{own_counted}
 use Rattle.ospf_update.specs.Aging.{Flushes, copy_flood_out, copy_flood_out_by, copy_flooded, copy_flooded_by, noted, turn_out}
 use Rattle.ospf_update.specs.Meets.{flooded_area, store_updates}
-use Rattle.ospf_laws.specs.Neighbours.{Quiet}
-use Rattle.ospf_laws.specs.Parts.{ExpiryPart, IssuePart, at_max_age}
-use Rattle.ospf_laws.specs.Puts.{PutsOut}
-use Rattle.ospf_laws.specs.Step.{AndRequests, IsPart, OwnStep, Part, Times}
-use Rattle.ospf_laws.proofs.Accountable.{AreRead-left, AreRead-right}
-use Rattle.ospf_laws.proofs.AgingChains.{same_database}
-use Rattle.ospf_laws.proofs.Chains.{then_assoc, then_sends}
-use Rattle.ospf_laws.proofs.ListFacts.{find-some}
-use Rattle.ospf_laws.proofs.NumberFacts.{counts-kept, counts-known}
-use Rattle.ospf_laws.proofs.PutParts.{own_end, own_more, own_none, puts_sent}
-use Rattle.ospf_laws.proofs.StateFacts.{entry_of-key, key_of-lsa_of}
-use Rattle.ospf_laws.proofs.TurnAccounts.{turned-quiet}
+use Rattle.ospf_step.specs.Neighbours.{Quiet}
+use Rattle.ospf_step.specs.Parts.{ExpiryPart, IssuePart, at_max_age}
+use Rattle.ospf_step.specs.Puts.{PutsOut}
+use Rattle.ospf_step.specs.Step.{AndRequests, IsPart, OwnStep, Part, Times}
+use Rattle.ospf_step.proofs.Accountable.{AreRead-left, AreRead-right}
+use Rattle.ospf_step.proofs.AgingChains.{same_database}
+use Rattle.ospf_step.proofs.Chains.{then_assoc, then_sends}
+use Rattle.ospf_step.proofs.StateFacts.{find-some, entry_of-key, key_of-lsa_of, age_of_held, expired_entry}
+use Rattle.ospf_step.proofs.NumberFacts.{counts-kept, counts-known}
+use Rattle.ospf_step.proofs.PutParts.{own_end, own_more, own_none, puts_sent}
+use Rattle.ospf_step.proofs.TurnAccounts.{turned-quiet}
 use Rattle.ospf_originate.specs.Actions.{is_due, makes_room, next_action, own_action}
 use Rattle.ospf_originate.specs.Numbers.{issued}
 use Rattle.ospf_originate.specs.Steps.{ActsInTurn, FlushesAndTurns, Issues, IssuesAndTurns, IssuesIf, OwnLsas, action_of, and_issues, due_as, due_of, wants}
@@ -46,7 +45,6 @@ use Rattle.ospf_originate.proofs.KeepLemmas.{issue_tells, made_key, made_number}
 use Rattle.ospf_originate.proofs.NumberLemmas.{issued_kept}
 use Rattle.ospf_originate.proofs.WantedLemmas.{wanted_own}
 use Rattle.ospf_step.proofs.Works.{read_sent}
-use Rattle.ospf_laws.proofs.CopyFacts.{age_of_held, expired_entry}
 
 -- ---- outputs
 

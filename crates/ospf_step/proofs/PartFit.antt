@@ -25,9 +25,7 @@ use Rattle.ospf_adjacency.specs.ResendLaws.{AnswersAreQuiet}
 use Rattle.ospf_adjacency.specs.Descriptions.{description_turn}
 use Rattle.ospf_originate.specs.Sound.{IsSetUp}
 use Rattle.ospf_step.specs.Fit.{IsFitLink}
-use Rattle.ospf_step.proofs.FitLemmas.{ids, of_link}
-use Rattle.ospf_step.proofs.PutLemmas.{as_many, found_router, put_many, put_same}
-use Rattle.ospf_step.proofs.SetLemmas.{Stays}
+use Rattle.ospf_step.proofs.FitLemmas.{ids, of_link, as_many, found_router, put_many, put_same, Stays}
 
 -- ---- a link with other neighbours, whose election may be due
 

@@ -18,19 +18,17 @@ use Rattle.ospf_area.specs.Places.{flat_from}
 use Rattle.ospf_area.specs.Sending.{and_sends, own_of}
 use Rattle.ospf_area.specs.State.{AreaValue, LinkValue}
 use Rattle.ospf_area.specs.declared.flooding.Origin.{Origin}
-use Rattle.ospf_laws.specs.Links.{ChangesLinks, LinkQuiet}
-use Rattle.ospf_laws.specs.Neighbours.{Quiet}
-use Rattle.ospf_laws.specs.Puts.{PutsOut}
-use Rattle.ospf_laws.proofs.LinkParts.{one_quiet, quiet_same}
-use Rattle.ospf_laws.proofs.ListFacts.{Contains-nil}
-use Rattle.ospf_laws.proofs.PutParts.{puts_sent}
+use Rattle.ospf_step.specs.Links.{ChangesLinks, LinkQuiet}
+use Rattle.ospf_step.specs.Neighbours.{Quiet}
+use Rattle.ospf_step.specs.Puts.{PutsOut}
+use Rattle.ospf_step.proofs.LinkParts.{one_quiet, quiet_same}
+use Rattle.ospf_step.proofs.StateFacts.{Contains-nil}
+use Rattle.ospf_step.proofs.PutParts.{puts_sent}
 use Rattle.ospf_links.specs.Parts.{hello_out, hello_part, hello_sent, link_down, link_timed, link_up, neighbourhood_of, up_parcels, with_neighbourhood}
 use Rattle.ospf_area.specs.Posting.{local_of, posted_all}
 use Rattle.ospf_links.specs.Works.{changed, changed_on, up_out_on, work_sent, worked}
 use Rattle.ospf_step.specs.Invariants.{AreRising}
-use Rattle.ospf_step.proofs.Bare.{AreBare, bare_if, bare_known, event_bare}
-use Rattle.ospf_step.proofs.Going.{link_quiet, same_goes}
-use Rattle.ospf_step.proofs.Known.{links_known, none_known}
+use Rattle.ospf_step.proofs.Known.{AreBare, bare_if, bare_known, event_bare, link_quiet, same_goes, links_known, none_known}
 use Rattle.ospf_step.proofs.Works.{all_links_put, nothing_read, one_link, puts_nothing, read_sent, same_quiet, silent_links_put, work_puts}
 
 -- ---- a Hello that comes

@@ -16,7 +16,7 @@ use Rattle.ospf_links.specs.Elections.{Elects, ElectsAt, ElectsFrom, ElectsThere
 use Rattle.ospf_links.specs.Parts.{description_part, hello_part, hello_sent, link_down, link_timed, link_up, request_part, with_neighbourhood}
 use Rattle.ospf_links.specs.Repeats.{link_repeated}
 use Rattle.ospf_links.specs.Works.{changed, changed_on, worked, worked_links_on, work_next_on}
-use Rattle.ospf_laws.specs.Puts.{headers_met}
+use Rattle.ospf_step.specs.Puts.{headers_met}
 use Rattle.ospf_packet.specs.Meaning.{BodyMeaning, hello, description, request, update, acknowledgment}
 use Rattle.ospf_update.specs.Acks.{undelayed_link}
 use Rattle.ospf_update.specs.Aging.{TickAges}
@@ -29,10 +29,9 @@ use Rattle.ospf_step.specs.Fit.{IsFit, IsFitLink}
 use Rattle.ospf_step.specs.Ticks.{acknowledged_area, helloed_area, timed_area}
 use Rattle.ospf_step.specs.Takes.{TakesBody, TakesTick, repeated}
 use Rattle.ospf_step.proofs.AreaFit.{age_for, headers_for, own_for, removes_for, update_for}
-use Rattle.ospf_step.proofs.FitLemmas.{AllFit, IsFor}
+use Rattle.ospf_step.proofs.FitLemmas.{AllFit, IsFor, Stays, all_at, map_fit, set_fit}
 use Rattle.ospf_step.proofs.LinkFit.{down_stays, elects_stays, hellos_fit, hellos_set_up, hellos_settings, repeats_fit, repeats_set_up, timers_fit, timers_set_up, undelayed_fit, undelayed_set_up, up_stays}
 use Rattle.ospf_step.proofs.PartFit.{CanGreet, description_stays, hello_stays, request_stays}
-use Rattle.ospf_step.proofs.SetLemmas.{Stays, all_at, map_fit, set_fit}
 
 -- ---- a router of the same Router ID
 

@@ -15,17 +15,15 @@ use Rattle.ospf_adjacency.specs.HelloLaws.{ElectionsComeAbout, NeighboursStayOfL
 use Rattle.ospf_originate.specs.Laws.{AreaStaysSound}
 use Rattle.ospf_adjacency.specs.ResendLaws.{RepeatsAreQuiet}
 use Rattle.ospf_step.specs.declared.dropped.Dropped.{Dropped}
-use Rattle.ospf_laws.specs.Accounts.{Accounts}
-use Rattle.ospf_laws.specs.Puts.{PutsOut}
-use Rattle.ospf_laws.specs.Step.{Chain, Event, Part, StepLaws, first_parts, heard_in, last_parts}
-use Rattle.ospf_laws.specs.Step.Event.{Datagram, Tick, LinkUp, LinkDown}
-use Rattle.ospf_laws.specs.Words.{IsSoundState}
-use Rattle.ospf_laws.proofs.Chains.{step_from_chain}
-use Rattle.ospf_laws.proofs.StepAccounts.{StepLaws-accounts, StepLaws-sound}
+use Rattle.ospf_step.specs.Accounts.{Accounts}
+use Rattle.ospf_step.specs.Puts.{PutsOut}
+use Rattle.ospf_step.specs.Step.{Chain, Event, Part, StepLaws, first_parts, heard_in, last_parts}
+use Rattle.ospf_step.specs.Step.Event.{Datagram, Tick, LinkUp, LinkDown}
+use Rattle.ospf_step.specs.Words.{IsSoundState}
+use Rattle.ospf_step.proofs.Chains.{step_from_chain}
+use Rattle.ospf_step.proofs.StepAccounts.{StepLaws-accounts, StepLaws-sound}
 use Rattle.ospf_step.specs.Invariants.{AreRising}
-use Rattle.ospf_step.proofs.EventChains.{acknowledgment_chain, description_chain, down_chain, hello_chain, request_chain, up_chain, update_chain}
-use Rattle.ospf_step.proofs.LastParts.{ends_put}
-use Rattle.ospf_step.proofs.TickChain.{tick_puts}
+use Rattle.ospf_step.proofs.StepChains.{acknowledgment_chain, description_chain, down_chain, hello_chain, request_chain, up_chain, update_chain, ends_put, tick_puts}
 use Rattle.ospf_step.specs.Drops.{is_dropped}
 use Rattle.ospf_step.specs.Fit.{IsFit, IsFitLink}
 use Rattle.ospf_step.specs.Ready.{IsReadyFor, IsSenderReady}
@@ -33,7 +31,7 @@ use Rattle.ospf_step.specs.Steps.{StepsArea, Takes}
 use Rattle.ospf_step.specs.Ticks.{acknowledged_area, helloed_area, timed_area}
 use Rattle.ospf_step.specs.Takes.{TakesBody, TakesDatagram, TakesEvent, TakesTick, origin_of}
 use Rattle.ospf_step.specs.declared.steps.Taken.{Taken}
-use Rattle.ospf_step.proofs.SetLemmas.{all_at}
+use Rattle.ospf_step.proofs.FitLemmas.{all_at}
 use Rattle.ospf_step.proofs.StepFit.{aged_fit, ticked_fit}
 
 -- no datagrams more

@@ -31,24 +31,21 @@ use Rattle.ospf_area.specs.Outputs.{AreRead, OutputsValue, SentValue, sends}
 use Rattle.ospf_area.specs.Sending.{and_sends, own_of}
 use Rattle.ospf_area.specs.State.{AreaValue, LinkValue, neighbour, neighbours_in, copy_in}
 use Rattle.ospf_area.specs.declared.flooding.Origin.{Origin}
-use Rattle.ospf_laws.specs.Accounts.{WasHeld}
-use Rattle.ospf_laws.specs.Headers.{IsOf}
-use Rattle.ospf_laws.specs.Links.{AreKnown, ChangesLinks, EntersNot, OnOneLink}
-use Rattle.ospf_laws.specs.Neighbours.{Goes, GoesOn, NeighboursGo, Quiet, told_by}
-use Rattle.ospf_laws.specs.Packets.{dd_headers_in}
-use Rattle.ospf_laws.specs.Puts.{PutsOut}
-use Rattle.ospf_laws.specs.Words.{CanName}
-use Rattle.ospf_laws.proofs.LinkParts.{goes_same, link_same, one_goes, one_quiet, quiet_same}
-use Rattle.ospf_laws.proofs.ListFacts.{Contains-map_cases, Contains-nil}
-use Rattle.ospf_laws.proofs.LsaFacts.{header_names, same_contents}
-use Rattle.ospf_laws.proofs.StateFacts.{copy_of-has, neighbour-router, same_router}
+use Rattle.ospf_step.specs.Accounts.{WasHeld}
+use Rattle.ospf_step.specs.Headers.{IsOf}
+use Rattle.ospf_step.specs.Links.{AreKnown, ChangesLinks, EntersNot, OnOneLink}
+use Rattle.ospf_step.specs.Neighbours.{Goes, GoesOn, NeighboursGo, Quiet, told_by}
+use Rattle.ospf_step.specs.Packets.{dd_headers_in}
+use Rattle.ospf_step.specs.Puts.{PutsOut}
+use Rattle.ospf_step.specs.Words.{CanName}
+use Rattle.ospf_step.proofs.LinkParts.{goes_same, link_same, one_goes, one_quiet, quiet_same}
+use Rattle.ospf_step.proofs.StateFacts.{Contains-map_cases, Contains-nil, header_names, same_contents, copy_of-has, neighbour-router, same_router}
 use Rattle.ospf_links.specs.Parts.{description_by, description_part, neighbourhood_of, request_by, request_part, with_neighbourhood}
 use Rattle.ospf_area.specs.Posting.{local_by, local_of, posted_all}
 use Rattle.ospf_links.specs.Repeats.{all_repeats, link_repeated, repeated, repeated_links, repeats_for, repeats_out, repeats_to}
 use Rattle.ospf_links.specs.Works.{work_sent, worked}
 use Rattle.ospf_step.specs.Invariants.{AreRising, NoneWaitsBelow}
-use Rattle.ospf_step.proofs.Going.{goes_on}
-use Rattle.ospf_step.proofs.Known.{SaysKnown, both_known, links_known, none_known, posted_known, says_known, says_nothing}
+use Rattle.ospf_step.proofs.Known.{goes_on, SaysKnown, both_known, links_known, none_known, posted_known, says_known, says_nothing}
 use Rattle.ospf_step.proofs.Works.{all_links_put, marks_quiet, same_go, work_puts}
 
 same_id : (a : ℕ) → a == a ≡ true

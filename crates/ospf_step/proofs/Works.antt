@@ -5,15 +5,15 @@ use Rattle.ospf_adjacency.specs.Heard.{Neighbourhood}
 use Rattle.ospf_area.specs.Outputs.{AreRead, OutputsValue, SentValue, no_outputs, sends}
 use Rattle.ospf_area.specs.Sending.{and_sends, own_of}
 use Rattle.ospf_area.specs.State.{AreaValue, LinkValue}
-use Rattle.ospf_laws.specs.Links.{AllEach, AreKnown, ChangesLinks, LinkQuiet, OnOneLink}
-use Rattle.ospf_laws.specs.Neighbours.{NeighboursGo, Quiet, told_by}
-use Rattle.ospf_laws.specs.Packets.{Received}
-use Rattle.ospf_laws.specs.Puts.{PutsOut}
-use Rattle.ospf_laws.proofs.Accountable.{AreRead-right, each_read, then_nothing}
-use Rattle.ospf_laws.proofs.Chains.{then_sends}
-use Rattle.ospf_laws.proofs.LinkParts.{each_same, link_same, map_each, part_goes, part_quiet, quiet_same}
-use Rattle.ospf_laws.proofs.ListFacts.{Contains-nil}
-use Rattle.ospf_laws.proofs.PutParts.{puts_sent}
+use Rattle.ospf_step.specs.Links.{AllEach, AreKnown, ChangesLinks, LinkQuiet, OnOneLink}
+use Rattle.ospf_step.specs.Neighbours.{NeighboursGo, Quiet, told_by}
+use Rattle.ospf_step.specs.Packets.{Received}
+use Rattle.ospf_step.specs.Puts.{PutsOut}
+use Rattle.ospf_step.proofs.Accountable.{AreRead-right, each_read, then_nothing}
+use Rattle.ospf_step.proofs.Chains.{then_sends}
+use Rattle.ospf_step.proofs.LinkParts.{each_same, link_same, map_each, part_goes, part_quiet, quiet_same}
+use Rattle.ospf_step.proofs.StateFacts.{Contains-nil}
+use Rattle.ospf_step.proofs.PutParts.{puts_sent}
 use Rattle.ospf_links.specs.Parts.{with_neighbourhood}
 use Rattle.ospf_area.specs.Posting.{posted_all}
 use Rattle.ospf_links.specs.Works.{work_next_on, work_sent, work_sent_on, worked, worked_links_on}

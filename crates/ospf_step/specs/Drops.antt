@@ -3,8 +3,8 @@ use Rattle.std.specs.Prelude.{Bool, Option, None, Some, is_some, slice_get}
 use Rattle.ospf_base.specs.declared.ids.Addr.{Addr}
 use Rattle.ospf_area.specs.Sending.{own_of}
 use Rattle.ospf_area.specs.State.{AreaValue, LinkValue}
-use Rattle.ospf_laws.specs.Step.{Event}
-use Rattle.ospf_laws.specs.Step.Event.{Datagram, Tick, LinkUp, LinkDown}
+use Rattle.ospf_step.specs.Step.{Event}
+use Rattle.ospf_step.specs.Step.Event.{Datagram, Tick, LinkUp, LinkDown}
 use Rattle.ospf_area.specs.Posting.{local_of}
 use Rattle.ospf_packet.specs.Meaning.{Meaning}
 use Rattle.ospf_packet.specs.PacketOf.{packet_of}

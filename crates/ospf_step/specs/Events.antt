@@ -1,5 +1,5 @@
 -- What a router is stepped with, as the laws of a step read it (RFC 2328, sections 8.2, 9.2 and 14).
-use Rattle.ospf_laws.specs.Step as laws
+use Rattle.ospf_step.specs.Step as laws
 use Rattle.ospf_step.specs.declared.event.Event.{Event}
 use Rattle.ospf_step.specs.declared.event.Event.TheVariants as given
 

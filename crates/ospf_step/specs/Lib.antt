@@ -1,3 +1,13 @@
+pub mod Headers
+pub mod Packets
+pub mod Words
+pub mod Accounts
+pub mod Neighbours
+pub mod Unchanged
+pub mod Parts
+pub mod Step
+pub mod Links
+pub mod Puts
 pub mod Invariants
 pub mod Ticks
 pub mod Receipt

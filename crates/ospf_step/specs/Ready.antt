@@ -3,8 +3,8 @@ use Rattle.std.specs.Prelude.{⊤, ◌≡◌, ◌<◌, ℕ, true, Option, Some, 
 use Rattle.ospf_area.specs.State.{AreaValue, LinkValue}
 use Rattle.ospf_area.specs.declared.flooding.Origin.{Origin}
 use Rattle.ospf_step.specs.Invariants.{NoneWaitsBelow}
-use Rattle.ospf_laws.specs.Step.{Event}
-use Rattle.ospf_laws.specs.Step.Event.{Datagram, Tick, LinkUp, LinkDown}
+use Rattle.ospf_step.specs.Step.{Event}
+use Rattle.ospf_step.specs.Step.Event.{Datagram, Tick, LinkUp, LinkDown}
 use Rattle.ospf_lsdb.specs.Database.{IsDatabase}
 use Rattle.ospf_neighbour.specs.Machine.{is_exchanging}
 use Rattle.ospf_neighbour.specs.Neighbour.{NeighbourValue}

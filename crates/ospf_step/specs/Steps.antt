@@ -2,7 +2,7 @@
 use Rattle.std.specs.Prelude.{◌≡◌, ◌≢◌, Option, None}
 use Rattle.ospf_area.specs.Outputs.{OutputsValue, no_outputs}
 use Rattle.ospf_area.specs.State.{AreaValue}
-use Rattle.ospf_laws.specs.Step.{Event}
+use Rattle.ospf_step.specs.Step.{Event}
 use Rattle.ospf_step.specs.declared.dropped.Dropped.{Dropped}
 use Rattle.ospf_step.specs.Drops.{dropped_by}
 use Rattle.ospf_step.specs.Ends.{Ends}

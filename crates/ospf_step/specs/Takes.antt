@@ -7,9 +7,9 @@ use Rattle.ospf_area.specs.State.{AreaValue}
 use Rattle.ospf_area.specs.declared.flooding.Origin.{Origin}
 use Rattle.ospf_step.specs.Ticks.{tick_out, ticked_area}
 use Rattle.ospf_adjacency.specs.Heard.{names}
-use Rattle.ospf_laws.specs.Puts.{headers_met}
-use Rattle.ospf_laws.specs.Step.{Event}
-use Rattle.ospf_laws.specs.Step.Event.{Datagram, Tick, LinkUp, LinkDown}
+use Rattle.ospf_step.specs.Puts.{headers_met}
+use Rattle.ospf_step.specs.Step.{Event}
+use Rattle.ospf_step.specs.Step.Event.{Datagram, Tick, LinkUp, LinkDown}
 use Rattle.ospf_links.specs.Parts.{answered_on, description_part, hello_part, link_down, link_up, request_part}
 use Rattle.ospf_links.specs.Repeats.{all_keys, all_repeats, marked_all, repeated_links}
 use Rattle.ospf_links.specs.Works.{changed, up_out_on, work_sent, worked}

@@ -2,7 +2,7 @@
 
 ghost use Rattle.std.specs.Prelude.{◌≡◌, ◌≢◌, None, Some, IfErr, IfOk, OnErr, OnOk, slice_get};
 ghost use Rattle.ospf_area.specs.Sending.{own_of};
-ghost use Rattle.ospf_laws.specs.Puts.{headers_met};
+ghost use Rattle.ospf_step.specs.Puts.{headers_met};
 ghost use Rattle.ospf_area.specs.Posting.{local_of};
 ghost use Rattle.ospf_packet.specs.PacketOf.{packet_of};
 ghost use Rattle.ospf_packet.specs.Said.{body_said, said};

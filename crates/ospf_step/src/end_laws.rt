@@ -6,8 +6,8 @@ ghost use Rattle.ospf_area.specs.State.{AreaValue};
 ghost use Rattle.ospf_update.specs.Removal.{Removes};
 ghost use Rattle.ospf_links.specs.Elections.{Elects};
 ghost use Rattle.ospf_originate.specs.Steps.{OwnLsas};
-ghost use Rattle.ospf_laws.specs.Puts.{PutsOut};
-ghost use Rattle.ospf_laws.specs.Step.{Chain, IsPart, Part, last_parts};
+ghost use Rattle.ospf_step.specs.Puts.{PutsOut};
+ghost use Rattle.ospf_step.specs.Step.{Chain, IsPart, Part, last_parts};
 
 /// The elections, one after the other.
 pub fn elections_put_out()

@@ -18,8 +18,8 @@ ghost use Rattle.ospf_area.specs.State.{AreaValue};
 ghost use Rattle.ospf_update.specs.Updates.{TakesUpdate};
 ghost use Rattle.ospf_links.specs.Parts.{description_part, hello_part, link_down, link_up, request_part};
 ghost use Rattle.ospf_links.specs.Works.{changed, up_out_on, work_sent, worked};
-ghost use Rattle.ospf_laws.specs.Puts.{PutsOut, headers_met};
-ghost use Rattle.ospf_laws.specs.Step.{Chain, Event, Part, first_parts};
+ghost use Rattle.ospf_step.specs.Puts.{PutsOut, headers_met};
+ghost use Rattle.ospf_step.specs.Step.{Chain, Event, Part, first_parts};
 ghost use Rattle.ospf_step.specs.Takes.{origin_of};
 ghost use Rattle.ospf_step.specs.Invariants.{NoneWaitsBelow};
 

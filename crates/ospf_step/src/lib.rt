@@ -3,27 +3,36 @@
 //!
 //! `step` takes an event. A datagram that is dropped, for the first cause that `receive` finds, does nothing; behind
 //! any other event come the elections that are due, the router's own LSAs, and the LSAs that leave the database. The
-//! causes stand in `specs/Receipt`, what an event does in `specs/Takes`, and how a step ends in `specs/Ends`. The laws
-//! say that this is the chain of a step's parts (`datagrams_are_chains`, `link_changes_are_chains`,
-//! `ticks_are_chains`, `ends_are_chains`), by which the step answers to other routers.
+//! causes stand in `specs/Receipt`, what an event does in `specs/Takes`, and how a step ends in `specs/Ends`.
+//!
+//! The laws say that this is the chain of a step's parts (`datagrams_are_chains`, `link_changes_are_chains`,
+//! `ticks_are_chains`, `ends_are_chains`), what each part answers for to other routers (`specs/Accounts`), and that it
+//! adds up over a step (`accounts_add_up`, `steps_account`).
 #![tactic(auto)]
 
+mod account_laws;
 mod datagrams;
 mod dropped;
 mod drops;
+mod each_link_laws;
 mod end_laws;
 mod ends;
 mod event;
 mod event_laws;
 mod link_laws;
 mod outputs_laws;
+mod part_laws;
 mod senders;
 mod steps;
 mod tick_laws;
 mod ticks;
 
+pub use crate::account_laws::{
+    accounts_add_up, quiet_parts_account, some_state_ticks, steps_account,
+};
 pub use crate::dropped::Dropped;
 pub use crate::drops::receive;
+pub use crate::each_link_laws::{links_go, one_link_goes};
 pub use crate::end_laws::{elections_put_out, ends_are_chains, own_lsas_put_out};
 pub use crate::event::Event;
 pub use crate::event_laws::{datagrams_are_chains, link_changes_are_chains};
@@ -31,6 +40,11 @@ pub use crate::link_laws::{
     descriptions_put_out, hellos_put_out, links_down_put_out, links_up_put_out, requests_put_out,
 };
 pub use crate::outputs_laws::{database_is_one, none_waits_below};
+pub use crate::part_laws::{
+    acknowledgements_put_out, ages_put_out, chains_put_out, flushes_put_out, headers_are_chains,
+    next_requests_put_out, own_steps_put_out, removals_put_out, steps_are_chains,
+    updates_are_chains,
+};
 pub use crate::senders::{not_dropped_is_taken, senders_are_neighbours};
 pub use crate::steps::{Taken, step};
 pub use crate::tick_laws::{

@@ -14,9 +14,9 @@ ghost use Rattle.ospf_area.specs.State.{AreaValue};
 ghost use Rattle.ospf_area.specs.declared.flooding.Origin.{Origin};
 ghost use Rattle.ospf_links.specs.Parts.{description_part, hello_part, link_down, link_up, request_part};
 ghost use Rattle.ospf_links.specs.Works.{changed, up_out_on, work_sent, worked};
-ghost use Rattle.ospf_laws.specs.Packets.{dd_headers_in};
-ghost use Rattle.ospf_laws.specs.Puts.{PutsOut};
-ghost use Rattle.ospf_laws.specs.Step.{IsPart, Part};
+ghost use Rattle.ospf_step.specs.Packets.{dd_headers_in};
+ghost use Rattle.ospf_step.specs.Puts.{PutsOut};
+ghost use Rattle.ospf_step.specs.Step.{IsPart, Part};
 ghost use Rattle.ospf_step.specs.Invariants.{NoneWaitsBelow};
 
 /// A Hello that comes, on a link that may not be there.

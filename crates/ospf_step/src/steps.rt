@@ -3,9 +3,9 @@
 ghost use Rattle.std.specs.Prelude.{◌≡◌, ◌≢◌, None, IfOk, OnErr, OnOk, slice_get};
 ghost use Rattle.ospf_area.specs.Outputs.{no_outputs};
 ghost use Rattle.ospf_area.specs.Sending.{own_of};
-ghost use Rattle.ospf_laws.specs.Accounts.{Accounts};
-ghost use Rattle.ospf_laws.specs.Step.{StepLaws, heard_in};
-ghost use Rattle.ospf_laws.specs.Words.{IsSoundState};
+ghost use Rattle.ospf_step.specs.Accounts.{Accounts};
+ghost use Rattle.ospf_step.specs.Step.{StepLaws, heard_in};
+ghost use Rattle.ospf_step.specs.Words.{IsSoundState};
 ghost use Rattle.ospf_links.specs.Parts.{link_down, link_up};
 ghost use Rattle.ospf_links.specs.Works.{changed, up_out_on};
 ghost use Rattle.ospf_step.specs.Drops.{dropped_by, is_dropped};

@@ -10,8 +10,8 @@ ghost use Rattle.ospf_area.specs.State.{AreaValue};
 ghost use Rattle.ospf_update.specs.Aging.{TickAges};
 ghost use Rattle.ospf_links.specs.Parts.{hello_out, hello_sent, link_timed};
 ghost use Rattle.ospf_links.specs.Repeats.{all_repeats, repeated_links};
-ghost use Rattle.ospf_laws.specs.Puts.{PutsOut};
-ghost use Rattle.ospf_laws.specs.Step.{Chain, Event, IsPart, Part, first_parts};
+ghost use Rattle.ospf_step.specs.Puts.{PutsOut};
+ghost use Rattle.ospf_step.specs.Step.{Chain, Event, IsPart, Part, first_parts};
 ghost use Rattle.ospf_step.specs.Invariants.{AreRising};
 ghost use Rattle.ospf_step.specs.Ticks.{tick_out, ticked_area};
 

@@ -2,3 +2,5 @@ pub mod Faults
 pub mod Frames
 pub mod Handed
 pub mod Wires
+pub mod Plans
+pub mod Obstacles

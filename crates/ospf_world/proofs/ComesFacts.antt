@@ -5,7 +5,7 @@ use Rattle.std.proofs.lemmas.Option.{slice_get_cases}
 use Rattle.ospf_base.specs.declared.ids.RouterId.{RouterId}
 use Rattle.ospf_lsa.specs.Lsa.{key_of}
 use Rattle.ospf_area.specs.Outputs.{OutputsValue}
-use Rattle.ospf_laws.specs.Step.{Event}
+use Rattle.ospf_step.specs.Step.{Event}
 use Rattle.ospf_headline.specs.Headline.{IsReached}
 use Rattle.ospf_headline.specs.World.{Becomes, Comes, LogsGrow, Running, SameLogs, World, member, of_member, refusal, router_at, stepped_by, IsStarted}
 use Rattle.ospf_headline.specs.declared.event.WorldEvent.{WorldEvent}
@@ -15,10 +15,10 @@ use Rattle.ospf_headline.specs.declared.event.WorldFault.TheVariants as fault
 use Rattle.ospf_headline.specs.declared.logs.Datagram.{Datagram}
 use Rattle.ospf_headline.specs.declared.logs.Issued.{Issued}
 use Rattle.ospf_headline.proofs.RunFacts.{Runs-append}
-use Rattle.ospf_slots.proofs.RunFacts.{run_of-is}
-use Rattle.ospf_slots.specs.Logs.{LogsTake, LogsValue}
-use Rattle.ospf_slots.specs.Running.{delivery}
-use Rattle.ospf_slots.specs.Slots.{GoesOn, SlotSteps, SlotTakes, SlotValue, fed_by, member_of, refused_by, router_in, with_running}
+use Rattle.ospf_headline.proofs.RunningFacts.{run_of-is}
+use Rattle.ospf_headline.specs.Logs.{LogsTake, LogsValue}
+use Rattle.ospf_headline.specs.Running.{delivery}
+use Rattle.ospf_headline.specs.Slots.{GoesOn, SlotSteps, SlotTakes, SlotValue, fed_by, member_of, refused_by, router_in, with_running}
 use Rattle.ospf_router.specs.Steps.{is_dropped}
 use Rattle.ospf_world.specs.Does.{Does}
 use Rattle.ospf_world.specs.Ticks.{ticked_by}

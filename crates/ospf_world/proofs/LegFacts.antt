@@ -7,7 +7,7 @@ use Rattle.ospf_area.specs.State.{AreaValue}
 use Rattle.ospf_base.specs.declared.ids.RouterId.{RouterId}
 use Rattle.ospf_edges.specs.Listed.{advertisements_of}
 use Rattle.ospf_graph.proofs.WalkSteps.{onward_of}
-use Rattle.ospf_laws.proofs.ListFacts.{Contains-nil}
+use Rattle.ospf_step.proofs.StateFacts.{Contains-nil}
 use Rattle.ospf_graph.specs.Advertisements.{Advertisement}
 use Rattle.ospf_graph.specs.Routes.{IsHop, IsRoute, IsTable}
 use Rattle.ospf_graph.specs.Walk.{HasLinkFor, IsBest}

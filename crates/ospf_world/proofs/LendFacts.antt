@@ -6,7 +6,7 @@ use Rattle.ospf_headline.specs.World.{member}
 use Rattle.ospf_headline.specs.declared.event.WorldFault.{WorldFault}
 use Rattle.ospf_headline.specs.declared.event.WorldFault.TheVariants as fault
 use Rattle.ospf_router.specs.Routers.{RouterValue}
-use Rattle.ospf_slots.specs.Slots.{SlotValue, member_of}
+use Rattle.ospf_headline.specs.Slots.{SlotValue, member_of}
 use Rattle.ospf_world.specs.Worlds.{Lends, LendsSlot, WorldValue, place_of, world_of}
 use Rattle.ospf_world.proofs.PlaceFacts.{at_within, not_placed, placed, slot_at}
 use Rattle.ospf_world.proofs.WorldFacts.{member-is}

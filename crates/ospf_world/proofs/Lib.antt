@@ -11,3 +11,8 @@ pub mod RandomFacts
 pub mod RoundFacts
 pub mod LegFacts
 pub mod WalkFacts
+pub mod Config
+pub mod DownLemmas
+pub mod States
+pub mod Steps
+pub mod Works

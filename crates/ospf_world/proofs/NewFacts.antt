@@ -13,8 +13,8 @@ use Rattle.ospf_headline.specs.Headline.{IsReached}
 use Rattle.ospf_headline.specs.World.{IsNew}
 use Rattle.ospf_headline.specs.declared.event.WorldFault.{WorldFault}
 use Rattle.ospf_headline.specs.declared.event.WorldFault.TheVariants as fault
-use Rattle.ospf_laws.proofs.ListFacts.{slice_get-append_cases}
-use Rattle.ospf_slots.specs.Slots.{SlotValue}
+use Rattle.ospf_step.proofs.StateFacts.{slice_get-append_cases}
+use Rattle.ospf_headline.specs.Slots.{SlotValue}
 use Rattle.ospf_router.specs.Steps.{is_dropped}
 use Rattle.ospf_world.specs.Worlds.{Adds, ArePlaces, Opens, ShareRouter, WorldValue, is_slot_of, new_world, place_from, place_in, place_of, stopped, world_of}
 use Rattle.ospf_world.proofs.PlaceFacts.{IsAt, placed}

@@ -12,7 +12,7 @@ use Rattle.ospf_config.specs.declared.interface.Interface.{Interface}
 use Rattle.ospf_headline.specs.declared.event.WorldEvent.{WorldEvent}
 use Rattle.ospf_headline.specs.declared.event.WorldEvent.TheVariants.{Deliver}
 use Rattle.ospf_headline.specs.declared.logs.Datagram.{Datagram}
-use Rattle.ospf_slots.specs.Slots.{SlotValue}
+use Rattle.ospf_headline.specs.Slots.{SlotValue}
 use Rattle.ospf_world.specs.Networks.{AreNetworks, links_at, links_from, links_on, router_links}
 use Rattle.ospf_world.specs.Offers.{address_at, is_for, is_offered, offers_to}
 use Rattle.ospf_world.specs.Rounds.{is_offered_to, is_sender, offer_at, offer_on, offer_to, offers_at, offers_by, offers_of, sender_in}

@@ -13,7 +13,7 @@ use Rattle.ospf_headline.specs.Headline.{IsReached}
 use Rattle.ospf_headline.specs.World.{Member, Runs, World}
 use Rattle.ospf_headline.specs.declared.event.WorldEvent.{WorldEvent}
 use Rattle.ospf_headline.specs.declared.event.WorldFault.{WorldFault}
-use Rattle.ospf_slots.specs.Slots.{SlotValue, member_of}
+use Rattle.ospf_headline.specs.Slots.{SlotValue, member_of}
 use Rattle.ospf_router.specs.Steps.{is_dropped}
 use Rattle.ospf_world.specs.Does.{Does}
 use Rattle.ospf_world.specs.Random.{GoesOn, IsRandom, Meets}

@@ -6,7 +6,7 @@ use Rattle.ospf_headline.specs.Runs.{IsRun}
 use Rattle.ospf_headline.specs.declared.event.WorldEvent.{WorldEvent}
 use Rattle.ospf_headline.specs.declared.event.WorldFault.{WorldFault}
 use Rattle.ospf_headline.specs.declared.logs.Datagram.{Datagram}
-use Rattle.ospf_slots.specs.Slots.{SlotValue}
+use Rattle.ospf_headline.specs.Slots.{SlotValue}
 use Rattle.ospf_router.specs.Steps.{is_dropped}
 use Rattle.ospf_world.specs.Does.{Does}
 use Rattle.ospf_world.specs.Rounds.{AreNextOffers, AreOffered, IsRound, IsRoundOf, OffersMore, OffersNext, most_offers, offers_of, passed, ticks}

@@ -11,8 +11,8 @@ use Rattle.ospf_headline.specs.declared.event.WorldEvent.TheVariants.{Start, Sto
 use Rattle.ospf_headline.specs.declared.event.WorldFault.{WorldFault}
 use Rattle.ospf_headline.specs.declared.event.WorldFault.TheVariants as fault
 use Rattle.ospf_headline.specs.declared.logs.Datagram.{Datagram}
-use Rattle.ospf_slots.specs.Logs.{LogsValue}
-use Rattle.ospf_slots.specs.Slots.{SlotSteps, SlotValue, member_of, refused_by}
+use Rattle.ospf_headline.specs.Logs.{LogsValue}
+use Rattle.ospf_headline.specs.Slots.{SlotSteps, SlotValue, member_of, refused_by}
 use Rattle.ospf_router.specs.Steps.{is_dropped}
 use Rattle.ospf_world.specs.Sounds.{IsSoundBetween}
 use Rattle.ospf_world.specs.Ticks.{TicksBy, TicksOn, ticked_by, ticked_if}

@@ -12,7 +12,7 @@ use Rattle.ospf_world.specs.declared.walk.Leg.{Leg}
 use Rattle.ospf_world.specs.declared.walk.Leg.TheVariants.{Ends, Goes}
 use Rattle.ospf_world.specs.Walks.{IsLeg, LegsOver}
 use Rattle.std.proofs.lemmas.List.{length-map}
-use Rattle.ospf_slots.specs.Slots.{SlotValue, member_of}
+use Rattle.ospf_headline.specs.Slots.{SlotValue, member_of}
 use Rattle.ospf_world.specs.Worlds.{WorldValue, world_of}
 use Rattle.ospf_world.proofs.ListFacts.{none_left, one_left}
 

@@ -8,3 +8,5 @@ pub mod Does
 pub mod Random
 pub mod Rounds
 pub mod Walks
+pub mod Works
+pub mod Wanted

@@ -9,7 +9,7 @@ use Rattle.ospf_headline.specs.declared.event.WorldEvent.TheVariants.{Deliver, T
 use Rattle.ospf_headline.specs.declared.event.WorldFault.{WorldFault}
 use Rattle.ospf_headline.specs.declared.event.WorldFault.TheVariants as fault
 use Rattle.ospf_headline.specs.declared.logs.Datagram.{Datagram}
-use Rattle.ospf_slots.specs.Slots.{SlotValue}
+use Rattle.ospf_headline.specs.Slots.{SlotValue}
 use Rattle.ospf_world.specs.Does.{Does}
 use Rattle.ospf_world.specs.Worlds.{WorldValue}
 use Rattle.ospf_world.specs.declared.networks.LinkPlace.{LinkPlace}

@@ -3,11 +3,16 @@
 //!
 //! `World::step` takes an event, `World::run` a list of them. `World::round` is a tick of each router that runs, and
 //! then offers what was sent (RFC 2328, section 8.1), `World::random` draws events by chance, and `World::walk` goes
-//! along next hops. An `EventWatch` is told of each event. What an event does stands in `specs/Does`, whom a datagram is offered to in `specs/Offers`, and
-//! what chance draws in `specs/Draws`.
+//! along next hops. An `EventWatch` is told of each event. What an event does stands in `specs/Does`, whom a datagram
+//! is offered to in `specs/Offers`, and what chance draws in `specs/Draws`.
+//!
+//! Two laws stand here that need whole routers: that there are networks of which the laws speak (`some_router_works`),
+//! of which one is shown event by event, and that what routers want to list after a failure is what `ospf_whatif`
+//! leaves of an area (`links_go_down`, `interfaces_go_down`, `routers_stop`).
 #![tactic(auto)]
 
 mod chance;
+mod failure_laws;
 mod networks;
 mod offers;
 mod parts;
@@ -17,13 +22,16 @@ mod ticks;
 mod walk;
 mod watch;
 mod watched;
+mod work_laws;
 mod world;
 
 pub use crate::chance::{Words, chosen, draw, drawn_at};
+pub use crate::failure_laws::{interfaces_go_down, links_go_down, routers_stop};
 pub use crate::networks::network_of;
 pub use crate::rounds::{MOST_OFFERS, ticks_of};
 pub use crate::ticks::Ticked;
 pub use crate::walk::Walk;
 pub use crate::watch::{EventWatch, Unwatched};
+pub use crate::work_laws::some_router_works;
 pub use crate::world::World;
-pub use ospf_slots::{Datagram, Holding, Issued, Logs, Run, Slot, WorldEvent, WorldFault};
+pub use ospf_headline::{Datagram, Holding, Issued, Logs, Run, Slot, WorldEvent, WorldFault};

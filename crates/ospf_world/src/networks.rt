@@ -7,7 +7,7 @@ ghost use Rattle.ospf_world.specs.Worlds.{config_of};
 
 use ospf_base::mask_of;
 use ospf_config::{Config, InterfaceAddress};
-use ospf_slots::Slot;
+use ospf_headline::Slot;
 use std::alloc::{AllocError, Global};
 use std::collections::BTreeMap;
 

@@ -1,7 +1,7 @@
 //! Many routers and their logs, before anything is said of what led there.
 
 ghost use Rattle.std.specs.Prelude.{◌≡◌, ◌<◌, ◌+◌, ◌++◌, IfOk, length};
-ghost use Rattle.ospf_slots.specs.Slots.{router_in};
+ghost use Rattle.ospf_headline.specs.Slots.{router_in};
 ghost use Rattle.ospf_world.specs.Does.{Does};
 ghost use Rattle.ospf_world.specs.Rounds.{offers_of, sender_in};
 ghost use Rattle.ospf_world.specs.Worlds.{Adds, Lends, LendsSlot, Opens, place_in, world_of};
@@ -11,8 +11,8 @@ use crate::offers::{address_of, offers_at};
 use crate::ticks::{Ticked, step_slot};
 use ospf_base::RouterId;
 use ospf_config::{Config, InterfaceAddress};
+use ospf_headline::{Datagram, Logs, Slot, WorldEvent, WorldFault};
 use ospf_router::Router;
-use ospf_slots::{Datagram, Logs, Slot, WorldEvent, WorldFault};
 use std::alloc::{AllocError, Global};
 use std::collections::BTreeMap;
 use std::marker::Model;

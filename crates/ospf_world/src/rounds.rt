@@ -10,8 +10,7 @@ ghost use Rattle.ospf_world.specs.Worlds.{world_of};
 
 use crate::watch::{EventWatch, Unwatched};
 use crate::world::World;
-use ospf_headline::{WorldEvent, WorldFault, headline, runs_lead_on, soundness};
-use ospf_slots::Slot;
+use ospf_headline::{Slot, WorldEvent, WorldFault, headline, runs_lead_on, soundness};
 use std::alloc::{AllocError, Global};
 
 /// How many datagrams a round offers at most, where nothing else is asked for.

@@ -17,9 +17,8 @@ use crate::ticks::Ticked;
 use crate::watch::Unwatched;
 use ospf_base::RouterId;
 use ospf_config::{Config, InterfaceAddress};
-use ospf_headline::{headline, soundness};
+use ospf_headline::{Datagram, Holding, Issued, Slot, WorldEvent, WorldFault, headline, soundness};
 use ospf_router::Router;
-use ospf_slots::{Datagram, Holding, Issued, Slot, WorldEvent, WorldFault};
 use std::alloc::{AllocError, Global};
 use std::marker::Model;
 

@@ -3,10 +3,10 @@ use Rattle.ospf_run.proofs.Finished.{outcome_of, ran_taken, trios_on}
 use Rattle.ospf_run.proofs.Lists.{HasFirst, first_left, outcomes_more}
 use Rattle.ospf_drive.specs.declared.fault.DriveFault.{DriveFault}
 use Rattle.ospf_files.proofs.Cut.{for_memory}
-use Rattle.ospf_prepare.specs.Obstacles.{FailsPlan, closed, no_memory}
+use Rattle.ospf_udp.specs.Obstacles.{FailsPlan, closed, no_memory}
 use Rattle.ospf_run.specs.Runs.{Came, Terms, Trios}
-use Rattle.ospf_reports.specs.declared.outcome.Shown.{Shown}
-use Rattle.ospf_reports.specs.declared.outcome.Outcome.{Outcome}
+use Rattle.ospf_run.specs.declared.outcome.Shown.{Shown}
+use Rattle.ospf_run.specs.declared.outcome.Outcome.{Outcome}
 use Rattle.ospf_run.proofs.finish.finish_all.Goals as goal
 
 pub returns-in_err-outcomes-clause-early : goal.returns-in_err-outcomes-clause-early

@@ -3,7 +3,7 @@ use Rattle.std.proofs.lemmas.Result.{IfOk-weaker}
 use Rattle.ospf_files.proofs.Cut.{for_memory}
 use Rattle.ospf_drive.specs.Traffic.Carried.{Ticks}
 use Rattle.ospf_run.proofs.Lists.{all_over}
-use Rattle.ospf_prepare.specs.Obstacles.{FailsPlan, no_memory}
+use Rattle.ospf_udp.specs.Obstacles.{FailsPlan, no_memory}
 use Rattle.ospf_run.specs.Runs.{AreOutcomes, Trios, span_of}
 use Rattle.ospf_run.proofs.over.run_over.Goals as goal
 

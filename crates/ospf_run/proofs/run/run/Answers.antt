@@ -1,5 +1,5 @@
-use Rattle.ospf_prepare.proofs.Planned.{passed_on, stopped_early}
-use Rattle.ospf_prepare.specs.Obstacles.{IsStop, no_memory}
+use Rattle.ospf_udp.proofs.Planned.{passed_on, stopped_early}
+use Rattle.ospf_udp.specs.Obstacles.{IsStop, no_memory}
 use Rattle.ospf_run.specs.Runs.{floor_of}
 use Rattle.ospf_run.proofs.run.run.Goals as goal
 

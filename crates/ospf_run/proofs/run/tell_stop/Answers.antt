@@ -1,7 +1,7 @@
 use Rattle.std.proofs.Common.{refl, subst, sym}
 use Rattle.ospf_run.proofs.Reported.{ends_by_failure, obstacle_comes}
 use Rattle.ospf_run.specs.Cut.{before_all, in_obstacle}
-use Rattle.ospf_prepare.specs.Obstacles.{IsStop}
+use Rattle.ospf_udp.specs.Obstacles.{IsStop}
 use Rattle.ospf_run.specs.Runs.{Comes, asked_of, floor_of}
 use Rattle.ospf_run.proofs.run.tell_stop.Goals as goal
 

@@ -1,8 +1,8 @@
 use Rattle.std.proofs.Common.{◌<◌, arith, length}
 use Rattle.ospf_run.proofs.Lists.{all_more, one_more}
-use Rattle.ospf_prepare.proofs.Planned.{stopped_early}
+use Rattle.ospf_udp.proofs.Planned.{stopped_early}
 use Rattle.ospf_run.proofs.Wired.{has_wire, not_opened, socketless}
-use Rattle.ospf_prepare.specs.Obstacles.{IsStopOfPlan, no_memory}
+use Rattle.ospf_udp.specs.Obstacles.{IsStopOfPlan, no_memory}
 use Rattle.ospf_run.specs.Wires.{IsFresh}
 use Rattle.ospf_run.specs.Runs.{span_of}
 use Rattle.ospf_run.proofs.wires.open_wires.Goals as goal

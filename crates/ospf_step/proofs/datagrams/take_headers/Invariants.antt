@@ -1,5 +1,5 @@
 use Rattle.std.proofs.Common.{◌≡◌}
-use Rattle.ospf_laws.specs.Puts.{headers_met}
+use Rattle.ospf_step.specs.Puts.{headers_met}
 use Rattle.ospf_step.proofs.datagrams.take_headers.Given as goal
 
 -- the headers that are left are still to be met

@@ -1,4 +1,4 @@
-use Rattle.ospf_step.proofs.LastParts.{ends_put}
+use Rattle.ospf_step.proofs.StepChains.{ends_put}
 use Rattle.ospf_step.proofs.end_laws.ends_are_chains.Goals as goal
 
 pub returns : goal.returns

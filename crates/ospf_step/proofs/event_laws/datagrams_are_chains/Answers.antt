@@ -1,4 +1,4 @@
-use Rattle.ospf_step.proofs.EventChains.{hello_chain, description_chain, request_chain, update_chain, acknowledgment_chain}
+use Rattle.ospf_step.proofs.StepChains.{hello_chain, description_chain, request_chain, update_chain, acknowledgment_chain}
 use Rattle.ospf_step.proofs.event_laws.datagrams_are_chains.Goals as goal
 
 pub returns : goal.returns

@@ -1,4 +1,4 @@
-use Rattle.ospf_step.proofs.EventChains.{up_chain, down_chain}
+use Rattle.ospf_step.proofs.StepChains.{up_chain, down_chain}
 use Rattle.ospf_step.proofs.event_laws.link_changes_are_chains.Goals as goal
 
 pub returns : goal.returns

@@ -1,5 +1,5 @@
-use Rattle.ospf_laws.specs.Step.{Chain}
-use Rattle.ospf_step.proofs.TickChain.{read_before}
+use Rattle.ospf_step.specs.Step.{Chain}
+use Rattle.ospf_step.proofs.StepChains.{read_before}
 use Rattle.ospf_step.proofs.tick_laws.outputs_before_are_read.Goals as goal
 
 pub returns : goal.returns

@@ -1,0 +1,72 @@
+-- Numbering runs, and what a step and its logs come to together.
+use Rattle.std.proofs.Common.{◌≡◌, List, Option, None, Some, length, find, refl, sym, ap, subst, ◌∙◌, cond}
+use Rattle.ospf_base.specs.Keys.{same_key}
+use Rattle.ospf_base.specs.declared.ids.LsaKey.{LsaKey}
+use Rattle.ospf_base.specs.declared.ids.RouterId.{RouterId}
+use Rattle.ospf_area.specs.Outputs.{OutputsValue}
+use Rattle.ospf_area.specs.State.{AreaValue}
+use Rattle.ospf_edges.specs.Listed.{advertisements_of}
+use Rattle.ospf_graph.specs.Routes.{IsTable}
+use Rattle.ospf_headline.specs.World.{HasItsTable, Running, RunsGoOn, run_of}
+use Rattle.ospf_headline.specs.declared.logs.Run.{Run}
+use Rattle.ospf_step.specs.Step.{Event}
+use Rattle.ospf_lsdb.specs.Database.{listed}
+use Rattle.ospf_lsdb.specs.Moments.{among}
+use Rattle.ospf_router.specs.Routers.{RouterValue}
+use Rattle.ospf_router.specs.Steps.{Steps}
+use Rattle.ospf_router.specs.declared.router.Step.{Step}
+use Rattle.ospf_headline.specs.Logs.{LogsTake, LogsValue, run_in, run_or}
+use Rattle.ospf_headline.specs.Running.{Fed, Goes, RunningValue, Settles, runs_in}
+use Rattle.ospf_update.specs.Removal.{lowest_number}
+
+-- the run of a key, said in two ways
+pub run_of-is : (x : Running) (key : LsaKey) → run_of x key ≡ run_in x.first x.later key
+unfolding run_of
+run_of-is x key = go (find (λ e. same_key e.0 key) x.later)
+  where
+    go : (o : Option (LsaKey × Run)) → elim o [ None ↦ x.first | Some e ↦ e.1 ] ≡ run_or x.first o
+    go None = refl
+    go (Some e) = refl
+
+same_table : (before after : RunningValue) (s : AreaValue) → after.router ≡ before.router → HasItsTable (runs_in before s) → HasItsTable (runs_in after s)
+same_table before after s same has = record {
+  is_database = has.is_database;
+  is_listing = has.is_listing;
+  is_table = subst (λ (r : RouterValue). IsTable (advertisements_of (listed s.database)) s.router r.table) (sym same) has.is_table;
+}
+
+goes_on : (r : RouterId) (e : Event) (before mid after : RunningValue) (out : OutputsValue) (logs logs' : LogsValue) (g : Goes e before out mid) → Settles r mid out logs after logs' → RunsGoOn logs'.issued out.ended (runs_in before g.area) (runs_in after g.next)
+goes_on r e before mid after out logs logs' g s = record {
+  first = s.first ∙ g.first;
+  runs = λ key. run_of-is (runs_in after g.next) key ∙ (s.again after.first key ∙ ap (λ z. cond (among out.ended key) (record { name = length logs'.issued; base = lowest_number }) z)
+      (ap (λ f. run_in f mid.later key) (s.first ∙ g.first) ∙ (ap (λ l. run_in before.first l key) g.later ∙ sym (run_of-is (runs_in before g.area) key))));
+}
+
+-- a step, and then the logs grow
+pub fed_from : (r : RouterId) (e : Event) (before mid after : RunningValue) (out : OutputsValue) (logs logs' : LogsValue) → Goes e before out mid → Settles r mid out logs after logs' → Fed r e before logs after logs'
+fed_from r e before mid after out logs logs' g s = record {
+  area = g.area;
+  next = g.next;
+  out = out;
+  was = g.was;
+  is = ap (λ (r : RouterValue). r.area) s.router ∙ g.is;
+  dropped = g.dropped;
+  lawful = g.lawful;
+  table = same_table mid after g.next s.router g.table;
+  takes = subst (λ f. LogsTake logs logs' r f before.later out) g.first (subst (λ l. LogsTake logs logs' r mid.first l out) g.later s.takes);
+  runs = goes_on r e before mid after out logs logs' g s;
+}
+
+-- a step of the router
+pub goes : (e : Event) (r r' : RouterValue) (first : Run) (later : List (LsaKey × Run)) (t : Step) → Steps e r t r' → Goes e (record { router = r; first = first; later = later }) t.out (record { router = r'; first = first; later = later })
+goes e r r' first later t s = record {
+  area = s.area;
+  next = s.next;
+  was = s.runs;
+  is = s.is;
+  dropped = t.dropped;
+  lawful = s.lawful;
+  table = record { is_database = s.routes.database; is_listing = s.routes.listing; is_table = s.routes.routes };
+  first = refl;
+  later = refl;
+}

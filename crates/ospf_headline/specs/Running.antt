@@ -1,0 +1,84 @@
+-- A running router in a world, and its numbering runs.
+use Rattle.std.specs.Prelude.{◌≡◌, ℕ, ℤ, List, [], Option, Some, length, option_map}
+use Rattle.ospf_area.specs.Outputs.{OutputsValue}
+use Rattle.ospf_area.specs.State.{AreaValue}
+use Rattle.ospf_base.specs.declared.ids.LsaKey.{LsaKey}
+use Rattle.ospf_base.specs.declared.ids.RouterId.{RouterId}
+use Rattle.ospf_config.specs.declared.config.Config.{Config}
+use Rattle.ospf_headline.specs.World.{HasItsTable, IsStarted, Running, RunsGoOn}
+use Rattle.ospf_headline.specs.declared.logs.Datagram.{Datagram}
+use Rattle.ospf_headline.specs.declared.logs.Issued.{Issued}
+use Rattle.ospf_headline.specs.declared.logs.Run.{Run}
+use Rattle.ospf_step.specs.Step.{Event}
+use Rattle.ospf_step.specs.declared.dropped.Dropped.{Dropped}
+use Rattle.ospf_router.specs.Routers.{RouterValue}
+use Rattle.ospf_router.specs.Starts.{IsAreaOf}
+use Rattle.ospf_router.specs.Steps.{IsLawful}
+use Rattle.ospf_headline.specs.Logs.{BeginAgain, LogsTake, LogsValue}
+
+-- a router, the run of its keys since its start, and the later runs of single keys, the latest first
+pub record RunningValue : Type 0 where
+  pub router : RouterValue
+  pub first : Run
+  pub later : List (LsaKey × Run)
+
+-- how it runs, in this area
+abbrev pub runs_in : RunningValue → AreaValue → Running
+runs_in v s = record { state = s; table = v.router.table; first = v.first; later = v.later }
+
+-- how it runs, if it has not stopped
+abbrev pub running_of : RunningValue → Option Running
+running_of v = option_map (runs_in v) v.router.area
+
+-- it has not stopped
+abbrev pub Lives : RunningValue → Type 0
+Lives v = (s : AreaValue) × (v.router.area ≡ Some s)
+
+-- it is exactly as a router of this configuration starts, with this first number of a description above the floor; and where
+-- these LSAs were issued before, its first run begins now
+pub record StartsAs (config : Config) (dd_start : ℕ) (floor : ℤ) (issued : List Issued) (x : Running) : Type 0 where
+  pub area : IsAreaOf config dd_start floor x.state
+  pub table : x.table ≡ []
+  pub begins : IsStarted issued config.router_id floor x
+
+-- it has just started, where so many LSAs were issued before
+pub record Begins (config : Config) (dd_start issued : ℕ) (floor : ℤ) (v : RunningValue) : Type 0 where
+  pub area : AreaValue
+  pub runs : v.router.area ≡ Some area
+  pub started : (log : List Issued) → length log ≡ issued → StartsAs config dd_start floor log (runs_in v area)
+
+-- the router takes the exact step of the event, dropped for this cause if it is dropped; its runs are as before
+pub record Goes (e : Event) (before : RunningValue) (out : OutputsValue) (after : RunningValue) : Type 0 where
+  pub area : AreaValue
+  pub next : AreaValue
+  pub was : before.router.area ≡ Some area
+  pub is : after.router.area ≡ Some next
+  pub dropped : Option Dropped
+  pub lawful : IsLawful e area dropped out next
+  pub table : HasItsTable (runs_in after next)
+  pub first : after.first ≡ before.first
+  pub later : after.later ≡ before.later
+
+-- the logs grow by exactly these outputs, and the runs that have ended begin again
+pub record Settles (r : RouterId) (before : RunningValue) (out : OutputsValue) (logs : LogsValue) (after : RunningValue) (logs' : LogsValue) : Type 0 where
+  pub router : after.router ≡ before.router
+  pub first : after.first ≡ before.first
+  pub takes : LogsTake logs logs' r before.first before.later out
+  pub again : BeginAgain (length logs'.issued) out.ended before.later after.later
+
+-- a running router takes the exact step of the event, and the logs grow by exactly its outputs
+pub record Fed (r : RouterId) (e : Event) (before : RunningValue) (logs : LogsValue) (after : RunningValue) (logs' : LogsValue) : Type 0 where
+  pub area : AreaValue
+  pub next : AreaValue
+  pub out : OutputsValue
+  pub was : before.router.area ≡ Some area
+  pub is : after.router.area ≡ Some next
+  pub dropped : Option Dropped
+  pub lawful : IsLawful e area dropped out next
+  pub table : HasItsTable (runs_in after next)
+  pub takes : LogsTake logs logs' r before.first before.later out
+  pub runs : RunsGoOn logs'.issued out.ended (runs_in before area) (runs_in after next)
+
+-- what a datagram that was sent steps a router with
+abbrev pub delivery : ℕ → Datagram → Event
+delivery l g = Event.Datagram l g.sent.source g.sent.destination g.sent.bytes

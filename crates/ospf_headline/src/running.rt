@@ -1,0 +1,131 @@
+//! A running router and its numbering runs.
+
+ghost use Rattle.std.specs.Prelude.{◌≡◌, ◌≢◌, ◌<◌, ◌↔◌, IfErr, IfOk, IfSome, OnErr, OnOk, length, slice_get};
+ghost use Rattle.ospf_flood.specs.Rules.{max_sequence_number};
+ghost use Rattle.ospf_router.specs.declared.fault.StartFault.TheVariants as fault;
+ghost use Rattle.ospf_headline.specs.Running.{Begins, Fed, Settles, delivery};
+ghost use Rattle.ospf_router.specs.Steps.{happening};
+
+use crate::logs::{Datagram, Logs, Run};
+use ospf_area::Outputs;
+use ospf_base::{LsaKey, RouterId};
+use ospf_config::Config;
+use ospf_router::{Event, Router, StartFault, Step, Stopped};
+use std::alloc::Global;
+use std::marker::Model;
+
+/// A running router, the run of its keys since its start, and the later runs of single keys, the latest first.
+#[derive(Drop)]
+pub(crate) struct RunningRouter {
+    router: Router,
+    first: Run,
+    later: Vec<(LsaKey, Run)>,
+}
+
+impl Model for RunningRouter {
+    ghost use Rattle.ospf_headline.specs.Running.{RunningValue};
+
+    ghost Value = { RunningValue };
+
+    ghost view = { λ x. record { router = x.router; first = x.first; later = x.later.items } };
+}
+
+impl RunningRouter {
+    /// A router that starts, where so many LSAs were issued before.
+    ///
+    /// `StartFault::Floor` where no number is above the floor, else `StartFault::Memory` where memory runs out.
+    pub(crate) fn start(
+        config: &Config,
+        issued: usize,
+        dd_start: u32,
+        floor: &i32,
+        alloc: Global,
+    ) -> Result<RunningRouter, StartFault>
+        ensures begins { IfOk result (λ x. Begins config.now dd_start issued floor.now x) }
+        ensures above { OnOk result (floor.now ≢ max_sequence_number) }
+        ensures refused { IfErr result (λ f. (f ≡ fault.Floor)
+            ↔ (floor.now ≡ max_sequence_number)) }
+    {
+        let base = *floor;
+        let router = Router::start(config, dd_start, base, alloc)?;
+        Ok(RunningRouter {
+            router,
+            first: Run { name: issued, base },
+            later: Vec::new(alloc),
+        })
+    }
+
+    /// The router.
+    pub(crate) fn router(&self) -> &Router
+        ensures { result.now ≡ self.now.router }
+    {
+        &self.router
+    }
+
+    /// A step of the router, by which the logs grow.
+    ///
+    /// `Stopped` where memory runs out: then no log has grown.
+    pub(crate) fn feed(
+        mut self,
+        event: Event<'_>,
+        logs: &mut Logs,
+        router: RouterId,
+        alloc: Global,
+    ) -> Result<RunningRouter, Stopped>
+        ensures fed { IfOk result (λ x. Fed router (happening event.entry) self logs.old x
+            logs.new) }
+        ensures none { OnErr result (logs.new ≡ logs.old) }
+    {
+        let Step { out, .. } = self.router.step(event, alloc)?;
+        self.settle(out, logs, router)
+    }
+
+    /// A datagram that was sent comes in on a link of the router.
+    ///
+    /// `Stopped` where memory runs out: then no log has grown.
+    pub(crate) fn deliver(
+        mut self,
+        place: usize,
+        link: usize,
+        logs: &mut Logs,
+        router: RouterId,
+        alloc: Global,
+    ) -> Result<RunningRouter, Stopped>
+        requires { place < length logs.old.datagrams }
+        ensures fed { IfOk result (λ x. IfSome (slice_get logs.old.datagrams place)
+            (λ g. Fed router (delivery link g) self logs.old x logs.new)) }
+        ensures none { OnErr result (logs.new ≡ logs.old) }
+    {
+        let event = arrival(&logs.datagrams()[place], link);
+        let Step { out: outputs, .. } = self.router.step(event, alloc)?;
+        self.settle(outputs, logs, router)
+    }
+
+    // The logs grow by what a step of the router put out, and its runs go on.
+    fn settle(
+        mut self,
+        outputs: Outputs,
+        logs: &mut Logs,
+        router: RouterId,
+    ) -> Result<RunningRouter, Stopped>
+        ensures settles { IfOk result (λ x. Settles router self outputs logs.old x logs.new) }
+        ensures none { OnErr result (logs.new ≡ logs.old) }
+    {
+        match logs.take(router, self.first, &mut self.later, outputs) {
+            Ok(()) => Ok(self),
+            Err(_) => Err(Stopped),
+        }
+    }
+}
+
+// A datagram that was sent, as it comes in on a link.
+fn arrival(datagram: &Datagram, link: usize) -> Event<'_>
+    ensures { happening result ≡ delivery link datagram.now }
+{
+    Event::Datagram {
+        link,
+        source: datagram.sent.source,
+        destination: datagram.sent.destination,
+        bytes: &datagram.sent.bytes,
+    }
+}

@@ -1,0 +1,218 @@
+//! A router's place in a world.
+
+ghost use Rattle.std.specs.Prelude.{◌≡◌, ◌<◌, None, Some, Ok, Err, IfOk, IfSome, OnErr, is_some, length, slice_get, true};
+ghost use Rattle.ospf_headline.specs.declared.event.WorldFault.TheVariants as fault;
+ghost use Rattle.ospf_headline.specs.Running.{Lives, delivery, running_of};
+ghost use Rattle.ospf_headline.specs.Slots.{DeliversOn, Feeds, FeedsOn, IsLent, SlotSteps, StartsSlot, StopsSlot, with_running};
+ghost use Rattle.ospf_router.specs.Steps.{happening};
+
+use crate::event::{WorldEvent, WorldFault};
+use crate::logs::Logs;
+use crate::running::RunningRouter;
+use ospf_config::Config;
+use ospf_router::{Event, Router, StartFault, Stopped};
+use std::alloc::Global;
+use std::marker::Model;
+
+/// How a router of a world is configured, and the router, where it runs.
+#[derive(Drop)]
+pub struct Slot {
+    config: Config,
+    running: Option<RunningRouter>,
+}
+
+impl Model for Slot {
+    ghost use Rattle.ospf_headline.specs.Slots.{IsSlot, SlotValue, slot_of};
+
+    ghost Value = { SlotValue };
+
+    ghost view = { λ s. slot_of s.config s.running };
+
+    ghost invariant = { λ s. IsSlot s.running };
+}
+
+impl Slot {
+    /// A router that does not run.
+    pub fn new(config: Config) -> Slot
+        ensures { result ≡ record { config = config; running = None } }
+    {
+        Slot {
+            config,
+            running: None,
+        }
+    }
+
+    /// How the router is configured.
+    pub fn config(&self) -> &Config
+        ensures { result.now ≡ self.now.config }
+    {
+        &self.config
+    }
+
+    /// Whether the router runs.
+    pub fn runs(&self) -> bool
+        ensures { result ≡ is_some self.now.running }
+    {
+        self.running.is_some()
+    }
+
+    /// The router, where it runs.
+    pub fn router(&self) -> Option<&Router>
+        ensures lent { IfSome result (λ r. IsLent self.now.running r.now) }
+        ensures none { result ≡ None → self.now.running ≡ None }
+    {
+        match &self.running {
+            Some(running) => Some(running.router()),
+            None => None,
+        }
+    }
+
+    /// What an event at this router comes to; the logs grow by what the router puts out.
+    ///
+    /// The first fault that holds, of `NoLink`, `NoDatagram`, `Running` and `NotRunning`, and `Floor`: then nothing is changed.
+    /// `Memory` where memory runs out: a router that had begun the step is stopped, and no log has grown.
+    pub fn step(
+        &mut self,
+        event: &WorldEvent,
+        logs: &mut Logs,
+        alloc: Global,
+    ) -> Result<(), WorldFault>
+        ensures { SlotSteps event.now self.old logs.old result self.new logs.new }
+    {
+        match event {
+            WorldEvent::Start {
+                dd_start,
+                floor,
+                ..
+            } => self.start(*dd_start, floor, logs, alloc),
+            WorldEvent::Stop { .. } => self.stop(),
+            WorldEvent::Tick { .. } => self.feed(Event::Tick, logs, alloc),
+            WorldEvent::LinkUp { link, .. } => {
+                self.feed_on(*link, Event::LinkUp { link: *link }, logs, alloc)
+            }
+            WorldEvent::LinkDown { link, .. } => {
+                self.feed_on(*link, Event::LinkDown { link: *link }, logs, alloc)
+            }
+            WorldEvent::Deliver { datagram, link, .. } => {
+                self.deliver(*datagram, *link, logs, alloc)
+            }
+        }
+    }
+
+    // The router starts, if it does not run.
+    fn start(
+        &mut self,
+        dd_start: u32,
+        floor: &i32,
+        logs: &Logs,
+        alloc: Global,
+    ) -> Result<(), WorldFault>
+        ensures { StartsSlot logs.now.issued dd_start floor.now self.old result self.new }
+    {
+        if self.runs() {
+            return Err(WorldFault::Running);
+        }
+        match RunningRouter::start(&self.config, logs.issued().len(), dd_start, floor, alloc) {
+            Ok(running) => {
+                self.running = Some(running);
+                Ok(())
+            }
+            Err(StartFault::Floor) => Err(WorldFault::Floor),
+            Err(StartFault::Memory) => Err(WorldFault::Memory { stopped: false }),
+        }
+    }
+
+    // The router stops, if it runs.
+    fn stop(&mut self) -> Result<(), WorldFault>
+        ensures { StopsSlot self.old result self.new }
+    {
+        if !self.runs() {
+            return Err(WorldFault::NotRunning);
+        }
+        self.running = None;
+        Ok(())
+    }
+
+    // The router is stepped, if it runs.
+    fn feed(&mut self, event: Event<'_>, logs: &mut Logs, alloc: Global) -> Result<(), WorldFault>
+        ensures { Feeds (happening event.entry) self.old logs.old result self.new logs.new }
+    {
+        let Some(running) = self.running.take() else {
+            return Err(WorldFault::NotRunning);
+        };
+        let stepped = running.feed(event, logs, self.config.router_id, alloc);
+        self.conclude(stepped)
+    }
+
+    // What a step of the running router came to; it was taken out.
+    fn conclude(&mut self, stepped: Result<RunningRouter, Stopped>) -> Result<(), WorldFault>
+        requires { IfOk stepped Lives }
+        ensures ok { IfOk stepped (λ v. (result ≡ Ok tt)
+            × (self.new ≡ with_running self.old (running_of v))) }
+        ensures err { OnErr stepped ((result ≡ Err (fault.Memory true)) × (self.new ≡ self.old)) }
+    {
+        match stepped {
+            Ok(running) => {
+                self.running = Some(running);
+                Ok(())
+            }
+            Err(Stopped) => Err(WorldFault::Memory { stopped: true }),
+        }
+    }
+
+    // The router is stepped, if it has the link and runs.
+    fn feed_on(
+        &mut self,
+        link: usize,
+        event: Event<'_>,
+        logs: &mut Logs,
+        alloc: Global,
+    ) -> Result<(), WorldFault>
+        ensures { FeedsOn link (happening event.entry) self.old logs.old result self.new logs.new }
+    {
+        if link < self.config.interfaces.len() {
+            self.feed(event, logs, alloc)
+        } else {
+            Err(WorldFault::NoLink)
+        }
+    }
+
+    // A datagram comes in on a link, if there is the link, the datagram was sent, and the router runs.
+    fn deliver(
+        &mut self,
+        place: usize,
+        link: usize,
+        logs: &mut Logs,
+        alloc: Global,
+    ) -> Result<(), WorldFault>
+        ensures { DeliversOn link (slice_get logs.old.datagrams place) self.old logs.old result
+            self.new logs.new }
+    {
+        if link >= self.config.interfaces.len() {
+            return Err(WorldFault::NoLink);
+        }
+        if place >= logs.datagrams().len() {
+            return Err(WorldFault::NoDatagram);
+        }
+        self.hand(place, link, logs, alloc)
+    }
+
+    // A datagram that was sent comes in on a link, if the router runs.
+    fn hand(
+        &mut self,
+        place: usize,
+        link: usize,
+        logs: &mut Logs,
+        alloc: Global,
+    ) -> Result<(), WorldFault>
+        requires { place < length logs.old.datagrams }
+        ensures { IfSome (slice_get logs.old.datagrams place)
+            (λ g. Feeds (delivery link g) self.old logs.old result self.new logs.new) }
+    {
+        let Some(running) = self.running.take() else {
+            return Err(WorldFault::NotRunning);
+        };
+        let stepped = running.deliver(place, link, logs, self.config.router_id, alloc);
+        self.conclude(stepped)
+    }
+}

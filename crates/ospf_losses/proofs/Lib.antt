@@ -1,2 +1,0 @@
-pub mod LossFacts
-pub mod KeepFacts

@@ -1,3 +1,0 @@
-pub mod Waits
-pub mod Details
-pub mod Counts

@@ -1,0 +1,10 @@
+use Rattle.ospf_files.proofs.Cut.{for_memory}
+use Rattle.ospf_files.proofs.Written.{nothing_begun, whatever}
+use Rattle.ospf_files.specs.Streams.{IsErrorCut, no_text}
+use Rattle.ospf_run.proofs.print.tell_fault.Goals as goal
+
+pub returns-in_err-line-clause-begun : goal.returns-in_err-line-clause-begun
+returns-in_err-line-clause-begun g c = whatever _ (nothing_begun _ _)
+
+pub returns-in_err-line-clause-cut : goal.returns-in_err-line-clause-cut
+returns-in_err-line-clause-cut g c = for_memory c.from_residual.result (IsErrorCut c.args.streams.now) c.from_residual.ensures.1 no_text

@@ -1,0 +1,157 @@
+-- What is printed and told of routers whose drivers have ended.
+use Rattle.std.specs.Prelude.{◌≡◌, ◌==◌, if◌then◌else◌, ℕ, Bool, true, false, List, [], ◌++◌, Option, None, Some, Result, Ok, Err, codes, decimal, flat_map, string_bytes, cond}
+use Rattle.std.specs.List.{list_any}
+use Rattle.std.specs.Io.KnownBytes.{Appends}
+use Rattle.ospf_base.specs.Text.{number_text}
+use Rattle.ospf_base.specs.declared.ids.RouterId.{RouterId}
+use Rattle.ospf_drive.specs.Faults.{fault_text}
+use Rattle.ospf_drive.specs.declared.fault.DriveFault.{DriveFault}
+use Rattle.ospf_drive.specs.declared.fault.DriveFault.TheVariants as fault
+use Rattle.ospf_files.specs.declared.files.NamedFile.{NamedFile}
+use Rattle.ospf_files.specs.Streams.{IsBegun, IsErrorCut, IsOutputCut}
+use Rattle.ospf_files.specs.declared.status.Failure.{Failure}
+use Rattle.ospf_files.specs.declared.status.Status.{Status}
+use Rattle.ospf_files.specs.declared.status.Status.TheVariants as status
+use Rattle.ospf_router.specs.Routers.{RouterValue, greatest_in}
+use Rattle.ospf_script.specs.Texts.{floor_text}
+use Rattle.ospf_files.specs.Shown.{lookup_line, routes_text}
+use Rattle.ospf_files.specs.declared.streams.FailedStreams.{FailedStreams}
+use Rattle.ospf_step.specs.Text.{dropped_text}
+use Rattle.ospf_views.specs.Shown.{view_lines}
+use Rattle.ospf_views.specs.declared.views.View.{View}
+use Rattle.ospf_views.specs.declared.views.View.TheVariants as view
+use Rattle.ospf_run.specs.declared.outcome.Drops.{Drops}
+use Rattle.ospf_run.specs.declared.outcome.Extras.{Extras}
+use Rattle.ospf_run.specs.declared.outcome.Looked.{Looked}
+use Rattle.ospf_run.specs.declared.outcome.Outcome.{Outcome}
+use Rattle.ospf_run.specs.declared.outcome.Shown.{Shown}
+
+-- ---- standard output
+
+-- what a lookup found, if one was asked for
+abbrev pub looked_lines : Option Looked → List ℕ
+looked_lines None = []
+looked_lines (Some looked) = lookup_line looked.address.0 looked.answer
+
+-- the greatest of the floor of the start and all numbers of the router's own LSAs since
+abbrev pub floor_line : RouterValue → List ℕ
+floor_line router = codes "floor " ++ floor_text (greatest_in router.floor router.area) ++ codes "\n"
+
+-- that line, if it is wanted
+abbrev pub floor_lines : Bool → RouterValue → List ℕ
+floor_lines false router = []
+floor_lines true router = floor_line router
+
+-- what is shown of a router, if it is wanted
+abbrev pub viewed_lines : Bool → View → RouterValue → List ℕ
+viewed_lines false view router = []
+viewed_lines true view router = view_lines view router
+
+-- how many packets were dropped on a link, for one cause
+abbrev pub drop_line : Drops → List ℕ
+drop_line drops =
+    codes "drops " ++ decimal drops.link ++ codes " " ++ dropped_text drops.cause ++ codes " " ++ decimal drops.count ++ codes "\n"
+
+-- if it is this router that dropped them
+abbrev pub drops_of : RouterId → Drops → List ℕ
+drops_of router drops = if drops.router.0 == router.0 then drop_line drops else []
+
+-- the extras of a router, behind its table and a lookup: its neighbours, what it lists, what it dropped, the floor of its numbers
+abbrev pub extra_lines : Extras → RouterId → RouterValue → List ℕ
+extra_lines extras router x =
+    viewed_lines extras.neighbours view.Neighbours x
+    ++ (viewed_lines extras.listing view.Listing x ++ (flat_map (drops_of router) extras.drops.items ++ floor_lines extras.floor x))
+
+-- the Router ID
+abbrev pub router_line : RouterId → List ℕ
+router_line router = codes "router " ++ number_text router.0 ++ codes "\n"
+
+-- the Router ID and the routes
+abbrev pub table_lines : RouterId → Shown → List ℕ
+table_lines router shown = router_line router ++ routes_text shown.router.table
+
+-- a router: its Router ID, its routes, what a lookup found, and the extras
+abbrev pub router_lines : Extras → RouterId → Shown → List ℕ
+router_lines extras router shown = table_lines router shown ++ (looked_lines shown.looked ++ extra_lines extras router shown.router)
+
+-- what is printed of a router: nothing where its driver did not come to the end
+abbrev pub came_lines : Extras → RouterId → Result Shown DriveFault → List ℕ
+came_lines extras router (Ok shown) = router_lines extras router shown
+came_lines extras router (Err f) = []
+
+abbrev pub outcome_lines : Extras → Outcome → List ℕ
+outcome_lines extras outcome = came_lines extras outcome.router outcome.came
+
+-- what is printed of routers, in their order
+abbrev pub report_lines : Extras → List Outcome → List ℕ
+report_lines extras = flat_map (outcome_lines extras)
+
+-- ---- while routers run
+
+-- the Router ID, and how many ticks the router has taken
+abbrev pub at_tick_line : RouterId → ℕ → List ℕ
+at_tick_line router tick = codes "router " ++ number_text router.0 ++ codes " tick " ++ decimal tick ++ codes "\n"
+
+-- and its routes
+abbrev pub at_tick_lines : RouterId → ℕ → RouterValue → List ℕ
+at_tick_lines router tick x = at_tick_line router tick ++ routes_text x.table
+
+-- ---- standard error
+
+-- the line of a file whose router's driver did not come to the end
+abbrev pub fault_line : NamedFile → DriveFault → List ℕ
+fault_line file f = string_bytes file.name ++ codes ": " ++ fault_text f ++ codes "\n"
+
+abbrev pub came_told : NamedFile → Result Shown DriveFault → List ℕ
+came_told file (Ok shown) = []
+came_told file (Err f) = fault_line file f
+
+abbrev pub outcome_told : Outcome → List ℕ
+outcome_told outcome = came_told outcome.file.now outcome.came
+
+-- what is told of routers, in their order
+abbrev pub report_told : List Outcome → List ℕ
+report_told = flat_map outcome_told
+
+-- ---- the status
+
+-- a wire or a thread failed
+abbrev pub is_fault_of_system : DriveFault → Bool
+is_fault_of_system fault.Recv = true
+is_fault_of_system fault.Send = true
+is_fault_of_system fault.Thread = true
+is_fault_of_system fault.Stopped = false
+is_fault_of_system fault.Publish = false
+
+abbrev pub came_failed : Result Shown DriveFault → Bool
+came_failed (Ok shown) = false
+came_failed (Err f) = is_fault_of_system f
+
+abbrev pub came_early : Result Shown DriveFault → Bool
+came_early (Ok shown) = false
+came_early (Err f) = true
+
+abbrev pub is_failed : Outcome → Bool
+is_failed outcome = came_failed outcome.came
+
+abbrev pub is_early : Outcome → Bool
+is_early outcome = came_early outcome.came
+
+-- a wire or a thread failed one of the routers; else one met want of memory; else all is done
+abbrev pub status_for : List Outcome → Status
+status_for outcomes = cond (list_any is_failed outcomes) status.Stream (cond (list_any is_early outcomes) status.Memory status.Done)
+
+-- ---- all of it
+
+-- what came of routers is printed and told, in their order
+pub record IsReported (extras : Extras) (outcomes : List Outcome) (status : Status) (out_old out_new err_old err_new : Option (List ℕ)) : Type 0 where
+  pub status_is : status ≡ status_for outcomes
+  pub out : Appends out_old out_new (report_lines extras outcomes)
+  pub err : Appends err_old err_new (report_told outcomes)
+
+-- their report is cut: what is printed of them; or, where that is whole, what is told of them
+pub data IsReportCut (extras : Extras) (outcomes : List Outcome) (failed : FailedStreams) (out_old out_new err_old err_new : Option (List ℕ)) (f : Failure) : Type 0 where
+  in_output : IsOutputCut failed f → IsBegun out_old out_new (report_lines extras outcomes) → err_new ≡ err_old
+      → IsReportCut extras outcomes failed out_old out_new err_old err_new f
+  in_errors : IsErrorCut failed f → Appends out_old out_new (report_lines extras outcomes) → IsBegun err_old err_new (report_told outcomes)
+      → IsReportCut extras outcomes failed out_old out_new err_old err_new f

@@ -1,0 +1,203 @@
+//! What is printed of routers whose drivers have ended.
+
+ghost use Rattle.std.specs.Prelude.{◌≡◌, IfErr, IfOk, OnErr, OnOk, string_bytes};
+ghost use Rattle.std.specs.Io.KnownBytes.{Appends};
+ghost use Rattle.ospf_files.specs.Streams.{IsBegun, IsErrorCut, IsOutputCut};
+ghost use Rattle.ospf_run.specs.Printed.{IsReportCut, IsReported, fault_line, looked_lines, outcome_lines, outcome_told, report_lines, report_told, router_line, router_lines, table_lines};
+
+use crate::extras::print_extras;
+use crate::outcome::{Extras, Looked, Outcome, Shown};
+use crate::status::status_of;
+use ospf_base::RouterId;
+use ospf_drive::DriveFault;
+use ospf_files::{FailedStreams, Failure, NamedFile, Status, print_lookup, print_routes};
+use ospf_udp::line_about;
+use std::alloc::{AllocError, Global};
+use std::io::Write;
+
+/// Writes each router whose driver came to the end to `out`, in their order: its Router ID, its routes, a lookup if there was one,
+/// and the extras; and then tells on `err` why the other drivers ended. The answer is the status to end with.
+///
+/// `Failure` where memory runs out or a stream fails: then a beginning of what is printed stands on `out`, or all of it, and a
+/// beginning of what is told on `err`.
+pub fn report<O: Write, E: Write>(
+    alloc: Global,
+    outcomes: &[Outcome<'_>],
+    extras: &Extras,
+    out: &mut O,
+    err: &mut E,
+    streams: &mut FailedStreams,
+) -> Result<Status, Failure>
+    ensures reported { IfOk result (λ status. IsReported extras.now outcomes.now status
+        (O.contents out.old) (O.contents out.new) (E.contents err.old) (E.contents err.new)) }
+    ensures cut { IfErr result
+        (IsReportCut extras.now outcomes.now streams.new (O.contents out.old) (O.contents out.new)
+        (E.contents err.old) (E.contents err.new)) }
+{
+    print_outcomes(alloc, outcomes, extras, out, streams)?;
+    streams.flush(out)?;
+    tell_outcomes(alloc, outcomes, err, streams)?;
+    Ok(status_of(outcomes))
+}
+
+// Prints what came of routers to standard output, which may keep it until it is flushed.
+fn print_outcomes<O: Write>(
+    alloc: Global,
+    outcomes: &[Outcome<'_>],
+    extras: &Extras,
+    out: &mut O,
+    streams: &mut FailedStreams,
+) -> Result<(), Failure>
+    ensures printed { OnOk result
+        (Appends (O.contents out.old) (O.contents out.new) (report_lines extras.now outcomes.now)) }
+    ensures begun { OnErr result
+        (IsBegun (O.contents out.old) (O.contents out.new) (report_lines extras.now outcomes.now)) }
+    ensures cut { IfErr result (IsOutputCut streams.new) }
+{
+    for outcome in outcomes {
+        print_outcome(alloc, outcome, extras, out, streams)?;
+    }
+    Ok(())
+}
+
+// Prints what came of a router to standard output, if its driver came to the end.
+fn print_outcome<O: Write>(
+    alloc: Global,
+    outcome: &Outcome<'_>,
+    extras: &Extras,
+    out: &mut O,
+    streams: &mut FailedStreams,
+) -> Result<(), Failure>
+    ensures printed { OnOk result
+        (Appends (O.contents out.old) (O.contents out.new) (outcome_lines extras.now outcome.now)) }
+    ensures begun { OnErr result
+        (IsBegun (O.contents out.old) (O.contents out.new) (outcome_lines extras.now outcome.now)) }
+    ensures cut { IfErr result (IsOutputCut streams.new) }
+{
+    match &outcome.came {
+        Ok(shown) => print_router(alloc, outcome.router, shown, extras, out, streams),
+        Err(_) => Ok(()),
+    }
+}
+
+// Prints a router: its table, and what was asked for beside it.
+fn print_router<O: Write>(
+    alloc: Global,
+    router: RouterId,
+    shown: &Shown,
+    extras: &Extras,
+    out: &mut O,
+    streams: &mut FailedStreams,
+) -> Result<(), Failure>
+    ensures printed { OnOk result
+        (Appends (O.contents out.old) (O.contents out.new) (router_lines extras.now router shown.now)) }
+    ensures begun { OnErr result
+        (IsBegun (O.contents out.old) (O.contents out.new) (router_lines extras.now router shown.now)) }
+    ensures cut { IfErr result (IsOutputCut streams.new) }
+{
+    print_table(alloc, router, shown, out, streams)?;
+    print_looked(alloc, &shown.looked, out, streams)?;
+    print_extras(alloc, router, &shown.router, extras, out, streams)
+}
+
+// Prints the line of a router, and its routes.
+fn print_table<O: Write>(
+    alloc: Global,
+    router: RouterId,
+    shown: &Shown,
+    out: &mut O,
+    streams: &mut FailedStreams,
+) -> Result<(), Failure>
+    ensures printed { OnOk result
+        (Appends (O.contents out.old) (O.contents out.new) (table_lines router shown.now)) }
+    ensures begun { OnErr result
+        (IsBegun (O.contents out.old) (O.contents out.new) (table_lines router shown.now)) }
+    ensures cut { IfErr result (IsOutputCut streams.new) }
+{
+    let line = router_line(alloc, router)?;
+    streams.write(out, &line)?;
+    print_routes(alloc, shown.router.table().routes(), out, streams)
+}
+
+// The line of a router.
+fn router_line(alloc: Global, router: RouterId) -> Result<String, AllocError>
+    ensures { IfOk result (λ line. string_bytes line ≡ router_line router) }
+{
+    let line = format!(in alloc; "router {router}\n")?;
+    Ok(line)
+}
+
+// Prints what a lookup found, if one was asked for.
+fn print_looked<O: Write>(
+    alloc: Global,
+    looked: &Option<Looked>,
+    out: &mut O,
+    streams: &mut FailedStreams,
+) -> Result<(), Failure>
+    ensures printed { OnOk result
+        (Appends (O.contents out.old) (O.contents out.new) (looked_lines looked.now)) }
+    ensures begun { OnErr result
+        (IsBegun (O.contents out.old) (O.contents out.new) (looked_lines looked.now)) }
+    ensures cut { IfErr result (IsOutputCut streams.new) }
+{
+    match looked {
+        Some(looked) => print_lookup(alloc, looked.address, looked.answer, out, streams),
+        None => Ok(()),
+    }
+}
+
+// Tells why drivers ended.
+fn tell_outcomes<E: Write>(
+    alloc: Global,
+    outcomes: &[Outcome<'_>],
+    err: &mut E,
+    streams: &mut FailedStreams,
+) -> Result<(), Failure>
+    ensures told { OnOk result
+        (Appends (E.contents err.old) (E.contents err.new) (report_told outcomes.now)) }
+    ensures begun { OnErr result
+        (IsBegun (E.contents err.old) (E.contents err.new) (report_told outcomes.now)) }
+    ensures cut { IfErr result (IsErrorCut streams.new) }
+{
+    for outcome in outcomes {
+        tell_outcome(alloc, outcome, err, streams)?;
+    }
+    Ok(())
+}
+
+// Tells why the driver of a router ended, if it did not come to the end.
+fn tell_outcome<E: Write>(
+    alloc: Global,
+    outcome: &Outcome<'_>,
+    err: &mut E,
+    streams: &mut FailedStreams,
+) -> Result<(), Failure>
+    ensures told { OnOk result
+        (Appends (E.contents err.old) (E.contents err.new) (outcome_told outcome.now)) }
+    ensures begun { OnErr result
+        (IsBegun (E.contents err.old) (E.contents err.new) (outcome_told outcome.now)) }
+    ensures cut { IfErr result (IsErrorCut streams.new) }
+{
+    match outcome.came {
+        Ok(_) => Ok(()),
+        Err(fault) => tell_fault(alloc, outcome.file, fault, err, streams),
+    }
+}
+
+// Tells why a driver ended.
+fn tell_fault<E: Write>(
+    alloc: Global,
+    file: &NamedFile,
+    fault: DriveFault,
+    err: &mut E,
+    streams: &mut FailedStreams,
+) -> Result<(), Failure>
+    ensures told { OnOk result
+        (Appends (E.contents err.old) (E.contents err.new) (fault_line file.now fault)) }
+    ensures begun { OnErr result
+        (IsBegun (E.contents err.old) (E.contents err.new) (fault_line file.now fault)) }
+    ensures cut { IfErr result (IsErrorCut streams.new) }
+{
+    let line = line_about(alloc, file, fault.text())?;
+    streams.tell(err, &line)
+}

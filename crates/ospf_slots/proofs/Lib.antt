@@ -1,3 +1,0 @@
-pub mod StartFacts
-pub mod RunFacts
-pub mod SlotFacts

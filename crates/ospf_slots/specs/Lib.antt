@@ -1,3 +1,0 @@
-pub mod Logs
-pub mod Running
-pub mod Slots

@@ -1,0 +1,41 @@
+//! Laws: each holds of all parts of a step, and of all steps.
+
+ghost use Rattle.std.specs.Prelude.{◌≡◌, [], Bool, false, Option};
+ghost use Rattle.ospf_packet.specs.Meaning.{Meaning};
+ghost use Rattle.ospf_area.specs.Outputs.{OutputsValue, then_outputs};
+ghost use Rattle.ospf_area.specs.State.{AreaValue};
+ghost use Rattle.ospf_step.specs.Packets.{Received};
+ghost use Rattle.ospf_step.specs.Accounts.{Accounts, NoneEntersExchange};
+ghost use Rattle.ospf_step.specs.Neighbours.{NeighboursGo};
+ghost use Rattle.ospf_step.specs.Step.{Event, StepLaws, heard_in};
+ghost use Rattle.ospf_step.specs.Words.{IsSoundState};
+
+/// What one part answers for and then the next, the two answer for together.
+pub fn accounts_add_up()
+    ensures { (heard : Option Received) (s t u : AreaValue) (a b : OutputsValue) →
+        Accounts heard s a t → Accounts heard t b u → NoneEntersExchange t u → a.ended ≡ [] → Accounts heard s (then_outputs a b) u }
+{}
+
+/// A part that touches neighbours alone answers for all.
+pub fn quiet_parts_account()
+    ensures { (heard : Option Received) (before : AreaValue) (out : OutputsValue)
+        (after : AreaValue) →
+        NeighboursGo heard before out after → Accounts heard before out after }
+{}
+
+/// A step answers for all, and leaves a state as sound as it found.
+pub fn steps_account()
+    ensures accounts { (is_dropped : Event → AreaValue → Bool) (event : Event) (before : AreaValue)
+        (out : OutputsValue) (after : AreaValue) →
+        IsSoundState before → StepLaws is_dropped event before out after → Accounts (heard_in event) before out after }
+    ensures sound { (is_dropped : Event → AreaValue → Bool) (event : Event) (before : AreaValue)
+        (out : OutputsValue) (after : AreaValue) →
+        IsSoundState before → StepLaws is_dropped event before out after → IsSoundState after }
+{}
+
+/// There are sound states, and steps from them by which time goes on.
+pub fn some_state_ticks()
+    ensures { (before : AreaValue) × (out : OutputsValue) × (after : AreaValue)
+        × IsSoundState before ×
+        StepLaws (λ event s. false) Event.Tick before out after × (after.tick ≡ 1) × (before.tick ≡ 0) }
+{}

@@ -1,0 +1,100 @@
+-- What keeps the routers of files from running, and what is told of it.
+use Rattle.std.specs.Prelude.{◌≡◌, ◌++◌, ℕ, ℤ, List, Option, Some, Result, Ok, Err, codes, slice_get, string_bytes}
+use Rattle.ospf_config.specs.declared.config.Config.{Config}
+use Rattle.ospf_config.specs.declared.fault.ConfigFault.{ConfigFault}
+use Rattle.ospf_files.specs.Files.{IsConfigIn, IsRefusedFor, refused_line, text_in, unread_line}
+use Rattle.ospf_files.specs.Listed.{AreConfigs, AreRead, IsFirstRefused, IsFirstUnread}
+use Rattle.ospf_files.specs.declared.files.NamedFile.{NamedFile}
+use Rattle.ospf_files.specs.declared.status.Failure.{Failure}
+use Rattle.ospf_files.specs.declared.status.Failure.TheVariants as failure
+use Rattle.ospf_files.specs.declared.status.Status.{Status}
+use Rattle.ospf_files.specs.declared.status.Status.TheVariants as status
+use Rattle.ospf_flood.specs.Rules.{max_sequence_number}
+use Rattle.ospf_udp.specs.Faults.{IsPortIn, no_socket_text}
+use Rattle.ospf_udp.specs.declared.fault.NoSocket.{NoSocket}
+use Rattle.ospf_udp.specs.Plans.{HasFloor, HasPlan, IsFirstPortless, IsFloorOf, IsPlan, ShareRouter, greatest_floor_line, no_floor_line, no_port_line, same_router_line}
+use Rattle.ospf_udp.specs.declared.stop.Obstacle.{Obstacle}
+use Rattle.ospf_udp.specs.declared.stop.Obstacle.TheVariants as obstacle
+use Rattle.ospf_udp.specs.declared.stop.Stop.{Stop}
+use Rattle.ospf_udp.specs.declared.stop.Stop.TheVariants as stop
+
+-- what a file holds: a configuration, or it has a fault
+abbrev pub IsReadAs : NamedFile → Result Config ConfigFault → Type 0
+IsReadAs file (Ok config) = IsConfigIn (text_in file) config
+IsReadAs file (Err fault) = IsRefusedFor (text_in file) fault
+
+-- there is a floor, all files could be read, and they hold these configurations
+pub record Hold (floor : Option (List ℕ)) (files : List NamedFile) (configs : List Config) : Type 0 where
+  pub least : ℤ
+  pub has_floor : HasFloor floor least
+  pub read : AreRead files
+  pub are_configs : AreConfigs files configs
+
+-- a socket of the router of a file could not be made; a port that is named is that of one of its interfaces
+pub record IsSocketless (file : NamedFile) (files : List NamedFile) (configs : List Config) (no_socket : NoSocket) : Type 0 where
+  pub place : ℕ
+  pub config : Config
+  pub file_at : slice_get files place ≡ Some file
+  pub config_at : slice_get configs place ≡ Some config
+  pub port : IsPortIn config.interfaces.items no_socket.port
+
+-- what keeps the routers of files from running, the first of these that does: the floor; a file that could not be read; one that holds no
+-- configuration; two routers of one Router ID; an interface without a port; a socket that could not be made
+abbrev pub Hinders : Option (List ℕ) → List NamedFile → Obstacle → Type 0
+Hinders floor files obstacle.NoNumber = (least : ℤ) → IsFloorOf floor least → ⊥
+Hinders floor files obstacle.GreatestFloor = IsFloorOf floor max_sequence_number
+Hinders floor files (obstacle.Unread file) = (least : ℤ) × HasFloor floor least × IsFirstUnread file.now files
+Hinders floor files (obstacle.NoConfig file fault) = (least : ℤ) × HasFloor floor least × AreRead files × IsFirstRefused file.now fault files
+Hinders floor files obstacle.SameRouter = (configs : List Config) × Hold floor files configs × ShareRouter configs
+Hinders floor files (obstacle.NoPort file) =
+    (configs : List Config) × Hold floor files configs × (ShareRouter configs → ⊥) × IsFirstPortless file.now files configs
+Hinders floor files (obstacle.NoSocket file no_socket) =
+    (configs : List Config) × (least : ℤ) × IsPlan floor files configs least × IsSocketless file.now files configs no_socket
+
+-- the line of a file of whose interfaces one has no socket, and below it the port and why
+abbrev pub no_socket_line : NamedFile → NoSocket → List ℕ
+no_socket_line file no_socket = string_bytes file.name ++ codes ": socket\n  " ++ no_socket_text no_socket ++ codes "\n"
+
+-- the line that tells so of a file
+abbrev pub line_about : NamedFile → List ℕ → List ℕ
+line_about file text = string_bytes file.name ++ codes ": " ++ text ++ codes "\n"
+
+-- the line that tells of it
+abbrev pub obstacle_line : Obstacle → List ℕ
+obstacle_line obstacle.NoNumber = no_floor_line
+obstacle_line obstacle.GreatestFloor = greatest_floor_line
+obstacle_line (obstacle.Unread file) = unread_line file.now
+obstacle_line (obstacle.NoConfig file fault) = refused_line file.now fault
+obstacle_line obstacle.SameRouter = same_router_line
+obstacle_line (obstacle.NoPort file) = no_port_line file.now
+obstacle_line (obstacle.NoSocket file no_socket) = no_socket_line file.now no_socket
+
+-- the status that it ends with: a file or a socket failed, or else something is refused
+abbrev pub obstacle_status : Obstacle → Status
+obstacle_status (obstacle.Unread file) = status.Stream
+obstacle_status (obstacle.NoSocket file no_socket) = status.Stream
+obstacle_status _ = status.Refused
+
+-- what fails before anything is written: memory ran out, or a table that the routers of a plan published was closed
+pub data IsEarly (floor : Option (List ℕ)) (files : List NamedFile) : Failure → Type 0 where
+  no_memory : IsEarly floor files failure.Memory
+  closed : HasPlan floor files → IsEarly floor files failure.Closed
+
+-- why the routers did not run to their end
+abbrev pub IsStop : Option (List ℕ) → List NamedFile → Stop → Type 0
+IsStop floor files (stop.Obstacle obstacle) = Hinders floor files obstacle
+IsStop floor files (stop.Failure failure) = IsEarly floor files failure
+
+-- ---- on the way
+
+-- why no configurations come of files that were read, where there is a floor
+abbrev pub IsStopOfConfigs : List NamedFile → Stop → Type 0
+IsStopOfConfigs files s = (floor : Option (List ℕ)) (least : ℤ) → HasFloor floor least → AreRead files → IsStop floor files s
+
+-- why the routers of these configurations, where they are the plan of the files, did not run to their end
+abbrev pub IsStopOfPlan : List NamedFile → List Config → Stop → Type 0
+IsStopOfPlan files configs s = (floor : Option (List ℕ)) (least : ℤ) → IsPlan floor files configs least → IsStop floor files s
+
+-- what failed before anything was written, where there is a plan
+abbrev pub FailsPlan : List NamedFile → Failure → Type 0
+FailsPlan files f = (floor : Option (List ℕ)) → HasPlan floor files → IsEarly floor files f

@@ -1,0 +1,189 @@
+//! What is found before any socket is made: the floor, the files, the configurations in them, and their ports.
+
+ghost use Rattle.std.specs.Prelude.{◌≡◌, ◌↔◌, All, ℤ, IfOk, IfErr, IfSome, IfNone, IsTrue, length, option_map, string_bytes};
+ghost use Rattle.ospf_files.specs.Listed.{AreConfigs, AreRead};
+ghost use Rattle.ospf_udp.specs.Obstacles.{IsReadAs, IsStop, IsStopOfConfigs};
+ghost use Rattle.ospf_udp.specs.Plans.{HasPorts, HasFloor, IsAmong, IsFirstPortless, IsFloorOf, IsPlanAt, ShareRouter};
+
+use crate::list::put;
+use crate::stop::{Obstacle, Stop};
+use ospf_base::RouterId;
+use ospf_config::{Config, ConfigFault};
+use ospf_files::{NamedFile, config_in, first_unread};
+use ospf_flood::MAX_SEQUENCE_NUMBER;
+use ospf_script::floor_of;
+use std::alloc::{AllocError, Global};
+
+// The floor below all LS sequence numbers, which is none.
+const NO_FLOOR: i32 = i32::MIN;
+
+/// The routers that are to run.
+#[derive(Drop)]
+pub struct Plan {
+    /// Of one Router ID each, and with a port at each interface.
+    pub configs: Vec<Config>,
+    /// The floor of the numbers of their own LSAs, below the greatest number.
+    pub floor: i32,
+}
+
+/// Finds what is to run: the floor, and the configurations in the files; or the first thing that keeps them from running.
+pub fn prepare<'a>(
+    alloc: Global,
+    floor: &Option<String>,
+    files: &'a [NamedFile],
+) -> Result<Plan, Stop<'a>>
+    ensures plan { IfOk result (IsPlanAt (option_map string_bytes floor.now) files.now) }
+    ensures stop { IfErr result (IsStop (option_map string_bytes floor.now) files.now) }
+{
+    match floor_in(floor) {
+        Some(least) if least == MAX_SEQUENCE_NUMBER => {
+            Err(Stop::Obstacle(Obstacle::GreatestFloor))
+        }
+        Some(least) => plan_above(alloc, floor, least, files),
+        None => Err(Stop::Obstacle(Obstacle::NoNumber)),
+    }
+}
+
+// The floor of a text.
+fn floor_in(text: &Option<String>) -> Option<i32>
+    ensures some { IfSome result (IsFloorOf (option_map string_bytes text.now)) }
+    ensures none { IfNone result ((floor : ℤ) → IsFloorOf (option_map string_bytes text.now) floor →
+        ⊥) }
+{
+    match text {
+        Some(text) => floor_of(text.as_bytes()),
+        None => Some(NO_FLOOR),
+    }
+}
+
+// The plan of files, where there is a floor.
+fn plan_above<'a>(
+    alloc: Global,
+    floor: &Option<String>,
+    least: i32,
+    files: &'a [NamedFile],
+) -> Result<Plan, Stop<'a>>
+    requires { HasFloor (option_map string_bytes floor.now) least }
+    ensures plan { IfOk result (IsPlanAt (option_map string_bytes floor.now) files.now) }
+    ensures stop { IfErr result (IsStop (option_map string_bytes floor.now) files.now) }
+{
+    match first_unread(files) {
+        Some(file) => Err(Stop::Obstacle(Obstacle::Unread(file))),
+        None => plan_in(alloc, floor, least, files),
+    }
+}
+
+// The plan of the configurations in files that were read.
+fn plan_in<'a>(
+    alloc: Global,
+    floor: &Option<String>,
+    least: i32,
+    files: &'a [NamedFile],
+) -> Result<Plan, Stop<'a>>
+    requires floor { HasFloor (option_map string_bytes floor.now) least }
+    requires read { AreRead files.now }
+    ensures plan { IfOk result (IsPlanAt (option_map string_bytes floor.now) files.now) }
+    ensures stop { IfErr result (IsStop (option_map string_bytes floor.now) files.now) }
+{
+    let configs = read_configs(alloc, files)?;
+    plan_of(floor, least, files, configs)
+}
+
+// The configurations in files that were read.
+fn read_configs<'a>(alloc: Global, files: &'a [NamedFile]) -> Result<Vec<Config>, Stop<'a>>
+    ensures configs { IfOk result (λ configs. AreConfigs files.now configs.items) }
+    ensures stop { IfErr result (IsStopOfConfigs files.now) }
+{
+    let mut configs = Vec::with_capacity(alloc, files.len())?;
+    for file in files {
+        match read_config(alloc, file)? {
+            Ok(config) => put(&mut configs, config)?,
+            Err(fault) => return Err(Stop::Obstacle(Obstacle::NoConfig(file, fault))),
+        }
+    }
+    Ok(configs)
+}
+
+// The configuration of a file, or its fault.
+fn read_config(alloc: Global, file: &NamedFile) -> Result<Result<Config, ConfigFault>, AllocError>
+    ensures { IfOk result (IsReadAs file.now) }
+{
+    match config_in(alloc, file.text()) {
+        Ok(config) => Ok(Ok(config)),
+        Err(ConfigFault::Memory) => Err(AllocError),
+        Err(fault) => Ok(Err(fault)),
+    }
+}
+
+// The plan of configurations, if they can run beside each other.
+fn plan_of<'a>(
+    floor: &Option<String>,
+    least: i32,
+    files: &'a [NamedFile],
+    configs: Vec<Config>,
+) -> Result<Plan, Stop<'a>>
+    requires floor { HasFloor (option_map string_bytes floor.now) least }
+    requires read { AreRead files.now }
+    requires are { AreConfigs files.now configs.items }
+    ensures plan { IfOk result (IsPlanAt (option_map string_bytes floor.now) files.now) }
+    ensures stop { IfErr result (IsStop (option_map string_bytes floor.now) files.now) }
+{
+    if share_router(&configs) {
+        return Err(Stop::Obstacle(Obstacle::SameRouter));
+    }
+    match first_portless(files, &configs) {
+        Some(file) => Err(Stop::Obstacle(Obstacle::NoPort(file))),
+        None => Ok(Plan {
+            configs,
+            floor: least,
+        }),
+    }
+}
+
+// Whether two of the configurations are of one router.
+fn share_router(configs: &[Config]) -> bool
+    ensures { IsTrue result ↔ ShareRouter configs.now }
+{
+    for (later, config) in configs.iter().enumerate() {
+        if is_among(&configs[..later], config.router_id) {
+            return true;
+        }
+    }
+    false
+}
+
+// Whether one of the configurations is of this router.
+fn is_among(configs: &[Config], router: RouterId) -> bool
+    ensures { IsTrue result ↔ IsAmong configs.now router }
+{
+    for config in configs {
+        if config.router_id == router {
+            return true;
+        }
+    }
+    false
+}
+
+// The first file with an interface that has no port.
+fn first_portless<'a>(files: &'a [NamedFile], configs: &[Config]) -> Option<&'a NamedFile>
+    requires { length files.now ≡ length configs.now }
+    ensures some { IfSome result (λ file. IsFirstPortless file.now files.now configs.now) }
+    ensures none { IfNone result (All HasPorts configs.now) }
+{
+    for (place, config) in configs.iter().enumerate() {
+        if !has_ports(config) {
+            return Some(&files[place]);
+        }
+    }
+    None
+}
+
+// Whether each interface has a port.
+fn has_ports(config: &Config) -> bool
+    ensures { IsTrue result ↔ HasPorts config.now }
+{
+    config
+        .interfaces
+        .iter()
+        .all(|interface| interface.port.is_some())
+}

@@ -1,0 +1,243 @@
+-- The steps of the router: a tick, by which its LSA is issued, and its link that goes up, by which a Hello is sent.
+use Rattle.std.proofs.Common.{◌≡◌, ◌||◌, ℕ, zero, suc, negsuc, Bool, true, false, List, [], ◌∷◌, None, Some, is_some, slice_get, if◌then◌else◌, refl, sym, ap, subst, ◌∙◌, arith, lit<, lit≤}
+use Rattle.std.specs.Option.{option_map}
+use Rattle.std.proofs.lemmas.Bool.{false≢true}
+use Rattle.std.proofs.lemmas.Option.{none-some, same_Some}
+use Rattle.ospf_area.specs.Outputs.{AreRead, no_outputs}
+use Rattle.ospf_area.specs.Sending.{datagrams, own_of, packet_of}
+use Rattle.ospf_area.specs.State.{AreaValue, Awaits, LinkValue}
+use Rattle.ospf_area.specs.declared.state.Numbering.{Numbering}
+use Rattle.ospf_base.specs.Keys.{same_key}
+use Rattle.ospf_base.specs.declared.ids.Instance.{Instance}
+use Rattle.ospf_base.specs.declared.ids.RouterId.{RouterId}
+use Rattle.ospf_step.proofs.StepChains.{up_chain, ends_put, tick_puts}
+use Rattle.ospf_step.specs.Invariants.{AreRising}
+use Rattle.ospf_adjacency.specs.Links.{hello_parcel, up}
+use Rattle.ospf_step.proofs.Chains.{step_from_chain}
+use Rattle.ospf_step.proofs.StepAccounts.{StepLaws-accounts, StepLaws-sound}
+use Rattle.ospf_step.specs.Step.{Event, StepLaws, last_parts}
+use Rattle.ospf_step.specs.Words.{IsSoundState}
+use Rattle.ospf_links.specs.Elections.{Elects}
+use Rattle.ospf_links.specs.Parts.{link_up}
+use Rattle.ospf_lsdb.specs.Database.{Held, IsDatabase, entry_from, key_in, reached_at}
+use Rattle.ospf_neighbour.specs.Neighbours.{IsRising}
+use Rattle.ospf_originate.proofs.DueLemmas.{no_candidate}
+use Rattle.ospf_originate.specs.Actions.{own_action}
+use Rattle.ospf_originate.specs.Sound.{AreNumbered}
+use Rattle.ospf_originate.specs.Steps.{ActsInTurn, IsDue, OwnLsas, action_of, wants}
+use Rattle.ospf_originate.specs.declared.action.Due.{Due}
+use Rattle.ospf_originate.specs.declared.action.OwnAction.TheVariants.{Issue}
+use Rattle.ospf_packet.proofs.RoundTrip.{read_again}
+use Rattle.ospf_packet.specs.Meaning.{Meaning, MeaningFits}
+use Rattle.ospf_router.specs.Steps.{IsLawful}
+use Rattle.ospf_step.specs.Drops.{is_dropped}
+use Rattle.ospf_step.specs.Ends.{Ends}
+use Rattle.ospf_step.specs.Steps.{StepsArea}
+use Rattle.ospf_step.specs.Takes.{TakesTick}
+use Rattle.ospf_update.specs.Acks.{cut}
+use Rattle.ospf_wanted.specs.Made.{says}
+use Rattle.ospf_wanted.specs.Wanted.{links_at, networks_at, wanted}
+use Rattle.ospf_world.proofs.States.{begun, down_link, has_issued, is_lsa, is_made, issuing, issuing_out, linked, linked_out, own_key, own_lsa, stored, stored_lsa, ticked}
+
+-- ---- a tick
+
+takes_tick : TakesTick begun no_outputs no_outputs ticked
+unfolding reached_at cut
+takes_tick = record {
+  aged = ticked;
+  expired_out = [];
+  ages = record { mid = ticked; rise = record { database = λ k. refl; rest = refl }; state = refl; sends = refl };
+  state = refl;
+  outputs = refl;
+}
+
+none_elects : Elects ticked no_outputs ticked no_outputs
+none_elects = (ticked, no_outputs, (refl, refl), (down_link, 1, [], (refl, refl, refl), refl, refl))
+
+is_numbered : AreNumbered ticked
+is_numbered key has own = absurd (false≢true has)
+
+due : List Due
+due = record { key = own_key; action = Issue (negsuc 0x7ffffffe) } ∷ []
+
+is_due : IsDue ticked due
+unfolding due action_of own_action wanted links_at networks_at same_key
+is_due = record {
+  keys = own_key ∷ [];
+  rising = (tt, tt);
+  whole = λ key apart. no_candidate ticked key is_numbered apart;
+  is = refl;
+}
+
+acts : ActsInTurn (wants ticked) due ticked no_outputs issuing_out issuing
+unfolding due wanted links_at networks_at same_key
+acts = (
+  issuing,
+  issuing_out,
+  record {
+    mid = issuing;
+    mid_out = issuing_out;
+    issues = record {
+      lsa = own_lsa;
+      is_lsa = is_lsa;
+      made = is_made;
+      stored = stored;
+      stores = record { database = λ k. refl; rest = refl };
+      state = refl;
+      outputs = refl;
+    };
+    turned = refl;
+    outputs = refl;
+  },
+  record { state = refl; outputs = refl },
+)
+
+own_lsas : OwnLsas ticked no_outputs issuing_out has_issued
+own_lsas = record { due = due; is_due = is_due; mid = issuing; each = acts; answered = refl }
+
+pub issued_database : IsDatabase has_issued.database
+unfolding entry_from
+issued_database = record { rising = (tt, tt); ages = (lit≤ tt, tt) }
+
+ends_tick : Ends ticked no_outputs issuing_out has_issued
+unfolding entry_from
+ends_tick = record {
+  database = record { rising = tt; ages = tt };
+  elected = ticked;
+  elected_out = no_outputs;
+  elects = none_elects;
+  issued = has_issued;
+  issued_out = issuing_out;
+  own = own_lsas;
+  issued_database = issued_database;
+  removes = record { all = (refl, refl) };
+  read = λ k d within. absurd (omega arith);
+}
+
+pub tick_step : StepsArea Event.Tick begun None issuing_out has_issued
+tick_step = record {
+  cause = refl;
+  unchanged = λ some. absurd (some refl);
+  silent = λ some. absurd (some refl);
+  takes = λ none. record { mid = ticked; mid_out = no_outputs; event = takes_tick; end = ends_tick };
+}
+
+-- ---- a link that goes up
+
+abbrev pub hello_said : Meaning
+hello_said = packet_of (own_of has_issued) (hello_parcel (up down_link.iface) []).body
+
+pub hello_fits : MeaningFits hello_said
+hello_fits = record {
+  router = lit< tt;
+  area = lit< tt;
+  body = (record { mask = lit< tt; hello_interval = lit< tt; options = lit< tt; priority = lit< tt; dead_interval = lit< tt; designated = lit< tt; backup = lit< tt }, tt);
+  short = lit≤ tt;
+}
+
+pub hello_read : AreRead linked_out.sent
+unfolding datagrams
+hello_read zero d within = read_again hello_said hello_fits
+hello_read (suc k) d within = absurd (omega arith)
+
+numbering : Numbering
+numbering = record { key = own_key; kept = negsuc 0x7ffffffe; issued_at = Some 1 }
+
+now_numbered : AreNumbered linked
+unfolding entry_from key_in same_key numbering
+now_numbered key has own = by_test (same_key own_key key) has
+  where
+    by_test : (b : Bool) → is_some (option_map (λ (h : Held). h.entry) (if b then Some stored_lsa else None)) ≡ true → is_some (if b then Some numbering else None) ≡ true
+    by_test true is = refl
+    by_test false is = absurd (false≢true is)
+
+twice : (b : Bool) → b || false ≡ false → b || (b || false) ≡ false
+twice true is = is
+twice false is = refl
+
+none_due : IsDue linked []
+unfolding action_of own_action wanted links_at networks_at same_key entry_from key_in says
+none_due = record {
+  keys = own_key ∷ [];
+  rising = (tt, tt);
+  whole = λ key apart. no_candidate linked key now_numbered (twice (same_key own_key key) apart);
+  is = refl;
+}
+
+ends_up : Ends linked linked_out linked_out linked
+unfolding entry_from datagrams
+ends_up = record {
+  database = issued_database;
+  elected = linked;
+  elected_out = linked_out;
+  elects = (linked, linked_out, (refl, refl), (link_up down_link, 1, [], (refl, refl, refl), refl, refl));
+  issued = linked;
+  issued_out = linked_out;
+  own = record {
+    due = [];
+    is_due = none_due;
+    mid = linked;
+    each = record { state = refl; outputs = refl };
+    answered = refl;
+  };
+  issued_database = issued_database;
+  removes = record { all = (refl, refl) };
+  read = hello_read;
+}
+
+pub up_step : StepsArea (Event.LinkUp 0) has_issued None linked_out linked
+up_step = record {
+  cause = refl;
+  unchanged = λ some. absurd (some refl);
+  silent = λ some. absurd (some refl);
+  takes = λ none. record { mid = linked; mid_out = linked_out; event = record { state = refl; outputs = refl }; end = ends_up };
+}
+
+-- ---- what they come to
+
+rising_links : (s : AreaValue) (link : LinkValue) → s.links ≡ link ∷ [] → link.neighbours ≡ [] → AreRising s.links
+rising_links s link is none l other at =
+    by_place l (subst (λ (links : List LinkValue). slice_get links l ≡ Some other) is at)
+  where
+    by_place : (k : ℕ) → slice_get (link ∷ []) k ≡ Some other → IsRising other.neighbours
+    by_place zero here = subst IsRising (sym none ∙ ap (λ (x : LinkValue). x.neighbours) (same_Some link other here)) tt
+    by_place (suc k) there = absurd (none-some other there)
+
+tick_laws : StepLaws is_dropped Event.Tick begun issuing_out has_issued
+unfolding takes_tick ends_tick
+tick_laws =
+    let read : AreRead issuing_out.sent = λ k d within. absurd (omega arith) in
+    let end = ends_tick in
+    step_from_chain is_dropped Event.Tick begun issuing_out has_issued refl read
+    (tick_puts last_parts _ begun ticked ticked has_issued [] no_outputs no_outputs issuing_out
+    (rising_links ticked down_link refl refl) (rising_links ticked down_link refl refl) end.database read takes_tick.ages takes_tick.state takes_tick.outputs
+    (ends_put ticked ticked has_issued has_issued no_outputs no_outputs issuing_out issuing_out end.database end.issued_database read end.elects end.own end.removes))
+
+up_laws : StepLaws is_dropped (Event.LinkUp 0) has_issued linked_out linked
+unfolding ends_up
+up_laws =
+    let end = ends_up in
+    step_from_chain is_dropped (Event.LinkUp 0) has_issued linked_out linked refl hello_read
+    (up_chain 0 last_parts has_issued linked linked no_outputs linked_out linked_out
+    (ends_put linked linked linked linked linked_out linked_out linked_out linked_out end.database end.issued_database hello_read end.elects end.own end.removes)
+    hello_read refl refl)
+
+waits_none : (l : ℕ) (q : RouterId) (i : Instance) → Awaits begun l q i → ⊥
+waits_none zero q i waits = waits
+waits_none (suc l) q i waits = waits
+
+begun_sound : IsSoundState begun
+begun_sound = record {
+  lsas = λ lsa c. absurd (none-some lsa c);
+  numbers = λ lsa c own. absurd (none-some lsa c);
+  lists = λ l q i waits. absurd (waits_none l q i waits);
+}
+
+pub tick_lawful : IsLawful Event.Tick begun None issuing_out has_issued
+tick_lawful = record { steps = tick_step; laws = tick_laws; accounts = StepLaws-accounts is_dropped Event.Tick begun issuing_out has_issued begun_sound tick_laws }
+
+issued_sound : IsSoundState has_issued
+issued_sound = StepLaws-sound is_dropped Event.Tick begun issuing_out has_issued begun_sound tick_laws
+
+pub up_lawful : IsLawful (Event.LinkUp 0) has_issued None linked_out linked
+up_lawful = record { steps = up_step; laws = up_laws; accounts = StepLaws-accounts is_dropped (Event.LinkUp 0) has_issued linked_out linked issued_sound up_laws }

@@ -1,5 +1,0 @@
-use Rattle.ospf_world_laws.proofs.Works.{some_router_works}
-use Rattle.ospf_world_laws.proofs.laws.some_router_works.Goals as goal
-
-pub returns : goal.returns
-returns c = some_router_works
