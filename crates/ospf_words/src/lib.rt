@@ -2,6 +2,8 @@
 #![tactic(auto)]
 
 mod build;
+mod commands;
+mod help;
 mod jobs;
 mod words;
 

@@ -2,7 +2,7 @@ use Rattle.std.proofs.Common.{ap, ◌∙◌}
 use Rattle.std.proofs.lemmas.Result.{IfOk-weaker}
 use Rattle.clap.specs.Words.{App, rule_of, with_subcommand}
 use Rattle.ospf_words.specs.Words.{check_app, failures_app, lsas_app, path_app, run_app, sim_app, table_app}
-use Rattle.ospf_words.proofs.words.command.Goals as goal
+use Rattle.ospf_words.proofs.commands.command.Goals as goal
 
 pub returns : goal.returns
 returns c =

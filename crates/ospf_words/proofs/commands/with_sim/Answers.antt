@@ -2,7 +2,7 @@ use Rattle.std.proofs.Common.{ap, ap₂, codes, refl, ◌≡◌, ◌∙◌}
 use Rattle.std.proofs.lemmas.Result.{IfOk-weaker}
 use Rattle.clap.specs.Words.{App, app_of, new_app, with_rule, with_subcommand}
 use Rattle.ospf_words.specs.Words.{sim_app}
-use Rattle.ospf_words.proofs.words.with_sim.Goals as goal
+use Rattle.ospf_words.proofs.commands.with_sim.Goals as goal
 
 pub returns : goal.returns
 returns c =
