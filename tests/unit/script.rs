@@ -1,8 +1,8 @@
 //! Lines that are read, lines that are not, and what is printed.
 
-use ospf_base::{Addr, Instance, Kind, LsaKey, RouterId};
+use ospf_base::{Addr, Instance, Kind, LsaKey, Prefix, RouterId};
 use ospf_script::{
-    Command, FloorShown, Hint, LineFault, ListedShown, NeighbourShown, RefusalShown, WalkShown,
+    Command, Expected, FloorShown, Hint, LineFault, ListedShown, NeighbourShown, RefusalShown, WalkShown,
     first_line, lines, words_spell_one_command,
 };
 use std::alloc::Global;
@@ -10,6 +10,8 @@ use std::process::Abort;
 use std::test::Fail;
 
 const ONE: RouterId = RouterId(0x0101_0101);
+
+const TWO: RouterId = RouterId(0x0202_0202);
 
 // A line spells a command, which is printed as this text.
 fn spells(
@@ -194,8 +196,93 @@ fn printing(rt: HostRuntime) -> Result<(), Fail> {
     Ok(())
 }
 
+#[test]
+fn asking(rt: HostRuntime) -> Result<(), Fail> {
+    let alloc = rt.alloc();
+    let why = |neighbour: Option<RouterId>| Command::Why {
+        router: ONE,
+        link: 2,
+        neighbour,
+    };
+    spells(&rt, alloc, "why 1.1.1.1 2", &why(None), "why 1.1.1.1 2")?;
+    let one = why(Some(TWO));
+    spells(&rt, alloc, " why  1.1.1.1 02 2.2.2.2", &one, "why 1.1.1.1 2 2.2.2.2")?;
+    let loss = |percent: u8, network: Option<Addr>| Command::Loss {
+        percent,
+        number: 7,
+        network,
+    };
+    spells(&rt, alloc, "loss 0 7", &loss(0, None), "loss 0 7")?;
+    let there = loss(100, Some(Addr(0x0a00_0001)));
+    spells(&rt, alloc, "loss 100 7 10.0.0.1", &there, "loss 100 7 10.0.0.1")?;
+    Ok(())
+}
+
+// What is expected is read, and printed again as a line.
+fn expects(
+    rt: &impl Abort,
+    alloc: Global,
+    line: &str,
+    expected: Expected,
+    printed: &str,
+) -> Result<(), LineFault> {
+    assert_eq!(rt; format!(in alloc; "{expected}")?.as_str(), printed);
+    spells(rt, alloc, line, &Command::Expect { expected }, printed)
+}
+
+#[test]
+fn expecting(rt: HostRuntime) -> Result<(), Fail> {
+    let (alloc, router) = (rt.alloc(), ONE);
+    let full = Expected::Full { router, other: TWO };
+    let line = "expect full 1.1.1.1 2.2.2.2";
+    expects(&rt, alloc, line, full, line)?;
+    let alone = Expected::NoNeighbour { router, link: 3 };
+    let line = "expect no neighbour 1.1.1.1 3";
+    expects(&rt, alloc, line, alone, line)?;
+    expects(&rt, alloc, "expect no  neighbor 1.1.1.1 3 ", alone, line)?;
+    let prefix = Prefix {
+        address: Addr(0x0a00_0004),
+        length: 30,
+    };
+    let route = Expected::Route {
+        router,
+        prefix,
+        cost: 12,
+    };
+    let line = "expect route 1.1.1.1 10.0.0.4/30 12";
+    expects(&rt, alloc, line, route, line)?;
+    let line = "expect no route 1.1.1.1 10.0.0.4/30";
+    expects(&rt, alloc, line, Expected::NoRoute { router, prefix }, line)?;
+    let prefix = Prefix {
+        address: Addr(0),
+        length: 0,
+    };
+    let line = "expect no route 1.1.1.1 0.0.0.0/0";
+    expects(&rt, alloc, line, Expected::NoRoute { router, prefix }, line)?;
+    Ok(())
+}
+
 // Each is refused for one reason.
-const UNREADABLE: [&[u8]; 39] = [
+const UNREADABLE: [&[u8]; 58] = [
+    b"why 1.1.1.1",
+    b"why 1.1.1.1 x",
+    b"why 1.1.1.1 0 2.2.2",
+    b"why 1.1.1.1 0 2.2.2.2 3.3.3.3",
+    b"loss 30",
+    b"loss 101 7",
+    b"loss 30 x",
+    b"loss 30 7 10.0.0",
+    b"loss 30 7 10.0.0.1 8",
+    b"expect",
+    b"expect full 1.1.1.1",
+    b"expect Full 1.1.1.1 2.2.2.2",
+    b"expect no neighbours 1.1.1.1 0",
+    b"expect route 1.1.1.1 10.0.0.4/30",
+    b"expect route 1.1.1.1 10.0.0.5/30 12",
+    b"expect route 1.1.1.1 10.0.0.4/33 12",
+    b"expect route 1.1.1.1 10.0.0.4 12",
+    b"expect no route 1.1.1.1 10.0.0.4/",
+    b"expect no route 1.1.1.1 10.0.0.4/+30",
     b"nonsense",
     b"TICK 1.1.1.1",
     b"tick",
@@ -247,12 +334,18 @@ fn unreadable(rt: HostRuntime) {
     }
 }
 
-const NAMES: &str = "start, stop, tick, up, down, deliver, round, random, neighbours, listing, table, walk, floor, say";
+const NAMES: &str = "start, stop, tick, up, down, deliver, round, random, neighbours, listing, table, walk, floor, say, why, loss, expect";
 
 #[test]
 fn hints(rt: HostRuntime) -> Result<(), Fail> {
     let alloc = rt.alloc();
-    let forms: [(&[u8], &str); 7] = [
+    let forms: [(&[u8], &str); 10] = [
+        (b"why", "why R LINK [NEIGHBOUR]"),
+        (b"loss 101 7", "loss PERCENT NUMBER [ADDRESS]"),
+        (
+            b"expect fully",
+            "expect full R S, expect no neighbour R LINK, expect route R PREFIX COST, or expect no route R PREFIX",
+        ),
         (b"tick", "tick R"),
         (b" start  1.1.1.1 ", "start R DD [FLOOR], or start all"),
         (b"neighbors", "neighbours R"),

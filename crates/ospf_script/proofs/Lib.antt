@@ -4,5 +4,8 @@ pub mod Choices
 pub mod Unspelled
 pub mod TextLines
 pub mod Zeros
+pub mod OneValue
+pub mod Prefixes
+pub mod Expecting
 pub mod OneCommand
 pub mod Named

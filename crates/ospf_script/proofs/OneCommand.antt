@@ -1,47 +1,16 @@
--- Words spell one value, and one command.
+-- Words spell one command at most.
 use Rattle.std.proofs.Common.{◌≡◌, inl, inr, ℕ, ℤ, Option, None, Some, List, [], ◌∷◌, refl, sym, ap, ◌∙◌}
-use Rattle.std.specs.Int.{w32, cast_signed, from_be_bytes, to_be_bytes}
-use Rattle.std.specs.declared.net.ipv4_addr.Ipv4Addr.{Ipv4Addr}
-use Rattle.std.proofs.NetLemmas.Theorems.{IsIpv4Text_unique}
-use Rattle.std.proofs.lemmas.Nat.{from_be_bytes-to_be_bytes_4}
 use Rattle.ospf_base.specs.declared.ids.Addr.{Addr}
 use Rattle.ospf_base.specs.declared.ids.RouterId.{RouterId}
-use Rattle.ospf_script.specs.Commands.{AreChoices, AreNumbers, AreRounds, BeginsWalk, IsAll, IsCountAlone, IsDelivery, IsRouterAlone, IsRouterAndLink, IsStart, IsWalk, Takes, name_of, no_floor}
+use Rattle.ospf_script.specs.Commands.{AreChoices, AreNumbers, AreRounds, BeginsWalk, IsAll, IsCountAlone, IsDelivery, IsLoss, IsRouterAlone, IsRouterAndLink, IsStart, IsWalk, IsWhy, Takes, name_of, no_floor}
 use Rattle.ospf_script.specs.Laws.{IsOneCommand, WordsSpellOneCommand}
-use Rattle.ospf_script.specs.Values.{IsAddress, IsDecimal, IsDotted32, IsFloor, IsRouter}
+use Rattle.ospf_script.specs.Values.{IsDecimal, IsFloor, IsRouter}
 use Rattle.ospf_script.specs.Words.{Text}
 use Rattle.ospf_script.specs.declared.command.Command.{Command}
 use Rattle.ospf_script.specs.declared.command.Command.TheVariants as command
+use Rattle.ospf_script.proofs.Expecting.{expected_one}
+use Rattle.ospf_script.proofs.OneValue.{address_one, decimal_one, floor_one, percent_one, router_one}
 use Rattle.ospf_script.proofs.Unspelled.{word_is_one}
-
--- ---- values
-
-dotted_one : (word : Text) (m n : ℕ) → IsDotted32 word m → IsDotted32 word n → m ≡ n
-dotted_one word m n h k =
-    let a : Ipv4Addr = record { octets = to_be_bytes w32 m } in
-    let b : Ipv4Addr = record { octets = to_be_bytes w32 n } in
-    let same : to_be_bytes w32 m ≡ to_be_bytes w32 n = ap (λ (x : Ipv4Addr). x.octets) (IsIpv4Text_unique word a b h.0 k.0) in
-    sym (from_be_bytes-to_be_bytes_4 m h.1) ∙ ap (from_be_bytes w32) same ∙ from_be_bytes-to_be_bytes_4 n k.1
-
-router_with : ℕ → RouterId
-router_with n = record { 0 = n }
-
-router_one : (word : Text) (r s : RouterId) → IsRouter word r → IsRouter word s → r ≡ s
-unfolding router_with
-router_one word r s h k = ap router_with (dotted_one word r.0 s.0 h k)
-
-address_with : ℕ → Addr
-address_with n = record { 0 = n }
-
-address_one : (word : Text) (a b : Addr) → IsAddress word a → IsAddress word b → a ≡ b
-unfolding address_with
-address_one word a b h k = ap address_with (dotted_one word a.0 b.0 h k)
-
-decimal_one : (bits : ℕ) (word : Text) (m n : ℕ) → IsDecimal bits word m → IsDecimal bits word n → m ≡ n
-decimal_one bits word m n h k = sym h.0.1 ∙ k.0.1
-
-floor_one : (word : Text) (x y : ℤ) → IsFloor word x → IsFloor word y → x ≡ y
-floor_one word x y h k = h.floor_is ∙ ap (cast_signed w32) (sym h.spelled.1 ∙ k.spelled.1) ∙ sym k.floor_is
 
 -- ---- what commands take
 
@@ -85,6 +54,26 @@ rounds_one ws m n (Some i) None h k = absurd k
 delivery_one : (ws : List Text) (m n : ℕ) (r s : RouterId) (i j : ℕ) → IsDelivery ws m r i → IsDelivery ws n s j → (m ≡ n) × (r ≡ s) × (i ≡ j)
 delivery_one (a ∷ b ∷ c ∷ []) m n r s i j h k = (decimal_one 64 a m n h.0 k.0, router_one b r s h.1 k.1, decimal_one 64 c i j h.2 k.2)
 delivery_one ws m n r s i j h k = absurd h
+
+why_one : (ws : List Text) (r s : RouterId) (m n : ℕ) (i j : Option RouterId) → IsWhy ws r m i → IsWhy ws s n j → (r ≡ s) × (m ≡ n) × (i ≡ j)
+why_one ws r s m n None None h k =
+    let all = router_and_link_one ws r s m n h k in
+    (all.0, all.1, refl)
+why_one (a ∷ b ∷ c ∷ []) r s m n (Some i) (Some j) h k = (router_one a r s h.0 k.0, decimal_one 64 b m n h.1 k.1, ap (λ x. Some x) (router_one c i j h.2 k.2))
+why_one (a ∷ b ∷ []) r s m n None (Some j) h k = absurd k
+why_one ws r s m n None (Some j) h k = absurd h
+why_one (a ∷ b ∷ []) r s m n (Some i) None h k = absurd h
+why_one ws r s m n (Some i) None h k = absurd k
+why_one ws r s m n (Some i) (Some j) h k = absurd h
+
+loss_one : (ws : List Text) (p q m n : ℕ) (i j : Option Addr) → IsLoss ws p m i → IsLoss ws q n j → (p ≡ q) × (m ≡ n) × (i ≡ j)
+loss_one (a ∷ b ∷ []) p q m n None None h k = (percent_one a p q h.0 k.0, decimal_one 64 b m n h.1 k.1, refl)
+loss_one (a ∷ b ∷ c ∷ []) p q m n (Some i) (Some j) h k = (percent_one a p q h.0 k.0, decimal_one 64 b m n h.1 k.1, ap (λ x. Some x) (address_one c i j h.2 k.2))
+loss_one (a ∷ b ∷ []) p q m n None (Some j) h k = absurd k
+loss_one ws p q m n None (Some j) h k = absurd h
+loss_one (a ∷ b ∷ []) p q m n (Some i) None h k = absurd h
+loss_one ws p q m n (Some i) None h k = absurd k
+loss_one ws p q m n i j h k = absurd h
 
 -- a start by the number of its words
 StartOf : List Text → RouterId → ℕ → ℤ → Type 0
@@ -152,6 +141,13 @@ takes_one ws (command.Table r) (command.Table s) e h k = ap command.Table (route
 takes_one ws (command.Walk r a cs) (command.Walk s b ds) e h k = walk_one ws r s a b cs.items ds.items h k
 takes_one ws (command.Floor r) (command.Floor s) e h k = ap command.Floor (router_alone_one ws r s h k)
 takes_one ws (command.Say text) (command.Say other) e h k = h ∙ sym k
+takes_one ws (command.Why r m i) (command.Why s n j) e h k =
+    let all = why_one ws r s m n i j h k in
+    let one = all.0 in let two = all.1 in let three = all.2 in cc
+takes_one ws (command.Loss p m i) (command.Loss q n j) e h k =
+    let all = loss_one ws p q m n i j h k in
+    let one = all.0 in let two = all.1 in let three = all.2 in cc
+takes_one ws (command.Expect x) (command.Expect y) e h k = ap command.Expect (expected_one ws x y h k)
 takes_one ws command.StartAll command.StartAll e h k = refl
 takes_one ws command.UpAll command.UpAll e h k = refl
 takes_one ws command.DownAll command.DownAll e h k = refl

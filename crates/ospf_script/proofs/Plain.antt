@@ -21,7 +21,7 @@ if_none (Some x) P p = tt
 digit_is_ascii : (c : ℕ) → digit_value c < 36 → c < 128
 digit_is_ascii c h = grind (arith, nat_tests)
 
-digits_are_ascii : (radix : ℕ) (ds : List ℕ) → radix ≤ 36 → AllDigits radix ds → IsAscii ds
+pub digits_are_ascii : (radix : ℕ) (ds : List ℕ) → radix ≤ 36 → AllDigits radix ds → IsAscii ds
 digits_are_ascii radix [] small h = IsAscii-nil
 digits_are_ascii radix (d ∷ ds) small h =
     IsAscii-cons d ds (digit_is_ascii d (omega (arith, h.0))) (digits_are_ascii radix ds small h.1)
@@ -32,15 +32,18 @@ digits_are_text radix ds small h = IsUtf8-from_ascii ds (digits_are_ascii radix 
 dot_is_ascii : IsAscii (codes ".")
 dot_is_ascii = IsAscii-cons 46 [] (omega arith) IsAscii-nil
 
-pub dotted_is_text : (text : List ℕ) (n : ℕ) → IsDottedNumber text n → IsUtf8 text
-dotted_is_text text n h =
+pub dotted_is_ascii : (text : List ℕ) (n : ℕ) → IsDottedNumber text n → IsAscii text
+dotted_is_ascii text n h =
     let f = h.fit in
     let one = IsAscii-decimal h.a (omega (arith, f.0)) in
     let two = IsAscii-decimal h.b (omega (arith, f.1)) in
     let three = IsAscii-decimal h.c (omega (arith, f.2)) in
     let four = IsAscii-decimal h.d (omega (arith, f.3)) in
     let spelled = IsAscii-append _ _ (IsAscii-append _ _ (IsAscii-append _ _ (IsAscii-append _ _ (IsAscii-append _ _ (IsAscii-append _ _ one dot_is_ascii) two) dot_is_ascii) three) dot_is_ascii) four in
-    IsUtf8-from_ascii text (subst IsAscii (sym h.spelled) spelled)
+    subst IsAscii (sym h.spelled) spelled
+
+pub dotted_is_text : (text : List ℕ) (n : ℕ) → IsDottedNumber text n → IsUtf8 text
+dotted_is_text text n h = IsUtf8-from_ascii text (dotted_is_ascii text n h)
 
 -- eight hexadecimal digits spell a number of 32 bits
 pub eight_digits_fit : (ds : List ℕ) → AllDigits 16 ds → length ds ≡ 8 → digits_value 16 ds < 2 ^ 32

@@ -1,10 +1,10 @@
 -- Where words are not what a command takes, they spell no command of that name.
 use Rattle.std.specs.Prelude.{String, string_bytes}
 use Rattle.std.specs.declared.alloc.Global.{Global}
-use Rattle.std.proofs.Common.{inl, inr, ◌≡◌, ◌==◌, if◌then◌else◌, ℕ, ℤ, Option, ◌+◌, ◌*◌, List, [], ◌∷◌, length, get_or, subst, sym, ap, ◌∙◌}
+use Rattle.std.proofs.Common.{inl, inr, ◌≡◌, ◌==◌, if◌then◌else◌, ℕ, ℤ, Option, None, Some, ◌+◌, ◌*◌, List, [], ◌∷◌, length, get_or, refl, subst, sym, ap, ◌∙◌}
 use Rattle.ospf_base.specs.declared.ids.Addr.{Addr}
 use Rattle.ospf_base.specs.declared.ids.RouterId.{RouterId}
-use Rattle.ospf_script.specs.Commands.{AreNumbers, AreRounds, IsAll, IsDelivery, IsRouterAlone, IsRouterAndLink, IsStart, IsUnreadable, IsWalk, Spells, Takes, name_of, spaced}
+use Rattle.ospf_script.specs.Commands.{AreNumbers, AreRounds, IsAll, IsDelivery, IsRouterAlone, IsRouterAndLink, IsStart, IsUnreadable, IsWalk, IsWhy, Spells, Takes, name_of, spaced}
 use Rattle.ospf_script.specs.Names.{IsOfRouter, IsWordOf}
 use Rattle.ospf_script.specs.Words.{IsBlank, Text, words}
 use Rattle.ospf_script.proofs.Parts.{words-blank}
@@ -45,10 +45,6 @@ pub no_delivery : (ws : List Text) → ((datagram : ℕ) (router : RouterId) (li
 no_delivery ws h (command.Deliver datagram router link) e t = h datagram router link t
 no_delivery ws h c e t = cc
 
-pub no_round : (ws : List Text) → ((count : ℕ) (most : Option ℕ) → AreRounds ws count most → ⊥) → IsNone names.Round ws
-no_round ws h (command.Round count most) e t = h count most t
-no_round ws h c e t = cc
-
 pub no_random : (ws : List Text) → ((number count : ℕ) → AreNumbers ws number count → ⊥) → IsNone names.Random ws
 no_random ws h (command.Random number count) e t = h number count t
 no_random ws h c e t = cc
@@ -60,6 +56,19 @@ no_walk ws h c e t = cc
 pub no_text : (ws : List Text) → ((said : String Global) → string_bytes said ≡ spaced ws → ⊥) → IsNone names.Say ws
 no_text ws h (command.Say said) e t = h said t
 no_text ws h c e t = cc
+
+-- no word alone, and not two numbers
+pub not_rounds : (ws : List Text) → ((a : Text) → ws ≡ a ∷ [] → ⊥) → ((number count : ℕ) → AreNumbers ws number count → ⊥) → (count : ℕ) (most : Option ℕ) → AreRounds ws count most → ⊥
+not_rounds (a ∷ []) one two count None h = one a refl
+not_rounds ws one two count None h = h
+not_rounds ws one two count (Some most) h = two count most h
+
+-- not three words, and no Router ID with a link
+pub not_why : (ws : List Text) → ((router : RouterId) (link : ℕ) → IsRouterAndLink ws router link → ⊥) → ((a b c : Text) → ws ≡ a ∷ b ∷ c ∷ [] → ⊥)
+    → (router : RouterId) (link : ℕ) (neighbour : Option RouterId) → IsWhy ws router link neighbour → ⊥
+not_why ws two three router link None h = two router link h
+not_why (a ∷ b ∷ c ∷ []) two three router link (Some neighbour) h = three a b c refl
+not_why ws two three router link (Some neighbour) h = h
 
 -- a name is known by its length and its first letter
 key : Text → ℕ
@@ -80,6 +89,9 @@ by_key n =
     if n == 1396 then names.Table else
     if n == 1143 then names.Walk else
     if n == 883 then names.Say else
+    if n == 887 then names.Why else
+    if n == 1132 then names.Loss else
+    if n == 1637 then names.Expect else
     if n == 2414 then names.Neighbours else
     names.Floor
 
@@ -99,6 +111,9 @@ found_by_key word names.Table is = ap (λ text. by_key (key text)) is
 found_by_key word names.Walk is = ap (λ text. by_key (key text)) is
 found_by_key word names.Floor is = ap (λ text. by_key (key text)) is
 found_by_key word names.Say is = ap (λ text. by_key (key text)) is
+found_by_key word names.Why is = ap (λ text. by_key (key text)) is
+found_by_key word names.Loss is = ap (λ text. by_key (key text)) is
+found_by_key word names.Expect is = ap (λ text. by_key (key text)) is
 found_by_key word names.Neighbours is = elim is [ inl british ↦ ap (λ text. by_key (key text)) british | inr american ↦ ap (λ text. by_key (key text)) american ]
 
 -- each name has words of its own

@@ -3,8 +3,9 @@ use Rattle.std.specs.Prelude.{◌≡◌, ◌⊎◌, ⊤, ℕ, ℤ, List, [], ◌
 use Rattle.std.specs.Int.{w32, cast_signed}
 use Rattle.ospf_base.specs.declared.ids.Addr.{Addr}
 use Rattle.ospf_base.specs.declared.ids.RouterId.{RouterId}
+use Rattle.ospf_script.specs.Expected.{IsExpected}
 use Rattle.ospf_script.specs.Names.{IsWordOf, name_text}
-use Rattle.ospf_script.specs.Values.{IsAddress, IsDecimal, IsFloor, IsRouter}
+use Rattle.ospf_script.specs.Values.{IsAddress, IsDecimal, IsFloor, IsPercent, IsRouter}
 use Rattle.ospf_script.specs.Words.{IsBlank, Text, words}
 use Rattle.ospf_script.specs.declared.command.Command.{Command}
 use Rattle.ospf_script.specs.declared.command.Command.TheVariants as command
@@ -49,6 +50,16 @@ AreRounds ws count (Some most) = AreNumbers ws count most
 
 abbrev pub IsDelivery : List Text → ℕ → RouterId → ℕ → Type 0
 IsDelivery ws datagram router link = IsThree (λ a b c. IsDecimal 64 a datagram × IsRouter b router × IsDecimal 64 c link) ws
+
+-- a Router ID and a link, and the Router ID of a neighbour, where that is given
+abbrev pub IsWhy : List Text → RouterId → ℕ → Option RouterId → Type 0
+IsWhy ws router link None = IsRouterAndLink ws router link
+IsWhy ws router link (Some neighbour) = IsThree (λ a b c. IsRouter a router × IsDecimal 64 b link × IsRouter c neighbour) ws
+
+-- how many of a hundred deliveries are lost, the number of a generator, and an address in the one network where that is, if it is given
+abbrev pub IsLoss : List Text → ℕ → ℕ → Option Addr → Type 0
+IsLoss ws percent number None = IsTwo (λ a b. IsPercent a percent × IsDecimal 64 b number) ws
+IsLoss ws percent number (Some address) = IsThree (λ a b c. IsPercent a percent × IsDecimal 64 b number × IsAddress c address) ws
 
 -- the floor that is none: each LS sequence number is above it (RFC 2328, section 12.1.6)
 abbrev pub no_floor : ℤ
@@ -112,6 +123,9 @@ name_of (command.Table router) = name.Table
 name_of (command.Walk from address choices) = name.Walk
 name_of (command.Floor router) = name.Floor
 name_of (command.Say text) = name.Say
+name_of (command.Why router link neighbour) = name.Why
+name_of (command.Loss percent number network) = name.Loss
+name_of (command.Expect expected) = name.Expect
 name_of command.StartAll = name.Start
 name_of command.UpAll = name.Up
 name_of command.DownAll = name.Down
@@ -132,6 +146,9 @@ Takes (command.Table router) ws = IsRouterAlone ws router
 Takes (command.Walk from address choices) ws = IsWalk ws from address choices.items
 Takes (command.Floor router) ws = IsRouterAlone ws router
 Takes (command.Say text) ws = string_bytes text ≡ spaced ws
+Takes (command.Why router link neighbour) ws = IsWhy ws router link neighbour
+Takes (command.Loss percent number network) ws = IsLoss ws percent number network
+Takes (command.Expect expected) ws = IsExpected ws expected
 Takes command.StartAll ws = IsAll ws
 Takes command.UpAll ws = IsAll ws
 Takes command.DownAll ws = IsAll ws

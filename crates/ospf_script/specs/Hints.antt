@@ -30,11 +30,14 @@ form_text name.Table = codes "table R"
 form_text name.Walk = codes "walk R ADDRESS CHOICE.."
 form_text name.Floor = codes "floor R"
 form_text name.Say = codes "say WORD.."
+form_text name.Why = codes "why R LINK [NEIGHBOUR]"
+form_text name.Loss = codes "loss PERCENT NUMBER [ADDRESS]"
+form_text name.Expect = codes "expect full R S, expect no neighbour R LINK, expect route R PREFIX COST, or expect no route R PREFIX"
 
 -- behind a first word that is no name, which names there are; else the form of the command
 abbrev pub hint_of : Text → Option Name → Text
 hint_of word None =
-    word_text word ++ codes ": no command; there are start, stop, tick, up, down, deliver, round, random, neighbours, listing, table, walk, floor, say"
+    word_text word ++ codes ": no command; there are start, stop, tick, up, down, deliver, round, random, neighbours, listing, table, walk, floor, say, why, loss, expect"
 hint_of word (Some n) = form_text n
 
 -- of the words of a line

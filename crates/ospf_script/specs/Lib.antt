@@ -3,6 +3,7 @@ pub mod Values
 pub mod Lines
 pub mod Faults
 pub mod Names
+pub mod Expected
 pub mod Commands
 pub mod Texts
 pub mod Hints

@@ -21,6 +21,9 @@ name_text name.Table = codes "table"
 name_text name.Walk = codes "walk"
 name_text name.Floor = codes "floor"
 name_text name.Say = codes "say"
+name_text name.Why = codes "why"
+name_text name.Loss = codes "loss"
+name_text name.Expect = codes "expect"
 
 -- the word is the name, or stands for it
 abbrev pub IsWordOf : Text → Name → Type 0
@@ -34,7 +37,7 @@ is_word_of word n = bytes_eq word (name_text n)
 abbrev pub all_names : List Name
 all_names =
     name.Start ∷ name.Stop ∷ name.Tick ∷ name.Up ∷ name.Down ∷ name.Deliver ∷ name.Round ∷ name.Random ∷ name.Neighbours ∷ name.Listing
-    ∷ name.Table ∷ name.Walk ∷ name.Floor ∷ name.Say ∷ []
+    ∷ name.Table ∷ name.Walk ∷ name.Floor ∷ name.Say ∷ name.Why ∷ name.Loss ∷ name.Expect ∷ []
 
 -- the name that a word is, if it is one
 abbrev pub name_in : Text → Option Name
@@ -49,3 +52,11 @@ IsOfRouter name.Listing = ⊤
 IsOfRouter name.Table = ⊤
 IsOfRouter name.Floor = ⊤
 IsOfRouter _ = ⊥
+
+-- the commands with several forms, but for those with a form for all routers
+abbrev pub HasForms : Name → Type 0
+HasForms name.Round = ⊤
+HasForms name.Why = ⊤
+HasForms name.Loss = ⊤
+HasForms name.Expect = ⊤
+HasForms _ = ⊥

@@ -1,15 +1,21 @@
--- What a word of a line spells: a number, a floor, a Router ID, an address.
-use Rattle.std.specs.Prelude.{◌≡◌, ℕ, ℤ, ◌^◌, ◌<◌, length}
+-- What a word of a line spells: a number, a floor, a Router ID, an address, a prefix.
+use Rattle.std.specs.Prelude.{◌≡◌, ℕ, ℤ, ◌^◌, ◌<◌, ◌∷◌, ◌++◌, bit_and, length}
 use Rattle.std.specs.Int.{w32, cast_signed}
 use Rattle.std.specs.Net.Grammar.{IsNumber}
+use Rattle.ospf_base.specs.Masks.{mask_of}
 use Rattle.ospf_base.specs.Text.{IsDottedNumber}
 use Rattle.ospf_base.specs.declared.ids.Addr.{Addr}
 use Rattle.ospf_base.specs.declared.ids.RouterId.{RouterId}
+use Rattle.ospf_base.specs.declared.prefix.Prefix.{Prefix}
 use Rattle.ospf_script.specs.Words.{Text}
 
 -- decimal digits, one or more, that spell a number of so many bits
 abbrev pub IsDecimal : ℕ → Text → ℕ → Type 0
 IsDecimal bits word n = IsNumber 10 word n × (n < 2 ^ bits)
+
+-- decimal digits, one or more, that spell how many of a hundred
+abbrev pub IsPercent : Text → ℕ → Type 0
+IsPercent word n = IsNumber 10 word n × (n < 101)
 
 -- eight hexadecimal digits, and the signed number that they are in two's complement
 pub record IsFloor (word : Text) (floor : ℤ) : Type 0 where
@@ -27,3 +33,13 @@ IsRouter word router = IsDotted32 word router.0
 
 abbrev pub IsAddress : Text → Addr → Type 0
 IsAddress word address = IsDotted32 word address.0
+
+-- an address, a slash, and how many of its leading bits count, behind which none is set
+pub record IsPrefix (word : Text) (prefix : Prefix) : Type 0 where
+  pub dotted : Text
+  pub digits : Text
+  pub spelled : word ≡ dotted ++ 47 ∷ digits
+  pub address_spelled : IsAddress dotted prefix.address
+  pub length_spelled : IsNumber 10 digits prefix.length
+  pub short : prefix.length < 33
+  pub masked : bit_and prefix.address.0 (mask_of prefix.length) ≡ prefix.address.0

@@ -1,5 +1,6 @@
 //! The commands of a script.
 
+use crate::expected::Expected;
 use ospf_base::{Addr, RouterId};
 
 /// What a line of a script asks for: an event, several events, or a line to be printed.
@@ -72,6 +73,23 @@ pub enum Command {
     /// `say WORD..`: the words are printed, with a space between two.
     Say {
         text: String,
+    },
+    /// `why R LINK [NEIGHBOUR]`: what a link of the router waits for is printed, or of a neighbour where one is given.
+    Why {
+        router: RouterId,
+        link: usize,
+        neighbour: Option<RouterId>,
+    },
+    /// `loss PERCENT NUMBER [ADDRESS]`: of a hundred deliveries so many are lost from here on, by chance, by the
+    /// generator of this number; on the network that holds the address alone where one is given.
+    Loss {
+        percent: u8,
+        number: u64,
+        network: Option<Addr>,
+    },
+    /// `expect WHAT ..`: where a router is not as it is expected to be, that is printed, with what stands there.
+    Expect {
+        expected: Expected,
     },
     /// `start all`: each router starts, with 1 as the first DD sequence number that it sends, and above no floor.
     StartAll,

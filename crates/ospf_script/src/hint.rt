@@ -47,7 +47,7 @@ fn write_names<W: Write>(f: &mut Formatter<W>, word: &[u8]) -> fmt::Result
 {
     write_word(f, word)?;
     f.write_str(
-        ": no command; there are start, stop, tick, up, down, deliver, round, random, neighbours, listing, table, walk, floor, say",
+        ": no command; there are start, stop, tick, up, down, deliver, round, random, neighbours, listing, table, walk, floor, say, why, loss, expect",
     )
 }
 
@@ -99,5 +99,9 @@ fn form_of(name: Name) -> &'static str
         Name::Walk => "walk R ADDRESS CHOICE..",
         Name::Floor => "floor R",
         Name::Say => "say WORD..",
+        Name::Why => "why R LINK [NEIGHBOUR]",
+        Name::Loss => "loss PERCENT NUMBER [ADDRESS]",
+        Name::Expect =>
+            "expect full R S, expect no neighbour R LINK, expect route R PREFIX COST, or expect no route R PREFIX",
     }
 }

@@ -4,6 +4,8 @@
 #![tactic(auto)]
 
 mod command;
+mod expect;
+mod expected;
 mod fault;
 mod hint;
 mod laws;
@@ -20,6 +22,7 @@ mod walk;
 mod words;
 
 pub use crate::command::Command;
+pub use crate::expected::Expected;
 pub use crate::fault::LineFault;
 pub use crate::hint::Hint;
 pub use crate::laws::words_spell_one_command;

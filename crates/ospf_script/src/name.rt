@@ -17,6 +17,9 @@ pub(crate) enum Name {
     Walk,
     Floor,
     Say,
+    Why,
+    Loss,
+    Expect,
 }
 
 impl Name {
@@ -43,6 +46,9 @@ impl Name {
             Name::Walk => "walk",
             Name::Floor => "floor",
             Name::Say => "say",
+            Name::Why => "why",
+            Name::Loss => "loss",
+            Name::Expect => "expect",
         }
     }
 
@@ -77,6 +83,9 @@ impl Name {
             "walk" => Name::Walk,
             "floor" => Name::Floor,
             "say" => Name::Say,
+            "why" => Name::Why,
+            "loss" => Name::Loss,
+            "expect" => Name::Expect,
             _ => return None,
         };
         Some(name)

@@ -2,16 +2,19 @@
 
 ghost use Rattle.std.specs.Prelude.{◌≡◌, ◌≢◌, ◌⊎◌, IfOk, IfErr, IfSome, IfNone};
 ghost use Rattle.ospf_script.specs.Commands.{IsLongWalk, Takes, name_of};
-ghost use Rattle.ospf_script.specs.Names.{IsOfRouter};
+ghost use Rattle.ospf_script.specs.Names.{HasForms, IsOfRouter};
 ghost use Rattle.ospf_script.specs.Words.{words};
 ghost use Rattle.ospf_script.specs.declared.command.Command.{Command};
 ghost use Rattle.ospf_script.specs.declared.name.Name.TheVariants as names;
 
 use crate::command::Command;
+use crate::expect::expected_in;
 use crate::fault::LineFault;
 use crate::name::Name;
 use crate::say::{is_all, text_in};
-use crate::shapes::{delivery_in, numbers_in, rounds_in, router_and_link_in, router_in, start_in};
+use crate::shapes::{
+    delivery_in, loss_in, numbers_in, rounds_in, router_and_link_in, router_in, start_in, why_in,
+};
 use crate::walk::walk_in;
 use crate::words::first_word;
 use std::alloc::Global;
@@ -23,10 +26,11 @@ impl Command {
 
     /// Reads a line of a script, without its end: the command that its words spell, or `None` of a blank line.
     ///
-    /// Words stand between spaces, and nothing else ends one. Numbers are decimal digits, of 32 bits where they are a first
-    /// DD sequence number or a choice, else of 64; a floor is eight hexadecimal digits of either case, and 80000000 where
-    /// it is left out. The error is `NotACommand` where the words of a line that is not blank spell none. `Memory` comes
-    /// only where there was no room for the choices of a walk, or for a text to be printed.
+    /// Words stand between spaces, and nothing else ends one. Numbers are decimal digits, of 32 bits where they are a
+    /// first DD sequence number or a choice, at most 100 as a percentage, else of 64; a floor is eight hexadecimal
+    /// digits of either case, and 80000000 where it is left out; a prefix is an address, a slash and how many of its bits
+    /// count, behind which none is set. The error is `NotACommand` where the words of a line that is not blank spell none.
+    /// `Memory` comes only where there was no room for the choices of a walk, or for a text to be printed.
     pub fn read(alloc: Global, line: &[u8]) -> Result<Option<Command>, LineFault>
         ensures command { IfOk result (λ read. IfSome read (Spells (words line.now))) }
         ensures blank { IfOk result (λ read. IsNone read ↔ IsBlank line.now) }
@@ -111,16 +115,49 @@ fn of_name(name: Name, text: &[u8]) -> Option<Command>
                 link,
             })
         }
-        Name::Round => {
-            let (count, most) = rounds_in(text)?;
-            Some(Command::Round { count, most })
-        }
         Name::Random => {
             let (number, count) = numbers_in(text)?;
             Some(Command::Random { number, count })
         }
         Name::Walk | Name::Say => None,
+        Name::Round | Name::Why | Name::Loss | Name::Expect => of_forms(name, text),
         _ => of_router(name, text),
+    }
+}
+
+// The command of a name with several forms, and of the words behind it.
+fn of_forms(name: Name, text: &[u8]) -> Option<Command>
+    ensures named { IfSome result (λ command. name_of command ≡ name) }
+    ensures some { IfSome result (λ command. Takes command (words text.now)) }
+    ensures none { IfNone result (HasForms name → (command : Command) → name_of command ≡ name →
+        Takes command (words text.now) → ⊥) }
+{
+    match name {
+        Name::Round => {
+            let (count, most) = rounds_in(text)?;
+            Some(Command::Round { count, most })
+        }
+        Name::Why => {
+            let (router, link, neighbour) = why_in(text)?;
+            Some(Command::Why {
+                router,
+                link,
+                neighbour,
+            })
+        }
+        Name::Loss => {
+            let (percent, number, network) = loss_in(text)?;
+            Some(Command::Loss {
+                percent,
+                number,
+                network,
+            })
+        }
+        Name::Expect => {
+            let expected = expected_in(text)?;
+            Some(Command::Expect { expected })
+        }
+        _ => None,
     }
 }
 

@@ -1,9 +1,12 @@
 //! Commands as text.
 
 ghost use Rattle.std.specs.Fmt.{WritesOnOk};
-ghost use Rattle.ospf_script.specs.Texts.{choices_text, floor_text, most_text};
+ghost use Rattle.ospf_script.specs.Commands.{name_of};
+ghost use Rattle.ospf_script.specs.Names.{HasForms};
+ghost use Rattle.ospf_script.specs.Texts.{choices_text, command_text, floor_text, most_text};
 
 use crate::command::Command;
+use crate::expected::Expected;
 use std::fmt::{self, Display, Formatter, Write};
 
 /// As a line of a script, with the floor of a start, which is read as the same command.
@@ -32,10 +35,6 @@ impl Display for Command {
                 router,
                 link,
             } => write!(f, "deliver {datagram} {router} {link}"),
-            Command::Round { count, most } => {
-                write!(f, "round {count}")?;
-                write_most(f, most)
-            }
             Command::Random { number, count } => write!(f, "random {number} {count}"),
             Command::Neighbours { router } => write!(f, "neighbours {router}"),
             Command::Listing { router } => write!(f, "listing {router}"),
@@ -53,7 +52,68 @@ impl Display for Command {
             Command::StartAll => f.write_str("start all"),
             Command::UpAll => f.write_str("up all"),
             Command::DownAll => f.write_str("down all"),
+            _ => write_forms(f, self),
         }
+    }
+}
+
+/// As the line of a script that expects it.
+impl Display for Expected {
+    ghost use Rattle.std.specs.Prelude.{Some};
+    ghost use Rattle.ospf_script.specs.Texts.{expected_text};
+
+    ghost output = { λ expected. Some (expected_text expected) };
+
+    fn fmt<W: Write>(&self, f: &mut Formatter<W>) -> fmt::Result {
+        match self {
+            Expected::Full { router, other } => write!(f, "expect full {router} {other}"),
+            Expected::NoNeighbour { router, link } => {
+                write!(f, "expect no neighbour {router} {link}")
+            }
+            Expected::Route {
+                router,
+                prefix,
+                cost,
+            } => write!(f, "expect route {router} {prefix} {cost}"),
+            Expected::NoRoute { router, prefix } => {
+                write!(f, "expect no route {router} {prefix}")
+            }
+        }
+    }
+}
+
+// A command with several forms, as a line of a script.
+fn write_forms<W: Write>(f: &mut Formatter<W>, command: &Command) -> fmt::Result
+    ensures { HasForms (name_of command.now) →
+        WritesOnOk W.Write.write_str_gives f.old result (command_text command.now) f.new }
+{
+    match command {
+        Command::Round { count, most } => {
+            write!(f, "round {count}")?;
+            write_most(f, most)
+        }
+        Command::Why {
+            router,
+            link,
+            neighbour: None,
+        } => write!(f, "why {router} {link}"),
+        Command::Why {
+            router,
+            link,
+            neighbour: Some(neighbour),
+        } => write!(f, "why {router} {link} {neighbour}"),
+        Command::Loss {
+            percent,
+            number,
+            network: None,
+        } => write!(f, "loss {percent} {number}"),
+        Command::Loss {
+            percent,
+            number,
+            network: Some(address),
+        } => write!(f, "loss {percent} {number} {address}"),
+        Command::Expect { expected } => write!(f, "{expected}"),
+        _ => Ok(()),
     }
 }
 

@@ -1,17 +1,24 @@
 //! What a word of a line spells.
 
-ghost use Rattle.std.specs.Prelude.{◌≡◌, ◌↔◌, ℕ, ℤ, IfSome, IfNone, IsTrue, slice_index};
+ghost use Rattle.std.specs.Net.Grammar.{IsNumber};
+ghost use Rattle.std.specs.Prelude.{◌≡◌, ◌≤◌, ◌↔◌, ℕ, ℤ, IfSome, IfNone, IsTrue, slice_index};
 ghost use Rattle.std.specs.Str.{IsUtf8};
 ghost use Rattle.ospf_base.specs.declared.ids.Addr.{Addr};
 ghost use Rattle.ospf_base.specs.declared.ids.RouterId.{RouterId};
-ghost use Rattle.ospf_script.specs.Values.{IsAddress, IsDecimal, IsDotted32, IsFloor, IsRouter};
+ghost use Rattle.ospf_base.specs.declared.prefix.Prefix.{Prefix};
+ghost use Rattle.ospf_script.specs.Values.{IsAddress, IsDecimal, IsDotted32, IsFloor, IsPercent, IsPrefix, IsRouter};
 
-use ospf_base::{Addr, RouterId};
+use ospf_base::{Addr, Prefix, RouterId, mask_of};
 
 // How many digits a floor has, and their radix.
 const FLOOR_DIGITS: usize = 8;
 
 const HEXADECIMAL: u32 = 16;
+
+// The largest percentage, and the largest length of a prefix.
+const MOST_PERCENT: u8 = 100;
+
+const MOST_LENGTH: u8 = 32;
 
 /// The floor of LS sequence numbers that a word spells: eight hexadecimal digits, of either case, in two's complement.
 pub fn floor_of(word: &[u8]) -> Option<i32>
@@ -32,10 +39,7 @@ pub(crate) fn router_of(word: &[u8]) -> Option<RouterId>
     ensures some { IfSome result (IsRouter word.now) }
     ensures none { IfNone result ((router : RouterId) → IsRouter word.now router → ⊥) }
 {
-    match dotted(word) {
-        Some(number) => Some(RouterId(number)),
-        None => None,
-    }
+    Some(RouterId(dotted(word)?))
 }
 
 // The address that a word spells.
@@ -43,10 +47,29 @@ pub(crate) fn address_of(word: &[u8]) -> Option<Addr>
     ensures some { IfSome result (IsAddress word.now) }
     ensures none { IfNone result ((address : Addr) → IsAddress word.now address → ⊥) }
 {
-    match dotted(word) {
-        Some(number) => Some(Addr(number)),
-        None => None,
+    Some(Addr(dotted(word)?))
+}
+
+// The prefix that a word spells.
+pub(crate) fn prefix_of(word: &[u8]) -> Option<Prefix>
+    ensures some { IfSome result (IsPrefix word.now) }
+    ensures none { IfNone result ((prefix : Prefix) → IsPrefix word.now prefix → ⊥) }
+{
+    let (dotted, digits) = text_of(word)?.split_once('/')?;
+    let address = address_of(dotted.as_bytes())?;
+    let length = number_up_to(digits.as_bytes(), MOST_LENGTH)?;
+    if address.0 & mask_of(length) != address.0 {
+        return None;
     }
+    Some(Prefix { address, length })
+}
+
+// How many of a hundred a word spells.
+pub(crate) fn percent_of(word: &[u8]) -> Option<u8>
+    ensures some { IfSome result (IsPercent word.now) }
+    ensures none { IfNone result ((n : ℕ) → IsPercent word.now n → ⊥) }
+{
+    number_up_to(word, MOST_PERCENT)
 }
 
 // The number of 64 bits that a word spells.
@@ -57,10 +80,7 @@ pub(crate) fn number_of(word: &[u8]) -> Option<u64>
     if has_plus(word) {
         return None;
     }
-    match text_of(word)?.parse::<u64>() {
-        Ok(number) => Some(number),
-        Err(_) => None,
-    }
+    text_of(word)?.parse::<u64>().ok()
 }
 
 // The number of 32 bits that a word spells.
@@ -75,6 +95,18 @@ pub(crate) fn short_number_of(word: &[u8]) -> Option<u32>
     Some(number as u32)
 }
 
+// The number that a word spells, up to this one.
+fn number_up_to(word: &[u8], most: u8) -> Option<u8>
+    ensures some { IfSome result (λ n. IsNumber 10 word.now n × (n ≤ most)) }
+    ensures none { IfNone result ((n : ℕ) → IsNumber 10 word.now n → n ≤ most → ⊥) }
+{
+    let number = number_of(word)?;
+    if number > u64::from(most) {
+        return None;
+    }
+    Some(number as u8)
+}
+
 // Whether a word begins with a plus, which the digits of a number do not.
 fn has_plus(word: &[u8]) -> bool
     ensures { IsTrue result ↔ (slice_index word.now 0 ≡ 43) }
@@ -87,10 +119,7 @@ fn text_of(word: &[u8]) -> Option<&str>
     ensures some { IfSome result (λ text. text.now ≡ word.now) }
     ensures none { IfNone result (IsUtf8 word.now → ⊥) }
 {
-    match str::from_utf8(word) {
-        Ok(text) => Some(text),
-        Err(_) => None,
-    }
+    str::from_utf8(word).ok()
 }
 
 // The number that a dotted word spells.

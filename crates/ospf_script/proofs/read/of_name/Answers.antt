@@ -1,15 +1,11 @@
 use Rattle.std.proofs.Common.{◌∙◌}
 use Rattle.ospf_script.proofs.Plain.{if_none, untold}
-use Rattle.ospf_script.proofs.Unspelled.{no_start, no_up, no_down, no_delivery, no_round, no_random}
+use Rattle.ospf_script.proofs.Unspelled.{no_start, no_up, no_down, no_delivery, no_random}
 use Rattle.ospf_script.proofs.read.of_name.Goals as goal
 
 pub returns-in_err-datagram-in-Deliver-clause-none : goal.returns-in_err-datagram-in-Deliver-clause-none
 returns-in_err-datagram-in-Deliver-clause-none c =
     if_none c.from_residual-in_err-datagram-in-Deliver.result _ (λ walk say command e. no_delivery _ (rw c.in_err-datagram-in-Deliver.was at c.delivery_in.ensures.none) command (e ∙ c.in-Deliver.is))
-
-pub returns-in_err-count-in-Round-clause-none : goal.returns-in_err-count-in-Round-clause-none
-returns-in_err-count-in-Round-clause-none c =
-    if_none c.from_residual-in_err-count-in-Round.result _ (λ walk say command e. no_round _ (rw c.in_err-count-in-Round.was at c.rounds_in.ensures.none) command (e ∙ c.in-Round.is))
 
 pub returns-in_err-number-in-Random-clause-none : goal.returns-in_err-number-in-Random-clause-none
 returns-in_err-number-in-Random-clause-none c =
