@@ -13,6 +13,7 @@ mod files;
 mod shown;
 mod status;
 mod streams;
+mod told;
 
 pub use crate::configs::first_unread;
 pub use crate::disk::{read_file, read_files, tell_unwritten, write_file};
@@ -20,3 +21,4 @@ pub use crate::files::{NamedFile, config_in};
 pub use crate::shown::{print_lookup, print_routes};
 pub use crate::status::{Failure, Status};
 pub use crate::streams::{FailedStreams, write_line, write_text};
+pub use crate::told::{tell_refused, tell_unread};
