@@ -1,10 +1,8 @@
-//! Why a router stands as it does, and what it dropped.
+//! Why a router stands as it does, and what of a packet does not fit.
 
 use super::made::{FIRST, SECOND};
 use super::worlds::{OTHER, start, two_that_run, world_of};
-use ospf_base::Addr;
-use ospf_journal::Dropped;
-use ospf_reasons::{Drops, why};
+use ospf_views::{detail_of, why};
 use ospf_world::{World, WorldEvent};
 use std::alloc::Global;
 use std::test::Fail;
@@ -45,16 +43,16 @@ fn each_wait_is_told(rt: HostRuntime) -> Result<(), Fail> {
     Ok(())
 }
 
-// A datagram of the world comes to the first router.
-fn hear(drops: &mut Drops, world: &World, place: usize) -> Result<Option<Dropped>, Fail> {
-    let datagrams = world.datagrams();
-    let sent = &datagrams.get(place).ok_or("no datagram")?.sent;
-    let router = world.router(FIRST)?;
-    let dropped = drops.hear(router, 0, sent.source, sent.destination, &sent.bytes)?;
-    Ok(dropped.map(|d| d.cause))
+// The field of a datagram of the world that does not fit at the first router.
+fn detail(world: &World, place: usize, alloc: Global) -> Result<Option<String>, Fail> {
+    let sent = &world.datagrams().get(place).ok_or("no datagram")?.sent;
+    match detail_of(world.router(FIRST)?, 0, &sent.bytes) {
+        Some(detail) => Ok(Some(format!(in alloc; "{detail}")?)),
+        None => Ok(None),
+    }
 }
 
-// A Hello of another interval, and an own one.
+// A Hello of another interval does not fit, and an own one does.
 #[test]
 fn a_mismatch_is_explained(rt: HostRuntime) -> Result<(), Fail> {
     let alloc = rt.alloc();
@@ -63,30 +61,20 @@ fn a_mismatch_is_explained(rt: HostRuntime) -> Result<(), Fail> {
         world.step(start(router, 1), alloc)?;
         world.step(WorldEvent::LinkUp { router, link: 0 }, alloc)?;
     }
-    let mut drops = Drops::none(alloc);
-    assert_eq!(rt; format!(in alloc; "{drops}")?.as_str(), "");
     let last = world.datagrams().len() - 1;
-    assert_eq!(rt; hear(&mut drops, &world, last)?, Some(Dropped::HelloMismatch));
-    assert_eq!(rt; hear(&mut drops, &world, last)?, Some(Dropped::HelloMismatch));
-    assert_eq!(rt; format!(in alloc; "{drops}")?.as_str(), "link 0 R6 HelloMismatch 2\nlink 0 last R6 HelloMismatch 10.0.0.2: HelloInterval 10 there, 5 here\n");
-    assert_eq!(rt; hear(&mut drops, &world, 0)?, Some(Dropped::OwnPacket));
-    assert_eq!(rt; format!(in alloc; "{drops}")?.as_str(), "link 0 R3 OwnPacket 1\nlink 0 R6 HelloMismatch 2\nlink 0 last R3 OwnPacket 10.0.0.1\n");
-    assert_eq!(rt; drops.on(0).counts[2], 1);
-    assert_eq!(rt; drops.on(7).counts[2], 0);
+    let other = detail(&world, last, alloc)?;
+    assert_eq!(rt; other.as_deref(), Some("HelloInterval 10 there, 5 here"));
+    assert!(rt; detail(&world, 0, alloc)?.is_none());
     Ok(())
 }
 
-// What is taken does not count.
+// What is taken fits, and bytes that are no packet have no field.
 #[test]
-fn what_is_taken_is_no_drop(rt: HostRuntime) -> Result<(), Fail> {
+fn what_is_taken_fits(rt: HostRuntime) -> Result<(), Fail> {
     let alloc = rt.alloc();
     let world = two_that_run(alloc)?;
-    let mut drops = Drops::none(alloc);
     let last = world.datagrams().len() - 1;
-    assert_eq!(rt; hear(&mut drops, &world, last)?, None);
-    assert_eq!(rt; format!(in alloc; "{drops}")?.as_str(), "");
-    let source: Addr = Addr::NOWHERE;
-    let none = drops.hear(world.router(FIRST)?, 0, source, source, &[])?;
-    assert_eq!(rt; none.map(|d| d.cause), Some(Dropped::Packet));
+    assert!(rt; detail(&world, last, alloc)?.is_none());
+    assert!(rt; detail_of(world.router(FIRST)?, 0, &[]).is_none());
     Ok(())
 }

@@ -1,1 +1,4 @@
 pub mod Shown
+pub mod Waits
+pub mod Details
+pub mod Expectations

@@ -1,6 +1,16 @@
-//! Lines that show a router: its neighbours, what it lists, its routes and its floor. `ospfd sim` and `ospfd run` print them.
+//! Lines that show a router: its neighbours, what it lists, its routes and its floor, and why it stands as it does.
+//!
+//! `write_view` writes what `ospfd sim` and `ospfd run` print. `why` says what a link, or a neighbour on it, waits for
+//! (`specs/Waits`), `detail_of` which field of a dropped packet did not fit (`specs/Details`), and `is_met` whether a router is
+//! as it is expected to be (`specs/Expectations`).
 #![tactic(auto)]
 
+mod detail;
+mod expectations;
 mod views;
+mod waits;
 
+pub use crate::detail::{Detail, detail_of};
+pub use crate::expectations::{is_met, router_in, write_unmet};
 pub use crate::views::{View, write_view};
+pub use crate::waits::{WhyLink, WhyRouter, why};

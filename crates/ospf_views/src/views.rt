@@ -14,7 +14,7 @@ use std::alloc::{AllocError, Global};
 use std::io::Write;
 
 // The most interfaces that a configuration has.
-const MAX_INTERFACES: usize = 32;
+pub(crate) const MAX_INTERFACES: usize = 32;
 
 /// What is shown of a router.
 #[derive(Clone, Copy)]

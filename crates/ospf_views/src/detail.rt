@@ -1,0 +1,115 @@
+//! Which field of a datagram does not fit.
+
+ghost use Rattle.std.specs.Prelude.{◌≡◌};
+ghost use Rattle.ospf_packet.specs.PacketOf.{packet_of};
+ghost use Rattle.ospf_packet.specs.Said.{body_said};
+ghost use Rattle.ospf_views.specs.Details.{body_detail, detail_on, hello_detail, mtu_detail, packet_detail};
+
+use ospf_adjacency::is_broadcast;
+use ospf_area::Link;
+use ospf_base::Addr;
+use ospf_iface::{Iface, OPTIONS};
+use ospf_packet::{Body, Description, Hello, Packet};
+use ospf_router::Router;
+use std::fmt::{self, Display, Formatter, Write};
+
+/// A field that does not fit: what it is in the datagram, and what it is here.
+#[derive(Clone, Copy, Debug, PartialEq, Eq)]
+pub enum Detail {
+    /// In ticks.
+    HelloInterval(u16, u16),
+    /// RouterDeadInterval, in ticks.
+    DeadInterval(u32, u32),
+    /// Those of the datagram: the E bit is wanting.
+    Options(u8),
+    /// The mask of the network.
+    Mask(u32, u32),
+    /// The longest IP datagram, in bytes.
+    Mtu(u16, u16),
+}
+
+/// As `HelloInterval 5 there, 10 here`.
+impl Display for Detail {
+    ghost use Rattle.std.specs.Prelude.{Some};
+    ghost use Rattle.ospf_views.specs.Details.{detail_text};
+
+    ghost output = { λ detail. Some (detail_text detail) };
+
+    fn fmt<W: Write>(&self, f: &mut Formatter<W>) -> fmt::Result {
+        match self {
+            Detail::HelloInterval(there, here) => {
+                write!(f, "HelloInterval {there} there, {here} here")
+            }
+            Detail::DeadInterval(there, here) => {
+                write!(f, "RouterDeadInterval {there} there, {here} here")
+            }
+            Detail::Options(there) => write!(f, "Options {there} there, {OPTIONS} here"),
+            Detail::Mask(there, here) => {
+                let (there, here) = (Addr(*there), Addr(*here));
+                write!(f, "mask {there} there, {here} here")
+            }
+            Detail::Mtu(there, here) => write!(f, "MTU {there} there, {here} here"),
+        }
+    }
+}
+
+/// Of what a datagram says that comes on a link of a router, the first field that does not fit: of a Hello those in which it
+/// has to agree with the interface (RFC 2328, section 10.5), of a Database Description its MTU (section 10.6). `None` where
+/// all fit, and where there is no such link or no packet. No memory is taken.
+pub fn detail_of(router: &Router, link: usize, bytes: &[u8]) -> Option<Detail>
+    ensures { result ≡ detail_on router.now.area link (packet_of bytes.now) }
+{
+    let area = router.area()?;
+    let there = area.links.get(link)?;
+    detail_at(there, bytes)
+}
+
+// On a link that is there.
+fn detail_at(link: &Link, bytes: &[u8]) -> Option<Detail>
+    ensures { result ≡ packet_detail link.now (packet_of bytes.now) }
+{
+    match Packet::read(bytes) {
+        Ok(packet) => body_detail(link, &packet.body),
+        Err(_) => None,
+    }
+}
+
+// By what the packet says.
+fn body_detail(link: &Link, body: &Body<'_>) -> Option<Detail>
+    ensures { result ≡ body_detail link.now (body_said body.now) }
+{
+    match body {
+        Body::Hello(hello, _) => hello_detail(&link.iface, hello),
+        Body::Description(description, _) => mtu_detail(link.settings.mtu, description),
+        Body::Request(_) | Body::Update(_) | Body::Acknowledgment(_) => None,
+    }
+}
+
+// The first field in which a Hello does not agree with an interface.
+fn hello_detail(iface: &Iface, hello: &Hello) -> Option<Detail>
+    ensures { result ≡ hello_detail iface.now hello.now }
+{
+    let here = &iface.settings;
+    if hello.hello_interval != here.hello {
+        Some(Detail::HelloInterval(hello.hello_interval, here.hello))
+    } else if hello.dead_interval != here.dead {
+        Some(Detail::DeadInterval(hello.dead_interval, here.dead))
+    } else if hello.options & OPTIONS != OPTIONS {
+        Some(Detail::Options(hello.options))
+    } else if is_broadcast(iface) && hello.mask != here.mask {
+        Some(Detail::Mask(hello.mask, here.mask))
+    } else {
+        None
+    }
+}
+
+// The MTU of a Database Description that is over the interface's.
+fn mtu_detail(mtu: u16, description: &Description) -> Option<Detail>
+    ensures { result ≡ mtu_detail mtu description.now }
+{
+    if description.mtu > mtu {
+        Some(Detail::Mtu(description.mtu, mtu))
+    } else {
+        None
+    }
+}
