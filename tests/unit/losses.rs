@@ -3,8 +3,8 @@
 use super::made::{FIRST, SECOND};
 use super::worlds::two_that_run;
 use ospf_base::{Addr, RouterId};
-use ospf_losses::{Losses, round_losing};
 use ospf_neighbour::NeighbourState;
+use ospf_sim::{Losses, round_losing};
 use ospf_world::{EventWatch, MOST_OFFERS, Unwatched, World, WorldEvent, WorldFault};
 use std::alloc::Global;
 use std::test::Fail;

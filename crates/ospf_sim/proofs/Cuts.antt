@@ -18,8 +18,9 @@ use Rattle.ospf_script.specs.declared.script.Line.{Line}
 use Rattle.ospf_sim.specs.Begun.{IsAnswerCut, IsCut, IsCutAt, IsFileCut, IsLineCut, IsOpeningCut, IsScriptCut, IsTellingCut, IsWorldCut, in_fault, in_file, in_refusal, in_same_router, in_script, in_twins, in_unreadable, no_config, no_room, no_world}
 use Rattle.ospf_sim.specs.Commands.{Answer, Does, IsDone}
 use Rattle.ospf_sim.specs.Scripts.{EndsAt, IsRun, unreadable_line}
-use Rattle.ospf_sim.specs.Simulations.{WorldComes}
+use Rattle.ospf_sim.specs.Simulations.{WorldComes, begun_in}
 use Rattle.ospf_sim.specs.Worlds.{WorldValue}
+use Rattle.ospf_sim.specs.declared.simulation.Simulation.{Simulation}
 use Rattle.ospf_sim.proofs.Lines.{entries_split}
 
 -- a flush writes nothing
@@ -27,7 +28,7 @@ pub flushed : (a b : Option (List ℕ)) → Keeps a b → Appends a b []
 flushed a b kept = kept_written a a b [] (nothing_written a) kept
 
 -- a command that is done, and whose refusal is not told whole
-pub refusal_cut : (number : ℕ) (line : Text) (c : Command) (w w' : WorldValue) (answer : Answer) (failed : FailedStreams) (a b z x y : Option (List ℕ)) (f : Failure) → Spells (words line) c
+pub refusal_cut : (number : ℕ) (line : Text) (c : Command) (w w' : Simulation) (answer : Answer) (failed : FailedStreams) (a b z x y : Option (List ℕ)) (f : Failure) → Spells (words line) c
     → IsDone c w answer w' a b → IsAnswerCut number answer failed b z x y f → IsLineCut number line w failed a z x y f
 refusal_cut number line c w w' answer failed a b z x y f spelled done cut =
     in_refusal (record {
@@ -43,7 +44,7 @@ refusal_cut number line c w w' answer failed a b z x y f spelled done cut =
     })
 
 -- a line is cut, and those before it have run
-pub line_cut : (lines : List Line) (i : ℕ) (d : Line) (w mid : WorldValue) (failed : FailedStreams) (a b c x y z : Option (List ℕ)) (f : Failure) → i < length lines
+pub line_cut : (lines : List Line) (i : ℕ) (d : Line) (w mid : Simulation) (failed : FailedStreams) (a b c x y z : Option (List ℕ)) (f : Failure) → i < length lines
     → IsRun (map entry_of (take i lines)) w mid a b x y → IsLineCut (get_or lines i d).number (get_or lines i d).text.now mid failed b c y z f
     → IsCutAt (map entry_of lines) w failed a c x z f
 line_cut lines i d w mid failed a b c x y z f within so_far cut =
@@ -62,7 +63,7 @@ line_cut lines i d w mid failed a b c x y z f within so_far cut =
     }
 
 -- of a line that cannot be read that is not told whole, and those before it have run
-pub early_cut : (lines : List Line) (number : ℕ) (line script : Text) (w w' : WorldValue) (failed : FailedStreams) (a b c x y z : Option (List ℕ)) (f : Failure) → map entry_of lines ≡ numbered_from 1 script
+pub early_cut : (lines : List Line) (number : ℕ) (line script : Text) (w w' : Simulation) (failed : FailedStreams) (a b c x y z : Option (List ℕ)) (f : Failure) → map entry_of lines ≡ numbered_from 1 script
     → EndsAt (map entry_of lines) number line w w' a b x y → IsTellingCut (unreadable_line number line) failed b c y z f → IsCutAt (numbered_from 1 script) w failed a c x z f
 early_cut lines number line script w w' failed a b c x y z f same ends cut = record {
   before = ends.before;
@@ -102,9 +103,9 @@ opening_cut (Some cs) configs files failed x y z f is comes cut =
 
 -- a script is cut, in a world of the configurations in files
 pub script_cut : (found : Option WorldValue) (start : WorldValue) (script : NamedFile) (files : List NamedFile) (failed : FailedStreams) (a b x y z : Option (List ℕ)) (f : Failure)
-    → found ≡ Some start → WorldComes files found x y → AreRead (script ∷ files) → IsScriptCut (text_in script) start failed a b y z f → IsCut script files failed a b x z f
+    → found ≡ Some start → WorldComes files found x y → AreRead (script ∷ files) → IsScriptCut (text_in script) (begun_in start) failed a b y z f → IsCut script files failed a b x z f
 script_cut None start script files failed a b x y z f is comes read cut = absurd (cc is)
 script_cut (Some w) start script files failed a b x y z f is comes read cut =
     let one : w ≡ start = cc is in
     let world = subst (λ v. WorldComes files (Some v) x y) one comes in
-    in_script start read world.0 (subst (λ (old : Option (List ℕ)). IsScriptCut (text_in script) start failed a b old z f) world.1 cut)
+    in_script start read world.0 (subst (λ (old : Option (List ℕ)). IsScriptCut (text_in script) (begun_in start) failed a b old z f) world.1 cut)

@@ -1,5 +1,7 @@
 -- What a world answers that is asked for a router, and what comes of configurations.
-use Rattle.std.proofs.Common.{◌≡◌, ap, sym, subst, refl, List, None, Some, Result, Ok, Err}
+use Rattle.std.proofs.Common.{◌≡◌, ◌∙◌, ap, sym, subst, refl, ℕ, List, [], Option, None, Some, Result, Ok, Err, option_map}
+use Rattle.std.specs.Prelude.{String, string_bytes}
+use Rattle.std.specs.declared.alloc.Global.{Global}
 use Rattle.std.specs.Borrow.{Bor}
 use Rattle.ospf_base.specs.declared.ids.RouterId.{RouterId}
 use Rattle.ospf_config.specs.declared.config.Config.{Config}
@@ -7,7 +9,11 @@ use Rattle.ospf_headline.specs.World.{Member, member, of_member, unless_stopped}
 use Rattle.ospf_headline.specs.declared.event.WorldFault.{WorldFault}
 use Rattle.ospf_headline.specs.declared.event.WorldFault.TheVariants as fault
 use Rattle.ospf_router.specs.Routers.{RouterValue}
+use Rattle.ospf_files.proofs.Written.{nothing_begun}
+use Rattle.ospf_sim.specs.Asked.{is_explained, is_on_no_link}
+use Rattle.ospf_sim.specs.Begun.{IsWhyBegun}
 use Rattle.ospf_sim.specs.Worlds.{IsNewOf, IsNotLent, LendsRouter, WorldValue}
+use Rattle.ospf_views.specs.Waits.{why_of}
 use Rattle.ospf_world.specs.Worlds as worlds
 use Rattle.ospf_world.specs.Worlds.{Begins, IsLent, Lends, NoMemory, NoRouter, NotRunning, Runs, SameRouter, new_world, world_of}
 
@@ -38,3 +44,19 @@ pub is_new : (configs : List Config) (w : WorldValue) → worlds.Opens configs (
 is_new configs w (Begins apart same) = (apart, same_world w (new_world configs) (Ok w) refl same)
 is_new configs w (SameRouter twins same) = absurd (cc same)
 is_new configs w (NoMemory same) = absurd (cc same)
+
+-- what a link waits for is known before it is written
+pub why_not_begun : (w : WorldValue) (r : RouterId) (link : ℕ) (neighbour : Option RouterId) (x : RouterValue) (o : Option (List ℕ)) → LendsRouter w r x
+    → IsWhyBegun w r link neighbour o o
+why_not_begun w r link neighbour x o lent = go (why_of x.area link neighbour) refl
+  where
+    go : (found : Option (List ℕ)) → why_of x.area link neighbour ≡ found → IsWhyBegun w r link neighbour o o
+    go None is = record { answer = Err fault.NoLink; text = []; explained = is_on_no_link x lent is refl refl; begun = nothing_begun o [] }
+    go (Some text) is = record { answer = Ok tt; text = text; explained = is_explained x lent is refl; begun = nothing_begun o text }
+
+pub why_said : (found : Option (String Global)) (lines : String Global) (said : Option (List ℕ)) → found ≡ Some lines → option_map string_bytes found ≡ said
+    → said ≡ Some (string_bytes lines)
+why_said found lines said is same = sym same ∙ ap (option_map string_bytes) is
+
+pub why_unsaid : (found : Option (String Global)) (said : Option (List ℕ)) → found ≡ None → option_map string_bytes found ≡ said → said ≡ None
+why_unsaid found said is same = sym same ∙ ap (option_map string_bytes) is

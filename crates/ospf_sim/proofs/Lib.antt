@@ -8,3 +8,5 @@ pub mod Lent
 pub mod Cuts
 pub mod Alls
 pub mod Shared
+pub mod LossFacts
+pub mod KeepFacts

@@ -8,19 +8,19 @@ use Rattle.ospf_script.specs.Commands.{Spells}
 use Rattle.ospf_script.specs.Words.{Text, words}
 use Rattle.ospf_script.specs.declared.command.Command.{Command}
 use Rattle.ospf_script.specs.declared.script.Line.{Line}
-use Rattle.ospf_sim.specs.Worlds.{WorldValue}
+use Rattle.ospf_sim.specs.declared.simulation.Simulation.{Simulation}
 use Rattle.ospf_files.proofs.Written.{both_written, kept_written, nothing_written}
 use Rattle.ospf_sim.specs.Commands.{Answer, IsDone}
 use Rattle.ospf_sim.specs.Scripts.{EndsAt, IsRun, IsRunLine, LineComes, EndsEarly, RunsLine, RunsLines, is_taken, no_line, one_line, told_of, unreadable_line}
 
 -- one line more
-more_lines : (lines : List (ℕ × Text)) (number : ℕ) (line : Text) (w mid w' : WorldValue) (outs out errs err : Text) → RunsLines lines w mid outs errs
+more_lines : (lines : List (ℕ × Text)) (number : ℕ) (line : Text) (w mid w' : Simulation) (outs out errs err : Text) → RunsLines lines w mid outs errs
     → RunsLine number line mid w' out err → RunsLines (lines ++ (number, line) ∷ []) w w' (outs ++ out) (errs ++ err)
 more_lines _ number line w mid w' _ out _ err no_line last = rw (sym (append-nil out), sym (append-nil err)) (one_line last no_line)
 more_lines _ number line w mid w' _ out _ err (one_line {lines = lines} {mid = first} {out = o} {outs = outs} {err = e} {errs = errs} head rest) last =
     rw (append_assoc o outs out, append_assoc e errs err) (one_line head (more_lines lines number line first mid w' outs out errs err rest last))
 
-pub no_lines : (w : WorldValue) (out err : Option (List ℕ)) → IsRun [] w w out out err err
+pub no_lines : (w : Simulation) (out err : Option (List ℕ)) → IsRun [] w w out out err err
 no_lines w out err = record { out = []; err = []; runs = no_line; out_written = nothing_written out; err_written = nothing_written err }
 
 -- the entries of one line more
@@ -28,7 +28,7 @@ entries_more : (lines : List Line) (i : ℕ) (d : Line) → i < length lines
     → map entry_of (take (i + 1) lines) ≡ map entry_of (take i lines) ++ entry_of (get_or lines i d) ∷ []
 entries_more lines i d within = ap (map entry_of) (take_more lines i d within) ∙ map-append entry_of (take i lines) (get_or lines i d ∷ [])
 
-pub line_run : (lines : List Line) (i : ℕ) (d : Line) (w mid w' : WorldValue) (a b c x y z : Option (List ℕ)) (read : Bool) → i < length lines → read ≡ true
+pub line_run : (lines : List Line) (i : ℕ) (d : Line) (w mid w' : Simulation) (a b c x y z : Option (List ℕ)) (read : Bool) → i < length lines → read ≡ true
     → IsRun (map entry_of (take i lines)) w mid a b x y → LineComes read (get_or lines i d) mid w' b c y z
     → IsRun (map entry_of (take (i + 1) lines)) w w' a c x z
 line_run lines i d w mid w' a b c x y z false within is so_far next = absurd (cc is)
@@ -52,7 +52,7 @@ entries_split lines i d within =
     ap (λ rest. take i lines ++ rest) (sym (drop-cons lines i d within)) ∙ take-append-drop i lines in
     ap (map entry_of) (sym split) ∙ map-append entry_of (take i lines) (get_or lines i d ∷ drop (suc i) lines)
 
-pub line_ends : (lines : List Line) (i : ℕ) (d : Line) (w mid w' : WorldValue) (a b c x y z : Option (List ℕ)) (read : Bool) → i < length lines → read ≡ false
+pub line_ends : (lines : List Line) (i : ℕ) (d : Line) (w mid w' : Simulation) (a b c x y z : Option (List ℕ)) (read : Bool) → i < length lines → read ≡ false
     → IsRun (map entry_of (take i lines)) w mid a b x y → LineComes read (get_or lines i d) mid w' b c y z
     → EndsAt (map entry_of lines) (get_or lines i d).number (get_or lines i d).text.now w w' a c x z
 line_ends lines i d w mid w' a b c x y z true within is so_far last = absurd (cc is)
@@ -69,7 +69,7 @@ line_ends lines i d w mid w' a b c x y z false within is so_far last =
     }
 
 -- a command that is done, and told of
-pub line_taken : (number : ℕ) (line : Text) (c : Command) (w w' : WorldValue) (answer : Answer) (a b z x y : Option (List ℕ)) → Spells (words line) c → IsDone c w answer w' a b
+pub line_taken : (number : ℕ) (line : Text) (c : Command) (w w' : Simulation) (answer : Answer) (a b z x y : Option (List ℕ)) → Spells (words line) c → IsDone c w answer w' a b
     → Appends b z [] → Appends x y (told_of number answer) → IsRunLine number line w w' a z x y
 line_taken number line c w w' answer a b z x y spelled done out err = record {
   out = done.text;
@@ -80,7 +80,7 @@ line_taken number line c w w' answer a b z x y spelled done out err = record {
 }
 
 -- lines that have all run
-pub whole_at : (lines : List Line) (i : ℕ) (script : Text) (w w' : WorldValue) (a b c x y : Option (List ℕ)) → length lines ≤ i → map entry_of lines ≡ numbered_from 1 script
+pub whole_at : (lines : List Line) (i : ℕ) (script : Text) (w w' : Simulation) (a b c x y : Option (List ℕ)) → length lines ≤ i → map entry_of lines ≡ numbered_from 1 script
     → IsRun (map entry_of (take i lines)) w w' a b x y → Keeps b c → IsRun (numbered_from 1 script) w w' a c x y
 whole_at lines i script w w' a b c x y past same run kept =
     let all : IsRun (map entry_of lines) w w' a b x y = subst (λ (ls : List Line). IsRun (map entry_of ls) w w' a b x y) (take_all i lines past) run in
@@ -93,7 +93,7 @@ whole_at lines i script w w' a b c x y past same run kept =
     }
 
 -- and those up to one that cannot be read, of which it is told
-pub early_at : (lines : List Line) (number : ℕ) (line script : Text) (w w' : WorldValue) (a b c x y z : Option (List ℕ)) → map entry_of lines ≡ numbered_from 1 script
+pub early_at : (lines : List Line) (number : ℕ) (line script : Text) (w w' : Simulation) (a b c x y z : Option (List ℕ)) → map entry_of lines ≡ numbered_from 1 script
     → EndsAt (map entry_of lines) number line w w' a b x y → Appends b c [] → Appends y z (unreadable_line number line) → EndsEarly script w w' a c x z
 early_at lines number line script w w' a b c x y z same ends kept told = record {
   number = number;

@@ -10,8 +10,9 @@ use Rattle.ospf_files.specs.declared.status.Status.TheVariants.{Done, Words, Ref
 use Rattle.ospf_script.specs.Words.{Text}
 use Rattle.ospf_sim.specs.Worlds.{WorldValue}
 use Rattle.ospf_sim.specs.Scripts.{ScriptComes}
+use Rattle.ospf_sim.specs.declared.simulation.Simulation.{Simulation}
 use Rattle.ospf_sim.specs.declared.text.Simulated.{Simulated}
-use Rattle.ospf_sim.specs.Simulations.{Comes, IsNoWorld, Opens, RunsTo, WorldComes, same_router, status_for}
+use Rattle.ospf_sim.specs.Simulations.{Comes, IsLeft, IsNoWorld, Opens, RunsTo, WorldComes, begun_in, same_router, status_for}
 use Rattle.ospf_sim.specs.Twins.{AreTwinsTold}
 
 pub world_comes : (found : Option (List Config)) (configs : List Config) (files : List NamedFile) (result : Result (Option WorldValue) Failure) (x y z : Option (List ℕ))
@@ -41,46 +42,41 @@ pub no_world_told : (found : Option WorldValue) (files : List NamedFile) (x y : 
 no_world_told None files x y is comes = comes
 no_world_told (Some w) files x y is comes = absurd (cc is)
 
-pub runs_to : (whole : Bool) (status : Status) (script : NamedFile) (text : Text) (w w' : WorldValue) (a b x y : Option (List ℕ)) → status ≡ status_for whole
-    → text ≡ text_in script → ScriptComes whole text w w' a b x y → RunsTo status script w (Some w') a b x y
-runs_to true status script text w w' a b x y is same comes =
-    subst (λ s. RunsTo s script w (Some w') a b x y) (sym is)
-    (record { end = w'; ends = refl; comes = subst (λ t. ScriptComes true t w w' a b x y) same comes })
-runs_to false status script text w w' a b x y is same comes =
-    subst (λ s. RunsTo s script w (Some w') a b x y) (sym is)
-    (record { end = w'; ends = refl; comes = subst (λ t. ScriptComes false t w w' a b x y) same comes })
+pub runs_to : (whole : Bool) (script : NamedFile) (text : Text) (w : WorldValue) (s end : Simulation) (simulated : Simulated) (a b x y : Option (List ℕ))
+    → simulated.status ≡ status_for whole → s ≡ begun_in w → text ≡ text_in script → IsLeft simulated end → ScriptComes whole text s end a b x y
+    → RunsTo simulated.status script w simulated a b x y
+runs_to true script text w s end simulated a b x y is begins same left comes =
+    subst (λ status. RunsTo status script w simulated a b x y) (sym is)
+    (record { end = end; left = left; comes = subst (λ t. ScriptComes true t (begun_in w) end a b x y) same (subst (λ v. ScriptComes true text v end a b x y) begins comes) })
+runs_to false script text w s end simulated a b x y is begins same left comes =
+    subst (λ status. RunsTo status script w simulated a b x y) (sym is)
+    (record { end = end; left = left; comes = subst (λ t. ScriptComes false t (begun_in w) end a b x y) same (subst (λ v. ScriptComes false text v end a b x y) begins comes) })
 
-run_comes : (status : Status) (start : WorldValue) (script : NamedFile) (files : List NamedFile) (world : Option WorldValue) (a b x y z : Option (List ℕ))
-    → WorldComes files (Some start) x y → AreRead (script ∷ files) → RunsTo status script start world a b y z → Comes status script files world a b x z
-run_comes Done start script files world a b x y z comes read run = record {
+run_comes : (status : Status) (start : WorldValue) (script : NamedFile) (files : List NamedFile) (simulated : Simulated) (a b x y z : Option (List ℕ))
+    → WorldComes files (Some start) x y → AreRead (script ∷ files) → RunsTo status script start simulated a b y z → Comes status script files simulated a b x z
+run_comes Done start script files simulated a b x y z comes read run = record {
   read = read;
   start = start;
   end = run.end;
   starts = comes.0;
-  ends = run.ends;
-  run = subst (λ old. ScriptComes true (text_in script) start run.end a b old z) comes.1 run.comes;
+  left = run.left;
+  run = subst (λ old. ScriptComes true (text_in script) (begun_in start) run.end a b old z) comes.1 run.comes;
 }
-run_comes Refused start script files world a b x y z comes read run = inr (record {
+run_comes Refused start script files simulated a b x y z comes read run = inr (record {
   read = read;
   start = start;
   end = run.end;
   starts = comes.0;
-  ends = run.ends;
-  early = subst (λ old. ScriptComes false (text_in script) start run.end a b old z) comes.1 run.comes;
+  left = run.left;
+  early = subst (λ old. ScriptComes false (text_in script) (begun_in start) run.end a b old z) comes.1 run.comes;
 })
-run_comes Words start script files world a b x y z comes read run = tt
-run_comes Memory start script files world a b x y z comes read run = tt
-run_comes Stream start script files world a b x y z comes read run = tt
+run_comes Words start script files simulated a b x y z comes read run = tt
+run_comes Memory start script files simulated a b x y z comes read run = tt
+run_comes Stream start script files simulated a b x y z comes read run = tt
 
-pub found_runs : (found : Option WorldValue) (start : WorldValue) (status : Status) (script : NamedFile) (files : List NamedFile) (world : Option WorldValue) (a b x y z : Option (List ℕ))
-    → found ≡ Some start → WorldComes files found x y → AreRead (script ∷ files) → RunsTo status script start world a b y z → Comes status script files world a b x z
-found_runs None start status script files world a b x y z is comes read run = absurd (cc is)
-found_runs (Some w) start status script files world a b x y z is comes read run =
+pub found_runs : (found : Option WorldValue) (start : WorldValue) (status : Status) (script : NamedFile) (files : List NamedFile) (simulated : Simulated) (a b x y z : Option (List ℕ))
+    → found ≡ Some start → WorldComes files found x y → AreRead (script ∷ files) → RunsTo status script start simulated a b y z → Comes status script files simulated a b x z
+found_runs None start status script files simulated a b x y z is comes read run = absurd (cc is)
+found_runs (Some w) start status script files simulated a b x y z is comes read run =
     let one : w ≡ start = cc is in
-    run_comes status start script files world a b x y z (subst (λ v. WorldComes files (Some v) x y) one comes) read run
-
-pub world_runs : (found : Option WorldValue) (start : WorldValue) (script : NamedFile) (files : List NamedFile) (result : Result Simulated Failure) (a b x y z : Option (List ℕ))
-    → found ≡ Some start → WorldComes files found x y → AreRead (script ∷ files) → IfOk result (λ s. RunsTo s.status script start s.world a b y z)
-    → IfOk result (λ s. Comes s.status script files s.world a b x z)
-world_runs found start script files (Err failure) a b x y z is comes read run = run
-world_runs found start script files (Ok s) a b x y z is comes read run = found_runs found start s.status script files s.world a b x y z is comes read run
+    run_comes status start script files simulated a b x y z (subst (λ v. WorldComes files (Some v) x y) one comes) read run

@@ -1,5 +1,5 @@
 -- What stands written where memory runs out or a stream fails before a simulation has written all.
-use Rattle.std.specs.Prelude.{◌≡◌, ℕ, List, [], ◌∷◌, ◌++◌, Err, Option}
+use Rattle.std.specs.Prelude.{◌≡◌, ℕ, Bool, List, [], ◌∷◌, ◌++◌, Err, Option}
 use Rattle.std.specs.Io.KnownBytes.{Appends}
 use Rattle.ospf_base.specs.declared.ids.RouterId.{RouterId}
 use Rattle.ospf_config.specs.declared.config.Config.{Config}
@@ -16,11 +16,14 @@ use Rattle.ospf_script.specs.Commands.{IsUnreadable, NeedsRoom, Spells}
 use Rattle.ospf_script.specs.Lines.{numbered_from}
 use Rattle.ospf_script.specs.Words.{Text, words}
 use Rattle.ospf_script.specs.declared.command.Command.{Command}
-use Rattle.ospf_sim.specs.Commands.{Answer, Does, IsShown, IsWalked}
+use Rattle.ospf_script.specs.declared.expected.Expected.{Expected}
+use Rattle.ospf_sim.specs.Asked.{IsExplained, IsJudged}
+use Rattle.ospf_sim.specs.Commands.{Answer, Does, IsShown, IsWalked, Judges}
 use Rattle.ospf_sim.specs.Scripts.{IsRun, refusal_line, unreadable_line}
-use Rattle.ospf_sim.specs.Simulations.{IsWorldOf}
+use Rattle.ospf_sim.specs.Simulations.{IsWorldOf, begun_in}
 use Rattle.ospf_sim.specs.Twins.{SharesRouter}
 use Rattle.ospf_sim.specs.Worlds.{WorldValue}
+use Rattle.ospf_sim.specs.declared.simulation.Simulation.{Simulation}
 use Rattle.ospf_views.specs.declared.views.View.{View}
 
 -- ---- one line
@@ -39,17 +42,33 @@ pub record IsWalkBegun (w : WorldValue) (from : RouterId) (address : ℕ) (choic
   pub walked : IsWalked w from address choices answer text
   pub begun : IsBegun out_old out_new text
 
+-- a beginning of what a link or a router there waits for was written
+pub record IsWhyBegun (w : WorldValue) (r : RouterId) (link : ℕ) (neighbour : Option RouterId) (out_old out_new : Option (List ℕ)) : Type 0 where
+  pub answer : Answer
+  pub text : Text
+  pub explained : IsExplained w r link neighbour answer text
+  pub begun : IsBegun out_old out_new text
+
+-- a beginning of what is printed of an expectation was written
+pub record IsJudgedBegun (e : Expected) (s s' : Simulation) (out_old out_new : Option (List ℕ)) : Type 0 where
+  pub answer : Answer
+  pub text : Text
+  pub unmet : Bool
+  pub judged : IsJudged e s.world answer text unmet
+  pub judges : Judges unmet s s'
+  pub begun : IsBegun out_old out_new text
+
 -- a beginning of what a command prints was written
-pub record IsDoneBegun (c : Command) (w w' : WorldValue) (out_old out_new : Option (List ℕ)) : Type 0 where
+pub record IsDoneBegun (c : Command) (w w' : Simulation) (out_old out_new : Option (List ℕ)) : Type 0 where
   pub answer : Answer
   pub text : Text
   pub does : Does c w answer text w'
   pub begun : IsBegun out_old out_new text
 
 -- what a line prints is cut: a beginning of it was written
-pub record IsPrintBegun (line : Text) (w : WorldValue) (out_old out_new : Option (List ℕ)) : Type 0 where
+pub record IsPrintBegun (line : Text) (w : Simulation) (out_old out_new : Option (List ℕ)) : Type 0 where
   pub command : Command
-  pub end : WorldValue
+  pub end : Simulation
   pub spelled : Spells (words line) command
   pub done : IsDoneBegun command w end out_old out_new
 
@@ -67,9 +86,9 @@ pub record IsAnswerCut (number : ℕ) (answer : Answer) (failed : FailedStreams)
   pub told : IsTellingCut (refusal_line number fault) failed out_old out_new err_old err_new f
 
 -- a line is refused, what it prints was written, and its refusal is not told whole
-pub record IsRefusalCut (number : ℕ) (line : Text) (w : WorldValue) (failed : FailedStreams) (out_old out_new err_old err_new : Option (List ℕ)) (f : Failure) : Type 0 where
+pub record IsRefusalCut (number : ℕ) (line : Text) (w : Simulation) (failed : FailedStreams) (out_old out_new err_old err_new : Option (List ℕ)) (f : Failure) : Type 0 where
   pub command : Command
-  pub end : WorldValue
+  pub end : Simulation
   pub spelled : Spells (words line) command
   pub fault : WorldFault
   pub text : Text
@@ -80,7 +99,7 @@ pub record IsRefusalCut (number : ℕ) (line : Text) (w : WorldValue) (failed : 
 
 -- a line is cut: before it does anything, where there is no room for the choices of a walk or for a text; in what it prints; in its refusal;
 -- or where it cannot be read, and that is not told whole
-pub data IsLineCut (number : ℕ) (line : Text) (w : WorldValue) (failed : FailedStreams) (out_old out_new err_old err_new : Option (List ℕ)) : Failure → Type 0 where
+pub data IsLineCut (number : ℕ) (line : Text) (w : Simulation) (failed : FailedStreams) (out_old out_new err_old err_new : Option (List ℕ)) : Failure → Type 0 where
   no_room_for : NeedsRoom (words line) → out_new ≡ out_old → err_new ≡ err_old
       → IsLineCut number line w failed out_old out_new err_old err_new failure.Memory
   in_print : {f : Failure} → IsOutputCut failed f → IsPrintBegun line w out_old out_new → err_new ≡ err_old
@@ -93,24 +112,24 @@ pub data IsLineCut (number : ℕ) (line : Text) (w : WorldValue) (failed : Faile
 -- ---- a script
 
 -- a line is cut, and those before it have run: what they write was written
-pub record IsCutAt (lines : List (ℕ × Text)) (w : WorldValue) (failed : FailedStreams) (out_old out_new err_old err_new : Option (List ℕ)) (f : Failure) : Type 0 where
+pub record IsCutAt (lines : List (ℕ × Text)) (w : Simulation) (failed : FailedStreams) (out_old out_new err_old err_new : Option (List ℕ)) (f : Failure) : Type 0 where
   pub before : List (ℕ × Text)
   pub number : ℕ
   pub line : Text
   pub after : List (ℕ × Text)
   pub lines_are : lines ≡ before ++ (number, line) ∷ after
-  pub mid : WorldValue
+  pub mid : Simulation
   pub out_then : Option (List ℕ)
   pub err_then : Option (List ℕ)
   pub run : IsRun before w mid out_old out_then err_old err_then
   pub cut : IsLineCut number line mid failed out_then out_new err_then err_new f
 
 -- a script is cut: before its first line, for want of memory; at a line; or behind its last, where what it printed is not flushed
-pub data IsScriptCut (script : Text) (w : WorldValue) (failed : FailedStreams) (out_old out_new err_old err_new : Option (List ℕ)) : Failure → Type 0 where
+pub data IsScriptCut (script : Text) (w : Simulation) (failed : FailedStreams) (out_old out_new err_old err_new : Option (List ℕ)) : Failure → Type 0 where
   no_lines : out_new ≡ out_old → err_new ≡ err_old → IsScriptCut script w failed out_old out_new err_old err_new failure.Memory
   in_line : {f : Failure} → IsCutAt (numbered_from 1 script) w failed out_old out_new err_old err_new f
       → IsScriptCut script w failed out_old out_new err_old err_new f
-  behind_lines : {f : Failure} (end : WorldValue) → IsOutputCut failed f → IsRun (numbered_from 1 script) w end out_old out_new err_old err_new
+  behind_lines : {f : Failure} (end : Simulation) → IsOutputCut failed f → IsRun (numbered_from 1 script) w end out_old out_new err_old err_new
       → IsScriptCut script w failed out_old out_new err_old err_new f
 
 -- ---- a simulation
@@ -143,4 +162,4 @@ pub data IsCut (script : NamedFile) (files : List NamedFile) (failed : FailedStr
   in_world : {f : Failure} → AreRead (script ∷ files) → IsWorldCut files failed err_old err_new f → out_new ≡ out_old
       → IsCut script files failed out_old out_new err_old err_new f
   in_script : {f : Failure} (start : WorldValue) → AreRead (script ∷ files) → IsWorldOf files start
-      → IsScriptCut (text_in script) start failed out_old out_new err_old err_new f → IsCut script files failed out_old out_new err_old err_new f
+      → IsScriptCut (text_in script) (begun_in start) failed out_old out_new err_old err_new f → IsCut script files failed out_old out_new err_old err_new f

@@ -1,5 +1,5 @@
--- What a command of a script does to a world, and what it prints.
-use Rattle.std.specs.Prelude.{◌≡◌, ℕ, suc, List, [], Result, Ok, Err, Option, None, Some}
+-- What a command of a script does to a simulation, and what it prints.
+use Rattle.std.specs.Prelude.{◌≡◌, ℕ, suc, Bool, true, false, List, [], Result, Ok, Err, Option, None, Some}
 use Rattle.std.specs.Io.KnownBytes.{Appends}
 use Rattle.ospf_base.specs.declared.ids.RouterId.{RouterId}
 use Rattle.ospf_headline.specs.declared.event.WorldEvent.{WorldEvent}
@@ -12,9 +12,13 @@ use Rattle.ospf_script.specs.declared.command.Command.TheVariants as command
 use Rattle.ospf_sim.specs.Worlds.{WorldValue, EventDoes, IsRoundOf, IsRandom, most_offers, IsWalkFrom, LendsRouter, IsNotLent}
 use Rattle.ospf_world.specs.declared.walk.Walk.{Walk}
 use Rattle.ospf_sim.specs.All.{ComesAbout}
+use Rattle.ospf_sim.specs.Asked.{IsExplained, IsJudged}
+use Rattle.ospf_sim.specs.Losses.{AreLosingRounds, losses_of}
 use Rattle.ospf_sim.specs.Shown.{said_line, walk_line}
 use Rattle.ospf_views.specs.Shown.{view_lines}
 use Rattle.ospf_sim.specs.declared.all.All.TheVariants as all
+use Rattle.ospf_sim.specs.declared.losses.Losses.{Losses}
+use Rattle.ospf_sim.specs.declared.simulation.Simulation.{Simulation}
 use Rattle.ospf_views.specs.declared.views.View.{View}
 use Rattle.ospf_views.specs.declared.views.View.TheVariants as view
 
@@ -64,33 +68,61 @@ shown_in (command.Table r) = Some (r, view.Table)
 shown_in (command.Floor r) = Some (r, view.Floor)
 shown_in _ = None
 
+-- nothing but the world is another one
+abbrev pub GoesOn : Simulation → Simulation → Type 0
+GoesOn s s' = (s'.losses ≡ s.losses) × (s'.is_unmet ≡ s.is_unmet)
+
+-- so many rounds, with losses where there are some, and the losses from then on
+abbrev pub RoundsWith : Option Losses → ℕ → ℕ → Simulation → Answer → Simulation → Type 0
+RoundsWith None most count s answer s' = AreRounds most count s.world answer s'.world × (s'.losses ≡ None)
+RoundsWith (Some losses) most count s answer s' =
+    (losses' : Losses) × AreLosingRounds most count losses s.world answer s'.world losses' × (s'.losses ≡ Some losses')
+
+-- that something was not as it was expected is known from then on
+abbrev pub Judges : Bool → Simulation → Simulation → Type 0
+Judges true s s' = s' ≡ record s { is_unmet = true }
+Judges false s s' = s' ≡ s
+
+-- by a command that is only asked nothing comes about in the world
+abbrev pub is_asked : Command → Bool
+is_asked (command.Walk from address choices) = true
+is_asked (command.Say said) = true
+is_asked (command.Loss percent number network) = true
+is_asked (command.Why router link neighbour) = true
+is_asked (command.Expect expected) = true
+is_asked _ = false
+
 -- what the other commands do
-abbrev pub DoesOther : Command → WorldValue → Answer → Text → WorldValue → Type 0
-DoesOther (command.Round count most) w answer text w' = AreRounds (most_of most) count w answer w' × (text ≡ [])
-DoesOther (command.Random number count) w answer text w' = IsRandom number count w answer w' × (text ≡ [])
-DoesOther (command.Walk from address choices) w answer text w' = IsWalked w from address.0 choices.items answer text × (w' ≡ w)
-DoesOther (command.Say said) w answer text w' = (answer ≡ Ok tt) × (text ≡ said_line said) × (w' ≡ w)
-DoesOther command.StartAll w answer text w' = ComesAbout all.Starts w answer w' × (text ≡ [])
-DoesOther command.UpAll w answer text w' = ComesAbout all.Up w answer w' × (text ≡ [])
-DoesOther command.DownAll w answer text w' = ComesAbout all.Down w answer w' × (text ≡ [])
-DoesOther _ w answer text w' = ⊥
+abbrev pub DoesOther : Command → Simulation → Answer → Text → Simulation → Type 0
+DoesOther (command.Round count most) s answer text s' = RoundsWith s.losses (most_of most) count s answer s' × (s'.is_unmet ≡ s.is_unmet) × (text ≡ [])
+DoesOther (command.Random number count) s answer text s' = IsRandom number count s.world answer s'.world × GoesOn s s' × (text ≡ [])
+DoesOther (command.Walk from address choices) s answer text s' = IsWalked s.world from address.0 choices.items answer text × (s' ≡ s)
+DoesOther (command.Say said) s answer text s' = (answer ≡ Ok tt) × (text ≡ said_line said) × (s' ≡ s)
+DoesOther command.StartAll s answer text s' = ComesAbout all.Starts s.world answer s'.world × GoesOn s s' × (text ≡ [])
+DoesOther command.UpAll s answer text s' = ComesAbout all.Up s.world answer s'.world × GoesOn s s' × (text ≡ [])
+DoesOther command.DownAll s answer text s' = ComesAbout all.Down s.world answer s'.world × GoesOn s s' × (text ≡ [])
+DoesOther (command.Loss percent number network) s answer text s' =
+    (answer ≡ Ok tt) × (text ≡ []) × (s' ≡ record s { losses = Some (losses_of percent number network) })
+DoesOther (command.Why router link neighbour) s answer text s' = IsExplained s.world router link neighbour answer text × (s' ≡ s)
+DoesOther (command.Expect expected) s answer text s' = (unmet : Bool) × IsJudged expected s.world answer text unmet × Judges unmet s s'
+DoesOther _ s answer text s' = ⊥
 
-abbrev pub DoesShown : Option (RouterId × View) → Command → WorldValue → Answer → Text → WorldValue → Type 0
-DoesShown (Some shown) c w answer text w' = IsShown shown.1 w shown.0 answer text × (w' ≡ w)
-DoesShown None c w answer text w' = DoesOther c w answer text w'
+abbrev pub DoesShown : Option (RouterId × View) → Command → Simulation → Answer → Text → Simulation → Type 0
+DoesShown (Some shown) c s answer text s' = IsShown shown.1 s.world shown.0 answer text × (s' ≡ s)
+DoesShown None c s answer text s' = DoesOther c s answer text s'
 
-abbrev pub DoesBy : Option WorldEvent → Command → WorldValue → Answer → Text → WorldValue → Type 0
-DoesBy (Some e) c w answer text w' = EventDoes e w answer w' × (text ≡ [])
-DoesBy None c w answer text w' = DoesShown (shown_in c) c w answer text w'
+abbrev pub DoesBy : Option WorldEvent → Command → Simulation → Answer → Text → Simulation → Type 0
+DoesBy (Some e) c s answer text s' = EventDoes e s.world answer s'.world × GoesOn s s' × (text ≡ [])
+DoesBy None c s answer text s' = DoesShown (shown_in c) c s answer text s'
 
--- what a command does to a world, what is answered, and what is printed
-abbrev pub Does : Command → WorldValue → Answer → Text → WorldValue → Type 0
+-- what a command does to a simulation, what is answered, and what is printed
+abbrev pub Does : Command → Simulation → Answer → Text → Simulation → Type 0
 Does c = DoesBy (event_in c) c
 
 -- what the command prints is what was written
-pub record IsDone (c : Command) (w : WorldValue) (answer : Answer) (w' : WorldValue) (out_old out_new : Option (List ℕ)) : Type 0 where
+pub record IsDone (c : Command) (s : Simulation) (answer : Answer) (s' : Simulation) (out_old out_new : Option (List ℕ)) : Type 0 where
   pub text : Text
-  pub does : Does c w answer text w'
+  pub does : Does c s answer text s'
   pub written : Appends out_old out_new text
 
 -- what is printed of a router is what was written

@@ -9,8 +9,8 @@ use Rattle.ospf_script.specs.Lines.{numbered_from}
 use Rattle.ospf_script.specs.Words.{IsBlank, Text, words}
 use Rattle.ospf_script.specs.declared.command.Command.{Command}
 use Rattle.ospf_script.specs.declared.script.Line.{Line}
-use Rattle.ospf_sim.specs.Worlds.{WorldValue}
 use Rattle.ospf_sim.specs.Commands.{Answer, Does}
+use Rattle.ospf_sim.specs.declared.simulation.Simulation.{Simulation}
 
 -- a line that is refused, and why
 abbrev pub refusal_line : ℕ → WorldFault → Text
@@ -33,21 +33,21 @@ abbrev pub told_of : ℕ → Answer → Text
 told_of number (Ok done) = []
 told_of number (Err fault) = refusal_line number fault
 
--- what a line of this number comes to: the world after it, and what is written on standard output and on standard error
-pub data RunsLine (number : ℕ) (line : Text) (w w' : WorldValue) (out err : Text) : Type 0 where
+-- what a line of this number comes to: the simulation after it, and what is written on standard output and on standard error
+pub data RunsLine (number : ℕ) (line : Text) (w w' : Simulation) (out err : Text) : Type 0 where
   is_passed_over : IsBlank line → w' ≡ w → out ≡ [] → err ≡ [] → RunsLine number line w w' out err
   is_taken : (c : Command) (answer : Answer) → Spells (words line) c → Does c w answer out w' → err ≡ told_of number answer
       → RunsLine number line w w' out err
 
 -- lines with their numbers, one after another: a refused one ends nothing
-pub data RunsLines : List (ℕ × Text) → WorldValue → WorldValue → Text → Text → Type 0 where
-  no_line : {w : WorldValue} → RunsLines [] w w [] []
-  one_line : {number : ℕ} {line : Text} {lines : List (ℕ × Text)} {w mid w' : WorldValue} {out outs err errs : Text}
+pub data RunsLines : List (ℕ × Text) → Simulation → Simulation → Text → Text → Type 0 where
+  no_line : {w : Simulation} → RunsLines [] w w [] []
+  one_line : {number : ℕ} {line : Text} {lines : List (ℕ × Text)} {w mid w' : Simulation} {out outs err errs : Text}
       → RunsLine number line w mid out err → RunsLines lines mid w' outs errs
       → RunsLines ((number, line) ∷ lines) w w' (out ++ outs) (err ++ errs)
 
 -- what lines write is what was written
-pub record IsRun (lines : List (ℕ × Text)) (w w' : WorldValue) (out_old out_new err_old err_new : Option (List ℕ)) : Type 0 where
+pub record IsRun (lines : List (ℕ × Text)) (w w' : Simulation) (out_old out_new err_old err_new : Option (List ℕ)) : Type 0 where
   pub out : Text
   pub err : Text
   pub runs : RunsLines lines w w' out err
@@ -55,7 +55,7 @@ pub record IsRun (lines : List (ℕ × Text)) (w w' : WorldValue) (out_old out_n
   pub err_written : Appends err_old err_new err
 
 -- the line of this number is the first that cannot be read, and those before it have run
-pub record EndsAt (lines : List (ℕ × Text)) (number : ℕ) (line : Text) (w w' : WorldValue) (out_old out_new err_old err_new : Option (List ℕ)) : Type 0 where
+pub record EndsAt (lines : List (ℕ × Text)) (number : ℕ) (line : Text) (w w' : Simulation) (out_old out_new err_old err_new : Option (List ℕ)) : Type 0 where
   pub before : List (ℕ × Text)
   pub after : List (ℕ × Text)
   pub lines_are : lines ≡ before ++ (number, line) ∷ after
@@ -63,7 +63,7 @@ pub record EndsAt (lines : List (ℕ × Text)) (number : ℕ) (line : Text) (w w
   pub run : IsRun before w w' out_old out_new err_old err_new
 
 -- what a line writes is what was written
-pub record IsRunLine (number : ℕ) (line : Text) (w w' : WorldValue) (out_old out_new err_old err_new : Option (List ℕ)) : Type 0 where
+pub record IsRunLine (number : ℕ) (line : Text) (w w' : Simulation) (out_old out_new err_old err_new : Option (List ℕ)) : Type 0 where
   pub out : Text
   pub err : Text
   pub runs : RunsLine number line w w' out err
@@ -71,18 +71,18 @@ pub record IsRunLine (number : ℕ) (line : Text) (w w' : WorldValue) (out_old o
   pub err_written : Appends err_old err_new err
 
 -- a line that cannot be read changes nothing
-pub record IsNotRead (line : Text) (w w' : WorldValue) (out_old out_new err_old err_new : Option (List ℕ)) : Type 0 where
+pub record IsNotRead (line : Text) (w w' : Simulation) (out_old out_new err_old err_new : Option (List ℕ)) : Type 0 where
   pub unreadable : IsUnreadable line
   pub same_world : w' ≡ w
   pub same_out : out_new ≡ out_old
   pub same_err : err_new ≡ err_old
 
-abbrev pub LineComes : Bool → Line → WorldValue → WorldValue → Option (List ℕ) → Option (List ℕ) → Option (List ℕ) → Option (List ℕ) → Type 0
+abbrev pub LineComes : Bool → Line → Simulation → Simulation → Option (List ℕ) → Option (List ℕ) → Option (List ℕ) → Option (List ℕ) → Type 0
 LineComes true line = IsRunLine line.number line.text.now
 LineComes false line = IsNotRead line.text.now
 
 -- a script of which a line cannot be read: the lines before it have run, and of the first such line it is told that it is no command
-pub record EndsEarly (script : Text) (w w' : WorldValue) (out_old out_new err_old err_new : Option (List ℕ)) : Type 0 where
+pub record EndsEarly (script : Text) (w w' : Simulation) (out_old out_new err_old err_new : Option (List ℕ)) : Type 0 where
   pub number : ℕ
   pub before : List (ℕ × Text)
   pub line : Text
@@ -96,6 +96,6 @@ pub record EndsEarly (script : Text) (w w' : WorldValue) (out_old out_new err_ol
   pub err_written : Appends err_old err_new (err ++ unreadable_line number line)
 
 -- a whole script, or up to a line that cannot be read
-abbrev pub ScriptComes : Bool → Text → WorldValue → WorldValue → Option (List ℕ) → Option (List ℕ) → Option (List ℕ) → Option (List ℕ) → Type 0
+abbrev pub ScriptComes : Bool → Text → Simulation → Simulation → Option (List ℕ) → Option (List ℕ) → Option (List ℕ) → Option (List ℕ) → Type 0
 ScriptComes true script = IsRun (numbered_from 1 script)
 ScriptComes false script = EndsEarly script

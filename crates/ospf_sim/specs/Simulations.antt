@@ -10,6 +10,8 @@ use Rattle.ospf_script.specs.Lines.{numbered_from}
 use Rattle.ospf_sim.specs.Twins.{AreTwinsTold}
 use Rattle.ospf_sim.specs.Worlds.{IsNewOf, WorldValue}
 use Rattle.ospf_sim.specs.Scripts.{EndsEarly, IsRun, ScriptComes}
+use Rattle.ospf_sim.specs.declared.simulation.Simulation.{Simulation}
+use Rattle.ospf_sim.specs.declared.text.Simulated.{Simulated}
 
 -- ---- worlds
 
@@ -35,54 +37,63 @@ WorldComes files None old new = IsNoWorld files old new
 
 -- ---- simulations
 
+-- a simulation in this world before its first line: nothing is lost, and nothing was expected
+abbrev pub begun_in : WorldValue → Simulation
+begun_in w = record { world = w; losses = None; is_unmet = false }
+
+-- what is left of a simulation: the world that its last line left, and whether all was as it was expected
+pub record IsLeft (simulated : Simulated) (end : Simulation) : Type 0 where
+  pub world : simulated.world ≡ Some end.world
+  pub is_unmet : simulated.is_unmet ≡ end.is_unmet
+
 -- the status of a script whose lines could all be read, or not
 abbrev pub status_for : Bool → Status
 status_for true = status.Done
 status_for false = status.Refused
 
 -- a script runs from this world, whole or up to a line that cannot be read, as the status says
-pub record RunsWhole (script : NamedFile) (start : WorldValue) (world : Option WorldValue) (whole : Bool) (out_old out_new err_old err_new : Option (List ℕ)) : Type 0 where
-  pub end : WorldValue
-  pub ends : world ≡ Some end
-  pub comes : ScriptComes whole (text_in script) start end out_old out_new err_old err_new
+pub record RunsWhole (script : NamedFile) (start : WorldValue) (simulated : Simulated) (whole : Bool) (out_old out_new err_old err_new : Option (List ℕ)) : Type 0 where
+  pub end : Simulation
+  pub left : IsLeft simulated end
+  pub comes : ScriptComes whole (text_in script) (begun_in start) end out_old out_new err_old err_new
 
-abbrev pub RunsTo : Status → NamedFile → WorldValue → Option WorldValue → Option (List ℕ) → Option (List ℕ) → Option (List ℕ) → Option (List ℕ) → Type 0
-RunsTo status.Done script start world = RunsWhole script start world true
-RunsTo status.Refused script start world = RunsWhole script start world false
-RunsTo _ script start world = λ out_old out_new err_old err_new. ⊥
+abbrev pub RunsTo : Status → NamedFile → WorldValue → Simulated → Option (List ℕ) → Option (List ℕ) → Option (List ℕ) → Option (List ℕ) → Type 0
+RunsTo status.Done script start simulated = RunsWhole script start simulated true
+RunsTo status.Refused script start simulated = RunsWhole script start simulated false
+RunsTo _ script start simulated = λ out_old out_new err_old err_new. ⊥
 
 -- the whole script has run, in a world of the configurations
-pub record IsSimulated (script : NamedFile) (files : List NamedFile) (world : Option WorldValue) (out_old out_new err_old err_new : Option (List ℕ)) : Type 0 where
+pub record IsSimulated (script : NamedFile) (files : List NamedFile) (simulated : Simulated) (out_old out_new err_old err_new : Option (List ℕ)) : Type 0 where
   pub read : AreRead (script ∷ files)
   pub start : WorldValue
-  pub end : WorldValue
+  pub end : Simulation
   pub starts : IsWorldOf files start
-  pub ends : world ≡ Some end
-  pub run : IsRun (numbered_from 1 (text_in script)) start end out_old out_new err_old err_new
+  pub left : IsLeft simulated end
+  pub run : IsRun (numbered_from 1 (text_in script)) (begun_in start) end out_old out_new err_old err_new
 
 -- the script has run up to a line that cannot be read, of which that is told
-pub record IsCutShort (script : NamedFile) (files : List NamedFile) (world : Option WorldValue) (out_old out_new err_old err_new : Option (List ℕ)) : Type 0 where
+pub record IsCutShort (script : NamedFile) (files : List NamedFile) (simulated : Simulated) (out_old out_new err_old err_new : Option (List ℕ)) : Type 0 where
   pub read : AreRead (script ∷ files)
   pub start : WorldValue
-  pub end : WorldValue
+  pub end : Simulation
   pub starts : IsWorldOf files start
-  pub ends : world ≡ Some end
-  pub early : EndsEarly (text_in script) start end out_old out_new err_old err_new
+  pub left : IsLeft simulated end
+  pub early : EndsEarly (text_in script) (begun_in start) end out_old out_new err_old err_new
 
 -- no line has run, since there is no world of the configurations, of which it is told why
-pub record IsNotBegun (script : NamedFile) (files : List NamedFile) (world : Option WorldValue) (out_old out_new err_old err_new : Option (List ℕ)) : Type 0 where
+pub record IsNotBegun (script : NamedFile) (files : List NamedFile) (simulated : Simulated) (out_old out_new err_old err_new : Option (List ℕ)) : Type 0 where
   pub read : AreRead (script ∷ files)
   pub no_world : IsNoWorld files err_old err_new
-  pub none : world ≡ None
+  pub none : simulated.world ≡ None
   pub same_out : out_new ≡ out_old
 
 -- what is refused: the configurations, or a line
-abbrev pub IsRefused : NamedFile → List NamedFile → Option WorldValue → Option (List ℕ) → Option (List ℕ) → Option (List ℕ) → Option (List ℕ) → Type 0
-IsRefused script files world out_old out_new err_old err_new =
-    IsNotBegun script files world out_old out_new err_old err_new ⊎ IsCutShort script files world out_old out_new err_old err_new
+abbrev pub IsRefused : NamedFile → List NamedFile → Simulated → Option (List ℕ) → Option (List ℕ) → Option (List ℕ) → Option (List ℕ) → Type 0
+IsRefused script files simulated out_old out_new err_old err_new =
+    IsNotBegun script files simulated out_old out_new err_old err_new ⊎ IsCutShort script files simulated out_old out_new err_old err_new
 
 -- what comes of a simulation, by its status
-abbrev pub Comes : Status → NamedFile → List NamedFile → Option WorldValue → Option (List ℕ) → Option (List ℕ) → Option (List ℕ) → Option (List ℕ) → Type 0
+abbrev pub Comes : Status → NamedFile → List NamedFile → Simulated → Option (List ℕ) → Option (List ℕ) → Option (List ℕ) → Option (List ℕ) → Type 0
 Comes status.Done = IsSimulated
 Comes status.Refused = IsRefused
-Comes _ = λ script files world out_old out_new err_old err_new. ⊤
+Comes _ = λ script files simulated out_old out_new err_old err_new. ⊤

@@ -1,20 +1,25 @@
 //! Commands that are done.
 
-ghost use Rattle.std.specs.Prelude.{◌≡◌, IfErr, IfOk, None, Ok, OnErr};
+ghost use Rattle.std.specs.Prelude.{◌≡◌, Bool, true, IfErr, IfOk, None, OnErr};
 ghost use Rattle.std.specs.Io.KnownBytes.{Appends};
 ghost use Rattle.ospf_files.specs.Streams.{IsBegun, IsOutputCut};
-ghost use Rattle.ospf_sim.specs.Begun.{IsDoneBegun, IsShownBegun, IsWalkBegun};
-ghost use Rattle.ospf_sim.specs.Commands.{AreRounds, event_in, IsDone, IsShownOn, IsWalkedOn, most_of, shown_in};
+ghost use Rattle.ospf_sim.specs.Begun.{IsDoneBegun, IsJudgedBegun, IsShownBegun, IsWalkBegun, IsWhyBegun};
+ghost use Rattle.ospf_sim.specs.Asked.{IsExplainedOn, IsJudgedOn};
+ghost use Rattle.ospf_sim.specs.Commands.{AreRounds, event_in, IsDone, IsShownOn, IsWalkedOn, Judges, RoundsWith, is_asked, most_of, shown_in};
+ghost use Rattle.ospf_sim.specs.Losses.{AreLosingRounds};
 ghost use Rattle.ospf_sim.specs.Shown.{said_line};
 ghost use Rattle.ospf_sim.specs.Worlds.{IsRandom};
 
 use crate::all::{All, run_all};
+use crate::losing::round_losing;
+use crate::losses::Losses;
 use crate::show::{write_said, write_walk};
+use crate::simulation::Simulation;
 use crate::watch::Watch;
 use ospf_base::{Addr, RouterId};
 use ospf_files::{FailedStreams, Failure};
-use ospf_script::Command;
-use ospf_views::{View, write_view};
+use ospf_script::{Command, Expected};
+use ospf_views::{View, is_met, router_in, why, write_unmet, write_view};
 use ospf_world::{MOST_OFFERS, World, WorldEvent, WorldFault};
 use rand_pcg::Lcg64Xsh32;
 use std::alloc::Global;
@@ -26,22 +31,22 @@ const EVENTS_AT_ONCE: u64 = 10_000;
 // Does what a command asks for, and prints what it is to print. The answer is why it is refused, if it is. Where printing
 // fails, a beginning of it was written.
 pub(crate) fn run_command<O: Write, V: Watch>(
-    world: &mut World,
+    simulation: &mut Simulation,
     command: &Command,
     out: &mut O,
     alloc: Global,
     watch: &mut V,
     streams: &mut FailedStreams,
 ) -> Result<Result<(), WorldFault>, Failure>
-    ensures done { IfOk result (λ answer. IsDone command.now world.old answer world.new
+    ensures done { IfOk result (λ answer. IsDone command.now simulation.old answer simulation.new
         (O.contents out.old) (O.contents out.new)) }
     ensures begun { OnErr result
-        (IsDoneBegun command.now world.old world.new (O.contents out.old) (O.contents out.new)) }
+        (IsDoneBegun command.now simulation.old simulation.new (O.contents out.old) (O.contents out.new)) }
     ensures cut { IfErr result (IsOutputCut streams.new) }
 {
     match event_of(command) {
-        Some(event) => Ok(world.step_watched(event, watch, alloc)),
-        None => run_quiet(world, command, out, alloc, watch, streams),
+        Some(event) => Ok(simulation.world.step_watched(event, watch, alloc)),
+        None => run_quiet(simulation, command, out, alloc, watch, streams),
     }
 }
 
@@ -85,7 +90,7 @@ fn event_of(command: &Command) -> Option<WorldEvent>
 
 // Does what a command asks for that is no event.
 fn run_quiet<O: Write, V: Watch>(
-    world: &mut World,
+    simulation: &mut Simulation,
     command: &Command,
     out: &mut O,
     alloc: Global,
@@ -93,15 +98,15 @@ fn run_quiet<O: Write, V: Watch>(
     streams: &mut FailedStreams,
 ) -> Result<Result<(), WorldFault>, Failure>
     requires { event_in command.now ≡ None }
-    ensures done { IfOk result (λ answer. IsDone command.now world.old answer world.new
+    ensures done { IfOk result (λ answer. IsDone command.now simulation.old answer simulation.new
         (O.contents out.old) (O.contents out.new)) }
     ensures begun { OnErr result
-        (IsDoneBegun command.now world.old world.new (O.contents out.old) (O.contents out.new)) }
+        (IsDoneBegun command.now simulation.old simulation.new (O.contents out.old) (O.contents out.new)) }
     ensures cut { IfErr result (IsOutputCut streams.new) }
 {
     match shown_of(command) {
-        Some(shown) => show_router(world, shown.0, shown.1, out, alloc, streams),
-        None => run_other(world, command, out, alloc, watch, streams),
+        Some(shown) => show_router(&simulation.world, shown.0, shown.1, out, alloc, streams),
+        None => run_other(simulation, command, out, alloc, watch, streams),
     }
 }
 
@@ -142,9 +147,9 @@ fn show_router<O: Write>(
     }
 }
 
-// Does what a command asks for that is no event and prints nothing of a router.
+// Does what a command asks for that is no event and shows nothing of a router.
 fn run_other<O: Write, V: Watch>(
-    world: &mut World,
+    simulation: &mut Simulation,
     command: &Command,
     out: &mut O,
     alloc: Global,
@@ -155,27 +160,72 @@ fn run_other<O: Write, V: Watch>(
     requires no_event { event_in command.now ≡ None }
     requires not_shown { shown_in command.now ≡ None }
     // All that it prints is written; or a beginning of it, and why no more is.
-    ensures done { IfOk result (λ answer. IsDone command.now world.old answer world.new
+    ensures done { IfOk result (λ answer. IsDone command.now simulation.old answer simulation.new
         (O.contents out.old) (O.contents out.new)) }
-    ensures begun { OnErr result
-        (IsDoneBegun command.now world.old world.new (O.contents out.old) (O.contents out.new)) }
+    ensures begun { OnErr result (IsDoneBegun command.now simulation.old simulation.new
+        (O.contents out.old) (O.contents out.new)) }
+    ensures cut { IfErr result (IsOutputCut streams.new) }
+{
+    let world = &mut simulation.world;
+    let answer = match command {
+        Command::Round { count, most } => {
+            let most = most_of(most);
+            run_rounds(simulation, *count, most, alloc, watch)
+        }
+        Command::Random { number, count } => run_events(world, *number, *count, alloc, watch),
+        Command::StartAll => run_all(world, All::Starts, watch, alloc),
+        Command::UpAll => run_all(world, All::Up, watch, alloc),
+        Command::DownAll => run_all(world, All::Down, watch, alloc),
+        _ => return run_asked(simulation, command, out, alloc, streams),
+    };
+    Ok(answer)
+}
+
+// Does what a command asks for by which nothing comes about in the world.
+fn run_asked<O: Write>(
+    simulation: &mut Simulation,
+    command: &Command,
+    out: &mut O,
+    alloc: Global,
+    streams: &mut FailedStreams,
+) -> Result<Result<(), WorldFault>, Failure>
+    requires { is_asked command.now ≡ true }
+    ensures done { IfOk result (λ answer. IsDone command.now simulation.old answer simulation.new
+        (O.contents out.old) (O.contents out.new)) }
+    ensures begun { OnErr result (IsDoneBegun command.now simulation.old simulation.new
+        (O.contents out.old) (O.contents out.new)) }
     ensures cut { IfErr result (IsOutputCut streams.new) }
 {
     match command {
-        Command::Round { count, most } => {
-            let most = most_of(most);
-            Ok(run_watched(world, *count, most, alloc, watch))
-        }
-        Command::Random { number, count } => Ok(draw_watched(world, *number, *count, alloc, watch)),
         Command::Walk {
             from,
             address,
             choices,
-        } => show_walk(world, *from, *address, choices, out, alloc, streams),
-        Command::Say { text } => show_said(text, out, alloc, streams),
-        Command::StartAll => Ok(run_all(world, All::Starts, watch, alloc)),
-        Command::UpAll => Ok(run_all(world, All::Up, watch, alloc)),
-        Command::DownAll => Ok(run_all(world, All::Down, watch, alloc)),
+        } => {
+            let world = &simulation.world;
+            show_walk(world, *from, *address, choices, out, alloc, streams)
+        }
+        Command::Say { text } => {
+            write_said(alloc, text, out, streams)?;
+            Ok(Ok(()))
+        }
+        Command::Loss {
+            percent,
+            number,
+            network,
+        } => {
+            simulation.losses = Some(Losses::new(*percent, *number, *network));
+            Ok(Ok(()))
+        }
+        Command::Why {
+            router,
+            link,
+            neighbour,
+        } => {
+            let world = &simulation.world;
+            show_why(world, *router, *link, *neighbour, out, alloc, streams)
+        }
+        Command::Expect { expected } => judge(simulation, *expected, out, alloc, streams),
         _ => Ok(Ok(())),
     }
 }
@@ -188,23 +238,27 @@ fn most_of(most: &Option<u64>) -> u64
     most.unwrap_or(MOST_OFFERS)
 }
 
-// So many rounds, and their end is told.
-fn run_watched<V: Watch>(
-    world: &mut World,
+// So many rounds, with losses where there are some.
+fn run_rounds<V: Watch>(
+    simulation: &mut Simulation,
     count: u64,
     most: u64,
     alloc: Global,
     watch: &mut V,
 ) -> Result<(), WorldFault>
-    ensures { AreRounds most count world.old result world.new }
+    ensures rounds { RoundsWith simulation.old.losses most count simulation.old result
+        simulation.new }
+    ensures judged { simulation.new.is_unmet ≡ simulation.old.is_unmet }
 {
-    let answer = run_rounds(world, count, most, alloc, watch);
-    watch.ends_line();
-    answer
+    let world = &mut simulation.world;
+    match &mut simulation.losses {
+        Some(losses) => run_losing(world, count, most, losses, alloc, watch),
+        None => run_whole(world, count, most, alloc, watch),
+    }
 }
 
 // So many rounds, up to the first that is refused.
-fn run_rounds<V: Watch>(
+fn run_whole<V: Watch>(
     world: &mut World,
     count: u64,
     most: u64,
@@ -223,19 +277,25 @@ fn run_rounds<V: Watch>(
     Ok(())
 }
 
-// So many events by chance, and their end is told.
-fn draw_watched<V: Watch>(
+// The same with losses.
+fn run_losing<V: Watch>(
     world: &mut World,
-    number: u64,
     count: u64,
+    most: u64,
+    losses: &mut Losses,
     alloc: Global,
     watch: &mut V,
 ) -> Result<(), WorldFault>
-    ensures { IsRandom number count world.old result world.new }
+    ensures { AreLosingRounds most count losses.old world.old result world.new losses.new }
 {
-    let answer = run_events(world, number, count, alloc, watch);
-    watch.ends_line();
-    answer
+    for done in 0..count {
+        watch.begins_round(done, count);
+        match round_losing(world, most, losses, watch, alloc) {
+            Ok(()) => {}
+            Err(fault) => return Err(fault),
+        }
+    }
+    Ok(())
 }
 
 // So many events by chance, some at a time, up to want of memory.
@@ -287,19 +347,61 @@ fn show_walk<O: Write>(
     }
 }
 
-// Prints what is said. Where that fails, a beginning of it was written.
-fn show_said<O: Write>(
-    said: &String,
+// Prints what a link waits for, or a router on it, if there is such a link. Where that fails, a beginning of it was written.
+fn show_why<O: Write>(
+    world: &World,
+    router: RouterId,
+    link: usize,
+    neighbour: Option<RouterId>,
     out: &mut O,
     alloc: Global,
     streams: &mut FailedStreams,
 ) -> Result<Result<(), WorldFault>, Failure>
-    ensures said { IfOk result (λ answer. (answer ≡ Ok tt)
-        × Appends (O.contents out.old) (O.contents out.new) (said_line said.now)) }
-    ensures begun { OnErr result
-        (IsBegun (O.contents out.old) (O.contents out.new) (said_line said.now)) }
+    ensures explained { IfOk result (λ answer. IsExplainedOn world.now router link neighbour answer
+        (O.contents out.old) (O.contents out.new)) }
+    ensures begun { OnErr result (IsWhyBegun world.now router link neighbour
+        (O.contents out.old) (O.contents out.new)) }
     ensures cut { IfErr result (IsOutputCut streams.new) }
 {
-    write_said(alloc, said, out, streams)?;
+    let lent = match world.router(router) {
+        Ok(lent) => lent,
+        Err(fault) => return Ok(Err(fault)),
+    };
+    match why(lent, link, neighbour, alloc)? {
+        Some(lines) => {
+            streams.write(out, &lines)?;
+            Ok(Ok(()))
+        }
+        None => Ok(Err(WorldFault::NoLink)),
+    }
+}
+
+// Whether a router is as it is expected to be: where it is not, that is printed, and kept.
+fn judge<O: Write>(
+    simulation: &mut Simulation,
+    expected: Expected,
+    out: &mut O,
+    alloc: Global,
+    streams: &mut FailedStreams,
+) -> Result<Result<(), WorldFault>, Failure>
+    ensures judged { IfOk result (λ answer. (unmet : Bool)
+        × IsJudgedOn expected simulation.old.world answer unmet
+        (O.contents out.old) (O.contents out.new) × Judges unmet simulation.old simulation.new) }
+    ensures begun { OnErr result (IsJudgedBegun expected simulation.old simulation.new
+        (O.contents out.old) (O.contents out.new)) }
+    ensures cut { IfErr result (IsOutputCut streams.new) }
+{
+    let router = match simulation.world.router(router_in(expected)) {
+        Ok(router) => router,
+        Err(fault) => {
+            simulation.is_unmet = true;
+            return Ok(Err(fault));
+        }
+    };
+    if is_met(expected, router) {
+        return Ok(Ok(()));
+    }
+    simulation.is_unmet = true;
+    write_unmet(alloc, expected, router, out, streams)?;
     Ok(Ok(()))
 }

@@ -1,33 +1,13 @@
-//! Configurations in files, and what is told of a file that is not taken.
+//! Configurations in files.
 
-ghost use Rattle.std.specs.Prelude.{◌≡◌, IfErr, IfOk, OnErr, OnOk, option_map, string_bytes};
-ghost use Rattle.std.specs.Io.KnownBytes.{Appends};
-ghost use Rattle.ospf_files.specs.Files.{refused_line, unread_line};
+ghost use Rattle.std.specs.Prelude.{◌≡◌, IfErr, IfOk, option_map};
 ghost use Rattle.ospf_files.specs.Listed.{ConfigComes, ConfigsCome};
-ghost use Rattle.ospf_files.specs.Streams.{IsBegun, IsErrorCut};
 ghost use Rattle.ospf_sim.specs.Begun.{IsFileCut, IsWorldCut};
 
 use ospf_config::{Config, ConfigFault};
-use ospf_files::{FailedStreams, Failure, NamedFile, config_in};
+use ospf_files::{FailedStreams, Failure, NamedFile, config_in, tell_refused};
 use std::alloc::{AllocError, Global};
 use std::io::Write;
-
-// Tells that a file could not be read. Where that fails, a beginning of it was written.
-pub(crate) fn tell_unread<E: Write>(
-    alloc: Global,
-    file: &NamedFile,
-    err: &mut E,
-    streams: &mut FailedStreams,
-) -> Result<(), Failure>
-    ensures told { OnOk result
-        (Appends (E.contents err.old) (E.contents err.new) (unread_line file.now)) }
-    ensures begun { OnErr result
-        (IsBegun (E.contents err.old) (E.contents err.new) (unread_line file.now)) }
-    ensures cut { IfErr result (IsErrorCut streams.new) }
-{
-    let line = unread_line(alloc, file)?;
-    streams.tell(err, &line)
-}
 
 // The configurations of files; of the first that is none its fault is told. Where that fails, a beginning of it was
 // written.
@@ -53,13 +33,6 @@ pub(crate) fn read_configs<E: Write>(
     Ok(Some(configs))
 }
 
-// The line of a file that could not be read.
-fn unread_line(alloc: Global, file: &NamedFile) -> Result<String, AllocError>
-    ensures { IfOk result (λ line. string_bytes line ≡ unread_line file.now) }
-{
-    format!(in alloc; "{}: not read\n", file.name)
-}
-
 // The configuration of a file; of one that is none its fault is told.
 fn read_config<E: Write>(
     alloc: Global,
@@ -80,29 +53,4 @@ fn read_config<E: Write>(
             Ok(None)
         }
     }
-}
-
-// Tells the fault of a file. Where that fails, a beginning of it was written.
-fn tell_refused<E: Write>(
-    alloc: Global,
-    file: &NamedFile,
-    fault: ConfigFault,
-    err: &mut E,
-    streams: &mut FailedStreams,
-) -> Result<(), Failure>
-    ensures told { OnOk result
-        (Appends (E.contents err.old) (E.contents err.new) (refused_line file.now fault)) }
-    ensures begun { OnErr result
-        (IsBegun (E.contents err.old) (E.contents err.new) (refused_line file.now fault)) }
-    ensures cut { IfErr result (IsErrorCut streams.new) }
-{
-    let line = refused_line(alloc, file, fault)?;
-    streams.tell(err, &line)
-}
-
-// The line of a file that is refused.
-fn refused_line(alloc: Global, file: &NamedFile, fault: ConfigFault) -> Result<String, AllocError>
-    ensures { IfOk result (λ line. string_bytes line ≡ refused_line file.now fault) }
-{
-    format!(in alloc; "{}: {}\n", file.name, fault.text())
 }

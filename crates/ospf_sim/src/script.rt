@@ -7,17 +7,18 @@ ghost use Rattle.ospf_sim.specs.Begun.{IsAnswerCut, IsCutAt, IsLineCut, IsScript
 ghost use Rattle.ospf_sim.specs.Scripts.{LineComes, ScriptComes, hint_line, not_a_command_line, refusal_line, told_of, unreadable_line};
 
 use crate::commands::run_command;
+use crate::simulation::Simulation;
 use crate::watch::Watch;
 use ospf_files::{FailedStreams, Failure};
 use ospf_script::{Command, Hint, Line, LineFault, RefusalShown, lines};
-use ospf_world::{World, WorldFault};
+use ospf_world::WorldFault;
 use std::alloc::{AllocError, Global};
 use std::io::Write;
 
 /// Runs the lines of a script, up to the first that cannot be read, and tells of that one. The answer is whether all could
 /// be read. Where it fails at a line, those before it have run.
 pub(crate) fn run_script<O: Write, E: Write, V: Watch>(
-    world: &mut World,
+    simulation: &mut Simulation,
     script: &[u8],
     out: &mut O,
     err: &mut E,
@@ -25,14 +26,14 @@ pub(crate) fn run_script<O: Write, E: Write, V: Watch>(
     watch: &mut V,
     streams: &mut FailedStreams,
 ) -> Result<bool, Failure>
-    ensures comes { IfOk result (λ whole. ScriptComes whole script.now world.old world.new
+    ensures comes { IfOk result (λ whole. ScriptComes whole script.now simulation.old simulation.new
         (O.contents out.old) (O.contents out.new) (E.contents err.old) (E.contents err.new)) }
-    ensures cut { IfErr result (IsScriptCut script.now world.old streams.new
+    ensures cut { IfErr result (IsScriptCut script.now simulation.old streams.new
         (O.contents out.old) (O.contents out.new) (E.contents err.old) (E.contents err.new)) }
 {
     let lines = lines(alloc, script)?;
     for line in &lines {
-        let is_read = run_line(world, line, out, err, alloc, watch, streams)?;
+        let is_read = run_line(simulation, line, out, err, alloc, watch, streams)?;
         if !is_read {
             tell_unreadable(alloc, line, out, err, streams)?;
             return Ok(false);
@@ -45,7 +46,7 @@ pub(crate) fn run_script<O: Write, E: Write, V: Watch>(
 // Runs a line. The answer is whether it can be read. Where that fails, no more than a beginning of what it writes was
 // written.
 fn run_line<O: Write, E: Write, V: Watch>(
-    world: &mut World,
+    simulation: &mut Simulation,
     line: &Line<'_>,
     out: &mut O,
     err: &mut E,
@@ -53,15 +54,16 @@ fn run_line<O: Write, E: Write, V: Watch>(
     watch: &mut V,
     streams: &mut FailedStreams,
 ) -> Result<bool, Failure>
-    ensures comes { IfOk result (λ read. LineComes read line.now world.old world.new
+    ensures comes { IfOk result (λ read. LineComes read line.now simulation.old simulation.new
         (O.contents out.old) (O.contents out.new) (E.contents err.old) (E.contents err.new)) }
-    ensures cut { IfErr result (IsLineCut line.now.number line.now.text.now world.old streams.new
-        (O.contents out.old) (O.contents out.new) (E.contents err.old) (E.contents err.new)) }
+    ensures cut { IfErr result (IsLineCut line.now.number line.now.text.now simulation.old
+        streams.new (O.contents out.old) (O.contents out.new) (E.contents err.old) (E.contents err.new)) }
 {
     match Command::read(alloc, line.text) {
         Ok(None) => Ok(true),
         Ok(Some(command)) => {
-            let answer = run_command(world, &command, out, alloc, watch, streams)?;
+            let answer = run_command(simulation, &command, out, alloc, watch, streams)?;
+            watch.ends_line();
             tell_answer(alloc, line.number, answer, out, err, streams)?;
             Ok(true)
         }

@@ -9,16 +9,17 @@ ghost use Rattle.ospf_files.specs.Listed.{AreRead, IsFirstUnread};
 ghost use Rattle.ospf_files.specs.Status.{failure_line, failure_status};
 ghost use Rattle.ospf_files.specs.Streams.{IsBegun, IsErrorCut, IsTold};
 ghost use Rattle.ospf_sim.specs.Begun.{IsCut, IsOpeningCut, IsScriptCut, IsWorldCut};
-ghost use Rattle.ospf_sim.specs.Simulations.{Comes, IsRefused, IsSimulated, Opens, RunsTo, WorldComes, status_for};
+ghost use Rattle.ospf_sim.specs.Simulations.{Comes, IsLeft, IsRefused, IsSimulated, Opens, RunsTo, WorldComes, status_for};
 ghost use Rattle.ospf_sim.specs.Stopped.{IsStopped, IsUnreadTold};
 ghost use Rattle.ospf_sim.specs.Twins.{AreFirstTwins, AreTwinsTold};
 
-use crate::configs::{read_configs, tell_unread};
+use crate::configs::read_configs;
 use crate::script::run_script;
+use crate::simulation::Simulation;
 use crate::twins::{first_twins, twins_lines};
 use crate::watch::Watch;
 use ospf_config::Config;
-use ospf_files::{FailedStreams, Failure, NamedFile, Status, first_unread};
+use ospf_files::{FailedStreams, Failure, NamedFile, Status, first_unread, tell_unread};
 use ospf_world::World;
 use std::alloc::Global;
 use std::io::Write;
@@ -30,6 +31,24 @@ pub struct Simulated {
     pub status: Status,
     /// The world as the script left it, where it has run.
     pub world: Option<World>,
+    /// Whether something was not as a line expected it, or could not be asked.
+    pub is_unmet: bool,
+}
+
+impl Simulated {
+    ghost use Rattle.std.specs.Prelude.{◌≡◌, None};
+
+    // No line has run, or it is not known what the lines that have run have left.
+    fn without(status: Status) -> Simulated
+        ensures status { result.status ≡ status }
+        ensures world { result.world ≡ None }
+    {
+        Simulated {
+            status,
+            world: None,
+            is_unmet: false,
+        }
+    }
 }
 
 /// Runs the lines of a script, in order, in a world of the configurations that files hold.
@@ -53,10 +72,10 @@ pub fn sim_text<O: Write, E: Write, V: Watch>(
 ) -> Simulated
     // The whole script has run; or what is refused is told.
     ensures done { result.status ≡ Status.Done →
-        IsSimulated script.now files.now result.world (O.contents out.old) (O.contents out.new)
+        IsSimulated script.now files.now result (O.contents out.old) (O.contents out.new)
         (E.contents err.old) (E.contents err.new) }
     ensures refused { result.status ≡ Status.Refused →
-        IsRefused script.now files.now result.world (O.contents out.old) (O.contents out.new)
+        IsRefused script.now files.now result (O.contents out.old) (O.contents out.new)
         (E.contents err.old) (E.contents err.new) }
     // Where a file could not be read, that or memory ends it, and nothing is printed.
     ensures unread { (file : NamedFile) → IsFirstUnread file (script.now ∷ files.now) →
@@ -88,7 +107,7 @@ fn simulate<O: Write, E: Write, V: Watch>(
     streams: &mut FailedStreams,
 ) -> Result<Simulated, Failure>
     // The whole script has run, or what is refused is told; no status says that memory ran out.
-    ensures comes { IfOk result (λ s. Comes s.status script.now files.now s.world
+    ensures comes { IfOk result (λ s. Comes s.status script.now files.now s
         (O.contents out.old) (O.contents out.new) (E.contents err.old) (E.contents err.new)) }
     ensures not_words { IfOk result (λ s. s.status ≢ Status.Words) }
     ensures not_memory { IfOk result (λ s. s.status ≢ Status.Memory) }
@@ -108,18 +127,12 @@ fn simulate<O: Write, E: Write, V: Watch>(
         return end_unread(alloc, file, err, streams);
     }
     match new_world(alloc, files, err, streams)? {
-        Some(mut world) => {
-            let whole = run_script(&mut world, script.text(), out, err, alloc, watch, streams)?;
-            let status = status_of(whole);
-            Ok(Simulated {
-                status,
-                world: Some(world),
-            })
+        Some(world) => {
+            let mut started = Simulation::new(world);
+            let whole = run_script(&mut started, script.text(), out, err, alloc, watch, streams)?;
+            Ok(left_of(started, whole))
         }
-        None => Ok(Simulated {
-            status: Status::Refused,
-            world: None,
-        }),
+        None => Ok(Simulated::without(Status::Refused)),
     }
 }
 
@@ -152,10 +165,7 @@ fn end_unread<E: Write>(
     ensures cut { IfErr result (IsErrorCut streams.new) }
 {
     match tell_unread(alloc, file, err, streams) {
-        Ok(()) => Ok(Simulated {
-            status: Status::Stream,
-            world: None,
-        }),
+        Ok(()) => Ok(Simulated::without(Status::Stream)),
         Err(failure) => Err(failure),
     }
 }
@@ -222,11 +232,22 @@ fn tell_twins<E: Write>(
     streams.tell(err, &lines)
 }
 
-// How a simulation ends whose lines could all be read, or not.
-fn status_of(whole: bool) -> Status
-    ensures { result ≡ status_for whole }
+// What a simulation has left whose lines could all be read, or not.
+fn left_of(simulation: Simulation, whole: bool) -> Simulated
+    ensures left { IsLeft result simulation }
+    ensures status { result.status ≡ status_for whole }
 {
-    if whole { Status::Done } else { Status::Refused }
+    let Simulation {
+        world,
+        is_unmet,
+        ..
+    } = simulation;
+    let status = if whole { Status::Done } else { Status::Refused };
+    Simulated {
+        status,
+        world: Some(world),
+        is_unmet,
+    }
 }
 
 // Tells a failure last, as far as that can be written.
@@ -236,8 +257,6 @@ fn end_failed<E: Write>(failure: Failure, err: &mut E, streams: &mut FailedStrea
     ensures told { IsTold streams.old streams.new
         (E.contents err.old) (E.contents err.new) (failure_line failure) }
 {
-    Simulated {
-        status: failure.tell(err, streams),
-        world: None,
-    }
+    let status = failure.tell(err, streams);
+    Simulated::without(status)
 }

@@ -11,11 +11,11 @@ use ospf_files::{
 };
 use ospf_inspect::inspect_text;
 use ospf_notes::{Events, Journal, Line, Noted, Notes, Tables};
-use ospf_prepare::prepare;
 use ospf_records::write_records;
 use ospf_run::{Ending, Settings, run_text};
 use ospf_sim::{Simulated, sim_text};
 use ospf_table::table_text;
+use ospf_udp::prepare;
 use ospf_words::{CheckJob, Job, JobFault, RunJob, SimJob, job, not_text};
 use std::alloc::Global;
 use std::io::{self, BufReader, BufWriter, ErrorKind, IsTerminal, Read, Write};
@@ -26,6 +26,9 @@ use std::sync::Wait;
 use std::thread::{self, Threads};
 use std::time::Clock;
 use std::{env, fs};
+
+// The exit status of a simulation in which something was not as a line expected it.
+const UNMET: u8 = 1;
 
 // The program's words without its own name; `None` where one is not UTF-8.
 fn words_of<R: Runtime + AllocGlobal>(rt: &R) -> io::Result<Option<Vec<String>>> {
@@ -73,7 +76,7 @@ fn run_sim<R: Runtime + AllocGlobal + Clock + Copy + Drop, O: Write, E: Write, T
     out: &mut O,
     err: &mut E,
     line: Line<T>,
-) -> io::Result<Status> {
+) -> io::Result<ExitCode> {
     let SimJob {
         script,
         files,
@@ -85,22 +88,35 @@ fn run_sim<R: Runtime + AllocGlobal + Clock + Copy + Drop, O: Write, E: Write, T
     let script = read_file(rt, script)?;
     let files = read_files(rt, files)?;
     let Some(journal) = open_journal(rt, log.as_deref(), json, err)? else {
-        return Ok(Status::Stream);
+        return Ok(ExitCode::from(Status::Stream));
     };
     let mut screen = Screen::new(*rt, line, Events::new(rt.alloc(), journal));
-    let Simulated { status, world } = sim_text(rt.alloc(), &script, &files, out, err, &mut screen);
+    let Simulated {
+        status,
+        world,
+        is_unmet,
+    } = sim_text(rt.alloc(), &script, &files, out, err, &mut screen);
     if let Some(name) = log.as_deref() {
         if !screen.is_logged() {
             let _ = tell_unwritten(name, err);
-            return Ok(Status::Stream);
+            return Ok(ExitCode::from(Status::Stream));
         }
     }
     if let Some(world) = world {
         if !write_records(rt, &world, dot.as_deref(), pcap.as_deref(), err)? {
-            return Ok(Status::Stream);
+            return Ok(ExitCode::from(Status::Stream));
         }
     }
-    Ok(status)
+    Ok(code_of(status, is_unmet))
+}
+
+// How a simulation ends, in which something was not as it was expected, or all was.
+fn code_of(status: Status, is_unmet: bool) -> ExitCode {
+    if is_unmet && status == Status::Done {
+        ExitCode::from(UNMET)
+    } else {
+        ExitCode::from(status)
+    }
 }
 
 // A journal in the file of this name, emptied, if one is wanted; where it cannot be written that is told, and there is no answer.
@@ -365,7 +381,7 @@ where
             inspect_text(alloc, &inspect, input, &mut out, err)
         }
         Ok(Job::Check(check)) => run_check(rt, check, &mut out, err)?,
-        Ok(Job::Sim(sim)) => run_sim(rt, sim, &mut out, err, line)?,
+        Ok(Job::Sim(sim)) => return run_sim(rt, sim, &mut out, err, line),
         Ok(Job::Run(routers)) => run_routers(rt, routers, &mut out, err, line, console)?,
         Err(fault) => fault.tell(&mut out, err),
     };

@@ -27,16 +27,16 @@ pub returns-in_err-answer-in-Ok-Some-clause-cut : goal.returns-in_err-answer-in-
 returns-in_err-answer-in-Ok-Some-clause-cut g c =
     let spelled = rw c.in-Ok-Some.field-0-is at c.in-Ok-Some.ensures.command in
     for_failure c.from_residual.result c.in_err-answer-in-Ok-Some.field-0.0
-    (IsLineCut c.args.line.now.number c.args.line.now.text.now c.args.world.now c.run_command.new.streams (g.O.Write.contents c.args.out.now) (g.O.Write.contents c.run_command.new.out) (g.E.Write.contents c.args.err.now) (g.E.Write.contents c.args.err.now))
+    (IsLineCut c.args.line.now.number c.args.line.now.text.now c.args.simulation.now c.run_command.new.streams (g.O.Write.contents c.args.out.now) (g.O.Write.contents c.run_command.new.out) (g.E.Write.contents c.args.err.now) (g.E.Write.contents c.args.err.now))
     c.from_residual.ensures.1
     (in_print c.in_err-answer-in-Ok-Some.ensures.cut
-    (record { command = c.in-Ok-Some.command; end = c.run_command.new.world; spelled = spelled; done = c.in_err-answer-in-Ok-Some.ensures.begun }) refl)
+    (record { command = c.in-Ok-Some.command; end = c.run_command.new.simulation; spelled = spelled; done = c.in_err-answer-in-Ok-Some.ensures.begun }) refl)
 
 pub returns-in_err-tell_answer-in-Ok-Some-clause-cut : goal.returns-in_err-tell_answer-in-Ok-Some-clause-cut
 returns-in_err-tell_answer-in-Ok-Some-clause-cut g c =
     let spelled = rw c.in-Ok-Some.field-0-is at c.in-Ok-Some.ensures.command in
     for_failure c.from_residual-in_err-tell_answer-in-Ok-Some.result c.in_err-tell_answer-in-Ok-Some.field-0.0
-    (IsLineCut c.args.line.now.number c.args.line.now.text.now c.args.world.now c.tell_answer.new.streams (g.O.Write.contents c.args.out.now) (g.O.Write.contents c.tell_answer.new.out) (g.E.Write.contents c.args.err.now) (g.E.Write.contents c.tell_answer.new.err))
+    (IsLineCut c.args.line.now.number c.args.line.now.text.now c.args.simulation.now c.tell_answer.new.streams (g.O.Write.contents c.args.out.now) (g.O.Write.contents c.tell_answer.new.out) (g.E.Write.contents c.args.err.now) (g.E.Write.contents c.tell_answer.new.err))
     c.from_residual-in_err-tell_answer-in-Ok-Some.ensures.1
     (refusal_cut _ _ _ _ _ _ _ _ _ _ _ _ _ spelled c.in_ok-answer-in-Ok-Some.ensures.done c.in_err-tell_answer-in-Ok-Some.ensures.cut)
 

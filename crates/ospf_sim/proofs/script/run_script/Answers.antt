@@ -10,7 +10,7 @@ use Rattle.ospf_sim.proofs.script.run_script.Goals as goal
 pub returns-in_err-lines-clause-cut : goal.returns-in_err-lines-clause-cut
 returns-in_err-lines-clause-cut g c =
     for_memory c.from_residual.result
-    (IsScriptCut c.args.script.now c.args.world.now c.args.streams.now (g.O.Write.contents c.args.out.now) (g.O.Write.contents c.args.out.now) (g.E.Write.contents c.args.err.now) (g.E.Write.contents c.args.err.now))
+    (IsScriptCut c.args.script.now c.args.simulation.now c.args.streams.now (g.O.Write.contents c.args.out.now) (g.O.Write.contents c.args.out.now) (g.E.Write.contents c.args.err.now) (g.E.Write.contents c.args.err.now))
     c.from_residual.ensures.1 (none_cut refl refl)
 
 pub loop-line-init : goal.loop-line-init
@@ -25,16 +25,16 @@ pub returns-in_err-is_read-clause-cut : goal.returns-in_err-is_read-clause-cut
 returns-in_err-is_read-clause-cut g c =
     let entries : map entry_of c.deref-line-items.result.now ≡ numbered_from 1 c.args.script.now = ap (map entry_of) c.deref-line-items.ensures.value ∙ c.in_ok-lines.ensures in
     for_failure c.from_residual-in_err-is_read.result c.in_err-is_read.field-0.0
-    (IsScriptCut c.args.script.now c.args.world.now c.run_line.new.streams (g.O.Write.contents c.args.out.now) (g.O.Write.contents c.run_line.new.out) (g.E.Write.contents c.args.err.now) (g.E.Write.contents c.run_line.new.err))
+    (IsScriptCut c.args.script.now c.args.simulation.now c.run_line.new.streams (g.O.Write.contents c.args.out.now) (g.O.Write.contents c.run_line.new.out) (g.E.Write.contents c.args.err.now) (g.E.Write.contents c.run_line.new.err))
     c.from_residual-in_err-is_read.ensures.1
-    (in_line (subst (λ (lines : List (ℕ × Text)). IsCutAt lines c.args.world.now c.run_line.new.streams (g.O.Write.contents c.args.out.now) (g.O.Write.contents c.run_line.new.out) (g.E.Write.contents c.args.err.now) (g.E.Write.contents c.run_line.new.err) c.in_err-is_read.field-0.0)
+    (in_line (subst (λ (lines : List (ℕ × Text)). IsCutAt lines c.args.simulation.now c.run_line.new.streams (g.O.Write.contents c.args.out.now) (g.O.Write.contents c.run_line.new.out) (g.E.Write.contents c.args.err.now) (g.E.Write.contents c.run_line.new.err) c.in_err-is_read.field-0.0)
     entries (line_cut c.deref-line-items.result.now c.loop-line.line-index _ _ _ _ _ _ _ _ _ _ _ c.loop-line-test.true c.loop-line.invariant c.in_err-is_read.ensures.cut)))
 
 pub returns-in_err-tell_unreadable-clause-cut : goal.returns-in_err-tell_unreadable-clause-cut
 returns-in_err-tell_unreadable-clause-cut g c =
     let entries : map entry_of c.deref-line-items.result.now ≡ numbered_from 1 c.args.script.now = ap (map entry_of) c.deref-line-items.ensures.value ∙ c.in_ok-lines.ensures in
     for_failure c.from_residual-in_err-tell_unreadable.result c.in_err-tell_unreadable.field-0.0
-    (IsScriptCut c.args.script.now c.args.world.now c.tell_unreadable.new.streams (g.O.Write.contents c.args.out.now) (g.O.Write.contents c.tell_unreadable.new.out) (g.E.Write.contents c.args.err.now) (g.E.Write.contents c.tell_unreadable.new.err))
+    (IsScriptCut c.args.script.now c.args.simulation.now c.tell_unreadable.new.streams (g.O.Write.contents c.args.out.now) (g.O.Write.contents c.tell_unreadable.new.out) (g.E.Write.contents c.args.err.now) (g.E.Write.contents c.tell_unreadable.new.err))
     c.from_residual-in_err-tell_unreadable.ensures.1
     (in_line (early_cut c.deref-line-items.result.now _ _ c.args.script.now _ _ _ _ _ _ _ _ _ _ entries
     (line_ends c.deref-line-items.result.now c.loop-line.line-index _ _ _ _ _ _ _ _ _ _ c.in_ok-is_read.is_read c.loop-line-test.true c.if-not-is_read.true c.loop-line.invariant c.in_ok-is_read.ensures.comes)
@@ -52,9 +52,9 @@ returns-in_err-flush-clause-cut g c =
     let entries : map entry_of c.deref-line-items.result.now ≡ numbered_from 1 c.args.script.now = ap (map entry_of) c.deref-line-items.ensures.value ∙ c.in_ok-lines.ensures in
     let past : length c.deref-line-items.result.now ≤ c.loop-line.line-index = omega arith in
     for_failure c.from_residual-in_err-flush.result c.in_err-flush.field-0.0
-    (IsScriptCut c.args.script.now c.args.world.now c.flush.new.self (g.O.Write.contents c.args.out.now) (g.O.Write.contents c.flush.new.out) (g.E.Write.contents c.args.err.now) (g.E.Write.contents c.loop-line.err))
+    (IsScriptCut c.args.script.now c.args.simulation.now c.flush.new.self (g.O.Write.contents c.args.out.now) (g.O.Write.contents c.flush.new.out) (g.E.Write.contents c.args.err.now) (g.E.Write.contents c.loop-line.err))
     c.from_residual-in_err-flush.ensures.1
-    (behind_lines c.loop-line.world c.in_err-flush.ensures.cut (whole_at c.deref-line-items.result.now c.loop-line.line-index c.args.script.now _ _ _ _ _ _ _ past entries c.loop-line.invariant c.flush.ensures.bytes))
+    (behind_lines c.loop-line.simulation c.in_err-flush.ensures.cut (whole_at c.deref-line-items.result.now c.loop-line.line-index c.args.script.now _ _ _ _ _ _ _ past entries c.loop-line.invariant c.flush.ensures.bytes))
 
 pub returns-clause-comes : goal.returns-clause-comes
 returns-clause-comes g c =

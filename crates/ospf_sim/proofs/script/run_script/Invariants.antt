@@ -6,4 +6,4 @@ use Rattle.ospf_sim.proofs.script.run_script.Given as goal
 -- the lines so far have run
 abbrev pub invariant-loop-line : goal.invariant-loop-line
 invariant-loop-line g l =
-    IsRun (map entry_of (take l.line-index l.line-items)) l.fn.world l.world (g.O.Write.contents l.fn.out) (g.O.Write.contents l.out) (g.E.Write.contents l.fn.err) (g.E.Write.contents l.err)
+    IsRun (map entry_of (take l.line-index l.line-items)) l.fn.simulation l.simulation (g.O.Write.contents l.fn.out) (g.O.Write.contents l.out) (g.E.Write.contents l.fn.err) (g.E.Write.contents l.err)

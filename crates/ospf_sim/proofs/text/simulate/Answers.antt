@@ -1,11 +1,15 @@
-use Rattle.std.proofs.Common.{inl, refl, subst}
+use Rattle.std.proofs.Common.{inl, refl, subst, sym}
 use Rattle.ospf_files.proofs.Cut.{cut_then, for_failure}
 use Rattle.ospf_files.specs.Streams.{IsErrorCut}
+use Rattle.ospf_files.specs.Files.{text_in}
 use Rattle.ospf_script.specs.Words.{Text}
+use Rattle.ospf_files.specs.declared.status.Status.{Status}
+use Rattle.ospf_sim.specs.Simulations.{Comes, IsRefused}
 use Rattle.ospf_sim.specs.Begun.{IsCut, IsScriptCut, in_unread, in_world}
 use Rattle.ospf_sim.proofs.Cuts.{script_cut}
 use Rattle.ospf_sim.proofs.Files.{none_unread, unread_told}
 use Rattle.ospf_sim.proofs.Worlds.{found_runs, no_world_told, runs_to}
+use Rattle.ospf_sim.specs.declared.simulation.Simulation.{Simulation}
 use Rattle.ospf_sim.proofs.text.simulate.Goals as goal
 
 pub returns-in-Some-clause-stream : goal.returns-in-Some-clause-stream
@@ -29,8 +33,10 @@ returns-in_err-whole-in-Some-2-clause-unwritten g c = λ file first. absurd (non
 
 pub returns-in_err-whole-in-Some-2-clause-cut : goal.returns-in_err-whole-in-Some-2-clause-cut
 returns-in_err-whole-in-Some-2-clause-cut g c =
-    let cut = subst (λ (text : Text). IsScriptCut text c.in-Some-2.world c.run_script.new.streams (g.O.Write.contents c.args.out.now) (g.O.Write.contents c.run_script.new.out) (g.E.Write.contents c.new_world.new.err) (g.E.Write.contents c.run_script.new.err) c.in_err-whole-in-Some-2.field-0.0)
+    let of_text = subst (λ (text : Text). IsScriptCut text c.new-started.result c.run_script.new.streams (g.O.Write.contents c.args.out.now) (g.O.Write.contents c.run_script.new.out) (g.E.Write.contents c.new_world.new.err) (g.E.Write.contents c.run_script.new.err) c.in_err-whole-in-Some-2.field-0.0)
     c.text.ensures c.in_err-whole-in-Some-2.ensures.cut in
+    let cut = subst (λ (begun : Simulation). IsScriptCut (text_in c.args.script.now) begun c.run_script.new.streams (g.O.Write.contents c.args.out.now) (g.O.Write.contents c.run_script.new.out) (g.E.Write.contents c.new_world.new.err) (g.E.Write.contents c.run_script.new.err) c.in_err-whole-in-Some-2.field-0.0)
+    c.new-started.ensures of_text in
     for_failure c.from_residual-in_err-whole-in-Some-2.result c.in_err-whole-in-Some-2.field-0.0
     (IsCut c.args.script.now c.args.files.now c.run_script.new.streams (g.O.Write.contents c.args.out.now) (g.O.Write.contents c.run_script.new.out) (g.E.Write.contents c.args.err.now) (g.E.Write.contents c.run_script.new.err))
     c.from_residual-in_err-whole-in-Some-2.ensures.1
@@ -38,8 +44,8 @@ returns-in_err-whole-in-Some-2-clause-cut g c =
 
 pub returns-in_ok-whole-in-Some-2-clause-comes : goal.returns-in_ok-whole-in-Some-2-clause-comes
 returns-in_ok-whole-in-Some-2-clause-comes g c =
-    found_runs c.in_ok-world.field-0 c.in-Some-2.world c.status_of-status.result c.args.script.now c.args.files.now _ _ _ _ _ _ c.in-Some-2.is c.in_ok-world.ensures.comes c.in_default.ensures.none
-    (runs_to c.in_ok-whole-in-Some-2.whole c.status_of-status.result c.args.script.now _ _ _ _ _ _ _ c.status_of-status.ensures c.text.ensures c.in_ok-whole-in-Some-2.ensures.comes)
+    found_runs c.in_ok-world.field-0 c.in-Some-2.world _ c.args.script.now c.args.files.now c.left_of.result _ _ _ _ _ c.in-Some-2.is c.in_ok-world.ensures.comes c.in_default.ensures.none
+    (runs_to c.in_ok-whole-in-Some-2.whole c.args.script.now _ _ _ _ c.left_of.result _ _ _ _ c.left_of.ensures.status c.new-started.ensures c.text.ensures c.left_of.ensures.left c.in_ok-whole-in-Some-2.ensures.comes)
 
 pub returns-in_ok-whole-in-Some-2-clause-unread : goal.returns-in_ok-whole-in-Some-2-clause-unread
 returns-in_ok-whole-in-Some-2-clause-unread g c = λ file first. absurd (none_unread _ file c.in_default.ensures.none first)
@@ -48,12 +54,15 @@ pub returns-in_ok-whole-in-Some-2-clause-unwritten : goal.returns-in_ok-whole-in
 returns-in_ok-whole-in-Some-2-clause-unwritten g c = λ file first. absurd (none_unread _ file c.in_default.ensures.none first)
 
 pub returns-in-None-clause-comes : goal.returns-in-None-clause-comes
-returns-in-None-clause-comes g c = inl (record {
-  read = c.in_default.ensures.none;
-  no_world = no_world_told c.in_ok-world.field-0 _ _ _ c.in-None.is c.in_ok-world.ensures.comes;
-  none = refl;
-  same_out = refl;
-})
+returns-in-None-clause-comes g c =
+    let refused : IsRefused c.args.script.now c.args.files.now c.without.result (g.O.Write.contents c.args.out.now) (g.O.Write.contents c.args.out.now) (g.E.Write.contents c.args.err.now) (g.E.Write.contents c.new_world.new.err) = inl (record {
+      read = c.in_default.ensures.none;
+      no_world = no_world_told c.in_ok-world.field-0 _ _ _ c.in-None.is c.in_ok-world.ensures.comes;
+      none = c.without.ensures.world;
+      same_out = refl;
+    }) in
+    subst (λ (status : Status). Comes status c.args.script.now c.args.files.now c.without.result (g.O.Write.contents c.args.out.now) (g.O.Write.contents c.args.out.now) (g.E.Write.contents c.args.err.now) (g.E.Write.contents c.new_world.new.err))
+    (sym c.without.ensures.status) refused
 
 pub returns-in-None-clause-unread : goal.returns-in-None-clause-unread
 returns-in-None-clause-unread g c = λ file first. absurd (none_unread _ file c.in_default.ensures.none first)

@@ -1,5 +1,5 @@
 use Rattle.ospf_sim.proofs.Rounds.{LeadsOn}
-use Rattle.ospf_sim.proofs.commands.run_rounds.Given as goal
+use Rattle.ospf_sim.proofs.commands.run_whole.Given as goal
 
 -- what the rounds that are left lead to all lead to
 abbrev pub invariant-loop-done : goal.invariant-loop-done

@@ -1,5 +1,5 @@
 use Rattle.ospf_sim.proofs.Rounds.{leads_at_start, leads_further, leads_to_end, leads_to_refusal}
-use Rattle.ospf_sim.proofs.commands.run_rounds.Goals as goal
+use Rattle.ospf_sim.proofs.commands.run_whole.Goals as goal
 
 pub loop-done-init : goal.loop-done-init
 loop-done-init g c = leads_at_start _ _ _
