@@ -43,7 +43,7 @@ impl Tap for Nobody {
 
     fn ticks(&mut self) {}
 
-    fn hears(&mut self, _link: usize, _packet: &[u8]) {}
+    fn hears(&mut self, _link: usize, _source: Addr, _packet: &[u8]) {}
 
     fn sees(&mut self, _router: &Router, _step: &Step) {}
 

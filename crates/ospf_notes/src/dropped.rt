@@ -1,16 +1,35 @@
 //! What a router drops.
 
-use ospf_base::RouterId;
-use ospf_router::Dropped;
+use ospf_base::{Addr, RouterId};
+use ospf_journal::DroppedAt;
 use ospf_run::{Drops, Step};
 use std::alloc::{AllocError, Global};
 use std::mem;
 
+/// A packet that came in: on which link, and where from.
+#[derive(Clone, Copy)]
+pub(crate) struct Heard {
+    pub(crate) link: usize,
+    pub(crate) source: Addr,
+}
+
+impl Heard {
+    /// What was dropped in a step, which was that of the packet if one had come in.
+    pub(crate) fn dropped(heard: Option<Heard>, step: &Step) -> Option<DroppedAt> {
+        let (Some(Heard { link, source }), Some(cause)) = (heard, step.dropped) else {
+            return None;
+        };
+        Some(DroppedAt {
+            link,
+            source,
+            cause,
+        })
+    }
+}
+
 /// How many packets a router dropped, by link and cause, in this order.
 #[derive(Drop)]
 pub(crate) struct Counts {
-    // The link that a packet came in on last.
-    link: Option<usize>,
     counted: Vec<Drops>,
     // Whether memory ran out, so that some are not counted.
     is_short: bool,
@@ -23,22 +42,14 @@ impl Counts {
             return None;
         }
         Some(Counts {
-            link: None,
             counted: Vec::new(alloc),
             is_short: false,
         })
     }
 
-    /// A packet has come in.
-    pub(crate) fn hears(&mut self, link: usize) {
-        self.link = Some(link);
-    }
-
-    /// The router of this Router ID has made a step, which was the packet's if one came in.
-    pub(crate) fn sees(&mut self, router: RouterId, step: &Step) {
-        let (Some(link), Some(cause)) = (self.link.take(), step.dropped) else {
-            return;
-        };
+    /// The router of this Router ID dropped a packet.
+    pub(crate) fn count(&mut self, router: RouterId, dropped: DroppedAt) {
+        let DroppedAt { link, cause, .. } = dropped;
         let place = self
             .counted
             .iter()
@@ -48,7 +59,7 @@ impl Counts {
             Some(it) if it.link == link && it.cause == cause => {
                 it.count = it.count.saturating_add(1);
             }
-            _ => self.begin(place, router, link, cause),
+            _ => self.begin(place, router, dropped),
         }
     }
 
@@ -63,11 +74,11 @@ impl Counts {
     }
 
     // The first one on a link for a cause.
-    fn begin(&mut self, place: usize, router: RouterId, link: usize, cause: Dropped) {
+    fn begin(&mut self, place: usize, router: RouterId, dropped: DroppedAt) {
         let first = Drops {
             router,
-            link,
-            cause,
+            link: dropped.link,
+            cause: dropped.cause,
             count: 1,
         };
         let place = place.min(self.counted.len());

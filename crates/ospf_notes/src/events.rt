@@ -48,11 +48,21 @@ impl<F: Write + Drop> Events<F> {
         }
     }
 
-    // What changed of a router by an event that came about there.
-    fn follow(&mut self, world: &World, event: &WorldEvent) -> Result<Vec<Change>, AllocError> {
+    // What changed of a router by an event there. One that was refused is no tick and no drop, but a router stops where
+    // memory ran out.
+    fn follow(
+        &mut self,
+        world: &World,
+        event: &WorldEvent,
+        answer: &Result<(), WorldFault>,
+    ) -> Result<Vec<Change>, AllocError> {
         let (alloc, dropped) = (self.alloc, self.dropped.take());
         let followed = self.followed(router_of(event))?;
-        if let WorldEvent::Tick { .. } = event {
+        let dropped = match answer {
+            Ok(()) => dropped,
+            Err(_) => None,
+        };
+        if let (WorldEvent::Tick { .. }, Ok(())) = (event, answer) {
             followed.ticks = followed.ticks.saturating_add(1);
         }
         let ticks = followed.ticks;
@@ -87,11 +97,11 @@ impl<F: Write + Drop> EventWatch for Events<F> {
         }
     }
 
-    fn came(&mut self, world: &World, event: &WorldEvent, _answer: &Result<(), WorldFault>) {
+    fn came(&mut self, world: &World, event: &WorldEvent, answer: &Result<(), WorldFault>) {
         if self.journal.is_none() {
             return;
         }
-        let changes = self.follow(world, event);
+        let changes = self.follow(world, event, answer);
         let (alloc, now) = (self.alloc, self.now);
         if let Some(journal) = &mut self.journal {
             journal.write(alloc, now, router_of(event), changes);

@@ -1,7 +1,7 @@
 //! What is kept and shown of routers while they run.
 //!
 //! `Notes` is a tap of `ospf_run`: it writes what the routers send into a capture, whose packets are those of `ospf_records`;
-//! prints their tables from time to time, each as `ospf_reports` says; counts what they drop; and tells on standard error how far
+//! prints their tables from time to time, each as `ospf_run` prints it; counts what they drop; and tells on standard error how far
 //! the run has come, where that is a terminal, and which neighbours describe LSAs that their router refuses. What they write
 //! goes to files and a terminal under one lock, of which no contract can say anything; that they give back to the run, and
 //! that nothing wraps, is proved.

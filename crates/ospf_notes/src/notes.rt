@@ -1,14 +1,14 @@
 //! What is kept and shown of routers while they run: a capture of what they send, their tables from time to time, what they
 //! drop, a line on a terminal, and messages of neighbours whose LSAs a router refuses.
 
-use crate::dropped::Counts;
+use crate::dropped::{Counts, Heard};
 use crate::journal::Journal;
 use crate::line::Line;
 use crate::others::{Described, Others};
 use crate::tables::Tables;
-use ospf_base::RouterId;
+use ospf_base::{Addr, RouterId};
 use ospf_files::{Failure, NamedFile};
-use ospf_journal::Seen;
+use ospf_journal::{DroppedAt, Seen};
 use ospf_neighbour::NeighbourState;
 use ospf_records::{CaptureFault, Moment, write_datagram, write_header};
 use ospf_run::{Config, Drops, Router, Sent, Step, Tap};
@@ -52,6 +52,8 @@ pub struct Notes<R: Wait + Clock + Copy + Drop, F: Write + Drop, T: Write + Drop
     ticks: u64,
     has_ticked: bool,
     full: usize,
+    // The packet that came in last, until a step has been made.
+    heard: Option<Heard>,
     // What the router dropped, if that is counted.
     counts: Option<Counts>,
     // What was seen of the router, if a journal is written.
@@ -81,8 +83,7 @@ impl<R: Wait + Clock + Copy + Drop, F: Write + Drop, T: Write + Drop, O: Write +
             drops,
             journal,
         } = noted;
-        let (captures, shows) = (capture.is_some(), line.has_terminal());
-        let logs = journal.is_some();
+        let (captures, shows, logs) = (capture.is_some(), line.has_terminal(), journal.is_some());
         let every = tables.as_ref().map(|it| it.every());
         let mut shared = Shared {
             capture,
@@ -109,6 +110,7 @@ impl<R: Wait + Clock + Copy + Drop, F: Write + Drop, T: Write + Drop, O: Write +
             ticks: 0,
             has_ticked: false,
             full: 0,
+            heard: None,
             counts: Counts::if_wanted(drops, alloc),
             seen: first_seen(logs, alloc),
             teller: Teller::none(alloc),
@@ -136,10 +138,11 @@ impl<R: Wait + Clock + Copy + Drop, F: Write + Drop, T: Write + Drop, O: Write +
     // What is noted of a step of the router.
     fn follow(&mut self, router: &Router, step: &Step) {
         self.tell_others(router);
-        if let Some(counts) = &mut self.counts {
-            counts.sees(self.teller.router, step);
+        let dropped = Heard::dropped(self.heard.take(), step);
+        if let (Some(counts), Some(dropped)) = (&mut self.counts, dropped) {
+            counts.count(self.teller.router, dropped);
         }
-        self.log(router);
+        self.log(router, dropped);
         if self.has_ticked {
             self.has_ticked = false;
             self.print_table(router);
@@ -147,12 +150,12 @@ impl<R: Wait + Clock + Copy + Drop, F: Write + Drop, T: Write + Drop, O: Write +
         }
     }
 
-    // Writes what changed of the router into the journal, if there is one.
-    fn log(&mut self, router: &Router) {
+    // Writes what the router dropped, if it did, and what changed of it into the journal, if there is one.
+    fn log(&mut self, router: &Router, dropped: Option<DroppedAt>) {
         let Some(seen) = &mut self.seen else {
             return;
         };
-        let changes = seen.follow(router, None, self.alloc);
+        let changes = seen.follow(router, dropped, self.alloc);
         if let Ok(changes) = &changes {
             if changes.is_empty() {
                 return;
@@ -219,6 +222,7 @@ impl<R: Wait + Clock + Copy + Drop, F: Write + Drop, T: Write + Drop, O: Write +
             ticks: 0,
             has_ticked: false,
             full: 0,
+            heard: None,
             counts: Counts::if_wanted(self.counts.is_some(), self.alloc),
             seen: first_seen(self.seen.is_some(), self.alloc),
             teller,
@@ -230,13 +234,11 @@ impl<R: Wait + Clock + Copy + Drop, F: Write + Drop, T: Write + Drop, O: Write +
         self.has_ticked = true;
     }
 
-    fn hears(&mut self, link: usize, packet: &[u8]) {
+    fn hears(&mut self, link: usize, source: Addr, packet: &[u8]) {
         if let Some(others) = &mut self.teller.others {
             others.hears(link, packet);
         }
-        if let Some(counts) = &mut self.counts {
-            counts.hears(link);
-        }
+        self.heard = Some(Heard { link, source });
     }
 
     fn sees(&mut self, router: &Router, step: &Step) {

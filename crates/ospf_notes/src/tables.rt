@@ -2,8 +2,7 @@
 
 use ospf_base::RouterId;
 use ospf_files::{FailedStreams, Failure};
-use ospf_reports::print_at_tick;
-use ospf_run::Router;
+use ospf_run::{Router, print_at_tick};
 use std::alloc::Global;
 use std::io::Write;
 
