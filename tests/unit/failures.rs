@@ -139,6 +139,21 @@ struct Case<'a> {
     err: &'a str,
 }
 
+impl<'a> Case<'a> {
+    // Of a job that says itself which roots it is for.
+    fn over(input: &'a str, status: FailuresStatus, out: &'a str, err: &'a str) -> Case<'a> {
+        Case {
+            root: FIRST,
+            each: false,
+            strict: false,
+            input,
+            status,
+            out,
+            err,
+        }
+    }
+}
+
 fn expect(rt: &impl Abort, alloc: Global, case: &Case<'_>) -> Result<(), Fail> {
     let job = FailuresJob::Root {
         root: case.root,
@@ -372,16 +387,7 @@ fn expect_all(
     out: &str,
 ) -> Result<(), Fail> {
     let input = lines(alloc, lsas)?;
-    let case = Case {
-        root: FIRST,
-        each: false,
-        strict: false,
-        input: &input,
-        status,
-        out,
-        err: "",
-    };
-    expect_of(rt, alloc, &job, &case)
+    expect_of(rt, alloc, &job, &Case::over(&input, status, out, ""))
 }
 
 #[test]
@@ -454,16 +460,7 @@ fn expect_without(
         names: owned,
         addresses: vec![in alloc; Addr(0xac10_0003), Addr(0x0a09_0909)]?,
     };
-    let case = Case {
-        root: FIRST,
-        each: false,
-        strict: false,
-        input: &input,
-        status,
-        out,
-        err,
-    };
-    expect_of(rt, alloc, &job, &case)
+    expect_of(rt, alloc, &job, &Case::over(&input, status, out, err))
 }
 
 #[test]

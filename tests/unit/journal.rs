@@ -153,13 +153,19 @@ fn a_link_is_followed(rt: HostRuntime) -> Result<(), Fail> {
     Ok(())
 }
 
+// The first router of two runs, and its link is up.
+fn first_of_two(alloc: Global) -> Result<World, Fail> {
+    let mut world = two_on_a_link(alloc)?;
+    world.step(start(FIRST, 1), alloc)?;
+    world.step(WorldEvent::LinkUp { router: FIRST, link: 0 }, alloc)?;
+    Ok(world)
+}
+
 // A router that ends loses all that it had.
 #[test]
 fn an_end_is_told(rt: HostRuntime) -> Result<(), Fail> {
     let alloc = rt.alloc();
-    let mut world = two_on_a_link(alloc)?;
-    world.step(start(FIRST, 1), alloc)?;
-    world.step(WorldEvent::LinkUp { router: FIRST, link: 0 }, alloc)?;
+    let world = first_of_two(alloc)?;
     let mut seen = Seen::of(world.router(FIRST)?, alloc)?;
     let same = seen.follow(world.router(FIRST)?, None, alloc)?;
     assert_eq!(rt; same.len(), 0);
@@ -172,9 +178,7 @@ fn an_end_is_told(rt: HostRuntime) -> Result<(), Fail> {
 #[test]
 fn a_drop_is_foretold(rt: HostRuntime) -> Result<(), Fail> {
     let alloc = rt.alloc();
-    let mut world = two_on_a_link(alloc)?;
-    world.step(start(FIRST, 1), alloc)?;
-    world.step(WorldEvent::LinkUp { router: FIRST, link: 0 }, alloc)?;
+    let world = first_of_two(alloc)?;
     let hello = &world.datagrams()[0].sent;
     let router = world.router(FIRST)?;
     let (source, destination, bytes) = (hello.source, hello.destination, &hello.bytes);

@@ -8,7 +8,7 @@ use ospf_files::{FailedStreams, Failure, NamedFile, Status};
 use ospf_inspect::inspect_text;
 use ospf_sim::{EventWatch, Watch, World, WorldEvent, WorldFault, sim_text};
 use ospf_table::table_text;
-use ospf_words::{CheckJob, Job, JobFault, job, not_text};
+use ospf_words::{CheckJob, Job, JobFault, RunJob, job, not_text};
 use std::alloc::{AllocError, Global};
 use std::io::{self, BufReader, BufWriter, ErrorKind, Read, Write};
 use std::sync::Wait;
@@ -788,9 +788,7 @@ fn reads_the_words_of_a_run(rt: HostRuntime) -> Result<(), Fail> {
         "120",
         "a.toml",
     ];
-    let Ok(Job::Run(run)) = job(rt.alloc(), &words) else {
-        return Err(Fail::from("words"));
-    };
+    let run = run_of(rt.alloc(), &words)?;
     assert_eq!(rt; run.ticks, Some(120));
     assert_eq!(rt; run.milliseconds, 20);
     assert_eq!(rt; run.lookup, Some("192.168.2.9".parse::<Addr>()?));
@@ -798,6 +796,14 @@ fn reads_the_words_of_a_run(rt: HostRuntime) -> Result<(), Fail> {
     assert_eq!(rt; run.pcap.as_deref(), Some("sent.pcap"));
     assert_eq!(rt; run.files.len(), 1);
     Ok(())
+}
+
+// The run that words ask for.
+fn run_of(alloc: Global, words: &[&str]) -> Result<RunJob, Fail> {
+    match job(alloc, words) {
+        Ok(Job::Run(run)) => Ok(run),
+        _ => Err(Fail::from("words")),
+    }
 }
 
 #[test]
@@ -816,9 +822,7 @@ fn reads_a_run_without_a_last_tick(rt: HostRuntime) -> Result<(), Fail> {
         "forever",
         "a.toml",
     ];
-    let Ok(Job::Run(run)) = job(rt.alloc(), &words) else {
-        return Err(Fail::from("words"));
-    };
+    let run = run_of(rt.alloc(), &words)?;
     assert!(rt; run.ticks.is_none() && run.until_eof);
     assert!(rt; run.neighbours && run.listing && run.drops);
     assert_eq!(rt; run.every, Some(10));
