@@ -2,8 +2,8 @@
 
 use super::made::link;
 use ospf_base::RouterId;
+use ospf_inspect::{Graph, names_tell_apart, prefixes_are_drawn};
 use ospf_lsa::{LinkKind, Listing, Lsa};
-use ospf_records::{Graph, names_tell_apart, prefixes_are_drawn};
 use std::test::Fail;
 
 // Two routers on a point-to-point link and on the network of 10.1.0.2, of which the second has an address that is no network's, and a

@@ -140,6 +140,34 @@ fn lsas_stand_in_words(rt: HostRuntime) -> Result<(), Fail> {
     expect(&rt, alloc, &InspectJob::Lsas, &input, (Status::Done, &wanted, ""))
 }
 
+// The same LSAs, drawn by hand: a virtual link is not drawn.
+static DRAWING: &str = "digraph area {
+  node [shape=plaintext];
+  \"1.1.1.1\" [shape=box];
+  \"1.1.1.1\" -> \"2.2.2.2\" [label=10];
+  \"1.1.1.1\" -> \"10.0.0.0/30\" [label=10];
+  \"1.1.1.1\" -> \"2.2.2.2\" [label=10];
+  \"2.2.2.2\" [shape=box];
+  \"2.2.2.2\" -> \"1.1.1.1\" [label=10];
+  \"2.2.2.2\" -> \"network 10.1.0.2\" [label=5];
+  \"3.3.3.3\" [shape=box];
+  \"3.3.3.3\" -> \"network 10.1.0.2\" [label=5];
+  \"3.3.3.3\" -> \"4.4.4.4\" [label=3];
+  \"3.3.3.3\" -> \"172.16.0.3/32\" [label=1];
+  \"network 10.1.0.2\" [shape=ellipse, label=\"10.1.0.0/24\"];
+  \"network 10.1.0.2\" -> \"1.1.1.1\" [label=0];
+  \"network 10.1.0.2\" -> \"2.2.2.2\" [label=0];
+  \"network 10.1.0.2\" -> \"3.3.3.3\" [label=0];
+}
+";
+
+#[test]
+fn lsas_are_drawn(rt: HostRuntime) -> Result<(), Fail> {
+    let alloc = rt.alloc();
+    let input = lines(alloc, &area(alloc)?)?;
+    expect(&rt, alloc, &InspectJob::Drawing, &input, (Status::Done, DRAWING, ""))
+}
+
 #[test]
 fn network_lsa_that_another_stands_for_is_unused(rt: HostRuntime) -> Result<(), Fail> {
     let alloc = rt.alloc();
@@ -220,7 +248,7 @@ fn refused_line_is_told_and_nothing_printed(rt: HostRuntime) -> Result<(), Fail>
     let mut input = lines(alloc, &area(alloc)?)?;
     input.push_str("zz\n")?;
     let way = path(alloc, FIRST, 0xac10_0003, &[])?;
-    for job in [&InspectJob::Lsas, &InspectJob::Tables, &way] {
+    for job in [&InspectJob::Lsas, &InspectJob::Drawing, &InspectJob::Tables, &way] {
         expect(&rt, alloc, job, &input, (Status::Refused, "", "line 5: not hex\n"))?;
     }
     Ok(())

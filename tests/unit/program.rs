@@ -417,7 +417,7 @@ fn refuses(rt: HostRuntime) -> Result<(), Fail> {
 }
 
 // Words by name, the exit status, and how standard output and standard error begin.
-static WORDS: [(&str, &str, u8, &str, &str); 29] = [
+static WORDS: [(&str, &str, u8, &str, &str); 31] = [
     ("help", "--help", 0, "OSPF version 2 for one area\n", ""),
     ("help word", "help", 0, "OSPF version 2 for one area\n", ""),
     ("help of table", "table --help", 0, "Computes a routing", ""),
@@ -465,6 +465,8 @@ static WORDS: [(&str, &str, u8, &str, &str); 29] = [
         "",
         "a.toml: not read\n",
     ),
+    ("drawing of nothing", "lsas --dot", 0, "digraph area {\n", ""),
+    ("drawing of a word", "lsas --dot area.svg", 2, "", "error: "),
     ("help of sim", "sim --help", 0, "Simulates an area", ""),
     ("help of run", "run --help", 0, "Runs a router", ""),
     ("no configuration of a run", "run 60", 2, "", "error: "),

@@ -3,3 +3,5 @@ mod Marks
 mod Texts
 mod Ways
 mod AnswerLemmas
+pub mod Ones
+pub mod Names

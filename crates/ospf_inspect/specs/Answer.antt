@@ -13,6 +13,7 @@ use Rattle.ospf_table.specs.Line.{Reads, Refuses}
 use Rattle.ospf_table.specs.Output.{IsWarning}
 use Rattle.ospf_table.specs.Refusal.{refusal_line}
 use Rattle.ospf_table.specs.declared.table.EntryFault.{EntryFault}
+use Rattle.ospf_inspect.specs.Graph.{graph_text}
 use Rattle.ospf_inspect.specs.Lines.{AreLines}
 use Rattle.ospf_inspect.specs.Lsas.{SaysOfLsa}
 use Rattle.ospf_inspect.specs.Path.{SaysPath}
@@ -21,19 +22,21 @@ use Rattle.ospf_inspect.specs.declared.answer.Answer.{Answer}
 use Rattle.ospf_inspect.specs.declared.answer.Fault.{Fault}
 use Rattle.ospf_inspect.specs.declared.answer.Fault.TheVariants as fault
 use Rattle.ospf_inspect.specs.declared.answer.InspectJob.{InspectJob}
-use Rattle.ospf_inspect.specs.declared.answer.InspectJob.TheVariants.{Lsas, Tables, Path}
+use Rattle.ospf_inspect.specs.declared.answer.InspectJob.TheVariants.{Lsas, Drawing, Tables, Path}
 
 -- ---- what is printed
 
--- the listing in words; the table of each router; or the way between two
+-- the listing in words, or as a drawing; the table of each router; or the way between two
 abbrev pub Says : InspectJob → List (List ℕ) → List ℕ → Type 0
 Says Lsas listing text = AreLines (SaysOfLsa (advertisements_of listing)) listing text
+Says Drawing listing text = text ≡ graph_text listing
 Says Tables listing text = AreLines (SaysTableOf (advertisements_of listing)) listing text
 Says (Path from address choices) listing text = SaysPath (advertisements_of listing) from address.0 (vec_items choices) (length listing) text
 
 -- the warning of the router that a way begins at
 abbrev pub Warns : InspectJob → List (List ℕ) → List ℕ → Type 0
 Warns Lsas listing text = text ≡ []
+Warns Drawing listing text = text ≡ []
 Warns Tables listing text = text ≡ []
 Warns (Path from address choices) listing text = IsWarning listing from text
 

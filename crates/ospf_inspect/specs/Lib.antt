@@ -1,3 +1,5 @@
+pub mod Graph
+pub mod GraphLaws
 pub mod Lines
 pub mod Lsas
 pub mod Tables

@@ -5,8 +5,10 @@ ghost use Rattle.ospf_files.specs.declared.streams.FailedStreams.{FailedStreams}
 ghost use Rattle.ospf_table.specs.Line.{Reads, Refuses};
 ghost use Rattle.ospf_table.specs.Output.{IsWarning};
 ghost use Rattle.ospf_inspect.specs.Answer.{EndsBy, IsAnswerOf, IsAnswered, IsCutShort, IsEnding, IsFault, IsRefusal, IsRefusalTold, IsSaid, Says, Warns};
+ghost use Rattle.ospf_inspect.specs.Graph.{graph_text};
 ghost use Rattle.ospf_inspect.specs.declared.answer.InspectJob.{InspectJob};
 
+use crate::graph::Graph;
 use crate::lsas::lsas_text;
 use crate::path::path_text;
 use crate::tables::tables_text;
@@ -22,6 +24,8 @@ use std::io::{BufRead, Write};
 pub enum InspectJob {
     /// Each LSA in words.
     Lsas,
+    /// The LSAs as a drawing for Graphviz's `dot`.
+    Drawing,
     /// The routing table of each router.
     Tables,
     /// The way from a router to an address, with the choices of hops on it.
@@ -51,8 +55,8 @@ impl From<AllocError> for Fault {
     }
 }
 
-/// Reads LSAs, one a line in hexadecimal as `ospf_table::table_text` does, and prints what is asked of them: each in words, the
-/// routing table of each router, or the way from a router to an address.
+/// Reads LSAs, one a line in hexadecimal as `ospf_table::table_text` does, and prints what is asked of them: each in words, a
+/// drawing of all, the routing table of each router, or the way from a router to an address.
 ///
 /// Where LSAs are listed and the router-LSA of the router that a way begins at is not among them, `err` says so. The first line
 /// that is refused is told on `err`; then nothing is printed, with status `Refused`. Status `Memory` says that memory ran out, and
@@ -169,7 +173,7 @@ fn warning_of(alloc: Global, job: &InspectJob, listing: &Listing) -> Result<Stri
     ensures { IfOk result (λ text. Warns job.now listing.now (string_bytes text)) }
 {
     match job {
-        InspectJob::Lsas | InspectJob::Tables => Ok(String::new(alloc)),
+        InspectJob::Lsas | InspectJob::Drawing | InspectJob::Tables => Ok(String::new(alloc)),
         InspectJob::Path { from, .. } => unlisted_text(alloc, listing, *from),
     }
 }
@@ -192,6 +196,7 @@ fn text_of(alloc: Global, job: &InspectJob, listing: &Listing) -> Result<String,
 {
     match job {
         InspectJob::Lsas => lsas_text(alloc, listing),
+        InspectJob::Drawing => drawing_text(alloc, listing),
         InspectJob::Tables => tables_text(alloc, listing),
         InspectJob::Path {
             from,
@@ -199,6 +204,13 @@ fn text_of(alloc: Global, job: &InspectJob, listing: &Listing) -> Result<String,
             choices,
         } => path_text(alloc, listing, *from, *address, choices),
     }
+}
+
+// A listing as a drawing.
+fn drawing_text(alloc: Global, listing: &Listing) -> Result<String, AllocError>
+    ensures { IfOk result (λ text. string_bytes text ≡ graph_text listing.now) }
+{
+    format!(in alloc; "{}", Graph(listing))
 }
 
 // Prints an answer, behind its warning.

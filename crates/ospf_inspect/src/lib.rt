@@ -1,16 +1,22 @@
-//! What the LSAs of an area say, as text: each LSA in words, the routing tables of all routers, and the way from one to an
-//! address.
+//! What the LSAs of an area say, as text: each LSA in words, a drawing of them, the routing tables of all routers, and the way from one
+//! to an address.
 //!
 //! `inspect_text` is the whole: it reads lines of LSAs, and prints. `lsas_text`, `tables_text` and `path_text` are what it prints of
-//! a listing.
+//! a listing, and a `Graph` is a listing in the language of Graphviz's `dot` (`specs/Graph`).
 #![tactic(auto)]
 
 mod answer;
+mod edges;
+mod graph;
+mod graph_laws;
 mod lsas;
+mod nodes;
 mod path;
 mod tables;
 
 pub use crate::answer::{InspectJob, inspect_text};
+pub use crate::graph::Graph;
+pub use crate::graph_laws::{names_tell_apart, prefixes_are_drawn};
 pub use crate::lsas::lsas_text;
 pub use crate::path::path_text;
 pub use crate::tables::tables_text;

@@ -1,5 +1,3 @@
-pub mod Ones
-pub mod Names
 pub mod Reading
 pub mod Recorded
 mod CountFacts

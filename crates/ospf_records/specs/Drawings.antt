@@ -1,6 +1,6 @@
 -- The drawing of what a network's first running router lists.
 use Rattle.std.specs.Prelude.{ℕ, List, [], ◌∷◌, Option, None, Some}
-use Rattle.ospf_records.specs.Graph.{graph_text}
+use Rattle.ospf_inspect.specs.Graph.{graph_text}
 use Rattle.ospf_headline.specs.World.{Running, listing}
 use Rattle.ospf_world.specs.Worlds.{SlotValue}
 

@@ -1,5 +1,3 @@
-pub mod Graph
-pub mod GraphLaws
 pub mod Ip
 pub mod Pcap
 pub mod Datagram

@@ -2,22 +2,17 @@
 //!
 //! `capture` makes a file as Wireshark and tcpdump open it: libpcap's classic format, each packet as an IP packet of
 //! protocol 89 (RFC 791 and RFC 2328, appendix A.1). `write_header` begins one, and `write_datagram` adds a packet.
-//! `drawing` prints a listing, a `Graph`, in the language of Graphviz's `dot`. `write_records` writes the files that
-//! are wanted. What is captured, and when, stands in `specs/Captures`, how in `specs/Pcap` and `specs/Ip`, and what is
-//! drawn in `specs/Graph`.
+//! `drawing` prints a listing, a `Graph` of `ospf_inspect`, in the language of Graphviz's `dot`. `write_records` writes
+//! the files that are wanted. What is captured, and when, stands in `specs/Captures`, how in `specs/Pcap` and `specs/Ip`.
 #![tactic(auto)]
 
 mod capture_laws;
 mod captures;
 mod counts;
 mod drawings;
-mod edges;
 mod fault;
 mod files;
-mod graph;
-mod graph_laws;
 mod moment;
-mod nodes;
 mod stamps;
 mod write;
 
@@ -26,7 +21,5 @@ pub use crate::captures::capture;
 pub use crate::drawings::drawing;
 pub use crate::fault::CaptureFault;
 pub use crate::files::write_records;
-pub use crate::graph::Graph;
-pub use crate::graph_laws::{names_tell_apart, prefixes_are_drawn};
 pub use crate::moment::Moment;
 pub use crate::write::{write_datagram, write_header};

@@ -14,7 +14,7 @@ use Rattle.ospf_base.specs.declared.ids.RouterId.{RouterId}
 use Rattle.ospf_failures.specs.declared.answer.FailuresJob.{FailuresJob}
 use Rattle.ospf_failures.specs.declared.answer.FailuresJob.TheVariants.{All, Root, Without}
 use Rattle.ospf_inspect.specs.declared.answer.InspectJob.{InspectJob}
-use Rattle.ospf_inspect.specs.declared.answer.InspectJob.TheVariants.{Lsas, Tables, Path}
+use Rattle.ospf_inspect.specs.declared.answer.InspectJob.TheVariants.{Lsas, Drawing, Tables, Path}
 use Rattle.ospf_words.specs.declared.jobs.Job.{Job}
 use Rattle.ospf_words.specs.declared.jobs.Job.TheVariants as job
 use Rattle.ospf_words.specs.declared.jobs.RunJob.{RunJob}
@@ -68,9 +68,9 @@ failures_app = with_rule (with_rule (with_rule (new_app (codes "failures")) root
 abbrev pub script_rule : Rule
 script_rule = one_rule (codes "script")
 
--- the command `lsas`, without words
+-- the command `lsas`: a flag
 abbrev pub lsas_app : App
-lsas_app = new_app (codes "lsas")
+lsas_app = with_rule (new_app (codes "lsas")) (flag_rule (codes "dot"))
 
 -- any number of numbers of 32 bits
 abbrev pub choices_rule : Rule
@@ -206,9 +206,10 @@ pub record IsPathJob (rows : List Row) (from : RouterId) (address : Addr) (choic
   pub address_is : ReadsAddress address_text (Ok address)
   pub choices_are : AreChoices (unwrap_or (all_of (codes "choices") rows) []) choices
 
--- what is to be printed of LSAs: by `lsas` each in words, by `table` with `all` as its root, no addresses and nothing left out, all tables, and by `path` a way
+-- what is to be printed of LSAs: by `lsas` each in words, or with its flag as a drawing, by `table` with `all` as its root, no addresses and nothing left out, all tables, and by `path` a way
 abbrev pub IsInspectJob : Option (Text × List Row) → InspectJob → Type 0
-IsInspectJob entered Lsas = (rows : List Row) × (entered ≡ Some (codes "lsas", rows))
+IsInspectJob entered Lsas = (rows : List Row) × (entered ≡ Some (codes "lsas", rows)) × IsFlag (one_of (codes "dot") rows) false
+IsInspectJob entered Drawing = (rows : List Row) × (entered ≡ Some (codes "lsas", rows)) × IsFlag (one_of (codes "dot") rows) true
 IsInspectJob entered Tables =
     (rows : List Row) × (entered ≡ Some (codes "table", rows)) × (first_of (codes "root") rows ≡ Some (codes "all")) × (unwrap_or (all_of (codes "addresses") rows) [] ≡ [])
     × (unwrap_or (all_of (codes "without") rows) [] ≡ [])

@@ -135,14 +135,26 @@ fn strict_arg<'a>(alloc: Global) -> Arg<'a>
         .help("Ends with status 1 where a failure cuts a prefix off")
 }
 
-// Adds the command `lsas`.
+// Adds the command `lsas` and its word.
 fn with_lsas<'a>(program: Command<'a>, alloc: Global) -> Result<Command<'a>, AllocError>
     ensures { IfOk result (λ c. app_of c ≡ with_subcommand (app_of program.entry) lsas_app.top) }
 {
     let lsas = Command::new(alloc, "lsas")
         .about("Prints LSAs in hexadecimal, one a line, on standard input, in words")
-        .after_help(LSAS_HELP);
+        .after_help(LSAS_HELP)
+        .arg(drawing_arg(alloc))?;
     program.subcommand(lsas)
+}
+
+// Whether they are drawn.
+fn drawing_arg<'a>(alloc: Global) -> Arg<'a>
+    ensures rule { rule_of result ≡ flag_rule (codes "dot") }
+    ensures local { result.global ≡ false }
+{
+    Arg::new(alloc, "dot")
+        .long("dot")
+        .action(ArgAction::SetTrue)
+        .help("Prints a drawing of them for Graphviz's dot instead")
 }
 
 // Adds the command `path` and its words.

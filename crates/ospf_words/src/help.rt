@@ -54,6 +54,7 @@ pub(crate) const LSAS_HELP: &str = "Output:
   network PREFIX of ADDRESS by R age N number N sum N
                               a network-LSA, and a line for each attached router:
     router S
+With --dot it is a drawing instead, in the language of Graphviz.
 A link or router is `one-way` where the LSA at its other end does not name it back;
 a network-LSA is `unused` where another of its Link State ID stands for the network.
 
@@ -63,8 +64,9 @@ Exit status:
   4  memory ran out
   5  standard input was not read, or standard output not written
 
-Example:
+Examples:
   ospfd lsas < lsas.txt
+  ospfd lsas --dot < lsas.txt | dot -Tsvg > area.svg
 ";
 
 // What `path --help` says below its words.

@@ -99,8 +99,8 @@ fn entered_job(alloc: Global, matches: &ArgMatches<'_>) -> Result<Option<Job>, J
     if let Some(values) = matches.subcommand_matches("failures") {
         return failures_job(alloc, values);
     }
-    if matches.subcommand_matches("lsas").is_some() {
-        return Ok(Some(Job::Inspect(InspectJob::Lsas)));
+    if let Some(values) = matches.subcommand_matches("lsas") {
+        return Ok(lsas_job(values));
     }
     if let Some(values) = matches.subcommand_matches("path") {
         return path_job(alloc, values);
@@ -277,6 +277,16 @@ fn choices_of(alloc: Global, words: &[&str]) -> Result<Option<Vec<u32>>, AllocEr
         choices.push(choice)?;
     }
     Ok(Some(choices))
+}
+
+// The values of `lsas`: its job, by its flag.
+fn lsas_job(values: &ArgMatches<'_>) -> Option<Job>
+    ensures { IsJobIfAny (Some (codes "lsas", rows_of (found_of values.now))) result }
+{
+    if values.get_flag("dot") {
+        return Some(Job::Inspect(InspectJob::Drawing));
+    }
+    Some(Job::Inspect(InspectJob::Lsas))
 }
 
 // The values of `check`: its job, if they have files.

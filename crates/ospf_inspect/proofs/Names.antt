@@ -13,7 +13,7 @@ use Rattle.std.proofs.lemmas.List.{append_cancel_right}
 use Rattle.std.proofs.lemmas.Option.{none-some}
 use Rattle.std.proofs.lemmas.Nat.{from_be_bytes-to_be_bytes_4}
 use Rattle.ospf_base.specs.Text.{number_text}
-use Rattle.ospf_records.specs.GraphLaws.{Drawn, router, network, prefix_of, name_of, DrawnFits}
+use Rattle.ospf_inspect.specs.GraphLaws.{Drawn, router, network, prefix_of, name_of, DrawnFits}
 
 octet : (n k : ℕ) → get_or (to_be_bytes w32 n) k 0 < 2 ^ 8
 octet n zero = omega arith

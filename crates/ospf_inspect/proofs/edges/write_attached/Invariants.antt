@@ -1,7 +1,7 @@
 use Rattle.std.proofs.Common.{◌≡◌, ◌++◌}
 use Rattle.std.specs.Fmt.{HasWritten, IsPlainFormatter}
-use Rattle.ospf_records.specs.Graph.{attached_lines}
-use Rattle.ospf_records.proofs.edges.write_attached.Given as goal
+use Rattle.ospf_inspect.specs.Graph.{attached_lines}
+use Rattle.ospf_inspect.proofs.edges.write_attached.Given as goal
 
 -- the routers so far are written
 abbrev pub invariant-loop-router : goal.invariant-loop-router

@@ -1,7 +1,7 @@
 //! A listing as a drawing.
 
 ghost use Rattle.std.specs.Fmt.{WritesOnOk};
-ghost use Rattle.ospf_records.specs.Graph.{lsa_lines, lsas_lines, network_lines, router_lines};
+ghost use Rattle.ospf_inspect.specs.Graph.{lsa_lines, lsas_lines, network_lines, router_lines};
 
 use crate::edges::{write_attached, write_links};
 use crate::nodes::{NetworkNode, RouterNode, Under};
@@ -18,7 +18,7 @@ pub struct Graph<'a>(pub &'a Listing);
 /// link to a router, a transit network or a prefix as an edge with its metric, and each attached router as an edge at cost 0.
 impl<'a> Display for Graph<'a> {
     ghost use Rattle.std.specs.Prelude.{Some};
-    ghost use Rattle.ospf_records.specs.Graph.{graph_text};
+    ghost use Rattle.ospf_inspect.specs.Graph.{graph_text};
 
     ghost output = { λ graph. Some (graph_text graph.0.now) };
 

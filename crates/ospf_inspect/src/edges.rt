@@ -1,7 +1,7 @@
 //! The lines of links and of attached routers in a drawing.
 
 ghost use Rattle.std.specs.Fmt.{WritesOnOk};
-ghost use Rattle.ospf_records.specs.Graph.{attached_lines, attached_line, link_line, link_lines};
+ghost use Rattle.ospf_inspect.specs.Graph.{attached_lines, attached_line, link_line, link_lines};
 
 use crate::nodes::{NetworkNode, RouterNode, Under};
 use ospf_base::RouterId;

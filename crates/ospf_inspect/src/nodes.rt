@@ -10,7 +10,7 @@ use std::fmt::{self, Display, Formatter, Write};
 pub(crate) struct RouterNode(pub(crate) u32);
 
 impl Display for RouterNode {
-    ghost use Rattle.ospf_records.specs.Graph.{router_node};
+    ghost use Rattle.ospf_inspect.specs.Graph.{router_node};
 
     ghost output = { λ node. Some (router_node node.0) };
 
@@ -24,7 +24,7 @@ impl Display for RouterNode {
 pub(crate) struct NetworkNode(pub(crate) u32);
 
 impl Display for NetworkNode {
-    ghost use Rattle.ospf_records.specs.Graph.{network_node};
+    ghost use Rattle.ospf_inspect.specs.Graph.{network_node};
 
     ghost output = { λ node. Some (network_node node.0) };
 
@@ -41,7 +41,7 @@ pub(crate) struct Under {
 }
 
 impl Display for Under {
-    ghost use Rattle.ospf_records.specs.Graph.{prefix_under};
+    ghost use Rattle.ospf_inspect.specs.Graph.{prefix_under};
 
     ghost output = { λ p. Some (prefix_under p.address p.mask) };
 

@@ -1,7 +1,7 @@
 use Rattle.std.proofs.Common.{◌≡◌, ◌++◌}
 use Rattle.std.specs.Fmt.{HasWritten, IsPlainFormatter}
-use Rattle.ospf_records.specs.Graph.{link_lines}
-use Rattle.ospf_records.proofs.edges.write_links.Given as goal
+use Rattle.ospf_inspect.specs.Graph.{link_lines}
+use Rattle.ospf_inspect.proofs.edges.write_links.Given as goal
 
 -- the links so far are written
 abbrev pub invariant-loop-link : goal.invariant-loop-link

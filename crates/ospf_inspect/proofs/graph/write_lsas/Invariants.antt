@@ -1,7 +1,7 @@
 use Rattle.std.proofs.Common.{take}
 use Rattle.std.specs.Fmt.{HasWritten, IsPlainFormatter}
-use Rattle.ospf_records.specs.Graph.{lsas_lines}
-use Rattle.ospf_records.proofs.graph.write_lsas.Given as goal
+use Rattle.ospf_inspect.specs.Graph.{lsas_lines}
+use Rattle.ospf_inspect.proofs.graph.write_lsas.Given as goal
 
 -- the LSAs so far are written
 abbrev pub invariant-loop-lsa : goal.invariant-loop-lsa

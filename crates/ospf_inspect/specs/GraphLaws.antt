@@ -3,7 +3,7 @@ use Rattle.std.specs.Prelude.{◌≡◌, ◌^◌, ◌<◌, ◌≤◌, ℕ, List,
 use Rattle.ospf_base.specs.Prefixes.{IsPrefixOf}
 use Rattle.ospf_base.specs.Text.{number_text, prefix_text}
 use Rattle.ospf_base.specs.declared.prefix.Prefix.{Prefix}
-use Rattle.ospf_records.specs.Graph.{network_node, prefix_under, router_node}
+use Rattle.ospf_inspect.specs.Graph.{network_node, prefix_under, router_node}
 
 -- what stands for the addresses under a mask is the text of their prefix
 abbrev pub PrefixesAreDrawn : Type 0

@@ -1,6 +1,6 @@
 //! Laws: each holds of all drawings.
 
-ghost use Rattle.ospf_records.specs.GraphLaws.{NamesTellApart, PrefixesAreDrawn};
+ghost use Rattle.ospf_inspect.specs.GraphLaws.{NamesTellApart, PrefixesAreDrawn};
 
 /// What stands for the addresses under a mask without a hole is the text of their prefix.
 pub fn prefixes_are_drawn()
