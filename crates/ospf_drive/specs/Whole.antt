@@ -2,7 +2,7 @@
 use Rattle.std.specs.Prelude.{◌≡◌, ◌+◌, ◌<◌, ◌++◌, ℕ, List, [], ◌∷◌, true, Option, Result, Ok, Err, take, length}
 use Rattle.ospf_area.specs.Outputs.{SentValue}
 use Rattle.ospf_step.specs.Step.{Event}
-use Rattle.ospf_published.specs.Known.{Known, Table}
+use Rattle.ospf_index.specs.Known.{Known, Table}
 use Rattle.ospf_router.specs.Routers.{stopped}
 use Rattle.ospf_drive.specs.Drives.{Drives, last_told}
 use Rattle.ospf_drive.specs.Moments.{Moment, Done, HasNoEnd, IsChain, events_done, events_of, left_by, sent_by, tables_of}

@@ -1,6 +1,6 @@
 -- What the writer's copies show, and what they come to.
 use Rattle.std.specs.Prelude.{◌≡◌, ◌++◌, ◌∷◌, [], true, List, fold}
-use Rattle.ospf_published.specs.Known.{Known, Table}
+use Rattle.ospf_index.specs.Known.{Known, Table}
 use Rattle.ospf_fib.specs.declared.shown.Shown.{Shown}
 use Rattle.ospf_fib.specs.declared.shown.Handed.{Handed}
 use Rattle.ospf_fib.specs.declared.shown.Common.{Common}

@@ -3,7 +3,7 @@
 ghost use Rattle.std.specs.Prelude.{◌≡◌, ◌≤◌, ◌+◌, ◌∷◌, ◌++◌, [], drop, length, true, IfOk, OnErr, OnOk};
 ghost use Rattle.std.specs.Arc.{arc_value};
 ghost use Rattle.left_right.specs.Sides.{view};
-ghost use Rattle.ospf_published.specs.Rule.{counter_of};
+ghost use Rattle.ospf_index.specs.Rule.{counter_of};
 ghost use Rattle.ospf_fib.specs.Rule.{IsNamed};
 ghost use Rattle.ospf_fib.specs.Versions.{EndsWith};
 ghost use Rattle.ospf_fib.specs.Writing.{common_of, end_of, with_table};
@@ -13,8 +13,7 @@ use crate::changes::Changes;
 use crate::rule::{Knows, OneList, Swaps};
 use crate::seat::Told;
 use crate::shown::{Handed, Shown, Tries};
-use ospf_index::IndexedTable;
-use ospf_published::{Counter, Opened, Sole};
+use ospf_index::{Counter, IndexedTable, Opened, Sole};
 use ospf_spf::{Edit, RouteTable};
 use std::alloc::{AllocError, Global};
 use std::marker::Model;
@@ -37,8 +36,8 @@ impl Model for Desk {
     ghost use Rattle.std.specs.Prelude.{◌≡◌, drop};
     ghost use Rattle.std.specs.Arc.{arc_value};
     ghost use Rattle.left_right.specs.Sides.{view as view_of};
-    ghost use Rattle.ospf_published.specs.Known.{Known};
-    ghost use Rattle.ospf_published.specs.Rule.{counter_of};
+    ghost use Rattle.ospf_index.specs.Known.{Known};
+    ghost use Rattle.ospf_index.specs.Rule.{counter_of};
     ghost use Rattle.ospf_fib.specs.Rule.{IsNamed};
     ghost use Rattle.ospf_fib.specs.Writing.{IsShown, end_of};
 
@@ -164,7 +163,7 @@ impl Model for OpenDesk {
     ghost use Rattle.std.specs.Prelude.{◌≡◌, drop};
     ghost use Rattle.std.specs.Arc.{arc_value};
     ghost use Rattle.left_right.specs.Sides.{view as view_of};
-    ghost use Rattle.ospf_published.specs.Rule.{counter_of};
+    ghost use Rattle.ospf_index.specs.Rule.{counter_of};
     ghost use Rattle.ospf_fib.specs.Rule.{IsNamed};
     ghost use Rattle.ospf_fib.specs.Writing.{IsShown, Offer, end_of};
 

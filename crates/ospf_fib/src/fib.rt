@@ -3,8 +3,8 @@
 ghost use Rattle.std.specs.Prelude.{◌≡◌, ◌≤◌, All, IfOk, [], drop, length, true};
 ghost use Rattle.std.specs.Arc.{arc_value};
 ghost use Rattle.left_right.specs.Sides.{view};
-ghost use Rattle.ospf_published.specs.Known.{opening};
-ghost use Rattle.ospf_published.specs.Rule.{counter_of};
+ghost use Rattle.ospf_index.specs.Known.{opening};
+ghost use Rattle.ospf_index.specs.Rule.{counter_of};
 ghost use Rattle.ospf_fib.specs.Rule.{IsNamed};
 ghost use Rattle.ospf_fib.specs.Writing.{IsShown, end_of};
 
@@ -14,8 +14,7 @@ use crate::rule::Tells;
 use crate::seat::Seat;
 use crate::shown::{Handed, Shown, Tries};
 use crate::writer::Writer;
-use ospf_index::IndexedTable;
-use ospf_published::{Opened, Published};
+use ospf_index::{IndexedTable, Opened, Published};
 use ospf_spf::RouteTable;
 use std::alloc::{AllocError, AllocFailed, Global};
 use std::fmt::{self, Display, Formatter, Write};

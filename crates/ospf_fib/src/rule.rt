@@ -4,7 +4,7 @@
 use crate::shown::Shown;
 use atomic_table::{Join, Split};
 use crossbeam_utils::rule::{Outcome, Protocol};
-use ospf_published::Counter;
+use ospf_index::Counter;
 
 /// Which list a place knows, by its counter. One that is not named knows none.
 pub(crate) struct Knows {

@@ -12,7 +12,7 @@ use crate::shown::Shown;
 use core::mem::replace_with;
 use left_right::reader::Reader;
 use ospf_base::Addr;
-use ospf_published::Published;
+use ospf_index::Published;
 use std::fmt::{self, Display, Formatter, Write};
 use std::marker::Model;
 
@@ -39,7 +39,7 @@ pub struct Told {
 }
 
 impl Model for Told {
-    ghost use Rattle.ospf_published.specs.Known.{Known};
+    ghost use Rattle.ospf_index.specs.Known.{Known};
 
     ghost Value = { Known };
 
@@ -76,7 +76,7 @@ pub struct Seat {
 
 impl Model for Seat {
     ghost use Rattle.left_right.specs.Sides.{view as view_of};
-    ghost use Rattle.ospf_published.specs.Known.{Known};
+    ghost use Rattle.ospf_index.specs.Known.{Known};
     ghost use Rattle.ospf_fib.specs.Rule.{IsNamed};
 
     ghost Value = { Known };

@@ -21,7 +21,7 @@ pub struct Writer<R: Wait + Drop> {
 }
 
 impl<R: Wait + Drop> Model for Writer<R> {
-    ghost use Rattle.ospf_published.specs.Known.{Known};
+    ghost use Rattle.ospf_index.specs.Known.{Known};
 
     ghost Value = { Known };
 

@@ -3,3 +3,6 @@ pub mod BlockLemmas
 pub mod RangeLemmas
 pub mod SetLemmas
 pub mod CountLemmas
+mod Events
+pub mod Prefixes
+mod Steps

@@ -4,3 +4,5 @@ pub mod Sets
 pub mod Entries
 pub mod Indexes
 pub mod Room
+pub mod Known
+pub mod Rule

@@ -1,15 +1,22 @@
-//! A routing table with the index that lookups go through: the ranges of addresses that one route answers
-//! for (RFC 2328, section 11.1).
+//! The table that threads share: a routing table with the index that lookups go through, the ranges of
+//! addresses that one route answers for (RFC 2328, section 11.1), and the list of the tables that one
+//! forwarding table has published, as each thread knows it.
 #![tactic(auto)]
 
 mod counts;
 mod entries;
+mod gate;
 mod index;
+mod known;
 mod numbering;
 mod ranges;
+mod rule;
 mod sets;
 mod sweep;
 mod table;
 
 pub use crate::entries::Found;
+pub use crate::gate::{Opened, Sole};
+pub use crate::known::Published;
+pub use crate::rule::{AddsTable, Closes, Counter, CountsEvents, Event, NoGain, Opens, Proves};
 pub use crate::table::IndexedTable;

@@ -5,7 +5,7 @@ use mathlib.Core.List.{IsPrefix}
 use Rattle.ospf_drive.specs.Driven.{DrivesToEnd, IsDriven, Outcome as Driven}
 use Rattle.ospf_drive.specs.Drives.{last_told}
 use Rattle.ospf_drive.specs.Moments.{Moment, tables_of}
-use Rattle.ospf_published.specs.Known.{Known, Table, opening}
+use Rattle.ospf_index.specs.Known.{Known, Table, opening}
 use Rattle.ospf_router.specs.Routers.{RouterValue}
 use Rattle.ospf_run.proofs.Known.{both_begin, prefix_trans}
 use Rattle.ospf_run.specs.Lookers.{Follows}

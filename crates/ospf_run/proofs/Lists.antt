@@ -12,7 +12,7 @@ use Rattle.ospf_drive.proofs.Jobs.{of_first, of_later}
 use Rattle.ospf_drive.proofs.Joined.{pairs_then}
 use Rattle.ospf_base.specs.declared.ids.Addr.{Addr}
 use Rattle.ospf_files.specs.declared.files.NamedFile.{NamedFile}
-use Rattle.ospf_published.specs.Known.{Known}
+use Rattle.ospf_index.specs.Known.{Known}
 use Rattle.ospf_run.specs.Lookers.{IsFrom}
 use Rattle.ospf_run.specs.Runs.{AreOutcomes, Begins, IsOutcome, Terms, Trio, Trios}
 use Rattle.ospf_run.specs.declared.outcome.Outcome.{Outcome}

@@ -1,7 +1,7 @@
 -- Seats from which an address is looked up beside a driver.
 use Rattle.std.specs.Prelude.{◌≡◌, ⊤}
 use mathlib.Core.List.{IsPrefix}
-use Rattle.ospf_published.specs.Known.{Known}
+use Rattle.ospf_index.specs.Known.{Known}
 use Rattle.ospf_run.specs.declared.look.Looker.{Looker}
 use Rattle.ospf_run.specs.declared.look.Looker.TheVariants as looker
 

@@ -12,7 +12,7 @@ use Rattle.ospf_fib.specs.Answers.{IsAnswerOfLast}
 use Rattle.ospf_files.specs.declared.status.Status.{Status}
 use Rattle.ospf_files.specs.declared.status.Status.TheVariants.{Refused, Stream}
 use Rattle.ospf_files.specs.declared.files.NamedFile.{NamedFile}
-use Rattle.ospf_published.specs.Known.{Known, Table, opening}
+use Rattle.ospf_index.specs.Known.{Known, Table, opening}
 use Rattle.ospf_router.specs.Routers.{RouterValue}
 use Rattle.ospf_router.specs.Starts.{IsStarted}
 use Rattle.ospf_run.specs.Lookers.{IsFrom}

@@ -3,7 +3,7 @@
 ghost use Rattle.std.specs.Prelude.{◌≡◌, ◌≢◌, ◌+◌, ◌<◌, ◌^◌, All, IfOk, length, map};
 ghost use Rattle.ospf_drive.specs.Driven.{Pairs};
 ghost use Rattle.ospf_flood.specs.Rules.{max_sequence_number};
-ghost use Rattle.ospf_published.specs.Known.{opening};
+ghost use Rattle.ospf_index.specs.Known.{opening};
 ghost use Rattle.ospf_router.specs.Starts.{IsStarted};
 ghost use Rattle.ospf_run.specs.Runs.{Begins};
 

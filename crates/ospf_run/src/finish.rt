@@ -4,7 +4,7 @@ ghost use Rattle.std.specs.Prelude.{◌≡◌, IfErr, IfOk, IfSome, length};
 ghost use mathlib.Core.List.{IsPrefix};
 ghost use Rattle.ospf_drive.specs.Moments.{Moment};
 ghost use Rattle.ospf_fib.specs.Answers.{IsAnswerOfLast};
-ghost use Rattle.ospf_published.specs.Known.{opening};
+ghost use Rattle.ospf_index.specs.Known.{opening};
 ghost use Rattle.ospf_udp.specs.Obstacles.{FailsPlan};
 ghost use Rattle.ospf_run.specs.Runs.{AreOutcomes, Came, IsLookedUp, IsTold, Ran, Terms, Trios};
 

@@ -1,7 +1,7 @@
 //! Threads that look an address up beside the drivers.
 
 ghost use Rattle.std.specs.Prelude.{IfSome};
-ghost use Rattle.ospf_published.specs.Known.{Known};
+ghost use Rattle.ospf_index.specs.Known.{Known};
 ghost use Rattle.ospf_run.specs.Lookers.{IsFrom, Follows};
 
 use ospf_base::Addr;
@@ -28,7 +28,7 @@ pub(crate) struct Looking {
 }
 
 impl Model for Looking {
-    ghost use Rattle.ospf_published.specs.Known.{Known};
+    ghost use Rattle.ospf_index.specs.Known.{Known};
 
     ghost Value = { Known };
 

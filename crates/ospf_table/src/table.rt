@@ -5,7 +5,7 @@ ghost use Rattle.std.specs.Io.KnownBytes.{Appends};
 ghost use Rattle.ospf_files.specs.Streams.{IsBegun, IsErrorCut, IsOfInput};
 ghost use Rattle.ospf_files.specs.declared.status.Failure.{Failure};
 ghost use Rattle.ospf_files.specs.declared.streams.FailedStreams.{FailedStreams};
-ghost use Rattle.ospf_published.specs.Known.{opening};
+ghost use Rattle.ospf_index.specs.Known.{opening};
 ghost use Rattle.ospf_table.specs.Cut.{IsAnswerCut, IsCutShort, IsLookupCut, IsOutputBegun, IsTableCut, IsWarningBegun};
 ghost use Rattle.ospf_table.specs.Fault.{IsMemoryFault, IsRefusal};
 ghost use Rattle.ospf_table.specs.declared.table.EntryFault.{EntryFault};

@@ -18,8 +18,8 @@ pub struct Published {
 
 impl Model for Published {
     ghost use Rattle.std.specs.Prelude.{◌≡◌, length};
-    ghost use Rattle.ospf_published.specs.Known.{Known};
-    ghost use Rattle.ospf_published.specs.Rule.{tables_of};
+    ghost use Rattle.ospf_index.specs.Known.{Known};
+    ghost use Rattle.ospf_index.specs.Rule.{tables_of};
 
     ghost Value = { Known };
 

@@ -2,8 +2,8 @@
 
 ghost use Rattle.std.specs.Prelude.{◌≡◌, ◌+◌, ◌⊎◌, ◌∷◌, ◌++◌, [], length, IfSome, IfOk, IfErr};
 ghost use mathlib.Core.List.{IsPrefix};
-ghost use Rattle.ospf_published.specs.Known.{opening};
-ghost use Rattle.ospf_published.specs.Rule.{counter_of};
+ghost use Rattle.ospf_index.specs.Known.{opening};
+ghost use Rattle.ospf_index.specs.Rule.{counter_of};
 
 use crate::known::Published;
 use crate::rule::{AddsTable, Closes, Counter, CountsEvents, Event, NoGain, Opens, Proves};
@@ -24,8 +24,8 @@ pub struct Opened {
 
 impl Model for Opened {
     ghost use Rattle.std.specs.Prelude.{◌≡◌, length, false};
-    ghost use Rattle.ospf_published.specs.Known.{Known};
-    ghost use Rattle.ospf_published.specs.Rule.{tables_of, closed};
+    ghost use Rattle.ospf_index.specs.Known.{Known};
+    ghost use Rattle.ospf_index.specs.Rule.{tables_of, closed};
 
     ghost Value = { Known };
 
@@ -150,8 +150,8 @@ pub struct Sole {
 impl Model for Sole {
     ghost use Rattle.std.specs.Prelude.{◌≡◌, length, true, false, suc};
     ghost use Rattle.logbook.specs.Pages.{nib, may_write};
-    ghost use Rattle.ospf_published.specs.Known.{Known};
-    ghost use Rattle.ospf_published.specs.Rule.{tables_of, closed, opens};
+    ghost use Rattle.ospf_index.specs.Known.{Known};
+    ghost use Rattle.ospf_index.specs.Rule.{tables_of, closed, opens};
 
     ghost Value = { Known };
 

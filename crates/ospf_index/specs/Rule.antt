@@ -1,9 +1,9 @@
 -- The rule of the list of events, and what each step tells.
 use Rattle.std.specs.Prelude.{ℕ, ◌≡◌, ◌==◌, suc, Bool, true, false, not, ◌&&◌, List, [], ◌∷◌, ◌++◌, length, replicate, MatchBool, ⊤}
 use Rattle.logbook.specs.Pages.{Cell, Step, View, Book, Named, nib, may_make}
-use Rattle.ospf_published.specs.Known.{Table}
-use Rattle.ospf_published.specs.declared.rule.Event.{Event}
-use Rattle.ospf_published.specs.declared.rule.Event.TheVariants.{Opened, Added, Closed}
+use Rattle.ospf_index.specs.Known.{Table}
+use Rattle.ospf_index.specs.declared.rule.Event.{Event}
+use Rattle.ospf_index.specs.declared.rule.Event.TheVariants.{Opened, Added, Closed}
 
 -- the list of tables that the events make
 abbrev pub tables_of : List Event → List Table

@@ -1,11 +1,11 @@
 use Rattle.std.proofs.Common.{◌≡◌, ◌∙◌, ap}
 use Rattle.std.proofs.Common.{suc, List, subst, arith}
 use mathlib.Core.List.{IsPrefix}
-use Rattle.ospf_published.specs.declared.rule.Event.{Event}
-use Rattle.ospf_published.specs.Rule.{tables_of, opens}
-use Rattle.ospf_published.proofs.Prefixes.{prefix_trans}
-use Rattle.ospf_published.proofs.Events.{whole, tables_prefix}
-use Rattle.ospf_published.proofs.gate.Sole.covers.Goals as goal
+use Rattle.ospf_index.specs.declared.rule.Event.{Event}
+use Rattle.ospf_index.specs.Rule.{tables_of, opens}
+use Rattle.ospf_index.proofs.Prefixes.{prefix_trans}
+use Rattle.ospf_index.proofs.Events.{whole, tables_prefix}
+use Rattle.ospf_index.proofs.gate.Sole.covers.Goals as goal
 
 pub returns-clause-covers : goal.returns-clause-covers
 returns-clause-covers c =

@@ -1,8 +1,8 @@
 use Rattle.std.proofs.Common.{arith, ◌≡◌, [], ◌∷◌, ◌++◌, refl, sym, ◌∙◌, ap}
-use Rattle.ospf_published.proofs.Steps.{adds_moves, told}
-use Rattle.ospf_published.specs.declared.rule.Event.TheVariants.{Added}
-use Rattle.ospf_published.proofs.Events.{after_added}
-use Rattle.ospf_published.proofs.gate.Opened.added.Goals as goal
+use Rattle.ospf_index.proofs.Steps.{adds_moves, told}
+use Rattle.ospf_index.specs.declared.rule.Event.TheVariants.{Added}
+use Rattle.ospf_index.proofs.Events.{after_added}
+use Rattle.ospf_index.proofs.gate.Opened.added.Goals as goal
 
 pub compare_exchange-found-requires : goal.compare_exchange-found-requires
 compare_exchange-found-requires c =

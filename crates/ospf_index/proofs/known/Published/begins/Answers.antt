@@ -1,11 +1,11 @@
 use Rattle.std.proofs.Common.{◌↔◌, ap, subst, IsTrue, nat_le, List}
 use Rattle.std.specs.Bool.{OnFalse}
 use mathlib.Core.List.{IsPrefix}
-use Rattle.ospf_published.specs.declared.rule.Event.{Event}
-use Rattle.ospf_published.specs.Rule.{tables_of}
-use Rattle.ospf_published.proofs.Events.{tables_prefix}
-use Rattle.ospf_published.proofs.Prefixes.{lengths_tell}
-use Rattle.ospf_published.proofs.known.Published.begins.Goals as goal
+use Rattle.ospf_index.specs.declared.rule.Event.{Event}
+use Rattle.ospf_index.specs.Rule.{tables_of}
+use Rattle.ospf_index.proofs.Events.{tables_prefix}
+use Rattle.ospf_index.proofs.Prefixes.{lengths_tell}
+use Rattle.ospf_index.proofs.known.Published.begins.Goals as goal
 
 -- what the lengths of both lists tell
 told : (c : goal.After-drop-both) →

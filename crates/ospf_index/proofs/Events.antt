@@ -2,10 +2,10 @@
 use Rattle.std.proofs.Common.{◌≡◌, ◌<◌, ◌+◌, ℕ, zero, suc, Bool, true, false, List, [], ◌∷◌, ◌++◌, length, replicate, refl, ap, sym, ◌∙◌, subst, arith, length-append}
 use mathlib.Core.List.{IsPrefix}
 use Rattle.logbook.specs.Pages.{Cell, cell, nib, may_write, Away}
-use Rattle.ospf_published.specs.Known.{Table}
-use Rattle.ospf_published.specs.declared.rule.Event.{Event}
-use Rattle.ospf_published.specs.declared.rule.Event.TheVariants.{Opened, Added, Closed}
-use Rattle.ospf_published.specs.Rule.{tables_of, opens, closed, legal, pen_cell, cells_of, IsCounted}
+use Rattle.ospf_index.specs.Known.{Table}
+use Rattle.ospf_index.specs.declared.rule.Event.{Event}
+use Rattle.ospf_index.specs.declared.rule.Event.TheVariants.{Opened, Added, Closed}
+use Rattle.ospf_index.specs.Rule.{tables_of, opens, closed, legal, pen_cell, cells_of, IsCounted}
 
 pub tables_append : (xs ys : List Event) → tables_of (xs ++ ys) ≡ tables_of xs ++ tables_of ys
 tables_append [] ys = refl

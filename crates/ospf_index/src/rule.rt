@@ -16,7 +16,7 @@ pub struct CountsEvents;
 impl Rule<Event, u64> for CountsEvents {
     ghost use Rattle.std.specs.Prelude.{[]};
     ghost use base.Fml.{ftrue};
-    ghost use Rattle.ospf_published.specs.Rule.{IsCounted, first_log};
+    ghost use Rattle.ospf_index.specs.Rule.{IsCounted, first_log};
 
     ghost holds = { λ cells log. IsCounted cells log };
 
@@ -44,14 +44,14 @@ impl Gain<Event, u64> for NoGain {
 pub struct AddsTable;
 
 impl Play<Event, u64> for AddsTable {
-    ghost use Rattle.ospf_published.specs.Rule.{AddsWhereCounted};
+    ghost use Rattle.ospf_index.specs.Rule.{AddsWhereCounted};
 
     ghost then = { AddsWhereCounted };
 }
 
 impl Plain<RouteTable, Event, u64> for AddsTable {
     ghost use Rattle.std.specs.Prelude.{None};
-    ghost use Rattle.ospf_published.specs.declared.rule.Event.TheVariants.{Added};
+    ghost use Rattle.ospf_index.specs.declared.rule.Event.TheVariants.{Added};
 
     ghost ask = { λ x. Added x };
 
@@ -62,14 +62,14 @@ impl Plain<RouteTable, Event, u64> for AddsTable {
 pub struct Closes;
 
 impl Play<Event, u64> for Closes {
-    ghost use Rattle.ospf_published.specs.Rule.{ClosesWhereCounted};
+    ghost use Rattle.ospf_index.specs.Rule.{ClosesWhereCounted};
 
     ghost then = { ClosesWhereCounted };
 }
 
 impl Plain<u64, Event, u64> for Closes {
     ghost use Rattle.std.specs.Prelude.{None};
-    ghost use Rattle.ospf_published.specs.declared.rule.Event.TheVariants.{Closed};
+    ghost use Rattle.ospf_index.specs.declared.rule.Event.TheVariants.{Closed};
 
     ghost ask = { λ x. Closed };
 
@@ -80,14 +80,14 @@ impl Plain<u64, Event, u64> for Closes {
 pub struct Opens;
 
 impl Play<Event, u64> for Opens {
-    ghost use Rattle.ospf_published.specs.Rule.{OpensAlways};
+    ghost use Rattle.ospf_index.specs.Rule.{OpensAlways};
 
     ghost then = { OpensAlways };
 }
 
 impl Plain<u64, Event, u64> for Opens {
     ghost use Rattle.std.specs.Prelude.{None};
-    ghost use Rattle.ospf_published.specs.declared.rule.Event.TheVariants.{Opened};
+    ghost use Rattle.ospf_index.specs.declared.rule.Event.TheVariants.{Opened};
 
     ghost ask = { λ x. Opened };
 
@@ -98,14 +98,14 @@ impl Plain<u64, Event, u64> for Opens {
 pub struct Proves;
 
 impl Play<Event, u64> for Proves {
-    ghost use Rattle.ospf_published.specs.Rule.{ProvesWhole};
+    ghost use Rattle.ospf_index.specs.Rule.{ProvesWhole};
 
     ghost then = { ProvesWhole };
 }
 
 impl Plain<u64, Event, u64> for Proves {
     ghost use Rattle.std.specs.Prelude.{None};
-    ghost use Rattle.ospf_published.specs.declared.rule.Event.TheVariants.{Closed};
+    ghost use Rattle.ospf_index.specs.declared.rule.Event.TheVariants.{Closed};
 
     ghost ask = { λ x. Closed };
 

@@ -1,11 +1,11 @@
 use Rattle.std.proofs.Common.{◌≡◌, [], ◌∷◌, ◌++◌, refl, sym, ◌∙◌, ap}
 use Rattle.std.proofs.Common.{suc}
 use Rattle.logbook.specs.Pages.{nib, may_write}
-use Rattle.ospf_published.specs.Rule.{opens}
-use Rattle.ospf_published.proofs.Steps.{closes_moves, told}
-use Rattle.ospf_published.specs.declared.rule.Event.TheVariants.{Closed}
-use Rattle.ospf_published.proofs.Events.{after_closed}
-use Rattle.ospf_published.proofs.gate.Opened.close.Goals as goal
+use Rattle.ospf_index.specs.Rule.{opens}
+use Rattle.ospf_index.proofs.Steps.{closes_moves, told}
+use Rattle.ospf_index.specs.declared.rule.Event.TheVariants.{Closed}
+use Rattle.ospf_index.proofs.Events.{after_closed}
+use Rattle.ospf_index.proofs.gate.Opened.close.Goals as goal
 
 pub compare_exchange-found-requires : goal.compare_exchange-found-requires
 compare_exchange-found-requires c =

@@ -5,12 +5,12 @@ use Rattle.std.proofs.lemmas.Bool.Decides.{nat_tests}
 use mathlib.Core.List.{IsPrefix}
 use prog.Atomic.{either}
 use Rattle.logbook.specs.Pages.{Cell, cell, keeps, gives, adds, nib, no_nib, may_write, may_make, step, View, Moves, Goes}
-use Rattle.ospf_published.specs.Known.{Table}
-use Rattle.ospf_published.specs.declared.rule.Event.{Event}
-use Rattle.ospf_published.specs.declared.rule.Event.TheVariants.{Opened, Added, Closed}
-use Rattle.ospf_published.specs.Rule.{opens, closed, legal, pen_cell, cells_of, IsCounted, AddsWhereCounted, ClosesWhereCounted, OpensAlways, ProvesWhole}
-use Rattle.ospf_published.proofs.Prefixes.{prefix_whole, prefix_trans}
-use Rattle.ospf_published.proofs.Events.{opens_append, closed_append, legal_more, append_none, pen_whole}
+use Rattle.ospf_index.specs.Known.{Table}
+use Rattle.ospf_index.specs.declared.rule.Event.{Event}
+use Rattle.ospf_index.specs.declared.rule.Event.TheVariants.{Opened, Added, Closed}
+use Rattle.ospf_index.specs.Rule.{opens, closed, legal, pen_cell, cells_of, IsCounted, AddsWhereCounted, ClosesWhereCounted, OpensAlways, ProvesWhole}
+use Rattle.ospf_index.proofs.Prefixes.{prefix_whole, prefix_trans}
+use Rattle.ospf_index.proofs.Events.{opens_append, closed_append, legal_more, append_none, pen_whole}
 
 -- clients see nothing of the list, and trade nothing
 abbrev pub shown : List Event → List Event
