@@ -140,24 +140,21 @@ fn lsas_stand_in_words(rt: HostRuntime) -> Result<(), Fail> {
     expect(&rt, alloc, &InspectJob::Lsas, &input, (Status::Done, &wanted, ""))
 }
 
-// The same LSAs, drawn by hand: a virtual link is not drawn.
-static DRAWING: &str = "digraph area {
-  node [shape=plaintext];
-  \"1.1.1.1\" [shape=box];
-  \"1.1.1.1\" -> \"2.2.2.2\" [label=10];
-  \"1.1.1.1\" -> \"10.0.0.0/30\" [label=10];
-  \"1.1.1.1\" -> \"2.2.2.2\" [label=10];
-  \"2.2.2.2\" [shape=box];
-  \"2.2.2.2\" -> \"1.1.1.1\" [label=10];
-  \"2.2.2.2\" -> \"network 10.1.0.2\" [label=5];
-  \"3.3.3.3\" [shape=box];
-  \"3.3.3.3\" -> \"network 10.1.0.2\" [label=5];
-  \"3.3.3.3\" -> \"4.4.4.4\" [label=3];
-  \"3.3.3.3\" -> \"172.16.0.3/32\" [label=1];
-  \"network 10.1.0.2\" [shape=ellipse, label=\"10.1.0.0/24\"];
-  \"network 10.1.0.2\" -> \"1.1.1.1\" [label=0];
-  \"network 10.1.0.2\" -> \"2.2.2.2\" [label=0];
-  \"network 10.1.0.2\" -> \"3.3.3.3\" [label=0];
+// The same LSAs, drawn by hand: of two links to a router that has one back, the second is one that one end tells, and a virtual
+// link is not drawn.
+static DRAWING: &str = "graph area {
+  graph [layout=neato, overlap=false, splines=line, sep=\"+30\", outputorder=edgesfirst];
+  node [shape=plaintext, style=filled, fillcolor=white];
+  \"1.1.1.1\" [shape=box, label=\"1.1.1.1\\n10.0.0.0/30 cost 10\"];
+  \"1.1.1.1\" -- \"2.2.2.2\" [taillabel=10, headlabel=10];
+  \"1.1.1.1\" -- \"2.2.2.2\" [taillabel=10, dir=forward, style=dashed];
+  \"2.2.2.2\" [shape=box, label=\"2.2.2.2\"];
+  \"2.2.2.2\" -- \"network 10.1.0.2\" [taillabel=5];
+  \"3.3.3.3\" [shape=box, label=\"3.3.3.3\\n172.16.0.3/32 cost 1\"];
+  \"3.3.3.3\" -- \"network 10.1.0.2\" [taillabel=5];
+  \"3.3.3.3\" -- \"4.4.4.4\" [taillabel=3, dir=forward, style=dashed];
+  \"network 10.1.0.2\" [shape=box, style=\"filled,rounded\", label=\"10.1.0.0/24\"];
+  \"network 10.1.0.2\" -- \"1.1.1.1\" [dir=forward, style=dashed];
 }
 ";
 

@@ -465,7 +465,7 @@ static WORDS: [(&str, &str, u8, &str, &str); 31] = [
         "",
         "a.toml: not read\n",
     ),
-    ("drawing of nothing", "lsas --dot", 0, "digraph area {\n", ""),
+    ("drawing of nothing", "lsas --dot", 0, "graph area {\n", ""),
     ("drawing of a word", "lsas --dot area.svg", 2, "", "error: "),
     ("help of sim", "sim --help", 0, "Simulates an area", ""),
     ("help of run", "run --help", 0, "Runs a router", ""),

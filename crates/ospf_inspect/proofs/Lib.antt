@@ -1,6 +1,7 @@
 mod LineLemmas
 mod Marks
 mod Texts
+mod Drawn
 mod Ways
 mod AnswerLemmas
 pub mod Ones

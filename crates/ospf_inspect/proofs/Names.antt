@@ -1,6 +1,5 @@
 -- Names tell apart what they stand for.
-use Rattle.std.proofs.Common.{◌≡◌, ℕ, zero, suc, ◌^◌, ◌<◌, ◌≤◌, List, [], ◌∷◌, ◌++◌, get_or, drop, Some, None, refl, sym, ap, ◌∙◌, append_assoc, arith}
-use Rattle.std.specs.Prelude.{decimal}
+use Rattle.std.proofs.Common.{◌≡◌, ℕ, zero, suc, ◌^◌, ◌<◌, List, [], ◌∷◌, ◌++◌, get_or, drop, Some, None, refl, sym, ap, ◌∙◌, arith}
 use Rattle.std.specs.Int.{w32, to_be_bytes, from_be_bytes}
 use Rattle.std.specs.Net.Grammar.{IsDotted}
 use Rattle.std.specs.Net.Reader.{read_ipv4}
@@ -8,12 +7,10 @@ use Rattle.std.proofs.NetLemmas.Ipv4.{read_ipv4_complete, read_ipv4_none}
 use Rattle.std.proofs.NetLemmas.Numbers.{NoDigit}
 use Rattle.std.proofs.NetLemmas.Options.{same_parts}
 use Rattle.std.proofs.NetLemmas.Texts.{IsDotted-ipv4_text}
-use Rattle.std.proofs.lemmas.Fmt.{decimal_injective}
-use Rattle.std.proofs.lemmas.List.{append_cancel_right}
 use Rattle.std.proofs.lemmas.Option.{none-some}
 use Rattle.std.proofs.lemmas.Nat.{from_be_bytes-to_be_bytes_4}
 use Rattle.ospf_base.specs.Text.{number_text}
-use Rattle.ospf_inspect.specs.GraphLaws.{Drawn, router, network, prefix_of, name_of, DrawnFits}
+use Rattle.ospf_inspect.specs.GraphLaws.{Drawn, router, network, name_of, DrawnFits}
 
 octet : (n k : ℕ) → get_or (to_be_bytes w32 n) k 0 < 2 ^ 8
 octet n zero = omega arith
@@ -41,32 +38,8 @@ no_letter m xs ys stop e =
     let none : read_ipv4 (110 ∷ ys) ≡ None = read_ipv4_none [] (110 ∷ ys) tt (omega arith) (λ h. omega arith) in
     none-some _ (sym none ∙ ap read_ipv4 (sym e) ∙ read_back m xs stop)
 
--- the name of a prefix: a number, a slash and the rest
-opened : (address len : ℕ) → drop 1 (name_of (prefix_of address len)) ≡ number_text address ++ (47 ∷ (decimal len ++ 34 ∷ []))
-opened address len =
-    append_assoc (number_text address ++ 47 ∷ []) (decimal len) (34 ∷ []) ∙ append_assoc (number_text address) (47 ∷ []) (decimal len ++ 34 ∷ [])
-
-same_length : (m n : ℕ) → m ≤ 32 → n ≤ 32 → ◌≡◌ {A = List ℕ} (47 ∷ (decimal m ++ 34 ∷ [])) (47 ∷ (decimal n ++ 34 ∷ [])) → m ≡ n
-same_length m n hm hn e = decimal_injective m n (omega arith) (omega arith) (append_cancel_right (decimal m) (decimal n) (34 ∷ []) (ap (drop 1) e))
-
-same_prefix : (a b m n : ℕ) → a ≡ b → m ≡ n → prefix_of a m ≡ prefix_of b n
-same_prefix a b m n e f = cc
-
 pub names_tell_apart : (a b : Drawn) → DrawnFits a → DrawnFits b → name_of a ≡ name_of b → a ≡ b
 names_tell_apart (router a) (router b) fa fb e = ap router (same_number a b (34 ∷ []) (34 ∷ []) fa fb (omega arith) (omega arith) (ap (drop 1) e)).0
 names_tell_apart (network a) (network b) fa fb e = ap network (same_number a b (34 ∷ []) (34 ∷ []) fa fb (omega arith) (omega arith) (ap (drop 9) e)).0
-names_tell_apart (prefix_of a m) (prefix_of b n) fa fb e =
-    let both = same_number a b (47 ∷ (decimal m ++ 34 ∷ [])) (47 ∷ (decimal n ++ 34 ∷ [])) fa.0 fb.0 (omega arith) (omega arith) (sym (opened a m) ∙ ap (drop 1) e ∙ opened b n) in
-    same_prefix a b m n both.0 (same_length m n fa.1 fb.1 both.1)
 names_tell_apart (router a) (network b) fa fb e = absurd (no_letter a (34 ∷ []) _ (omega arith) (ap (drop 1) e))
 names_tell_apart (network a) (router b) fa fb e = absurd (no_letter b (34 ∷ []) _ (omega arith) (sym (ap (drop 1) e)))
-names_tell_apart (prefix_of a m) (network b) fa fb e =
-    absurd (no_letter a (47 ∷ (decimal m ++ 34 ∷ [])) _ (omega arith) (sym (opened a m) ∙ ap (drop 1) e))
-names_tell_apart (network a) (prefix_of b n) fa fb e =
-    absurd (no_letter b (47 ∷ (decimal n ++ 34 ∷ [])) _ (omega arith) (sym (ap (drop 1) e ∙ opened b n)))
-names_tell_apart (router a) (prefix_of b n) fa fb e =
-    let rest = (same_number a b (34 ∷ []) (47 ∷ (decimal n ++ 34 ∷ [])) fa fb.0 (omega arith) (omega arith) (ap (drop 1) e ∙ opened b n)).1 in
-    absurd (let first : 34 ≡ 47 = ap (λ (t : List ℕ). get_or t 0 0) rest in omega arith)
-names_tell_apart (prefix_of a m) (router b) fa fb e =
-    let rest = (same_number a b (47 ∷ (decimal m ++ 34 ∷ [])) (34 ∷ []) fa.0 fb (omega arith) (omega arith) (sym (opened a m) ∙ ap (drop 1) e)).1 in
-    absurd (let first : 47 ≡ 34 = ap (λ (t : List ℕ). get_or t 0 0) rest in omega arith)

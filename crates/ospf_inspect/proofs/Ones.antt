@@ -7,7 +7,7 @@ use Rattle.ospf_base.specs.Masks.{mask_of}
 use Rattle.ospf_base.specs.Prefixes.{IsPrefixOf}
 use Rattle.ospf_base.specs.Text.{number_text, prefix_text}
 use Rattle.ospf_base.specs.declared.prefix.Prefix.{Prefix}
-use Rattle.ospf_inspect.specs.Graph.{prefix_under}
+use Rattle.ospf_inspect.specs.Lsas.{prefix_under}
 
 ones_0 : count_ones 0 ≡ 0
 ones_0 = omega (arith, ones_le_self 0)

@@ -29,7 +29,7 @@ use Rattle.ospf_inspect.specs.declared.answer.InspectJob.TheVariants.{Lsas, Draw
 -- the listing in words, or as a drawing; the table of each router; or the way between two
 abbrev pub Says : InspectJob → List (List ℕ) → List ℕ → Type 0
 Says Lsas listing text = AreLines (SaysOfLsa (advertisements_of listing)) listing text
-Says Drawing listing text = text ≡ graph_text listing
+Says Drawing listing text = text ≡ graph_text listing []
 Says Tables listing text = AreLines (SaysTableOf (advertisements_of listing)) listing text
 Says (Path from address choices) listing text = SaysPath (advertisements_of listing) from address.0 (vec_items choices) (length listing) text
 

@@ -1,9 +1,10 @@
 -- Laws of drawings.
-use Rattle.std.specs.Prelude.{◌≡◌, ◌^◌, ◌<◌, ◌≤◌, ℕ, List, ◌++◌, codes, decimal}
+use Rattle.std.specs.Prelude.{◌≡◌, ◌^◌, ◌<◌, ℕ, List}
 use Rattle.ospf_base.specs.Prefixes.{IsPrefixOf}
-use Rattle.ospf_base.specs.Text.{number_text, prefix_text}
+use Rattle.ospf_base.specs.Text.{prefix_text}
 use Rattle.ospf_base.specs.declared.prefix.Prefix.{Prefix}
-use Rattle.ospf_inspect.specs.Graph.{network_node, prefix_under, router_node}
+use Rattle.ospf_inspect.specs.Graph.{network_node, router_node}
+use Rattle.ospf_inspect.specs.Lsas.{prefix_under}
 
 -- what stands for the addresses under a mask is the text of their prefix
 abbrev pub PrefixesAreDrawn : Type 0
@@ -13,18 +14,15 @@ PrefixesAreDrawn = (address mask : ℕ) (prefix : Prefix) → IsPrefixOf address
 pub data Drawn : Type 0 where
   router : (id : ℕ) → Drawn
   network : (id : ℕ) → Drawn
-  prefix_of : (address len : ℕ) → Drawn
 
 abbrev pub name_of : Drawn → List ℕ
 name_of (router id) = router_node id
 name_of (network id) = network_node id
-name_of (prefix_of address len) = codes "\"" ++ (number_text address ++ codes "/" ++ decimal len) ++ codes "\""
 
--- the numbers fit their fields
+-- the number fits its field
 abbrev pub DrawnFits : Drawn → Type 0
 DrawnFits (router id) = id < 2 ^ 32
 DrawnFits (network id) = id < 2 ^ 32
-DrawnFits (prefix_of address len) = (address < 2 ^ 32) × (len ≤ 32)
 
 -- different things have different names
 abbrev pub NamesTellApart : Type 0

@@ -208,9 +208,10 @@ fn text_of(alloc: Global, job: &InspectJob, listing: &Listing) -> Result<String,
 
 // A listing as a drawing.
 fn drawing_text(alloc: Global, listing: &Listing) -> Result<String, AllocError>
-    ensures { IfOk result (λ text. string_bytes text ≡ graph_text listing.now) }
+    ensures { IfOk result (λ text. string_bytes text ≡ graph_text listing.now []) }
 {
-    format!(in alloc; "{}", Graph(listing))
+    let stopped = &[];
+    format!(in alloc; "{}", Graph { listing, stopped })
 }
 
 // Prints an answer, behind its warning.

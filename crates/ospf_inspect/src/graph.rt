@@ -1,80 +1,106 @@
 //! A listing as a drawing.
 
 ghost use Rattle.std.specs.Fmt.{WritesOnOk};
-ghost use Rattle.ospf_inspect.specs.Graph.{lsa_lines, lsas_lines, network_lines, router_lines};
+ghost use Rattle.std.specs.Prelude.{flat_map};
+ghost use Rattle.ospf_lsa.specs.Lsa.{IsRouterLsa, links_of};
+ghost use Rattle.ospf_inspect.specs.Graph.{lsa_lines, network_lines, router_lines, stopped_line};
 
+use crate::boxes::{write_network, write_router, write_stopped};
 use crate::edges::{write_attached, write_links};
-use crate::nodes::{NetworkNode, RouterNode, Under};
 use ospf_base::{Kind, RouterId};
-use ospf_lsa::{Attached, Links, Listing, Lsa};
+use ospf_lsa::{Attached, Listing, Lsa, LsaView};
 use std::fmt::{self, Display, Formatter, Write};
 
-/// A listing, to be printed as a directed graph in the language of Graphviz's `dot`: a node a router and a transit
-/// network, and an edge a link and an attached router, in the order of the listing (RFC 2328, section 2.1).
-#[derive(Clone, Copy)]
-pub struct Graph<'a>(pub &'a Listing);
+// How all is laid out: boxes that lie apart, over straight lines; what has no line of its own is plain text.
+const HEAD: &str =
+    "graph area {\n  graph [layout=neato, overlap=false, splines=line, sep=\"+30\", outputorder=edgesfirst];\n  node [shape=plaintext, style=filled, fillcolor=white];\n";
 
-/// Each router as a box, each transit network as an ellipse that bears its prefix, and what has no LSA as plain text; each
-/// link to a router, a transit network or a prefix as an edge with its metric, and each attached router as an edge at cost 0.
+/// A listing, to be printed as a graph in the language of Graphviz: a box a router, with its stub networks, and a box a
+/// transit network, and a line a link between them, in the order of the listing (RFC 2328, section 2.1).
+#[derive(Clone, Copy)]
+pub struct Graph<'a> {
+    pub listing: &'a Listing,
+    /// Routers that do not run, which are grey.
+    pub stopped: &'a [RouterId],
+}
+
+/// A link that both ends tell is one line with the cost at each end, one that one end alone tells is dashed and has an arrow;
+/// what has no LSA is plain text.
 impl<'a> Display for Graph<'a> {
     ghost use Rattle.std.specs.Prelude.{Some};
     ghost use Rattle.ospf_inspect.specs.Graph.{graph_text};
 
-    ghost output = { λ graph. Some (graph_text graph.0.now) };
+    ghost output = { λ graph. Some (graph_text graph.listing.now graph.stopped.now) };
 
     fn fmt<W: Write>(&self, f: &mut Formatter<W>) -> fmt::Result {
-        f.write_str("digraph area {\n  node [shape=plaintext];\n")?;
-        write_lsas(f, self.0.lsas())?;
+        f.write_str(HEAD)?;
+        write_lsas(f, self.listing, self.listing.lsas())?;
+        write_all_stopped(f, self.stopped)?;
         f.write_str("}\n")
     }
 }
 
 // The lines of LSAs.
-fn write_lsas<W: Write>(f: &mut Formatter<W>, lsas: &[Lsa]) -> fmt::Result
-    ensures { WritesOnOk W.Write.write_str_gives f.old result (lsas_lines lsas.now) f.new }
+fn write_lsas<W: Write>(f: &mut Formatter<W>, listing: &Listing, lsas: &[Lsa]) -> fmt::Result
+    ensures { WritesOnOk W.Write.write_str_gives f.old result
+        (flat_map (lsa_lines listing.now) lsas.now) f.new }
 {
     for lsa in lsas {
-        write_lsa(f, lsa)?;
+        write_lsa(f, listing, lsa)?;
     }
     Ok(())
 }
 
 // The lines of an LSA.
-fn write_lsa<W: Write>(f: &mut Formatter<W>, lsa: &Lsa) -> fmt::Result
-    ensures { WritesOnOk W.Write.write_str_gives f.old result (lsa_lines lsa.now) f.new }
+fn write_lsa<W: Write>(f: &mut Formatter<W>, listing: &Listing, lsa: &Lsa) -> fmt::Result
+    ensures { WritesOnOk W.Write.write_str_gives f.old result (lsa_lines listing.now lsa.now)
+        f.new }
 {
     let view = lsa.view();
     let key = view.key();
     match view.kind() {
-        Kind::Router => write_router_lsa(f, key.router, view.links()),
-        Kind::Network => write_network_lsa(f, key.id, view.mask(), view.attached()),
+        Kind::Router => write_router_lsa(f, listing, key.router, &view),
+        Kind::Network => write_network_lsa(f, listing, key.id, view.mask(), view.attached()),
     }
 }
 
 // The lines of a router and its links.
-fn write_router_lsa<W: Write>(f: &mut Formatter<W>, router: RouterId, links: Links) -> fmt::Result
-    ensures { WritesOnOk W.Write.write_str_gives f.old result (router_lines router.0 links.entry)
-        f.new }
+fn write_router_lsa<W: Write>(
+    f: &mut Formatter<W>,
+    listing: &Listing,
+    router: RouterId,
+    lsa: &LsaView,
+) -> fmt::Result
+    requires { IsRouterLsa lsa.now }
+    ensures { WritesOnOk W.Write.write_str_gives f.old result
+        (router_lines listing.now router.0 (links_of lsa.now)) f.new }
 {
-    writeln!(f, "  {} [shape=box];", RouterNode(router.0))?;
-    write_links(f, router, links)
+    write_router(f, router, lsa.links())?;
+    write_links(f, listing, router, lsa)
 }
 
-// The lines of a network and its attached routers.
+// The lines of a network and the routers that it names.
 fn write_network_lsa<W: Write>(
     f: &mut Formatter<W>,
+    listing: &Listing,
     id: u32,
     mask: u32,
     routers: Attached,
 ) -> fmt::Result
-    ensures { WritesOnOk W.Write.write_str_gives f.old result (network_lines id mask routers.entry)
+    ensures { WritesOnOk W.Write.write_str_gives f.old result
+        (network_lines listing.now id mask routers.entry) f.new }
+{
+    write_network(f, id, mask)?;
+    write_attached(f, listing, id, routers)
+}
+
+// The lines of routers that do not run.
+fn write_all_stopped<W: Write>(f: &mut Formatter<W>, routers: &[RouterId]) -> fmt::Result
+    ensures { WritesOnOk W.Write.write_str_gives f.old result (flat_map stopped_line routers.now)
         f.new }
 {
-    let prefix = Under { address: id, mask };
-    writeln!(
-        f,
-        "  {} [shape=ellipse, label=\"{prefix}\"];",
-        NetworkNode(id)
-    )?;
-    write_attached(f, id, routers)
+    for router in routers {
+        write_stopped(f, *router)?;
+    }
+    Ok(())
 }

@@ -7,7 +7,7 @@ pub fn prefixes_are_drawn()
     ensures { PrefixesAreDrawn }
 {}
 
-/// Routers, transit networks and prefixes that are different have different names, so no two share a node.
+/// Routers and transit networks that are different have different names, so no two share a box.
 pub fn names_tell_apart()
     ensures { NamesTellApart }
 {}

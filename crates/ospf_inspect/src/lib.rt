@@ -6,7 +6,9 @@
 #![tactic(auto)]
 
 mod answer;
+mod boxes;
 mod edges;
+mod ends;
 mod graph;
 mod graph_laws;
 mod lsas;

@@ -13,6 +13,7 @@ ghost use Rattle.ospf_script.specs.Texts.{hexadecimal};
 ghost use Rattle.ospf_inspect.specs.Lines.{AreLines};
 ghost use Rattle.ospf_inspect.specs.Lsas.{Joins, SaysOfAttached, SaysOfLink, SaysOfLsa, SaysOfNetwork, SaysOfRouter, link_line, member_text, name_of, network_line, one_way, router_line, stub_text, unused, virtual_text, way_of};
 
+use crate::nodes::Under;
 use ospf_base::{Addr, Instance, Kind, RouterId};
 use ospf_edges::edges_at;
 use ospf_graph::{Edge, Vertex, is_same};
@@ -257,26 +258,6 @@ fn one_way_unless(both_ways: bool) -> &'static str
     ensures one { both_ways ≡ false → result.now ≡ one_way }
 {
     if both_ways { "" } else { ONE_WAY }
-}
-
-// The addresses under a mask.
-#[derive(Clone, Copy)]
-struct Under {
-    address: u32,
-    mask: u32,
-}
-
-/// As `10.0.0.0/30`.
-impl Display for Under {
-    ghost use Rattle.std.specs.Prelude.{Some};
-    ghost use Rattle.ospf_inspect.specs.Lsas.{prefix_under};
-
-    ghost output = { λ under. Some (prefix_under under.address under.mask) };
-
-    fn fmt<W: Write>(&self, f: &mut Formatter<W>) -> fmt::Result {
-        let first = Addr(self.address & self.mask);
-        write!(f, "{first}/{}", self.mask.count_ones())
-    }
 }
 
 // A network-LSA in words.

@@ -41,7 +41,7 @@ pub(crate) struct Under {
 }
 
 impl Display for Under {
-    ghost use Rattle.ospf_inspect.specs.Graph.{prefix_under};
+    ghost use Rattle.ospf_inspect.specs.Lsas.{prefix_under};
 
     ghost output = { λ p. Some (prefix_under p.address p.mask) };
 

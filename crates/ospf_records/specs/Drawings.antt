@@ -1,5 +1,6 @@
 -- The drawing of what a network's first running router lists.
-use Rattle.std.specs.Prelude.{ℕ, List, [], ◌∷◌, Option, None, Some}
+use Rattle.std.specs.Prelude.{ℕ, Bool, not, is_some, List, [], ◌∷◌, Option, None, Some, filter, map}
+use Rattle.ospf_base.specs.declared.ids.RouterId.{RouterId}
 use Rattle.ospf_inspect.specs.Graph.{graph_text}
 use Rattle.ospf_headline.specs.World.{Running, listing}
 use Rattle.ospf_world.specs.Worlds.{SlotValue}
@@ -14,5 +15,12 @@ abbrev pub first_listing : List SlotValue → List (List ℕ)
 first_listing [] = []
 first_listing (s ∷ slots) = listing_or s.running (first_listing slots)
 
+abbrev pub is_stopped : SlotValue → Bool
+is_stopped s = not (is_some s.running)
+
+-- the routers that do not run
+abbrev pub stopped_in : List SlotValue → List RouterId
+stopped_in slots = map (λ s. s.config.router_id) (filter is_stopped slots)
+
 abbrev pub drawing_of : List SlotValue → List ℕ
-drawing_of slots = graph_text (first_listing slots)
+drawing_of slots = graph_text (first_listing slots) (stopped_in slots)

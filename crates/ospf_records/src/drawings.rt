@@ -2,22 +2,24 @@
 
 ghost use Rattle.std.specs.Prelude.{◌≡◌, IfOk, string_bytes};
 ghost use Rattle.ospf_inspect.specs.Graph.{graph_text};
-ghost use Rattle.ospf_records.specs.Drawings.{drawing_of, first_listing};
+ghost use Rattle.ospf_records.specs.Drawings.{drawing_of, first_listing, stopped_in};
 
+use ospf_base::RouterId;
 use ospf_inspect::Graph;
 use ospf_lsa::Listing;
 use ospf_world::{Slot, World};
 use std::alloc::{AllocError, Global};
 
-/// What the first router that runs lists (RFC 2328, section 14), in the order of the configurations, as a drawing for Graphviz's
-/// `dot`; a drawing of nothing where none runs.
+/// What the first router that runs lists (RFC 2328, section 14), in the order of the configurations, as a drawing for Graphviz;
+/// nothing where none runs. Routers that do not run are grey.
 ///
 /// `AllocError` where memory runs out.
 pub fn drawing(world: &World, alloc: Global) -> Result<String, AllocError>
     ensures { IfOk result (λ text. string_bytes text ≡ drawing_of world.now.slots) }
 {
     let listing = first_listing(world.slots(), alloc)?;
-    draw(&listing, alloc)
+    let stopped = stopped_in(world.slots(), alloc)?;
+    draw(&listing, &stopped, alloc)
 }
 
 // What the first router that runs lists; nothing where none runs.
@@ -32,9 +34,20 @@ fn first_listing(slots: &[Slot], alloc: Global) -> Result<Listing, AllocError>
     Ok(Listing::new(alloc))
 }
 
-// A listing as a drawing.
-fn draw(listing: &Listing, alloc: Global) -> Result<String, AllocError>
-    ensures { IfOk result (λ text. string_bytes text ≡ graph_text listing.now) }
+// The routers that do not run.
+fn stopped_in(slots: &[Slot], alloc: Global) -> Result<Vec<RouterId>, AllocError>
+    ensures { IfOk result (λ routers. routers.items ≡ stopped_in slots.now) }
 {
-    format!(in alloc; "{}", Graph(listing))
+    slots
+        .iter()
+        .filter(|slot| !slot.runs())
+        .map(|slot| slot.config().router_id)
+        .collect(alloc)
+}
+
+// A listing and the routers that do not run as a drawing.
+fn draw(listing: &Listing, stopped: &[RouterId], alloc: Global) -> Result<String, AllocError>
+    ensures { IfOk result (λ text. string_bytes text ≡ graph_text listing.now stopped.now) }
+{
+    format!(in alloc; "{}", Graph { listing, stopped })
 }

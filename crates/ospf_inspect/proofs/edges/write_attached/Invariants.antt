@@ -7,5 +7,5 @@ use Rattle.ospf_inspect.proofs.edges.write_attached.Given as goal
 abbrev pub invariant-loop-router : goal.invariant-loop-router
 invariant-loop-router g l = record {
   walked : l.fn.routers ≡ l.yielded ++ l.router-iterator;
-  written : IsPlainFormatter l.fn.f → HasWritten g.W.Write.write_str_gives l.fn.f (attached_lines l.fn.network l.yielded) l.f;
+  written : IsPlainFormatter l.fn.f → HasWritten g.W.Write.write_str_gives l.fn.f (attached_lines l.fn.listing l.fn.network l.yielded) l.f;
 }
