@@ -2,8 +2,8 @@
 
 use ospf_base::{Addr, Instance, Kind, LsaKey, Prefix, RouterId};
 use ospf_script::{
-    Command, Expected, FloorShown, Hint, LineFault, ListedShown, NeighbourShown, RefusalShown, WalkShown,
-    first_line, lines, words_spell_one_command,
+    Command, Expected, FloorShown, Hint, LineFault, ListedShown, Many, NeighbourShown, RefusalShown, View,
+    WalkShown, WorldEvent, first_line, lines, words_spell_one_command,
 };
 use std::alloc::Global;
 use std::process::Abort;
@@ -27,146 +27,99 @@ fn spells(
     Ok(())
 }
 
+// A line spells an event.
+fn happens(
+    rt: &impl Abort,
+    alloc: Global,
+    line: &str,
+    event: WorldEvent,
+    printed: &str,
+) -> Result<(), LineFault> {
+    spells(rt, alloc, line, &Command::Event { event }, printed)
+}
+
 #[test]
 fn events(rt: HostRuntime) -> Result<(), Fail> {
-    let alloc = rt.alloc();
-    let start = |dd_start: u32, floor: i32| Command::Start {
+    let (alloc, router) = (rt.alloc(), ONE);
+    let start = |dd_start: u32, floor: i32| WorldEvent::Start {
         router: ONE,
         dd_start,
         floor,
     };
-    spells(
-        &rt,
-        alloc,
-        "start 1.1.1.1 100",
-        &start(100, i32::MIN),
-        "start 1.1.1.1 100 80000000",
-    )?;
-    spells(
-        &rt,
-        alloc,
-        "start 1.1.1.1 4294967295 7FFFfffe",
-        &start(u32::MAX, i32::MAX - 1),
-        "start 1.1.1.1 4294967295 7ffffffe",
-    )?;
-    spells(
-        &rt,
-        alloc,
-        " start  1.1.1.1 007 00000000 ",
-        &start(7, 0),
-        "start 1.1.1.1 7 00000000",
-    )?;
-    spells(
-        &rt,
-        alloc,
-        "stop 1.1.1.1",
-        &Command::Stop { router: ONE },
-        "stop 1.1.1.1",
-    )?;
-    spells(
-        &rt,
-        alloc,
-        "tick 1.1.1.1",
-        &Command::Tick { router: ONE },
-        "tick 1.1.1.1",
-    )?;
-    let up = Command::LinkUp {
-        router: ONE,
-        link: usize::MAX,
-    };
-    spells(
-        &rt,
-        alloc,
-        "up 1.1.1.1 18446744073709551615",
-        &up,
-        "up 1.1.1.1 18446744073709551615",
-    )?;
-    let down = Command::LinkDown {
-        router: ONE,
-        link: 2,
-    };
-    spells(&rt, alloc, "down 1.1.1.1 02", &down, "down 1.1.1.1 2")?;
-    let deliver = Command::Deliver {
+    let printed = "start 1.1.1.1 100 80000000";
+    happens(&rt, alloc, "start 1.1.1.1 100", start(100, i32::MIN), printed)?;
+    let (line, printed) = ("start 1.1.1.1 4294967295 7FFFfffe", "start 1.1.1.1 4294967295 7ffffffe");
+    happens(&rt, alloc, line, start(u32::MAX, i32::MAX - 1), printed)?;
+    let (line, printed) = (" start  1.1.1.1 007 00000000 ", "start 1.1.1.1 7 00000000");
+    happens(&rt, alloc, line, start(7, 0), printed)?;
+    let line = "stop 1.1.1.1";
+    happens(&rt, alloc, line, WorldEvent::Stop { router }, line)?;
+    let line = "tick 1.1.1.1";
+    happens(&rt, alloc, line, WorldEvent::Tick { router }, line)?;
+    let (line, link) = ("up 1.1.1.1 18446744073709551615", usize::MAX);
+    happens(&rt, alloc, line, WorldEvent::LinkUp { router, link }, line)?;
+    let down = WorldEvent::LinkDown { router, link: 2 };
+    happens(&rt, alloc, "down 1.1.1.1 02", down, "down 1.1.1.1 2")?;
+    let deliver = WorldEvent::Deliver {
         datagram: 5,
-        router: ONE,
+        router,
         link: 3,
     };
-    spells(
-        &rt,
-        alloc,
-        "deliver 5 1.1.1.1 3",
-        &deliver,
-        "deliver 5 1.1.1.1 3",
-    )?;
-    spells(
-        &rt,
-        alloc,
-        "round 20",
-        &Command::Round {
-            count: 20,
-            most: None,
-        },
-        "round 20",
-    )?;
-    spells(
-        &rt,
-        alloc,
-        "round  020 18446744073709551615 ",
-        &Command::Round {
-            count: 20,
-            most: Some(u64::MAX),
-        },
-        "round 20 18446744073709551615",
-    )?;
-    spells(&rt, alloc, "start all", &Command::StartAll, "start all")?;
-    spells(&rt, alloc, " up  all ", &Command::UpAll, "up all")?;
-    spells(&rt, alloc, "down all", &Command::DownAll, "down all")?;
+    let line = "deliver 5 1.1.1.1 3";
+    happens(&rt, alloc, line, deliver, line)?;
+    Ok(())
+}
+
+#[test]
+fn many_events(rt: HostRuntime) -> Result<(), Fail> {
+    let alloc = rt.alloc();
+    let network = Addr(0x0a00_0005);
+    let forms = [
+        ("start all", Many::Start, "start all"),
+        (" up  all ", Many::Up, "up all"),
+        ("down all", Many::Down, "down all"),
+        (" cut  10.0.0.5", Many::Cut { network }, "cut 10.0.0.5"),
+        ("mend 10.0.0.5 ", Many::Mend { network }, "mend 10.0.0.5"),
+    ];
+    for (line, many, printed) in forms {
+        spells(&rt, alloc, line, &Command::Many { many }, printed)?;
+    }
+    Ok(())
+}
+
+#[test]
+fn running(rt: HostRuntime) -> Result<(), Fail> {
+    let alloc = rt.alloc();
+    let round = |most: Option<u64>| Command::Round { count: 20, most };
+    spells(&rt, alloc, "round 20", &round(None), "round 20")?;
+    let (line, printed) = ("round  020 18446744073709551615 ", "round 20 18446744073709551615");
+    spells(&rt, alloc, line, &round(Some(u64::MAX)), printed)?;
     let random = Command::Random {
         number: 7,
         count: 5000,
     };
     spells(&rt, alloc, "random 7 5000", &random, "random 7 5000")?;
+    spells(&rt, alloc, "settle 0300", &Command::Settle { most: 300 }, "settle 300")?;
+    let line = "settle 18446744073709551615";
+    spells(&rt, alloc, line, &Command::Settle { most: u64::MAX }, line)?;
     Ok(())
 }
 
 #[test]
 fn printing(rt: HostRuntime) -> Result<(), Fail> {
-    let alloc = rt.alloc();
-    spells(
-        &rt,
-        alloc,
-        "neighbours 1.1.1.1",
-        &Command::Neighbours { router: ONE },
-        "neighbours 1.1.1.1",
-    )?;
-    spells(
-        &rt,
-        alloc,
-        "listing 1.1.1.1",
-        &Command::Listing { router: ONE },
-        "listing 1.1.1.1",
-    )?;
-    spells(
-        &rt,
-        alloc,
-        "table 1.1.1.1",
-        &Command::Table { router: ONE },
-        "table 1.1.1.1",
-    )?;
-    spells(
-        &rt,
-        alloc,
-        "floor 1.1.1.1",
-        &Command::Floor { router: ONE },
-        "floor 1.1.1.1",
-    )?;
-    spells(
-        &rt,
-        alloc,
-        "neighbors 1.1.1.1",
-        &Command::Neighbours { router: ONE },
-        "neighbours 1.1.1.1",
-    )?;
+    let (alloc, router) = (rt.alloc(), ONE);
+    let views = [
+        ("neighbours 1.1.1.1", View::Neighbours, "neighbours 1.1.1.1"),
+        ("neighbors 1.1.1.1", View::Neighbours, "neighbours 1.1.1.1"),
+        ("listing 1.1.1.1", View::Listing, "listing 1.1.1.1"),
+        ("table 1.1.1.1", View::Table, "table 1.1.1.1"),
+        ("floor 1.1.1.1", View::Floor, "floor 1.1.1.1"),
+    ];
+    for (line, view, printed) in views {
+        spells(&rt, alloc, line, &Command::Show { view, router }, printed)?;
+    }
+    spells(&rt, alloc, " label  on", &Command::Label { is_on: true }, "label on")?;
+    spells(&rt, alloc, "label off ", &Command::Label { is_on: false }, "label off")?;
     let said = |text: &str| Ok::<_, LineFault>(Command::Say {
         text: String::from_str(alloc, text)?,
     });
@@ -262,8 +215,54 @@ fn expecting(rt: HostRuntime) -> Result<(), Fail> {
     Ok(())
 }
 
+#[test]
+fn expecting_of_all(rt: HostRuntime) -> Result<(), Fail> {
+    let alloc = rt.alloc();
+    let walk = |cost: Option<u64>| Expected::Walk {
+        from: ONE,
+        address: Addr(0x0a09_0909),
+        cost,
+    };
+    let line = "expect walk 1.1.1.1 10.9.9.9 arrived";
+    expects(&rt, alloc, line, walk(None), line)?;
+    let line = "expect walk 1.1.1.1 10.9.9.9 arrived 0";
+    expects(&rt, alloc, line, walk(Some(0)), line)?;
+    let (line, printed) = (
+        " expect walk  1.1.1.1 10.9.9.9 arrived 018446744073709551615 ",
+        "expect walk 1.1.1.1 10.9.9.9 arrived 18446744073709551615",
+    );
+    expects(&rt, alloc, line, walk(Some(u64::MAX)), printed)?;
+    expects(&rt, alloc, "expect  agree ", Expected::Agree, "expect agree")?;
+    expects(&rt, alloc, " expect settled", Expected::Settled, "expect settled")?;
+    Ok(())
+}
+
 // Each is refused for one reason.
-const UNREADABLE: [&[u8]; 58] = [
+const UNREADABLE: [&[u8]; 82] = [
+    b"cut",
+    b"cut all",
+    b"cut 10.0.0",
+    b"cut 10.0.0.5 1",
+    b"mend",
+    b"mend 10.0.0.256",
+    b"mend 1.1.1.1 10.0.0.5",
+    b"settle",
+    b"settle x",
+    b"settle +1",
+    b"settle 18446744073709551616",
+    b"settle 1 2",
+    b"label",
+    b"label On",
+    b"label on off",
+    b"expect agree all",
+    b"expect Agree",
+    b"expect settled 1",
+    b"expect walk 1.1.1.1 10.9.9.9",
+    b"expect walk 1.1.1.1 arrived",
+    b"expect walk 1.1.1.1 10.9.9.9 arrives",
+    b"expect walk 1.1.1.1 10.9.9.9 arrived x",
+    b"expect walk 1.1.1.1 10.9.9.9 arrived 18446744073709551616",
+    b"expect walk 1.1.1.1 10.9.9.9 arrived 20 1",
     b"why 1.1.1.1",
     b"why 1.1.1.1 x",
     b"why 1.1.1.1 0 2.2.2",
@@ -334,17 +333,22 @@ fn unreadable(rt: HostRuntime) {
     }
 }
 
-const NAMES: &str = "start, stop, tick, up, down, deliver, round, random, neighbours, listing, table, walk, floor, say, why, loss, expect";
+const NAMES: &str = "start, stop, tick, up, down, deliver, cut, mend, round, random, settle, neighbours, listing, table, walk, floor, say, why, loss, expect, label";
 
 #[test]
 fn hints(rt: HostRuntime) -> Result<(), Fail> {
     let alloc = rt.alloc();
-    let forms: [(&[u8], &str); 10] = [
+    let forms: [(&[u8], &str); 15] = [
+        (b"cut all", "cut ADDRESS"),
+        (b"mend", "mend ADDRESS"),
+        (b"settle x", "settle MAX"),
+        (b"label", "label on, or label off"),
+        (b"up all 0", "up R LINK, or up all"),
         (b"why", "why R LINK [NEIGHBOUR]"),
         (b"loss 101 7", "loss PERCENT NUMBER [ADDRESS]"),
         (
             b"expect fully",
-            "expect full R S, expect no neighbour R LINK, expect route R PREFIX COST, or expect no route R PREFIX",
+            "expect full R S, expect no neighbour R LINK, expect route R PREFIX COST, expect no route R PREFIX, expect walk R ADDRESS arrived [COST], expect agree, or expect settled",
         ),
         (b"tick", "tick R"),
         (b" start  1.1.1.1 ", "start R DD [FLOOR], or start all"),

@@ -18,8 +18,8 @@ use Rattle.ospf_files.specs.Shown.{lookup_line, routes_text}
 use Rattle.ospf_files.specs.declared.streams.FailedStreams.{FailedStreams}
 use Rattle.ospf_step.specs.Text.{dropped_text}
 use Rattle.ospf_views.specs.Shown.{view_lines}
-use Rattle.ospf_views.specs.declared.views.View.{View}
-use Rattle.ospf_views.specs.declared.views.View.TheVariants as view
+use Rattle.ospf_script.specs.declared.command.View.{View}
+use Rattle.ospf_script.specs.declared.command.View.TheVariants as view
 use Rattle.ospf_run.specs.declared.outcome.Drops.{Drops}
 use Rattle.ospf_run.specs.declared.outcome.Extras.{Extras}
 use Rattle.ospf_run.specs.declared.outcome.Looked.{Looked}

@@ -9,8 +9,8 @@ use crate::outcome::{Drops, Extras};
 use ospf_base::RouterId;
 use ospf_files::{FailedStreams, Failure};
 use ospf_router::Router;
-use ospf_script::FloorShown;
-use ospf_views::{View, write_view};
+use ospf_script::{FloorShown, View};
+use ospf_views::write_view;
 use std::alloc::{AllocError, Global};
 use std::io::Write;
 

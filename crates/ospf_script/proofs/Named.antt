@@ -5,12 +5,13 @@ use Rattle.std.specs.Str.{bytes_eq}
 use Rattle.std.proofs.lemmas.Slice.Eq.{bytes_eq-Decides}
 use Rattle.ospf_script.specs.Names.{IsWordOf, all_names, is_word_of, name_in, name_text}
 use Rattle.ospf_script.specs.Words.{Text}
+use Rattle.ospf_script.specs.declared.command.View.TheVariants as view
 use Rattle.ospf_script.specs.declared.name.Name.{Name}
 use Rattle.ospf_script.specs.declared.name.Name.TheVariants as name
 
 -- the name that a word is is found
 pub name_found : (word : Text) (n : Name) → IsWordOf word n → name_in word ≡ Some n
-name_found word name.Neighbours is = elim is [ inl british ↦ ap name_in british | inr american ↦ ap name_in american ]
+name_found word (name.Show view.Neighbours) is = elim is [ inl british ↦ ap name_in british | inr american ↦ ap name_in american ]
 name_found word name.Start is = ap name_in is
 name_found word n is = ap name_in is
 
@@ -22,7 +23,7 @@ either_is true b h = inl refl
 either_is false b h = inr h
 
 tested : (word : Text) (n : Name) → is_word_of word n ≡ true → IsWordOf word n
-tested word name.Neighbours h = elim (either_is (bytes_eq word (codes "neighbours")) (bytes_eq word (codes "neighbors")) h) [
+tested word (name.Show view.Neighbours) h = elim (either_is (bytes_eq word (codes "neighbours")) (bytes_eq word (codes "neighbors")) h) [
   | inl british ↦ inl (is_its_word word (codes "neighbours") british)
   | inr american ↦ inr (is_its_word word (codes "neighbors") american)
 ]

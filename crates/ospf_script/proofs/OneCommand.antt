@@ -1,16 +1,23 @@
 -- Words spell one command at most.
-use Rattle.std.proofs.Common.{◌≡◌, inl, inr, ℕ, ℤ, Option, None, Some, List, [], ◌∷◌, refl, sym, ap, ◌∙◌}
+use Rattle.std.specs.Prelude.{⊤}
+use Rattle.std.proofs.Common.{◌≡◌, inl, inr, ℕ, ℤ, Bool, true, false, Option, None, Some, List, [], ◌∷◌, codes, refl, subst, sym, ap, ◌∙◌}
 use Rattle.ospf_base.specs.declared.ids.Addr.{Addr}
 use Rattle.ospf_base.specs.declared.ids.RouterId.{RouterId}
-use Rattle.ospf_script.specs.Commands.{AreChoices, AreNumbers, AreRounds, BeginsWalk, IsAll, IsCountAlone, IsDelivery, IsLoss, IsRouterAlone, IsRouterAndLink, IsStart, IsWalk, IsWhy, Takes, name_of, no_floor}
+use Rattle.ospf_headline.specs.declared.event.WorldEvent.{WorldEvent}
+use Rattle.ospf_headline.specs.declared.event.WorldEvent.TheVariants as event
+use Rattle.ospf_script.specs.Commands.{AreChoices, AreNumbers, AreRounds, BeginsWalk, IsAddressAlone, IsAll, IsCountAlone, IsDelivery, IsLoss, IsRouterAlone, IsRouterAndLink, IsStart, IsSwitch, IsWalk, IsWhy, Takes, TakesEvent, TakesMany, name_of, name_of_event, name_of_many, no_floor}
 use Rattle.ospf_script.specs.Laws.{IsOneCommand, WordsSpellOneCommand}
 use Rattle.ospf_script.specs.Values.{IsDecimal, IsFloor, IsRouter}
 use Rattle.ospf_script.specs.Words.{Text}
 use Rattle.ospf_script.specs.declared.command.Command.{Command}
 use Rattle.ospf_script.specs.declared.command.Command.TheVariants as command
+use Rattle.ospf_script.specs.declared.command.Many.{Many}
+use Rattle.ospf_script.specs.declared.command.Many.TheVariants as many
+use Rattle.ospf_script.specs.declared.name.Name.{Name}
+use Rattle.ospf_script.specs.declared.name.Name.TheVariants as names
 use Rattle.ospf_script.proofs.Expecting.{expected_one}
 use Rattle.ospf_script.proofs.OneValue.{address_one, decimal_one, floor_one, percent_one, router_one}
-use Rattle.ospf_script.proofs.Unspelled.{word_is_one}
+use Rattle.ospf_script.proofs.Unspelled.{IsOfEvents, event_name, many_name, word_is_one}
 
 -- ---- what commands take
 
@@ -105,41 +112,96 @@ walk_one ws r s a b cs ds h k =
 
 -- one word is no Router ID with other words
 start_not_all : (ws : List Text) (r : RouterId) (n : ℕ) (f : ℤ) → IsStart ws r n f → IsAll ws → ⊥
-start_not_all (a ∷ []) r n f h all = elim h [ inl x ↦ x | inr x ↦ x ]
-start_not_all _ r n f h all = all
+start_not_all ws r n f h all = let one : IsStart (codes "all" ∷ []) r n f = rw all at h in elim one [ inl x ↦ x | inr x ↦ x ]
 
 link_not_all : (ws : List Text) (r : RouterId) (n : ℕ) → IsRouterAndLink ws r n → IsAll ws → ⊥
-link_not_all (a ∷ []) r n h all = h
-link_not_all _ r n h all = all
+link_not_all ws r n h all = rw all at h
+
+address_alone_one : (ws : List Text) (a b : Addr) → IsAddressAlone ws a → IsAddressAlone ws b → a ≡ b
+address_alone_one (w ∷ []) a b h k = address_one w a b h k
+address_alone_one ws a b h k = absurd h
+
+on_is_not_off : (ws : List Text) → IsSwitch ws true → IsSwitch ws false → ⊥
+on_is_not_off ws h k = let same : codes "on" ∷ [] ≡ codes "off" ∷ [] = sym h ∙ k in cc
+
+switch_one : (ws : List Text) (a b : Bool) → IsSwitch ws a → IsSwitch ws b → a ≡ b
+switch_one ws true true h k = refl
+switch_one ws false false h k = refl
+switch_one ws true false h k = absurd (on_is_not_off ws h k)
+switch_one ws false true h k = absurd (on_is_not_off ws k h)
+
+-- ---- events
+
+event_one : (ws : List Text) (c d : WorldEvent) → name_of_event c ≡ name_of_event d → TakesEvent c ws → TakesEvent d ws → c ≡ d
+event_one ws (event.Start r m f) (event.Start s n g) e h k =
+    let all = start_one ws r s m n f g (start_of ws r m f h) (start_of ws s n g k) in
+    let one = all.0 in let two = all.1 in let three = all.2 in cc
+event_one ws (event.Stop r) (event.Stop s) e h k = ap event.Stop (router_alone_one ws r s h k)
+event_one ws (event.Tick r) (event.Tick s) e h k = ap event.Tick (router_alone_one ws r s h k)
+event_one ws (event.LinkUp r m) (event.LinkUp s n) e h k =
+    let all = router_and_link_one ws r s m n h k in
+    let one = all.0 in let two = all.1 in cc
+event_one ws (event.LinkDown r m) (event.LinkDown s n) e h k =
+    let all = router_and_link_one ws r s m n h k in
+    let one = all.0 in let two = all.1 in cc
+event_one ws (event.Deliver m r i) (event.Deliver n s j) e h k =
+    let all = delivery_one ws m n r s i j h k in
+    let one = all.0 in let two = all.1 in let three = all.2 in cc
+event_one ws c d e h k = let none : ⊥ = cc in absurd none
+
+many_one : (ws : List Text) (c d : Many) → name_of_many c ≡ name_of_many d → TakesMany c ws → TakesMany d ws → c ≡ d
+many_one ws many.Start many.Start e h k = refl
+many_one ws many.Up many.Up e h k = refl
+many_one ws many.Down many.Down e h k = refl
+many_one ws (many.Cut a) (many.Cut b) e h k = ap many.Cut (address_alone_one ws a b h k)
+many_one ws (many.Mend a) (many.Mend b) e h k = ap many.Mend (address_alone_one ws a b h k)
+many_one ws c d e h k = let none : ⊥ = cc in absurd none
+
+-- the name is one of events at many routers
+IsOfMany : Name → Type 0
+IsOfMany names.Start = ⊤
+IsOfMany names.Up = ⊤
+IsOfMany names.Down = ⊤
+IsOfMany names.Cut = ⊤
+IsOfMany names.Mend = ⊤
+IsOfMany _ = ⊥
+
+is_of_many : (m : Many) → IsOfMany (name_of_many m)
+unfolding IsOfMany
+is_of_many many.Start = tt
+is_of_many many.Up = tt
+is_of_many many.Down = tt
+is_of_many (many.Cut network) = tt
+is_of_many (many.Mend network) = tt
+
+-- an event is none at many routers
+event_not_many : (ws : List Text) (c : WorldEvent) (d : Many) → name_of_event c ≡ name_of_many d → TakesEvent c ws → TakesMany d ws → ⊥
+unfolding IsOfMany
+event_not_many ws (event.Start r m f) many.Start e h k = start_not_all ws r m f h k
+event_not_many ws (event.LinkUp r m) many.Up e h k = link_not_all ws r m h k
+event_not_many ws (event.LinkDown r m) many.Down e h k = link_not_all ws r m h k
+event_not_many ws (event.Start r m f) d e h k = cc
+event_not_many ws (event.LinkUp r m) d e h k = cc
+event_not_many ws (event.LinkDown r m) d e h k = cc
+event_not_many ws c d e h k = subst IsOfMany (sym e) (is_of_many d)
 
 -- ---- commands
 
 takes_one : (ws : List Text) (c d : Command) → name_of c ≡ name_of d → Takes c ws → Takes d ws → IsOneCommand c d
-takes_one ws (command.Start r m f) (command.Start s n g) e h k =
-    let all = start_one ws r s m n f g (start_of ws r m f h) (start_of ws s n g k) in
-    let one = all.0 in let two = all.1 in let three = all.2 in cc
-takes_one ws (command.Stop r) (command.Stop s) e h k = ap command.Stop (router_alone_one ws r s h k)
-takes_one ws (command.Tick r) (command.Tick s) e h k = ap command.Tick (router_alone_one ws r s h k)
-takes_one ws (command.LinkUp r m) (command.LinkUp s n) e h k =
-    let all = router_and_link_one ws r s m n h k in
-    let one = all.0 in let two = all.1 in cc
-takes_one ws (command.LinkDown r m) (command.LinkDown s n) e h k =
-    let all = router_and_link_one ws r s m n h k in
-    let one = all.0 in let two = all.1 in cc
-takes_one ws (command.Deliver m r i) (command.Deliver n s j) e h k =
-    let all = delivery_one ws m n r s i j h k in
-    let one = all.0 in let two = all.1 in let three = all.2 in cc
+takes_one ws (command.Event c) (command.Event d) e h k = ap command.Event (event_one ws c d e h k)
+takes_one ws (command.Event c) (command.Many d) e h k = absurd (event_not_many ws c d e h k)
+takes_one ws (command.Many c) (command.Many d) e h k = ap command.Many (many_one ws c d e h k)
+takes_one ws (command.Many c) (command.Event d) e h k = absurd (event_not_many ws d c (sym e) k h)
 takes_one ws (command.Round m i) (command.Round n j) e h k =
     let all = rounds_one ws m n i j h k in
     let one = all.0 in let two = all.1 in cc
 takes_one ws (command.Random m i) (command.Random n j) e h k =
     let all = numbers_one ws m n i j h k in
     let one = all.0 in let two = all.1 in cc
-takes_one ws (command.Neighbours r) (command.Neighbours s) e h k = ap command.Neighbours (router_alone_one ws r s h k)
-takes_one ws (command.Listing r) (command.Listing s) e h k = ap command.Listing (router_alone_one ws r s h k)
-takes_one ws (command.Table r) (command.Table s) e h k = ap command.Table (router_alone_one ws r s h k)
+takes_one ws (command.Settle m) (command.Settle n) e h k = ap command.Settle (count_one ws m n h k)
+takes_one ws (command.Show v r) (command.Show w s) e h k =
+    let one : v ≡ w = cc in let two = router_alone_one ws r s h k in cc
 takes_one ws (command.Walk r a cs) (command.Walk s b ds) e h k = walk_one ws r s a b cs.items ds.items h k
-takes_one ws (command.Floor r) (command.Floor s) e h k = ap command.Floor (router_alone_one ws r s h k)
 takes_one ws (command.Say text) (command.Say other) e h k = h ∙ sym k
 takes_one ws (command.Why r m i) (command.Why s n j) e h k =
     let all = why_one ws r s m n i j h k in
@@ -148,15 +210,11 @@ takes_one ws (command.Loss p m i) (command.Loss q n j) e h k =
     let all = loss_one ws p q m n i j h k in
     let one = all.0 in let two = all.1 in let three = all.2 in cc
 takes_one ws (command.Expect x) (command.Expect y) e h k = ap command.Expect (expected_one ws x y h k)
-takes_one ws command.StartAll command.StartAll e h k = refl
-takes_one ws command.UpAll command.UpAll e h k = refl
-takes_one ws command.DownAll command.DownAll e h k = refl
-takes_one ws (command.Start r m f) command.StartAll e h k = absurd (start_not_all ws r m f h k)
-takes_one ws command.StartAll (command.Start s n g) e h k = absurd (start_not_all ws s n g k h)
-takes_one ws (command.LinkUp r m) command.UpAll e h k = absurd (link_not_all ws r m h k)
-takes_one ws command.UpAll (command.LinkUp s n) e h k = absurd (link_not_all ws s n k h)
-takes_one ws (command.LinkDown r m) command.DownAll e h k = absurd (link_not_all ws r m h k)
-takes_one ws command.DownAll (command.LinkDown s n) e h k = absurd (link_not_all ws s n k h)
+takes_one ws (command.Label a) (command.Label b) e h k = ap command.Label (switch_one ws a b h k)
+takes_one ws (command.Event c) d e h k = absurd (subst IsOfEvents e (event_name c))
+takes_one ws (command.Many c) d e h k = absurd (subst IsOfEvents e (many_name c))
+takes_one ws c (command.Event d) e h k = absurd (subst IsOfEvents (sym e) (event_name d))
+takes_one ws c (command.Many d) e h k = absurd (subst IsOfEvents (sym e) (many_name d))
 takes_one ws c d e h k = let none : ⊥ = cc in absurd none
 
 pub one_command : WordsSpellOneCommand

@@ -1,5 +1,5 @@
 -- What spells a value is ASCII, and so is text.
-use Rattle.std.proofs.Common.{rules, ◌≡◌, ◌<◌, ◌≤◌, ◌^◌, ℕ, List, [], ◌∷◌, codes, length, Option, Some, None, IfNone, arith, subst, sym, inl, inr, false, true, IsTrue, ◌↔◌}
+use Rattle.std.proofs.Common.{rules, ◌≡◌, ◌<◌, ◌≤◌, ◌^◌, ℕ, List, [], ◌∷◌, codes, length, Option, Some, None, IfNone, arith, subst, sym, inl, inr}
 use Rattle.std.specs.Char.{digit_value}
 use Rattle.std.specs.Str.{IsAscii, IsUtf8}
 use Rattle.std.specs.Str.Parse.{AllDigits, digits_value}
@@ -10,13 +10,19 @@ use Rattle.std.proofs.lemmas.Str.{IsAscii-append, IsUtf8-from_ascii}
 use Rattle.std.proofs.lemmas.Str.Ascii.{IsAscii-nil, IsAscii-cons}
 use Rattle.ospf_base.specs.Text.{IsDottedNumber}
 use Rattle.ospf_script.specs.Names.{IsWordOf, name_text}
-use Rattle.ospf_script.specs.Words.{Text}
+use Rattle.ospf_script.specs.Words.{Finds, Text}
+use Rattle.ospf_script.specs.declared.command.View.TheVariants as view
 use Rattle.ospf_script.specs.declared.name.Name.{Name}
 use Rattle.ospf_script.specs.declared.name.Name.TheVariants as name
 
 pub if_none : {A : Type 0} (o : Option A) (P : Type 0) → P → IfNone o P
 if_none None P p = p
 if_none (Some x) P p = tt
+
+-- of nothing that is found
+pub finds_none : {A : Type 0} (o : Option A) (P : A → Type 0) → o ≡ None → ((value : A) → P value → ⊥) → Finds o P
+finds_none None P is none = none
+finds_none (Some x) P is none = let both : Some x ≡ None = is in cc
 
 digit_is_ascii : (c : ℕ) → digit_value c < 36 → c < 128
 digit_is_ascii c h = grind (arith, nat_tests)
@@ -54,16 +60,15 @@ eight_digits_fit ds digits eight =
 
 -- the names of commands are text
 pub names_are_text : (name : Name) → IsUtf8 (name_text name)
-names_are_text name.Start = search rules
+names_are_text (name.Show view.Neighbours) = search rules
+names_are_text (name.Show view.Listing) = search rules
+names_are_text (name.Show view.Table) = search rules
+names_are_text (name.Show view.Floor) = search rules
 names_are_text _ = search rules
 
 american_is_text : IsUtf8 (codes "neighbors")
 american_is_text = search rules
 
 pub words_are_text : (word : Text) (n : Name) → IsWordOf word n → IsUtf8 word
-words_are_text word name.Neighbours is = elim is [ inl british ↦ subst IsUtf8 (sym british) (names_are_text name.Neighbours) | inr american ↦ subst IsUtf8 (sym american) american_is_text ]
+words_are_text word (name.Show view.Neighbours) is = elim is [ inl british ↦ subst IsUtf8 (sym british) (names_are_text (name.Show view.Neighbours)) | inr american ↦ subst IsUtf8 (sym american) american_is_text ]
 words_are_text word n is = subst IsUtf8 (sym is) (names_are_text n)
-
--- what is told not to hold does not
-pub untold : (P : Type 0) → (IsTrue false ↔ P) → P → ⊥
-untold P told holds = let h : false ≡ true = told.1 holds in cc

@@ -1,74 +1,117 @@
 -- Where words are not what a command takes, they spell no command of that name.
-use Rattle.std.specs.Prelude.{String, string_bytes}
+use Rattle.std.specs.Prelude.{⊤, String, string_bytes}
 use Rattle.std.specs.declared.alloc.Global.{Global}
-use Rattle.std.proofs.Common.{inl, inr, ◌≡◌, ◌==◌, if◌then◌else◌, ℕ, ℤ, Option, None, Some, ◌+◌, ◌*◌, List, [], ◌∷◌, length, get_or, refl, subst, sym, ap, ◌∙◌}
+use Rattle.std.proofs.Common.{inl, inr, ◌≡◌, ◌==◌, if◌then◌else◌, ℕ, ◌+◌, ◌*◌, List, [], ◌∷◌, length, get_or, Option, None, Some, refl, subst, sym, ap, ◌∙◌}
 use Rattle.ospf_base.specs.declared.ids.Addr.{Addr}
 use Rattle.ospf_base.specs.declared.ids.RouterId.{RouterId}
-use Rattle.ospf_script.specs.Commands.{AreNumbers, AreRounds, IsAll, IsDelivery, IsRouterAlone, IsRouterAndLink, IsStart, IsUnreadable, IsWalk, IsWhy, Spells, Takes, name_of, spaced}
-use Rattle.ospf_script.specs.Names.{IsOfRouter, IsWordOf}
+use Rattle.ospf_headline.specs.declared.event.WorldEvent.{WorldEvent}
+use Rattle.ospf_headline.specs.declared.event.WorldEvent.TheVariants as event
+use Rattle.ospf_script.specs.Commands.{AreNumbers, AreRounds, IsLoss, IsOf, IsRouterAlone, IsRouterAndLink, IsUnreadable, IsWalk, IsWhy, Spells, Takes, name_of, name_of_event, name_of_many, spaced}
+use Rattle.ospf_script.specs.Names.{IsWordOf}
 use Rattle.ospf_script.specs.Words.{IsBlank, Text, words}
 use Rattle.ospf_script.proofs.Parts.{words-blank}
 use Rattle.ospf_script.specs.declared.command.Command.{Command}
 use Rattle.ospf_script.specs.declared.command.Command.TheVariants as command
+use Rattle.ospf_script.specs.declared.command.Many.{Many}
+use Rattle.ospf_script.specs.declared.command.Many.TheVariants as many
+use Rattle.ospf_script.specs.declared.command.View.{View}
+use Rattle.ospf_script.specs.declared.command.View.TheVariants as view
 use Rattle.ospf_script.specs.declared.name.Name.{Name}
 use Rattle.ospf_script.specs.declared.name.Name.TheVariants as names
 
 -- the words spell no command of this name
 abbrev pub IsNone : Name → List Text → Type 0
-IsNone name ws = (c : Command) → name_of c ≡ name → Takes c ws → ⊥
+IsNone name ws = (c : Command) → IsOf name ws c → ⊥
 
-pub no_router : (ws : List Text) → ((router : RouterId) → IsRouterAlone ws router → ⊥) → (name : Name) → IsOfRouter name → IsNone name ws
-no_router ws h name is (command.Stop router) e t = h router t
-no_router ws h name is (command.Tick router) e t = h router t
-no_router ws h name is (command.Neighbours router) e t = h router t
-no_router ws h name is (command.Listing router) e t = h router t
-no_router ws h name is (command.Table router) e t = h router t
-no_router ws h name is (command.Floor router) e t = h router t
-no_router ws h name is c e t = subst IsOfRouter (sym e) is
+-- ---- names of events
 
-pub no_start : (ws : List Text) → (IsAll ws → ⊥) → ((router : RouterId) (dd_start : ℕ) (floor : ℤ) → IsStart ws router dd_start floor → ⊥) → IsNone names.Start ws
-no_start ws all h (command.Start router dd_start floor) e t = h router dd_start floor t
-no_start ws all h command.StartAll e t = all t
-no_start ws all h c e t = cc
+-- the name is one of events
+abbrev pub IsOfEvents : Name → Type 0
+IsOfEvents names.Start = ⊤
+IsOfEvents names.Stop = ⊤
+IsOfEvents names.Tick = ⊤
+IsOfEvents names.Up = ⊤
+IsOfEvents names.Down = ⊤
+IsOfEvents names.Deliver = ⊤
+IsOfEvents names.Cut = ⊤
+IsOfEvents names.Mend = ⊤
+IsOfEvents _ = ⊥
 
-pub no_up : (ws : List Text) → (IsAll ws → ⊥) → ((router : RouterId) (link : ℕ) → IsRouterAndLink ws router link → ⊥) → IsNone names.Up ws
-no_up ws all h (command.LinkUp router link) e t = h router link t
-no_up ws all h command.UpAll e t = all t
-no_up ws all h c e t = cc
+pub event_name : (e : WorldEvent) → IsOfEvents (name_of_event e)
+event_name (event.Start router dd_start floor) = tt
+event_name (event.Stop router) = tt
+event_name (event.Tick router) = tt
+event_name (event.LinkUp router link) = tt
+event_name (event.LinkDown router link) = tt
+event_name (event.Deliver datagram router link) = tt
 
-pub no_down : (ws : List Text) → (IsAll ws → ⊥) → ((router : RouterId) (link : ℕ) → IsRouterAndLink ws router link → ⊥) → IsNone names.Down ws
-no_down ws all h (command.LinkDown router link) e t = h router link t
-no_down ws all h command.DownAll e t = all t
-no_down ws all h c e t = cc
+pub many_name : (m : Many) → IsOfEvents (name_of_many m)
+many_name many.Start = tt
+many_name many.Up = tt
+many_name many.Down = tt
+many_name (many.Cut network) = tt
+many_name (many.Mend network) = tt
 
-pub no_delivery : (ws : List Text) → ((datagram : ℕ) (router : RouterId) (link : ℕ) → IsDelivery ws datagram router link → ⊥) → IsNone names.Deliver ws
-no_delivery ws h (command.Deliver datagram router link) e t = h datagram router link t
-no_delivery ws h c e t = cc
-
-pub no_random : (ws : List Text) → ((number count : ℕ) → AreNumbers ws number count → ⊥) → IsNone names.Random ws
-no_random ws h (command.Random number count) e t = h number count t
-no_random ws h c e t = cc
+-- ---- no command
 
 pub no_walk : (ws : List Text) → ((from : RouterId) (address : Addr) (choices : List ℕ) → IsWalk ws from address choices → ⊥) → IsNone names.Walk ws
-no_walk ws h (command.Walk from address choices) e t = h from address choices.items t
-no_walk ws h c e t = cc
+no_walk ws h (command.Event e) is = subst IsOfEvents is.0 (event_name e)
+no_walk ws h (command.Many m) is = subst IsOfEvents is.0 (many_name m)
+no_walk ws h (command.Walk from address choices) is = h from address choices.items is.1
+no_walk ws h c is = let e = is.0 in cc
 
 pub no_text : (ws : List Text) → ((said : String Global) → string_bytes said ≡ spaced ws → ⊥) → IsNone names.Say ws
-no_text ws h (command.Say said) e t = h said t
-no_text ws h c e t = cc
+no_text ws h (command.Event e) is = subst IsOfEvents is.0 (event_name e)
+no_text ws h (command.Many m) is = subst IsOfEvents is.0 (many_name m)
+no_text ws h (command.Say said) is = h said is.1
+no_text ws h c is = let e = is.0 in cc
+
+pub no_random : (ws : List Text) → ((found : ℕ × ℕ) → AreNumbers ws found.0 found.1 → ⊥) → IsNone names.Random ws
+no_random ws h (command.Event e) is = subst IsOfEvents is.0 (event_name e)
+no_random ws h (command.Many m) is = subst IsOfEvents is.0 (many_name m)
+no_random ws h (command.Random number count) is = h (number, count) is.1
+no_random ws h c is = let e = is.0 in cc
+
+pub no_view : (ws : List Text) (view : View) → ((router : RouterId) → IsRouterAlone ws router → ⊥) → IsNone (names.Show view) ws
+no_view ws view h (command.Event e) is = subst IsOfEvents is.0 (event_name e)
+no_view ws view h (command.Many m) is = subst IsOfEvents is.0 (many_name m)
+no_view ws view h (command.Show other router) is = h router is.1
+no_view ws view h c is = let e = is.0 in cc
+
+pub no_round : (ws : List Text) → ((found : ℕ × Option ℕ) → AreRounds ws found.0 found.1 → ⊥) → IsNone names.Round ws
+no_round ws h (command.Event e) is = subst IsOfEvents is.0 (event_name e)
+no_round ws h (command.Many m) is = subst IsOfEvents is.0 (many_name m)
+no_round ws h (command.Round count most) is = h (count, most) is.1
+no_round ws h c is = let e = is.0 in cc
+
+pub no_why : (ws : List Text) → ((found : RouterId × ℕ × Option RouterId) → IsWhy ws found.0 found.1 found.2 → ⊥) → IsNone names.Why ws
+no_why ws h (command.Event e) is = subst IsOfEvents is.0 (event_name e)
+no_why ws h (command.Many m) is = subst IsOfEvents is.0 (many_name m)
+no_why ws h (command.Why router link neighbour) is = h (router, link, neighbour) is.1
+no_why ws h c is = let e = is.0 in cc
+
+pub no_loss : (ws : List Text) → ((found : ℕ × ℕ × Option Addr) → IsLoss ws found.0 found.1 found.2 → ⊥) → IsNone names.Loss ws
+no_loss ws h (command.Event e) is = subst IsOfEvents is.0 (event_name e)
+no_loss ws h (command.Many m) is = subst IsOfEvents is.0 (many_name m)
+no_loss ws h (command.Loss percent number network) is = h (percent, number, network) is.1
+no_loss ws h c is = let e = is.0 in cc
+
+-- ---- shapes
 
 -- no word alone, and not two numbers
-pub not_rounds : (ws : List Text) → ((a : Text) → ws ≡ a ∷ [] → ⊥) → ((number count : ℕ) → AreNumbers ws number count → ⊥) → (count : ℕ) (most : Option ℕ) → AreRounds ws count most → ⊥
+pub not_rounds : (ws : List Text) → ((a : Text) → ws ≡ a ∷ [] → ⊥) → ((found : ℕ × ℕ) → AreNumbers ws found.0 found.1 → ⊥) → (count : ℕ) (most : Option ℕ) → AreRounds ws count most → ⊥
 not_rounds (a ∷ []) one two count None h = one a refl
 not_rounds ws one two count None h = h
-not_rounds ws one two count (Some most) h = two count most h
+not_rounds ws one two count (Some most) h = two (count, most) h
 
 -- not three words, and no Router ID with a link
-pub not_why : (ws : List Text) → ((router : RouterId) (link : ℕ) → IsRouterAndLink ws router link → ⊥) → ((a b c : Text) → ws ≡ a ∷ b ∷ c ∷ [] → ⊥)
+pub not_why : (ws : List Text) → ((found : RouterId × ℕ) → IsRouterAndLink ws found.0 found.1 → ⊥) → ((a b c : Text) → ws ≡ a ∷ b ∷ c ∷ [] → ⊥)
     → (router : RouterId) (link : ℕ) (neighbour : Option RouterId) → IsWhy ws router link neighbour → ⊥
-not_why ws two three router link None h = two router link h
+not_why ws two three router link None h = two (router, link) h
 not_why (a ∷ b ∷ c ∷ []) two three router link (Some neighbour) h = three a b c refl
 not_why ws two three router link (Some neighbour) h = h
+
+-- ---- names of words
 
 -- a name is known by its length and its first letter
 key : Text → ℕ
@@ -84,16 +127,20 @@ by_key n =
     if n == 1892 then names.Deliver else
     if n == 1394 then names.Round else
     if n == 1650 then names.Random else
-    if n == 2670 then names.Neighbours else
-    if n == 1900 then names.Listing else
-    if n == 1396 then names.Table else
+    if n == 867 then names.Cut else
+    if n == 1133 then names.Mend else
+    if n == 1651 then names.Settle else
+    if n == 1388 then names.Label else
+    if n == 2670 then (names.Show view.Neighbours) else
+    if n == 1900 then (names.Show view.Listing) else
+    if n == 1396 then (names.Show view.Table) else
     if n == 1143 then names.Walk else
     if n == 883 then names.Say else
     if n == 887 then names.Why else
     if n == 1132 then names.Loss else
     if n == 1637 then names.Expect else
-    if n == 2414 then names.Neighbours else
-    names.Floor
+    if n == 2414 then (names.Show view.Neighbours) else
+    (names.Show view.Floor)
 
 -- the name that a word is is found by the word
 found_by_key : (word : Text) (name : Name) → IsWordOf word name → by_key (key word) ≡ name
@@ -104,17 +151,21 @@ found_by_key word names.Tick is = ap (λ text. by_key (key text)) is
 found_by_key word names.Up is = ap (λ text. by_key (key text)) is
 found_by_key word names.Down is = ap (λ text. by_key (key text)) is
 found_by_key word names.Deliver is = ap (λ text. by_key (key text)) is
+found_by_key word names.Cut is = ap (λ text. by_key (key text)) is
+found_by_key word names.Mend is = ap (λ text. by_key (key text)) is
+found_by_key word names.Settle is = ap (λ text. by_key (key text)) is
+found_by_key word names.Label is = ap (λ text. by_key (key text)) is
 found_by_key word names.Round is = ap (λ text. by_key (key text)) is
 found_by_key word names.Random is = ap (λ text. by_key (key text)) is
-found_by_key word names.Listing is = ap (λ text. by_key (key text)) is
-found_by_key word names.Table is = ap (λ text. by_key (key text)) is
+found_by_key word (names.Show view.Listing) is = ap (λ text. by_key (key text)) is
+found_by_key word (names.Show view.Table) is = ap (λ text. by_key (key text)) is
 found_by_key word names.Walk is = ap (λ text. by_key (key text)) is
-found_by_key word names.Floor is = ap (λ text. by_key (key text)) is
+found_by_key word (names.Show view.Floor) is = ap (λ text. by_key (key text)) is
 found_by_key word names.Say is = ap (λ text. by_key (key text)) is
 found_by_key word names.Why is = ap (λ text. by_key (key text)) is
 found_by_key word names.Loss is = ap (λ text. by_key (key text)) is
 found_by_key word names.Expect is = ap (λ text. by_key (key text)) is
-found_by_key word names.Neighbours is = elim is [ inl british ↦ ap (λ text. by_key (key text)) british | inr american ↦ ap (λ text. by_key (key text)) american ]
+found_by_key word (names.Show view.Neighbours) is = elim is [ inl british ↦ ap (λ text. by_key (key text)) british | inr american ↦ ap (λ text. by_key (key text)) american ]
 
 -- each name has words of its own
 pub word_is_one : (word : Text) (a b : Name) → IsWordOf word a → IsWordOf word b → a ≡ b
@@ -137,9 +188,9 @@ unreadable line word ws is none = record {
 
 pub unreadable_of : (line word : Text) (ws : List Text) (name : Name) → words line ≡ word ∷ ws → IsWordOf word name → IsNone name ws → IsUnreadable line
 unreadable_of line word ws name is named none =
-    unreadable line word ws is (λ c own takes. none c (word_is_one word (name_of c) name own named) takes)
+    unreadable line word ws is (λ c own takes. none c (word_is_one word (name_of c) name own named, takes))
 
-pub spelled : (line word : Text) (ws : List Text) (name : Name) (c : Command) → words line ≡ word ∷ ws → IsWordOf word name → name_of c ≡ name → Takes c ws → Spells (words line) c
-spelled line word ws name c is named own takes =
-    let here : Spells (word ∷ ws) c = (subst (IsWordOf word) (sym own) named, takes) in
+pub spelled : (line word : Text) (ws : List Text) (name : Name) (c : Command) → words line ≡ word ∷ ws → IsWordOf word name → IsOf name ws c → Spells (words line) c
+spelled line word ws name c is named of =
+    let here : Spells (word ∷ ws) c = (subst (IsWordOf word) (sym of.0) named, of.1) in
     rw is here

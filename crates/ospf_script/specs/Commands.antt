@@ -1,14 +1,18 @@
 -- Which words spell which command.
-use Rattle.std.specs.Prelude.{◌≡◌, ◌⊎◌, ⊤, ℕ, ℤ, List, [], ◌∷◌, ◌++◌, ◌<◌, codes, flat_map, length, string_bytes, Option, None, Some}
+use Rattle.std.specs.Prelude.{◌≡◌, ◌⊎◌, ⊤, ℕ, ℤ, List, [], ◌∷◌, ◌++◌, ◌<◌, Bool, true, false, codes, flat_map, length, string_bytes, Option, None, Some}
 use Rattle.std.specs.Int.{w32, cast_signed}
 use Rattle.ospf_base.specs.declared.ids.Addr.{Addr}
 use Rattle.ospf_base.specs.declared.ids.RouterId.{RouterId}
+use Rattle.ospf_headline.specs.declared.event.WorldEvent.{WorldEvent}
+use Rattle.ospf_headline.specs.declared.event.WorldEvent.TheVariants as event
 use Rattle.ospf_script.specs.Expected.{IsExpected}
 use Rattle.ospf_script.specs.Names.{IsWordOf, name_text}
 use Rattle.ospf_script.specs.Values.{IsAddress, IsDecimal, IsFloor, IsPercent, IsRouter}
 use Rattle.ospf_script.specs.Words.{IsBlank, Text, words}
 use Rattle.ospf_script.specs.declared.command.Command.{Command}
 use Rattle.ospf_script.specs.declared.command.Command.TheVariants as command
+use Rattle.ospf_script.specs.declared.command.Many.{Many}
+use Rattle.ospf_script.specs.declared.command.Many.TheVariants as many
 use Rattle.ospf_script.specs.declared.name.Name.{Name}
 use Rattle.ospf_script.specs.declared.name.Name.TheVariants as name
 
@@ -33,6 +37,9 @@ IsThree P _ = ⊥
 
 abbrev pub IsRouterAlone : List Text → RouterId → Type 0
 IsRouterAlone ws router = IsOne (λ a. IsRouter a router) ws
+
+abbrev pub IsAddressAlone : List Text → Addr → Type 0
+IsAddressAlone ws address = IsOne (λ a. IsAddress a address) ws
 
 abbrev pub IsCountAlone : List Text → ℕ → Type 0
 IsCountAlone ws count = IsOne (λ a. IsDecimal 64 a count) ws
@@ -99,59 +106,100 @@ IsLongWalk ws = (from : RouterId) × (address : Addr) × (rest : List Text) × B
 
 -- the word `all` alone
 abbrev pub IsAll : List Text → Type 0
-IsAll ws = IsOne (λ a. a ≡ codes "all") ws
+IsAll ws = ws ≡ codes "all" ∷ []
+
+-- the word `on` or the word `off` alone
+abbrev pub IsSwitch : List Text → Bool → Type 0
+IsSwitch ws true = ws ≡ codes "on" ∷ []
+IsSwitch ws false = ws ≡ codes "off" ∷ []
 
 -- words with a space between two
 abbrev pub spaced : List Text → Text
 spaced [] = []
 spaced (a ∷ ws) = a ++ flat_map (λ b. 32 ∷ b) ws
 
+-- ---- events
+
+abbrev pub name_of_event : WorldEvent → Name
+name_of_event (event.Start router dd_start floor) = name.Start
+name_of_event (event.Stop router) = name.Stop
+name_of_event (event.Tick router) = name.Tick
+name_of_event (event.LinkUp router link) = name.Up
+name_of_event (event.LinkDown router link) = name.Down
+name_of_event (event.Deliver datagram router link) = name.Deliver
+
+-- the words behind the name of an event
+abbrev pub TakesEvent : WorldEvent → List Text → Type 0
+TakesEvent (event.Start router dd_start floor) ws = IsStart ws router dd_start floor
+TakesEvent (event.Stop router) ws = IsRouterAlone ws router
+TakesEvent (event.Tick router) ws = IsRouterAlone ws router
+TakesEvent (event.LinkUp router link) ws = IsRouterAndLink ws router link
+TakesEvent (event.LinkDown router link) ws = IsRouterAndLink ws router link
+TakesEvent (event.Deliver datagram router link) ws = IsDelivery ws datagram router link
+
+-- the event has this name, and takes the words
+abbrev pub IsEventOf : Name → List Text → WorldEvent → Type 0
+IsEventOf name ws event = (name_of_event event ≡ name) × TakesEvent event ws
+
+abbrev pub name_of_many : Many → Name
+name_of_many many.Start = name.Start
+name_of_many many.Up = name.Up
+name_of_many many.Down = name.Down
+name_of_many (many.Cut network) = name.Cut
+name_of_many (many.Mend network) = name.Mend
+
+-- the words behind the name of events at many routers
+abbrev pub TakesMany : Many → List Text → Type 0
+TakesMany (many.Cut network) ws = IsAddressAlone ws network
+TakesMany (many.Mend network) ws = IsAddressAlone ws network
+TakesMany _ ws = IsAll ws
+
+-- the events have this name, and take the words
+abbrev pub AreEventsOf : Name → List Text → Many → Type 0
+AreEventsOf name ws many = (name_of_many many ≡ name) × TakesMany many ws
+
 -- ---- commands
 
 abbrev pub name_of : Command → Name
-name_of (command.Start router dd_start floor) = name.Start
-name_of (command.Stop router) = name.Stop
-name_of (command.Tick router) = name.Tick
-name_of (command.LinkUp router link) = name.Up
-name_of (command.LinkDown router link) = name.Down
-name_of (command.Deliver datagram router link) = name.Deliver
+name_of (command.Event event) = name_of_event event
+name_of (command.Many many) = name_of_many many
 name_of (command.Round count most) = name.Round
 name_of (command.Random number count) = name.Random
-name_of (command.Neighbours router) = name.Neighbours
-name_of (command.Listing router) = name.Listing
-name_of (command.Table router) = name.Table
+name_of (command.Settle most) = name.Settle
+name_of (command.Show view router) = name.Show view
 name_of (command.Walk from address choices) = name.Walk
-name_of (command.Floor router) = name.Floor
 name_of (command.Say text) = name.Say
 name_of (command.Why router link neighbour) = name.Why
 name_of (command.Loss percent number network) = name.Loss
 name_of (command.Expect expected) = name.Expect
-name_of command.StartAll = name.Start
-name_of command.UpAll = name.Up
-name_of command.DownAll = name.Down
+name_of (command.Label is_on) = name.Label
 
 -- the words behind its name
 abbrev pub Takes : Command → List Text → Type 0
-Takes (command.Start router dd_start floor) ws = IsStart ws router dd_start floor
-Takes (command.Stop router) ws = IsRouterAlone ws router
-Takes (command.Tick router) ws = IsRouterAlone ws router
-Takes (command.LinkUp router link) ws = IsRouterAndLink ws router link
-Takes (command.LinkDown router link) ws = IsRouterAndLink ws router link
-Takes (command.Deliver datagram router link) ws = IsDelivery ws datagram router link
+Takes (command.Event event) ws = TakesEvent event ws
+Takes (command.Many many) ws = TakesMany many ws
 Takes (command.Round count most) ws = AreRounds ws count most
 Takes (command.Random number count) ws = AreNumbers ws number count
-Takes (command.Neighbours router) ws = IsRouterAlone ws router
-Takes (command.Listing router) ws = IsRouterAlone ws router
-Takes (command.Table router) ws = IsRouterAlone ws router
+Takes (command.Settle most) ws = IsCountAlone ws most
+Takes (command.Show view router) ws = IsRouterAlone ws router
 Takes (command.Walk from address choices) ws = IsWalk ws from address choices.items
-Takes (command.Floor router) ws = IsRouterAlone ws router
 Takes (command.Say text) ws = string_bytes text ≡ spaced ws
 Takes (command.Why router link neighbour) ws = IsWhy ws router link neighbour
 Takes (command.Loss percent number network) ws = IsLoss ws percent number network
 Takes (command.Expect expected) ws = IsExpected ws expected
-Takes command.StartAll ws = IsAll ws
-Takes command.UpAll ws = IsAll ws
-Takes command.DownAll ws = IsAll ws
+Takes (command.Label is_on) ws = IsSwitch ws is_on
+
+-- the command has this name, and takes the words
+abbrev pub IsOf : Name → List Text → Command → Type 0
+IsOf name ws c = (name_of c ≡ name) × Takes c ws
+
+-- the names of commands whose last word may be left out, but for events, and of what is expected
+abbrev pub HasForms : Name → Type 0
+HasForms name.Round = ⊤
+HasForms name.Why = ⊤
+HasForms name.Loss = ⊤
+HasForms name.Expect = ⊤
+HasForms _ = ⊥
 
 -- the words spell the command: its name, and what it takes
 abbrev pub Spells : List Text → Command → Type 0

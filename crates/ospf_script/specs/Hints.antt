@@ -3,6 +3,7 @@ use Rattle.std.specs.Prelude.{ℕ, ◌||◌, List, [], ◌∷◌, ◌++◌, Opti
 use Rattle.ospf_script.specs.Names.{name_in}
 use Rattle.ospf_script.specs.Texts.{hexadecimal}
 use Rattle.ospf_script.specs.Words.{Text}
+use Rattle.ospf_script.specs.declared.command.View.TheVariants as view
 use Rattle.ospf_script.specs.declared.name.Name.{Name}
 use Rattle.ospf_script.specs.declared.name.Name.TheVariants as name
 
@@ -22,22 +23,27 @@ form_text name.Tick = codes "tick R"
 form_text name.Up = codes "up R LINK, or up all"
 form_text name.Down = codes "down R LINK, or down all"
 form_text name.Deliver = codes "deliver N R LINK"
+form_text name.Cut = codes "cut ADDRESS"
+form_text name.Mend = codes "mend ADDRESS"
 form_text name.Round = codes "round COUNT [MOST]"
 form_text name.Random = codes "random NUMBER COUNT"
-form_text name.Neighbours = codes "neighbours R"
-form_text name.Listing = codes "listing R"
-form_text name.Table = codes "table R"
+form_text name.Settle = codes "settle MAX"
+form_text (name.Show view.Neighbours) = codes "neighbours R"
+form_text (name.Show view.Listing) = codes "listing R"
+form_text (name.Show view.Table) = codes "table R"
 form_text name.Walk = codes "walk R ADDRESS CHOICE.."
-form_text name.Floor = codes "floor R"
+form_text (name.Show view.Floor) = codes "floor R"
 form_text name.Say = codes "say WORD.."
 form_text name.Why = codes "why R LINK [NEIGHBOUR]"
 form_text name.Loss = codes "loss PERCENT NUMBER [ADDRESS]"
-form_text name.Expect = codes "expect full R S, expect no neighbour R LINK, expect route R PREFIX COST, or expect no route R PREFIX"
+form_text name.Expect =
+    codes "expect full R S, expect no neighbour R LINK, expect route R PREFIX COST, expect no route R PREFIX, expect walk R ADDRESS arrived [COST], expect agree, or expect settled"
+form_text name.Label = codes "label on, or label off"
 
 -- behind a first word that is no name, which names there are; else the form of the command
 abbrev pub hint_of : Text → Option Name → Text
 hint_of word None =
-    word_text word ++ codes ": no command; there are start, stop, tick, up, down, deliver, round, random, neighbours, listing, table, walk, floor, say, why, loss, expect"
+    word_text word ++ codes ": no command; there are start, stop, tick, up, down, deliver, cut, mend, round, random, settle, neighbours, listing, table, walk, floor, say, why, loss, expect, label"
 hint_of word (Some n) = form_text n
 
 -- of the words of a line

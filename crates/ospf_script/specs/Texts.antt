@@ -1,13 +1,19 @@
 -- Commands as they are printed.
-use Rattle.std.specs.Prelude.{ℕ, ℤ, ◌-◌, List, [], ◌++◌, Option, None, Some, codes, decimal, false, flat_map, length, replicate, string_bytes}
+use Rattle.std.specs.Prelude.{ℕ, ℤ, ◌-◌, List, [], ◌++◌, Option, None, Some, codes, decimal, false, flat_map, true, length, option_map, replicate, string_bytes}
 use Rattle.std.specs.Fmt.{digits}
 use Rattle.std.specs.Int.{w32, cast_unsigned}
 use Rattle.ospf_base.specs.Text.{number_text, prefix_text}
+use Rattle.ospf_headline.specs.declared.event.WorldEvent.{WorldEvent}
+use Rattle.ospf_headline.specs.declared.event.WorldEvent.TheVariants as event
 use Rattle.ospf_script.specs.Words.{Text}
 use Rattle.ospf_script.specs.declared.command.Command.{Command}
 use Rattle.ospf_script.specs.declared.command.Command.TheVariants as command
+use Rattle.ospf_script.specs.declared.command.Many.{Many}
+use Rattle.ospf_script.specs.declared.command.Many.TheVariants as many
+use Rattle.ospf_script.specs.declared.command.View.{View}
+use Rattle.ospf_script.specs.declared.command.View.TheVariants as view
 use Rattle.ospf_script.specs.declared.expected.Expected.{Expected}
-use Rattle.ospf_script.specs.declared.expected.Expected.TheVariants.{Full, NoNeighbour, Route, NoRoute}
+use Rattle.ospf_script.specs.declared.expected.Expected.TheVariants.{Full, NoNeighbour, Route, NoRoute, Walk, Agree, Settled}
 
 -- hexadecimal digits in lower case, with zeros in front where they are fewer than this
 unfoldable pub hexadecimal : ℕ → ℕ → Text
@@ -21,10 +27,15 @@ floor_text floor = hexadecimal 8 (cast_unsigned w32 floor)
 abbrev pub choices_text : List ℕ → Text
 choices_text choices = flat_map (λ choice. codes " " ++ decimal choice) choices
 
--- how many datagrams at most, where that is given, behind a space
+-- a number, where one is given, behind a space
 abbrev pub most_text : Option ℕ → Text
 most_text None = []
 most_text (Some most) = codes " " ++ decimal most
+
+-- what is printed of a value, where one is given, behind a space
+abbrev pub given_text : {A : Type 0} → (A → Option Text) → Option A → Option Text
+given_text text_of None = Some []
+given_text text_of (Some value) = option_map (λ text. codes " " ++ text) (text_of value)
 
 -- what is expected, with the name of its command
 abbrev pub expected_text : Expected → Text
@@ -33,24 +44,43 @@ expected_text (NoNeighbour router link) = codes "expect no neighbour " ++ number
 expected_text (Route router prefix cost) =
     codes "expect route " ++ number_text router.0 ++ codes " " ++ prefix_text prefix ++ codes " " ++ decimal cost
 expected_text (NoRoute router prefix) = codes "expect no route " ++ number_text router.0 ++ codes " " ++ prefix_text prefix
+expected_text (Walk from address cost) =
+    codes "expect walk " ++ number_text from.0 ++ codes " " ++ number_text address.0 ++ codes " arrived" ++ most_text cost
+expected_text Agree = codes "expect agree"
+expected_text Settled = codes "expect settled"
+
+abbrev pub event_text : WorldEvent → Text
+event_text (event.Start router dd_start floor) =
+    codes "start " ++ number_text router.0 ++ codes " " ++ decimal dd_start ++ codes " " ++ floor_text floor
+event_text (event.Stop router) = codes "stop " ++ number_text router.0
+event_text (event.Tick router) = codes "tick " ++ number_text router.0
+event_text (event.LinkUp router link) = codes "up " ++ number_text router.0 ++ codes " " ++ decimal link
+event_text (event.LinkDown router link) = codes "down " ++ number_text router.0 ++ codes " " ++ decimal link
+event_text (event.Deliver datagram router link) =
+    codes "deliver " ++ decimal datagram ++ codes " " ++ number_text router.0 ++ codes " " ++ decimal link
+
+abbrev pub many_text : Many → Text
+many_text many.Start = codes "start all"
+many_text many.Up = codes "up all"
+many_text many.Down = codes "down all"
+many_text (many.Cut network) = codes "cut " ++ number_text network.0
+many_text (many.Mend network) = codes "mend " ++ number_text network.0
+
+abbrev pub view_text : View → Text
+view_text view.Neighbours = codes "neighbours"
+view_text view.Listing = codes "listing"
+view_text view.Table = codes "table"
+view_text view.Floor = codes "floor"
 
 abbrev pub command_text : Command → Text
-command_text (command.Start router dd_start floor) =
-    codes "start " ++ number_text router.0 ++ codes " " ++ decimal dd_start ++ codes " " ++ floor_text floor
-command_text (command.Stop router) = codes "stop " ++ number_text router.0
-command_text (command.Tick router) = codes "tick " ++ number_text router.0
-command_text (command.LinkUp router link) = codes "up " ++ number_text router.0 ++ codes " " ++ decimal link
-command_text (command.LinkDown router link) = codes "down " ++ number_text router.0 ++ codes " " ++ decimal link
-command_text (command.Deliver datagram router link) =
-    codes "deliver " ++ decimal datagram ++ codes " " ++ number_text router.0 ++ codes " " ++ decimal link
+command_text (command.Event event) = event_text event
+command_text (command.Many many) = many_text many
 command_text (command.Round count most) = codes "round " ++ decimal count ++ most_text most
 command_text (command.Random number count) = codes "random " ++ decimal number ++ codes " " ++ decimal count
-command_text (command.Neighbours router) = codes "neighbours " ++ number_text router.0
-command_text (command.Listing router) = codes "listing " ++ number_text router.0
-command_text (command.Table router) = codes "table " ++ number_text router.0
+command_text (command.Settle most) = codes "settle " ++ decimal most
+command_text (command.Show view router) = view_text view ++ codes " " ++ number_text router.0
 command_text (command.Walk from address choices) =
     codes "walk " ++ number_text from.0 ++ codes " " ++ number_text address.0 ++ choices_text choices.items
-command_text (command.Floor router) = codes "floor " ++ number_text router.0
 command_text (command.Say text) = codes "say " ++ string_bytes text
 command_text (command.Why router link None) = codes "why " ++ number_text router.0 ++ codes " " ++ decimal link
 command_text (command.Why router link (Some neighbour)) =
@@ -59,6 +89,5 @@ command_text (command.Loss percent number None) = codes "loss " ++ decimal perce
 command_text (command.Loss percent number (Some address)) =
     codes "loss " ++ decimal percent ++ codes " " ++ decimal number ++ codes " " ++ number_text address.0
 command_text (command.Expect expected) = expected_text expected
-command_text command.StartAll = codes "start all"
-command_text command.UpAll = codes "up all"
-command_text command.DownAll = codes "down all"
+command_text (command.Label true) = codes "label on"
+command_text (command.Label false) = codes "label off"

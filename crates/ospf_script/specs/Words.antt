@@ -1,5 +1,5 @@
 -- The words of a line: what stands between its spaces.
-use Rattle.std.specs.Prelude.{◌≡◌, ◌==◌, ℕ, Bool, List, length, not}
+use Rattle.std.specs.Prelude.{◌≡◌, ◌==◌, ℕ, Bool, List, Option, None, Some, length, not}
 use Rattle.std.specs.List.{All, filter, slice_split}
 
 -- a word, or a line: its bytes
@@ -20,3 +20,8 @@ is_word part = not (length part == 0)
 -- the words of a line: of its parts between spaces those that are not empty
 abbrev pub words : Text → List Text
 words line = filter is_word (slice_split is_space line)
+
+-- what is found: a value of which this holds, or nothing where it holds of none
+abbrev pub Finds : {A : Type 0} → Option A → (A → Type 0) → Type 0
+Finds (Some found) P = P found
+Finds None P = (value : _) → P value → ⊥

@@ -2,40 +2,19 @@
 
 use crate::expected::Expected;
 use ospf_base::{Addr, RouterId};
+use ospf_headline::WorldEvent;
 
 /// What a line of a script asks for: an event, several events, or a line to be printed.
 #[derive(Debug, PartialEq, Eq, Drop)]
 pub enum Command {
-    /// `start R DD [FLOOR]`: the router starts, with the first DD sequence number that it sends, and the floor of its
-    /// LS sequence numbers.
-    Start {
-        router: RouterId,
-        dd_start: u32,
-        floor: i32,
+    /// `start R DD [FLOOR]`, `stop R`, `tick R`, `up R LINK`, `down R LINK` or `deliver N R LINK`: an event. A start has
+    /// the first DD sequence number that the router sends, and the floor of its LS sequence numbers.
+    Event {
+        event: WorldEvent,
     },
-    /// `stop R`: the router stops.
-    Stop {
-        router: RouterId,
-    },
-    /// `tick R`: a second passes at the router.
-    Tick {
-        router: RouterId,
-    },
-    /// `up R LINK`: a link of the router comes up.
-    LinkUp {
-        router: RouterId,
-        link: usize,
-    },
-    /// `down R LINK`: a link of the router goes down.
-    LinkDown {
-        router: RouterId,
-        link: usize,
-    },
-    /// `deliver N R LINK`: a datagram that was sent comes in on a link of the router.
-    Deliver {
-        datagram: usize,
-        router: RouterId,
-        link: usize,
+    /// `start all`, `up all`, `down all`, `cut ADDRESS` or `mend ADDRESS`: events at many routers.
+    Many {
+        many: Many,
     },
     /// `round COUNT [MOST]`: so many rounds, and how many datagrams each offers at most where that is given.
     Round {
@@ -47,16 +26,13 @@ pub enum Command {
         number: u64,
         count: u64,
     },
-    /// `neighbours R`: the neighbours of the router are printed.
-    Neighbours {
-        router: RouterId,
+    /// `settle MAX`: rounds until nothing changes any more, at most so many.
+    Settle {
+        most: u64,
     },
-    /// `listing R`: the LSAs that the router lists are printed.
-    Listing {
-        router: RouterId,
-    },
-    /// `table R`: the routing table of the router is printed.
-    Table {
+    /// `neighbours R`, `listing R`, `table R` or `floor R`: this is printed of the router.
+    Show {
+        view: View,
         router: RouterId,
     },
     /// `walk R ADDRESS CHOICE..`: the walk from a router towards an address is printed, with the choice of a hop at each
@@ -65,10 +41,6 @@ pub enum Command {
         from: RouterId,
         address: Addr,
         choices: Vec<u32>,
-    },
-    /// `floor R`: the floor of the router's LS sequence numbers is printed.
-    Floor {
-        router: RouterId,
     },
     /// `say WORD..`: the words are printed, with a space between two.
     Say {
@@ -87,14 +59,40 @@ pub enum Command {
         number: u64,
         network: Option<Addr>,
     },
-    /// `expect WHAT ..`: where a router is not as it is expected to be, that is printed, with what stands there.
+    /// `expect WHAT ..`: where it is not as it is expected to be, that is printed, with what stands there.
     Expect {
         expected: Expected,
     },
-    /// `start all`: each router starts, with 1 as the first DD sequence number that it sends, and above no floor.
-    StartAll,
-    /// `up all`: each link of each router comes up.
-    UpAll,
-    /// `down all`: each link of each router goes down.
-    DownAll,
+    /// `label on` or `label off`: whether what is shown from here on is headed by a line.
+    Label {
+        is_on: bool,
+    },
+}
+
+/// Events at many routers.
+#[derive(Clone, Copy, Debug, PartialEq, Eq)]
+pub enum Many {
+    /// Each router starts, with 1 as the first DD sequence number that it sends, and above no floor.
+    Start,
+    /// Each link of each router comes up.
+    Up,
+    /// Each link of each router goes down.
+    Down,
+    /// Each link to the network that holds the address goes down.
+    Cut { network: Addr },
+    /// Each link to the network that holds the address comes up.
+    Mend { network: Addr },
+}
+
+/// What is shown of a router.
+#[derive(Clone, Copy, Debug, PartialEq, Eq)]
+pub enum View {
+    /// Its neighbours, by link and Router ID: the number of the link, the Router ID, the state.
+    Neighbours,
+    /// The LSAs that it lists: kind, Link State ID, Advertising Router, sequence number, checksum.
+    Listing,
+    /// Its routing table, a line a route.
+    Table,
+    /// The greatest of the floor of the start and the numbers of its own LSAs since.
+    Floor,
 }

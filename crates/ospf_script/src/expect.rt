@@ -1,70 +1,60 @@
 //! The words behind `expect`.
 
-ghost use Rattle.std.specs.Prelude.{◌∷◌, [], IfSome, IfNone, codes};
-ghost use Rattle.ospf_script.specs.Expected.{IsExpected};
-ghost use Rattle.ospf_script.specs.Words.{words};
-ghost use Rattle.ospf_script.specs.declared.expected.Expected.{Expected};
+ghost use Rattle.std.specs.Prelude.{◌∷◌, codes};
+ghost use Rattle.ospf_script.specs.Expected.{IsArrival, IsExpected};
+ghost use Rattle.ospf_script.specs.Words.{Finds, words};
 
 use crate::expected::Expected;
-use crate::values::{number_of, prefix_of, router_of};
-use crate::words::{first_word, three_words, two_words};
+use crate::values::{number_of, prefix_of, router_of, text_of};
+use crate::walk::ends_in;
+use crate::words::{first_word, is_alone, three_words, two_words};
 
 // What the words of a text expect.
 pub(crate) fn expected_in(text: &[u8]) -> Option<Expected>
-    ensures some { IfSome result (IsExpected (words text.now)) }
-    ensures none { IfNone result ((expected : Expected) → IsExpected (words text.now) expected →
-        ⊥) }
+    ensures { Finds result (IsExpected (words text.now)) }
 {
-    let (word, rest) = first_word(text)?;
-    if let Some((router, other)) = two_words(rest) {
-        return full_of(word, router, other);
+    if is_alone(text, "agree") {
+        return Some(Expected::Agree);
     }
-    let (second, third, fourth) = three_words(rest)?;
-    of_four(word, second, third, fourth)
+    if is_alone(text, "settled") {
+        return Some(Expected::Settled);
+    }
+    let (word, rest) = first_word(text)?;
+    match text_of(word)? {
+        "full" => full_in(rest),
+        "route" => route_in(rest),
+        "no" => absent_in(rest),
+        "walk" => arrival_in(rest),
+        _ => None,
+    }
 }
 
-// What three words expect.
-fn full_of(word: &[u8], router: &[u8], other: &[u8]) -> Option<Expected>
-    ensures some { IfSome result (IsExpected (word.now ∷ router.now ∷ other.now ∷ [])) }
-    ensures none { IfNone result ((expected : Expected) →
-        IsExpected (word.now ∷ router.now ∷ other.now ∷ []) expected → ⊥) }
+// What `full` and the words behind it expect.
+fn full_in(text: &[u8]) -> Option<Expected>
+    ensures { Finds result (IsExpected (codes "full" ∷ words text.now)) }
 {
-    if word != b"full".as_slice() {
-        return None;
-    }
+    let (router, other) = two_words(text)?;
     let (router, other) = (router_of(router)?, router_of(other)?);
     Some(Expected::Full { router, other })
 }
 
-// What four words expect.
-fn of_four(first: &[u8], second: &[u8], third: &[u8], fourth: &[u8]) -> Option<Expected>
-    ensures some { IfSome result (IsExpected
-        (first.now ∷ second.now ∷ third.now ∷ fourth.now ∷ [])) }
-    ensures none { IfNone result ((expected : Expected) → IsExpected
-        (first.now ∷ second.now ∷ third.now ∷ fourth.now ∷ []) expected → ⊥) }
+// What `route` and the words behind it expect.
+fn route_in(text: &[u8]) -> Option<Expected>
+    ensures { Finds result (IsExpected (codes "route" ∷ words text.now)) }
 {
-    if first == b"no".as_slice() {
-        return absent_of(second, third, fourth);
-    }
-    if first != b"route".as_slice() {
-        return None;
-    }
-    let (router, prefix) = (router_of(second)?, prefix_of(third)?);
-    let cost = number_of(fourth)?;
+    let (router, prefix, cost) = three_words(text)?;
     Some(Expected::Route {
-        router,
-        prefix,
-        cost,
+        router: router_of(router)?,
+        prefix: prefix_of(prefix)?,
+        cost: number_of(cost)?,
     })
 }
 
-// What `no` and three words behind it expect.
-fn absent_of(word: &[u8], router: &[u8], other: &[u8]) -> Option<Expected>
-    ensures some { IfSome result (IsExpected
-        (codes "no" ∷ word.now ∷ router.now ∷ other.now ∷ [])) }
-    ensures none { IfNone result ((expected : Expected) → IsExpected
-        (codes "no" ∷ word.now ∷ router.now ∷ other.now ∷ []) expected → ⊥) }
+// What `no` and the words behind it expect.
+fn absent_in(text: &[u8]) -> Option<Expected>
+    ensures { Finds result (IsExpected (codes "no" ∷ words text.now)) }
 {
+    let (word, router, other) = three_words(text)?;
     let router = router_of(router)?;
     if word == b"route".as_slice() {
         let prefix = prefix_of(other)?;
@@ -75,4 +65,31 @@ fn absent_of(word: &[u8], router: &[u8], other: &[u8]) -> Option<Expected>
     }
     let link = number_of(other)? as usize;
     Some(Expected::NoNeighbour { router, link })
+}
+
+// What `walk` and the words behind it expect.
+fn arrival_in(text: &[u8]) -> Option<Expected>
+    ensures { Finds result (IsExpected (codes "walk" ∷ words text.now)) }
+{
+    let (from, address, rest) = ends_in(text)?;
+    let cost = cost_in(rest)?;
+    Some(Expected::Walk {
+        from,
+        address,
+        cost,
+    })
+}
+
+// The word `arrived`, and a cost where one is given.
+fn cost_in(text: &[u8]) -> Option<Option<u64>>
+    ensures { Finds result (IsArrival (words text.now)) }
+{
+    if is_alone(text, "arrived") {
+        return Some(None);
+    }
+    let (word, cost) = two_words(text)?;
+    if word != b"arrived".as_slice() {
+        return None;
+    }
+    Some(Some(number_of(cost)?))
 }

@@ -1,8 +1,8 @@
 //! What a script may expect.
 
-use ospf_base::{Prefix, RouterId};
+use ospf_base::{Addr, Prefix, RouterId};
 
-/// What a router is expected to be.
+/// What routers are expected to be.
 #[derive(Clone, Copy, Debug, PartialEq, Eq)]
 pub enum Expected {
     /// `full R S`: the router has the other one as a Full neighbour.
@@ -26,4 +26,14 @@ pub enum Expected {
         router: RouterId,
         prefix: Prefix,
     },
+    /// `walk R ADDRESS arrived [COST]`: the walk from the router arrives, at this cost where one is given.
+    Walk {
+        from: RouterId,
+        address: Addr,
+        cost: Option<u64>,
+    },
+    /// `agree`: all routers that run list the same.
+    Agree,
+    /// `settled`: the last `settle` ended since nothing changed any more, and nothing has come about since.
+    Settled,
 }

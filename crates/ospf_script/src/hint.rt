@@ -1,11 +1,11 @@
 //! What is told behind a line that spells no command.
 
-ghost use Rattle.std.specs.Prelude.{◌≡◌, ◌++◌, None, codes};
+ghost use Rattle.std.specs.Prelude.{◌≡◌, None};
 ghost use Rattle.std.specs.Fmt.{WritesOnOk};
 ghost use Rattle.ospf_script.specs.Hints.{byte_text, form_text, hint_of, hint_text, word_text};
-ghost use Rattle.ospf_script.specs.Texts.{hexadecimal};
 ghost use Rattle.ospf_script.specs.Words.{words};
 
+use crate::command::View;
 use crate::name::Name;
 use crate::words::first_word;
 use std::fmt::{self, Display, Formatter, Write};
@@ -47,7 +47,7 @@ fn write_names<W: Write>(f: &mut Formatter<W>, word: &[u8]) -> fmt::Result
 {
     write_word(f, word)?;
     f.write_str(
-        ": no command; there are start, stop, tick, up, down, deliver, round, random, neighbours, listing, table, walk, floor, say, why, loss, expect",
+        ": no command; there are start, stop, tick, up, down, deliver, cut, mend, round, random, settle, neighbours, listing, table, walk, floor, say, why, loss, expect, label",
     )
 }
 
@@ -66,18 +66,10 @@ fn write_byte<W: Write>(f: &mut Formatter<W>, byte: u8) -> fmt::Result
     ensures { WritesOnOk W.Write.write_str_gives f.old result (byte_text byte) f.new }
 {
     if byte < b'!' || byte > b'~' {
-        write_hexadecimal(f, byte)
+        write!(f, "\\x{byte:02x}")
     } else {
         f.write_char(char::from(byte))
     }
-}
-
-// A byte that is not printed, by its number.
-fn write_hexadecimal<W: Write>(f: &mut Formatter<W>, byte: u8) -> fmt::Result
-    ensures { WritesOnOk W.Write.write_str_gives f.old result
-        (codes "\\x" ++ hexadecimal 2 byte) f.new }
-{
-    write!(f, "\\x{byte:02x}")
 }
 
 // The form of a command.
@@ -91,17 +83,21 @@ fn form_of(name: Name) -> &'static str
         Name::Up => "up R LINK, or up all",
         Name::Down => "down R LINK, or down all",
         Name::Deliver => "deliver N R LINK",
+        Name::Cut => "cut ADDRESS",
+        Name::Mend => "mend ADDRESS",
         Name::Round => "round COUNT [MOST]",
         Name::Random => "random NUMBER COUNT",
-        Name::Neighbours => "neighbours R",
-        Name::Listing => "listing R",
-        Name::Table => "table R",
+        Name::Settle => "settle MAX",
+        Name::Show(View::Neighbours) => "neighbours R",
+        Name::Show(View::Listing) => "listing R",
+        Name::Show(View::Table) => "table R",
+        Name::Show(View::Floor) => "floor R",
         Name::Walk => "walk R ADDRESS CHOICE..",
-        Name::Floor => "floor R",
         Name::Say => "say WORD..",
         Name::Why => "why R LINK [NEIGHBOUR]",
         Name::Loss => "loss PERCENT NUMBER [ADDRESS]",
         Name::Expect =>
-            "expect full R S, expect no neighbour R LINK, expect route R PREFIX COST, or expect no route R PREFIX",
+            "expect full R S, expect no neighbour R LINK, expect route R PREFIX COST, expect no route R PREFIX, expect walk R ADDRESS arrived [COST], expect agree, or expect settled",
+        Name::Label => "label on, or label off",
     }
 }

@@ -4,6 +4,7 @@
 #![tactic(auto)]
 
 mod command;
+mod events;
 mod expect;
 mod expected;
 mod fault;
@@ -21,7 +22,7 @@ mod views;
 mod walk;
 mod words;
 
-pub use crate::command::Command;
+pub use crate::command::{Command, Many, View};
 pub use crate::expected::Expected;
 pub use crate::fault::LineFault;
 pub use crate::hint::Hint;
@@ -29,3 +30,4 @@ pub use crate::laws::words_spell_one_command;
 pub use crate::script::{Line, first_line, lines};
 pub use crate::values::floor_of;
 pub use crate::views::{FloorShown, ListedShown, NeighbourShown, RefusalShown, WalkShown};
+pub use ospf_headline::WorldEvent;

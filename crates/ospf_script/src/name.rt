@@ -1,5 +1,8 @@
 //! The words that commands begin with.
 
+use crate::command::View;
+use crate::values::text_of;
+
 // The word that a command begins with.
 #[derive(Clone, Copy)]
 pub(crate) enum Name {
@@ -9,83 +12,50 @@ pub(crate) enum Name {
     Up,
     Down,
     Deliver,
+    Cut,
+    Mend,
     Round,
     Random,
-    Neighbours,
-    Listing,
-    Table,
+    Settle,
+    Show(View),
     Walk,
-    Floor,
     Say,
     Why,
     Loss,
     Expect,
+    Label,
 }
 
 impl Name {
-    ghost use Rattle.std.specs.Prelude.{◌≡◌, IfSome, IfNone};
-    ghost use Rattle.ospf_script.specs.Names.{IsWordOf, name_text};
-    ghost use Rattle.ospf_script.specs.declared.name.Name.{Name};
-
-    // The word itself.
-    pub(crate) fn text(self) -> &'static str
-        ensures { result.now ≡ name_text self }
-    {
-        match self {
-            Name::Start => "start",
-            Name::Stop => "stop",
-            Name::Tick => "tick",
-            Name::Up => "up",
-            Name::Down => "down",
-            Name::Deliver => "deliver",
-            Name::Round => "round",
-            Name::Random => "random",
-            Name::Neighbours => "neighbours",
-            Name::Listing => "listing",
-            Name::Table => "table",
-            Name::Walk => "walk",
-            Name::Floor => "floor",
-            Name::Say => "say",
-            Name::Why => "why",
-            Name::Loss => "loss",
-            Name::Expect => "expect",
-        }
-    }
+    ghost use Rattle.ospf_script.specs.Names.{IsWordOf};
+    ghost use Rattle.ospf_script.specs.Words.{Finds};
 
     // The name that a word is, if it is one.
     pub(crate) fn read(word: &[u8]) -> Option<Name>
-        ensures some { IfSome result (IsWordOf word.now) }
-        ensures none { IfNone result ((name : Name) → IsWordOf word.now name → ⊥) }
+        ensures { Finds result (IsWordOf word.now) }
     {
-        match str::from_utf8(word) {
-            Ok(text) => Name::of_text(text),
-            Err(_) => None,
-        }
-    }
-
-    // The name that a text is, if it is one.
-    fn of_text(text: &str) -> Option<Name>
-        ensures some { IfSome result (IsWordOf text.now) }
-        ensures none { IfNone result ((name : Name) → IsWordOf text.now name → ⊥) }
-    {
-        let name = match text {
+        let name = match text_of(word)? {
             "start" => Name::Start,
             "stop" => Name::Stop,
             "tick" => Name::Tick,
             "up" => Name::Up,
             "down" => Name::Down,
             "deliver" => Name::Deliver,
+            "cut" => Name::Cut,
+            "mend" => Name::Mend,
             "round" => Name::Round,
             "random" => Name::Random,
-            "neighbours" | "neighbors" => Name::Neighbours,
-            "listing" => Name::Listing,
-            "table" => Name::Table,
+            "settle" => Name::Settle,
+            "neighbours" | "neighbors" => Name::Show(View::Neighbours),
+            "listing" => Name::Show(View::Listing),
+            "table" => Name::Show(View::Table),
             "walk" => Name::Walk,
-            "floor" => Name::Floor,
+            "floor" => Name::Show(View::Floor),
             "say" => Name::Say,
             "why" => Name::Why,
             "loss" => Name::Loss,
             "expect" => Name::Expect,
+            "label" => Name::Label,
             _ => return None,
         };
         Some(name)

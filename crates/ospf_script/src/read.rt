@@ -1,22 +1,21 @@
 //! The lines of a script.
 
 ghost use Rattle.std.specs.Prelude.{◌≡◌, ◌≢◌, ◌⊎◌, IfOk, IfErr, IfSome, IfNone};
-ghost use Rattle.ospf_script.specs.Commands.{IsLongWalk, Takes, name_of};
-ghost use Rattle.ospf_script.specs.Names.{HasForms, IsOfRouter};
+ghost use Rattle.ospf_script.specs.Commands.{HasForms, IsLongWalk, IsOf};
 ghost use Rattle.ospf_script.specs.Words.{words};
 ghost use Rattle.ospf_script.specs.declared.command.Command.{Command};
 ghost use Rattle.ospf_script.specs.declared.name.Name.TheVariants as names;
 
 use crate::command::Command;
+use crate::events::{event_in, many_in};
 use crate::expect::expected_in;
 use crate::fault::LineFault;
 use crate::name::Name;
-use crate::say::{is_all, text_in};
-use crate::shapes::{
-    delivery_in, loss_in, numbers_in, rounds_in, router_and_link_in, router_in, start_in, why_in,
-};
+use crate::say::text_in;
+use crate::shapes::{loss_in, numbers_in, rounds_in, router_in, switch_in, why_in};
+use crate::values::number_of;
 use crate::walk::walk_in;
-use crate::words::first_word;
+use crate::words::{first_word, one_word};
 use std::alloc::Global;
 
 impl Command {
@@ -44,19 +43,15 @@ impl Command {
         let Some(name) = Name::read(word) else {
             return Err(LineFault::NotACommand);
         };
-        match of_words(alloc, name, rest) {
-            Ok(command) => Ok(Some(command)),
-            Err(fault) => Err(fault),
-        }
+        Ok(Some(of_words(alloc, name, rest)?))
     }
 }
 
 // The command of a name, and of the words behind it.
 fn of_words(alloc: Global, name: Name, text: &[u8]) -> Result<Command, LineFault>
-    ensures named { IfOk result (λ command. name_of command ≡ name) }
-    ensures ok { IfOk result (λ command. Takes command (words text.now)) }
+    ensures ok { IfOk result (IsOf name (words text.now)) }
     ensures not_a_command { IfErr result (λ e. e ≡ LineFault.NotACommand → (command : Command) →
-        name_of command ≡ name → Takes command (words text.now) → ⊥) }
+        IsOf name (words text.now) command → ⊥) }
     ensures memory { IfErr result (λ e. e ≡ LineFault.Memory →
         ((name ≡ names.Walk) × IsLongWalk (words text.now)) ⊎ (name ≡ names.Say)) }
 {
@@ -73,64 +68,48 @@ fn of_words(alloc: Global, name: Name, text: &[u8]) -> Result<Command, LineFault
             Ok(text) => Ok(Command::Say { text }),
             Err(fault) => Err(fault),
         },
-        _ => match of_name(name, text) {
-            Some(command) => Ok(command),
-            None => Err(LineFault::NotACommand),
-        },
+        _ => of_name(name, text).ok_or(LineFault::NotACommand),
     }
 }
 
 // The command of a name that is neither `walk` nor `say`, and of the words behind it.
 fn of_name(name: Name, text: &[u8]) -> Option<Command>
-    ensures named { IfSome result (λ command. name_of command ≡ name) }
-    ensures some { IfSome result (λ command. Takes command (words text.now)) }
+    ensures some { IfSome result (IsOf name (words text.now)) }
     ensures none { IfNone result (name ≢ names.Walk → name ≢ names.Say → (command : Command) →
-        name_of command ≡ name → Takes command (words text.now) → ⊥) }
+        IsOf name (words text.now) command → ⊥) }
 {
+    if let Some(event) = event_in(name, text) {
+        return Some(Command::Event { event });
+    }
+    if let Some(many) = many_in(name, text) {
+        return Some(Command::Many { many });
+    }
     match name {
-        Name::Start if is_all(text) => Some(Command::StartAll),
-        Name::Up if is_all(text) => Some(Command::UpAll),
-        Name::Down if is_all(text) => Some(Command::DownAll),
-        Name::Start => {
-            let (router, dd_start, floor) = start_in(text)?;
-            Some(Command::Start {
-                router,
-                dd_start,
-                floor,
-            })
-        }
-        Name::Up => {
-            let (router, link) = router_and_link_in(text)?;
-            Some(Command::LinkUp { router, link })
-        }
-        Name::Down => {
-            let (router, link) = router_and_link_in(text)?;
-            Some(Command::LinkDown { router, link })
-        }
-        Name::Deliver => {
-            let (datagram, router, link) = delivery_in(text)?;
-            Some(Command::Deliver {
-                datagram,
-                router,
-                link,
-            })
-        }
         Name::Random => {
             let (number, count) = numbers_in(text)?;
             Some(Command::Random { number, count })
         }
-        Name::Walk | Name::Say => None,
-        Name::Round | Name::Why | Name::Loss | Name::Expect => of_forms(name, text),
-        _ => of_router(name, text),
+        Name::Settle => {
+            let most = number_of(one_word(text)?)?;
+            Some(Command::Settle { most })
+        }
+        Name::Show(view) => {
+            let router = router_in(text)?;
+            Some(Command::Show { view, router })
+        }
+        Name::Label => {
+            let is_on = switch_in(text)?;
+            Some(Command::Label { is_on })
+        }
+        _ => of_forms(name, text),
     }
 }
 
 // The command of a name with several forms, and of the words behind it.
 fn of_forms(name: Name, text: &[u8]) -> Option<Command>
-    ensures named { IfSome result (λ command. name_of command ≡ name) }
-    ensures some { IfSome result (λ command. Takes command (words text.now)) }
-    ensures none { IfNone result (HasForms name → (command : Command) → name_of command ≡ name →
-        Takes command (words text.now) → ⊥) }
+    ensures some { IfSome result (IsOf name (words text.now)) }
+    ensures none { IfNone result (HasForms name → (command : Command) →
+        IsOf name (words text.now) command → ⊥) }
 {
     match name {
         Name::Round => {
@@ -157,25 +136,6 @@ fn of_forms(name: Name, text: &[u8]) -> Option<Command>
             let expected = expected_in(text)?;
             Some(Command::Expect { expected })
         }
-        _ => None,
-    }
-}
-
-// The command of a router alone, of this name and of the words behind it.
-fn of_router(name: Name, text: &[u8]) -> Option<Command>
-    ensures named { IfSome result (λ command. name_of command ≡ name) }
-    ensures some { IfSome result (λ command. Takes command (words text.now)) }
-    ensures none { IfNone result (IsOfRouter name → (command : Command) → name_of command ≡ name →
-        Takes command (words text.now) → ⊥) }
-{
-    let router = router_in(text)?;
-    match name {
-        Name::Stop => Some(Command::Stop { router }),
-        Name::Tick => Some(Command::Tick { router }),
-        Name::Neighbours => Some(Command::Neighbours { router }),
-        Name::Listing => Some(Command::Listing { router }),
-        Name::Table => Some(Command::Table { router }),
-        Name::Floor => Some(Command::Floor { router }),
         _ => None,
     }
 }

@@ -1,12 +1,12 @@
-//! The words behind `say`, and the word `all`.
+//! The words behind `say`.
 
-ghost use Rattle.std.specs.Prelude.{◌≡◌, ◌↔◌, IfErr, IfOk, IsTrue, String, string_bytes};
+ghost use Rattle.std.specs.Prelude.{◌≡◌, IfErr, IfOk, String, string_bytes};
 ghost use Rattle.std.specs.declared.alloc.Global.{Global};
-ghost use Rattle.ospf_script.specs.Commands.{IsAll, spaced};
+ghost use Rattle.ospf_script.specs.Commands.{spaced};
 ghost use Rattle.ospf_script.specs.Words.{words};
 
 use crate::fault::LineFault;
-use crate::words::{first_word, one_word};
+use crate::words::first_word;
 use std::alloc::{AllocError, Global};
 
 // The words of a text, with a space between two.
@@ -19,16 +19,6 @@ pub(crate) fn text_in(alloc: Global, text: &[u8]) -> Result<String, LineFault>
     match String::from_utf8(bytes) {
         Ok(said) => Ok(said),
         Err(_) => Err(LineFault::NotACommand),
-    }
-}
-
-// Whether a text has the word `all` alone.
-pub(crate) fn is_all(text: &[u8]) -> bool
-    ensures { IsTrue result ↔ IsAll (words text.now) }
-{
-    match one_word(text) {
-        Some(word) => word == b"all".as_slice(),
-        None => false,
     }
 }
 

@@ -1,31 +1,29 @@
 //! The words behind the names of commands.
 
-ghost use Rattle.std.specs.Prelude.{◌≡◌, ℕ, ℤ, IfSome, IfNone, Option};
-ghost use Rattle.ospf_base.specs.declared.ids.Addr.{Addr};
-ghost use Rattle.ospf_base.specs.declared.ids.RouterId.{RouterId};
-ghost use Rattle.ospf_script.specs.Commands.{AreNumbers, AreRounds, IsDelivery, IsLoss, IsRouterAlone, IsRouterAndLink, IsStart, IsWhy};
-ghost use Rattle.ospf_script.specs.Words.{words};
+ghost use Rattle.ospf_script.specs.Commands.{AreNumbers, AreRounds, IsAddressAlone, IsLoss, IsRouterAlone, IsRouterAndLink, IsSwitch, IsWhy};
+ghost use Rattle.ospf_script.specs.Words.{Finds, words};
 
-use crate::values::{address_of, floor_of, number_of, percent_of, router_of, short_number_of};
-use crate::words::{one_word, three_words, two_words};
+use crate::values::{address_of, number_of, percent_of, router_of};
+use crate::words::{is_alone, one_word, three_words, two_words};
 use ospf_base::{Addr, RouterId};
-
-// The floor below all LS sequence numbers, which is none.
-const NO_FLOOR: i32 = i32::MIN;
 
 // A Router ID alone.
 pub(crate) fn router_in(text: &[u8]) -> Option<RouterId>
-    ensures some { IfSome result (IsRouterAlone (words text.now)) }
-    ensures none { IfNone result ((router : RouterId) → IsRouterAlone (words text.now) router → ⊥) }
+    ensures { Finds result (IsRouterAlone (words text.now)) }
 {
     router_of(one_word(text)?)
 }
 
+// An address alone.
+pub(crate) fn address_in(text: &[u8]) -> Option<Addr>
+    ensures { Finds result (IsAddressAlone (words text.now)) }
+{
+    address_of(one_word(text)?)
+}
+
 // A count, and how many datagrams at most, where that is given.
 pub(crate) fn rounds_in(text: &[u8]) -> Option<(u64, Option<u64>)>
-    ensures some { IfSome result (λ found. AreRounds (words text.now) found.0 found.1) }
-    ensures none { IfNone result ((count : ℕ) (most : Option ℕ) →
-        AreRounds (words text.now) count most → ⊥) }
+    ensures { Finds result (λ found. AreRounds (words text.now) found.0 found.1) }
 {
     if let Some(count) = one_word(text) {
         return Some((number_of(count)?, None));
@@ -36,9 +34,7 @@ pub(crate) fn rounds_in(text: &[u8]) -> Option<(u64, Option<u64>)>
 
 // A Router ID and a link.
 pub(crate) fn router_and_link_in(text: &[u8]) -> Option<(RouterId, usize)>
-    ensures some { IfSome result (λ found. IsRouterAndLink (words text.now) found.0 found.1) }
-    ensures none { IfNone result ((router : RouterId) (link : ℕ) →
-        IsRouterAndLink (words text.now) router link → ⊥) }
+    ensures { Finds result (λ found. IsRouterAndLink (words text.now) found.0 found.1) }
 {
     let (router, link) = two_words(text)?;
     Some((router_of(router)?, number_of(link)? as usize))
@@ -46,45 +42,15 @@ pub(crate) fn router_and_link_in(text: &[u8]) -> Option<(RouterId, usize)>
 
 // Two numbers.
 pub(crate) fn numbers_in(text: &[u8]) -> Option<(u64, u64)>
-    ensures some { IfSome result (λ found. AreNumbers (words text.now) found.0 found.1) }
-    ensures none { IfNone result ((number count : ℕ) → AreNumbers (words text.now) number count →
-        ⊥) }
+    ensures { Finds result (λ found. AreNumbers (words text.now) found.0 found.1) }
 {
     let (number, count) = two_words(text)?;
     Some((number_of(number)?, number_of(count)?))
 }
 
-// A datagram, a Router ID and a link.
-pub(crate) fn delivery_in(text: &[u8]) -> Option<(usize, RouterId, usize)>
-    ensures some { IfSome result (λ found. IsDelivery (words text.now) found.0 found.1 found.2) }
-    ensures none { IfNone result ((datagram : ℕ) (router : RouterId) (link : ℕ) →
-        IsDelivery (words text.now) datagram router link → ⊥) }
-{
-    let (datagram, router, link) = three_words(text)?;
-    let datagram = number_of(datagram)? as usize;
-    let router = router_of(router)?;
-    Some((datagram, router, number_of(link)? as usize))
-}
-
-// A Router ID, a first DD sequence number and a floor, or no floor.
-pub(crate) fn start_in(text: &[u8]) -> Option<(RouterId, u32, i32)>
-    ensures some { IfSome result (λ found. IsStart (words text.now) found.0 found.1 found.2) }
-    ensures none { IfNone result ((router : RouterId) (dd_start : ℕ) (floor : ℤ) →
-        IsStart (words text.now) router dd_start floor → ⊥) }
-{
-    if let Some((router, dd_start)) = two_words(text) {
-        return Some((router_of(router)?, short_number_of(dd_start)?, NO_FLOOR));
-    }
-    let (router, dd_start, floor) = three_words(text)?;
-    let router = router_of(router)?;
-    Some((router, short_number_of(dd_start)?, floor_of(floor)?))
-}
-
 // A Router ID and a link, and a neighbour where one is given.
 pub(crate) fn why_in(text: &[u8]) -> Option<(RouterId, usize, Option<RouterId>)>
-    ensures some { IfSome result (λ found. IsWhy (words text.now) found.0 found.1 found.2) }
-    ensures none { IfNone result ((router : RouterId) (link : ℕ) (neighbour : Option RouterId) →
-        IsWhy (words text.now) router link neighbour → ⊥) }
+    ensures { Finds result (λ found. IsWhy (words text.now) found.0 found.1 found.2) }
 {
     if let Some((router, link)) = router_and_link_in(text) {
         return Some((router, link, None));
@@ -97,9 +63,7 @@ pub(crate) fn why_in(text: &[u8]) -> Option<(RouterId, usize, Option<RouterId>)>
 
 // A percentage and a number, and an address where one is given.
 pub(crate) fn loss_in(text: &[u8]) -> Option<(u8, u64, Option<Addr>)>
-    ensures some { IfSome result (λ found. IsLoss (words text.now) found.0 found.1 found.2) }
-    ensures none { IfNone result ((percent number : ℕ) (network : Option Addr) →
-        IsLoss (words text.now) percent number network → ⊥) }
+    ensures { Finds result (λ found. IsLoss (words text.now) found.0 found.1 found.2) }
 {
     if let Some((percent, number)) = two_words(text) {
         return Some((percent_of(percent)?, number_of(number)?, None));
@@ -107,4 +71,14 @@ pub(crate) fn loss_in(text: &[u8]) -> Option<(u8, u64, Option<Addr>)>
     let (percent, number, network) = three_words(text)?;
     let percent = percent_of(percent)?;
     Some((percent, number_of(number)?, Some(address_of(network)?)))
+}
+
+// Whether the word `on` or the word `off` stands there alone.
+pub(crate) fn switch_in(text: &[u8]) -> Option<bool>
+    ensures { Finds result (IsSwitch (words text.now)) }
+{
+    if is_alone(text, "on") {
+        return Some(true);
+    }
+    is_alone(text, "off").then_some(false)
 }

@@ -1,12 +1,13 @@
 //! Commands as text.
 
 ghost use Rattle.std.specs.Fmt.{WritesOnOk};
-ghost use Rattle.ospf_script.specs.Commands.{name_of};
-ghost use Rattle.ospf_script.specs.Names.{HasForms};
-ghost use Rattle.ospf_script.specs.Texts.{choices_text, command_text, floor_text, most_text};
+ghost use Rattle.std.specs.Prelude.{◌≡◌};
+ghost use Rattle.ospf_script.specs.Texts.{choices_text, event_text, many_text, view_text};
 
-use crate::command::Command;
+use crate::command::{Command, Many, View};
 use crate::expected::Expected;
+use crate::views::FloorShown;
+use ospf_headline::WorldEvent;
 use std::fmt::{self, Display, Formatter, Write};
 
 /// As a line of a script, with the floor of a start, which is read as the same command.
@@ -18,27 +19,12 @@ impl Display for Command {
 
     fn fmt<W: Write>(&self, f: &mut Formatter<W>) -> fmt::Result {
         match self {
-            Command::Start {
-                router,
-                dd_start,
-                floor,
-            } => {
-                write!(f, "start {router} {dd_start} ")?;
-                write_floor(f, *floor)
-            }
-            Command::Stop { router } => write!(f, "stop {router}"),
-            Command::Tick { router } => write!(f, "tick {router}"),
-            Command::LinkUp { router, link } => write!(f, "up {router} {link}"),
-            Command::LinkDown { router, link } => write!(f, "down {router} {link}"),
-            Command::Deliver {
-                datagram,
-                router,
-                link,
-            } => write!(f, "deliver {datagram} {router} {link}"),
+            Command::Event { event } => write_event(f, event),
+            Command::Many { many } => write_many(f, many),
+            Command::Round { count, most } => write!(f, "round {count}{}", Given(*most)),
             Command::Random { number, count } => write!(f, "random {number} {count}"),
-            Command::Neighbours { router } => write!(f, "neighbours {router}"),
-            Command::Listing { router } => write!(f, "listing {router}"),
-            Command::Table { router } => write!(f, "table {router}"),
+            Command::Settle { most } => write!(f, "settle {most}"),
+            Command::Show { view, router } => write!(f, "{} {router}", view_of(*view)),
             Command::Walk {
                 from,
                 address,
@@ -47,12 +33,20 @@ impl Display for Command {
                 write!(f, "walk {from} {address}")?;
                 write_choices(f, choices)
             }
-            Command::Floor { router } => write!(f, "floor {router}"),
             Command::Say { text } => write!(f, "say {text}"),
-            Command::StartAll => f.write_str("start all"),
-            Command::UpAll => f.write_str("up all"),
-            Command::DownAll => f.write_str("down all"),
-            _ => write_forms(f, self),
+            Command::Why {
+                router,
+                link,
+                neighbour,
+            } => write!(f, "why {router} {link}{}", Given(*neighbour)),
+            Command::Loss {
+                percent,
+                number,
+                network,
+            } => write!(f, "loss {percent} {number}{}", Given(*network)),
+            Command::Expect { expected } => write!(f, "{expected}"),
+            Command::Label { is_on: true } => f.write_str("label on"),
+            Command::Label { is_on: false } => f.write_str("label off"),
         }
     }
 }
@@ -78,60 +72,78 @@ impl Display for Expected {
             Expected::NoRoute { router, prefix } => {
                 write!(f, "expect no route {router} {prefix}")
             }
+            Expected::Walk {
+                from,
+                address,
+                cost,
+            } => write!(f, "expect walk {from} {address} arrived{}", Given(*cost)),
+            Expected::Agree => f.write_str("expect agree"),
+            Expected::Settled => f.write_str("expect settled"),
         }
     }
 }
 
-// A command with several forms, as a line of a script.
-fn write_forms<W: Write>(f: &mut Formatter<W>, command: &Command) -> fmt::Result
-    ensures { HasForms (name_of command.now) →
-        WritesOnOk W.Write.write_str_gives f.old result (command_text command.now) f.new }
-{
-    match command {
-        Command::Round { count, most } => {
-            write!(f, "round {count}")?;
-            write_most(f, most)
+// A value behind a space, where one is given.
+#[derive(Clone, Copy)]
+struct Given<D>(Option<D>);
+
+impl<D: Display> Display for Given<D> {
+    ghost use Rattle.ospf_script.specs.Texts.{given_text};
+
+    ghost output = { λ given. given_text D.output given.0 };
+
+    fn fmt<W: Write>(&self, f: &mut Formatter<W>) -> fmt::Result {
+        match &self.0 {
+            Some(value) => write!(f, " {value}"),
+            None => Ok(()),
         }
-        Command::Why {
-            router,
-            link,
-            neighbour: None,
-        } => write!(f, "why {router} {link}"),
-        Command::Why {
-            router,
-            link,
-            neighbour: Some(neighbour),
-        } => write!(f, "why {router} {link} {neighbour}"),
-        Command::Loss {
-            percent,
-            number,
-            network: None,
-        } => write!(f, "loss {percent} {number}"),
-        Command::Loss {
-            percent,
-            number,
-            network: Some(address),
-        } => write!(f, "loss {percent} {number} {address}"),
-        Command::Expect { expected } => write!(f, "{expected}"),
-        _ => Ok(()),
     }
 }
 
-// A floor in eight hexadecimal digits.
-pub(crate) fn write_floor<W: Write>(f: &mut Formatter<W>, floor: i32) -> fmt::Result
-    ensures { WritesOnOk W.Write.write_str_gives f.old result (floor_text floor) f.new }
+// An event, as a line of a script.
+fn write_event<W: Write>(f: &mut Formatter<W>, event: &WorldEvent) -> fmt::Result
+    ensures { WritesOnOk W.Write.write_str_gives f.old result (event_text event.now) f.new }
 {
-    let bits = floor.cast_unsigned();
-    write!(f, "{bits:08x}")
+    match event {
+        WorldEvent::Start {
+            router,
+            dd_start,
+            floor,
+        } => write!(f, "start {router} {dd_start} {}", FloorShown(*floor)),
+        WorldEvent::Stop { router } => write!(f, "stop {router}"),
+        WorldEvent::Tick { router } => write!(f, "tick {router}"),
+        WorldEvent::LinkUp { router, link } => write!(f, "up {router} {link}"),
+        WorldEvent::LinkDown { router, link } => write!(f, "down {router} {link}"),
+        WorldEvent::Deliver {
+            datagram,
+            router,
+            link,
+        } => write!(f, "deliver {datagram} {router} {link}"),
+    }
 }
 
-// How many datagrams at most, where that is given, behind a space.
-fn write_most<W: Write>(f: &mut Formatter<W>, most: &Option<u64>) -> fmt::Result
-    ensures { WritesOnOk W.Write.write_str_gives f.old result (most_text most.now) f.new }
+// Events at many routers, as a line of a script.
+fn write_many<W: Write>(f: &mut Formatter<W>, many: &Many) -> fmt::Result
+    ensures { WritesOnOk W.Write.write_str_gives f.old result (many_text many.now) f.new }
 {
-    match most {
-        Some(most) => write!(f, " {most}"),
-        None => Ok(()),
+    match many {
+        Many::Start => f.write_str("start all"),
+        Many::Up => f.write_str("up all"),
+        Many::Down => f.write_str("down all"),
+        Many::Cut { network } => write!(f, "cut {network}"),
+        Many::Mend { network } => write!(f, "mend {network}"),
+    }
+}
+
+// The word of a view.
+fn view_of(view: View) -> &'static str
+    ensures { result.now ≡ view_text view }
+{
+    match view {
+        View::Neighbours => "neighbours",
+        View::Listing => "listing",
+        View::Table => "table",
+        View::Floor => "floor",
     }
 }
 

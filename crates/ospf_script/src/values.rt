@@ -1,12 +1,10 @@
 //! What a word of a line spells.
 
 ghost use Rattle.std.specs.Net.Grammar.{IsNumber};
-ghost use Rattle.std.specs.Prelude.{◌≡◌, ◌≤◌, ◌↔◌, ℕ, ℤ, IfSome, IfNone, IsTrue, slice_index};
+ghost use Rattle.std.specs.Prelude.{◌≡◌, ◌≤◌, ◌↔◌, ℤ, IfSome, IfNone, IsTrue, slice_index};
 ghost use Rattle.std.specs.Str.{IsUtf8};
-ghost use Rattle.ospf_base.specs.declared.ids.Addr.{Addr};
-ghost use Rattle.ospf_base.specs.declared.ids.RouterId.{RouterId};
-ghost use Rattle.ospf_base.specs.declared.prefix.Prefix.{Prefix};
-ghost use Rattle.ospf_script.specs.Values.{IsAddress, IsDecimal, IsDotted32, IsFloor, IsPercent, IsPrefix, IsRouter};
+ghost use Rattle.ospf_script.specs.Values.{IsAddress, IsDecimal, IsFloor, IsPercent, IsPrefix, IsRouter};
+ghost use Rattle.ospf_script.specs.Words.{Finds};
 
 use ospf_base::{Addr, Prefix, RouterId, mask_of};
 
@@ -16,9 +14,9 @@ const FLOOR_DIGITS: usize = 8;
 const HEXADECIMAL: u32 = 16;
 
 // The largest percentage, and the largest length of a prefix.
-const MOST_PERCENT: u8 = 100;
+const MOST_PERCENT: u64 = 100;
 
-const MOST_LENGTH: u8 = 32;
+const MOST_LENGTH: u64 = 32;
 
 /// The floor of LS sequence numbers that a word spells: eight hexadecimal digits, of either case, in two's complement.
 pub fn floor_of(word: &[u8]) -> Option<i32>
@@ -36,28 +34,25 @@ pub fn floor_of(word: &[u8]) -> Option<i32>
 
 // The Router ID that a word spells.
 pub(crate) fn router_of(word: &[u8]) -> Option<RouterId>
-    ensures some { IfSome result (IsRouter word.now) }
-    ensures none { IfNone result ((router : RouterId) → IsRouter word.now router → ⊥) }
+    ensures { Finds result (IsRouter word.now) }
 {
-    Some(RouterId(dotted(word)?))
+    Some(RouterId(address_of(word)?.0))
 }
 
 // The address that a word spells.
 pub(crate) fn address_of(word: &[u8]) -> Option<Addr>
-    ensures some { IfSome result (IsAddress word.now) }
-    ensures none { IfNone result ((address : Addr) → IsAddress word.now address → ⊥) }
+    ensures { Finds result (IsAddress word.now) }
 {
-    Some(Addr(dotted(word)?))
+    text_of(word)?.parse::<Addr>().ok()
 }
 
 // The prefix that a word spells.
 pub(crate) fn prefix_of(word: &[u8]) -> Option<Prefix>
-    ensures some { IfSome result (IsPrefix word.now) }
-    ensures none { IfNone result ((prefix : Prefix) → IsPrefix word.now prefix → ⊥) }
+    ensures { Finds result (IsPrefix word.now) }
 {
     let (dotted, digits) = text_of(word)?.split_once('/')?;
     let address = address_of(dotted.as_bytes())?;
-    let length = number_up_to(digits.as_bytes(), MOST_LENGTH)?;
+    let length = number_up_to(digits.as_bytes(), MOST_LENGTH)? as u8;
     if address.0 & mask_of(length) != address.0 {
         return None;
     }
@@ -66,16 +61,14 @@ pub(crate) fn prefix_of(word: &[u8]) -> Option<Prefix>
 
 // How many of a hundred a word spells.
 pub(crate) fn percent_of(word: &[u8]) -> Option<u8>
-    ensures some { IfSome result (IsPercent word.now) }
-    ensures none { IfNone result ((n : ℕ) → IsPercent word.now n → ⊥) }
+    ensures { Finds result (IsPercent word.now) }
 {
-    number_up_to(word, MOST_PERCENT)
+    Some(number_up_to(word, MOST_PERCENT)? as u8)
 }
 
 // The number of 64 bits that a word spells.
 pub(crate) fn number_of(word: &[u8]) -> Option<u64>
-    ensures some { IfSome result (IsDecimal 64 word.now) }
-    ensures none { IfNone result ((n : ℕ) → IsDecimal 64 word.now n → ⊥) }
+    ensures { Finds result (IsDecimal 64 word.now) }
 {
     if has_plus(word) {
         return None;
@@ -85,26 +78,20 @@ pub(crate) fn number_of(word: &[u8]) -> Option<u64>
 
 // The number of 32 bits that a word spells.
 pub(crate) fn short_number_of(word: &[u8]) -> Option<u32>
-    ensures some { IfSome result (IsDecimal 32 word.now) }
-    ensures none { IfNone result ((n : ℕ) → IsDecimal 32 word.now n → ⊥) }
+    ensures { Finds result (IsDecimal 32 word.now) }
 {
-    let number = number_of(word)?;
-    if number > u64::from(u32::MAX) {
-        return None;
-    }
-    Some(number as u32)
+    Some(number_up_to(word, u64::from(u32::MAX))? as u32)
 }
 
 // The number that a word spells, up to this one.
-fn number_up_to(word: &[u8], most: u8) -> Option<u8>
-    ensures some { IfSome result (λ n. IsNumber 10 word.now n × (n ≤ most)) }
-    ensures none { IfNone result ((n : ℕ) → IsNumber 10 word.now n → n ≤ most → ⊥) }
+fn number_up_to(word: &[u8], most: u64) -> Option<u64>
+    ensures { Finds result (λ n. IsNumber 10 word.now n × (n ≤ most)) }
 {
     let number = number_of(word)?;
-    if number > u64::from(most) {
+    if number > most {
         return None;
     }
-    Some(number as u8)
+    Some(number)
 }
 
 // Whether a word begins with a plus, which the digits of a number do not.
@@ -115,23 +102,9 @@ fn has_plus(word: &[u8]) -> bool
 }
 
 // A word as text, where it is some.
-fn text_of(word: &[u8]) -> Option<&str>
+pub(crate) fn text_of(word: &[u8]) -> Option<&str>
     ensures some { IfSome result (λ text. text.now ≡ word.now) }
     ensures none { IfNone result (IsUtf8 word.now → ⊥) }
 {
     str::from_utf8(word).ok()
-}
-
-// The number that a dotted word spells.
-fn dotted(word: &[u8]) -> Option<u32>
-    ensures some { IfSome result (IsDotted32 word.now) }
-    ensures none { IfNone result ((n : ℕ) → IsDotted32 word.now n → ⊥) }
-{
-    match text_of(word)?.parse::<Addr>() {
-        Ok(address) => {
-            let number = address.0;
-            Some(number)
-        }
-        Err(_) => None,
-    }
 }

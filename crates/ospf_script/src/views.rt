@@ -1,10 +1,8 @@
 //! What the simulator prints.
 
 ghost use Rattle.std.specs.Fmt.{WritesOnOk};
-ghost use Rattle.ospf_script.specs.Texts.{hexadecimal};
 ghost use Rattle.ospf_script.specs.Views.{routers_text};
 
-use crate::show::write_floor;
 use ospf_base::{Instance, Kind, RouterId};
 use std::fmt::{self, Display, Formatter, Write};
 
@@ -20,7 +18,8 @@ impl Display for FloorShown {
     ghost output = { λ floor. Some (floor_text floor.0) };
 
     fn fmt<W: Write>(&self, f: &mut Formatter<W>) -> fmt::Result {
-        write_floor(f, self.0)
+        let bits = self.0.cast_unsigned();
+        write!(f, "{bits:08x}")
     }
 }
 
@@ -117,7 +116,7 @@ impl Display for SumShown {
     ghost output = { λ sum. Some (hexadecimal 4 sum.0) };
 
     fn fmt<W: Write>(&self, f: &mut Formatter<W>) -> fmt::Result {
-        write_sum(f, self.0)
+        write!(f, "{:04x}", self.0)
     }
 }
 
@@ -129,11 +128,4 @@ fn write_routers<W: Write>(f: &mut Formatter<W>, routers: &[RouterId]) -> fmt::R
         write!(f, "{router} ")?;
     }
     Ok(())
-}
-
-// A number in four hexadecimal digits.
-fn write_sum<W: Write>(f: &mut Formatter<W>, sum: u16) -> fmt::Result
-    ensures { WritesOnOk W.Write.write_str_gives f.old result (hexadecimal 4 sum) f.new }
-{
-    write!(f, "{sum:04x}")
 }

@@ -28,7 +28,7 @@ pub(crate) fn walk_in(alloc: Global, text: &[u8]) -> Result<(RouterId, Addr, Vec
 }
 
 // A Router ID and an address, and what stands behind them.
-fn ends_in(text: &[u8]) -> Option<(RouterId, Addr, &[u8])>
+pub(crate) fn ends_in(text: &[u8]) -> Option<(RouterId, Addr, &[u8])>
     ensures some { IfSome result (λ found. BeginsWalk (words text.now) found.0 found.1
         (words found.2.now)) }
     ensures none { IfNone result ((from : RouterId) (address : Addr) (rest : List Text) →

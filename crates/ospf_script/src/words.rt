@@ -1,6 +1,6 @@
 //! The words of a line.
 
-ghost use Rattle.std.specs.Prelude.{◌≡◌, ◌<◌, ◌∷◌, ℕ, [], length, IfSome, IfNone};
+ghost use Rattle.std.specs.Prelude.{◌≡◌, ◌<◌, ◌↔◌, ◌∷◌, [], length, IfSome, IfNone, IsTrue};
 ghost use Rattle.std.specs.List.{prefix_len};
 ghost use Rattle.ospf_script.specs.Words.{IsBlank, Text, is_space, words};
 
@@ -31,6 +31,13 @@ pub(crate) fn one_word(text: &[u8]) -> Option<&[u8]>
         Some(_) => None,
         None => Some(word),
     }
+}
+
+// Whether a text has this word alone.
+pub(crate) fn is_alone(text: &[u8], word: &str) -> bool
+    ensures { IsTrue result ↔ (words text.now ≡ word.now ∷ []) }
+{
+    one_word(text) == Some(word.as_bytes())
 }
 
 // The words of a text that has two.

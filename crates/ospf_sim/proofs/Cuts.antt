@@ -16,11 +16,12 @@ use Rattle.ospf_script.specs.Words.{Text, words}
 use Rattle.ospf_script.specs.declared.command.Command.{Command}
 use Rattle.ospf_script.specs.declared.script.Line.{Line}
 use Rattle.ospf_sim.specs.Begun.{IsAnswerCut, IsCut, IsCutAt, IsFileCut, IsLineCut, IsOpeningCut, IsScriptCut, IsTellingCut, IsWorldCut, in_fault, in_file, in_refusal, in_same_router, in_script, in_twins, in_unreadable, no_config, no_room, no_world}
-use Rattle.ospf_sim.specs.Commands.{Answer, Does, IsDone}
+use Rattle.ospf_commands.specs.Commands.{Does, IsDone}
+use Rattle.ospf_commands.specs.Simulations.{Answer, begun_in}
 use Rattle.ospf_sim.specs.Scripts.{EndsAt, IsRun, unreadable_line}
-use Rattle.ospf_sim.specs.Simulations.{WorldComes, begun_in}
-use Rattle.ospf_sim.specs.Worlds.{WorldValue}
-use Rattle.ospf_sim.specs.declared.simulation.Simulation.{Simulation}
+use Rattle.ospf_sim.specs.Simulations.{WorldComes}
+use Rattle.ospf_commands.specs.Worlds.{WorldValue}
+use Rattle.ospf_commands.specs.declared.simulation.Simulation.{Simulation}
 use Rattle.ospf_sim.proofs.Lines.{entries_split}
 
 -- a flush writes nothing
@@ -37,7 +38,7 @@ refusal_cut number line c w w' answer failed a b z x y f spelled done cut =
       spelled = spelled;
       fault = cut.fault;
       text = done.text;
-      does = subst (λ (given : Answer). Does c w given done.text w') cut.refused done.does;
+      does = subst (λ (given : Answer). Does c w given done.text w') cut.refused done.is_so;
       out_then = b;
       printed = done.written;
       told = cut.told;

@@ -1,12 +1,5 @@
-pub mod Rounds
 pub mod Lines
 pub mod Files
-pub mod Chances
-pub mod Done
 pub mod Worlds
-pub mod Lent
 pub mod Cuts
-pub mod Alls
 pub mod Shared
-pub mod LossFacts
-pub mod KeepFacts

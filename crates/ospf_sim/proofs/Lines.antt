@@ -8,9 +8,10 @@ use Rattle.ospf_script.specs.Commands.{Spells}
 use Rattle.ospf_script.specs.Words.{Text, words}
 use Rattle.ospf_script.specs.declared.command.Command.{Command}
 use Rattle.ospf_script.specs.declared.script.Line.{Line}
-use Rattle.ospf_sim.specs.declared.simulation.Simulation.{Simulation}
+use Rattle.ospf_commands.specs.declared.simulation.Simulation.{Simulation}
 use Rattle.ospf_files.proofs.Written.{both_written, kept_written, nothing_written}
-use Rattle.ospf_sim.specs.Commands.{Answer, IsDone}
+use Rattle.ospf_commands.specs.Commands.{IsDone}
+use Rattle.ospf_commands.specs.Simulations.{Answer}
 use Rattle.ospf_sim.specs.Scripts.{EndsAt, IsRun, IsRunLine, LineComes, EndsEarly, RunsLine, RunsLines, is_taken, no_line, one_line, told_of, unreadable_line}
 
 -- one line more
@@ -74,7 +75,7 @@ pub line_taken : (number : ℕ) (line : Text) (c : Command) (w w' : Simulation) 
 line_taken number line c w w' answer a b z x y spelled done out err = record {
   out = done.text;
   err = told_of number answer;
-  runs = is_taken c answer spelled done.does refl;
+  runs = is_taken c answer spelled done.is_so refl;
   out_written = subst (Appends a z) (append-nil done.text) (both_written a b z done.text [] done.written out);
   err_written = err;
 }

@@ -8,11 +8,15 @@ use Rattle.ospf_files.specs.declared.status.Failure.{Failure}
 use Rattle.ospf_files.specs.declared.status.Status.{Status}
 use Rattle.ospf_files.specs.declared.status.Status.TheVariants.{Done, Words, Refused, Memory, Stream}
 use Rattle.ospf_script.specs.Words.{Text}
-use Rattle.ospf_sim.specs.Worlds.{WorldValue}
+use Rattle.ospf_commands.specs.Worlds.{WorldValue}
 use Rattle.ospf_sim.specs.Scripts.{ScriptComes}
-use Rattle.ospf_sim.specs.declared.simulation.Simulation.{Simulation}
+use Rattle.ospf_commands.specs.declared.simulation.Simulation.{Simulation}
 use Rattle.ospf_sim.specs.declared.text.Simulated.{Simulated}
-use Rattle.ospf_sim.specs.Simulations.{Comes, IsLeft, IsNoWorld, Opens, RunsTo, WorldComes, begun_in, same_router, status_for}
+use Rattle.ospf_sim.specs.Simulations.{Comes, IsLeft, IsNoWorld, IsNewOf, Opens, RunsTo, WorldComes, same_router, status_for}
+use Rattle.ospf_commands.specs.Simulations.{begun_in}
+use Rattle.ospf_headline.specs.declared.event.WorldFault.{WorldFault}
+use Rattle.ospf_world.specs.Worlds as worlds
+use Rattle.ospf_world.specs.Worlds.{Begins, NoMemory, SameRouter, new_world}
 use Rattle.ospf_sim.specs.Twins.{AreTwinsTold}
 
 pub world_comes : (found : Option (List Config)) (configs : List Config) (files : List NamedFile) (result : Result (Option WorldValue) Failure) (x y z : Option (List ℕ))
@@ -80,3 +84,11 @@ found_runs None start status script files simulated a b x y z is comes read run 
 found_runs (Some w) start status script files simulated a b x y z is comes read run =
     let one : w ≡ start = cc is in
     run_comes status start script files simulated a b x y z (subst (λ v. WorldComes files (Some v) x y) one comes) read run
+
+same_world : (w v : WorldValue) → (a : Result WorldValue WorldFault) → a ≡ Ok w → a ≡ Ok v → w ≡ v
+same_world w v a one other = cc
+
+pub is_new : (configs : List Config) (w : WorldValue) → worlds.Opens configs (Ok w) → IsNewOf configs w
+is_new configs w (Begins apart same) = (apart, same_world w (new_world configs) (Ok w) refl same)
+is_new configs w (SameRouter twins same) = absurd (cc same)
+is_new configs w (NoMemory same) = absurd (cc same)

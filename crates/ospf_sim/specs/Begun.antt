@@ -1,7 +1,6 @@
 -- What stands written where memory runs out or a stream fails before a simulation has written all.
-use Rattle.std.specs.Prelude.{◌≡◌, ℕ, Bool, List, [], ◌∷◌, ◌++◌, Err, Option}
+use Rattle.std.specs.Prelude.{◌≡◌, ℕ, List, [], ◌∷◌, ◌++◌, Err, Option}
 use Rattle.std.specs.Io.KnownBytes.{Appends}
-use Rattle.ospf_base.specs.declared.ids.RouterId.{RouterId}
 use Rattle.ospf_config.specs.declared.config.Config.{Config}
 use Rattle.ospf_config.specs.declared.fault.ConfigFault.{ConfigFault}
 use Rattle.ospf_files.specs.Files.{IsRefusedFor, refused_line, text_in, unread_line}
@@ -16,54 +15,15 @@ use Rattle.ospf_script.specs.Commands.{IsUnreadable, NeedsRoom, Spells}
 use Rattle.ospf_script.specs.Lines.{numbered_from}
 use Rattle.ospf_script.specs.Words.{Text, words}
 use Rattle.ospf_script.specs.declared.command.Command.{Command}
-use Rattle.ospf_script.specs.declared.expected.Expected.{Expected}
-use Rattle.ospf_sim.specs.Asked.{IsExplained, IsJudged}
-use Rattle.ospf_sim.specs.Commands.{Answer, Does, IsShown, IsWalked, Judges}
+use Rattle.ospf_commands.specs.Commands.{Does, IsDoneBegun}
+use Rattle.ospf_commands.specs.Simulations.{Answer, begun_in}
+use Rattle.ospf_commands.specs.Worlds.{WorldValue}
+use Rattle.ospf_commands.specs.declared.simulation.Simulation.{Simulation}
 use Rattle.ospf_sim.specs.Scripts.{IsRun, refusal_line, unreadable_line}
-use Rattle.ospf_sim.specs.Simulations.{IsWorldOf, begun_in}
+use Rattle.ospf_sim.specs.Simulations.{IsWorldOf}
 use Rattle.ospf_sim.specs.Twins.{SharesRouter}
-use Rattle.ospf_sim.specs.Worlds.{WorldValue}
-use Rattle.ospf_sim.specs.declared.simulation.Simulation.{Simulation}
-use Rattle.ospf_views.specs.declared.views.View.{View}
 
 -- ---- one line
-
--- a beginning of what is printed of a router was written
-pub record IsShownBegun (view : View) (w : WorldValue) (r : RouterId) (out_old out_new : Option (List ℕ)) : Type 0 where
-  pub answer : Answer
-  pub text : Text
-  pub shown : IsShown view w r answer text
-  pub begun : IsBegun out_old out_new text
-
--- a beginning of what is printed of a walk was written
-pub record IsWalkBegun (w : WorldValue) (from : RouterId) (address : ℕ) (choices : List ℕ) (out_old out_new : Option (List ℕ)) : Type 0 where
-  pub answer : Answer
-  pub text : Text
-  pub walked : IsWalked w from address choices answer text
-  pub begun : IsBegun out_old out_new text
-
--- a beginning of what a link or a router there waits for was written
-pub record IsWhyBegun (w : WorldValue) (r : RouterId) (link : ℕ) (neighbour : Option RouterId) (out_old out_new : Option (List ℕ)) : Type 0 where
-  pub answer : Answer
-  pub text : Text
-  pub explained : IsExplained w r link neighbour answer text
-  pub begun : IsBegun out_old out_new text
-
--- a beginning of what is printed of an expectation was written
-pub record IsJudgedBegun (e : Expected) (s s' : Simulation) (out_old out_new : Option (List ℕ)) : Type 0 where
-  pub answer : Answer
-  pub text : Text
-  pub unmet : Bool
-  pub judged : IsJudged e s.world answer text unmet
-  pub judges : Judges unmet s s'
-  pub begun : IsBegun out_old out_new text
-
--- a beginning of what a command prints was written
-pub record IsDoneBegun (c : Command) (w w' : Simulation) (out_old out_new : Option (List ℕ)) : Type 0 where
-  pub answer : Answer
-  pub text : Text
-  pub does : Does c w answer text w'
-  pub begun : IsBegun out_old out_new text
 
 -- what a line prints is cut: a beginning of it was written
 pub record IsPrintBegun (line : Text) (w : Simulation) (out_old out_new : Option (List ℕ)) : Type 0 where

@@ -1,9 +1,3 @@
-pub mod Worlds
-pub mod All
-pub mod Shown
-pub mod Losses
-pub mod Asked
-pub mod Commands
 pub mod Scripts
 pub mod Twins
 pub mod Simulations

@@ -9,8 +9,9 @@ use Rattle.ospf_script.specs.Lines.{numbered_from}
 use Rattle.ospf_script.specs.Words.{IsBlank, Text, words}
 use Rattle.ospf_script.specs.declared.command.Command.{Command}
 use Rattle.ospf_script.specs.declared.script.Line.{Line}
-use Rattle.ospf_sim.specs.Commands.{Answer, Does}
-use Rattle.ospf_sim.specs.declared.simulation.Simulation.{Simulation}
+use Rattle.ospf_commands.specs.Commands.{Does}
+use Rattle.ospf_commands.specs.Simulations.{Answer}
+use Rattle.ospf_commands.specs.declared.simulation.Simulation.{Simulation}
 
 -- a line that is refused, and why
 abbrev pub refusal_line : ℕ → WorldFault → Text

@@ -8,12 +8,18 @@ use Rattle.ospf_files.specs.declared.status.Status.{Status}
 use Rattle.ospf_files.specs.declared.status.Status.TheVariants as status
 use Rattle.ospf_script.specs.Lines.{numbered_from}
 use Rattle.ospf_sim.specs.Twins.{AreTwinsTold}
-use Rattle.ospf_sim.specs.Worlds.{IsNewOf, WorldValue}
 use Rattle.ospf_sim.specs.Scripts.{EndsEarly, IsRun, ScriptComes}
-use Rattle.ospf_sim.specs.declared.simulation.Simulation.{Simulation}
+use Rattle.ospf_commands.specs.Simulations.{begun_in}
+use Rattle.ospf_commands.specs.Worlds.{WorldValue}
+use Rattle.ospf_commands.specs.declared.simulation.Simulation.{Simulation}
+use Rattle.ospf_world.specs.Worlds.{ShareRouter, new_world}
 use Rattle.ospf_sim.specs.declared.text.Simulated.{Simulated}
 
 -- ---- worlds
+
+-- a world of these configurations, no two of one Router ID, in which nothing runs and nothing has happened
+abbrev pub IsNewOf : List Config → WorldValue → Type 0
+IsNewOf configs w = (ShareRouter configs → ⊥) × (w ≡ new_world configs)
 
 -- a world of the configurations in the files, in which nothing runs
 pub record IsWorldOf (files : List NamedFile) (w : WorldValue) : Type 0 where
@@ -36,10 +42,6 @@ WorldComes files (Some w) old new = IsWorldOf files w × (new ≡ old)
 WorldComes files None old new = IsNoWorld files old new
 
 -- ---- simulations
-
--- a simulation in this world before its first line: nothing is lost, and nothing was expected
-abbrev pub begun_in : WorldValue → Simulation
-begun_in w = record { world = w; losses = None; is_unmet = false }
 
 -- what is left of a simulation: the world that its last line left, and whether all was as it was expected
 pub record IsLeft (simulated : Simulated) (end : Simulation) : Type 0 where

@@ -11,7 +11,7 @@ use Rattle.ospf_files.specs.declared.status.Status.{Status}
 use Rattle.ospf_files.specs.declared.status.Status.TheVariants as status
 use Rattle.ospf_files.specs.declared.streams.FailedStreams.{FailedStreams}
 use Rattle.ospf_sim.specs.Begun.{IsCut}
-use Rattle.ospf_sim.specs.Worlds.{WorldValue}
+use Rattle.ospf_commands.specs.Worlds.{WorldValue}
 
 -- the first file that could not be read is told, the script's before the configurations', and no line has run
 pub record IsUnreadTold (script : NamedFile) (files : List NamedFile) (world : Option WorldValue) (out_old out_new err_old err_new : Option (List ℕ)) : Type 0 where

@@ -6,9 +6,7 @@ ghost use Rattle.ospf_script.specs.Lines.{entry_of};
 ghost use Rattle.ospf_sim.specs.Begun.{IsAnswerCut, IsCutAt, IsLineCut, IsScriptCut, IsTellingCut};
 ghost use Rattle.ospf_sim.specs.Scripts.{LineComes, ScriptComes, hint_line, not_a_command_line, refusal_line, told_of, unreadable_line};
 
-use crate::commands::run_command;
-use crate::simulation::Simulation;
-use crate::watch::Watch;
+use ospf_commands::{Simulation, Watch, run_command};
 use ospf_files::{FailedStreams, Failure};
 use ospf_script::{Command, Hint, Line, LineFault, RefusalShown, lines};
 use ospf_world::WorldFault;

@@ -15,9 +15,8 @@ ghost use Rattle.ospf_sim.specs.Twins.{AreFirstTwins, AreTwinsTold};
 
 use crate::configs::read_configs;
 use crate::script::run_script;
-use crate::simulation::Simulation;
 use crate::twins::{first_twins, twins_lines};
-use crate::watch::Watch;
+use ospf_commands::{Simulation, Watch};
 use ospf_config::Config;
 use ospf_files::{FailedStreams, Failure, NamedFile, Status, first_unread, tell_unread};
 use ospf_world::World;

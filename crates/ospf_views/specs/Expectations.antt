@@ -1,7 +1,7 @@
 -- What is expected of a router, and what is printed where it is not so.
-use Rattle.std.specs.Prelude.{ℕ, zero, suc, ◌==◌, ◌&&◌, ◌||◌, Bool, true, false, not, List, ◌++◌, Option, codes, length}
+use Rattle.std.specs.Prelude.{ℕ, ◌==◌, ◌&&◌, Bool, true, false, not, List, ◌++◌, Option, None, Some, codes, length}
 use Rattle.std.specs.List.{list_any}
-use Rattle.ospf_area.specs.State.{AreaValue}
+use Rattle.ospf_area.specs.State.{AreaValue, LinkValue}
 use Rattle.ospf_base.specs.declared.ids.RouterId.{RouterId}
 use Rattle.ospf_base.specs.declared.prefix.Prefix.{Prefix}
 use Rattle.ospf_graph.specs.declared.route.Route.{Route}
@@ -14,15 +14,16 @@ use Rattle.ospf_script.specs.Words.{Text}
 use Rattle.ospf_script.specs.declared.expected.Expected.{Expected}
 use Rattle.ospf_script.specs.declared.expected.Expected.TheVariants as expected
 use Rattle.ospf_views.specs.Shown.{view_lines}
-use Rattle.ospf_views.specs.declared.views.View.{View}
-use Rattle.ospf_views.specs.declared.views.View.TheVariants as view
+use Rattle.ospf_script.specs.declared.command.View.{View}
+use Rattle.ospf_script.specs.declared.command.View.TheVariants as view
 
--- the router of which it is expected
-abbrev pub router_in : Expected → RouterId
-router_in (expected.Full router other) = router
-router_in (expected.NoNeighbour router link) = router
-router_in (expected.Route router prefix cost) = router
-router_in (expected.NoRoute router prefix) = router
+-- the router of which it is expected, if it is of one alone
+abbrev pub router_in : Expected → Option RouterId
+router_in (expected.Full router other) = Some router
+router_in (expected.NoNeighbour router link) = Some router
+router_in (expected.Route router prefix cost) = Some router
+router_in (expected.NoRoute router prefix) = Some router
+router_in _ = None
 
 -- ---- whether it is so
 
@@ -30,15 +31,20 @@ abbrev pub is_full : NeighbourState → Bool
 is_full state.Full = true
 is_full _ = false
 
--- a neighbour is this router, in Full
+-- a neighbour is this router, in Full (RFC 2328, section 10.1)
 abbrev pub is_full_with : RouterId → NeighbourValue → Bool
 is_full_with other n = n.router.0 == other.0 && is_full n.state
 
--- on one of the first so many links
-unfoldable pub is_full_below : ℕ → RouterId → Option AreaValue → Bool
-is_full_below zero other area = false
-is_full_below (suc link) other area = is_full_below link other area || list_any (is_full_with other) (neighbours_on area link)
+-- on a link
+abbrev pub is_full_on : RouterId → LinkValue → Bool
+is_full_on other link = list_any (is_full_with other) link.neighbours
 
+-- on some link
+abbrev pub has_full : RouterId → Option AreaValue → Bool
+has_full other None = false
+has_full other (Some s) = list_any (is_full_on other) s.links
+
+-- a route to the prefix (section 11), and one of this cost
 abbrev pub is_route_to : Prefix → Route → Bool
 is_route_to prefix route = route.prefix.address.0 == prefix.address.0 && route.prefix.length == prefix.length
 
@@ -47,10 +53,11 @@ is_route_at prefix cost route = is_route_to prefix route && route.cost == cost
 
 -- the router has the other one as a Full neighbour; no neighbour on a link; a route of this cost; no route
 abbrev pub is_met : Expected → RouterValue → Bool
-is_met (expected.Full router other) x = is_full_below 32 other x.area
+is_met (expected.Full router other) x = has_full other x.area
 is_met (expected.NoNeighbour router link) x = length (neighbours_on x.area link) == 0
 is_met (expected.Route router prefix cost) x = list_any (is_route_at prefix cost) x.table
 is_met (expected.NoRoute router prefix) x = not (list_any (is_route_to prefix) x.table)
+is_met _ x = false
 
 -- ---- what is printed where it is not
 
@@ -58,8 +65,7 @@ is_met (expected.NoRoute router prefix) x = not (list_any (is_route_to prefix) x
 abbrev pub view_for : Expected → View
 view_for (expected.Full router other) = view.Neighbours
 view_for (expected.NoNeighbour router link) = view.Neighbours
-view_for (expected.Route router prefix cost) = view.Table
-view_for (expected.NoRoute router prefix) = view.Table
+view_for _ = view.Table
 
 abbrev pub unmet_line : Expected → Text
 unmet_line e = codes "not met: " ++ expected_text e ++ codes "\n"

@@ -2,6 +2,7 @@
 use Rattle.std.specs.Prelude.{ℕ, zero, suc, List, [], ◌++◌, Option, codes, decimal, flat_map}
 use Rattle.ospf_area.specs.State.{AreaValue}
 use Rattle.ospf_base.specs.Text.{number_text}
+use Rattle.ospf_base.specs.declared.ids.RouterId.{RouterId}
 use Rattle.ospf_lsa.specs.Lsa.{instance_of}
 use Rattle.ospf_neighbour.specs.Neighbour.{NeighbourValue}
 use Rattle.ospf_neighbour.specs.declared.machine.NeighbourState.{NeighbourState}
@@ -11,8 +12,8 @@ use Rattle.ospf_script.specs.Texts.{floor_text}
 use Rattle.ospf_script.specs.Views.{listed_text}
 use Rattle.ospf_script.specs.Words.{Text}
 use Rattle.ospf_files.specs.Shown.{routes_text}
-use Rattle.ospf_views.specs.declared.views.View.{View}
-use Rattle.ospf_views.specs.declared.views.View.TheVariants as view
+use Rattle.ospf_script.specs.declared.command.View.{View}
+use Rattle.ospf_script.specs.declared.command.View.TheVariants as view
 
 -- the name of a neighbour's state (RFC 2328, section 10.1)
 abbrev pub state_text : NeighbourState → Text
@@ -63,3 +64,11 @@ view_lines view.Neighbours = neighbours_lines
 view_lines view.Listing = listing_lines
 view_lines view.Table = table_lines
 view_lines view.Floor = floor_line
+
+-- the line above it: what it is, of which router, and what stands in a line
+abbrev pub heading : View → RouterId → Text
+heading view.Neighbours r = codes "neighbours of " ++ number_text r.0 ++ codes ": link, Router ID, state\n"
+heading view.Listing r =
+    codes "listing of " ++ number_text r.0 ++ codes ": kind, Link State ID, Advertising Router, number, checksum\n"
+heading view.Table r = codes "table of " ++ number_text r.0 ++ codes ": prefix, cost, next hops\n"
+heading view.Floor r = codes "floor of " ++ number_text r.0 ++ codes "\n"

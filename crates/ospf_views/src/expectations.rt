@@ -4,40 +4,52 @@ ghost use Rattle.std.specs.Prelude.{◌≡◌, IfErr, IfOk, OnErr, OnOk, string_
 ghost use Rattle.std.specs.List.{list_any};
 ghost use Rattle.std.specs.Io.KnownBytes.{Appends};
 ghost use Rattle.ospf_files.specs.Streams.{IsBegun, IsOutputCut};
-ghost use Rattle.ospf_views.specs.Expectations.{is_full, is_full_below, is_full_with, is_met, is_route_at, is_route_to, router_in, unmet_line, unmet_lines, view_for};
+ghost use Rattle.ospf_views.specs.Expectations.{has_full, is_full, is_full_on, is_full_with, is_met, is_route_at, is_route_to, router_in, unmet_line, unmet_lines, view_for};
 
-use crate::views::{MAX_INTERFACES, View, write_view};
+use crate::views::write_view;
+use ospf_area::Link;
 use ospf_base::{Prefix, RouterId};
 use ospf_files::{FailedStreams, Failure};
 use ospf_graph::Route;
 use ospf_neighbour::{Neighbour, NeighbourState};
 use ospf_router::Router;
-use ospf_script::Expected;
+use ospf_script::{Expected, View};
 use std::alloc::{AllocError, Global};
 use std::io::Write;
 
-/// The router of which it is expected.
-pub fn router_in(expected: Expected) -> RouterId
+/// The router of which it is expected, if it is of one alone.
+pub fn router_in(expected: Expected) -> Option<RouterId>
     ensures { result ≡ router_in expected }
 {
     match expected {
         Expected::Full { router, .. }
         | Expected::NoNeighbour { router, .. }
         | Expected::Route { router, .. }
-        | Expected::NoRoute { router, .. } => router,
+        | Expected::NoRoute { router, .. } => Some(router),
+        _ => None,
     }
 }
 
-/// Whether a router, which is the one that it is expected of, is so.
+/// Whether a router, which is the one that it is expected of, is so; `false` where it is not expected of one alone.
 pub fn is_met(expected: Expected, router: &Router) -> bool
     ensures { result ≡ is_met expected router.now }
 {
     match expected {
-        Expected::Full { other, .. } => is_full_below(router, other),
+        Expected::Full { other, .. } => has_full(router, other),
         Expected::NoNeighbour { link, .. } => router.neighbours(link).is_empty(),
         Expected::Route { prefix, cost, .. } => has_route(router.table().routes(), prefix, cost),
         Expected::NoRoute { prefix, .. } => !has_prefix(router.table().routes(), prefix),
+        _ => false,
     }
+}
+
+/// The line of an expectation that is not met.
+///
+/// `AllocError` where memory runs out.
+pub fn unmet_line(alloc: Global, expected: Expected) -> Result<String, AllocError>
+    ensures { IfOk result (λ line. string_bytes line ≡ unmet_line expected) }
+{
+    format!(in alloc; "not met: {expected}\n")
 }
 
 /// Writes that an expectation is not met, and what stood there: the router's neighbours, or its table.
@@ -61,21 +73,27 @@ pub fn write_unmet<O: Write>(
 }
 
 // Whether the other router is a Full neighbour, on whichever link.
-fn is_full_below(router: &Router, other: RouterId) -> bool
-    ensures { result ≡ is_full_below 32 other router.now.area }
+fn has_full(router: &Router, other: RouterId) -> bool
+    ensures { result ≡ has_full other router.now.area }
 {
-    let mut is_found = false;
-    for link in 0..MAX_INTERFACES {
-        is_found |= has_full(router.neighbours(link), other);
+    match router.area() {
+        Some(area) => is_full_on_some(&area.links, other),
+        None => false,
     }
-    is_found
+}
+
+// Whether it is one on some of these links.
+fn is_full_on_some(links: &[Link], other: RouterId) -> bool
+    ensures { result ≡ list_any (is_full_on other) links.now }
+{
+    links.iter().any(|link| is_full_on(link, other))
 }
 
 // Whether it is among the neighbours of a link, in Full.
-fn has_full(neighbours: &[Neighbour], other: RouterId) -> bool
-    ensures { result ≡ list_any (is_full_with other) neighbours.now }
+fn is_full_on(link: &Link, other: RouterId) -> bool
+    ensures { result ≡ is_full_on other link.now }
 {
-    neighbours.iter().any(|n| is_full_with(n, other))
+    link.neighbours.all().iter().any(|n| is_full_with(n, other))
 }
 
 // Whether a neighbour is it, in Full.
@@ -126,7 +144,7 @@ fn view_for(expected: Expected) -> View
 {
     match expected {
         Expected::Full { .. } | Expected::NoNeighbour { .. } => View::Neighbours,
-        Expected::Route { .. } | Expected::NoRoute { .. } => View::Table,
+        _ => View::Table,
     }
 }
 
@@ -145,11 +163,4 @@ fn write_line<O: Write>(
 {
     let line = unmet_line(alloc, expected)?;
     streams.write(out, &line)
-}
-
-// The line of it.
-fn unmet_line(alloc: Global, expected: Expected) -> Result<String, AllocError>
-    ensures { IfOk result (λ line. string_bytes line ≡ unmet_line expected) }
-{
-    format!(in alloc; "not met: {expected}\n")
 }

@@ -11,6 +11,6 @@ mod views;
 mod waits;
 
 pub use crate::detail::{Detail, detail_of};
-pub use crate::expectations::{is_met, router_in, write_unmet};
-pub use crate::views::{View, write_view};
+pub use crate::expectations::{is_met, router_in, unmet_line, write_unmet};
+pub use crate::views::{add_view, heading, write_view};
 pub use crate::waits::{WhyLink, WhyRouter, why};

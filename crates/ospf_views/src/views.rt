@@ -1,33 +1,21 @@
 //! What is shown of a router.
 
-ghost use Rattle.std.specs.Prelude.{◌≡◌, IfErr, IfOk, OnErr, OnOk, flat_map, string_bytes};
+ghost use Rattle.std.specs.Prelude.{◌≡◌, ◌++◌, IfErr, IfOk, OnErr, OnOk, flat_map, string_bytes};
 ghost use Rattle.std.specs.Io.KnownBytes.{Appends};
 ghost use Rattle.ospf_files.specs.Streams.{IsBegun, IsOutputCut};
-ghost use Rattle.ospf_views.specs.Shown.{floor_line, link_lines, listed_line, listing_lines, neighbour_line, neighbours_lines, state_text, view_lines};
+ghost use Rattle.ospf_views.specs.Shown.{floor_line, heading, link_lines, listed_line, listing_lines, neighbour_line, neighbours_lines, state_text, view_lines};
 
+use ospf_base::RouterId;
 use ospf_files::{FailedStreams, Failure, print_routes};
 use ospf_lsa::Lsa;
 use ospf_neighbour::{Neighbour, NeighbourState};
 use ospf_router::Router;
-use ospf_script::{FloorShown, ListedShown, NeighbourShown};
+use ospf_script::{FloorShown, ListedShown, NeighbourShown, View};
 use std::alloc::{AllocError, Global};
 use std::io::Write;
 
 // The most interfaces that a configuration has.
-pub(crate) const MAX_INTERFACES: usize = 32;
-
-/// What is shown of a router.
-#[derive(Clone, Copy)]
-pub enum View {
-    /// Its neighbours, by link and Router ID: the number of the link, the Router ID, the state.
-    Neighbours,
-    /// The LSAs that it lists: kind, Link State ID, Advertising Router, sequence number, checksum.
-    Listing,
-    /// Its routing table, a line a route.
-    Table,
-    /// The greatest of the floor of the start and the numbers of its own LSAs since.
-    Floor,
-}
+const MAX_INTERFACES: usize = 32;
 
 /// Writes what is shown of a router.
 ///
@@ -50,6 +38,40 @@ pub fn write_view<O: Write>(
         View::Listing => write_listing(alloc, router, out, streams),
         View::Table => print_routes(alloc, router.table().routes(), out, streams),
         View::Floor => write_floor(alloc, router, out, streams),
+    }
+}
+
+/// Adds what is shown of a router to a text.
+///
+/// `AllocError` where memory runs out: then a beginning of it was added.
+pub fn add_view(
+    text: &mut Vec<u8>,
+    view: View,
+    router: &Router,
+    alloc: Global,
+) -> Result<(), AllocError>
+    ensures { OnOk result (text.new.items ≡ text.old.items ++ view_lines view router.now) }
+{
+    let mut streams = FailedStreams::none();
+    match write_view(alloc, view, router, text, &mut streams) {
+        Ok(()) => Ok(()),
+        Err(_) => Err(AllocError),
+    }
+}
+
+/// The line above what is shown of a router: what it is, of which router, and what stands in a line.
+///
+/// `AllocError` where memory runs out.
+pub fn heading(alloc: Global, view: View, router: RouterId) -> Result<String, AllocError>
+    ensures { IfOk result (λ line. string_bytes line ≡ heading view router) }
+{
+    match view {
+        View::Neighbours => format!(in alloc; "neighbours of {router}: link, Router ID, state\n"),
+        View::Listing => format!(in alloc;
+            "listing of {router}: kind, Link State ID, Advertising Router, number, checksum\n"
+        ),
+        View::Table => format!(in alloc; "table of {router}: prefix, cost, next hops\n"),
+        View::Floor => format!(in alloc; "floor of {router}\n"),
     }
 }
 

@@ -147,7 +147,10 @@ pub(crate) const SIM_HELP: &str = "Lines of a script:
   up R LINK, down R LINK      a link of it comes up, or goes down
   deliver N R LINK            datagram N comes in on a link of it
   start all, up all, down all the same at each router
+  cut ADDRESS, mend ADDRESS   all links to the network of the address go down, or
+                              come up
   round COUNT [MOST]          so many times a tick each, and all datagrams delivered
+  settle MAX                  rounds until nothing changes any more, at most so many
   loss PERCENT NUMBER [ADDRESS]
                               from here on so many of a hundred are lost, by the
                               number; on the network of the address alone
@@ -156,8 +159,10 @@ pub(crate) const SIM_HELP: &str = "Lines of a script:
                               what the router knows is printed
   why R LINK [NEIGHBOUR]      what a link waits for is printed
   walk R ADDRESS CHOICE..     the walk from R to ADDRESS is printed
+  label on, label off         whether a line above it says what is printed
   expect full R S, expect no neighbour R LINK,
-  expect route R PREFIX COST, expect no route R PREFIX
+  expect route R PREFIX COST, expect no route R PREFIX,
+  expect walk R ADDRESS arrived [COST], expect agree, expect settled
                               where it is otherwise, that is printed
   say WORD..                  the words are printed; from # on is a comment
 

@@ -5,7 +5,7 @@ use Rattle.ospf_files.proofs.Written.{front_begun, rest_begun, whatever}
 use Rattle.ospf_files.specs.Streams.{IsBegun}
 use Rattle.ospf_run.specs.Printed.{drops_of, floor_lines, viewed_lines}
 use Rattle.ospf_run.specs.declared.outcome.Drops.{Drops}
-use Rattle.ospf_views.specs.declared.views.View.TheVariants as view
+use Rattle.ospf_script.specs.declared.command.View.TheVariants as view
 use Rattle.ospf_run.proofs.extras.print_extras.Goals as goal
 
 pub returns-in_err-print_viewed-clause-begun : goal.returns-in_err-print_viewed-clause-begun

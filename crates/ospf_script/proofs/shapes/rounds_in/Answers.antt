@@ -1,8 +1,8 @@
-use Rattle.ospf_script.proofs.Plain.{if_none}
+use Rattle.ospf_script.proofs.Plain.{finds_none}
 use Rattle.ospf_script.proofs.Unspelled.{not_rounds}
 use Rattle.ospf_script.proofs.shapes.rounds_in.Goals as goal
 
-pub returns-in_err-count-clause-none : goal.returns-in_err-count-clause-none
-returns-in_err-count-clause-none c =
-    let none = rw c.in_err-count.was at c.numbers_in.ensures.none in
-    if_none c.from_residual-in_err-count.result _ (not_rounds _ c.in_default.ensures.none none)
+pub returns-in_err-count : goal.returns-in_err-count
+returns-in_err-count c =
+    let none = rw c.in_err-count.was at c.numbers_in.ensures in
+    finds_none _ _ c.from_residual-in_err-count.ensures (λ found. not_rounds _ c.in_default.ensures.none none found.0 found.1)

@@ -1,8 +1,8 @@
 use Rattle.std.proofs.Common.{arith}
-use Rattle.ospf_script.proofs.Plain.{digits_are_text, if_none}
+use Rattle.ospf_script.proofs.Plain.{digits_are_text, finds_none}
 use Rattle.ospf_script.proofs.values.number_of.Goals as goal
 
-pub returns-in_err-text_of-clause-none : goal.returns-in_err-text_of-clause-none
-returns-in_err-text_of-clause-none c =
+pub returns-in_err-text_of : goal.returns-in_err-text_of
+returns-in_err-text_of c =
     let no_text = rw c.in_err-text_of.was at c.text_of.ensures.none in
-    if_none c.from_residual.result _ (λ n spelled. no_text (digits_are_text 10 c.args.word.now (omega arith) spelled.0.0.1))
+    finds_none _ _ c.from_residual.ensures (λ n spelled. no_text (digits_are_text 10 c.args.word.now (omega arith) spelled.0.0.1))

@@ -1,6 +1,6 @@
 use Rattle.std.proofs.Common.{refl}
 use Rattle.ospf_sim.specs.Begun.{no_room}
-use Rattle.ospf_sim.proofs.Lent.{is_new}
+use Rattle.ospf_sim.proofs.Worlds.{is_new}
 use Rattle.ospf_sim.proofs.text.open_world.Goals as goal
 
 pub returns-in-Ok-clause-opens : goal.returns-in-Ok-clause-opens

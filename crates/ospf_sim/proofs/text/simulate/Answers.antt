@@ -9,7 +9,7 @@ use Rattle.ospf_sim.specs.Begun.{IsCut, IsScriptCut, in_unread, in_world}
 use Rattle.ospf_sim.proofs.Cuts.{script_cut}
 use Rattle.ospf_sim.proofs.Files.{none_unread, unread_told}
 use Rattle.ospf_sim.proofs.Worlds.{found_runs, no_world_told, runs_to}
-use Rattle.ospf_sim.specs.declared.simulation.Simulation.{Simulation}
+use Rattle.ospf_commands.specs.declared.simulation.Simulation.{Simulation}
 use Rattle.ospf_sim.proofs.text.simulate.Goals as goal
 
 pub returns-in-Some-clause-stream : goal.returns-in-Some-clause-stream

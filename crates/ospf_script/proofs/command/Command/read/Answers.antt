@@ -1,4 +1,5 @@
 use Rattle.std.proofs.Common.{◌≡◌, true, false}
+use Rattle.std.proofs.lemmas.Result.{err_from_is_err_and}
 use Rattle.ospf_script.specs.Words.{words}
 use Rattle.ospf_script.specs.Commands.{name_of}
 use Rattle.ospf_script.proofs.Unspelled.{not_blank, unreadable, unreadable_of}
@@ -6,13 +7,15 @@ use Rattle.ospf_script.proofs.command.Command.read.Goals as goal
 
 pub returns-in_default-read-clause-not_a_command : goal.returns-in_default-read-clause-not_a_command
 returns-in_default-read-clause-not_a_command c = λ e.
-    unreadable c.args.line.now c.in-Some.word.now (words c.in-Some.rest.now) c.in-Some.ensures.word (λ command own takes. c.in_default-read.ensures.none (name_of command) own)
+    unreadable c.args.line.now c.in-Some.word.now (words c.in-Some.rest.now) c.in-Some.ensures.word (λ command own takes. c.in_default-read.ensures (name_of command) own)
 
-pub returns-in-Err-clause-not_a_command : goal.returns-in-Err-clause-not_a_command
-returns-in-Err-clause-not_a_command c = λ e.
-    unreadable_of c.args.line.now c.in-Some.word.now (words c.in-Some.rest.now) c.in-Some-read.name c.in-Some.ensures.word c.in-Some-read.ensures.some (c.in-Err.ensures.not_a_command e)
+pub returns-in_err-of_words-clause-not_a_command : goal.returns-in_err-of_words-clause-not_a_command
+returns-in_err-of_words-clause-not_a_command c =
+    let p = err_from_is_err_and c.from_residual.result c.from_residual.ensures.1 in
+    rw (p.1, p.2)
+    (λ e. unreadable_of c.args.line.now c.in-Some.word.now (words c.in-Some.rest.now) c.in-Some-read.name c.in-Some.ensures.word c.in-Some-read.ensures (c.in_err-of_words.ensures.not_a_command e))
 
-pub returns-in-Ok-clause-blank : goal.returns-in-Ok-clause-blank
-returns-in-Ok-clause-blank c =
+pub returns-clause-blank : goal.returns-clause-blank
+returns-clause-blank c =
     let some : true ≡ false → ⊥ = λ e. cc in
     ((λ e. absurd (some e)), λ blank. absurd (not_blank c.args.line.now c.in-Some.word.now (words c.in-Some.rest.now) c.in-Some.ensures.word blank))

@@ -1,0 +1,12 @@
+pub mod Chances
+pub mod Done
+pub mod Lent
+pub mod Manys
+pub mod LossFacts
+pub mod KeepFacts
+pub mod Leading
+pub mod Settling
+pub mod Apart
+pub mod Headed
+pub mod Judging
+pub mod Same

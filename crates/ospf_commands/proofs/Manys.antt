@@ -1,0 +1,22 @@
+-- What comes about at many routers, as a list of events.
+use Rattle.std.proofs.Common.{◌≡◌, ℕ, List, Result, Ok, Err, refl, subst}
+use Rattle.std.specs.List.{flat_map}
+use Rattle.ospf_headline.specs.Runs.{IsRun}
+use Rattle.ospf_headline.specs.declared.event.WorldEvent.{WorldEvent}
+use Rattle.ospf_headline.specs.declared.event.WorldFault.{WorldFault}
+use Rattle.ospf_commands.specs.Many.{ComesAbout, all_gone_over, many_of, memory_ends}
+use Rattle.ospf_commands.specs.Worlds.{EventDoes, WorldValue}
+use Rattle.ospf_script.specs.declared.command.Many.{Many}
+
+events_run : (what : Many) (w w' : WorldValue) (events : List WorldEvent) (answer told : Result ℕ WorldFault) → events ≡ flat_map (many_of what) w.slots → answer ≡ told
+    → IsRun EventDoes events w answer w' → IsRun EventDoes (flat_map (many_of what) w.slots) w told w'
+events_run what w w' events answer told same said run =
+    subst (λ (r : Result ℕ WorldFault). IsRun EventDoes (flat_map (many_of what) w.slots) w r w') said (subst (λ (es : List WorldEvent). IsRun EventDoes es w answer w') same run)
+
+pub all_come : (what : Many) (w w' : WorldValue) (events : List WorldEvent) (answer : Result ℕ WorldFault) (refused : ℕ) → events ≡ flat_map (many_of what) w.slots → answer ≡ Ok refused
+    → IsRun EventDoes events w answer w' → ComesAbout what w (Ok tt) w'
+all_come what w w' events answer refused same said run = all_gone_over refused (events_run what w w' events answer (Ok refused) same said run) refl
+
+pub some_come : (what : Many) (w w' : WorldValue) (events : List WorldEvent) (answer : Result ℕ WorldFault) (f : WorldFault) → events ≡ flat_map (many_of what) w.slots → answer ≡ Err f
+    → IsRun EventDoes events w answer w' → ComesAbout what w (Err f) w'
+some_come what w w' events answer f same said run = memory_ends f (events_run what w w' events answer (Err f) same said run) refl

@@ -1,0 +1,46 @@
+use Rattle.std.proofs.Common.{◌≡◌, sym, subst, refl, List, ℕ, Ok, Err, IfOk, OnErr}
+use Rattle.ospf_script.specs.Words.{Text}
+use Rattle.ospf_script.specs.declared.command.Command.{Command}
+use Rattle.ospf_script.specs.declared.command.Command.TheVariants as command
+use Rattle.ospf_commands.specs.Asked.{IsExplained, IsShown, IsWalked}
+use Rattle.ospf_commands.specs.Simulations.{Answer}
+use Rattle.ospf_commands.proofs.Done.{asked_begun, asked_done, begun_as, done_as}
+use Rattle.ospf_commands.proofs.commands.run_command.Goals as goal
+
+pub returns-in-Settle-clause-done : goal.returns-in-Settle-clause-done
+returns-in-Settle-clause-done g c = done_as _ (command.Settle c.in-Settle.most) _ _ _ _ _ c.in-Settle.is c.settle.ensures.settles
+
+pub returns-in-Settle-clause-begun : goal.returns-in-Settle-clause-begun
+returns-in-Settle-clause-begun g c = begun_as _ (command.Settle c.in-Settle.most) _ _ _ _ _ c.in-Settle.is c.settle.ensures.begun
+
+pub returns-in-Show-clause-done : goal.returns-in-Show-clause-done
+returns-in-Show-clause-done g c =
+    done_as _ (command.Show c.in-Show.view c.in-Show.router) _ _ _ _ _ c.in-Show.is
+    (asked_done (IsShown c.in-Show.view c.in-Show.router) _ _ _ _ c.show_router.ensures.shown)
+
+pub returns-in-Show-clause-begun : goal.returns-in-Show-clause-begun
+returns-in-Show-clause-begun g c =
+    begun_as _ (command.Show c.in-Show.view c.in-Show.router) _ _ _ _ _ c.in-Show.is
+    (asked_begun (IsShown c.in-Show.view c.in-Show.router) _ _ _ _ c.show_router.ensures.begun)
+
+pub returns-in-Walk-clause-done : goal.returns-in-Walk-clause-done
+returns-in-Walk-clause-done g c =
+    let walked = rw c.deref.ensures.value at c.show_walk.ensures.walked in
+    done_as _ (command.Walk c.in-Walk.from c.in-Walk.address c.in-Walk.choices) _ _ _ _ _ c.in-Walk.is
+    (asked_done (IsWalked c.in-Walk.from c.in-Walk.address c.in-Walk.choices.items) _ _ _ _ walked)
+
+pub returns-in-Walk-clause-begun : goal.returns-in-Walk-clause-begun
+returns-in-Walk-clause-begun g c =
+    let begun = rw c.deref.ensures.value at c.show_walk.ensures.begun in
+    begun_as _ (command.Walk c.in-Walk.from c.in-Walk.address c.in-Walk.choices) _ _ _ _ _ c.in-Walk.is
+    (asked_begun (IsWalked c.in-Walk.from c.in-Walk.address c.in-Walk.choices.items) _ _ _ _ begun)
+
+pub returns-in-Why-clause-done : goal.returns-in-Why-clause-done
+returns-in-Why-clause-done g c =
+    done_as _ (command.Why c.in-Why.router c.in-Why.link c.in-Why.neighbour) _ _ _ _ _ c.in-Why.is
+    (asked_done (IsExplained c.in-Why.router c.in-Why.link c.in-Why.neighbour) _ _ _ _ c.show_why.ensures.explained)
+
+pub returns-in-Why-clause-begun : goal.returns-in-Why-clause-begun
+returns-in-Why-clause-begun g c =
+    begun_as _ (command.Why c.in-Why.router c.in-Why.link c.in-Why.neighbour) _ _ _ _ _ c.in-Why.is
+    (asked_begun (IsExplained c.in-Why.router c.in-Why.link c.in-Why.neighbour) _ _ _ _ c.show_why.ensures.begun)

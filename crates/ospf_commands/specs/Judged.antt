@@ -1,0 +1,134 @@
+-- Whether something is as it is expected to be, and what is printed where it is not.
+use Rattle.std.specs.Prelude.{◌≡◌, ◌&&◌, ◌==◌, ℕ, ⊤, Bool, true, false, not, List, [], ◌∷◌, ◌++◌, Ok, Err, Option, None, Some, codes}
+use Rattle.ospf_base.specs.Text.{number_text}
+use Rattle.ospf_base.specs.declared.ids.Addr.{Addr}
+use Rattle.ospf_base.specs.declared.ids.RouterId.{RouterId}
+use Rattle.ospf_headline.specs.World.{Running}
+use Rattle.ospf_headline.specs.declared.event.WorldFault.{WorldFault}
+use Rattle.ospf_headline.specs.declared.event.WorldFault.TheVariants as fault
+use Rattle.ospf_headline.specs.declared.walk.WalkEnd.{WalkEnd}
+use Rattle.ospf_headline.specs.declared.walk.WalkEnd.TheVariants as end
+use Rattle.ospf_router.specs.Routers.{RouterValue}
+use Rattle.ospf_script.specs.Words.{Text}
+use Rattle.ospf_script.specs.declared.expected.Expected.{Expected}
+use Rattle.ospf_script.specs.declared.expected.Expected.TheVariants as expected
+use Rattle.ospf_views.specs.Expectations.{is_met, router_in, unmet_line, unmet_lines}
+use Rattle.ospf_world.specs.declared.walk.Walk.{Walk}
+use Rattle.ospf_commands.specs.Settling.{area_listed}
+use Rattle.ospf_commands.specs.Shown.{walk_line}
+use Rattle.ospf_commands.specs.Simulations.{Answer}
+use Rattle.ospf_commands.specs.Worlds.{IsNotLent, IsWalkFrom, LendsRouter, SlotValue, WorldValue}
+use Rattle.ospf_commands.specs.declared.simulation.Simulation.{Simulation}
+
+-- ---- of a router
+
+-- a router that runs is as it is expected to be, and nothing is printed; or it is not, and that is printed with what stands there; or
+-- it cannot be asked, and it is said why. The last tells whether it is not known to be so
+pub data IsOfRouter (e : Expected) (r : RouterId) (w : WorldValue) (answer : Answer) (text : Text) (unmet : Bool) : Type 0 where
+  is_as_expected : (x : RouterValue) → LendsRouter w r x → is_met e x ≡ true → answer ≡ Ok tt → text ≡ [] → unmet ≡ false
+      → IsOfRouter e r w answer text unmet
+  is_otherwise : (x : RouterValue) → LendsRouter w r x → is_met e x ≡ false → answer ≡ Ok tt → text ≡ unmet_lines e x → unmet ≡ true
+      → IsOfRouter e r w answer text unmet
+  is_not_asked : (f : WorldFault) → IsNotLent w r f → answer ≡ Err f → text ≡ [] → unmet ≡ true → IsOfRouter e r w answer text unmet
+
+-- ---- of a walk
+
+-- it ended where the address is attached
+abbrev pub is_arrived : WalkEnd → Bool
+is_arrived end.Arrived = true
+is_arrived _ = false
+
+-- at this cost, where one is given
+abbrev pub is_at : Option ℕ → ℕ → Bool
+is_at None cost = true
+is_at (Some wanted) cost = cost == wanted
+
+-- it arrives, at this cost
+abbrev pub arrives : Option ℕ → Walk → Bool
+arrives cost walk = is_arrived walk.end && is_at cost walk.cost
+
+-- the walk by first hops arrives; or it does not so, and that is printed with the walk; or there is none, and it is said why
+pub data IsOfWalk (e : Expected) (from : RouterId) (address : Addr) (cost : Option ℕ) (w : WorldValue) (answer : Answer) (text : Text) (unmet : Bool) : Type 0 where
+  has_arrived : (walk : Walk) → IsWalkFrom w from address.0 [] (Ok walk) → arrives cost walk ≡ true → answer ≡ Ok tt → text ≡ [] → unmet ≡ false
+      → IsOfWalk e from address cost w answer text unmet
+  has_not_arrived : (walk : Walk) → IsWalkFrom w from address.0 [] (Ok walk) → arrives cost walk ≡ false → answer ≡ Ok tt
+      → text ≡ unmet_line e ++ walk_line walk → unmet ≡ true → IsOfWalk e from address cost w answer text unmet
+  is_no_walk : (f : WorldFault) → IsWalkFrom w from address.0 [] (Err f) → answer ≡ Err f → text ≡ [] → unmet ≡ true
+      → IsOfWalk e from address cost w answer text unmet
+
+-- ---- of all routers
+
+-- a router lists these, if it runs
+abbrev pub ListsIfRuns : List ℕ → SlotValue → Type 0
+ListsIfRuns lsas s = (x : Running) → s.running ≡ Some x → area_listed (Some x.state) ≡ lsas
+
+-- each of these does
+abbrev pub AllList : List ℕ → List SlotValue → Type 0
+AllList lsas [] = ⊤
+AllList lsas (s ∷ slots) = ListsIfRuns lsas s × AllList lsas slots
+
+-- none of these runs
+abbrev pub NoneRuns : List SlotValue → Type 0
+NoneRuns [] = ⊤
+NoneRuns (s ∷ slots) = (s.running ≡ None) × NoneRuns slots
+
+-- the first of these routers that runs and lists otherwise, if there is one
+pub data IsFirstOther (lsas : List ℕ) (slots : List SlotValue) : Option RouterId → Type 0 where
+  all_list : AllList lsas slots → IsFirstOther lsas slots None
+  one_lists_otherwise : (before after : List SlotValue) (s : SlotValue) (x : Running) → slots ≡ before ++ s ∷ after
+      → AllList lsas before → s.running ≡ Some x → (area_listed (Some x.state) ≡ lsas → ⊥)
+      → IsFirstOther lsas slots (Some s.config.router_id)
+
+-- a router and another one, if there is one
+abbrev pub both : RouterId → Option RouterId → Option (RouterId × RouterId)
+both r None = None
+both r (Some o) = Some (r, o)
+
+-- the first router that runs, and the first behind it that lists otherwise, if there is one
+pub data AreApart (slots : List SlotValue) : Option (RouterId × RouterId) → Type 0 where
+  none_runs : NoneRuns slots → AreApart slots None
+  one_runs : (before after : List SlotValue) (s : SlotValue) (x : Running) (other : Option RouterId) → slots ≡ before ++ s ∷ after
+      → NoneRuns before → s.running ≡ Some x → IsFirstOther (area_listed (Some x.state)) after other
+      → AreApart slots (both s.config.router_id other)
+
+-- two routers
+abbrev pub two_text : RouterId × RouterId → Text
+two_text two = number_text two.0.0 ++ codes " and " ++ number_text two.1.0
+
+-- and that they do
+abbrev pub apart_line : RouterId × RouterId → Text
+apart_line two = two_text two ++ codes " list otherwise\n"
+
+-- all routers that run list the same; or there is no room to know; or two do not, and that is printed
+pub data IsOfAll (w : WorldValue) (answer : Answer) (text : Text) (unmet : Bool) : Type 0 where
+  they_agree : AreApart w.slots None → answer ≡ Ok tt → text ≡ [] → unmet ≡ false → IsOfAll w answer text unmet
+  no_room : answer ≡ Err (fault.Memory false) → text ≡ [] → unmet ≡ true → IsOfAll w answer text unmet
+  they_differ : (two : RouterId × RouterId) → AreApart w.slots (Some two) → answer ≡ Ok tt
+      → text ≡ unmet_line expected.Agree ++ apart_line two → unmet ≡ true → IsOfAll w answer text unmet
+
+-- ---- whatever is expected
+
+-- by whether the last settling is known to hold
+abbrev pub settled_text : Bool → Text
+settled_text true = []
+settled_text false = unmet_line expected.Settled
+
+-- the last settling is known to hold, and nothing is printed; or it is not, and that is printed
+abbrev pub IsOfSettling : Bool → Answer → Text → Bool → Type 0
+IsOfSettling is_settled answer text unmet = (answer ≡ Ok tt) × (text ≡ settled_text is_settled) × (unmet ≡ not is_settled)
+
+-- what is expected is judged
+abbrev pub IsJudged : Expected → Simulation → Answer → Text → Bool → Type 0
+IsJudged (expected.Walk from address cost) s answer text unmet = IsOfWalk (expected.Walk from address cost) from address cost s.world answer text unmet
+IsJudged expected.Agree s answer text unmet = IsOfAll s.world answer text unmet
+IsJudged expected.Settled s answer text unmet = IsOfSettling s.is_settled answer text unmet
+IsJudged e s answer text unmet = (r : RouterId) × (router_in e ≡ Some r) × IsOfRouter e r s.world answer text unmet
+
+-- that something was not as it was expected is known from then on
+abbrev pub Judges : Bool → Simulation → Simulation → Type 0
+Judges true s s' = s' ≡ record s { is_unmet = true }
+Judges false s s' = s' ≡ s
+
+-- what is judged, and what is known from then on
+abbrev pub JudgedSo : Expected → Simulation → Simulation → Answer → Text → Type 0
+JudgedSo e s s' answer text = (unmet : Bool) × IsJudged e s answer text unmet × Judges unmet s s'

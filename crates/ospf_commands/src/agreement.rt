@@ -1,0 +1,54 @@
+//! Whether all routers that run list the same.
+
+ghost use Rattle.std.specs.Prelude.{◌≡◌, IfOk};
+ghost use Rattle.ospf_commands.specs.Judged.{AreApart, IsFirstOther, both};
+
+use crate::sight::listed_by;
+use ospf_base::RouterId;
+use ospf_world::Slot;
+use std::alloc::{AllocError, Global};
+
+// The first router that runs, and the first behind it that lists otherwise, if there is one.
+pub(crate) fn apart(
+    slots: &[Slot],
+    alloc: Global,
+) -> Result<Option<(RouterId, RouterId)>, AllocError>
+    ensures { IfOk result (AreApart slots.now) }
+{
+    let mut rest = slots;
+    while let Some((slot, behind)) = rest.split_first() {
+        if let Some(router) = slot.router() {
+            let lsas = listed_by(router, alloc)?;
+            let other = first_other(&lsas, behind, alloc)?;
+            return Ok(both(slot.config().router_id, other));
+        }
+        rest = behind;
+    }
+    Ok(None)
+}
+
+// The first of these routers that runs and lists otherwise.
+fn first_other(lsas: &[u8], slots: &[Slot], alloc: Global) -> Result<Option<RouterId>, AllocError>
+    ensures { IfOk result (IsFirstOther lsas.now slots.now) }
+{
+    let mut rest = slots;
+    while let Some((slot, behind)) = rest.split_first() {
+        if let Some(router) = slot.router() {
+            let other = listed_by(router, alloc)?;
+            if other.as_slice() != lsas {
+                return Ok(Some(slot.config().router_id));
+            }
+        }
+        rest = behind;
+    }
+    Ok(None)
+}
+
+fn both(router: RouterId, other: Option<RouterId>) -> Option<(RouterId, RouterId)>
+    ensures { result ≡ both router other }
+{
+    match other {
+        Some(other) => Some((router, other)),
+        None => None,
+    }
+}

@@ -1,0 +1,116 @@
+//! What is asked of routers, and printed.
+
+ghost use Rattle.std.specs.Prelude.{IfErr, IfOk, OnErr};
+ghost use Rattle.ospf_files.specs.Streams.{IsOutputCut};
+ghost use Rattle.ospf_commands.specs.Asked.{IsExplained, IsSaid, IsShown, IsWalked};
+ghost use Rattle.ospf_commands.specs.Printed.{IsPrinted, IsPrintedBegun};
+
+use crate::show::{write_said, write_shown, write_walked};
+use crate::simulation::Simulation;
+use ospf_base::{Addr, RouterId};
+use ospf_files::{FailedStreams, Failure};
+use ospf_script::View;
+use ospf_views::why;
+use ospf_world::WorldFault;
+use std::alloc::Global;
+use std::io::Write;
+
+// Prints a text. Where that fails, a beginning of it was written.
+pub(crate) fn say<O: Write>(
+    text: &String,
+    out: &mut O,
+    alloc: Global,
+    streams: &mut FailedStreams,
+) -> Result<Result<(), WorldFault>, Failure>
+    ensures said { IfOk result (λ answer. IsPrinted (IsSaid text.now) answer
+        (O.contents out.old) (O.contents out.new)) }
+    ensures begun { OnErr result
+        (IsPrintedBegun (IsSaid text.now) (O.contents out.old) (O.contents out.new)) }
+    ensures cut { IfErr result (IsOutputCut streams.new) }
+{
+    write_said(alloc, text, out, streams)?;
+    Ok(Ok(()))
+}
+
+// Prints what a line asks of a router, if that runs. Where that fails, a beginning of it was written.
+pub(crate) fn show_router<O: Write>(
+    simulation: &Simulation,
+    view: View,
+    router: RouterId,
+    out: &mut O,
+    alloc: Global,
+    streams: &mut FailedStreams,
+) -> Result<Result<(), WorldFault>, Failure>
+    ensures shown { IfOk result (λ answer. IsPrinted (IsShown view router simulation.now) answer
+        (O.contents out.old) (O.contents out.new)) }
+    ensures begun { OnErr result (IsPrintedBegun (IsShown view router simulation.now)
+        (O.contents out.old) (O.contents out.new)) }
+    ensures cut { IfErr result (IsOutputCut streams.new) }
+{
+    match simulation.world.router(router) {
+        Ok(lent) => {
+            let shown = (view, router);
+            write_shown(alloc, simulation.is_labelled, shown, lent, out, streams)?;
+            Ok(Ok(()))
+        }
+        Err(fault) => Ok(Err(fault)),
+    }
+}
+
+// Prints a walk, if there is one. Where that fails, a beginning of it was written.
+pub(crate) fn show_walk<O: Write>(
+    simulation: &Simulation,
+    ends: (RouterId, Addr),
+    choices: &[u32],
+    out: &mut O,
+    alloc: Global,
+    streams: &mut FailedStreams,
+) -> Result<Result<(), WorldFault>, Failure>
+    ensures walked { IfOk result (λ answer. IsPrinted
+        (IsWalked ends.0 ends.1 choices.now simulation.now) answer
+        (O.contents out.old) (O.contents out.new)) }
+    ensures begun { OnErr result (IsPrintedBegun
+        (IsWalked ends.0 ends.1 choices.now simulation.now)
+        (O.contents out.old) (O.contents out.new)) }
+    ensures cut { IfErr result (IsOutputCut streams.new) }
+{
+    let (from, address) = ends;
+    match simulation.world.walk(from, address, choices, alloc) {
+        Ok(walk) => {
+            write_walked(alloc, simulation.is_labelled, ends, &walk, out, streams)?;
+            Ok(Ok(()))
+        }
+        Err(fault) => Ok(Err(fault)),
+    }
+}
+
+// Prints what a link waits for, or a router on it, if there is such a link. Where that fails, a beginning of it was written.
+pub(crate) fn show_why<O: Write>(
+    simulation: &Simulation,
+    place: (RouterId, usize),
+    neighbour: Option<RouterId>,
+    out: &mut O,
+    alloc: Global,
+    streams: &mut FailedStreams,
+) -> Result<Result<(), WorldFault>, Failure>
+    ensures explained { IfOk result (λ answer. IsPrinted
+        (IsExplained place.0 place.1 neighbour simulation.now) answer
+        (O.contents out.old) (O.contents out.new)) }
+    ensures begun { OnErr result (IsPrintedBegun
+        (IsExplained place.0 place.1 neighbour simulation.now)
+        (O.contents out.old) (O.contents out.new)) }
+    ensures cut { IfErr result (IsOutputCut streams.new) }
+{
+    let (router, link) = place;
+    let lent = match simulation.world.router(router) {
+        Ok(lent) => lent,
+        Err(fault) => return Ok(Err(fault)),
+    };
+    match why(lent, link, neighbour, alloc)? {
+        Some(lines) => {
+            streams.write(out, &lines)?;
+            Ok(Ok(()))
+        }
+        None => Ok(Err(WorldFault::NoLink)),
+    }
+}

@@ -1,0 +1,112 @@
+//! Commands that are done.
+
+ghost use Rattle.std.specs.Prelude.{◌≡◌, IfErr, IfOk, Ok, OnErr};
+ghost use Rattle.ospf_files.specs.Streams.{IsOutputCut};
+ghost use Rattle.ospf_commands.specs.Commands.{Happens, IsDone, IsDoneBegun, ManyHappen};
+
+use crate::asked::{say, show_router, show_walk, show_why};
+use crate::judge::judge;
+use crate::losses::Losses;
+use crate::many::run_many;
+use crate::rounds::{run_events, run_rounds};
+use crate::settle::settle;
+use crate::simulation::Simulation;
+use crate::watch::Watch;
+use ospf_files::{FailedStreams, Failure};
+use ospf_script::{Command, Many};
+use ospf_world::{WorldEvent, WorldFault};
+use std::alloc::Global;
+use std::io::Write;
+
+/// Does what a command asks for, and prints what it is to print. The answer is why it is refused, if it is. A watch is told of each
+/// event, and how far rounds have come.
+///
+/// `Failure` where memory runs out or the stream fails: then a beginning of what it is to print was written.
+pub fn run_command<O: Write, V: Watch>(
+    simulation: &mut Simulation,
+    command: &Command,
+    out: &mut O,
+    alloc: Global,
+    watch: &mut V,
+    streams: &mut FailedStreams,
+) -> Result<Result<(), WorldFault>, Failure>
+    ensures done { IfOk result (λ answer. IsDone command.now simulation.old answer simulation.new
+        (O.contents out.old) (O.contents out.new)) }
+    ensures begun { OnErr result
+        (IsDoneBegun command.now simulation.old simulation.new (O.contents out.old) (O.contents out.new)) }
+    ensures cut { IfErr result (IsOutputCut streams.new) }
+{
+    match command {
+        Command::Event { event } => Ok(run_event(simulation, *event, watch, alloc)),
+        Command::Many { many } => Ok(run_at_many(simulation, *many, watch, alloc)),
+        Command::Round { count, most } => {
+            Ok(run_rounds(simulation, *count, *most, alloc, watch))
+        }
+        Command::Random { number, count } => {
+            Ok(run_events(simulation, *number, *count, alloc, watch))
+        }
+        Command::Settle { most } => settle(simulation, *most, out, alloc, watch, streams),
+        Command::Show { view, router } => {
+            show_router(simulation, *view, *router, out, alloc, streams)
+        }
+        Command::Walk {
+            from,
+            address,
+            choices,
+        } => show_walk(simulation, (*from, *address), choices, out, alloc, streams),
+        Command::Say { text } => say(text, out, alloc, streams),
+        Command::Why {
+            router,
+            link,
+            neighbour,
+        } => {
+            let place = (*router, *link);
+            show_why(simulation, place, *neighbour, out, alloc, streams)
+        }
+        Command::Loss {
+            percent,
+            number,
+            network,
+        } => {
+            simulation.losses = Some(Losses::new(*percent, *number, *network));
+            Ok(Ok(()))
+        }
+        Command::Expect { expected } => judge(simulation, *expected, out, alloc, streams),
+        Command::Label { is_on } => Ok(label(simulation, *is_on)),
+    }
+}
+
+// Has an event come about.
+fn run_event<V: Watch>(
+    simulation: &mut Simulation,
+    event: WorldEvent,
+    watch: &mut V,
+    alloc: Global,
+) -> Result<(), WorldFault>
+    ensures { Happens event simulation.old result simulation.new }
+{
+    simulation.is_settled = false;
+    simulation.world.step_watched(event, watch, alloc)
+}
+
+// Has events come about at many routers.
+fn run_at_many<V: Watch>(
+    simulation: &mut Simulation,
+    many: Many,
+    watch: &mut V,
+    alloc: Global,
+) -> Result<(), WorldFault>
+    ensures { ManyHappen many simulation.old result simulation.new }
+{
+    simulation.is_settled = false;
+    run_many(&mut simulation.world, many, watch, alloc)
+}
+
+// Asks for labels, or for none.
+fn label(simulation: &mut Simulation, is_on: bool) -> Result<(), WorldFault>
+    ensures answer { result ≡ Ok tt }
+    ensures labelled { simulation.new ≡ record simulation.old { is_labelled = is_on } }
+{
+    simulation.is_labelled = is_on;
+    Ok(())
+}

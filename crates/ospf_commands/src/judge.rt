@@ -1,0 +1,241 @@
+//! Whether something is as it is expected to be.
+
+ghost use Rattle.std.specs.Prelude.{◌≡◌, ◌++◌, IfErr, IfOk, OnErr, Some, string_bytes};
+ghost use Rattle.ospf_commands.specs.Judged.{JudgedSo, apart_line, arrives, is_arrived, is_at};
+ghost use Rattle.ospf_commands.specs.Printed.{IsPrinted, IsPrintedBegun};
+ghost use Rattle.ospf_commands.specs.Shown.{walk_line};
+ghost use Rattle.ospf_files.specs.Streams.{IsOutputCut};
+ghost use Rattle.ospf_script.specs.declared.expected.Expected.TheVariants as expected;
+ghost use Rattle.ospf_views.specs.Expectations.{router_in, unmet_line};
+
+use crate::agreement::apart;
+use crate::show::walk_line;
+use crate::simulation::Simulation;
+use ospf_base::{Addr, RouterId};
+use ospf_files::{FailedStreams, Failure};
+use ospf_headline::WalkEnd;
+use ospf_script::Expected;
+use ospf_views::{is_met, router_in, unmet_line, write_unmet};
+use ospf_world::{Walk, WorldFault};
+use std::alloc::{AllocError, Global};
+use std::fmt::{self, Display, Formatter};
+use std::io::Write;
+
+// Two routers.
+#[derive(Clone, Copy)]
+struct TwoShown((RouterId, RouterId));
+
+impl Display for TwoShown {
+    ghost use Rattle.std.specs.Prelude.{Some};
+    ghost use Rattle.ospf_commands.specs.Judged.{two_text};
+
+    ghost output = { λ shown. Some (two_text shown.0) };
+
+    fn fmt<W: fmt::Write>(&self, f: &mut Formatter<W>) -> fmt::Result {
+        write!(f, "{} and {}", self.0.0, self.0.1)
+    }
+}
+
+// Whether something is as it is expected to be: where it is not, that is printed, and kept. Where printing fails, a beginning of it
+// was written.
+pub(crate) fn judge<O: Write>(
+    simulation: &mut Simulation,
+    expected: Expected,
+    out: &mut O,
+    alloc: Global,
+    streams: &mut FailedStreams,
+) -> Result<Result<(), WorldFault>, Failure>
+    ensures judged { IfOk result (λ answer. IsPrinted (JudgedSo expected simulation.old
+        simulation.new) answer (O.contents out.old) (O.contents out.new)) }
+    ensures begun { OnErr result (IsPrintedBegun (JudgedSo expected simulation.old simulation.new)
+        (O.contents out.old) (O.contents out.new)) }
+    ensures cut { IfErr result (IsOutputCut streams.new) }
+{
+    match expected {
+        Expected::Walk {
+            from,
+            address,
+            cost,
+        } => judge_walk(simulation, (from, address), cost, out, alloc, streams),
+        Expected::Agree => judge_agreement(simulation, out, alloc, streams),
+        Expected::Settled => judge_settling(simulation, out, alloc, streams),
+        Expected::Full { router, .. }
+        | Expected::NoNeighbour { router, .. }
+        | Expected::Route { router, .. }
+        | Expected::NoRoute { router, .. } => {
+            judge_router(simulation, expected, router, out, alloc, streams)
+        }
+    }
+}
+
+// Of a router.
+fn judge_router<O: Write>(
+    simulation: &mut Simulation,
+    expected: Expected,
+    router: RouterId,
+    out: &mut O,
+    alloc: Global,
+    streams: &mut FailedStreams,
+) -> Result<Result<(), WorldFault>, Failure>
+    requires { router_in expected ≡ Some router }
+    ensures judged { IfOk result (λ answer. IsPrinted (JudgedSo expected simulation.old
+        simulation.new) answer (O.contents out.old) (O.contents out.new)) }
+    ensures begun { OnErr result (IsPrintedBegun (JudgedSo expected simulation.old simulation.new)
+        (O.contents out.old) (O.contents out.new)) }
+    ensures cut { IfErr result (IsOutputCut streams.new) }
+{
+    let lent = match simulation.world.router(router) {
+        Ok(lent) => lent,
+        Err(fault) => {
+            simulation.is_unmet = true;
+            return Ok(Err(fault));
+        }
+    };
+    if is_met(expected, lent) {
+        return Ok(Ok(()));
+    }
+    simulation.is_unmet = true;
+    write_unmet(alloc, expected, lent, out, streams)?;
+    Ok(Ok(()))
+}
+
+// Of a walk.
+fn judge_walk<O: Write>(
+    simulation: &mut Simulation,
+    ends: (RouterId, Addr),
+    cost: Option<u64>,
+    out: &mut O,
+    alloc: Global,
+    streams: &mut FailedStreams,
+) -> Result<Result<(), WorldFault>, Failure>
+    ensures judged { IfOk result (λ answer. IsPrinted (JudgedSo (expected.Walk ends.0 ends.1 cost)
+        simulation.old simulation.new) answer (O.contents out.old) (O.contents out.new)) }
+    ensures begun { OnErr result (IsPrintedBegun (JudgedSo (expected.Walk ends.0 ends.1 cost)
+        simulation.old simulation.new) (O.contents out.old) (O.contents out.new)) }
+    ensures cut { IfErr result (IsOutputCut streams.new) }
+{
+    let (from, address) = ends;
+    let walk = match simulation.world.walk(from, address, &[], alloc) {
+        Ok(walk) => walk,
+        Err(fault) => {
+            simulation.is_unmet = true;
+            return Ok(Err(fault));
+        }
+    };
+    if arrives(cost, &walk) {
+        return Ok(Ok(()));
+    }
+    simulation.is_unmet = true;
+    let expected = Expected::Walk {
+        from,
+        address,
+        cost,
+    };
+    let lines = unarrived_lines(alloc, expected, &walk)?;
+    streams.write(out, &lines)?;
+    Ok(Ok(()))
+}
+
+// Of what all routers list.
+fn judge_agreement<O: Write>(
+    simulation: &mut Simulation,
+    out: &mut O,
+    alloc: Global,
+    streams: &mut FailedStreams,
+) -> Result<Result<(), WorldFault>, Failure>
+    ensures judged { IfOk result (λ answer. IsPrinted (JudgedSo expected.Agree simulation.old
+        simulation.new) answer (O.contents out.old) (O.contents out.new)) }
+    ensures begun { OnErr result (IsPrintedBegun (JudgedSo expected.Agree simulation.old
+        simulation.new) (O.contents out.old) (O.contents out.new)) }
+    ensures cut { IfErr result (IsOutputCut streams.new) }
+{
+    match apart(simulation.world.slots(), alloc) {
+        Ok(None) => Ok(Ok(())),
+        Ok(Some(two)) => {
+            simulation.is_unmet = true;
+            let lines = apart_lines(alloc, two)?;
+            streams.write(out, &lines)?;
+            Ok(Ok(()))
+        }
+        Err(AllocError) => {
+            simulation.is_unmet = true;
+            Ok(Err(WorldFault::Memory { stopped: false }))
+        }
+    }
+}
+
+// Of the last settling.
+fn judge_settling<O: Write>(
+    simulation: &mut Simulation,
+    out: &mut O,
+    alloc: Global,
+    streams: &mut FailedStreams,
+) -> Result<Result<(), WorldFault>, Failure>
+    ensures judged { IfOk result (λ answer. IsPrinted (JudgedSo expected.Settled simulation.old
+        simulation.new) answer (O.contents out.old) (O.contents out.new)) }
+    ensures begun { OnErr result (IsPrintedBegun (JudgedSo expected.Settled simulation.old
+        simulation.new) (O.contents out.old) (O.contents out.new)) }
+    ensures cut { IfErr result (IsOutputCut streams.new) }
+{
+    if simulation.is_settled {
+        return Ok(Ok(()));
+    }
+    simulation.is_unmet = true;
+    let line = unmet_line(alloc, Expected::Settled)?;
+    streams.write(out, &line)?;
+    Ok(Ok(()))
+}
+
+// Whether a walk arrives, at this cost where one is given.
+fn arrives(cost: Option<u64>, walk: &Walk) -> bool
+    ensures { result ≡ arrives cost walk.now }
+{
+    is_arrived(walk.end) && is_at(cost, walk.cost)
+}
+
+fn is_arrived(end: WalkEnd) -> bool
+    ensures { result ≡ is_arrived end }
+{
+    match end {
+        WalkEnd::Arrived => true,
+        _ => false,
+    }
+}
+
+fn is_at(wanted: Option<u64>, cost: u128) -> bool
+    ensures { result ≡ is_at wanted cost }
+{
+    match wanted {
+        Some(wanted) => cost == u128::from(wanted),
+        None => true,
+    }
+}
+
+// The lines of a walk that does not arrive so.
+fn unarrived_lines(alloc: Global, expected: Expected, walk: &Walk) -> Result<String, AllocError>
+    ensures { IfOk result (λ lines. string_bytes lines
+        ≡ unmet_line expected ++ walk_line walk.now) }
+{
+    let mut lines = unmet_line(alloc, expected)?;
+    let line = walk_line(alloc, walk)?;
+    lines.push_str(&line)?;
+    Ok(lines)
+}
+
+// The lines of two routers that list otherwise.
+fn apart_lines(alloc: Global, two: (RouterId, RouterId)) -> Result<String, AllocError>
+    ensures { IfOk result (λ lines. string_bytes lines
+        ≡ unmet_line expected.Agree ++ apart_line two) }
+{
+    let mut lines = unmet_line(alloc, Expected::Agree)?;
+    let line = apart_line(alloc, two)?;
+    lines.push_str(&line)?;
+    Ok(lines)
+}
+
+fn apart_line(alloc: Global, two: (RouterId, RouterId)) -> Result<String, AllocError>
+    ensures { IfOk result (λ line. string_bytes line ≡ apart_line two) }
+{
+    let two = TwoShown(two);
+    format!(in alloc; "{two} list otherwise\n")
+}

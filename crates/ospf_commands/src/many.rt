@@ -1,0 +1,122 @@
+//! What comes about at many routers.
+
+ghost use Rattle.std.specs.Prelude.{◌≡◌, ◌++◌, IfOk, OnOk, flat_map, vec_len};
+ghost use Rattle.ospf_commands.specs.Many.{ComesAbout, config_events, events_on, is_meant, link_event, links_up_to, many_of};
+ghost use Rattle.ospf_world.specs.Offers.{address_at};
+
+use crate::losses::is_network_of;
+use ospf_base::RouterId;
+use ospf_config::{Config, InterfaceAddress};
+use ospf_script::Many;
+use ospf_world::{EventWatch, Slot, World, WorldEvent, WorldFault};
+use std::alloc::{AllocError, Global};
+
+// The first DD sequence number of each router that starts with all others.
+const DD_START: u32 = 1;
+
+// That comes about at each router, one after another in the order of the configurations. What is refused is passed over.
+//
+// `NoLink` where there is no link that is meant.
+pub(crate) fn run_many<V: EventWatch>(
+    world: &mut World,
+    many: Many,
+    watch: &mut V,
+    alloc: Global,
+) -> Result<(), WorldFault>
+    ensures { ComesAbout many world.old result world.new }
+{
+    let Ok(events) = events_of(many, world.slots(), alloc) else {
+        return Err(WorldFault::Memory { stopped: false });
+    };
+    if events.is_empty() {
+        return Err(WorldFault::NoLink);
+    }
+    match world.run_watched(&events, watch, alloc) {
+        Ok(_refused) => Ok(()),
+        Err(fault) => Err(fault),
+    }
+}
+
+// Its events.
+fn events_of(many: Many, slots: &[Slot], alloc: Global) -> Result<Vec<WorldEvent>, AllocError>
+    ensures { IfOk result (λ events. events.items ≡ flat_map (many_of many) slots.now) }
+{
+    let mut events = Vec::new(alloc);
+    for slot in slots {
+        push_events(&mut events, many, slot.config())?;
+    }
+    Ok(events)
+}
+
+// Adds those at a router.
+fn push_events(events: &mut Vec<WorldEvent>, many: Many, config: &Config) -> Result<(), AllocError>
+    ensures { OnOk result (events.new.items ≡ events.old.items ++ config_events many config.now) }
+{
+    match many {
+        Many::Start => {
+            events.push(WorldEvent::Start {
+                router: config.router_id,
+                dd_start: DD_START,
+                floor: i32::MIN,
+            })?;
+            Ok(())
+        }
+        _ => push_links(events, many, config),
+    }
+}
+
+// Adds those at its links.
+fn push_links(events: &mut Vec<WorldEvent>, many: Many, config: &Config) -> Result<(), AllocError>
+    ensures { OnOk result (events.new.items ≡ events.old.items
+        ++ links_up_to many config.now (vec_len config.now.interfaces)) }
+{
+    for link in 0..config.interfaces.len() {
+        push_link(events, many, config, link)?;
+    }
+    Ok(())
+}
+
+// Adds that at a link, if it is meant.
+fn push_link(
+    events: &mut Vec<WorldEvent>,
+    many: Many,
+    config: &Config,
+    link: usize,
+) -> Result<(), AllocError>
+    ensures { OnOk result (events.new.items ≡ events.old.items ++ events_on many config.now link) }
+{
+    if is_meant(many, config, link) {
+        events.push(link_event(many, config.router_id, link))?;
+    }
+    Ok(())
+}
+
+// Whether a link of a configuration is meant.
+fn is_meant(many: Many, config: &Config, link: usize) -> bool
+    ensures { result ≡ is_meant many config.now link }
+{
+    match many {
+        Many::Cut { network } | Many::Mend { network } => {
+            is_network_of(network, address_of(config, link))
+        }
+        _ => true,
+    }
+}
+
+// The address of the interface of a link, if the configuration has that link.
+fn address_of(config: &Config, link: usize) -> Option<InterfaceAddress>
+    ensures { result ≡ address_at config.now link }
+{
+    let interface = config.interfaces.get(link)?;
+    Some(interface.address)
+}
+
+// The event at a link.
+fn link_event(many: Many, router: RouterId, link: usize) -> WorldEvent
+    ensures { result ≡ link_event many router link }
+{
+    match many {
+        Many::Down | Many::Cut { .. } => WorldEvent::LinkDown { router, link },
+        _ => WorldEvent::LinkUp { router, link },
+    }
+}

@@ -1,0 +1,99 @@
+//! Rounds, and events by chance.
+
+ghost use Rattle.std.specs.Prelude.{◌≡◌};
+ghost use Rattle.ospf_commands.specs.Commands.{SomeHappen};
+ghost use Rattle.ospf_commands.specs.Rounds.{AreRounds, IsOneRound, most_of};
+ghost use Rattle.ospf_commands.specs.Worlds.{IsRandom};
+
+use crate::losing::round_losing;
+use crate::simulation::Simulation;
+use crate::watch::Watch;
+use ospf_world::{MOST_OFFERS, World, WorldFault};
+use rand_pcg::Lcg64Xsh32;
+use std::alloc::Global;
+
+// How many events by chance come about between two words to the watch.
+const EVENTS_AT_ONCE: u64 = 10_000;
+
+// So many rounds, up to the first that is refused.
+pub(crate) fn run_rounds<V: Watch>(
+    simulation: &mut Simulation,
+    count: u64,
+    most: Option<u64>,
+    alloc: Global,
+    watch: &mut V,
+) -> Result<(), WorldFault>
+    ensures { AreRounds (most_of most) count simulation.old result simulation.new }
+{
+    let most = most_of(most);
+    for done in 0..count {
+        watch.begins_round(done, count);
+        match run_round(simulation, most, alloc, watch) {
+            Ok(()) => {}
+            Err(fault) => return Err(fault),
+        }
+    }
+    Ok(())
+}
+
+// A round, with losses where there are some.
+pub(crate) fn run_round<V: Watch>(
+    simulation: &mut Simulation,
+    most: u64,
+    alloc: Global,
+    watch: &mut V,
+) -> Result<(), WorldFault>
+    ensures { IsOneRound most simulation.old result simulation.new }
+{
+    simulation.is_settled = false;
+    let world = &mut simulation.world;
+    match &mut simulation.losses {
+        Some(losses) => round_losing(world, most, losses, watch, alloc),
+        None => world.round_watched(most, watch, alloc),
+    }
+}
+
+// So many events by chance, some at a time, up to want of memory.
+pub(crate) fn run_events<V: Watch>(
+    simulation: &mut Simulation,
+    number: u64,
+    count: u64,
+    alloc: Global,
+    watch: &mut V,
+) -> Result<(), WorldFault>
+    ensures { SomeHappen number count simulation.old result simulation.new }
+{
+    simulation.is_settled = false;
+    draw(&mut simulation.world, number, count, alloc, watch)
+}
+
+// How many datagrams a round offers at most.
+#[tactic(auto, unfolding(ospf_world::specs::Rounds::most_offers))]
+fn most_of(most: Option<u64>) -> u64
+    ensures { result ≡ most_of most }
+{
+    most.unwrap_or(MOST_OFFERS)
+}
+
+// Draws so many events, and has them come about.
+fn draw<V: Watch>(
+    world: &mut World,
+    number: u64,
+    count: u64,
+    alloc: Global,
+    watch: &mut V,
+) -> Result<(), WorldFault>
+    ensures { IsRandom number count world.old result world.new }
+{
+    let mut generator = Lcg64Xsh32::new(number, 0);
+    let mut done = 0;
+    while done < count {
+        watch.draws_events(done, count);
+        let part = (count - done).min(EVENTS_AT_ONCE);
+        match world.draw_events_watched(&mut generator, part, watch, alloc) {
+            Ok(()) => done += part,
+            Err(fault) => return Err(fault),
+        }
+    }
+    Ok(())
+}

@@ -1,0 +1,143 @@
+//! Rounds until nothing changes any more.
+
+ghost use Rattle.std.specs.Prelude.{◌≡◌, ◌≤◌, IfErr, IfOk, OnErr, false, fold, string_bytes};
+ghost use Rattle.ospf_commands.specs.Printed.{IsPrinted, IsPrintedBegun};
+ghost use Rattle.ospf_commands.specs.Settling.{Passes, Settles, longer, longer_in, round_text, settled_line, still_line, unsettled_line};
+ghost use Rattle.ospf_files.specs.Streams.{IsOutputCut};
+
+use crate::rounds::run_round;
+use crate::sight::sight_of;
+use crate::simulation::Simulation;
+use crate::watch::Watch;
+use ospf_config::Interface;
+use ospf_files::{FailedStreams, Failure};
+use ospf_world::{Slot, WorldFault};
+use std::alloc::{AllocError, Global};
+use std::io::Write;
+
+// How many datagrams a round offers at most.
+const SETTLING_OFFERS: u64 = 1_000_000;
+
+// Rounds, at most so many, until nothing that is seen has changed for as many as the longest RouterDeadInterval has seconds. How
+// many it took is printed; where that fails, a beginning of it was written.
+pub(crate) fn settle<O: Write, V: Watch>(
+    simulation: &mut Simulation,
+    most: u64,
+    out: &mut O,
+    alloc: Global,
+    watch: &mut V,
+    streams: &mut FailedStreams,
+) -> Result<Result<(), WorldFault>, Failure>
+    ensures settles { IfOk result (λ answer. IsPrinted (λ given text. Settles most
+        (record simulation.old { is_settled = false }) given text simulation.new) answer
+        (O.contents out.old) (O.contents out.new)) }
+    ensures begun { OnErr result (IsPrintedBegun (λ given text. Settles most
+        (record simulation.old { is_settled = false }) given text simulation.new)
+        (O.contents out.old) (O.contents out.new)) }
+    ensures cut { IfErr result (IsOutputCut streams.new) }
+{
+    simulation.is_settled = false;
+    let still = longest_dead(simulation.world.slots());
+    match pass_rounds(simulation, most, still, alloc, watch) {
+        Ok(Some(rounds)) => {
+            simulation.is_settled = true;
+            let line = settled_line(alloc, rounds - still, still)?;
+            streams.write(out, &line)?;
+            Ok(Ok(()))
+        }
+        Ok(None) => {
+            let line = unsettled_line(alloc, most)?;
+            streams.write(out, &line)?;
+            Ok(Ok(()))
+        }
+        Err(fault) => Ok(Err(fault)),
+    }
+}
+
+// Rounds, at most so many, until nothing that is seen has changed for so many of them: how many there were then.
+fn pass_rounds<V: Watch>(
+    simulation: &mut Simulation,
+    most: u64,
+    still: u64,
+    alloc: Global,
+    watch: &mut V,
+) -> Result<Option<u64>, WorldFault>
+    ensures { Passes most still simulation.old result simulation.new }
+{
+    let Ok(mut seen) = sight_of(simulation.world.slots(), alloc) else {
+        return Err(WorldFault::Memory { stopped: false });
+    };
+    let mut unchanged = 0;
+    for done in 0..most {
+        if unchanged >= still {
+            return Ok(Some(done));
+        }
+        watch.begins_round(done, most);
+        match run_round(simulation, SETTLING_OFFERS, alloc, watch) {
+            Ok(()) => {}
+            Err(fault) => return Err(fault),
+        }
+        let Ok(now) = sight_of(simulation.world.slots(), alloc) else {
+            return Err(WorldFault::Memory { stopped: false });
+        };
+        unchanged = if now == seen { unchanged + 1 } else { 0 };
+        seen = now;
+    }
+    if unchanged >= still {
+        return Ok(Some(most));
+    }
+    Ok(None)
+}
+
+// The longest RouterDeadInterval of an interface, in seconds.
+fn longest_dead(slots: &[Slot]) -> u64
+    ensures { result ≡ fold longer_in 0 slots.now }
+{
+    let mut longest = 0;
+    for slot in slots {
+        longest = longer_in(longest, &slot.config().interfaces);
+    }
+    longest
+}
+
+// The longer of this one and those of these interfaces.
+fn longer_in(longest: u64, interfaces: &[Interface]) -> u64
+    ensures { result ≡ fold longer longest interfaces.now }
+{
+    let mut longest = longest;
+    for interface in interfaces {
+        longest = longest.max(u64::from(interface.dead));
+    }
+    longest
+}
+
+// The line of rounds behind which it stayed so.
+fn settled_line(alloc: Global, rounds: u64, still: u64) -> Result<String, AllocError>
+    ensures { IfOk result (λ line. string_bytes line ≡ settled_line rounds still) }
+{
+    let mut line = round_text(alloc, rounds)?;
+    let rest = still_line(alloc, still)?;
+    line.push_str(&rest)?;
+    Ok(line)
+}
+
+// The round of the last change.
+fn round_text(alloc: Global, rounds: u64) -> Result<String, AllocError>
+    ensures { IfOk result (λ text. string_bytes text ≡ round_text rounds) }
+{
+    format!(in alloc; "settled in round {rounds}")
+}
+
+// How many more changed nothing.
+fn still_line(alloc: Global, still: u64) -> Result<String, AllocError>
+    ensures { IfOk result (λ line. string_bytes line ≡ still_line still) }
+{
+    format!(in alloc; "; {still} more changed nothing\n")
+}
+
+// The line of rounds behind which it did not.
+fn unsettled_line(alloc: Global, rounds: u64) -> Result<String, AllocError>
+    ensures { IfOk result (λ line. string_bytes line ≡ unsettled_line rounds) }
+{
+    format!(in alloc; "not settled by round {rounds}\n")
+}

@@ -1,0 +1,81 @@
+//! What is seen of all routers.
+
+ghost use Rattle.std.specs.Prelude.{◌≡◌, ◌++◌, IfOk, OnOk, flat_map};
+ghost use Rattle.ospf_commands.specs.Settling.{ageless, area_listed, area_sight, slot_sight};
+
+use ospf_lsa::Lsa;
+use ospf_router::Router;
+use ospf_script::View;
+use ospf_views::add_view;
+use ospf_world::Slot;
+use std::alloc::{AllocError, Global};
+
+// Where the age of an LSA ends, and where its header does (RFC 2328, section A.4.1).
+const AGE_END: usize = 2;
+
+const HEADER_END: usize = 20;
+
+// What is seen of all routers.
+pub(crate) fn sight_of(slots: &[Slot], alloc: Global) -> Result<Vec<u8>, AllocError>
+    ensures { IfOk result (λ seen. seen.items ≡ flat_map slot_sight slots.now) }
+{
+    let mut seen = Vec::new(alloc);
+    for slot in slots {
+        push_slot(&mut seen, slot, alloc)?;
+    }
+    Ok(seen)
+}
+
+// What a router lists, but for ages.
+pub(crate) fn listed_by(router: &Router, alloc: Global) -> Result<Vec<u8>, AllocError>
+    ensures { IfOk result (λ lsas. lsas.items ≡ area_listed router.now.area) }
+{
+    let mut lsas = Vec::new(alloc);
+    push_listed(&mut lsas, router, alloc)?;
+    Ok(lsas)
+}
+
+// Adds what is seen of a router.
+fn push_slot(seen: &mut Vec<u8>, slot: &Slot, alloc: Global) -> Result<(), AllocError>
+    ensures { OnOk result (seen.new.items ≡ seen.old.items ++ slot_sight slot.now) }
+{
+    let line = format!(in alloc; "{}\n", slot.config().router_id)?;
+    seen.extend_from_slice(line.as_bytes())?;
+    match slot.router() {
+        Some(router) => push_router(seen, router, alloc),
+        None => Ok(()),
+    }
+}
+
+// Adds what is seen of one that runs.
+fn push_router(seen: &mut Vec<u8>, router: &Router, alloc: Global) -> Result<(), AllocError>
+    ensures { OnOk result (seen.new.items ≡ seen.old.items ++ area_sight router.now.area) }
+{
+    add_view(seen, View::Neighbours, router, alloc)?;
+    push_listed(seen, router, alloc)
+}
+
+// Adds what it lists, but for ages.
+fn push_listed(seen: &mut Vec<u8>, router: &Router, alloc: Global) -> Result<(), AllocError>
+    ensures { OnOk result (seen.new.items ≡ seen.old.items ++ area_listed router.now.area) }
+{
+    let listing = router.listing(alloc)?;
+    push_headers(seen, listing.lsas())
+}
+
+// Adds the headers of LSAs, but for their ages.
+fn push_headers(seen: &mut Vec<u8>, lsas: &[Lsa]) -> Result<(), AllocError>
+    ensures { OnOk result (seen.new.items ≡ seen.old.items ++ flat_map ageless lsas.now) }
+{
+    for lsa in lsas {
+        seen.extend_from_slice(ageless(lsa))?;
+    }
+    Ok(())
+}
+
+// The header of an LSA, but for its age.
+fn ageless(lsa: &Lsa) -> &[u8]
+    ensures { result.now ≡ ageless lsa.now }
+{
+    &lsa.view().as_bytes()[AGE_END..HEADER_END]
+}

@@ -1,0 +1,36 @@
+//! What the lines of a script work on.
+
+ghost use Rattle.std.specs.Prelude.{◌≡◌};
+ghost use Rattle.ospf_commands.specs.Simulations.{begun_in};
+
+use crate::losses::Losses;
+use ospf_world::World;
+
+/// A world, and what lines before have asked for or found.
+#[derive(Drop)]
+pub struct Simulation {
+    pub world: World,
+    /// What is lost in rounds from here on, if anything is.
+    pub losses: Option<Losses>,
+    /// Whether what is shown is headed by a line.
+    pub is_labelled: bool,
+    /// Whether the last rounds that were to settle it did, and nothing can have come about since.
+    pub is_settled: bool,
+    /// Whether something was not as it was expected.
+    pub is_unmet: bool,
+}
+
+impl Simulation {
+    /// No line has run.
+    pub fn new(world: World) -> Simulation
+        ensures { result ≡ begun_in world }
+    {
+        Simulation {
+            world,
+            losses: None,
+            is_labelled: false,
+            is_settled: false,
+            is_unmet: false,
+        }
+    }
+}
