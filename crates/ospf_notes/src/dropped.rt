@@ -13,18 +13,16 @@ pub(crate) struct Heard {
     pub(crate) source: Addr,
 }
 
-impl Heard {
-    /// What was dropped in a step, which was that of the packet if one had come in.
-    pub(crate) fn dropped(heard: Option<Heard>, step: &Step) -> Option<DroppedAt> {
-        let (Some(Heard { link, source }), Some(cause)) = (heard, step.dropped) else {
-            return None;
-        };
-        Some(DroppedAt {
-            link,
-            source,
-            cause,
-        })
-    }
+/// What was dropped in a step, which was that of the packet if one had come in.
+pub(crate) fn dropped_in(step: &Step, heard: Option<Heard>) -> Option<DroppedAt> {
+    let (Some(Heard { link, source }), Some(cause)) = (heard, step.dropped) else {
+        return None;
+    };
+    Some(DroppedAt {
+        link,
+        source,
+        cause,
+    })
 }
 
 /// How many packets a router dropped, by link and cause, in this order.

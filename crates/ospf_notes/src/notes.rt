@@ -1,7 +1,7 @@
 //! What is kept and shown of routers while they run: a capture of what they send, their tables from time to time, what they
 //! drop, a line on a terminal, and messages of neighbours whose LSAs a router refuses.
 
-use crate::dropped::{Counts, Heard};
+use crate::dropped::{Counts, Heard, dropped_in};
 use crate::journal::Journal;
 use crate::line::Line;
 use crate::others::{Described, Others};
@@ -138,7 +138,7 @@ impl<R: Wait + Clock + Copy + Drop, F: Write + Drop, T: Write + Drop, O: Write +
     // What is noted of a step of the router.
     fn follow(&mut self, router: &Router, step: &Step) {
         self.tell_others(router);
-        let dropped = Heard::dropped(self.heard.take(), step);
+        let dropped = dropped_in(step, self.heard.take());
         if let (Some(counts), Some(dropped)) = (&mut self.counts, dropped) {
             counts.count(self.teller.router, dropped);
         }
