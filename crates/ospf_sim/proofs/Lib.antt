@@ -3,3 +3,6 @@ pub mod Files
 pub mod Worlds
 pub mod Cuts
 pub mod Shared
+pub mod Pieces
+pub mod Sessions
+pub mod Consoles

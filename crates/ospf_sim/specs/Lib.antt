@@ -3,3 +3,4 @@ pub mod Twins
 pub mod Simulations
 pub mod Begun
 pub mod Stopped
+pub mod Consoles

@@ -43,7 +43,7 @@ pub(crate) fn run_script<O: Write, E: Write, V: Watch>(
 
 // Runs a line. The answer is whether it can be read. Where that fails, no more than a beginning of what it writes was
 // written.
-fn run_line<O: Write, E: Write, V: Watch>(
+pub(crate) fn run_line<O: Write, E: Write, V: Watch>(
     simulation: &mut Simulation,
     line: &Line<'_>,
     out: &mut O,
@@ -138,7 +138,7 @@ fn tell_behind<O: Write, E: Write>(
 }
 
 // Tells that a line cannot be read, and behind that what helps with it.
-fn tell_unreadable<O: Write, E: Write>(
+pub(crate) fn tell_unreadable<O: Write, E: Write>(
     alloc: Global,
     line: &Line<'_>,
     out: &mut O,

@@ -38,7 +38,7 @@ impl Simulated {
     ghost use Rattle.std.specs.Prelude.{◌≡◌, None};
 
     // No line has run, or it is not known what the lines that have run have left.
-    fn without(status: Status) -> Simulated
+    pub(crate) fn without(status: Status) -> Simulated
         ensures status { result.status ≡ status }
         ensures world { result.world ≡ None }
     {
@@ -147,7 +147,7 @@ fn unread_of<'a>(script: &'a NamedFile, files: &'a [NamedFile]) -> Option<&'a Na
 }
 
 // Tells that a file could not be read. Where that fails, a beginning of it was written.
-fn end_unread<E: Write>(
+pub(crate) fn end_unread<E: Write>(
     alloc: Global,
     file: &NamedFile,
     err: &mut E,
@@ -170,7 +170,7 @@ fn end_unread<E: Write>(
 }
 
 // The world of the configurations in files, in which nothing runs; where there is none it is told why.
-fn new_world<E: Write>(
+pub(crate) fn new_world<E: Write>(
     alloc: Global,
     files: &[NamedFile],
     err: &mut E,
@@ -232,7 +232,7 @@ fn tell_twins<E: Write>(
 }
 
 // What a simulation has left whose lines could all be read, or not.
-fn left_of(simulation: Simulation, whole: bool) -> Simulated
+pub(crate) fn left_of(simulation: Simulation, whole: bool) -> Simulated
     ensures left { IsLeft result simulation }
     ensures status { result.status ≡ status_for whole }
 {
@@ -250,7 +250,11 @@ fn left_of(simulation: Simulation, whole: bool) -> Simulated
 }
 
 // Tells a failure last, as far as that can be written.
-fn end_failed<E: Write>(failure: Failure, err: &mut E, streams: &mut FailedStreams) -> Simulated
+pub(crate) fn end_failed<E: Write>(
+    failure: Failure,
+    err: &mut E,
+    streams: &mut FailedStreams,
+) -> Simulated
     ensures status { result.status ≡ failure_status failure }
     ensures world { result.world ≡ None }
     ensures told { IsTold streams.old streams.new

@@ -276,7 +276,7 @@ fn script_arg<'a>(alloc: Global) -> Arg<'a>
 {
     Arg::new(alloc, "script")
         .value_name("SCRIPT")
-        .help("File with the lines of a script")
+        .help("File with the lines of a script, or `-` for standard input")
         .required(true)
 }
 

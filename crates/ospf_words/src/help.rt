@@ -165,6 +165,8 @@ pub(crate) const SIM_HELP: &str = "Lines of a script:
   expect walk R ADDRESS arrived [COST], expect agree, expect settled
                               where it is otherwise, that is printed
   say WORD..                  the words are printed; from # on is a comment
+With `-` as SCRIPT each line of standard input is answered before the next is read,
+and one that is no command ends nothing.
 
 Exit status:
   0  the script has run; lines that were refused are on standard error

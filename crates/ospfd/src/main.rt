@@ -13,7 +13,7 @@ use ospf_inspect::inspect_text;
 use ospf_notes::{Events, Journal, Line, Noted, Notes, Tables};
 use ospf_records::write_records;
 use ospf_run::{Ending, Settings, run_text};
-use ospf_sim::{Simulated, sim_text};
+use ospf_sim::{Console, Simulated, Watch, console_text, sim_text};
 use ospf_table::table_text;
 use ospf_udp::prepare;
 use ospf_words::{CheckJob, Job, JobFault, RunJob, SimJob, job, not_text};
@@ -29,6 +29,12 @@ use std::{env, fs};
 
 // The exit status of a simulation in which something was not as a line expected it.
 const UNMET: u8 = 1;
+
+// The word for standard input, in place of a script's name.
+const STANDARD_INPUT: &str = "-";
+
+// What stands before a line that is typed.
+const PROMPT: &str = "> ";
 
 // The program's words without its own name; `None` where one is not UTF-8.
 fn words_of<R: Runtime + AllocGlobal>(rt: &R) -> io::Result<Option<Vec<String>>> {
@@ -69,13 +75,15 @@ fn run_check<R: Runtime + AllocGlobal, O: Write, E: Write>(
     }
 }
 
-// Runs a simulation over the files of these names, and writes what is wanted of the world that it leaves.
+// Runs a simulation over the files of these names, and writes what is wanted of the world that it leaves. Whether its lines are
+// typed, where they come from standard input, is given.
 fn run_sim<R: Runtime + AllocGlobal + Clock + Copy + Drop, O: Write, E: Write, T: Write + Drop>(
     rt: &R,
     job: SimJob,
     out: &mut O,
     err: &mut E,
     line: Line<T>,
+    is_typed: bool,
 ) -> io::Result<ExitCode> {
     let SimJob {
         script,
@@ -85,7 +93,7 @@ fn run_sim<R: Runtime + AllocGlobal + Clock + Copy + Drop, O: Write, E: Write, T
         log,
         json,
     } = job;
-    let script = read_file(rt, script)?;
+    let script = script_of(rt, script)?;
     let files = read_files(rt, files)?;
     let Some(journal) = open_journal(rt, log.as_deref(), json, err)? else {
         return Ok(ExitCode::from(Status::Stream));
@@ -95,7 +103,10 @@ fn run_sim<R: Runtime + AllocGlobal + Clock + Copy + Drop, O: Write, E: Write, T
         status,
         world,
         is_unmet,
-    } = sim_text(rt.alloc(), &script, &files, out, err, &mut screen);
+    } = match script {
+        Some(script) => sim_text(rt.alloc(), &script, &files, out, err, &mut screen),
+        None => run_console(rt, &files, out, err, &mut screen, is_typed)?,
+    };
     if let Some(name) = log.as_deref() {
         if !screen.is_logged() {
             let _ = tell_unwritten(name, err);
@@ -108,6 +119,35 @@ fn run_sim<R: Runtime + AllocGlobal + Clock + Copy + Drop, O: Write, E: Write, T
         }
     }
     Ok(code_of(status, is_unmet))
+}
+
+// The script in the file of this name; `None` for standard input.
+fn script_of<R: Runtime + AllocGlobal>(rt: &R, name: String) -> io::Result<Option<NamedFile>> {
+    if name.as_str() == STANDARD_INPUT {
+        Ok(None)
+    } else {
+        Ok(Some(read_file(rt, name)?))
+    }
+}
+
+// Answers the lines of standard input, each before it reads the next. Where they are typed, a line feed ends the last prompt.
+fn run_console<R: Runtime + AllocGlobal, O: Write, E: Write, V: Watch>(
+    rt: &R,
+    files: &[NamedFile],
+    out: &mut O,
+    err: &mut E,
+    watch: &mut V,
+    is_typed: bool,
+) -> io::Result<Simulated> {
+    let console = Console {
+        input: BufReader::new(rt.alloc(), rt.reader())?,
+        prompt: if is_typed { PROMPT } else { "" },
+    };
+    let simulated = console_text(rt.alloc(), console, files, out, err, watch);
+    if is_typed && simulated.status == Status::Done {
+        let _ = writeln!(out).and_then(|_| out.flush());
+    }
+    Ok(simulated)
 }
 
 // How a simulation ends, in which something was not as it was expected, or all was.
@@ -359,7 +399,7 @@ fn run<
     E: Write,
     T: Write + Send + Drop + 'static,
     P: Write + Send + Drop + 'static,
-    I: Read + Send + Drop + 'static,
+    I: Read + IsTerminal + Send + Drop + 'static,
 >(rt: &R, err: &mut E, line: Line<T>, console: (P, I)) -> io::Result<ExitCode>
 where
     R::File: Send + 'static,
@@ -381,7 +421,10 @@ where
             inspect_text(alloc, &inspect, input, &mut out, err)
         }
         Ok(Job::Check(check)) => run_check(rt, check, &mut out, err)?,
-        Ok(Job::Sim(sim)) => return run_sim(rt, sim, &mut out, err, line),
+        Ok(Job::Sim(sim)) => {
+            let is_typed = console.1.is_terminal();
+            return run_sim(rt, sim, &mut out, err, line, is_typed);
+        }
         Ok(Job::Run(routers)) => run_routers(rt, routers, &mut out, err, line, console)?,
         Err(fault) => fault.tell(&mut out, err),
     };

@@ -1,0 +1,59 @@
+-- Consoles, and what comes of them.
+use Rattle.std.proofs.Common.{◌≡◌, ◌≢◌, ◌⊎◌, inl, inr, subst, ℕ, List, Option, None, Some, Result, Ok, Err, IfOk, OnOk}
+use Rattle.std.specs.Io.KnownBytes.{Appends}
+use Rattle.ospf_commands.specs.Simulations.{begun_in}
+use Rattle.ospf_commands.specs.Worlds.{WorldValue}
+use Rattle.ospf_commands.specs.declared.simulation.Simulation.{Simulation}
+use Rattle.ospf_files.specs.Files.{unread_line}
+use Rattle.ospf_files.specs.Listed.{AreRead, IsFirstUnread}
+use Rattle.ospf_files.specs.declared.files.NamedFile.{NamedFile}
+use Rattle.ospf_files.specs.declared.status.Failure.{Failure}
+use Rattle.ospf_files.specs.declared.status.Status.TheVariants as status
+use Rattle.ospf_files.specs.declared.streams.FailedStreams.{FailedStreams}
+use Rattle.ospf_script.specs.Words.{Text}
+use Rattle.ospf_sim.specs.Consoles.{IsAllAnswered, IsConsoleCut, IsConsoleStopped, IsConsoled, IsSessionCut, IsUnreadOf, in_session, is_unread}
+use Rattle.ospf_sim.specs.Simulations.{IsLeft, WorldComes}
+use Rattle.ospf_sim.specs.declared.text.Simulated.{Simulated}
+
+-- the first file that could not be read is told
+pub unread_of_told : (files : List NamedFile) (file : NamedFile) (result : Result Simulated Failure) (a b x y : Option (List ℕ))
+    → IsFirstUnread file files → b ≡ a → IfOk result (λ s. s.world ≡ None) → OnOk result (Appends x y (unread_line file))
+    → IfOk result (λ s. s.status ≡ status.Stream → IsUnreadOf files s.world a b x y)
+unread_of_told files file (Err failure) a b x y first same none told = tt
+unread_of_told files file (Ok s) a b x y first same none told = λ _. record { file = file; first = first; told = told; none = none; same_out = same }
+
+-- a console that ends with status Stream, and that no failure ended, ended for a file
+pub console_unread : (input : Option (List ℕ)) (prompt : Text) (files : List NamedFile) (s : Simulated) (failed : FailedStreams) (a b x y : Option (List ℕ))
+    → s.status ≢ status.Memory → (s.status ≡ status.Stream → IsUnreadOf files s.world a b x y)
+    → (s.status ≡ status.Memory) ⊎ (s.status ≡ status.Stream) → IsConsoleStopped input prompt files s.world failed s.status a b x y
+console_unread input prompt files s failed a b x y not told (inl memory) = absurd (not memory)
+console_unread input prompt files s failed a b x y not told (inr stream) = is_unread stream (told stream)
+
+-- all lines are answered, in a world of the configurations
+pub consoled : (found : Option WorldValue) (start : WorldValue) (input : Option (List ℕ)) (prompt : Text) (files : List NamedFile) (s end : Simulation) (simulated : Simulated) (a b x y z : Option (List ℕ))
+    → found ≡ Some start → WorldComes files found x y → AreRead files → s ≡ begun_in start → IsLeft simulated end → IsAllAnswered input prompt s end a b y z
+    → IsConsoled input prompt files simulated a b x z
+consoled None start input prompt files s end simulated a b x y z is comes read begins left all = absurd (cc is)
+consoled (Some w) start input prompt files s end simulated a b x y z is comes read begins left all =
+    let one : w ≡ start = cc is in
+    let world = subst (λ v. WorldComes files (Some v) x y) one comes in
+    record {
+      read = read;
+      start = start;
+      end = end;
+      starts = world.0;
+      left = left;
+      all = subst (λ (old : Option (List ℕ)). IsAllAnswered input prompt (begun_in start) end a b old z) world.1
+          (subst (λ (v : Simulation). IsAllAnswered input prompt v end a b y z) begins all);
+    }
+
+-- a session is cut, in a world of the configurations in files
+pub session_cut : (found : Option WorldValue) (start : WorldValue) (input : Option (List ℕ)) (prompt : Text) (files : List NamedFile) (s : Simulation) (failed : FailedStreams) (a b x y z : Option (List ℕ)) (f : Failure)
+    → found ≡ Some start → WorldComes files found x y → AreRead files → s ≡ begun_in start → IsSessionCut input prompt s failed a b y z f → IsConsoleCut input prompt files failed a b x z f
+session_cut None start input prompt files s failed a b x y z f is comes read begins cut = absurd (cc is)
+session_cut (Some w) start input prompt files s failed a b x y z f is comes read begins cut =
+    let one : w ≡ start = cc is in
+    let world = subst (λ v. WorldComes files (Some v) x y) one comes in
+    in_session start read world.0
+    (subst (λ (old : Option (List ℕ)). IsSessionCut input prompt (begun_in start) failed a b old z f) world.1
+    (subst (λ (v : Simulation). IsSessionCut input prompt v failed a b y z f) begins cut))

@@ -1,0 +1,173 @@
+-- What the lines come to that are given at a console, each answered before the next is read.
+use Rattle.std.specs.Prelude.{◌≡◌, ◌<◌, ℕ, Bool, true, false, List, [], ◌∷◌, ◌++◌, Option, None, IfSome, length, ⊤}
+use Rattle.std.specs.Io.{StopsAt}
+use Rattle.std.specs.Io.BufRead.{ends_with_byte}
+use Rattle.std.specs.Io.KnownBytes.{Appends, Consumes, IsAtEnd}
+use Rattle.ospf_files.specs.Files.{unread_line}
+use Rattle.ospf_files.specs.Listed.{AreRead, IsFirstUnread}
+use Rattle.ospf_files.specs.Status.{failure_line, failure_status}
+use Rattle.ospf_files.specs.Streams.{IsBegun, IsErrorCut, IsOfInput, IsOutputCut, IsTold}
+use Rattle.ospf_files.specs.declared.files.NamedFile.{NamedFile}
+use Rattle.ospf_files.specs.declared.status.Failure.{Failure}
+use Rattle.ospf_files.specs.declared.status.Status.{Status}
+use Rattle.ospf_files.specs.declared.status.Status.TheVariants as status
+use Rattle.ospf_files.specs.declared.streams.FailedStreams.{FailedStreams}
+use Rattle.ospf_script.specs.Commands.{IsUnreadable}
+use Rattle.ospf_script.specs.Lines.{numbered_from}
+use Rattle.ospf_script.specs.Words.{Text}
+use Rattle.ospf_commands.specs.Simulations.{begun_in}
+use Rattle.ospf_commands.specs.Worlds.{WorldValue}
+use Rattle.ospf_commands.specs.declared.simulation.Simulation.{Simulation}
+use Rattle.ospf_sim.specs.Begun.{IsLineCut, IsWorldCut}
+use Rattle.ospf_sim.specs.Scripts.{RunsLine, unreadable_line}
+use Rattle.ospf_sim.specs.Simulations.{IsLeft, IsNoWorld, IsWorldOf}
+use Rattle.ospf_sim.specs.declared.text.Simulated.{Simulated}
+
+-- ---- lines
+
+-- what a line of this number comes to: it is run as in a script, or it cannot be read, changes nothing, and that is told
+pub data AnswersLine (number : ℕ) (line : Text) (w w' : Simulation) (out err : Text) : Type 0 where
+  is_run : RunsLine number line w w' out err → AnswersLine number line w w' out err
+  is_unreadable : IsUnreadable line → w' ≡ w → out ≡ [] → err ≡ unreadable_line number line → AnswersLine number line w w' out err
+
+-- lines with their numbers, one after another, up to the end: the prompt stands before each, and before the end
+pub data AnswersLines (prompt : Text) : List (ℕ × Text) → Simulation → Simulation → Text → Text → Type 0 where
+  at_end : {w : Simulation} → AnswersLines prompt [] w w prompt []
+  one_line : {number : ℕ} {line : Text} {lines : List (ℕ × Text)} {w mid w' : Simulation} {out outs err errs : Text}
+      → AnswersLine number line w mid out err → AnswersLines prompt lines mid w' outs errs
+      → AnswersLines prompt ((number, line) ∷ lines) w w' (prompt ++ out ++ outs) (err ++ errs)
+
+-- what a line comes to is what was written
+pub record IsAnswered (number : ℕ) (line : Text) (w w' : Simulation) (out_old out_new err_old err_new : Option (List ℕ)) : Type 0 where
+  pub out : Text
+  pub err : Text
+  pub answers : AnswersLine number line w w' out err
+  pub out_written : Appends out_old out_new out
+  pub err_written : Appends err_old err_new err
+
+-- what lines come to is what was written
+pub record AreAnswered (prompt : Text) (lines : List (ℕ × Text)) (w w' : Simulation) (out_old out_new err_old err_new : Option (List ℕ)) : Type 0 where
+  pub out : Text
+  pub err : Text
+  pub answers : AnswersLines prompt lines w w' out err
+  pub out_written : Appends out_old out_new out
+  pub err_written : Appends err_old err_new err
+
+-- ---- an input
+
+-- what was read up to a line feed, or to the end of the input; or nothing, at its end
+pub record IsPieceRead (piece : Text) (old new : Option (List ℕ)) : Type 0 where
+  pub some : 0 < length piece
+  pub stops : StopsAt piece 10
+  pub taken : Consumes old new piece
+  pub ends : ends_with_byte 10 piece ≡ false → IfSome old (λ bytes. bytes ≡ piece)
+
+abbrev pub IsPiece : Bool → Text → Option (List ℕ) → Option (List ℕ) → Type 0
+IsPiece true piece old new = IsPieceRead piece old new
+IsPiece false piece old new = IsAtEnd old
+
+-- all lines of a text are answered, which is the whole input where that is known
+pub record IsAllAnswered (input : Option (List ℕ)) (prompt : Text) (w w' : Simulation) (out_old out_new err_old err_new : Option (List ℕ)) : Type 0 where
+  pub text : Text
+  pub whole : IfSome input (λ bytes. bytes ≡ text)
+  pub answered : AreAnswered prompt (numbered_from 1 text) w w' out_old out_new err_old err_new
+
+-- ---- an input that is cut
+
+-- a line is answered, and the prompt behind it is not written whole
+pub record IsPromptCut (prompt : Text) (number : ℕ) (line : Text) (w : Simulation) (failed : FailedStreams) (out_old out_new err_old err_new : Option (List ℕ)) (f : Failure) : Type 0 where
+  pub end : Simulation
+  pub out_then : Option (List ℕ)
+  pub answered : IsAnswered number line w end out_old out_then err_old err_new
+  pub begun : IsBegun out_then out_new prompt
+  pub cut : IsOutputCut failed f
+
+-- a line is cut, or the prompt behind it
+pub data IsTurnCut (prompt : Text) (number : ℕ) (line : Text) (w : Simulation) (failed : FailedStreams) (out_old out_new err_old err_new : Option (List ℕ)) (f : Failure) : Type 0 where
+  in_answer : IsLineCut number line w failed out_old out_new err_old err_new f → IsTurnCut prompt number line w failed out_old out_new err_old err_new f
+  in_prompt : IsPromptCut prompt number line w failed out_old out_new err_old err_new f → IsTurnCut prompt number line w failed out_old out_new err_old err_new f
+
+-- the last of these lines is cut, and those before it are answered
+pub record IsLastCut (prompt : Text) (lines : List (ℕ × Text)) (w : Simulation) (failed : FailedStreams) (out_old out_new err_old err_new : Option (List ℕ)) (f : Failure) : Type 0 where
+  pub before : List (ℕ × Text)
+  pub number : ℕ
+  pub line : Text
+  pub lines_are : lines ≡ before ++ (number, line) ∷ []
+  pub mid : Simulation
+  pub out_then : Option (List ℕ)
+  pub err_then : Option (List ℕ)
+  pub answered : AreAnswered prompt before w mid out_old out_then err_old err_then
+  pub cut : IsTurnCut prompt number line mid failed out_then out_new err_then err_new f
+
+-- the text is a beginning of the input, where that is known
+abbrev pub IsReadOf : Option (List ℕ) → Text → Type 0
+IsReadOf input text = IfSome input (λ bytes. (rest : Text) × (bytes ≡ text ++ rest))
+
+-- the lines of an input are cut: before the first, in the prompt; where the next is not read; or at the last that was read
+pub data IsSessionCut (input : Option (List ℕ)) (prompt : Text) (w : Simulation) (failed : FailedStreams) (out_old out_new err_old err_new : Option (List ℕ)) : Failure → Type 0 where
+  in_first_prompt : {f : Failure} → IsOutputCut failed f → IsBegun out_old out_new prompt → err_new ≡ err_old
+      → IsSessionCut input prompt w failed out_old out_new err_old err_new f
+  in_reading : {f : Failure} (text : Text) (end : Simulation) → IsOfInput f → IsReadOf input text
+      → AreAnswered prompt (numbered_from 1 text) w end out_old out_new err_old err_new
+      → IsSessionCut input prompt w failed out_old out_new err_old err_new f
+  in_line : {f : Failure} (text : Text) → IsReadOf input text
+      → IsLastCut prompt (numbered_from 1 text) w failed out_old out_new err_old err_new f
+      → IsSessionCut input prompt w failed out_old out_new err_old err_new f
+
+-- ---- a console
+
+-- all lines of the input are answered, in a world of the configurations
+pub record IsConsoled (input : Option (List ℕ)) (prompt : Text) (files : List NamedFile) (simulated : Simulated) (out_old out_new err_old err_new : Option (List ℕ)) : Type 0 where
+  pub read : AreRead files
+  pub start : WorldValue
+  pub end : Simulation
+  pub starts : IsWorldOf files start
+  pub left : IsLeft simulated end
+  pub all : IsAllAnswered input prompt (begun_in start) end out_old out_new err_old err_new
+
+-- no line is answered, since there is no world of the configurations, of which it is told why
+pub record IsNoConsole (files : List NamedFile) (simulated : Simulated) (out_old out_new err_old err_new : Option (List ℕ)) : Type 0 where
+  pub read : AreRead files
+  pub no_world : IsNoWorld files err_old err_new
+  pub none : simulated.world ≡ None
+  pub same_out : out_new ≡ out_old
+
+-- what comes of a console, by its status
+abbrev pub ConsoleComes : Status → Option (List ℕ) → Text → List NamedFile → Simulated → Option (List ℕ) → Option (List ℕ) → Option (List ℕ) → Option (List ℕ) → Type 0
+ConsoleComes status.Done input prompt files = IsConsoled input prompt files
+ConsoleComes status.Refused input prompt files = IsNoConsole files
+ConsoleComes _ input prompt files = λ simulated out_old out_new err_old err_new. ⊤
+
+-- the first file that could not be read is told, and no line is answered
+pub record IsUnreadOf (files : List NamedFile) (world : Option WorldValue) (out_old out_new err_old err_new : Option (List ℕ)) : Type 0 where
+  pub file : NamedFile
+  pub first : IsFirstUnread file files
+  pub told : Appends err_old err_new (unread_line file)
+  pub none : world ≡ None
+  pub same_out : out_new ≡ out_old
+
+-- a console is cut: at the first file that could not be read, before there is a world, or in the lines of its input
+pub data IsConsoleCut (input : Option (List ℕ)) (prompt : Text) (files : List NamedFile) (failed : FailedStreams) (out_old out_new err_old err_new : Option (List ℕ)) : Failure → Type 0 where
+  in_unread : {f : Failure} (file : NamedFile) → IsErrorCut failed f → IsFirstUnread file files
+      → IsBegun err_old err_new (unread_line file) → out_new ≡ out_old → IsConsoleCut input prompt files failed out_old out_new err_old err_new f
+  in_world : {f : Failure} → AreRead files → IsWorldCut files failed err_old err_new f → out_new ≡ out_old
+      → IsConsoleCut input prompt files failed out_old out_new err_old err_new f
+  in_session : {f : Failure} (start : WorldValue) → AreRead files → IsWorldOf files start
+      → IsSessionCut input prompt (begun_in start) failed out_old out_new err_old err_new f
+      → IsConsoleCut input prompt files failed out_old out_new err_old err_new f
+
+-- the console was cut by a failure, which was told last, as far as it could be, and of which the status is
+pub record IsConsoleFailed (input : Option (List ℕ)) (prompt : Text) (files : List NamedFile) (failed : FailedStreams) (end : Status) (out_old out_new err_old err_new : Option (List ℕ)) : Type 0 where
+  pub cause : Failure
+  pub failed_then : FailedStreams
+  pub err_then : Option (List ℕ)
+  pub cut : IsConsoleCut input prompt files failed_then out_old out_new err_old err_then cause
+  pub last : IsTold failed_then failed err_then err_new (failure_line cause)
+  pub status_is : end ≡ failure_status cause
+
+-- a file could not be read, or a failure cut the console
+pub data IsConsoleStopped (input : Option (List ℕ)) (prompt : Text) (files : List NamedFile) (world : Option WorldValue) (failed : FailedStreams) (end : Status) (out_old out_new err_old err_new : Option (List ℕ)) : Type 0 where
+  is_unread : end ≡ status.Stream → IsUnreadOf files world out_old out_new err_old err_new
+      → IsConsoleStopped input prompt files world failed end out_old out_new err_old err_new
+  is_failure : world ≡ None → IsConsoleFailed input prompt files failed end out_old out_new err_old err_new
+      → IsConsoleStopped input prompt files world failed end out_old out_new err_old err_new
