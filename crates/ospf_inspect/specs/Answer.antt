@@ -9,11 +9,11 @@ use Rattle.ospf_files.specs.declared.status.Failure.TheVariants as failure
 use Rattle.ospf_files.specs.declared.status.Status.{Status}
 use Rattle.ospf_files.specs.declared.status.Status.TheVariants as status
 use Rattle.ospf_files.specs.declared.streams.FailedStreams.{FailedStreams}
+use Rattle.ospf_records.specs.Graph.{graph_text}
 use Rattle.ospf_table.specs.Line.{Reads, Refuses}
 use Rattle.ospf_table.specs.Output.{IsWarning}
 use Rattle.ospf_table.specs.Refusal.{refusal_line}
 use Rattle.ospf_table.specs.declared.table.EntryFault.{EntryFault}
-use Rattle.ospf_inspect.specs.Graph.{graph_text}
 use Rattle.ospf_inspect.specs.Lines.{AreLines}
 use Rattle.ospf_inspect.specs.Lsas.{SaysOfLsa}
 use Rattle.ospf_inspect.specs.Path.{SaysPath}

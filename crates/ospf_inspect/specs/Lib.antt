@@ -1,5 +1,3 @@
-pub mod Graph
-pub mod GraphLaws
 pub mod Lines
 pub mod Lsas
 pub mod Tables

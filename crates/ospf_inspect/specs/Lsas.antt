@@ -1,5 +1,5 @@
 -- The LSAs of a listing in words (RFC 2328, sections 12.1, 12.4.1 and 12.4.2), and which of their links lead one way alone.
-use Rattle.std.specs.Prelude.{◌≡◌, ◌⊎◌, ℕ, List, [], ◌++◌, Contains, bit_and, codes, count_ones, decimal}
+use Rattle.std.specs.Prelude.{◌≡◌, ◌⊎◌, ℕ, List, [], ◌++◌, Contains, codes, decimal}
 use Rattle.ospf_base.specs.Text.{number_text}
 use Rattle.ospf_base.specs.declared.ids.Instance.{Instance}
 use Rattle.ospf_base.specs.declared.ids.Kind.{Kind}
@@ -16,6 +16,7 @@ use Rattle.ospf_graph.specs.declared.graph.Edge.{Edge}
 use Rattle.ospf_graph.specs.declared.graph.Vertex.{Vertex}
 use Rattle.ospf_graph.specs.declared.graph.Vertex.TheVariants as vertex
 use Rattle.ospf_edges.specs.Given.{StandsFor}
+use Rattle.ospf_records.specs.Graph.{prefix_under}
 use Rattle.ospf_inspect.specs.declared.lsas.NetworkName.{NetworkName}
 use Rattle.ospf_inspect.specs.declared.lsas.Way.{Way}
 use Rattle.ospf_script.specs.Texts.{floor_text, hexadecimal}
@@ -44,10 +45,6 @@ abbrev pub AreJoined : List Advertisement → Vertex → Vertex → Type 0
 AreJoined adverts v w = (cost link_data : ℕ) × IsEdgeBetween adverts v w cost link_data
 
 -- ---- links of a router
-
--- the addresses under a mask: the first of them, a slash and the ones of the mask
-abbrev pub prefix_under : ℕ → ℕ → List ℕ
-prefix_under address mask = number_text (bit_and address mask) ++ codes "/" ++ decimal (count_ones mask)
 
 -- where a link of type 1 or 2 leads, the address that it is from, and its cost
 abbrev pub way_of : Link → Way

@@ -2,19 +2,19 @@
 
 ghost use Rattle.std.specs.Prelude.{◌≡◌, ◌≢◌, ◌⊎◌, List, [], Option, ℕ, IfErr, IfOk, IfSome, string_bytes};
 ghost use Rattle.ospf_files.specs.declared.streams.FailedStreams.{FailedStreams};
+ghost use Rattle.ospf_records.specs.Graph.{graph_text};
 ghost use Rattle.ospf_table.specs.Line.{Reads, Refuses};
 ghost use Rattle.ospf_table.specs.Output.{IsWarning};
 ghost use Rattle.ospf_inspect.specs.Answer.{EndsBy, IsAnswerOf, IsAnswered, IsCutShort, IsEnding, IsFault, IsRefusal, IsRefusalTold, IsSaid, Says, Warns};
-ghost use Rattle.ospf_inspect.specs.Graph.{graph_text};
 ghost use Rattle.ospf_inspect.specs.declared.answer.InspectJob.{InspectJob};
 
-use crate::graph::Graph;
 use crate::lsas::lsas_text;
 use crate::path::path_text;
 use crate::tables::tables_text;
 use ospf_base::{Addr, RouterId};
 use ospf_files::{FailedStreams, Failure, Status};
 use ospf_lsa::Listing;
+use ospf_records::Graph;
 use ospf_table::{EntryFault, TableFault, is_unlisted, read_listing};
 use std::alloc::{AllocError, Global};
 use std::io::{BufRead, Write};

@@ -2,23 +2,15 @@
 //! to an address.
 //!
 //! `inspect_text` is the whole: it reads lines of LSAs, and prints. `lsas_text`, `tables_text` and `path_text` are what it prints of
-//! a listing, and a `Graph` is a listing in the language of Graphviz's `dot` (`specs/Graph`).
+//! a listing, and a drawing is what a `Graph` of `ospf_records` prints.
 #![tactic(auto)]
 
 mod answer;
-mod boxes;
-mod edges;
-mod ends;
-mod graph;
-mod graph_laws;
 mod lsas;
-mod nodes;
 mod path;
 mod tables;
 
 pub use crate::answer::{InspectJob, inspect_text};
-pub use crate::graph::Graph;
-pub use crate::graph_laws::{names_tell_apart, prefixes_are_drawn};
 pub use crate::lsas::lsas_text;
 pub use crate::path::path_text;
 pub use crate::tables::tables_text;

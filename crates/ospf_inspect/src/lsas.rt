@@ -13,11 +13,11 @@ ghost use Rattle.ospf_script.specs.Texts.{hexadecimal};
 ghost use Rattle.ospf_inspect.specs.Lines.{AreLines};
 ghost use Rattle.ospf_inspect.specs.Lsas.{Joins, SaysOfAttached, SaysOfLink, SaysOfLsa, SaysOfNetwork, SaysOfRouter, link_line, member_text, name_of, network_line, one_way, router_line, stub_text, unused, virtual_text, way_of};
 
-use crate::nodes::Under;
 use ospf_base::{Addr, Instance, Kind, RouterId};
 use ospf_edges::edges_at;
 use ospf_graph::{Edge, Vertex, is_same};
 use ospf_lsa::{Attached, Link, LinkKind, Links, Listing, Lsa, LsaView};
+use ospf_records::Under;
 use ospf_script::FloorShown;
 use std::alloc::{AllocError, Global};
 use std::fmt::{self, Display, Formatter, Write};

@@ -3,3 +3,6 @@ pub mod Recorded
 mod CountFacts
 mod CaptureFacts
 mod DrawingFacts
+mod Drawn
+pub mod Ones
+pub mod Names

@@ -1,7 +1,7 @@
 -- The drawing of what a network's first running router lists.
 use Rattle.std.specs.Prelude.{ℕ, Bool, not, is_some, List, [], ◌∷◌, Option, None, Some, filter, map}
 use Rattle.ospf_base.specs.declared.ids.RouterId.{RouterId}
-use Rattle.ospf_inspect.specs.Graph.{graph_text}
+use Rattle.ospf_records.specs.Graph.{graph_text}
 use Rattle.ospf_headline.specs.World.{Running, listing}
 use Rattle.ospf_world.specs.Worlds.{SlotValue}
 

@@ -6,4 +6,6 @@ pub mod Text
 pub mod Counts
 pub mod Captures
 pub mod Stamps
+pub mod Graph
+pub mod GraphLaws
 pub mod Drawings

@@ -1,11 +1,11 @@
 //! Drawings of what routers list.
 
 ghost use Rattle.std.specs.Prelude.{◌≡◌, IfOk, string_bytes};
-ghost use Rattle.ospf_inspect.specs.Graph.{graph_text};
+ghost use Rattle.ospf_records.specs.Graph.{graph_text};
 ghost use Rattle.ospf_records.specs.Drawings.{drawing_of, first_listing, stopped_in};
 
+use crate::graph::Graph;
 use ospf_base::RouterId;
-use ospf_inspect::Graph;
 use ospf_lsa::Listing;
 use ospf_world::{Slot, World};
 use std::alloc::{AllocError, Global};

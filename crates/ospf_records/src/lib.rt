@@ -2,17 +2,24 @@
 //!
 //! `capture` makes a file as Wireshark and tcpdump open it: libpcap's classic format, each packet as an IP packet of
 //! protocol 89 (RFC 791 and RFC 2328, appendix A.1). `write_header` begins one, and `write_datagram` adds a packet.
-//! `drawing` prints a listing, a `Graph` of `ospf_inspect`, in the language of Graphviz's `dot`. `write_records` writes
-//! the files that are wanted. What is captured, and when, stands in `specs/Captures`, how in `specs/Pcap` and `specs/Ip`.
+//! `drawing` prints what a router lists: a `Graph` is a listing in the language of Graphviz's `dot` (`specs/Graph`).
+//! `write_records` writes the files that are wanted. What is captured, and when, stands in `specs/Captures`, how in
+//! `specs/Pcap` and `specs/Ip`.
 #![tactic(auto)]
 
+mod boxes;
 mod capture_laws;
 mod captures;
 mod counts;
 mod drawings;
+mod edges;
+mod ends;
 mod fault;
 mod files;
+mod graph;
+mod graph_laws;
 mod moment;
+mod nodes;
 mod stamps;
 mod write;
 
@@ -21,5 +28,8 @@ pub use crate::captures::capture;
 pub use crate::drawings::drawing;
 pub use crate::fault::CaptureFault;
 pub use crate::files::write_records;
+pub use crate::graph::Graph;
+pub use crate::graph_laws::{names_tell_apart, prefixes_are_drawn};
 pub use crate::moment::Moment;
+pub use crate::nodes::Under;
 pub use crate::write::{write_datagram, write_header};

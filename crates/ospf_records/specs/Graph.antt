@@ -1,0 +1,206 @@
+-- A listing as a drawing in the language of Graphviz: a box for each router and transit network, and a line for each link between them.
+use Rattle.std.specs.Prelude.{ℕ, ◌==◌, ◌&&◌, nat_lt, Bool, true, false, cond, List, [], ◌∷◌, ◌++◌, Option, None, Some, bit_and, codes, count_ones, decimal, filter, find, flat_map, length, reverse, slice_get}
+use Rattle.std.specs.List.{list_any}
+use Rattle.ospf_base.specs.Bytes.{number_at}
+use Rattle.ospf_base.specs.Text.{number_text}
+use Rattle.ospf_base.specs.declared.ids.Kind.{Kind}
+use Rattle.ospf_base.specs.declared.ids.Kind.TheVariants.{Router, Network}
+use Rattle.ospf_base.specs.declared.ids.RouterId.{RouterId}
+use Rattle.ospf_lsa.specs.Lsa.{kind_of, links_of, attached_of, network_mask_of, type_of}
+use Rattle.ospf_lsa.specs.declared.link.Link.{Link}
+use Rattle.ospf_lsa.specs.declared.link.LinkKind.{LinkKind}
+use Rattle.ospf_lsa.specs.declared.link.LinkKind.TheVariants.{PointToPoint, Transit, Stub, Virtual}
+use Rattle.ospf_graph.specs.Advertisements.{is_transit_to}
+
+-- ---- names
+
+-- a router, by its Router ID
+abbrev pub router_node : ℕ → List ℕ
+router_node router = codes "\"" ++ number_text router ++ codes "\""
+
+-- a transit network, by its Link State ID, the address of its Designated Router
+abbrev pub network_node : ℕ → List ℕ
+network_node id = codes "\"network " ++ number_text id ++ codes "\""
+
+-- the addresses under a mask: the first of them, a slash and the ones of the mask
+abbrev pub prefix_under : ℕ → ℕ → List ℕ
+prefix_under address mask = number_text (bit_and address mask) ++ codes "/" ++ decimal (count_ones mask)
+
+-- ---- what the other end tells
+
+-- the router-LSA of a router
+abbrev pub is_lsa_of_router : ℕ → List ℕ → Bool
+is_lsa_of_router router lsa = (type_of lsa == 1) && (number_at 8 4 lsa == router)
+
+-- a network-LSA of a Link State ID
+abbrev pub is_lsa_of_network : ℕ → List ℕ → Bool
+is_lsa_of_network id lsa = (type_of lsa == 2) && (number_at 4 4 lsa == id)
+
+-- the links of an LSA, if there is one
+abbrev pub links_in_some : Option (List ℕ) → List Link
+links_in_some None = []
+links_in_some (Some lsa) = links_of lsa
+
+-- the links of a router; none where its LSA is not listed
+abbrev pub links_by : List (List ℕ) → ℕ → List Link
+links_by lsas router = links_in_some (find (is_lsa_of_router router) lsas)
+
+-- the routers that an LSA names, if there is one
+abbrev pub routers_in_some : Option (List ℕ) → List RouterId
+routers_in_some None = []
+routers_in_some (Some lsa) = attached_of lsa
+
+-- the routers that a network names; none where it has no LSA. Of several LSAs of its Link State ID the last one stands for it, which is
+-- the one of the largest Advertising Router
+abbrev pub attached_to : List (List ℕ) → ℕ → List RouterId
+attached_to lsas id = routers_in_some (find (is_lsa_of_network id) (reverse lsas))
+
+-- a network names a router
+abbrev pub names_router : List (List ℕ) → ℕ → ℕ → Bool
+names_router lsas id router = list_any (λ r. r.0 == router) (attached_to lsas id)
+
+-- a router has a link to a transit network
+abbrev pub links_to_network : List (List ℕ) → ℕ → ℕ → Bool
+links_to_network lsas router id = list_any (is_transit_to id) (links_by lsas router)
+
+-- type 1 of links (RFC 2328, appendix A.4.2)
+abbrev pub is_point_to_point : LinkKind → Bool
+is_point_to_point PointToPoint = true
+is_point_to_point Transit = false
+is_point_to_point Stub = false
+is_point_to_point Virtual = false
+
+-- a link of type 1 to a router
+abbrev pub is_link_to : ℕ → Link → Bool
+is_link_to router link = is_point_to_point link.kind && (link.id == router)
+
+-- those of the links that lead to a router
+abbrev pub links_to : ℕ → List Link → List Link
+links_to router links = filter (is_link_to router) links
+
+-- the other end of a link of type 1 that stands behind these links of its router: the n-th link to a router is one with the n-th link
+-- of that router back
+abbrev pub back_of : List (List ℕ) → ℕ → List Link → Link → Option Link
+back_of lsas router before link = slice_get (links_to router (links_by lsas link.id)) (length (links_to link.id before))
+
+-- ---- boxes
+
+-- what a link adds to the box: `\n` begins a line of a label
+abbrev pub stub_of_kind : Link → LinkKind → List ℕ
+stub_of_kind link Stub = codes "\\n" ++ prefix_under link.id link.link_data ++ codes " cost " ++ decimal link.metric
+stub_of_kind link PointToPoint = []
+stub_of_kind link Transit = []
+stub_of_kind link Virtual = []
+
+-- a stub network in the box of its router, on a line of its own
+abbrev pub stub_text : Link → List ℕ
+stub_text link = stub_of_kind link link.kind
+
+-- all of a router
+abbrev pub stub_texts : List Link → List ℕ
+stub_texts links = flat_map stub_text links
+
+-- a router, with its stub networks
+abbrev pub router_line : ℕ → List Link → List ℕ
+router_line router links =
+    codes "  " ++ router_node router ++ codes " [shape=box, label=\"" ++ number_text router ++ stub_texts links ++ codes "\"];\n"
+
+-- a transit network, by its prefix
+abbrev pub network_line : ℕ → ℕ → List ℕ
+network_line id mask = codes "  " ++ network_node id ++ codes " [shape=box, style=\"filled,rounded\", label=\"" ++ prefix_under id mask ++ codes "\"];\n"
+
+-- a router that does not run
+abbrev pub stopped_line : RouterId → List ℕ
+stopped_line router = codes "  " ++ router_node router.0 ++ codes " [shape=box, fillcolor=lightgrey];\n"
+
+-- ---- lines between boxes
+
+-- a link between routers that both tell, with the cost at each end
+abbrev pub joined_line : ℕ → ℕ → ℕ → ℕ → List ℕ
+joined_line from to cost back =
+    codes "  " ++ router_node from ++ codes " -- " ++ router_node to ++ codes " [taillabel=" ++ decimal cost ++ codes ", headlabel=" ++ decimal back ++ codes "];\n"
+
+-- a link that its router alone tells
+abbrev pub told_line : ℕ → List ℕ → ℕ → List ℕ
+told_line from to cost = codes "  " ++ router_node from ++ codes " -- " ++ to ++ codes " [taillabel=" ++ decimal cost ++ codes ", dir=forward, style=dashed];\n"
+
+-- a router on a network, as both tell, with the cost at the router
+abbrev pub member_line : ℕ → ℕ → ℕ → List ℕ
+member_line router id cost = codes "  " ++ router_node router ++ codes " -- " ++ network_node id ++ codes " [taillabel=" ++ decimal cost ++ codes "];\n"
+
+-- a router that a network alone names
+abbrev pub named_line : ℕ → ℕ → List ℕ
+named_line id router = codes "  " ++ network_node id ++ codes " -- " ++ router_node router ++ codes " [dir=forward, style=dashed];\n"
+
+-- one line for both ends: it stands at the router of the smaller Router ID
+abbrev pub both_line : ℕ → Link → ℕ → List ℕ
+both_line router link back = cond (nat_lt link.id router) [] (joined_line router link.id link.metric back)
+
+-- a link to a router, with the link back, if there is one
+abbrev pub point_line : ℕ → Link → Option Link → List ℕ
+point_line router link None = told_line router (router_node link.id) link.metric
+point_line router link (Some back) = both_line router link back.metric
+
+-- a link to a transit network, which names the router or does not
+abbrev pub transit_line : ℕ → Link → Bool → List ℕ
+transit_line router link true = member_line router link.id link.metric
+transit_line router link false = told_line router (network_node link.id) link.metric
+
+-- the line of a link that stands behind these links of its router, by its type: stub networks stand in the box, and links of type 4 are
+-- not drawn
+abbrev pub line_of_kind : List (List ℕ) → ℕ → List Link → Link → LinkKind → List ℕ
+line_of_kind lsas router before link PointToPoint = point_line router link (back_of lsas router before link)
+line_of_kind lsas router before link Transit = transit_line router link (names_router lsas link.id router)
+line_of_kind lsas router before link Stub = []
+line_of_kind lsas router before link Virtual = []
+
+-- the same by the link
+abbrev pub link_line : List (List ℕ) → ℕ → List Link → Link → List ℕ
+link_line lsas router before link = line_of_kind lsas router before link link.kind
+
+-- the lines of links that stand behind these of their router
+abbrev pub link_lines : List (List ℕ) → ℕ → List Link → List Link → List ℕ
+link_lines lsas router before [] = []
+link_lines lsas router before (link ∷ rest) = link_line lsas router before link ++ link_lines lsas router (before ++ link ∷ []) rest
+
+-- a router that a network names, and that has a link there or has none
+abbrev pub named_unless : ℕ → RouterId → Bool → List ℕ
+named_unless id router true = []
+named_unless id router false = named_line id router.0
+
+-- a router that a network names (appendix A.4.3): its own link has the line, if it has one there
+abbrev pub attached_line : List (List ℕ) → ℕ → RouterId → List ℕ
+attached_line lsas id router = named_unless id router (links_to_network lsas router.0 id)
+
+-- all that it names
+abbrev pub attached_lines : List (List ℕ) → ℕ → List RouterId → List ℕ
+attached_lines lsas id routers = flat_map (attached_line lsas id) routers
+
+-- ---- a listing
+
+-- a router and its links
+abbrev pub router_lines : List (List ℕ) → ℕ → List Link → List ℕ
+router_lines lsas router links = router_line router links ++ link_lines lsas router [] links
+
+-- a network and the routers that it names
+abbrev pub network_lines : List (List ℕ) → ℕ → ℕ → List RouterId → List ℕ
+network_lines lsas id mask routers = network_line id mask ++ attached_lines lsas id routers
+
+-- a router-LSA, drawn by its Advertising Router, and a network-LSA, drawn by its Link State ID
+abbrev pub lines_of_kind : List (List ℕ) → List ℕ → Kind → List ℕ
+lines_of_kind lsas lsa Router = router_lines lsas (number_at 8 4 lsa) (links_of lsa)
+lines_of_kind lsas lsa Network = network_lines lsas (number_at 4 4 lsa) (network_mask_of lsa) (attached_of lsa)
+
+-- the lines of an LSA
+abbrev pub lsa_lines : List (List ℕ) → List ℕ → List ℕ
+lsa_lines lsas lsa = lines_of_kind lsas lsa (kind_of lsa)
+
+-- how all is laid out: boxes that lie apart, over straight lines; what has no line of its own is plain text
+abbrev pub graph_head : List ℕ
+graph_head =
+    codes "graph area {\n  graph [layout=neato, overlap=false, splines=line, sep=\"+30\", outputorder=edgesfirst];\n"
+    ++ codes "  node [shape=plaintext, style=filled, fillcolor=white];\n"
+
+-- the LSAs in their order, and the routers that do not run
+abbrev pub graph_text : List (List ℕ) → List RouterId → List ℕ
+graph_text lsas stopped = graph_head ++ flat_map (lsa_lines lsas) lsas ++ flat_map stopped_line stopped ++ codes "}\n"
