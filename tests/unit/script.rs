@@ -1,10 +1,12 @@
 //! Lines that are read, lines that are not, and what is printed.
 
 use ospf_base::{Addr, Instance, Kind, LsaKey, Prefix, RouterId};
+use ospf_graph::NextHop;
 use ospf_script::{
-    Command, Expected, FloorShown, Hint, LineFault, ListedShown, Many, NeighbourShown, RefusalShown, View,
-    WalkShown, WorldEvent, first_line, lines, words_spell_one_command,
+    Command, Expected, FloorShown, Hint, LineFault, Many, View, Wanted, WorldEvent, first_line, lines,
+    words_spell_one_command,
 };
+use ospf_views::{ListedShown, NeighbourShown, RefusalShown, WalkShown};
 use std::alloc::Global;
 use std::process::Abort;
 use std::test::Fail;
@@ -183,35 +185,78 @@ fn expects(
     spells(rt, alloc, line, &Command::Expect { expected }, printed)
 }
 
+// A route of the first router to a prefix, of cost 12, is expected by these hops.
+fn routes(
+    rt: &impl Abort,
+    alloc: Global,
+    line: &str,
+    prefix: Prefix,
+    hops: &[NextHop],
+    printed: &str,
+) -> Result<(), LineFault> {
+    let hops = Vec::from_slice(alloc, hops)?;
+    let route = wants(Wanted::Route { prefix, cost: 12, hops });
+    expects(rt, alloc, line, route, printed)
+}
+
+// What is expected of the first router.
+fn wants(wanted: Wanted) -> Expected {
+    Expected::Router { router: ONE, wanted }
+}
+
 #[test]
 fn expecting(rt: HostRuntime) -> Result<(), Fail> {
-    let (alloc, router) = (rt.alloc(), ONE);
-    let full = Expected::Full { router, other: TWO };
+    let alloc = rt.alloc();
+    let full = wants(Wanted::Full { other: TWO });
     let line = "expect full 1.1.1.1 2.2.2.2";
     expects(&rt, alloc, line, full, line)?;
-    let alone = Expected::NoNeighbour { router, link: 3 };
+    let alone = || wants(Wanted::NoNeighbour { link: 3 });
     let line = "expect no neighbour 1.1.1.1 3";
-    expects(&rt, alloc, line, alone, line)?;
-    expects(&rt, alloc, "expect no  neighbor 1.1.1.1 3 ", alone, line)?;
+    expects(&rt, alloc, line, alone(), line)?;
+    expects(&rt, alloc, "expect no  neighbor 1.1.1.1 3 ", alone(), line)?;
     let prefix = Prefix {
         address: Addr(0x0a00_0004),
         length: 30,
     };
-    let route = Expected::Route {
-        router,
-        prefix,
-        cost: 12,
-    };
     let line = "expect route 1.1.1.1 10.0.0.4/30 12";
-    expects(&rt, alloc, line, route, line)?;
+    routes(&rt, alloc, line, prefix, &[], line)?;
     let line = "expect no route 1.1.1.1 10.0.0.4/30";
-    expects(&rt, alloc, line, Expected::NoRoute { router, prefix }, line)?;
+    expects(&rt, alloc, line, wants(Wanted::NoRoute { prefix }), line)?;
     let prefix = Prefix {
         address: Addr(0),
         length: 0,
     };
     let line = "expect no route 1.1.1.1 0.0.0.0/0";
-    expects(&rt, alloc, line, Expected::NoRoute { router, prefix }, line)?;
+    expects(&rt, alloc, line, wants(Wanted::NoRoute { prefix }), line)?;
+    Ok(())
+}
+
+#[test]
+fn expecting_hops(rt: HostRuntime) -> Result<(), Fail> {
+    let alloc = rt.alloc();
+    let prefix = Prefix {
+        address: Addr(0x0a00_0004),
+        length: 30,
+    };
+    let attached = NextHop::Attached;
+    let over = NextHop::PointToPoint {
+        local: Addr(0x0a00_0001),
+        router: TWO,
+    };
+    let across = NextHop::Lan {
+        local: Addr(0x0a01_0001),
+        router: TWO,
+        address: Addr(0xffff_ffff),
+    };
+    let line = "expect route 1.1.1.1 10.0.0.4/30 12 attached";
+    routes(&rt, alloc, line, prefix, &[attached], line)?;
+    let (line, printed) = (
+        "expect route 1.1.1.1 10.0.0.4/30 012 10.1.0.1>2.2.2.2@255.255.255.255  10.0.0.1>2.2.2.2 ",
+        "expect route 1.1.1.1 10.0.0.4/30 12 10.1.0.1>2.2.2.2@255.255.255.255 10.0.0.1>2.2.2.2",
+    );
+    routes(&rt, alloc, line, prefix, &[across, over], printed)?;
+    let line = "expect route 1.1.1.1 10.0.0.4/30 12 attached attached";
+    routes(&rt, alloc, line, prefix, &[attached, attached], line)?;
     Ok(())
 }
 
@@ -238,7 +283,7 @@ fn expecting_of_all(rt: HostRuntime) -> Result<(), Fail> {
 }
 
 // Each is refused for one reason.
-const UNREADABLE: [&[u8]; 82] = [
+const UNREADABLE: [&[u8]; 92] = [
     b"cut",
     b"cut all",
     b"cut 10.0.0",
@@ -280,6 +325,16 @@ const UNREADABLE: [&[u8]; 82] = [
     b"expect route 1.1.1.1 10.0.0.5/30 12",
     b"expect route 1.1.1.1 10.0.0.4/33 12",
     b"expect route 1.1.1.1 10.0.0.4 12",
+    b"expect route 1.1.1.1 10.0.0.4/30 12 Attached",
+    b"expect route 1.1.1.1 10.0.0.4/30 12 attached,attached",
+    b"expect route 1.1.1.1 10.0.0.4/30 12 10.0.0.1",
+    b"expect route 1.1.1.1 10.0.0.4/30 12 10.0.0.1>",
+    b"expect route 1.1.1.1 10.0.0.4/30 12 >2.2.2.2",
+    b"expect route 1.1.1.1 10.0.0.4/30 12 10.0.0.1>2.2.2",
+    b"expect route 1.1.1.1 10.0.0.4/30 12 10.0.0.1>2.2.2.2@",
+    b"expect route 1.1.1.1 10.0.0.4/30 12 10.0.0.1>2.2.2.2@10.0.0.2@",
+    b"expect route 1.1.1.1 10.0.0.4/30 12 10.0.0.1>2.2.2.2>3.3.3.3",
+    b"expect route 1.1.1.1 10.0.0.4/30 12 attached 010.0.0.1>2.2.2.2",
     b"expect no route 1.1.1.1 10.0.0.4/",
     b"expect no route 1.1.1.1 10.0.0.4/+30",
     b"nonsense",
@@ -348,7 +403,7 @@ fn hints(rt: HostRuntime) -> Result<(), Fail> {
         (b"loss 101 7", "loss PERCENT NUMBER [ADDRESS]"),
         (
             b"expect fully",
-            "expect full R S, expect no neighbour R LINK, expect route R PREFIX COST, expect no route R PREFIX, expect walk R ADDRESS arrived [COST], expect agree, or expect settled",
+            "expect full R S, expect no neighbour R LINK, expect route R PREFIX COST [HOP..], expect no route R PREFIX, expect walk R ADDRESS arrived [COST], expect agree, or expect settled",
         ),
         (b"tick", "tick R"),
         (b" start  1.1.1.1 ", "start R DD [FLOOR], or start all"),

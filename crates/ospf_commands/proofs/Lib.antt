@@ -8,5 +8,4 @@ pub mod Leading
 pub mod Settling
 pub mod Apart
 pub mod Headed
-pub mod Judging
 pub mod Same

@@ -12,7 +12,8 @@ use Rattle.ospf_router.specs.Routers.{RouterValue}
 use Rattle.ospf_script.specs.Words.{Text}
 use Rattle.ospf_script.specs.declared.expected.Expected.{Expected}
 use Rattle.ospf_script.specs.declared.expected.Expected.TheVariants as expected
-use Rattle.ospf_views.specs.Expectations.{is_met, router_in, unmet_line, unmet_lines}
+use Rattle.ospf_script.specs.declared.expected.Wanted.{Wanted}
+use Rattle.ospf_views.specs.Expectations.{IsMet, unmet_line, unmet_lines}
 use Rattle.ospf_world.specs.declared.walk.Walk.{Walk}
 use Rattle.ospf_commands.specs.Settling.{area_listed}
 use Rattle.ospf_commands.specs.Shown.{walk_line}
@@ -22,14 +23,14 @@ use Rattle.ospf_commands.specs.declared.simulation.Simulation.{Simulation}
 
 -- ---- of a router
 
--- a router that runs is as it is expected to be, and nothing is printed; or it is not, and that is printed with what stands there; or
+-- a router that runs has what is wanted of it, and nothing is printed; or it has not, and that is printed with what stands there; or
 -- it cannot be asked, and it is said why. The last tells whether it is not known to be so
-pub data IsOfRouter (e : Expected) (r : RouterId) (w : WorldValue) (answer : Answer) (text : Text) (unmet : Bool) : Type 0 where
-  is_as_expected : (x : RouterValue) → LendsRouter w r x → is_met e x ≡ true → answer ≡ Ok tt → text ≡ [] → unmet ≡ false
-      → IsOfRouter e r w answer text unmet
-  is_otherwise : (x : RouterValue) → LendsRouter w r x → is_met e x ≡ false → answer ≡ Ok tt → text ≡ unmet_lines e x → unmet ≡ true
-      → IsOfRouter e r w answer text unmet
-  is_not_asked : (f : WorldFault) → IsNotLent w r f → answer ≡ Err f → text ≡ [] → unmet ≡ true → IsOfRouter e r w answer text unmet
+pub data IsOfRouter (r : RouterId) (wanted : Wanted) (w : WorldValue) (answer : Answer) (text : Text) (unmet : Bool) : Type 0 where
+  is_as_expected : (x : RouterValue) → LendsRouter w r x → IsMet wanted x → answer ≡ Ok tt → text ≡ [] → unmet ≡ false
+      → IsOfRouter r wanted w answer text unmet
+  is_otherwise : (x : RouterValue) → LendsRouter w r x → (IsMet wanted x → ⊥) → answer ≡ Ok tt → text ≡ unmet_lines r wanted x
+      → unmet ≡ true → IsOfRouter r wanted w answer text unmet
+  is_not_asked : (f : WorldFault) → IsNotLent w r f → answer ≡ Err f → text ≡ [] → unmet ≡ true → IsOfRouter r wanted w answer text unmet
 
 -- ---- of a walk
 
@@ -119,10 +120,10 @@ IsOfSettling is_settled answer text unmet = (answer ≡ Ok tt) × (text ≡ sett
 
 -- what is expected is judged
 abbrev pub IsJudged : Expected → Simulation → Answer → Text → Bool → Type 0
+IsJudged (expected.Router r wanted) s answer text unmet = IsOfRouter r wanted s.world answer text unmet
 IsJudged (expected.Walk from address cost) s answer text unmet = IsOfWalk (expected.Walk from address cost) from address cost s.world answer text unmet
 IsJudged expected.Agree s answer text unmet = IsOfAll s.world answer text unmet
 IsJudged expected.Settled s answer text unmet = IsOfSettling s.is_settled answer text unmet
-IsJudged e s answer text unmet = (r : RouterId) × (router_in e ≡ Some r) × IsOfRouter e r s.world answer text unmet
 
 -- that something was not as it was expected is known from then on
 abbrev pub Judges : Bool → Simulation → Simulation → Type 0

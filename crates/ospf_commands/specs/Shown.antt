@@ -7,7 +7,7 @@ use Rattle.ospf_base.specs.declared.ids.RouterId.{RouterId}
 use Rattle.ospf_headline.specs.declared.walk.WalkEnd.{WalkEnd}
 use Rattle.ospf_headline.specs.declared.walk.WalkEnd.TheVariants.{Arrived, NoRoute, NotRunning, Turns}
 use Rattle.ospf_router.specs.Routers.{RouterValue}
-use Rattle.ospf_script.specs.Views.{routers_text}
+use Rattle.ospf_views.specs.Texts.{routers_text}
 use Rattle.ospf_script.specs.Words.{Text}
 use Rattle.ospf_script.specs.declared.command.View.{View}
 use Rattle.ospf_views.specs.Shown.{heading, view_lines}

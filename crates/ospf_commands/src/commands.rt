@@ -71,7 +71,7 @@ pub fn run_command<O: Write, V: Watch>(
             simulation.losses = Some(Losses::new(*percent, *number, *network));
             Ok(Ok(()))
         }
-        Command::Expect { expected } => judge(simulation, *expected, out, alloc, streams),
+        Command::Expect { expected } => judge(simulation, expected, out, alloc, streams),
         Command::Label { is_on } => Ok(label(simulation, *is_on)),
     }
 }

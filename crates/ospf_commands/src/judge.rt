@@ -6,7 +6,7 @@ ghost use Rattle.ospf_commands.specs.Printed.{IsPrinted, IsPrintedBegun};
 ghost use Rattle.ospf_commands.specs.Shown.{walk_line};
 ghost use Rattle.ospf_files.specs.Streams.{IsOutputCut};
 ghost use Rattle.ospf_script.specs.declared.expected.Expected.TheVariants as expected;
-ghost use Rattle.ospf_views.specs.Expectations.{router_in, unmet_line};
+ghost use Rattle.ospf_views.specs.Expectations.{unmet_line};
 
 use crate::agreement::apart;
 use crate::show::walk_line;
@@ -14,8 +14,8 @@ use crate::simulation::Simulation;
 use ospf_base::{Addr, RouterId};
 use ospf_files::{FailedStreams, Failure};
 use ospf_headline::WalkEnd;
-use ospf_script::Expected;
-use ospf_views::{is_met, router_in, unmet_line, write_unmet};
+use ospf_script::{Expected, Wanted};
+use ospf_views::{is_met, unmet_line, write_unmet};
 use ospf_world::{Walk, WorldFault};
 use std::alloc::{AllocError, Global};
 use std::fmt::{self, Display, Formatter};
@@ -40,48 +40,45 @@ impl Display for TwoShown {
 // was written.
 pub(crate) fn judge<O: Write>(
     simulation: &mut Simulation,
-    expected: Expected,
+    expected: &Expected,
     out: &mut O,
     alloc: Global,
     streams: &mut FailedStreams,
 ) -> Result<Result<(), WorldFault>, Failure>
-    ensures judged { IfOk result (λ answer. IsPrinted (JudgedSo expected simulation.old
+    ensures judged { IfOk result (λ answer. IsPrinted (JudgedSo expected.now simulation.old
         simulation.new) answer (O.contents out.old) (O.contents out.new)) }
-    ensures begun { OnErr result (IsPrintedBegun (JudgedSo expected simulation.old simulation.new)
+    ensures begun { OnErr result (IsPrintedBegun
+        (JudgedSo expected.now simulation.old simulation.new)
         (O.contents out.old) (O.contents out.new)) }
     ensures cut { IfErr result (IsOutputCut streams.new) }
 {
     match expected {
+        Expected::Router { router, wanted } => {
+            judge_router(simulation, *router, wanted, out, alloc, streams)
+        }
         Expected::Walk {
             from,
             address,
             cost,
-        } => judge_walk(simulation, (from, address), cost, out, alloc, streams),
+        } => judge_walk(simulation, (*from, *address), *cost, out, alloc, streams),
         Expected::Agree => judge_agreement(simulation, out, alloc, streams),
         Expected::Settled => judge_settling(simulation, out, alloc, streams),
-        Expected::Full { router, .. }
-        | Expected::NoNeighbour { router, .. }
-        | Expected::Route { router, .. }
-        | Expected::NoRoute { router, .. } => {
-            judge_router(simulation, expected, router, out, alloc, streams)
-        }
     }
 }
 
 // Of a router.
 fn judge_router<O: Write>(
     simulation: &mut Simulation,
-    expected: Expected,
     router: RouterId,
+    wanted: &Wanted,
     out: &mut O,
     alloc: Global,
     streams: &mut FailedStreams,
 ) -> Result<Result<(), WorldFault>, Failure>
-    requires { router_in expected ≡ Some router }
-    ensures judged { IfOk result (λ answer. IsPrinted (JudgedSo expected simulation.old
-        simulation.new) answer (O.contents out.old) (O.contents out.new)) }
-    ensures begun { OnErr result (IsPrintedBegun (JudgedSo expected simulation.old simulation.new)
-        (O.contents out.old) (O.contents out.new)) }
+    ensures judged { IfOk result (λ answer. IsPrinted (JudgedSo (expected.Router router wanted.now)
+        simulation.old simulation.new) answer (O.contents out.old) (O.contents out.new)) }
+    ensures begun { OnErr result (IsPrintedBegun (JudgedSo (expected.Router router wanted.now)
+        simulation.old simulation.new) (O.contents out.old) (O.contents out.new)) }
     ensures cut { IfErr result (IsOutputCut streams.new) }
 {
     let lent = match simulation.world.router(router) {
@@ -91,11 +88,11 @@ fn judge_router<O: Write>(
             return Ok(Err(fault));
         }
     };
-    if is_met(expected, lent) {
+    if is_met(wanted, lent) {
         return Ok(Ok(()));
     }
     simulation.is_unmet = true;
-    write_unmet(alloc, expected, lent, out, streams)?;
+    write_unmet(alloc, router, wanted, lent, out, streams)?;
     Ok(Ok(()))
 }
 
@@ -131,7 +128,7 @@ fn judge_walk<O: Write>(
         address,
         cost,
     };
-    let lines = unarrived_lines(alloc, expected, &walk)?;
+    let lines = unarrived_lines(alloc, &expected, &walk)?;
     streams.write(out, &lines)?;
     Ok(Ok(()))
 }
@@ -181,7 +178,7 @@ fn judge_settling<O: Write>(
         return Ok(Ok(()));
     }
     simulation.is_unmet = true;
-    let line = unmet_line(alloc, Expected::Settled)?;
+    let line = unmet_line(alloc, &Expected::Settled)?;
     streams.write(out, &line)?;
     Ok(Ok(()))
 }
@@ -212,9 +209,9 @@ fn is_at(wanted: Option<u64>, cost: u128) -> bool
 }
 
 // The lines of a walk that does not arrive so.
-fn unarrived_lines(alloc: Global, expected: Expected, walk: &Walk) -> Result<String, AllocError>
+fn unarrived_lines(alloc: Global, expected: &Expected, walk: &Walk) -> Result<String, AllocError>
     ensures { IfOk result (λ lines. string_bytes lines
-        ≡ unmet_line expected ++ walk_line walk.now) }
+        ≡ unmet_line expected.now ++ walk_line walk.now) }
 {
     let mut lines = unmet_line(alloc, expected)?;
     let line = walk_line(alloc, walk)?;
@@ -227,7 +224,7 @@ fn apart_lines(alloc: Global, two: (RouterId, RouterId)) -> Result<String, Alloc
     ensures { IfOk result (λ lines. string_bytes lines
         ≡ unmet_line expected.Agree ++ apart_line two) }
 {
-    let mut lines = unmet_line(alloc, Expected::Agree)?;
+    let mut lines = unmet_line(alloc, &Expected::Agree)?;
     let line = apart_line(alloc, two)?;
     lines.push_str(&line)?;
     Ok(lines)

@@ -1,6 +1,7 @@
 pub mod Parts
 pub mod Plain
-pub mod Choices
+pub mod Leading
+pub mod Hopping
 pub mod NoEvent
 pub mod Unspelled
 pub mod TextLines

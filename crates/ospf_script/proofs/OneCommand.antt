@@ -5,9 +5,9 @@ use Rattle.ospf_base.specs.declared.ids.Addr.{Addr}
 use Rattle.ospf_base.specs.declared.ids.RouterId.{RouterId}
 use Rattle.ospf_headline.specs.declared.event.WorldEvent.{WorldEvent}
 use Rattle.ospf_headline.specs.declared.event.WorldEvent.TheVariants as event
-use Rattle.ospf_script.specs.Commands.{AreChoices, AreNumbers, AreRounds, BeginsWalk, IsAddressAlone, IsAll, IsCountAlone, IsDelivery, IsLoss, IsRouterAlone, IsRouterAndLink, IsStart, IsSwitch, IsWalk, IsWhy, Takes, TakesEvent, TakesMany, name_of, name_of_event, name_of_many, no_floor}
+use Rattle.ospf_script.specs.Commands.{AreNumbers, AreRounds, BeginsWalk, IsAddressAlone, IsAll, IsCountAlone, IsDelivery, IsLoss, IsRouterAlone, IsRouterAndLink, IsStart, IsSwitch, IsWalk, IsWhy, Takes, TakesEvent, TakesMany, name_of, name_of_event, name_of_many, no_floor}
 use Rattle.ospf_script.specs.Laws.{IsOneCommand, WordsSpellOneCommand}
-use Rattle.ospf_script.specs.Values.{IsDecimal, IsFloor, IsRouter}
+use Rattle.ospf_script.specs.Values.{AreSpelled, IsDecimal, IsFloor, IsRouter}
 use Rattle.ospf_script.specs.Words.{Text}
 use Rattle.ospf_script.specs.declared.command.Command.{Command}
 use Rattle.ospf_script.specs.declared.command.Command.TheVariants as command
@@ -15,22 +15,14 @@ use Rattle.ospf_script.specs.declared.command.Many.{Many}
 use Rattle.ospf_script.specs.declared.command.Many.TheVariants as many
 use Rattle.ospf_script.specs.declared.name.Name.{Name}
 use Rattle.ospf_script.specs.declared.name.Name.TheVariants as names
-use Rattle.ospf_script.proofs.Expecting.{expected_one}
+use Rattle.ospf_script.proofs.Expecting.{expected_one, spelled_one}
 use Rattle.ospf_script.proofs.OneValue.{address_one, decimal_one, floor_one, percent_one, router_one}
 use Rattle.ospf_script.proofs.Unspelled.{IsOfEvents, event_name, many_name, word_is_one}
 
 -- ---- what commands take
 
-choices_one : (ws : List Text) (cs ds : List ℕ) → AreChoices ws cs → AreChoices ws ds → cs ≡ ds
-choices_one [] [] [] h k = refl
-choices_one (w ∷ ws) (c ∷ cs) (d ∷ ds) h k =
-    let first : c ≡ d = decimal_one 32 w c d h.0 k.0 in
-    let others : cs ≡ ds = choices_one ws cs ds h.1 k.1 in
-    cc
-choices_one [] (c ∷ cs) ds h k = absurd h
-choices_one [] [] (d ∷ ds) h k = absurd k
-choices_one (w ∷ ws) [] ds h k = absurd h
-choices_one (w ∷ ws) (c ∷ cs) [] h k = absurd k
+choices_one : (ws : List Text) (cs ds : List ℕ) → AreSpelled (IsDecimal 32) ws cs → AreSpelled (IsDecimal 32) ws ds → cs ≡ ds
+choices_one = spelled_one (IsDecimal 32) (decimal_one 32)
 
 router_alone_one : (ws : List Text) (r s : RouterId) → IsRouterAlone ws r → IsRouterAlone ws s → r ≡ s
 router_alone_one (a ∷ []) r s h k = router_one a r s h k
@@ -107,7 +99,7 @@ ends_one _ r s a b us vs h k = absurd h
 walk_one : (ws : List Text) (r s : RouterId) (a b : Addr) (cs ds : List ℕ) → IsWalk ws r a cs → IsWalk ws s b ds → (r ≡ s) × (a ≡ b) × (cs ≡ ds)
 walk_one ws r s a b cs ds h k =
     let ends = ends_one ws r s a b h.0 k.0 h.1 k.1 in
-    let there : AreChoices k.0 cs = rw ends.2 at h.2 in
+    let there : AreSpelled (IsDecimal 32) k.0 cs = rw ends.2 at h.2 in
     (ends.0, ends.1, choices_one k.0 cs ds there k.2)
 
 -- one word is no Router ID with other words
@@ -209,7 +201,7 @@ takes_one ws (command.Why r m i) (command.Why s n j) e h k =
 takes_one ws (command.Loss p m i) (command.Loss q n j) e h k =
     let all = loss_one ws p q m n i j h k in
     let one = all.0 in let two = all.1 in let three = all.2 in cc
-takes_one ws (command.Expect x) (command.Expect y) e h k = ap command.Expect (expected_one ws x y h k)
+takes_one ws (command.Expect x) (command.Expect y) e h k = expected_one ws x y h k
 takes_one ws (command.Label a) (command.Label b) e h k = ap command.Label (switch_one ws a b h k)
 takes_one ws (command.Event c) d e h k = absurd (subst IsOfEvents e (event_name c))
 takes_one ws (command.Many c) d e h k = absurd (subst IsOfEvents e (many_name c))

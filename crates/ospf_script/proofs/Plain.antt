@@ -1,5 +1,5 @@
 -- What spells a value is ASCII, and so is text.
-use Rattle.std.proofs.Common.{rules, ◌≡◌, ◌<◌, ◌≤◌, ◌^◌, ℕ, List, [], ◌∷◌, codes, length, Option, Some, None, IfNone, arith, subst, sym, inl, inr}
+use Rattle.std.proofs.Common.{rules, ◌≡◌, ◌<◌, ◌≤◌, ◌^◌, ℕ, List, [], ◌∷◌, codes, length, Option, Some, None, IfNone, Result, Ok, Err, IfErr, IsErrAnd, arith, subst, sym, inl, inr}
 use Rattle.std.specs.Char.{digit_value}
 use Rattle.std.specs.Str.{IsAscii, IsUtf8}
 use Rattle.std.specs.Str.Parse.{AllDigits, digits_value}
@@ -18,6 +18,11 @@ use Rattle.ospf_script.specs.declared.name.Name.TheVariants as name
 pub if_none : {A : Type 0} (o : Option A) (P : Type 0) → P → IfNone o P
 if_none None P p = p
 if_none (Some x) P p = tt
+
+-- of an error that is handed on
+pub err_of : {T E : Type 0} (r : Result T E) (f : E) (P : E → Type 0) → IsErrAnd r (λ e. e ≡ f) → P f → IfErr r P
+err_of (Ok x) f P h p = absurd h
+err_of (Err e) f P h p = subst P (sym h) p
 
 -- of nothing that is found
 pub finds_none : {A : Type 0} (o : Option A) (P : A → Type 0) → o ≡ None → ((value : A) → P value → ⊥) → Finds o P

@@ -1,13 +1,13 @@
 -- Which words spell which command.
-use Rattle.std.specs.Prelude.{◌≡◌, ◌⊎◌, ⊤, ℕ, ℤ, List, [], ◌∷◌, ◌++◌, ◌<◌, Bool, true, false, codes, flat_map, length, string_bytes, Option, None, Some}
+use Rattle.std.specs.Prelude.{◌≡◌, ◌⊎◌, ⊤, ℕ, ℤ, List, [], ◌∷◌, ◌++◌, Bool, true, false, codes, flat_map, string_bytes, Option, None, Some}
 use Rattle.std.specs.Int.{w32, cast_signed}
 use Rattle.ospf_base.specs.declared.ids.Addr.{Addr}
 use Rattle.ospf_base.specs.declared.ids.RouterId.{RouterId}
 use Rattle.ospf_headline.specs.declared.event.WorldEvent.{WorldEvent}
 use Rattle.ospf_headline.specs.declared.event.WorldEvent.TheVariants as event
-use Rattle.ospf_script.specs.Expected.{IsExpected}
+use Rattle.ospf_script.specs.Expected.{IsExpected, IsLongRoute}
 use Rattle.ospf_script.specs.Names.{IsWordOf, name_text}
-use Rattle.ospf_script.specs.Values.{IsAddress, IsDecimal, IsFloor, IsPercent, IsRouter}
+use Rattle.ospf_script.specs.Values.{AreManySpelled, AreSpelled, IsAddress, IsDecimal, IsFloor, IsPercent, IsRouter}
 use Rattle.ospf_script.specs.Words.{IsBlank, Text, words}
 use Rattle.ospf_script.specs.declared.command.Command.{Command}
 use Rattle.ospf_script.specs.declared.command.Command.TheVariants as command
@@ -78,31 +78,17 @@ IsStart ws router dd_start floor =
     IsTwo (λ a b. IsRouter a router × IsDecimal 32 b dd_start × (floor ≡ no_floor)) ws
     ⊎ IsThree (λ a b c. IsRouter a router × IsDecimal 32 b dd_start × IsFloor c floor) ws
 
--- each word spells the choice at its place
-abbrev pub AreChoices : List Text → List ℕ → Type 0
-AreChoices [] [] = ⊤
-AreChoices (a ∷ ws) (choice ∷ choices) = IsDecimal 32 a choice × AreChoices ws choices
-AreChoices _ _ = ⊥
-
--- each word spells some choice
-abbrev pub AreSomeChoices : List Text → Type 0
-AreSomeChoices ws = (choices : List ℕ) × AreChoices ws choices
-
--- the words spell choices, one or more
-abbrev pub AreManyChoices : List Text → Type 0
-AreManyChoices ws = (choices : List ℕ) × AreChoices ws choices × (0 < length choices)
-
 -- a Router ID and an address, and then other words
 abbrev pub BeginsWalk : List Text → RouterId → Addr → List Text → Type 0
 BeginsWalk (a ∷ b ∷ ws) from address rest = IsRouter a from × IsAddress b address × (ws ≡ rest)
 BeginsWalk _ from address rest = ⊥
 
 abbrev pub IsWalk : List Text → RouterId → Addr → List ℕ → Type 0
-IsWalk ws from address choices = (rest : List Text) × BeginsWalk ws from address rest × AreChoices rest choices
+IsWalk ws from address choices = (rest : List Text) × BeginsWalk ws from address rest × AreSpelled (IsDecimal 32) rest choices
 
 -- a walk with a choice or more
 abbrev pub IsLongWalk : List Text → Type 0
-IsLongWalk ws = (from : RouterId) × (address : Addr) × (rest : List Text) × BeginsWalk ws from address rest × AreManyChoices rest
+IsLongWalk ws = (from : RouterId) × (address : Addr) × (rest : List Text) × BeginsWalk ws from address rest × AreManySpelled (IsDecimal 32) rest
 
 -- the word `all` alone
 abbrev pub IsAll : List Text → Type 0
@@ -193,12 +179,11 @@ Takes (command.Label is_on) ws = IsSwitch ws is_on
 abbrev pub IsOf : Name → List Text → Command → Type 0
 IsOf name ws c = (name_of c ≡ name) × Takes c ws
 
--- the names of commands whose last word may be left out, but for events, and of what is expected
+-- the names of commands whose last word may be left out, but for events and what is expected
 abbrev pub HasForms : Name → Type 0
 HasForms name.Round = ⊤
 HasForms name.Why = ⊤
 HasForms name.Loss = ⊤
-HasForms name.Expect = ⊤
 HasForms _ = ⊥
 
 -- the words spell the command: its name, and what it takes
@@ -221,6 +206,10 @@ SpellsLongWalk ws = (rest : List Text) × (ws ≡ name_text name.Walk ∷ rest) 
 abbrev pub SpellsText : List Text → Type 0
 SpellsText ws = (rest : List Text) × (ws ≡ name_text name.Say ∷ rest)
 
--- they spell a command that needs room: for the choices of a walk, or for a text
+-- the words spell a route that is expected, with next hops
+abbrev pub SpellsLongRoute : List Text → Type 0
+SpellsLongRoute ws = (rest : List Text) × (ws ≡ name_text name.Expect ∷ rest) × IsLongRoute rest
+
+-- they spell a command that needs room: for the choices of a walk, for a text, or for next hops
 abbrev pub NeedsRoom : List Text → Type 0
-NeedsRoom ws = SpellsLongWalk ws ⊎ SpellsText ws
+NeedsRoom ws = SpellsLongWalk ws ⊎ SpellsText ws ⊎ SpellsLongRoute ws

@@ -37,7 +37,7 @@ form_text name.Say = codes "say WORD.."
 form_text name.Why = codes "why R LINK [NEIGHBOUR]"
 form_text name.Loss = codes "loss PERCENT NUMBER [ADDRESS]"
 form_text name.Expect =
-    codes "expect full R S, expect no neighbour R LINK, expect route R PREFIX COST, expect no route R PREFIX, expect walk R ADDRESS arrived [COST], expect agree, or expect settled"
+    codes "expect full R S, expect no neighbour R LINK, expect route R PREFIX COST [HOP..], expect no route R PREFIX, expect walk R ADDRESS arrived [COST], expect agree, or expect settled"
 form_text name.Label = codes "label on, or label off"
 
 -- behind a first word that is no name, which names there are; else the form of the command

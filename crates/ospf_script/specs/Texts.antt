@@ -1,8 +1,12 @@
 -- Commands as they are printed.
-use Rattle.std.specs.Prelude.{ℕ, ℤ, ◌-◌, List, [], ◌++◌, Option, None, Some, codes, decimal, false, flat_map, true, length, option_map, replicate, string_bytes}
+use Rattle.std.specs.Prelude.{ℕ, ℤ, ◌-◌, List, [], ◌++◌, Option, None, Some, codes, decimal, false, flat_map, true, length, replicate, string_bytes}
 use Rattle.std.specs.Fmt.{digits}
 use Rattle.std.specs.Int.{w32, cast_unsigned}
 use Rattle.ospf_base.specs.Text.{number_text, prefix_text}
+use Rattle.ospf_base.specs.declared.ids.Addr.{Addr}
+use Rattle.ospf_base.specs.declared.ids.RouterId.{RouterId}
+use Rattle.ospf_graph.specs.Text.{hop_text}
+use Rattle.ospf_graph.specs.declared.hop.NextHop.{NextHop}
 use Rattle.ospf_headline.specs.declared.event.WorldEvent.{WorldEvent}
 use Rattle.ospf_headline.specs.declared.event.WorldEvent.TheVariants as event
 use Rattle.ospf_script.specs.Words.{Text}
@@ -13,7 +17,9 @@ use Rattle.ospf_script.specs.declared.command.Many.TheVariants as many
 use Rattle.ospf_script.specs.declared.command.View.{View}
 use Rattle.ospf_script.specs.declared.command.View.TheVariants as view
 use Rattle.ospf_script.specs.declared.expected.Expected.{Expected}
-use Rattle.ospf_script.specs.declared.expected.Expected.TheVariants.{Full, NoNeighbour, Route, NoRoute, Walk, Agree, Settled}
+use Rattle.ospf_script.specs.declared.expected.Expected.TheVariants.{Router, Walk, Agree, Settled}
+use Rattle.ospf_script.specs.declared.expected.Wanted.{Wanted}
+use Rattle.ospf_script.specs.declared.expected.Wanted.TheVariants.{Full, NoNeighbour, Route, NoRoute}
 
 -- hexadecimal digits in lower case, with zeros in front where they are fewer than this
 unfoldable pub hexadecimal : ℕ → ℕ → Text
@@ -27,25 +33,28 @@ floor_text floor = hexadecimal 8 (cast_unsigned w32 floor)
 abbrev pub choices_text : List ℕ → Text
 choices_text choices = flat_map (λ choice. codes " " ++ decimal choice) choices
 
--- a number, where one is given, behind a space
-abbrev pub most_text : Option ℕ → Text
-most_text None = []
-most_text (Some most) = codes " " ++ decimal most
+-- each next hop behind a space
+abbrev pub hops_text : List NextHop → Text
+hops_text hops = flat_map (λ hop. codes " " ++ hop_text hop) hops
 
--- what is printed of a value, where one is given, behind a space
-abbrev pub given_text : {A : Type 0} → (A → Option Text) → Option A → Option Text
-given_text text_of None = Some []
-given_text text_of (Some value) = option_map (λ text. codes " " ++ text) (text_of value)
+-- a value, where one is given, behind a space
+abbrev pub given_text : {A : Type 0} → (A → Text) → Option A → Text
+given_text text_of None = []
+given_text text_of (Some value) = codes " " ++ text_of value
+
+-- what is wanted of a router, with the name of its command
+abbrev pub wanted_text : RouterId → Wanted → Text
+wanted_text router (Full other) = codes "expect full " ++ number_text router.0 ++ codes " " ++ number_text other.0
+wanted_text router (NoNeighbour link) = codes "expect no neighbour " ++ number_text router.0 ++ codes " " ++ decimal link
+wanted_text router (Route prefix cost hops) =
+    codes "expect route " ++ number_text router.0 ++ codes " " ++ prefix_text prefix ++ codes " " ++ decimal cost ++ hops_text hops.items
+wanted_text router (NoRoute prefix) = codes "expect no route " ++ number_text router.0 ++ codes " " ++ prefix_text prefix
 
 -- what is expected, with the name of its command
 abbrev pub expected_text : Expected → Text
-expected_text (Full router other) = codes "expect full " ++ number_text router.0 ++ codes " " ++ number_text other.0
-expected_text (NoNeighbour router link) = codes "expect no neighbour " ++ number_text router.0 ++ codes " " ++ decimal link
-expected_text (Route router prefix cost) =
-    codes "expect route " ++ number_text router.0 ++ codes " " ++ prefix_text prefix ++ codes " " ++ decimal cost
-expected_text (NoRoute router prefix) = codes "expect no route " ++ number_text router.0 ++ codes " " ++ prefix_text prefix
+expected_text (Router router wanted) = wanted_text router wanted
 expected_text (Walk from address cost) =
-    codes "expect walk " ++ number_text from.0 ++ codes " " ++ number_text address.0 ++ codes " arrived" ++ most_text cost
+    codes "expect walk " ++ number_text from.0 ++ codes " " ++ number_text address.0 ++ codes " arrived" ++ given_text decimal cost
 expected_text Agree = codes "expect agree"
 expected_text Settled = codes "expect settled"
 
@@ -75,19 +84,17 @@ view_text view.Floor = codes "floor"
 abbrev pub command_text : Command → Text
 command_text (command.Event event) = event_text event
 command_text (command.Many many) = many_text many
-command_text (command.Round count most) = codes "round " ++ decimal count ++ most_text most
+command_text (command.Round count most) = codes "round " ++ decimal count ++ given_text decimal most
 command_text (command.Random number count) = codes "random " ++ decimal number ++ codes " " ++ decimal count
 command_text (command.Settle most) = codes "settle " ++ decimal most
 command_text (command.Show view router) = view_text view ++ codes " " ++ number_text router.0
 command_text (command.Walk from address choices) =
     codes "walk " ++ number_text from.0 ++ codes " " ++ number_text address.0 ++ choices_text choices.items
 command_text (command.Say text) = codes "say " ++ string_bytes text
-command_text (command.Why router link None) = codes "why " ++ number_text router.0 ++ codes " " ++ decimal link
-command_text (command.Why router link (Some neighbour)) =
-    codes "why " ++ number_text router.0 ++ codes " " ++ decimal link ++ codes " " ++ number_text neighbour.0
-command_text (command.Loss percent number None) = codes "loss " ++ decimal percent ++ codes " " ++ decimal number
-command_text (command.Loss percent number (Some address)) =
-    codes "loss " ++ decimal percent ++ codes " " ++ decimal number ++ codes " " ++ number_text address.0
+command_text (command.Why router link neighbour) =
+    codes "why " ++ number_text router.0 ++ codes " " ++ decimal link ++ given_text (λ (r : RouterId). number_text r.0) neighbour
+command_text (command.Loss percent number network) =
+    codes "loss " ++ decimal percent ++ codes " " ++ decimal number ++ given_text (λ (address : Addr). number_text address.0) network
 command_text (command.Expect expected) = expected_text expected
 command_text (command.Label true) = codes "label on"
 command_text (command.Label false) = codes "label off"

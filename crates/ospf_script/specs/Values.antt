@@ -1,5 +1,5 @@
 -- What a word of a line spells: a number, a floor, a Router ID, an address, a prefix.
-use Rattle.std.specs.Prelude.{◌≡◌, ℕ, ℤ, ◌^◌, ◌<◌, ◌∷◌, ◌++◌, bit_and, length}
+use Rattle.std.specs.Prelude.{◌≡◌, ⊤, ℕ, ℤ, List, [], ◌^◌, ◌<◌, ◌∷◌, ◌++◌, bit_and, length}
 use Rattle.std.specs.Int.{w32, cast_signed}
 use Rattle.std.specs.Net.Grammar.{IsNumber}
 use Rattle.ospf_base.specs.Masks.{mask_of}
@@ -7,6 +7,9 @@ use Rattle.ospf_base.specs.Text.{IsDottedNumber}
 use Rattle.ospf_base.specs.declared.ids.Addr.{Addr}
 use Rattle.ospf_base.specs.declared.ids.RouterId.{RouterId}
 use Rattle.ospf_base.specs.declared.prefix.Prefix.{Prefix}
+use Rattle.ospf_graph.specs.Text.{hop_text}
+use Rattle.ospf_graph.specs.declared.hop.NextHop.{NextHop}
+use Rattle.ospf_graph.specs.declared.hop.NextHop.TheVariants.{Attached, PointToPoint, Lan}
 use Rattle.ospf_script.specs.Words.{Text}
 
 -- decimal digits, one or more, that spell a number of so many bits
@@ -43,3 +46,27 @@ pub record IsPrefix (word : Text) (prefix : Prefix) : Type 0 where
   pub length_spelled : IsNumber 10 digits prefix.length
   pub short : prefix.length < 33
   pub masked : bit_and prefix.address.0 (mask_of prefix.length) ≡ prefix.address.0
+
+-- its addresses and its Router ID are numbers of 32 bits
+abbrev pub FitsHop : NextHop → Type 0
+FitsHop Attached = ⊤
+FitsHop (PointToPoint local router) = (local.0 < 2 ^ 32) × (router.0 < 2 ^ 32)
+FitsHop (Lan local router address) = (local.0 < 2 ^ 32) × (router.0 < 2 ^ 32) × (address.0 < 2 ^ 32)
+
+-- a next hop, as a routing table is printed with it
+abbrev pub IsHop : Text → NextHop → Type 0
+IsHop word hop = (word ≡ hop_text hop) × FitsHop hop
+
+-- each word spells the value at its place
+abbrev pub AreSpelled : {A : Type 0} → (Text → A → Type 0) → List Text → List A → Type 0
+AreSpelled P [] [] = ⊤
+AreSpelled P (a ∷ ws) (x ∷ xs) = P a x × AreSpelled P ws xs
+AreSpelled P _ _ = ⊥
+
+-- each word spells some value
+abbrev pub AreSomeSpelled : {A : Type 0} → (Text → A → Type 0) → List Text → Type 0
+AreSomeSpelled {A} P ws = (xs : List A) × AreSpelled P ws xs
+
+-- the words spell values, one or more
+abbrev pub AreManySpelled : {A : Type 0} → (Text → A → Type 0) → List Text → Type 0
+AreManySpelled {A} P ws = (xs : List A) × AreSpelled P ws xs × (0 < length xs)

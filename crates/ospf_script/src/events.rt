@@ -6,7 +6,8 @@ ghost use Rattle.ospf_script.specs.Words.{Finds, words};
 use crate::command::Many;
 use crate::name::Name;
 use crate::shapes::{address_in, router_and_link_in, router_in};
-use crate::values::{floor_of, number_of, router_of, short_number_of};
+use crate::spelled::Spelled;
+use crate::values::{floor_of, number_of, router_of};
 use crate::words::{is_alone, three_words, two_words};
 use ospf_base::RouterId;
 use ospf_headline::WorldEvent;
@@ -61,14 +62,12 @@ pub(crate) fn many_in(name: Name, text: &[u8]) -> Option<Many>
         Name::Start if is_alone(text, "all") => Some(Many::Start),
         Name::Up if is_alone(text, "all") => Some(Many::Up),
         Name::Down if is_alone(text, "all") => Some(Many::Down),
-        Name::Cut => {
-            let network = address_in(text)?;
-            Some(Many::Cut { network })
-        }
-        Name::Mend => {
-            let network = address_in(text)?;
-            Some(Many::Mend { network })
-        }
+        Name::Cut => Some(Many::Cut {
+            network: address_in(text)?,
+        }),
+        Name::Mend => Some(Many::Mend {
+            network: address_in(text)?,
+        }),
         _ => None,
     }
 }
@@ -78,9 +77,9 @@ fn start_in(text: &[u8]) -> Option<(RouterId, u32, i32)>
     ensures { Finds result (λ found. IsStart (words text.now) found.0 found.1 found.2) }
 {
     if let Some((router, dd_start)) = two_words(text) {
-        return Some((router_of(router)?, short_number_of(dd_start)?, NO_FLOOR));
+        return Some((router_of(router)?, u32::of_word(dd_start)?, NO_FLOOR));
     }
     let (router, dd_start, floor) = three_words(text)?;
     let router = router_of(router)?;
-    Some((router, short_number_of(dd_start)?, floor_of(floor)?))
+    Some((router, u32::of_word(dd_start)?, floor_of(floor)?))
 }

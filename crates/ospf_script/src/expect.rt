@@ -1,17 +1,39 @@
 //! The words behind `expect`.
 
-ghost use Rattle.std.specs.Prelude.{◌∷◌, codes};
-ghost use Rattle.ospf_script.specs.Expected.{IsArrival, IsExpected};
-ghost use Rattle.ospf_script.specs.Words.{Finds, words};
+ghost use Rattle.std.specs.Prelude.{◌≡◌, ◌∷◌, ℕ, List, codes, IfErr, IfNone, IfOk, IfSome};
+ghost use Rattle.ospf_base.specs.declared.ids.RouterId.{RouterId};
+ghost use Rattle.ospf_base.specs.declared.prefix.Prefix.{Prefix};
+ghost use Rattle.ospf_script.specs.Expected.{BeginsRoute, IsArrival, IsExpected, IsLongRoute, IsOfRoute};
+ghost use Rattle.ospf_script.specs.Words.{Finds, Text, words};
+ghost use Rattle.ospf_script.specs.declared.expected.Expected.{Expected};
 
-use crate::expected::Expected;
+use crate::expected::{Expected, Wanted};
+use crate::fault::LineFault;
+use crate::spelled::values_in;
 use crate::values::{number_of, prefix_of, router_of, text_of};
 use crate::walk::ends_in;
 use crate::words::{first_word, is_alone, three_words, two_words};
+use ospf_base::{Prefix, RouterId};
+use std::alloc::Global;
 
-// What the words of a text expect.
-pub(crate) fn expected_in(text: &[u8]) -> Option<Expected>
-    ensures { Finds result (IsExpected (words text.now)) }
+// What the words of a text expect. Memory is told to be missing only where they spell a route with next hops.
+pub(crate) fn expected_in(alloc: Global, text: &[u8]) -> Result<Expected, LineFault>
+    ensures ok { IfOk result (IsExpected (words text.now)) }
+    ensures not_expected { IfErr result (λ e. e ≡ LineFault.NotACommand → (expected : Expected) →
+        IsExpected (words text.now) expected → ⊥) }
+    ensures memory { IfErr result (λ e. e ≡ LineFault.Memory → IsLongRoute (words text.now)) }
+{
+    match first_word(text) {
+        Some((word, rest)) if word == b"route".as_slice() => route_in(alloc, rest),
+        _ => plain_in(text).ok_or(LineFault::NotACommand),
+    }
+}
+
+// What the words of a text expect that is no route of a router.
+fn plain_in(text: &[u8]) -> Option<Expected>
+    ensures some { IfSome result (IsExpected (words text.now)) }
+    ensures none { IfNone result ((expected : Expected) → IsExpected (words text.now) expected →
+        IsOfRoute (words text.now)) }
 {
     if is_alone(text, "agree") {
         return Some(Expected::Agree);
@@ -22,7 +44,6 @@ pub(crate) fn expected_in(text: &[u8]) -> Option<Expected>
     let (word, rest) = first_word(text)?;
     match text_of(word)? {
         "full" => full_in(rest),
-        "route" => route_in(rest),
         "no" => absent_in(rest),
         "walk" => arrival_in(rest),
         _ => None,
@@ -35,19 +56,36 @@ fn full_in(text: &[u8]) -> Option<Expected>
 {
     let (router, other) = two_words(text)?;
     let (router, other) = (router_of(router)?, router_of(other)?);
-    Some(Expected::Full { router, other })
+    let wanted = Wanted::Full { other };
+    Some(Expected::Router { router, wanted })
 }
 
 // What `route` and the words behind it expect.
-fn route_in(text: &[u8]) -> Option<Expected>
-    ensures { Finds result (IsExpected (codes "route" ∷ words text.now)) }
+fn route_in(alloc: Global, text: &[u8]) -> Result<Expected, LineFault>
+    ensures ok { IfOk result (IsExpected (codes "route" ∷ words text.now)) }
+    ensures not_expected { IfErr result (λ e. e ≡ LineFault.NotACommand → (expected : Expected) →
+        IsExpected (codes "route" ∷ words text.now) expected → ⊥) }
+    ensures memory { IfErr result (λ e. e ≡ LineFault.Memory →
+        IsLongRoute (codes "route" ∷ words text.now)) }
 {
-    let (router, prefix, cost) = three_words(text)?;
-    Some(Expected::Route {
-        router: router_of(router)?,
-        prefix: prefix_of(prefix)?,
-        cost: number_of(cost)?,
-    })
+    let (router, prefix, cost, rest) = cost_of_route_in(text).ok_or(LineFault::NotACommand)?;
+    let hops = values_in(alloc, rest)?;
+    let wanted = Wanted::Route { prefix, cost, hops };
+    Ok(Expected::Router { router, wanted })
+}
+
+// A Router ID, a prefix and a cost, and what stands behind them.
+fn cost_of_route_in(text: &[u8]) -> Option<(RouterId, Prefix, u64, &[u8])>
+    ensures some { IfSome result (λ found. BeginsRoute (words text.now) found.0 found.1 found.2
+        (words found.3.now)) }
+    ensures none { IfNone result ((router : RouterId) (prefix : Prefix) (cost : ℕ)
+        (rest : List Text) → BeginsRoute (words text.now) router prefix cost rest → ⊥) }
+{
+    let (router, rest) = first_word(text)?;
+    let (prefix, rest) = first_word(rest)?;
+    let (cost, rest) = first_word(rest)?;
+    let (router, prefix) = (router_of(router)?, prefix_of(prefix)?);
+    Some((router, prefix, number_of(cost)?, rest))
 }
 
 // What `no` and the words behind it expect.
@@ -58,13 +96,15 @@ fn absent_in(text: &[u8]) -> Option<Expected>
     let router = router_of(router)?;
     if word == b"route".as_slice() {
         let prefix = prefix_of(other)?;
-        return Some(Expected::NoRoute { router, prefix });
+        let wanted = Wanted::NoRoute { prefix };
+        return Some(Expected::Router { router, wanted });
     }
     if word != b"neighbour".as_slice() && word != b"neighbor".as_slice() {
         return None;
     }
     let link = number_of(other)? as usize;
-    Some(Expected::NoNeighbour { router, link })
+    let wanted = Wanted::NoNeighbour { link };
+    Some(Expected::Router { router, wanted })
 }
 
 // What `walk` and the words behind it expect.

@@ -1,30 +1,15 @@
 //! What a script may expect.
 
 use ospf_base::{Addr, Prefix, RouterId};
+use ospf_graph::NextHop;
 
-/// What routers are expected to be.
-#[derive(Clone, Copy, Debug, PartialEq, Eq)]
+/// What is expected, of one router or of all.
+#[derive(Debug, PartialEq, Eq, Drop)]
 pub enum Expected {
-    /// `full R S`: the router has the other one as a Full neighbour.
-    Full {
+    /// That a router has what is wanted of it.
+    Router {
         router: RouterId,
-        other: RouterId,
-    },
-    /// `no neighbour R LINK`: the router has no neighbour on the link.
-    NoNeighbour {
-        router: RouterId,
-        link: usize,
-    },
-    /// `route R PREFIX COST`: the router has a route of this cost to the prefix.
-    Route {
-        router: RouterId,
-        prefix: Prefix,
-        cost: u64,
-    },
-    /// `no route R PREFIX`: the router has no route to the prefix.
-    NoRoute {
-        router: RouterId,
-        prefix: Prefix,
+        wanted: Wanted,
     },
     /// `walk R ADDRESS arrived [COST]`: the walk from the router arrives, at this cost where one is given.
     Walk {
@@ -36,4 +21,27 @@ pub enum Expected {
     Agree,
     /// `settled`: the last `settle` ended since nothing changed any more, and nothing has come about since.
     Settled,
+}
+
+/// What is wanted of a router.
+#[derive(Debug, PartialEq, Eq, Drop)]
+pub enum Wanted {
+    /// `full R S`: it has the other one as a Full neighbour.
+    Full {
+        other: RouterId,
+    },
+    /// `no neighbour R LINK`: it has no neighbour on the link.
+    NoNeighbour {
+        link: usize,
+    },
+    /// `route R PREFIX COST [HOP..]`: it has a route of this cost to the prefix; where hops are given, by these and no other.
+    Route {
+        prefix: Prefix,
+        cost: u64,
+        hops: Vec<NextHop>,
+    },
+    /// `no route R PREFIX`: it has no route to the prefix.
+    NoRoute {
+        prefix: Prefix,
+    },
 }

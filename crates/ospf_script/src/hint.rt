@@ -97,7 +97,7 @@ fn form_of(name: Name) -> &'static str
         Name::Why => "why R LINK [NEIGHBOUR]",
         Name::Loss => "loss PERCENT NUMBER [ADDRESS]",
         Name::Expect =>
-            "expect full R S, expect no neighbour R LINK, expect route R PREFIX COST, expect no route R PREFIX, expect walk R ADDRESS arrived [COST], expect agree, or expect settled",
+            "expect full R S, expect no neighbour R LINK, expect route R PREFIX COST [HOP..], expect no route R PREFIX, expect walk R ADDRESS arrived [COST], expect agree, or expect settled",
         Name::Label => "label on, or label off",
     }
 }

@@ -2,6 +2,7 @@
 
 ghost use Rattle.std.specs.Prelude.{◌≡◌, ◌≢◌, ◌⊎◌, IfOk, IfErr, IfSome, IfNone};
 ghost use Rattle.ospf_script.specs.Commands.{HasForms, IsLongWalk, IsOf};
+ghost use Rattle.ospf_script.specs.Expected.{IsLongRoute};
 ghost use Rattle.ospf_script.specs.Words.{words};
 ghost use Rattle.ospf_script.specs.declared.command.Command.{Command};
 ghost use Rattle.ospf_script.specs.declared.name.Name.TheVariants as names;
@@ -29,7 +30,8 @@ impl Command {
     /// first DD sequence number or a choice, at most 100 as a percentage, else of 64; a floor is eight hexadecimal
     /// digits of either case, and 80000000 where it is left out; a prefix is an address, a slash and how many of its bits
     /// count, behind which none is set. The error is `NotACommand` where the words of a line that is not blank spell none.
-    /// `Memory` comes only where there was no room for the choices of a walk, or for a text to be printed.
+    /// `Memory` comes only where there was no room for the choices of a walk, for a text to be printed, or for the next hops
+    /// of a route that is expected.
     pub fn read(alloc: Global, line: &[u8]) -> Result<Option<Command>, LineFault>
         ensures command { IfOk result (λ read. IfSome read (Spells (words line.now))) }
         ensures blank { IfOk result (λ read. IsNone read ↔ IsBlank line.now) }
@@ -53,30 +55,33 @@ fn of_words(alloc: Global, name: Name, text: &[u8]) -> Result<Command, LineFault
     ensures not_a_command { IfErr result (λ e. e ≡ LineFault.NotACommand → (command : Command) →
         IsOf name (words text.now) command → ⊥) }
     ensures memory { IfErr result (λ e. e ≡ LineFault.Memory →
-        ((name ≡ names.Walk) × IsLongWalk (words text.now)) ⊎ (name ≡ names.Say)) }
+        ((name ≡ names.Walk) × IsLongWalk (words text.now)) ⊎ (name ≡ names.Say)
+        ⊎ ((name ≡ names.Expect) × IsLongRoute (words text.now))) }
 {
     match name {
-        Name::Walk => match walk_in(alloc, text) {
-            Ok((from, address, choices)) => Ok(Command::Walk {
+        Name::Walk => {
+            let (from, address, choices) = walk_in(alloc, text)?;
+            Ok(Command::Walk {
                 from,
                 address,
                 choices,
-            }),
-            Err(fault) => Err(fault),
-        },
-        Name::Say => match text_in(alloc, text) {
-            Ok(text) => Ok(Command::Say { text }),
-            Err(fault) => Err(fault),
-        },
+            })
+        }
+        Name::Say => Ok(Command::Say {
+            text: text_in(alloc, text)?,
+        }),
+        Name::Expect => Ok(Command::Expect {
+            expected: expected_in(alloc, text)?,
+        }),
         _ => of_name(name, text).ok_or(LineFault::NotACommand),
     }
 }
 
-// The command of a name that is neither `walk` nor `say`, and of the words behind it.
+// The command of a name that is none of `walk`, `say` and `expect`, and of the words behind it.
 fn of_name(name: Name, text: &[u8]) -> Option<Command>
     ensures some { IfSome result (IsOf name (words text.now)) }
-    ensures none { IfNone result (name ≢ names.Walk → name ≢ names.Say → (command : Command) →
-        IsOf name (words text.now) command → ⊥) }
+    ensures none { IfNone result (name ≢ names.Walk → name ≢ names.Say → name ≢ names.Expect →
+        (command : Command) → IsOf name (words text.now) command → ⊥) }
 {
     if let Some(event) = event_in(name, text) {
         return Some(Command::Event { event });
@@ -89,18 +94,16 @@ fn of_name(name: Name, text: &[u8]) -> Option<Command>
             let (number, count) = numbers_in(text)?;
             Some(Command::Random { number, count })
         }
-        Name::Settle => {
-            let most = number_of(one_word(text)?)?;
-            Some(Command::Settle { most })
-        }
+        Name::Settle => Some(Command::Settle {
+            most: number_of(one_word(text)?)?,
+        }),
         Name::Show(view) => {
             let router = router_in(text)?;
             Some(Command::Show { view, router })
         }
-        Name::Label => {
-            let is_on = switch_in(text)?;
-            Some(Command::Label { is_on })
-        }
+        Name::Label => Some(Command::Label {
+            is_on: switch_in(text)?,
+        }),
         _ => of_forms(name, text),
     }
 }
@@ -131,10 +134,6 @@ fn of_forms(name: Name, text: &[u8]) -> Option<Command>
                 number,
                 network,
             })
-        }
-        Name::Expect => {
-            let expected = expected_in(text)?;
-            Some(Command::Expect { expected })
         }
         _ => None,
     }

@@ -1,14 +1,32 @@
-//! Commands as text.
+//! Commands, and floors, as text.
 
 ghost use Rattle.std.specs.Fmt.{WritesOnOk};
 ghost use Rattle.std.specs.Prelude.{◌≡◌};
-ghost use Rattle.ospf_script.specs.Texts.{choices_text, event_text, many_text, view_text};
+ghost use Rattle.ospf_script.specs.Texts.{choices_text, event_text, hops_text, many_text, view_text};
 
 use crate::command::{Command, Many, View};
-use crate::expected::Expected;
-use crate::views::FloorShown;
+use crate::expected::{Expected, Wanted};
+use ospf_base::RouterId;
+use ospf_graph::NextHop;
 use ospf_headline::WorldEvent;
 use std::fmt::{self, Display, Formatter, Write};
+
+/// A number as a floor is printed: eight hexadecimal digits, in two's complement.
+#[derive(Clone, Copy, Debug, PartialEq, Eq)]
+pub struct FloorShown(pub i32);
+
+/// As `7ffffffe`.
+impl Display for FloorShown {
+    ghost use Rattle.std.specs.Prelude.{Some};
+    ghost use Rattle.ospf_script.specs.Texts.{floor_text};
+
+    ghost output = { λ floor. Some (floor_text floor.0) };
+
+    fn fmt<W: Write>(&self, f: &mut Formatter<W>) -> fmt::Result {
+        let bits = self.0.cast_unsigned();
+        write!(f, "{bits:08x}")
+    }
+}
 
 /// As a line of a script, with the floor of a start, which is read as the same command.
 impl Display for Command {
@@ -60,17 +78,9 @@ impl Display for Expected {
 
     fn fmt<W: Write>(&self, f: &mut Formatter<W>) -> fmt::Result {
         match self {
-            Expected::Full { router, other } => write!(f, "expect full {router} {other}"),
-            Expected::NoNeighbour { router, link } => {
-                write!(f, "expect no neighbour {router} {link}")
-            }
-            Expected::Route {
-                router,
-                prefix,
-                cost,
-            } => write!(f, "expect route {router} {prefix} {cost}"),
-            Expected::NoRoute { router, prefix } => {
-                write!(f, "expect no route {router} {prefix}")
+            Expected::Router { router, wanted } => {
+                let router = *router;
+                write!(f, "{}", WantedShown { router, wanted })
             }
             Expected::Walk {
                 from,
@@ -83,14 +93,43 @@ impl Display for Expected {
     }
 }
 
+/// What is wanted of a router.
+#[derive(Clone, Copy)]
+pub struct WantedShown<'a> {
+    pub router: RouterId,
+    pub wanted: &'a Wanted,
+}
+
+/// As the line of a script that expects it.
+impl Display for WantedShown<'_> {
+    ghost use Rattle.std.specs.Prelude.{Some};
+    ghost use Rattle.ospf_script.specs.Texts.{wanted_text};
+
+    ghost output = { λ shown. Some (wanted_text shown.router shown.wanted.now) };
+
+    fn fmt<W: Write>(&self, f: &mut Formatter<W>) -> fmt::Result {
+        let router = self.router;
+        match self.wanted {
+            Wanted::Full { other } => write!(f, "expect full {router} {other}"),
+            Wanted::NoNeighbour { link } => write!(f, "expect no neighbour {router} {link}"),
+            Wanted::Route { prefix, cost, hops } => {
+                write!(f, "expect route {router} {prefix} {cost}")?;
+                write_hops(f, hops)
+            }
+            Wanted::NoRoute { prefix } => write!(f, "expect no route {router} {prefix}"),
+        }
+    }
+}
+
 // A value behind a space, where one is given.
 #[derive(Clone, Copy)]
 struct Given<D>(Option<D>);
 
 impl<D: Display> Display for Given<D> {
-    ghost use Rattle.ospf_script.specs.Texts.{given_text};
+    ghost use Rattle.std.specs.Prelude.{[], ◌++◌, Some, codes, option_map, unwrap_or};
 
-    ghost output = { λ given. given_text D.output given.0 };
+    ghost output = { λ given. unwrap_or (option_map (λ value. option_map (λ text. codes " " ++ text)
+        (D.output value)) given.0) (Some []) };
 
     fn fmt<W: Write>(&self, f: &mut Formatter<W>) -> fmt::Result {
         match &self.0 {
@@ -145,6 +184,16 @@ fn view_of(view: View) -> &'static str
         View::Table => "table",
         View::Floor => "floor",
     }
+}
+
+// Next hops, each behind a space.
+fn write_hops<W: Write>(f: &mut Formatter<W>, hops: &[NextHop]) -> fmt::Result
+    ensures { WritesOnOk W.Write.write_str_gives f.old result (hops_text hops.now) f.new }
+{
+    for hop in hops {
+        write!(f, " {hop}")?;
+    }
+    Ok(())
 }
 
 // Choices, each behind a space.

@@ -1,11 +1,13 @@
 //! What a word of a line spells.
 
 ghost use Rattle.std.specs.Net.Grammar.{IsNumber};
-ghost use Rattle.std.specs.Prelude.{◌≡◌, ◌≤◌, ◌↔◌, ℤ, IfSome, IfNone, IsTrue, slice_index};
+ghost use Rattle.std.specs.List.{All};
+ghost use Rattle.std.specs.Prelude.{◌≡◌, ◌≢◌, ◌≤◌, ◌↔◌, ◌∷◌, ◌++◌, ℤ, IfSome, IfNone, IsTrue, slice_index};
 ghost use Rattle.std.specs.Str.{IsUtf8};
 ghost use Rattle.ospf_script.specs.Values.{IsAddress, IsDecimal, IsFloor, IsPercent, IsPrefix, IsRouter};
 ghost use Rattle.ospf_script.specs.Words.{Finds};
 
+use crate::places::place_of;
 use ospf_base::{Addr, Prefix, RouterId, mask_of};
 
 // How many digits a floor has, and their radix.
@@ -59,6 +61,17 @@ pub(crate) fn prefix_of(word: &[u8]) -> Option<Prefix>
     Some(Prefix { address, length })
 }
 
+// The parts of a word before and behind the first byte of this value.
+pub(crate) fn parts_at(word: &[u8], byte: u8) -> Option<(&[u8], &[u8])>
+    ensures some { IfSome result (λ parts. (word.now ≡ parts.0.now ++ byte ∷ parts.1.now)
+        × All (λ b. b ≢ byte) parts.0.now) }
+    ensures none { IfNone result (All (λ b. b ≢ byte) word.now) }
+{
+    let (front, rest) = word.split_at(place_of(word, byte));
+    let (_, behind) = rest.split_first()?;
+    Some((front, behind))
+}
+
 // How many of a hundred a word spells.
 pub(crate) fn percent_of(word: &[u8]) -> Option<u8>
     ensures { Finds result (IsPercent word.now) }
@@ -76,15 +89,8 @@ pub(crate) fn number_of(word: &[u8]) -> Option<u64>
     text_of(word)?.parse::<u64>().ok()
 }
 
-// The number of 32 bits that a word spells.
-pub(crate) fn short_number_of(word: &[u8]) -> Option<u32>
-    ensures { Finds result (IsDecimal 32 word.now) }
-{
-    Some(number_up_to(word, u64::from(u32::MAX))? as u32)
-}
-
 // The number that a word spells, up to this one.
-fn number_up_to(word: &[u8], most: u64) -> Option<u64>
+pub(crate) fn number_up_to(word: &[u8], most: u64) -> Option<u64>
     ensures { Finds result (λ n. IsNumber 10 word.now n × (n ≤ most)) }
 {
     let number = number_of(word)?;

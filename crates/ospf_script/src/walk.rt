@@ -1,13 +1,14 @@
 //! The words behind `walk`.
 
-ghost use Rattle.std.specs.Prelude.{◌≡◌, ◌↔◌, ℕ, List, IfOk, IfErr, IfSome, IfNone, IsTrue};
+ghost use Rattle.std.specs.Prelude.{◌≡◌, ℕ, List, IfOk, IfErr, IfSome, IfNone};
 ghost use Rattle.ospf_base.specs.declared.ids.Addr.{Addr};
 ghost use Rattle.ospf_base.specs.declared.ids.RouterId.{RouterId};
-ghost use Rattle.ospf_script.specs.Commands.{AreChoices, AreManyChoices, AreSomeChoices, BeginsWalk, IsLongWalk, IsWalk};
+ghost use Rattle.ospf_script.specs.Commands.{BeginsWalk, IsLongWalk, IsWalk};
 ghost use Rattle.ospf_script.specs.Words.{Text, words};
 
 use crate::fault::LineFault;
-use crate::values::{address_of, router_of, short_number_of};
+use crate::spelled::values_in;
+use crate::values::{address_of, router_of};
 use crate::words::first_word;
 use ospf_base::{Addr, RouterId};
 use std::alloc::Global;
@@ -20,10 +21,8 @@ pub(crate) fn walk_in(alloc: Global, text: &[u8]) -> Result<(RouterId, Addr, Vec
         IsWalk (words text.now) from address choices → ⊥) }
     ensures memory { IfErr result (λ e. e ≡ LineFault.Memory → IsLongWalk (words text.now)) }
 {
-    let Some((from, address, rest)) = ends_in(text) else {
-        return Err(LineFault::NotACommand);
-    };
-    let choices = choices_in(alloc, rest)?;
+    let (from, address, rest) = ends_in(text).ok_or(LineFault::NotACommand)?;
+    let choices = values_in(alloc, rest)?;
     Ok((from, address, choices))
 }
 
@@ -37,42 +36,4 @@ pub(crate) fn ends_in(text: &[u8]) -> Option<(RouterId, Addr, &[u8])>
     let (from, rest) = first_word(text)?;
     let (address, rest) = first_word(rest)?;
     Some((router_of(from)?, address_of(address)?, rest))
-}
-
-// The choices that the words of a text spell. Memory is told to be missing only where each word spells one.
-fn choices_in(alloc: Global, text: &[u8]) -> Result<Vec<u32>, LineFault>
-    ensures ok { IfOk result (λ choices. AreChoices (words text.now) choices.items) }
-    ensures not_choices { IfErr result (λ e. e ≡ LineFault.NotACommand →
-        AreSomeChoices (words text.now) → ⊥) }
-    ensures memory { IfErr result (λ e. e ≡ LineFault.Memory → AreManyChoices (words text.now)) }
-{
-    let mut choices = Vec::new(alloc);
-    let mut rest = text;
-    while let Some((word, behind)) = first_word(rest) {
-        let Some(choice) = short_number_of(word) else {
-            return Err(LineFault::NotACommand);
-        };
-        if choices.push(choice).is_err() {
-            if are_choices(behind) {
-                return Err(LineFault::Memory);
-            }
-            return Err(LineFault::NotACommand);
-        }
-        rest = behind;
-    }
-    Ok(choices)
-}
-
-// Whether each word of a text spells a choice.
-fn are_choices(text: &[u8]) -> bool
-    ensures { IsTrue result ↔ AreSomeChoices (words text.now) }
-{
-    let mut rest = text;
-    while let Some((word, behind)) = first_word(rest) {
-        match short_number_of(word) {
-            Some(_) => rest = behind,
-            None => return false,
-        }
-    }
-    true
 }

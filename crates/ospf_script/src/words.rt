@@ -27,10 +27,7 @@ pub(crate) fn one_word(text: &[u8]) -> Option<&[u8]>
     ensures none { IfNone result ((word : Text) → words text.now ≡ word ∷ [] → ⊥) }
 {
     let (word, rest) = first_word(text)?;
-    match first_word(rest) {
-        Some(_) => None,
-        None => Some(word),
-    }
+    first_word(rest).is_none().then_some(word)
 }
 
 // Whether a text has this word alone.

@@ -8,7 +8,8 @@ ghost use Rattle.ospf_sim.specs.Scripts.{LineComes, ScriptComes, hint_line, not_
 
 use ospf_commands::{Simulation, Watch, run_command};
 use ospf_files::{FailedStreams, Failure};
-use ospf_script::{Command, Hint, Line, LineFault, RefusalShown, lines};
+use ospf_script::{Command, Hint, Line, LineFault, lines};
+use ospf_views::RefusalShown;
 use ospf_world::WorldFault;
 use std::alloc::{AllocError, Global};
 use std::io::Write;

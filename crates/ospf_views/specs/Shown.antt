@@ -9,7 +9,7 @@ use Rattle.ospf_neighbour.specs.declared.machine.NeighbourState.{NeighbourState}
 use Rattle.ospf_neighbour.specs.declared.machine.NeighbourState.TheVariants as state
 use Rattle.ospf_router.specs.Routers.{RouterValue, greatest_in, listing_of, neighbours_on}
 use Rattle.ospf_script.specs.Texts.{floor_text}
-use Rattle.ospf_script.specs.Views.{listed_text}
+use Rattle.ospf_views.specs.Texts.{listed_text}
 use Rattle.ospf_script.specs.Words.{Text}
 use Rattle.ospf_files.specs.Shown.{routes_text}
 use Rattle.ospf_script.specs.declared.command.View.{View}

@@ -15,7 +15,7 @@ use Rattle.ospf_neighbour.specs.declared.machine.NeighbourState.{NeighbourState}
 use Rattle.ospf_neighbour.specs.declared.machine.NeighbourState.TheVariants as state
 use Rattle.ospf_neighbour.specs.declared.neighbour.Exchanging.{Exchanging}
 use Rattle.ospf_neighbour.specs.declared.neighbour.Listed.{Listed}
-use Rattle.ospf_script.specs.Views.{listed_text}
+use Rattle.ospf_views.specs.Texts.{listed_text}
 
 -- ---- a neighbour
 

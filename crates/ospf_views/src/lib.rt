@@ -7,10 +7,12 @@
 
 mod detail;
 mod expectations;
+mod shown;
 mod views;
 mod waits;
 
 pub use crate::detail::{Detail, detail_of};
-pub use crate::expectations::{is_met, router_in, unmet_line, write_unmet};
+pub use crate::expectations::{is_met, unmet_line, write_unmet};
+pub use crate::shown::{ListedShown, NeighbourShown, RefusalShown, WalkShown};
 pub use crate::views::{add_view, heading, write_view};
 pub use crate::waits::{WhyLink, WhyRouter, why};

@@ -5,12 +5,13 @@ ghost use Rattle.std.specs.Io.KnownBytes.{Appends};
 ghost use Rattle.ospf_files.specs.Streams.{IsBegun, IsOutputCut};
 ghost use Rattle.ospf_views.specs.Shown.{floor_line, heading, link_lines, listed_line, listing_lines, neighbour_line, neighbours_lines, state_text, view_lines};
 
+use crate::shown::{ListedShown, NeighbourShown};
 use ospf_base::RouterId;
 use ospf_files::{FailedStreams, Failure, print_routes};
 use ospf_lsa::Lsa;
 use ospf_neighbour::{Neighbour, NeighbourState};
 use ospf_router::Router;
-use ospf_script::{FloorShown, ListedShown, NeighbourShown, View};
+use ospf_script::{FloorShown, View};
 use std::alloc::{AllocError, Global};
 use std::io::Write;
 

@@ -4,6 +4,7 @@ ghost use Rattle.std.specs.Fmt.{WritesOnOk};
 ghost use Rattle.std.specs.Prelude.{◌≡◌, IfOk, flat_map, option_map, string_bytes, take};
 ghost use Rattle.ospf_views.specs.Waits.{asked_text, acknowledgement_waits, acknowledgements_line, alone_waits, exchange_waits, full_waits, interface_line, neighbour_why, neighbours_why, request_line, request_waits, requested_text, requests_line, retransmission_line, stands_line, state_waits, two_way_waits, type_text, why_of, why_text};
 
+use crate::shown::ListedShown;
 use ospf_area::Link;
 use ospf_base::RouterId;
 use ospf_iface::{Iface, IfaceState};
@@ -11,7 +12,6 @@ use ospf_journal::iface_text;
 use ospf_lsa::LsaHeader;
 use ospf_neighbour::{Exchanging, Listed, Neighbour, NeighbourState};
 use ospf_router::Router;
-use ospf_script::ListedShown;
 use std::alloc::{AllocError, Global};
 use std::fmt::{self, Display, Formatter, Write};
 

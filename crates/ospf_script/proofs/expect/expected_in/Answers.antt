@@ -1,24 +1,11 @@
-use Rattle.std.proofs.Common.{◌∙◌}
-use Rattle.std.proofs.lemmas.Bool.{iff_false}
-use Rattle.ospf_script.proofs.Expecting.{only_known, only_text}
-use Rattle.ospf_script.proofs.Plain.{finds_none}
+use Rattle.std.proofs.Common.{◌≡◌, ◌∷◌, ◌∙◌, IfErr, ap, codes, rules, subst, sym}
+use Rattle.ospf_script.specs.Expected.{IsLongRoute}
+use Rattle.ospf_script.specs.Words.{Text, words}
+use Rattle.ospf_script.specs.declared.fault.LineFault.TheVariants.{Memory}
 use Rattle.ospf_script.proofs.expect.expected_in.Goals as goal
 
-pub returns-in_err-text_of : goal.returns-in_err-text_of
-returns-in_err-text_of c =
-    let first = rw c.in_ok-word.was at c.first_word.ensures.word in
-    let agree = iff_false c.is_alone.ensures c.if-is_alone.false in
-    let settled = iff_false c.is_alone-2.ensures c.if-is_alone-2.false in
-    let no_text = rw c.in_err-text_of.was at c.text_of.ensures.none in
-    finds_none _ _ c.from_residual-in_err-text_of.ensures
-    (rw first (only_text _ _ (λ e. agree (first ∙ e)) (λ e. settled (first ∙ e)) no_text))
-
-pub returns-in_default : goal.returns-in_default
-returns-in_default c =
-    let first = rw c.in_ok-word.was at c.first_word.ensures.word in
-    let agree = iff_false c.is_alone.ensures c.if-is_alone.false in
-    let settled = iff_false c.is_alone-2.ensures c.if-is_alone-2.false in
-    let text = rw c.in_ok-text_of.was at c.text_of.ensures.some in
-    rw first
-    (only_known _ _ (λ e. agree (first ∙ e)) (λ e. settled (first ∙ e)) (λ e. c.in_default.not-full (text ∙ e)) (λ e. c.in_default.not-route (text ∙ e))
-    (λ e. c.in_default.not-no (text ∙ e)) (λ e. c.in_default.not-walk (text ∙ e)))
+pub returns-in-Some-clause-memory : goal.returns-in-Some-clause-memory
+returns-in-Some-clause-memory c =
+    let route : c.in-Some.word.now ≡ codes "route" = search rules in
+    subst (λ ws. IfErr c.route_in.result (λ e. e ≡ Memory → IsLongRoute ws))
+    (ap (λ (w : Text). w ∷ words c.in-Some.rest.now) (sym route) ∙ sym c.in-Some.ensures.word) c.route_in.ensures.memory
