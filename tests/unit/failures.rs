@@ -10,6 +10,7 @@ use ospf_whatif::{Failure, find_failure, single_failures};
 use std::alloc::Global;
 use std::process::{Abort, ExitCode};
 use std::test::Fail;
+use std::thread::Threads;
 
 // The mask of a link's subnet.
 const SUBNET: u32 = 0xffff_fffc;
@@ -154,7 +155,7 @@ impl<'a> Case<'a> {
     }
 }
 
-fn expect(rt: &impl Abort, alloc: Global, case: &Case<'_>) -> Result<(), Fail> {
+fn expect(rt: &(impl Abort + Threads + Sync), alloc: Global, case: &Case<'_>) -> Result<(), Fail> {
     let job = FailuresJob::Root {
         root: case.root,
         each: case.each,
@@ -165,13 +166,13 @@ fn expect(rt: &impl Abort, alloc: Global, case: &Case<'_>) -> Result<(), Fail> {
 
 // What is wanted of another job than that of the case.
 fn expect_of(
-    rt: &impl Abort,
+    rt: &(impl Abort + Threads + Sync),
     alloc: Global,
     job: &FailuresJob,
     case: &Case<'_>,
 ) -> Result<(), Fail> {
     let (mut out, mut err) = (Vec::new(alloc), Vec::new(alloc));
-    let status = failures_text(alloc, job, case.input.as_bytes(), &mut out, &mut err);
+    let status = failures_text(alloc, rt, job, case.input.as_bytes(), &mut out, &mut err);
     assert_eq!(rt; str::from_utf8(&out)?, case.out);
     assert_eq!(rt; str::from_utf8(&err)?, case.err);
     assert_eq!(rt; status, case.status);
@@ -379,7 +380,7 @@ fn router_of_too_many_links_is_refused(rt: HostRuntime) -> Result<(), Fail> {
 
 // What is wanted over all routers.
 fn expect_all(
-    rt: &impl Abort,
+    rt: &(impl Abort + Threads + Sync),
     alloc: Global,
     lsas: &[Lsa],
     job: FailuresJob,
@@ -443,7 +444,7 @@ fn failures_over_all_routers(rt: HostRuntime) -> Result<(), Fail> {
 
 // What is wanted of the table of the first router without parts of the ring.
 fn expect_without(
-    rt: &impl Abort,
+    rt: &(impl Abort + Threads + Sync),
     alloc: Global,
     names: &[&str],
     status: FailuresStatus,
@@ -502,7 +503,7 @@ fn failed_stream_is_told(rt: HostRuntime) -> Result<(), Fail> {
     };
     let mut err = Vec::new(alloc);
     let mut out = Failing { left: 0 };
-    let status = failures_text(alloc, &job, input.as_bytes(), &mut out, &mut err);
+    let status = failures_text(alloc, &rt, &job, input.as_bytes(), &mut out, &mut err);
     assert_eq!(rt; status, FailuresStatus::Ended(Status::Stream));
     assert_eq!(rt; str::from_utf8(&err)?, "standard output: not written\n");
     Ok(())

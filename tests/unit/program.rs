@@ -13,6 +13,7 @@ use std::alloc::{AllocError, Global};
 use std::io::{self, BufReader, BufWriter, ErrorKind, Read, Write};
 use std::sync::Wait;
 use std::test::Fail;
+use std::thread::Threads;
 
 // Words, the input, and what is to come of them.
 struct Case {
@@ -337,7 +338,7 @@ impl Watch for Nobody {
 }
 
 // Does what words say, where no file can be read.
-fn status_of<R: Wait, O: Write, E: Write>(
+fn status_of<R: Threads + Wait + Sync, O: Write, E: Write>(
     rt: &R,
     alloc: Global,
     words: &str,
@@ -349,7 +350,7 @@ fn status_of<R: Wait, O: Write, E: Write>(
     let status = match job(alloc, &words) {
         Ok(Job::Table(table)) => table_text(alloc, rt, &table, input, out, err),
         Ok(Job::Failures(failures)) => {
-            return Ok(failures_text(alloc, &failures, input, out, err).code());
+            return Ok(failures_text(alloc, rt, &failures, input, out, err).code());
         }
         Ok(Job::Inspect(inspect)) => inspect_text(alloc, &inspect, input, out, err),
         Ok(Job::Check(check)) => {
@@ -376,7 +377,7 @@ fn status_of<R: Wait, O: Write, E: Write>(
     Ok(status.code())
 }
 
-fn outcome_of<R: Wait>(
+fn outcome_of<R: Threads + Wait + Sync>(
     rt: &R,
     alloc: Global,
     words: &str,
@@ -618,7 +619,7 @@ impl Read for Broken {
 }
 
 // What is told of standard output that takes so many writes, and holds what it is given until it is flushed.
-fn told_of_output<R: Wait>(
+fn told_of_output<R: Threads + Wait + Sync>(
     rt: &R,
     alloc: Global,
     left: usize,
@@ -691,7 +692,7 @@ fn tells_each_failure(rt: HostRuntime) -> Result<(), Fail> {
 }
 
 // The status where both writers take so many writes.
-fn status_after<R: Wait>(
+fn status_after<R: Threads + Wait + Sync>(
     rt: &R,
     alloc: Global,
     left: usize,

@@ -1,5 +1,6 @@
 pub mod ReportLemmas
 pub mod AnswerLemmas
+pub mod FoundLemmas
 pub mod LargeLemmas
 pub mod OverallLemmas
 pub mod WithoutLemmas

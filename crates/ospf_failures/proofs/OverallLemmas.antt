@@ -1,8 +1,8 @@
 -- What a failure changes in the tables of all routers, one after the other.
 use Rattle.std.proofs.Common.{◌≡◌, ◌∙◌, ◌+◌, ◌<◌, ◌≤◌, ◌^◌, ◌↔◌, ℕ, Bool, true, false, cond, not, List, [], ◌∷◌, ◌++◌, All, map, filter, flat_map, take, length, get_or, ap, sym, refl, subst, inl, inr, arith, string_bytes}
-use Rattle.std.specs.List.{AllPairs, Contains}
+use Rattle.std.specs.List.{AllPairs, AllWithin, Contains, HoldsAt}
 use Rattle.std.specs.List.Sorted.{IsSorted}
-use Rattle.std.specs.Prelude.{IsPermutation, count_by, if◌then◌else◌}
+use Rattle.std.specs.Prelude.{IsPermutation, IsTrue, MatchBool, count_by, if◌then◌else◌}
 use Rattle.std.proofs.lemmas.List.{append-nil, map_push, take_more}
 use Rattle.std.proofs.lemmas.List.Concat.{flat_map-append}
 use Rattle.std.proofs.lemmas.List.Elements.{All-contains, All-push, Contains-get_or, filter-append}
@@ -10,7 +10,7 @@ use Rattle.std.proofs.lemmas.List.Kept.{AllPairs-cons, AllPairs-filter}
 use Rattle.std.proofs.lemmas.List.Sums.{count_by-le-length, sum_by_push}
 use Rattle.ospf_failures.specs.Lines.{is_cut, is_dearer, is_gone, is_moved, totals_of}
 use Rattle.ospf_base.specs.declared.ids.RouterId.{RouterId}
-use Rattle.ospf_graph.proofs.ListLemmas.{member_cases, member_head, member_later, more_members}
+use Rattle.ospf_graph.proofs.ListLemmas.{member_cases, member_head, member_later}
 use Rattle.ospf_graph.proofs.TableLemmas.{head_before, pairs_tail}
 use Rattle.ospf_graph.specs.Advertisements.{Advertisement, IsListed}
 use Rattle.ospf_graph.specs.Routes.{IsTable}
@@ -262,10 +262,9 @@ roots_on fs i x lt is =
     ap roots_in (take_more fs i x lt) ∙ flat_map-append failing_router (take i fs) (get_or fs i x ∷ [])
     ∙ ap (λ (l : List RouterId). roots_in (take i fs) ++ l) (append-nil (failing_router (get_or fs i x))) ∙ ap (λ (f : Failure). roots_in (take i fs) ++ failing_router f) (sym is)
 
--- one failure more that cuts nothing off
-pub cuts_more : (xs : List Overall) (i : ℕ) (x : Overall) → i < length xs → x ≡ get_or xs i x → (CutsSomewhere (take i xs) → ⊥) → (0 < x.sums.cut → ⊥)
-    → CutsSomewhere (take (i + 1) xs) → ⊥
-cuts_more xs i x lt is none spares h = elim ((more_members xs i x lt h.1).0 (h.0, h.2, h.3)) [
-  | inl old ↦ none (old.0, h.1, old.1, old.2, h.4)
-  | inr here ↦ spares (subst (λ (o : Overall). 0 < o.sums.cut) (sym (is ∙ here)) h.4)
-]
+-- whether some failure cuts, by whether one was found that does
+pub cuts_by : (r : Bool) (xs : List Overall) → MatchBool r ((k : ℕ) × (k < length xs) × HoldsAt (λ o. 0 < o.sums.cut) xs k) (AllWithin (λ o. o.sums.cut ≤ 0) xs 0 (length xs))
+    → IsTrue r ↔ CutsSomewhere xs
+cuts_by true [] h = absurd (let low = h.1 in omega arith)
+cuts_by true (x ∷ xs) h = let here = Contains-get_or (x ∷ xs) h.0 x h.1 in ((λ yes. (here.0, get_or (x ∷ xs) h.0 x, here.1, here.2, h.2 x)), (λ some. refl))
+cuts_by false xs h = ((λ no. cc), (λ some. absurd (let none = subst (λ (o : Overall). o.sums.cut ≤ 0) some.3 (h some.0 some.1 (omega arith) some.2) in omega (arith, none, some.4))))

@@ -1,18 +1,22 @@
 -- What each failure of an area changes in the tables of all its routers.
-use Rattle.std.specs.Prelude.{◌≡◌, ◌↔◌, ◌<◌, ◌+◌, ◌*◌, ◌^◌, ℕ, Bool, true, false, List, [], ◌∷◌, ◌++◌, ◌⊎◌, All, AllPairs, Any, Contains, IsPermutation, codes, count_by, decimal, filter, flat_map, if◌then◌else◌, length, map, not, string_bytes, sum_by}
+use Rattle.std.specs.Prelude.{◌≡◌, ◌↔◌, ◌<◌, ◌+◌, ◌*◌, ◌^◌, ℕ, Bool, true, false, List, [], ◌∷◌, ◌++◌, ◌⊎◌, All, AllPairs, Any, Contains, Err, IfOk, IsPermutation, codes, count_by, decimal, filter, flat_map, if◌then◌else◌, length, map, not, string_bytes, sum_by}
 use Rattle.std.specs.Cmp.Lexicographic.{slice_cmp}
 use Rattle.std.specs.List.Sorted.{IsSorted}
 use Rattle.std.specs.Ordering.{nat_cmp, ordering_then}
 use Rattle.std.specs.declared.cmp.Ordering.{Ordering}
 use Rattle.std.specs.declared.cmp.Reverse.{Reverse}
+use Rattle.std.specs.declared.result.Result.{Result}
 use Rattle.ospf_base.specs.Text.{number_text}
 use Rattle.ospf_base.specs.declared.ids.RouterId.{RouterId}
 use Rattle.ospf_graph.specs.Advertisements.{Advertisement, IsListed}
 use Rattle.ospf_graph.specs.Routes.{IsTable}
 use Rattle.ospf_graph.specs.declared.route.Route.{Route}
 use Rattle.ospf_whatif.specs.Effect.{IsEffect, IsEffectIn}
+use Rattle.ospf_whatif.specs.Failure.{HasLarge, without}
 use Rattle.ospf_whatif.specs.Name.{failure_text}
 use Rattle.ospf_whatif.specs.Single.{IsFailure, IsFailureBefore}
+use Rattle.ospf_whatif.specs.declared.area.WithoutFault.{WithoutFault}
+use Rattle.ospf_whatif.specs.declared.area.WithoutFault.TheVariants.{Links}
 use Rattle.ospf_whatif.specs.declared.effect.RouteChange.{RouteChange}
 use Rattle.ospf_whatif.specs.declared.failure.Failure.{Failure}
 use Rattle.ospf_whatif.specs.declared.failure.Failure.TheVariants.{Router}
@@ -132,6 +136,12 @@ pub record IsSoFar (left : List Advertisement) (befores : List Before) (each : B
   pub seen : All (IsSightFrom left befores) sights
   pub sums_are : o.sums ≡ sums_of sights
   pub lines_are : string_bytes o.lines ≡ (if each then flat_map (sight_lines o.failure) sights else [])
+
+-- what is found of one failure: what is told of all routers, or why not
+pub record IsFound (adverts : List Advertisement) (befores : List Before) (each : Bool) (failure : Failure) (found : Result Overall WithoutFault) : Type 0 where
+  pub same : IfOk found (λ o. o.failure ≡ failure)
+  pub large : found ≡ Err Links → HasLarge adverts
+  pub seen : IfOk found (IsSoFar (without failure adverts) befores each (map (λ b. b.root) befores))
 
 abbrev pub one_if : Bool → ℕ
 one_if b = if b then 1 else 0

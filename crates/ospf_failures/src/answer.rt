@@ -11,11 +11,10 @@ ghost use Rattle.ospf_failures.specs.Answer.{EndsBy, IsAnswerOf, IsAnswered, IsC
 ghost use Rattle.ospf_failures.specs.declared.answer.FailuresJob.{FailuresJob};
 ghost use Rattle.ospf_graph.specs.Routes.{IsTable};
 ghost use Rattle.ospf_graph.specs.declared.route.Route.{Route};
-ghost use Rattle.ospf_failures.specs.Overall.{AreOveralls};
 ghost use Rattle.ospf_failures.specs.Reports.{IsReported};
 ghost use Rattle.ospf_failures.specs.Without.{IsFaultOfNames, IsFirstUnnamed};
 
-use crate::overall::{Overall, cuts_somewhere, overalls, overalls_text};
+use crate::overall::{cuts_somewhere, overalls, overalls_text};
 use crate::report::{Report, has_cut, reports, reports_text};
 use crate::without::text_without;
 use ospf_base::{Addr, Kind, RouterId};
@@ -27,6 +26,7 @@ use ospf_whatif::WithoutFault;
 use std::alloc::{AllocError, Global};
 use std::io::{BufRead, Write};
 use std::process::ExitCode;
+use std::thread::Threads;
 
 // The most links of a router-LSA that can be made anew: one of `ospf_base::LARGEST_LSA` bytes.
 const MOST_LINKS: usize = 1361;
@@ -146,6 +146,7 @@ impl From<FailuresStatus> for ExitCode {
 /// that can be written. Then no more than a beginning is printed.
 pub fn failures_text<R: BufRead + Drop, O: Write, E: Write>(
     alloc: Global,
+    rt: &(impl Threads + Sync),
     job: &FailuresJob,
     input: R,
     out: &mut O,
@@ -168,7 +169,7 @@ pub fn failures_text<R: BufRead + Drop, O: Write, E: Write>(
         (E.contents err.old) (E.contents err.new) result }
     ensures not_words { names_of job.now ≡ [] → result ≢ FailuresStatus.Ended Status.Words }
 {
-    failures_noted(alloc, job, input, out, err, &mut FailedStreams::none())
+    failures_noted(alloc, rt, job, input, out, err, &mut FailedStreams::none())
 }
 
 // What is printed on standard output, and the status to end with.
@@ -188,6 +189,7 @@ struct Answer {
 // Prints what is asked, as `failures_text`, and notes which streams fail.
 fn failures_noted<R: BufRead + Drop, O: Write, E: Write>(
     alloc: Global,
+    rt: &(impl Threads + Sync),
     job: &FailuresJob,
     input: R,
     out: &mut O,
@@ -197,7 +199,7 @@ fn failures_noted<R: BufRead + Drop, O: Write, E: Write>(
     ensures { IsEnding (R.remaining input) job.now streams.new (O.contents out.old)
         (O.contents out.new) (E.contents err.old) (E.contents err.new) result }
 {
-    match answer_or_refuse(alloc, job, input, out, err, streams) {
+    match answer_or_refuse(alloc, rt, job, input, out, err, streams) {
         Ok(status) => status,
         Err(failure) => FailuresStatus::Ended(failure.tell(err, streams)),
     }
@@ -206,6 +208,7 @@ fn failures_noted<R: BufRead + Drop, O: Write, E: Write>(
 // Prints the answer, or tells what is refused. The answer is the status to end with.
 fn answer_or_refuse<R: BufRead + Drop, O: Write, E: Write>(
     alloc: Global,
+    rt: &(impl Threads + Sync),
     job: &FailuresJob,
     input: R,
     out: &mut O,
@@ -217,7 +220,7 @@ fn answer_or_refuse<R: BufRead + Drop, O: Write, E: Write>(
     ensures cut { IfErr result (EndsBy (R.remaining input) job.now streams.new (O.contents out.old)
         (O.contents out.new) (E.contents err.old) (E.contents err.new)) }
 {
-    match answer_of(alloc, job, input) {
+    match answer_of(alloc, rt, job, input) {
         Ok(answer) => print(&answer, out, err, streams),
         Err(Fault::Refused(text)) => refuse(&text, Status::Refused, err, streams),
         Err(Fault::Unnamed(text)) => refuse(&text, Status::Words, err, streams),
@@ -226,7 +229,12 @@ fn answer_or_refuse<R: BufRead + Drop, O: Write, E: Write>(
 }
 
 // What is to be printed of the failures of the area whose LSAs the lines of an input are.
-fn answer_of<R: BufRead + Drop>(alloc: Global, job: &FailuresJob, input: R) -> Result<Answer, Fault>
+fn answer_of<R: BufRead + Drop>(
+    alloc: Global,
+    rt: &(impl Threads + Sync),
+    job: &FailuresJob,
+    input: R,
+) -> Result<Answer, Fault>
     ensures answer { IfOk result (λ answer. IfSome (R.remaining input)
         (IsAnswerOf job.now answer)) }
     ensures whole { IfOk result (λ answer. IsWhole answer.said.end) }
@@ -234,7 +242,7 @@ fn answer_of<R: BufRead + Drop>(alloc: Global, job: &FailuresJob, input: R) -> R
 {
     let listing = listing_of(alloc, job, input)?;
     let warning = warning_of(alloc, &listing, job.root())?;
-    match said_of(alloc, job, listing) {
+    match said_of(alloc, rt, job, listing) {
         Ok(said) => Ok(Answer { warning, said }),
         Err(fault) => Err(fault),
     }
@@ -354,7 +362,12 @@ fn unlisted_text(alloc: Global, listing: &Listing, root: RouterId) -> Result<Str
 }
 
 // What is asked of a listing none of whose routers has too many links.
-fn said_of(alloc: Global, job: &FailuresJob, listing: Listing) -> Result<Said, Fault>
+fn said_of(
+    alloc: Global,
+    rt: &(impl Threads + Sync),
+    job: &FailuresJob,
+    listing: Listing,
+) -> Result<Said, Fault>
     requires { HasLarge (advertisements_of listing) → ⊥ }
     ensures said { IfOk result (λ said. SaysOf job.now (advertisements_of listing)
         (string_bytes said.text) said.end) }
@@ -368,7 +381,7 @@ fn said_of(alloc: Global, job: &FailuresJob, listing: Listing) -> Result<Said, F
             Ok(said)
         }
         FailuresJob::All { each, strict } => {
-            let said = overalls_said(alloc, &listing, *each, *strict)?;
+            let said = overalls_said(alloc, rt, &listing, *each, *strict)?;
             Ok(said)
         }
         FailuresJob::Without {
@@ -422,6 +435,7 @@ fn reports_at(alloc: Global, listing: &Listing, root: RouterId) -> Result<Vec<Re
 // What each failure changes at all routers.
 fn overalls_said(
     alloc: Global,
+    rt: &(impl Threads + Sync),
     listing: &Listing,
     each: bool,
     strict: bool,
@@ -431,23 +445,14 @@ fn overalls_said(
         (string_bytes said.text) said.end) }
     ensures whole { IfOk result (λ said. IsWhole said.end) }
 {
-    let printed = overalls_at(alloc, listing, each)?;
+    let printed = match overalls(alloc, rt, listing, each) {
+        Ok(printed) => printed,
+        Err(WithoutFault::Memory) => return Err(AllocError),
+        Err(WithoutFault::Links) => unreachable!(),
+    };
     let text = overalls_text(alloc, &printed)?;
     let end = end_of(strict, cuts_somewhere(&printed));
     Ok(Said { text, end })
-}
-
-// What each failure changes, of a listing none of whose routers has too many links.
-fn overalls_at(alloc: Global, listing: &Listing, each: bool) -> Result<Vec<Overall>, AllocError>
-    requires { HasLarge (advertisements_of listing.now) → ⊥ }
-    ensures { IfOk result (λ printed. AreOveralls (advertisements_of listing.now) each
-        printed.items) }
-{
-    match overalls(alloc, listing, each) {
-        Ok(printed) => Ok(printed),
-        Err(WithoutFault::Memory) => Err(AllocError),
-        Err(WithoutFault::Links) => unreachable!(),
-    }
 }
 
 // How it ends where all is printed.

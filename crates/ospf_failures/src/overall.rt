@@ -1,13 +1,13 @@
 //! What each failure of an area changes in the tables of all its routers.
 
-ghost use Rattle.std.specs.Prelude.{◌≡◌, ◌↔◌, ◌<◌, ◌++◌, [], All, Err, IfOk, IsPermutation, IsTrue, OnOk, codes, map, string_bytes};
+ghost use Rattle.std.specs.Prelude.{◌≡◌, ◌↔◌, ◌++◌, [], All, Err, IfOk, IsPermutation, IsTrue, OnOk, codes, map, string_bytes};
 ghost use Rattle.std.specs.List.Sorted.{IsSorted};
 ghost use Rattle.ospf_base.specs.Text.{number_text};
 ghost use Rattle.ospf_edges.specs.Listed.{advertisements_of};
 ghost use Rattle.ospf_whatif.specs.Effect.{TakesAway};
 ghost use Rattle.ospf_whatif.specs.Failure.{HasLarge, without};
 ghost use Rattle.ospf_failures.specs.Lines.{change_line};
-ghost use Rattle.ospf_failures.specs.Overall.{AreOveralls, CutsSomewhere, HasRoom, IsBefore, IsSoFar, Sees, failing_router, overall_cmp, overall_rank, overalls_text, roots_in, sight_lines, sums_of};
+ghost use Rattle.ospf_failures.specs.Overall.{AreOveralls, CutsSomewhere, HasRoom, IsBefore, IsFound, IsSoFar, Sees, failing_router, overall_cmp, overall_rank, overalls_text, roots_in, sight_lines, sums_of};
 
 use crate::lines::change_line;
 use crate::report::{is_of, place_of};
@@ -16,8 +16,10 @@ use ospf_base::RouterId;
 use ospf_lsa::Listing;
 use ospf_spf::RouteTable;
 use ospf_whatif::{Failure, Left, RouteChange, WithoutFault, single_failures};
+use rayon::prelude::*;
 use std::alloc::{AllocError, Global};
 use std::cmp::Reverse;
+use std::thread::Threads;
 
 /// A failure, and what it changes in the tables of all routers.
 #[derive(Drop)]
@@ -32,14 +34,19 @@ pub struct Overall {
 /// router that changes.
 ///
 /// `Links` or `Memory` as `Left::of` has it.
-pub fn overalls(alloc: Global, listing: &Listing, each: bool) -> Result<Vec<Overall>, WithoutFault>
+pub fn overalls(
+    alloc: Global,
+    rt: &(impl Threads + Sync),
+    listing: &Listing,
+    each: bool,
+) -> Result<Vec<Overall>, WithoutFault>
     ensures printed { IfOk result (λ printed. AreOveralls (advertisements_of listing.now) each
         printed.items) }
     ensures large { result ≡ Err WithoutFault.Links → HasLarge (advertisements_of listing.now) }
 {
     let failures = single_failures(alloc, listing)?;
     let befores = befores_of(alloc, listing, &failures)?;
-    let mut overalls = overalls_of(alloc, listing, &failures, &befores, each)?;
+    let mut overalls = overalls_of(alloc, rt, listing, &failures, &befores, each)?;
     sort(&mut overalls);
     Ok(overalls)
 }
@@ -62,12 +69,7 @@ pub fn overalls_text(alloc: Global, overalls: &[Overall]) -> Result<String, Allo
 pub fn cuts_somewhere(overalls: &[Overall]) -> bool
     ensures { IsTrue result ↔ CutsSomewhere overalls.now }
 {
-    for overall in overalls {
-        if overall.cuts() {
-            return true;
-        }
-    }
-    false
+    overalls.iter().any(|overall| overall.sums.cut > 0)
 }
 
 // A router, and its table before anything fails.
@@ -123,6 +125,7 @@ fn add_before(
 // What each of these failures changes in the tables of all routers.
 fn overalls_of(
     alloc: Global,
+    rt: &(impl Threads + Sync),
     listing: &Listing,
     failures: &[Failure],
     befores: &[Before],
@@ -136,12 +139,17 @@ fn overalls_of(
         (λ o. IsSoFar (without o.failure (advertisements_of listing.now)) befores.now each
         (map (λ b. b.root) befores.now) o) overalls.items) }
 {
-    let mut overalls = Vec::new(alloc);
-    for failure in failures {
-        let overall = overall_of(alloc, listing, failure, befores, each)?;
-        overalls.push(overall).map_err(AllocError::from)?;
-    }
-    Ok(overalls)
+    failures
+        .par_iter()
+        .with_min_len(1)
+        .map(
+            |failure: &Failure| -> Result<Overall, WithoutFault>
+                requires { All (IsBefore (advertisements_of listing.now)) befores.now }
+                ensures { IsFound (advertisements_of listing.entry.now) befores.entry.now each
+                    failure.now result }
+            { overall_of(alloc, listing, failure, befores, each) },
+        )
+        .collect::<Result<Vec<Overall>, WithoutFault>>(rt, alloc)?
 }
 
 // What a failure changes in the tables of all routers.
@@ -153,11 +161,7 @@ fn overall_of(
     each: bool,
 ) -> Result<Overall, WithoutFault>
     requires { All (IsBefore (advertisements_of listing.now)) befores.now }
-    ensures failure { IfOk result (λ overall. overall.failure ≡ failure.now) }
-    ensures large { result ≡ Err WithoutFault.Links → HasLarge (advertisements_of listing.now) }
-    ensures seen { IfOk result (λ overall.
-        IsSoFar (without failure.now (advertisements_of listing.now)) befores.now each
-        (map (λ b. b.root) befores.now) overall) }
+    ensures { IsFound (advertisements_of listing.now) befores.now each failure.now result }
 {
     let left = Left::of(alloc, listing, failure)?;
     let overall = overall_in(alloc, &left, *failure, befores, each)?;
@@ -227,13 +231,6 @@ impl Overall {
         }
         self.sums = self.sums.plus(&changes);
         Ok(())
-    }
-
-    // Whether it cuts a prefix off.
-    fn cuts(&self) -> bool
-        ensures { IsTrue result ↔ (0 < self.now.sums.cut) }
-    {
-        self.sums.cut > 0
     }
 
     // What it is ordered by.

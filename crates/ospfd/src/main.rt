@@ -395,7 +395,7 @@ where
 // Does what the program's words say, and tells by the line how far it has come, if standard error is a terminal. The
 // console is standard output, for what is printed while something runs, and standard input, for what is waited for then. Where it fails, memory ran out.
 fn run<
-    R: Runtime + AllocGlobal + Net + Threads + Wait + Clock + Copy + Send + Drop + 'static,
+    R: Runtime + AllocGlobal + Net + Threads + Wait + Clock + Copy + Send + Sync + Drop + 'static,
     E: Write,
     T: Write + Send + Drop + 'static,
     P: Write + Send + Drop + 'static,
@@ -413,7 +413,7 @@ where
         }
         Ok(Job::Failures(failures)) => {
             let input = BufReader::new(alloc, rt.reader())?;
-            let status = failures_text(alloc, &failures, input, &mut out, err);
+            let status = failures_text(alloc, rt, &failures, input, &mut out, err);
             return Ok(ExitCode::from(status));
         }
         Ok(Job::Inspect(inspect)) => {

@@ -7,17 +7,17 @@ use Rattle.ospf_failures.proofs.AnswerLemmas.{end_is, whole_end}
 use Rattle.ospf_failures.proofs.answer.overalls_said.Goals as goal
 
 pub returns-clause-said : goal.returns-clause-said
-returns-clause-said c =
-    let printed = c.in_ok-printed.printed.items in
+returns-clause-said g c =
+    let printed = c.in-Ok.printed.items in
     let cuts : IsTrue c.cuts_somewhere.result ↔ CutsSomewhere printed =
     subst (λ (l : List Overall). IsTrue c.cuts_somewhere.result ↔ CutsSomewhere l) c.deref-2.ensures.value c.cuts_somewhere.ensures in
     record {
       printed = printed;
-      are = c.in_ok-printed.ensures;
+      are = c.in-Ok.ensures.printed;
       text_is = c.in_ok-text.ensures ∙ ap overalls_text c.deref.ensures.value;
       ends = subst (λ (e : FailuresStatus). IsEndBy c.args.strict (CutsSomewhere printed) e) (sym c.end_of-end.ensures)
           (end_is (CutsSomewhere printed) c.args.strict c.cuts_somewhere.result cuts);
     }
 
 pub returns-clause-whole : goal.returns-clause-whole
-returns-clause-whole c = subst IsWhole (sym c.end_of-end.ensures) (whole_end c.args.strict c.cuts_somewhere.result)
+returns-clause-whole g c = subst IsWhole (sym c.end_of-end.ensures) (whole_end c.args.strict c.cuts_somewhere.result)

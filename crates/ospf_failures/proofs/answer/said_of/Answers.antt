@@ -6,6 +6,6 @@ use Rattle.ospf_failures.specs.Without.{IsFaultOfNames, IsFirstUnnamed}
 use Rattle.ospf_failures.proofs.answer.said_of.Goals as goal
 
 pub returns-in-Err-clause-fault : goal.returns-in-Err-clause-fault
-returns-in-Err-clause-fault c =
+returns-in-Err-clause-fault g c =
     subst (λ (ns : List (String Global)). IsFaultOfNames (IsFirstUnnamed (advertisements_of c.args.listing) ns) c.in-Err.fault)
     (c.deref.ensures.value ∙ sym (ap names_of c.in-Without.is)) c.in-Err.ensures.fault

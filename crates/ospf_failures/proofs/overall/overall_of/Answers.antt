@@ -9,7 +9,11 @@ pub overall_in-requires : goal.overall_in-requires
 overall_in-requires c =
     all_lose c.args.failure.now (advertisements_of c.args.listing.now) c.in_ok-left.left c.args.befores.now c.in_ok-left.ensures.left c.requires
 
-pub returns-clause-seen : goal.returns-clause-seen
-returns-clause-seen c =
-    subst (λ (l : List Advertisement). IsSoFar l c.args.befores.now c.args.each (roots_of c.args.befores.now) c.in_ok-overall.overall) c.in_ok-left.ensures.left
-    c.in_ok-overall.ensures.seen
+pub returns : goal.returns
+returns c = record {
+  same = c.in_ok-overall.ensures.failure;
+  large = λ is. cc;
+  seen =
+      subst (λ (l : List Advertisement). IsSoFar l c.args.befores.now c.args.each (roots_of c.args.befores.now) c.in_ok-overall.overall) c.in_ok-left.ensures.left
+      c.in_ok-overall.ensures.seen;
+}
