@@ -1,7 +1,7 @@
 //! Configurations that are checked, by name.
 
 use super::failing::Failing;
-use ospf_check::check_text;
+use ospf_check::{check_area_json, check_text};
 use ospf_files::{NamedFile, Status};
 use std::alloc::{AllocError, Global};
 use std::test::Fail;
@@ -273,5 +273,56 @@ fn tells_of_failed_writes(rt: HostRuntime) -> Result<(), Fail> {
         let written = check_text(alloc, &files, false, &mut out, &mut err);
         assert_eq!(rt; written, status);
     }
+    Ok(())
+}
+
+// What is printed as JSON of the configurations of one area.
+fn json_of(alloc: Global, files: &[(&str, Option<&[u8]>)]) -> Result<Outcome, AllocError> {
+    let mut named_files = Vec::new(alloc);
+    for (name, bytes) in files {
+        named_files.push(named(alloc, name, *bytes)?)?;
+    }
+    let mut out = Vec::new(alloc);
+    let mut err = Vec::new(alloc);
+    let status = check_area_json(alloc, &named_files, &mut out, &mut err);
+    Ok(Outcome { out, err, status })
+}
+
+// The other end of the link of `GOOD`, which sends Hellos twice as often.
+const HASTY: &str =
+    "router_id = \"2.2.2.2\"\narea = \"0.0.0.0\"\n\n[[interface]]\nkind = \"point-to-point\"\naddress = \"10.0.0.2/30\"\ncost = 10\nhello = 5\n";
+
+#[test]
+fn prints_what_is_wrong_in_an_area_as_json(rt: HostRuntime) -> Result<(), Fail> {
+    let good = Some(GOOD.as_bytes());
+    let outcome = json_of(rt.alloc(), &[("a.toml", good), ("b.toml", Some(HASTY.as_bytes()))])?;
+    assert_eq!(rt; outcome.status, Status::Refused);
+    assert_eq!(rt;
+        str::from_utf8(&outcome.out)?,
+        "[{\"code\":\"A5 Hello\",\"here\":{\"file\":\"b.toml\",\"interface\":0,\"key\":\"hello\",\"value\":5},\
+        \"meaning\":\"each drops the other's Hellos: they never become neighbours (section 10.5)\",\"note\":false,\
+        \"other\":{\"file\":\"a.toml\",\"interface\":0,\"key\":\"hello\",\"value\":10}},\
+        {\"code\":\"A18 Apart\",\"here\":{\"file\":\"b.toml\",\"interface\":null,\"key\":\"router_id\",\"value\":\"2.2.2.2\"},\
+        \"meaning\":\"the area falls apart: what is here has no route there\",\"note\":false,\
+        \"other\":{\"file\":\"a.toml\",\"interface\":null,\"key\":\"router_id\",\"value\":\"1.1.1.1\"}}]\n"
+    );
+    assert!(rt; outcome.err.is_empty());
+    let alone = json_of(rt.alloc(), &[("a \"b\".toml", good)])?;
+    assert_eq!(rt; alone.status, Status::Done);
+    assert_eq!(rt;
+        str::from_utf8(&alone.out)?,
+        "[{\"code\":\"A13 Alone\",\"here\":{\"file\":\"a \\\"b\\\".toml\",\"interface\":0,\"key\":\"address\",\"value\":\"10.0.0.1/30\"},\
+        \"meaning\":\"the network is a stub\",\"note\":true,\"other\":null}]\n"
+    );
+    Ok(())
+}
+
+#[test]
+fn prints_no_json_where_a_file_is_refused(rt: HostRuntime) -> Result<(), Fail> {
+    let files = [("a.toml", Some(GOOD.as_bytes())), ("b.toml", Some(BAD.as_bytes()))];
+    let outcome = json_of(rt.alloc(), &files)?;
+    assert_eq!(rt; outcome.status, Status::Refused);
+    assert!(rt; outcome.out.is_empty());
+    assert_eq!(rt; outcome.err.as_slice(), b"b.toml: C5 ZeroCost\n".as_slice());
     Ok(())
 }

@@ -22,7 +22,7 @@ use Rattle.ospf_check.specs.Area.{EndsAt, IsAreaCut, IsAreaTold, IsCutAt, IsFind
 pub no_findings : (explain : Bool) (files : List NamedFile) (out err : Option (List ℕ)) → IsFindingsWritten explain files [] true out out err err
 no_findings explain files out err = record { sound_is = refl; out_written = nothing_written out; err_written = nothing_written err }
 
-both_notes : (a b : Bool) → (not a && b) ≡ not (a || (not b || false))
+pub both_notes : (a b : Bool) → (not a && b) ≡ not (a || (not b || false))
 both_notes true true = refl
 both_notes true false = refl
 both_notes false true = refl

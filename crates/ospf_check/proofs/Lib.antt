@@ -2,3 +2,4 @@ mod PlaceLists
 pub mod Written
 mod AreaWritten
 mod Numbered
+mod JsonLemmas

@@ -2,3 +2,4 @@ pub mod Explained
 pub mod Rows
 pub mod Checked
 pub mod Area
+pub mod Json

@@ -209,7 +209,7 @@ fn line_of(alloc: Global, files: &[NamedFile], finding: &Finding) -> Result<Stri
 }
 
 // The name of a file.
-fn name_at(files: &[NamedFile], number: usize) -> &str
+pub(crate) fn name_at(files: &[NamedFile], number: usize) -> &str
     ensures { result.now ≡ name_at files.now number }
 {
     match files.get(number) {
