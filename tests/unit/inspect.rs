@@ -4,7 +4,7 @@ use super::failing::Failing;
 use super::made::{FIRST, FIRST_NUMBER, SECOND, THIRD, link, stub, to};
 use ospf_base::{Addr, Age, RouterId};
 use ospf_files::Status;
-use ospf_inspect::{InspectJob, inspect_text};
+use ospf_inspect::{Form, InspectJob, inspect_text};
 use ospf_lsa::{Link, LinkKind, Lsa};
 use std::alloc::Global;
 use std::process::Abort;
@@ -137,7 +137,7 @@ fn lsas_stand_in_words(rt: HostRuntime) -> Result<(), Fail> {
         \x20 router 3.3.3.3\n"
     )?;
     let input = lines(alloc, &lsas)?;
-    expect(&rt, alloc, &InspectJob::Lsas, &input, (Status::Done, &wanted, ""))
+    expect(&rt, alloc, &InspectJob::Lsas(Form::Text), &input, (Status::Done, &wanted, ""))
 }
 
 // The same LSAs, drawn by hand: of two links to a router that has one back, the second is one that one end tells, and a virtual
@@ -181,7 +181,7 @@ fn network_lsa_that_another_stands_for_is_unused(rt: HostRuntime) -> Result<(), 
         \x20 router 1.1.1.1 one-way\n"
     )?;
     let input = lines(alloc, &lsas)?;
-    expect(&rt, alloc, &InspectJob::Lsas, &input, (Status::Done, &wanted, ""))
+    expect(&rt, alloc, &InspectJob::Lsas(Form::Text), &input, (Status::Done, &wanted, ""))
 }
 
 #[test]
@@ -200,7 +200,90 @@ fn tables_of_all_routers_stand_below_their_names(rt: HostRuntime) -> Result<(), 
         10.0.0.0/30 25 10.1.0.3>2.2.2.2@10.1.0.2\n\
         10.1.0.0/24 5 attached\n\
         172.16.0.3/32 1 attached\n";
-    expect(&rt, alloc, &InspectJob::Tables, &input, (Status::Done, wanted, ""))
+    expect(&rt, alloc, &InspectJob::Tables(Form::Text), &input, (Status::Done, wanted, ""))
+}
+
+// The members of each object stand in the order of their names.
+#[test]
+fn lsas_stand_in_json(rt: HostRuntime) -> Result<(), Fail> {
+    let alloc = rt.alloc();
+    let lsas = area(alloc)?;
+    let (first, second, third, network) = (
+        sum(alloc, &lsas[0])?,
+        sum(alloc, &lsas[1])?,
+        sum(alloc, &lsas[2])?,
+        sum(alloc, &lsas[3])?,
+    );
+    let mut wanted = format!(in alloc;
+        "[{{\"age\":7,\"links\":[\
+        {{\"cost\":10,\"from\":\"10.0.0.1\",\"link\":\"router\",\"one_way\":false,\"to\":\"2.2.2.2\"}},\
+        {{\"cost\":10,\"link\":\"stub\",\"prefix\":\"10.0.0.0/30\"}},\
+        {{\"cost\":10,\"from\":\"10.0.0.5\",\"link\":\"router\",\"one_way\":false,\"to\":\"2.2.2.2\"}}],\
+        \"lsa\":\"router\",\"number\":\"80000001\",\"router\":\"1.1.1.1\",\"sum\":\"{first}\"}},\
+        {{\"age\":0,\"links\":[\
+        {{\"cost\":10,\"from\":\"10.0.0.2\",\"link\":\"router\",\"one_way\":false,\"to\":\"1.1.1.1\"}},\
+        {{\"cost\":5,\"from\":\"10.1.0.2\",\"link\":\"network\",\"one_way\":false,\"to\":\"10.1.0.2\"}}],\
+        \"lsa\":\"router\",\"number\":\"80000001\",\"router\":\"2.2.2.2\",\"sum\":\"{second}\"}},"
+    )?;
+    wanted.push_str(&format!(in alloc;
+        "{{\"age\":3599,\"links\":[\
+        {{\"cost\":5,\"from\":\"10.1.0.3\",\"link\":\"network\",\"one_way\":false,\"to\":\"10.1.0.2\"}},\
+        {{\"cost\":3,\"from\":\"10.0.0.9\",\"link\":\"router\",\"one_way\":true,\"to\":\"4.4.4.4\"}},\
+        {{\"cost\":1,\"link\":\"stub\",\"prefix\":\"172.16.0.3/32\"}},\
+        {{\"link\":\"virtual\",\"to\":\"1.1.1.1\"}}],\
+        \"lsa\":\"router\",\"number\":\"80000001\",\"router\":\"3.3.3.3\",\"sum\":\"{third}\"}},\
+        {{\"age\":0,\"attached\":[{{\"one_way\":true,\"router\":\"1.1.1.1\"}},\
+        {{\"one_way\":false,\"router\":\"2.2.2.2\"}},{{\"one_way\":false,\"router\":\"3.3.3.3\"}}],\
+        \"id\":\"10.1.0.2\",\"lsa\":\"network\",\"number\":\"80000001\",\"prefix\":\"10.1.0.0/24\",\
+        \"router\":\"2.2.2.2\",\"sum\":\"{network}\",\"unused\":false}}]\n"
+    )?)?;
+    let input = lines(alloc, &lsas)?;
+    expect(&rt, alloc, &InspectJob::Lsas(Form::Json), &input, (Status::Done, &wanted, ""))
+}
+
+// The table of the second router.
+static SECOND_TABLE: &str = "[{\"cost\":20,\"hops\":[\"10.0.0.2>1.1.1.1\"],\"prefix\":\"10.0.0.0/30\"},\
+    {\"cost\":5,\"hops\":[\"attached\"],\"prefix\":\"10.1.0.0/24\"},\
+    {\"cost\":6,\"hops\":[\"10.1.0.2>3.3.3.3@10.1.0.3\"],\"prefix\":\"172.16.0.3/32\"}]";
+
+#[test]
+fn table_stands_in_json(rt: HostRuntime) -> Result<(), Fail> {
+    let alloc = rt.alloc();
+    let input = lines(alloc, &area(alloc)?)?;
+    let wanted = format!(in alloc; "{SECOND_TABLE}\n")?;
+    expect(&rt, alloc, &InspectJob::Table(SECOND), &input, (Status::Done, &wanted, ""))?;
+    let stranger = InspectJob::Table(RouterId(0x0909_0909));
+    let told = "9.9.9.9: no router-LSA of this router\n";
+    expect(&rt, alloc, &stranger, &input, (Status::Done, "[]\n", told))
+}
+
+#[test]
+fn tables_of_all_routers_stand_in_json(rt: HostRuntime) -> Result<(), Fail> {
+    let alloc = rt.alloc();
+    let input = lines(alloc, &area(alloc)?)?;
+    let wanted = format!(in alloc;
+        "[{{\"root\":\"1.1.1.1\",\"routes\":[{{\"cost\":10,\"hops\":[\"attached\"],\"prefix\":\"10.0.0.0/30\"}},\
+        {{\"cost\":15,\"hops\":[\"10.0.0.1>2.2.2.2\",\"10.0.0.5>2.2.2.2\"],\"prefix\":\"10.1.0.0/24\"}},\
+        {{\"cost\":16,\"hops\":[\"10.0.0.1>2.2.2.2\",\"10.0.0.5>2.2.2.2\"],\"prefix\":\"172.16.0.3/32\"}}]}},\
+        {{\"root\":\"2.2.2.2\",\"routes\":{SECOND_TABLE}}},\
+        {{\"root\":\"3.3.3.3\",\"routes\":[{{\"cost\":25,\"hops\":[\"10.1.0.3>2.2.2.2@10.1.0.2\"],\"prefix\":\"10.0.0.0/30\"}},\
+        {{\"cost\":5,\"hops\":[\"attached\"],\"prefix\":\"10.1.0.0/24\"}},\
+        {{\"cost\":1,\"hops\":[\"attached\"],\"prefix\":\"172.16.0.3/32\"}}]}}]\n"
+    )?;
+    expect(&rt, alloc, &InspectJob::Tables(Form::Json), &input, (Status::Done, &wanted, ""))
+}
+
+#[test]
+fn empty_input_is_an_empty_array(rt: HostRuntime) -> Result<(), Fail> {
+    let alloc = rt.alloc();
+    for job in [
+        &InspectJob::Lsas(Form::Json),
+        &InspectJob::Tables(Form::Json),
+        &InspectJob::Table(FIRST),
+    ] {
+        expect(&rt, alloc, job, "", (Status::Done, "[]\n", ""))?;
+    }
+    Ok(())
 }
 
 #[test]
@@ -245,7 +328,7 @@ fn refused_line_is_told_and_nothing_printed(rt: HostRuntime) -> Result<(), Fail>
     let mut input = lines(alloc, &area(alloc)?)?;
     input.push_str("zz\n")?;
     let way = path(alloc, FIRST, 0xac10_0003, &[])?;
-    for job in [&InspectJob::Lsas, &InspectJob::Drawing, &InspectJob::Tables, &way] {
+    for job in [&InspectJob::Lsas(Form::Text), &InspectJob::Drawing, &InspectJob::Tables(Form::Text), &way] {
         expect(&rt, alloc, job, &input, (Status::Refused, "", "line 5: not hex\n"))?;
     }
     Ok(())
@@ -254,7 +337,7 @@ fn refused_line_is_told_and_nothing_printed(rt: HostRuntime) -> Result<(), Fail>
 #[test]
 fn empty_input_prints_nothing(rt: HostRuntime) -> Result<(), Fail> {
     let alloc = rt.alloc();
-    for job in [&InspectJob::Lsas, &InspectJob::Tables] {
+    for job in [&InspectJob::Lsas(Form::Text), &InspectJob::Tables(Form::Text)] {
         expect(&rt, alloc, job, "", (Status::Done, "", ""))?;
     }
     Ok(())
@@ -267,7 +350,7 @@ fn output_that_fails_is_told(rt: HostRuntime) -> Result<(), Fail> {
     // The text, and then its flush.
     for left in 0..2 {
         let (mut out, mut err) = (Failing { left }, Vec::new(alloc));
-        let job = InspectJob::Lsas;
+        let job = InspectJob::Lsas(Form::Text);
         let status = inspect_text(alloc, &job, input.as_bytes(), &mut out, &mut err);
         assert_eq!(rt; status, Status::Stream);
         assert_eq!(rt; str::from_utf8(&err)?, "standard output: not written\n");

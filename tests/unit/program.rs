@@ -2,7 +2,7 @@
 
 use super::failing::Failing;
 use ospf_base::Addr;
-use ospf_check::{check_area_text, check_text};
+use ospf_check::{check_area_json, check_area_text, check_text};
 use ospf_failures::failures_text;
 use ospf_files::{FailedStreams, Failure, NamedFile, Status};
 use ospf_inspect::inspect_text;
@@ -358,9 +358,12 @@ fn status_of<R: Threads + Wait + Sync, O: Write, E: Write>(
                 files,
                 explain,
                 area,
+                json,
             } = check;
             let files = unread(alloc, files)?;
-            if area {
+            if json {
+                check_area_json(alloc, &files, out, err)
+            } else if area {
                 check_area_text(alloc, &files, explain, out, err)
             } else {
                 check_text(alloc, &files, explain, out, err)
@@ -418,7 +421,7 @@ fn refuses(rt: HostRuntime) -> Result<(), Fail> {
 }
 
 // Words by name, the exit status, and how standard output and standard error begin.
-static WORDS: [(&str, &str, u8, &str, &str); 31] = [
+static WORDS: [(&str, &str, u8, &str, &str); 37] = [
     ("help", "--help", 0, "OSPF version 2 for one area\n", ""),
     ("help word", "help", 0, "OSPF version 2 for one area\n", ""),
     ("help of table", "table --help", 0, "Computes a routing", ""),
@@ -468,6 +471,12 @@ static WORDS: [(&str, &str, u8, &str, &str); 31] = [
     ),
     ("drawing of nothing", "lsas --dot", 0, "graph area {\n", ""),
     ("drawing of a word", "lsas --dot area.svg", 2, "", "error: "),
+    ("LSAs as JSON", "lsas --json", 0, "[]\n", ""),
+    ("a drawing as JSON", "lsas --dot --json", 2, "", "error: --json goes with no"),
+    ("all tables as JSON", "table all --json", 0, "[]\n", ""),
+    ("a lookup as JSON", "table --json 1.1.1.1 10.0.0.1", 2, "", "error: --json goes with no"),
+    ("what is left out as JSON", "table --json 1.1.1.1 --without 2.2.2.2", 2, "", "error: --json goes with no"),
+    ("unread file as JSON", "check --json a.toml", 5, "", "a.toml: not read\n"),
     ("help of sim", "sim --help", 0, "Simulates an area", ""),
     ("help of run", "run --help", 0, "Runs a router", ""),
     ("no configuration of a run", "run 60", 2, "", "error: "),

@@ -3,3 +3,5 @@ mod Marks
 mod Texts
 mod Ways
 mod AnswerLemmas
+mod ValueLemmas
+mod Floats

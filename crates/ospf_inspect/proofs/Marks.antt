@@ -1,8 +1,7 @@
 -- Marks by a test.
 use Rattle.std.proofs.Common.{◌≡◌, ◌↔◌, ℕ, Bool, true, false, List, [], IsTrue, refl, subst, inl, inr}
-use Rattle.std.specs.List.{Contains}
 use Rattle.ospf_graph.specs.Advertisements.{Advertisement}
-use Rattle.ospf_graph.specs.Graph.{IsEdge, IsEdgeBetween}
+use Rattle.ospf_graph.specs.Graph.{IsEdgeBetween}
 use Rattle.ospf_graph.specs.declared.graph.Edge.{Edge}
 use Rattle.ospf_graph.specs.declared.graph.Vertex.{Vertex}
 use Rattle.ospf_edges.specs.Near.{AreEdgesAt}
@@ -14,7 +13,7 @@ mark_of holds word mark true is none some = inl (is.0 refl, none refl)
 mark_of holds word mark false is none some = inr ((λ h. let no : false ≡ true = is.1 h in absurd (cc no)), some refl)
 
 -- of the edges at a vertex one leads to another exactly where one of the graph does
-joins_are : (adverts : List Advertisement) (v w : Vertex) (edges : List Edge) → AreEdgesAt adverts v edges → Joins edges v w ↔ AreJoined adverts v w
+pub joins_are : (adverts : List Advertisement) (v w : Vertex) (edges : List Edge) → AreEdgesAt adverts v edges → Joins edges v w ↔ AreJoined adverts v w
 joins_are adverts v w edges at = (
   λ joins.
       let e : Edge = joins.0 in

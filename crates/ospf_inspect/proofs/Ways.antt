@@ -1,5 +1,5 @@
 -- Ways from router to router.
-use Rattle.std.proofs.Common.{◌≡◌, ◌≢◌, ◌∙◌, ◌+◌, ◌++◌, ◌∷◌, ◌%◌, ◌<◌, ℕ, zero, suc, List, [], Option, Some, ap, length, slice_get, subst, sym, arith, append_assoc, inl, inr}
+use Rattle.std.proofs.Common.{◌≡◌, ◌≢◌, ◌∙◌, ◌+◌, ◌++◌, ◌∷◌, ◌%◌, ℕ, zero, suc, List, [], Some, ap, length, slice_get, subst, sym, arith, append_assoc, inl, inr}
 use Rattle.std.specs.List.{Contains}
 use Rattle.std.proofs.lemmas.List.Elements.{All-contains}
 use Rattle.ospf_base.specs.declared.ids.RouterId.{RouterId}

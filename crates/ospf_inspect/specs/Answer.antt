@@ -17,27 +17,42 @@ use Rattle.ospf_table.specs.declared.table.EntryFault.{EntryFault}
 use Rattle.ospf_inspect.specs.Lines.{AreLines}
 use Rattle.ospf_inspect.specs.Lsas.{SaysOfLsa}
 use Rattle.ospf_inspect.specs.Path.{SaysPath}
-use Rattle.ospf_inspect.specs.Tables.{SaysTableOf}
+use Rattle.ospf_inspect.specs.Tables.{SaysTableInJson, SaysTableOf, SaysTablesInJson}
+use Rattle.ospf_inspect.specs.Values.{SaysLsasInJson}
 use Rattle.ospf_inspect.specs.declared.answer.Answer.{Answer}
 use Rattle.ospf_inspect.specs.declared.answer.Fault.{Fault}
 use Rattle.ospf_inspect.specs.declared.answer.Fault.TheVariants as fault
+use Rattle.ospf_inspect.specs.declared.answer.Form.{Form}
+use Rattle.ospf_inspect.specs.declared.answer.Form.TheVariants as form
 use Rattle.ospf_inspect.specs.declared.answer.InspectJob.{InspectJob}
-use Rattle.ospf_inspect.specs.declared.answer.InspectJob.TheVariants.{Lsas, Drawing, Tables, Path}
+use Rattle.ospf_inspect.specs.declared.answer.InspectJob.TheVariants.{Lsas, Drawing, Tables, Table, Path}
 
 -- ---- what is printed
 
--- the listing in words, or as a drawing; the table of each router; or the way between two
+-- the listing in words, or as JSON
+abbrev pub SaysLsas : Form → List (List ℕ) → List ℕ → Type 0
+SaysLsas form.Text listing text = AreLines (SaysOfLsa (advertisements_of listing)) listing text
+SaysLsas form.Json listing text = SaysLsasInJson (advertisements_of listing) listing text
+
+-- the table of each router
+abbrev pub SaysTables : Form → List (List ℕ) → List ℕ → Type 0
+SaysTables form.Text listing text = AreLines (SaysTableOf (advertisements_of listing)) listing text
+SaysTables form.Json listing text = SaysTablesInJson (advertisements_of listing) listing text
+
+-- the listing, or a drawing of it; the table of each router, or of one; or the way between two
 abbrev pub Says : InspectJob → List (List ℕ) → List ℕ → Type 0
-Says Lsas listing text = AreLines (SaysOfLsa (advertisements_of listing)) listing text
+Says (Lsas f) listing text = SaysLsas f listing text
 Says Drawing listing text = text ≡ graph_text listing []
-Says Tables listing text = AreLines (SaysTableOf (advertisements_of listing)) listing text
+Says (Tables f) listing text = SaysTables f listing text
+Says (Table router) listing text = SaysTableInJson (advertisements_of listing) router.0 text
 Says (Path from address choices) listing text = SaysPath (advertisements_of listing) from address.0 (vec_items choices) (length listing) text
 
--- the warning of the router that a way begins at
+-- the warning of the router whose table it is, or that a way begins at
 abbrev pub Warns : InspectJob → List (List ℕ) → List ℕ → Type 0
-Warns Lsas listing text = text ≡ []
+Warns (Lsas f) listing text = text ≡ []
 Warns Drawing listing text = text ≡ []
-Warns Tables listing text = text ≡ []
+Warns (Tables f) listing text = text ≡ []
+Warns (Table router) listing text = IsWarning listing router text
 Warns (Path from address choices) listing text = IsWarning listing from text
 
 -- the answer for the LSAs that the lines of the input are, and its warning

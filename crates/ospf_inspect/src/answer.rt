@@ -10,7 +10,8 @@ ghost use Rattle.ospf_inspect.specs.declared.answer.InspectJob.{InspectJob};
 
 use crate::lsas::lsas_text;
 use crate::path::path_text;
-use crate::tables::tables_text;
+use crate::tables::{table_json, tables_json, tables_text};
+use crate::values::lsas_json;
 use ospf_base::{Addr, RouterId};
 use ospf_files::{FailedStreams, Failure, Status};
 use ospf_lsa::Listing;
@@ -19,15 +20,26 @@ use ospf_table::{EntryFault, TableFault, is_unlisted, read_listing};
 use std::alloc::{AllocError, Global};
 use std::io::{BufRead, Write};
 
+/// How an answer is printed.
+#[derive(Clone, Copy, Debug, PartialEq, Eq)]
+pub enum Form {
+    /// In lines of text.
+    Text,
+    /// As one value of JSON, on a line.
+    Json,
+}
+
 /// What is to be printed of the LSAs of an area.
 #[derive(Debug, Drop)]
 pub enum InspectJob {
-    /// Each LSA in words.
-    Lsas,
+    /// Each LSA.
+    Lsas(Form),
     /// The LSAs as a drawing for Graphviz's `dot`.
     Drawing,
     /// The routing table of each router.
-    Tables,
+    Tables(Form),
+    /// The routing table of one router, as JSON.
+    Table(RouterId),
     /// The way from a router to an address, with the choices of hops on it.
     Path {
         from: RouterId,
@@ -55,10 +67,11 @@ impl From<AllocError> for Fault {
     }
 }
 
-/// Reads LSAs, one a line in hexadecimal as `ospf_table::table_text` does, and prints what is asked of them: each in words, a
-/// drawing of all, the routing table of each router, or the way from a router to an address.
+/// Reads LSAs, one a line in hexadecimal as `ospf_table::table_text` does, and prints what is asked of them: each in words or as
+/// JSON, a drawing of all, the routing table of each router or of one, or the way from a router to an address.
 ///
-/// Where LSAs are listed and the router-LSA of the router that a way begins at is not among them, `err` says so. The first line
+/// Where LSAs are listed and the router-LSA of the router whose table it is, or that a way begins at, is not among them, `err`
+/// says so. The first line
 /// that is refused is told on `err`; then nothing is printed, with status `Refused`. Status `Memory` says that memory ran out, and
 /// `Stream` that a read or a write failed; what it was is told on `err`, as far as that can be written. Then no more than a
 /// beginning is printed.
@@ -168,12 +181,13 @@ fn line_refused(alloc: Global, number: u64, fault: EntryFault) -> Fault
     }
 }
 
-// What is said of the router that a way begins at.
+// What is said of the router whose table it is, or that a way begins at.
 fn warning_of(alloc: Global, job: &InspectJob, listing: &Listing) -> Result<String, AllocError>
     ensures { IfOk result (λ text. Warns job.now listing.now (string_bytes text)) }
 {
     match job {
-        InspectJob::Lsas | InspectJob::Drawing | InspectJob::Tables => Ok(String::new(alloc)),
+        InspectJob::Lsas(_) | InspectJob::Drawing | InspectJob::Tables(_) => Ok(String::new(alloc)),
+        InspectJob::Table(router) => unlisted_text(alloc, listing, *router),
         InspectJob::Path { from, .. } => unlisted_text(alloc, listing, *from),
     }
 }
@@ -195,9 +209,12 @@ fn text_of(alloc: Global, job: &InspectJob, listing: &Listing) -> Result<String,
     ensures { IfOk result (λ text. Says job.now listing.now (string_bytes text)) }
 {
     match job {
-        InspectJob::Lsas => lsas_text(alloc, listing),
+        InspectJob::Lsas(Form::Text) => lsas_text(alloc, listing),
+        InspectJob::Lsas(Form::Json) => lsas_json(alloc, listing),
         InspectJob::Drawing => drawing_text(alloc, listing),
-        InspectJob::Tables => tables_text(alloc, listing),
+        InspectJob::Tables(Form::Text) => tables_text(alloc, listing),
+        InspectJob::Tables(Form::Json) => tables_json(alloc, listing),
+        InspectJob::Table(router) => table_json(alloc, listing, *router),
         InspectJob::Path {
             from,
             address,

@@ -2,15 +2,19 @@
 //! to an address.
 //!
 //! `inspect_text` is the whole: it reads lines of LSAs, and prints. `lsas_text`, `tables_text` and `path_text` are what it prints of
-//! a listing, and a drawing is what a `Graph` of `ospf_records` prints.
+//! a listing, `lsas_json`, `tables_json` and `table_json` the same as values of JSON, and a drawing is what a `Graph` of
+//! `ospf_records` prints.
 #![tactic(auto)]
 
 mod answer;
+mod json;
 mod lsas;
 mod path;
 mod tables;
+mod values;
 
-pub use crate::answer::{InspectJob, inspect_text};
+pub use crate::answer::{Form, InspectJob, inspect_text};
 pub use crate::lsas::lsas_text;
 pub use crate::path::path_text;
-pub use crate::tables::tables_text;
+pub use crate::tables::{table_json, tables_json, tables_text};
+pub use crate::values::lsas_json;

@@ -58,9 +58,9 @@ fn lsa_text(alloc: Global, listing: &Listing, lsa: &Lsa) -> Result<String, Alloc
 
 // What names the instance of an LSA, and its age.
 #[derive(Clone, Copy)]
-struct Shown {
-    age: u16,
-    instance: Instance,
+pub(crate) struct Shown {
+    pub(crate) age: u16,
+    pub(crate) instance: Instance,
 }
 
 /// As ` age 5 number 80000002 sum e02d`.
@@ -79,7 +79,7 @@ impl Display for Shown {
 
 // A checksum, in four hexadecimal digits.
 #[derive(Clone, Copy)]
-struct Sum(u16);
+pub(crate) struct Sum(pub(crate) u16);
 
 /// As `e02d`.
 impl Display for Sum {
@@ -101,7 +101,7 @@ fn write_sum<W: Write>(f: &mut Formatter<W>, sum: u16) -> fmt::Result
 }
 
 // What names the instance of an LSA, and its age.
-fn shown_of(lsa: &LsaView) -> Shown
+pub(crate) fn shown_of(lsa: &LsaView) -> Shown
     ensures age { result.age ≡ (header_of lsa.now).age }
     ensures instance { result.instance ≡ instance_of lsa.now }
 {
@@ -244,7 +244,7 @@ fn virtual_line(alloc: Global, to: RouterId) -> Result<String, AllocError>
 }
 
 // Whether one of the edges leads from one vertex to the other.
-fn joins(edges: &[Edge], from: Vertex, to: Vertex) -> bool
+pub(crate) fn joins(edges: &[Edge], from: Vertex, to: Vertex) -> bool
     ensures { IsTrue result ↔ Joins edges.now from to }
 {
     edges
@@ -291,9 +291,9 @@ fn network_line(
 // What names a network-LSA.
 #[derive(Clone, Copy)]
 pub(crate) struct NetworkName {
-    id: Addr,
-    mask: u32,
-    router: RouterId,
+    pub(crate) id: Addr,
+    pub(crate) mask: u32,
+    pub(crate) router: RouterId,
 }
 
 /// As `10.1.0.0/24 of 10.1.0.2 by 2.2.2.2`.
@@ -313,7 +313,7 @@ impl Display for NetworkName {
 }
 
 // The name of a network-LSA.
-fn name_of(lsa: &LsaView) -> NetworkName
+pub(crate) fn name_of(lsa: &LsaView) -> NetworkName
     requires { IsNetworkLsa lsa.now }
     ensures { result ≡ name_of lsa.now }
 {
@@ -326,7 +326,7 @@ fn name_of(lsa: &LsaView) -> NetworkName
 }
 
 // Whether the network-LSA of a router is the one that stands for its Link State ID.
-fn stands_for(listing: &Listing, id: u32, router: RouterId) -> bool
+pub(crate) fn stands_for(listing: &Listing, id: u32, router: RouterId) -> bool
     ensures { IsTrue result ↔ StandsFor (advertisements_of listing.now) id router }
 {
     match listing.network(id) {

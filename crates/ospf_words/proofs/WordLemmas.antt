@@ -1,5 +1,5 @@
 -- Texts that spell addresses.
-use Rattle.std.proofs.Common.{◌≡◌, ◌⊎◌, ◌∙◌, ◌+◌, ◌<◌, ◌^◌, ◌++◌, ℕ, suc, zero, List, [], ◌∷◌, Ok, Err, Result, IsErrAnd, IfErr, IfNone, IfOk, IfSome, Bor, map, take, length, drop, get_or, subst, refl, ap, ap₂, sym, Option, Some, None, Contains, option_map, unwrap_or, inl, inr, arith, codes, slice_index, string_bytes}
+use Rattle.std.proofs.Common.{Bool, true, false, ◌≡◌, ◌⊎◌, ◌∙◌, ◌+◌, ◌<◌, ◌^◌, ◌++◌, ℕ, suc, zero, List, [], ◌∷◌, Ok, Err, Result, IsErrAnd, IfErr, IfNone, IfOk, IfSome, Bor, map, take, length, drop, get_or, subst, refl, ap, ap₂, sym, Option, Some, None, Contains, option_map, unwrap_or, inl, inr, arith, codes, slice_index, string_bytes}
 use Rattle.std.proofs.lemmas.List.{map-append, take_more}
 use Rattle.std.proofs.lemmas.Option.{none-some}
 use Rattle.std.specs.declared.net.parser.AddrParseError.{AddrParseError}
@@ -11,8 +11,11 @@ use Rattle.ospf_base.specs.Text.{IsDottedNumber, ReadsAddress, ReadsRouterId}
 use Rattle.ospf_base.specs.declared.ids.RouterId.{RouterId}
 use Rattle.ospf_base.specs.declared.ids.Addr.{Addr}
 use Rattle.ospf_words.specs.Job.{IsFaultOfNoValue, IsFaultOfValue, IsFaultOfWords}
-use Rattle.ospf_words.specs.Unasked.{IsFirstWrong, IsJobIfAny, IsNoAddress, IsNoJob, IsNoNumber, IsUncounted, IsWrongValue, LacksInPath, LacksInRun}
-use Rattle.ospf_words.specs.Words.{AreChoices, IsNumber, IsNumberIfAny, IsRunWith, Spell, command_app}
+use Rattle.ospf_words.specs.Unasked.{IsFirstWrong, IsJobIfAny, IsMoreInJson, IsNoAddress, IsNoJob, IsNoNumber, IsUncounted, IsWrongValue, LacksInPath, LacksInRun}
+use Rattle.ospf_words.specs.Words.{AreChoices, IsFlag, IsInspectJob, IsNumber, IsNumberIfAny, IsRunWith, Spell, command_app, lsas_asked}
+use Rattle.ospf_inspect.specs.declared.answer.Form.TheVariants as form
+use Rattle.ospf_inspect.specs.declared.answer.InspectJob.{InspectJob}
+use Rattle.ospf_inspect.specs.declared.answer.InspectJob.TheVariants.{Drawing, Lsas}
 use Rattle.ospf_words.specs.declared.jobs.Job.{Job}
 use Rattle.ospf_words.specs.declared.jobs.Job.TheVariants as job
 use Rattle.ospf_words.specs.declared.jobs.JobFault.{JobFault}
@@ -100,6 +103,10 @@ texts_or_none None none is_empty = ap texts_of is_empty
 pub some_texts : {S : Type 0} (text : S → List ℕ) (texts : List S) (words : List (Bor (List ℕ))) → map text texts ≡ texts_of words → (words ≡ [] → ⊥) → texts ≡ [] → ⊥
 some_texts text texts [] is some none = some refl
 some_texts text texts (w ∷ words) is some none = let e : [] ≡ w.now ∷ texts_of words = sym (ap (map text) none) ∙ is in cc
+
+pub some_words : (words : List (Bor (List ℕ))) → 0 < length words → texts_of words ≡ [] → ⊥
+some_words [] some none = omega (arith, some)
+some_words (w ∷ words) some none = let e : w.now ∷ texts_of words ≡ [] = none in cc
 
 -- ---- words that ask for no job
 
@@ -218,7 +225,7 @@ same_rows name rows others same = ap (λ entered. unwrap_or (option_map (λ (p :
 -- `table` without a root
 pub no_root : (rows : List Row) → first_of (codes "root") rows ≡ None → IsNoJob (Some (codes "table", rows))
 no_root rows none = record {
-  no_table = λ others same. ap (first_of (codes "root")) (sym (same_rows (codes "table") rows others same)) ∙ none;
+  no_table = λ others same. inl (ap (first_of (codes "root")) (sym (same_rows (codes "table") rows others same)) ∙ none);
   no_failures = λ others same. other (codes "table") (codes "failures") rows others (λ (e : 116 ≡ 102). omega (arith, e)) same;
   no_lsas = λ others same. other (codes "table") (codes "lsas") rows others (λ (e : 116 ≡ 108). omega (arith, e)) same;
   no_path = λ others same. other (codes "table") (codes "path") rows others (λ (e : 116 ≡ 112). omega (arith, e)) same;
@@ -226,6 +233,45 @@ no_root rows none = record {
   no_sim = λ others same. other (codes "table") (codes "sim") rows others (λ (e : 116 ≡ 115). omega (arith, e)) same;
   no_run = λ others same. other (codes "table") (codes "run") rows others (λ (e : 116 ≡ 114). omega (arith, e)) same;
 }
+
+-- a table as JSON, and more
+pub more_in_json : (rows : List Row) → IsMoreInJson rows → IsNoJob (Some (codes "table", rows))
+more_in_json rows is = record {
+  no_table = λ others same. inr (subst IsMoreInJson (same_rows (codes "table") rows others same) is);
+  no_failures = λ others same. other (codes "table") (codes "failures") rows others (λ (e : 116 ≡ 102). omega (arith, e)) same;
+  no_lsas = λ others same. other (codes "table") (codes "lsas") rows others (λ (e : 116 ≡ 108). omega (arith, e)) same;
+  no_path = λ others same. other (codes "table") (codes "path") rows others (λ (e : 116 ≡ 112). omega (arith, e)) same;
+  no_check = λ others same. other (codes "table") (codes "check") rows others (λ (e : 116 ≡ 99). omega (arith, e)) same;
+  no_sim = λ others same. other (codes "table") (codes "sim") rows others (λ (e : 116 ≡ 115). omega (arith, e)) same;
+  no_run = λ others same. other (codes "table") (codes "run") rows others (λ (e : 116 ≡ 114). omega (arith, e)) same;
+}
+
+-- both flags of `lsas`
+pub both_flags : (rows : List Row) → IsFlag (one_of (codes "dot") rows) true → IsFlag (one_of (codes "json") rows) true → IsNoJob (Some (codes "lsas", rows))
+both_flags rows drawn json = record {
+  no_table = λ others same. other (codes "lsas") (codes "table") rows others (λ (e : 108 ≡ 116). omega (arith, e)) same;
+  no_failures = λ others same. other (codes "lsas") (codes "failures") rows others (λ (e : 108 ≡ 102). omega (arith, e)) same;
+  no_lsas = λ others same. subst (λ rs. IsFlag (one_of (codes "dot") rs) true × IsFlag (one_of (codes "json") rs) true) (same_rows (codes "lsas") rows others same) (drawn, json);
+  no_path = λ others same. other (codes "lsas") (codes "path") rows others (λ (e : 108 ≡ 112). omega (arith, e)) same;
+  no_check = λ others same. other (codes "lsas") (codes "check") rows others (λ (e : 108 ≡ 99). omega (arith, e)) same;
+  no_sim = λ others same. other (codes "lsas") (codes "sim") rows others (λ (e : 108 ≡ 115). omega (arith, e)) same;
+  no_run = λ others same. other (codes "lsas") (codes "run") rows others (λ (e : 108 ≡ 114). omega (arith, e)) same;
+}
+
+-- and what one of them asks for
+pub is_asked : (rows : List Row) (drawn json : Bool) (asked : InspectJob) → IsFlag (one_of (codes "dot") rows) drawn → IsFlag (one_of (codes "json") rows) json
+    → Some asked ≡ lsas_asked drawn json → IsInspectJob (Some (codes "lsas", rows)) asked
+is_asked rows true true asked d j e = absurd (none-some asked (sym e))
+is_asked rows true false asked d j e = let same : Drawing ≡ asked = cc in subst (IsInspectJob (Some (codes "lsas", rows))) same (rows, refl, d, j)
+is_asked rows false true asked d j e = let same : Lsas form.Json ≡ asked = cc in subst (IsInspectJob (Some (codes "lsas", rows))) same (rows, refl, d, j)
+is_asked rows false false asked d j e = let same : Lsas form.Text ≡ asked = cc in subst (IsInspectJob (Some (codes "lsas", rows))) same (rows, refl, d, j)
+
+pub none_asked : (rows : List Row) (drawn json : Bool) → IsFlag (one_of (codes "dot") rows) drawn → IsFlag (one_of (codes "json") rows) json
+    → None ≡ lsas_asked drawn json → IsNoJob (Some (codes "lsas", rows))
+none_asked rows true true d j e = both_flags rows d j
+none_asked rows true false d j e = absurd (none-some Drawing e)
+none_asked rows false true d j e = absurd (none-some (Lsas form.Json) e)
+none_asked rows false false d j e = absurd (none-some (Lsas form.Text) e)
 
 -- `failures` without a root
 pub no_failing_root : (rows : List Row) → first_of (codes "root") rows ≡ None → IsNoJob (Some (codes "failures", rows))

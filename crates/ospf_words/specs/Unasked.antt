@@ -1,5 +1,5 @@
 -- Why the program's words ask for no job.
-use Rattle.std.specs.Prelude.{◌≡◌, ◌<◌, ◌^◌, ◌⊎◌, ℕ, List, [], ◌∷◌, ◌++◌, Option, Some, None, Contains, ⊤, codes, unwrap_or, string_bytes}
+use Rattle.std.specs.Prelude.{◌≡◌, ◌≢◌, true, ◌<◌, ◌^◌, ◌⊎◌, ℕ, List, [], ◌∷◌, ◌++◌, Option, Some, None, Contains, ⊤, codes, unwrap_or, string_bytes}
 use Rattle.ospf_base.specs.Text.{IsDottedNumber}
 use Rattle.ospf_base.specs.declared.ids.Addr.{Addr}
 use Rattle.clap.specs.Kinds.{IsAmong}
@@ -9,7 +9,7 @@ use Rattle.ospf_words.specs.declared.jobs.Job.{Job}
 use Rattle.ospf_words.specs.declared.jobs.JobFault.{JobFault}
 use Rattle.ospf_words.specs.declared.jobs.JobFault.TheVariants as fault
 use Rattle.ospf_words.specs.Job.{IsFaultOfValue}
-use Rattle.ospf_words.specs.Words.{IsJobOf, IsNumber, Spell, command_app, endless_app}
+use Rattle.ospf_words.specs.Words.{IsFlag, IsJobOf, IsNumber, Spell, command_app, endless_app}
 
 -- the text spells no address
 abbrev pub IsNoAddress : Text → Type 0
@@ -73,11 +73,16 @@ LacksInPath rows = (first_of (codes "from") rows ≡ None) ⊎ (first_of (codes 
 abbrev pub LacksInRun : List Row → Type 0
 LacksInRun rows = IsNoNumber (one_of (codes "tick") rows) ⊎ (all_of (codes "files") rows ≡ None)
 
--- what the words enter is no `table` and no `failures` with a root, no `lsas`, no `path` with both ends and choices, no `check` with files, no `sim` with both, and no `run` with numbers and files
+-- a table is to be printed as JSON, and something is to be looked up in it or left out
+abbrev pub IsMoreInJson : List Row → Type 0
+IsMoreInJson rows =
+    IsFlag (one_of (codes "json") rows) true × ((unwrap_or (all_of (codes "addresses") rows) [] ≢ []) ⊎ (unwrap_or (all_of (codes "without") rows) [] ≢ []))
+
+-- what the words enter is no `table` with a root, but one with `--json` and more, no `failures` with a root, no `lsas` but one with both flags, no `path` with both ends and choices, no `check` with files, no `sim` with both, and no `run` with numbers and files
 pub record IsNoJob (entered : Option (Text × List Row)) : Type 0 where
-  pub no_table : (rows : List Row) → entered ≡ Some (codes "table", rows) → first_of (codes "root") rows ≡ None
+  pub no_table : (rows : List Row) → entered ≡ Some (codes "table", rows) → (first_of (codes "root") rows ≡ None) ⊎ IsMoreInJson rows
   pub no_failures : (rows : List Row) → entered ≡ Some (codes "failures", rows) → first_of (codes "root") rows ≡ None
-  pub no_lsas : (rows : List Row) → entered ≡ Some (codes "lsas", rows) → ⊥
+  pub no_lsas : (rows : List Row) → entered ≡ Some (codes "lsas", rows) → IsFlag (one_of (codes "dot") rows) true × IsFlag (one_of (codes "json") rows) true
   pub no_path : (rows : List Row) → entered ≡ Some (codes "path", rows) → LacksInPath rows
   pub no_check : (rows : List Row) → entered ≡ Some (codes "check", rows) → all_of (codes "files") rows ≡ None
   pub no_sim : (rows : List Row) → entered ≡ Some (codes "sim", rows) → (first_of (codes "script") rows ≡ None) ⊎ (all_of (codes "files") rows ≡ None)

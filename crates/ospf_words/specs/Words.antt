@@ -13,8 +13,10 @@ use Rattle.ospf_words.specs.declared.jobs.CheckJob.{CheckJob}
 use Rattle.ospf_base.specs.declared.ids.RouterId.{RouterId}
 use Rattle.ospf_failures.specs.declared.answer.FailuresJob.{FailuresJob}
 use Rattle.ospf_failures.specs.declared.answer.FailuresJob.TheVariants.{All, Root, Without}
+use Rattle.ospf_inspect.specs.declared.answer.Form.{Form}
+use Rattle.ospf_inspect.specs.declared.answer.Form.TheVariants as form
 use Rattle.ospf_inspect.specs.declared.answer.InspectJob.{InspectJob}
-use Rattle.ospf_inspect.specs.declared.answer.InspectJob.TheVariants.{Lsas, Drawing, Tables, Path}
+use Rattle.ospf_inspect.specs.declared.answer.InspectJob.TheVariants.{Lsas, Drawing, Tables, Table, Path}
 use Rattle.ospf_words.specs.declared.jobs.Job.{Job}
 use Rattle.ospf_words.specs.declared.jobs.Job.TheVariants as job
 use Rattle.ospf_words.specs.declared.jobs.RunJob.{RunJob}
@@ -40,9 +42,13 @@ addresses_rule = record (new_rule (codes "addresses")) {
 abbrev pub without_rule : Rule
 without_rule = record (new_rule (codes "without")) { long = Some (codes "without"); action = Some Append; value_names = 1 }
 
--- the command `table`: a root, then addresses, and what is left out
+-- a flag of this name
+abbrev pub flag_rule : Text → Rule
+flag_rule name = record (new_rule name) { long = Some name; action = Some SetTrue }
+
+-- the command `table`: a root, then addresses, what is left out, and a flag
 abbrev pub table_app : App
-table_app = with_rule (with_rule (with_rule (new_app (codes "table")) root_rule) addresses_rule) without_rule
+table_app = with_rule (with_rule (with_rule (with_rule (new_app (codes "table")) root_rule) addresses_rule) without_rule) (flag_rule (codes "json"))
 
 -- one word or more
 abbrev pub files_rule : Rule
@@ -53,13 +59,10 @@ files_rule = record (new_rule (codes "files")) {
   value_names = 1;
 }
 
--- a flag of this name
-abbrev pub flag_rule : Text → Rule
-flag_rule name = record (new_rule name) { long = Some name; action = Some SetTrue }
-
--- the command `check`: two flags, and files
+-- the command `check`: three flags, and files
 abbrev pub check_app : App
-check_app = with_rule (with_rule (with_rule (new_app (codes "check")) (flag_rule (codes "explain"))) (flag_rule (codes "area"))) files_rule
+check_app =
+    with_rule (with_rule (with_rule (with_rule (new_app (codes "check")) (flag_rule (codes "explain"))) (flag_rule (codes "area"))) (flag_rule (codes "json"))) files_rule
 
 -- the command `failures`: a root, and two flags
 abbrev pub failures_app : App
@@ -68,9 +71,9 @@ failures_app = with_rule (with_rule (with_rule (new_app (codes "failures")) root
 abbrev pub script_rule : Rule
 script_rule = one_rule (codes "script")
 
--- the command `lsas`: a flag
+-- the command `lsas`: two flags
 abbrev pub lsas_app : App
-lsas_app = with_rule (new_app (codes "lsas")) (flag_rule (codes "dot"))
+lsas_app = with_rule (with_rule (new_app (codes "lsas")) (flag_rule (codes "dot"))) (flag_rule (codes "json"))
 
 -- any number of numbers of 32 bits
 abbrev pub choices_rule : Rule
@@ -142,6 +145,12 @@ Spell [] [] = ⊤
 Spell (text ∷ texts) (address ∷ addresses) = ReadsAddress text (Ok address) × Spell texts addresses
 Spell _ _ = ⊥
 
+-- whether a flag is given, by the text that `clap` keeps of it
+pub record IsFlag (text : Option Text) (given : Bool) : Type 0 where
+  pub none : text ≡ None → given ≡ false
+  pub set : text ≡ Some (codes "true") → given ≡ true
+  pub unset : text ≡ Some (codes "false") → given ≡ false
+
 -- the root and the addresses that `clap` reads after `table`, where nothing is to be left out
 pub record IsTableJob (rows : List Row) (t : TableJob) : Type 0 where
   pub text : Text
@@ -149,6 +158,7 @@ pub record IsTableJob (rows : List Row) (t : TableJob) : Type 0 where
   pub root : ReadsRouterId text (Ok t.root)
   pub addresses : Spell (unwrap_or (all_of (codes "addresses") rows) []) t.addresses.items
   pub whole : unwrap_or (all_of (codes "without") rows) [] ≡ []
+  pub plain : IsFlag (one_of (codes "json") rows) false
 
 -- the root and the addresses that `clap` reads after `table`, and the names of what is to be left out
 pub record IsWithoutJob (rows : List Row) (root : RouterId) (names : List (String Global)) (addresses : List Addr) : Type 0 where
@@ -158,12 +168,21 @@ pub record IsWithoutJob (rows : List Row) (root : RouterId) (names : List (Strin
   pub addresses_are : Spell (unwrap_or (all_of (codes "addresses") rows) []) addresses
   pub names_are : map string_bytes names ≡ unwrap_or (all_of (codes "without") rows) []
   pub some : names ≢ []
+  pub plain : IsFlag (one_of (codes "json") rows) false
 
--- whether a flag is given, by the text that `clap` keeps of it
-pub record IsFlag (text : Option Text) (given : Bool) : Type 0 where
-  pub none : text ≡ None → given ≡ false
-  pub set : text ≡ Some (codes "true") → given ≡ true
-  pub unset : text ≡ Some (codes "false") → given ≡ false
+-- the root that `clap` reads after `table`, where it is to be printed as JSON: nothing is to be looked up or left out
+pub record IsTableInJson (rows : List Row) (root : RouterId) : Type 0 where
+  pub text : Text
+  pub has_root : first_of (codes "root") rows ≡ Some text
+  pub root_is : ReadsRouterId text (Ok root)
+  pub alone : unwrap_or (all_of (codes "addresses") rows) [] ≡ []
+  pub whole : unwrap_or (all_of (codes "without") rows) [] ≡ []
+  pub json : IsFlag (one_of (codes "json") rows) true
+
+-- in which form it is to be printed
+abbrev pub IsForm : Option Text → Form → Type 0
+IsForm text form.Text = IsFlag text false
+IsForm text form.Json = IsFlag text true
 
 -- the root that `clap` reads after `failures`, and the flags
 pub record IsRootJob (rows : List Row) (root : RouterId) (each strict : Bool) : Type 0 where
@@ -206,15 +225,26 @@ pub record IsPathJob (rows : List Row) (from : RouterId) (address : Addr) (choic
   pub address_is : ReadsAddress address_text (Ok address)
   pub choices_are : AreChoices (unwrap_or (all_of (codes "choices") rows) []) choices
 
--- what is to be printed of LSAs: by `lsas` each in words, or with its flag as a drawing, by `table` with `all` as its root, no addresses and nothing left out, all tables, and by `path` a way
+-- what is to be printed of LSAs: by `lsas` each in words, or with its flags as a drawing or as JSON, by `table` with `all` as its root, no addresses and nothing left out, all tables, or with its
+-- flag the table of a router as JSON, and by `path` a way
 abbrev pub IsInspectJob : Option (Text × List Row) → InspectJob → Type 0
-IsInspectJob entered Lsas = (rows : List Row) × (entered ≡ Some (codes "lsas", rows)) × IsFlag (one_of (codes "dot") rows) false
-IsInspectJob entered Drawing = (rows : List Row) × (entered ≡ Some (codes "lsas", rows)) × IsFlag (one_of (codes "dot") rows) true
-IsInspectJob entered Tables =
+IsInspectJob entered (Lsas f) =
+    (rows : List Row) × (entered ≡ Some (codes "lsas", rows)) × IsFlag (one_of (codes "dot") rows) false × IsForm (one_of (codes "json") rows) f
+IsInspectJob entered Drawing =
+    (rows : List Row) × (entered ≡ Some (codes "lsas", rows)) × IsFlag (one_of (codes "dot") rows) true × IsFlag (one_of (codes "json") rows) false
+IsInspectJob entered (Tables f) =
     (rows : List Row) × (entered ≡ Some (codes "table", rows)) × (first_of (codes "root") rows ≡ Some (codes "all")) × (unwrap_or (all_of (codes "addresses") rows) [] ≡ [])
-    × (unwrap_or (all_of (codes "without") rows) [] ≡ [])
+    × (unwrap_or (all_of (codes "without") rows) [] ≡ []) × IsForm (one_of (codes "json") rows) f
+IsInspectJob entered (Table root) = (rows : List Row) × (entered ≡ Some (codes "table", rows)) × IsTableInJson rows root
 IsInspectJob entered (Path from address choices) =
     (rows : List Row) × (entered ≡ Some (codes "path", rows)) × IsPathJob rows from address (vec_items choices)
+
+-- what `lsas` is asked for by its flags, of which one at the most is given
+abbrev pub lsas_asked : Bool → Bool → Option InspectJob
+lsas_asked true true = None
+lsas_asked true false = Some Drawing
+lsas_asked false true = Some (Lsas form.Json)
+lsas_asked false false = Some (Lsas form.Text)
 
 -- the files that `clap` reads after `check`, and the flags
 pub record IsCheckJob (rows : List Row) (c : CheckJob) : Type 0 where
@@ -223,6 +253,7 @@ pub record IsCheckJob (rows : List Row) (c : CheckJob) : Type 0 where
   pub files : map string_bytes c.files.items ≡ texts
   pub explain : IsFlag (one_of (codes "explain") rows) c.explain
   pub area : IsFlag (one_of (codes "area") rows) c.area
+  pub json : IsFlag (one_of (codes "json") rows) c.json
 
 -- the script, the files, and the files to be written that `clap` reads after `sim`
 pub record IsSimJob (rows : List Row) (s : SimJob) : Type 0 where

@@ -60,7 +60,8 @@ fn with_table<'a>(program: Command<'a>, alloc: Global) -> Result<Command<'a>, Al
         .after_help(TABLE_HELP)
         .arg(root_arg(alloc))?
         .arg(addresses_arg(alloc))?
-        .arg(without_arg(alloc))?;
+        .arg(without_arg(alloc))?
+        .arg(value_arg(alloc))?;
     program.subcommand(table)
 }
 
@@ -99,6 +100,17 @@ fn without_arg<'a>(alloc: Global) -> Arg<'a>
         .help("Leaves a part of the area out, by its name in `failures`")
 }
 
+// Whether JSON is printed.
+fn value_arg<'a>(alloc: Global) -> Arg<'a>
+    ensures rule { rule_of result ≡ flag_rule (codes "json") }
+    ensures local { result.global ≡ false }
+{
+    Arg::new(alloc, "json")
+        .long("json")
+        .action(ArgAction::SetTrue)
+        .help("Prints a value of JSON instead, on one line")
+}
+
 // Adds the command `failures` and its words.
 fn with_failures<'a>(program: Command<'a>, alloc: Global) -> Result<Command<'a>, AllocError>
     ensures { IfOk result (λ c. app_of c
@@ -135,14 +147,15 @@ fn strict_arg<'a>(alloc: Global) -> Arg<'a>
         .help("Ends with status 1 where a failure cuts a prefix off")
 }
 
-// Adds the command `lsas` and its word.
+// Adds the command `lsas` and its words.
 fn with_lsas<'a>(program: Command<'a>, alloc: Global) -> Result<Command<'a>, AllocError>
     ensures { IfOk result (λ c. app_of c ≡ with_subcommand (app_of program.entry) lsas_app.top) }
 {
     let lsas = Command::new(alloc, "lsas")
         .about("Prints LSAs in hexadecimal, one a line, on standard input, in words")
         .after_help(LSAS_HELP)
-        .arg(drawing_arg(alloc))?;
+        .arg(drawing_arg(alloc))?
+        .arg(value_arg(alloc))?;
     program.subcommand(lsas)
 }
 
@@ -214,6 +227,7 @@ fn with_check<'a>(program: Command<'a>, alloc: Global) -> Result<Command<'a>, Al
         .after_help(CHECK_HELP)
         .arg(explain_arg(alloc))?
         .arg(area_arg(alloc))?
+        .arg(value_arg(alloc))?
         .arg(files_arg(alloc))?;
     program.subcommand(check)
 }

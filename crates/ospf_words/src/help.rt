@@ -29,6 +29,8 @@ Where ROOT is `all`, and no ADDRESS follows, each router's table stands below a 
 With --without it is the table of the area without what is named, as in `failures`:
 a link R-S@SUBNET (or SUBNET alone), links R-S, an interface R@NETWORK, a network
 @NETWORK or a router R.
+With --json, and neither ADDRESS nor --without, it is one array: an object a route, or
+where ROOT is `all` an object a router, with its routes.
 
 Exit status:
   0  done; where the root's router-LSA is not listed, standard error says so
@@ -41,6 +43,7 @@ Examples:
   ospfd table 1.1.1.1 192.168.2.9 < lsas.txt
   ospfd table 1.1.1.1 --without 2.2.2.2 --without @10.1.0.3 < lsas.txt
   ospfd table all < lsas.txt
+  ospfd table 1.1.1.1 --json < lsas.txt
 ";
 
 // What `lsas --help` says.
@@ -54,7 +57,8 @@ pub(crate) const LSAS_HELP: &str = "Output:
   network PREFIX of ADDRESS by R age N number N sum N
                               a network-LSA, and a line for each attached router:
     router S
-With --dot it is a drawing instead, in the language of Graphviz.
+With --dot it is a drawing instead, in the language of Graphviz, and with --json one
+array: an object an LSA.
 A link or router is `one-way` where the LSA at its other end does not name it back;
 a network-LSA is `unused` where another of its Link State ID stands for the network.
 
@@ -126,6 +130,8 @@ pub(crate) const CHECK_HELP: &str = "Output:
   FILE: C5 ZeroCost           on standard error: the fault of least number; with
                               --explain, further lines say what to do about it
   FILE: not read              on standard error, where the check ends
+With --json the files are judged together, as with --area, and what is wrong between
+them is one array on standard output: an object a fault or note.
 
 Exit status:
   0  each file is accepted

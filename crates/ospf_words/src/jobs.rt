@@ -40,6 +40,8 @@ pub struct CheckJob {
     pub explain: bool,
     /// Whether they are of one area, and are judged together.
     pub area: bool,
+    /// Whether that is printed as JSON.
+    pub json: bool,
 }
 
 /// A simulation that is asked for.

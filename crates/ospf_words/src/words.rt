@@ -1,11 +1,11 @@
 //! The words of the command line.
 
 ghost use Rattle.clap.specs.Faults.{fault_of};
-ghost use Rattle.std.specs.Prelude.{OnOk, [], ◌≡◌, ◌≢◌, map, option_map, unwrap_or, codes, string_bytes, Ok, Err, Some, IfNone, IfOk, IfErr, IfSome};
-ghost use Rattle.clap.specs.Words.{all_of, found_of, rows_of, subcommand_rows_of, subcommand_of};
+ghost use Rattle.std.specs.Prelude.{OnOk, true, false, [], ◌≡◌, ◌≢◌, map, option_map, unwrap_or, codes, string_bytes, Ok, Err, Some, IfNone, IfOk, IfErr, IfSome};
+ghost use Rattle.clap.specs.Words.{all_of, found_of, one_of, rows_of, subcommand_rows_of, subcommand_of};
 ghost use Rattle.ospf_words.specs.Job.{IsFaultOfNoValue, IsFaultOfValue, IsHelp};
 ghost use Rattle.ospf_words.specs.Unasked.{IsFirstWrong, IsJobIfAny, IsNoAddress, IsUnasked, HasNoChoice, IsWrongValue, IsUncounted, LacksInRun};
-ghost use Rattle.ospf_words.specs.Words.{AreChoices, IsAddressIfAny, IsAsked, Spell, command_app, HasTicks, IsAccepted, IsEndless, IsEndlessIn, IsEndlessJob, IsJobOf, IsRunWith, endless_app};
+ghost use Rattle.ospf_words.specs.Words.{AreChoices, IsAddressIfAny, IsAsked, IsFlag, Spell, command_app, lsas_asked, HasTicks, IsAccepted, IsEndless, IsEndlessIn, IsEndlessJob, IsJobOf, IsRunWith, endless_app};
 
 use crate::commands::{any_ticks_arg, command, ticks_arg};
 use crate::jobs::{CheckJob, Job, JobFault, RunJob, SimJob};
@@ -13,7 +13,7 @@ use clap::error::ErrorKind;
 use clap::{ArgMatches, Command};
 use ospf_base::Addr;
 use ospf_failures::FailuresJob;
-use ospf_inspect::InspectJob;
+use ospf_inspect::{Form, InspectJob};
 use ospf_table::TableJob;
 use std::alloc::{AllocError, Global};
 use std::str::FromStr;
@@ -23,6 +23,9 @@ const ALL: &str = "all";
 
 // The word that stands in place of the ticks of a run without a last one.
 const FOREVER: &str = "forever";
+
+// What is said of `--json` beside words that it does not go with.
+const ALONE: &str = "--json goes with no ADDRESS, no --without and no --dot";
 
 /// The fault of words of which one is not UTF-8: `Words`, or `Memory` where memory ran out.
 pub fn not_text(alloc: Global) -> JobFault
@@ -135,6 +138,9 @@ fn table_job(alloc: Global, values: &ArgMatches<'_>) -> Result<Option<Job>, JobF
     ensures fault { IfErr result (IsFaultOfValue
         (IsWrongValue (Some (codes "table", rows_of (found_of values.now))))) }
 {
+    if values.get_flag("json") {
+        return json_job(alloc, values);
+    }
     let names = values.get_strs("without").unwrap_or(&[]);
     if names.is_empty() {
         whole_job(alloc, values)
@@ -145,7 +151,8 @@ fn table_job(alloc: Global, values: &ArgMatches<'_>) -> Result<Option<Job>, JobF
 
 // The values of `table` where nothing is left out: its job, if they have a root. For all roots there are no addresses.
 fn whole_job(alloc: Global, values: &ArgMatches<'_>) -> Result<Option<Job>, JobFault>
-    requires { unwrap_or (all_of (codes "without") (rows_of (found_of values.now))) [] ≡ [] }
+    requires whole { unwrap_or (all_of (codes "without") (rows_of (found_of values.now))) [] ≡ [] }
+    requires plain { IsFlag (one_of (codes "json") (rows_of (found_of values.now))) false }
     ensures ok { IfOk result (IsJobIfAny (Some (codes "table", rows_of (found_of values.now)))) }
     ensures fault { IfErr result (IsFaultOfValue
         (IsWrongValue (Some (codes "table", rows_of (found_of values.now))))) }
@@ -155,7 +162,7 @@ fn whole_job(alloc: Global, values: &ArgMatches<'_>) -> Result<Option<Job>, JobF
     };
     let addresses = values.get_strs("addresses").unwrap_or(&[]);
     if root == ALL && addresses.is_empty() {
-        return Ok(Some(Job::Inspect(InspectJob::Tables)));
+        return Ok(Some(Job::Inspect(InspectJob::Tables(Form::Text))));
     }
     Ok(Some(Job::Table(TableJob {
         root: parsed(alloc, root)?,
@@ -172,6 +179,7 @@ fn without_job(
     requires names { map (λ w. w.now) names.now
         ≡ unwrap_or (all_of (codes "without") (rows_of (found_of values.now))) [] }
     requires some { names.now ≢ [] }
+    requires plain { IsFlag (one_of (codes "json") (rows_of (found_of values.now))) false }
     ensures ok { IfOk result (IsJobIfAny (Some (codes "table", rows_of (found_of values.now)))) }
     ensures fault { IfErr result (IsFaultOfValue
         (IsWrongValue (Some (codes "table", rows_of (found_of values.now))))) }
@@ -188,6 +196,31 @@ fn without_job(
         names,
         addresses,
     })))
+}
+
+// The values of `table` that ask for JSON: its job, if they have a root, and nothing is looked up or left out.
+fn json_job(alloc: Global, values: &ArgMatches<'_>) -> Result<Option<Job>, JobFault>
+    requires { IsFlag (one_of (codes "json") (rows_of (found_of values.now))) true }
+    ensures ok { IfOk result (IsJobIfAny (Some (codes "table", rows_of (found_of values.now)))) }
+    ensures fault { IfErr result (IsFaultOfValue
+        (IsWrongValue (Some (codes "table", rows_of (found_of values.now))))) }
+{
+    let Some(root) = values.get_str("root") else {
+        return Ok(None);
+    };
+    let addresses = values.get_strs("addresses").unwrap_or(&[]);
+    if !addresses.is_empty() {
+        return Ok(None);
+    }
+    let names = values.get_strs("without").unwrap_or(&[]);
+    if !names.is_empty() {
+        return Ok(None);
+    }
+    if root == ALL {
+        return Ok(Some(Job::Inspect(InspectJob::Tables(Form::Json))));
+    }
+    let root = parsed(alloc, root)?;
+    Ok(Some(Job::Inspect(InspectJob::Table(root))))
 }
 
 // The value that a word spells.
@@ -279,14 +312,28 @@ fn choices_of(alloc: Global, words: &[&str]) -> Result<Option<Vec<u32>>, AllocEr
     Ok(Some(choices))
 }
 
-// The values of `lsas`: its job, by its flag.
+// The values of `lsas`: its job, by its flags, if not both are given.
 fn lsas_job(values: &ArgMatches<'_>) -> Option<Job>
     ensures { IsJobIfAny (Some (codes "lsas", rows_of (found_of values.now))) result }
 {
-    if values.get_flag("dot") {
-        return Some(Job::Inspect(InspectJob::Drawing));
+    let drawn = values.get_flag("dot");
+    let json = values.get_flag("json");
+    match lsas_asked(drawn, json) {
+        Some(asked) => Some(Job::Inspect(asked)),
+        None => None,
     }
-    Some(Job::Inspect(InspectJob::Lsas))
+}
+
+// What the flags of `lsas` ask for.
+fn lsas_asked(drawn: bool, json: bool) -> Option<InspectJob>
+    ensures { result ≡ lsas_asked drawn json }
+{
+    match (drawn, json) {
+        (true, true) => None,
+        (true, false) => Some(InspectJob::Drawing),
+        (false, true) => Some(InspectJob::Lsas(Form::Json)),
+        (false, false) => Some(InspectJob::Lsas(Form::Text)),
+    }
 }
 
 // The values of `check`: its job, if they have files.
@@ -299,10 +346,12 @@ fn check_job(alloc: Global, values: &ArgMatches<'_>) -> Result<Option<Job>, Allo
     let files = owned(alloc, files)?;
     let explain = values.get_flag("explain");
     let area = values.get_flag("area");
+    let json = values.get_flag("json");
     Ok(Some(Job::Check(CheckJob {
         files,
         explain,
         area,
+        json,
     })))
 }
 
@@ -443,7 +492,7 @@ fn parsed_if_any(alloc: Global, word: Option<&str>) -> Result<Option<Addr>, JobF
 fn no_job(command: &mut Command<'_>) -> JobFault
     ensures { IsFaultOfNoValue result }
 {
-    match command.error(ErrorKind::MissingSubcommand, "a command is needed") {
+    match command.error(ErrorKind::ArgumentConflict, ALONE) {
         Ok(error) => JobFault::from(error),
         Err(_) => JobFault::Memory,
     }

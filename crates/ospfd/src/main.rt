@@ -4,7 +4,7 @@
 mod screen;
 
 use crate::screen::Screen;
-use ospf_check::{check_area_text, check_text};
+use ospf_check::{check_area_json, check_area_text, check_text};
 use ospf_failures::failures_text;
 use ospf_files::{
     FailedStreams, Failure, NamedFile, Status, read_file, read_files, tell_unwritten,
@@ -66,9 +66,12 @@ fn run_check<R: Runtime + AllocGlobal, O: Write, E: Write>(
         files,
         explain,
         area,
+        json,
     } = job;
     let files = read_files(rt, files)?;
-    if area {
+    if json {
+        Ok(check_area_json(rt.alloc(), &files, out, err))
+    } else if area {
         Ok(check_area_text(rt.alloc(), &files, explain, out, err))
     } else {
         Ok(check_text(rt.alloc(), &files, explain, out, err))

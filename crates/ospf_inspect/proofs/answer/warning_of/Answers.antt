@@ -4,6 +4,10 @@ use Rattle.ospf_inspect.specs.Answer.{Warns}
 use Rattle.ospf_inspect.specs.declared.answer.InspectJob.{InspectJob}
 use Rattle.ospf_inspect.proofs.answer.warning_of.Goals as goal
 
+pub returns-in-Table : goal.returns-in-Table
+returns-in-Table c =
+    IfOk-weaker c.unlisted_text.result _ _ (λ text is. subst (λ (j : InspectJob). Warns j c.args.listing.now (string_bytes text)) (sym c.in-Table.is) is) c.unlisted_text.ensures
+
 pub returns-in-Path : goal.returns-in-Path
 returns-in-Path c =
-    IfOk-weaker c.unlisted_text.result _ _ (λ text is. subst (λ (j : InspectJob). Warns j c.args.listing.now (string_bytes text)) (sym c.in-Path.is) is) c.unlisted_text.ensures
+    IfOk-weaker c.unlisted_text-in-Path.result _ _ (λ text is. subst (λ (j : InspectJob). Warns j c.args.listing.now (string_bytes text)) (sym c.in-Path.is) is) c.unlisted_text-in-Path.ensures

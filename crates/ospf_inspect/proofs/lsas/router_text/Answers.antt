@@ -1,7 +1,4 @@
-use Rattle.std.proofs.Common.{rules, ◌≡◌, ◌∙◌, ◌++◌, ℕ, List, ap, subst, sym, string_bytes}
-use Rattle.ospf_base.specs.declared.ids.Instance.{Instance}
-use Rattle.ospf_base.specs.declared.ids.LsaKey.{LsaKey}
-use Rattle.ospf_base.specs.declared.ids.RouterId.{RouterId}
+use Rattle.std.proofs.Common.{rules, ◌≡◌, ◌++◌, List, subst, sym, string_bytes}
 use Rattle.ospf_graph.specs.declared.graph.Edge.{Edge}
 use Rattle.ospf_graph.specs.declared.graph.Vertex.TheVariants as vertex
 use Rattle.ospf_edges.specs.Listed.{advertisements_of}

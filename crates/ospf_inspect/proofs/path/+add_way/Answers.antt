@@ -1,4 +1,4 @@
-use Rattle.std.proofs.Common.{rules, ◌≡◌, ◌∙◌, ◌++◌, ℕ, suc, List, ap, arith, refl, subst, sym, string_bytes}
+use Rattle.std.proofs.Common.{rules, ◌≡◌, ◌++◌, arith, refl, string_bytes}
 use Rattle.std.proofs.lemmas.Result.{IfOk-weaker}
 use Rattle.ospf_edges.specs.Listed.{advertisements_of}
 use Rattle.ospf_graph.specs.declared.hop.NextHop.TheVariants as hops

@@ -1,4 +1,3 @@
-use Rattle.std.proofs.Common.{ℕ}
 use Rattle.ospf_inspect.proofs.path.+add_way.Given as goal
 
 -- the routers that may still be met

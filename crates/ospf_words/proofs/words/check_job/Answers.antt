@@ -28,5 +28,10 @@ returns c =
           set = λ e. c.get_flag-area.ensures.value (one_text-rows found (codes "area") ∙ e);
           unset = λ e. c.get_flag-area.ensures.other (one_text-rows found (codes "area") ∙ e);
         };
+        json = record {
+          none = λ e. c.get_flag-json.ensures.none (one_text-rows found (codes "json") ∙ e);
+          set = λ e. c.get_flag-json.ensures.value (one_text-rows found (codes "json") ∙ e);
+          unset = λ e. c.get_flag-json.ensures.other (one_text-rows found (codes "json") ∙ e);
+        };
       },
     )

@@ -1,6 +1,6 @@
-use Rattle.std.proofs.Common.{◌≡◌, ◌∙◌, ◌<◌, ◌^◌, Bor, ℕ, List, ap, sym, refl, subst, codes, inl, inr, Some, None, option_map}
+use Rattle.std.proofs.Common.{◌≡◌, ◌∙◌, ◌<◌, ◌^◌, Bor, ℕ, List, sym, refl, subst, codes, inl, inr, Some, None, option_map}
 use Rattle.std.specs.Str.Parse.{ParsesUnsigned, ExplainsUnsignedError, HasUnsignedDigitsIfOk}
-use Rattle.clap.specs.Words.{first_of, found_of, one_of, rows_of}
+use Rattle.clap.specs.Words.{found_of, one_of, rows_of}
 use Rattle.clap.proofs.WalkLemmas.{first_value-rows, one_text-rows, raw_values-rows}
 use Rattle.ospf_words.specs.Job.{IsFaultOfValue}
 use Rattle.ospf_words.specs.Unasked.{IsNoAddress, IsWrongValue}

@@ -56,7 +56,8 @@ returns-then-is_empty-clause-ok c =
       refl,
       sym (named (λ n. first_of n (rows_of found)) _ _ (codes "root") (search rules) (c.in-Some.ensures ∙ first_value-rows found _)) ∙ ap Some all,
       sym addresses ∙ ap texts_of empty,
-      c.requires,
+      c.requires.whole,
+      c.requires.plain,
     )
 
 pub returns-clause-ok : goal.returns-clause-ok
@@ -73,6 +74,7 @@ returns-clause-ok c =
         has_root = sym (named (λ n. first_of n (rows_of found)) _ _ (codes "root") (search rules) (c.in-Some.ensures ∙ first_value-rows found _));
         root = search (c.in_ok-parsed.ensures.value);
         addresses = subst (λ texts. Spell texts c.in_ok-parsed_addresses.field-0.items) addresses (search (c.in_ok-parsed_addresses.ensures.spelled));
-        whole = c.requires;
+        whole = c.requires.whole;
+        plain = c.requires.plain;
       },
     )

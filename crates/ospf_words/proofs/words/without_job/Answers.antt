@@ -56,6 +56,7 @@ returns-clause-ok c =
         root_is = search (c.in_ok-root.ensures.value);
         addresses_are = subst (λ texts. Spell texts c.in_ok-addresses.addresses.items) addresses (search (c.in_ok-addresses.ensures.spelled));
         names_are = names ∙ c.requires.names;
+        plain = c.requires.plain;
         some = some_texts string_bytes c.in_ok-names.names.items c.args.names.now names c.requires.some;
       },
     )

@@ -1,0 +1,7 @@
+use Rattle.serde_json.specs.View.{view}
+use Rattle.ospf_edges.specs.Listed.{advertisements_of}
+use Rattle.ospf_inspect.proofs.Floats.{of_tables}
+use Rattle.ospf_inspect.proofs.tables.tables_json.Goals as goal
+
+pub json_line-requires : goal.json_line-requires
+json_line-requires c = of_tables (advertisements_of c.args.listing.now) c.args.listing.now (view c.in_ok-value.value) c.in_ok-value.ensures
