@@ -98,8 +98,8 @@ fn lines_are_answered(rt: HostRuntime) -> Result<(), Fail> {
         assert_eq!(rt; simulated.status, Status::Done, "{}", case.input);
         assert_eq!(rt; out.as_slice(), case.out.as_bytes(), "{}", case.input);
         assert_eq!(rt; err.as_slice(), case.err.as_bytes(), "{}", case.input);
-        assert_eq!(rt; simulated.is_unmet, case.is_unmet, "{}", case.input);
-        assert!(rt; simulated.world.is_some(), "{}", case.input);
+        let is_unmet = simulated.left.map(|left| left.is_unmet);
+        assert_eq!(rt; is_unmet, Some(case.is_unmet), "{}", case.input);
     }
     Ok(())
 }
@@ -116,7 +116,7 @@ fn no_world_has_no_console(rt: HostRuntime) -> Result<(), Fail> {
         assert_eq!(rt; simulated.status, status, "{told}");
         assert_eq!(rt; err.as_slice(), told.as_bytes());
         assert!(rt; out.is_empty(), "{told}");
-        assert!(rt; simulated.world.is_none(), "{told}");
+        assert!(rt; simulated.left.is_none(), "{told}");
     }
     Ok(())
 }

@@ -25,10 +25,15 @@ fn expect(
     rt: &impl Abort,
     alloc: Global,
     listing: &Listing,
-    stopped: &[RouterId],
+    (stopped, walked): (&[RouterId], &[RouterId]),
     lines: &str,
 ) -> Result<(), Fail> {
-    let text = format!(in alloc; "{}", Graph { listing, stopped })?;
+    let graph = Graph {
+        listing,
+        stopped,
+        walked,
+    };
+    let text = format!(in alloc; "{graph}")?;
     let wanted = format!(in alloc; "{HEAD}{lines}}}\n")?;
     assert_eq!(rt; text.as_str(), wanted.as_str());
     Ok(())
@@ -72,14 +77,27 @@ fn two_routers_and_a_network(rt: HostRuntime) -> Result<(), Fail> {
     listing.add(Lsa::network(alloc, NETWORK, second, 1, MASK, &[FIRST, second])?)?;
     listing.add(Lsa::router(alloc, second, 1, &of_second)?)?;
     listing.add(Lsa::router(alloc, FIRST, 1, &of_first)?)?;
-    expect(&rt, alloc, &listing, &[], TWO)
+    expect(&rt, alloc, &listing, (&[], &[]), TWO)
 }
 
 #[test]
 fn an_empty_listing(rt: HostRuntime) -> Result<(), Fail> {
     let alloc = rt.alloc();
     let listing = Listing::new(alloc);
-    expect(&rt, alloc, &listing, &[], "")
+    expect(&rt, alloc, &listing, (&[], &[]), "")
+}
+
+// An arrow from each router of a walk to the next, and none from the last.
+static WALKED: &str = "  \"1.1.1.1\" -- \"2.2.2.2\" [dir=forward, color=red, penwidth=2];
+  \"2.2.2.2\" -- \"3.3.3.3\" [dir=forward, color=red, penwidth=2];
+";
+
+#[test]
+fn a_walk(rt: HostRuntime) -> Result<(), Fail> {
+    let alloc = rt.alloc();
+    let listing = Listing::new(alloc);
+    expect(&rt, alloc, &listing, (&[], &[FIRST]), "")?;
+    expect(&rt, alloc, &listing, (&[], &[FIRST, SECOND, THIRD]), WALKED)
 }
 
 // Three links one way and two back: the first with the first, the second with the second, and the third alone.
@@ -104,7 +122,7 @@ fn links_side_by_side(rt: HostRuntime) -> Result<(), Fail> {
     let mut listing = Listing::new(alloc);
     listing.add(Lsa::router(alloc, FIRST, 1, &of_first)?)?;
     listing.add(Lsa::router(alloc, SECOND, 1, &of_second)?)?;
-    expect(&rt, alloc, &listing, &[], PARALLEL)
+    expect(&rt, alloc, &listing, (&[], &[]), PARALLEL)
 }
 
 // The larger Router ID alone tells of the link.
@@ -119,7 +137,7 @@ fn a_link_of_one_end(rt: HostRuntime) -> Result<(), Fail> {
     let mut listing = Listing::new(alloc);
     listing.add(Lsa::router(alloc, FIRST, 1, &[])?)?;
     listing.add(Lsa::router(alloc, SECOND, 1, &[to(FIRST, 0x0a00_0002, 4)])?)?;
-    expect(&rt, alloc, &listing, &[], BACK_ALONE)
+    expect(&rt, alloc, &listing, (&[], &[]), BACK_ALONE)
 }
 
 // Of two LSAs of a network the one of the larger Advertising Router stands for it, which names the first router alone.
@@ -140,7 +158,7 @@ fn a_network_of_two_lsas(rt: HostRuntime) -> Result<(), Fail> {
     listing.add(Lsa::router(alloc, SECOND, 1, &[on_network(NETWORK, 6)])?)?;
     listing.add(Lsa::network(alloc, NETWORK, SECOND, 1, MASK, &[SECOND, THIRD])?)?;
     listing.add(Lsa::network(alloc, NETWORK, THIRD, 1, MASK, &[FIRST])?)?;
-    expect(&rt, alloc, &listing, &[], TWICE)
+    expect(&rt, alloc, &listing, (&[], &[]), TWICE)
 }
 
 // A network that is not listed.
@@ -155,5 +173,5 @@ fn routers_that_do_not_run(rt: HostRuntime) -> Result<(), Fail> {
     let alloc = rt.alloc();
     let mut listing = Listing::new(alloc);
     listing.add(Lsa::router(alloc, FIRST, 1, &[on_network(0x0a01_0001, 5)])?)?;
-    expect(&rt, alloc, &listing, &[SECOND, FIRST], UNLISTED)
+    expect(&rt, alloc, &listing, (&[SECOND, FIRST], &[]), UNLISTED)
 }

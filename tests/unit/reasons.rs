@@ -2,7 +2,7 @@
 
 use super::made::{FIRST, SECOND};
 use super::worlds::{OTHER, start, two_that_run, world_of};
-use ospf_views::{detail_of, why};
+use ospf_views::{detail_of, drop_reason, why};
 use ospf_world::{World, WorldEvent};
 use std::alloc::Global;
 use std::test::Fail;
@@ -52,6 +52,12 @@ fn detail(world: &World, place: usize, alloc: Global) -> Result<Option<String>, 
     }
 }
 
+// Why the first router would drop a datagram of the world.
+fn drop(world: &World, place: usize, alloc: Global) -> Result<String, Fail> {
+    let sent = &world.datagrams().get(place).ok_or("no datagram")?.sent;
+    Ok(drop_reason(world.router(FIRST)?, 0, sent, alloc)?)
+}
+
 // A Hello of another interval does not fit, and an own one does.
 #[test]
 fn a_mismatch_is_explained(rt: HostRuntime) -> Result<(), Fail> {
@@ -65,6 +71,8 @@ fn a_mismatch_is_explained(rt: HostRuntime) -> Result<(), Fail> {
     let other = detail(&world, last, alloc)?;
     assert_eq!(rt; other.as_deref(), Some("HelloInterval 10 there, 5 here"));
     assert!(rt; detail(&world, 0, alloc)?.is_none());
+    assert_eq!(rt; drop(&world, last, alloc)?.as_str(), "  would drop the last datagram of 10.0.0.2: R6 HelloMismatch: HelloInterval 10 there, 5 here\n");
+    assert_eq!(rt; drop(&world, 0, alloc)?.as_str(), "  would drop the last datagram of 10.0.0.1: R3 OwnPacket\n");
     Ok(())
 }
 
@@ -75,6 +83,7 @@ fn what_is_taken_fits(rt: HostRuntime) -> Result<(), Fail> {
     let world = two_that_run(alloc)?;
     let last = world.datagrams().len() - 1;
     assert!(rt; detail(&world, last, alloc)?.is_none());
+    assert!(rt; drop(&world, last, alloc)?.is_empty());
     assert!(rt; detail_of(world.router(FIRST)?, 0, &[]).is_none());
     Ok(())
 }

@@ -1,3 +1,5 @@
+pub mod Enumerated
+pub mod LastDrops
 pub mod Chances
 pub mod Done
 pub mod Lent
@@ -7,5 +9,4 @@ pub mod KeepFacts
 pub mod Leading
 pub mod Settling
 pub mod Apart
-pub mod Headed
 pub mod Same

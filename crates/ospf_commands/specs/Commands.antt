@@ -1,5 +1,5 @@
 -- What a command of a script does to a simulation, and what it prints.
-use Rattle.std.specs.Prelude.{◌≡◌, ℕ, Bool, List, [], Ok, Option, Some, false}
+use Rattle.std.specs.Prelude.{◌≡◌, ℕ, List, [], Ok, Option, Some, false}
 use Rattle.ospf_headline.specs.declared.event.WorldEvent.{WorldEvent}
 use Rattle.ospf_script.specs.Words.{Text}
 use Rattle.ospf_script.specs.declared.command.Command.{Command}
@@ -36,7 +36,7 @@ Does (command.Round count most) s answer text s' = AreRounds (most_of most) coun
 Does (command.Random number count) s answer text s' = SomeHappen number count s answer s' × (text ≡ [])
 Does (command.Settle most) s answer text s' = Settles most (record s { is_settled = false }) answer text s'
 Does (command.Show view r) s answer text s' = IsShown view r s answer text × (s' ≡ s)
-Does (command.Walk from address choices) s answer text s' = IsWalked from address choices.items s answer text × (s' ≡ s)
+Does (command.Walk from address choices) s answer text s' = IsWalked from address choices.items s s' answer text
 Does (command.Say said) s answer text s' = IsSaid said answer text × (s' ≡ s)
 Does (command.Why r link neighbour) s answer text s' = IsExplained r link neighbour s answer text × (s' ≡ s)
 Does (command.Loss percent number network) s answer text s' =

@@ -1,16 +1,14 @@
 -- What a printing line of a script prints beside what it shows of a router.
-use Rattle.std.specs.Prelude.{ℕ, Bool, List, [], ◌++◌, String, codes, decimal, if◌then◌else◌, string_bytes}
+use Rattle.std.specs.Prelude.{Bool, ◌++◌, String, codes, decimal, string_bytes}
 use Rattle.std.specs.declared.alloc.Global.{Global}
 use Rattle.ospf_base.specs.Text.{number_text}
 use Rattle.ospf_base.specs.declared.ids.Addr.{Addr}
 use Rattle.ospf_base.specs.declared.ids.RouterId.{RouterId}
 use Rattle.ospf_headline.specs.declared.walk.WalkEnd.{WalkEnd}
 use Rattle.ospf_headline.specs.declared.walk.WalkEnd.TheVariants.{Arrived, NoRoute, NotRunning, Turns}
-use Rattle.ospf_router.specs.Routers.{RouterValue}
 use Rattle.ospf_views.specs.Texts.{routers_text}
 use Rattle.ospf_script.specs.Words.{Text}
-use Rattle.ospf_script.specs.declared.command.View.{View}
-use Rattle.ospf_views.specs.Shown.{heading, view_lines}
+use Rattle.ospf_views.specs.Shown.{headed}
 use Rattle.ospf_world.specs.declared.walk.Walk.{Walk}
 
 -- how a walk ended
@@ -35,14 +33,6 @@ ends_text from address = codes "walk from " ++ number_text from.0 ++ codes " to 
 
 abbrev pub walk_heading : RouterId → Addr → Text
 walk_heading from address = ends_text from address ++ codes ": routers, cost, end\n"
-
--- a line above what is shown, where labels are asked for
-abbrev pub headed : Bool → Text → Text → Text
-headed is_labelled line text = (if is_labelled then line else []) ++ text
-
--- what is shown of a router that runs
-abbrev pub shown_lines : Bool → View → RouterId → RouterValue → Text
-shown_lines is_labelled view r x = headed is_labelled (heading view r) (view_lines view x)
 
 -- a walk
 abbrev pub walked_lines : Bool → RouterId → Addr → Walk → Text

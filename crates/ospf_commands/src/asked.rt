@@ -5,12 +5,13 @@ ghost use Rattle.ospf_files.specs.Streams.{IsOutputCut};
 ghost use Rattle.ospf_commands.specs.Asked.{IsExplained, IsSaid, IsShown, IsWalked};
 ghost use Rattle.ospf_commands.specs.Printed.{IsPrinted, IsPrintedBegun};
 
-use crate::show::{write_said, write_shown, write_walked};
+use crate::drops::why_lines;
+use crate::show::{said_line, write_walked};
 use crate::simulation::Simulation;
 use ospf_base::{Addr, RouterId};
 use ospf_files::{FailedStreams, Failure};
 use ospf_script::View;
-use ospf_views::why;
+use ospf_views::write_shown;
 use ospf_world::WorldFault;
 use std::alloc::Global;
 use std::io::Write;
@@ -28,7 +29,8 @@ pub(crate) fn say<O: Write>(
         (IsPrintedBegun (IsSaid text.now) (O.contents out.old) (O.contents out.new)) }
     ensures cut { IfErr result (IsOutputCut streams.new) }
 {
-    write_said(alloc, text, out, streams)?;
+    let line = said_line(alloc, text)?;
+    streams.write(out, &line)?;
     Ok(Ok(()))
 }
 
@@ -57,9 +59,9 @@ pub(crate) fn show_router<O: Write>(
     }
 }
 
-// Prints a walk, if there is one. Where that fails, a beginning of it was written.
+// Prints a walk, if there is one, and keeps whom it met. Where printing fails, a beginning of it was written.
 pub(crate) fn show_walk<O: Write>(
-    simulation: &Simulation,
+    simulation: &mut Simulation,
     ends: (RouterId, Addr),
     choices: &[u32],
     out: &mut O,
@@ -67,24 +69,26 @@ pub(crate) fn show_walk<O: Write>(
     streams: &mut FailedStreams,
 ) -> Result<Result<(), WorldFault>, Failure>
     ensures walked { IfOk result (λ answer. IsPrinted
-        (IsWalked ends.0 ends.1 choices.now simulation.now) answer
+        (IsWalked ends.0 ends.1 choices.now simulation.old simulation.new) answer
         (O.contents out.old) (O.contents out.new)) }
     ensures begun { OnErr result (IsPrintedBegun
-        (IsWalked ends.0 ends.1 choices.now simulation.now)
+        (IsWalked ends.0 ends.1 choices.now simulation.old simulation.new)
         (O.contents out.old) (O.contents out.new)) }
     ensures cut { IfErr result (IsOutputCut streams.new) }
 {
     let (from, address) = ends;
     match simulation.world.walk(from, address, choices, alloc) {
         Ok(walk) => {
-            write_walked(alloc, simulation.is_labelled, ends, &walk, out, streams)?;
+            let written = write_walked(alloc, simulation.is_labelled, ends, &walk, out, streams);
+            simulation.walk = Some(walk);
+            written?;
             Ok(Ok(()))
         }
         Err(fault) => Ok(Err(fault)),
     }
 }
 
-// Prints what a link waits for, or a router on it, if there is such a link. Where that fails, a beginning of it was written.
+// Prints what a link waits for, or a router on it, and why it would drop what came last, if there is such a link. Where that fails, a beginning of it was written.
 pub(crate) fn show_why<O: Write>(
     simulation: &Simulation,
     place: (RouterId, usize),
@@ -101,12 +105,11 @@ pub(crate) fn show_why<O: Write>(
         (O.contents out.old) (O.contents out.new)) }
     ensures cut { IfErr result (IsOutputCut streams.new) }
 {
-    let (router, link) = place;
-    let lent = match simulation.world.router(router) {
+    let lent = match simulation.world.router(place.0) {
         Ok(lent) => lent,
         Err(fault) => return Ok(Err(fault)),
     };
-    match why(lent, link, neighbour, alloc)? {
+    match why_lines(&simulation.world, lent, place, neighbour, alloc)? {
         Some(lines) => {
             streams.write(out, &lines)?;
             Ok(Ok(()))

@@ -7,6 +7,7 @@
 mod agreement;
 mod asked;
 mod commands;
+mod drops;
 mod judge;
 mod losing;
 mod losses;

@@ -1,12 +1,12 @@
 //! What comes about at many routers.
 
-ghost use Rattle.std.specs.Prelude.{◌≡◌, ◌++◌, IfOk, OnOk, flat_map, vec_len};
-ghost use Rattle.ospf_commands.specs.Many.{ComesAbout, config_events, events_on, is_meant, link_event, links_up_to, many_of};
-ghost use Rattle.ospf_world.specs.Offers.{address_at};
+ghost use Rattle.std.specs.Prelude.{◌≡◌, ◌++◌, IfOk, OnOk, flat_map};
+ghost use Rattle.std.specs.List.{enumerate_from};
+ghost use Rattle.ospf_commands.specs.Many.{ComesAbout, config_events, events_on, is_meant, link_event, many_of};
 
 use crate::losses::is_network_of;
 use ospf_base::RouterId;
-use ospf_config::{Config, InterfaceAddress};
+use ospf_config::{Config, Interface, InterfaceAddress};
 use ospf_script::Many;
 use ospf_world::{EventWatch, Slot, World, WorldEvent, WorldFault};
 use std::alloc::{AllocError, Global};
@@ -68,10 +68,10 @@ fn push_events(events: &mut Vec<WorldEvent>, many: Many, config: &Config) -> Res
 // Adds those at its links.
 fn push_links(events: &mut Vec<WorldEvent>, many: Many, config: &Config) -> Result<(), AllocError>
     ensures { OnOk result (events.new.items ≡ events.old.items
-        ++ links_up_to many config.now (vec_len config.now.interfaces)) }
+        ++ flat_map (events_on many config.now.router_id) (enumerate_from 0 config.now.interfaces.items)) }
 {
-    for link in 0..config.interfaces.len() {
-        push_link(events, many, config, link)?;
+    for (link, interface) in config.interfaces.iter().enumerate() {
+        push_link(events, many, config.router_id, link, interface)?;
     }
     Ok(())
 }
@@ -80,35 +80,27 @@ fn push_links(events: &mut Vec<WorldEvent>, many: Many, config: &Config) -> Resu
 fn push_link(
     events: &mut Vec<WorldEvent>,
     many: Many,
-    config: &Config,
+    router: RouterId,
     link: usize,
+    interface: &Interface,
 ) -> Result<(), AllocError>
-    ensures { OnOk result (events.new.items ≡ events.old.items ++ events_on many config.now link) }
+    ensures { OnOk result (events.new.items ≡ events.old.items
+        ++ events_on many router (link, interface.now)) }
 {
-    if is_meant(many, config, link) {
-        events.push(link_event(many, config.router_id, link))?;
+    if is_meant(many, interface.address) {
+        events.push(link_event(many, router, link))?;
     }
     Ok(())
 }
 
-// Whether a link of a configuration is meant.
-fn is_meant(many: Many, config: &Config, link: usize) -> bool
-    ensures { result ≡ is_meant many config.now link }
+// Whether a link is meant whose interface has this address.
+fn is_meant(many: Many, address: InterfaceAddress) -> bool
+    ensures { result ≡ is_meant many address }
 {
     match many {
-        Many::Cut { network } | Many::Mend { network } => {
-            is_network_of(network, address_of(config, link))
-        }
+        Many::Cut { network } | Many::Mend { network } => is_network_of(network, Some(address)),
         _ => true,
     }
-}
-
-// The address of the interface of a link, if the configuration has that link.
-fn address_of(config: &Config, link: usize) -> Option<InterfaceAddress>
-    ensures { result ≡ address_at config.now link }
-{
-    let interface = config.interfaces.get(link)?;
-    Some(interface.address)
 }
 
 // The event at a link.

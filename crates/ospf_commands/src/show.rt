@@ -3,15 +3,12 @@
 ghost use Rattle.std.specs.Prelude.{◌≡◌, IfErr, IfOk, OnErr, OnOk, string_bytes};
 ghost use Rattle.std.specs.Io.KnownBytes.{Appends};
 ghost use Rattle.ospf_files.specs.Streams.{IsBegun, IsOutputCut};
-ghost use Rattle.ospf_commands.specs.Shown.{end_text, said_line, shown_lines, walk_heading, walk_line, walked_lines};
-ghost use Rattle.ospf_views.specs.Shown.{heading};
+ghost use Rattle.ospf_commands.specs.Shown.{end_text, said_line, walk_heading, walk_line, walked_lines};
 
 use ospf_base::{Addr, RouterId};
 use ospf_files::{FailedStreams, Failure};
 use ospf_headline::WalkEnd;
-use ospf_router::Router;
-use ospf_script::View;
-use ospf_views::{WalkShown, heading, write_view};
+use ospf_views::WalkShown;
 use ospf_world::Walk;
 use std::alloc::{AllocError, Global};
 use std::fmt::{self, Display, Formatter};
@@ -35,29 +32,6 @@ impl Display for EndsShown {
     }
 }
 
-// Writes what is shown of a router, with a line above it where labels are asked for. Where that fails, a beginning of it was written.
-pub(crate) fn write_shown<O: Write>(
-    alloc: Global,
-    is_labelled: bool,
-    shown: (View, RouterId),
-    router: &Router,
-    out: &mut O,
-    streams: &mut FailedStreams,
-) -> Result<(), Failure>
-    ensures written { OnOk result (Appends (O.contents out.old) (O.contents out.new)
-        (shown_lines is_labelled shown.0 shown.1 router.now)) }
-    ensures begun { OnErr result (IsBegun (O.contents out.old) (O.contents out.new)
-        (shown_lines is_labelled shown.0 shown.1 router.now)) }
-    ensures cut { IfErr result (IsOutputCut streams.new) }
-{
-    let (view, id) = shown;
-    if !is_labelled {
-        return write_view(alloc, view, router, out, streams);
-    }
-    write_heading(alloc, view, id, out, streams)?;
-    write_view(alloc, view, router, out, streams)
-}
-
 // Writes a walk, with a line above it where labels are asked for. Where that fails, a beginning of it was written.
 pub(crate) fn write_walked<O: Write>(
     alloc: Global,
@@ -73,82 +47,27 @@ pub(crate) fn write_walked<O: Write>(
         (walked_lines is_labelled ends.0 ends.1 walk.now)) }
     ensures cut { IfErr result (IsOutputCut streams.new) }
 {
-    let (from, address) = ends;
-    if !is_labelled {
-        return write_walk(alloc, walk, out, streams);
-    }
-    write_walk_heading(alloc, from, address, out, streams)?;
-    write_walk(alloc, walk, out, streams)
+    let text = walked_lines(alloc, is_labelled, ends, walk)?;
+    streams.write(out, &text)
 }
 
-// Writes a walk. Where that fails, a beginning of it was written.
-pub(crate) fn write_walk<O: Write>(
+// A walk, with a line above it where labels are asked for.
+fn walked_lines(
     alloc: Global,
+    is_labelled: bool,
+    ends: (RouterId, Addr),
     walk: &Walk,
-    out: &mut O,
-    streams: &mut FailedStreams,
-) -> Result<(), Failure>
-    ensures written { OnOk result
-        (Appends (O.contents out.old) (O.contents out.new) (walk_line walk.now)) }
-    ensures begun { OnErr result
-        (IsBegun (O.contents out.old) (O.contents out.new) (walk_line walk.now)) }
-    ensures cut { IfErr result (IsOutputCut streams.new) }
+) -> Result<String, AllocError>
+    ensures { IfOk result (λ text. string_bytes text
+        ≡ walked_lines is_labelled ends.0 ends.1 walk.now) }
 {
     let line = walk_line(alloc, walk)?;
-    streams.write(out, &line)
-}
-
-// Writes a text that is said. Where that fails, a beginning of it was written.
-pub(crate) fn write_said<O: Write>(
-    alloc: Global,
-    said: &String,
-    out: &mut O,
-    streams: &mut FailedStreams,
-) -> Result<(), Failure>
-    ensures written { OnOk result
-        (Appends (O.contents out.old) (O.contents out.new) (said_line said.now)) }
-    ensures begun { OnErr result
-        (IsBegun (O.contents out.old) (O.contents out.new) (said_line said.now)) }
-    ensures cut { IfErr result (IsOutputCut streams.new) }
-{
-    let line = said_line(alloc, said)?;
-    streams.write(out, &line)
-}
-
-// Writes the line above what is shown of a router. Where that fails, a beginning of it was written.
-fn write_heading<O: Write>(
-    alloc: Global,
-    view: View,
-    router: RouterId,
-    out: &mut O,
-    streams: &mut FailedStreams,
-) -> Result<(), Failure>
-    ensures written { OnOk result
-        (Appends (O.contents out.old) (O.contents out.new) (heading view router)) }
-    ensures begun { OnErr result
-        (IsBegun (O.contents out.old) (O.contents out.new) (heading view router)) }
-    ensures cut { IfErr result (IsOutputCut streams.new) }
-{
-    let line = heading(alloc, view, router)?;
-    streams.write(out, &line)
-}
-
-// Writes the line above a walk. Where that fails, a beginning of it was written.
-fn write_walk_heading<O: Write>(
-    alloc: Global,
-    from: RouterId,
-    address: Addr,
-    out: &mut O,
-    streams: &mut FailedStreams,
-) -> Result<(), Failure>
-    ensures written { OnOk result
-        (Appends (O.contents out.old) (O.contents out.new) (walk_heading from address)) }
-    ensures begun { OnErr result
-        (IsBegun (O.contents out.old) (O.contents out.new) (walk_heading from address)) }
-    ensures cut { IfErr result (IsOutputCut streams.new) }
-{
-    let line = walk_heading(alloc, from, address)?;
-    streams.write(out, &line)
+    if !is_labelled {
+        return Ok(line);
+    }
+    let mut text = walk_heading(alloc, ends.0, ends.1)?;
+    text.push_str(&line)?;
+    Ok(text)
 }
 
 // The line of a walk.
@@ -176,7 +95,7 @@ fn end_text(end: WalkEnd) -> &'static str
 }
 
 // The line of a text that is said.
-fn said_line(alloc: Global, said: &String) -> Result<String, AllocError>
+pub(crate) fn said_line(alloc: Global, said: &String) -> Result<String, AllocError>
     ensures { IfOk result (λ line. string_bytes line ≡ said_line said.now) }
 {
     format!(in alloc; "{said}\n")

@@ -4,7 +4,7 @@ ghost use Rattle.std.specs.Prelude.{◌≡◌};
 ghost use Rattle.ospf_commands.specs.Simulations.{begun_in};
 
 use crate::losses::Losses;
-use ospf_world::World;
+use ospf_world::{Walk, World};
 
 /// A world, and what lines before have asked for or found.
 #[derive(Drop)]
@@ -12,6 +12,8 @@ pub struct Simulation {
     pub world: World,
     /// What is lost in rounds from here on, if anything is.
     pub losses: Option<Losses>,
+    /// The last walk that a line asked for, if one did.
+    pub walk: Option<Walk>,
     /// Whether what is shown is headed by a line.
     pub is_labelled: bool,
     /// Whether the last rounds that were to settle it did, and nothing can have come about since.
@@ -28,6 +30,7 @@ impl Simulation {
         Simulation {
             world,
             losses: None,
+            walk: None,
             is_labelled: false,
             is_settled: false,
             is_unmet: false,

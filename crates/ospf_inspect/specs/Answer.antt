@@ -42,7 +42,7 @@ SaysTables form.Json listing text = SaysTablesInJson (advertisements_of listing)
 -- the listing, or a drawing of it; the table of each router, or of one; or the way between two
 abbrev pub Says : InspectJob → List (List ℕ) → List ℕ → Type 0
 Says (Lsas f) listing text = SaysLsas f listing text
-Says Drawing listing text = text ≡ graph_text listing []
+Says Drawing listing text = text ≡ graph_text listing [] []
 Says (Tables f) listing text = SaysTables f listing text
 Says (Table router) listing text = SaysTableInJson (advertisements_of listing) router.0 text
 Says (Path from address choices) listing text = SaysPath (advertisements_of listing) from address.0 (vec_items choices) (length listing) text

@@ -225,10 +225,14 @@ fn text_of(alloc: Global, job: &InspectJob, listing: &Listing) -> Result<String,
 
 // A listing as a drawing.
 fn drawing_text(alloc: Global, listing: &Listing) -> Result<String, AllocError>
-    ensures { IfOk result (λ text. string_bytes text ≡ graph_text listing.now []) }
+    ensures { IfOk result (λ text. string_bytes text ≡ graph_text listing.now [] []) }
 {
-    let stopped = &[];
-    format!(in alloc; "{}", Graph { listing, stopped })
+    let graph = Graph {
+        listing,
+        stopped: &[],
+        walked: &[],
+    };
+    format!(in alloc; "{graph}")
 }
 
 // Prints an answer, behind its warning.

@@ -6,3 +6,4 @@ mod DrawingFacts
 mod Drawn
 pub mod Ones
 pub mod Names
+pub mod WalkFacts

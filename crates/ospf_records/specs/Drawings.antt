@@ -22,5 +22,6 @@ is_stopped s = not (is_some s.running)
 abbrev pub stopped_in : List SlotValue → List RouterId
 stopped_in slots = map (λ s. s.config.router_id) (filter is_stopped slots)
 
-abbrev pub drawing_of : List SlotValue → List ℕ
-drawing_of slots = graph_text (first_listing slots) (stopped_in slots)
+-- with the walk that met these routers
+abbrev pub drawing_of : List SlotValue → (walked : List RouterId) → List ℕ
+drawing_of slots walked = graph_text (first_listing slots) (stopped_in slots) walked

@@ -1,5 +1,5 @@
 -- A listing as a drawing in the language of Graphviz: a box for each router and transit network, and a line for each link between them.
-use Rattle.std.specs.Prelude.{ℕ, ◌==◌, ◌&&◌, nat_lt, Bool, true, false, cond, List, [], ◌∷◌, ◌++◌, Option, None, Some, bit_and, codes, count_ones, decimal, filter, find, flat_map, length, reverse, slice_get}
+use Rattle.std.specs.Prelude.{ℕ, ◌==◌, ◌&&◌, nat_lt, Bool, true, false, cond, List, [], ◌∷◌, ◌++◌, Option, None, Some, bit_and, codes, count_ones, decimal, drop, filter, find, flat_map, length, reverse, slice_get, zip}
 use Rattle.std.specs.List.{list_any}
 use Rattle.ospf_base.specs.Bytes.{number_at}
 use Rattle.ospf_base.specs.Text.{number_text}
@@ -176,6 +176,17 @@ attached_line lsas id router = named_unless id router (links_to_network lsas rou
 abbrev pub attached_lines : List (List ℕ) → ℕ → List RouterId → List ℕ
 attached_lines lsas id routers = flat_map (attached_line lsas id) routers
 
+-- ---- a walk
+
+-- from a router to the next that a walk meets
+abbrev pub step_line : RouterId × RouterId → List ℕ
+step_line step =
+    codes "  " ++ router_node step.0.0 ++ codes " -- " ++ router_node step.1.0 ++ codes " [dir=forward, color=red, penwidth=2];\n"
+
+-- from each router that it meets to the one behind it
+abbrev pub steps_of : List RouterId → List (RouterId × RouterId)
+steps_of walked = zip walked (drop 1 walked)
+
 -- ---- a listing
 
 -- a router and its links
@@ -201,6 +212,7 @@ graph_head =
     codes "graph area {\n  graph [layout=neato, overlap=false, splines=line, sep=\"+30\", outputorder=edgesfirst];\n"
     ++ codes "  node [shape=plaintext, style=filled, fillcolor=white];\n"
 
--- the LSAs in their order, and the routers that do not run
-abbrev pub graph_text : List (List ℕ) → List RouterId → List ℕ
-graph_text lsas stopped = graph_head ++ flat_map (lsa_lines lsas) lsas ++ flat_map stopped_line stopped ++ codes "}\n"
+-- the LSAs in their order, the routers that do not run, and the walk that met these
+abbrev pub graph_text : List (List ℕ) → (stopped walked : List RouterId) → List ℕ
+graph_text lsas stopped walked =
+    graph_head ++ flat_map (lsa_lines lsas) lsas ++ flat_map stopped_line stopped ++ flat_map step_line (steps_of walked) ++ codes "}\n"

@@ -11,15 +11,16 @@ use ospf_world::{Slot, World};
 use std::alloc::{AllocError, Global};
 
 /// What the first router that runs lists (RFC 2328, section 14), in the order of the configurations, as a drawing for Graphviz;
-/// nothing where none runs. Routers that do not run are grey.
+/// nothing where none runs. Routers that do not run are grey, and a red arrow leads from each router that a walk met to the next.
 ///
 /// `AllocError` where memory runs out.
-pub fn drawing(world: &World, alloc: Global) -> Result<String, AllocError>
-    ensures { IfOk result (λ text. string_bytes text ≡ drawing_of world.now.slots) }
+pub fn drawing(world: &World, walked: &[RouterId], alloc: Global) -> Result<String, AllocError>
+    ensures { IfOk result (λ text. string_bytes text
+        ≡ drawing_of world.now.slots walked.now) }
 {
     let listing = first_listing(world.slots(), alloc)?;
     let stopped = stopped_in(world.slots(), alloc)?;
-    draw(&listing, &stopped, alloc)
+    draw(&listing, &stopped, walked, alloc)
 }
 
 // What the first router that runs lists; nothing where none runs.
@@ -45,9 +46,20 @@ fn stopped_in(slots: &[Slot], alloc: Global) -> Result<Vec<RouterId>, AllocError
         .collect(alloc)
 }
 
-// A listing and the routers that do not run as a drawing.
-fn draw(listing: &Listing, stopped: &[RouterId], alloc: Global) -> Result<String, AllocError>
-    ensures { IfOk result (λ text. string_bytes text ≡ graph_text listing.now stopped.now) }
+// A listing, the routers that do not run and a walk as a drawing.
+fn draw(
+    listing: &Listing,
+    stopped: &[RouterId],
+    walked: &[RouterId],
+    alloc: Global,
+) -> Result<String, AllocError>
+    ensures { IfOk result (λ text. string_bytes text
+        ≡ graph_text listing.now stopped.now walked.now) }
 {
-    format!(in alloc; "{}", Graph { listing, stopped })
+    let graph = Graph {
+        listing,
+        stopped,
+        walked,
+    };
+    format!(in alloc; "{graph}")
 }

@@ -5,6 +5,7 @@ ghost use Rattle.std.specs.Prelude.{flat_map};
 ghost use Rattle.ospf_lsa.specs.Lsa.{IsRouterLsa, links_of};
 ghost use Rattle.ospf_records.specs.Graph.{lsa_lines, network_lines, router_lines, stopped_line};
 
+use crate::arrows::write_walk;
 use crate::boxes::{write_network, write_router, write_stopped};
 use crate::edges::{write_attached, write_links};
 use ospf_base::{Kind, RouterId};
@@ -22,6 +23,8 @@ pub struct Graph<'a> {
     pub listing: &'a Listing,
     /// Routers that do not run, which are grey.
     pub stopped: &'a [RouterId],
+    /// The routers that a walk met, in its order: a red arrow leads from each to the next.
+    pub walked: &'a [RouterId],
 }
 
 /// A link that both ends tell is one line with the cost at each end, one that one end alone tells is dashed and has an arrow;
@@ -30,12 +33,13 @@ impl<'a> Display for Graph<'a> {
     ghost use Rattle.std.specs.Prelude.{Some};
     ghost use Rattle.ospf_records.specs.Graph.{graph_text};
 
-    ghost output = { λ graph. Some (graph_text graph.listing.now graph.stopped.now) };
+    ghost output = { λ graph. Some (graph_text graph.listing.now graph.stopped.now graph.walked.now) };
 
     fn fmt<W: Write>(&self, f: &mut Formatter<W>) -> fmt::Result {
         f.write_str(HEAD)?;
         write_lsas(f, self.listing, self.listing.lsas())?;
         write_all_stopped(f, self.stopped)?;
+        write_walk(f, self.walked)?;
         f.write_str("}\n")
     }
 }

@@ -7,6 +7,7 @@
 //! `specs/Pcap` and `specs/Ip`.
 #![tactic(auto)]
 
+mod arrows;
 mod boxes;
 mod capture_laws;
 mod captures;

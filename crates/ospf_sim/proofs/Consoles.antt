@@ -12,26 +12,26 @@ use Rattle.ospf_files.specs.declared.status.Status.TheVariants as status
 use Rattle.ospf_files.specs.declared.streams.FailedStreams.{FailedStreams}
 use Rattle.ospf_script.specs.Words.{Text}
 use Rattle.ospf_sim.specs.Consoles.{IsAllAnswered, IsConsoleCut, IsConsoleStopped, IsConsoled, IsSessionCut, IsUnreadOf, in_session, is_unread}
-use Rattle.ospf_sim.specs.Simulations.{IsLeft, WorldComes}
+use Rattle.ospf_sim.specs.Simulations.{WorldComes}
 use Rattle.ospf_sim.specs.declared.text.Simulated.{Simulated}
 
 -- the first file that could not be read is told
 pub unread_of_told : (files : List NamedFile) (file : NamedFile) (result : Result Simulated Failure) (a b x y : Option (List ℕ))
-    → IsFirstUnread file files → b ≡ a → IfOk result (λ s. s.world ≡ None) → OnOk result (Appends x y (unread_line file))
-    → IfOk result (λ s. s.status ≡ status.Stream → IsUnreadOf files s.world a b x y)
+    → IsFirstUnread file files → b ≡ a → IfOk result (λ s. s.left ≡ None) → OnOk result (Appends x y (unread_line file))
+    → IfOk result (λ s. s.status ≡ status.Stream → IsUnreadOf files s.left a b x y)
 unread_of_told files file (Err failure) a b x y first same none told = tt
 unread_of_told files file (Ok s) a b x y first same none told = λ _. record { file = file; first = first; told = told; none = none; same_out = same }
 
 -- a console that ends with status Stream, and that no failure ended, ended for a file
 pub console_unread : (input : Option (List ℕ)) (prompt : Text) (files : List NamedFile) (s : Simulated) (failed : FailedStreams) (a b x y : Option (List ℕ))
-    → s.status ≢ status.Memory → (s.status ≡ status.Stream → IsUnreadOf files s.world a b x y)
-    → (s.status ≡ status.Memory) ⊎ (s.status ≡ status.Stream) → IsConsoleStopped input prompt files s.world failed s.status a b x y
+    → s.status ≢ status.Memory → (s.status ≡ status.Stream → IsUnreadOf files s.left a b x y)
+    → (s.status ≡ status.Memory) ⊎ (s.status ≡ status.Stream) → IsConsoleStopped input prompt files s.left failed s.status a b x y
 console_unread input prompt files s failed a b x y not told (inl memory) = absurd (not memory)
 console_unread input prompt files s failed a b x y not told (inr stream) = is_unread stream (told stream)
 
 -- all lines are answered, in a world of the configurations
 pub consoled : (found : Option WorldValue) (start : WorldValue) (input : Option (List ℕ)) (prompt : Text) (files : List NamedFile) (s end : Simulation) (simulated : Simulated) (a b x y z : Option (List ℕ))
-    → found ≡ Some start → WorldComes files found x y → AreRead files → s ≡ begun_in start → IsLeft simulated end → IsAllAnswered input prompt s end a b y z
+    → found ≡ Some start → WorldComes files found x y → AreRead files → s ≡ begun_in start → simulated.left ≡ Some end → IsAllAnswered input prompt s end a b y z
     → IsConsoled input prompt files simulated a b x z
 consoled None start input prompt files s end simulated a b x y z is comes read begins left all = absurd (cc is)
 consoled (Some w) start input prompt files s end simulated a b x y z is comes read begins left all =

@@ -12,7 +12,7 @@ use Rattle.ospf_commands.specs.Worlds.{WorldValue}
 use Rattle.ospf_sim.specs.Scripts.{ScriptComes}
 use Rattle.ospf_commands.specs.declared.simulation.Simulation.{Simulation}
 use Rattle.ospf_sim.specs.declared.text.Simulated.{Simulated}
-use Rattle.ospf_sim.specs.Simulations.{Comes, IsLeft, IsNoWorld, IsNewOf, Opens, RunsTo, WorldComes, same_router, status_for}
+use Rattle.ospf_sim.specs.Simulations.{Comes, IsNoWorld, IsNewOf, Opens, RunsTo, WorldComes, same_router, status_for}
 use Rattle.ospf_commands.specs.Simulations.{begun_in}
 use Rattle.ospf_headline.specs.declared.event.WorldFault.{WorldFault}
 use Rattle.ospf_world.specs.Worlds as worlds
@@ -47,7 +47,7 @@ no_world_told None files x y is comes = comes
 no_world_told (Some w) files x y is comes = absurd (cc is)
 
 pub runs_to : (whole : Bool) (script : NamedFile) (text : Text) (w : WorldValue) (s end : Simulation) (simulated : Simulated) (a b x y : Option (List ℕ))
-    → simulated.status ≡ status_for whole → s ≡ begun_in w → text ≡ text_in script → IsLeft simulated end → ScriptComes whole text s end a b x y
+    → simulated.status ≡ status_for whole → s ≡ begun_in w → text ≡ text_in script → simulated.left ≡ Some end → ScriptComes whole text s end a b x y
     → RunsTo simulated.status script w simulated a b x y
 runs_to true script text w s end simulated a b x y is begins same left comes =
     subst (λ status. RunsTo status script w simulated a b x y) (sym is)

@@ -1,5 +1,5 @@
 -- What the lines come to that are given at a console, each answered before the next is read.
-use Rattle.std.specs.Prelude.{◌≡◌, ◌<◌, ℕ, Bool, true, false, List, [], ◌∷◌, ◌++◌, Option, None, IfSome, length, ⊤}
+use Rattle.std.specs.Prelude.{◌≡◌, ◌<◌, ℕ, Bool, true, false, List, [], ◌∷◌, ◌++◌, Option, None, Some, IfSome, length, ⊤}
 use Rattle.std.specs.Io.{StopsAt}
 use Rattle.std.specs.Io.BufRead.{ends_with_byte}
 use Rattle.std.specs.Io.KnownBytes.{Appends, Consumes, IsAtEnd}
@@ -20,7 +20,7 @@ use Rattle.ospf_commands.specs.Worlds.{WorldValue}
 use Rattle.ospf_commands.specs.declared.simulation.Simulation.{Simulation}
 use Rattle.ospf_sim.specs.Begun.{IsLineCut, IsWorldCut}
 use Rattle.ospf_sim.specs.Scripts.{RunsLine, unreadable_line}
-use Rattle.ospf_sim.specs.Simulations.{IsLeft, IsNoWorld, IsWorldOf}
+use Rattle.ospf_sim.specs.Simulations.{IsNoWorld, IsWorldOf}
 use Rattle.ospf_sim.specs.declared.text.Simulated.{Simulated}
 
 -- ---- lines
@@ -122,14 +122,14 @@ pub record IsConsoled (input : Option (List ℕ)) (prompt : Text) (files : List 
   pub start : WorldValue
   pub end : Simulation
   pub starts : IsWorldOf files start
-  pub left : IsLeft simulated end
+  pub left : simulated.left ≡ Some end
   pub all : IsAllAnswered input prompt (begun_in start) end out_old out_new err_old err_new
 
 -- no line is answered, since there is no world of the configurations, of which it is told why
 pub record IsNoConsole (files : List NamedFile) (simulated : Simulated) (out_old out_new err_old err_new : Option (List ℕ)) : Type 0 where
   pub read : AreRead files
   pub no_world : IsNoWorld files err_old err_new
-  pub none : simulated.world ≡ None
+  pub none : simulated.left ≡ None
   pub same_out : out_new ≡ out_old
 
 -- what comes of a console, by its status
@@ -139,11 +139,11 @@ ConsoleComes status.Refused input prompt files = IsNoConsole files
 ConsoleComes _ input prompt files = λ simulated out_old out_new err_old err_new. ⊤
 
 -- the first file that could not be read is told, and no line is answered
-pub record IsUnreadOf (files : List NamedFile) (world : Option WorldValue) (out_old out_new err_old err_new : Option (List ℕ)) : Type 0 where
+pub record IsUnreadOf (files : List NamedFile) (left : Option Simulation) (out_old out_new err_old err_new : Option (List ℕ)) : Type 0 where
   pub file : NamedFile
   pub first : IsFirstUnread file files
   pub told : Appends err_old err_new (unread_line file)
-  pub none : world ≡ None
+  pub none : left ≡ None
   pub same_out : out_new ≡ out_old
 
 -- a console is cut: at the first file that could not be read, before there is a world, or in the lines of its input
@@ -166,8 +166,8 @@ pub record IsConsoleFailed (input : Option (List ℕ)) (prompt : Text) (files : 
   pub status_is : end ≡ failure_status cause
 
 -- a file could not be read, or a failure cut the console
-pub data IsConsoleStopped (input : Option (List ℕ)) (prompt : Text) (files : List NamedFile) (world : Option WorldValue) (failed : FailedStreams) (end : Status) (out_old out_new err_old err_new : Option (List ℕ)) : Type 0 where
-  is_unread : end ≡ status.Stream → IsUnreadOf files world out_old out_new err_old err_new
-      → IsConsoleStopped input prompt files world failed end out_old out_new err_old err_new
-  is_failure : world ≡ None → IsConsoleFailed input prompt files failed end out_old out_new err_old err_new
-      → IsConsoleStopped input prompt files world failed end out_old out_new err_old err_new
+pub data IsConsoleStopped (input : Option (List ℕ)) (prompt : Text) (files : List NamedFile) (left : Option Simulation) (failed : FailedStreams) (end : Status) (out_old out_new err_old err_new : Option (List ℕ)) : Type 0 where
+  is_unread : end ≡ status.Stream → IsUnreadOf files left out_old out_new err_old err_new
+      → IsConsoleStopped input prompt files left failed end out_old out_new err_old err_new
+  is_failure : left ≡ None → IsConsoleFailed input prompt files failed end out_old out_new err_old err_new
+      → IsConsoleStopped input prompt files left failed end out_old out_new err_old err_new

@@ -43,11 +43,6 @@ WorldComes files None old new = IsNoWorld files old new
 
 -- ---- simulations
 
--- what is left of a simulation: the world that its last line left, and whether all was as it was expected
-pub record IsLeft (simulated : Simulated) (end : Simulation) : Type 0 where
-  pub world : simulated.world ≡ Some end.world
-  pub is_unmet : simulated.is_unmet ≡ end.is_unmet
-
 -- the status of a script whose lines could all be read, or not
 abbrev pub status_for : Bool → Status
 status_for true = status.Done
@@ -56,7 +51,7 @@ status_for false = status.Refused
 -- a script runs from this world, whole or up to a line that cannot be read, as the status says
 pub record RunsWhole (script : NamedFile) (start : WorldValue) (simulated : Simulated) (whole : Bool) (out_old out_new err_old err_new : Option (List ℕ)) : Type 0 where
   pub end : Simulation
-  pub left : IsLeft simulated end
+  pub left : simulated.left ≡ Some end
   pub comes : ScriptComes whole (text_in script) (begun_in start) end out_old out_new err_old err_new
 
 abbrev pub RunsTo : Status → NamedFile → WorldValue → Simulated → Option (List ℕ) → Option (List ℕ) → Option (List ℕ) → Option (List ℕ) → Type 0
@@ -70,7 +65,7 @@ pub record IsSimulated (script : NamedFile) (files : List NamedFile) (simulated 
   pub start : WorldValue
   pub end : Simulation
   pub starts : IsWorldOf files start
-  pub left : IsLeft simulated end
+  pub left : simulated.left ≡ Some end
   pub run : IsRun (numbered_from 1 (text_in script)) (begun_in start) end out_old out_new err_old err_new
 
 -- the script has run up to a line that cannot be read, of which that is told
@@ -79,14 +74,14 @@ pub record IsCutShort (script : NamedFile) (files : List NamedFile) (simulated :
   pub start : WorldValue
   pub end : Simulation
   pub starts : IsWorldOf files start
-  pub left : IsLeft simulated end
+  pub left : simulated.left ≡ Some end
   pub early : EndsEarly (text_in script) (begun_in start) end out_old out_new err_old err_new
 
 -- no line has run, since there is no world of the configurations, of which it is told why
 pub record IsNotBegun (script : NamedFile) (files : List NamedFile) (simulated : Simulated) (out_old out_new err_old err_new : Option (List ℕ)) : Type 0 where
   pub read : AreRead (script ∷ files)
   pub no_world : IsNoWorld files err_old err_new
-  pub none : simulated.world ≡ None
+  pub none : simulated.left ≡ None
   pub same_out : out_new ≡ out_old
 
 -- what is refused: the configurations, or a line

@@ -11,14 +11,14 @@ use Rattle.ospf_files.specs.declared.status.Status.{Status}
 use Rattle.ospf_files.specs.declared.status.Status.TheVariants as status
 use Rattle.ospf_files.specs.declared.streams.FailedStreams.{FailedStreams}
 use Rattle.ospf_sim.specs.Begun.{IsCut}
-use Rattle.ospf_commands.specs.Worlds.{WorldValue}
+use Rattle.ospf_commands.specs.declared.simulation.Simulation.{Simulation}
 
 -- the first file that could not be read is told, the script's before the configurations', and no line has run
-pub record IsUnreadTold (script : NamedFile) (files : List NamedFile) (world : Option WorldValue) (out_old out_new err_old err_new : Option (List ℕ)) : Type 0 where
+pub record IsUnreadTold (script : NamedFile) (files : List NamedFile) (left : Option Simulation) (out_old out_new err_old err_new : Option (List ℕ)) : Type 0 where
   pub file : NamedFile
   pub first : IsFirstUnread file (script ∷ files)
   pub told : Appends err_old err_new (unread_line file)
-  pub none : world ≡ None
+  pub none : left ≡ None
   pub same_out : out_new ≡ out_old
 
 -- the simulation was cut by a failure, which was told last, as far as it could be, and of which the status is
@@ -31,8 +31,8 @@ pub record IsFailureLast (script : NamedFile) (files : List NamedFile) (failed :
   pub status_is : end ≡ failure_status cause
 
 -- a file could not be read, or a failure cut the simulation
-pub data IsStopped (script : NamedFile) (files : List NamedFile) (world : Option WorldValue) (failed : FailedStreams) (end : Status) (out_old out_new err_old err_new : Option (List ℕ)) : Type 0 where
-  is_unread : end ≡ status.Stream → IsUnreadTold script files world out_old out_new err_old err_new
-      → IsStopped script files world failed end out_old out_new err_old err_new
-  is_failure : world ≡ None → IsFailureLast script files failed end out_old out_new err_old err_new
-      → IsStopped script files world failed end out_old out_new err_old err_new
+pub data IsStopped (script : NamedFile) (files : List NamedFile) (left : Option Simulation) (failed : FailedStreams) (end : Status) (out_old out_new err_old err_new : Option (List ℕ)) : Type 0 where
+  is_unread : end ≡ status.Stream → IsUnreadTold script files left out_old out_new err_old err_new
+      → IsStopped script files left failed end out_old out_new err_old err_new
+  is_failure : left ≡ None → IsFailureLast script files failed end out_old out_new err_old err_new
+      → IsStopped script files left failed end out_old out_new err_old err_new

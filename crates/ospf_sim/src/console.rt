@@ -60,7 +60,7 @@ pub fn console_text<R: BufRead + Drop, O: Write, E: Write, V: Watch>(
     // It stops at such a file or at a failure; there is no other end.
     ensures stopped { (result.status ≡ Status.Memory) ⊎ (result.status ≡ Status.Stream) →
         (failed : FailedStreams)
-        × IsConsoleStopped (R.remaining console.entry.input) console.entry.prompt.now files.now result.world
+        × IsConsoleStopped (R.remaining console.entry.input) console.entry.prompt.now files.now result.left
         failed result.status (O.contents out.old) (O.contents out.new) (E.contents err.old)
         (E.contents err.new) }
     ensures not_words { result.status ≢ Status.Words }
@@ -90,7 +90,7 @@ fn converse<R: BufRead + Drop, O: Write, E: Write, V: Watch>(
     ensures not_memory { IfOk result (λ s. s.status ≢ Status.Memory) }
     // Where a file could not be read, the first such is told, and nothing is printed.
     ensures stream { IfOk result (λ s. s.status ≡ Status.Stream →
-        IsUnreadOf files.now s.world (O.contents out.old) (O.contents out.new)
+        IsUnreadOf files.now s.left (O.contents out.old) (O.contents out.new)
         (E.contents err.old) (E.contents err.new)) }
     ensures unread { (file : NamedFile) → IsFirstUnread file files.now →
         IfOk result (λ s. s.status ≡ Status.Stream) }

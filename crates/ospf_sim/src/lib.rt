@@ -13,5 +13,5 @@ mod twins;
 
 pub use crate::console::{Console, console_text};
 pub use crate::text::{Simulated, sim_text};
-pub use ospf_commands::Watch;
+pub use ospf_commands::{Simulation, Watch};
 pub use ospf_world::{EventWatch, World, WorldEvent, WorldFault};

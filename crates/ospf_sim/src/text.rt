@@ -9,7 +9,7 @@ ghost use Rattle.ospf_files.specs.Listed.{AreRead, IsFirstUnread};
 ghost use Rattle.ospf_files.specs.Status.{failure_line, failure_status};
 ghost use Rattle.ospf_files.specs.Streams.{IsBegun, IsErrorCut, IsTold};
 ghost use Rattle.ospf_sim.specs.Begun.{IsCut, IsOpeningCut, IsScriptCut, IsWorldCut};
-ghost use Rattle.ospf_sim.specs.Simulations.{Comes, IsLeft, IsRefused, IsSimulated, Opens, RunsTo, WorldComes, status_for};
+ghost use Rattle.ospf_sim.specs.Simulations.{Comes, IsRefused, IsSimulated, Opens, RunsTo, WorldComes, status_for};
 ghost use Rattle.ospf_sim.specs.Stopped.{IsStopped, IsUnreadTold};
 ghost use Rattle.ospf_sim.specs.Twins.{AreFirstTwins, AreTwinsTold};
 
@@ -28,10 +28,8 @@ use std::io::Write;
 pub struct Simulated {
     /// The status to end with.
     pub status: Status,
-    /// The world as the script left it, where it has run.
-    pub world: Option<World>,
-    /// Whether something was not as a line expected it, or could not be asked.
-    pub is_unmet: bool,
+    /// What the script left, where it has run.
+    pub left: Option<Simulation>,
 }
 
 impl Simulated {
@@ -40,13 +38,9 @@ impl Simulated {
     // No line has run, or it is not known what the lines that have run have left.
     pub(crate) fn without(status: Status) -> Simulated
         ensures status { result.status ≡ status }
-        ensures world { result.world ≡ None }
+        ensures left { result.left ≡ None }
     {
-        Simulated {
-            status,
-            world: None,
-            is_unmet: false,
-        }
+        Simulated { status, left: None }
     }
 }
 
@@ -84,7 +78,7 @@ pub fn sim_text<O: Write, E: Write, V: Watch>(
     // It stops at such a file or at a failure; there is no other end.
     ensures stopped { (result.status ≡ Status.Memory) ⊎ (result.status ≡ Status.Stream) →
         (failed : FailedStreams)
-        × IsStopped script.now files.now result.world failed result.status (O.contents out.old)
+        × IsStopped script.now files.now result.left failed result.status (O.contents out.old)
         (O.contents out.new) (E.contents err.old) (E.contents err.new) }
     ensures not_words { result.status ≢ Status.Words }
 {
@@ -112,7 +106,7 @@ fn simulate<O: Write, E: Write, V: Watch>(
     ensures not_memory { IfOk result (λ s. s.status ≢ Status.Memory) }
     // Where a file could not be read, the first such is told, and nothing is printed.
     ensures stream { IfOk result (λ s. s.status ≡ Status.Stream →
-        IsUnreadTold script.now files.now s.world (O.contents out.old) (O.contents out.new)
+        IsUnreadTold script.now files.now s.left (O.contents out.old) (O.contents out.new)
         (E.contents err.old) (E.contents err.new)) }
     ensures unread { (file : NamedFile) → IsFirstUnread file (script.now ∷ files.now) →
         IfOk result (λ s. s.status ≡ Status.Stream) }
@@ -153,9 +147,9 @@ pub(crate) fn end_unread<E: Write>(
     err: &mut E,
     streams: &mut FailedStreams,
 ) -> Result<Simulated, Failure>
-    // The file is told, there is no world, and the status is that of a failed stream.
+    // The file is told, nothing is left, and the status is that of a failed stream.
     ensures status { IfOk result (λ s. s.status ≡ Status.Stream) }
-    ensures world { IfOk result (λ s. s.world ≡ None) }
+    ensures left { IfOk result (λ s. s.left ≡ None) }
     ensures told { OnOk result (Appends (E.contents err.old) (E.contents err.new)
         (unread_line file.now)) }
     // Or a beginning of that is written, and it is known why no more is.
@@ -233,19 +227,13 @@ fn tell_twins<E: Write>(
 
 // What a simulation has left whose lines could all be read, or not.
 pub(crate) fn left_of(simulation: Simulation, whole: bool) -> Simulated
-    ensures left { IsLeft result simulation }
+    ensures left { result.left ≡ Some simulation }
     ensures status { result.status ≡ status_for whole }
 {
-    let Simulation {
-        world,
-        is_unmet,
-        ..
-    } = simulation;
     let status = if whole { Status::Done } else { Status::Refused };
     Simulated {
         status,
-        world: Some(world),
-        is_unmet,
+        left: Some(simulation),
     }
 }
 
@@ -256,7 +244,7 @@ pub(crate) fn end_failed<E: Write>(
     streams: &mut FailedStreams,
 ) -> Simulated
     ensures status { result.status ≡ failure_status failure }
-    ensures world { result.world ≡ None }
+    ensures left { result.left ≡ None }
     ensures told { IsTold streams.old streams.new
         (E.contents err.old) (E.contents err.new) (failure_line failure) }
 {

@@ -2,4 +2,5 @@ pub mod Texts
 pub mod Shown
 pub mod Waits
 pub mod Details
+pub mod Drops
 pub mod Expectations

@@ -1,5 +1,5 @@
 -- What is shown of a router.
-use Rattle.std.specs.Prelude.{ℕ, zero, suc, List, [], ◌++◌, Option, codes, decimal, flat_map}
+use Rattle.std.specs.Prelude.{ℕ, zero, suc, Bool, List, [], ◌++◌, Option, codes, decimal, flat_map, if◌then◌else◌}
 use Rattle.ospf_area.specs.State.{AreaValue}
 use Rattle.ospf_base.specs.Text.{number_text}
 use Rattle.ospf_base.specs.declared.ids.RouterId.{RouterId}
@@ -72,3 +72,11 @@ heading view.Listing r =
     codes "listing of " ++ number_text r.0 ++ codes ": kind, Link State ID, Advertising Router, number, checksum\n"
 heading view.Table r = codes "table of " ++ number_text r.0 ++ codes ": prefix, cost, next hops\n"
 heading view.Floor r = codes "floor of " ++ number_text r.0 ++ codes "\n"
+
+-- a line above a text, where labels are asked for
+abbrev pub headed : Bool → Text → Text → Text
+headed is_labelled line text = (if is_labelled then line else []) ++ text
+
+-- what is shown of a router, below such a line
+abbrev pub shown_lines : Bool → View → RouterId → RouterValue → Text
+shown_lines is_labelled view r x = headed is_labelled (heading view r) (view_lines view x)

@@ -102,11 +102,7 @@ fn run_sim<R: Runtime + AllocGlobal + Clock + Copy + Drop, O: Write, E: Write, T
         return Ok(ExitCode::from(Status::Stream));
     };
     let mut screen = Screen::new(*rt, line, Events::new(rt.alloc(), journal));
-    let Simulated {
-        status,
-        world,
-        is_unmet,
-    } = match script {
+    let Simulated { status, left } = match script {
         Some(script) => sim_text(rt.alloc(), &script, &files, out, err, &mut screen),
         None => run_console(rt, &files, out, err, &mut screen, is_typed)?,
     };
@@ -116,12 +112,14 @@ fn run_sim<R: Runtime + AllocGlobal + Clock + Copy + Drop, O: Write, E: Write, T
             return Ok(ExitCode::from(Status::Stream));
         }
     }
-    if let Some(world) = world {
-        if !write_records(rt, &world, dot.as_deref(), pcap.as_deref(), err)? {
-            return Ok(ExitCode::from(Status::Stream));
-        }
+    let Some(left) = left else {
+        return Ok(ExitCode::from(status));
+    };
+    let walk = left.walk.as_ref();
+    if !write_records(rt, &left.world, walk, dot.as_deref(), pcap.as_deref(), err)? {
+        return Ok(ExitCode::from(Status::Stream));
     }
-    Ok(code_of(status, is_unmet))
+    Ok(code_of(status, left.is_unmet))
 }
 
 // The script in the file of this name; `None` for standard input.

@@ -2,7 +2,7 @@ use Rattle.std.proofs.Common.{[], Ok, refl}
 use Rattle.ospf_files.proofs.Written.{nothing_written, whatever}
 use Rattle.ospf_commands.specs.Asked.{IsShown, is_not_shown, is_shown}
 use Rattle.ospf_commands.specs.Printed.{IsPrintedBegun}
-use Rattle.ospf_commands.specs.Shown.{shown_lines}
+use Rattle.ospf_views.specs.Shown.{shown_lines}
 use Rattle.ospf_commands.proofs.Lent.{lent, not_lent}
 use Rattle.ospf_commands.proofs.asked.show_router.Goals as goal
 

@@ -3,8 +3,8 @@ use Rattle.ospf_files.proofs.Cut.{for_memory}
 use Rattle.ospf_files.proofs.Written.{nothing_written, whatever}
 use Rattle.ospf_files.specs.Streams.{IsOutputCut, no_room}
 use Rattle.ospf_commands.specs.Asked.{IsExplained, is_explained, is_not_explained, is_on_no_link}
+use Rattle.ospf_commands.specs.Drops.{why_lines}
 use Rattle.ospf_commands.specs.Printed.{IsPrintedBegun}
-use Rattle.ospf_views.specs.Waits.{why_of}
 use Rattle.ospf_commands.proofs.Lent.{lent, not_lent, why_not_begun, why_said, why_unsaid}
 use Rattle.ospf_commands.proofs.asked.show_why.Goals as goal
 
@@ -25,7 +25,7 @@ returns-in_err-lines-clause-cut g c = for_memory c.from_residual.result (IsOutpu
 
 pub returns-in_err-write-in-Some-clause-begun : goal.returns-in_err-write-in-Some-clause-begun
 returns-in_err-write-in-Some-clause-begun g c =
-    let said : why_of c.in-Ok.lent.now.area c.args.place.1 c.args.neighbour ≡ Some c.deref.result.now =
+    let said : why_lines c.args.simulation.now.world c.args.place.0 c.args.place.1 c.args.neighbour c.in-Ok.lent.now.area ≡ Some c.deref.result.now =
     rw c.deref.ensures (why_said c.in_ok-lines.field-0 c.in-Some.lines _ c.in-Some.is c.in_ok-lines.ensures) in
     let begun : IsPrintedBegun (IsExplained c.args.place.0 c.args.place.1 c.args.neighbour c.args.simulation.now) (g.O.Write.contents c.args.out.now) (g.O.Write.contents c.write.new.out) = record {
       answer = Ok tt;
@@ -37,7 +37,7 @@ returns-in_err-write-in-Some-clause-begun g c =
 
 pub returns-in_ok-write-in-Some-clause-explained : goal.returns-in_ok-write-in-Some-clause-explained
 returns-in_ok-write-in-Some-clause-explained g c =
-    let said : why_of c.in-Ok.lent.now.area c.args.place.1 c.args.neighbour ≡ Some c.deref.result.now =
+    let said : why_lines c.args.simulation.now.world c.args.place.0 c.args.place.1 c.args.neighbour c.in-Ok.lent.now.area ≡ Some c.deref.result.now =
     rw c.deref.ensures (why_said c.in_ok-lines.field-0 c.in-Some.lines _ c.in-Some.is c.in_ok-lines.ensures) in
     record {
       text = c.deref.result.now;

@@ -1,9 +1,5 @@
-use Rattle.std.proofs.Common.{◌≡◌, sym, subst, refl, List, ℕ, Ok, Err, IfOk, OnErr}
-use Rattle.ospf_script.specs.Words.{Text}
-use Rattle.ospf_script.specs.declared.command.Command.{Command}
 use Rattle.ospf_script.specs.declared.command.Command.TheVariants as command
-use Rattle.ospf_commands.specs.Asked.{IsExplained, IsShown, IsWalked}
-use Rattle.ospf_commands.specs.Simulations.{Answer}
+use Rattle.ospf_commands.specs.Asked.{IsExplained, IsShown}
 use Rattle.ospf_commands.proofs.Done.{asked_begun, asked_done, begun_as, done_as}
 use Rattle.ospf_commands.proofs.commands.run_command.Goals as goal
 
@@ -27,13 +23,13 @@ pub returns-in-Walk-clause-done : goal.returns-in-Walk-clause-done
 returns-in-Walk-clause-done g c =
     let walked = rw c.deref.ensures.value at c.show_walk.ensures.walked in
     done_as _ (command.Walk c.in-Walk.from c.in-Walk.address c.in-Walk.choices) _ _ _ _ _ c.in-Walk.is
-    (asked_done (IsWalked c.in-Walk.from c.in-Walk.address c.in-Walk.choices.items) _ _ _ _ walked)
+    walked
 
 pub returns-in-Walk-clause-begun : goal.returns-in-Walk-clause-begun
 returns-in-Walk-clause-begun g c =
     let begun = rw c.deref.ensures.value at c.show_walk.ensures.begun in
     begun_as _ (command.Walk c.in-Walk.from c.in-Walk.address c.in-Walk.choices) _ _ _ _ _ c.in-Walk.is
-    (asked_begun (IsWalked c.in-Walk.from c.in-Walk.address c.in-Walk.choices.items) _ _ _ _ begun)
+    begun
 
 pub returns-in-Why-clause-done : goal.returns-in-Why-clause-done
 returns-in-Why-clause-done g c =

@@ -1,6 +1,5 @@
-use Rattle.std.proofs.Common.{◌≡◌, ◌∙◌, subst, List, ◌++◌, Ok, Option, Some, true, refl}
+use Rattle.std.proofs.Common.{◌≡◌, ◌∙◌, subst, List, ◌++◌, Ok, Some, true, refl}
 use Rattle.std.specs.Io.KnownBytes.{Appends}
-use Rattle.ospf_base.specs.declared.ids.RouterId.{RouterId}
 use Rattle.ospf_files.proofs.Cut.{for_memory}
 use Rattle.ospf_files.proofs.Written.{nothing_begun, whatever}
 use Rattle.ospf_files.specs.Streams.{IsBegun, IsOutputCut, no_room}

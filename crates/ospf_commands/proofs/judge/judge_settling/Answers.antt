@@ -1,4 +1,4 @@
-use Rattle.std.proofs.Common.{◌≡◌, ◌∙◌, sym, subst, Bool, Ok, true, false, refl}
+use Rattle.std.proofs.Common.{◌≡◌, ◌∙◌, sym, subst, Bool, Ok, true, refl}
 use Rattle.std.specs.Io.KnownBytes.{Appends}
 use Rattle.ospf_files.proofs.Cut.{for_memory}
 use Rattle.ospf_files.specs.Streams.{IsOutputCut, no_room}

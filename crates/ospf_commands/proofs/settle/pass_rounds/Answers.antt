@@ -1,5 +1,5 @@
-use Rattle.std.proofs.Common.{◌≡◌, ◌∙◌, ap, sym, subst, refl, arith, ℕ, suc, ◌+◌, ◌<◌, ◌≤◌, List, ◌∷◌, Ok, Err, Some, flat_map, length}
-use Rattle.ospf_commands.specs.Settling.{IsStillFor, NeverStillFor, Passes, does_not_settle, no_room_ends_it, round_ends_it, settles, sight, slot_sight}
+use Rattle.std.proofs.Common.{◌≡◌, ◌∙◌, ap, sym, subst, arith, ℕ, ◌+◌, ◌≤◌, Ok, Some, flat_map}
+use Rattle.ospf_commands.specs.Settling.{Passes, sight, slot_sight}
 use Rattle.ospf_commands.proofs.Settling.{Passed, ends_in_round, ends_settled, ends_unsettled, no_room_at_start, no_room_behind, passed_none, passed_other, passed_same}
 use Rattle.ospf_commands.proofs.Same.{are_not_same, are_same}
 use Rattle.ospf_commands.proofs.settle.pass_rounds.Goals as goal

@@ -1,4 +1,4 @@
-use Rattle.std.proofs.Common.{◌≡◌, ◌∙◌, ap, subst, refl, arith, ℕ, ◌-◌, ◌≤◌, [], Ok, Err, Option, Some, false, true, fold}
+use Rattle.std.proofs.Common.{◌≡◌, ◌∙◌, ap, subst, ℕ, ◌-◌, [], Ok, Option, false, true, fold}
 use Rattle.std.specs.Io.KnownBytes.{Appends}
 use Rattle.ospf_files.proofs.Cut.{for_memory}
 use Rattle.ospf_files.proofs.Written.{nothing_begun, nothing_written, whatever}

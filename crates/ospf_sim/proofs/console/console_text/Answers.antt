@@ -24,7 +24,7 @@ returns-in-Ok-clause-stopped g c = λ ended.
 pub returns-in-Err-clause-stopped : goal.returns-in-Err-clause-stopped
 returns-in-Err-clause-stopped g c = λ _. (
   c.end_failed.new.streams,
-  is_failure c.end_failed.ensures.world (record {
+  is_failure c.end_failed.ensures.left (record {
     cause = c.in-Err.failure;
     failed_then = c.converse.new.streams;
     err_then = g.E.Write.contents c.converse.new.err;

@@ -10,7 +10,7 @@ use Rattle.ospf_sim.proofs.console.converse.Goals as goal
 
 pub returns-in-Some-clause-stream : goal.returns-in-Some-clause-stream
 returns-in-Some-clause-stream g c =
-    unread_of_told _ c.in-Some.file.now c.end_unread.result _ _ _ _ c.in-Some.ensures.some refl c.end_unread.ensures.world c.end_unread.ensures.told
+    unread_of_told _ c.in-Some.file.now c.end_unread.result _ _ _ _ c.in-Some.ensures.some refl c.end_unread.ensures.left c.end_unread.ensures.told
 
 pub returns-in-Some-clause-cut : goal.returns-in-Some-clause-cut
 returns-in-Some-clause-cut g c =
@@ -53,7 +53,7 @@ returns-in-None-clause-comes g c =
     let refused : IsNoConsole c.args.files.now c.without.result (g.O.Write.contents c.args.out.now) (g.O.Write.contents c.args.out.now) (g.E.Write.contents c.args.err.now) (g.E.Write.contents c.new_world.new.err) = record {
       read = c.in_default.ensures.none;
       no_world = no_world_told c.in_ok-world.field-0 _ _ _ c.in-None.is c.in_ok-world.ensures.comes;
-      none = c.without.ensures.world;
+      none = c.without.ensures.left;
       same_out = refl;
     } in
     subst (λ (status : Status). ConsoleComes status (g.R.Read.remaining c.args.console.input) c.args.console.prompt.now c.args.files.now c.without.result (g.O.Write.contents c.args.out.now) (g.O.Write.contents c.args.out.now) (g.E.Write.contents c.args.err.now) (g.E.Write.contents c.new_world.new.err))

@@ -18,7 +18,7 @@ returns-in-Ok-clause-stopped g c = λ ended. (c.simulate.new.streams, stopped_un
 pub returns-in-Err-clause-stopped : goal.returns-in-Err-clause-stopped
 returns-in-Err-clause-stopped g c = λ _. (
   c.end_failed.new.streams,
-  is_failure c.end_failed.ensures.world (record {
+  is_failure c.end_failed.ensures.left (record {
     cause = c.in-Err.failure;
     failed_then = c.simulate.new.streams;
     err_then = g.E.Write.contents c.simulate.new.err;

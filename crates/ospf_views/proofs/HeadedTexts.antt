@@ -4,7 +4,7 @@ use Rattle.std.specs.Io.KnownBytes.{Appends}
 use Rattle.ospf_files.specs.Streams.{IsBegun}
 use Rattle.ospf_files.proofs.Written.{front_begun, rest_begun}
 use Rattle.ospf_script.specs.Words.{Text}
-use Rattle.ospf_commands.specs.Shown.{headed}
+use Rattle.ospf_views.specs.Shown.{headed}
 
 -- a beginning of the line
 pub line_begun : (b : Bool) (line text : Text) (x y : Option (List ℕ)) → b ≡ true → IsBegun x y line → IsBegun x y (headed b line text)

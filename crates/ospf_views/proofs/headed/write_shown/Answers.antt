@@ -1,8 +1,8 @@
 use Rattle.ospf_files.proofs.Cut.{err_then}
 use Rattle.ospf_files.proofs.Written.{whatever}
 use Rattle.ospf_views.specs.Shown.{heading, view_lines}
-use Rattle.ospf_commands.proofs.Headed.{below_begun, line_begun}
-use Rattle.ospf_commands.proofs.show.write_shown.Goals as goal
+use Rattle.ospf_views.proofs.HeadedTexts.{below_begun, line_begun}
+use Rattle.ospf_views.proofs.headed.write_shown.Goals as goal
 
 pub returns-in_err-write_heading-clause-begun : goal.returns-in_err-write_heading-clause-begun
 returns-in_err-write_heading-clause-begun g c =

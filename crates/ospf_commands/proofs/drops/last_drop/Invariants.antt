@@ -1,0 +1,13 @@
+use Rattle.std.proofs.Common.{◌≡◌, length}
+use Rattle.std.specs.Prelude.{find, reverse}
+use Rattle.std.specs.List.{enumerate_from}
+use Rattle.ospf_commands.specs.Drops.{is_for_link, last_to}
+use Rattle.ospf_commands.proofs.drops.last_drop.Given as goal
+
+-- the last one is among those that are left
+abbrev pub invariant-loop-datagram : goal.invariant-loop-datagram
+invariant-loop-datagram l =
+    find (is_for_link l.world l.place.0 l.place.1 l.from) (reverse (enumerate_from 0 l.rest)) ≡ last_to l.world l.place.0 l.place.1 l.from
+
+abbrev pub decreases-loop-datagram : goal.decreases-loop-datagram
+decreases-loop-datagram l = length l.rest

@@ -1,0 +1,100 @@
+//! What a link waits for, and what of the last datagram that was sent to it would be dropped.
+
+ghost use Rattle.std.specs.Prelude.{◌≡◌, IfOk, option_map, string_bytes};
+ghost use Rattle.std.specs.List.{list_any};
+ghost use Rattle.ospf_commands.specs.Drops.{is_for_link, is_sent_by, is_delivery_to, last_drop, why_lines};
+
+use ospf_base::RouterId;
+use ospf_headline::Datagram;
+use ospf_router::Router;
+use ospf_views::{drop_reason, why};
+use ospf_world::{World, WorldEvent};
+use std::alloc::{AllocError, Global};
+
+// What a link waits for, or a router on it, and why it would drop what was sent to it last; `None` where there is no such link.
+pub(crate) fn why_lines(
+    world: &World,
+    router: &Router,
+    place: (RouterId, usize),
+    from: Option<RouterId>,
+    alloc: Global,
+) -> Result<Option<String>, AllocError>
+    ensures { IfOk result (λ said. option_map string_bytes said
+        ≡ why_lines world.now place.0 place.1 from router.now.area) }
+{
+    match why(router, place.1, from, alloc)? {
+        Some(mut lines) => {
+            let drop = last_drop(world, router, place, from, alloc)?;
+            lines.push_str(&drop)?;
+            Ok(Some(lines))
+        }
+        None => Ok(None),
+    }
+}
+
+// Why the router would drop the last datagram that a round offers to a link, of one router where it is given; nothing where it
+// would take it, and where there is none.
+fn last_drop(
+    world: &World,
+    router: &Router,
+    place: (RouterId, usize),
+    from: Option<RouterId>,
+    alloc: Global,
+) -> Result<String, AllocError>
+    ensures { IfOk result (λ text. string_bytes text
+        ≡ last_drop world.now place.0 place.1 from router.now.area) }
+{
+    let mut rest = world.datagrams();
+    while let Some((datagram, before)) = rest.split_last() {
+        if is_for_link(world, place, from, before.len(), datagram, alloc)? {
+            return drop_reason(router, place.1, &datagram.sent, alloc);
+        }
+        rest = before;
+    }
+    Ok(String::new(alloc))
+}
+
+// Whether a round offers a datagram to a link.
+fn is_for_link(
+    world: &World,
+    place: (RouterId, usize),
+    from: Option<RouterId>,
+    number: usize,
+    datagram: &Datagram,
+    alloc: Global,
+) -> Result<bool, AllocError>
+    ensures { IfOk result (λ it. it
+        ≡ is_for_link world.now place.0 place.1 from (number, datagram.now)) }
+{
+    if !is_sent_by(from, datagram) {
+        return Ok(false);
+    }
+    let offers = world.offers_of(number, datagram, alloc)?;
+    Ok(has_delivery(&offers, place))
+}
+
+// Whether one of these events is a delivery to a link.
+fn has_delivery(events: &[WorldEvent], place: (RouterId, usize)) -> bool
+    ensures { result ≡ list_any (is_delivery_to place.0 place.1) events.now }
+{
+    events.iter().any(|event| is_delivery_to(place, event))
+}
+
+// Whether an event is a delivery to a link.
+fn is_delivery_to(place: (RouterId, usize), event: &WorldEvent) -> bool
+    ensures { result ≡ is_delivery_to place.0 place.1 event.now }
+{
+    match event {
+        WorldEvent::Deliver { router, link, .. } => router.0 == place.0.0 && *link == place.1,
+        _ => false,
+    }
+}
+
+fn is_sent_by(from: Option<RouterId>, datagram: &Datagram) -> bool
+    ensures { result ≡ is_sent_by from datagram.now }
+{
+    match from {
+        Some(router) => datagram.router.0 == router.0,
+        None => true,
+    }
+}

@@ -1,0 +1,39 @@
+-- Why a router drops what comes to it (RFC 2328, section 8.2), as it is told.
+use Rattle.std.specs.Prelude.{ℕ, List, [], ◌++◌, Option, None, Some, codes}
+use Rattle.ospf_area.specs.Outputs.{SentValue}
+use Rattle.ospf_area.specs.State.{AreaValue}
+use Rattle.ospf_base.specs.Text.{number_text}
+use Rattle.ospf_base.specs.declared.ids.Addr.{Addr}
+use Rattle.ospf_journal.specs.Causes.{cause_of}
+use Rattle.ospf_packet.specs.PacketOf.{packet_of}
+use Rattle.ospf_step.specs.Step.Event.{Datagram}
+use Rattle.ospf_step.specs.Text.{dropped_text}
+use Rattle.ospf_step.specs.declared.dropped.Dropped.{Dropped}
+use Rattle.ospf_step.specs.declared.dropped.Dropped.TheVariants as dropped
+use Rattle.ospf_views.specs.Details.{detail_on, detail_text}
+use Rattle.ospf_views.specs.declared.detail.Detail.{Detail}
+
+-- a field that does not fit explains that a Hello does not agree, or that a Database Description is not taken
+abbrev pub detail_for : Dropped → Option Detail → Option Detail
+detail_for dropped.HelloMismatch detail = detail
+detail_for dropped.State detail = detail
+detail_for _ detail = None
+
+-- the field, with both values, if there is one
+abbrev pub detail_words : Option Detail → List ℕ
+detail_words None = []
+detail_words (Some detail) = codes ": " ++ detail_text detail
+
+-- where the datagram came from, the cause, and the field
+abbrev pub reason_line : Addr → Dropped → Option Detail → List ℕ
+reason_line source cause detail =
+    codes "  would drop the last datagram of " ++ number_text source.0 ++ codes ": " ++ dropped_text cause ++ detail_words detail ++ codes "\n"
+
+-- nothing of one that is taken
+abbrev pub reason_by : Addr → Option Detail → Option Dropped → List ℕ
+reason_by source detail None = []
+reason_by source detail (Some cause) = reason_line source cause (detail_for cause detail)
+
+-- of a datagram that comes on a link of a router now
+abbrev pub drop_reason : Option AreaValue → ℕ → SentValue → List ℕ
+drop_reason area link g = reason_by g.source (detail_on area link (packet_of g.bytes)) (cause_of (Datagram link g.source g.destination g.bytes) area)
