@@ -84,6 +84,16 @@ fn sum(alloc: Global, lsa: &Lsa) -> Result<String, Fail> {
     Ok(format!(in alloc; "{sum:04x}")?)
 }
 
+// Those of the three routers and of the network.
+fn sums(alloc: Global, lsas: &[Lsa]) -> Result<(String, String, String, String), Fail> {
+    Ok((
+        sum(alloc, &lsas[0])?,
+        sum(alloc, &lsas[1])?,
+        sum(alloc, &lsas[2])?,
+        sum(alloc, &lsas[3])?,
+    ))
+}
+
 // What is printed of a job over an input, and told.
 fn expect(
     rt: &impl Abort,
@@ -112,12 +122,7 @@ fn path(alloc: Global, from: RouterId, address: u32, choices: &[u32]) -> Result<
 fn lsas_stand_in_words(rt: HostRuntime) -> Result<(), Fail> {
     let alloc = rt.alloc();
     let lsas = area(alloc)?;
-    let (first, second, third, network) = (
-        sum(alloc, &lsas[0])?,
-        sum(alloc, &lsas[1])?,
-        sum(alloc, &lsas[2])?,
-        sum(alloc, &lsas[3])?,
-    );
+    let (first, second, third, network) = sums(alloc, &lsas)?;
     let wanted = format!(in alloc;
         "router 1.1.1.1 age 7 number 80000001 sum {first}\n\
         \x20 router 2.2.2.2 from 10.0.0.1 cost 10\n\
@@ -208,12 +213,7 @@ fn tables_of_all_routers_stand_below_their_names(rt: HostRuntime) -> Result<(), 
 fn lsas_stand_in_json(rt: HostRuntime) -> Result<(), Fail> {
     let alloc = rt.alloc();
     let lsas = area(alloc)?;
-    let (first, second, third, network) = (
-        sum(alloc, &lsas[0])?,
-        sum(alloc, &lsas[1])?,
-        sum(alloc, &lsas[2])?,
-        sum(alloc, &lsas[3])?,
-    );
+    let (first, second, third, network) = sums(alloc, &lsas)?;
     let mut wanted = format!(in alloc;
         "[{{\"age\":7,\"links\":[\
         {{\"cost\":10,\"from\":\"10.0.0.1\",\"link\":\"router\",\"one_way\":false,\"to\":\"2.2.2.2\"}},\
