@@ -3,22 +3,22 @@ use Rattle.std.proofs.Common.{◌≡◌, ℕ, ◌+◌, ◌<◌, ◌&&◌, ◌||�
 use Rattle.std.specs.BTreeSet as sorted
 use Rattle.std.specs.List.{list_any}
 use Rattle.std.proofs.lemmas.List.{take_more}
-use Rattle.ospf_base.specs.Keys.{same_key}
+use Rattle.ospf_base.specs.Keys.{same_key, key_cmp}
 use Rattle.ospf_base.specs.declared.ids.LsaKey.{LsaKey}
 use Rattle.ospf_base.proofs.SameKeys.{same_key-eq}
-use Rattle.ospf_lsdb.specs.Database.{Held, IsRising, entry_of, key_at}
-use Rattle.ospf_lsdb.specs.Moments.{among, key_cmp}
+use Rattle.ospf_lsdb.specs.Database.{Held, AreKeysRising, entry_of, key_at}
+use Rattle.ospf_lsdb.specs.Moments.{among}
 use Rattle.ospf_lsdb.specs.Timers.{KeysRise}
 use Rattle.ospf_neighbour.specs.Neighbour.{NeighbourValue}
 use Rattle.ospf_neighbour.specs.declared.neighbour.Listed.{Listed}
 use Rattle.ospf_exchange.proofs.KeyLemmas.{among_added}
-use Rattle.ospf_flood.specs.Due.{is_due}
+use Rattle.ospf_flood.specs.Due.{is_resend_due}
 use Rattle.ospf_adjacency.specs.Repeats.{due_keys, is_key_due}
 use Rattle.ospf_adjacency.proofs.KeyLists.{among_filter, among_keys, filter_rises, keys_rise, rising_same}
 
 -- the entry is due and the database has a copy of its key, which is this one
 abbrev pub is_due_of : ℕ → ℕ → List Held → LsaKey → Listed → Bool
-is_due_of retransmit tick db q x = (is_due retransmit tick x && is_some (entry_of db x.instance.key)) && same_key x.instance.key q
+is_due_of retransmit tick db q x = (is_resend_due retransmit tick x && is_some (entry_of db x.instance.key)) && same_key x.instance.key q
 
 or_assoc : (a b c : Bool) → a || (b || c) ≡ (a || b) || c
 or_assoc true b c = refl
@@ -43,7 +43,7 @@ any-more p ls k x within = ap (list_any p) (take_more ls k x within) ∙ any-pus
 
 -- its key goes into the set
 pub due_more : (retransmit tick : ℕ) (db : List Held) (ls : List Listed) (k : ℕ) (x : Listed) (s t : BTreeSet LsaKey) → k < length ls
-    → true ≡ (is_due retransmit tick (get_or ls k x) && is_some (entry_of db (get_or ls k x).instance.key))
+    → true ≡ (is_resend_due retransmit tick (get_or ls k x) && is_some (entry_of db (get_or ls k x).instance.key))
     → sorted.Updates key_cmp s t (get_or ls k x).instance.key true → ((q : LsaKey) → among s.keys q ≡ list_any (is_due_of retransmit tick db q) (take k ls))
     → (q : LsaKey) → among t.keys q ≡ list_any (is_due_of retransmit tick db q) (take (k + 1) ls)
 due_more retransmit tick db ls k x s t within due up before q =
@@ -53,7 +53,7 @@ due_more retransmit tick db ls k x s t within due up before q =
 
 -- or it does not
 pub due_same : (retransmit tick : ℕ) (db : List Held) (ls : List Listed) (k : ℕ) (x : Listed) (ks : List LsaKey) → k < length ls
-    → false ≡ (is_due retransmit tick (get_or ls k x) && is_some (entry_of db (get_or ls k x).instance.key))
+    → false ≡ (is_resend_due retransmit tick (get_or ls k x) && is_some (entry_of db (get_or ls k x).instance.key))
     → ((q : LsaKey) → among ks q ≡ list_any (is_due_of retransmit tick db q) (take k ls))
     → (q : LsaKey) → among ks q ≡ list_any (is_due_of retransmit tick db q) (take (k + 1) ls)
 due_same retransmit tick db ls k x ks within due before q =
@@ -79,7 +79,7 @@ here_or due has true rest there is = on due has rest there (is refl)
 
 -- an entry of the key is due, and the database has a copy of it
 pub any_due : (retransmit tick : ℕ) (db : List Held) (q : LsaKey) (ls : List Listed)
-    → list_any (is_due_of retransmit tick db q) ls ≡ is_some (entry_of db q) && list_any (λ l. is_due retransmit tick l && same_key l.instance.key q) ls
+    → list_any (is_due_of retransmit tick db q) ls ≡ is_some (entry_of db q) && list_any (λ l. is_resend_due retransmit tick l && same_key l.instance.key q) ls
 any_due retransmit tick db q [] = none (is_some (entry_of db q))
   where
     none : (a : Bool) → false ≡ a && false
@@ -87,11 +87,11 @@ any_due retransmit tick db q [] = none (is_some (entry_of db q))
     none false = refl
 any_due retransmit tick db q (l ∷ ls) =
     ap (λ (b : Bool). is_due_of retransmit tick db q l || b) (any_due retransmit tick db q ls)
-    ∙ here_or (is_due retransmit tick l) (is_some (entry_of db l.instance.key)) (same_key l.instance.key q) (list_any (λ x. is_due retransmit tick x && same_key x.instance.key q) ls) (is_some (entry_of db q))
+    ∙ here_or (is_resend_due retransmit tick l) (is_some (entry_of db l.instance.key)) (same_key l.instance.key q) (list_any (λ x. is_resend_due retransmit tick x && same_key x.instance.key q) ls) (is_some (entry_of db q))
     (λ one. ap (λ (k : LsaKey). is_some (entry_of db k)) (same_key-eq l.instance.key q one))
 
 -- the keys that are due, as keys of the database
-pub due_are : (retransmit tick : ℕ) (db : List Held) (n : NeighbourValue) (ks : List LsaKey) → IsRising db → KeysRise ks
+pub due_are : (retransmit tick : ℕ) (db : List Held) (n : NeighbourValue) (ks : List LsaKey) → AreKeysRising db → KeysRise ks
     → ((q : LsaKey) → among ks q ≡ list_any (is_due_of retransmit tick db q) n.retransmission) → ks ≡ due_keys retransmit tick db n
 due_are retransmit tick db n ks rises keys whole =
     let due = is_key_due retransmit tick n in

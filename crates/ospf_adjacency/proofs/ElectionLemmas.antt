@@ -13,7 +13,7 @@ use Rattle.ospf_iface.specs.Machine.{Elects, is_changed, own_candidate}
 use Rattle.ospf_neighbour.specs.declared.machine.NbrEvent.{NbrEvent}
 use Rattle.ospf_neighbour.specs.Machine.{is_two_way}
 use Rattle.ospf_neighbour.specs.Neighbour.{NeighbourValue}
-use Rattle.ospf_neighbour.specs.Neighbours.{IsRising}
+use Rattle.ospf_neighbour.specs.Neighbours.{AreNeighboursRising}
 use Rattle.ospf_adjacency.specs.Adjacency.{begins_by, event_taken, number_by}
 use Rattle.ospf_adjacency.specs.Elections.{AreOfLink, ElectsOn, adj_ok_for, adjusted, number_after, first_dds, candidate_of, taking_part, candidates_of}
 use Rattle.ospf_area.specs.Packets.{Parcel, dd_parcel, parcel_if}
@@ -159,7 +159,7 @@ above_differ q (n ∷ ns) h = ((λ e. omega (arith, h.0, e)), above_differ q ns 
 cons_distinct : (c : Candidate) (cs : List Candidate) → AllByRecursion (λ (d : Candidate). d.id.0 ≢ c.id.0) cs → AreDistinct cs → AreDistinct (c ∷ cs)
 cons_distinct c cs h = AllPairs-cons (λ a b. a.id ≢ b.id) c cs (All-from_recursion (λ (d : Candidate). c.id ≢ d.id) cs (others c cs h))
 
-taking_part-distinct : (ns : List NeighbourValue) → IsRising ns → AreDistinct (taking_part ns)
+taking_part-distinct : (ns : List NeighbourValue) → AreNeighboursRising ns → AreDistinct (taking_part ns)
 taking_part-distinct [] rises = λ i j d lt long. absurd (omega arith)
 taking_part-distinct (n ∷ ns) rises =
     let rest = taking_part-distinct ns rises.1 in

@@ -16,7 +16,7 @@ use Rattle.ospf_area.specs.Turns.{Turn}
 use Rattle.ospf_adjacency.specs.Elections.{adj_ok_for}
 use Rattle.ospf_adjacency.specs.Laws.{KeepsLists, NoLists, NeverEnters}
 use Rattle.ospf_adjacency.specs.Heard.{Neighbourhood, turn_of, hello_turn, put, sender_of}
-use Rattle.ospf_adjacency.specs.HelloLaws.{Goes, PutsOne, HelloGoes, TimersGo, AdjOkGoes}
+use Rattle.ospf_adjacency.specs.HelloLaws.{KeepsOrLosesLists, PutsOne, HelloGoes, TimersGo, AdjOkGoes}
 use Rattle.ospf_adjacency.specs.Links.{timed, is_inactive}
 use Rattle.ospf_adjacency.proofs.HelloLemmas.{same_router}
 
@@ -45,7 +45,7 @@ adj_ok_enters i tick next n = first_of (search rules, grind (arith, common_steps
 pub adj_ok_router : (i : Iface) (tick next : ℕ) (n : NeighbourValue) → (event_taken (adj_ok_for i n) i.settings.dead next tick n).router ≡ n.router
 adj_ok_router i tick next n = first_of (search rules, grind (arith, common_steps))
 
-goes_same : (o : Option NeighbourValue) → Goes o o
+goes_same : (o : Option NeighbourValue) → KeepsOrLosesLists o o
 goes_same None = tt
 goes_same (Some n) = (inl (record { summary = refl; last_dd = refl; requests = refl; retransmission = refl }), (λ is. is))
 
@@ -59,7 +59,7 @@ new_has_none q source m (inl same) enters = (
 )
 new_has_none q source m (inr gone) enters = gone
 
-goes_to : (q : RouterId) (source : Addr) (o : Option NeighbourValue) (m : NeighbourValue) → KeepsLists (unwrap_or o (new_neighbour q source)) m → NeverEnters (unwrap_or o (new_neighbour q source)) m → Goes o (Some m)
+goes_to : (q : RouterId) (source : Addr) (o : Option NeighbourValue) (m : NeighbourValue) → KeepsLists (unwrap_or o (new_neighbour q source)) m → NeverEnters (unwrap_or o (new_neighbour q source)) m → KeepsOrLosesLists o (Some m)
 goes_to q source None m keeps enters = new_has_none q source m keeps enters
 goes_to q source (Some n) m keeps enters = (keeps, enters)
 
@@ -88,8 +88,8 @@ hello_goes i local q source h named x p =
       | inl w ↦
           let there : neighbour_of (put m x.neighbours) p ≡ Some m = rw w.0 at (puts_one m x.neighbours p) in
           let one : q ≡ p = (λ j. record { 0 = (sym is_q ∙ w.1) j }) in
-          let goes : Goes (neighbour_of x.neighbours q) (Some m) = goes_to q source (neighbour_of x.neighbours q) m (hello_keeps i local h named t) (hello_enters i local h named t) in
-          let at_p : Goes (neighbour_of x.neighbours p) (Some m) = subst (λ (r : RouterId). Goes (neighbour_of x.neighbours r) (Some m)) one goes in
+          let goes : KeepsOrLosesLists (neighbour_of x.neighbours q) (Some m) = goes_to q source (neighbour_of x.neighbours q) m (hello_keeps i local h named t) (hello_enters i local h named t) in
+          let at_p : KeepsOrLosesLists (neighbour_of x.neighbours p) (Some m) = subst (λ (r : RouterId). KeepsOrLosesLists (neighbour_of x.neighbours r) (Some m)) one goes in
           (rw there at_p)
       | inr w ↦
           let there : neighbour_of (put m x.neighbours) p ≡ neighbour_of x.neighbours p = rw w.0 at (puts_one m x.neighbours p) in
@@ -116,7 +116,7 @@ none_above (n ∷ ns) q above =
     let apart : n.router.0 == q.0 ≡ false = grind (arith, above.0) in
     elim (bool_cases (is_inactive n)) [ inl t ↦ (rw t (none_above ns q above.1)) | inr f ↦ (rw (f, apart) (none_above ns q above.1)) ]
 
-goes_none : (o : Option NeighbourValue) → Goes o None
+goes_none : (o : Option NeighbourValue) → KeepsOrLosesLists o None
 goes_none None = tt
 goes_none (Some n) = tt
 

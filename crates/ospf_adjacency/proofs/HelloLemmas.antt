@@ -6,7 +6,7 @@ use Rattle.ospf_base.specs.declared.ids.Addr.{Addr}
 use Rattle.ospf_base.specs.declared.ids.RouterId.{RouterId}
 use Rattle.ospf_iface.specs.declared.machine.Iface.{Iface}
 use Rattle.ospf_neighbour.specs.Neighbour.{NeighbourValue, new_neighbour}
-use Rattle.ospf_neighbour.specs.Neighbours.{IsRising}
+use Rattle.ospf_neighbour.specs.Neighbours.{AreNeighboursRising}
 use Rattle.ospf_packet.specs.declared.body.Hello.{Hello}
 use Rattle.ospf_exchange.specs.declared.rule.Local.{Local}
 use Rattle.ospf_area.specs.Turns.{Turn, turn}
@@ -46,7 +46,7 @@ hello_found i local q source h named ns p p' k e m elects at there e_is is due =
     ∙ ap (λ (n : NeighbourValue). hello_by i local h named n x) (sym sender)
 
 pub hello_new : (i : Iface) (local : Local) (q : RouterId) (source : Addr) (h : Hello) (named : Bool) (ns : List NeighbourValue) (p p' : PostValue) (k : ℕ) (e m : NeighbourValue) (elects : Bool)
-    → IsRising ns → k ≡ place_for ns q.0 → ((o : NeighbourValue) → slice_get ns k ≡ Some o → o.router ≢ q) → e ≡ new_neighbour q source
+    → AreNeighboursRising ns → k ≡ place_for ns q.0 → ((o : NeighbourValue) → slice_get ns k ≡ Some o → o.router ≢ q) → e ≡ new_neighbour q source
     → turn m p' ≡ hello_turn i local h named (turn e p) → elects ≡ elects_by_hello i.state e m
     → neighbourhood (insert ns k m) elects p' ≡ hello_on i local q source h named (neighbourhood ns false p)
 hello_new i local q source h named ns p p' k e m elects rises at other e_is is due =

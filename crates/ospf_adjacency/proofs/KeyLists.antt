@@ -5,11 +5,11 @@ use Rattle.ospf_base.specs.Keys.{Precedes, same_key}
 use Rattle.ospf_base.specs.declared.ids.LsaKey.{LsaKey}
 use Rattle.ospf_base.proofs.KeyOrder.{Precedes-cases, Precedes-trans}
 use Rattle.ospf_base.proofs.SameKeys.{same_key-apart_after, same_key-eq, same_key-refl}
-use Rattle.ospf_lsdb.specs.Database.{Held, IsRising, entry_of, held_of, key_at}
+use Rattle.ospf_lsdb.specs.Database.{Held, AreKeysRising, entry_of, held_of, key_at}
 use Rattle.ospf_lsdb.specs.Moments.{among}
 use Rattle.ospf_lsdb.specs.Timers.{KeysRise}
 use Rattle.ospf_packet.specs.declared.entry.RequestEntry.{RequestEntry}
-use Rattle.ospf_exchange.specs.Headers.{copy_of}
+use Rattle.ospf_exchange.specs.Headers.{copy_in_database}
 use Rattle.ospf_exchange.specs.Requests.{Answers, all_held, is_asked, is_held, is_key, key_asked}
 use Rattle.ospf_adjacency.specs.Answers.{asked_keys}
 
@@ -23,7 +23,7 @@ all_keys : (k : LsaKey) (hs : List Held) → AllByRecursion (λ h. Precedes k (k
 all_keys k [] all = tt
 all_keys k (h ∷ hs) all = (all.0, all_keys k hs all.1)
 
-pub keys_rise : (db : List Held) → IsRising db → KeysRise (map key_at db)
+pub keys_rise : (db : List Held) → AreKeysRising db → KeysRise (map key_at db)
 keys_rise [] rises = tt
 keys_rise (h ∷ hs) rises = (all_keys (key_at h) hs rises.0, keys_rise hs rises.1)
 
@@ -129,7 +129,7 @@ both : (a b : Bool) → a && b ≡ true → (a ≡ true) × (b ≡ true)
 both true b is = (refl, is)
 both false b is = absurd (cc)
 
-one_held : (db : List Held) (o : Option LsaKey) (q : LsaKey) → is_some (copy_of db o) ≡ true → is_key o q ≡ true → is_some (entry_of db q) ≡ true
+one_held : (db : List Held) (o : Option LsaKey) (q : LsaKey) → is_some (copy_in_database db o) ≡ true → is_key o q ≡ true → is_some (entry_of db q) ≡ true
 one_held db None q held is = absurd (cc)
 one_held db (Some k) q held is = subst (λ (x : LsaKey). is_some (entry_of db x) ≡ true) (same_key-eq k q is) held
 
@@ -151,7 +151,7 @@ absorbed false true is = is refl
 absorbed false false is = refl
 
 -- the keys that a Request asks for, as keys of the database
-pub answers_are : (db : List Held) (es : List RequestEntry) (ks : List LsaKey) → IsRising db → Answers es ks → all_held db es ≡ true → ks ≡ asked_keys db es
+pub answers_are : (db : List Held) (es : List RequestEntry) (ks : List LsaKey) → AreKeysRising db → Answers es ks → all_held db es ≡ true → ks ≡ asked_keys db es
 answers_are db es ks rises answers held =
     rising_same ks (asked_keys db es) answers.rising (filter_rises (is_asked es) (map key_at db) (keys_rise db rises))
     (λ q. answers.whole q ∙ sym (among_filter (is_asked es) (map key_at db) q ∙ ap (λ (b : Bool). b && is_asked es q) (among_keys db q)

@@ -4,7 +4,7 @@ use Rattle.std.specs.List.{AllByRecursion}
 use Rattle.std.proofs.lemmas.Bool.Decides.{leb_tells}
 use Rattle.ospf_base.specs.declared.ids.RouterId.{RouterId}
 use Rattle.ospf_neighbour.specs.Neighbour.{NeighbourValue}
-use Rattle.ospf_neighbour.specs.Neighbours.{IsRising, neighbour_of}
+use Rattle.ospf_neighbour.specs.Neighbours.{AreNeighboursRising, neighbour_of}
 use Rattle.ospf_adjacency.specs.Heard.{place_for, put}
 
 -- at the place of q stands its neighbour
@@ -33,7 +33,7 @@ above_trans q k [] lt above = tt
 above_trans q k (m ∷ ms) lt above = (omega (arith, above.0), above_trans q k ms lt above.1)
 
 -- at the place of q stands another
-pub not_found : (ns : List NeighbourValue) (q : RouterId) → IsRising ns → ((e : NeighbourValue) → slice_get ns (place_for ns q.0) ≡ Some e → e.router.0 ≢ q.0) → neighbour_of ns q ≡ None
+pub not_found : (ns : List NeighbourValue) (q : RouterId) → AreNeighboursRising ns → ((e : NeighbourValue) → slice_get ns (place_for ns q.0) ≡ Some e → e.router.0 ≢ q.0) → neighbour_of ns q ≡ None
 not_found [] q rises other = refl
 not_found (m ∷ ms) q rises other = elim (leb_tells (suc m.router.0) q.0) [
   | inl lower ↦

@@ -5,7 +5,7 @@ use Rattle.std.proofs.lemmas.Bool.Decides.{leb_tells, eqb_tells}
 use Rattle.ospf_base.specs.declared.ids.RouterId.{RouterId}
 use Rattle.ospf_iface.specs.declared.machine.Iface.{Iface}
 use Rattle.ospf_neighbour.specs.Neighbour.{NeighbourValue}
-use Rattle.ospf_neighbour.specs.Neighbours.{IsRising}
+use Rattle.ospf_neighbour.specs.Neighbours.{AreNeighboursRising}
 use Rattle.ospf_adjacency.specs.Adjacency.{event_taken, number_by}
 use Rattle.ospf_adjacency.specs.Elections.{AreOfLink, adj_ok_for, adjusted}
 use Rattle.ospf_adjacency.specs.Heard.{put, hello_turn, turn_of, sender_of}
@@ -28,7 +28,7 @@ above_trans : (q k : ℕ) (ns : List NeighbourValue) → q < k → AllIds (λ r.
 above_trans q k [] lt above = tt
 above_trans q k (m ∷ ms) lt above = (omega (arith, above.0), above_trans q k ms lt above.1)
 
-pub put_rises : (n : NeighbourValue) (ns : List NeighbourValue) → IsRising ns → IsRising (put n ns)
+pub put_rises : (n : NeighbourValue) (ns : List NeighbourValue) → AreNeighboursRising ns → AreNeighboursRising (put n ns)
 put_rises n [] rises = (tt, tt)
 put_rises n (m ∷ ms) rises = elim (leb_tells (suc m.router.0) n.router.0) [
   | inl w ↦ (rw w.0 (put_all (λ r. m.router.0 < r) n ms w.1 rises.0, put_rises n ms rises.1))
@@ -42,7 +42,7 @@ timed_all : (P : ℕ → Type 0) (ns : List NeighbourValue) → AllIds P ns → 
 timed_all P [] all = tt
 timed_all P (n ∷ ns) all = elim (bool_cases (is_inactive n)) [ inl t ↦ (rw t (timed_all P ns all.1)) | inr f ↦ (rw f (all.0, timed_all P ns all.1)) ]
 
-pub timed_rises : (ns : List NeighbourValue) → IsRising ns → IsRising (timed ns)
+pub timed_rises : (ns : List NeighbourValue) → AreNeighboursRising ns → AreNeighboursRising (timed ns)
 timed_rises [] rises = tt
 timed_rises (n ∷ ns) rises = elim (bool_cases (is_inactive n)) [ inl t ↦ (rw t (timed_rises ns rises.1)) | inr f ↦ (rw f (timed_all (λ r. n.router.0 < r) ns rises.0, timed_rises ns rises.1)) ]
 
@@ -53,7 +53,7 @@ adjusted_all : (P : ℕ → Type 0) (i : Iface) (tick next : ℕ) (ns : List Nei
 adjusted_all P i tick next [] all = tt
 adjusted_all P i tick next (n ∷ ns) all = (subst P (same_id i tick next n) all.0, adjusted_all P i tick (number_by (adj_ok_for i n) n next) ns all.1)
 
-pub adjusted_rises : (i : Iface) (tick next : ℕ) (ns : List NeighbourValue) → IsRising ns → IsRising (adjusted i tick next ns)
+pub adjusted_rises : (i : Iface) (tick next : ℕ) (ns : List NeighbourValue) → AreNeighboursRising ns → AreNeighboursRising (adjusted i tick next ns)
 adjusted_rises i tick next [] rises = tt
 adjusted_rises i tick next (n ∷ ns) rises =
     let next' = number_by (adj_ok_for i n) n next in

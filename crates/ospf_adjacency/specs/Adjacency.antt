@@ -47,12 +47,12 @@ abbrev pub begins_by : NbrEvent → NeighbourValue → Bool
 begins_by e n = is_beginning (change_by e n).effect
 
 -- where an adjacency begins the neighbour takes the next DD number (10.8)
-abbrev pub numbered : Bool → ℕ → ℕ → NeighbourValue → NeighbourValue
-numbered b next tick n = if b then record n { exchanging = begins next tick } else n
+abbrev pub with_next_number : Bool → ℕ → ℕ → NeighbourValue → NeighbourValue
+with_next_number b next tick n = if b then record n { exchanging = begins next tick } else n
 
 -- the neighbour after an event, `next` being the router's next DD number (10.3, 10.8)
 abbrev pub event_taken : NbrEvent → ℕ → ℕ → ℕ → NeighbourValue → NeighbourValue
-event_taken e dead next tick n = numbered (begins_by e n) next tick (after_event e dead n)
+event_taken e dead next tick n = with_next_number (begins_by e n) next tick (after_event e dead n)
 
 -- a DD number that was taken: the next one is one more, wrapping
 abbrev pub dd_counted : Bool → ℕ → ℕ

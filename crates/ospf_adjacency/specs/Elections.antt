@@ -12,7 +12,7 @@ use Rattle.ospf_neighbour.specs.declared.machine.NbrEvent.{NbrEvent}
 use Rattle.ospf_neighbour.specs.declared.machine.NbrEvent.TheVariants.{AdjOk}
 use Rattle.ospf_neighbour.specs.Machine.{is_two_way}
 use Rattle.ospf_neighbour.specs.Neighbour.{NeighbourValue}
-use Rattle.ospf_neighbour.specs.Neighbours.{IsRising}
+use Rattle.ospf_neighbour.specs.Neighbours.{AreNeighboursRising}
 use Rattle.ospf_adjacency.specs.Adjacency.{wants_adjacency, begins_by, event_taken, number_by}
 use Rattle.ospf_area.specs.Packets.{Parcel, dd_parcel, parcel_if}
 
@@ -65,7 +65,7 @@ elects_in _ = false
 
 -- a link's neighbours are in rising Router ID, and none is the router itself (8.2)
 pub record AreOfLink (i : Iface) (ns : List NeighbourValue) : Type 0 where
-  pub rising : IsRising ns
+  pub rising : AreNeighboursRising ns
   pub others : AllByRecursion (λ n. n.router.0 ≢ i.settings.router.0) ns
 
 -- the interface has the result of the election, and AdjOK? comes to its neighbours where the DR or the Backup is another (9.4)

@@ -21,7 +21,7 @@ use Rattle.ospf_adjacency.specs.Descriptions.{event_turn}
 use Rattle.ospf_area.specs.Turns.{Turn}
 use Rattle.ospf_area.specs.Packets.{Parcel}
 use Rattle.ospf_area.specs.Posting.{PostValue}
-use Rattle.ospf_adjacency.specs.declared.heard.Bearing.{Bearing}
+use Rattle.ospf_adjacency.specs.declared.heard.ElectionView.{ElectionView}
 
 -- a Hello names the router among the neighbours that were heard (10.5)
 abbrev pub names : List RouterId → RouterId → Bool
@@ -49,7 +49,7 @@ hello_turn i local h named t = event_turn i local (naming_event i named t.neighb
 
 -- what an election looks at in a neighbour: whether it is in 2-Way or above, its priority, whether it declares itself DR and Backup,
 -- and whether it declares that there is no Backup (9.2, 9.4)
-abbrev pub bearing_of : NeighbourValue → Bearing
+abbrev pub bearing_of : NeighbourValue → ElectionView
 bearing_of n = record {
   two_way = is_two_way n.state;
   priority = n.declared.priority;
@@ -60,12 +60,12 @@ bearing_of n = record {
 
 -- the neighbour has come into 2-Way or above, or fallen below it; or its priority has changed, or it has begun or ceased to declare
 -- itself DR or Backup (9.2, NeighborChange)
-abbrev pub is_neighbor_change : Bearing → Bearing → Bool
+abbrev pub is_neighbor_change : ElectionView → ElectionView → Bool
 is_neighbor_change b c = differs b.two_way c.two_way || not (b.priority == c.priority) || differs b.is_dr c.is_dr || differs b.is_backup c.is_backup
 
 -- it is known whether there is a Backup: a neighbour in 2-Way or above declares itself Backup, or itself DR with no Backup
 -- (9.2, BackupSeen)
-abbrev pub is_backup_seen : Bearing → Bool
+abbrev pub is_backup_seen : ElectionView → Bool
 is_backup_seen c = c.two_way && (c.is_backup || (c.is_dr && c.sees_none))
 
 -- the states in which NeighborChange elects (9.3)

@@ -5,7 +5,7 @@ use Rattle.ospf_base.specs.declared.ids.RouterId.{RouterId}
 use Rattle.ospf_iface.specs.declared.machine.Iface.{Iface}
 use Rattle.ospf_neighbour.specs.Machine.{is_exchanging}
 use Rattle.ospf_neighbour.specs.Neighbour.{NeighbourValue}
-use Rattle.ospf_neighbour.specs.Neighbours.{IsRising, neighbour_of}
+use Rattle.ospf_neighbour.specs.Neighbours.{AreNeighboursRising, neighbour_of}
 use Rattle.ospf_packet.specs.declared.body.Hello.{Hello}
 use Rattle.ospf_exchange.specs.declared.rule.Local.{Local}
 use Rattle.ospf_adjacency.specs.Elections.{AreOfLink, adjusted, elects_in}
@@ -14,11 +14,11 @@ use Rattle.ospf_adjacency.specs.Heard.{Neighbourhood, hello_on, put, elects_by_h
 use Rattle.ospf_adjacency.specs.Links.{timed, elects_by_timers}
 
 -- a neighbour keeps its lists or loses them, and does not enter Exchange; a new one has none and is below Exchange
-abbrev pub Goes : Option NeighbourValue → Option NeighbourValue → Type 0
-Goes None None = ⊤
-Goes None (Some m) = NoLists m × (is_exchanging m.state ≡ false)
-Goes (Some n) None = ⊤
-Goes (Some n) (Some m) = KeepsLists n m × NeverEnters n m
+abbrev pub KeepsOrLosesLists : Option NeighbourValue → Option NeighbourValue → Type 0
+KeepsOrLosesLists None None = ⊤
+KeepsOrLosesLists None (Some m) = NoLists m × (is_exchanging m.state ≡ false)
+KeepsOrLosesLists (Some n) None = ⊤
+KeepsOrLosesLists (Some n) (Some m) = KeepsLists n m × NeverEnters n m
 
 -- the neighbour of each Router ID after one was put in
 abbrev pub PutsOne : Type 0
@@ -27,15 +27,15 @@ PutsOne = (n : NeighbourValue) (ns : List NeighbourValue) (q : RouterId) → nei
 -- by a Hello
 abbrev pub HelloGoes : Type 0
 HelloGoes = (i : Iface) (local : Local) (q : RouterId) (source : Addr) (h : Hello) (named : Bool) (x : Neighbourhood) (p : RouterId)
-    → Goes (neighbour_of x.neighbours p) (neighbour_of (hello_on i local q source h named x).neighbours p)
+    → KeepsOrLosesLists (neighbour_of x.neighbours p) (neighbour_of (hello_on i local q source h named x).neighbours p)
 
 -- by the timers
 abbrev pub TimersGo : Type 0
-TimersGo = (ns : List NeighbourValue) (p : RouterId) → IsRising ns → Goes (neighbour_of ns p) (neighbour_of (timed ns) p)
+TimersGo = (ns : List NeighbourValue) (p : RouterId) → AreNeighboursRising ns → KeepsOrLosesLists (neighbour_of ns p) (neighbour_of (timed ns) p)
 
 -- by AdjOK?
 abbrev pub AdjOkGoes : Type 0
-AdjOkGoes = (i : Iface) (tick next : ℕ) (ns : List NeighbourValue) (p : RouterId) → Goes (neighbour_of ns p) (neighbour_of (adjusted i tick next ns) p)
+AdjOkGoes = (i : Iface) (tick next : ℕ) (ns : List NeighbourValue) (p : RouterId) → KeepsOrLosesLists (neighbour_of ns p) (neighbour_of (adjusted i tick next ns) p)
 
 -- and they stay the neighbours of a link, at most one more than there were
 pub record StayOfLink (i : Iface) (ns : List NeighbourValue) : Type 0 where

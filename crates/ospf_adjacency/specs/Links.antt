@@ -4,7 +4,7 @@ use Rattle.std.specs.List.{list_any}
 use Rattle.ospf_base.specs.Addresses.{all_spf_routers, nowhere}
 use Rattle.ospf_base.specs.Constants.{router_options}
 use Rattle.ospf_iface.specs.declared.machine.Iface.{Iface}
-use Rattle.ospf_iface.specs.Machine.{is_down, started, stopped}
+use Rattle.ospf_iface.specs.Machine.{is_down, started, iface_stopped}
 use Rattle.ospf_neighbour.specs.Machine.{is_two_way}
 use Rattle.ospf_neighbour.specs.Neighbour.{NeighbourValue}
 use Rattle.ospf_packet.specs.Meaning.{hello}
@@ -47,7 +47,7 @@ up i = if is_down i.state then started i else i
 
 -- InterfaceDown (9.3)
 abbrev pub down : Iface → Iface
-down i = if is_down i.state then i else stopped i
+down i = if is_down i.state then i else iface_stopped i
 
 -- ---- timers
 

@@ -9,7 +9,7 @@ use Rattle.ospf_neighbour.specs.Neighbour.{NeighbourValue}
 use Rattle.ospf_exchange.specs.Requests.{asked_next}
 use Rattle.ospf_exchange.specs.Timers.{dd_due, request_repeat_due}
 use Rattle.ospf_exchange.specs.declared.rule.Local.{Local}
-use Rattle.ospf_flood.specs.Due.{is_due}
+use Rattle.ospf_flood.specs.Due.{is_resend_due}
 use Rattle.ospf_adjacency.specs.Descriptions.{dd_turn, touched}
 use Rattle.ospf_area.specs.Turns.{Turn}
 use Rattle.ospf_area.specs.Packets.{request_parcel}
@@ -29,7 +29,7 @@ request_again i local retransmit t =
 
 -- an entry of the key is due on the neighbour's retransmission list (13.6)
 abbrev pub is_key_due : ℕ → ℕ → NeighbourValue → LsaKey → Bool
-is_key_due retransmit tick n key = list_any (λ l. is_due retransmit tick l && same_key l.instance.key key) n.retransmission
+is_key_due retransmit tick n key = list_any (λ l. is_resend_due retransmit tick l && same_key l.instance.key key) n.retransmission
 
 -- the keys of the database of which an entry is due, in their order: each once
 abbrev pub due_keys : ℕ → ℕ → List Held → NeighbourValue → List LsaKey

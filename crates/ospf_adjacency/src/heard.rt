@@ -2,7 +2,7 @@
 
 ghost use Rattle.std.specs.Prelude.{◌≡◌, ◌≢◌, ◌∷◌, ◌<◌, ◌||◌, ◌==◌, List, true, false, IsTrue, OnOk, IfOk, length, slice_set, slice_get, Some};
 ghost use Rattle.ospf_neighbour.specs.Neighbour.{NeighbourValue};
-ghost use Rattle.ospf_neighbour.specs.Neighbours.{IsRising};
+ghost use Rattle.ospf_neighbour.specs.Neighbours.{AreNeighboursRising};
 ghost use Rattle.ospf_area.specs.Turns.{turn};
 ghost use Rattle.std.specs.Prelude.{if◌then◌else◌};
 ghost use Rattle.ospf_adjacency.specs.Adjacency.{wants_adjacency};
@@ -18,7 +18,7 @@ use std::alloc::AllocError;
 
 // What an election looks at in a neighbour.
 #[derive(Clone, Copy)]
-pub(crate) struct Bearing {
+pub(crate) struct ElectionView {
     two_way: bool,
     priority: u8,
     is_dr: bool,
@@ -90,7 +90,7 @@ pub fn hello_on(
     at: &OnLink,
     post: &mut Post,
 ) -> Result<bool, AllocError>
-    requires { IsRising neighbours.old.items }
+    requires { AreNeighboursRising neighbours.old.items }
     ensures { IfOk result
         (λ elects.
         neighbourhood neighbours.new.items elects post.new
@@ -140,12 +140,12 @@ fn hello_of(
     )
 }
 
-fn bearing_of(neighbour: &Neighbour) -> Bearing
+fn bearing_of(neighbour: &Neighbour) -> ElectionView
     ensures { result ≡ bearing_of neighbour.now }
 {
     let declared = neighbour.declared();
     let address = neighbour.address();
-    Bearing {
+    ElectionView {
         two_way: neighbour.state().is_two_way(),
         priority: declared.priority,
         is_dr: declared.dr.0 == address.0,
@@ -197,13 +197,13 @@ fn hear(neighbour: &mut Neighbour, iface: &Iface, hello: &Hello)
     }
 }
 
-fn is_backup_seen(after: Bearing) -> bool
+fn is_backup_seen(after: ElectionView) -> bool
     ensures { result ≡ is_backup_seen after }
 {
     after.two_way && (after.is_backup || (after.is_dr && after.sees_none))
 }
 
-fn is_neighbor_change(before: Bearing, after: Bearing) -> bool
+fn is_neighbor_change(before: ElectionView, after: ElectionView) -> bool
     ensures { result ≡ is_neighbor_change before after }
 {
     before.two_way != after.two_way

@@ -2,7 +2,7 @@
 
 ghost use Rattle.std.specs.Prelude.{◌≡◌, ◌&&◌, is_some, IfOk, OnOk};
 ghost use Rattle.ospf_lsdb.specs.Database.{entry_of};
-ghost use Rattle.ospf_flood.specs.Due.{is_due};
+ghost use Rattle.ospf_flood.specs.Due.{is_resend_due};
 ghost use Rattle.ospf_area.specs.Turns.{turn};
 ghost use Rattle.ospf_adjacency.specs.Repeats.{dd_again, request_again, due_keys, repeats_turn};
 
@@ -67,7 +67,7 @@ fn due_keys(
 
 // Whether an entry of a retransmission list is due, and there is a copy of its key.
 fn goes_again(listed: &Listed, database: &Lsdb, retransmit: u16, tick: u64) -> bool
-    ensures { result ≡ (is_due retransmit tick listed.now
+    ensures { result ≡ (is_resend_due retransmit tick listed.now
         && is_some (entry_of database.now listed.now.instance.key)) }
 {
     is_due(listed, retransmit, tick) && database.get(&listed.instance.key).is_some()

@@ -9,13 +9,13 @@ use Rattle.ospf_lsa.specs.declared.header.LsaHeader.{LsaHeader}
 use Rattle.ospf_neighbour.specs.Lists.{key_unlisted}
 use Rattle.ospf_neighbour.specs.Neighbour.{NeighbourValue}
 use Rattle.ospf_neighbour.specs.Neighbours.{neighbour_of}
-use Rattle.ospf_area.specs.Asking.{turned, turned_link, turned_links}
+use Rattle.ospf_area.specs.Asking.{turned_to_next, turned_link, turned_links}
 use Rattle.ospf_area.specs.Changes.{changed_at, changed_if, changed_link, changed_on, delayed_at, delayed_on}
 use Rattle.ospf_area.specs.Flooding.{flooded_link, flooded_links, flooded_neighbour, on_link, released, released_link}
 use Rattle.ospf_area.specs.Laws.{changed_there, turned_there}
 use Rattle.ospf_area.specs.Places.{map_from}
 use Rattle.ospf_area.specs.State.{LinkValue, neighbour_at, neighbours_in}
-use Rattle.ospf_area.specs.declared.changes.Change.{Change}
+use Rattle.ospf_area.specs.declared.changes.AdjacencyChange.{AdjacencyChange}
 use Rattle.ospf_area.specs.declared.flooding.Origin.{Origin}
 use Rattle.ospf_area.specs.declared.sending.Own.{Own}
 use Rattle.ospf_area.proofs.NeighbourLemmas.{changed_if-router, flooded-router, turned-router}
@@ -64,7 +64,7 @@ flooded_there key h from tick links l q =
 on_turned_link : (own : Own) (o : Option LinkValue) (q : RouterId)
     → neighbour_of (neighbours_in (option_map (turned_link own) o)) q ≡ option_map (turned_there own o) (neighbour_of (neighbours_in o) q)
 on_turned_link own None q = refl
-on_turned_link own (Some link) q = neighbour_of-map (turned link.settings.mtu own.tick) (λ n. turned-router link.settings.mtu own.tick n) link.neighbours q
+on_turned_link own (Some link) q = neighbour_of-map (turned_to_next link.settings.mtu own.tick) (λ n. turned-router link.settings.mtu own.tick n) link.neighbours q
 
 pub turns_there : (own : Own) (links : List LinkValue) (l : ℕ) (q : RouterId)
     → neighbour_at (turned_links own links) l q ≡ option_map (turned_there own (slice_get links l)) (neighbour_at links l q)
@@ -96,7 +96,7 @@ same_link : (o : Option LinkValue) → neighbours_in (option_map (λ (link : Lin
 same_link None = refl
 same_link (Some link) = refl
 
-on_that_link : (b : Bool) (r : RouterId) (change : Change) (tick : ℕ) (o : Option LinkValue) (q : RouterId)
+on_that_link : (b : Bool) (r : RouterId) (change : AdjacencyChange) (tick : ℕ) (o : Option LinkValue) (q : RouterId)
     → neighbour_of (neighbours_in (option_map (λ (link : LinkValue). if b then changed_link r change tick link else link) o)) q
     ≡ option_map (λ (n : NeighbourValue). if b then changed_if r change tick n else n) (neighbour_of (neighbours_in o) q)
 on_that_link true r change tick o q =
@@ -104,7 +104,7 @@ on_that_link true r change tick o q =
     ∙ neighbour_of-map (changed_if r change tick) (λ n. changed_if-router r change tick n) (neighbours_in o) q
 on_that_link false r change tick o q = ap (λ (ns : List NeighbourValue). neighbour_of ns q) (same_link o) ∙ same_option (neighbour_of (neighbours_in o) q)
 
-pub changes : (f : Origin) (change : Change) (tick : ℕ) (links : List LinkValue) (l : ℕ) (q : RouterId)
+pub changes : (f : Origin) (change : AdjacencyChange) (tick : ℕ) (links : List LinkValue) (l : ℕ) (q : RouterId)
     → neighbour_at (changed_at f change tick links) l q ≡ option_map (changed_there f change tick l) (neighbour_at links l q)
 changes f change tick links l q =
     ap (λ (o : Option LinkValue). neighbour_of (neighbours_in o) q) (slice_get-map_from (changed_on f change tick) links l)

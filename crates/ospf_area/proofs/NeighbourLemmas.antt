@@ -13,10 +13,10 @@ use Rattle.ospf_neighbour.specs.declared.machine.Effect.TheVariants.{Nothing, Ti
 use Rattle.ospf_neighbour.specs.declared.machine.NbrEvent.{NbrEvent}
 use Rattle.ospf_neighbour.specs.declared.machine.NbrEvent.TheVariants.{BadLsReq, LoadingDone}
 use Rattle.ospf_exchange.specs.Requests.{asked_next, request_due}
-use Rattle.ospf_area.specs.Asking.{turned, loaded}
-use Rattle.ospf_area.specs.Changes.{after_event, changed, changed_if}
-use Rattle.ospf_area.specs.declared.changes.Change.{Change}
-use Rattle.ospf_area.specs.declared.changes.Change.TheVariants.{Acknowledges, IsSent, Restarts}
+use Rattle.ospf_area.specs.Asking.{turned_to_next, loaded}
+use Rattle.ospf_area.specs.Changes.{after_event, neighbour_changed, changed_if}
+use Rattle.ospf_area.specs.declared.changes.AdjacencyChange.{AdjacencyChange}
+use Rattle.ospf_area.specs.declared.changes.AdjacencyChange.TheVariants.{Acknowledges, IsSent, Restarts}
 
 after_offer-router : (o : Offer) (key : LsaKey) (h : LsaHeader) (tick : ℕ) (n : NeighbourValue) → (after_offer o key h tick n).router ≡ n.router
 after_offer-router PassesOver key h tick n = refl
@@ -39,21 +39,21 @@ with_effect-router Removed dead n = refl
 pub after_event-router : (e : NbrEvent) (dead : ℕ) (n : NeighbourValue) → (after_event e dead n).router ≡ n.router
 after_event-router e dead n = with_effect-router (transition n.state e (is_empty n.requests)).effect dead n
 
-changed-router : (change : Change) (tick : ℕ) (n : NeighbourValue) → (changed change tick n).router ≡ n.router
+changed-router : (change : AdjacencyChange) (tick : ℕ) (n : NeighbourValue) → (neighbour_changed change tick n).router ≡ n.router
 changed-router (Acknowledges i) tick n = refl
 changed-router (IsSent i) tick n = refl
 changed-router (Restarts number) tick n = after_event-router BadLsReq 0 n
 
-pub changed_if-router : (q : RouterId) (change : Change) (tick : ℕ) (n : NeighbourValue) → (changed_if q change tick n).router ≡ n.router
+pub changed_if-router : (q : RouterId) (change : AdjacencyChange) (tick : ℕ) (n : NeighbourValue) → (changed_if q change tick n).router ≡ n.router
 changed_if-router q change tick n = by_test (n.router.0 == q.0)
   where
-    by_test : (b : Bool) → (if b then changed change tick n else n).router ≡ n.router
+    by_test : (b : Bool) → (if b then neighbour_changed change tick n else n).router ≡ n.router
     by_test true = changed-router change tick n
     by_test false = refl
 
 -- ---- a neighbour that is asked
 
-pub turned-router : (mtu tick : ℕ) (n : NeighbourValue) → (turned mtu tick n).router ≡ n.router
+pub turned-router : (mtu tick : ℕ) (n : NeighbourValue) → (turned_to_next mtu tick n).router ≡ n.router
 turned-router mtu tick n = by_test (request_due (loaded n))
   where
     by_test : (b : Bool) → (if b then asked_next mtu tick (loaded n) else loaded n).router ≡ n.router

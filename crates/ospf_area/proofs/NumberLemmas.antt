@@ -7,9 +7,8 @@ use Rattle.std.specs.Option.{option_map}
 use Rattle.std.specs.Ordering.{is_eq, match_ordering}
 use Rattle.std.specs.Set.{remove_key}
 use Rattle.ospf_base.proofs.SameKeys.{same_key-eq, same_key-refl, same_key-turned}
-use Rattle.ospf_lsdb.proofs.OrderLemmas.{is_eq-key_cmp}
-use Rattle.ospf_lsdb.specs.Moments.{key_cmp}
-use Rattle.ospf_base.specs.Keys.{same_key}
+use Rattle.ospf_base.proofs.KeyMaps.{is_eq-key_cmp}
+use Rattle.ospf_base.specs.Keys.{same_key, key_cmp}
 use Rattle.ospf_base.specs.declared.ids.LsaKey.{LsaKey}
 use Rattle.ospf_base.specs.declared.ids.RouterId.{RouterId}
 use Rattle.ospf_area.specs.Numbers.{counted, counted_one, is_numbering_of, marked, unmarked}

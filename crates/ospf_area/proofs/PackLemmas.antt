@@ -4,7 +4,7 @@ use Rattle.std.proofs.lemmas.List.{length-drop, length-take, take-append-drop}
 use Rattle.std.proofs.lemmas.Nat.{div-add-mod', mod_below}
 use Rattle.std.proofs.Math.Nat.{mul-le-mul_right}
 use Rattle.ospf_lsa.specs.declared.header.LsaHeader.{LsaHeader}
-use Rattle.ospf_packet.specs.Meaning.{BodyMeaning, Meaning, body_bytes}
+use Rattle.ospf_packet.specs.Meaning.{BodyMeaning, Meaning, packet_body_bytes}
 use Rattle.ospf_packet.proofs.BodyLengths.{request_length}
 use Rattle.ospf_exchange.specs.Requests.{request_room}
 use Rattle.ospf_area.specs.Asking.{entry_for}
@@ -14,7 +14,7 @@ use Rattle.ospf_area.specs.Sending.{packet_of}
 use Rattle.ospf_area.specs.declared.sending.Own.{Own}
 
 -- the datagram is its headers and the body
-pub ip_length-is : (own : Own) (body : BodyMeaning) → ip_length (packet_of own body) ≡ 44 + length (body_bytes body)
+pub ip_length-is : (own : Own) (body : BodyMeaning) → ip_length (packet_of own body) ≡ 44 + length (packet_body_bytes body)
 ip_length-is own body = omega arith
 
 -- as many of them as there is room for

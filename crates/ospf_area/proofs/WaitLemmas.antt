@@ -20,7 +20,7 @@ use Rattle.ospf_neighbour.specs.declared.machine.NbrEvent.TheVariants.{LoadingDo
 use Rattle.ospf_neighbour.specs.declared.neighbour.Listed.{Listed}
 use Rattle.ospf_base.specs.Keys.{same_key}
 use Rattle.ospf_exchange.specs.Requests.{asked_next, request_due}
-use Rattle.ospf_area.specs.Asking.{loaded, turned}
+use Rattle.ospf_area.specs.Asking.{loaded, turned_to_next}
 use Rattle.ospf_neighbour.specs.declared.machine.NeighbourState.{NeighbourState}
 use Rattle.ospf_neighbour.specs.declared.machine.NeighbourState.TheVariants.{Down, Init, TwoWay, ExStart, Exchange, Loading, Full}
 use Rattle.ospf_area.specs.Flooding.{came_from, flooded_neighbour}
@@ -55,7 +55,7 @@ none_after key None n e = absurd (none-some n e)
 none_after key (Some m) n e = subst (λ (x : NeighbourValue). is_key_listed key x.retransmission ≡ false) (same_Some (key_unlisted key m) n e) (none_left key m.retransmission)
 
 -- LoadingDone and Requests
-turned_list : (mtu tick : ℕ) (n : NeighbourValue) → (turned mtu tick n).retransmission ≡ n.retransmission
+turned_list : (mtu tick : ℕ) (n : NeighbourValue) → (turned_to_next mtu tick n).retransmission ≡ n.retransmission
 turned_list mtu tick n = by_test (request_due (loaded n))
   where
     same : (loaded n).retransmission ≡ n.retransmission

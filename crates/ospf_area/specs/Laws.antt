@@ -18,7 +18,7 @@ use Rattle.ospf_neighbour.specs.Neighbour.{NeighbourValue}
 use Rattle.ospf_packet.specs.Meaning as meaning
 use Rattle.ospf_exchange.specs.Requests.{asked_next}
 use Rattle.ospf_packet.specs.Meaning.{BodyMeaning, Meaning, packet_bytes}
-use Rattle.ospf_area.specs.Asking.{entry_for, request_body, turned, turned_links}
+use Rattle.ospf_area.specs.Asking.{entry_for, request_body, turned_to_next, turned_links}
 use Rattle.ospf_area.specs.Changes.{changed_at, changed_if, delayed_at}
 use Rattle.ospf_area.specs.Flooding.{came_from, flooded_links, flooded_neighbour, on_link, released}
 use Rattle.ospf_area.specs.Numbers.{counts, is_own, marked}
@@ -26,7 +26,7 @@ use Rattle.ospf_area.specs.Outputs.{SentValue}
 use Rattle.ospf_area.specs.Packing.{IsFilled}
 use Rattle.ospf_area.specs.Sending.{datagrams, packet_of, update_out}
 use Rattle.ospf_area.specs.State.{AreaValue, LinkValue, WaitsIn, kept_in, kept_number, neighbour_at, numbering_of, was_sent}
-use Rattle.ospf_area.specs.declared.changes.Change.{Change}
+use Rattle.ospf_area.specs.declared.changes.AdjacencyChange.{AdjacencyChange}
 use Rattle.ospf_area.specs.declared.flooding.Origin.{Origin}
 use Rattle.ospf_area.specs.declared.sending.Own.{Own}
 use Rattle.ospf_area.specs.declared.sending.Way.{Way}
@@ -44,17 +44,17 @@ FloodedNeighbours = (key : LsaKey) (h : LsaHeader) (from : Option Origin) (tick 
     → neighbour_at (flooded_links key h from tick links) l q ≡ option_map (flooded_neighbour key h (on_link from l) tick) (neighbour_at links l q)
 
 -- a change is one of the origin's neighbour alone
-abbrev pub changed_there : Origin → Change → ℕ → ℕ → NeighbourValue → NeighbourValue
+abbrev pub changed_there : Origin → AdjacencyChange → ℕ → ℕ → NeighbourValue → NeighbourValue
 changed_there f change tick l n = if l == f.link then changed_if f.router change tick n else n
 
 abbrev pub ChangesOne : Type 0
-ChangesOne = (f : Origin) (change : Change) (tick : ℕ) (links : List LinkValue) (l : ℕ) (q : RouterId)
+ChangesOne = (f : Origin) (change : AdjacencyChange) (tick : ℕ) (links : List LinkValue) (l : ℕ) (q : RouterId)
     → neighbour_at (changed_at f change tick links) l q ≡ option_map (changed_there f change tick l) (neighbour_at links l q)
 
 -- each neighbour gets LoadingDone and its next Request, by the MTU of its link
 abbrev pub turned_there : Own → Option LinkValue → NeighbourValue → NeighbourValue
 turned_there own None n = n
-turned_there own (Some link) n = turned link.settings.mtu own.tick n
+turned_there own (Some link) n = turned_to_next link.settings.mtu own.tick n
 
 abbrev pub TurnedNeighbours : Type 0
 TurnedNeighbours = (own : Own) (links : List LinkValue) (l : ℕ) (q : RouterId)
@@ -75,8 +75,8 @@ pub record ReleaseTakesItsKey : Type 0 where
       → neighbour_at (released key links) l q ≡ Some n → is_key_listed key n.retransmission ≡ false
 
 -- a flood takes off instances of its own key alone (13.3)
-abbrev pub FloodTakesItsKey : Type 0
-FloodTakesItsKey = (key : LsaKey) (h : LsaHeader) (from : Option Origin) (tick : ℕ) (links : List LinkValue) (l : ℕ) (q : RouterId) (j : Instance)
+abbrev pub FloodsTakeTheirKey : Type 0
+FloodsTakeTheirKey = (key : LsaKey) (h : LsaHeader) (from : Option Origin) (tick : ℕ) (links : List LinkValue) (l : ℕ) (q : RouterId) (j : Instance)
     → WaitsIn (neighbour_at links l q) j → WaitsIn (neighbour_at (flooded_links key h from tick links) l q) j ⊎ (j.key ≡ key)
 
 -- LoadingDone and Requests change nothing of what waits

@@ -3,12 +3,11 @@ use Rattle.std.specs.Prelude.{◌==◌, ◌++◌, ◌||◌, ◌&&◌, ℕ, ℤ, 
 use Rattle.std.specs.Int.{int_max}
 use Rattle.std.specs.BTreeSet.{insert_key}
 use Rattle.std.specs.List.{list_any}
-use Rattle.ospf_base.specs.Keys.{same_key}
+use Rattle.ospf_base.specs.Keys.{same_key, key_cmp}
 use Rattle.ospf_base.specs.declared.ids.Kind.{Kind}
 use Rattle.ospf_base.specs.declared.ids.Kind.TheVariants.{Router, Network}
 use Rattle.ospf_base.specs.declared.ids.LsaKey.{LsaKey}
 use Rattle.ospf_base.specs.declared.ids.RouterId.{RouterId}
-use Rattle.ospf_lsdb.specs.Moments.{key_cmp}
 use Rattle.ospf_area.specs.State.{AreaValue, LinkValue}
 use Rattle.ospf_area.specs.declared.state.Numbering.{Numbering}
 

@@ -16,12 +16,12 @@ pub record SentValue : Type 0 where
   pub packet : Meaning
 
 -- its bytes are read as its packet
-abbrev pub IsRead : SentValue → Type 0
-IsRead d = packet_of d.bytes ≡ Some d.packet
+abbrev pub IsReadAsSent : SentValue → Type 0
+IsReadAsSent d = packet_of d.bytes ≡ Some d.packet
 
 -- and so are those of all
-abbrev pub AreRead : List SentValue → Type 0
-AreRead ds = All IsRead ds
+abbrev pub AreReadAsSent : List SentValue → Type 0
+AreReadAsSent ds = All IsReadAsSent ds
 
 -- the datagrams sent, the instances installed from an Update or acknowledged as expired without a copy (13), the LSAs
 -- issued, as bytes (12.4), and the keys whose numbering run it ended (12.1.6)

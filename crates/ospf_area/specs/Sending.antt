@@ -39,12 +39,12 @@ way_out l i destination = record { link = l; source = i.settings.address; destin
 
 -- where all but Hellos, flooded Updates and delayed acknowledgements go: to the neighbour's address, but on a
 -- point-to-point link to AllSPFRouters (8.1)
-abbrev pub address_by : InterfaceKind → Addr → Addr
-address_by PointToPoint address = all_spf_routers
-address_by Broadcast address = address
+abbrev pub destination_by : InterfaceKind → Addr → Addr
+destination_by PointToPoint address = all_spf_routers
+destination_by Broadcast address = address
 
 abbrev pub to_address : Iface → Addr → Addr
-to_address i address = address_by i.settings.kind address
+to_address i address = destination_by i.settings.kind address
 
 -- an LSA as it is sent: older by InfTransDelay (13.3, step 5)
 abbrev pub sent_lsa : ℕ → List ℕ → List ℕ

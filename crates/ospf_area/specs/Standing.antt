@@ -18,8 +18,8 @@ use Rattle.ospf_area.specs.declared.flooding.Origin.{Origin}
 -- ---- the neighbour
 
 -- the neighbour that it came from
-abbrev pub origin_of : List LinkValue → Origin → Option NeighbourValue
-origin_of links f = neighbour_at links f.link f.router
+abbrev pub origin_neighbour : List LinkValue → Origin → Option NeighbourValue
+origin_neighbour links f = neighbour_at links f.link f.router
 
 -- it is in Exchange or above
 abbrev pub is_taken_in : Option NeighbourValue → Bool

@@ -84,8 +84,8 @@ abbrev pub Awaits : AreaValue → ℕ → RouterId → Instance → Type 0
 Awaits s l q i = WaitsIn (neighbour s l q) i
 
 -- the database's entry of a key (12.2)
-abbrev pub entry_of : AreaValue → LsaKey → Option Entry
-entry_of s key = lsdb.entry_of s.database key
+abbrev pub database_entry : AreaValue → LsaKey → Option Entry
+database_entry s key = lsdb.entry_of s.database key
 
 -- its bytes, at the present age
 abbrev pub copy_in : Option Entry → Option (List ℕ)
@@ -94,7 +94,7 @@ copy_in (Some e) = Some (lsa_of e)
 
 -- the database's copy of a key, at the present age, if it has one (12.2)
 abbrev pub copy_of : AreaValue → LsaKey → Option (List ℕ)
-copy_of s key = copy_in (entry_of s key)
+copy_of s key = copy_in (database_entry s key)
 
 -- some neighbour of the router is in Exchange or Loading (13, step 4; 14)
 abbrev pub some_link_loading : List LinkValue → Bool

@@ -4,7 +4,7 @@ ghost use Rattle.std.specs.Prelude.{◌≡◌, IfOk, OnOk, map};
 ghost use Rattle.ospf_neighbour.specs.Neighbours.{AreNeighbours};
 ghost use Rattle.ospf_exchange.specs.Requests.{request_due};
 ghost use Rattle.ospf_packet.specs.Said.{body_meant};
-ghost use Rattle.ospf_area.specs.Asking.{loaded, turned, entry_for, request_body, turned_link, turned_links, turn_requests_on, turn_requests};
+ghost use Rattle.ospf_area.specs.Asking.{loaded, turned_to_next, entry_for, request_body, turned_link, turned_links, turn_requests_on, turn_requests};
 ghost use Rattle.ospf_area.specs.Posting.{and_parcels};
 ghost use Rattle.ospf_area.specs.Sending.{and_sends};
 ghost use Rattle.ospf_area.specs.Turns.{all_next_parcels, request_turn, turn};
@@ -13,7 +13,7 @@ use crate::outputs::Outputs;
 use crate::packets::send_request;
 use crate::post::{OnLink, Post};
 use crate::sending::Own;
-use crate::state::Link;
+use crate::state::AreaLink;
 use ospf_exchange::{is_request_due, next_request};
 use ospf_lsa::LsaHeader;
 use ospf_neighbour::{NbrEvent, Neighbour};
@@ -29,7 +29,8 @@ pub fn request_turn(
     at: &OnLink,
     post: &mut Post,
 ) -> Result<(), AllocError>
-    ensures after { neighbour.new ≡ turned at.now.local.mtu at.now.local.tick neighbour.old }
+    ensures after { neighbour.new ≡ turned_to_next at.now.local.mtu at.now.local.tick
+        neighbour.old }
     ensures turn { OnOk result
         (turn neighbour.new post.new
         ≡ request_turn at.now.iface at.now.local (turn neighbour.old post.old)) }
@@ -44,7 +45,7 @@ pub fn request_turn(
 ///
 /// `AllocError` where memory runs out; then the router is to be stopped.
 pub fn turn_requests(
-    links: &mut [Link],
+    links: &mut [AreaLink],
     own: Own,
     out: &mut Outputs,
     alloc: Global,
@@ -74,7 +75,7 @@ pub(crate) fn request_body(neighbour: &Neighbour, alloc: Global) -> Result<BodyV
 // LoadingDone and the next Request of one neighbour, where they are due (RFC 2328, sections 10.3 and 10.9). Answers
 // whether that Request is to be sent. No memory is taken.
 fn turn_one(neighbour: &mut Neighbour, mtu: u16, tick: u64) -> bool
-    ensures after { neighbour.new ≡ turned mtu tick neighbour.old }
+    ensures after { neighbour.new ≡ turned_to_next mtu tick neighbour.old }
     ensures due { result ≡ request_due (loaded neighbour.old) }
 {
     let _ = neighbour.event(NbrEvent::LoadingDone, 0);
@@ -87,7 +88,7 @@ fn turn_one(neighbour: &mut Neighbour, mtu: u16, tick: u64) -> bool
 
 // LoadingDone and the next Requests of a link's neighbours.
 fn turn_link(
-    link: &mut Link,
+    link: &mut AreaLink,
     number: usize,
     own: Own,
     out: &mut Outputs,
@@ -108,7 +109,7 @@ fn turn_link(
 fn turn_all(neighbours: &mut [Neighbour], at: &OnLink, post: &mut Post) -> Result<(), AllocError>
     requires few { AreNeighbours neighbours.old }
     ensures after { OnOk result (neighbours.new
-        ≡ map (turned at.now.local.mtu at.now.local.tick) neighbours.old) }
+        ≡ map (turned_to_next at.now.local.mtu at.now.local.tick) neighbours.old) }
     ensures sent { OnOk result (post.new
         ≡ and_parcels post.old (all_next_parcels at.now.iface at.now.local neighbours.old)) }
     ensures still { AreNeighbours neighbours.new }

@@ -1,6 +1,6 @@
 //! Laws: each holds of all routers.
 
-ghost use Rattle.ospf_area.specs.Laws.{ChangesOne, DelayedNeighbours, FloodReaches, FloodTakesItsKey, FloodedNeighbours, KeepsGreatest, LsasAreSent, MarksOne, ReleaseTakesItsKey, ReleasedNeighbours, RequestsAreFilled, ShortAreSent, StayShort, TurnedNeighbours, TurnsTakeNothing};
+ghost use Rattle.ospf_area.specs.Laws.{ChangesOne, DelayedNeighbours, FloodReaches, FloodsTakeTheirKey, FloodedNeighbours, KeepsGreatest, LsasAreSent, MarksOne, ReleaseTakesItsKey, ReleasedNeighbours, RequestsAreFilled, ShortAreSent, StayShort, TurnedNeighbours, TurnsTakeNothing};
 
 /// What a release does to each neighbour.
 pub fn released_neighbours()
@@ -34,7 +34,7 @@ pub fn release_takes_its_key()
 
 /// A flood takes no instance of another key off a list.
 pub fn flood_takes_its_key()
-    ensures { FloodTakesItsKey }
+    ensures { FloodsTakeTheirKey }
 {}
 
 /// LoadingDone and Requests leave all that waits for an acknowledgement.

@@ -16,7 +16,7 @@ mod standing;
 mod state;
 
 pub use crate::asking::{request_turn, turn_requests};
-pub use crate::changes::{Change, change_at, delay_at};
+pub use crate::changes::{AdjacencyChange, change_at, delay_at};
 pub use crate::flooding::{Flooded, Origin, flood};
 pub use crate::laws::{
     changes_one, delayed_neighbours, flood_reaches, flood_takes_its_key, flooded_neighbours,
@@ -32,4 +32,4 @@ pub use crate::sending::{Own, Way, own_of, sent_lsa, to_address};
 pub use crate::standing::{
     acknowledge_by, answer_at, is_awaited, is_requested, is_taken, origin_of, some_link_loading,
 };
-pub use crate::state::{Area, Link, LinkSettings, Numbering};
+pub use crate::state::{Area, AreaLink, LinkSettings, Numbering};

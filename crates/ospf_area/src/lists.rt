@@ -3,12 +3,12 @@
 ghost use Rattle.std.specs.Prelude.{◌≡◌};
 ghost use Rattle.ospf_area.specs.Flooding.{released_link, released};
 
-use crate::state::Link;
+use crate::state::AreaLink;
 use ospf_base::LsaKey;
 
 /// Takes all instances of a key off the retransmission lists of all neighbours (RFC 2328, section 13, step 5c). No
 /// memory is taken.
-pub fn release(links: &mut [Link], key: &LsaKey)
+pub fn release(links: &mut [AreaLink], key: &LsaKey)
     ensures { links.new ≡ released key.now links.old }
 {
     for link in links.iter_mut() {
@@ -16,7 +16,7 @@ pub fn release(links: &mut [Link], key: &LsaKey)
     }
 }
 
-fn release_link(link: &mut Link, key: &LsaKey)
+fn release_link(link: &mut AreaLink, key: &LsaKey)
     ensures { link.new ≡ released_link key.now link.old }
 {
     link.neighbours.unlist_key(key);

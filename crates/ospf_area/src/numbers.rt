@@ -7,7 +7,7 @@ ghost use Rattle.ospf_base.specs.Keys.{same_key};
 ghost use Rattle.ospf_area.specs.Numbers.{is_numbering_of, counted_one, counted, is_own, counts, greatest_after, is_network, has_that_address, is_self_originated, unmarked, marked};
 ghost use Rattle.ospf_area.specs.State.{was_sent};
 
-use crate::state::{Area, Link, Numbering};
+use crate::state::{Area, AreaLink, Numbering};
 use ospf_base::{Kind, LsaKey, RouterId};
 use ospf_lsa::LsaHeader;
 use std::alloc::AllocError;
@@ -48,7 +48,7 @@ pub fn count_number(area: &mut Area, key: LsaKey, header: &LsaHeader) -> Result<
 }
 
 /// Whether an LSA is self-originated (section 13.4).
-pub fn is_self_originated(router: RouterId, links: &[Link], key: &LsaKey) -> bool
+pub fn is_self_originated(router: RouterId, links: &[AreaLink], key: &LsaKey) -> bool
     ensures { result ≡ is_self_originated router links.now key.now }
 {
     if is_own(router, key) {
@@ -124,7 +124,7 @@ fn is_network(kind: Kind) -> bool
 }
 
 // Whether an interface has this address.
-fn has_address(links: &[Link], address: u32) -> bool
+fn has_address(links: &[AreaLink], address: u32) -> bool
     ensures { result ≡ list_any (has_that_address address) links.now }
 {
     links

@@ -44,18 +44,18 @@ pub struct Outputs {
 }
 
 impl Model for Outputs {
-    ghost use Rattle.ospf_area.specs.Outputs.{OutputsValue, AreRead};
+    ghost use Rattle.ospf_area.specs.Outputs.{OutputsValue, AreReadAsSent};
 
     ghost Value = { OutputsValue };
 
     ghost view = { λ o. record { sent = o.sent.items; taken = o.taken.items; issued = o.issued.items; ended = o.ended.items } };
 
-    ghost invariant = { λ o. AreRead o.sent.items };
+    ghost invariant = { λ o. AreReadAsSent o.sent.items };
 }
 
 impl Outputs {
     ghost use Rattle.std.specs.Prelude.{◌≡◌};
-    ghost use Rattle.ospf_area.specs.Outputs.{AreRead, no_outputs};
+    ghost use Rattle.ospf_area.specs.Outputs.{AreReadAsSent, no_outputs};
 
     /// Nothing is put out.
     pub fn new(alloc: Global) -> Outputs
@@ -72,7 +72,7 @@ impl Outputs {
     /// The datagrams, in the order in which they go out: the bytes of each are read again as its packet.
     pub fn sent(&self) -> &[Sent]
         ensures sent { result.now ≡ self.now.sent }
-        ensures read { AreRead self.now.sent }
+        ensures read { AreReadAsSent self.now.sent }
     {
         &self.sent
     }

@@ -5,7 +5,7 @@ ghost use Rattle.ospf_area.specs.Posting.{local_by, local_of};
 
 use crate::outputs::Outputs;
 use crate::sending::{Own, send, way_out};
-use crate::state::{Link, LinkSettings};
+use crate::state::{AreaLink, LinkSettings};
 use ospf_base::Addr;
 use ospf_exchange::Local;
 use ospf_iface::Iface;
@@ -27,7 +27,7 @@ impl OnLink {
     ghost use Rattle.ospf_area.specs.Posting.{local_of};
 
     /// A link as its neighbours' parts of a step work on it.
-    pub fn of(own: Own, link: &Link) -> OnLink
+    pub fn of(own: Own, link: &AreaLink) -> OnLink
         ensures { result ≡ record { iface = link.now.iface; local = local_of own link.now } }
     {
         OnLink {
@@ -133,7 +133,7 @@ impl Post {
 }
 
 /// What the parts of a step need to know of the router and this link.
-pub fn local_of(own: Own, link: &Link) -> Local
+pub fn local_of(own: Own, link: &AreaLink) -> Local
     ensures { result ≡ local_of own link.now }
 {
     local_by(own, link.settings)

@@ -2,12 +2,12 @@
 
 ghost use Rattle.std.specs.Prelude.{◌≡◌, OnOk};
 ghost use Rattle.std.specs.Option.{option_copied};
-ghost use Rattle.ospf_area.specs.Standing.{origin_of, is_taken_in, is_requested_of, is_awaited_of, answer_at, acknowledging};
+ghost use Rattle.ospf_area.specs.Standing.{origin_neighbour, is_taken_in, is_requested_of, is_awaited_of, answer_at, acknowledging};
 ghost use Rattle.ospf_area.specs.State.{some_link_loading};
 
 use crate::changes::delay_at;
 use crate::flooding::Origin;
-use crate::state::{Area, Link};
+use crate::state::{Area, AreaLink};
 use ospf_base::{Instance, LsaKey};
 use ospf_flood::{Acknowledgement, AcknowledgementCase, acknowledge, sender_at};
 use ospf_lsa::LsaHeader;
@@ -15,8 +15,8 @@ use ospf_neighbour::Neighbour;
 use std::alloc::AllocError;
 
 /// The neighbour of the origin.
-pub fn origin_of(links: &[Link], from: Origin) -> Option<&Neighbour>
-    ensures { option_copied result ≡ origin_of links.now from }
+pub fn origin_of(links: &[AreaLink], from: Origin) -> Option<&Neighbour>
+    ensures { option_copied result ≡ origin_neighbour links.now from }
 {
     match links.get(from.link) {
         Some(link) => link.neighbours.get(from.router),
@@ -25,8 +25,8 @@ pub fn origin_of(links: &[Link], from: Origin) -> Option<&Neighbour>
 }
 
 /// Whether the neighbour of the origin is in Exchange or above.
-pub fn is_taken(links: &[Link], from: Origin) -> bool
-    ensures { result ≡ is_taken_in (origin_of links.now from) }
+pub fn is_taken(links: &[AreaLink], from: Origin) -> bool
+    ensures { result ≡ is_taken_in (origin_neighbour links.now from) }
 {
     match origin_of(links, from) {
         Some(neighbour) => neighbour.is_exchanging(),
@@ -35,8 +35,8 @@ pub fn is_taken(links: &[Link], from: Origin) -> bool
 }
 
 /// Whether the request list of the neighbour of the origin has an entry of the key.
-pub fn is_requested(links: &[Link], from: Origin, key: &LsaKey) -> bool
-    ensures { result ≡ is_requested_of key.now (origin_of links.now from) }
+pub fn is_requested(links: &[AreaLink], from: Origin, key: &LsaKey) -> bool
+    ensures { result ≡ is_requested_of key.now (origin_neighbour links.now from) }
 {
     match origin_of(links, from) {
         Some(neighbour) => neighbour.request_of(key).is_some(),
@@ -45,8 +45,8 @@ pub fn is_requested(links: &[Link], from: Origin, key: &LsaKey) -> bool
 }
 
 /// Whether the instance waits for an acknowledgement by the neighbour of the origin.
-pub fn is_awaited(links: &[Link], from: Origin, instance: &Instance) -> bool
-    ensures { result ≡ is_awaited_of instance.now (origin_of links.now from) }
+pub fn is_awaited(links: &[AreaLink], from: Origin, instance: &Instance) -> bool
+    ensures { result ≡ is_awaited_of instance.now (origin_neighbour links.now from) }
 {
     match origin_of(links, from) {
         Some(neighbour) => neighbour.is_listed(instance),
@@ -56,14 +56,14 @@ pub fn is_awaited(links: &[Link], from: Origin, instance: &Instance) -> bool
 
 /// Whether some neighbour of the router is in Exchange or Loading. It looks at each; the rules ask where an LSA of
 /// `MAX_AGE` has no copy, and a step where LSAs are to leave.
-pub fn some_link_loading(links: &[Link]) -> bool
+pub fn some_link_loading(links: &[AreaLink]) -> bool
     ensures { result ≡ some_link_loading links.now }
 {
     links.iter().any(|link| link.neighbours.is_loading())
 }
 
 /// How an LSA that came from the origin is to be acknowledged (RFC 2328, section 13.5).
-pub fn answer_at(links: &[Link], case: AcknowledgementCase, from: Origin) -> Acknowledgement
+pub fn answer_at(links: &[AreaLink], case: AcknowledgementCase, from: Origin) -> Acknowledgement
     ensures { result ≡ answer_at case from links.now }
 {
     match links.get(from.link) {

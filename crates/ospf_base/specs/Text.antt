@@ -1,5 +1,6 @@
 -- Addresses and Router IDs as text: dotted decimal numbers.
-use Rattle.std.specs.Prelude.{ℕ, List, ◌++◌, codes, decimal, Result}
+use Rattle.std.specs.Prelude.{◌≡◌, ℕ, List, ◌++◌, codes, decimal, Result}
+use Rattle.std.specs.List.{All}
 use Rattle.std.specs.declared.net.parser.AddrParseError.{AddrParseError}
 use Rattle.std.specs.Net.Grammar.{IsDotted, Parses}
 use Rattle.std.specs.Net.Text.{ipv4_text}
@@ -25,3 +26,7 @@ number_text n = ipv4_text (to_be_bytes w32 n)
 -- an address, a slash and the length
 abbrev pub prefix_text : Prefix → List ℕ
 prefix_text p = number_text p.address.0 ++ codes "/" ++ decimal p.length
+
+-- spaces alone, or nothing
+abbrev pub IsBlank : List ℕ → Type 0
+IsBlank = All (λ byte. byte ≡ 32)

@@ -12,7 +12,7 @@ use Rattle.ospf_config.specs.declared.interface.Interface.{Interface}
 use Rattle.ospf_config.specs.Pairs.{EachPair}
 use Rattle.ospf_config.specs.Reading.{ReadsValue, Required}
 use Rattle.ospf_config.specs.Texts.{IsAddressText}
-use Rattle.ospf_config.specs.Keys.{ReadsAddress}
+use Rattle.ospf_config.specs.Keys.{ReadsInterfaceAddress}
 use Rattle.ospf_config.specs.Tables.{HaveSamePrefix}
 use Rattle.ospf_config.specs.Interfaces.{IsInterfaceOf}
 use Rattle.ospf_config.specs.Conflicts.{Conflict, one_prefix, one_address, HasConflict, network_part}
@@ -32,7 +32,7 @@ none_first all rest x xs parts same none = (
 -- ---- the tables that addresses stand in
 
 abbrev Reads : Members → InterfaceAddress → Type 0
-Reads t a = ReadsAddress t (Ok a)
+Reads t a = ReadsInterfaceAddress t (Ok a)
 
 pub pair_at : {B : Type 0} (R : Members → B → Type 0) (ts : List Members) (xs : List B) (k : ℕ) (d : B) → EachPair R ts xs → k < length xs
     → (t : Members) × (slice_get ts k ≡ Some t) × R t (get_or xs k d)
@@ -158,6 +158,6 @@ interfaces_apart ts xs h none i j d lt within c =
     })
 
 -- the addresses of two tables are in conflict however they are read
-pub conflict_of_both : (f s : Members) (a b c d : InterfaceAddress) → ReadsAddress f (Ok a) → ReadsAddress s (Ok b) → ReadsAddress f (Ok c) → ReadsAddress s (Ok d) → Conflict a b → Conflict c d
+pub conflict_of_both : (f s : Members) (a b c d : InterfaceAddress) → ReadsInterfaceAddress f (Ok a) → ReadsInterfaceAddress s (Ok b) → ReadsInterfaceAddress f (Ok c) → ReadsInterfaceAddress s (Ok d) → Conflict a b → Conflict c d
 conflict_of_both f s a b c d fa sb fc sd h =
     conflict_same a b c d (address_one (get_member (codes "address") f) a c fa fc) (address_one (get_member (codes "address") s) b d sb sd) h

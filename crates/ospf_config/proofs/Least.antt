@@ -6,7 +6,7 @@ use Rattle.std.specs.Result.{result_err}
 use Rattle.toml.specs.Data.{Data, as_integer}
 use Rattle.ospf_config.specs.declared.fault.ConfigFault.{ConfigFault}
 use Rattle.ospf_config.specs.declared.fault.ConfigFault.TheVariants as fault
-use Rattle.ospf_config.specs.Fault.{fault_number, earlier_of, IsLeast, IsLeastIfAny, IsFaultIfAny}
+use Rattle.ospf_config.specs.Fault.{config_fault_number, earlier_of, IsLeastFault, IsLeastIfAny, IsFaultIfAny}
 use Rattle.ospf_config.specs.Reading.{ReadsValue, Required, Optional, IsNumberIn}
 use Rattle.ospf_config.specs.Keys.{ReadsCostValue, ReadsCostAt}
 
@@ -68,11 +68,11 @@ cost_single (Some d) = at_value (as_integer d)
 
 -- ---- the least
 
-pub least_of : (Holds : ConfigFault → Type 0) (f : ConfigFault) → Holds f → ((g : ConfigFault) → Holds g → fault_number f ≤ fault_number g) → IsLeast Holds f
+pub least_of : (Holds : ConfigFault → Type 0) (f : ConfigFault) → Holds f → ((g : ConfigFault) → Holds g → config_fault_number f ≤ config_fault_number g) → IsLeastFault Holds f
 least_of Holds f holds least = record { broken = holds; first = λ g lt here. (let le = least g here in omega arith) }
 
-pub least_number : (Holds : ConfigFault → Type 0) (f : ConfigFault) → IsLeast Holds f → (g : ConfigFault) → Holds g → fault_number f ≤ fault_number g
-least_number Holds f is g here = elim (cases_lt (fault_number g) (fault_number f)) [ inl lt ↦ absurd (is.first g lt here) | inr le ↦ le ]
+pub least_number : (Holds : ConfigFault → Type 0) (f : ConfigFault) → IsLeastFault Holds f → (g : ConfigFault) → Holds g → config_fault_number f ≤ config_fault_number g
+least_number Holds f is g here = elim (cases_lt (config_fault_number g) (config_fault_number f)) [ inl lt ↦ absurd (is.first g lt here) | inr le ↦ le ]
 
 module _ {T : Type 0} (Reads : Result T ConfigFault → Type 0) (single : IsSingle Reads) where
   -- of one key
@@ -91,7 +91,7 @@ module _ (P Q : ConfigFault → Type 0) where
   least_both None (Some g) p q = least_of _ g (inr q.broken) (λ f h. elim h [ inl x ↦ absurd (p f x) | inr y ↦ least_number _ g q f y ])
   least_both (Some f) None p q = least_of _ f (inl p.broken) (λ g h. elim h [ inl x ↦ least_number _ f p g x | inr y ↦ absurd (q g y) ])
   least_both (Some f) (Some g) p q =
-      elim (cases_Bool (nat_lt (fault_number g) (fault_number f))) [
+      elim (cases_Bool (nat_lt (config_fault_number g) (config_fault_number f))) [
         | inl less ↦ rw less (least_of _ g (inr q.broken) (λ h some. elim some [ inl x ↦ (let le = least_number _ f p h x in grind (arith, nat_tests, less, le)) | inr y ↦ least_number _ g q h y ]))
         | inr other ↦ rw other (least_of _ f (inl p.broken) (λ h some. elim some [ inl x ↦ least_number _ f p h x | inr y ↦ (let le = least_number _ g q h y in grind (arith, nat_tests, other, le)) ]))
       ]

@@ -3,12 +3,12 @@ use Rattle.std.proofs.Common.{◌≡◌, false, None, [], codes}
 use Rattle.toml.specs.Data.{Members, get_member, as_str, as_bool, as_integer}
 use Rattle.ospf_config.specs.Reading.{IsNumberIn, as_integers}
 use Rattle.ospf_config.specs.Texts.{IsRouterIdText, IsAreaText, IsOtherLsasText, other_lsas_text, IsKindText, IsAddressText}
-use Rattle.ospf_config.specs.Keys.{ReadsRouterId, ReadsArea, ReadsStubRouter, ReadsOtherLsas, ReadsKind, ReadsAddress, ReadsCost, ReadsPriority, ReadsHello, ReadsDead, ReadsRetransmit, ReadsTransmitDelay, ReadsMtu, ReadsPort, ReadsPeers, IsPortNumber, ArePortNumbers}
+use Rattle.ospf_config.specs.Keys.{ReadsOwnRouterId, ReadsArea, ReadsStubRouter, ReadsOtherLsas, ReadsKind, ReadsInterfaceAddress, ReadsCost, ReadsPriority, ReadsHello, ReadsDead, ReadsRetransmit, ReadsTransmitDelay, ReadsMtu, ReadsPort, ReadsPeers, IsPortNumber, ArePortNumbers}
 use Rattle.ospf_config.specs.Tables.{ReadsInterfaces, AreInterfaceTables, as_tables}
 use Rattle.ospf_config.proofs.Least.{IsSingle, required_single, optional_single, cost_single}
 
 module _ (t : Members) where
-  pub router_id_single : IsSingle (ReadsRouterId t)
+  pub router_id_single : IsSingle (ReadsOwnRouterId t)
   router_id_single = required_single IsRouterIdText as_str (get_member (codes "router_id") t)
 
   pub area_single : IsSingle (ReadsArea t)
@@ -26,7 +26,7 @@ module _ (t : Members) where
   pub kind_single : IsSingle (ReadsKind t)
   kind_single = required_single IsKindText as_str (get_member (codes "kind") t)
 
-  pub address_single : IsSingle (ReadsAddress t)
+  pub address_single : IsSingle (ReadsInterfaceAddress t)
   address_single = required_single IsAddressText as_str (get_member (codes "address") t)
 
   pub priority_single : IsSingle (ReadsPriority t)

@@ -14,7 +14,7 @@ use Rattle.ospf_config.specs.declared.fault.ConfigFault.TheVariants as fault
 use Rattle.toml.proofs.Views.{items_view-push}
 use Rattle.ospf_config.specs.Pairs.{EachPair}
 use Rattle.ospf_config.specs.Reading.{ReadsValue, Required}
-use Rattle.ospf_config.specs.Tables.{IsTableWith, tables_of, as_tables, AreInterfaceTables}
+use Rattle.ospf_config.specs.Tables.{IsTableWith, tables_among, as_tables, AreInterfaceTables}
 use Rattle.ospf_config.proofs.PeerLists.{none_is_some, no, yes, known}
 
 -- ---- one value
@@ -90,8 +90,8 @@ module _ {A : Type 0} (P : A → Type 0) where
 
 -- ---- the tables among values
 
-tables_step : (P : Members → Type 0) (d : Data) (ds : Items) → Any P (tables_of (item d ds)) → IsTableWith P d ⊎ Any P (tables_of ds)
-tables_step P (table t) ds h = any_cons P t (tables_of ds) h
+tables_step : (P : Members → Type 0) (d : Data) (ds : Items) → Any P (tables_among (item d ds)) → IsTableWith P d ⊎ Any P (tables_among ds)
+tables_step P (table t) ds h = any_cons P t (tables_among ds) h
 tables_step P (string s) ds h = inr h
 tables_step P (integer z) ds h = inr h
 tables_step P (float x) ds h = inr h
@@ -99,8 +99,8 @@ tables_step P (boolean b) ds h = inr h
 tables_step P (datetime dt) ds h = inr h
 tables_step P (array xs) ds h = inr h
 
-tables_here : (P : Members → Type 0) (d : Data) (ds : Items) → IsTableWith P d → Any P (tables_of (item d ds))
-tables_here P (table t) ds h = any_here P t (tables_of ds) h
+tables_here : (P : Members → Type 0) (d : Data) (ds : Items) → IsTableWith P d → Any P (tables_among (item d ds))
+tables_here P (table t) ds h = any_here P t (tables_among ds) h
 tables_here P (string s) ds h = absurd h
 tables_here P (integer z) ds h = absurd h
 tables_here P (float x) ds h = absurd h
@@ -108,8 +108,8 @@ tables_here P (boolean b) ds h = absurd h
 tables_here P (datetime dt) ds h = absurd h
 tables_here P (array xs) ds h = absurd h
 
-tables_later : (P : Members → Type 0) (d : Data) (ds : Items) → Any P (tables_of ds) → Any P (tables_of (item d ds))
-tables_later P (table t) ds h = any_later P t (tables_of ds) h
+tables_later : (P : Members → Type 0) (d : Data) (ds : Items) → Any P (tables_among ds) → Any P (tables_among (item d ds))
+tables_later P (table t) ds h = any_later P t (tables_among ds) h
 tables_later P (string s) ds h = h
 tables_later P (integer z) ds h = h
 tables_later P (float x) ds h = h
@@ -117,13 +117,13 @@ tables_later P (boolean b) ds h = h
 tables_later P (datetime dt) ds h = h
 tables_later P (array xs) ds h = h
 
-pub any_value : (P : Members → Type 0) (vs : List Value) → Any P (tables_of (items_view vs)) → Any (λ v. IsTableWith P (view v)) vs
+pub any_value : (P : Members → Type 0) (vs : List Value) → Any P (tables_among (items_view vs)) → Any (λ v. IsTableWith P (view v)) vs
 any_value P [] h = absurd (any_none P h)
 any_value P (v ∷ vs) h =
     let Q : Value → Type 0 = λ x. IsTableWith P (view x) in
     elim (tables_step P (view v) (items_view vs) h) [ inl p ↦ any_here Q v vs p | inr r ↦ any_later Q v vs (any_value P vs r) ]
 
-pub any_table : (P : Members → Type 0) (vs : List Value) → Any (λ v. IsTableWith P (view v)) vs → Any P (tables_of (items_view vs))
+pub any_table : (P : Members → Type 0) (vs : List Value) → Any (λ v. IsTableWith P (view v)) vs → Any P (tables_among (items_view vs))
 any_table P [] h = absurd (any_none (λ v. IsTableWith P (view v)) h)
 any_table P (v ∷ vs) h =
     elim (any_cons (λ x. IsTableWith P (view x)) v vs h) [
@@ -146,7 +146,7 @@ pub all_tables : (vs : List Value) → list_all (λ v. is_some (as_table (view v
 all_tables [] = refl
 all_tables (v ∷ vs) = ap (λ b. is_some (as_table (view v)) && b) (all_tables vs) ∙ are_tables_item (view v) (items_view vs)
 
-as_tables-array : (d : Data) (ds : Items) → Some ds ≡ as_array d → as_tables d ≡ (if are_tables ds then Some (tables_of ds) else None)
+as_tables-array : (d : Data) (ds : Items) → Some ds ≡ as_array d → as_tables d ≡ (if are_tables ds then Some (tables_among ds) else None)
 as_tables-array (array xs) ds e = rw (same_Some ds xs e) refl
 as_tables-array (integer y) ds e = absurd (none_is_some ds (sym e))
 as_tables-array (string s) ds e = absurd (none_is_some ds (sym e))
@@ -155,7 +155,7 @@ as_tables-array (boolean b) ds e = absurd (none_is_some ds (sym e))
 as_tables-array (datetime dt) ds e = absurd (none_is_some ds (sym e))
 as_tables-array (table ms) ds e = absurd (none_is_some ds (sym e))
 
-length_item : (d : Data) (ds : Items) → are_tables (item d ds) ≡ true → (length (tables_of (item d ds)) ≡ suc (length (tables_of ds))) × (are_tables ds ≡ true)
+length_item : (d : Data) (ds : Items) → are_tables (item d ds) ≡ true → (length (tables_among (item d ds)) ≡ suc (length (tables_among ds))) × (are_tables ds ≡ true)
 length_item (table t) ds h = (refl, h)
 length_item (string s) ds h = absurd (false≢true h)
 length_item (integer z) ds h = absurd (false≢true h)
@@ -165,7 +165,7 @@ length_item (datetime dt) ds h = absurd (false≢true h)
 length_item (array xs) ds h = absurd (false≢true h)
 
 -- as many tables as values, if each is one
-pub length_tables : (vs : List Value) → are_tables (items_view vs) ≡ true → length (tables_of (items_view vs)) ≡ length vs
+pub length_tables : (vs : List Value) → are_tables (items_view vs) ≡ true → length (tables_among (items_view vs)) ≡ length vs
 length_tables [] h = refl
 length_tables (v ∷ vs) h =
     let (one, more) = length_item (view v) (items_view vs) h in
@@ -175,16 +175,16 @@ module _ (o : Option Data) (d : Data) (ds : Items) (at : Some d ≡ o) (list : S
   pub list_no_tables : are_tables ds ≡ false → Required as_tables AreInterfaceTables o (Err fault.Type)
   list_no_tables h = rw (← at) (rw (as_tables-array d ds list, h) refl)
 
-  pub list_out : are_tables ds ≡ true → (1 ≤ length (tables_of ds) → length (tables_of ds) ≤ 32 → ⊥) → Required as_tables AreInterfaceTables o (Err fault.Range)
-  list_out h out = rw (← at) (rw (as_tables-array d ds list, h) (refl, λ us means. (let same : length (tables_of ds) ≡ length us = ap length means.0 in out (omega (arith, means)) (omega (arith, means)))))
+  pub list_out : are_tables ds ≡ true → (1 ≤ length (tables_among ds) → length (tables_among ds) ≤ 32 → ⊥) → Required as_tables AreInterfaceTables o (Err fault.Range)
+  list_out h out = rw (← at) (rw (as_tables-array d ds list, h) (refl, λ us means. (let same : length (tables_among ds) ≡ length us = ap length means.0 in out (omega (arith, means)) (omega (arith, means)))))
 
-  pub list_in : are_tables ds ≡ true → 1 ≤ length (tables_of ds) → length (tables_of ds) ≤ 32 → (f : ConfigFault) → Required as_tables AreInterfaceTables o (Err f) → ⊥
+  pub list_in : are_tables ds ≡ true → 1 ≤ length (tables_among ds) → length (tables_among ds) ≤ 32 → (f : ConfigFault) → Required as_tables AreInterfaceTables o (Err f) → ⊥
   list_in h low high f reads =
       let here : ReadsValue AreInterfaceTables (as_tables d) (Err f) = rw (← at) at reads in
       let there = rw (as_tables-array d ds list, h) at here in
-      there.1 (tables_of ds) (refl, low, high)
+      there.1 (tables_among ds) (refl, low, high)
 
-  pub list_tables : are_tables ds ≡ true → tables_of ds ≡ unwrap_or (option_and_then as_tables o) []
+  pub list_tables : are_tables ds ≡ true → tables_among ds ≡ unwrap_or (option_and_then as_tables o) []
   list_tables h = rw (← at) (rw (as_tables-array d ds list, h) refl)
 
   pub list_none : are_tables ds ≡ false → [] ≡ unwrap_or (option_and_then as_tables o) []
@@ -215,7 +215,7 @@ in_number (Some d) free =
 
 -- ---- values that are all tables
 
-pub tables_push : (ds : Items) (d : Data) (t : Members) → as_table d ≡ Some t → tables_of (push_item ds d) ≡ tables_of ds ++ t ∷ []
+pub tables_push : (ds : Items) (d : Data) (t : Members) → as_table d ≡ Some t → tables_among (push_item ds d) ≡ tables_among ds ++ t ∷ []
 tables_push no_items (table u) t e = ap (λ x. x ∷ []) (same_Some u t e)
 tables_push no_items (string s) t e = absurd (none_is_some t e)
 tables_push no_items (integer z) t e = absurd (none_is_some t e)
@@ -239,12 +239,12 @@ pair_last R (a ∷ xs) (b ∷ ys) x y h r = (h.0, pair_last R xs ys x y h.1 r)
 
 -- one more pair
 pub pairs_more : {B : Type 0} (R : Members → B → Type 0) (vs : List Value) (i : ℕ) (v : Value) (t : Members) (ys : List B) (y : B)
-    → i < length vs → v ≡ get_or vs i v → as_table (view v) ≡ Some t → EachPair R (tables_of (items_view (take i vs))) ys → R t y
-    → EachPair R (tables_of (items_view (take (i + 1) vs))) (ys ++ y ∷ [])
+    → i < length vs → v ≡ get_or vs i v → as_table (view v) ≡ Some t → EachPair R (tables_among (items_view (take i vs))) ys → R t y
+    → EachPair R (tables_among (items_view (take (i + 1) vs))) (ys ++ y ∷ [])
 pairs_more R vs i v t ys y lt here is so_far r =
     rw (take_more vs i v lt, ← here, items_view-push (take i vs) v, tables_push (items_view (take i vs)) (view v) t is) (pair_last R _ ys t y so_far r)
 
 -- a table that is met
 pub any_table_at : (P : Members → Type 0) (vs : List Value) (i : ℕ) (v : Value) (t : Members) → i < length vs → v ≡ get_or vs i v → as_table (view v) ≡ Some t → P t
-    → Any P (tables_of (items_view vs))
+    → Any P (tables_among (items_view vs))
 any_table_at P vs i v t lt here is p = any_table P vs (i, v, lt, sym here, with_table P (view v) t (sym is) p)

@@ -5,18 +5,18 @@ use Rattle.toml.specs.Data.{Members}
 use Rattle.toml.specs.Parse.{parse_document}
 use Rattle.ospf_config.specs.declared.fault.ConfigFault.{ConfigFault}
 use Rattle.ospf_config.specs.declared.fault.ConfigFault.TheVariants as fault
-use Rattle.ospf_config.specs.Fault.{IsLeast}
+use Rattle.ospf_config.specs.Fault.{IsLeastFault}
 use Rattle.ospf_config.proofs.Least.{least_number, least_of}
-use Rattle.ospf_config.specs.Tables.{HasFault}
+use Rattle.ospf_config.specs.Tables.{HasConfigFault}
 use Rattle.ospf_config.specs.Configs.{TextHasFault}
 use Rattle.ospf_config.proofs.FaultLemmas.{never_not_toml}
 use Rattle.ospf_config.proofs.PeerLists.{none_is_some}
 
 module _ (text : List ℕ) (t : Members) (parsed : parse_document text ≡ Some t) where
-  of_table : (f : ConfigFault) → (u : Members) × (parse_document text ≡ Some u) × HasFault u f → HasFault t f
-  of_table f (u, is, has) = subst (λ (x : Members). HasFault x f) (same_Some u t (sym is ∙ parsed)) has
+  of_table : (f : ConfigFault) → (u : Members) × (parse_document text ≡ Some u) × HasConfigFault u f → HasConfigFault t f
+  of_table f (u, is, has) = subst (λ (x : Members). HasConfigFault x f) (same_Some u t (sym is ∙ parsed)) has
 
-  table_has : (f : ConfigFault) → TextHasFault text f → HasFault t f
+  table_has : (f : ConfigFault) → TextHasFault text f → HasConfigFault t f
   table_has fault.NotToml h = absurd (none_is_some t (sym h ∙ parsed))
   table_has fault.Missing h = of_table fault.Missing h
   table_has fault.Type h = of_table fault.Type h
@@ -27,7 +27,7 @@ module _ (text : List ℕ) (t : Members) (parsed : parse_document text ≡ Some 
   table_has fault.Unknown h = of_table fault.Unknown h
   table_has fault.Memory h = of_table fault.Memory h
 
-  text_has : (f : ConfigFault) → HasFault t f → TextHasFault text f
+  text_has : (f : ConfigFault) → HasConfigFault t f → TextHasFault text f
   text_has fault.NotToml h = absurd (never_not_toml t h)
   text_has fault.Missing h = (t, parsed, h)
   text_has fault.Type h = (t, parsed, h)
@@ -38,8 +38,8 @@ module _ (text : List ℕ) (t : Members) (parsed : parse_document text ≡ Some 
   text_has fault.Unknown h = (t, parsed, h)
   text_has fault.Memory h = (t, parsed, h)
 
-  pub text_free : ((f : ConfigFault) → HasFault t f → ⊥) → (f : ConfigFault) → TextHasFault text f → ⊥
+  pub text_free : ((f : ConfigFault) → HasConfigFault t f → ⊥) → (f : ConfigFault) → TextHasFault text f → ⊥
   text_free free f h = free f (table_has f h)
 
-  pub text_least : (f : ConfigFault) → IsLeast (HasFault t) f → IsLeast (TextHasFault text) f
+  pub text_least : (f : ConfigFault) → IsLeastFault (HasConfigFault t) f → IsLeastFault (TextHasFault text) f
   text_least f h = least_of _ f (text_has f h.broken) (λ g has. least_number _ f h g (table_has g has))

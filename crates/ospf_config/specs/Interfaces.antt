@@ -2,12 +2,12 @@
 use Rattle.std.specs.Prelude.{Ok}
 use Rattle.toml.specs.Data.{Members}
 use Rattle.ospf_config.specs.declared.interface.Interface.{Interface}
-use Rattle.ospf_config.specs.Keys.{ReadsKind, ReadsAddress, ReadsCost, ReadsPriority, ReadsHello, ReadsDead, ReadsRetransmit, ReadsTransmitDelay, ReadsMtu, ReadsPort, ReadsPeers}
+use Rattle.ospf_config.specs.Keys.{ReadsKind, ReadsInterfaceAddress, ReadsCost, ReadsPriority, ReadsHello, ReadsDead, ReadsRetransmit, ReadsTransmitDelay, ReadsMtu, ReadsPort, ReadsPeers}
 
 -- the interface is the reading of its table
 pub record IsInterfaceOf (t : Members) (i : Interface) : Type 0 where
   pub kind : ReadsKind t (Ok i.kind)
-  pub address : ReadsAddress t (Ok i.address)
+  pub address : ReadsInterfaceAddress t (Ok i.address)
   pub cost : ReadsCost t (Ok i.cost)
   pub priority : ReadsPriority t (Ok i.priority)
   pub hello : ReadsHello t (Ok i.hello)

@@ -14,8 +14,8 @@ use Rattle.ospf_config.specs.Texts.{IsRouterIdText, IsAreaText, IsOtherLsasText,
 
 -- ---- at the top
 
-abbrev pub ReadsRouterId : Members → Result RouterId ConfigFault → Type 0
-ReadsRouterId t r = Required as_str IsRouterIdText (get_member (codes "router_id") t) r
+abbrev pub ReadsOwnRouterId : Members → Result RouterId ConfigFault → Type 0
+ReadsOwnRouterId t r = Required as_str IsRouterIdText (get_member (codes "router_id") t) r
 
 abbrev pub ReadsArea : Members → Result AreaId ConfigFault → Type 0
 ReadsArea t r = Required as_str IsAreaText (get_member (codes "area") t) r
@@ -31,8 +31,8 @@ ReadsOtherLsas t r = Optional as_str IsOtherLsasText false (get_member (codes "o
 abbrev pub ReadsKind : Members → Result InterfaceKind ConfigFault → Type 0
 ReadsKind t r = Required as_str IsKindText (get_member (codes "kind") t) r
 
-abbrev pub ReadsAddress : Members → Result InterfaceAddress ConfigFault → Type 0
-ReadsAddress t r = Required as_str IsAddressText (get_member (codes "address") t) r
+abbrev pub ReadsInterfaceAddress : Members → Result InterfaceAddress ConfigFault → Type 0
+ReadsInterfaceAddress t r = Required as_str IsAddressText (get_member (codes "address") t) r
 
 -- a cost of zero has a fault of its own
 abbrev pub ReadsCostValue : Option ℤ → Result ℕ ConfigFault → Type 0

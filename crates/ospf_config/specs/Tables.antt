@@ -6,20 +6,20 @@ use Rattle.ospf_config.specs.declared.address.InterfaceAddress.{InterfaceAddress
 use Rattle.ospf_config.specs.declared.fault.ConfigFault.{ConfigFault}
 use Rattle.ospf_config.specs.declared.fault.ConfigFault.TheVariants as fault
 use Rattle.ospf_config.specs.Reading.{Required}
-use Rattle.ospf_config.specs.Keys.{ReadsRouterId, ReadsArea, ReadsStubRouter, ReadsOtherLsas, ReadsKind, ReadsAddress, ReadsCost, ReadsPriority, ReadsHello, ReadsDead, ReadsRetransmit, ReadsTransmitDelay, ReadsMtu, ReadsPort, ReadsPeers}
+use Rattle.ospf_config.specs.Keys.{ReadsOwnRouterId, ReadsArea, ReadsStubRouter, ReadsOtherLsas, ReadsKind, ReadsInterfaceAddress, ReadsCost, ReadsPriority, ReadsHello, ReadsDead, ReadsRetransmit, ReadsTransmitDelay, ReadsMtu, ReadsPort, ReadsPeers}
 use Rattle.ospf_config.specs.Conflicts.{Conflict}
 
 -- ---- the tables of the interfaces
 
 -- the tables among the items
-abbrev pub tables_of : Items → List Members
-tables_of no_items = []
-tables_of (item (table t) ds) = t ∷ tables_of ds
-tables_of (item _ ds) = tables_of ds
+abbrev pub tables_among : Items → List Members
+tables_among no_items = []
+tables_among (item (table t) ds) = t ∷ tables_among ds
+tables_among (item _ ds) = tables_among ds
 
 -- the tables of a list of tables
 abbrev pub as_tables : Data → Option (List Members)
-as_tables (array ds) = if are_tables ds then Some (tables_of ds) else None
+as_tables (array ds) = if are_tables ds then Some (tables_among ds) else None
 as_tables _ = None
 
 -- one to 32 tables
@@ -42,7 +42,7 @@ IsTableWith P _ = ⊥
 
 -- a key at the top has the fault
 pub data HasTopFault (t : Members) (f : ConfigFault) : Type 0 where
-  in_router_id : ReadsRouterId t (Err f) → HasTopFault t f
+  in_router_id : ReadsOwnRouterId t (Err f) → HasTopFault t f
   in_area : ReadsArea t (Err f) → HasTopFault t f
   in_stub_router : ReadsStubRouter t (Err f) → HasTopFault t f
   in_other_lsas : ReadsOtherLsas t (Err f) → HasTopFault t f
@@ -51,7 +51,7 @@ pub data HasTopFault (t : Members) (f : ConfigFault) : Type 0 where
 -- a key of the interface has the fault
 pub data HasInterfaceFault (t : Members) (f : ConfigFault) : Type 0 where
   in_kind : ReadsKind t (Err f) → HasInterfaceFault t f
-  in_address : ReadsAddress t (Err f) → HasInterfaceFault t f
+  in_address : ReadsInterfaceAddress t (Err f) → HasInterfaceFault t f
   in_cost : ReadsCost t (Err f) → HasInterfaceFault t f
   in_priority : ReadsPriority t (Err f) → HasInterfaceFault t f
   in_hello : ReadsHello t (Err f) → HasInterfaceFault t f
@@ -75,8 +75,8 @@ pub record HaveSamePrefix (tables : List Members) : Type 0 where
   pub at_second : slice_get tables j ≡ Some second
   pub a : InterfaceAddress
   pub b : InterfaceAddress
-  pub first_address : ReadsAddress first (Ok a)
-  pub second_address : ReadsAddress second (Ok b)
+  pub first_address : ReadsInterfaceAddress first (Ok a)
+  pub second_address : ReadsInterfaceAddress second (Ok b)
   pub conflict : Conflict a b
 
 -- the interface would be dead no later than its next Hello (RFC 2328, appendix C.3)
@@ -102,12 +102,12 @@ interface_keys =
     ∷ codes "transmit_delay" ∷ codes "mtu" ∷ codes "port" ∷ codes "peers" ∷ []
 
 -- the key is none of these
-pub record IsOther (known : List (List ℕ)) (key : List ℕ) : Type 0 where
+pub record IsOtherKey (known : List (List ℕ)) (key : List ℕ) : Type 0 where
   pub absent : Contains known key → ⊥
 
 -- the table has a key beside these
 abbrev pub HasOtherKey : List (List ℕ) → Members → Type 0
-HasOtherKey known t = Any (IsOther known) (keys_of t)
+HasOtherKey known t = Any (IsOtherKey known) (keys_of t)
 
 -- ---- faults of the table
 
@@ -115,8 +115,8 @@ HasOtherKey known t = Any (IsOther known) (keys_of t)
 abbrev pub HasKeyFault : Members → ConfigFault → Type 0
 HasKeyFault t f = HasTopFault t f ⊎ Any (λ i. HasInterfaceFault i f) (interface_tables t)
 
-abbrev pub HasFault : Members → ConfigFault → Type 0
-HasFault t fault.SamePrefix = HaveSamePrefix (interface_tables t)
-HasFault t fault.DeadNotOverHello = Any IsDeadNotOverHello (interface_tables t)
-HasFault t fault.Unknown = HasOtherKey top_keys t ⊎ Any (HasOtherKey interface_keys) (interface_tables t)
-HasFault t f = HasKeyFault t f
+abbrev pub HasConfigFault : Members → ConfigFault → Type 0
+HasConfigFault t fault.SamePrefix = HaveSamePrefix (interface_tables t)
+HasConfigFault t fault.DeadNotOverHello = Any IsDeadNotOverHello (interface_tables t)
+HasConfigFault t fault.Unknown = HasOtherKey top_keys t ⊎ Any (HasOtherKey interface_keys) (interface_tables t)
+HasConfigFault t f = HasKeyFault t f

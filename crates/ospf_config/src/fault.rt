@@ -32,11 +32,11 @@ pub enum ConfigFault {
 
 impl ConfigFault {
     ghost use Rattle.std.specs.Prelude.{◌≡◌};
-    ghost use Rattle.ospf_config.specs.Fault.{fault_number, fault_text};
+    ghost use Rattle.ospf_config.specs.Fault.{config_fault_number, config_fault_text};
 
     /// The fault's number and name, as it is printed.
     pub fn text(self) -> &'static str
-        ensures { result.now ≡ fault_text self }
+        ensures { result.now ≡ config_fault_text self }
     {
         match self {
             ConfigFault::NotToml => "C1 NotToml",
@@ -53,7 +53,7 @@ impl ConfigFault {
 
     // The number by which the least fault is told.
     fn number(self) -> u8
-        ensures { result ≡ fault_number self }
+        ensures { result ≡ config_fault_number self }
     {
         match self {
             ConfigFault::NotToml => 1,
@@ -72,9 +72,9 @@ impl ConfigFault {
 /// The number and the name, as `C4 Range`.
 impl Display for ConfigFault {
     ghost use Rattle.std.specs.Prelude.{Some};
-    ghost use Rattle.ospf_config.specs.Fault.{fault_text};
+    ghost use Rattle.ospf_config.specs.Fault.{config_fault_text};
 
-    ghost output = { λ fault. Some (fault_text fault) };
+    ghost output = { λ fault. Some (config_fault_text fault) };
 
     fn fmt<W: Write>(&self, f: &mut Formatter<W>) -> fmt::Result {
         f.write_str(self.text())

@@ -5,7 +5,7 @@ ghost use Rattle.std.specs.List.{list_all};
 ghost use Rattle.toml.specs.Data.{as_table};
 ghost use Rattle.toml.specs.View.{view, table_view, items_view};
 ghost use Rattle.ospf_config.specs.Fault.{IsLeastIfAny, IsFaultIfAny};
-ghost use Rattle.ospf_config.specs.Tables.{HasTopFault, HasInterfaceFault, HasKeyFault, ReadsInterfaces, IsTableWith, interface_tables, tables_of};
+ghost use Rattle.ospf_config.specs.Tables.{HasTopFault, HasInterfaceFault, HasKeyFault, ReadsInterfaces, IsTableWith, interface_tables, tables_among};
 
 use crate::fault::{ConfigFault, earlier};
 use crate::keys::{
@@ -42,7 +42,8 @@ pub fn list_fault(table: &Table) -> Option<ConfigFault>
 
 /// The tables of the interfaces, or none where the key `interface` is no list of tables.
 pub fn interface_values(table: &Table) -> &[Value]
-    ensures tables { tables_of (items_view result.now) ≡ interface_tables (table_view table.now) }
+    ensures tables { tables_among (items_view result.now)
+        ≡ interface_tables (table_view table.now) }
     ensures all { All (λ v. IsSome (as_table (view v))) result.now }
 {
     let Some(value) = value_at(table, "interface") else {

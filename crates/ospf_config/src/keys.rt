@@ -6,7 +6,7 @@ ghost use Rattle.toml.specs.Data.{get_member, as_integer, as_str};
 ghost use Rattle.toml.specs.View.{view, table_view};
 ghost use Rattle.ospf_config.specs.Reading.{ReadsValue, Optional, IsNumberIn};
 ghost use Rattle.ospf_config.specs.Texts.{IsKindText, IsAddressText};
-ghost use Rattle.ospf_config.specs.Keys.{ReadsKind, ReadsAddress, ReadsCostValue, ReadsCost, IsPortNumber, ReadsPriority, ReadsHello, ReadsDead, ReadsRetransmit, ReadsTransmitDelay, ReadsMtu, ReadsPort};
+ghost use Rattle.ospf_config.specs.Keys.{ReadsKind, ReadsInterfaceAddress, ReadsCostValue, ReadsCost, IsPortNumber, ReadsPriority, ReadsHello, ReadsDead, ReadsRetransmit, ReadsTransmitDelay, ReadsMtu, ReadsPort};
 
 use crate::address::InterfaceAddress;
 use crate::fault::ConfigFault;
@@ -33,7 +33,7 @@ pub fn kind_at(table: &Table) -> Result<InterfaceKind, ConfigFault>
 
 /// The address at the key `address`, or the fault of the key.
 pub fn address_at(table: &Table) -> Result<InterfaceAddress, ConfigFault>
-    ensures { ReadsAddress (table_view table.now) result }
+    ensures { ReadsInterfaceAddress (table_view table.now) result }
 {
     match value_at(table, "address") {
         None => Err(ConfigFault::Missing),

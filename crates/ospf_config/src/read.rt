@@ -5,9 +5,9 @@ ghost use Rattle.toml.specs.Data.{as_table};
 ghost use Rattle.toml.specs.View.{view, table_view, items_view};
 ghost use Rattle.ospf_config.specs.declared.fault.ConfigFault.{ConfigFault};
 ghost use Rattle.ospf_config.specs.declared.fault.ConfigFault.TheVariants as fault;
-ghost use Rattle.ospf_config.specs.Fault.{IsLeast};
+ghost use Rattle.ospf_config.specs.Fault.{IsLeastFault};
 ghost use Rattle.ospf_config.specs.Pairs.{EachPair};
-ghost use Rattle.ospf_config.specs.Tables.{HasInterfaceFault, HasKeyFault, HasFault, IsDeadNotOverHello, IsTableWith, interface_tables, tables_of};
+ghost use Rattle.ospf_config.specs.Tables.{HasInterfaceFault, HasKeyFault, HasConfigFault, IsDeadNotOverHello, IsTableWith, interface_tables, tables_among};
 ghost use Rattle.ospf_config.specs.Interfaces.{IsInterfaceOf};
 ghost use Rattle.ospf_config.specs.Configs.{IsConfigOf, IsReading, TextHasFault};
 
@@ -32,7 +32,8 @@ impl Config {
     pub fn from_text(alloc: Global, text: &str) -> Result<Config, ConfigFault>
         ensures ok { IfOk result (IsReading text.now) }
         ensures free { OnOk result ((f : ConfigFault) → TextHasFault text.now f → ⊥) }
-        ensures fault { IfErr result (λ f. (f ≡ fault.Memory) ⊎ IsLeast (TextHasFault text.now) f) }
+        ensures fault { IfErr result (λ f. (f ≡ fault.Memory)
+            ⊎ IsLeastFault (TextHasFault text.now) f) }
     {
         match toml::table_from_str(alloc, text) {
             Ok(table) => {
@@ -48,9 +49,9 @@ impl Config {
 // The configuration of a table, or its least fault.
 fn config_of(alloc: Global, table: &Table) -> Result<Config, ConfigFault>
     ensures ok { IfOk result (IsConfigOf (table_view table.now)) }
-    ensures free { OnOk result ((f : ConfigFault) → HasFault (table_view table.now) f → ⊥) }
+    ensures free { OnOk result ((f : ConfigFault) → HasConfigFault (table_view table.now) f → ⊥) }
     ensures fault { IfErr result (λ f. (f ≡ fault.Memory)
-        ⊎ IsLeast (HasFault (table_view table.now)) f) }
+        ⊎ IsLeastFault (HasConfigFault (table_view table.now)) f) }
 {
     match key_fault(table) {
         Some(fault) => Err(fault),
@@ -62,9 +63,9 @@ fn config_of(alloc: Global, table: &Table) -> Result<Config, ConfigFault>
 fn config_by_rules(alloc: Global, table: &Table) -> Result<Config, ConfigFault>
     requires { (f : ConfigFault) → HasKeyFault (table_view table.now) f → ⊥ }
     ensures ok { IfOk result (IsConfigOf (table_view table.now)) }
-    ensures free { OnOk result ((f : ConfigFault) → HasFault (table_view table.now) f → ⊥) }
+    ensures free { OnOk result ((f : ConfigFault) → HasConfigFault (table_view table.now) f → ⊥) }
     ensures fault { IfErr result (λ f. (f ≡ fault.Memory)
-        ⊎ IsLeast (HasFault (table_view table.now)) f) }
+        ⊎ IsLeastFault (HasConfigFault (table_view table.now)) f) }
 {
     let values = interface_values(table);
     let addresses = addresses_of(alloc, values)?;
@@ -84,8 +85,9 @@ fn config_by_rules(alloc: Global, table: &Table) -> Result<Config, ConfigFault>
 // The configuration that a table without faults describes, whose interfaces' values these are.
 fn config_at(alloc: Global, table: &Table, values: &[Value]) -> Result<Config, ConfigFault>
     // The table has no fault, and the values are those of its interfaces, each a table.
-    requires free { (f : ConfigFault) → HasFault (table_view table.now) f → ⊥ }
-    requires values { tables_of (items_view values.now) ≡ interface_tables (table_view table.now) }
+    requires free { (f : ConfigFault) → HasConfigFault (table_view table.now) f → ⊥ }
+    requires values { tables_among (items_view values.now)
+        ≡ interface_tables (table_view table.now) }
     requires tables { All (λ v. IsSome (as_table (view v))) values.now }
     // So it describes a configuration, and memory alone can be wanting.
     ensures ok { IfOk result (IsConfigOf (table_view table.now)) }
@@ -110,9 +112,9 @@ fn interfaces_of(alloc: Global, values: &[Value]) -> Result<Vec<Interface>, Conf
     requires tables { All (λ v. IsSome (as_table (view v))) values.now }
     requires hellos { Any (λ v. IsTableWith IsDeadNotOverHello (view v)) values.now → ⊥ }
     ensures ok { IfOk result (λ interfaces. EachPair IsInterfaceOf
-        (tables_of (items_view values.now)) interfaces.items) }
+        (tables_among (items_view values.now)) interfaces.items) }
     ensures fault { IfErr result (λ f. (f ≡ fault.Memory)
-        ⊎ Any (λ t. HasInterfaceFault t f) (tables_of (items_view values.now))) }
+        ⊎ Any (λ t. HasInterfaceFault t f) (tables_among (items_view values.now))) }
 {
     let mut interfaces = Vec::with_capacity(alloc, values.len())?;
     for value in values {

@@ -6,9 +6,9 @@ ghost use Rattle.toml.specs.Data.{as_table};
 ghost use Rattle.toml.specs.View.{view, table_view, items_view};
 ghost use Rattle.ospf_config.specs.declared.fault.ConfigFault.TheVariants as fault;
 ghost use Rattle.ospf_config.specs.Conflicts.{Conflict, HasConflict};
-ghost use Rattle.ospf_config.specs.Keys.{ReadsAddress};
+ghost use Rattle.ospf_config.specs.Keys.{ReadsInterfaceAddress};
 ghost use Rattle.ospf_config.specs.Pairs.{EachPair};
-ghost use Rattle.ospf_config.specs.Tables.{HasInterfaceFault, IsOther, HasOtherKey, IsDeadNotOverHello, IsTableWith, tables_of, top_keys, interface_keys};
+ghost use Rattle.ospf_config.specs.Tables.{HasInterfaceFault, IsOtherKey, HasOtherKey, IsDeadNotOverHello, IsTableWith, tables_among, top_keys, interface_keys};
 
 use crate::address::InterfaceAddress;
 use crate::fault::ConfigFault;
@@ -39,7 +39,7 @@ pub fn is_dead_not_over_hello(table: &Table) -> bool
 
 /// Whether a key is none of these.
 pub fn is_other(key: &str, known: &[&str]) -> bool
-    ensures { IsTrue result ↔ IsOther (map (λ k. k.now) known.now) key.now }
+    ensures { IsTrue result ↔ IsOtherKey (map (λ k. k.now) known.now) key.now }
 {
     !is_among(key, known)
 }
@@ -82,10 +82,10 @@ pub(crate) fn addresses_of(
     values: &[Value],
 ) -> Result<Vec<InterfaceAddress>, ConfigFault>
     requires { All (λ v. IsSome (as_table (view v))) values.now }
-    ensures ok { IfOk result (λ addresses. EachPair (λ t a. ReadsAddress t (Ok a))
-        (tables_of (items_view values.now)) addresses.items) }
+    ensures ok { IfOk result (λ addresses. EachPair (λ t a. ReadsInterfaceAddress t (Ok a))
+        (tables_among (items_view values.now)) addresses.items) }
     ensures fault { IfErr result (λ f. (f ≡ fault.Memory)
-        ⊎ Any (λ t. HasInterfaceFault t f) (tables_of (items_view values.now))) }
+        ⊎ Any (λ t. HasInterfaceFault t f) (tables_among (items_view values.now))) }
 {
     let mut addresses = Vec::with_capacity(alloc, values.len())?;
     for value in values {
@@ -161,7 +161,7 @@ fn has_other_key(table: &Table, known: &[&str]) -> bool
 
 // Whether one of the keys of a table is none of these.
 fn is_any_other(table: &Table, known: &[&str]) -> bool
-    ensures { IsTrue result ↔ Any (λ k. IsOther (map (λ n. n.now) known.now) (string_bytes k))
+    ensures { IsTrue result ↔ Any (λ k. IsOtherKey (map (λ n. n.now) known.now) (string_bytes k))
         (keys table.now) }
 {
     for key in table.keys() {

@@ -4,7 +4,7 @@ ghost use Rattle.std.specs.Prelude.{◌≡◌, ◌<◌, IfOk, option_copied};
 ghost use Rattle.toml.specs.View.{table_view};
 ghost use Rattle.ospf_config.specs.Reading.{ReadsValue};
 ghost use Rattle.ospf_config.specs.Texts.{IsRouterIdText, IsAreaText, IsOtherLsasText};
-ghost use Rattle.ospf_config.specs.Keys.{ReadsRouterId, ReadsArea, ReadsStubRouter, ReadsOtherLsas};
+ghost use Rattle.ospf_config.specs.Keys.{ReadsOwnRouterId, ReadsArea, ReadsStubRouter, ReadsOtherLsas};
 
 use crate::address::dotted_number;
 use crate::fault::ConfigFault;
@@ -14,7 +14,7 @@ use toml::Table;
 
 /// The Router ID at the key `router_id`, or the fault of the key.
 pub fn router_id_at(table: &Table) -> Result<RouterId, ConfigFault>
-    ensures reads { ReadsRouterId (table_view table.now) result }
+    ensures reads { ReadsOwnRouterId (table_view table.now) result }
     ensures range { IfOk result (λ id. 0 < id.0) }
 {
     match value_at(table, "router_id") {

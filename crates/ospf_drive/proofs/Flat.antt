@@ -8,8 +8,8 @@ use Rattle.ospf_router.specs.Routers.{stopped}
 use Rattle.ospf_router.specs.Steps.{Steps}
 use Rattle.ospf_drive.proofs.Going.{chain-append, events_done-append, events_of-append, goes-append, left_by-append, no_end-append, sent_by-append}
 use Rattle.ospf_drive.proofs.Turning.{events_of-some, not_end-of}
-use Rattle.ospf_drive.specs.Drives.{Ended, FailsToHear, FailsToPublish, FailsToSend, GoesOn, Stops, last_told}
-use Rattle.ospf_drive.specs.Moments.{Moment, Done, HasNoEnd, IsChain, event_of, events_done, events_of, sent_by, tables_of}
+use Rattle.ospf_drive.specs.Drives.{Ended, FailsToHear, FailsToPublish, FailsToSend, DriverGoesOn, Stops, last_told}
+use Rattle.ospf_drive.specs.Moments.{Moment, Done, HasNoEnd, IsChain, event_of, events_done, events_of, sent_by, tables_published}
 use Rattle.ospf_drive.specs.Traffic.{Heard, Carried, EndsAfter, IsOver, and_goes, ticks_in}
 use Rattle.ospf_drive.specs.Traffic.Carried.{Ticks}
 use Rattle.ospf_drive.specs.Traffic.Heard.{End}
@@ -17,48 +17,48 @@ use Rattle.ospf_drive.specs.Whole.{AllTicksAreTaken, Whole, DrivesAreWhole}
 use Rattle.ospf_drive.specs.declared.fault.DriveFault.TheVariants as fault
 
 -- and then this arrival, and these datagrams
-goes_then : {a m : Moment} {t : Carried} {told : Option Known} (x : GoesOn a m told) (h : Heard) (sent : List SentValue) → t ≡ and_goes (h ∷ []) sent m.traffic → t ≡ and_goes (x.taken ++ h ∷ []) (sent_by x.steps ++ sent) a.traffic
+goes_then : {a m : Moment} {t : Carried} {told : Option Known} (x : DriverGoesOn a m told) (h : Heard) (sent : List SentValue) → t ≡ and_goes (h ∷ []) sent m.traffic → t ≡ and_goes (x.taken ++ h ∷ []) (sent_by x.steps ++ sent) a.traffic
 goes_then {a} {m} {t} {told} x h sent goes =
     goes ∙ ap (and_goes (h ∷ []) sent) x.traffic ∙ goes-append x.taken (h ∷ []) (sent_by x.steps) sent a.traffic
 
 -- and then this arrival, and nothing is sent
-goes_quietly : {a m : Moment} {t : Carried} {told : Option Known} (x : GoesOn a m told) (h : Heard) → t ≡ and_goes (h ∷ []) [] m.traffic → t ≡ and_goes (x.taken ++ h ∷ []) (sent_by x.steps) a.traffic
+goes_quietly : {a m : Moment} {t : Carried} {told : Option Known} (x : DriverGoesOn a m told) (h : Heard) → t ≡ and_goes (h ∷ []) [] m.traffic → t ≡ and_goes (x.taken ++ h ∷ []) (sent_by x.steps) a.traffic
 goes_quietly {a} {m} {t} {told} x h goes =
     goes_then x h [] goes ∙ ap (λ s. and_goes (x.taken ++ h ∷ []) s a.traffic) (append-nil (sent_by x.steps))
 
 -- and then nothing more
-goes_no_more : {a m : Moment} {t : Carried} {told : Option Known} (x : GoesOn a m told) → t ≡ and_goes [] [] m.traffic → t ≡ and_goes x.taken (sent_by x.steps) a.traffic
+goes_no_more : {a m : Moment} {t : Carried} {told : Option Known} (x : DriverGoesOn a m told) → t ≡ and_goes [] [] m.traffic → t ≡ and_goes x.taken (sent_by x.steps) a.traffic
 goes_no_more {a} {m} {t} {told} x goes =
     goes ∙ ap (and_goes [] []) x.traffic ∙ goes-append x.taken [] (sent_by x.steps) [] a.traffic
     ∙ ap (λ hs. and_goes hs (sent_by x.steps ++ []) a.traffic) (append-nil x.taken)
     ∙ ap (λ s. and_goes x.taken s a.traffic) (append-nil (sent_by x.steps))
 
 -- the events with one more
-events_then : {a m : Moment} {told : Option Known} (x : GoesOn a m told) (h : Heard) (e : Event) → event_of m.router.links h ≡ Some e → events_done x.steps ++ e ∷ [] ≡ events_of a.router.links (x.taken ++ h ∷ [])
+events_then : {a m : Moment} {told : Option Known} (x : DriverGoesOn a m told) (h : Heard) (e : Event) → event_of m.router.links h ≡ Some e → events_done x.steps ++ e ∷ [] ≡ events_of a.router.links (x.taken ++ h ∷ [])
 events_then {a} {m} {told} x h e some =
     ap (λ es. es ++ e ∷ []) x.events
     ∙ ap (λ es. events_of a.router.links x.taken ++ es) (sym (events_of-some a.router.links h e (ap (λ n. event_of n h) (sym x.links) ∙ some)))
     ∙ sym (events_of-append a.router.links x.taken (h ∷ []))
 
 -- the events with one more step
-steps_then : {a m : Moment} {told : Option Known} (x : GoesOn a m told) (h : Heard) (d : Done) → event_of m.router.links h ≡ Some d.event → events_done (x.steps ++ d ∷ []) ≡ events_of a.router.links (x.taken ++ h ∷ [])
+steps_then : {a m : Moment} {told : Option Known} (x : DriverGoesOn a m told) (h : Heard) (d : Done) → event_of m.router.links h ≡ Some d.event → events_done (x.steps ++ d ∷ []) ≡ events_of a.router.links (x.taken ++ h ∷ [])
 steps_then {a} {m} {told} x h d some = events_done-append x.steps (d ∷ []) ∙ events_then x h d.event some
 
 -- the chain with one more step
-chain_then : {a m : Moment} {told : Option Known} (x : GoesOn a m told) (d : Done) → Steps d.event m.router d.gives d.after → IsChain a.router (x.steps ++ d ∷ [])
+chain_then : {a m : Moment} {told : Option Known} (x : DriverGoesOn a m told) (d : Done) → Steps d.event m.router d.gives d.after → IsChain a.router (x.steps ++ d ∷ [])
 chain_then {a} {m} {told} x d steps =
     chain-append a.router x.steps (d ∷ []) x.chain (subst (λ r. Steps d.event r d.gives d.after) x.router steps, tt)
 
 -- no end with one more arrival, which is an event
-no_end_then : {a m : Moment} {told : Option Known} (x : GoesOn a m told) (h : Heard) (e : Event) → event_of m.router.links h ≡ Some e → HasNoEnd (x.taken ++ h ∷ [])
+no_end_then : {a m : Moment} {told : Option Known} (x : DriverGoesOn a m told) (h : Heard) (e : Event) → event_of m.router.links h ≡ Some e → HasNoEnd (x.taken ++ h ∷ [])
 no_end_then {a} {m} {told} x h e some = no_end-append x.taken (h ∷ []) x.no_end (not_end-of m.router.links h e some, tt)
 
-well : {a m b : Moment} {told last : Option Known} → GoesOn a m told → Ended m b → last ≡ told → Whole a b (Ok last)
+well : {a m b : Moment} {told last : Option Known} → DriverGoesOn a m told → Ended m b → last ≡ told → Whole a b (Ok last)
 well {a} {m} {b} {told} {last} x e is = record {
   taken = x.taken ++ End ∷ [];
   steps = x.steps;
   out = sent_by x.steps;
-  tables = tables_of x.steps;
+  tables = tables_published x.steps;
   chain = x.chain;
   traffic = goes_quietly x End e.traffic;
   fib = ap (λ k. k.fib) e.known ∙ x.fib;
@@ -70,17 +70,17 @@ well {a} {m} {b} {told} {last} x e is = record {
     router = e.router ∙ x.router;
     all_out = refl;
     all_published = refl;
-    tells = is ∙ x.tells ∙ ap (λ k. last_told (tables_of x.steps) k) (sym e.known);
+    tells = is ∙ x.tells ∙ ap (λ k. last_told (tables_published x.steps) k) (sym e.known);
     failed = e.failed ∙ x.failed;
   };
 }
 
-unheard : {a m b : Moment} {told : Option Known} → GoesOn a m told → FailsToHear m b → Whole a b (Err fault.Recv)
+unheard : {a m b : Moment} {told : Option Known} → DriverGoesOn a m told → FailsToHear m b → Whole a b (Err fault.Recv)
 unheard {a} {m} {b} {told} x e = record {
   taken = x.taken;
   steps = x.steps;
   out = sent_by x.steps;
-  tables = tables_of x.steps;
+  tables = tables_published x.steps;
   chain = x.chain;
   traffic = goes_no_more x e.traffic;
   fib = ap (λ k. k.fib) e.known ∙ x.fib;
@@ -95,12 +95,12 @@ unheard {a} {m} {b} {told} x e = record {
   };
 }
 
-unsent : {a m b : Moment} {told : Option Known} → GoesOn a m told → FailsToSend m b → Whole a b (Err fault.Send)
+unsent : {a m b : Moment} {told : Option Known} → DriverGoesOn a m told → FailsToSend m b → Whole a b (Err fault.Send)
 unsent {a} {m} {b} {told} x e = record {
   taken = x.taken ++ e.arrival ∷ [];
   steps = x.steps ++ e.step ∷ [];
   out = sent_by x.steps ++ take e.count e.step.gives.out.sent;
-  tables = tables_of x.steps;
+  tables = tables_published x.steps;
   chain = chain_then x e.step e.steps;
   traffic = goes_then x e.arrival (take e.count e.step.gives.out.sent) e.traffic;
   fib = ap (λ k. k.fib) e.known ∙ x.fib;
@@ -120,12 +120,12 @@ unsent {a} {m} {b} {told} x e = record {
   };
 }
 
-stands_still : {a m b : Moment} {told : Option Known} → GoesOn a m told → Stops m b → Whole a b (Err fault.Stopped)
+stands_still : {a m b : Moment} {told : Option Known} → DriverGoesOn a m told → Stops m b → Whole a b (Err fault.Stopped)
 stands_still {a} {m} {b} {told} x e = record {
   taken = x.taken ++ e.arrival ∷ [];
   steps = x.steps;
   out = sent_by x.steps;
-  tables = tables_of x.steps;
+  tables = tables_published x.steps;
   chain = x.chain;
   traffic = goes_quietly x e.arrival e.traffic;
   fib = ap (λ k. k.fib) e.known ∙ x.fib;
@@ -141,12 +141,12 @@ stands_still {a} {m} {b} {told} x e = record {
   };
 }
 
-unpublished : {a m b : Moment} {told : Option Known} → GoesOn a m told → FailsToPublish m b → Whole a b (Err fault.Publish)
+unpublished : {a m b : Moment} {told : Option Known} → DriverGoesOn a m told → FailsToPublish m b → Whole a b (Err fault.Publish)
 unpublished {a} {m} {b} {told} x e = record {
   taken = x.taken ++ e.arrival ∷ [];
   steps = x.steps ++ e.step ∷ [];
   out = sent_by (x.steps ++ e.step ∷ []);
-  tables = tables_of x.steps;
+  tables = tables_published x.steps;
   chain = chain_then x e.step e.steps;
   traffic =
       goes_then x e.arrival e.step.gives.out.sent e.traffic

@@ -6,8 +6,8 @@ use Rattle.ospf_area.specs.Outputs.{SentValue}
 use Rattle.ospf_step.specs.Step.{Event}
 use Rattle.ospf_router.specs.Routers.{RouterValue}
 use Rattle.ospf_drive.proofs.Turning.{same_known}
-use Rattle.ospf_drive.specs.Drives.{GoesOn, last_told}
-use Rattle.ospf_drive.specs.Moments.{at, Moment, Done, HasNoEnd, IsChain, event_of, events_of, events_done, left_by, sent_by, table_of, tables_of}
+use Rattle.ospf_drive.specs.Drives.{DriverGoesOn, last_told}
+use Rattle.ospf_drive.specs.Moments.{at, Moment, Done, HasNoEnd, IsChain, event_of, events_of, events_done, left_by, sent_by, table_of, tables_published}
 use Rattle.ospf_drive.specs.Traffic.{Heard, Carried, and_goes, ticks_in}
 use Rattle.ospf_drive.specs.Traffic.Carried.{Full, Ticks, Untold}
 use Rattle.ospf_drive.specs.Turns.{Turns}
@@ -43,10 +43,10 @@ sent_by-append [] ys = refl
 sent_by-append (x ∷ xs) ys =
     ap (λ s. x.gives.out.sent ++ s) (sent_by-append xs ys) ∙ sym (append_assoc x.gives.out.sent (sent_by xs) (sent_by ys))
 
-tables_of-append : (xs ys : List Done) → tables_of (xs ++ ys) ≡ tables_of xs ++ tables_of ys
+tables_of-append : (xs ys : List Done) → tables_published (xs ++ ys) ≡ tables_published xs ++ tables_published ys
 tables_of-append [] ys = refl
 tables_of-append (x ∷ xs) ys =
-    ap (λ s. table_of x ++ s) (tables_of-append xs ys) ∙ sym (append_assoc (table_of x) (tables_of xs) (tables_of ys))
+    ap (λ s. table_of x ++ s) (tables_of-append xs ys) ∙ sym (append_assoc (table_of x) (tables_published xs) (tables_published ys))
 
 ticks_in-append : (xs ys : List Heard) → ticks_in (xs ++ ys) ≡ ticks_in xs + ticks_in ys
 ticks_in-append [] ys = let none : ticks_in ys ≡ 0 + ticks_in ys = omega arith in none
@@ -84,7 +84,7 @@ told-later (z ∷ xs) [] k' x told = cc
 told-later (z ∷ xs) (y ∷ ys) k' x told = told
 
 -- it has not begun
-pub goes_none : {r : RouterValue} {t : Carried} {f : ℕ} {k : Known} → GoesOn (at r t f k) (at r t f k) None
+pub goes_none : {r : RouterValue} {t : Carried} {f : ℕ} {k : Known} → DriverGoesOn (at r t f k) (at r t f k) None
 goes_none {r} {t} {f} {k} = record {
   taken = [];
   steps = [];
@@ -101,7 +101,7 @@ goes_none {r} {t} {f} {k} = record {
 }
 
 -- it goes on, and on again
-both : {a m b : Moment} {told told' : Option Known} (x : GoesOn a m told) (y : GoesOn m b told') (last : Option Known) → last ≡ last_told (tables_of x.steps ++ tables_of y.steps) b.known → GoesOn a b last
+both : {a m b : Moment} {told told' : Option Known} (x : DriverGoesOn a m told) (y : DriverGoesOn m b told') (last : Option Known) → last ≡ last_told (tables_published x.steps ++ tables_published y.steps) b.known → DriverGoesOn a b last
 both {a} {m} {b} {told} {told'} x y last tells = record {
   taken = x.taken ++ y.taken;
   steps = x.steps ++ y.steps;
@@ -121,23 +121,23 @@ both {a} {m} {b} {told} {told'} x y last tells = record {
   failed = y.failed ∙ x.failed;
   fib = y.fib ∙ x.fib;
   tables =
-      y.tables ∙ ap (λ s. s ++ tables_of y.steps) x.tables
-      ∙ append_assoc a.known.tables (tables_of x.steps) (tables_of y.steps)
+      y.tables ∙ ap (λ s. s ++ tables_published y.steps) x.tables
+      ∙ append_assoc a.known.tables (tables_published x.steps) (tables_published y.steps)
       ∙ ap (λ s. a.known.tables ++ s) (sym (tables_of-append x.steps y.steps));
   tells = tells ∙ ap (λ s. last_told s b.known) (sym (tables_of-append x.steps y.steps));
 }
 
 -- a turn that published nothing
-pub goes_on_untold : {a m b : Moment} {told : Option Known} → GoesOn a m told → GoesOn m b None → GoesOn a b told
+pub goes_on_untold : {a m b : Moment} {told : Option Known} → DriverGoesOn a m told → DriverGoesOn m b None → DriverGoesOn a b told
 goes_on_untold {a} {m} {b} {told} x y =
-    both x y told (x.tells ∙ told-same (tables_of x.steps) (tables_of y.steps) m.known b.known (none_published m.known b.known (tables_of y.steps) y.fib y.tables y.tells) y.tells)
+    both x y told (x.tells ∙ told-same (tables_published x.steps) (tables_published y.steps) m.known b.known (none_published m.known b.known (tables_published y.steps) y.fib y.tables y.tells) y.tells)
 
 -- a turn that published
-pub goes_on_told : {a m b : Moment} {told : Option Known} {last : Known} → GoesOn a m told → GoesOn m b (Some last) → GoesOn a b (Some last)
+pub goes_on_told : {a m b : Moment} {told : Option Known} {last : Known} → DriverGoesOn a m told → DriverGoesOn m b (Some last) → DriverGoesOn a b (Some last)
 goes_on_told {a} {m} {b} {told} {last} x y =
-    both x y (Some last) (told-later (tables_of x.steps) (tables_of y.steps) b.known last y.tells)
+    both x y (Some last) (told-later (tables_published x.steps) (tables_published y.steps) b.known last y.tells)
 
 -- a turn that went on
-pub turned_on : {a b : Moment} {came : Course} {o told : Option Known} → Turns a b came → came ≡ On o → o ≡ told → GoesOn a b told
+pub turned_on : {a b : Moment} {came : Course} {o told : Option Known} → Turns a b came → came ≡ On o → o ≡ told → DriverGoesOn a b told
 turned_on {a} {b} {came} {o} {told} turns is told_is =
     subst (λ (v : Course). Turns a b v) (is ∙ ap (λ (v : Option Known). On v) told_is) turns

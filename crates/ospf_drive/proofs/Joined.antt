@@ -2,7 +2,7 @@
 use Rattle.std.proofs.Common.{◌≡◌, ◌+◌, ◌<◌, ◌++◌, ℕ, suc, List, [], ◌∷◌, Result, Ok, Err, length, take, drop, get_or, refl, sym, subst, ap, ◌∙◌, append_assoc, arith, nat_eq, Bool, true}
 use Rattle.std.proofs.lemmas.Bool.{eqb-true}
 use Rattle.std.proofs.lemmas.List.{append-nil}
-use Rattle.ospf_drive.specs.Driven.{IsDriven, IsJoined, IsStarted, Outcome, Pairs}
+use Rattle.ospf_drive.specs.Driven.{IsDriven, IsThreadJoined, IsDriverStarted, Outcome, Pairs}
 use Rattle.ospf_drive.specs.Moments.{Moment}
 use Rattle.ospf_drive.specs.declared.fault.DriveFault.{DriveFault}
 
@@ -14,12 +14,12 @@ pairs_then P (w ∷ xs) [] x y ps p = absurd ps
 pairs_then P (w ∷ xs) (z ∷ ys) x y ps p = (ps.0, pairs_then P xs ys x y ps.1 p)
 
 -- what came of a thread that was started there
-joined : (a : Moment) (thread : Result Moment DriveFault) (outcome : Outcome) → IsStarted a thread → IsJoined thread outcome → IsDriven a outcome
+joined : (a : Moment) (thread : Result Moment DriveFault) (outcome : Outcome) → IsDriverStarted a thread → IsThreadJoined thread outcome → IsDriven a outcome
 joined a (Ok begins) outcome started is = subst (λ (m : Moment). IsDriven m outcome) started is
 joined a (Err f) outcome started is = subst (λ (o : Outcome). IsDriven a o) (sym (is ∙ ap (λ (g : DriveFault). Err g) started)) tt
 
 -- what came of all
-pub all_joined : {J : Type 0} (begins : J → Moment) (jobs : List J) (threads : List (Result Moment DriveFault)) (outcomes : List Outcome) → Pairs (λ job thread. IsStarted (begins job) thread) jobs threads → Pairs IsJoined threads outcomes → Pairs (λ job outcome. IsDriven (begins job) outcome) jobs outcomes
+pub all_joined : {J : Type 0} (begins : J → Moment) (jobs : List J) (threads : List (Result Moment DriveFault)) (outcomes : List Outcome) → Pairs (λ job thread. IsDriverStarted (begins job) thread) jobs threads → Pairs IsThreadJoined threads outcomes → Pairs (λ job outcome. IsDriven (begins job) outcome) jobs outcomes
 all_joined begins [] [] [] ps qs = tt
 all_joined begins [] [] (o ∷ os) ps qs = absurd qs
 all_joined begins [] (t ∷ ts) os ps qs = absurd ps

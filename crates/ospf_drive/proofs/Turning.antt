@@ -8,15 +8,15 @@ use Rattle.ospf_step.specs.Step.{Event}
 use Rattle.ospf_router.specs.Routers.{RouterValue}
 use Rattle.ospf_router.specs.Steps.{Steps}
 use Rattle.ospf_router.specs.declared.router.Step.{Step}
-use Rattle.ospf_drive.specs.Drives.{GoesOn, FailsToSend, FailsToPublish, last_told}
+use Rattle.ospf_drive.specs.Drives.{DriverGoesOn, FailsToSend, FailsToPublish, last_told}
 use Rattle.ospf_drive.specs.Moments.{at, Done, event_of, events_of, is_end, table_of}
-use Rattle.ospf_drive.specs.Traffic.{Heard, Carried, heard, and_hears, and_sends, and_goes, tick_in}
+use Rattle.ospf_drive.specs.Traffic.{Heard, Carried, heard_from, and_hears, and_sent, and_goes, tick_in}
 use Rattle.ospf_drive.specs.Traffic.Carried.{Full, Ticks, Untold}
 use Rattle.ospf_drive.specs.declared.wire.Arrival.{Arrival}
 use Rattle.ospf_drive.specs.declared.wire.Arrival.TheVariants as arrival
 
 -- what is no end is heard as none
-pub is_end-heard : (a : Arrival) (buffer : List ℕ) → (a ≡ arrival.End → ⊥) → is_end (heard a buffer) ≡ false
+pub is_end-heard : (a : Arrival) (buffer : List ℕ) → (a ≡ arrival.End → ⊥) → is_end (heard_from a buffer) ≡ false
 is_end-heard (arrival.Datagram link source destination length) buffer not = refl
 is_end-heard arrival.Tick buffer not = refl
 is_end-heard (arrival.LinkUp link) buffer not = refl
@@ -30,7 +30,7 @@ goes-heard h (Ticks n span) = let one : n + tick_in h ≡ n + (tick_in h + 0) = 
 goes-heard h Untold = refl
 
 -- an arrival was heard, and these datagrams went out
-pub goes-sent : (h : Heard) (sent : List SentValue) (t : Carried) → and_sends sent (and_hears h t) ≡ and_goes (h ∷ []) sent t
+pub goes-sent : (h : Heard) (sent : List SentValue) (t : Carried) → and_sent sent (and_hears h t) ≡ and_goes (h ∷ []) sent t
 goes-sent h sent (Full t) = refl
 goes-sent h sent (Ticks n span) = let one : n + tick_in h ≡ n + (tick_in h + 0) = omega arith in ap (λ (m : ℕ). Ticks m span) one
 goes-sent h sent Untold = refl
@@ -51,7 +51,7 @@ not_end-of links Heard.End e some = cc
 pub events_of-some : (links : ℕ) (h : Heard) (e : Event) → event_of links h ≡ Some e → events_of links (h ∷ []) ≡ e ∷ []
 events_of-some links h e is = rw (is, events_of)
 
-pub passed_over : (h : Heard) {r : RouterValue} {t t' : Carried} {f f' : ℕ} {k : Known} → is_end h ≡ false → event_of r.links h ≡ None → t' ≡ and_hears h t → f' ≡ f → GoesOn (at r t f k) (at r t' f' k) None
+pub passed_over : (h : Heard) {r : RouterValue} {t t' : Carried} {f f' : ℕ} {k : Known} → is_end h ≡ false → event_of r.links h ≡ None → t' ≡ and_hears h t → f' ≡ f → DriverGoesOn (at r t f k) (at r t' f' k) None
 passed_over h {r} {t} {t'} {f} {f'} {k} not none took same = record {
   taken = h ∷ [];
   steps = [];
@@ -67,7 +67,7 @@ passed_over h {r} {t} {t'} {f} {f'} {k} not none took same = record {
   tells = refl;
 }
 
-pub stepped : (h : Heard) (e : Event) (g : Step) {r r' : RouterValue} {t t₁ t₂ : Carried} {f f' : ℕ} {k k' : Known} {told : Option Known} → is_end h ≡ false → event_of r.links h ≡ Some e → t₁ ≡ and_hears h t → Steps e r g r' → t₂ ≡ and_sends g.out.sent t₁ → f' ≡ f → k'.fib ≡ k.fib → k'.tables ≡ k.tables ++ table_of (record { event = e; gives = g; after = r' }) → told ≡ last_told (table_of (record { event = e; gives = g; after = r' })) k' → GoesOn (at r t f k) (at r' t₂ f' k') told
+pub stepped : (h : Heard) (e : Event) (g : Step) {r r' : RouterValue} {t t₁ t₂ : Carried} {f f' : ℕ} {k k' : Known} {told : Option Known} → is_end h ≡ false → event_of r.links h ≡ Some e → t₁ ≡ and_hears h t → Steps e r g r' → t₂ ≡ and_sent g.out.sent t₁ → f' ≡ f → k'.fib ≡ k.fib → k'.tables ≡ k.tables ++ table_of (record { event = e; gives = g; after = r' }) → told ≡ last_told (table_of (record { event = e; gives = g; after = r' })) k' → DriverGoesOn (at r t f k) (at r' t₂ f' k') told
 stepped h e g {r} {r'} {t} {t₁} {t₂} {f} {f'} {k} {k'} {told} not some took steps sent same fib tables tells =
     let d : Done = record { event = e; gives = g; after = r' } in
     record {
@@ -78,14 +78,14 @@ stepped h e g {r} {r'} {t} {t₁} {t₂} {f} {f'} {k} {k'} {told} not some took 
       chain = (steps, tt);
       router = refl;
       links = steps.same_links;
-      traffic = sent ∙ ap (and_sends g.out.sent) took ∙ goes-sent h g.out.sent t ∙ ap (λ s. and_goes (h ∷ []) s t) (sym (append-nil g.out.sent));
+      traffic = sent ∙ ap (and_sent g.out.sent) took ∙ goes-sent h g.out.sent t ∙ ap (λ s. and_goes (h ∷ []) s t) (sym (append-nil g.out.sent));
       failed = same;
       fib = fib;
       tables = tables ∙ ap (λ s. k.tables ++ s) (sym (append-nil (table_of d)));
       tells = tells ∙ ap (λ s. last_told s k') (sym (append-nil (table_of d)));
     }
 
-pub failed_to_send : (h : Heard) (e : Event) (g : Step) (count : ℕ) {r r' : RouterValue} {t t₁ t₂ : Carried} {f f' : ℕ} {k : Known} → event_of r.links h ≡ Some e → t₁ ≡ and_hears h t → Steps e r g r' → count < length g.out.sent → t₂ ≡ and_sends (take count g.out.sent) t₁ → f' ≡ f + 1 → FailsToSend (at r t f k) (at r' t₂ f' k)
+pub failed_to_send : (h : Heard) (e : Event) (g : Step) (count : ℕ) {r r' : RouterValue} {t t₁ t₂ : Carried} {f f' : ℕ} {k : Known} → event_of r.links h ≡ Some e → t₁ ≡ and_hears h t → Steps e r g r' → count < length g.out.sent → t₂ ≡ and_sent (take count g.out.sent) t₁ → f' ≡ f + 1 → FailsToSend (at r t f k) (at r' t₂ f' k)
 failed_to_send h e g count {r} {r'} {t} {t₁} {t₂} {f} {f'} {k} some took steps short sent more = record {
   arrival = h;
   step = record { event = e; gives = g; after = r' };
@@ -94,12 +94,12 @@ failed_to_send h e g count {r} {r'} {t} {t₁} {t₂} {f} {f'} {k} some took ste
   steps = steps;
   router = refl;
   short = short;
-  traffic = sent ∙ ap (and_sends (take count g.out.sent)) took ∙ goes-sent h (take count g.out.sent) t;
+  traffic = sent ∙ ap (and_sent (take count g.out.sent)) took ∙ goes-sent h (take count g.out.sent) t;
   failed = more;
   known = refl;
 }
 
-pub failed_to_publish : (h : Heard) (e : Event) (g : Step) {r r' : RouterValue} {t t₁ t₂ : Carried} {f f' : ℕ} {k k' : Known} → event_of r.links h ≡ Some e → t₁ ≡ and_hears h t → Steps e r g r' → t₂ ≡ and_sends g.out.sent t₁ → f' ≡ f → g.table_changed ≡ true → k' ≡ k → FailsToPublish (at r t f k) (at r' t₂ f' k')
+pub failed_to_publish : (h : Heard) (e : Event) (g : Step) {r r' : RouterValue} {t t₁ t₂ : Carried} {f f' : ℕ} {k k' : Known} → event_of r.links h ≡ Some e → t₁ ≡ and_hears h t → Steps e r g r' → t₂ ≡ and_sent g.out.sent t₁ → f' ≡ f → g.table_changed ≡ true → k' ≡ k → FailsToPublish (at r t f k) (at r' t₂ f' k')
 failed_to_publish h e g {r} {r'} {t} {t₁} {t₂} {f} {f'} {k} {k'} some took steps sent same changed known = record {
   arrival = h;
   step = record { event = e; gives = g; after = r' };
@@ -107,13 +107,13 @@ failed_to_publish h e g {r} {r'} {t} {t₁} {t₂} {f} {f'} {k} {k'} some took s
   steps = steps;
   changed = changed;
   router = refl;
-  traffic = sent ∙ ap (and_sends g.out.sent) took ∙ goes-sent h g.out.sent t;
+  traffic = sent ∙ ap (and_sent g.out.sent) took ∙ goes-sent h g.out.sent t;
   failed = same;
   known = known;
 }
 
 -- a step that left the table as it was
-pub stepped_quietly : (h : Heard) (e : Event) (g : Step) {r r' : RouterValue} {t t₁ t₂ : Carried} {f f₁ f' : ℕ} {k : Known} → is_end h ≡ false → event_of r.links h ≡ Some e → t₁ ≡ and_hears h t → Steps e r g r' → t₂ ≡ and_sends g.out.sent t₁ → f₁ ≡ f → f' ≡ f₁ → g.table_changed ≡ false → GoesOn (at r t f k) (at r' t₂ f' k) None
+pub stepped_quietly : (h : Heard) (e : Event) (g : Step) {r r' : RouterValue} {t t₁ t₂ : Carried} {f f₁ f' : ℕ} {k : Known} → is_end h ≡ false → event_of r.links h ≡ Some e → t₁ ≡ and_hears h t → Steps e r g r' → t₂ ≡ and_sent g.out.sent t₁ → f₁ ≡ f → f' ≡ f₁ → g.table_changed ≡ false → DriverGoesOn (at r t f k) (at r' t₂ f' k) None
 stepped_quietly h e g {r} {r'} {t} {t₁} {t₂} {f} {f₁} {f'} {k} not some took steps sent heard_same sent_same changed =
     let none : table_of (record { event = e; gives = g; after = r' }) ≡ [] = rw changed in
     stepped h e g not some took steps sent (sent_same ∙ heard_same) refl
@@ -121,7 +121,7 @@ stepped_quietly h e g {r} {r'} {t} {t₁} {t₂} {f} {f₁} {f'} {k} not some to
     (ap (λ s. last_told s k) (sym none))
 
 -- a step whose table was published
-pub stepped_published : (h : Heard) (e : Event) (g : Step) {r r' : RouterValue} {t t₁ t₂ : Carried} {f f₁ f' : ℕ} {k k' told : Known} {table : Table} → is_end h ≡ false → event_of r.links h ≡ Some e → t₁ ≡ and_hears h t → Steps e r g r' → t₂ ≡ and_sends g.out.sent t₁ → f₁ ≡ f → f' ≡ f₁ → g.table_changed ≡ true → table ≡ r'.table → k'.fib ≡ k.fib → k'.tables ≡ k.tables ++ table ∷ [] → told ≡ k' → GoesOn (at r t f k) (at r' t₂ f' k') (Some told)
+pub stepped_published : (h : Heard) (e : Event) (g : Step) {r r' : RouterValue} {t t₁ t₂ : Carried} {f f₁ f' : ℕ} {k k' told : Known} {table : Table} → is_end h ≡ false → event_of r.links h ≡ Some e → t₁ ≡ and_hears h t → Steps e r g r' → t₂ ≡ and_sent g.out.sent t₁ → f₁ ≡ f → f' ≡ f₁ → g.table_changed ≡ true → table ≡ r'.table → k'.fib ≡ k.fib → k'.tables ≡ k.tables ++ table ∷ [] → told ≡ k' → DriverGoesOn (at r t f k) (at r' t₂ f' k') (Some told)
 stepped_published h e g {r} {r'} {t} {t₁} {t₂} {f} {f₁} {f'} {k} {k'} {told} {table} not some took steps sent heard_same sent_same changed same_table fib tables tells =
     let one : table_of (record { event = e; gives = g; after = r' }) ≡ r'.table ∷ [] = rw changed in
     stepped h e g not some took steps sent (sent_same ∙ heard_same) fib

@@ -30,14 +30,14 @@ IsDriven a (Err fault.Thread) = ⊤
 IsDriven a (Err f) = DrivesInto a f
 
 -- a driver that began there runs, or its thread did not start
-abbrev pub IsStarted : Moment → Result Moment DriveFault → Type 0
-IsStarted a (Ok begins) = begins ≡ a
-IsStarted a (Err f) = f ≡ fault.Thread
+abbrev pub IsDriverStarted : Moment → Result Moment DriveFault → Type 0
+IsDriverStarted a (Ok begins) = begins ≡ a
+IsDriverStarted a (Err f) = f ≡ fault.Thread
 
 -- what came of a thread
-abbrev pub IsJoined : Result Moment DriveFault → Outcome → Type 0
-IsJoined (Ok begins) outcome = IsDriven begins outcome
-IsJoined (Err f) outcome = outcome ≡ Err f
+abbrev pub IsThreadJoined : Result Moment DriveFault → Outcome → Type 0
+IsThreadJoined (Ok begins) outcome = IsDriven begins outcome
+IsThreadJoined (Err f) outcome = outcome ≡ Err f
 
 -- each of the one list and its partner in the other, in order
 abbrev pub Pairs : {A B : Type 0} → (A → B → Type 0) → List A → List B → Type 0

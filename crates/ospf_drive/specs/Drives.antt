@@ -5,7 +5,7 @@ use Rattle.ospf_area.specs.Outputs.{SentValue}
 use Rattle.ospf_step.specs.Step.{Event}
 use Rattle.ospf_router.specs.Routers.{stopped}
 use Rattle.ospf_router.specs.Steps.{Steps}
-use Rattle.ospf_drive.specs.Moments.{Moment, Done, event_of, events_of, events_done, HasNoEnd, IsChain, left_by, sent_by, tables_of}
+use Rattle.ospf_drive.specs.Moments.{Moment, Done, event_of, events_of, events_done, HasNoEnd, IsChain, left_by, sent_by, tables_published}
 use Rattle.ospf_drive.specs.Traffic.{Heard, IsOver, and_goes}
 use Rattle.ospf_drive.specs.Traffic.Heard.{End}
 use Rattle.ospf_drive.specs.declared.fault.DriveFault.{DriveFault}
@@ -18,7 +18,7 @@ last_told (table ∷ tables) known = Some known
 
 -- From one moment to the other the driver took arrivals that are no end. Each that is not passed over was a step of the
 -- router. All that the steps sent went out, in order, and each table that a step changed was published, in order.
-pub record GoesOn (a b : Moment) (told : Option Known) : Type 0 where
+pub record DriverGoesOn (a b : Moment) (told : Option Known) : Type 0 where
   pub taken : List Heard
   pub steps : List Done
   pub no_end : HasNoEnd taken
@@ -29,17 +29,17 @@ pub record GoesOn (a b : Moment) (told : Option Known) : Type 0 where
   pub traffic : b.traffic ≡ and_goes taken (sent_by steps) a.traffic
   pub failed : b.failed ≡ a.failed
   pub fib : b.known.fib ≡ a.known.fib
-  pub tables : b.known.tables ≡ a.known.tables ++ tables_of steps
-  pub tells : told ≡ last_told (tables_of steps) b.known
+  pub tables : b.known.tables ≡ a.known.tables ++ tables_published steps
+  pub tells : told ≡ last_told (tables_published steps) b.known
 
 -- the arrivals taken and the datagrams sent are these and no others
-abbrev pub Goes : Moment → List Heard → List SentValue → Moment → Type 0
-Goes a taken out b = b.traffic ≡ and_goes taken out a.traffic
+abbrev pub TrafficGoes : Moment → List Heard → List SentValue → Moment → Type 0
+TrafficGoes a taken out b = b.traffic ≡ and_goes taken out a.traffic
 
 -- the end came, and nothing else: where the wire counts its ticks, after as many as its span says
 pub record Ended (a b : Moment) : Type 0 where
   pub router : b.router ≡ a.router
-  pub traffic : Goes a (End ∷ []) [] b
+  pub traffic : TrafficGoes a (End ∷ []) [] b
   pub over : IsOver b.traffic
   pub failed : b.failed ≡ a.failed
   pub known : b.known ≡ a.known
@@ -47,7 +47,7 @@ pub record Ended (a b : Moment) : Type 0 where
 -- the wire handed over nothing, and failed
 pub record FailsToHear (a b : Moment) : Type 0 where
   pub router : b.router ≡ a.router
-  pub traffic : Goes a [] [] b
+  pub traffic : TrafficGoes a [] [] b
   pub failed : b.failed ≡ a.failed + 1
   pub known : b.known ≡ a.known
 
@@ -60,7 +60,7 @@ pub record FailsToSend (a b : Moment) : Type 0 where
   pub steps : Steps step.event a.router step.gives step.after
   pub router : b.router ≡ step.after
   pub short : count < length step.gives.out.sent
-  pub traffic : Goes a (arrival ∷ []) (take count step.gives.out.sent) b
+  pub traffic : TrafficGoes a (arrival ∷ []) (take count step.gives.out.sent) b
   pub failed : b.failed ≡ a.failed + 1
   pub known : b.known ≡ a.known
 
@@ -70,7 +70,7 @@ pub record Stops (a b : Moment) : Type 0 where
   pub event : Event
   pub is_event : event_of a.router.links arrival ≡ Some event
   pub router : b.router ≡ stopped a.router
-  pub traffic : Goes a (arrival ∷ []) [] b
+  pub traffic : TrafficGoes a (arrival ∷ []) [] b
   pub failed : b.failed ≡ a.failed
   pub known : b.known ≡ a.known
 
@@ -82,7 +82,7 @@ pub record FailsToPublish (a b : Moment) : Type 0 where
   pub steps : Steps step.event a.router step.gives step.after
   pub changed : step.gives.table_changed ≡ true
   pub router : b.router ≡ step.after
-  pub traffic : Goes a (arrival ∷ []) step.gives.out.sent b
+  pub traffic : TrafficGoes a (arrival ∷ []) step.gives.out.sent b
   pub failed : b.failed ≡ a.failed
   pub known : b.known ≡ a.known
 
@@ -94,13 +94,13 @@ Fails a b fault.Stopped = Stops a b
 Fails a b fault.Publish = FailsToPublish a b
 Fails a b fault.Thread = ⊥
 
-abbrev pub Ends : Moment → Option Known → Moment → Result (Option Known) DriveFault → Type 0
-Ends a told b (Ok last) = Ended a b × (last ≡ told)
-Ends a told b (Err fault) = Fails a b fault
+abbrev pub EndsDrive : Moment → Option Known → Moment → Result (Option Known) DriveFault → Type 0
+EndsDrive a told b (Ok last) = Ended a b × (last ≡ told)
+EndsDrive a told b (Err fault) = Fails a b fault
 
 -- The driver goes on, and then it ends.
 pub record Drives (a b : Moment) (result : Result (Option Known) DriveFault) : Type 0 where
   pub last : Moment
   pub told : Option Known
-  pub goes_on : GoesOn a last told
-  pub ends : Ends last told b result
+  pub goes_on : DriverGoesOn a last told
+  pub ends : EndsDrive last told b result

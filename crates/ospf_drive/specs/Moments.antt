@@ -73,6 +73,6 @@ sent_by (d ∷ ds) = d.gives.out.sent ++ sent_by ds
 abbrev pub table_of : Done → List Table
 table_of d = if d.gives.table_changed then d.after.table ∷ [] else []
 
-abbrev pub tables_of : List Done → List Table
-tables_of [] = []
-tables_of (d ∷ ds) = table_of d ++ tables_of ds
+abbrev pub tables_published : List Done → List Table
+tables_published [] = []
+tables_published (d ∷ ds) = table_of d ++ tables_published ds

@@ -15,13 +15,13 @@ pub data Heard : Type 0 where
   End : Heard
 
 -- the arrival, with what stands in the buffer
-abbrev pub heard : Arrival → List ℕ → Heard
-heard (arrival.Datagram link source destination length) buffer =
+abbrev pub heard_from : Arrival → List ℕ → Heard
+heard_from (arrival.Datagram link source destination length) buffer =
     Datagram link source destination length (take length buffer)
-heard arrival.Tick buffer = Tick
-heard (arrival.LinkUp link) buffer = LinkUp link
-heard (arrival.LinkDown link) buffer = LinkDown link
-heard arrival.End buffer = End
+heard_from arrival.Tick buffer = Tick
+heard_from (arrival.LinkUp link) buffer = LinkUp link
+heard_from (arrival.LinkDown link) buffer = LinkDown link
+heard_from arrival.End buffer = End
 
 -- the arrivals handed over, and the datagrams that went out
 pub record Traffic : Type 0 where
@@ -51,10 +51,10 @@ and_hears h (Ticks handed span) = Ticks (handed + tick_in h) span
 and_hears h Untold = Untold
 
 -- and then these datagrams
-abbrev pub and_sends : List SentValue → Carried → Carried
-and_sends sent (Full t) = Full (record { taken = t.taken; out = t.out ++ sent })
-and_sends sent (Ticks handed span) = Ticks handed span
-and_sends sent Untold = Untold
+abbrev pub and_sent : List SentValue → Carried → Carried
+and_sent sent (Full t) = Full (record { taken = t.taken; out = t.out ++ sent })
+and_sent sent (Ticks handed span) = Ticks handed span
+and_sent sent Untold = Untold
 
 -- and then these arrivals and these datagrams
 abbrev pub and_goes : List Heard → List SentValue → Carried → Carried

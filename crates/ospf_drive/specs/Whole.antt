@@ -5,7 +5,7 @@ use Rattle.ospf_step.specs.Step.{Event}
 use Rattle.ospf_index.specs.Known.{Known, Table}
 use Rattle.ospf_router.specs.Routers.{stopped}
 use Rattle.ospf_drive.specs.Drives.{Drives, last_told}
-use Rattle.ospf_drive.specs.Moments.{Moment, Done, HasNoEnd, IsChain, events_done, events_of, left_by, sent_by, tables_of}
+use Rattle.ospf_drive.specs.Moments.{Moment, Done, HasNoEnd, IsChain, events_done, events_of, left_by, sent_by, tables_published}
 use Rattle.ospf_drive.specs.Traffic.{EndsAfter, Heard, IsOver, and_goes, ticks_in}
 use Rattle.ospf_drive.specs.Traffic.Carried.{Ticks}
 use Rattle.ospf_drive.specs.Traffic.Heard.{End}
@@ -20,7 +20,7 @@ pub record EndsInEnd (taken : List Heard) : Type 0 where
   pub is : taken ≡ before ++ End ∷ []
 
 -- one came after the others
-pub record IsLast (steps before : List Done) (last : Done) : Type 0 where
+pub record IsLastStep (steps before : List Done) (last : Done) : Type 0 where
   pub is : steps ≡ before ++ last ∷ []
 
 -- the end came last, where the wire counts its ticks after as many as its span says: each arrival that is not passed over was a step, all that these sent went out, and each table that one
@@ -31,8 +31,8 @@ pub record EndsWell (a b : Moment) (taken : List Heard) (steps : List Done) (out
   pub events : events_done steps ≡ events_of a.router.links taken
   pub router : b.router ≡ left_by a.router steps
   pub all_out : out ≡ sent_by steps
-  pub all_published : tables ≡ tables_of steps
-  pub tells : told ≡ last_told (tables_of steps) b.known
+  pub all_published : tables ≡ tables_published steps
+  pub tells : told ≡ last_told (tables_published steps) b.known
   pub failed : b.failed ≡ a.failed
 
 -- the wire failed where it was to hand over the next arrival
@@ -41,7 +41,7 @@ pub record EndsUnheard (a b : Moment) (taken : List Heard) (steps : List Done) (
   pub events : events_done steps ≡ events_of a.router.links taken
   pub router : b.router ≡ left_by a.router steps
   pub all_out : out ≡ sent_by steps
-  pub all_published : tables ≡ tables_of steps
+  pub all_published : tables ≡ tables_published steps
   pub failed : b.failed ≡ a.failed + 1
 
 -- the wire failed before all that the last step sent had gone out
@@ -49,13 +49,13 @@ pub record EndsUnsent (a b : Moment) (taken : List Heard) (steps : List Done) (o
   pub before : List Done
   pub last : Done
   pub count : ℕ
-  pub is_last : IsLast steps before last
+  pub is_last : IsLastStep steps before last
   pub no_end : HasNoEnd taken
   pub events : events_done steps ≡ events_of a.router.links taken
   pub router : b.router ≡ left_by a.router steps
   pub short : count < length last.gives.out.sent
   pub some_out : out ≡ sent_by before ++ take count last.gives.out.sent
-  pub published : tables ≡ tables_of before
+  pub published : tables ≡ tables_published before
   pub failed : b.failed ≡ a.failed + 1
 
 -- the router stopped at the event that came after the steps
@@ -65,20 +65,20 @@ pub record EndsStopped (a b : Moment) (taken : List Heard) (steps : List Done) (
   pub events : events_done steps ++ event ∷ [] ≡ events_of a.router.links taken
   pub router : b.router ≡ stopped (left_by a.router steps)
   pub all_out : out ≡ sent_by steps
-  pub all_published : tables ≡ tables_of steps
+  pub all_published : tables ≡ tables_published steps
   pub failed : b.failed ≡ a.failed
 
 -- the last step changed the table, and this was not published
 pub record EndsUnpublished (a b : Moment) (taken : List Heard) (steps : List Done) (out : List SentValue) (tables : List Table) : Type 0 where
   pub before : List Done
   pub last : Done
-  pub is_last : IsLast steps before last
+  pub is_last : IsLastStep steps before last
   pub no_end : HasNoEnd taken
   pub events : events_done steps ≡ events_of a.router.links taken
   pub router : b.router ≡ left_by a.router steps
   pub changed : last.gives.table_changed ≡ true
   pub all_out : out ≡ sent_by steps
-  pub published : tables ≡ tables_of before
+  pub published : tables ≡ tables_published before
   pub failed : b.failed ≡ a.failed
 
 abbrev pub EndsAs : Moment → Moment → List Heard → List Done → List SentValue → List Table → Result (Option Known) DriveFault → Type 0

@@ -1,7 +1,7 @@
 //! The drivers of several routers, each in a thread of its own.
 
 ghost use Rattle.std.specs.Prelude.{◌≡◌, ◌+◌, ◌<◌, ◌≤◌, ◌^◌, [], All, IfOk, IfErr, vec_len, vec_capacity};
-ghost use Rattle.ospf_drive.specs.Driven.{IsDriven, IsJoined, IsStarted, Pairs};
+ghost use Rattle.ospf_drive.specs.Driven.{IsDriven, IsThreadJoined, IsDriverStarted, Pairs};
 ghost use Rattle.ospf_drive.specs.Moments.{at};
 
 use crate::driver::drive;
@@ -17,7 +17,7 @@ use std::thread;
 use std::thread::{Promise, PromisedHandle, Threads};
 
 /// What a driver of `drive_all` is given: a router, its wire, and the writer of its table.
-pub type Job<W, R> = (Router, W, Writer<R>);
+pub type DriverJob<W, R> = (Router, W, Writer<R>);
 
 /// What a driver of `drive_all` gives back: the router, the writer, and what the last publish told.
 pub type Driven<R> = Result<(Router, Writer<R>, Option<Told>), DriveFault>;
@@ -30,7 +30,7 @@ pub fn drive_all<
     W: Wire + Send + Drop + 'static,
     R: Wait + Send + Drop + 'static,
     S: Threads + Wait + Copy + Send + 'static,
->(rt: &S, alloc: Global, jobs: Vec<Job<W, R>>) -> Result<Vec<Driven<R>>, AllocError>
+>(rt: &S, alloc: Global, jobs: Vec<DriverJob<W, R>>) -> Result<Vec<Driven<R>>, AllocError>
     requires { All (λ job. W.failed job.1 + 1 < 2 ^ 64) jobs.items }
     ensures { IfOk result (λ all. Pairs
         (λ job driven. IsDriven (at job.0 (W.traffic job.1) (W.failed job.1) job.2) driven)
@@ -45,7 +45,7 @@ pub fn drive_all<
 
 // What a thread will give back: what comes of its job.
 #[derive(Drop)]
-struct DriveOf<W: Wire + Drop, R: Wait + Drop>(Snapshot<Job<W, R>>);
+struct DriveOf<W: Wire + Drop, R: Wait + Drop>(Snapshot<DriverJob<W, R>>);
 
 impl<W: Wire + Drop, R: Wait + Drop> Promise<Driven<R>> for DriveOf<W, R> {
     ghost kept_by = { λ p r. IsDriven (at p.0.value.0 (W.traffic p.0.value.1) (W.failed p.0.value.1) p.0.value.2) r };
@@ -73,13 +73,14 @@ fn start_all<
 >(
     rt: S,
     alloc: Global,
-    mut jobs: Vec<Job<W, R>>,
+    mut jobs: Vec<DriverJob<W, R>>,
     threads: &mut Vec<Result<Running<W, R>, DriveFault>>,
 )
     requires fresh { All (λ job. W.failed job.1 + 1 < 2 ^ 64) jobs.items }
     requires none { threads.old.items ≡ [] }
     requires room { vec_len jobs ≤ vec_capacity threads.old }
-    ensures { Pairs (λ job thread. IsStarted (at job.0 (W.traffic job.1) (W.failed job.1) job.2)
+    ensures { Pairs (λ job thread. IsDriverStarted (at job.0 (W.traffic job.1) (W.failed job.1)
+        job.2)
         thread) jobs.items threads.new.items }
 {
     while !jobs.is_empty() {
@@ -95,9 +96,9 @@ fn start<
     W: Wire + Send + Drop + 'static,
     R: Wait + Send + Drop + 'static,
     S: Threads + Wait + Copy + Send + 'static,
->(rt: S, alloc: Global, job: Job<W, R>) -> Result<Running<W, R>, DriveFault>
+>(rt: S, alloc: Global, job: DriverJob<W, R>) -> Result<Running<W, R>, DriveFault>
     requires { W.failed job.1 + 1 < 2 ^ 64 }
-    ensures { IsStarted (at job.0 (W.traffic job.1) (W.failed job.1) job.2) result }
+    ensures { IsDriverStarted (at job.0 (W.traffic job.1) (W.failed job.1) job.2) result }
 {
     let promise = DriveOf(Snapshot::of(&job));
     let thread = thread::spawn_with(
@@ -117,7 +118,7 @@ fn start<
 fn drive_one<W: Wire + Drop, R: Wait + Drop, S: Wait>(
     rt: &S,
     alloc: Global,
-    job: Job<W, R>,
+    job: DriverJob<W, R>,
 ) -> Driven<R>
     requires { W.failed job.1 + 1 < 2 ^ 64 }
     ensures { IsDriven (at job.0 (W.traffic job.1) (W.failed job.1) job.2) result }
@@ -135,7 +136,7 @@ fn join_all<W: Wire + Drop, R: Wait + Send + Drop + 'static, S: Threads + Wait>(
 )
     requires none { results.old.items ≡ [] }
     requires room { vec_len threads ≤ vec_capacity results.old }
-    ensures { Pairs IsJoined threads.items results.new.items }
+    ensures { Pairs IsThreadJoined threads.items results.new.items }
 {
     while !threads.is_empty() {
         let driven = join(rt, threads.remove(0));
@@ -150,7 +151,7 @@ fn join<W: Wire + Drop, R: Wait + Send + Drop + 'static, S: Threads + Wait>(
     rt: &S,
     running: Result<Running<W, R>, DriveFault>,
 ) -> Driven<R>
-    ensures { IsJoined running result }
+    ensures { IsThreadJoined running result }
 {
     match running {
         Ok(Running { handle }) => handle.join(rt),

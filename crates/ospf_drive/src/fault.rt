@@ -20,11 +20,11 @@ pub enum DriveFault {
 
 impl DriveFault {
     ghost use Rattle.std.specs.Prelude.{◌≡◌};
-    ghost use Rattle.ospf_drive.specs.Faults.{fault_text};
+    ghost use Rattle.ospf_drive.specs.Faults.{drive_fault_text};
 
     /// The fault's number and name, as it is printed.
     pub fn text(self) -> &'static str
-        ensures { result.now ≡ fault_text self }
+        ensures { result.now ≡ drive_fault_text self }
     {
         match self {
             DriveFault::Recv => "U1 Recv",
@@ -39,9 +39,9 @@ impl DriveFault {
 /// The number and the name, as `U2 Send`.
 impl Display for DriveFault {
     ghost use Rattle.std.specs.Prelude.{Some};
-    ghost use Rattle.ospf_drive.specs.Faults.{fault_text};
+    ghost use Rattle.ospf_drive.specs.Faults.{drive_fault_text};
 
-    ghost output = { λ fault. Some (fault_text fault) };
+    ghost output = { λ fault. Some (drive_fault_text fault) };
 
     fn fmt<W: Write>(&self, f: &mut Formatter<W>) -> fmt::Result {
         f.write_str(self.text())

@@ -10,7 +10,7 @@ mod span;
 mod turn;
 mod wire;
 
-pub use crate::all::{Driven, Job, drive_all};
+pub use crate::all::{Driven, DriverJob, drive_all};
 pub use crate::driver::drive;
 pub use crate::fault::DriveFault;
 pub use crate::laws::{all_ticks_are_taken, drives_are_whole};

@@ -1,7 +1,7 @@
 //! A wire in memory: it hands over what a script says, keeps what goes out, and fails at a chosen call.
 
 ghost use Rattle.std.specs.Prelude.{◌≡◌, ◌≤◌, IfOk, vec_len, take, length};
-ghost use Rattle.ospf_drive.specs.Traffic.{heard};
+ghost use Rattle.ospf_drive.specs.Traffic.{heard_from};
 ghost use Rattle.ospf_drive.specs.Scripts.{new_wire, scripted};
 
 use crate::wire::{Arrival, LONGEST, Wire, WireFault};
@@ -135,7 +135,7 @@ fn count_down(good: Option<usize>) -> (bool, Option<usize>) {
 
 // Puts what the script says into the buffer.
 fn hand_over(arrival: &Scripted, buffer: &mut [u8; LONGEST]) -> Arrival
-    ensures { heard result buffer.new ≡ scripted arrival.now }
+    ensures { heard_from result buffer.new ≡ scripted arrival.now }
 {
     match arrival {
         Scripted::Datagram {

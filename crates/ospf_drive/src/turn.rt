@@ -2,7 +2,7 @@
 
 ghost use Rattle.std.specs.Prelude.{◌≡◌, ◌+◌, ◌<◌, ◌^◌, ◌∷◌, [], ℕ, IfOk, IfErr, OnOk, OnErr, IfSome, IfNone, Some, None, take, length};
 ghost use Rattle.ospf_router.specs.Steps.{happening};
-ghost use Rattle.ospf_drive.specs.Traffic.{heard, and_sends};
+ghost use Rattle.ospf_drive.specs.Traffic.{heard_from, and_sent};
 ghost use Rattle.ospf_drive.specs.Moments.{at, event_of};
 ghost use Rattle.ospf_drive.specs.Drives.{Fails};
 ghost use Rattle.ospf_drive.specs.Turns.{Turns};
@@ -64,9 +64,10 @@ pub(crate) fn turn<W: Wire, R: Wait + Drop>(
 
 // The event that an arrival is, unless it is passed over.
 fn event_at<'a>(router: &Router, arrival: Arrival, buffer: &'a [u8; LONGEST]) -> Option<Event<'a>>
-    ensures some { IfSome result (λ event. event_of router.now.links (heard arrival buffer.now)
+    ensures some { IfSome result (λ event. event_of router.now.links (heard_from arrival buffer.now)
         ≡ Some (happening event)) }
-    ensures none { IfNone result (event_of router.now.links (heard arrival buffer.now) ≡ None) }
+    ensures none { IfNone result (event_of router.now.links (heard_from arrival buffer.now)
+        ≡ None) }
 {
     match arrival {
         Arrival::Datagram {
@@ -110,11 +111,11 @@ fn show_and_send<W: Wire>(wire: &mut W, router: &Router, step: &Step) -> Result<
     requires { W.failed wire.old + 1 < 2 ^ 64 }
     // On success all of it has gone out, and no failure is counted.
     ensures out { OnOk result (W.traffic wire.new
-        ≡ and_sends step.now.out.sent (W.traffic wire.old)) }
+        ≡ and_sent step.now.out.sent (W.traffic wire.old)) }
     ensures out_failures { OnOk result (W.failed wire.new ≡ W.failed wire.old) }
     // On a failure some of it has gone out, but not all, and one failure more is counted.
     ensures some_out { OnErr result ((count : ℕ) × (count < length step.now.out.sent)
-        × (W.traffic wire.new ≡ and_sends (take count step.now.out.sent) (W.traffic wire.old))) }
+        × (W.traffic wire.new ≡ and_sent (take count step.now.out.sent) (W.traffic wire.old))) }
     ensures some_failures { OnErr result (W.failed wire.new ≡ W.failed wire.old + 1) }
 {
     wire.sees(router, step);
@@ -125,11 +126,11 @@ fn show_and_send<W: Wire>(wire: &mut W, router: &Router, step: &Step) -> Result<
 fn send_all<W: Wire>(wire: &mut W, sent: &[Sent]) -> Result<(), WireFault>
     requires { W.failed wire.old + 1 < 2 ^ 64 }
     // On success all of it has gone out, and no failure is counted.
-    ensures out { OnOk result (W.traffic wire.new ≡ and_sends sent.now (W.traffic wire.old)) }
+    ensures out { OnOk result (W.traffic wire.new ≡ and_sent sent.now (W.traffic wire.old)) }
     ensures out_failures { OnOk result (W.failed wire.new ≡ W.failed wire.old) }
     // On a failure some of it has gone out, but not all, and one failure more is counted.
     ensures some_out { OnErr result ((count : ℕ) × (count < length sent.now)
-        × (W.traffic wire.new ≡ and_sends (take count sent.now) (W.traffic wire.old))) }
+        × (W.traffic wire.new ≡ and_sent (take count sent.now) (W.traffic wire.old))) }
     ensures some_failures { OnErr result (W.failed wire.new ≡ W.failed wire.old + 1) }
 {
     for one in sent {

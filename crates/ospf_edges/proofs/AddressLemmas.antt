@@ -12,7 +12,7 @@ use Rattle.ospf_lsa.specs.Listing.{IsListing}
 use Rattle.ospf_graph.specs.Advertisements.{Advertisement, router_lsa, network_lsa, transit_address, is_transit_to, IsAddressOn}
 use Rattle.ospf_graph.specs.Pairs.{pair_code}
 use Rattle.ospf_graph.proofs.ListLemmas.{bool_cases, member_cases, member_head, member_later}
-use Rattle.ospf_edges.specs.Addresses.{AddsAddresses, AddsTold, AreAddresses, address_by, links_by}
+use Rattle.ospf_edges.specs.Addresses.{AddsAddresses, AddsTold, AreAddresses, own_address_by, links_by}
 use Rattle.ospf_edges.specs.Index.{AreAddressesOn}
 use Rattle.ospf_edges.specs.Listed.{advertisement_of, advertisements_of}
 use Rattle.ospf_edges.proofs.GivenLemmas.{told_more}
@@ -35,7 +35,7 @@ transit-append n xs ys =
     ap (λ o. option_map (λ (l : Link). l.link_data) o) (find-append (is_transit_to n) xs ys) ∙ map_or (λ (l : Link). l.link_data) (find (is_transit_to n) xs) (find (is_transit_to n) ys)
 
 address_by-append : (router : RouterId) (xs ys : List Link) (r : RouterId) (n : ℕ)
-    → address_by router (xs ++ ys) r n ≡ option_or (address_by router xs r n) (address_by router ys r n)
+    → own_address_by router (xs ++ ys) r n ≡ option_or (own_address_by router xs r n) (own_address_by router ys r n)
 address_by-append router xs ys r n =
     elim (bool_cases (eqb router.0 r.0)) [ inl t ↦ rw t (transit-append n xs ys) | inr f ↦ rw f refl ]
 
@@ -47,13 +47,13 @@ adds_nothing router old r n low = elim (bool_cases (eqb router.0 r.0)) [ inl t �
 pub adds_link : (router : RouterId) (xs : List Link) (l : Link) (old mid new : ℕ → Option ℕ) → AddsAddresses router xs old mid → AddsAddresses router (l ∷ []) mid new
     → AddsAddresses router (xs ++ l ∷ []) old new
 adds_link router xs l old mid new before here r n low =
-    here r n low ∙ ap (λ o. option_or o (address_by router (l ∷ []) r n)) (before r n low)
-    ∙ or_assoc (old (pair_code r.0 n)) (address_by router xs r n) (address_by router (l ∷ []) r n)
+    here r n low ∙ ap (λ o. option_or o (own_address_by router (l ∷ []) r n)) (before r n low)
+    ∙ or_assoc (old (pair_code r.0 n)) (own_address_by router xs r n) (own_address_by router (l ∷ []) r n)
     ∙ ap (λ o. option_or (old (pair_code r.0 n)) o) (sym (address_by-append router xs (l ∷ []) r n))
 
 -- ---- of an LSA
 
-links_by_one : (r q : RouterId) (links : List Link) (n : ℕ) → address_by q links r n ≡ transit_address n (links_by r (router_lsa q links ∷ []))
+links_by_one : (r q : RouterId) (links : List Link) (n : ℕ) → own_address_by q links r n ≡ transit_address n (links_by r (router_lsa q links ∷ []))
 links_by_one r q links n = elim (bool_cases (eqb q.0 r.0)) [ inl t ↦ rw t (ap (λ ls. transit_address n ls) (sym (append-nil links))) | inr f ↦ rw f refl ]
 
 pub told_router : (lsa : List ℕ) (router : RouterId) (links : List Link) (old new : ℕ → Option ℕ) → IsRouterLsa lsa → router.0 ≡ number_at 8 4 lsa → links ≡ links_of lsa

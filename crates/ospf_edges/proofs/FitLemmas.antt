@@ -18,7 +18,7 @@ use Rattle.ospf_graph.specs.declared.graph.Vertex.{Vertex}
 use Rattle.ospf_graph.specs.declared.graph.Vertex.TheVariants.{Router, Network}
 use Rattle.ospf_graph.specs.Advertisements.{IsListed, HasLink, network_lsa}
 use Rattle.ospf_graph.specs.Graph.{IsEdge, IsEdgeBetween}
-use Rattle.ospf_graph.specs.Search.{IsFit, vertex_id}
+use Rattle.ospf_graph.specs.Search.{AreFitEdges, vertex_id}
 use Rattle.ospf_graph.specs.Walk.{HasPositiveMetrics}
 use Rattle.ospf_graph.proofs.GraphLemmas.{rising_edges}
 use Rattle.ospf_graph.proofs.ListLemmas.{member_of_map}
@@ -77,7 +77,7 @@ module _ (lsas : List (List ℕ)) (is : IsListing lsas) where
   edge_fits (Network n) (Network m) cost link_data e = absurd e
 
   -- edges of the listing, all or some of them
-  pub some_fit : (edges : List Edge) → ((e : Edge) → Contains edges e → IsEdge (advertisements_of lsas) e) → IsFit edges
+  pub some_fit : (edges : List Edge) → ((e : Edge) → Contains edges e → IsEdge (advertisements_of lsas) e) → AreFitEdges edges
   some_fit edges are =
       record {
         rising = λ e d m. rising_edges (advertisements_of lsas) positive e d (are e m);
@@ -85,5 +85,5 @@ module _ (lsas : List (List ℕ)) (is : IsListing lsas) where
         id_fits = λ e m. (edge_fits e.from e.to e.cost e.link_data (are e m)).1;
       }
 
-  pub edges_fit : (edges : List Edge) → IsEdgesOf (advertisements_of lsas) edges → IsFit edges
+  pub edges_fit : (edges : List Edge) → IsEdgesOf (advertisements_of lsas) edges → AreFitEdges edges
   edges_fit edges are = some_fit edges (λ e. (are e).0)

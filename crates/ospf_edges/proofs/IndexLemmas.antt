@@ -11,7 +11,7 @@ use Rattle.ospf_lsa.specs.declared.link.LinkKind.{LinkKind}
 use Rattle.ospf_graph.specs.Advertisements.{Advertisement, router_lsa, network_lsa, HasLink, IsAttached}
 use Rattle.ospf_graph.specs.Pairs.{pair_code}
 use Rattle.ospf_graph.proofs.ListLemmas.{member_of_map, member_to_map}
-use Rattle.ospf_edges.specs.Index.{AreLinks, AreMembers, LinksOf, MembersOf, NamedOn}
+use Rattle.ospf_edges.specs.Index.{AreBackLinks, AreMembers, LinksOf, MembersOf, NamedOn}
 use Rattle.ospf_edges.specs.Given.{Adds, LinksTo, StandsFor}
 use Rattle.ospf_edges.specs.Listed.{advertisement_of, advertisements_of}
 use Rattle.ospf_edges.proofs.AddsLemmas.{GivenBy, adds_as, adds_none}
@@ -41,7 +41,7 @@ module _ (lsas : List (List ℕ)) (is : IsListing lsas) (pairs list : List ℕ) 
   abbrev A : List Advertisement
   A = advertisements_of lsas
 
-  pub links_are : Adds (GivenBy (λ lsa. LinksOf (advertisement_of lsa)) lsas) [] list → AreLinks (advertisements_of lsas) pairs
+  pub links_are : Adds (GivenBy (λ lsa. LinksOf (advertisement_of lsa)) lsas) [] list → AreBackLinks (advertisements_of lsas) pairs
   unfolding advertisements_of
   links_are adds from to low = (
     λ m. elim ((adds _).0 (Contains-permutation pairs list _ (IsPermutation-sym list pairs perm) m)) [

@@ -11,7 +11,7 @@ use Rattle.ospf_graph.specs.Advertisements.{Advertisement, HasLink, IsAttached, 
 use Rattle.ospf_graph.specs.Graph.{IsEdge, IsEdgeBetween}
 use Rattle.ospf_graph.proofs.ListLemmas.{transit_found}
 use Rattle.ospf_edges.specs.Given.{Adds, LinksTo}
-use Rattle.ospf_edges.specs.Near.{AreEdgesAt, AreLinksBy, AreAttachedTo, HasNoNetwork, EdgesNear, LeadsTo, LinksSend, MemberGives, Names, NearLink, NearLinks, NearMembers, Returns, Sends, edge_to}
+use Rattle.ospf_edges.specs.Near.{AreEdgesAt, AreLinksBy, AreAttachedTo, HasNoNetwork, EdgesNear, LeadsTo, LinksSend, MemberGives, NamesRouter, NearLink, NearLinks, NearMembers, Returns, SendsEdge, edge_to}
 use Rattle.ospf_edges.proofs.AddsLemmas.{adds_as, adds_none}
 use Rattle.ospf_edges.proofs.GivenLemmas.{link_as}
 
@@ -29,7 +29,7 @@ leads_one link (Network n) (Network m) h k = let same : n ≡ m = sym h.1 ∙ k.
 
 module _ (A : List Advertisement) where
   -- a link of a router to a vertex that names it is an edge, and so is each edge that leaves a router
-  sent_edge : (r : RouterId) (to : Vertex) (e : Edge) → Sends r to A e → Names A to r → IsEdge A e
+  sent_edge : (r : RouterId) (to : Vertex) (e : Edge) → SendsEdge r to A e → NamesRouter A to r → IsEdge A e
   sent_edge r (Router x) e (links, listed, (link, link_in, (leads, is))) named =
       let has : HasLink A r LinkKind.PointToPoint x.0 link.link_data link.metric =
       subst (λ n. HasLink A r LinkKind.PointToPoint n link.link_data link.metric) leads.1 (link_as A r links listed link link_in LinkKind.PointToPoint leads.0) in
@@ -42,11 +42,11 @@ module _ (A : List Advertisement) where
       subst (λ y. IsEdge A y) (sym is) edge
 
   edge_sent : (r : RouterId) (to : Vertex) (cost link_data : ℕ) → IsEdgeBetween A (Router r) to cost link_data
-      → Sends r to A (record { from = Router r; to = to; cost = cost; link_data = link_data })
+      → SendsEdge r to A (record { from = Router r; to = to; cost = cost; link_data = link_data })
   edge_sent r (Router x) cost link_data h = (h.0.links, h.0.listed, (_, h.0.link_in, ((refl, refl), refl)))
   edge_sent r (Network n) cost link_data h = (h.0.links, h.0.listed, (_, h.0.link_in, ((refl, refl), refl)))
 
-  edge_named : (r : RouterId) (to : Vertex) (cost link_data : ℕ) → IsEdgeBetween A (Router r) to cost link_data → Names A to r
+  edge_named : (r : RouterId) (to : Vertex) (cost link_data : ℕ) → IsEdgeBetween A (Router r) to cost link_data → NamesRouter A to r
   edge_named r (Router x) cost link_data h = (h.1, h.2, h.3)
   edge_named r (Network n) cost link_data h = h.1
 
@@ -59,7 +59,7 @@ module _ (A : List Advertisement) where
   member_to : (n : ℕ) (r : RouterId) (e : Edge) → MemberGives n r A e → e.to ≡ Router r
   member_to n r e g = ap (λ (y : Edge). y.to) g.2
 
-  sent_to : (r : RouterId) (to : Vertex) (e : Edge) → Sends r to A e → e.to ≡ to
+  sent_to : (r : RouterId) (to : Vertex) (e : Edge) → SendsEdge r to A e → e.to ≡ to
   sent_to r to e g = ap (λ (y : Edge). y.to) g.2.2.1
 
   module _ (r : RouterId) (links : List Link) (are : AreLinksBy A r links) where
@@ -70,7 +70,7 @@ module _ (A : List Advertisement) where
       subst (λ n. HasLink A r LinkKind.PointToPoint n link.link_data link.metric) leads.1 (link_as A r links are.listed link link_in LinkKind.PointToPoint leads.0),
     )
 
-    returned_edge : (link : Link) → Contains links link → (to : Vertex) → LeadsTo link to → Names A to r → (e : Edge) → Returns to r A e → EdgesNear (Router r) A e
+    returned_edge : (link : Link) → Contains links link → (to : Vertex) → LeadsTo link to → NamesRouter A to r → (e : Edge) → Returns to r A e → EdgesNear (Router r) A e
     returned_edge link link_in (Router x) leads named e g = (sent_edge x (Router r) e g (own_link link link_in x leads), inr (sent_to x (Router r) e g))
     returned_edge link link_in (Network n) leads named e g = (member_edge n r e g named, inr (member_to n r e g))
 
@@ -178,13 +178,13 @@ module _ (A : List Advertisement) where
       ])
 
   -- what the links of the router's one LSA send
-  pub sends_as : (r : RouterId) (to : Vertex) (links : List Link) → AreLinksBy A r links → (old new : List Edge) → Adds (LinksSend r to links) old new → Adds (Sends r to A) old new
+  pub sends_as : (r : RouterId) (to : Vertex) (links : List Link) → AreLinksBy A r links → (old new : List Edge) → Adds (LinksSend r to links) old new → Adds (SendsEdge r to A) old new
   sends_as r to links are old new =
-      adds_as (LinksSend r to links) (Sends r to A) old new
+      adds_as (LinksSend r to links) (SendsEdge r to A) old new
       (λ e. (λ g. (links, are.listed, g), λ g. (g.2.0, subst (λ (ls : List Link). Contains ls g.2.0) (are.only g.0 g.1) g.2.1, g.2.2)))
 
   -- and what one link brings
-  pub near_link_as : (r : RouterId) (link : Link) (to : Vertex) → LeadsTo link to → Names A to r → (old new : List Edge)
+  pub near_link_as : (r : RouterId) (link : Link) (to : Vertex) → LeadsTo link to → NamesRouter A to r → (old new : List Edge)
       → Adds (λ e. (edge_to r to link ≡ e) ⊎ Returns to r A e) old new → Adds (NearLink r link A) old new
   near_link_as r link to leads named old new =
       adds_as (λ e. (edge_to r to link ≡ e) ⊎ Returns to r A e) (NearLink r link A) old new (λ e. (

@@ -24,8 +24,8 @@ MembersOf adverts (router_lsa _ _) q = ⊥
 MembersOf adverts (network_lsa n router mask attached) q = StandsFor adverts n router × (member : RouterId) × Contains attached member × NamedOn n member q
 
 -- exactly the pairs of routers of which the second has a type 1 link to the first
-abbrev pub AreLinks : List Advertisement → List ℕ → Type 0
-AreLinks adverts pairs = (from to : RouterId) → from.0 < 2 ^ 32 → Contains pairs (pair_code to.0 from.0) ↔ LinksTo adverts from to
+abbrev pub AreBackLinks : List Advertisement → List ℕ → Type 0
+AreBackLinks adverts pairs = (from to : RouterId) → from.0 < 2 ^ 32 → Contains pairs (pair_code to.0 from.0) ↔ LinksTo adverts from to
 
 -- exactly the pairs of a router and a network that names it
 abbrev pub AreMembers : List Advertisement → List ℕ → Type 0
@@ -39,6 +39,6 @@ AreAddressesOn adverts address =
     (λ a. IsAddressOn adverts n r a × ((b : ℕ) → IsAddressOn adverts n r b → b ≡ a))
 
 pub record IsIndexed (adverts : List Advertisement) (links members : List ℕ) (address : ℕ → Option ℕ) : Type 0 where
-  pub links_are : AreLinks adverts links
+  pub links_are : AreBackLinks adverts links
   pub members_are : AreMembers adverts members
   pub addresses_are : AreAddressesOn adverts address

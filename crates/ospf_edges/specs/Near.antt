@@ -58,9 +58,9 @@ abbrev pub LeadsNowhere : Link → Type 0
 LeadsNowhere link = (to : Vertex) → LeadsTo link to → ⊥
 
 -- the LSA of the vertex names the router
-abbrev pub Names : List Advertisement → Vertex → RouterId → Type 0
-Names adverts (Router x) r = LinksTo adverts x r
-Names adverts (Network n) r = IsAttached adverts n r
+abbrev pub NamesRouter : List Advertisement → Vertex → RouterId → Type 0
+NamesRouter adverts (Router x) r = LinksTo adverts x r
+NamesRouter adverts (Network n) r = IsAttached adverts n r
 
 -- the edge of a router's link to a vertex
 abbrev pub edge_to : RouterId → Vertex → Link → Edge
@@ -75,8 +75,8 @@ abbrev pub LinksSend : RouterId → Vertex → List Link → Edge → Type 0
 LinksSend r to links e = (link : Link) × Contains links link × LinkSends r to link e
 
 -- the edges of such links of the router's LSA
-abbrev pub Sends : RouterId → Vertex → List Advertisement → Edge → Type 0
-Sends r to adverts e = (links : List Link) × Contains adverts (router_lsa r links) × LinksSend r to links e
+abbrev pub SendsEdge : RouterId → Vertex → List Advertisement → Edge → Type 0
+SendsEdge r to adverts e = (links : List Link) × Contains adverts (router_lsa r links) × LinksSend r to links e
 
 -- the edge from a transit network to a router with an address there
 abbrev pub MemberGives : ℕ → RouterId → List Advertisement → Edge → Type 0
@@ -84,13 +84,13 @@ MemberGives n member adverts e = AttachedGives adverts n member e
 
 -- the edges from a vertex that names the router to it
 abbrev pub Returns : Vertex → RouterId → List Advertisement → Edge → Type 0
-Returns (Router x) r adverts e = Sends x (Router r) adverts e
+Returns (Router x) r adverts e = SendsEdge x (Router r) adverts e
 Returns (Network n) r adverts e = MemberGives n r adverts e
 
 -- the edges between a router and the end of a link of it
 abbrev pub NearLink : RouterId → Link → List Advertisement → Edge → Type 0
 NearLink r link adverts e =
-    (to : Vertex) × LeadsTo link to × Names adverts to r × ((edge_to r to link ≡ e) ⊎ Returns to r adverts e)
+    (to : Vertex) × LeadsTo link to × NamesRouter adverts to r × ((edge_to r to link ≡ e) ⊎ Returns to r adverts e)
 
 -- the edges between a router and the ends of links of it
 abbrev pub NearLinks : RouterId → List Link → List Advertisement → Edge → Type 0
@@ -98,7 +98,7 @@ NearLinks r links adverts e = (link : Link) × Contains links link × NearLink r
 
 -- the edges between a transit network and a router that it names
 abbrev pub NearMember : ℕ → RouterId → List Advertisement → Edge → Type 0
-NearMember n member adverts e = MemberGives n member adverts e ⊎ Sends member (Network n) adverts e
+NearMember n member adverts e = MemberGives n member adverts e ⊎ SendsEdge member (Network n) adverts e
 
 -- the edges between a transit network and routers that it names
 abbrev pub NearMembers : ℕ → List RouterId → List Advertisement → Edge → Type 0

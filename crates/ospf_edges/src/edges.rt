@@ -4,7 +4,7 @@ ghost use Rattle.std.specs.Prelude.{◌≡◌, ◌+◌, ◌≤◌, ◌↔◌, �
 ghost use Rattle.ospf_base.specs.declared.ids.RouterId.{RouterId};
 ghost use Rattle.ospf_lsa.specs.declared.link.Link.{Link};
 ghost use Rattle.ospf_graph.specs.declared.graph.Edge.{Edge};
-ghost use Rattle.ospf_graph.specs.Search.{IsFit};
+ghost use Rattle.ospf_graph.specs.Search.{AreFitEdges};
 ghost use Rattle.ospf_edges.specs.Listed.{advertisement_of, advertisements_of};
 ghost use Rattle.ospf_edges.specs.Given.{Adds, LinkGives, AttachedGives, EdgesOf, link_count};
 ghost use Rattle.ospf_edges.specs.Given.{IsEdgesOf};
@@ -19,7 +19,7 @@ use std::alloc::{AllocError, Global};
 /// router. `AllocError` where memory runs out.
 pub fn edges_of(alloc: Global, listing: &Listing) -> Result<Vec<Edge>, AllocError>
     ensures edges { IfOk result (λ edges. IsEdgesOf (advertisements_of listing.now) edges.items) }
-    ensures fit { IfOk result (λ edges. IsFit edges.items) }
+    ensures fit { IfOk result (λ edges. AreFitEdges edges.items) }
     ensures few { IfOk result (λ edges. length edges.items
         ≤ link_count (advertisements_of listing.now)) }
 {
@@ -31,7 +31,7 @@ pub fn edges_of(alloc: Global, listing: &Listing) -> Result<Vec<Edge>, AllocErro
 fn edges_by(alloc: Global, listing: &Listing, index: &GraphIndex) -> Result<Vec<Edge>, AllocError>
     requires same { index.now ≡ advertisements_of listing.now }
     ensures edges { IfOk result (λ edges. IsEdgesOf (advertisements_of listing.now) edges.items) }
-    ensures fit { IfOk result (λ edges. IsFit edges.items) }
+    ensures fit { IfOk result (λ edges. AreFitEdges edges.items) }
     ensures few { IfOk result (λ edges. length edges.items
         ≤ link_count (advertisements_of listing.now)) }
 {

@@ -4,7 +4,7 @@ ghost use Rattle.std.specs.Prelude.{◌≡◌, ◌↔◌, ℕ, IsTrue, IfOk, IfS
 ghost use Rattle.ospf_base.specs.declared.ids.RouterId.{RouterId};
 ghost use Rattle.ospf_lsa.specs.declared.link.Link.{Link};
 ghost use Rattle.ospf_graph.specs.Advertisements.{IsAttached, IsAddressOn};
-ghost use Rattle.ospf_edges.specs.Index.{AreLinks, AreMembers, LinkNames, LinksOf, MembersOf, NamedOn};
+ghost use Rattle.ospf_edges.specs.Index.{AreBackLinks, AreMembers, LinkNames, LinksOf, MembersOf, NamedOn};
 ghost use Rattle.ospf_edges.specs.Given.{Adds, LinksTo, StandsFor};
 ghost use Rattle.ospf_edges.specs.Listed.{advertisement_of, advertisements_of};
 
@@ -91,7 +91,7 @@ impl<'a> GraphIndex<'a> {
 
 // The pairs of all type 1 links.
 fn links_in(alloc: Global, listing: &Listing) -> Result<Pairs, AllocError>
-    ensures { IfOk result (λ pairs. AreLinks (advertisements_of listing.now) pairs) }
+    ensures { IfOk result (λ pairs. AreBackLinks (advertisements_of listing.now) pairs) }
 {
     let mut pairs = Vec::new(alloc);
     for lsa in listing.lsas() {

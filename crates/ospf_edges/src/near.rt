@@ -2,11 +2,11 @@
 
 ghost use Rattle.std.specs.Prelude.{◌≡◌, ◌↔◌, IsTrue, IfSome, IfNone, IfOk, OnOk};
 ghost use Rattle.ospf_lsa.specs.Listing.{IsListing};
-ghost use Rattle.ospf_graph.specs.Search.{IsFit};
+ghost use Rattle.ospf_graph.specs.Search.{AreFitEdges};
 ghost use Rattle.ospf_edges.specs.Listed.{advertisements_of};
 ghost use Rattle.ospf_edges.specs.Given.{Adds};
 ghost use Rattle.ospf_edges.specs.Near.{AddsAt, AreEdgesAt, EdgesNear, LeadsTo, LeadsNowhere, LinkSends, LinksSend};
-ghost use Rattle.ospf_edges.specs.Near.{MemberGives, Names, NearLink, NearLinks, NearMember, NearMembers, Returns, Sends};
+ghost use Rattle.ospf_edges.specs.Near.{MemberGives, NamesRouter, NearLink, NearLinks, NearMember, NearMembers, Returns, SendsEdge};
 ghost use Rattle.ospf_edges.specs.Near.{edge_to as edge_to_spec};
 
 use crate::lookups::{address_on, attached_to, is_attached, links_by, links_to};
@@ -20,7 +20,7 @@ use std::alloc::{AllocError, Global};
 /// memory runs out.
 pub fn edges_at(alloc: Global, listing: &Listing, vertex: Vertex) -> Result<Vec<Edge>, AllocError>
     ensures edges { IfOk result (λ e. AreEdgesAt (advertisements_of listing.now) vertex e.items) }
-    ensures fit { IfOk result (λ edges. IsFit edges.items) }
+    ensures fit { IfOk result (λ edges. AreFitEdges edges.items) }
 {
     let mut edges = Vec::new(alloc);
     add_near(listing, vertex, &mut edges)?;
@@ -92,7 +92,7 @@ fn end_of(link: Link) -> Option<Vertex>
 
 // Whether the LSA of a vertex names a router.
 fn names(listing: &Listing, vertex: Vertex, router: RouterId) -> bool
-    ensures { IsTrue result ↔ Names (advertisements_of listing.now) vertex router }
+    ensures { IsTrue result ↔ NamesRouter (advertisements_of listing.now) vertex router }
 {
     match vertex {
         Vertex::Router(other) => links_to(listing, other, router),
@@ -134,7 +134,7 @@ fn add_sent(
     to: Vertex,
     edges: &mut Vec<Edge>,
 ) -> Result<(), AllocError>
-    ensures { OnOk result (AddsAt listing.now (Sends router to) edges.old edges.new) }
+    ensures { OnOk result (AddsAt listing.now (SendsEdge router to) edges.old edges.new) }
 {
     match links_by(listing, router) {
         Some(links) => add_sent_links(router, to, links, edges),

@@ -5,7 +5,7 @@ use Rattle.std.proofs.lemmas.List.Elements.{Contains-append_left, Contains-push,
 use Rattle.std.proofs.lemmas.Bool.Decides.{eqb_tells}
 use Rattle.ospf_base.specs.declared.ids.RouterId.{RouterId}
 use Rattle.ospf_election.specs.declared.candidate.Candidate.{Candidate}
-use Rattle.ospf_election.specs.Election.{Outranks, IsBest, HasNone, declaring, declared, AreDistinct}
+use Rattle.ospf_election.specs.Election.{Outranks, IsBestIn, HasNoneIn, declaring, declared, AreDistinct}
 use Rattle.ospf_election.specs.Choice.{BestOr}
 use Rattle.ospf_election.specs.Choice.BestOr.{Outside, Stays, First, Follows}
 use Rattle.ospf_election.proofs.Members.{no_member, map_same, one_member}
@@ -22,18 +22,18 @@ Outranks-trans a b c (inr p) (inr q) = inr (omega (arith, p.0, q.0), omega (arit
 
 -- the best of these, or none of them is in the set
 abbrev pub IsBestOrNone : (Candidate → Type 0) → List Candidate → Option Candidate → Type 0
-IsBestOrNone Set xs None = HasNone Set xs
-IsBestOrNone Set xs (Some b) = IsBest Set xs b
+IsBestOrNone Set xs None = HasNoneIn Set xs
+IsBestOrNone Set xs (Some b) = IsBestIn Set xs b
 
 pub best_of_none : (Set : Candidate → Type 0) → IsBestOrNone Set [] None
 best_of_none Set = record { none = λ d m s. no_member d m }
 
 module _ (Set : Candidate → Type 0) (xs : List Candidate) (c : Candidate) where
-  still_none : HasNone Set xs → (Set c → ⊥) → HasNone Set (xs ++ c ∷ [])
+  still_none : HasNoneIn Set xs → (Set c → ⊥) → HasNoneIn Set (xs ++ c ∷ [])
   still_none h out =
       record { none = λ d m s. elim (Contains-push_cases xs c d m) [ inl old ↦ h.none d old s | inr e ↦ out (subst Set (sym e) s) ] }
 
-  still_best : (b : Candidate) → IsBest Set xs b → (Set c → Outranks c b → ⊥) → IsBest Set (xs ++ c ∷ []) b
+  still_best : (b : Candidate) → IsBestIn Set xs b → (Set c → Outranks c b → ⊥) → IsBestIn Set (xs ++ c ∷ []) b
   still_best b h below =
       record {
         member = Contains-append_left xs _ b h.member;
@@ -44,7 +44,7 @@ module _ (Set : Candidate → Type 0) (xs : List Candidate) (c : Candidate) wher
         ];
       }
 
-  now_best : Set c → ((d : Candidate) → Contains xs d → Set d → Outranks d c → ⊥) → IsBest Set (xs ++ c ∷ []) c
+  now_best : Set c → ((d : Candidate) → Contains xs d → Set d → Outranks d c → ⊥) → IsBestIn Set (xs ++ c ∷ []) c
   now_best belongs below =
       record {
         member = Contains-push xs c;
@@ -62,13 +62,13 @@ module _ (Set : Candidate → Type 0) (xs : List Candidate) (c : Candidate) wher
   pub best_more : (best result : Option Candidate) → IsBestOrNone Set xs best → BestOr Set best c result → IsBestOrNone Set (xs ++ c ∷ []) result
   best_more best result h (Outside out e) = rw e (outside best h out)
   best_more best result h (Stays b is below e) =
-      let was : IsBest Set xs b = rw is at h in
+      let was : IsBestIn Set xs b = rw is at h in
       rw (e, is) (still_best b was (λ s above. below above))
   best_more best result h (First is s e) =
-      let was : HasNone Set xs = rw is at h in
+      let was : HasNoneIn Set xs = rw is at h in
       rw e (now_best s (λ d m in_set above. was.none d m in_set))
   best_more best result h (Follows b is s above e) =
-      let was : IsBest Set xs b = rw is at h in
+      let was : IsBestIn Set xs b = rw is at h in
       rw e (now_best s (λ d m in_set more. was.greatest d m in_set (Outranks-trans d c b more above)))
 
 declares_own : (me : RouterId) (own c : Candidate) → own.id ≡ me → (c.id ≡ own.id → c ≡ own) → declaring me (declared own) c ≡ c

@@ -9,7 +9,7 @@ use Rattle.ospf_base.specs.declared.ids.RouterId.{RouterId}
 use Rattle.ospf_base.specs.declared.ids.Addr.{Addr}
 use Rattle.ospf_election.specs.declared.candidate.Candidate.{Candidate}
 use Rattle.ospf_election.specs.declared.candidate.Elected.{Elected}
-use Rattle.ospf_election.specs.Election.{IsBest, HasNone, IsBackup, IsDr, IsRound, AreDistinct, declaring, changes_role, DeclaresDr, DeclaresBackup, MayBeBackup}
+use Rattle.ospf_election.specs.Election.{IsBestIn, HasNoneIn, IsBackup, IsDr, IsElectionRound, AreDistinct, declaring, changes_role, DeclaresDr, DeclaresBackup, MayBeBackup}
 use Rattle.ospf_election.specs.Laws.{OrderDoesNotMatter, OneResult}
 use Rattle.ospf_election.proofs.Members.{image_member, member_image, one_member}
 
@@ -17,10 +17,10 @@ abbrev Same : List Candidate → List Candidate → Type 0
 Same xs ys = (c : Candidate) → Contains xs c ↔ Contains ys c
 
 module _ (xs ys : List Candidate) (same : Same xs ys) where
-  best_moves : (Set : Candidate → Type 0) (c : Candidate) → IsBest Set xs c → IsBest Set ys c
+  best_moves : (Set : Candidate → Type 0) (c : Candidate) → IsBestIn Set xs c → IsBestIn Set ys c
   best_moves Set c h = record { member = (same c).0 h.member; belongs = h.belongs; greatest = λ d m s. h.greatest d ((same d).1 m) s }
 
-  none_moves : (Set : Candidate → Type 0) → HasNone Set xs → HasNone Set ys
+  none_moves : (Set : Candidate → Type 0) → HasNoneIn Set xs → HasNoneIn Set ys
   none_moves Set h = record { none = λ d m s. h.none d ((same d).1 m) s }
 
   backup_moves : (a : Addr) → IsBackup xs a → IsBackup ys a
@@ -32,7 +32,7 @@ module _ (xs ys : List Candidate) (same : Same xs ys) where
   dr_moves b a (IsDr.Declared c h e) = IsDr.Declared c (best_moves DeclaresDr c h) e
   dr_moves b a (IsDr.Promoted n e) = IsDr.Promoted (none_moves DeclaresDr n) e
 
-  round_moves : (e : Elected) → IsRound xs e → IsRound ys e
+  round_moves : (e : Elected) → IsElectionRound xs e → IsElectionRound ys e
   round_moves e h = record { backup = backup_moves e.backup h.backup; dr = dr_moves e.backup e.dr h.dr }
 
   image_moves : (f : Candidate → Candidate) → Same (map f xs) (map f ys)
@@ -42,7 +42,7 @@ module _ (xs ys : List Candidate) (same : Same xs ys) where
   )
 
 again_moves : (xs ys : List Candidate) (f : Candidate → Candidate) (first e : Elected) → Same xs ys → (b : Bool)
-    → MatchBool b (IsRound (map f xs) e) (e ≡ first) → MatchBool b (IsRound (map f ys) e) (e ≡ first)
+    → MatchBool b (IsElectionRound (map f xs) e) (e ≡ first) → MatchBool b (IsElectionRound (map f ys) e) (e ≡ first)
 again_moves xs ys f first e same true h = round_moves (map f xs) (map f ys) (image_moves xs ys same f) e h
 again_moves xs ys f first e same false h = h
 
@@ -61,7 +61,7 @@ one_candidate : (xs : List Candidate) (a b : Candidate) → AreDistinct xs → C
 one_candidate xs a b distinct m n same = one_member (λ a b. a.id ≢ b.id) xs a b distinct m n (λ ne. ne same) (λ ne. ne (sym same))
 
 module _ (xs : List Candidate) (distinct : AreDistinct xs) where
-  one_best : (Set : Candidate → Type 0) (a b : Candidate) → IsBest Set xs a → IsBest Set xs b → a ≡ b
+  one_best : (Set : Candidate → Type 0) (a b : Candidate) → IsBestIn Set xs a → IsBestIn Set xs b → a ≡ b
   one_best Set a b h k =
       elim (cases_order a.priority b.priority) [
         | inl p ↦ elim (cases_order a.id.0 b.id.0) [
@@ -71,7 +71,7 @@ module _ (xs : List Candidate) (distinct : AreDistinct xs) where
         | inr s ↦ elim s [ inl lt ↦ absurd (h.greatest b k.member k.belongs (inl lt)) | inr gt ↦ absurd (k.greatest a h.member h.belongs (inl gt)) ]
       ]
 
-  same_address : (Set : Candidate → Type 0) (c d : Candidate) (a b : Addr) → IsBest Set xs c → IsBest Set xs d → c.address ≡ a → d.address ≡ b → a ≡ b
+  same_address : (Set : Candidate → Type 0) (c d : Candidate) (a b : Addr) → IsBestIn Set xs c → IsBestIn Set xs d → c.address ≡ a → d.address ≡ b → a ≡ b
   same_address Set c d a b h k e f = sym e ∙ ap (λ (x : Candidate). x.address) (one_best Set c d h k) ∙ f
 
   one_backup : (a b : Addr) → IsBackup xs a → IsBackup xs b → a ≡ b
@@ -91,7 +91,7 @@ module _ (xs : List Candidate) (distinct : AreDistinct xs) where
   one_dr p q a b same (IsDr.Promoted m e) (IsDr.Declared d k f) = absurd (m.none d k.member k.belongs)
   one_dr p q a b same (IsDr.Promoted m e) (IsDr.Promoted n f) = e ∙ same ∙ sym f
 
-  one_round : (e f : Elected) → IsRound xs e → IsRound xs f → e ≡ f
+  one_round : (e f : Elected) → IsElectionRound xs e → IsElectionRound xs f → e ≡ f
   one_round e f h k =
       let b = one_backup e.backup f.backup h.backup k.backup in
       let d = one_dr e.backup f.backup e.dr f.dr b h.dr k.dr in
@@ -110,7 +110,7 @@ still_distinct xs me e distinct i j d lt long =
     (sym (keeps_id me e (get_or xs i d)) ∙ (ap (λ (c : Candidate). c.id) (sym at_i) ∙ same ∙ ap (λ (c : Candidate). c.id) at_j) ∙ keeps_id me e (get_or xs j d))
 
 one_again : (xs : List Candidate) (me : RouterId) (first e f : Elected) → AreDistinct xs → (b : Bool)
-    → MatchBool b (IsRound (map (declaring me first) xs) e) (e ≡ first) → MatchBool b (IsRound (map (declaring me first) xs) f) (f ≡ first) → e ≡ f
+    → MatchBool b (IsElectionRound (map (declaring me first) xs) e) (e ≡ first) → MatchBool b (IsElectionRound (map (declaring me first) xs) f) (f ≡ first) → e ≡ f
 one_again xs me first e f distinct true h k = one_round (map (declaring me first) xs) (still_distinct xs me first distinct) e f h k
 one_again xs me first e f distinct false h k = h ∙ sym k
 
@@ -118,7 +118,7 @@ pub one_result : OneResult
 one_result xs me e f distinct h k =
     let own = one_candidate xs k.own h.own distinct k.member h.member (k.is_me ∙ sym h.is_me) in
     let first = one_round xs distinct k.first h.first k.round h.round in
-    let again : MatchBool (changes_role h.own h.first) (IsRound (map (declaring me h.first) xs) f) (f ≡ h.first) =
-    subst (λ c. MatchBool (changes_role c h.first) (IsRound (map (declaring me h.first) xs) f) (f ≡ h.first)) own
-    (subst (λ x. MatchBool (changes_role k.own x) (IsRound (map (declaring me x) xs) f) (f ≡ x)) first k.again) in
+    let again : MatchBool (changes_role h.own h.first) (IsElectionRound (map (declaring me h.first) xs) f) (f ≡ h.first) =
+    subst (λ c. MatchBool (changes_role c h.first) (IsElectionRound (map (declaring me h.first) xs) f) (f ≡ h.first)) own
+    (subst (λ x. MatchBool (changes_role k.own x) (IsElectionRound (map (declaring me x) xs) f) (f ≡ x)) first k.again) in
     one_again xs me h.first e f distinct (changes_role h.own h.first) h.again again

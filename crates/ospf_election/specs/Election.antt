@@ -28,28 +28,28 @@ abbrev pub Outranks : Candidate → Candidate → Type 0
 Outranks a b = (b.priority < a.priority) ⊎ ((a.priority ≡ b.priority) × (b.id.0 < a.id.0))
 
 -- the best of the candidates in a set: no other of them outranks it
-pub record IsBest (Set : Candidate → Type 0) (candidates : List Candidate) (c : Candidate) : Type 0 where
+pub record IsBestIn (Set : Candidate → Type 0) (candidates : List Candidate) (c : Candidate) : Type 0 where
   pub member : Contains candidates c
   pub belongs : Set c
   pub greatest : (d : Candidate) → Contains candidates d → Set d → Outranks d c → ⊥
 
 -- no candidate is in the set
-pub record HasNone (Set : Candidate → Type 0) (candidates : List Candidate) : Type 0 where
+pub record HasNoneIn (Set : Candidate → Type 0) (candidates : List Candidate) : Type 0 where
   pub none : (d : Candidate) → Contains candidates d → Set d → ⊥
 
 -- the new Backup: the best that declares itself so; else the best that may be it; else none (9.4, step 2)
 pub data IsBackup (candidates : List Candidate) (address : Addr) : Type 0 where
-  Declared : (c : Candidate) → IsBest DeclaresBackup candidates c → c.address ≡ address → IsBackup candidates address
-  Ranked : (c : Candidate) → HasNone DeclaresBackup candidates → IsBest MayBeBackup candidates c → c.address ≡ address → IsBackup candidates address
-  Nobody : HasNone MayBeBackup candidates → address ≡ nowhere → IsBackup candidates address
+  Declared : (c : Candidate) → IsBestIn DeclaresBackup candidates c → c.address ≡ address → IsBackup candidates address
+  Ranked : (c : Candidate) → HasNoneIn DeclaresBackup candidates → IsBestIn MayBeBackup candidates c → c.address ≡ address → IsBackup candidates address
+  Nobody : HasNoneIn MayBeBackup candidates → address ≡ nowhere → IsBackup candidates address
 
 -- the new DR: the best that declares itself so; else the new Backup (9.4, step 3)
 pub data IsDr (candidates : List Candidate) (backup address : Addr) : Type 0 where
-  Declared : (c : Candidate) → IsBest DeclaresDr candidates c → c.address ≡ address → IsDr candidates backup address
-  Promoted : HasNone DeclaresDr candidates → address ≡ backup → IsDr candidates backup address
+  Declared : (c : Candidate) → IsBestIn DeclaresDr candidates c → c.address ≡ address → IsDr candidates backup address
+  Promoted : HasNoneIn DeclaresDr candidates → address ≡ backup → IsDr candidates backup address
 
 -- one round: steps 2 and 3 (9.4)
-pub record IsRound (candidates : List Candidate) (e : Elected) : Type 0 where
+pub record IsElectionRound (candidates : List Candidate) (e : Elected) : Type 0 where
   pub backup : IsBackup candidates e.backup
   pub dr : IsDr candidates e.backup e.dr
 
@@ -82,8 +82,8 @@ pub record IsElected (candidates : List Candidate) (me : RouterId) (e : Elected)
   pub member : Contains candidates own
   pub is_me : own.id ≡ me
   pub first : Elected
-  pub round : IsRound candidates first
-  pub again : MatchBool (changes_role own first) (IsRound (map (declaring me first) candidates) e) (e ≡ first)
+  pub round : IsElectionRound candidates first
+  pub again : MatchBool (changes_role own first) (IsElectionRound (map (declaring me first) candidates) e) (e ≡ first)
 
 -- the candidates' Router IDs differ
 abbrev pub AreDistinct : List Candidate → Type 0
@@ -94,9 +94,9 @@ abbrev pub HasMe : List Candidate → RouterId → Type 0
 HasMe candidates me = (c : Candidate) × Contains candidates c × (c.id ≡ me)
 
 -- the candidates' Router IDs rise
-abbrev pub IsRising : List Candidate → Type 0
-IsRising [] = Unit {0}
-IsRising (c ∷ cs) = AllByRecursion (λ (d : Candidate). c.id.0 < d.id.0) cs × IsRising cs
+abbrev pub AreCandidatesRising : List Candidate → Type 0
+AreCandidatesRising [] = Unit {0}
+AreCandidatesRising (c ∷ cs) = AllByRecursion (λ (d : Candidate). c.id.0 < d.id.0) cs × AreCandidatesRising cs
 
 -- no candidate has this Router ID
 abbrev pub AreOthers : RouterId → List Candidate → Type 0

@@ -3,7 +3,7 @@ use Rattle.std.specs.Prelude.{◌≡◌, ◌↔◌, List, ◌∷◌, Contains}
 use Rattle.ospf_base.specs.declared.ids.RouterId.{RouterId}
 use Rattle.ospf_election.specs.declared.candidate.Candidate.{Candidate}
 use Rattle.ospf_election.specs.declared.candidate.Elected.{Elected}
-use Rattle.ospf_election.specs.Election.{IsElected, AreDistinct, AreOthers, HasMe, IsRising}
+use Rattle.ospf_election.specs.Election.{IsElected, AreDistinct, AreOthers, HasMe, AreCandidatesRising}
 
 -- the order of the candidates does not matter, nor does one that stands twice
 abbrev pub OrderDoesNotMatter : Type 0
@@ -18,4 +18,4 @@ OneResult = (candidates : List Candidate) (me : RouterId) (e f : Elected)
 -- a router beside others, whose Router IDs rise, can be elected from among them, as itself
 abbrev pub OwnBesideOthers : Type 0
 OwnBesideOthers = (own : Candidate) (others : List Candidate)
-    → IsRising others → AreOthers own.id others → AreDistinct (own ∷ others) × HasMe (own ∷ others) own.id
+    → AreCandidatesRising others → AreOthers own.id others → AreDistinct (own ∷ others) × HasMe (own ∷ others) own.id

@@ -2,7 +2,7 @@
 
 ghost use Rattle.std.specs.Prelude.{◌≡◌, ◌<◌, ◌↔◌, IsTrue, IfSome, IfNone, Contains, map};
 ghost use Rattle.ospf_election.specs.Choice.{BestOr, BelongsTo};
-ghost use Rattle.ospf_election.specs.Election.{changes_role, declaring, AreDistinct, HasMe, HasNone, IsBest, IsDr, IsBackup, IsElected, IsRound, Outranks};
+ghost use Rattle.ospf_election.specs.Election.{changes_role, declaring, AreDistinct, HasMe, HasNoneIn, IsBestIn, IsDr, IsBackup, IsElected, IsElectionRound, Outranks};
 
 use crate::candidate::{Candidate, Elected};
 use ospf_base::{Addr, RouterId};
@@ -56,7 +56,7 @@ fn find_me(candidates: &[Candidate], me: RouterId) -> Candidate
 
 // One round, the router itself declaring `own`.
 fn round(candidates: &[Candidate], me: RouterId, own: Elected) -> Elected
-    ensures { IsRound (map (declaring me own) candidates.now) result }
+    ensures { IsElectionRound (map (declaring me own) candidates.now) result }
 {
     let backup = backup(candidates, me, own);
     Elected {
@@ -85,9 +85,9 @@ fn best(
     own: Elected,
     standing: Standing,
 ) -> Option<Candidate>
-    ensures some { IfSome result (IsBest (BelongsTo standing)
+    ensures some { IfSome result (IsBestIn (BelongsTo standing)
         (map (declaring me own) candidates.now)) }
-    ensures none { IfNone result (HasNone (BelongsTo standing)
+    ensures none { IfNone result (HasNoneIn (BelongsTo standing)
         (map (declaring me own) candidates.now)) }
 {
     let mut best = None;

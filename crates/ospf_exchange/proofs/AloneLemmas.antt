@@ -4,7 +4,7 @@ use Rattle.std.specs.List.{AllByRecursion}
 use Rattle.ospf_base.specs.Keys.{Precedes, same_key}
 use Rattle.ospf_base.proofs.SameKeys.{same_key-apart}
 use Rattle.ospf_base.specs.declared.ids.LsaKey.{LsaKey}
-use Rattle.ospf_lsdb.specs.Database.{Entry, Held, IsRising, entries, instance_at, is_fresh, key_at, key_in}
+use Rattle.ospf_lsdb.specs.Database.{Entry, Held, AreKeysRising, entries, instance_at, is_fresh, key_at, key_in}
 use Rattle.ospf_lsdb.proofs.EntryLemmas.{key_of-with_age}
 use Rattle.ospf_neighbour.specs.OneAKey.{IsAloneOfKeys}
 use Rattle.ospf_neighbour.specs.declared.neighbour.Listed.{Listed}
@@ -38,7 +38,7 @@ alone_if true e kept tick apart alone = (apart, alone)
 alone_if false e kept tick apart alone = alone
 
 -- of each key a database has one entry
-pub alone_expired : (tick : ℕ) (db : List Held) → IsRising db → IsAloneOfKeys (expired_of tick (entries db))
+pub alone_expired : (tick : ℕ) (db : List Held) → AreKeysRising db → IsAloneOfKeys (expired_of tick (entries db))
 alone_expired tick [] rises = tt
 alone_expired tick (h ∷ hs) rises =
     alone_if (not (is_fresh h.entry)) h.entry (filter (λ e. not (is_fresh e)) (entries hs)) tick (apart_all tick h hs rises.0) (alone_expired tick hs rises.1)

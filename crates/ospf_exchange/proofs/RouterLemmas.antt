@@ -4,7 +4,7 @@ use Rattle.ospf_lsa.specs.declared.header.LsaHeader.{LsaHeader}
 use Rattle.ospf_lsdb.specs.Database.{Held}
 use Rattle.ospf_packet.specs.declared.body.Description.{Description}
 use Rattle.ospf_neighbour.specs.Neighbour.{NeighbourValue}
-use Rattle.ospf_exchange.specs.Exchange.{begun, told, describes, ends, all_told, turn_of_master, turn_of_slave, taken, after_rule, after_dd}
+use Rattle.ospf_exchange.specs.Exchange.{begun, accepted, describes, ends, all_told, turn_of_master, turn_of_slave, taken, after_rule, after_dd}
 use Rattle.ospf_exchange.specs.Headers.{wanted}
 use Rattle.ospf_exchange.specs.Laws.{DescriptionsKeepRouters, KeepsRouter}
 use Rattle.ospf_exchange.specs.Rules.{all_known, dd_rule, considered}
@@ -29,7 +29,7 @@ by_describes local number n = record { router = refl; address = refl }
 by_ends : (n : NeighbourValue) → KeepsRouter n (ends n)
 by_ends n = record { router = refl; address = refl }
 
-by_told : (d : Description) (hs : List LsaHeader) (n : NeighbourValue) → KeepsRouter n (told d hs n)
+by_told : (d : Description) (hs : List LsaHeader) (n : NeighbourValue) → KeepsRouter n (accepted d hs n)
 by_told d hs n = record { router = refl; address = refl }
 
 by_begun : (is_master : Bool) (tick : ℕ) (db : List Held) (n : NeighbourValue) → KeepsRouter n (begun is_master tick db n)
@@ -47,7 +47,7 @@ by_slave local d n =
 by_taken : (local : Local) (d : Description) (headers : List LsaHeader) (db : List Held) (n : NeighbourValue) → KeepsRouter n (taken local d headers db n)
 unfolding taken
 by_taken local d headers db n =
-    let m = told d (wanted db headers) n in
+    let m = accepted d (wanted db headers) n in
     let p = by_told d (wanted db headers) n in
     either n.exchanging.is_master n (turn_of_master local d m) (turn_of_slave local d m) (both n m (turn_of_master local d m) p (by_master local d m)) (both n m (turn_of_slave local d m) p (by_slave local d m))
 

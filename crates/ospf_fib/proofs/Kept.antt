@@ -3,11 +3,11 @@ use Rattle.std.proofs.Common.{◌≡◌, ⊎_elim, ℕ, true, false, List, [], �
 use Rattle.crossbeam_utils.specs.Register.{Admits, Turns, TurnsAt, Forks, Merges}
 use Rattle.atomic_table.proofs.Lists.{at_set, at_snoc, set_again}
 use Rattle.ospf_index.specs.Rule.{counter_of}
-use Rattle.ospf_fib.specs.declared.shown.Shown.{Shown}
-use Rattle.ospf_fib.specs.declared.shown.Handed.{Handed}
+use Rattle.ospf_fib.specs.declared.shown.ShownTable.{ShownTable}
+use Rattle.ospf_fib.specs.declared.shown.HandedOver.{HandedOver}
 use Rattle.ospf_fib.specs.declared.shown.Common.{Common}
 use Rattle.ospf_fib.specs.declared.rule.Knows.{Knows}
-use Rattle.ospf_fib.specs.Writing.{after}
+use Rattle.ospf_fib.specs.Writing.{shown_after}
 use Rattle.ospf_fib.specs.Rule.{IsOneList, FindsItsList, NamesTheList, knows, newcomer}
 
 -- a newcomer is not named
@@ -23,7 +23,7 @@ pub enters : (place : ℕ) (v : Knows) → Turns IsOneList place v (λ x. x) Fin
 enters place v x views h at = (v, subst (IsOneList x) (sym (set_again views place v at)) h, (refl, h place v at))
 
 -- the writer may swap, to a table of the same list
-pub swaps : (place : ℕ) (v : Knows) (x y : Shown) → counter_of y.known.fib ≡ counter_of x.known.fib → TurnsAt IsOneList place v x y NamesTheList
+pub swaps : (place : ℕ) (v : Knows) (x y : ShownTable) → counter_of y.known.fib ≡ counter_of x.known.fib → TurnsAt IsOneList place v x y NamesTheList
 swaps place v x y same views h at = (
   knows true y.known.fib,
   (λ j u e p. ⊎_elim (λ t. sym (ap (λ k. k.counter) t.1)) (λ t. h j u t.1 p ∙ sym same) (at_set views place j (knows true y.known.fib) u e)),
@@ -44,6 +44,6 @@ merges place v other w x views h at apart there j u e p =
     (at_set (set views place w) other j newcomer u e)
 
 -- what all that waits comes to, with one more
-pub end_snoc : (first : Common) (xs : List Handed) (next : Handed) → fold after first (xs ++ next ∷ []) ≡ after (fold after first xs) next
+pub end_snoc : (first : Common) (xs : List HandedOver) (next : HandedOver) → fold shown_after first (xs ++ next ∷ []) ≡ shown_after (fold shown_after first xs) next
 end_snoc first [] next = refl
-end_snoc first (x ∷ xs) next = end_snoc (after first x) xs next
+end_snoc first (x ∷ xs) next = end_snoc (shown_after first x) xs next

@@ -6,7 +6,7 @@ use Rattle.ospf_graph.specs.declared.route.Route.{Route}
 use Rattle.ospf_graph.specs.Walk.{IsBest}
 use Rattle.ospf_index.specs.Known.{Table}
 use Rattle.ospf_fib.specs.declared.answer.Answer.{Answer}
-use Rattle.ospf_fib.specs.Versions.{IsLast}
+use Rattle.ospf_fib.specs.Versions.{IsLastTable}
 
 -- no route's prefix holds the address
 abbrev pub IsUnreached : Table → Addr → Type 0
@@ -30,5 +30,5 @@ IsAnswer table version address choice answer = MatchOption answer (IsUnreached t
 pub record IsAnswerOfLast (tables : List Table) (address : Addr) (choice : ℕ) (answer : Option Answer) : Type 0 where
   pub version : ℕ
   pub table : Table
-  pub last : IsLast tables version table
+  pub last : IsLastTable tables version table
   pub answers : IsAnswer table version address choice answer

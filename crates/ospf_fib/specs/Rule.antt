@@ -4,11 +4,11 @@ use mathlib.Core.Option.{some}
 use lib.ListN.{get_elem?}
 use Rattle.logbook.specs.Pages.{Book}
 use Rattle.ospf_index.specs.Rule.{counter_of}
-use Rattle.ospf_fib.specs.declared.shown.Shown.{Shown}
+use Rattle.ospf_fib.specs.declared.shown.ShownTable.{ShownTable}
 use Rattle.ospf_fib.specs.declared.rule.Knows.{Knows}
 
 -- each place that knows a list knows that of the table that is shown
-abbrev pub IsOneList : Shown → List Knows → Type 0
+abbrev pub IsOneList : ShownTable → List Knows → Type 0
 IsOneList shown views = (place : ℕ) (v : Knows) → get_elem? views place ≡ some v → IsTrue v.named → v.counter ≡ counter_of shown.known.fib
 
 abbrev pub knows : Bool → Book → Knows
@@ -19,13 +19,13 @@ abbrev pub newcomer : Knows
 newcomer = knows false (record { number = 0; log_name = 0; cells_name = 0 })
 
 -- an entry leaves what the place knows, and what it finds is of the list that the place knows
-abbrev pub FindsItsList : Knows → Shown → Shown → Knows → Type 0
+abbrev pub FindsItsList : Knows → ShownTable → ShownTable → Knows → Type 0
 FindsItsList before was found after = (after ≡ before) × (IsTrue before.named → before.counter ≡ counter_of found.known.fib)
 
 -- the swap lets the writer's place know the list of what is shown from then on
-abbrev pub NamesTheList : Knows → Shown → Shown → Knows → Type 0
+abbrev pub NamesTheList : Knows → ShownTable → ShownTable → Knows → Type 0
 NamesTheList before was next after = after ≡ knows true next.known.fib
 
 -- the place knows this list
-abbrev pub IsNamed : Knows → Book → Type 0
-IsNamed v fib = v ≡ knows true fib
+abbrev pub IsKnownBook : Knows → Book → Type 0
+IsKnownBook v fib = v ≡ knows true fib

@@ -5,7 +5,7 @@ use Rattle.ospf_spf.specs.Changes.{edited}
 use Rattle.ospf_spf.specs.declared.changes.Change.{Change}
 
 -- the table is the last one of the list, and its version is its place there, modulo 2^64
-pub record IsLast (tables : List Table) (version : ℕ) (table : Table) : Type 0 where
+pub record IsLastTable (tables : List Table) (version : ℕ) (table : Table) : Type 0 where
   pub before : List Table
   pub ends : tables ≡ before ++ table ∷ []
   pub version_is : version ≡ length before % 2 ^ 64

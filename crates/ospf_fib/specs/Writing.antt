@@ -1,24 +1,24 @@
 -- What the writer's copies show, and what they come to.
 use Rattle.std.specs.Prelude.{◌≡◌, ◌++◌, ◌∷◌, [], true, List, fold}
 use Rattle.ospf_index.specs.Known.{Known, Table}
-use Rattle.ospf_fib.specs.declared.shown.Shown.{Shown}
-use Rattle.ospf_fib.specs.declared.shown.Handed.{Handed}
+use Rattle.ospf_fib.specs.declared.shown.ShownTable.{ShownTable}
+use Rattle.ospf_fib.specs.declared.shown.HandedOver.{HandedOver}
 use Rattle.ospf_fib.specs.declared.shown.Common.{Common}
 use Rattle.ospf_fib.specs.Versions.{shown_tables, after_of, edited_by}
 
 -- readers find the last table of this list
-abbrev pub IsShown : Shown → Known → Type 0
-IsShown shown known = (shown.live ≡ true) × (shown.known ≡ known)
+abbrev pub IsListShown : ShownTable → Known → Type 0
+IsListShown shown known = (shown.live ≡ true) × (shown.known ≡ known)
 
-abbrev pub common_of : Shown → Common
+abbrev pub common_of : ShownTable → Common
 common_of shown = record { table = shown.table; list = record { fib = shown.known.fib; tables = shown_tables shown.live shown.table shown.known.tables } }
 
-abbrev pub after : Common → Handed → Common
-after was next = record { table = edited_by next.is_opening was.table next.changes; list = record { fib = next.known.fib; tables = after_of next.is_opening (edited_by next.is_opening was.table next.changes) next.known.tables } }
+abbrev pub shown_after : Common → HandedOver → Common
+shown_after was next = record { table = edited_by next.is_opening was.table next.changes; list = record { fib = next.known.fib; tables = after_of next.is_opening (edited_by next.is_opening was.table next.changes) next.known.tables } }
 
 -- what is shown comes to this, once all that waits is absorbed
-abbrev pub end_of : Shown → List Handed → Common
-end_of shown waiting = fold after (common_of shown) waiting
+abbrev pub shown_end : ShownTable → List HandedOver → Common
+shown_end shown waiting = fold shown_after (common_of shown) waiting
 
 -- a list with one table more
 abbrev pub with_table : Known → Table → Known

@@ -3,7 +3,7 @@
 ghost use Rattle.std.specs.Prelude.{◌≡◌, true};
 ghost use Rattle.ospf_fib.specs.Answers.{IsAnswer, IsAnswerOfLast};
 
-use crate::shown::Shown;
+use crate::shown::ShownTable;
 use ospf_base::{Addr, Prefix};
 use ospf_graph::NextHop;
 use ospf_index::IndexedTable;
@@ -22,7 +22,7 @@ pub struct Answer {
 }
 
 // The answer of what is shown to readers.
-pub(crate) fn answer_of_shown(shown: &Shown, address: Addr, choice: u32) -> Option<Answer>
+pub(crate) fn answer_of_shown(shown: &ShownTable, address: Addr, choice: u32) -> Option<Answer>
     requires { shown.now.live ≡ true }
     ensures { IsAnswerOfLast shown.now.known.tables address choice result }
 {

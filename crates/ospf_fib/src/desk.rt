@@ -4,16 +4,16 @@ ghost use Rattle.std.specs.Prelude.{◌≡◌, ◌≤◌, ◌+◌, ◌∷◌, �
 ghost use Rattle.std.specs.Arc.{arc_value};
 ghost use Rattle.left_right.specs.Sides.{view};
 ghost use Rattle.ospf_index.specs.Rule.{counter_of};
-ghost use Rattle.ospf_fib.specs.Rule.{IsNamed};
+ghost use Rattle.ospf_fib.specs.Rule.{IsKnownBook};
 ghost use Rattle.ospf_fib.specs.Versions.{EndsWith};
-ghost use Rattle.ospf_fib.specs.Writing.{common_of, end_of, with_table};
+ghost use Rattle.ospf_fib.specs.Writing.{common_of, shown_end, with_table};
 ghost use Rattle.ospf_spf.specs.Changes.{edited};
 
 use crate::changes::Changes;
 use crate::rule::{Knows, OneList, Swaps};
 use crate::seat::Told;
-use crate::shown::{Handed, Shown, Tries};
-use ospf_index::{Counter, IndexedTable, Opened, Sole};
+use crate::shown::{HandedOver, ShownTable, Tries};
+use ospf_index::{ClosedList, Counter, IndexedTable, Opened};
 use ospf_spf::{Edit, RouteTable};
 use std::alloc::{AllocError, Global};
 use std::marker::Model;
@@ -21,37 +21,37 @@ use std::sync::atomic::Ordering;
 use std::sync::{Arc, Wait};
 use std::thread;
 
-pub(crate) type Copies = left_right::writer::Writer<Shown, Handed, Knows, OneList>;
+pub(crate) type Copies = left_right::writer::Writer<ShownTable, HandedOver, Knows, OneList>;
 
-pub(crate) struct Desk {
+pub(crate) struct Publisher {
     pub copies: Copies,
-    pub sole: Sole,
+    pub sole: ClosedList,
     // What readers will find once all that was handed over is shown.
     pub handed: RouteTable,
     pub tries: Arc<Tries>,
     pub alloc: Global,
 }
 
-impl Model for Desk {
+impl Model for Publisher {
     ghost use Rattle.std.specs.Prelude.{◌≡◌, drop};
     ghost use Rattle.std.specs.Arc.{arc_value};
     ghost use Rattle.left_right.specs.Sides.{view as view_of};
     ghost use Rattle.ospf_index.specs.Known.{Known};
     ghost use Rattle.ospf_index.specs.Rule.{counter_of};
-    ghost use Rattle.ospf_fib.specs.Rule.{IsNamed};
-    ghost use Rattle.ospf_fib.specs.Writing.{IsShown, end_of};
+    ghost use Rattle.ospf_fib.specs.Rule.{IsKnownBook};
+    ghost use Rattle.ospf_fib.specs.Writing.{IsListShown, shown_end};
 
     ghost Value = { Known };
 
     ghost view = { λ d. d.sole };
 
-    ghost invariant = { λ d. IsNamed (view_of d.copies.desk.place) d.sole.fib
-        × IsShown d.copies.desk.shown.value d.sole
-        × ((end_of d.copies.desk.shown.value (drop d.copies.behind d.copies.log.items)).table ≡ d.handed)
+    ghost invariant = { λ d. IsKnownBook (view_of d.copies.desk.place) d.sole.fib
+        × IsListShown d.copies.desk.shown.value d.sole
+        × ((shown_end d.copies.desk.shown.value (drop d.copies.behind d.copies.log.items)).table ≡ d.handed)
         × ((arc_value d.tries).counter ≡ counter_of d.sole.fib) };
 }
 
-impl Desk {
+impl Publisher {
     // The table that readers find.
     pub fn shown(&self) -> &IndexedTable
         ensures { EndsWith self.now.tables result.now }
@@ -60,7 +60,11 @@ impl Desk {
     }
 
     /// Publishes a table. At `Err` what readers find and the list are as they were.
-    pub fn publish<R: Wait>(self, rt: &R, table: &RouteTable) -> (Desk, Result<Told, AllocError>)
+    pub fn publish<R: Wait>(
+        self,
+        rt: &R,
+        table: &RouteTable,
+    ) -> (Publisher, Result<Told, AllocError>)
         ensures fib { result.0.fib ≡ self.fib }
         ensures published { IfOk result.1 (λ _. result.0.tables ≡ self.tables ++ table.now ∷ []) }
         ensures told { IfOk result.1 (λ told. told ≡ result.0) }
@@ -69,7 +73,7 @@ impl Desk {
         let Ok(plan) = planned(self.alloc, &self.handed, &self.tries, table) else {
             return (self, Err(AllocError));
         };
-        let Desk {
+        let Publisher {
             copies,
             sole,
             handed,
@@ -78,7 +82,7 @@ impl Desk {
         } = self;
         match sole.open(&tries.counter) {
             Ok(opened) => {
-                let open = OpenDesk {
+                let open = OpenPublisher {
                     copies,
                     opened,
                     handed,
@@ -88,7 +92,7 @@ impl Desk {
                 open.publish(rt, plan)
             }
             Err(sole) => {
-                let desk = Desk {
+                let desk = Publisher {
                     copies,
                     sole,
                     handed,
@@ -111,7 +115,7 @@ impl Desk {
 }
 
 // The list is closed again. Nobody adds a table beside this publish, which is not proved.
-pub(crate) fn closed<R: Wait>(rt: &R, opened: &Opened, counter: &Counter) -> Sole
+pub(crate) fn closed<R: Wait>(rt: &R, opened: &Opened, counter: &Counter) -> ClosedList
     requires { counter.now ≡ counter_of opened.now.fib }
     ensures { result ≡ opened.now }
 {
@@ -124,12 +128,12 @@ pub(crate) fn closed<R: Wait>(rt: &R, opened: &Opened, counter: &Counter) -> Sol
 
 // Readers find all that was handed over from now on. At `Err` they find what they found.
 pub(crate) fn show<R: Wait>(copies: Copies, rt: &R) -> (Copies, Result<(), AllocError>)
-    requires { (end_of copies.desk.shown.value (drop copies.behind copies.log.items)).list.fib
+    requires { (shown_end copies.desk.shown.value (drop copies.behind copies.log.items)).list.fib
         ≡ copies.desk.shown.value.known.fib }
     // Readers find where the log led, under the same place, and nothing is left to hand over.
     ensures shown { IfOk result.1 (λ _. common_of result.0.desk.shown.value
-        ≡ end_of copies.desk.shown.value (drop copies.behind copies.log.items)) }
-    ensures named { IfOk result.1 (λ _. IsNamed (view result.0.desk.place)
+        ≡ shown_end copies.desk.shown.value (drop copies.behind copies.log.items)) }
+    ensures named { IfOk result.1 (λ _. IsKnownBook (view result.0.desk.place)
         result.0.desk.shown.value.known.fib) }
     ensures done { IfOk result.1 (λ _. drop result.0.behind result.0.log.items ≡ []) }
     // Where it is refused they find what they found, and the log waits as it did.
@@ -143,7 +147,7 @@ pub(crate) fn show<R: Wait>(copies: Copies, rt: &R) -> (Copies, Result<(), Alloc
 
 /// Changes that are to be handed over, with the memory to keep up with them.
 #[derive(Drop)]
-struct Plan {
+struct HandOver {
     changes: Changes,
     edit: Edit,
     tries: Arc<Tries>,
@@ -151,7 +155,7 @@ struct Plan {
 }
 
 /// The desk while the list is open, which is within a publish alone.
-struct OpenDesk {
+struct OpenPublisher {
     copies: Copies,
     opened: Opened,
     handed: RouteTable,
@@ -159,30 +163,30 @@ struct OpenDesk {
     alloc: Global,
 }
 
-impl Model for OpenDesk {
+impl Model for OpenPublisher {
     ghost use Rattle.std.specs.Prelude.{◌≡◌, drop};
     ghost use Rattle.std.specs.Arc.{arc_value};
     ghost use Rattle.left_right.specs.Sides.{view as view_of};
     ghost use Rattle.ospf_index.specs.Rule.{counter_of};
-    ghost use Rattle.ospf_fib.specs.Rule.{IsNamed};
-    ghost use Rattle.ospf_fib.specs.Writing.{IsShown, Offer, end_of};
+    ghost use Rattle.ospf_fib.specs.Rule.{IsKnownBook};
+    ghost use Rattle.ospf_fib.specs.Writing.{IsListShown, Offer, shown_end};
 
     ghost Value = { Offer };
 
-    ghost view = { λ d. record { list = d.opened; end = end_of d.copies.desk.shown.value (drop d.copies.behind d.copies.log.items) } };
+    ghost view = { λ d. record { list = d.opened; end = shown_end d.copies.desk.shown.value (drop d.copies.behind d.copies.log.items) } };
 
-    ghost invariant = { λ d. IsNamed (view_of d.copies.desk.place) d.opened.fib
-        × IsShown d.copies.desk.shown.value d.opened
-        × ((end_of d.copies.desk.shown.value (drop d.copies.behind d.copies.log.items)).table ≡ d.handed)
+    ghost invariant = { λ d. IsKnownBook (view_of d.copies.desk.place) d.opened.fib
+        × IsListShown d.copies.desk.shown.value d.opened
+        × ((shown_end d.copies.desk.shown.value (drop d.copies.behind d.copies.log.items)).table ≡ d.handed)
         × ((arc_value d.tries).counter ≡ counter_of d.opened.fib) };
 }
 
-impl OpenDesk {
+impl OpenPublisher {
     // Closes the list, which is as it was.
-    fn close<R: Wait>(self, rt: &R) -> Desk
+    fn close<R: Wait>(self, rt: &R) -> Publisher
         ensures { result ≡ self.list }
     {
-        let OpenDesk {
+        let OpenPublisher {
             copies,
             opened,
             handed,
@@ -190,7 +194,7 @@ impl OpenDesk {
             alloc,
         } = self;
         let sole = closed(rt, &opened, &tries.counter);
-        Desk {
+        Publisher {
             copies,
             sole,
             handed,
@@ -200,7 +204,7 @@ impl OpenDesk {
     }
 
     // Hands changes over. At `Err` nothing was handed over.
-    fn hand_over(self, plan: Plan) -> (OpenDesk, Result<(), AllocError>)
+    fn hand_over(self, plan: HandOver) -> (OpenPublisher, Result<(), AllocError>)
         // The plan is whole: its edit is of its changes, has room, and counts for this table.
         requires edit { plan.edit.changes ≡ plan.changes }
         requires room { length self.end.table + length plan.changes ≤ plan.edit.room }
@@ -210,20 +214,20 @@ impl OpenDesk {
         ensures handed { OnOk result.1 (result.0.end.list
             ≡ with_table self.list (edited self.end.table plan.changes)) }
     {
-        let OpenDesk {
+        let OpenPublisher {
             mut copies,
             opened,
             mut handed,
             tries,
             alloc,
         } = self;
-        let Plan {
+        let HandOver {
             changes,
             edit,
             tries: shared,
             number,
         } = plan;
-        let next = Handed {
+        let next = HandedOver {
             is_opening: false,
             number,
             changes,
@@ -232,7 +236,7 @@ impl OpenDesk {
             alloc,
         };
         if let Err(_refused) = copies.append(next) {
-            let open = OpenDesk {
+            let open = OpenPublisher {
                 copies,
                 opened,
                 handed,
@@ -242,7 +246,7 @@ impl OpenDesk {
             return (open, Err(AllocError));
         }
         handed.make(edit);
-        let open = OpenDesk {
+        let open = OpenPublisher {
             copies,
             opened,
             handed,
@@ -253,12 +257,12 @@ impl OpenDesk {
     }
 
     // Shows readers all that was handed over. At `Err` they find what they found, and it waits.
-    fn show<R: Wait>(self, rt: &R) -> (Desk, Result<(), AllocError>)
+    fn show<R: Wait>(self, rt: &R) -> (Publisher, Result<(), AllocError>)
         requires { self.end.list.fib ≡ self.list.fib }
         ensures shown { OnOk result.1 (result.0 ≡ self.end.list) }
         ensures refused { OnErr result.1 (result.0 ≡ self.list) }
     {
-        let OpenDesk {
+        let OpenPublisher {
             copies,
             opened,
             handed,
@@ -270,7 +274,7 @@ impl OpenDesk {
             Ok(()) => closed_shown(rt, copies.published(), &tries.counter),
             Err(_) => closed(rt, &opened, &tries.counter),
         };
-        let desk = Desk {
+        let desk = Publisher {
             copies,
             sole,
             handed,
@@ -281,7 +285,7 @@ impl OpenDesk {
     }
 
     // Publishes the table that the changes lead to.
-    fn publish<R: Wait>(self, rt: &R, plan: Plan) -> (Desk, Result<Told, AllocError>)
+    fn publish<R: Wait>(self, rt: &R, plan: HandOver) -> (Publisher, Result<Told, AllocError>)
         // The plan is whole: its edit is of its changes, has room, and counts for this table.
         requires edit { plan.edit.changes ≡ plan.changes }
         requires room { length self.end.table + length plan.changes ≤ plan.edit.room }
@@ -314,7 +318,7 @@ fn planned(
     handed: &RouteTable,
     tries: &Arc<Tries>,
     table: &RouteTable,
-) -> Result<Plan, AllocError>
+) -> Result<HandOver, AllocError>
     ensures changes { IfOk result (λ plan. edited handed.now plan.changes ≡ table.now) }
     ensures edit { IfOk result (λ plan. plan.edit.changes ≡ plan.changes) }
     ensures room { IfOk result (λ plan. length handed.now + length plan.changes ≤ plan.edit.room) }
@@ -325,7 +329,7 @@ fn planned(
     let tries = Arc::try_clone(tries)?;
     let number = tries.present.load(Ordering::SeqCst).wrapping_add(1);
     tries.present.store(number, Ordering::SeqCst);
-    Ok(Plan {
+    Ok(HandOver {
         changes: Changes::of(changes),
         edit,
         tries,
@@ -345,7 +349,7 @@ fn wait_forever<R: Wait>(rt: &R)
 
 // The list that what is shown ends is closed again. The table was added to it before it was shown, which is
 // not proved.
-fn closed_shown<R: Wait>(rt: &R, shown: &Shown, counter: &Counter) -> Sole
+fn closed_shown<R: Wait>(rt: &R, shown: &ShownTable, counter: &Counter) -> ClosedList
     requires { counter.now ≡ counter_of shown.now.known.fib }
     ensures live { shown.now.live ≡ true }
     ensures list { result ≡ shown.now.known }

@@ -5,14 +5,14 @@ ghost use Rattle.std.specs.Arc.{arc_value};
 ghost use Rattle.left_right.specs.Sides.{view};
 ghost use Rattle.ospf_index.specs.Known.{opening};
 ghost use Rattle.ospf_index.specs.Rule.{counter_of};
-ghost use Rattle.ospf_fib.specs.Rule.{IsNamed};
-ghost use Rattle.ospf_fib.specs.Writing.{IsShown, end_of};
+ghost use Rattle.ospf_fib.specs.Rule.{IsKnownBook};
+ghost use Rattle.ospf_fib.specs.Writing.{IsListShown, shown_end};
 
 use crate::changes::Changes;
-use crate::desk::{Copies, Desk, closed, show};
+use crate::desk::{Copies, Publisher, closed, show};
 use crate::rule::Tells;
 use crate::seat::Seat;
-use crate::shown::{Handed, Shown, Tries};
+use crate::shown::{HandedOver, ShownTable, Tries};
 use crate::writer::Writer;
 use ospf_index::{IndexedTable, Opened, Published};
 use ospf_spf::RouteTable;
@@ -53,7 +53,7 @@ impl Fib {
         let sole = closed(&rt, &opened, &tries.counter);
         let made = seats_of(alloc, &mut copies, &known, seats);
         // Where a seat was refused, the writer's end takes the copies.
-        let desk = Desk {
+        let desk = Publisher {
             copies,
             sole,
             handed: RouteTable::empty(alloc),
@@ -106,10 +106,10 @@ fn opening_copies<R: Wait>(
     requires opening { known.now.tables ≡ opening }
     requires counter { (arc_value tries.now).counter ≡ counter_of known.now.fib }
     // The writer knows its list, which is shown, and the log leads to a table without routes.
-    ensures named { IfOk result (λ copies. IsNamed (view copies.desk.place) known.now.fib) }
-    ensures shown { IfOk result (λ copies. IsShown copies.desk.shown.value known.now) }
+    ensures named { IfOk result (λ copies. IsKnownBook (view copies.desk.place) known.now.fib) }
+    ensures shown { IfOk result (λ copies. IsListShown copies.desk.shown.value known.now) }
     ensures table { IfOk result (λ copies.
-        (end_of copies.desk.shown.value (drop copies.behind copies.log.items)).table ≡ []) }
+        (shown_end copies.desk.shown.value (drop copies.behind copies.log.items)).table ≡ []) }
 {
     let next = opening_handed(alloc, known, tries)?;
     let one = opening_shown(alloc, known)?;
@@ -131,13 +131,17 @@ fn opening_copies<R: Wait>(
     Err(AllocError)
 }
 
-fn opening_handed(alloc: Global, known: &Opened, tries: &Arc<Tries>) -> Result<Handed, AllocError>
+fn opening_handed(
+    alloc: Global,
+    known: &Opened,
+    tries: &Arc<Tries>,
+) -> Result<HandedOver, AllocError>
     requires known { known.now.tables ≡ opening }
     requires counter { (arc_value tries.now).counter ≡ counter_of known.now.fib }
     ensures opens { IfOk result (λ handed. handed.is_opening ≡ true) }
     ensures known { IfOk result (λ handed. handed.known ≡ known.now) }
 {
-    Ok(Handed {
+    Ok(HandedOver {
         is_opening: true,
         number: 0,
         changes: Changes::none(alloc),
@@ -147,14 +151,14 @@ fn opening_handed(alloc: Global, known: &Opened, tries: &Arc<Tries>) -> Result<H
     })
 }
 
-fn opening_shown(alloc: Global, known: &Opened) -> Result<Shown, AllocError>
+fn opening_shown(alloc: Global, known: &Opened) -> Result<ShownTable, AllocError>
     requires { known.now.tables ≡ opening }
     ensures table { IfOk result (λ shown. shown.table ≡ []) }
     ensures known { IfOk result (λ shown. shown.known ≡ known.now) }
     ensures live { IfOk result (λ shown. shown.live ≡ true) }
 {
     let table = IndexedTable::empty(alloc)?;
-    Ok(Shown {
+    Ok(ShownTable {
         live: true,
         table,
         known: known.copy(),
@@ -168,9 +172,9 @@ fn seats_of(
     known: &Published,
     count: usize,
 ) -> Result<Vec<Seat>, OpenRefused>
-    requires { IsNamed (view copies.old.desk.place) known.now.fib }
+    requires { IsKnownBook (view copies.old.desk.place) known.now.fib }
     // The copies show what they showed.
-    ensures named { IsNamed (view copies.new.desk.place) known.now.fib }
+    ensures named { IsKnownBook (view copies.new.desk.place) known.now.fib }
     ensures shown { copies.new.desk.shown ≡ copies.old.desk.shown }
     ensures waiting { drop copies.new.behind copies.new.log.items
         ≡ drop copies.old.behind copies.old.log.items }
@@ -187,9 +191,9 @@ fn seats_of(
 
 // A seat at the copies, which is told which list they show.
 fn seat_of(copies: &mut Copies, known: &Published) -> Result<Seat, AllocError>
-    requires { IsNamed (view copies.old.desk.place) known.now.fib }
+    requires { IsKnownBook (view copies.old.desk.place) known.now.fib }
     // The copies show what they showed.
-    ensures named { IsNamed (view copies.new.desk.place) known.now.fib }
+    ensures named { IsKnownBook (view copies.new.desk.place) known.now.fib }
     ensures shown { copies.new.desk.shown ≡ copies.old.desk.shown }
     ensures waiting { drop copies.new.behind copies.new.log.items
         ≡ drop copies.old.behind copies.old.log.items }

@@ -1,7 +1,7 @@
 //! The rule of the shared table: all that read it and write it mean one list of published tables. It is
 //! for proofs alone, and nothing here has bytes.
 
-use crate::shown::Shown;
+use crate::shown::ShownTable;
 use atomic_table::{Join, Split};
 use crossbeam_utils::rule::{Outcome, Protocol};
 use ospf_index::Counter;
@@ -15,7 +15,7 @@ pub(crate) struct Knows {
 /// Each place knows the list of the table that is shown, or none.
 pub(crate) struct OneList;
 
-impl Protocol<Shown, Knows> for OneList {
+impl Protocol<ShownTable, Knows> for OneList {
     ghost use Rattle.ospf_fib.specs.Rule.{IsOneList, newcomer};
 
     ghost holds = { IsOneList };
@@ -26,7 +26,7 @@ impl Protocol<Shown, Knows> for OneList {
 /// A reader's entry.
 pub(crate) struct Enters;
 
-impl Outcome<Shown, Knows> for Enters {
+impl Outcome<ShownTable, Knows> for Enters {
     ghost use Rattle.ospf_fib.specs.Rule.{FindsItsList};
 
     ghost then = { FindsItsList };
@@ -35,7 +35,7 @@ impl Outcome<Shown, Knows> for Enters {
 /// The writer's swap.
 pub(crate) struct Swaps;
 
-impl Outcome<Shown, Knows> for Swaps {
+impl Outcome<ShownTable, Knows> for Swaps {
     ghost use Rattle.ospf_fib.specs.Rule.{NamesTheList};
 
     ghost then = { NamesTheList };

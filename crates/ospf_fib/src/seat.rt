@@ -4,11 +4,11 @@ ghost use Rattle.std.specs.Prelude.{◌≡◌, ◌⊎◌, IfOk, OnErr};
 ghost use mathlib.Core.List.{IsPrefix};
 ghost use Rattle.left_right.specs.Sides.{view};
 ghost use Rattle.ospf_fib.specs.Answers.{IsAnswerOfLast};
-ghost use Rattle.ospf_fib.specs.Rule.{IsNamed};
+ghost use Rattle.ospf_fib.specs.Rule.{IsKnownBook};
 
 use crate::answer::{Answer, answer_of_shown};
 use crate::rule::{Enters, Knows, OneList};
-use crate::shown::Shown;
+use crate::shown::ShownTable;
 use core::mem::replace_with;
 use left_right::reader::Reader;
 use ospf_base::Addr;
@@ -70,20 +70,20 @@ impl Told {
 /// A thread's place at a forwarding table. Proofs see the tables that it knows to be published; it keeps
 /// no table and no answer.
 pub struct Seat {
-    reader: Reader<Shown, Knows, OneList>,
+    reader: Reader<ShownTable, Knows, OneList>,
     pub(crate) known: Published,
 }
 
 impl Model for Seat {
     ghost use Rattle.left_right.specs.Sides.{view as view_of};
     ghost use Rattle.ospf_index.specs.Known.{Known};
-    ghost use Rattle.ospf_fib.specs.Rule.{IsNamed};
+    ghost use Rattle.ospf_fib.specs.Rule.{IsKnownBook};
 
     ghost Value = { Known };
 
     ghost view = { λ s. s.known };
 
-    ghost invariant = { λ s. IsNamed (view_of s.reader.place) s.known.fib };
+    ghost invariant = { λ s. IsKnownBook (view_of s.reader.place) s.known.fib };
 }
 
 impl Drop for Seat {
@@ -129,8 +129,8 @@ impl Seat {
         self.known.take_later(&told.known);
     }
 
-    pub(crate) fn new(reader: Reader<Shown, Knows, OneList>, known: Published) -> Seat
-        requires { IsNamed (view reader.place) known.fib }
+    pub(crate) fn new(reader: Reader<ShownTable, Knows, OneList>, known: Published) -> Seat
+        requires { IsKnownBook (view reader.place) known.fib }
         ensures { result ≡ known }
     {
         Seat { reader, known }
@@ -140,17 +140,17 @@ impl Seat {
 // Enters, and looks the address up in what is shown. That is live and no earlier than what was known, which
 // is not proved: else the answer is `Closed`.
 fn look_up(
-    reader: Reader<Shown, Knows, OneList>,
+    reader: Reader<ShownTable, Knows, OneList>,
     known: Published,
     address: Addr,
     choice: u32,
 ) -> (
-    Reader<Shown, Knows, OneList>,
+    Reader<ShownTable, Knows, OneList>,
     (Published, Result<Option<Answer>, Closed>),
 )
-    requires { IsNamed (view reader.place) known.fib }
+    requires { IsKnownBook (view reader.place) known.fib }
     // The reader stays one of the same table.
-    ensures named { IsNamed (view result.0.place) known.fib }
+    ensures named { IsKnownBook (view result.0.place) known.fib }
     ensures fib { result.1.0.fib ≡ known.fib }
     // An answer is that of the last table of a list that goes on where the known one ended.
     ensures known { IfOk result.1.1 (λ _. IsPrefix known.tables result.1.0.tables) }

@@ -24,14 +24,14 @@ pub(crate) struct Tries {
 
 /// A table, and the published list that it ends. Where it is not live, the list is what was published before.
 #[derive(Drop)]
-pub(crate) struct Shown {
+pub(crate) struct ShownTable {
     pub live: bool,
     pub table: IndexedTable,
     pub known: Opened,
     pub ghost ends: { found_of live table known.tables ≡ Some table },
 }
 
-impl Absorb<Handed> for Shown {
+impl Absorb<HandedOver> for ShownTable {
     ghost use Rattle.ospf_fib.specs.Versions.{shown_tables, after_of, edited_by};
 
     type State = Common;
@@ -40,8 +40,12 @@ impl Absorb<Handed> for Shown {
 
     ghost applied = { λ was next. record { table = edited_by next.is_opening was.table next.changes; list = record { fib = next.known.fib; tables = after_of next.is_opening (edited_by next.is_opening was.table next.changes) next.known.tables } } };
 
-    fn absorb_first(&mut self, operation: &Handed, _other: &Shown) -> Result<(), AllocError> {
-        let Shown { live, table, known } = self;
+    fn absorb_first(
+        &mut self,
+        operation: &HandedOver,
+        _other: &ShownTable,
+    ) -> Result<(), AllocError> {
+        let ShownTable { live, table, known } = self;
         operation.edit(table)?;
         let (added, list) = operation.announced(table.table());
         *live = operation.is_opening || added;
@@ -53,7 +57,7 @@ impl Absorb<Handed> for Shown {
 /// Changes that are handed over in the try of this number, with all that was published before it. The
 /// opening leaves the list as it is.
 #[derive(Drop)]
-pub(crate) struct Handed {
+pub(crate) struct HandedOver {
     pub is_opening: bool,
     pub number: u64,
     pub changes: Changes,
@@ -64,7 +68,7 @@ pub(crate) struct Handed {
     pub ghost counter_is: { (arc_value tries).counter ≡ counter_of known.fib },
 }
 
-impl Handed {
+impl HandedOver {
     // Makes the changes. The opening leaves no route.
     fn edit(&self, table: &mut IndexedTable) -> Result<(), AllocError>
         ensures done { OnOk result (table.new

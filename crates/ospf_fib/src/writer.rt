@@ -4,7 +4,7 @@ ghost use Rattle.std.specs.Prelude.{◌≡◌, ◌∷◌, ◌++◌, [], IfOk, On
 ghost use mathlib.Core.List.{IsPrefix};
 ghost use Rattle.ospf_fib.specs.Versions.{EndsWith};
 
-use crate::desk::Desk;
+use crate::desk::Publisher;
 use crate::seat::{Seat, Told};
 use core::mem::replace_with;
 use ospf_index::IndexedTable;
@@ -16,7 +16,7 @@ use std::sync::Wait;
 /// The one that publishes tables. Proofs see the list of those that it has published: while no publish runs,
 /// readers find the last of them. Its end closes the forwarding table, and waits for lookups that are under way.
 pub struct Writer<R: Wait + Drop> {
-    pub(crate) desk: Desk,
+    pub(crate) desk: Publisher,
     pub(crate) rt: R,
 }
 
@@ -31,7 +31,7 @@ impl<R: Wait + Drop> Model for Writer<R> {
 impl<R: Wait + Drop> Drop for Writer<R> {
     fn drop(self) {
         let Self { desk, rt } = self;
-        let Desk {
+        let Publisher {
             copies,
             sole: _,
             handed: _,

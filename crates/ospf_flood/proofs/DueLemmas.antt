@@ -4,16 +4,16 @@ use Rattle.std.proofs.lemmas.List.{append-nil, length-append, map-append, take-a
 use Rattle.std.proofs.lemmas.List.Elements.{filter-append}
 use Rattle.ospf_base.specs.declared.ids.Instance.{Instance}
 use Rattle.ospf_neighbour.specs.declared.neighbour.Listed.{Listed}
-use Rattle.ospf_flood.specs.Due.{is_due}
+use Rattle.ospf_flood.specs.Due.{is_resend_due}
 
 -- the instances of a list that are due
 abbrev pub due_of : ℕ → ℕ → List Listed → List Instance
-due_of retransmit tick ls = map (λ (l : Listed). l.instance) (filter (is_due retransmit tick) ls)
+due_of retransmit tick ls = map (λ (l : Listed). l.instance) (filter (is_resend_due retransmit tick) ls)
 
 pub due-append : (retransmit tick : ℕ) (xs ys : List Listed) → due_of retransmit tick (xs ++ ys) ≡ due_of retransmit tick xs ++ due_of retransmit tick ys
 due-append retransmit tick xs ys =
-    ap (map (λ (l : Listed). l.instance)) (filter-append (is_due retransmit tick) xs ys)
-    ∙ map-append (λ (l : Listed). l.instance) (filter (is_due retransmit tick) xs) (filter (is_due retransmit tick) ys)
+    ap (map (λ (l : Listed). l.instance)) (filter-append (is_resend_due retransmit tick) xs ys)
+    ∙ map-append (λ (l : Listed). l.instance) (filter (is_resend_due retransmit tick) xs) (filter (is_resend_due retransmit tick) ys)
 
 more : (retransmit tick : ℕ) (ls : List Listed) (i : ℕ) (l : Listed) → i < length ls → l ≡ get_or ls i l
     → due_of retransmit tick (take (i + 1) ls) ≡ due_of retransmit tick (take i ls) ++ due_of retransmit tick (l ∷ [])
@@ -21,7 +21,7 @@ more retransmit tick ls i l within is =
     ap (due_of retransmit tick) (take_more ls i l within ∙ ap (λ (x : Listed). take i ls ++ x ∷ []) (sym is)) ∙ due-append retransmit tick (take i ls) (l ∷ [])
 
 -- one entry more, which is due
-pub due_more : (retransmit tick : ℕ) (ls : List Listed) (i : ℕ) (l : Listed) (before : List Instance) → i < length ls → l ≡ get_or ls i l → is_due retransmit tick l ≡ true
+pub due_more : (retransmit tick : ℕ) (ls : List Listed) (i : ℕ) (l : Listed) (before : List Instance) → i < length ls → l ≡ get_or ls i l → is_resend_due retransmit tick l ≡ true
     → before ≡ due_of retransmit tick (take i ls) → before ++ l.instance ∷ [] ≡ due_of retransmit tick (take (i + 1) ls)
 due_more retransmit tick ls i l before within is due so_far =
     ap (λ (js : List Instance). js ++ l.instance ∷ []) so_far
@@ -29,7 +29,7 @@ due_more retransmit tick ls i l before within is due so_far =
     ∙ sym (more retransmit tick ls i l within is)
 
 -- or it is not
-pub not_due_more : (retransmit tick : ℕ) (ls : List Listed) (i : ℕ) (l : Listed) (before : List Instance) → i < length ls → l ≡ get_or ls i l → is_due retransmit tick l ≡ false
+pub not_due_more : (retransmit tick : ℕ) (ls : List Listed) (i : ℕ) (l : Listed) (before : List Instance) → i < length ls → l ≡ get_or ls i l → is_resend_due retransmit tick l ≡ false
     → before ≡ due_of retransmit tick (take i ls) → before ≡ due_of retransmit tick (take (i + 1) ls)
 not_due_more retransmit tick ls i l before within is apart so_far =
     so_far ∙ sym (append-nil (due_of retransmit tick (take i ls)))
@@ -37,7 +37,7 @@ not_due_more retransmit tick ls i l before within is apart so_far =
     ∙ sym (more retransmit tick ls i l within is)
 
 -- an entry that is due is among them
-pub some_due : (retransmit tick : ℕ) (ls all : List Listed) (i : ℕ) (d : Listed) → ls ≡ all → i < length ls → is_due retransmit tick (get_or ls i d) ≡ true → due_of retransmit tick all ≡ [] → ⊥
+pub some_due : (retransmit tick : ℕ) (ls all : List Listed) (i : ℕ) (d : Listed) → ls ≡ all → i < length ls → is_resend_due retransmit tick (get_or ls i d) ≡ true → due_of retransmit tick all ≡ [] → ⊥
 some_due retransmit tick ls all i d same within due none =
     let l = get_or ls i d in
     let here : drop i ls ≡ l ∷ drop (i + 1) ls = drop_more ls i d within in

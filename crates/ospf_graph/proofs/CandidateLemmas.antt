@@ -8,7 +8,7 @@ use Rattle.std.proofs.lemmas.List.Elements.{Contains-append_left, Contains-appen
 use Rattle.ospf_graph.specs.declared.graph.Edge.{Edge}
 use Rattle.ospf_graph.specs.declared.graph.Vertex.{Vertex}
 use Rattle.ospf_graph.specs.declared.graph.Vertex.TheVariants.{Router, Network}
-use Rattle.ospf_graph.specs.declared.candidates.Candidate.{Candidate}
+use Rattle.ospf_graph.specs.declared.candidates.SpfCandidate.{SpfCandidate}
 use Rattle.ospf_graph.specs.Search.{candidates_from, vertex_code, vertex_eq, IsUndercut, Joins}
 use Rattle.ospf_graph.proofs.ListLemmas.{bool_cases, member_cases, member_later, member_head}
 
@@ -100,7 +100,7 @@ code_injective (Network a) (Router b) h = absurd (omega arith)
 code_injective (Network a) (Network b) h = let e : a ≡ b = omega arith in ap (λ x. Network x) e
 
 -- nothing joins
-pub joins_none : (nearest : ℕ → Option ℕ) (list : List Candidate) → Joins [] nearest nearest list list
+pub joins_none : (nearest : ℕ → Option ℕ) (list : List SpfCandidate) → Joins [] nearest nearest list list
 joins_none nearest list =
     record {
       kept = λ c h. h;
@@ -112,7 +112,7 @@ joins_none nearest list =
     }
 
 -- one that a nearer one undercuts
-pub joins_undercut : (c : Candidate) (nearest : ℕ → Option ℕ) (list : List Candidate) → IsUndercut nearest c → Joins (c ∷ []) nearest nearest list list
+pub joins_undercut : (c : SpfCandidate) (nearest : ℕ → Option ℕ) (list : List SpfCandidate) → IsUndercut nearest c → Joins (c ∷ []) nearest nearest list list
 joins_undercut c nearest list under =
     record {
       kept = λ d h. h;
@@ -124,7 +124,7 @@ joins_undercut c nearest list under =
     }
 
 -- one that none undercuts, whose distance is noted
-pub joins_one : (c : Candidate) (nearest nearest' : ℕ → Option ℕ) (old new : List Candidate) → (IsUndercut nearest c → ⊥)
+pub joins_one : (c : SpfCandidate) (nearest nearest' : ℕ → Option ℕ) (old new : List SpfCandidate) → (IsUndercut nearest c → ⊥)
     → nearest' (vertex_code c.edge.to) ≡ Some c.distance → ((q : ℕ) → eqb (vertex_code c.edge.to) q ≡ false → nearest' q ≡ nearest q)
     → IsPermutation (c ∷ old) new → Joins (c ∷ []) nearest nearest' old new
 joins_one c nearest nearest' old new none here others perm =
@@ -167,7 +167,7 @@ joins_one c nearest nearest' old new none here others perm =
     }
 
 -- some, and then more
-pub joins_then : (a b : List Candidate) (n0 n1 n2 : ℕ → Option ℕ) (old mid new : List Candidate) → Joins a n0 n1 old mid → Joins b n1 n2 mid new
+pub joins_then : (a b : List SpfCandidate) (n0 n1 n2 : ℕ → Option ℕ) (old mid new : List SpfCandidate) → Joins a n0 n1 old mid → Joins b n1 n2 mid new
     → Joins (a ++ b) n0 n2 old new
 joins_then a b n0 n1 n2 old mid new x y =
     record {
@@ -194,12 +194,12 @@ joins_then a b n0 n1 n2 old mid new x y =
     }
 
 -- an edge from the vertex is offered
-pub candidates_joined : (v : Vertex) (d : ℕ) (edges : List Edge) (i : ℕ) (x : Edge) (n0 n1 n2 : ℕ → Option ℕ) (old now new : List Candidate) → i < length edges
+pub candidates_joined : (v : Vertex) (d : ℕ) (edges : List Edge) (i : ℕ) (x : Edge) (n0 n1 n2 : ℕ → Option ℕ) (old now new : List SpfCandidate) → i < length edges
     → vertex_eq (get_or edges i x).from v ≡ true → Joins (candidates_from v d (take i edges)) n0 n1 old now
     → Joins (record { distance = d + (get_or edges i x).cost; edge = get_or edges i x } ∷ []) n1 n2 now new
     → Joins (candidates_from v d (take (i + 1) edges)) n0 n2 old new
 candidates_joined v d edges i x n0 n1 n2 old now new lt same so_far one =
-    let c : Candidate = record { distance = d + (get_or edges i x).cost; edge = get_or edges i x } in
+    let c : SpfCandidate = record { distance = d + (get_or edges i x).cost; edge = get_or edges i x } in
     let more : candidates_from v d (take (i + 1) edges) ≡ candidates_from v d (take i edges) ++ c ∷ [] = rw same at (candidates_from-more v d edges i x lt) in
     subst (λ l. Joins l n0 n2 old new) (sym more) (joins_then (candidates_from v d (take i edges)) (c ∷ []) n0 n1 n2 old now new so_far one)
 

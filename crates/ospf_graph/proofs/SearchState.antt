@@ -16,25 +16,25 @@ use Rattle.ospf_graph.specs.declared.graph.Vertex.TheVariants.{Router, Network}
 use Rattle.ospf_graph.specs.declared.graph.Start.TheVariants.{Here}
 use Rattle.ospf_graph.specs.declared.paths.Settled.{Settled}
 use Rattle.ospf_graph.specs.declared.paths.VertexStart.{VertexStart}
-use Rattle.ospf_graph.specs.declared.candidates.Candidate.{Candidate}
+use Rattle.ospf_graph.specs.declared.candidates.SpfCandidate.{SpfCandidate}
 use Rattle.ospf_graph.specs.Tree.{rank, IsTree}
-use Rattle.ospf_graph.specs.Search.{candidate_rank, candidates_from, vertex_eq, vertex_id, vertex_code, AreNoted, BringsStarts, Joins, Takes, AtIn, StartsIn, WaitsIn, IsFit}
+use Rattle.ospf_graph.specs.Search.{candidate_rank, candidates_from, vertex_eq, vertex_id, vertex_code, AreNoted, BringsStarts, Joins, TakesCandidate, AtIn, StartsIn, WaitsAmong, AreFitEdges}
 use Rattle.ospf_graph.proofs.ListLemmas.{bool_cases, member_cases, member_later, member_head}
 use Rattle.ospf_graph.proofs.CandidateLemmas.{candidates_from-is, candidates_from-has, code_injective, vertex_eq-same, vertex_eq-refl}
 use Rattle.ospf_graph.proofs.TreeLemmas.{IsTree-same, IsTree-map}
 use Rattle.ospf_graph.proofs.SearchLemmas.{IsPassed, IsSearch, absorbed, finished, raised, rank_le, same_waits, settled}
 
-abbrev pub IsSearchIn : List Edge → Vertex → List Settled → List VertexStart → List Candidate → ℕ → Type 0
-IsSearchIn edges root s b c bound = IsSearch (Contains edges) root (AtIn s) (StartsIn b) (WaitsIn c) bound
+abbrev pub IsSearchIn : List Edge → Vertex → List Settled → List VertexStart → List SpfCandidate → ℕ → Type 0
+IsSearchIn edges root s b c bound = IsSearch (Contains edges) root (AtIn s) (StartsIn b) (WaitsAmong c) bound
 
-module _ (edges : List Edge) (fit : IsFit edges) (root : Vertex) where
+module _ (edges : List Edge) (fit : AreFitEdges edges) (root : Vertex) where
   -- a candidate was taken out, of least rank
-  popped : (s : List Settled) (b : List VertexStart) (old rest : List Candidate) (c : Candidate) (bound : ℕ) → IsSearchIn edges root s b old bound
+  popped : (s : List Settled) (b : List VertexStart) (old rest : List SpfCandidate) (c : SpfCandidate) (bound : ℕ) → IsSearchIn edges root s b old bound
       → IsPermutation old (c ∷ rest) → All (λ d. candidate_rank c ≤ candidate_rank d) rest → IsSearchIn edges root s b (c ∷ rest) (candidate_rank c)
   popped s b old rest c bound search perm least =
-      let here = same_waits (Contains edges) fit.rising root (AtIn s) (StartsIn b) (WaitsIn old) (WaitsIn (c ∷ rest)) bound search
+      let here = same_waits (Contains edges) fit.rising root (AtIn s) (StartsIn b) (WaitsAmong old) (WaitsAmong (c ∷ rest)) bound search
       (λ e k w. Contains-permutation old (c ∷ rest) _ perm w) (λ e k w. Contains-permutation (c ∷ rest) old _ (IsPermutation-sym _ _ perm) w) in
-      raised (Contains edges) fit.rising root (AtIn s) (StartsIn b) (WaitsIn (c ∷ rest)) bound (candidate_rank c) here
+      raised (Contains edges) fit.rising root (AtIn s) (StartsIn b) (WaitsAmong (c ∷ rest)) bound (candidate_rank c) here
       (let w = here.waiting c.edge c.distance (member_head c rest) in w.1)
       (λ e k w. elim (member_cases c rest (record { edge = e; distance = k }) w) [
         | inl same ↦ (let one : candidate_rank c ≡ rank e.to k = ap (λ d. candidate_rank d) same in omega arith)
@@ -42,10 +42,10 @@ module _ (edges : List Edge) (fit : IsFit edges) (root : Vertex) where
       ])
 
   -- its starts are brought
-  brought : (s : List Settled) (b b' : List VertexStart) (rest : List Candidate) (c : Candidate) → IsSearchIn edges root s b (c ∷ rest) (candidate_rank c)
+  brought : (s : List Settled) (b b' : List VertexStart) (rest : List SpfCandidate) (c : SpfCandidate) → IsSearchIn edges root s b (c ∷ rest) (candidate_rank c)
       → AtIn s c.edge.to c.distance → BringsStarts c.edge b b' → IsSearchIn edges root s b' rest (candidate_rank c)
   brought s b b' rest c search at brings =
-      absorbed (Contains edges) fit.rising root (AtIn s) (StartsIn b) (StartsIn b') (WaitsIn (c ∷ rest)) (WaitsIn rest) (candidate_rank c) search
+      absorbed (Contains edges) fit.rising root (AtIn s) (StartsIn b) (StartsIn b') (WaitsAmong (c ∷ rest)) (WaitsAmong rest) (candidate_rank c) search
       c.edge c.distance c.distance (member_head c rest) (omega arith) at
       (λ v x h. brings.kept _ h) (λ same x h. brings.brought x h)
       (λ v x h. elim (brings.only _ h) [ inl old ↦ inl old | inr new ↦ inr (new.0, refl, new.1, new.2, new.3) ])
@@ -53,31 +53,31 @@ module _ (edges : List Edge) (fit : IsFit edges) (root : Vertex) where
       (λ f j w. elim (member_cases c rest _ w) [ inl same ↦ inr (ap (λ d. d.edge) (sym same), ap (λ d. d.distance) (sym same)) | inr later ↦ inl later ])
 
   -- or not, where the vertex is nearer
-  passed : (s : List Settled) (b : List VertexStart) (rest : List Candidate) (c : Candidate) (near : ℕ) → IsSearchIn edges root s b (c ∷ rest) (candidate_rank c)
+  passed : (s : List Settled) (b : List VertexStart) (rest : List SpfCandidate) (c : SpfCandidate) (near : ℕ) → IsSearchIn edges root s b (c ∷ rest) (candidate_rank c)
       → AtIn s c.edge.to near → near ≢ c.distance → IsSearchIn edges root s b rest (candidate_rank c)
   passed s b rest c near search at other =
-      absorbed (Contains edges) fit.rising root (AtIn s) (StartsIn b) (StartsIn b) (WaitsIn (c ∷ rest)) (WaitsIn rest) (candidate_rank c) search
+      absorbed (Contains edges) fit.rising root (AtIn s) (StartsIn b) (StartsIn b) (WaitsAmong (c ∷ rest)) (WaitsAmong rest) (candidate_rank c) search
       c.edge c.distance near (member_head c rest) (omega arith) at
       (λ v x h. h) (λ same x h. absurd (other same)) (λ v x h. inl h)
       (λ f j w. member_later c rest _ w)
       (λ f j w. elim (member_cases c rest _ w) [ inl same ↦ inr (ap (λ d. d.edge) (sym same), ap (λ d. d.distance) (sym same)) | inr later ↦ inl later ])
 
   -- an edge that a nearer way undercuts
-  passed_over : (nearest : ℕ → Option ℕ) (s : List Settled) (c : List Candidate) → AreNoted nearest s c → (e : Edge) (d near : ℕ) → nearest (vertex_code e.to) ≡ Some near
-      → near < d + e.cost → IsPassed (AtIn s) (WaitsIn c) e d
+  passed_over : (nearest : ℕ → Option ℕ) (s : List Settled) (c : List SpfCandidate) → AreNoted nearest s c → (e : Edge) (d near : ℕ) → nearest (vertex_code e.to) ≡ Some near
+      → near < d + e.cost → IsPassed (AtIn s) (WaitsAmong c) e d
   passed_over nearest s c noted e d near is lt =
       elim (noted e.to near is) [
         | inl at ↦ record { near = at.0; lt = (let le = at.1 in omega arith); there = inl at.2 }
         | inr waits ↦ record { near = near; lt = lt; there = inr waits }
       ]
 
-  reached : (s s' : List Settled) (b : List VertexStart) (rest rest' : List Candidate) (c : Candidate) (n n' : ℕ → Option ℕ) → IsSearchIn edges root s b (c ∷ rest) (candidate_rank c)
+  reached : (s s' : List Settled) (b : List VertexStart) (rest rest' : List SpfCandidate) (c : SpfCandidate) (n n' : ℕ → Option ℕ) → IsSearchIn edges root s b (c ∷ rest) (candidate_rank c)
       → ((d : ℕ) → AtIn s c.edge.to d → ⊥) → s' ≡ s ++ record { vertex = c.edge.to; distance = c.distance } ∷ []
       → Joins (candidates_from c.edge.to c.distance edges) n n' rest rest' → AreNoted n' s' rest' → IsSearchIn edges root s' b (c ∷ rest') (candidate_rank c)
   reached s s' b rest rest' c n n' search fresh s_is joins noted =
       let more = candidates_from c.edge.to c.distance edges in
       let new : Settled = record { vertex = c.edge.to; distance = c.distance } in
-      settled (Contains edges) fit.rising root (AtIn s) (AtIn s') (StartsIn b) (WaitsIn (c ∷ rest)) (WaitsIn (c ∷ rest')) (candidate_rank c) search
+      settled (Contains edges) fit.rising root (AtIn s) (AtIn s') (StartsIn b) (WaitsAmong (c ∷ rest)) (WaitsAmong (c ∷ rest')) (candidate_rank c) search
       c.edge c.distance (member_head c rest) (omega arith) fresh
       (λ v d at. rw s_is (Contains-append_left s (new ∷ []) _ at))
       (rw s_is (Contains-push s new))
@@ -104,7 +104,7 @@ module _ (edges : List Edge) (fit : IsFit edges) (root : Vertex) where
       ])
 
   -- what is noted, without the candidate that was taken out, once its vertex is reached as near
-  noted_without : (n : ℕ → Option ℕ) (s s' : List Settled) (old rest : List Candidate) (c : Candidate) (near : ℕ) → AreNoted n s old → IsPermutation old (c ∷ rest)
+  noted_without : (n : ℕ → Option ℕ) (s s' : List Settled) (old rest : List SpfCandidate) (c : SpfCandidate) (near : ℕ) → AreNoted n s old → IsPermutation old (c ∷ rest)
       → ((v : Vertex) (d : ℕ) → AtIn s v d → AtIn s' v d) → AtIn s' c.edge.to near → near ≤ c.distance → AreNoted n s' rest
   noted_without n s s' old rest c near noted perm keeps at le v j is =
       elim (noted v j is) [
@@ -119,9 +119,9 @@ module _ (edges : List Edge) (fit : IsFit edges) (root : Vertex) where
       ]
 
   -- what is noted after a candidate is taken
-  pub noted_taken : (s s' : List Settled) (b b' : List VertexStart) (n n' : ℕ → Option ℕ) (old rest rest' : List Candidate) (c : Candidate) (bound : ℕ)
+  pub noted_taken : (s s' : List Settled) (b b' : List VertexStart) (n n' : ℕ → Option ℕ) (old rest rest' : List SpfCandidate) (c : SpfCandidate) (bound : ℕ)
       → IsSearchIn edges root s b old bound → AreNoted n s old → IsPermutation old (c ∷ rest) → All (λ d. candidate_rank c ≤ candidate_rank d) rest
-      → Takes c edges s s' b b' n n' rest rest' → AreNoted n' s' rest'
+      → TakesCandidate c edges s s' b b' n n' rest rest' → AreNoted n' s' rest'
   noted_taken s s' b b' n n' old rest rest' c bound search noted perm least (inl new) =
       let one : Settled = record { vertex = c.edge.to; distance = c.distance } in
       new.candidates_are.noted s' (noted_without n s s' old rest c c.distance noted perm
@@ -131,9 +131,9 @@ module _ (edges : List Edge) (fit : IsFit edges) (root : Vertex) where
       let le : again.near ≤ c.distance = rank_le c.edge.to again.near c.distance (now.low c.edge.to again.near again.at) in
       rw (again.settled_is, again.candidates_is, again.nearest_is) (noted_without n s s old rest c again.near noted perm (λ v d at. at) again.at le)
 
-  pub taken : (s s' : List Settled) (b b' : List VertexStart) (n n' : ℕ → Option ℕ) (old rest rest' : List Candidate) (c : Candidate) (bound : ℕ)
+  pub taken : (s s' : List Settled) (b b' : List VertexStart) (n n' : ℕ → Option ℕ) (old rest rest' : List SpfCandidate) (c : SpfCandidate) (bound : ℕ)
       → IsSearchIn edges root s b old bound → AreNoted n s old → IsPermutation old (c ∷ rest) → All (λ d. candidate_rank c ≤ candidate_rank d) rest
-      → Takes c edges s s' b b' n n' rest rest' → IsSearchIn edges root s' b' rest' (candidate_rank c)
+      → TakesCandidate c edges s s' b b' n n' rest rest' → IsSearchIn edges root s' b' rest' (candidate_rank c)
   taken s s' b b' n n' old rest rest' c bound search noted perm least (inl new) =
       let now = popped s b old rest c bound search perm least in
       let noted' = noted_taken s s' b b' n n' old rest rest' c bound search noted perm least (inl new) in
@@ -147,7 +147,7 @@ module _ (edges : List Edge) (fit : IsFit edges) (root : Vertex) where
       ]
 
   -- the state at the beginning
-  pub started : (n n' : ℕ → Option ℕ) (c : List Candidate) → Joins (candidates_from root 0 edges) n n' [] c
+  pub started : (n n' : ℕ → Option ℕ) (c : List SpfCandidate) → Joins (candidates_from root 0 edges) n n' [] c
       → AreNoted n' (record { vertex = root; distance = 0 } ∷ []) c
       → IsSearchIn edges root (record { vertex = root; distance = 0 } ∷ []) (record { vertex = root; start = Here } ∷ []) c (rank root 0)
   started n n' c joins noted =
@@ -173,7 +173,7 @@ module _ (edges : List Edge) (fit : IsFit edges) (root : Vertex) where
             (is.0, omega arith, 0, rw is.1 (member_head first []), is.2);
         done = λ e d is at.
             let o = only e.from d at in
-            let here : WaitsIn c e (0 + e.cost) ⊎ IsPassed (AtIn (first ∷ [])) (WaitsIn c) e 0 =
+            let here : WaitsAmong c e (0 + e.cost) ⊎ IsPassed (AtIn (first ∷ [])) (WaitsAmong c) e 0 =
             elim (joins.joined (record { edge = e; distance = 0 + e.cost }) (candidates_from-has root 0 edges e is (sym o.0))) [
               | inl there ↦ inl there
               | inr under ↦ inr (passed_over n' (first ∷ []) c noted e 0 under.0 under.1 under.2)
@@ -182,7 +182,7 @@ module _ (edges : List Edge) (fit : IsFit edges) (root : Vertex) where
       }
 
 -- distances stay small, since vertices have 2 ^ 33 names at most
-pub record IsSmall (s : List Settled) (candidates : List Candidate) : Type 0 where
+pub record IsSmall (s : List Settled) (candidates : List SpfCandidate) : Type 0 where
   pub apart : AllPairs (λ x y. x.vertex ≢ y.vertex) s
   pub ids : All (λ x. vertex_id x.vertex < 2 ^ 32) s
   pub near : All (λ x. x.distance ≤ 65535 * length s) s
@@ -213,7 +213,7 @@ few s apart ids =
     let bound : length xs ≤ 2 ^ 33 = length-le_from_distinct_below xs (2 ^ 33) (IsDistinct-from_AllPairs Decides-eqb xs pairs) below in
     omega arith
 
-module _ (edges : List Edge) (fit : IsFit edges) (root : Vertex) (root_small : vertex_id root < 2 ^ 32) where
+module _ (edges : List Edge) (fit : AreFitEdges edges) (root : Vertex) (root_small : vertex_id root < 2 ^ 32) where
   close_from : (v : Vertex) (d n : ℕ) → d ≤ 65535 * n → All (λ c. c.distance ≤ 65535 * (n + 1)) (candidates_from v d edges)
   close_from v d n low k e within =
       let c = get_or (candidates_from v d edges) k e in
@@ -223,7 +223,7 @@ module _ (edges : List Edge) (fit : IsFit edges) (root : Vertex) (root_small : v
       omega arith
 
   -- what holds of all that were there and of all that join holds of all
-  all_joined : (P : Candidate → Type 0) (more old new : List Candidate) (n n' : ℕ → Option ℕ) → Joins more n n' old new → All P old → All P more → All P new
+  all_joined : (P : SpfCandidate → Type 0) (more old new : List SpfCandidate) (n n' : ℕ → Option ℕ) → Joins more n n' old new → All P old → All P more → All P new
   all_joined P more old new n n' joins olds mores k e within =
       let x = get_or new k e in
       elim (joins.only x (k, within, get_or_default new k x e within)) [
@@ -231,7 +231,7 @@ module _ (edges : List Edge) (fit : IsFit edges) (root : Vertex) (root_small : v
         | inr came ↦ All-contains P more x mores came
       ]
 
-  pub small_started : (n n' : ℕ → Option ℕ) (c : List Candidate) → Joins (candidates_from root 0 edges) n n' [] c
+  pub small_started : (n n' : ℕ → Option ℕ) (c : List SpfCandidate) → Joins (candidates_from root 0 edges) n n' [] c
       → IsSmall (record { vertex = root; distance = 0 } ∷ []) c
   small_started n n' c joins =
       record {
@@ -241,8 +241,8 @@ module _ (edges : List Edge) (fit : IsFit edges) (root : Vertex) (root_small : v
         close = all_joined (λ d. d.distance ≤ 65535 * 1) (candidates_from root 0 edges) [] c n n' joins (All-nil (λ d. d.distance ≤ 65535 * 1)) (close_from root 0 0 (omega arith));
       }
 
-  pub small_taken : (s s' : List Settled) (b b' : List VertexStart) (n n' : ℕ → Option ℕ) (old rest rest' : List Candidate) (c : Candidate) → IsSmall s old
-      → IsPermutation old (c ∷ rest) → Contains edges c.edge → Takes c edges s s' b b' n n' rest rest' → IsSmall s' rest'
+  pub small_taken : (s s' : List Settled) (b b' : List VertexStart) (n n' : ℕ → Option ℕ) (old rest rest' : List SpfCandidate) (c : SpfCandidate) → IsSmall s old
+      → IsPermutation old (c ∷ rest) → Contains edges c.edge → TakesCandidate c edges s s' b b' n n' rest rest' → IsSmall s' rest'
   small_taken s s' b b' n n' old rest rest' c small perm in_edges (inl new) =
       let x : Settled = record { vertex = c.edge.to; distance = c.distance } in
       let all = All-permutation (λ d. d.distance ≤ 65535 * length s) old (c ∷ rest) perm small.close in
@@ -334,8 +334,8 @@ pub unreached_root : (edges : List Edge) (root : Vertex)
 unreached_root edges root = unreached-push [] root 0 0 (λ d h. let low = h.1 in omega arith) edges ∙ none_reached edges
 
 -- a taken candidate lessens the work
-pub work_taken : (edges : List Edge) (s s' : List Settled) (b b' : List VertexStart) (n n' : ℕ → Option ℕ) (rest rest' : List Candidate) (c : Candidate)
-    → Takes c edges s s' b b' n n' rest rest' → unreached s' edges + length rest' ≤ unreached s edges + length rest
+pub work_taken : (edges : List Edge) (s s' : List Settled) (b b' : List VertexStart) (n n' : ℕ → Option ℕ) (rest rest' : List SpfCandidate) (c : SpfCandidate)
+    → TakesCandidate c edges s s' b b' n n' rest rest' → unreached s' edges + length rest' ≤ unreached s edges + length rest
 work_taken edges s s' b b' n n' rest rest' c (inl new) =
     let u = unreached-push s c.edge.to c.distance c.distance new.fresh edges in
     let few = new.candidates_are.few in
@@ -343,26 +343,26 @@ work_taken edges s s' b b' n n' rest rest' c (inl new) =
 work_taken edges s s' b b' n n' rest rest' c (inr again) = rw (again.settled_is, again.candidates_is) (omega arith)
 
 -- what the loop keeps
-pub record IsState (edges : List Edge) (root : Vertex) (s : List Settled) (b : List VertexStart) (n : ℕ → Option ℕ) (c : List Candidate) : Type 0 where
+pub record IsState (edges : List Edge) (root : Vertex) (s : List Settled) (b : List VertexStart) (n : ℕ → Option ℕ) (c : List SpfCandidate) : Type 0 where
   pub bound : ℕ
   pub search : IsSearchIn edges root s b c bound
   pub noted : AreNoted n s c
   pub small : IsSmall s c
 
-pub state_near : (edges : List Edge) (root : Vertex) (s : List Settled) (b : List VertexStart) (n : ℕ → Option ℕ) (c : List Candidate)
+pub state_near : (edges : List Edge) (root : Vertex) (s : List Settled) (b : List VertexStart) (n : ℕ → Option ℕ) (c : List SpfCandidate)
     → IsState edges root s b n c → All (λ x. x.distance < 2 ^ 63) s
 state_near edges root s b n c state =
     let short : length s ≤ 2 ^ 33 = few s state.small.apart state.small.ids in
     All-weaker (λ x. x.distance ≤ 65535 * length s) (λ x. x.distance < 2 ^ 63) (λ x le. omega arith) s state.small.near
 
-pub state_tree : (edges : List Edge) → IsFit edges → (root : Vertex) (s : List Settled) (b : List VertexStart) (n : ℕ → Option ℕ) (c : List Candidate)
+pub state_tree : (edges : List Edge) → AreFitEdges edges → (root : Vertex) (s : List Settled) (b : List VertexStart) (n : ℕ → Option ℕ) (c : List SpfCandidate)
     → IsState edges root s b n c → c ≡ [] → IsTree (Contains edges) root (AtIn s) (StartsIn b)
 state_tree edges fit root s b n c state none =
-    finished (Contains edges) fit.rising root (AtIn s) (StartsIn b) (WaitsIn c) state.bound state.search
-    (λ e k w. let w' : WaitsIn [] e k = rw none at w in let low = w'.1 in omega arith)
+    finished (Contains edges) fit.rising root (AtIn s) (StartsIn b) (WaitsAmong c) state.bound state.search
+    (λ e k w. let w' : WaitsAmong [] e k = rw none at w in let low = w'.1 in omega arith)
 
-module _ (edges : List Edge) (fit : IsFit edges) (root : Vertex) (root_small : vertex_id root < 2 ^ 32) where
-  pub state_started : (s : List Settled) (b : List VertexStart) (n n' : ℕ → Option ℕ) (c : List Candidate) → s ≡ record { vertex = root; distance = 0 } ∷ []
+module _ (edges : List Edge) (fit : AreFitEdges edges) (root : Vertex) (root_small : vertex_id root < 2 ^ 32) where
+  pub state_started : (s : List Settled) (b : List VertexStart) (n n' : ℕ → Option ℕ) (c : List SpfCandidate) → s ≡ record { vertex = root; distance = 0 } ∷ []
       → b ≡ record { vertex = root; start = Here } ∷ [] → ((q near : ℕ) → n q ≡ Some near → ⊥) → Joins (candidates_from root 0 edges) n n' [] c
       → IsState edges root s b n' c
   state_started s b n n' c s_is b_is none joins =
@@ -376,7 +376,7 @@ module _ (edges : List Edge) (fit : IsFit edges) (root : Vertex) (root_small : v
         small = small_started edges fit root root_small n n' c joins;
       })
 
-  module _ (s s' : List Settled) (b b' : List VertexStart) (n n' : ℕ → Option ℕ) (old rest rest' : List Candidate) (c : Candidate) (state : IsState edges root s b n old)
+  module _ (s s' : List Settled) (b b' : List VertexStart) (n n' : ℕ → Option ℕ) (old rest rest' : List SpfCandidate) (c : SpfCandidate) (state : IsState edges root s b n old)
       (perm : IsPermutation old (c ∷ rest)) where
     pub candidate_small : c.distance < 2 ^ 63
     candidate_small =
@@ -385,7 +385,7 @@ module _ (edges : List Edge) (fit : IsFit edges) (root : Vertex) (root_small : v
         All-head (λ d. d.distance ≤ 65535 * length s) c rest (All-permutation (λ d. d.distance ≤ 65535 * length s) old (c ∷ rest) perm state.small.close) in
         omega arith
 
-    pub state_taken : All (λ d. candidate_rank c ≤ candidate_rank d) rest → Takes c edges s s' b b' n n' rest rest' → IsState edges root s' b' n' rest'
+    pub state_taken : All (λ d. candidate_rank c ≤ candidate_rank d) rest → TakesCandidate c edges s s' b b' n n' rest rest' → IsState edges root s' b' n' rest'
     state_taken least takes =
         let w = state.search.waiting c.edge c.distance (Contains-permutation (c ∷ rest) old c (IsPermutation-sym _ _ perm) (member_head c rest)) in
         record {
@@ -395,7 +395,7 @@ module _ (edges : List Edge) (fit : IsFit edges) (root : Vertex) (root_small : v
           small = small_taken edges fit root root_small s s' b b' n n' old rest rest' c state.small perm w.0 takes;
         }
 
-    pub work_falls : Takes c edges s s' b b' n n' rest rest' → unreached s' edges + length rest' < unreached s edges + length old
+    pub work_falls : TakesCandidate c edges s s' b b' n n' rest rest' → unreached s' edges + length rest' < unreached s edges + length old
     work_falls takes =
         let less = work_taken edges s s' b b' n n' rest rest' c takes in
         omega (arith, length_permutation old (c ∷ rest) perm)
@@ -409,7 +409,7 @@ tree_sorted edges root s s' b b' same_s same_b t =
     (λ v x. (λ m. Contains-permutation b b' _ same_b m, λ m. Contains-permutation b' b _ (IsPermutation-sym b b' same_b) m)) t
 
 -- the same edges in another order
-pub fit_sorted : (edges sorted : List Edge) → IsPermutation edges sorted → IsFit edges → IsFit sorted
+pub fit_sorted : (edges sorted : List Edge) → IsPermutation edges sorted → AreFitEdges edges → AreFitEdges sorted
 fit_sorted edges sorted same fit =
     let back : (e : Edge) → Contains sorted e → Contains edges e = λ e h. Contains-permutation sorted edges e (IsPermutation-sym edges sorted same) h in
     record {

@@ -1,9 +1,9 @@
 -- The candidates that wait, and how often they were looked at.
 use Rattle.std.specs.Prelude.{◌+◌, ℕ, List, min}
-use Rattle.ospf_graph.specs.declared.candidates.Candidate.{Candidate}
+use Rattle.ospf_graph.specs.declared.candidates.SpfCandidate.{SpfCandidate}
 
 pub record Waiting : Type 0 where
-  pub list : List Candidate
+  pub list : List SpfCandidate
   pub looks : ℕ
 
 -- one look more, as far as a 64-bit number goes

@@ -14,7 +14,7 @@ use std::marker::Model;
 ///
 /// Candidates are in the order in which they are taken: by distance, networks before routers.
 #[derive(Clone, Copy, Debug, PartialEq, Eq, PartialOrd, Ord)]
-pub struct Candidate {
+pub struct SpfCandidate {
     pub distance: u64,
     pub edge: Edge,
 }
@@ -22,7 +22,7 @@ pub struct Candidate {
 /// The candidates that wait, and how often they were looked at.
 #[derive(Drop)]
 pub struct Candidates {
-    heap: BinaryHeap<Reverse<Candidate>>,
+    heap: BinaryHeap<Reverse<SpfCandidate>>,
     looks: u64,
 }
 
@@ -30,7 +30,7 @@ impl Model for Candidates {
     ghost use Rattle.std.specs.Prelude.{map};
     ghost use Rattle.std.specs.BinaryHeap.{IsHeap, heap_items};
     ghost use Rattle.ospf_graph.specs.Waiting.{Waiting};
-    ghost use Rattle.ospf_graph.specs.contracts.candidates.CandidateOrd.TheImpl.{ghosts};
+    ghost use Rattle.ospf_graph.specs.contracts.candidates.SpfCandidateOrd.TheImpl.{ghosts};
 
     ghost Value = { Waiting };
 
@@ -58,7 +58,7 @@ impl Candidates {
     }
 
     /// Adds a candidate. `AllocError` where memory runs out.
-    pub fn push(&mut self, candidate: Candidate) -> Result<(), AllocError>
+    pub fn push(&mut self, candidate: SpfCandidate) -> Result<(), AllocError>
         ensures added { OnOk result (IsPermutation (candidate ∷ self.old.list) self.new.list) }
         ensures looks { self.new.looks ≡ one_more self.old.looks }
     {
@@ -68,7 +68,7 @@ impl Candidates {
     }
 
     /// Takes a candidate of least rank.
-    pub fn take_least(&mut self) -> Option<Candidate>
+    pub fn take_least(&mut self) -> Option<SpfCandidate>
         ensures none { IfNone result (self.old.list ≡ []) }
         ensures taken { IfSome result (λ c. IsPermutation self.old.list (c ∷ self.new.list)) }
         ensures least { IfSome result (λ c. All (λ d. candidate_rank c ≤ candidate_rank d)

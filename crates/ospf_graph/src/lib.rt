@@ -13,7 +13,7 @@ mod reached;
 mod route;
 mod show;
 
-pub use crate::candidates::{Candidate, Candidates};
+pub use crate::candidates::{Candidates, SpfCandidate};
 pub use crate::graph::{Edge, Start, Vertex, vertex_order};
 pub use crate::hop::NextHop;
 pub use crate::laws::{edges_elsewhere_stay, one_table, walk_law};

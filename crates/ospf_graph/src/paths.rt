@@ -9,9 +9,9 @@ ghost use Rattle.ospf_graph.specs.declared.graph.Start.TheVariants.{Here};
 ghost use Rattle.ospf_graph.specs.Paths.{AreSettledInOrder, AreStartsInOrder};
 ghost use Rattle.ospf_graph.specs.Reached.{ArePlaces, settled_of, starts_at, starts_of};
 ghost use Rattle.ospf_graph.specs.Tree.{extend, AreLeast, IsTree};
-ghost use Rattle.ospf_graph.specs.Search.{AddsStart, AtIn, BringsStarts, IsFit, Joins, StartsIn, Takes, vertex_code, vertex_id, AreEdgesInOrder, HaveSameFrom, candidates_from, vertex_eq};
+ghost use Rattle.ospf_graph.specs.Search.{AddsStart, AtIn, BringsStarts, AreFitEdges, Joins, StartsIn, TakesCandidate, vertex_code, vertex_id, AreEdgesInOrder, HaveSameFrom, candidates_from, vertex_eq};
 
-use crate::candidates::{Candidate, Candidates};
+use crate::candidates::{Candidates, SpfCandidate};
 use crate::graph::{Edge, Start, Vertex, vertex_order};
 use crate::hop::NextHop;
 use crate::reached::{Reached, bring, place_of, reach, tidy_all};
@@ -112,7 +112,7 @@ pub fn sorted_edges(alloc: Global, edges: &[Edge]) -> Result<Vec<Edge>, AllocErr
 /// `AllocError` where memory runs out.
 pub fn search(alloc: Global, edges: &[Edge], root: Vertex) -> Result<Searched, AllocError>
     // The edges are those of an area, in the order of the vertices that they leave.
-    requires fit { IsFit edges.now }
+    requires fit { AreFitEdges edges.now }
     requires root_fits { vertex_id root < 2 ^ 32 }
     requires in_order { AreEdgesInOrder edges.now }
     // What is reached is the tree of shortest paths, with no distance past the limit.
@@ -182,7 +182,7 @@ pub fn shortest_paths(
     root: Vertex,
 ) -> Result<ShortestPaths, AllocError>
     // The edges and the root are those of an area.
-    requires fit { IsFit edges.now }
+    requires fit { AreFitEdges edges.now }
     requires root_fits { vertex_id root < 2 ^ 32 }
     // What is found is the tree of shortest paths, and so all that is reached, at least cost.
     ensures tree { IfOk result (λ t. IsTree (Contains edges.now) root (AtIn t.settled.items)
@@ -267,7 +267,7 @@ fn add_each(
 {
     for edge in some {
         if is_same(edge.from, vertex) {
-            let candidate = Candidate {
+            let candidate = SpfCandidate {
                 distance: distance + edge.cost as u64,
                 edge: *edge,
             };
@@ -279,7 +279,7 @@ fn add_each(
 
 // Adds a candidate and notes its distance, unless a nearer way to its end is noted.
 fn offer(
-    candidate: Candidate,
+    candidate: SpfCandidate,
     nearest: &mut HashMap<u64, u64>,
     candidates: &mut Candidates,
 ) -> Result<(), AllocError>
@@ -313,7 +313,7 @@ fn is_undercut(nearest: &HashMap<u64, u64>, end: u64, distance: u64) -> bool
 fn take(
     alloc: Global,
     edges: &[Edge],
-    candidate: Candidate,
+    candidate: SpfCandidate,
     reached: &mut Vec<Reached>,
     places: &mut HashMap<u64, usize>,
     nearest: &mut HashMap<u64, u64>,
@@ -324,7 +324,7 @@ fn take(
     requires in_order { AreEdgesInOrder edges.now }
     requires places { ArePlaces (get nat_eq places.old) reached.old.items }
     // Its vertex, starts and further candidates are those of a turn of the search.
-    ensures taken { OnOk result (Takes candidate edges.now (settled_of reached.old.items)
+    ensures taken { OnOk result (TakesCandidate candidate edges.now (settled_of reached.old.items)
         (settled_of reached.new.items) (starts_of reached.old.items) (starts_of reached.new.items)
         (get nat_eq nearest.old) (get nat_eq nearest.new) candidates.old.list candidates.new.list) }
     // Places still lead to what is reached, and each new candidate is a look.

@@ -12,7 +12,7 @@ use Rattle.ospf_step.specs.Step.{Event, heard_in}
 use Rattle.ospf_step.proofs.StateFacts.{same_contents, slice_get-append_left}
 use Rattle.ospf_step.proofs.StepAccounts.{StepLaws-accounts}
 use Rattle.ospf_area.specs.State.{AreaValue}
-use Rattle.ospf_headline.specs.World.{Comes, World, WorldEvent, Issued, Run, Running, router_at, run_of, Steps, Becomes, SameLogs, IsNew, Happens, Runs}
+use Rattle.ospf_headline.specs.World.{Comes, World, WorldEvent, Issued, Run, Running, router_at, run_of, StepsRouter, Becomes, SameLogs, IsNewWorld, Happens, RunsEvents}
 use Rattle.ospf_headline.specs.declared.event.WorldEvent.TheVariants.{Start}
 use Rattle.ospf_headline.specs.Sound.{IssuedAt, HasBegun, NoneLargest, BasesAreFloors}
 use Rattle.ospf_headline.proofs.Facts.{Facts}
@@ -21,7 +21,7 @@ use Rattle.ospf_headline.proofs.RunFacts.{Facts-new, Facts-kept, Runs-append, wa
 
 -- what the starts so far say of the runs
 record Bases (is_dropped : Event → AreaValue → Bool) (start : World) (past : List WorldEvent) (w : World) : Type 0 where
-  leads : Runs is_dropped past start w
+  leads : RunsEvents is_dropped past start w
   running : (r : RouterId) (x : Running) → router_at w r ≡ Some x → HasBegun is_dropped start past w r x.first
   only_first : (r : RouterId) (x : Running) (key : LsaKey) → router_at w r ≡ Some x → run_of x key ≡ x.first
   issued : BasesAreFloors is_dropped start past w
@@ -30,7 +30,7 @@ module _ (is_dropped : Event → AreaValue → Bool) (start : World) (past : Lis
   abbrev Begun : RouterId → Run → Type 0
   Begun r run = HasBegun is_dropped start (past ++ event ∷ []) w' r run
 
-  further : (events : List WorldEvent) (v : World) → Runs is_dropped events v w → Runs is_dropped (events ++ event ∷ []) v w'
+  further : (events : List WorldEvent) (v : World) → RunsEvents is_dropped events v w → RunsEvents is_dropped (events ++ event ∷ []) v w'
   further events v runs = Runs-append is_dropped events (event ∷ []) v w w' runs (w', happens, refl)
 
   -- a run that had begun has begun
@@ -92,7 +92,7 @@ module _ (is_dropped : Event → AreaValue → Bool) (start : World) (past : Lis
       only q y key (IsThat.TheOne e is) = (of y is).1 key
       only q y key (IsThat.Another n at) = b.only_first q y key at
 
-  Bases-stepped : (r : RouterId) (e : Event) (x x' : Running) (out : OutputsValue) → Facts w → Steps is_dropped w w' r e x x' out → WasSent w (heard_in e) → NoneLargest w'.issued → Bases is_dropped start (past ++ event ∷ []) w'
+  Bases-stepped : (r : RouterId) (e : Event) (x x' : Running) (out : OutputsValue) → Facts w → StepsRouter is_dropped w w' r e x x' out → WasSent w (heard_in e) → NoneLargest w'.issued → Bases is_dropped start (past ++ event ∷ []) w'
   Bases-stepped r e x x' out facts step sent none = record {
     leads = further past start b.leads;
     running = λ q y at. run q y (which_router w w' r (Some x') q y step.changes at);
@@ -142,13 +142,13 @@ Bases-kept is_dropped start past event w w' facts b (result, Comes.Stepped ok to
 NoneLargest-before : (w w' : World) → LogGrows w w' → NoneLargest w'.issued → NoneLargest w.issued
 NoneLargest-before w w' grows none k e at = none k e (subst (λ issued. IssuedAt issued k e) (sym grows.grows) (slice_get-append_left w.issued grows.more k e at))
 
-Bases-run : (is_dropped : Event → AreaValue → Bool) (start : World) (events past : List WorldEvent) (w w' : World) → Facts w → Bases is_dropped start past w → Runs is_dropped events w w' → NoneLargest w'.issued → Bases is_dropped start (past ++ events) w'
+Bases-run : (is_dropped : Event → AreaValue → Bool) (start : World) (events past : List WorldEvent) (w w' : World) → Facts w → Bases is_dropped start past w → RunsEvents is_dropped events w w' → NoneLargest w'.issued → Bases is_dropped start (past ++ events) w'
 Bases-run is_dropped start [] past w w' facts b same none = subst (λ events. Bases is_dropped start events w') (sym (append-nil past)) (subst (λ w. Bases is_dropped start past w) (sym same) b)
 Bases-run is_dropped start (event ∷ events) past w w' facts b (mid, happens, rest) none =
     subst (λ events. Bases is_dropped start events w') (append_assoc past (event ∷ []) events)
     (Bases-run is_dropped start events (past ++ event ∷ []) mid w' (Facts-kept event w mid facts happens) (Bases-kept is_dropped start past event w mid facts b happens (NoneLargest-before mid w' (LogGrows-run is_dropped events mid w' rest) none)) rest none)
 
-pub bases : (is_dropped : Event → AreaValue → Bool) (events : List WorldEvent) (w w' : World) → IsNew w → Runs is_dropped events w w' → NoneLargest w'.issued → BasesAreFloors is_dropped w events w'
+pub bases : (is_dropped : Event → AreaValue → Bool) (events : List WorldEvent) (w w' : World) → IsNewWorld w → RunsEvents is_dropped events w w' → NoneLargest w'.issued → BasesAreFloors is_dropped w events w'
 bases is_dropped events w w' new run none =
     (Bases-run is_dropped w events [] w w' (Facts-new w new) (record {
       leads = refl;

@@ -16,7 +16,7 @@ use Rattle.ospf_graph.specs.Walk.{IsBest}
 use Rattle.ospf_graph.specs.declared.route.Route.{Route}
 use Rattle.ospf_step.proofs.StateFacts.{Contains-from_slice_get, Contains-map, find-some, same_router}
 use Rattle.ospf_headline.specs.World.{World, Member, Running, router_at, HasItsTable}
-use Rattle.ospf_headline.specs.Walks.{adverts, table_in, StepsOn, WalksOn, StandsOnWay, WalksArrive, WalkEnd, choice_of, other_choices, WalksBy, IsWalkOf, HasArrived}
+use Rattle.ospf_headline.specs.Walks.{adverts, table_in, StepsOn, WalksOn, StandsOnWay, RunningWalksArrive, WalkEnd, choice_of, other_choices, WalksBy, IsWalkOf, HasArrived}
 use Rattle.ospf_headline.proofs.Facts.{Facts}
 use Rattle.ospf_headline.proofs.Pigeons.{no_more}
 
@@ -61,7 +61,7 @@ all_run w address a [] b p y (here, none) runs q (suc k, within, is) = absurd (o
 all_run w address a (c ∷ routers) b p y (cost, left, step, rest, sum) runs q (zero, within, is) = (step.running, ap (router_at w) (sym is) ∙ step.runs)
 all_run w address a (c ∷ routers) b p y (cost, left, step, rest, sum) runs q (suc k, within, is) = all_run w address c routers b left y rest runs q (k, omega arith, is)
 
-module _ (w : World) (a : RouterId) (x : Running) (facts : Facts w) (runs : router_at w a ≡ Some x) (arrive : WalksArrive w a x) (address : ℕ) (first : Route) (best : IsBest x.table address first) where
+module _ (w : World) (a : RouterId) (x : Running) (facts : Facts w) (runs : router_at w a ≡ Some x) (arrive : RunningWalksArrive w a x) (address : ℕ) (first : Route) (best : IsBest x.table address first) where
   -- what comes of a walk that has met these routers and stands at the last of them
   data Outcome (met : List RouterId) (at : RouterId) (p left : ℕ) (routers : List RouterId) (paid : ℕ) (end : WalkEnd) : Type 0 where
     ItArrives : (rest : List RouterId) (b : RouterId) (q : ℕ) → routers ≡ at ∷ rest → WalksOn w address a (met ++ rest) b q → p + paid ≡ first.cost → end ≡ WalkEnd.Arrived → Outcome met at p left routers paid end

@@ -8,7 +8,7 @@ use Rattle.ospf_packet.specs.Meaning.{Meaning}
 use Rattle.ospf_packet.specs.PacketOf.{packet_of}
 use Rattle.ospf_area.specs.State.{kept_number}
 use Rattle.ospf_step.specs.Headers.{Lists}
-use Rattle.ospf_step.specs.Packets.{lsas_in, headers_in}
+use Rattle.ospf_step.specs.Packets.{lsas_in, headers_in_packet}
 use Rattle.ospf_step.specs.Words.{CanName, HasCopy, Asks, IsSoundState}
 use Rattle.ospf_headline.specs.World.{World, Issued, Datagram, Running, router_at, run_of, HasItsTable}
 use Rattle.ospf_headline.specs.Sound.{IssuedAt, WasIssued, number_in}
@@ -38,7 +38,7 @@ pub record Facts (w : World) : Type 0 where
   -- each instance that a router can name, names in a packet or is asked for is in held
   pub router : (r : RouterId) (x : Running) → router_at w r ≡ Some x → x.state.router ≡ r
   pub names : (r : RouterId) (x : Running) (i : Instance) → router_at w r ≡ Some x → CanName x.state i → Contains w.held (record { router = r; instance = i })
-  pub named : (g : Datagram) (p : Meaning) (i : Instance) → Contains w.datagrams g → packet_of g.sent.bytes ≡ Some p → Lists (headers_in p) i → Contains w.held (record { router = p.router; instance = i })
+  pub named : (g : Datagram) (p : Meaning) (i : Instance) → Contains w.datagrams g → packet_of g.sent.bytes ≡ Some p → Lists (headers_in_packet p) i → Contains w.held (record { router = p.router; instance = i })
   pub asked : (r : RouterId) (x : Running) (l : ℕ) (q : RouterId) (i : Instance) → router_at w r ≡ Some x → Asks x.state l q i → Contains w.held (record { router = q; instance = i })
   -- each copy is an LSA, and what waits for an acknowledgement is held
   pub sound : (r : RouterId) (x : Running) → router_at w r ≡ Some x → IsSoundState x.state

@@ -16,15 +16,15 @@ use Rattle.ospf_packet.specs.PacketOf.{packet_of}
 use Rattle.ospf_area.specs.Outputs.{OutputsValue, SentValue}
 use Rattle.ospf_area.specs.State.{AreaValue, kept_number}
 use Rattle.ospf_step.specs.Headers.{Lists}
-use Rattle.ospf_step.specs.Packets.{Received, lsas_in, headers_in, headers_of, dd_headers_in, dd_headers_of, acknowledging_headers_in, acknowledging_headers_of}
+use Rattle.ospf_step.specs.Packets.{Received, lsas_in, headers_in_packet, headers_in_body, dd_headers_in, dd_headers_of, acknowledging_headers_in, acknowledging_headers_of}
 use Rattle.ospf_step.specs.Words.{CanName, HasCopy, Asks, Brings, IsSoundState}
 use Rattle.ospf_lsdb.specs.Moments.{among}
 use Rattle.ospf_update.specs.Removal.{lowest_number}
-use Rattle.ospf_step.specs.Accounts.{Accounts, Has, Hears, IsAcknowledged, IsDescribed, Sends}
+use Rattle.ospf_step.specs.Accounts.{Accounts, HasContents, Hears, IsAcknowledged, IsDescribed, Sends}
 use Rattle.ospf_step.specs.Step.{Event, heard_in}
 use Rattle.ospf_step.proofs.StateFacts.{same_router, Contains-nil, slice_get-append_right, Contains-map_cases, Contains-map, slice_get-append_cases, slice_get-append_left, slice_get-map_cases, Contains-from_slice_get, slice_get-from_Contains}
 use Rattle.ospf_step.proofs.StepAccounts.{StepLaws-accounts, StepLaws-sound}
-use Rattle.ospf_headline.specs.World.{World, Issued, Datagram, Holding, Running, router_at, run_of, Steps, Becomes, HasItsTable}
+use Rattle.ospf_headline.specs.World.{World, Issued, Datagram, Holding, Running, router_at, run_of, StepsRouter, Becomes, HasItsTable}
 use Rattle.ospf_headline.specs.Sound.{WasIssued, IssuedAt, number_in}
 use Rattle.ospf_headline.proofs.Facts.{Facts, IsAfter, IsKnownTo}
 
@@ -51,14 +51,14 @@ pub WasIssued-more : (issued more : List Issued) (content : List ℕ) → WasIss
 WasIssued-more issued more content was = record { place = was.place; entry = was.entry; at = slice_get-append_left issued more was.place was.entry was.at; is = was.is }
 
 -- the headers by which a packet describes and acknowledges are among those by which it names instances
-dd_named : (b : BodyMeaning) (h : LsaHeader) → Contains (dd_headers_of b) h → Contains (headers_of b) h
+dd_named : (b : BodyMeaning) (h : LsaHeader) → Contains (dd_headers_of b) h → Contains (headers_in_body b) h
 dd_named (hello fields neighbours) h c = c
 dd_named (description fields headers) h c = c
 dd_named (request entries) h c = c
 dd_named (update lsas) h c = absurd (Contains-nil h c)
 dd_named (acknowledgment headers) h c = absurd (Contains-nil h c)
 
-acknowledged_named : (b : BodyMeaning) (h : LsaHeader) → Contains (acknowledging_headers_of b) h → Contains (headers_of b) h
+acknowledged_named : (b : BodyMeaning) (h : LsaHeader) → Contains (acknowledging_headers_of b) h → Contains (headers_in_body b) h
 acknowledged_named (hello fields neighbours) h c = c
 acknowledged_named (description fields headers) h c = absurd (Contains-nil h c)
 acknowledged_named (request entries) h c = c
@@ -69,7 +69,7 @@ acknowledged_named (acknowledgment headers) h c = c
 abbrev pub WasSent : World → Option Received → Type 0
 WasSent w heard = (r : Received) → heard ≡ Some r → (g : Datagram) × Contains w.datagrams g × (packet_of g.sent.bytes ≡ Some r.packet)
 
-module _ {is_dropped : Event → AreaValue → Bool} (w w' : World) (r : RouterId) (event : Event) (x x' : Running) (out : OutputsValue) (facts : Facts w) (step : Steps is_dropped w w' r event x x' out) (was_sent : WasSent w (heard_in event)) where
+module _ {is_dropped : Event → AreaValue → Bool} (w w' : World) (r : RouterId) (event : Event) (x x' : Running) (out : OutputsValue) (facts : Facts w) (step : StepsRouter is_dropped w w' r event x x' out) (was_sent : WasSent w (heard_in event)) where
   laws : Accounts (heard_in event) x.state out x'.state
   laws = StepLaws-accounts _ event x.state out x'.state (facts.sound r x step.was) step.laws
 
@@ -80,12 +80,12 @@ module _ {is_dropped : Event → AreaValue → Bool} (w w' : World) (r : RouterI
   was_issued content was =
       subst (λ issued. WasIssued issued content) (sym step.logs.issued) (WasIssued-more w.issued _ content was)
 
-  pub has_issued : (content : List ℕ) → Has (heard_in event) x.state out content → WasIssued w'.issued content
-  has_issued content (Has.Held lsa c e) = was_issued content (subst (λ k. WasIssued w.issued k) e (facts.database r x lsa step.was c))
-  has_issued content (Has.Heard received lsa h c e) =
+  pub has_issued : (content : List ℕ) → HasContents (heard_in event) x.state out content → WasIssued w'.issued content
+  has_issued content (HasContents.Held lsa c e) = was_issued content (subst (λ k. WasIssued w.issued k) e (facts.database r x lsa step.was c))
+  has_issued content (HasContents.Heard received lsa h c e) =
       let (g, sent, reads) = was_sent received h in
       was_issued content (subst (λ k. WasIssued w.issued k) e (facts.updates g received.packet lsa sent reads c))
-  has_issued content (Has.Issued lsa c e) =
+  has_issued content (HasContents.Issued lsa c e) =
       let (k, at) = slice_get-from_Contains _ _ (Contains-map (λ lsa. record { lsa = lsa; run = run_of x (key_of lsa) }) out.issued lsa c) in
       record {
         place = length w.issued + k;
@@ -110,7 +110,7 @@ module _ {is_dropped : Event → AreaValue → Bool} (w w' : World) (r : RouterI
   names_held i (inl n) = was_held _ (facts.names r x i step.was n)
   names_held i (inr b) = brings_held i b
 
-  hears_by : (headers : Meaning → List LsaHeader) → ((p : Meaning) (h : LsaHeader) → Contains (headers p) h → Contains (headers_in p) h) → (l : ℕ) (q : RouterId) (i : Instance) → Hears headers (heard_in event) l q i → Contains w'.held (record { router = q; instance = i })
+  hears_by : (headers : Meaning → List LsaHeader) → ((p : Meaning) (h : LsaHeader) → Contains (headers p) h → Contains (headers_in_packet p) h) → (l : ℕ) (q : RouterId) (i : Instance) → Hears headers (heard_in event) l q i → Contains w'.held (record { router = q; instance = i })
   hears_by headers among_all l q i h =
       let (g, sent, reads) = was_sent h.received h.is_heard in
       let (header, c, is) = h.named in
@@ -169,7 +169,7 @@ module _ {is_dropped : Event → AreaValue → Bool} (w w' : World) (r : RouterI
           (names_held i (laws.names i (subst (λ z. CanName z.state i) (sym (same_Some x' y o)) n)))
       go (IsThat.Another _ o) = was_held _ (facts.names q y i o n)
 
-  pub named_kept : (g : Datagram) (p : Meaning) (i : Instance) → Contains w'.datagrams g → packet_of g.sent.bytes ≡ Some p → Lists (headers_in p) i → Contains w'.held (record { router = p.router; instance = i })
+  pub named_kept : (g : Datagram) (p : Meaning) (i : Instance) → Contains w'.datagrams g → packet_of g.sent.bytes ≡ Some p → Lists (headers_in_packet p) i → Contains w'.held (record { router = p.router; instance = i })
   named_kept g p i c reads in_p =
       elim (datagram_cases g c) [
         | inl old ↦ was_held _ (facts.named g p i old reads in_p)

@@ -23,9 +23,9 @@ use Rattle.ospf_step.specs.Step.{Event, heard_in}
 use Rattle.ospf_step.proofs.StateFacts.{same_contents, Contains-nil, Contains-from_slice_get}
 use Rattle.ospf_step.proofs.StepAccounts.{StepLaws-accounts}
 use Rattle.ospf_step.specs.Step.Event.{Tick, LinkUp, LinkDown}
-use Rattle.ospf_headline.specs.World.{Comes, World, WorldEvent, Issued, Datagram, Running, router_at, run_of, Steps, Becomes, SameLogs, IsStarted, IsNew, Happens, Runs, stepped_by, HasItsTable}
+use Rattle.ospf_headline.specs.World.{Comes, World, WorldEvent, Issued, Datagram, Running, router_at, run_of, StepsRouter, Becomes, SameLogs, IsRunningStarted, IsNewWorld, Happens, RunsEvents, stepped_by, HasItsTable}
 use Rattle.ospf_headline.specs.declared.event.WorldEvent.TheVariants.{Start, Stop, Tick as TickOf, LinkUp as LinkUpOf, LinkDown as LinkDownOf, Deliver}
-use Rattle.ospf_headline.specs.Sound.{WasIssued, HeldAnywhere, IssuedAgain, AgreeUnlessIssuedAgain, NoCollision, BasesAreHigh, IssuedAt, number_in, HasToldOf, IsSoundFor, SoundFor, IsSound}
+use Rattle.ospf_headline.specs.Sound.{WasIssued, HeldAnywhere, IssuedAgain, AgreeUnlessIssuedAgain, NoCollision, BasesAreHigh, IssuedAt, number_in, HasToldOf, IsSoundFor, SoundFor, IsSoundAcknowledgement}
 use Rattle.ospf_headline.proofs.Facts.{Facts, IsAfter, IsKnownTo}
 use Rattle.ospf_headline.proofs.FactsKept.{IsThat, which_router, WasSent, Facts-stepped, WasIssued-more, acknowledged_held, described_held, was_held}
 
@@ -95,7 +95,7 @@ pub run_of-started : (x : Running) (key : LsaKey) → x.later ≡ [] → run_of 
 unfolding run_of
 run_of-started x key none = rw none refl
 
-pub FactsOf-started : (w : World) (r : RouterId) (floor : ℤ) (x : Running) → IsStarted w.issued r floor x → FactsOf w r x
+pub FactsOf-started : (w : World) (r : RouterId) (floor : ℤ) (x : Running) → IsRunningStarted w.issued r floor x → FactsOf w r x
 FactsOf-started w r floor x s = record {
   database = λ lsa c. absurd (none-some lsa (sym (s.empty (key_of lsa)) ∙ c));
   known = λ i e at own. IsKnownTo.BeforeRun (subst (λ run. i < run.name) (sym (run (key_of e.lsa))) (slice_get_within w.issued i e at));
@@ -120,16 +120,16 @@ Facts-kept event w w' facts (result, Comes.Stops ok told r is b logs) = Facts-sa
 Facts-kept event w w' facts (result, Comes.MemoryStops ok told r e by b logs) = Facts-same_logs w w' r None facts b logs (λ y e. absurd (none-some y e))
 Facts-kept event w w' facts (result, Comes.Stepped ok told r e x x' out by step) = Facts-stepped w w' r e x x' out facts step (was_sent_by w event r e by)
 
-pub Facts-run : (is_dropped : Event → AreaValue → Bool) (events : List WorldEvent) (w w' : World) → Facts w → Runs is_dropped events w w' → Facts w'
+pub Facts-run : (is_dropped : Event → AreaValue → Bool) (events : List WorldEvent) (w w' : World) → Facts w → RunsEvents is_dropped events w w' → Facts w'
 Facts-run is_dropped [] w w' facts same = subst (λ w. Facts w) (sym same) facts
 Facts-run is_dropped (event ∷ events) w w' facts (mid, happens, rest) = Facts-run is_dropped events mid w' (Facts-kept event w mid facts happens) rest
 
 -- one list of events, and then another
-pub Runs-append : (is_dropped : Event → AreaValue → Bool) (events later : List WorldEvent) (u v w : World) → Runs is_dropped events u v → Runs is_dropped later v w → Runs is_dropped (events ++ later) u w
-Runs-append is_dropped [] later u v w same rest = subst (λ u. Runs is_dropped later u w) same rest
+pub Runs-append : (is_dropped : Event → AreaValue → Bool) (events later : List WorldEvent) (u v w : World) → RunsEvents is_dropped events u v → RunsEvents is_dropped later v w → RunsEvents is_dropped (events ++ later) u w
+Runs-append is_dropped [] later u v w same rest = subst (λ u. RunsEvents is_dropped later u w) same rest
 Runs-append is_dropped (event ∷ events) later u v w (mid, happens, first) rest = (mid, happens, Runs-append is_dropped events later mid v w first rest)
 
-pub Facts-new : (w : World) → IsNew w → Facts w
+pub Facts-new : (w : World) → IsNewWorld w → Facts w
 Facts-new w new = record {
   database = λ r x lsa at c. absurd (stopped r x at);
   updates = λ g p lsa c reads in_p. absurd (Contains-nil g (subst (λ gs. Contains gs g) new.no_datagrams c));
@@ -171,7 +171,7 @@ LogGrows-event event w w' (result, Comes.Stops ok told r is b logs) = record { m
 LogGrows-event event w w' (result, Comes.MemoryStops ok told r e by b logs) = record { more = []; grows = logs.issued ∙ sym (append-nil w.issued) }
 LogGrows-event event w w' (result, Comes.Stepped ok told r e x x' out by step) = record { more = _; grows = step.logs.issued }
 
-pub LogGrows-run : (is_dropped : Event → AreaValue → Bool) (events : List WorldEvent) (w w' : World) → Runs is_dropped events w w' → LogGrows w w'
+pub LogGrows-run : (is_dropped : Event → AreaValue → Bool) (events : List WorldEvent) (w w' : World) → RunsEvents is_dropped events w w' → LogGrows w w'
 LogGrows-run is_dropped [] w w' same = record { more = []; grows = ap (λ w. w.issued) same ∙ sym (append-nil w.issued) }
 LogGrows-run is_dropped (event ∷ events) w w' (mid, happens, rest) =
     let first = LogGrows-event event w mid happens in
@@ -210,7 +210,7 @@ agree w a b facts wa wb same = go (cases_order wa.place wb.place)
     go (inr (inr gt)) = inr (inr (issued_again w b a facts wb.place wa.place wb.entry wa.entry wb.at wa.at gt (sym one) wb.is wa.is))
 
 -- the first half of the headline, for what is held at two moments of a run
-pub held_agree : (is_dropped : Event → AreaValue → Bool) (events later : List WorldEvent) (w0 w1 w2 : World) (a b : List ℕ) → IsNew w0 → Runs is_dropped events w0 w1 → Runs is_dropped later w1 w2 → HeldAnywhere w1 a → HeldAnywhere w2 b → AgreeUnlessIssuedAgain w2.issued a b
+pub held_agree : (is_dropped : Event → AreaValue → Bool) (events later : List WorldEvent) (w0 w1 w2 : World) (a b : List ℕ) → IsNewWorld w0 → RunsEvents is_dropped events w0 w1 → RunsEvents is_dropped later w1 w2 → HeldAnywhere w1 a → HeldAnywhere w2 b → AgreeUnlessIssuedAgain w2.issued a b
 held_agree is_dropped events later w0 w1 w2 a b new run1 run2 ha hb =
     let facts1 = Facts-run is_dropped events w0 w1 (Facts-new w0 new) run1 in
     let facts2 = Facts-run is_dropped later w1 w2 facts1 run2 in
@@ -239,7 +239,7 @@ no_collision w facts high i j e f ate atf same = go (agree w e.lsa f.lsa facts (
 pub covers_itself : (i : Instance) → Covers i i
 covers_itself i = (refl, inr (refl, omega arith))
 
-pub sound_step : {is_dropped : Event → AreaValue → Bool} (w w' : World) (r : RouterId) (e : Event) (x x' : Running) (out : OutputsValue) → Facts w → Steps is_dropped w w' r e x x' out → WasSent w (heard_in e) → IsSoundFor w' e x.state out x'.state
+pub sound_step : {is_dropped : Event → AreaValue → Bool} (w w' : World) (r : RouterId) (e : Event) (x x' : Running) (out : OutputsValue) → Facts w → StepsRouter is_dropped w w' r e x x' out → WasSent w (heard_in e) → IsSoundFor w' e x.state out x'.state
 sound_step w w' r e x x' out facts step sent = record {
   left = λ l q i before. by_leave l q i ((StepLaws-accounts _ e x.state out x'.state (facts.sound r x step.was) step.laws).leaves l q i before);
   listed = λ l q i brings holds exchanging. by_word l q i ((StepLaws-accounts _ e x.state out x'.state (facts.sound r x step.was) step.laws).listed l q i brings holds exchanging);
@@ -270,7 +270,7 @@ not_of w event q r e by other f is = other (ap (λ z. z.0) (same_Some (r, f) (q,
 none_of : (w : World) (event : WorldEvent) (r : RouterId) → stepped_by w event ≡ None → (f : Event) → stepped_by w event ≢ Some (r, f)
 none_of w event r none f is = none-some (r, f) (sym none ∙ is)
 
-pub sound : {is_dropped : Event → AreaValue → Bool} (event : WorldEvent) (w w' : World) → Facts w → Happens is_dropped event w w' → IsSound event w w'
+pub sound : {is_dropped : Event → AreaValue → Bool} (event : WorldEvent) (w w' : World) → Facts w → Happens is_dropped event w w' → IsSoundAcknowledgement event w w'
 sound event w w' facts (result, Comes.Refused why is told same) r x x' at at' = SoundFor.NothingDone same
 sound event w w' facts (result, Comes.NotDone ok told same) r x x' at at' = SoundFor.NothingDone same
 sound event w w' facts (result, Comes.Starts ok told q dd floor y is none b s logs) r x x' at at' = go (which_router w w' q (Some y) r x' b at')

@@ -16,7 +16,7 @@ use Rattle.ospf_router.specs.Routers.{RouterValue}
 use Rattle.ospf_router.specs.Steps.{Steps}
 use Rattle.ospf_router.specs.declared.router.Step.{Step}
 use Rattle.ospf_headline.specs.Logs.{LogsTake, LogsValue, run_in, run_or}
-use Rattle.ospf_headline.specs.Running.{Fed, Goes, RunningValue, Settles, runs_in}
+use Rattle.ospf_headline.specs.Running.{Fed, TakesStep, RunningValue, SettlesLogs, runs_in}
 use Rattle.ospf_update.specs.Removal.{lowest_number}
 
 -- the run of a key, said in two ways
@@ -35,7 +35,7 @@ same_table before after s same has = record {
   is_table = subst (λ (r : RouterValue). IsTable (advertisements_of (listed s.database)) s.router r.table) (sym same) has.is_table;
 }
 
-goes_on : (r : RouterId) (e : Event) (before mid after : RunningValue) (out : OutputsValue) (logs logs' : LogsValue) (g : Goes e before out mid) → Settles r mid out logs after logs' → RunsGoOn logs'.issued out.ended (runs_in before g.area) (runs_in after g.next)
+goes_on : (r : RouterId) (e : Event) (before mid after : RunningValue) (out : OutputsValue) (logs logs' : LogsValue) (g : TakesStep e before out mid) → SettlesLogs r mid out logs after logs' → RunsGoOn logs'.issued out.ended (runs_in before g.area) (runs_in after g.next)
 goes_on r e before mid after out logs logs' g s = record {
   first = s.first ∙ g.first;
   runs = λ key. run_of-is (runs_in after g.next) key ∙ (s.again after.first key ∙ ap (λ z. cond (among out.ended key) (record { name = length logs'.issued; base = lowest_number }) z)
@@ -43,7 +43,7 @@ goes_on r e before mid after out logs logs' g s = record {
 }
 
 -- a step, and then the logs grow
-pub fed_from : (r : RouterId) (e : Event) (before mid after : RunningValue) (out : OutputsValue) (logs logs' : LogsValue) → Goes e before out mid → Settles r mid out logs after logs' → Fed r e before logs after logs'
+pub fed_from : (r : RouterId) (e : Event) (before mid after : RunningValue) (out : OutputsValue) (logs logs' : LogsValue) → TakesStep e before out mid → SettlesLogs r mid out logs after logs' → Fed r e before logs after logs'
 fed_from r e before mid after out logs logs' g s = record {
   area = g.area;
   next = g.next;
@@ -58,7 +58,7 @@ fed_from r e before mid after out logs logs' g s = record {
 }
 
 -- a step of the router
-pub goes : (e : Event) (r r' : RouterValue) (first : Run) (later : List (LsaKey × Run)) (t : Step) → Steps e r t r' → Goes e (record { router = r; first = first; later = later }) t.out (record { router = r'; first = first; later = later })
+pub goes : (e : Event) (r r' : RouterValue) (first : Run) (later : List (LsaKey × Run)) (t : Step) → Steps e r t r' → TakesStep e (record { router = r; first = first; later = later }) t.out (record { router = r'; first = first; later = later })
 goes e r r' first later t s = record {
   area = s.area;
   next = s.next;

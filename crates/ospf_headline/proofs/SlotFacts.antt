@@ -113,7 +113,7 @@ steps_fed event e s after logs logs' result refused fed (Feeds.MemoryStops x was
 
 -- one that is refused where there is no such link as well
 pub steps_fed_on : (event : WorldEvent) (l : ℕ) (e : Event) (s after : SlotValue) (logs logs' : LogsValue) (result : Result (Unit {0}) WorldFault) →
-    refused_by logs.datagrams event (member_of s) ≡ world.on_link l (member_of s) → fed_by logs.datagrams event ≡ Some e → FeedsOn l e s logs result after logs' → SlotSteps event s logs result after logs'
+    refused_by logs.datagrams event (member_of s) ≡ world.fault_on_link l (member_of s) → fed_by logs.datagrams event ≡ Some e → FeedsOn l e s logs result after logs' → SlotSteps event s logs result after logs'
 steps_fed_on event l e s after logs logs' result refused fed (FeedsOn.NoLink none is same same_logs) =
     SlotSteps.Refused fault.NoLink (refused ∙ ap (λ (b : Bool). cond b (unless_stopped s.running) (Some fault.NoLink)) none) is same same_logs
 steps_fed_on event l e s after logs logs' result refused fed (FeedsOn.OnLink has by) =

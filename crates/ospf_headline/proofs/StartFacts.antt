@@ -5,7 +5,7 @@ use Rattle.ospf_base.specs.declared.ids.Instance.{Instance}
 use Rattle.ospf_base.specs.declared.ids.RouterId.{RouterId}
 use Rattle.ospf_config.specs.declared.config.Config.{Config}
 use Rattle.ospf_config.specs.declared.interface.Interface.{Interface}
-use Rattle.ospf_headline.specs.World.{IsStarted}
+use Rattle.ospf_headline.specs.World.{IsRunningStarted}
 use Rattle.ospf_headline.specs.declared.logs.Issued.{Issued}
 use Rattle.ospf_headline.specs.declared.logs.Run.{Run}
 use Rattle.ospf_step.proofs.StateFacts.{Contains-nil}
@@ -56,7 +56,7 @@ asks_none : (config : Config) (dd : ℕ) (floor : ℤ) (links : List LinkValue) 
 asks_none config dd floor links are l q i lists = lists_none _ i (list_of_none (λ n. n.requests) _ q (no_neighbours _ _ links are l)) lists
 
 started_now : (config : Config) (dd : ℕ) (floor : ℤ) (links : List LinkValue) → router.AreLinksOf config.router_id config.interfaces.items links → (log : List Issued) (first : Run) → first ≡ record { name = length log; base = floor } →
-    IsStarted log config.router_id floor (record { state = router.area_of config dd floor links; table = []; first = first; later = [] })
+    IsRunningStarted log config.router_id floor (record { state = router.area_of config dd floor links; table = []; first = first; later = [] })
 started_now config dd floor links are log first is = record {
   router = refl;
   first = is;
@@ -81,8 +81,8 @@ begins config dd floor issued r s = record {
     area = s.is;
     table = s.table;
     begins =
-        subst (λ (a : AreaValue). IsStarted log config.router_id floor (record { state = a; table = r.table; first = first; later = [] })) (sym s.is.rest)
-        (subst (λ t. IsStarted log config.router_id floor (record { state = router.area_of config dd floor s.area.links; table = t; first = first; later = [] })) (sym s.table)
+        subst (λ (a : AreaValue). IsRunningStarted log config.router_id floor (record { state = a; table = r.table; first = first; later = [] })) (sym s.is.rest)
+        (subst (λ t. IsRunningStarted log config.router_id floor (record { state = router.area_of config dd floor s.area.links; table = t; first = first; later = [] })) (sym s.table)
         (started_now config dd floor s.area.links s.is.links log first (ap (λ n. record { name = n; base = floor }) (sym is))));
   };
 }

@@ -5,32 +5,32 @@ use Rattle.std.proofs.lemmas.Option.{same_Some}
 use Rattle.std.proofs.lemmas.List.Elements.{All-contains}
 use Rattle.ospf_base.specs.declared.ids.RouterId.{RouterId}
 use Rattle.ospf_lsa.specs.Lsa.{instance_of}
-use Rattle.ospf_lsdb.specs.Database.{lsa_of, is_fresh, listed, IsRising, entries}
+use Rattle.ospf_lsdb.specs.Database.{lsa_of, is_fresh, listed, AreKeysRising, entries}
 use Rattle.ospf_exchange.proofs.LawLemmas.{of_copy}
 use Rattle.ospf_graph.specs.Advertisements.{IsListed}
 use Rattle.ospf_graph.specs.Routes.{IsTable, IsRoute}
-use Rattle.ospf_graph.specs.Walk.{HaveTables, IsBest, IsStep, IsWalk, IsOnWay, IsSoundWalk, IsLinkCost}
+use Rattle.ospf_graph.specs.Walk.{HaveTables, IsBest, IsWalkStep, IsWalk, IsOnWay, IsSoundWalk, IsLinkCost}
 use Rattle.ospf_graph.specs.declared.route.Route.{Route}
 use Rattle.ospf_spf.specs.Walks as spf
-use Rattle.ospf_area.specs.State.{copy_in, entry_of}
+use Rattle.ospf_area.specs.State.{copy_in, database_entry}
 use Rattle.ospf_step.specs.Words.{HasCopy}
 use Rattle.ospf_step.proofs.StateFacts.{same_contents, key_of-lsa_of, Contains-map, Contains-map_cases, Contains-filter_cases}
 use Rattle.ospf_headline.specs.Listings.{ListTheSame, AgreeByInstance}
 use Rattle.ospf_headline.specs.Sound.{NoCollision}
 use Rattle.ospf_headline.specs.World.{World, Running, router_at, listing, HasItsTable}
-use Rattle.ospf_headline.specs.Walks.{adverts, table_at, table_in, AllListedAgree, StepsOn, WalksOn, StandsOnWay, WalksArrive}
+use Rattle.ospf_headline.specs.Walks.{adverts, table_at, table_in, AllListedAgree, StepsOn, WalksOn, StandsOnWay, RunningWalksArrive}
 use Rattle.ospf_headline.proofs.Facts.{Facts}
 use Rattle.ospf_headline.proofs.SameListing.{same_advertisements}
 
 -- what is listed is a copy of the database
-listed_has : (x : Running) (lsa : List ℕ) → IsRising x.state.database → Contains (listing x) lsa → HasCopy x.state lsa
+listed_has : (x : Running) (lsa : List ℕ) → AreKeysRising x.state.database → Contains (listing x) lsa → HasCopy x.state lsa
 listed_has x lsa rises c =
     let (h, inside, is) = Contains-map_cases (λ h. lsa_of h.entry) (filter (λ h. is_fresh h.entry) x.state.database) lsa c in
     let in_db = (Contains-filter_cases (λ h. is_fresh h.entry) x.state.database h inside).0 in
     let in_entries = Contains-map lsa_of (entries x.state.database) h.entry (Contains-map (λ h. h.entry) x.state.database h in_db) in
     let (e, has, same) = of_copy lsa_of x.state.database rises (lsa_of h.entry) in_entries in
     let whole : lsa_of e ≡ lsa = same ∙ is in
-    subst (λ lsa. HasCopy x.state lsa) whole (ap copy_in (subst (λ key. entry_of x.state key ≡ Some e) (sym (key_of-lsa_of e)) has))
+    subst (λ lsa. HasCopy x.state lsa) whole (ap copy_in (subst (λ key. database_entry x.state key ≡ Some e) (sym (key_of-lsa_of e)) has))
 
 -- LSAs of one instance in two listings have equal contents
 agree_by_instance : (w : World) (a b : RouterId) (x y : Running) → Facts w → NoCollision w.issued → router_at w a ≡ Some x → router_at w b ≡ Some y → AgreeByInstance (listing x) (listing y)
@@ -82,13 +82,13 @@ module _ (w : World) (a : RouterId) (x : Running) (law : spf.WalksArrive) (facts
   on_way address b first listed best routers c paid walk = law (listing x) (table_at w) address b first (facts.tables a x runs).is_listing have_tables listed best routers c paid walk
 
   -- a step in the world is one in the listing, and leads to a listed router
-  one_step : (address : ℕ) (b c : RouterId) (cost : ℕ) → IsListed (adverts x) b → StepsOn w address b c cost → IsStep (adverts x) (table_at w) address b c cost
+  one_step : (address : ℕ) (b c : RouterId) (cost : ℕ) → IsListed (adverts x) b → StepsOn w address b c cost → IsWalkStep (adverts x) (table_at w) address b c cost
   one_step address b c cost listed s =
       let (y, has) = ours b listed in
       let same : s.running ≡ y = same_Some s.running y (sym s.runs ∙ has.runs_as) in
-      subst (λ adv. IsStep adv (table_at w) address b c cost) (ap adverts same ∙ sym has.same) s.step
+      subst (λ adv. IsWalkStep adv (table_at w) address b c cost) (ap adverts same ∙ sym has.same) s.step
 
-  next_listed : (address : ℕ) (b c : RouterId) (cost : ℕ) → IsListed (adverts x) b → IsStep (adverts x) (table_at w) address b c cost → IsListed (adverts x) c
+  next_listed : (address : ℕ) (b c : RouterId) (cost : ℕ) → IsListed (adverts x) b → IsWalkStep (adverts x) (table_at w) address b c cost → IsListed (adverts x) c
   next_listed address b c cost listed step =
       (on_way address b step.route listed step.best (c ∷ []) c (cost + 0) (cost, 0, step, (refl, refl), refl)).on_way.listed
 
@@ -103,7 +103,7 @@ module _ (w : World) (a : RouterId) (x : Running) (law : spf.WalksArrive) (facts
   on_walk address b [] c paid listed walk = walk
   on_walk address b (next ∷ routers) c paid listed (cost, left, step, rest, sum) =
       let (y, has) = ours b listed in
-      let s : StepsOn w address b next cost = record { running = y; runs = has.runs_as; step = subst (λ adv. IsStep adv (table_at w) address b next cost) has.same step } in
+      let s : StepsOn w address b next cost = record { running = y; runs = has.runs_as; step = subst (λ adv. IsWalkStep adv (table_at w) address b next cost) has.same step } in
       (cost, left, s, on_walk address next routers c left (next_listed address b next cost listed step) rest, sum)
 
   stands : (address : ℕ) (first : Route) (b : RouterId) (paid : ℕ) → IsOnWay (adverts x) (table_at w) address first b paid → StandsOnWay w address first b paid
@@ -129,7 +129,7 @@ module _ (w : World) (a : RouterId) (x : Running) (law : spf.WalksArrive) (facts
   our_listed : (address : ℕ) (first : Route) → IsBest x.table address first → IsListed (adverts x) a
   our_listed address first best = subst (λ q. IsListed (adverts x) q) (facts.router a x runs) (best_listed x address first (facts.tables a x runs) best)
 
-  pub walks_arrive : WalksArrive w a x
+  pub walks_arrive : RunningWalksArrive w a x
   walks_arrive address first best routers b paid walk =
       let listed = our_listed address first best in
       let s = on_way address a first listed (subst (λ routes. IsBest routes address first) (sym our_table) best) routers b paid (as_walk address a routers b paid listed walk) in

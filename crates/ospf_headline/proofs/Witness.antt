@@ -13,7 +13,7 @@ use Rattle.ospf_step.specs.Words.{CanName}
 use Rattle.ospf_step.proofs.StateFacts.{Contains-nil, same_router}
 use Rattle.ospf_step.proofs.Witness.{at_tick, ticks}
 use Rattle.ospf_headline.specs.declared.event.WorldEvent.TheVariants.{Start, Tick}
-use Rattle.ospf_headline.specs.World.{Comes, World, Member, Running, WorldEvent, router_at, run_of, Becomes, HasItsTable, IsStarted, Steps, Runs, IsNew}
+use Rattle.ospf_headline.specs.World.{Comes, World, Member, Running, WorldEvent, router_at, run_of, Becomes, HasItsTable, IsRunningStarted, StepsRouter, RunsEvents, IsNewWorld}
 
 abbrev it : RouterId
 it = record { 0 = 1 }
@@ -35,7 +35,7 @@ only_it o q = go (1 == q.0)
 abbrev nobody : Option Running
 nobody = None
 
-is_new : IsNew (alone None)
+is_new : IsNewWorld (alone None)
 is_new = record { none_runs = λ r. only_it None r ∙ go (1 == r.0); no_datagrams = refl; none_issued = refl; none_held = refl }
   where
     go : (b : Bool) → cond b nobody nobody ≡ nobody
@@ -69,7 +69,7 @@ names_none i (CanName.InLastDd l q (h, c, is)) = Contains-nil h c
 names_none i (CanName.ToAcknowledge l (h, c, is)) = Contains-nil h c
 names_none i (CanName.ToAcknowledgeNow (h, c, is)) = Contains-nil h c
 
-is_started : IsStarted [] it lowest_number (runs_at 0)
+is_started : IsRunningStarted [] it lowest_number (runs_at 0)
 is_started = record {
   router = refl;
   first = refl;
@@ -81,7 +81,7 @@ is_started = record {
   table = has_its_table 0;
 }
 
-steps : Steps (λ event s. false) (alone (Some (runs_at 0))) (alone (Some (runs_at 1))) it Event.Tick (runs_at 0) (runs_at 1) no_outputs
+steps : StepsRouter (λ event s. false) (alone (Some (runs_at 0))) (alone (Some (runs_at 1))) it Event.Tick (runs_at 0) (runs_at 1) no_outputs
 unfolding run_of
 steps = record {
   was = only_it (Some (runs_at 0)) it;
@@ -92,7 +92,7 @@ steps = record {
   runs = record { first = refl; runs = λ key. refl };
 }
 
-pub some_world_ticks : (start after : World) × (events : List WorldEvent) × (r : RouterId) × (x : Running) × IsNew start × Runs (λ event s. false) events start after × (router_at after r ≡ Some x) × (x.state.tick ≡ 1)
+pub some_world_ticks : (start after : World) × (events : List WorldEvent) × (r : RouterId) × (x : Running) × IsNewWorld start × RunsEvents (λ event s. false) events start after × (router_at after r ≡ Some x) × (x.state.tick ≡ 1)
 some_world_ticks = (
   alone None,
   alone (Some (runs_at 1)),

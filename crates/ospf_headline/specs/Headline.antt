@@ -5,15 +5,15 @@ use Rattle.ospf_base.specs.Sums.{contents}
 use Rattle.ospf_graph.specs.Routes.{IsTable}
 use Rattle.ospf_area.specs.State.{AreaValue}
 use Rattle.ospf_step.specs.Step.{Event}
-use Rattle.ospf_headline.specs.World.{World, WorldEvent, Running, router_at, IsNew, Runs}
+use Rattle.ospf_headline.specs.World.{World, WorldEvent, Running, router_at, IsNewWorld, RunsEvents}
 use Rattle.ospf_headline.specs.Sound.{HeldAnywhere, WasIssued, AgreeUnlessIssuedAgain, BasesAreHigh, NoCollision}
-use Rattle.ospf_headline.specs.Walks.{adverts, AllListedAgree, WalksArrive, ChosenWalksArrive}
+use Rattle.ospf_headline.specs.Walks.{adverts, AllListedAgree, RunningWalksArrive, ChosenWalksArrive}
 
 -- these events led here from a world in which nothing ran and nothing had happened
 pub record IsReachedBy (is_dropped : Event → AreaValue → Bool) (events : List WorldEvent) (w : World) : Type 0 where
   pub start : World
-  pub new : IsNew start
-  pub runs : Runs is_dropped events start w
+  pub new : IsNewWorld start
+  pub runs : RunsEvents is_dropped events start w
 
 -- some events did
 abbrev pub IsReached : (Event → AreaValue → Bool) → World → Type 0
@@ -30,7 +30,7 @@ pub record Headline (before after : World) : Type 0 where
   -- cost, and with exactly the next hops of the least ways that count
   pub tables : (r : RouterId) (x : Running) → router_at after r ≡ Some x → IsTable (adverts x) r x.table
   -- where nothing issued collides and all listed routers run and list the same, each walk arrives
-  pub walks : (r : RouterId) (x : Running) → NoCollision after.issued → router_at after r ≡ Some x → AllListedAgree after x → WalksArrive after r x
+  pub walks : (r : RouterId) (x : Running) → NoCollision after.issued → router_at after r ≡ Some x → AllListedAgree after x → RunningWalksArrive after r x
   pub chosen : (r : RouterId) (x : Running) → NoCollision after.issued → router_at after r ≡ Some x → AllListedAgree after x → ChosenWalksArrive after r x
   -- high floors exclude collisions
   pub no_collision : BasesAreHigh after.issued → NoCollision after.issued

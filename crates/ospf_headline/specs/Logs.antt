@@ -36,8 +36,8 @@ BeginAgain name ended later later' = (first : Run) (key : LsaKey) → run_in fir
 
 -- ---- what logs grow by
 
-abbrev pub sent_by : RouterId → SentValue → Datagram
-sent_by r s = record { router = r; sent = s }
+abbrev pub sent_as_datagram : RouterId → SentValue → Datagram
+sent_as_datagram r s = record { router = r; sent = s }
 
 abbrev pub held_by : RouterId → Instance → Holding
 held_by r i = record { router = r; instance = i }
@@ -50,7 +50,7 @@ issued_in first later lsa = record { lsa = lsa; run = run_in first later (key_of
 
 -- the logs grow by exactly these outputs of router r, whose keys are in these runs
 pub record LogsTake (before after : LogsValue) (r : RouterId) (first : Run) (later : List (LsaKey × Run)) (out : OutputsValue) : Type 0 where
-  pub datagrams : after.datagrams ≡ before.datagrams ++ map (sent_by r) out.sent
+  pub datagrams : after.datagrams ≡ before.datagrams ++ map (sent_as_datagram r) out.sent
   pub issued : after.issued ≡ before.issued ++ map (issued_in first later) out.issued
   pub held : after.held ≡ before.held ++ (map (held_by r) out.taken ++ map (holdings_by r) out.issued)
 

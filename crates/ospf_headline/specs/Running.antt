@@ -5,7 +5,7 @@ use Rattle.ospf_area.specs.State.{AreaValue}
 use Rattle.ospf_base.specs.declared.ids.LsaKey.{LsaKey}
 use Rattle.ospf_base.specs.declared.ids.RouterId.{RouterId}
 use Rattle.ospf_config.specs.declared.config.Config.{Config}
-use Rattle.ospf_headline.specs.World.{HasItsTable, IsStarted, Running, RunsGoOn}
+use Rattle.ospf_headline.specs.World.{HasItsTable, IsRunningStarted, Running, RunsGoOn}
 use Rattle.ospf_headline.specs.declared.logs.Datagram.{Datagram}
 use Rattle.ospf_headline.specs.declared.logs.Issued.{Issued}
 use Rattle.ospf_headline.specs.declared.logs.Run.{Run}
@@ -39,7 +39,7 @@ Lives v = (s : AreaValue) × (v.router.area ≡ Some s)
 pub record StartsAs (config : Config) (dd_start : ℕ) (floor : ℤ) (issued : List Issued) (x : Running) : Type 0 where
   pub area : IsAreaOf config dd_start floor x.state
   pub table : x.table ≡ []
-  pub begins : IsStarted issued config.router_id floor x
+  pub begins : IsRunningStarted issued config.router_id floor x
 
 -- it has just started, where so many LSAs were issued before
 pub record Begins (config : Config) (dd_start issued : ℕ) (floor : ℤ) (v : RunningValue) : Type 0 where
@@ -48,7 +48,7 @@ pub record Begins (config : Config) (dd_start issued : ℕ) (floor : ℤ) (v : R
   pub started : (log : List Issued) → length log ≡ issued → StartsAs config dd_start floor log (runs_in v area)
 
 -- the router takes the exact step of the event, dropped for this cause if it is dropped; its runs are as before
-pub record Goes (e : Event) (before : RunningValue) (out : OutputsValue) (after : RunningValue) : Type 0 where
+pub record TakesStep (e : Event) (before : RunningValue) (out : OutputsValue) (after : RunningValue) : Type 0 where
   pub area : AreaValue
   pub next : AreaValue
   pub was : before.router.area ≡ Some area
@@ -60,7 +60,7 @@ pub record Goes (e : Event) (before : RunningValue) (out : OutputsValue) (after 
   pub later : after.later ≡ before.later
 
 -- the logs grow by exactly these outputs, and the runs that have ended begin again
-pub record Settles (r : RouterId) (before : RunningValue) (out : OutputsValue) (logs : LogsValue) (after : RunningValue) (logs' : LogsValue) : Type 0 where
+pub record SettlesLogs (r : RouterId) (before : RunningValue) (out : OutputsValue) (logs : LogsValue) (after : RunningValue) (logs' : LogsValue) : Type 0 where
   pub router : after.router ≡ before.router
   pub first : after.first ≡ before.first
   pub takes : LogsTake logs logs' r before.first before.later out

@@ -63,8 +63,8 @@ abbrev pub refused_by : List Datagram → WorldEvent → Member → Option World
 refused_by sent (Start r dd floor) m = world.unless_running floor m
 refused_by sent (Stop r) m = world.unless_stopped m
 refused_by sent (Tick r) m = world.unless_stopped m
-refused_by sent (LinkUp r l) m = world.on_link l m
-refused_by sent (LinkDown r l) m = world.on_link l m
+refused_by sent (LinkUp r l) m = world.fault_on_link l m
+refused_by sent (LinkDown r l) m = world.fault_on_link l m
 refused_by sent (Deliver d r l) m = world.delivery l (slice_get sent d) m
 
 -- what the event steps its router with
@@ -78,7 +78,7 @@ fed_by sent (Deliver d r l) = option_map (delivery l) (slice_get sent d)
 
 -- the slot's router takes the exact step of the event, dropped for this cause if it is dropped, and the logs grow by exactly its
 -- outputs
-pub record GoesOn (e : Event) (before : SlotValue) (logs : LogsValue) (after : SlotValue) (logs' : LogsValue) : Type 0 where
+pub record SlotGoesOn (e : Event) (before : SlotValue) (logs : LogsValue) (after : SlotValue) (logs' : LogsValue) : Type 0 where
   pub x : Running
   pub x' : Running
   pub out : OutputsValue
@@ -93,7 +93,7 @@ pub record GoesOn (e : Event) (before : SlotValue) (logs : LogsValue) (after : S
 -- the slot's router, if it runs, is stepped with the event: it goes on, or memory ran out, it is stopped, and no log grows
 pub data Feeds (e : Event) (before : SlotValue) (logs : LogsValue) (result : Result (Unit {0}) WorldFault) (after : SlotValue) (logs' : LogsValue) : Type 0 where
   NotRunning : before.running ≡ None → result ≡ Err fault.NotRunning → after ≡ before → logs' ≡ logs → Feeds e before logs result after logs'
-  Goes : result ≡ Ok tt → GoesOn e before logs after logs' → Feeds e before logs result after logs'
+  Goes : result ≡ Ok tt → SlotGoesOn e before logs after logs' → Feeds e before logs result after logs'
   MemoryStops : (x : Running) → before.running ≡ Some x → result ≡ Err (fault.Memory true) → after ≡ with_running before None → logs' ≡ logs → Feeds e before logs result after logs'
 
 -- the same on a link, if the router has it
@@ -126,7 +126,7 @@ pub data SlotTakes (event : WorldEvent) (before : SlotValue) (logs : LogsValue) 
   MemoryStops : (e : Event) → fed_by logs.datagrams event ≡ Some e → result ≡ Err (fault.Memory true) → after ≡ with_running before None → logs' ≡ logs → SlotTakes event before logs result after logs'
   Starts : (r : RouterId) (dd_start : ℕ) (floor : ℤ) (x : Running) → event ≡ Start r dd_start floor → result ≡ Ok tt → before.running ≡ None → after ≡ with_running before (Some x) → StartsAs before.config dd_start floor logs.issued x → logs' ≡ logs → SlotTakes event before logs result after logs'
   Stops : (r : RouterId) → event ≡ Stop r → result ≡ Ok tt → after ≡ with_running before None → logs' ≡ logs → SlotTakes event before logs result after logs'
-  Stepped : (e : Event) → fed_by logs.datagrams event ≡ Some e → result ≡ Ok tt → GoesOn e before logs after logs' → SlotTakes event before logs result after logs'
+  Stepped : (e : Event) → fed_by logs.datagrams event ≡ Some e → result ≡ Ok tt → SlotGoesOn e before logs after logs' → SlotTakes event before logs result after logs'
 
 -- what an event comes to at its router's slot: it is refused, with the first fault that holds, exactly where one does
 pub data SlotSteps (event : WorldEvent) (before : SlotValue) (logs : LogsValue) (result : Result (Unit {0}) WorldFault) (after : SlotValue) (logs' : LogsValue) : Type 0 where

@@ -11,12 +11,12 @@ use Rattle.ospf_neighbour.specs.Machine.{is_exchanging}
 use Rattle.ospf_area.specs.Outputs.{OutputsValue}
 use Rattle.ospf_area.specs.State.{AreaValue, Awaits, state_of}
 use Rattle.ospf_step.specs.Packets.{lsas_in}
-use Rattle.ospf_step.specs.Words.{Holds, HasCopy, Brings}
+use Rattle.ospf_step.specs.Words.{HoldsInstance, HasCopy, Brings}
 use Rattle.ospf_flood.specs.Rules.{max_sequence_number}
 use Rattle.ospf_step.specs.Accounts.{IsReplaced}
 use Rattle.ospf_step.specs.Step.{Event, heard_in}
 use Rattle.ospf_headline.specs.declared.event.WorldEvent.TheVariants.{Start}
-use Rattle.ospf_headline.specs.World.{World, WorldEvent, Issued, Datagram, Run, Running, router_at, stepped_by, Comes, Runs, LogsGrow}
+use Rattle.ospf_headline.specs.World.{World, WorldEvent, Issued, Datagram, Run, Running, router_at, stepped_by, Comes, RunsEvents, LogsGrow}
 
 -- the number that it was issued with
 abbrev pub number_in : Issued → ℤ
@@ -83,11 +83,11 @@ pub record HasBegun (is_dropped : Event → AreaValue → Bool) (start : World) 
   pub before : World
   pub after : World
   pub started : Running
-  pub leads : Runs is_dropped earlier start before
+  pub leads : RunsEvents is_dropped earlier start before
   pub starts : Comes is_dropped (Start r dd_start run.base) before (Ok tt) after
   pub runs : router_at after r ≡ Some started
   pub run_is : started.first ≡ run
-  pub goes_on : Runs is_dropped later after end
+  pub goes_on : RunsEvents is_dropped later after end
 
 -- MaxSequenceNumber was never issued
 abbrev pub NoneLargest : List Issued → Type 0
@@ -108,7 +108,7 @@ pub record HasToldOf (w : World) (q : RouterId) (i : Instance) : Type 0 where
 -- neighbour is below Exchange
 pub record IsSoundFor (after : World) (e : Event) (s : AreaValue) (out : OutputsValue) (s' : AreaValue) : Type 0 where
   pub left : (l : ℕ) (q : RouterId) (i : Instance) → Awaits s l q i → Awaits s' l q i ⊎ (HasToldOf after q i ⊎ (IsReplaced (heard_in e) s out i ⊎ (is_exchanging (state_of s' l q) ≡ false)))
-  pub listed : (l : ℕ) (q : RouterId) (i : Instance) → Brings out i → Holds s' i → is_exchanging (state_of s' l q) ≡ true → Awaits s' l q i ⊎ HasToldOf after q i
+  pub listed : (l : ℕ) (q : RouterId) (i : Instance) → Brings out i → HoldsInstance s' i → is_exchanging (state_of s' l q) ≡ true → Awaits s' l q i ⊎ HasToldOf after q i
 
 -- nothing was done; or the event steps another router than r, or none, and r, running as x before, runs on so; or it
 -- stepped r, which runs as x' after, and r's acknowledgements are sound for the outputs by which the logs grew
@@ -118,5 +118,5 @@ pub data SoundFor (event : WorldEvent) (before after : World) (r : RouterId) (x 
   SteppedWith : (e : Event) (out : OutputsValue) → stepped_by before event ≡ Some (r, e) → LogsGrow before after r x out → IsSoundFor after e x.state out x'.state → SoundFor event before after r x x'
 
 -- sound acknowledgement at an event, of each router that runs before and after
-abbrev pub IsSound : WorldEvent → World → World → Type 0
-IsSound event before after = (r : RouterId) (x x' : Running) → router_at before r ≡ Some x → router_at after r ≡ Some x' → SoundFor event before after r x x'
+abbrev pub IsSoundAcknowledgement : WorldEvent → World → World → Type 0
+IsSoundAcknowledgement event before after = (r : RouterId) (x x' : Running) → router_at before r ≡ Some x → router_at after r ≡ Some x' → SoundFor event before after r x x'

@@ -3,7 +3,7 @@ use Rattle.std.specs.Prelude.{◌≡◌, ◌≢◌, ◌⊎◌, ◌+◌, ◌++◌
 use Rattle.ospf_base.specs.Prefixes.{Holds}
 use Rattle.ospf_base.specs.declared.ids.RouterId.{RouterId}
 use Rattle.ospf_graph.specs.Advertisements.{Advertisement, IsListed}
-use Rattle.ospf_graph.specs.Walk.{IsBest, IsLinkCost, IsNext, IsStep, listed_routers}
+use Rattle.ospf_graph.specs.Walk.{IsBest, IsLinkCost, IsNext, IsWalkStep, listed_routers}
 use Rattle.ospf_graph.specs.Walk as graph
 use Rattle.ospf_graph.specs.declared.hop.NextHop.{NextHop}
 use Rattle.ospf_graph.specs.declared.hop.NextHop.TheVariants.{Attached}
@@ -37,7 +37,7 @@ AllListedAgree w x = (r : RouterId) → IsListed (adverts x) r → (y : Running)
 pub record StepsOn (w : World) (address : ℕ) (a b : RouterId) (cost : ℕ) : Type 0 where
   pub running : Running
   pub runs : router_at w a ≡ Some running
-  pub step : IsStep (adverts running) (table_at w) address a b cost
+  pub step : IsWalkStep (adverts running) (table_at w) address a b cost
 
 -- a walk from a through these routers, as far as it has come: to b, with what its links cost
 abbrev pub WalksOn : World → ℕ → RouterId → List RouterId → RouterId → ℕ → Type 0
@@ -75,8 +75,8 @@ pub record StaysOnWay (w : World) (x : Running) (address : ℕ) (a : RouterId) (
 
 -- of one router that runs as x: all walks from it stay on the prefix of its best route, pay that route's cost, meet no
 -- router twice, and arrive
-abbrev pub WalksArrive : World → RouterId → Running → Type 0
-WalksArrive w a x = (address : ℕ) (first : Route) → IsBest x.table address first →
+abbrev pub RunningWalksArrive : World → RouterId → Running → Type 0
+RunningWalksArrive w a x = (address : ℕ) (first : Route) → IsBest x.table address first →
     (routers : List RouterId) (b : RouterId) (paid : ℕ) → WalksOn w address a routers b paid →
     StaysOnWay w x address a first routers b paid
 

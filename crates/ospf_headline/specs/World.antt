@@ -82,8 +82,8 @@ abbrev pub unless_running : ℤ → Member → Option WorldFault
 unless_running floor m = if is_some m.running then Some fault.Running else if int_eq floor max_sequence_number then Some fault.Floor else None
 
 -- what it takes on one of its links
-abbrev pub on_link : ℕ → Member → Option WorldFault
-on_link l m = if nat_lt l m.links then unless_stopped m else Some fault.NoLink
+abbrev pub fault_on_link : ℕ → Member → Option WorldFault
+fault_on_link l m = if nat_lt l m.links then unless_stopped m else Some fault.NoLink
 
 -- a datagram that was sent
 abbrev pub with_datagram : Option Datagram → Member → Option WorldFault
@@ -109,8 +109,8 @@ abbrev pub refusal : World → WorldEvent → Option WorldFault
 refusal w (Start r dd floor) = of_member (unless_running floor) (member w r)
 refusal w (Stop r) = of_member unless_stopped (member w r)
 refusal w (TickOf r) = of_member unless_stopped (member w r)
-refusal w (LinkUpOf r l) = of_member (on_link l) (member w r)
-refusal w (LinkDownOf r l) = of_member (on_link l) (member w r)
+refusal w (LinkUpOf r l) = of_member (fault_on_link l) (member w r)
+refusal w (LinkDownOf r l) = of_member (fault_on_link l) (member w r)
 refusal w (Deliver d r l) = of_member (delivery l (slice_get w.datagrams d)) (member w r)
 
 -- ---- what happens
@@ -138,7 +138,7 @@ pub record HasItsTable (x : Running) : Type 0 where
   pub is_table : IsTable (advertisements_of (listing x)) x.state.router x.table
 
 -- a router as it starts: it can name nothing and asks for nothing, and its first run begins now
-pub record IsStarted (issued : List Issued) (r : RouterId) (floor : ℤ) (x : Running) : Type 0 where
+pub record IsRunningStarted (issued : List Issued) (r : RouterId) (floor : ℤ) (x : Running) : Type 0 where
   pub router : x.state.router ≡ r
   pub first : x.first ≡ record { name = length issued; base = floor }
   pub later : x.later ≡ []
@@ -161,7 +161,7 @@ pub record RunsGoOn (issued : List Issued) (ended : List LsaKey) (x x' : Running
 
 -- router r, running as x, is stepped with the event, puts out out and runs on as x'. Which events are dropped is the
 -- router's to say
-pub record Steps (is_dropped : Event → AreaValue → Bool) (before after : World) (r : RouterId) (event : Event) (x x' : Running) (out : OutputsValue) : Type 0 where
+pub record StepsRouter (is_dropped : Event → AreaValue → Bool) (before after : World) (r : RouterId) (event : Event) (x x' : Running) (out : OutputsValue) : Type 0 where
   pub was : router_at before r ≡ Some x
   pub changes : Becomes before after r (Some x')
   pub laws : StepLaws is_dropped event x.state out x'.state
@@ -175,21 +175,21 @@ pub data Comes (is_dropped : Event → AreaValue → Bool) (event : WorldEvent) 
   Refused : (f : WorldFault) → refusal before event ≡ Some f → result ≡ Err f → after ≡ before → Comes is_dropped event before result after
   NotDone : refusal before event ≡ None → result ≡ Err (fault.Memory false) → after ≡ before → Comes is_dropped event before result after
   MemoryStops : refusal before event ≡ None → result ≡ Err (fault.Memory true) → (r : RouterId) (e : Event) → stepped_by before event ≡ Some (r, e) → Becomes before after r None → SameLogs before after → Comes is_dropped event before result after
-  Starts : refusal before event ≡ None → result ≡ Ok tt → (r : RouterId) (dd : ℕ) (floor : ℤ) (x : Running) → event ≡ Start r dd floor → router_at before r ≡ None → Becomes before after r (Some x) → IsStarted before.issued r floor x → SameLogs before after → Comes is_dropped event before result after
+  Starts : refusal before event ≡ None → result ≡ Ok tt → (r : RouterId) (dd : ℕ) (floor : ℤ) (x : Running) → event ≡ Start r dd floor → router_at before r ≡ None → Becomes before after r (Some x) → IsRunningStarted before.issued r floor x → SameLogs before after → Comes is_dropped event before result after
   Stops : refusal before event ≡ None → result ≡ Ok tt → (r : RouterId) → event ≡ Stop r → Becomes before after r None → SameLogs before after → Comes is_dropped event before result after
-  Stepped : refusal before event ≡ None → result ≡ Ok tt → (r : RouterId) (e : Event) (x x' : Running) (out : OutputsValue) → stepped_by before event ≡ Some (r, e) → Steps is_dropped before after r e x x' out → Comes is_dropped event before result after
+  Stepped : refusal before event ≡ None → result ≡ Ok tt → (r : RouterId) (e : Event) (x x' : Running) (out : OutputsValue) → stepped_by before event ≡ Some (r, e) → StepsRouter is_dropped before after r e x x' out → Comes is_dropped event before result after
 
 -- whatever is answered
 abbrev pub Happens : (Event → AreaValue → Bool) → WorldEvent → World → World → Type 0
 Happens is_dropped event before after = (result : Result (Unit {0}) WorldFault) × Comes is_dropped event before result after
 
 -- a whole list of events
-abbrev pub Runs : (Event → AreaValue → Bool) → List WorldEvent → World → World → Type 0
-Runs is_dropped [] before after = after ≡ before
-Runs is_dropped (event ∷ events) before after = (mid : World) × Happens is_dropped event before mid × Runs is_dropped events mid after
+abbrev pub RunsEvents : (Event → AreaValue → Bool) → List WorldEvent → World → World → Type 0
+RunsEvents is_dropped [] before after = after ≡ before
+RunsEvents is_dropped (event ∷ events) before after = (mid : World) × Happens is_dropped event before mid × RunsEvents is_dropped events mid after
 
 -- a world in which nothing runs and nothing has happened
-pub record IsNew (w : World) : Type 0 where
+pub record IsNewWorld (w : World) : Type 0 where
   pub none_runs : (r : RouterId) → router_at w r ≡ None
   pub no_datagrams : w.datagrams ≡ []
   pub none_issued : w.issued ≡ []

@@ -8,9 +8,9 @@ ghost use Rattle.ospf_area.specs.State.{AreaValue};
 ghost use Rattle.ospf_step.specs.Step.{Event};
 ghost use Rattle.ospf_headline.specs.Headline.{Headline, IsReached};
 ghost use Rattle.ospf_headline.specs.Runs.{IsRun};
-ghost use Rattle.ospf_headline.specs.Sound.{HeldAnywhere, WasIssued, AgreeUnlessIssuedAgain, BasesAreHigh, NoCollision, NoneLargest, BasesAreFloors, IsSound};
-ghost use Rattle.ospf_headline.specs.Walks.{adverts, AllListedAgree, WalksArrive, ChosenWalksArrive};
-ghost use Rattle.ospf_headline.specs.World.{World, WorldEvent, WorldFault, Running, router_at, IsNew, Runs, Happens, Comes};
+ghost use Rattle.ospf_headline.specs.Sound.{HeldAnywhere, WasIssued, AgreeUnlessIssuedAgain, BasesAreHigh, NoCollision, NoneLargest, BasesAreFloors, IsSoundAcknowledgement};
+ghost use Rattle.ospf_headline.specs.Walks.{adverts, AllListedAgree, RunningWalksArrive, ChosenWalksArrive};
+ghost use Rattle.ospf_headline.specs.World.{World, WorldEvent, WorldFault, Running, router_at, IsNewWorld, RunsEvents, Happens, Comes};
 
 use ospf_spf::walk_law;
 
@@ -18,7 +18,8 @@ use ospf_spf::walk_law;
 pub fn held_lsas_were_issued()
     ensures { (is_dropped : Event → AreaValue → Bool) (events : List WorldEvent) (start end : World)
         (lsa : List ℕ) →
-        IsNew start → Runs is_dropped events start end → HeldAnywhere end lsa → WasIssued end.issued (contents lsa) }
+        IsNewWorld start → RunsEvents is_dropped events start end → HeldAnywhere end lsa →
+        WasIssued end.issued (contents lsa) }
 {}
 
 /// LSAs of one instance held anywhere, at one moment or at two, have equal contents unless their originator issued
@@ -26,7 +27,8 @@ pub fn held_lsas_were_issued()
 pub fn held_lsas_agree()
     ensures { (is_dropped : Event → AreaValue → Bool) (events later : List WorldEvent)
         (start mid end : World) (a b : List ℕ) →
-        IsNew start → Runs is_dropped events start mid → Runs is_dropped later mid end →
+        IsNewWorld start → RunsEvents is_dropped events start mid →
+        RunsEvents is_dropped later mid end →
         HeldAnywhere mid a → HeldAnywhere end b → AgreeUnlessIssuedAgain end.issued a b }
 {}
 
@@ -34,7 +36,8 @@ pub fn held_lsas_agree()
 pub fn tables_are_exact()
     ensures { (is_dropped : Event → AreaValue → Bool) (events : List WorldEvent) (start end : World)
         (r : RouterId) (x : Running) →
-        IsNew start → Runs is_dropped events start end → router_at end r ≡ Some x → IsTable (adverts x) r x.table }
+        IsNewWorld start → RunsEvents is_dropped events start end → router_at end r ≡ Some x →
+        IsTable (adverts x) r x.table }
 {}
 
 /// Where nothing issued collides, and all listed routers run and list the same instances, every walk along next hops
@@ -42,8 +45,8 @@ pub fn tables_are_exact()
 pub fn walks_arrive()
     ensures { (is_dropped : Event → AreaValue → Bool) (events : List WorldEvent) (start end : World)
         (a : RouterId) (x : Running) →
-        IsNew start → Runs is_dropped events start end → NoCollision end.issued →
-        router_at end a ≡ Some x → AllListedAgree end x → WalksArrive end a x }
+        IsNewWorld start → RunsEvents is_dropped events start end → NoCollision end.issued →
+        router_at end a ≡ Some x → AllListedAgree end x → RunningWalksArrive end a x }
 {
     walk_law()
 }
@@ -52,7 +55,7 @@ pub fn walks_arrive()
 pub fn chosen_walks_arrive()
     ensures { (is_dropped : Event → AreaValue → Bool) (events : List WorldEvent) (start end : World)
         (a : RouterId) (x : Running) →
-        IsNew start → Runs is_dropped events start end → NoCollision end.issued →
+        IsNewWorld start → RunsEvents is_dropped events start end → NoCollision end.issued →
         router_at end a ≡ Some x → AllListedAgree end x → ChosenWalksArrive end a x }
 {
     walk_law()
@@ -62,14 +65,16 @@ pub fn chosen_walks_arrive()
 pub fn high_floors_exclude_collisions()
     ensures { (is_dropped : Event → AreaValue → Bool) (events : List WorldEvent)
         (start end : World) →
-        IsNew start → Runs is_dropped events start end → BasesAreHigh end.issued → NoCollision end.issued }
+        IsNewWorld start → RunsEvents is_dropped events start end → BasesAreHigh end.issued →
+        NoCollision end.issued }
 {}
 
 /// Where MaxSequenceNumber was never issued, the base of each run is the floor of the start at which it began.
 pub fn bases_are_floors()
     ensures { (is_dropped : Event → AreaValue → Bool) (events : List WorldEvent)
         (start end : World) →
-        IsNew start → Runs is_dropped events start end → NoneLargest end.issued → BasesAreFloors is_dropped start events end }
+        IsNewWorld start → RunsEvents is_dropped events start end → NoneLargest end.issued →
+        BasesAreFloors is_dropped start events end }
 {}
 
 /// A neighbour that a router no longer waits for has told of the instance, or a later one, to somebody, unless a newer
@@ -77,14 +82,16 @@ pub fn bases_are_floors()
 pub fn acknowledgement_is_sound()
     ensures { (is_dropped : Event → AreaValue → Bool) (events : List WorldEvent)
         (event : WorldEvent) (start before after : World) →
-        IsNew start → Runs is_dropped events start before → Happens is_dropped event before after → IsSound event before after }
+        IsNewWorld start → RunsEvents is_dropped events start before →
+        Happens is_dropped event before after → IsSoundAcknowledgement event before after }
 {}
 
 /// The headline holds of every world that was reached, and of every one that it goes on to.
 pub fn headline()
     ensures { (is_dropped : Event → AreaValue → Bool) (later : List WorldEvent)
         (before after : World) →
-        IsReached is_dropped before → Runs is_dropped later before after → Headline before after }
+        IsReached is_dropped before → RunsEvents is_dropped later before after →
+        Headline before after }
 {
     // For the proof.
     held_lsas_were_issued();
@@ -98,7 +105,8 @@ pub fn headline()
 /// Acknowledgement is sound at each event of a world that was reached.
 pub fn soundness()
     ensures { (is_dropped : Event → AreaValue → Bool) (event : WorldEvent) (before after : World) →
-        IsReached is_dropped before → Happens is_dropped event before after → IsSound event before after }
+        IsReached is_dropped before → Happens is_dropped event before after →
+        IsSoundAcknowledgement event before after }
 {
     acknowledgement_is_sound()
 }
@@ -107,12 +115,14 @@ pub fn soundness()
 pub fn runs_lead_on()
     ensures { (is_dropped : Event → AreaValue → Bool) (events : List WorldEvent)
         (before after : World) (result : Result ℕ WorldFault) →
-        IsRun (Comes is_dropped) events before result after → (later : List WorldEvent) × Runs is_dropped later before after }
+        IsRun (Comes is_dropped) events before result after → (later : List WorldEvent)
+        × RunsEvents is_dropped later before after }
 {}
 
 /// There are worlds to speak of: in one a router has started, and a second has passed.
 pub fn some_world_ticks()
     ensures { (start after : World) × (events : List WorldEvent) × (r : RouterId) × (x : Running)
-        × IsNew start ×
-        Runs (λ event s. false) events start after × (router_at after r ≡ Some x) × (x.state.tick ≡ 1) }
+        × IsNewWorld start ×
+        RunsEvents (λ event s. false) events start after × (router_at after r ≡ Some x)
+        × (x.state.tick ≡ 1) }
 {}

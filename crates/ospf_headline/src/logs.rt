@@ -5,7 +5,7 @@ ghost use Rattle.ospf_base.specs.Keys.{same_key};
 ghost use Rattle.ospf_base.specs.declared.ids.LsaKey.{LsaKey};
 ghost use Rattle.ospf_headline.specs.declared.logs.Run.{Run};
 ghost use Rattle.ospf_lsdb.specs.Moments.{among};
-ghost use Rattle.ospf_headline.specs.Logs.{held_by, holdings_by, issued_in, run_in, sent_by};
+ghost use Rattle.ospf_headline.specs.Logs.{held_by, holdings_by, issued_in, run_in, sent_as_datagram};
 
 use ospf_area::{Outputs, Sent};
 use ospf_base::{Instance, LsaKey, RouterId};
@@ -212,7 +212,8 @@ fn log_held(log: &mut Vec<Holding>, router: RouterId, issued: &[Lsa]) -> Result<
 
 // The log of datagrams grows by these.
 fn log_sent(log: &mut Vec<Datagram>, router: RouterId, sent: Vec<Sent>) -> Result<(), AllocError>
-    ensures ok { OnOk result (log.new.items ≡ log.old.items ++ map (sent_by router) sent.items) }
+    ensures ok { OnOk result (log.new.items ≡ log.old.items
+        ++ map (sent_as_datagram router) sent.items) }
     ensures still { take (length log.old.items) log.new.items ≡ log.old.items }
 {
     for datagram in sent {

@@ -3,7 +3,7 @@
 ghost use Rattle.std.specs.Prelude.{◌≡◌, ◌≢◌, ◌<◌, ◌↔◌, IfErr, IfOk, IfSome, OnErr, OnOk, length, slice_get};
 ghost use Rattle.ospf_flood.specs.Rules.{max_sequence_number};
 ghost use Rattle.ospf_router.specs.declared.fault.StartFault.TheVariants as fault;
-ghost use Rattle.ospf_headline.specs.Running.{Begins, Fed, Settles, delivery};
+ghost use Rattle.ospf_headline.specs.Running.{Begins, Fed, SettlesLogs, delivery};
 ghost use Rattle.ospf_router.specs.Steps.{happening};
 
 use crate::logs::{Datagram, Logs, Run};
@@ -108,7 +108,7 @@ impl RunningRouter {
         logs: &mut Logs,
         router: RouterId,
     ) -> Result<RunningRouter, Stopped>
-        ensures settles { IfOk result (λ x. Settles router self outputs logs.old x logs.new) }
+        ensures settles { IfOk result (λ x. SettlesLogs router self outputs logs.old x logs.new) }
         ensures none { OnErr result (logs.new ≡ logs.old) }
     {
         match logs.take(router, self.first, &mut self.later, outputs) {

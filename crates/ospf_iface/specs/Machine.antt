@@ -56,8 +56,8 @@ abbrev pub is_changed : Iface → Elected → Bool
 is_changed i e = not ((e.dr.0 == i.dr.0) && (e.backup.0 == i.backup.0))
 
 -- what is told of the interface as it is now
-abbrev pub told : Iface → Bool → Bool → Bool → IfaceChange
-told i adj_ok kills hello = record { state = i.state; dr = i.dr; backup = i.backup; adj_ok = adj_ok; kills = kills; hello = hello }
+abbrev pub change_of : Iface → Bool → Bool → Bool → IfaceChange
+change_of i adj_ok kills hello = record { state = i.state; dr = i.dr; backup = i.backup; adj_ok = adj_ok; kills = kills; hello = hello }
 
 -- Waiting lasts RouterDeadInterval (9.1)
 abbrev pub wait_in : IfaceSettings → IfaceState → ℕ
@@ -73,8 +73,8 @@ abbrev pub elected : Elected → Iface → Iface
 elected e i = record i { state = elected_state i.settings.address e; dr = e.dr; backup = e.backup; wait = 0 }
 
 -- the interface is reset (9.3, InterfaceDown)
-abbrev pub stopped : Iface → Iface
-stopped i = record i { state = Down; dr = nowhere; backup = nowhere; wait = 0; hello_in = 0 }
+abbrev pub iface_stopped : Iface → Iface
+iface_stopped i = record i { state = Down; dr = nowhere; backup = nowhere; wait = 0; hello_in = 0 }
 
 -- the interface's own router, as it takes part in an election (9.4, step 1)
 abbrev pub own_candidate : Iface → Candidate
@@ -85,20 +85,20 @@ pub record Elects (candidates : List Candidate) (before after : Iface) (change :
   pub result : Elected
   pub is_elected : IsElected candidates before.settings.router result
   pub state : after ≡ elected result before
-  pub tells : change ≡ told after (is_changed before result) false false
+  pub tells : change ≡ change_of after (is_changed before result) false false
 
 -- what an action makes of an interface, and what it tells: AdjOK?, KillNbr, a Hello
-abbrev pub Does : Action → Iface → Iface → IfaceChange → Type 0
-Does Action.Start before after change = (after ≡ started before) × (change ≡ told after false false true)
-Does (Action.Elect candidates) before after change = Elects candidates before after change
-Does Action.Stop before after change = (after ≡ stopped before) × (change ≡ told after false true false)
-Does Action.Ignore before after change = (after ≡ before) × (change ≡ told after false false false)
+abbrev pub DoesAction : Action → Iface → Iface → IfaceChange → Type 0
+DoesAction Action.Start before after change = (after ≡ started before) × (change ≡ change_of after false false true)
+DoesAction (Action.Elect candidates) before after change = Elects candidates before after change
+DoesAction Action.Stop before after change = (after ≡ iface_stopped before) × (change ≡ change_of after false true false)
+DoesAction Action.Ignore before after change = (after ≡ before) × (change ≡ change_of after false false false)
 
 -- the own router is among the candidates, whose Router IDs differ
 abbrev pub CanElect : List Candidate → Iface → Type 0
 CanElect candidates i = AreDistinct candidates × Contains candidates (own_candidate i)
 
 -- where the action elects, it can
-abbrev pub CanTake : Action → Iface → Type 0
-CanTake (Action.Elect candidates) i = CanElect candidates i
-CanTake _ i = ⊤
+abbrev pub CanTakeAction : Action → Iface → Type 0
+CanTakeAction (Action.Elect candidates) i = CanElect candidates i
+CanTakeAction _ i = ⊤

@@ -55,7 +55,7 @@ impl Iface {
     ghost use Rattle.ospf_election.specs.Election.{AreDistinct};
     ghost use Rattle.ospf_iface.specs.declared.machine.IfaceState.TheVariants.{Down};
     ghost use Rattle.ospf_iface.specs.Hello.{IsHelloDue};
-    ghost use Rattle.ospf_iface.specs.Machine.{action, is_changed, started, stopped, own_candidate, CanTake, Does, Elects, told};
+    ghost use Rattle.ospf_iface.specs.Machine.{action, is_changed, started, iface_stopped, own_candidate, CanTakeAction, DoesAction, Elects, change_of};
 
     /// The router itself, as it takes part in the interface's election (section 9.4, step 1).
     pub fn own_candidate(&self) -> Candidate
@@ -72,8 +72,8 @@ impl Iface {
 
     /// Takes an event (section 9.3). An election is that of `ospf_election`. No memory is taken.
     pub fn event(&mut self, event: IfaceEvent) -> IfaceChange
-        requires { CanTake (action self.old.state event) self.old }
-        ensures { Does (action self.old.state event.entry) self.old self.new result }
+        requires { CanTakeAction (action self.old.state event) self.old }
+        ensures { DoesAction (action self.old.state event.entry) self.old self.new result }
     {
         match (self.state, event) {
             (IfaceState::Down, IfaceEvent::InterfaceUp) => self.start(),
@@ -121,7 +121,7 @@ impl Iface {
     // The interface becomes operational.
     fn start(&mut self) -> IfaceChange
         ensures state { self.new ≡ started self.old }
-        ensures told { result ≡ told self.new false false true }
+        ensures told { result ≡ change_of self.new false false true }
     {
         let state = self.settings.first_state();
         self.state = state;
@@ -137,7 +137,7 @@ impl Iface {
 
     // What is told of the interface as it is.
     fn change(&self, adj_ok: bool, kills: bool, hello: bool) -> IfaceChange
-        ensures { result ≡ told self.now adj_ok kills hello }
+        ensures { result ≡ change_of self.now adj_ok kills hello }
     {
         IfaceChange {
             state: self.state,
@@ -173,8 +173,8 @@ impl Iface {
 
     // The interface is reset.
     fn stop(&mut self) -> IfaceChange
-        ensures state { self.new ≡ stopped self.old }
-        ensures told { result ≡ told self.new false true false }
+        ensures state { self.new ≡ iface_stopped self.old }
+        ensures told { result ≡ change_of self.new false true false }
     {
         self.state = IfaceState::Down;
         self.dr = Addr::NOWHERE;

@@ -6,7 +6,7 @@ use Rattle.std.proofs.lemmas.Bool.{cases_eq}
 use Rattle.std.proofs.lemmas.List.{get_or_default, get_or-set_same, get_or-set_other, length-set, take_more, take-append-drop}
 use Rattle.std.proofs.lemmas.List.Elements.{All-contains, Contains-append_left, Contains-append_right, Contains-append_cases, Contains-push, Contains-push_cases}
 use Rattle.std.proofs.lemmas.List.Sorted.{IsPermutation-sym, Contains-permutation}
-use Rattle.ospf_graph.specs.declared.candidates.Candidate.{Candidate}
+use Rattle.ospf_graph.specs.declared.candidates.SpfCandidate.{SpfCandidate}
 use Rattle.ospf_graph.specs.declared.graph.Edge.{Edge}
 use Rattle.ospf_graph.specs.declared.graph.Start.{Start}
 use Rattle.ospf_graph.specs.declared.graph.Vertex.{Vertex}
@@ -207,7 +207,7 @@ module _ (e : Edge) (d : ℕ) (old new : List Reached) (at : IsAt old e.from d) 
       }
 
 -- an edge that owes nothing is not put among those that wait
-pub offers_none : (edge : Edge) (At : Vertex → ℕ → Type 0) (Starts : Vertex → Start → Type 0) (list : List Candidate)
+pub offers_none : (edge : Edge) (At : Vertex → ℕ → Type 0) (Starts : Vertex → Start → Type 0) (list : List SpfCandidate)
     → ((d : ℕ) → At edge.from d → IsRelaxed At Starts edge d) → Offers (edge ∷ []) At Starts list list
 offers_none edge At Starts list relaxed =
     record {
@@ -219,7 +219,7 @@ offers_none edge At Starts list relaxed =
       ];
     }
 
-pub offers_one : (c : Candidate) (At : Vertex → ℕ → Type 0) (Starts : Vertex → Start → Type 0) (old new : List Candidate)
+pub offers_one : (c : SpfCandidate) (At : Vertex → ℕ → Type 0) (Starts : Vertex → Start → Type 0) (old new : List SpfCandidate)
     → IsPermutation (c ∷ old) new → Offers (c.edge ∷ []) At Starts old new
 offers_one c At Starts old new perm =
     let there : HasEdge new c.edge = (c.distance, Contains-permutation (c ∷ old) new c perm (member_head c old)) in
@@ -235,11 +235,11 @@ offers_one c At Starts old new perm =
       ];
     }
 
-pub offers_start : (At : Vertex → ℕ → Type 0) (Starts : Vertex → Start → Type 0) (list : List Candidate) → Offers [] At Starts list list
+pub offers_start : (At : Vertex → ℕ → Type 0) (Starts : Vertex → Start → Type 0) (list : List SpfCandidate) → Offers [] At Starts list list
 offers_start At Starts list =
     record { kept = λ e h. h; only = λ e h. inl h; owed = λ e d m at. absurd (let low = m.1 in omega arith) }
 
-offers_then : (a b : List Edge) (At : Vertex → ℕ → Type 0) (Starts : Vertex → Start → Type 0) (old mid new : List Candidate)
+offers_then : (a b : List Edge) (At : Vertex → ℕ → Type 0) (Starts : Vertex → Start → Type 0) (old mid new : List SpfCandidate)
     → Offers a At Starts old mid → Offers b At Starts mid new → Offers (a ++ b) At Starts old new
 offers_then a b At Starts old mid new x y =
     record {
@@ -254,7 +254,7 @@ offers_then a b At Starts old mid new x y =
       ];
     }
 
-pub offers_more : (some : List Edge) (i : ℕ) (x : Edge) (At : Vertex → ℕ → Type 0) (Starts : Vertex → Start → Type 0) (old mid new : List Candidate) → i < length some
+pub offers_more : (some : List Edge) (i : ℕ) (x : Edge) (At : Vertex → ℕ → Type 0) (Starts : Vertex → Start → Type 0) (old mid new : List SpfCandidate) → i < length some
     → Offers (take i some) At Starts old mid → Offers (get_or some i x ∷ []) At Starts mid new → Offers (take (i + 1) some) At Starts old new
 offers_more some i x At Starts old mid new lt first last =
     rw (take_more some i x lt) (offers_then (take i some) (get_or some i x ∷ []) At Starts old mid new first last)
@@ -280,20 +280,20 @@ in_part xs i k x h =
     subst (λ l. Contains l x) (take-append-drop i xs) (Contains-append_right (take i xs) (drop i xs) x later)
 
 -- an edge that is taken, and improves nothing
-pub pays_same : (edges : List Edge) (edge : Edge) (rs : List Reached) (list : List Candidate) (d : ℕ) → IsAt rs edge.from d
+pub pays_same : (edges : List Edge) (edge : Edge) (rs : List Reached) (list : List SpfCandidate) (d : ℕ) → IsAt rs edge.from d
     → IsRelaxed (IsAt rs) (HasStart rs) edge d → PaysFor edges edge rs rs list list
 pays_same edges edge rs list d from relaxed root before g waits keeps back =
     seen (Contains edges) root (IsAt rs) (HasStart rs) (HasEdge before) (HasEdge list) g edge (g.waiting edge waits) keeps back
     (λ k at. subst (λ n. IsRelaxed (IsAt rs) (HasStart rs) edge n) (g.one edge.from d k from at) relaxed)
 
 -- one that begins nowhere
-pub pays_nothing : (edges : List Edge) (edge : Edge) (rs : List Reached) (list : List Candidate) → ((d : ℕ) → IsAt rs edge.from d → ⊥)
+pub pays_nothing : (edges : List Edge) (edge : Edge) (rs : List Reached) (list : List SpfCandidate) → ((d : ℕ) → IsAt rs edge.from d → ⊥)
     → PaysFor edges edge rs rs list list
 pays_nothing edges edge rs list none root before g waits keeps back =
     seen (Contains edges) root (IsAt rs) (HasStart rs) (HasEdge before) (HasEdge list) g edge (g.waiting edge waits) keeps back (λ k at. absurd (none k at))
 
 -- one that improves its end, from where the edges are offered
-pub pays_better : (edges some : List Edge) (edge : Edge) (old new : List Reached) (waited waits : List Candidate) (d : ℕ)
+pub pays_better : (edges some : List Edge) (edge : Edge) (old new : List Reached) (waited waits : List SpfCandidate) (d : ℕ)
     → Improves edge d (IsAt old) (IsAt new) (HasStart old) (HasStart new) → Offers some (IsAt new) (HasStart new) waited waits
     → ((f : Edge) → Contains some f → Contains edges f) → ((k : ℕ) → candidates_from edge.to k edges ≡ candidates_from edge.to k some)
     → PaysFor edges edge old new waited waits
@@ -308,14 +308,14 @@ pays_better edges some edge old new waited waits d better offers part same root 
     offers.owed f j (candidates_from-is edge.to 0 some f _ there').0 at)
 
 -- a candidate that was taken out
-pub taken_out : (c : Candidate) (old rest : List Candidate) → IsPermutation old (c ∷ rest) → (f : Edge) → HasEdge old f → HasEdge rest f ⊎ (f ≡ c.edge)
+pub taken_out : (c : SpfCandidate) (old rest : List SpfCandidate) → IsPermutation old (c ∷ rest) → (f : Edge) → HasEdge old f → HasEdge rest f ⊎ (f ≡ c.edge)
 taken_out c old rest perm f h =
     elim (member_cases c rest _ (Contains-permutation old (c ∷ rest) _ perm h.1)) [ inl same ↦ inr (sym (ap (λ x. x.edge) same)) | inr later ↦ inl (h.0, later) ]
 
-pub left_in : (c : Candidate) (old rest : List Candidate) → IsPermutation old (c ∷ rest) → (f : Edge) → HasEdge rest f → HasEdge old f
+pub left_in : (c : SpfCandidate) (old rest : List SpfCandidate) → IsPermutation old (c ∷ rest) → (f : Edge) → HasEdge rest f → HasEdge old f
 left_in c old rest perm f h = (h.0, Contains-permutation (c ∷ rest) old _ (IsPermutation-sym _ _ perm) (member_later c rest _ h.1))
 
-pub was_in : (c : Candidate) (old rest : List Candidate) → IsPermutation old (c ∷ rest) → HasEdge old c.edge
+pub was_in : (c : SpfCandidate) (old rest : List SpfCandidate) → IsPermutation old (c ∷ rest) → HasEdge old c.edge
 was_in c old rest perm = (c.distance, Contains-permutation (c ∷ rest) old c (IsPermutation-sym _ _ perm) (member_head c rest))
 
 -- distances stay small
@@ -329,10 +329,10 @@ near_better e d old new better near small k x within =
       | inr other ↦ All-contains (λ y. y.distance < 2 ^ 63) (settled_of old) (record { vertex = s.vertex; distance = s.distance }) near (better.at_out s.vertex s.distance other at)
     ]
 
-nothing_in : (x : Candidate) → Contains [] x → ⊥
+nothing_in : (x : SpfCandidate) → Contains [] x → ⊥
 nothing_in x h = let low = h.1 in omega arith
 
-pub none_waits : (list : List Candidate) → list ≡ [] → (e : Edge) → HasEdge list e → ⊥
+pub none_waits : (list : List SpfCandidate) → list ≡ [] → (e : Edge) → HasEdge list e → ⊥
 none_waits list none e h = nothing_in (record { edge = e; distance = h.0 }) (subst (λ l. Contains l (record { edge = e; distance = h.0 })) none h.1)
 
 pub spares_same : (changed : List Vertex) (rs : List Reached) → Spares changed rs rs

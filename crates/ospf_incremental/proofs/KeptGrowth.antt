@@ -6,7 +6,7 @@ use Rattle.std.specs.List.Sorted.{IsPartitionPoint}
 use Rattle.std.proofs.lemmas.List.{take-append-drop}
 use Rattle.std.proofs.lemmas.List.Elements.{All-contains, Contains-append_left, Contains-append_right, Contains-append_cases}
 use Rattle.std.proofs.lemmas.List.Sorted.{IsNonDecreasingBy-insert}
-use Rattle.ospf_graph.specs.declared.candidates.Candidate.{Candidate}
+use Rattle.ospf_graph.specs.declared.candidates.SpfCandidate.{SpfCandidate}
 use Rattle.ospf_graph.specs.declared.graph.Edge.{Edge}
 use Rattle.ospf_graph.specs.declared.graph.Vertex.{Vertex}
 use Rattle.ospf_graph.specs.declared.reached.Reached.{Reached}
@@ -14,7 +14,7 @@ use Rattle.ospf_graph.specs.Graph.{IsPath}
 use Rattle.ospf_incremental.specs.Growth.{AreNear, HasEdge, HasStart, IsAt, IsGrowing, Offers, Spares}
 use Rattle.ospf_incremental.specs.Kept.{AddsEdges, IsKeptTree, IsSameBut, KeptTree, vertices_of}
 use Rattle.ospf_graph.specs.Reached.{ArePlaces, settled_of, starts_of}
-use Rattle.ospf_graph.specs.Search.{AreEdgesInOrder, AtIn, IsFit, StartsIn, vertex_code}
+use Rattle.ospf_graph.specs.Search.{AreEdgesInOrder, AtIn, AreFitEdges, StartsIn, vertex_code}
 use Rattle.ospf_graph.specs.Tree.{IsTree}
 use Rattle.ospf_incremental.proofs.GrowthLemmas.{begun}
 use Rattle.ospf_incremental.proofs.GrowthSteps.{at_from, at_one, none_waits}
@@ -66,7 +66,7 @@ adds_more more i x old mid new lt first last e = (
   ],
 )
 
-pub fit_more : (more old new : List Edge) → AddsEdges more old new → IsFit old → IsFit more → IsFit new
+pub fit_more : (more old new : List Edge) → AddsEdges more old new → AreFitEdges old → AreFitEdges more → AreFitEdges new
 fit_more more old new adds a b =
     record {
       rising = λ e d is. elim ((adds e).0 is) [ inl o ↦ a.rising e d o | inr m ↦ b.rising e d m ];
@@ -75,7 +75,7 @@ fit_more more old new adds a b =
     }
 
 -- the edges that come wait
-growth_begun : (more old new : List Edge) (root : Vertex) (rs : List Reached) (none waits : List Candidate) → none ≡ [] → IsTree (Contains old) root (IsAt rs) (HasStart rs)
+growth_begun : (more old new : List Edge) (root : Vertex) (rs : List Reached) (none waits : List SpfCandidate) → none ≡ [] → IsTree (Contains old) root (IsAt rs) (HasStart rs)
     → AddsEdges more old new → Offers more (IsAt rs) (HasStart rs) none waits → IsGrowing (Contains new) root (IsAt rs) (HasStart rs) (HasEdge waits)
 growth_begun more old new root rs none waits empty t adds o =
     begun (Contains old) (Contains new) root (IsAt rs) (HasStart rs) (HasEdge waits) t (λ e m. (adds e).1 (inl m))
@@ -83,7 +83,7 @@ growth_begun more old new root rs none waits empty t adds o =
     (λ e d is at. elim ((adds e).0 is) [ inl was ↦ inl was | inr m ↦ inr (o.owed e d m at) ])
 
 -- and once none does, it is a tree of all edges
-pub tree_grown : (more old new seen : List Edge) (root : Vertex) (rs rs' : List Reached) (none waits : List Candidate) → none ≡ [] → IsTree (Contains old) root (IsAt rs) (HasStart rs)
+pub tree_grown : (more old new seen : List Edge) (root : Vertex) (rs rs' : List Reached) (none waits : List SpfCandidate) → none ≡ [] → IsTree (Contains old) root (IsAt rs) (HasStart rs)
     → AddsEdges more old new → Offers more (IsAt rs) (HasStart rs) none waits → seen ≡ new
     → ((v : Vertex) → IsGrowing (Contains seen) v (IsAt rs) (HasStart rs) (HasEdge waits) → IsTree (Contains seen) v (IsAt rs') (HasStart rs'))
     → IsTree (Contains new) root (IsAt rs') (HasStart rs')

@@ -3,23 +3,23 @@ use Rattle.std.proofs.Common.{◌≡◌, ◌++◌, ◌<◌, ◌^◌, ℕ, get_or
 use Rattle.std.specs.List.{All, Contains}
 use Rattle.std.proofs.lemmas.List.{get_or_default}
 use Rattle.std.proofs.lemmas.List.Elements.{All-contains}
-use Rattle.ospf_graph.specs.declared.candidates.Candidate.{Candidate}
+use Rattle.ospf_graph.specs.declared.candidates.SpfCandidate.{SpfCandidate}
 use Rattle.ospf_graph.specs.declared.graph.Edge.{Edge}
 use Rattle.ospf_graph.specs.declared.graph.Vertex.{Vertex}
-use Rattle.ospf_incremental.specs.declared.grow.Found.{Found}
+use Rattle.ospf_incremental.specs.declared.grow.FoundPaths.{FoundPaths}
 use Rattle.ospf_graph.specs.declared.reached.Reached.{Reached}
 use Rattle.ospf_incremental.specs.Growth.{AreNear, HasEdge, HasStart, HoldsAll, IsAt, IsGrowing, Spares}
 use Rattle.ospf_incremental.specs.Kept.{AddsEdges, ChangesEdges, IsSameBut, KeptTree, vertices_of}
 use Rattle.ospf_graph.specs.Reached.{settled_of, starts_of}
-use Rattle.ospf_graph.specs.Search.{IsFit}
-use Rattle.ospf_incremental.specs.Shrinking.{ClosesAt, IsClosed, IsMarked, Leaves, Opens, TakesEdges}
+use Rattle.ospf_graph.specs.Search.{AreFitEdges}
+use Rattle.ospf_incremental.specs.Shrinking.{ClosesAt, IsClosed, IsMarked, Leaves, OpensEdges, TakesEdges}
 use Rattle.ospf_graph.specs.Tree.{IsTree}
 use Rattle.ospf_incremental.proofs.GrowthSteps.{none_waits}
 use Rattle.ospf_incremental.proofs.KeptGrowth.{reached_named}
 use Rattle.ospf_incremental.proofs.ShrinkLemmas.{left}
 use Rattle.ospf_incremental.proofs.ShrinkSteps.{marked_or_not}
 
-pub fit_less : (less old new : List Edge) → TakesEdges less old new → IsFit old → IsFit new
+pub fit_less : (less old new : List Edge) → TakesEdges less old new → AreFitEdges old → AreFitEdges new
 fit_less less old new takes a =
     record {
       rising = λ e d is. a.rising e d ((takes e).0 is).0;
@@ -27,7 +27,7 @@ fit_less less old new takes a =
       id_fits = λ e is. a.id_fits e ((takes e).0 is).0;
     }
 
-module _ (less old new : List Edge) (root : Vertex) (f : Found) (marks : ℕ → Option ℕ) (ks : List Reached)
+module _ (less old new : List Edge) (root : Vertex) (f : FoundPaths) (marks : ℕ → Option ℕ) (ks : List Reached)
     (t : IsTree (Contains old) root (IsAt f.reached.items) (HasStart f.reached.items)) (takes : TakesEdges less old new)
     (l : Leaves (IsMarked marks) (IsAt f.reached.items) (IsAt ks) (HasStart f.reached.items) (HasStart ks)) where
   closed : (IsMarked marks root → ⊥) → All (ClosesAt f less marks) old → IsClosed (Contains old) (Contains new) root (IsAt f.reached.items) (IsMarked marks)
@@ -42,12 +42,12 @@ module _ (less old new : List Edge) (root : Vertex) (f : Found) (marks : ℕ →
       }
 
   -- what is left grows to a tree of the edges that are left
-  pub tree_shrunk : (IsMarked marks root → ⊥) → All (ClosesAt f less marks) old → (some seen : List Edge) (rs : List Reached) (none waits : List Candidate) → none ≡ []
-      → some ≡ new → Opens some (IsAt ks) none waits → seen ≡ new
+  pub tree_shrunk : (IsMarked marks root → ⊥) → All (ClosesAt f less marks) old → (some seen : List Edge) (rs : List Reached) (none waits : List SpfCandidate) → none ≡ []
+      → some ≡ new → OpensEdges some (IsAt ks) none waits → seen ≡ new
       → ((v : Vertex) → IsGrowing (Contains seen) v (IsAt ks) (HasStart ks) (HasEdge waits) → IsTree (Contains seen) v (IsAt rs) (HasStart rs))
       → IsTree (Contains new) root (IsAt rs) (HasStart rs)
   tree_shrunk free all some seen rs none waits empty same_some o same settles =
-      let opens = subst (λ s. Opens s (IsAt ks) none waits) same_some o in
+      let opens = subst (λ s. OpensEdges s (IsAt ks) none waits) same_some o in
       let settles' = subst (λ s. (v : Vertex) → IsGrowing (Contains s) v (IsAt ks) (HasStart ks) (HasEdge waits) → IsTree (Contains s) v (IsAt rs) (HasStart rs)) same settles in
       settles' root
       (left (Contains old) (Contains new) root (IsAt f.reached.items) (HasStart f.reached.items) t (IsMarked marks) (closed free all) (IsAt ks) (HasStart ks) (HasEdge waits) l

@@ -5,7 +5,7 @@ use Rattle.std.specs.Prelude.{IfSome, is_some}
 use Rattle.std.proofs.lemmas.List.{get_or_default, get_or-take, length-take, take_more}
 use Rattle.std.proofs.lemmas.List.Sorted.{IsNonDecreasingBy-push}
 use Rattle.std.proofs.lemmas.List.Elements.{All-push, Contains-append_left, Contains-append_right, Contains-append_cases, Contains-push, Contains-push_cases}
-use Rattle.ospf_graph.specs.declared.candidates.Candidate.{Candidate}
+use Rattle.ospf_graph.specs.declared.candidates.SpfCandidate.{SpfCandidate}
 use Rattle.ospf_graph.specs.declared.graph.Edge.{Edge}
 use Rattle.ospf_graph.specs.declared.graph.Start.{Start}
 use Rattle.ospf_graph.specs.declared.graph.Vertex.{Vertex}
@@ -13,7 +13,7 @@ use Rattle.ospf_graph.specs.declared.reached.Reached.{Reached}
 use Rattle.ospf_incremental.specs.Growth.{HasStart, IsAt, Offers}
 use Rattle.ospf_graph.specs.Reached.{ArePlaces}
 use Rattle.ospf_graph.specs.Search.{AreEdgesInOrder, vertex_code}
-use Rattle.ospf_incremental.specs.Shrinking.{IsLeaving, IsMarked, Leaves, Opens, TakesEdges}
+use Rattle.ospf_incremental.specs.Shrinking.{IsLeaving, IsMarked, Leaves, OpensEdges, TakesEdges}
 use Rattle.ospf_incremental.proofs.GrowthSteps.{at_from, at_to, start_to}
 use Rattle.ospf_graph.proofs.ListLemmas.{bool_cases, member_cases, more_members}
 use Rattle.ospf_graph.proofs.ReachedLemmas.{some_same, starts_from}
@@ -220,10 +220,10 @@ module _ (less edges : List Edge) (i : ℕ) (x : Edge) (lt : i < length edges) (
 
 -- edges whose ends are not reached
 module _ (At : Vertex → ℕ → Type 0) where
-  pub opens_start : (list : List Candidate) → Opens [] At list list
+  pub opens_start : (list : List SpfCandidate) → OpensEdges [] At list list
   opens_start list = record { kept = λ e h. h; only = λ e h. inl h; waits = λ e d m at none. absurd (let low = m.1 in omega arith) }
 
-  pub opens_offered : (Starts : Vertex → Start → Type 0) (some : List Edge) (old new : List Candidate) → Offers some At Starts old new → Opens some At old new
+  pub opens_offered : (Starts : Vertex → Start → Type 0) (some : List Edge) (old new : List SpfCandidate) → Offers some At Starts old new → OpensEdges some At old new
   opens_offered Starts some old new o =
       record {
         kept = o.kept;
@@ -234,7 +234,7 @@ module _ (At : Vertex → ℕ → Type 0) where
         ];
       }
 
-  pub opens_none : (edge : Edge) (k : ℕ) (list : List Candidate) → At edge.to k → Opens (edge ∷ []) At list list
+  pub opens_none : (edge : Edge) (k : ℕ) (list : List SpfCandidate) → At edge.to k → OpensEdges (edge ∷ []) At list list
   opens_none edge k list there =
       record {
         kept = λ e h. h;
@@ -245,7 +245,7 @@ module _ (At : Vertex → ℕ → Type 0) where
         ];
       }
 
-  opens_then : (a b : List Edge) (old mid new : List Candidate) → Opens a At old mid → Opens b At mid new → Opens (a ++ b) At old new
+  opens_then : (a b : List Edge) (old mid new : List SpfCandidate) → OpensEdges a At old mid → OpensEdges b At mid new → OpensEdges (a ++ b) At old new
   opens_then a b old mid new x y =
       record {
         kept = λ e h. y.kept e (x.kept e h);
@@ -256,6 +256,6 @@ module _ (At : Vertex → ℕ → Type 0) where
         waits = λ e d m at none. elim (Contains-append_cases a b e m) [ inl first ↦ y.kept e (x.waits e d first at none) | inr last ↦ y.waits e d last at none ];
       }
 
-  pub opens_more : (some : List Edge) (i : ℕ) (x : Edge) (old mid new : List Candidate) → i < length some
-      → Opens (take i some) At old mid → Opens (get_or some i x ∷ []) At mid new → Opens (take (i + 1) some) At old new
+  pub opens_more : (some : List Edge) (i : ℕ) (x : Edge) (old mid new : List SpfCandidate) → i < length some
+      → OpensEdges (take i some) At old mid → OpensEdges (get_or some i x ∷ []) At mid new → OpensEdges (take (i + 1) some) At old new
   opens_more some i x old mid new lt first last = rw (take_more some i x lt) (opens_then (take i some) (get_or some i x ∷ []) old mid new first last)

@@ -5,8 +5,8 @@ use Rattle.ospf_graph.specs.declared.graph.Edge.{Edge}
 use Rattle.ospf_graph.specs.declared.graph.Vertex.{Vertex}
 use Rattle.ospf_graph.specs.declared.graph.Start.{Start}
 use Rattle.ospf_graph.specs.declared.graph.Start.TheVariants.{Here}
-use Rattle.ospf_graph.specs.declared.candidates.Candidate.{Candidate}
-use Rattle.ospf_incremental.specs.declared.grow.Found.{Found}
+use Rattle.ospf_graph.specs.declared.candidates.SpfCandidate.{SpfCandidate}
+use Rattle.ospf_incremental.specs.declared.grow.FoundPaths.{FoundPaths}
 use Rattle.ospf_graph.specs.declared.reached.Reached.{Reached}
 use Rattle.ospf_graph.specs.Graph.{IsPath, path_cost}
 use Rattle.ospf_graph.specs.Reached.{ArePlaces, settled_of, starts_of}
@@ -53,11 +53,11 @@ pub record Improves (e : Edge) (d : ℕ) (At At' : Vertex → ℕ → Type 0) (S
       (At e.to (d + e.cost) × Starts e.to x) ⊎ ((y : Start) × Starts e.from y × (x ≡ extend y e.to e.link_data))
 
 -- some candidate waits with the edge
-abbrev pub HasEdge : List Candidate → Edge → Type 0
+abbrev pub HasEdge : List SpfCandidate → Edge → Type 0
 HasEdge candidates e = (k : ℕ) × Contains candidates (record { edge = e; distance = k })
 
 -- each of these edges waits now, or owes nothing
-pub record Offers (some : List Edge) (At : Vertex → ℕ → Type 0) (Starts : Vertex → Start → Type 0) (old new : List Candidate) : Type 0 where
+pub record Offers (some : List Edge) (At : Vertex → ℕ → Type 0) (Starts : Vertex → Start → Type 0) (old new : List SpfCandidate) : Type 0 where
   pub kept : (e : Edge) → HasEdge old e → HasEdge new e
   pub only : (e : Edge) → HasEdge new e → HasEdge old e ⊎ Contains some e
   pub owed : (e : Edge) (d : ℕ) → Contains some e → At e.from d → IsOwed At Starts (HasEdge new) e d
@@ -85,9 +85,9 @@ abbrev pub AreNear : List Reached → Type 0
 AreNear rs = All (λ x. x.distance < 2 ^ 63) (settled_of rs)
 
 -- the edge waits no more, and what it owed is paid: what is a tree but for the edges that waited is one but for those that wait now
-abbrev pub PaysFor : List Edge → Edge → List Reached → List Reached → List Candidate → List Candidate → Type 0
+abbrev pub PaysFor : List Edge → Edge → List Reached → List Reached → List SpfCandidate → List SpfCandidate → Type 0
 PaysFor edges edge old new waited waits =
-    (root : Vertex) (before : List Candidate) → IsGrowing (Contains edges) root (IsAt old) (HasStart old) (HasEdge before) → HasEdge before edge
+    (root : Vertex) (before : List SpfCandidate) → IsGrowing (Contains edges) root (IsAt old) (HasStart old) (HasEdge before) → HasEdge before edge
     → ((f : Edge) → HasEdge before f → HasEdge waited f ⊎ (f ≡ edge)) → ((f : Edge) → HasEdge waited f → HasEdge before f)
     → IsGrowing (Contains edges) root (IsAt new) (HasStart new) (HasEdge waits)
 
@@ -107,33 +107,33 @@ abbrev pub OnFalse : {E : Type 0} → Result Bool E → Type 0 → Type 0
 OnFalse result P = IfOk result (λ b. IsFalse b → P)
 
 -- each vertex that is found has its place
-abbrev pub HasPlaces : Found → Type 0
+abbrev pub HasPlaces : FoundPaths → Type 0
 HasPlaces f = ArePlaces (get nat_eq f.places) f.reached.items
 
 -- where the vertex stands, if it is found
-abbrev pub place_in : Found → Vertex → Option ℕ
-place_in f v = get nat_eq f.places (vertex_code v)
+abbrev pub found_place : FoundPaths → Vertex → Option ℕ
+found_place f v = get nat_eq f.places (vertex_code v)
 
 -- what the edge brings to its end, from this distance
-abbrev pub ImprovesIn : Edge → ℕ → Found → Found → Type 0
+abbrev pub ImprovesIn : Edge → ℕ → FoundPaths → FoundPaths → Type 0
 ImprovesIn e d old new =
     Improves e d (IsAt old.reached.items) (IsAt new.reached.items) (HasStart old.reached.items) (HasStart new.reached.items)
 
 -- the edge owes nothing to what is found
-abbrev pub IsRelaxedIn : Found → Edge → ℕ → Type 0
+abbrev pub IsRelaxedIn : FoundPaths → Edge → ℕ → Type 0
 IsRelaxedIn f e d = IsRelaxed (IsAt f.reached.items) (HasStart f.reached.items) e d
 
 -- the vertex is found at this distance now, with no start
-abbrev pub IsResetIn : Vertex → ℕ → Found → Found → Type 0
+abbrev pub IsResetIn : Vertex → ℕ → FoundPaths → FoundPaths → Type 0
 IsResetIn v way old new =
     IsResetAt v way (IsAt old.reached.items) (IsAt new.reached.items) (HasStart old.reached.items) (HasStart new.reached.items)
 
 -- the vertex at this place is
-abbrev pub ResetsAt : ℕ → ℕ → Found → Found → Type 0
-ResetsAt place way old new = (v : Vertex) → place_in old v ≡ Some place → IsResetIn v way old new
+abbrev pub ResetsAt : ℕ → ℕ → FoundPaths → FoundPaths → Type 0
+ResetsAt place way old new = (v : Vertex) → found_place old v ≡ Some place → IsResetIn v way old new
 
 -- each of these edges waits now, or owes nothing to what is found
-abbrev pub OffersIn : Found → List Edge → Waiting → Waiting → Type 0
+abbrev pub OffersIn : FoundPaths → List Edge → Waiting → Waiting → Type 0
 OffersIn f some old new = Offers some (IsAt f.reached.items) (HasStart f.reached.items) old.list new.list
 
 -- each of these starts, one edge further, is there
@@ -141,21 +141,21 @@ abbrev pub AreThere : Edge → List Start → List Start → Type 0
 AreThere e starts there = All (λ x. Contains there (extend x e.to e.link_data)) starts
 
 -- the edge brings no start that its end has not
-abbrev pub BringsNothing : Found → Edge → Type 0
+abbrev pub BringsNothing : FoundPaths → Edge → Type 0
 BringsNothing f e =
     (x : Start) → HasStart f.reached.items e.from x → HasStart f.reached.items e.to (extend x e.to e.link_data)
 
 -- the edge waits no more, and what it owed is paid in what is found
-abbrev pub Pays : List Edge → Edge → Found → Found → Waiting → Waiting → Type 0
+abbrev pub Pays : List Edge → Edge → FoundPaths → FoundPaths → Waiting → Waiting → Type 0
 Pays edges e old new waited waits = PaysFor edges e old.reached.items new.reached.items waited.list waits.list
 
 -- what is found away from these vertices is as before
-abbrev pub SparesIn : List Vertex → Found → Found → Type 0
+abbrev pub SparesIn : List Vertex → FoundPaths → FoundPaths → Type 0
 SparesIn changed old new = Spares changed old.reached.items new.reached.items
 
 -- what was a tree but for the edges that waited is a tree
-abbrev pub Settles : List Edge → Waiting → Found → Found → Type 0
-Settles edges waited old new =
+abbrev pub SettlesTree : List Edge → Waiting → FoundPaths → FoundPaths → Type 0
+SettlesTree edges waited old new =
     (root : Vertex) → IsGrowing (Contains edges) root (IsAt old.reached.items) (HasStart old.reached.items) (HasEdge waited.list)
     → IsTree (Contains edges) root (IsAt new.reached.items) (HasStart new.reached.items)
 

@@ -3,12 +3,12 @@ use Rattle.std.specs.Prelude.{◌≡◌, ◌<◌, ◌↔◌, ◌⊎◌, ◌^◌,
 use Rattle.ospf_graph.specs.declared.graph.Edge.{Edge}
 use Rattle.ospf_graph.specs.declared.graph.Vertex.{Vertex}
 use Rattle.ospf_graph.specs.declared.graph.Start.{Start}
-use Rattle.ospf_incremental.specs.declared.grow.Found.{Found}
+use Rattle.ospf_incremental.specs.declared.grow.FoundPaths.{FoundPaths}
 use Rattle.ospf_graph.specs.declared.paths.Settled.{Settled}
 use Rattle.ospf_graph.specs.declared.paths.VertexStart.{VertexStart}
 use Rattle.ospf_graph.specs.declared.reached.Reached.{Reached}
 use Rattle.ospf_incremental.specs.Growth.{AreNear, HasPlaces, HasStart, IsAt}
-use Rattle.ospf_graph.specs.Search.{AreEdgesInOrder, AtIn, IsFit, StartsIn, vertex_id}
+use Rattle.ospf_graph.specs.Search.{AreEdgesInOrder, AtIn, AreFitEdges, StartsIn, vertex_id}
 use Rattle.ospf_graph.specs.Tree.{IsTree}
 
 -- their root, the edges, and of each vertex that is reached its distance and the starts of its least paths
@@ -23,8 +23,8 @@ abbrev pub IsKeptTree : KeptTree → Type 0
 IsKeptTree k = IsTree (Contains k.edges) k.root (AtIn k.settled) (StartsIn k.starts)
 
 -- what is kept: edges that fit, in order, what is found of them, and the tree
-pub record IsKept (root : Vertex) (edges : List Edge) (found : Found) : Type 0 where
-  pub fit : IsFit edges
+pub record AreKeptPaths (root : Vertex) (edges : List Edge) (found : FoundPaths) : Type 0 where
+  pub fit : AreFitEdges edges
   pub root_fits : vertex_id root < 2 ^ 32
   pub in_order : AreEdgesInOrder edges
   pub near : AreNear found.reached.items

@@ -1,12 +1,12 @@
 //! Shortest paths that grow while edges come.
 
 ghost use Rattle.std.specs.Prelude.{◌≡◌, ◌+◌, ◌<◌, ◌↔◌, ◌^◌, ◌∷◌, [], ℕ, Contains, IsTrue, IfSome, OnOk, None, Some, length};
-ghost use Rattle.ospf_incremental.specs.Growth.{AreNear, AreThere, BringsNothing, HasPlaces, HasStart, HoldsAll, ImprovesIn, IsAt, IsRelaxedIn, OffersIn, OnFalse, OnTrue, Pays, ResetsAt, Settles, SparesIn, place_in};
+ghost use Rattle.ospf_incremental.specs.Growth.{AreNear, AreThere, BringsNothing, HasPlaces, HasStart, HoldsAll, ImprovesIn, IsAt, IsRelaxedIn, OffersIn, OnFalse, OnTrue, Pays, ResetsAt, SettlesTree, SparesIn, found_place};
 ghost use Rattle.ospf_graph.specs.Search.{AreEdgesInOrder};
 ghost use Rattle.ospf_graph.specs.declared.graph.Start.{Start};
 
 use ospf_graph::{
-    Candidate, Candidates, Edge, Reached, Start, Vertex, bring, edges_from, extended, place_of,
+    Candidates, Edge, Reached, SpfCandidate, Start, Vertex, bring, edges_from, extended, place_of,
     reach,
 };
 use std::alloc::{AllocError, Global};
@@ -17,13 +17,13 @@ const MOST: u64 = 1 << 63;
 
 /// What is reached, and the place of each vertex there.
 #[derive(Drop)]
-pub(crate) struct Found {
+pub(crate) struct FoundPaths {
     pub(crate) reached: Vec<Reached>,
     pub(crate) places: HashMap<u64, usize>,
 }
 
 /// The distance of a vertex, if it is reached.
-pub(crate) fn distance_of(found: &Found, vertex: Vertex) -> Option<u64>
+pub(crate) fn distance_of(found: &FoundPaths, vertex: Vertex) -> Option<u64>
     requires { HasPlaces found.now }
     ensures some { IfSome result (λ d. IsAt found.now.reached.items vertex d) }
     ensures none { result ≡ None → (d : ℕ) → IsAt found.now.reached.items vertex d → ⊥ }
@@ -35,7 +35,7 @@ pub(crate) fn distance_of(found: &Found, vertex: Vertex) -> Option<u64>
 }
 
 /// The starts of a vertex, some perhaps more than once.
-pub(crate) fn starts_of(found: &Found, vertex: Vertex) -> &[Start]
+pub(crate) fn starts_of(found: &FoundPaths, vertex: Vertex) -> &[Start]
     requires { HasPlaces found.now }
     ensures { (x : Start) → Contains result.now x ↔ HasStart found.now.reached.items vertex x }
 {
@@ -46,7 +46,11 @@ pub(crate) fn starts_of(found: &Found, vertex: Vertex) -> &[Start]
 }
 
 /// Puts an edge among those that wait, if it begins where something is reached and its end is not nearer.
-pub(crate) fn offer(edge: Edge, found: &Found, waits: &mut Candidates) -> Result<(), AllocError>
+pub(crate) fn offer(
+    edge: Edge,
+    found: &FoundPaths,
+    waits: &mut Candidates,
+) -> Result<(), AllocError>
     requires places { HasPlaces found.now }
     requires near { AreNear found.now.reached.items }
     ensures { OnOk result (OffersIn found.now (edge ∷ []) waits.old waits.new) }
@@ -58,7 +62,7 @@ pub(crate) fn offer(edge: Edge, found: &Found, waits: &mut Candidates) -> Result
     if is_nearer(found, edge.to, way) {
         return Ok(());
     }
-    waits.push(Candidate {
+    waits.push(SpfCandidate {
         distance: way,
         edge,
     })?;
@@ -68,7 +72,7 @@ pub(crate) fn offer(edge: Edge, found: &Found, waits: &mut Candidates) -> Result
 /// Puts those of some edges among those that wait that may bring their ends nearer, or more starts.
 pub(crate) fn offer_all(
     some: &[Edge],
-    found: &Found,
+    found: &FoundPaths,
     waits: &mut Candidates,
 ) -> Result<(), AllocError>
     requires places { HasPlaces found.now }
@@ -87,7 +91,7 @@ pub(crate) fn settle(
     alloc: Global,
     edges: &[Edge],
     most: u64,
-    found: &mut Found,
+    found: &mut FoundPaths,
     waits: &mut Candidates,
     changed: &mut Vec<Vertex>,
 ) -> Result<bool, AllocError>
@@ -96,7 +100,7 @@ pub(crate) fn settle(
     requires near { AreNear found.old.reached.items }
     requires places { HasPlaces found.old }
     // Where none waits any more, what was a tree but for the edges that waited is one.
-    ensures tree { OnTrue result (Settles edges.now waits.old found.old found.new) }
+    ensures tree { OnTrue result (SettlesTree edges.now waits.old found.old found.new) }
     // What is found stays below the limit and in its places.
     ensures near { OnOk result (AreNear found.new.reached.items) }
     ensures places { OnOk result (HasPlaces found.new) }
@@ -116,7 +120,7 @@ pub(crate) fn settle(
 }
 
 // Whether a vertex is reached nearer than this.
-fn is_nearer(found: &Found, vertex: Vertex, way: u64) -> bool
+fn is_nearer(found: &FoundPaths, vertex: Vertex, way: u64) -> bool
     requires { HasPlaces found.now }
     ensures { IsTrue result → (near : ℕ) × (near < way) × IsAt found.now.reached.items vertex near }
 {
@@ -131,7 +135,7 @@ fn take_edge(
     alloc: Global,
     edges: &[Edge],
     edge: Edge,
-    found: &mut Found,
+    found: &mut FoundPaths,
     waits: &mut Candidates,
     changed: &mut Vec<Vertex>,
 ) -> Result<bool, AllocError>
@@ -164,7 +168,7 @@ fn step(
     edges: &[Edge],
     edge: Edge,
     distance: u64,
-    found: &mut Found,
+    found: &mut FoundPaths,
     waits: &mut Candidates,
     changed: &mut Vec<Vertex>,
 ) -> Result<(), AllocError>
@@ -192,7 +196,12 @@ fn step(
 }
 
 // Takes an edge. Whether its end is reached nearer than before, or from more starts.
-fn relax(alloc: Global, edge: Edge, distance: u64, found: &mut Found) -> Result<bool, AllocError>
+fn relax(
+    alloc: Global,
+    edge: Edge,
+    distance: u64,
+    found: &mut FoundPaths,
+) -> Result<bool, AllocError>
     // The edge leaves a vertex that is found at this distance.
     requires at { IsAt found.old.reached.items edge.from distance }
     requires near { distance + edge.cost < 2 ^ 63 }
@@ -221,9 +230,14 @@ fn relax(alloc: Global, edge: Edge, distance: u64, found: &mut Found) -> Result<
 }
 
 // Takes an edge whose end is not reached.
-fn relax_new(alloc: Global, edge: Edge, distance: u64, found: &mut Found) -> Result<(), AllocError>
+fn relax_new(
+    alloc: Global,
+    edge: Edge,
+    distance: u64,
+    found: &mut FoundPaths,
+) -> Result<(), AllocError>
     // Its end is not found yet, and its beginning is, at this distance.
-    requires fresh { place_in found.old edge.to ≡ None }
+    requires fresh { found_place found.old edge.to ≡ None }
     requires at { IsAt found.old.reached.items edge.from distance }
     requires near { distance + edge.cost < 2 ^ 63 }
     requires places { HasPlaces found.old }
@@ -244,10 +258,10 @@ fn relax_nearer(
     edge: Edge,
     distance: u64,
     to: usize,
-    found: &mut Found,
+    found: &mut FoundPaths,
 ) -> Result<(), AllocError>
     // Both ends are found, and the way over the edge is the shorter one.
-    requires place { place_in found.old edge.to ≡ Some to }
+    requires place { found_place found.old edge.to ≡ Some to }
     requires at { IsAt found.old.reached.items edge.from distance }
     requires farther { (j : ℕ) → IsAt found.old.reached.items edge.to j → distance + edge.cost < j }
     // It is below the limit.
@@ -263,7 +277,7 @@ fn relax_nearer(
 }
 
 // Puts the vertex at this place nearer, with no start.
-fn reset_at(found: &mut Found, place: usize, way: u64)
+fn reset_at(found: &mut FoundPaths, place: usize, way: u64)
     // A vertex is found at this place.
     requires place { place < length found.old.reached.items }
     requires places { HasPlaces found.old }
@@ -292,10 +306,10 @@ fn relax_level(
     edge: Edge,
     distance: u64,
     to: usize,
-    found: &mut Found,
+    found: &mut FoundPaths,
 ) -> Result<bool, AllocError>
     // Both ends are found, and the way over the edge is as long as the shortest.
-    requires place { place_in found.old edge.to ≡ Some to }
+    requires place { found_place found.old edge.to ≡ Some to }
     requires at { IsAt found.old.reached.items edge.from distance }
     requires level { IsAt found.old.reached.items edge.to (distance + edge.cost) }
     requires places { HasPlaces found.old }
@@ -314,8 +328,8 @@ fn relax_level(
 }
 
 // Whether an edge brings no start that its end has not.
-fn brings_nothing(found: &Found, edge: Edge, to: usize) -> bool
-    requires place { place_in found.now edge.to ≡ Some to }
+fn brings_nothing(found: &FoundPaths, edge: Edge, to: usize) -> bool
+    requires place { found_place found.now edge.to ≡ Some to }
     requires places { HasPlaces found.now }
     ensures { IsTrue result → BringsNothing found.now edge }
 {

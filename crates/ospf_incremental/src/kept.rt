@@ -4,11 +4,11 @@ ghost use Rattle.std.specs.Prelude.{◌≡◌, ◌++◌, ◌<◌, ◌↔◌, ◌
 ghost use Rattle.ospf_incremental.specs.Growth.{HoldsAll};
 ghost use Rattle.ospf_graph.specs.Paths.{AreLeastOver, AreSettledInOrder, AreStartsInOrder, IsTreeOver};
 ghost use Rattle.ospf_incremental.specs.Kept.{AddsEdge, AddsEdges, ChangesEdges, IsKeptTree, IsSameBut, vertices_of};
-ghost use Rattle.ospf_graph.specs.Search.{AreEdgesInOrder, AtIn, IsFit, StartsIn, vertex_id};
+ghost use Rattle.ospf_graph.specs.Search.{AreEdgesInOrder, AtIn, AreFitEdges, StartsIn, vertex_id};
 ghost use Rattle.ospf_incremental.specs.Shrinking.{TakesEdges};
 ghost use Rattle.ospf_graph.specs.declared.graph.Start.{Start};
 
-use crate::grow::{Found, distance_of, offer_all, settle, starts_of};
+use crate::grow::{FoundPaths, distance_of, offer_all, settle, starts_of};
 use crate::shrink::{is_closed, leave, left_of, mark, offer_open};
 use ospf_graph::{
     Candidates, Edge, Reached, ShortestPaths, Start, Vertex, listed, search, sorted_edges,
@@ -23,18 +23,18 @@ use std::marker::Model;
 pub struct KeptPaths {
     root: Vertex,
     edges: Vec<Edge>,
-    found: Found,
+    found: FoundPaths,
 }
 
 impl Model for KeptPaths {
-    ghost use Rattle.ospf_incremental.specs.Kept.{IsKept, KeptTree};
+    ghost use Rattle.ospf_incremental.specs.Kept.{AreKeptPaths, KeptTree};
     ghost use Rattle.ospf_graph.specs.Reached.{settled_of, starts_of};
 
     ghost Value = { KeptTree };
 
     ghost view = { λ k. record { root = k.root; edges = k.edges.items; settled = settled_of k.found.reached.items; starts = starts_of k.found.reached.items } };
 
-    ghost invariant = { λ k. IsKept k.root k.edges.items k.found };
+    ghost invariant = { λ k. AreKeptPaths k.root k.edges.items k.found };
 }
 
 impl KeptPaths {
@@ -43,7 +43,7 @@ impl KeptPaths {
     /// `AllocError` where memory runs out.
     pub fn of(alloc: Global, edges: &[Edge], root: Vertex) -> Result<KeptPaths, AllocError>
         // The edges and the root are those of an area.
-        requires fit { IsFit edges.now }
+        requires fit { AreFitEdges edges.now }
         requires root_fits { vertex_id root < 2 ^ 32 }
         // What is kept is the tree of shortest paths from this root over just these edges.
         ensures root { IfOk result (λ k. k.root ≡ root) }
@@ -104,7 +104,7 @@ impl KeptPaths {
         more: &[Edge],
         changed: &mut Vec<Vertex>,
     ) -> Result<KeptPaths, AllocError>
-        requires fit { IsFit more.now }
+        requires fit { AreFitEdges more.now }
         // What is kept is the tree of shortest paths from the same root, over the added edges too.
         ensures root { IfOk result (λ k. k.root ≡ self.root) }
         ensures edges { IfOk result (λ k. AddsEdges more.now self.edges k.edges) }
@@ -186,7 +186,7 @@ impl KeptPaths {
         more: &[Edge],
         changed: &mut Vec<Vertex>,
     ) -> Result<KeptPaths, AllocError>
-        requires fit { IsFit more.now }
+        requires fit { AreFitEdges more.now }
         // What is kept is the tree of shortest paths from the same root, over the changed edges.
         ensures root { IfOk result (λ k. k.root ≡ self.root) }
         ensures edges { IfOk result (λ k. ChangesEdges less.now more.now self.edges k.edges) }
@@ -208,7 +208,7 @@ impl KeptPaths {
 // The shortest paths, by a search.
 fn anew(alloc: Global, edges: Vec<Edge>, root: Vertex) -> Result<KeptPaths, AllocError>
     // The edges and the root are those of an area, in order.
-    requires fit { IsFit edges.items }
+    requires fit { AreFitEdges edges.items }
     requires root_fits { vertex_id root < 2 ^ 32 }
     requires in_order { AreEdgesInOrder edges.items }
     // What is kept is the tree of shortest paths from this root over just these edges.
@@ -220,7 +220,7 @@ fn anew(alloc: Global, edges: Vec<Edge>, root: Vertex) -> Result<KeptPaths, Allo
     Ok(KeptPaths {
         root,
         edges,
-        found: Found {
+        found: FoundPaths {
             reached: found.reached,
             places: found.places,
         },

@@ -2,11 +2,11 @@
 
 ghost use Rattle.std.specs.Prelude.{◌≡◌, ◌++◌, ◌↔◌, ◌∷◌, [], All, Contains, IsFalse, IsTrue, IfOk, OnOk, None, nat_eq};
 ghost use Rattle.std.specs.HashMap.{get};
-ghost use Rattle.ospf_incremental.specs.Growth.{AreNear, HasPlaces, HoldsAll, place_in};
+ghost use Rattle.ospf_incremental.specs.Growth.{AreNear, HasPlaces, HoldsAll, found_place};
 ghost use Rattle.ospf_graph.specs.Search.{AreEdgesInOrder};
 ghost use Rattle.ospf_incremental.specs.Shrinking.{ClosesAt, HoldsMarked, IsMarked, IsSlack, LeavesIn, OpensIn, TakesEdges};
 
-use crate::grow::{Found, distance_of, offer};
+use crate::grow::{FoundPaths, distance_of, offer};
 use ospf_graph::{Candidates, Edge, Reached, Vertex, edges_from, is_same, vertex_order};
 use std::alloc::{AllocError, Global};
 use std::collections::HashMap;
@@ -32,7 +32,7 @@ pub(crate) fn mark(
     alloc: Global,
     edges: &[Edge],
     less: &[Edge],
-    found: &Found,
+    found: &FoundPaths,
 ) -> Result<HashMap<u64, usize>, AllocError>
     requires in_order { AreEdgesInOrder edges.now }
     requires places { HasPlaces found.now }
@@ -53,7 +53,7 @@ pub(crate) fn mark(
 /// Whether the marked vertices are closed: all that is behind an edge that goes, or behind a marked vertex, is
 /// marked, and the root is not.
 pub(crate) fn is_closed(
-    found: &Found,
+    found: &FoundPaths,
     edges: &[Edge],
     less: &[Edge],
     marks: &HashMap<u64, usize>,
@@ -79,10 +79,10 @@ pub(crate) fn is_closed(
 /// What is reached without the marked vertices. These are put behind `changed`.
 pub(crate) fn leave(
     alloc: Global,
-    found: Found,
+    found: FoundPaths,
     marks: &HashMap<u64, usize>,
     changed: &mut Vec<Vertex>,
-) -> Result<Found, AllocError>
+) -> Result<FoundPaths, AllocError>
     requires { HasPlaces found }
     // The marked vertices are gone, and all others are found as they were, in their places.
     ensures places { IfOk result (λ left. HasPlaces left) }
@@ -92,7 +92,7 @@ pub(crate) fn leave(
     ensures marked { OnOk result (HoldsMarked (get nat_eq marks.now) found changed.new.items) }
 {
     let mut reached = found.reached;
-    let mut left = Found {
+    let mut left = FoundPaths {
         reached: Vec::new(alloc),
         places: HashMap::new(alloc),
     };
@@ -109,7 +109,7 @@ pub(crate) fn leave(
 /// Offers those of some edges whose ends are not reached.
 pub(crate) fn offer_open(
     some: &[Edge],
-    found: &Found,
+    found: &FoundPaths,
     waits: &mut Candidates,
 ) -> Result<(), AllocError>
     requires places { HasPlaces found.now }
@@ -144,7 +144,7 @@ fn is_same_edge(a: Edge, b: Edge) -> bool
 // Marks the ends of those of some edges that are tight.
 fn mark_ends(
     some: &[Edge],
-    found: &Found,
+    found: &FoundPaths,
     marks: &mut HashMap<u64, usize>,
     ends: &mut Vec<Vertex>,
 ) -> Result<(), AllocError>
@@ -161,7 +161,7 @@ fn mark_ends(
 }
 
 // Whether an edge is the last one of a least path.
-fn is_tight(found: &Found, edge: Edge) -> bool
+fn is_tight(found: &FoundPaths, edge: Edge) -> bool
     requires places { HasPlaces found.now }
     requires near { AreNear found.now.reached.items }
     ensures { IsFalse result → IsSlack found.now edge }
@@ -183,7 +183,7 @@ fn is_marked(marks: &HashMap<u64, usize>, vertex: Vertex) -> bool
 }
 
 // Whether an edge leads to a marked vertex, or is not tight, or stays and begins at a vertex that is not marked.
-fn closes(found: &Found, edge: Edge, less: &[Edge], marks: &HashMap<u64, usize>) -> bool
+fn closes(found: &FoundPaths, edge: Edge, less: &[Edge], marks: &HashMap<u64, usize>) -> bool
     requires places { HasPlaces found.now }
     requires near { AreNear found.now.reached.items }
     ensures { IsTrue result → ClosesAt found.now less.now (get nat_eq marks.now) edge }
@@ -195,8 +195,8 @@ fn closes(found: &Found, edge: Edge, less: &[Edge], marks: &HashMap<u64, usize>)
 }
 
 // Puts one that is reached behind others.
-fn keep(one: Reached, found: &mut Found) -> Result<(), AllocError>
-    requires fresh { place_in found.old one.vertex ≡ None }
+fn keep(one: Reached, found: &mut FoundPaths) -> Result<(), AllocError>
+    requires fresh { found_place found.old one.vertex ≡ None }
     requires places { HasPlaces found.old }
     ensures reached { OnOk result (found.new.reached.items ≡ found.old.reached.items ++ one ∷ []) }
     ensures places { OnOk result (HasPlaces found.new) }
@@ -208,7 +208,7 @@ fn keep(one: Reached, found: &mut Found) -> Result<(), AllocError>
 }
 
 // Offers an edge whose end is not reached.
-fn offer_open_one(edge: Edge, found: &Found, waits: &mut Candidates) -> Result<(), AllocError>
+fn offer_open_one(edge: Edge, found: &FoundPaths, waits: &mut Candidates) -> Result<(), AllocError>
     requires places { HasPlaces found.now }
     requires near { AreNear found.now.reached.items }
     ensures { OnOk result (OpensIn found.now (edge ∷ []) waits.old waits.new) }

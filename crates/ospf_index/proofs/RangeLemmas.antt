@@ -5,7 +5,7 @@ use Rattle.ospf_graph.specs.declared.route.Route.{Route}
 use Rattle.ospf_graph.specs.Routes.{IsRouteBefore}
 use Rattle.ospf_index.proofs.BlockLemmas.{table_nested, longest_answers}
 use Rattle.ospf_index.proofs.SweepLemmas.{closes}
-use Rattle.ospf_index.specs.Ranges.{HasRanges, IsRising}
+use Rattle.ospf_index.specs.Ranges.{HasRanges, AreStartsRising}
 use Rattle.ospf_index.specs.Sweep.{IsLongest, IsSwept, blocks_of}
 use Rattle.ospf_index.specs.declared.ranges.Ranges.{Ranges}
 
@@ -13,7 +13,7 @@ same_or_less : (i j : ℕ) → i ≤ j → (i ≡ j) ⊎ (i < j)
 same_or_less i j le = grind arith
 
 -- starts that rise are no less than their places
-pub at_most_start : (starts : List ℕ) → IsRising starts → (i : ℕ) → i < length starts → i ≤ get_or starts i 0
+pub at_most_start : (starts : List ℕ) → AreStartsRising starts → (i : ℕ) → i < length starts → i ≤ get_or starts i 0
 at_most_start starts order zero lt = omega arith
 at_most_start starts order (suc i) lt = omega (arith, at_most_start starts order i (omega arith), order i (suc i) (omega arith) lt)
 

@@ -6,24 +6,24 @@ use mathlib.Core.List.{IsPrefix}
 use prog.Atomic.{either}
 use Rattle.logbook.specs.Pages.{Cell, cell, keeps, gives, adds, nib, no_nib, may_write, may_make, step, View, Moves, Goes}
 use Rattle.ospf_index.specs.Known.{Table}
-use Rattle.ospf_index.specs.declared.rule.Event.{Event}
-use Rattle.ospf_index.specs.declared.rule.Event.TheVariants.{Opened, Added, Closed}
+use Rattle.ospf_index.specs.declared.rule.ListEvent.{ListEvent}
+use Rattle.ospf_index.specs.declared.rule.ListEvent.TheVariants.{Opened, Added, Closed}
 use Rattle.ospf_index.specs.Rule.{opens, closed, legal, pen_cell, cells_of, IsCounted, AddsWhereCounted, ClosesWhereCounted, OpensAlways, ProvesWhole}
 use Rattle.ospf_index.proofs.Prefixes.{prefix_whole, prefix_trans}
 use Rattle.ospf_index.proofs.Events.{opens_append, closed_append, legal_more, append_none, pen_whole}
 
 -- clients see nothing of the list, and trade nothing
-abbrev pub shown : List Event → List Event
+abbrev pub shown : List ListEvent → List ListEvent
 shown events = []
 
-abbrev pub moved : List Event → List Event → ℕ → Type 0
+abbrev pub moved : List ListEvent → List ListEvent → ℕ → Type 0
 moved before after answer = Unit {0}
 
-length_snoc : (log : List Event) (e : Event) → length (log ++ e ∷ []) ≡ length log + 1
+length_snoc : (log : List ListEvent) (e : ListEvent) → length (log ++ e ∷ []) ≡ length log + 1
 length_snoc log e = length-append log (e ∷ [])
 
 -- the cells after one table more
-cells_added : (log : List Event) (t : Table) → (length log + 1, true) ∷ (0, true) ∷ (replicate (opens log) (0, true) ++ pen_cell (closed false log)) ≡ cells_of (log ++ Added t ∷ [])
+cells_added : (log : List ListEvent) (t : Table) → (length log + 1, true) ∷ (0, true) ∷ (replicate (opens log) (0, true) ++ pen_cell (closed false log)) ≡ cells_of (log ++ Added t ∷ [])
 cells_added log t =
     let o : opens (log ++ Added t ∷ []) ≡ opens log = omega (arith, opens_append log (Added t ∷ [])) in
     rw (length_snoc log (Added t), o, closed_append false log (Added t ∷ [])) refl
@@ -33,7 +33,7 @@ nil_cells [] = refl
 nil_cells (x ∷ xs) = ap (λ l. x ∷ l) (nil_cells xs)
 
 -- the cells after the list was closed
-cells_closed : (log : List Event) → closed false log ≡ false → (length log + 1, true) ∷ (0, true) ∷ ((replicate (opens log) (0, true) ++ pen_cell (closed false log)) ++ (0, false) ∷ []) ≡ cells_of (log ++ Closed ∷ [])
+cells_closed : (log : List ListEvent) → closed false log ≡ false → (length log + 1, true) ∷ (0, true) ∷ ((replicate (opens log) (0, true) ++ pen_cell (closed false log)) ++ (0, false) ∷ []) ≡ cells_of (log ++ Closed ∷ [])
 cells_closed log is_open =
     let o : opens (log ++ Closed ∷ []) ≡ opens log = omega (arith, opens_append log (Closed ∷ [])) in
     let c : closed false (log ++ Closed ∷ []) ≡ true = closed_append false log (Closed ∷ []) in
@@ -44,17 +44,17 @@ set_last zero = refl
 set_last (suc n) = ap (λ l. (0, true) ∷ l) (set_last n)
 
 -- the cells after the list was opened
-cells_opened : (log : List Event) → closed false log ≡ true → (length log + 1, true) ∷ (0, true) ∷ slice_set {A = Cell} (replicate (opens log) (0, true) ++ pen_cell (closed false log)) (opens log) (0, true) ≡ cells_of (log ++ Opened ∷ [])
+cells_opened : (log : List ListEvent) → closed false log ≡ true → (length log + 1, true) ∷ (0, true) ∷ slice_set {A = Cell} (replicate (opens log) (0, true) ++ pen_cell (closed false log)) (opens log) (0, true) ≡ cells_of (log ++ Opened ∷ [])
 cells_opened log shut =
     let o : opens (log ++ Opened ∷ []) ≡ suc (opens log) = omega (arith, opens_append log (Opened ∷ [])) in
     let c : closed false (log ++ Opened ∷ []) ≡ false = closed_append false log (Opened ∷ []) in
     rw (length_snoc log Opened, o, c, shut, set_last (opens log)) refl
 
 -- nothing changes
-same_counted : (log : List Event) (n : ℕ) → n ≡ length log → legal false log ≡ true → IsCounted ((n, true) ∷ (0, true) ∷ (replicate (opens log) (0, true) ++ pen_cell (closed false log))) (log ++ [])
+same_counted : (log : List ListEvent) (n : ℕ) → n ≡ length log → legal false log ≡ true → IsCounted ((n, true) ∷ (0, true) ∷ (replicate (opens log) (0, true) ++ pen_cell (closed false log))) (log ++ [])
 same_counted log n e l = record { words = rw (append_none log, e) refl; legal = rw (append_none log) l }
 
-adds_goes : (log known : List Event) (t : Table) (count : ℕ) → length known ≡ count → closed false known ≡ false → IsPrefix known log → legal false log ≡ true
+adds_goes : (log known : List ListEvent) (t : Table) (count : ℕ) → length known ≡ count → closed false known ≡ false → IsPrefix known log → legal false log ≡ true
     → (found : Bool) → (length log == count) ≡ found
     → Goes IsCounted shown moved 0 (known, (no_nib, None)) (λ n. either (n == count) (count + 1) n) (AddsWhereCounted (step 0 count (count + 1) (Added t)) (known, (no_nib, None))) (cells_of log) log
 adds_goes log known t count len is_open pre lawful true is =
@@ -85,7 +85,7 @@ adds_goes log known t count len is_open pre lawful false is =
     )
 
 -- whatever the list has become, the exchange adds the table to all that was known, or finds another count
-pub adds_moves : (known : List Event) (t : Table) (count : ℕ) → length known ≡ count → closed false known ≡ false
+pub adds_moves : (known : List ListEvent) (t : Table) (count : ℕ) → length known ≡ count → closed false known ≡ false
     → Moves IsCounted shown moved 0 (known, (no_nib, None)) (λ n. either (n == count) (count + 1) n) (AddsWhereCounted (step 0 count (count + 1) (Added t)) (known, (no_nib, None)))
 adds_moves known t count len is_open cells log kept pre away =
     let Goes_at : List Cell → Type 0 = λ c. (0 < length c) × ((cell c 0).1 ≡ true) × Goes IsCounted shown moved 0 (known, (no_nib, None)) (λ n. either (n == count) (count + 1) n) (AddsWhereCounted (step 0 count (count + 1) (Added t)) (known, (no_nib, None))) c log in
@@ -95,7 +95,7 @@ length_replicate : (n : ℕ) (c : Cell) → length (replicate n c) ≡ n
 length_replicate zero c = refl
 length_replicate (suc n) c = let e = length_replicate n c in omega (arith, e)
 
-closes_goes : (log known : List Event) (count : ℕ) → length known ≡ count → closed false known ≡ false → IsPrefix known log → legal false log ≡ true
+closes_goes : (log known : List ListEvent) (count : ℕ) → length known ≡ count → closed false known ≡ false → IsPrefix known log → legal false log ≡ true
     → (found : Bool) → (length log == count) ≡ found
     → Goes IsCounted shown moved 0 (known, (no_nib, None)) (λ n. either (n == count) (count + 1) n) (ClosesWhereCounted (step 0 count (count + 1) Closed) (known, (no_nib, None))) (cells_of log) log
 closes_goes log known count len is_open pre lawful true is =
@@ -126,17 +126,17 @@ closes_goes log known count len is_open pre lawful false is =
       rw is tt,
     )
 
-pub closes_moves : (known : List Event) (count : ℕ) → length known ≡ count → closed false known ≡ false
+pub closes_moves : (known : List ListEvent) (count : ℕ) → length known ≡ count → closed false known ≡ false
     → Moves IsCounted shown moved 0 (known, (no_nib, None)) (λ n. either (n == count) (count + 1) n) (ClosesWhereCounted (step 0 count (count + 1) Closed) (known, (no_nib, None)))
 closes_moves known count len is_open cells log kept pre away =
     let Goes_at : List Cell → Type 0 = λ c. (0 < length c) × ((cell c 0).1 ≡ true) × Goes IsCounted shown moved 0 (known, (no_nib, None)) (λ n. either (n == count) (count + 1) n) (ClosesWhereCounted (step 0 count (count + 1) Closed) (known, (no_nib, None))) c log in
     subst Goes_at (sym kept.words) (omega arith, refl, closes_goes log known count len is_open pre kept.legal (length log == count) refl)
 
 -- the exchange of the one that has the pen opens the list
-pub opens_moves : (known : List Event) (count : ℕ) → length known ≡ count → closed false known ≡ true
+pub opens_moves : (known : List ListEvent) (count : ℕ) → length known ≡ count → closed false known ≡ true
     → Moves IsCounted shown moved 0 (known, (nib may_write (suc (suc (opens known))) 0, None)) (λ n. either (n == count) (count + 1) n) (OpensAlways (step 0 count (count + 1) Opened) (known, (nib may_write (suc (suc (opens known))) 0, None)))
 opens_moves known count len shut cells log kept pre away =
-    let v : View Event ℕ = (known, (nib may_write (suc (suc (opens known))) 0, None)) in
+    let v : View ListEvent ℕ = (known, (nib may_write (suc (suc (opens known))) 0, None)) in
     let Goes_at : List Cell → Type 0 = λ c. (0 < length c) × ((cell c 0).1 ≡ true) × Goes IsCounted shown moved 0 v (λ n. either (n == count) (count + 1) n) (OpensAlways (step 0 count (count + 1) Opened) v) c log in
     let same : log ≡ known = pen_whole known cells log pre shut kept away in
     let is : (length log == count) ≡ true = rw (same, len) (grind (arith, nat_tests)) in
@@ -170,10 +170,10 @@ pub told : {P : Type 0} (found old : ℕ) → found ≡ old → MatchBool (found
 told found old e p = matched (found == old) (grind (arith, nat_tests)) p
 
 -- the list of the pen is the whole, and an exchange that changes nothing shows it
-pub proves_moves : (known both : List Event) (count : ℕ) → closed false known ≡ true → IsPrefix known both
+pub proves_moves : (known both : List ListEvent) (count : ℕ) → closed false known ≡ true → IsPrefix known both
     → Moves IsCounted shown moved 0 (both, (nib may_write (suc (suc (opens known))) 0, None)) (λ n. either (n == count) count n) (ProvesWhole (step 0 count count Closed) (both, (nib may_write (suc (suc (opens known))) 0, None)))
 proves_moves known both count shut begins cells log kept pre away =
-    let v : View Event ℕ = (both, (nib may_write (suc (suc (opens known))) 0, None)) in
+    let v : View ListEvent ℕ = (both, (nib may_write (suc (suc (opens known))) 0, None)) in
     let Goes_at : List Cell → Type 0 = λ c. (0 < length c) × ((cell c 0).1 ≡ true) × Goes IsCounted shown moved 0 v (λ n. either (n == count) count n) (ProvesWhole (step 0 count count Closed) v) c log in
     let same : log ≡ known = pen_whole known cells log (prefix_trans known both log begins pre) shut kept away in
     let n : either (length log == count) count (length log) ≡ length log = by_test (length log) count (length log == count) refl in

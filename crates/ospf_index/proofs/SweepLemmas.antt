@@ -3,8 +3,8 @@ use Rattle.std.proofs.Common.{subst, ◌≡◌, ◌+◌, ◌-◌, ◌<◌, ◌�
 use Rattle.std.specs.List.{Contains}
 use Rattle.std.proofs.lemmas.List.{get_or_append_left, get_or_push, get_or-take, get_or_default, length_push, length-take-le}
 use Rattle.std.proofs.lemmas.List.Elements.{Contains-append_left, Contains-push}
-use Rattle.ospf_index.specs.Ranges.{IsRising}
-use Rattle.ospf_index.specs.Sweep.{Blocks, IsBegun, IsLongest, IsSwept, AreNested, here, top}
+use Rattle.ospf_index.specs.Ranges.{AreStartsRising}
+use Rattle.ospf_index.specs.Sweep.{Blocks, IsRangeBegun, IsLongest, IsSwept, AreNested, here, top}
 
 same_or_less : (i j : ℕ) → i ≤ j → (i ≡ j) ⊎ (i < j)
 same_or_less i j le = grind arith
@@ -31,7 +31,7 @@ pub record IsNext (b : Blocks) (y v : ℕ) (starts places : List ℕ) : Type 0 w
   pub same_length : length places ≡ length starts
   pub some : 0 < length starts
   pub from_first : get_or starts 0 0 ≡ 0
-  pub in_order : IsRising starts
+  pub in_order : AreStartsRising starts
   pub exact : (i address : ℕ) → i + 1 < length starts → get_or starts i 0 ≤ address → address < get_or starts (i + 1) 0 → IsLongest b address (get_or places i 0)
   pub current : get_or places (length starts - 1) 0 ≡ v
   pub at_last : here starts ≡ y
@@ -123,7 +123,7 @@ module _ (b : Blocks) (nest : AreNested b) (begun : ℕ) (opened starts places :
             m.exact i a (omega arith) low (subst (λ (n : ℕ). a < n) next to)
       ])
 
-  order_more : (y : ℕ) → here starts < y → IsRising (starts ++ y ∷ [])
+  order_more : (y : ℕ) → here starts < y → AreStartsRising (starts ++ y ∷ [])
   order_more y up i j before lt =
       let long = length_push starts y in
       let first : get_or (starts ++ y ∷ []) i 0 ≡ get_or starts i 0 = get_or_append_left starts (y ∷ []) 0 i (omega (arith, long)) in
@@ -152,7 +152,7 @@ module _ (b : Blocks) (nest : AreNested b) (begun : ℕ) (opened starts places :
 
   -- a range begins
   next_ranges : (y v : ℕ) (next_starts next_places : List ℕ) → here starts ≤ y → ((a : ℕ) → here starts ≤ a → a < y → IsLongest b a (top b.count opened))
-      → IsBegun starts places y v next_starts next_places → IsNext b y v next_starts next_places
+      → IsRangeBegun starts places y v next_starts next_places → IsNext b y v next_starts next_places
   next_ranges y v next_starts next_places up closed (inl is) = rw (is.2, is.3) (renamed y v is.1)
   next_ranges y v next_starts next_places up closed (inr is) =
       let behind : here starts < y = elim (same_or_less (here starts) y up) [
@@ -164,7 +164,7 @@ module _ (b : Blocks) (nest : AreNested b) (begun : ℕ) (opened starts places :
   -- the block that was opened last ends
   pub ends_one : (limit : ℕ) (fewer next_starts next_places : List ℕ) → 0 < length opened → fewer ≡ take (length opened - 1) opened → b.end (get_or opened (length opened - 1) 0) ≤ limit
       → ((k : ℕ) → begun ≤ k → k < b.count → limit ≤ b.first k)
-      → IsBegun starts places (b.end (get_or opened (length opened - 1) 0)) (top b.count fewer) next_starts next_places → IsSwept b begun fewer next_starts next_places
+      → IsRangeBegun starts places (b.end (get_or opened (length opened - 1) 0)) (top b.count fewer) next_starts next_places → IsSwept b begun fewer next_starts next_places
   ends_one limit fewer next_starts next_places some is fits before started =
       let last = length opened - 1 in
       let y = b.end (get_or opened last 0) in
@@ -204,7 +204,7 @@ module _ (b : Blocks) (nest : AreNested b) (begun : ℕ) (opened starts places :
 
   -- the next block begins
   pub begins_one : (next_starts next_places : List ℕ) → begun < b.count → (0 < length opened → b.first begun < b.end (get_or opened (length opened - 1) 0))
-      → IsBegun starts places (b.first begun) begun next_starts next_places → IsSwept b (begun + 1) (opened ++ begun ∷ []) next_starts next_places
+      → IsRangeBegun starts places (b.first begun) begun next_starts next_places → IsSwept b (begun + 1) (opened ++ begun ∷ []) next_starts next_places
   begins_one next_starts next_places small inside started =
       let y = b.first begun in
       let up : here starts ≤ y = m.ahead begun (omega arith) small in

@@ -4,11 +4,11 @@ use Rattle.ospf_graph.specs.declared.route.Route.{Route}
 use Rattle.ospf_index.specs.Ranges.{IsPlaceFor}
 use Rattle.ospf_index.specs.Sets.{AreSets, hops_of}
 use Rattle.ospf_index.specs.declared.entries.Entry.{Entry}
-use Rattle.ospf_index.specs.declared.entries.Found.{Found}
+use Rattle.ospf_index.specs.declared.entries.FoundRoute.{FoundRoute}
 use Rattle.ospf_index.specs.declared.sets.HopSets.{HopSets}
 
 -- the route that was found
-abbrev pub route_of : Found → Route
+abbrev pub route_of : FoundRoute → Route
 route_of found = record { prefix = found.prefix; cost = found.cost; hops = found.hops.now }
 
 -- what the route says, whose set of hops has this number

@@ -16,8 +16,8 @@ IsPlaceFor routes address place =
     × (length routes ≤ place → (k : ℕ) (d : Route) → k < length routes → Holds (get_or routes k d).prefix address → ⊥)
 
 -- each range begins behind the one before it
-abbrev pub IsRising : List ℕ → Type 0
-IsRising starts = (i j : ℕ) → i < j → j < length starts → get_or starts i 0 < get_or starts j 0
+abbrev pub AreStartsRising : List ℕ → Type 0
+AreStartsRising starts = (i j : ℕ) → i < j → j < length starts → get_or starts i 0 < get_or starts j 0
 
 -- the address lies in this range
 abbrev pub IsInRange : List ℕ → ℕ → ℕ → Type 0
@@ -28,7 +28,7 @@ pub record HasRanges (routes : List Route) (starts places : List ℕ) : Type 0 w
   pub same_length : length places ≡ length starts
   pub some : 0 < length starts
   pub from_first : get_or starts 0 0 ≡ 0
-  pub in_order : IsRising starts
+  pub in_order : AreStartsRising starts
   pub exact : (i address : ℕ) → i < length starts → address < 2 ^ 32 → IsInRange starts i address → IsPlaceFor routes address (get_or places i 0)
 
 -- the first addresses of the blocks of a directory, by the first 16 bits, and the one behind the last block

@@ -2,7 +2,7 @@
 use Rattle.std.specs.Prelude.{◌≡◌, ◌≤◌, ◌<◌, ◌+◌, ℕ, List, [], All, drop, get_or, length, map, take, vec_capacity, vec_len}
 use Rattle.ospf_graph.specs.declared.hop.NextHop.{NextHop}
 use Rattle.ospf_graph.specs.declared.route.Route.{Route}
-use Rattle.ospf_index.specs.declared.numbering.Numbering.{Numbering}
+use Rattle.ospf_index.specs.declared.numbering.SetNumbers.{SetNumbers}
 use Rattle.ospf_index.specs.declared.sets.HopSets.{HopSets}
 
 -- each set stands in the list of all hops
@@ -27,7 +27,7 @@ pub record AreNumbersOf (routes : List Route) (sets : HopSets) (numbers : List �
   pub exact : (k : ℕ) (d : Route) → k < length routes → hops_of sets (get_or numbers k 0) ≡ (get_or routes k d).hops
 
 -- each chain leads from its last set to those of lower numbers
-pub record AreChained (n : Numbering) : Type 0 where
+pub record AreChained (n : SetNumbers) : Type 0 where
   pub stand : AreSets n.sets
   pub as_many : length n.links.items ≡ length n.sets.sets.items
   pub some : 0 < length n.chains.items
@@ -35,7 +35,7 @@ pub record AreChained (n : Numbering) : Type 0 where
   pub links : (k : ℕ) → k < length n.links.items → get_or n.links.items k 0 ≤ k
 
 -- there is the set of no hop alone, and room for those of so many routes, which have so many hops in all
-pub record IsBegunFor (routes hops : ℕ) (n : Numbering) : Type 0 where
+pub record IsBegunFor (routes hops : ℕ) (n : SetNumbers) : Type 0 where
   pub chained : AreChained n
   pub none : hops_of n.sets 0 ≡ []
   pub one : vec_len n.sets.sets ≡ 1
@@ -45,7 +45,7 @@ pub record IsBegunFor (routes hops : ℕ) (n : Numbering) : Type 0 where
   pub room_links : routes + 1 ≤ vec_capacity n.links
 
 -- there is a set more at most, of at most so many hops, and those before are the same
-pub record IsGrown (hops : ℕ) (old new : Numbering) : Type 0 where
+pub record IsGrown (hops : ℕ) (old new : SetNumbers) : Type 0 where
   pub more : vec_len old.sets.sets ≤ vec_len new.sets.sets
   pub one_more : vec_len new.sets.sets ≤ vec_len old.sets.sets + 1
   pub hops_more : vec_len new.sets.hops ≤ vec_len old.sets.hops + hops

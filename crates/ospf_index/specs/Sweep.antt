@@ -1,7 +1,7 @@
 -- The sweep over the routes of a table, from the first address to the last.
 use Rattle.std.specs.Prelude.{◌≡◌, ◌+◌, ◌-◌, ◌<◌, ◌≤◌, ◌⊎◌, ◌++◌, ◌∷◌, [], ℕ, List, Contains, get_or, map, length, take}
 use Rattle.ospf_graph.specs.declared.route.Route.{Route}
-use Rattle.ospf_index.specs.Ranges.{IsRising, end_of}
+use Rattle.ospf_index.specs.Ranges.{AreStartsRising, end_of}
 
 -- blocks of addresses by number: how many, where each begins and ends, and how long its prefix is
 pub record Blocks : Type 0 where
@@ -20,14 +20,14 @@ blocks_of routes = record {
 }
 
 -- the block has the address
-abbrev pub Has : Blocks → ℕ → ℕ → Type 0
-Has b k address = (b.first k ≤ address) × (address < b.end k)
+abbrev pub BlockHas : Blocks → ℕ → ℕ → Type 0
+BlockHas b k address = (b.first k ≤ address) × (address < b.end k)
 
 -- the number is that of the longest block that has the address, or of no block where none has it
 abbrev pub IsLongest : Blocks → ℕ → ℕ → Type 0
 IsLongest b address t =
-    (t < b.count → Has b t address × ((k : ℕ) → k < b.count → Has b k address → b.long k ≤ b.long t))
-    × (b.count ≤ t → (k : ℕ) → k < b.count → Has b k address → ⊥)
+    (t < b.count → BlockHas b t address × ((k : ℕ) → k < b.count → BlockHas b k address → b.long k ≤ b.long t))
+    × (b.count ≤ t → (k : ℕ) → k < b.count → BlockHas b k address → ⊥)
 
 -- the last start, which is where the sweep stands
 abbrev pub here : List ℕ → ℕ
@@ -43,14 +43,14 @@ IsRenamed starts places start place next_starts next_places =
     (0 < length starts) × (here starts ≡ start) × (next_starts ≡ starts) × (next_places ≡ take (length places - 1) places ++ place ∷ [])
 
 -- a range begins behind the last one
-abbrev pub IsAdded : List ℕ → List ℕ → ℕ → ℕ → List ℕ → List ℕ → Type 0
-IsAdded starts places start place next_starts next_places =
+abbrev pub IsRangeAdded : List ℕ → List ℕ → ℕ → ℕ → List ℕ → List ℕ → Type 0
+IsRangeAdded starts places start place next_starts next_places =
     (0 < length starts → here starts ≡ start → ⊥) × (next_starts ≡ starts ++ start ∷ []) × (next_places ≡ places ++ place ∷ [])
 
 -- a range begins, and the last one is left out where it has no address
-abbrev pub IsBegun : List ℕ → List ℕ → ℕ → ℕ → List ℕ → List ℕ → Type 0
-IsBegun starts places start place next_starts next_places =
-    IsRenamed starts places start place next_starts next_places ⊎ IsAdded starts places start place next_starts next_places
+abbrev pub IsRangeBegun : List ℕ → List ℕ → ℕ → ℕ → List ℕ → List ℕ → Type 0
+IsRangeBegun starts places start place next_starts next_places =
+    IsRenamed starts places start place next_starts next_places ⊎ IsRangeAdded starts places start place next_starts next_places
 
 -- so many blocks were begun. Those that are open lie in one another, all others have ended, and each range but the last has its answer
 pub record IsSwept (b : Blocks) (begun : ℕ) (opened starts places : List ℕ) : Type 0 where
@@ -58,7 +58,7 @@ pub record IsSwept (b : Blocks) (begun : ℕ) (opened starts places : List ℕ) 
   pub same_length : length places ≡ length starts
   pub some : 0 < length starts
   pub from_first : get_or starts 0 0 ≡ 0
-  pub in_order : IsRising starts
+  pub in_order : AreStartsRising starts
   pub exact : (i address : ℕ) → i + 1 < length starts → get_or starts i 0 ≤ address → address < get_or starts (i + 1) 0 → IsLongest b address (get_or places i 0)
   pub current : get_or places (length starts - 1) 0 ≡ top b.count opened
   pub open_here : (s : ℕ) → s < length opened → (get_or opened s 0 < begun) × (b.first (get_or opened s 0) ≤ here starts) × (here starts ≤ b.end (get_or opened s 0))

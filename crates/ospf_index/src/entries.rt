@@ -18,7 +18,7 @@ pub(crate) struct Entry {
 
 /// The route that a lookup finds, with its hops where the table has them.
 #[derive(Clone, Copy, Debug)]
-pub struct Found<'a> {
+pub struct FoundRoute<'a> {
     pub prefix: Prefix,
     pub cost: u64,
     /// Each once, in their order.

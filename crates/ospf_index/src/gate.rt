@@ -6,7 +6,7 @@ ghost use Rattle.ospf_index.specs.Known.{opening};
 ghost use Rattle.ospf_index.specs.Rule.{counter_of};
 
 use crate::known::Published;
-use crate::rule::{AddsTable, Closes, Counter, CountsEvents, Event, NoGain, Opens, Proves};
+use crate::rule::{AddsTable, Closes, Counter, CountsEvents, ListEvent, NoGain, Opens, Proves};
 use logbook::{Offer, Pen, Seen, Start, Word};
 use ospf_spf::RouteTable;
 use std::marker::Model;
@@ -19,7 +19,7 @@ const LAST_OPENING: u64 = u64::MAX - 3;
 pub struct Opened {
     count: u64,
     events: u64,
-    seen: Seen<Event, u64, CountsEvents>,
+    seen: Seen<ListEvent, u64, CountsEvents>,
 }
 
 impl Model for Opened {
@@ -111,7 +111,7 @@ impl Opened {
 impl Opened {
     /// Closes the list in one step: nobody else adds a table from here on. `None` where something was added
     /// meanwhile, or 2^64 - 1 steps were made.
-    pub fn close(&self, counter: &Counter) -> Option<Sole>
+    pub fn close(&self, counter: &Counter) -> Option<ClosedList>
         requires { counter.now ≡ counter_of self.now.fib }
         ensures { IfSome result (λ sole. sole ≡ self.now) }
     {
@@ -129,7 +129,7 @@ impl Opened {
             return None;
         }
         let _word: Counter = Word::tracked(0, &mut pen);
-        Some(Sole {
+        Some(ClosedList {
             count: self.count,
             events: next,
             seen,
@@ -140,14 +140,14 @@ impl Opened {
 
 /// The whole list, while it is closed: there is one of it, and nobody else adds a table.
 #[derive(Drop)]
-pub struct Sole {
+pub struct ClosedList {
     count: u64,
     events: u64,
-    seen: Seen<Event, u64, CountsEvents>,
+    seen: Seen<ListEvent, u64, CountsEvents>,
     pen: Pen,
 }
 
-impl Model for Sole {
+impl Model for ClosedList {
     ghost use Rattle.std.specs.Prelude.{◌≡◌, length, true, false, suc};
     ghost use Rattle.logbook.specs.Pages.{nib, may_write};
     ghost use Rattle.ospf_index.specs.Known.{Known};
@@ -161,10 +161,10 @@ impl Model for Sole {
         × (p.pen.book ≡ p.seen.book) × (p.pen.nib ≡ (nib may_write (suc (suc (opens p.seen.log))) 0)) };
 }
 
-impl Sole {
+impl ClosedList {
     /// Opens the list. The list is whole, so nobody was faster. It comes back where there is no room for three
     /// steps more among the 2^64 that the list counts.
-    pub fn open(self, counter: &Counter) -> Result<Opened, Sole>
+    pub fn open(self, counter: &Counter) -> Result<Opened, ClosedList>
         requires { counter.now ≡ counter_of self.fib }
         ensures opened { IfOk result (λ opened. opened ≡ self) }
         ensures full { IfErr result (λ sole. sole ≡ self) }
@@ -172,7 +172,7 @@ impl Sole {
         if self.events > LAST_OPENING {
             return Err(self);
         }
-        let Sole {
+        let ClosedList {
             count,
             events,
             mut seen,
@@ -219,4 +219,4 @@ impl Sole {
     }
 }
 
-type Asked = Offer<Event, u64, CountsEvents, NoGain>;
+type Asked = Offer<ListEvent, u64, CountsEvents, NoGain>;

@@ -4,11 +4,11 @@ ghost use Rattle.std.specs.Prelude.{◌≡◌, ◌≤◌, ◌<◌, ◌+◌, ◌*
 ghost use Rattle.ospf_graph.specs.Routes.{IsRouteBefore};
 ghost use Rattle.ospf_index.specs.Entries.{IsEntryFor};
 ghost use Rattle.ospf_index.specs.Indexes.{IsIndexOf};
-ghost use Rattle.ospf_index.specs.Ranges.{IsDirectory, IsInRange, IsRising, block_start};
+ghost use Rattle.ospf_index.specs.Ranges.{IsDirectory, IsInRange, AreStartsRising, block_start};
 ghost use Rattle.ospf_index.specs.Room.{HasIndexRoom, hops_in};
 
 use crate::entries::{Entry, entries_of};
-use crate::numbering::{Numbering, numbers_of};
+use crate::numbering::{SetNumbers, numbers_of};
 use crate::ranges::Ranges;
 use crate::sets::HopSets;
 use crate::sweep::{Sweep, most_ranges, ranges_of};
@@ -89,7 +89,7 @@ impl Index {
 #[derive(Drop)]
 pub(crate) struct IndexRoom {
     pub sweep: Sweep,
-    pub numbering: Numbering,
+    pub numbering: SetNumbers,
     pub numbers: Vec<usize>,
     pub entries: Vec<Entry>,
     pub directory: Vec<u32>,
@@ -106,7 +106,7 @@ impl IndexRoom {
         ensures { IfOk result (HasIndexRoom count hops) }
     {
         let sweep = Sweep::with_room(alloc, count)?;
-        let numbering = Numbering::with_room(alloc, count, hops)?;
+        let numbering = SetNumbers::with_room(alloc, count, hops)?;
         let numbers = Vec::with_capacity(alloc, count)?;
         let entries = Vec::with_capacity(alloc, most_ranges(count).ok_or(AllocError)?)?;
         let directory = Vec::with_capacity(alloc, BLOCKS + 1)?;
@@ -123,7 +123,7 @@ impl IndexRoom {
 // The directory of ranges.
 fn directory_of(starts: &[u32], room: Vec<u32>) -> Vec<u32>
     requires first { (0 < length starts.now) × (get_or starts.now 0 0 ≡ 0) }
-    requires in_order { IsRising starts.now }
+    requires in_order { AreStartsRising starts.now }
     requires room { (room.items ≡ []) × (65537 ≤ vec_capacity room) }
     ensures { IsDirectory starts.now result.items }
 {
@@ -175,7 +175,7 @@ fn name_before(directory: &mut Vec<u32>, past: usize, range: u32)
 // evenly over a block, so it is first looked for where it would stand then.
 fn range_near(starts: &[u32], from: usize, last: usize, address: u32) -> usize
     // The ranges stand in order, and the address lies within these.
-    requires in_order { IsRising starts.now }
+    requires in_order { AreStartsRising starts.now }
     requires within { (from ≤ last) × (last < length starts.now) × (last < 2 ^ 32) }
     requires low { get_or starts.now from 0 ≤ address }
     requires high { last + 1 < length starts.now → address < get_or starts.now (last + 1) 0 }
@@ -205,7 +205,7 @@ fn guess_between(from: usize, last: usize, address: u32) -> usize
 // The range that has an address, which lies from one range on and before another.
 fn range_between(starts: &[u32], from: usize, to: usize, address: u32) -> usize
     // The ranges stand in order, and the address lies within these.
-    requires in_order { IsRising starts.now }
+    requires in_order { AreStartsRising starts.now }
     requires within { (from < to) × (to ≤ length starts.now) }
     requires low { get_or starts.now from 0 ≤ address }
     requires high { to < length starts.now → address < get_or starts.now to 0 }

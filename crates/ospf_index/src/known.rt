@@ -4,7 +4,7 @@ ghost use Rattle.std.specs.Prelude.{◌≡◌, ◌⊎◌, ◌↔◌, IsTrue, len
 ghost use Rattle.std.specs.Bool.{OnFalse};
 ghost use mathlib.Core.List.{IsPrefix};
 
-use crate::rule::{CountsEvents, Event};
+use crate::rule::{CountsEvents, ListEvent};
 use logbook::Seen;
 use std::marker::Model;
 
@@ -13,7 +13,7 @@ use std::marker::Model;
 #[derive(Drop)]
 pub struct Published {
     pub(crate) count: u64,
-    pub(crate) seen: Seen<Event, u64, CountsEvents>,
+    pub(crate) seen: Seen<ListEvent, u64, CountsEvents>,
 }
 
 impl Model for Published {

@@ -15,8 +15,8 @@ mod sets;
 mod sweep;
 mod table;
 
-pub use crate::entries::Found;
-pub use crate::gate::{Opened, Sole};
+pub use crate::entries::FoundRoute;
+pub use crate::gate::{ClosedList, Opened};
 pub use crate::known::Published;
-pub use crate::rule::{AddsTable, Closes, Counter, CountsEvents, Event, NoGain, Opens, Proves};
+pub use crate::rule::{AddsTable, Closes, Counter, CountsEvents, ListEvent, NoGain, Opens, Proves};
 pub use crate::table::IndexedTable;

@@ -12,7 +12,7 @@ const MIXER: u32 = 0x9e37_79b1;
 
 /// The sets that were found so far, and what finds them again: chains of those whose hops mix to the same.
 #[derive(Drop)]
-pub(crate) struct Numbering {
+pub(crate) struct SetNumbers {
     pub sets: HopSets,
     // One more than the number of the last set of each chain; 0 where it has none.
     pub chains: Vec<usize>,
@@ -20,14 +20,14 @@ pub(crate) struct Numbering {
     pub links: Vec<usize>,
 }
 
-impl Numbering {
+impl SetNumbers {
     ghost use Rattle.std.specs.Prelude.{◌≡◌, ◌≤◌, ◌<◌, ◌+◌, IfOk, IfSome, length, vec_len, vec_capacity};
     ghost use Rattle.ospf_index.specs.Sets.{AreChained, IsBegunFor, IsGrown, hops_of};
 
     /// All the memory for the sets of so many routes, which have so many hops in all.
     ///
     /// `AllocError` where memory runs out.
-    pub fn with_room(alloc: Global, routes: usize, hops: usize) -> Result<Numbering, AllocError>
+    pub fn with_room(alloc: Global, routes: usize, hops: usize) -> Result<SetNumbers, AllocError>
         ensures { IfOk result (IsBegunFor routes hops) }
     {
         let most = routes.checked_add(1).ok_or(AllocError)?;
@@ -37,7 +37,7 @@ impl Numbering {
         let chains = vec![in alloc; 0; most]?;
         sets.push(HopSet { first: 0, count: 0 })?;
         links.push(0)?;
-        Ok(Numbering {
+        Ok(SetNumbers {
             sets: HopSets { hops, sets },
             chains,
             links,
@@ -98,7 +98,7 @@ impl Numbering {
 
 /// The sets of the routes' hops, and the number of that of each route. There is room for them.
 pub(crate) fn numbers_of(
-    numbering: Numbering,
+    numbering: SetNumbers,
     room: Vec<usize>,
     routes: &[Route],
 ) -> (HopSets, Vec<usize>)
@@ -117,7 +117,7 @@ pub(crate) fn numbers_of(
             Err(_) => unreachable!(),
         }
     }
-    let Numbering {
+    let SetNumbers {
         sets,
         chains: _,
         links: _,

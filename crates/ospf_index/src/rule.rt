@@ -4,7 +4,7 @@ use logbook::{Gain, Plain, Play, Rule, Word};
 use ospf_spf::RouteTable;
 
 /// What happened to the list: it was opened for one table, a table was added, or it was closed.
-pub enum Event {
+pub enum ListEvent {
     Opened,
     Added(RouteTable),
     Closed,
@@ -13,7 +13,7 @@ pub enum Event {
 /// The word is the number of events. While the list is closed, one pen is out.
 pub struct CountsEvents;
 
-impl Rule<Event, u64> for CountsEvents {
+impl Rule<ListEvent, u64> for CountsEvents {
     ghost use Rattle.std.specs.Prelude.{[]};
     ghost use base.Fml.{ftrue};
     ghost use Rattle.ospf_index.specs.Rule.{IsCounted, first_log};
@@ -34,7 +34,7 @@ impl Rule<Event, u64> for CountsEvents {
 /// Whoever makes a step has nothing else of it.
 pub struct NoGain;
 
-impl Gain<Event, u64> for NoGain {
+impl Gain<ListEvent, u64> for NoGain {
     ghost use base.Fml.{ftrue};
 
     ghost after = { λ names about answer. ftrue };
@@ -43,15 +43,15 @@ impl Gain<Event, u64> for NoGain {
 /// The step that adds a table.
 pub struct AddsTable;
 
-impl Play<Event, u64> for AddsTable {
+impl Play<ListEvent, u64> for AddsTable {
     ghost use Rattle.ospf_index.specs.Rule.{AddsWhereCounted};
 
     ghost then = { AddsWhereCounted };
 }
 
-impl Plain<RouteTable, Event, u64> for AddsTable {
+impl Plain<RouteTable, ListEvent, u64> for AddsTable {
     ghost use Rattle.std.specs.Prelude.{None};
-    ghost use Rattle.ospf_index.specs.declared.rule.Event.TheVariants.{Added};
+    ghost use Rattle.ospf_index.specs.declared.rule.ListEvent.TheVariants.{Added};
 
     ghost ask = { λ x. Added x };
 
@@ -61,15 +61,15 @@ impl Plain<RouteTable, Event, u64> for AddsTable {
 /// The step that closes the list.
 pub struct Closes;
 
-impl Play<Event, u64> for Closes {
+impl Play<ListEvent, u64> for Closes {
     ghost use Rattle.ospf_index.specs.Rule.{ClosesWhereCounted};
 
     ghost then = { ClosesWhereCounted };
 }
 
-impl Plain<u64, Event, u64> for Closes {
+impl Plain<u64, ListEvent, u64> for Closes {
     ghost use Rattle.std.specs.Prelude.{None};
-    ghost use Rattle.ospf_index.specs.declared.rule.Event.TheVariants.{Closed};
+    ghost use Rattle.ospf_index.specs.declared.rule.ListEvent.TheVariants.{Closed};
 
     ghost ask = { λ x. Closed };
 
@@ -79,15 +79,15 @@ impl Plain<u64, Event, u64> for Closes {
 /// The step that opens the list.
 pub struct Opens;
 
-impl Play<Event, u64> for Opens {
+impl Play<ListEvent, u64> for Opens {
     ghost use Rattle.ospf_index.specs.Rule.{OpensAlways};
 
     ghost then = { OpensAlways };
 }
 
-impl Plain<u64, Event, u64> for Opens {
+impl Plain<u64, ListEvent, u64> for Opens {
     ghost use Rattle.std.specs.Prelude.{None};
-    ghost use Rattle.ospf_index.specs.declared.rule.Event.TheVariants.{Opened};
+    ghost use Rattle.ospf_index.specs.declared.rule.ListEvent.TheVariants.{Opened};
 
     ghost ask = { λ x. Opened };
 
@@ -97,15 +97,15 @@ impl Plain<u64, Event, u64> for Opens {
 /// The step that changes nothing, and shows that the pen's list is the whole.
 pub struct Proves;
 
-impl Play<Event, u64> for Proves {
+impl Play<ListEvent, u64> for Proves {
     ghost use Rattle.ospf_index.specs.Rule.{ProvesWhole};
 
     ghost then = { ProvesWhole };
 }
 
-impl Plain<u64, Event, u64> for Proves {
+impl Plain<u64, ListEvent, u64> for Proves {
     ghost use Rattle.std.specs.Prelude.{None};
-    ghost use Rattle.ospf_index.specs.declared.rule.Event.TheVariants.{Closed};
+    ghost use Rattle.ospf_index.specs.declared.rule.ListEvent.TheVariants.{Closed};
 
     ghost ask = { λ x. Closed };
 
@@ -113,4 +113,4 @@ impl Plain<u64, Event, u64> for Proves {
 }
 
 /// The word that threads share: how many events there were.
-pub type Counter = Word<Event, u64, CountsEvents>;
+pub type Counter = Word<ListEvent, u64, CountsEvents>;

@@ -4,7 +4,7 @@ ghost use Rattle.std.specs.Prelude.{◌≡◌, ◌≤◌, ◌<◌, ◌+◌, ◌-
 ghost use Rattle.ospf_graph.specs.Routes.{IsRouteBefore};
 ghost use Rattle.ospf_index.specs.Ranges.{HasRanges, end_of};
 ghost use Rattle.ospf_index.specs.Room.{HasRoom, IsRoomFor, IsSweptTo};
-ghost use Rattle.ospf_index.specs.Sweep.{IsBegun, blocks_of, top};
+ghost use Rattle.ospf_index.specs.Sweep.{IsRangeBegun, blocks_of, top};
 
 use crate::ranges::Ranges;
 use ospf_base::Prefix;
@@ -22,7 +22,7 @@ impl Sweep {
     ghost use Rattle.std.specs.Prelude.{◌≡◌, ◌≤◌, ◌<◌, ◌+◌, ◌-◌, ◌++◌, ◌∷◌, ℕ, AllPairs, IfOk, MatchOption, get_or, length, vec_len, vec_capacity};
     ghost use Rattle.ospf_graph.specs.Routes.{IsRouteBefore};
     ghost use Rattle.ospf_index.specs.Room.{HasRoom, IsRoomFor, IsSweptTo};
-    ghost use Rattle.ospf_index.specs.Sweep.{IsBegun, blocks_of, top};
+    ghost use Rattle.ospf_index.specs.Sweep.{IsRangeBegun, blocks_of, top};
 
     /// All the memory for a sweep over so many routes.
     ///
@@ -46,7 +46,7 @@ impl Sweep {
         requires starts { vec_len self.old.ranges.starts < vec_capacity self.old.ranges.starts }
         requires places { vec_len self.old.ranges.places < vec_capacity self.old.ranges.places }
         // It comes behind the last one, or in its place, and no route opens or ends by it.
-        ensures begun { IsBegun self.old.ranges.starts.items self.old.ranges.places.items start
+        ensures begun { IsRangeBegun self.old.ranges.starts.items self.old.ranges.places.items start
             place self.new.ranges.starts.items self.new.ranges.places.items }
         ensures opened { self.new.opened ≡ self.old.opened }
         // No room is lost, and the lists are longer by one at most.
@@ -82,9 +82,12 @@ impl Sweep {
     fn ended(&self, routes: &[Route], begun: usize, limit: u32) -> Option<u32>
         requires { IsSweptTo routes.now begun self.now }
         ensures { MatchOption result
-            (0 < length self.now.opened.items → limit < (blocks_of routes.now).end (get_or self.now.opened.items (length self.now.opened.items - 1) 0))
+            (0 < length self.now.opened.items → limit
+            < (blocks_of routes.now).end (get_or self.now.opened.items (length self.now.opened.items
+            - 1) 0))
             (λ end. (0 < length self.now.opened.items) × (end ≤ limit)
-            × (end ≡ (blocks_of routes.now).end (get_or self.now.opened.items (length self.now.opened.items - 1) 0))) }
+            × (end ≡ (blocks_of routes.now).end (get_or self.now.opened.items
+            (length self.now.opened.items - 1) 0))) }
     {
         let count = self.opened.len();
         if count == 0 {

@@ -9,7 +9,7 @@ ghost use Rattle.ospf_index.specs.Entries.{route_of};
 ghost use Rattle.ospf_spf.specs.Changes.{edited, IsChangeBefore, PutsHops};
 
 use crate::counts::most_hops;
-use crate::entries::Found;
+use crate::entries::FoundRoute;
 use crate::index::{Index, IndexRoom};
 use ospf_base::Addr;
 use ospf_graph::Route;
@@ -97,7 +97,7 @@ impl IndexedTable {
 
     /// The route of longest prefix that holds an address (RFC 2328, section 11.1); `None` where no route's
     /// prefix does.
-    pub fn lookup(&self, address: Addr) -> Option<Found<'_>>
+    pub fn lookup(&self, address: Addr) -> Option<FoundRoute<'_>>
         ensures found { IfSome result (λ r. IsBest self.now address.0 (route_of r)) }
         ensures hop { IfSome result (λ r. 0 < length r.hops.now) }
         ensures none { IfNone result ((r : Route) → Contains self.now r → Holds r.prefix address.0 →
@@ -108,7 +108,7 @@ impl IndexedTable {
         if hops.is_empty() {
             return None;
         }
-        Some(Found {
+        Some(FoundRoute {
             prefix: entry.prefix,
             cost: entry.cost,
             hops,

@@ -10,22 +10,22 @@ use Rattle.ospf_files.specs.declared.status.Status.TheVariants as status
 use Rattle.ospf_files.specs.declared.streams.FailedStreams.{FailedStreams}
 use Rattle.ospf_table.proofs.Lines.{map_some}
 use Rattle.ospf_table.specs.Line.{Reads}
-use Rattle.ospf_inspect.specs.Answer.{EndsBy, IsAnswerBegun, IsAnswerOf, IsAnswered, IsCutShort, IsEnding, IsRefusal, IsRefusalBegun, IsRefusalTold, IsSaid, IsWarningBegun, Says, Warns, in_answer, in_refusal, in_warning, is_answered, is_refused}
-use Rattle.ospf_inspect.specs.declared.answer.Answer.{Answer}
+use Rattle.ospf_inspect.specs.Answer.{InspectEndsBy, IsInspectAnswerBegun, IsInspectAnswerOf, IsInspectAnswered, IsInspectCutShort, IsInspectEnding, IsInspectRefusal, IsInspectRefusalBegun, IsInspectRefusalTold, IsInspectSaid, IsInspectWarningBegun, Says, Warns, in_answer, in_refusal, in_warning, is_answered, is_refused}
+use Rattle.ospf_inspect.specs.declared.answer.InspectAnswer.{InspectAnswer}
 use Rattle.ospf_inspect.specs.declared.answer.InspectJob.{InspectJob}
 
 -- ---- an answer
 
-pub answer_made : (input : Option (List ℕ)) (job : InspectJob) (answer : Answer) (listing : List (List ℕ)) → IfSome input (λ bytes. Reads bytes [] listing)
-    → Warns job listing (string_bytes answer.warning) → Says job listing (string_bytes answer.text) → IfSome input (IsAnswerOf job answer)
+pub answer_made : (input : Option (List ℕ)) (job : InspectJob) (answer : InspectAnswer) (listing : List (List ℕ)) → IfSome input (λ bytes. Reads bytes [] listing)
+    → Warns job listing (string_bytes answer.warning) → Says job listing (string_bytes answer.text) → IfSome input (IsInspectAnswerOf job answer)
 answer_made input job answer listing reads warns says =
-    map_some input (λ bytes. Reads bytes [] listing) (IsAnswerOf job answer) (λ bytes read. record { listing = listing; reads = read; warns = warns; says = says }) reads
+    map_some input (λ bytes. Reads bytes [] listing) (IsInspectAnswerOf job answer) (λ bytes read. record { listing = listing; reads = read; warns = warns; says = says }) reads
 
-module _ (input : Option (List ℕ)) (job : InspectJob) (answer : Answer) (is : IfSome input (IsAnswerOf job answer)) where
+module _ (input : Option (List ℕ)) (job : InspectJob) (answer : InspectAnswer) (is : IfSome input (IsInspectAnswerOf job answer)) where
   pub answer_said : (a b x y : Option (List ℕ)) (warning text : List ℕ) → warning ≡ string_bytes answer.warning → text ≡ string_bytes answer.text
-      → Appends x y warning → Appends a b text → IsSaid input job a b x y status.Done
+      → Appends x y warning → Appends a b text → IsInspectSaid input job a b x y status.Done
   answer_said a b x y warning text warning_is text_is err out =
-      is_answered (map_some input (IsAnswerOf job answer) (IsAnswered job a b x y) (λ bytes of_it. record {
+      is_answered (map_some input (IsInspectAnswerOf job answer) (IsInspectAnswered job a b x y) (λ bytes of_it. record {
         text = string_bytes answer.text;
         warning = string_bytes answer.warning;
         is = of_it;
@@ -34,9 +34,9 @@ module _ (input : Option (List ℕ)) (job : InspectJob) (answer : Answer) (is : 
       }) is)
 
   pub warning_cut : (f : Failure) (before failed : FailedStreams) (a x y : Option (List ℕ)) (warning : List ℕ) → (f ≡ failure.Memory) ⊎ (f ≡ failure.Error)
-      → failed ≡ with_error before → warning ≡ string_bytes answer.warning → IsBegun x y warning → EndsBy input job failed a a x y f
+      → failed ≡ with_error before → warning ≡ string_bytes answer.warning → IsBegun x y warning → InspectEndsBy input job failed a a x y f
   warning_cut f before failed a x y warning why failed_is warning_is begun =
-      in_warning why (ap (λ (s : FailedStreams). s.error) failed_is) refl (map_some input (IsAnswerOf job answer) (IsWarningBegun job x y) (λ bytes of_it. record {
+      in_warning why (ap (λ (s : FailedStreams). s.error) failed_is) refl (map_some input (IsInspectAnswerOf job answer) (IsInspectWarningBegun job x y) (λ bytes of_it. record {
         text = string_bytes answer.text;
         warning = string_bytes answer.warning;
         is = of_it;
@@ -45,9 +45,9 @@ module _ (input : Option (List ℕ)) (job : InspectJob) (answer : Answer) (is : 
 
   pub answer_cut : (f : Failure) (before failed : FailedStreams) (a b x y : Option (List ℕ)) (warning text : List ℕ) → (f ≡ failure.Memory) ⊎ (f ≡ failure.Output)
       → failed ≡ with_output before → warning ≡ string_bytes answer.warning → text ≡ string_bytes answer.text → Appends x y warning → IsBegun a b text
-      → EndsBy input job failed a b x y f
+      → InspectEndsBy input job failed a b x y f
   answer_cut f before failed a b x y warning text why failed_is warning_is text_is err begun =
-      in_answer why (ap (λ (s : FailedStreams). s.output) failed_is) (map_some input (IsAnswerOf job answer) (IsAnswerBegun job a b x y) (λ bytes of_it. record {
+      in_answer why (ap (λ (s : FailedStreams). s.output) failed_is) (map_some input (IsInspectAnswerOf job answer) (IsInspectAnswerBegun job a b x y) (λ bytes of_it. record {
         text = string_bytes answer.text;
         warning = string_bytes answer.warning;
         is = of_it;
@@ -57,22 +57,22 @@ module _ (input : Option (List ℕ)) (job : InspectJob) (answer : Answer) (is : 
 
 -- ---- a refusal
 
-pub refusal_said : (input : Option (List ℕ)) (job : InspectJob) (a x y : Option (List ℕ)) (text : List ℕ) → IfSome input (IsRefusal text)
-    → Appends x y text → IsSaid input job a a x y status.Refused
+pub refusal_said : (input : Option (List ℕ)) (job : InspectJob) (a x y : Option (List ℕ)) (text : List ℕ) → IfSome input (IsInspectRefusal text)
+    → Appends x y text → IsInspectSaid input job a a x y status.Refused
 refusal_said input job a x y text is told =
-    is_refused refl (map_some input (IsRefusal text) (IsRefusalTold x y) (λ bytes refusal. record { text = text; is = refusal; told = told }) is)
+    is_refused refl (map_some input (IsInspectRefusal text) (IsInspectRefusalTold x y) (λ bytes refusal. record { text = text; is = refusal; told = told }) is)
 
 pub refusal_cut : (input : Option (List ℕ)) (job : InspectJob) (f : Failure) (before failed : FailedStreams) (a x y : Option (List ℕ)) (text : List ℕ)
-    → IfSome input (IsRefusal text) → (f ≡ failure.Memory) ⊎ (f ≡ failure.Error) → failed ≡ with_error before → IsBegun x y text
-    → EndsBy input job failed a a x y f
+    → IfSome input (IsInspectRefusal text) → (f ≡ failure.Memory) ⊎ (f ≡ failure.Error) → failed ≡ with_error before → IsBegun x y text
+    → InspectEndsBy input job failed a a x y f
 refusal_cut input job f before failed a x y text is why failed_is begun =
     in_refusal why (ap (λ (s : FailedStreams). s.error) failed_is) refl
-    (map_some input (IsRefusal text) (IsRefusalBegun x y) (λ bytes refusal. record { text = text; is = refusal; begun = begun }) is)
+    (map_some input (IsInspectRefusal text) (IsInspectRefusalBegun x y) (λ bytes refusal. record { text = text; is = refusal; begun = begun }) is)
 
 -- ---- the end
 
 pub ended_early : (input : Option (List ℕ)) (job : InspectJob) (f : Failure) (failed_then failed : FailedStreams) (a b x y z : Option (List ℕ)) (s : Status)
-    → EndsBy input job failed_then a b x y f → IsTold failed_then failed y z (failure_line f) → s ≡ failure_status f → IsEnding input job failed a b x z s
+    → InspectEndsBy input job failed_then a b x y f → IsTold failed_then failed y z (failure_line f) → s ≡ failure_status f → IsInspectEnding input job failed a b x z s
 ended_early input job f failed_then failed a b x y z s ends last is =
     inr (record { cause = f; failed_then = failed_then; err_then = y; ends = ends; last = last; end_is = is })
 
@@ -85,32 +85,32 @@ early failure.Closed = inr refl
 
 module _ (input : Option (List ℕ)) (job : InspectJob) (failed : FailedStreams) (a b x y : Option (List ℕ)) where
   -- ended early it is neither whole nor refused, nor for the words
-  not_early : (end : Status) → IsCutShort input job failed a b x y end → (end ≡ status.Memory) ⊎ (end ≡ status.Stream)
+  not_early : (end : Status) → IsInspectCutShort input job failed a b x y end → (end ≡ status.Memory) ⊎ (end ≡ status.Stream)
   not_early end cut = elim (early cut.cause) [ inl m ↦ inl (cut.end_is ∙ m) | inr t ↦ inr (cut.end_is ∙ t) ]
 
-  pub whole_answered : (end : Status) → IsEnding input job failed a b x y end → end ≡ status.Done → IfSome input (IsAnswered job a b x y)
+  pub whole_answered : (end : Status) → IsInspectEnding input job failed a b x y end → end ≡ status.Done → IfSome input (IsInspectAnswered job a b x y)
   whole_answered _ (inl (is_answered h)) e = h
   whole_answered _ (inl (is_refused same told)) e = absurd (cc e)
   whole_answered end (inr cut) e = elim (not_early end cut) [ inl m ↦ absurd (cc (m, e)) | inr t ↦ absurd (cc (t, e)) ]
 
-  pub refused_told : (end : Status) → IsEnding input job failed a b x y end → end ≡ status.Refused → IfSome input (IsRefusalTold x y)
+  pub refused_told : (end : Status) → IsInspectEnding input job failed a b x y end → end ≡ status.Refused → IfSome input (IsInspectRefusalTold x y)
   refused_told _ (inl (is_answered h)) e = absurd (cc e)
   refused_told _ (inl (is_refused same told)) e = told
   refused_told end (inr cut) e = elim (not_early end cut) [ inl m ↦ absurd (cc (m, e)) | inr t ↦ absurd (cc (t, e)) ]
 
-  pub refused_unwritten : (end : Status) → IsEnding input job failed a b x y end → end ≡ status.Refused → b ≡ a
+  pub refused_unwritten : (end : Status) → IsInspectEnding input job failed a b x y end → end ≡ status.Refused → b ≡ a
   refused_unwritten _ (inl (is_answered h)) e = absurd (cc e)
   refused_unwritten _ (inl (is_refused same told)) e = same
   refused_unwritten end (inr cut) e = elim (not_early end cut) [ inl m ↦ absurd (cc (m, e)) | inr t ↦ absurd (cc (t, e)) ]
 
-  pub early_cut : (end : Status) → IsEnding input job failed a b x y end → (end ≡ status.Memory) ⊎ (end ≡ status.Stream) → IsCutShort input job failed a b x y end
+  pub early_cut : (end : Status) → IsInspectEnding input job failed a b x y end → (end ≡ status.Memory) ⊎ (end ≡ status.Stream) → IsInspectCutShort input job failed a b x y end
   early_cut _ (inl (is_answered h)) (inl e) = absurd (cc e)
   early_cut _ (inl (is_answered h)) (inr e) = absurd (cc e)
   early_cut _ (inl (is_refused same told)) (inl e) = absurd (cc e)
   early_cut _ (inl (is_refused same told)) (inr e) = absurd (cc e)
   early_cut end (inr cut) e = cut
 
-  pub not_words : (end : Status) → IsEnding input job failed a b x y end → end ≢ status.Words
+  pub not_words : (end : Status) → IsInspectEnding input job failed a b x y end → end ≢ status.Words
   not_words _ (inl (is_answered h)) e = absurd (cc e)
   not_words _ (inl (is_refused same told)) e = absurd (cc e)
   not_words end (inr cut) e = elim (not_early end cut) [ inl m ↦ absurd (cc (m, e)) | inr t ↦ absurd (cc (t, e)) ]

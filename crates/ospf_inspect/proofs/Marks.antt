@@ -5,7 +5,7 @@ use Rattle.ospf_graph.specs.Graph.{IsEdgeBetween}
 use Rattle.ospf_graph.specs.declared.graph.Edge.{Edge}
 use Rattle.ospf_graph.specs.declared.graph.Vertex.{Vertex}
 use Rattle.ospf_edges.specs.Near.{AreEdgesAt}
-use Rattle.ospf_inspect.specs.Lsas.{AreJoined, IsMarkUnless, Joins, one_way}
+use Rattle.ospf_inspect.specs.Lsas.{AreJoined, IsMarkUnless, AreJoinedBy, one_way}
 
 -- the mark of a test that says whether this holds
 pub mark_of : (holds : Type 0) (word mark : List ℕ) (b : Bool) → (IsTrue b ↔ holds) → (IsTrue b → mark ≡ []) → (b ≡ false → mark ≡ word) → IsMarkUnless holds word mark
@@ -13,7 +13,7 @@ mark_of holds word mark true is none some = inl (is.0 refl, none refl)
 mark_of holds word mark false is none some = inr ((λ h. let no : false ≡ true = is.1 h in absurd (cc no)), some refl)
 
 -- of the edges at a vertex one leads to another exactly where one of the graph does
-pub joins_are : (adverts : List Advertisement) (v w : Vertex) (edges : List Edge) → AreEdgesAt adverts v edges → Joins edges v w ↔ AreJoined adverts v w
+pub joins_are : (adverts : List Advertisement) (v w : Vertex) (edges : List Edge) → AreEdgesAt adverts v edges → AreJoinedBy edges v w ↔ AreJoined adverts v w
 joins_are adverts v w edges at = (
   λ joins.
       let e : Edge = joins.0 in
@@ -24,7 +24,7 @@ joins_are adverts v w edges at = (
       (e, (at e).1 (joined.2, inl refl), refl, refl),
 )
 
-pub mark_between : (adverts : List Advertisement) (v w : Vertex) (edges : List Edge) (b : Bool) (mark : List ℕ) → AreEdgesAt adverts v edges → (IsTrue b ↔ Joins edges v w)
+pub mark_between : (adverts : List Advertisement) (v w : Vertex) (edges : List Edge) (b : Bool) (mark : List ℕ) → AreEdgesAt adverts v edges → (IsTrue b ↔ AreJoinedBy edges v w)
     → (IsTrue b → mark ≡ []) → (b ≡ false → mark ≡ one_way) → IsMarkUnless (AreJoined adverts v w) one_way mark
 mark_between adverts v w edges b mark at is none some =
     let both = joins_are adverts v w edges at in

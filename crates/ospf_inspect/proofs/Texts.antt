@@ -10,7 +10,7 @@ use Rattle.ospf_lsa.specs.Lsa.{attached_of, instance_of, key_of, links_of}
 use Rattle.ospf_lsa.specs.declared.link.Link.{Link}
 use Rattle.ospf_inspect.specs.Lines.{AreLines}
 use Rattle.ospf_inspect.specs.declared.lsas.NetworkName.{NetworkName}
-use Rattle.ospf_inspect.specs.Lsas.{IsMarkUnless, SaysOfAttached, SaysOfLink, SaysOfNetwork, SaysOfRouter, name_of, network_line, router_line, unused}
+use Rattle.ospf_inspect.specs.Lsas.{IsMarkUnless, SaysOfAttached, SaysOfLink, SaysOfNetwork, SaysOfRouter, network_name_of, network_line, router_line, unused}
 
 pub router_said : (adverts : List Advertisement) (lsa : List ℕ) (key : LsaKey) (age : ℕ) (instance : Instance) (line lines text : List ℕ) (links : List Link)
     → key ≡ key_of lsa → age ≡ (header_of lsa).age → instance ≡ instance_of lsa → links ≡ links_of lsa → line ≡ router_line key.router age instance
@@ -24,7 +24,7 @@ router_said adverts lsa key age instance line lines text links key_is age_is ins
 )
 
 pub network_said : (adverts : List Advertisement) (lsa : List ℕ) (key : LsaKey) (name : NetworkName) (age : ℕ) (instance : Instance) (mark line lines text : List ℕ)
-    (attached : List RouterId) → key ≡ key_of lsa → name ≡ name_of lsa → age ≡ (header_of lsa).age → instance ≡ instance_of lsa → attached ≡ attached_of lsa
+    (attached : List RouterId) → key ≡ key_of lsa → name ≡ network_name_of lsa → age ≡ (header_of lsa).age → instance ≡ instance_of lsa → attached ≡ attached_of lsa
     → IsMarkUnless (StandsFor adverts key.id key.router) unused mark → line ≡ network_line name age instance mark
     → AreLines (SaysOfAttached adverts key.id) attached lines → text ≡ line ++ lines → SaysOfNetwork adverts lsa text
 network_said adverts lsa key name age instance mark line lines text attached key_is name_is age_is instance_is attached_are marked line_is said text_is = (
@@ -33,6 +33,6 @@ network_said adverts lsa key name age instance mark line lines text attached key
   subst (λ (k : LsaKey). IsMarkUnless (StandsFor adverts k.id k.router) unused mark) key_is marked,
   subst (λ (k : LsaKey). AreLines (SaysOfAttached adverts k.id) (attached_of lsa) lines) key_is (subst (λ (xs : List RouterId). AreLines (SaysOfAttached adverts key.id) xs lines) attached_are said),
   text_is ∙ ap (λ l. l ++ lines)
-      (line_is ∙ ap (λ (n : NetworkName). network_line n age instance mark) name_is ∙ ap (λ (a : ℕ). network_line (name_of lsa) a instance mark) age_is
-      ∙ ap (λ (i : Instance). network_line (name_of lsa) (header_of lsa).age i mark) instance_is),
+      (line_is ∙ ap (λ (n : NetworkName). network_line n age instance mark) name_is ∙ ap (λ (a : ℕ). network_line (network_name_of lsa) a instance mark) age_is
+      ∙ ap (λ (i : Instance). network_line (network_name_of lsa) (header_of lsa).age i mark) instance_is),
 )

@@ -19,7 +19,7 @@ use Rattle.ospf_lsa.specs.Header.{header_of}
 use Rattle.ospf_lsa.specs.Lsa.{attached_of, instance_of, key_of, links_of}
 use Rattle.ospf_lsa.specs.declared.link.Link.{Link}
 use Rattle.ospf_inspect.proofs.Marks.{joins_are}
-use Rattle.ospf_inspect.specs.Lsas.{AreJoined, Joins, name_of}
+use Rattle.ospf_inspect.specs.Lsas.{AreJoined, AreJoinedBy, network_name_of}
 use Rattle.ospf_inspect.specs.Json.{AreValues, IsArray, no_values, more_values}
 use Rattle.ospf_inspect.specs.Values.{IsOneWay, TellsAttached, TellsLink, TellsNetwork, TellsRouter, network_data, router_data}
 use Rattle.ospf_inspect.specs.declared.lsas.NetworkName.{NetworkName}
@@ -78,7 +78,7 @@ array_no_float P none xs d is = ap has_float is.2 ∙ items_no_float P none xs i
 
 -- ---- one way
 
-pub one_way_unless : (adverts : List Advertisement) (v w : Vertex) (edges : List Edge) (b : Bool) → AreEdgesAt adverts v edges → (IsTrue b ↔ Joins edges v w)
+pub one_way_unless : (adverts : List Advertisement) (v w : Vertex) (edges : List Edge) (b : Bool) → AreEdgesAt adverts v edges → (IsTrue b ↔ AreJoinedBy edges v w)
     → IsOneWay adverts v w (not b)
 one_way_unless adverts v w edges b at is =
     let both = joins_are adverts v w edges at in
@@ -97,7 +97,7 @@ router_told adverts lsa key age instance links told d key_is age_is instance_is 
 )
 
 pub network_told : (adverts : List Advertisement) (lsa : List ℕ) (key : LsaKey) (name : NetworkName) (age : ℕ) (instance : Instance) (attached : List RouterId) (told d : Data) (used : Bool)
-    → key ≡ key_of lsa → name ≡ name_of lsa → age ≡ (header_of lsa).age → instance ≡ instance_of lsa → attached ≡ attached_of lsa
+    → key ≡ key_of lsa → name ≡ network_name_of lsa → age ≡ (header_of lsa).age → instance ≡ instance_of lsa → attached ≡ attached_of lsa
     → (IsTrue used ↔ StandsFor adverts key.id key.router) → IsArray (TellsAttached adverts key.id) attached told
     → d ≡ network_data name age instance told (not used) → TellsNetwork adverts lsa d
 network_told adverts lsa key name age instance attached told d used key_is name_is age_is instance_is attached_are stands is d_is = (
@@ -105,6 +105,6 @@ network_told adverts lsa key name age instance attached told d used key_is name_
   not used,
   subst (λ (k : LsaKey). IsArray (TellsAttached adverts k.id) (attached_of lsa) told) key_is (subst (λ (xs : List RouterId). IsArray (TellsAttached adverts key.id) xs told) attached_are is),
   unless (StandsFor adverts (key_of lsa).id (key_of lsa).router) used (subst (λ (k : LsaKey). IsTrue used ↔ StandsFor adverts k.id k.router) key_is stands),
-  d_is ∙ ap (λ (n : NetworkName). network_data n age instance told (not used)) name_is ∙ ap (λ (a : ℕ). network_data (name_of lsa) a instance told (not used)) age_is
-      ∙ ap (λ (i : Instance). network_data (name_of lsa) (header_of lsa).age i told (not used)) instance_is,
+  d_is ∙ ap (λ (n : NetworkName). network_data n age instance told (not used)) name_is ∙ ap (λ (a : ℕ). network_data (network_name_of lsa) a instance told (not used)) age_is
+      ∙ ap (λ (i : Instance). network_data (network_name_of lsa) (header_of lsa).age i told (not used)) instance_is,
 )

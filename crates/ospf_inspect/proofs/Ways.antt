@@ -10,8 +10,8 @@ use Rattle.ospf_graph.specs.Walk.{HasLinkFor, IsBest, IsLinkCost, IsNext}
 use Rattle.ospf_graph.specs.declared.hop.NextHop.{NextHop}
 use Rattle.ospf_graph.specs.declared.hop.NextHop.TheVariants as hops
 use Rattle.ospf_graph.specs.declared.route.Route.{Route}
-use Rattle.ospf_inspect.specs.Path.{HasNone, SaysWay, Takes, arrives, arrived_line, first_choice, goes_on, later_choices, leg_line, leg_of, no_route_line, strays, turns, turns_line}
-use Rattle.ospf_inspect.specs.declared.path.Leg.{Leg}
+use Rattle.ospf_inspect.specs.Path.{HasNoRouteFor, SaysWay, TakesHop, arrives, arrived_line, first_choice, goes_on, later_choices, leg_line, leg_of, no_route_line, strays, turns, turns_line}
+use Rattle.ospf_inspect.specs.declared.path.PathLeg.{PathLeg}
 
 -- what stands at a place is in the list
 contains_at : {X : Type 0} (xs : List X) (i : ℕ) (x : X) → slice_get xs i ≡ Some x → Contains xs x
@@ -33,22 +33,22 @@ hop_linked adverts at table address route place hop is best taken apart =
 -- what a router takes, by the choice that is the first one
 pub takes_it : (adverts : List Advertisement) (address : ℕ) (choices : List ℕ) (choice : ℕ) (at : RouterId) (table : List Route) (route : Route) (hop other : NextHop)
     → IsTable adverts at table → IsBest table address route → slice_get route.hops (choice % length route.hops) ≡ Some hop → choice ≡ first_choice choices → hop ≡ other
-    → Takes adverts address (first_choice choices) at route other
+    → TakesHop adverts address (first_choice choices) at route other
 takes_it adverts address choices choice at table route hop other is best taken first same =
-    subst (λ (h : NextHop). Takes adverts address (first_choice choices) at route h) same (subst (λ (n : ℕ). Takes adverts address n at route hop) first
+    subst (λ (h : NextHop). TakesHop adverts address (first_choice choices) at route h) same (subst (λ (n : ℕ). TakesHop adverts address n at route hop) first
     (record { table = table; is_table = is; best = best; chosen = taken }))
 
-pub leg_said : (choices : List ℕ) (choice : ℕ) (at : RouterId) (route : Route) (hop other : NextHop) (cost : ℕ) (leg : Leg) (line : List ℕ) → line ≡ leg_line leg
+pub leg_said : (choices : List ℕ) (choice : ℕ) (at : RouterId) (route : Route) (hop other : NextHop) (cost : ℕ) (leg : PathLeg) (line : List ℕ) → line ≡ leg_line leg
     → leg ≡ leg_of at choice route hop cost → choice ≡ first_choice choices → hop ≡ other → line ≡ leg_line (leg_of at (first_choice choices) route other cost)
 leg_said choices choice at route hop other cost leg line line_is leg_is first same =
     line_is ∙ ap leg_line (leg_is ∙ ap (λ (n : ℕ). leg_of at n route hop cost) first ∙ ap (λ (h : NextHop). leg_of at (first_choice choices) route h cost) same)
 
 module _ (adverts : List Advertisement) (address most : ℕ) (choices : List ℕ) (at : RouterId) (paid : ℕ) (old new : List ℕ) where
-  pub strays_said : (line : List ℕ) → HasNone adverts address at → line ≡ no_route_line at → new ≡ old ++ line
+  pub strays_said : (line : List ℕ) → HasNoRouteFor adverts address at → line ≡ no_route_line at → new ≡ old ++ line
       → (rest : List ℕ) × SaysWay adverts address most choices at paid rest × (new ≡ old ++ rest)
   strays_said line none line_is new_is = (no_route_line at, strays none, new_is ∙ ap (λ l. old ++ l) line_is)
 
-  pub arrives_said : (route : Route) (first last mid : List ℕ) → Takes adverts address (first_choice choices) at route hops.Attached
+  pub arrives_said : (route : Route) (first last mid : List ℕ) → TakesHop adverts address (first_choice choices) at route hops.Attached
       → first ≡ leg_line (leg_of at (first_choice choices) route hops.Attached route.cost) → last ≡ arrived_line route.prefix (paid + route.cost) → mid ≡ old ++ first
       → new ≡ mid ++ last → (rest : List ℕ) × SaysWay adverts address most choices at paid rest × (new ≡ old ++ rest)
   arrives_said route first last mid takes first_is last_is mid_is new_is = (
@@ -58,7 +58,7 @@ module _ (adverts : List Advertisement) (address most : ℕ) (choices : List ℕ
         ∙ ap (λ l. old ++ (leg_line (leg_of at (first_choice choices) route hops.Attached route.cost) ++ l)) last_is,
   )
 
-  pub turns_said : (route : Route) (hop : NextHop) (next : RouterId) (line : List ℕ) → most ≡ 0 → Takes adverts address (first_choice choices) at route hop → IsNext hop next
+  pub turns_said : (route : Route) (hop : NextHop) (next : RouterId) (line : List ℕ) → most ≡ 0 → TakesHop adverts address (first_choice choices) at route hop → IsNext hop next
       → line ≡ turns_line at → new ≡ old ++ line → (rest : List ℕ) × SaysWay adverts address most choices at paid rest × (new ≡ old ++ rest)
   turns_said route hop next line none takes next_is line_is new_is = (
     turns_line at,
@@ -67,7 +67,7 @@ module _ (adverts : List Advertisement) (address most : ℕ) (choices : List ℕ
   )
 
   pub goes_on_said : (route : Route) (hop : NextHop) (next : RouterId) (link fewer : ℕ) (later : List ℕ) (first mid rest : List ℕ) → suc fewer ≡ most
-      → Takes adverts address (first_choice choices) at route hop → IsNext hop next → IsLinkCost adverts at hop link → later ≡ later_choices choices
+      → TakesHop adverts address (first_choice choices) at route hop → IsNext hop next → IsLinkCost adverts at hop link → later ≡ later_choices choices
       → first ≡ leg_line (leg_of at (first_choice choices) route hop link) → mid ≡ old ++ first → SaysWay adverts address fewer later next (paid + link) rest → new ≡ mid ++ rest
       → (rest : List ℕ) × SaysWay adverts address most choices at paid rest × (new ≡ old ++ rest)
   goes_on_said route hop next link fewer later first mid rest more takes next_is link_is later_is first_is mid_is says new_is = (

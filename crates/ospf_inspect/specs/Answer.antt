@@ -19,9 +19,9 @@ use Rattle.ospf_inspect.specs.Lsas.{SaysOfLsa}
 use Rattle.ospf_inspect.specs.Path.{SaysPath}
 use Rattle.ospf_inspect.specs.Tables.{SaysTableInJson, SaysTableOf, SaysTablesInJson}
 use Rattle.ospf_inspect.specs.Values.{SaysLsasInJson}
-use Rattle.ospf_inspect.specs.declared.answer.Answer.{Answer}
-use Rattle.ospf_inspect.specs.declared.answer.Fault.{Fault}
-use Rattle.ospf_inspect.specs.declared.answer.Fault.TheVariants as fault
+use Rattle.ospf_inspect.specs.declared.answer.InspectAnswer.{InspectAnswer}
+use Rattle.ospf_inspect.specs.declared.answer.Unanswered.{Unanswered}
+use Rattle.ospf_inspect.specs.declared.answer.Unanswered.TheVariants as fault
 use Rattle.ospf_inspect.specs.declared.answer.Form.{Form}
 use Rattle.ospf_inspect.specs.declared.answer.Form.TheVariants as form
 use Rattle.ospf_inspect.specs.declared.answer.InspectJob.{InspectJob}
@@ -56,92 +56,92 @@ Warns (Table router) listing text = IsWarning listing router text
 Warns (Path from address choices) listing text = IsWarning listing from text
 
 -- the answer for the LSAs that the lines of the input are, and its warning
-pub record IsAnswer (job : InspectJob) (text warning input : List ℕ) : Type 0 where
+pub record IsInspectAnswer (job : InspectJob) (text warning input : List ℕ) : Type 0 where
   pub listing : List (List ℕ)
   pub reads : Reads input [] listing
   pub warns : Warns job listing warning
   pub says : Says job listing text
 
 -- the answer stands on standard output, and its warning on standard error
-pub record IsAnswered (job : InspectJob) (out_old out_new err_old err_new : Option (List ℕ)) (input : List ℕ) : Type 0 where
+pub record IsInspectAnswered (job : InspectJob) (out_old out_new err_old err_new : Option (List ℕ)) (input : List ℕ) : Type 0 where
   pub text : List ℕ
   pub warning : List ℕ
-  pub is : IsAnswer job text warning input
+  pub is : IsInspectAnswer job text warning input
   pub out : Appends out_old out_new text
   pub err : Appends err_old err_new warning
 
 -- what is said of an input that is refused, of its first line that is
-pub record IsRefusal (text input : List ℕ) : Type 0 where
+pub record IsInspectRefusal (text input : List ℕ) : Type 0 where
   pub number : ℕ
   pub fault : EntryFault
   pub refused : Refuses input [] number fault
   pub text_is : text ≡ refusal_line number fault
 
 -- the refusal stands on standard error
-pub record IsRefusalTold (err_old err_new : Option (List ℕ)) (input : List ℕ) : Type 0 where
+pub record IsInspectRefusalTold (err_old err_new : Option (List ℕ)) (input : List ℕ) : Type 0 where
   pub text : List ℕ
-  pub is : IsRefusal text input
+  pub is : IsInspectRefusal text input
   pub told : Appends err_old err_new text
 
 -- ---- what stands written where it ends early
 
 -- a beginning of the refusal
-pub record IsRefusalBegun (err_old err_new : Option (List ℕ)) (input : List ℕ) : Type 0 where
+pub record IsInspectRefusalBegun (err_old err_new : Option (List ℕ)) (input : List ℕ) : Type 0 where
   pub text : List ℕ
-  pub is : IsRefusal text input
+  pub is : IsInspectRefusal text input
   pub begun : IsBegun err_old err_new text
 
 -- a beginning of the warning
-pub record IsWarningBegun (job : InspectJob) (err_old err_new : Option (List ℕ)) (input : List ℕ) : Type 0 where
+pub record IsInspectWarningBegun (job : InspectJob) (err_old err_new : Option (List ℕ)) (input : List ℕ) : Type 0 where
   pub text : List ℕ
   pub warning : List ℕ
-  pub is : IsAnswer job text warning input
+  pub is : IsInspectAnswer job text warning input
   pub begun : IsBegun err_old err_new warning
 
 -- the warning, and a beginning of the answer
-pub record IsAnswerBegun (job : InspectJob) (out_old out_new err_old err_new : Option (List ℕ)) (input : List ℕ) : Type 0 where
+pub record IsInspectAnswerBegun (job : InspectJob) (out_old out_new err_old err_new : Option (List ℕ)) (input : List ℕ) : Type 0 where
   pub text : List ℕ
   pub warning : List ℕ
-  pub is : IsAnswer job text warning input
+  pub is : IsInspectAnswer job text warning input
   pub err : Appends err_old err_new warning
   pub begun : IsBegun out_old out_new text
 
 -- it ended by a failure: before anything was written; at the refusal; at the warning; or at the answer
-pub data EndsBy (input : Option (List ℕ)) (job : InspectJob) (failed : FailedStreams) (out_old out_new err_old err_new : Option (List ℕ)) : Failure → Type 0 where
-  unwritten : {f : Failure} → out_new ≡ out_old → err_new ≡ err_old → EndsBy input job failed out_old out_new err_old err_new f
-  in_refusal : {f : Failure} → (f ≡ failure.Memory) ⊎ (f ≡ failure.Error) → IsErrorFailed failed → out_new ≡ out_old → IfSome input (IsRefusalBegun err_old err_new)
-      → EndsBy input job failed out_old out_new err_old err_new f
-  in_warning : {f : Failure} → (f ≡ failure.Memory) ⊎ (f ≡ failure.Error) → IsErrorFailed failed → out_new ≡ out_old → IfSome input (IsWarningBegun job err_old err_new)
-      → EndsBy input job failed out_old out_new err_old err_new f
-  in_answer : {f : Failure} → (f ≡ failure.Memory) ⊎ (f ≡ failure.Output) → IsOutputFailed failed → IfSome input (IsAnswerBegun job out_old out_new err_old err_new)
-      → EndsBy input job failed out_old out_new err_old err_new f
+pub data InspectEndsBy (input : Option (List ℕ)) (job : InspectJob) (failed : FailedStreams) (out_old out_new err_old err_new : Option (List ℕ)) : Failure → Type 0 where
+  unwritten : {f : Failure} → out_new ≡ out_old → err_new ≡ err_old → InspectEndsBy input job failed out_old out_new err_old err_new f
+  in_refusal : {f : Failure} → (f ≡ failure.Memory) ⊎ (f ≡ failure.Error) → IsErrorFailed failed → out_new ≡ out_old → IfSome input (IsInspectRefusalBegun err_old err_new)
+      → InspectEndsBy input job failed out_old out_new err_old err_new f
+  in_warning : {f : Failure} → (f ≡ failure.Memory) ⊎ (f ≡ failure.Error) → IsErrorFailed failed → out_new ≡ out_old → IfSome input (IsInspectWarningBegun job err_old err_new)
+      → InspectEndsBy input job failed out_old out_new err_old err_new f
+  in_answer : {f : Failure} → (f ≡ failure.Memory) ⊎ (f ≡ failure.Output) → IsOutputFailed failed → IfSome input (IsInspectAnswerBegun job out_old out_new err_old err_new)
+      → InspectEndsBy input job failed out_old out_new err_old err_new f
 
 -- it ended by a failure, which was told last, as far as that could be written
-pub record IsCutShort (input : Option (List ℕ)) (job : InspectJob) (failed : FailedStreams) (out_old out_new err_old err_new : Option (List ℕ)) (end : Status) : Type 0 where
+pub record IsInspectCutShort (input : Option (List ℕ)) (job : InspectJob) (failed : FailedStreams) (out_old out_new err_old err_new : Option (List ℕ)) (end : Status) : Type 0 where
   pub cause : Failure
   pub failed_then : FailedStreams
   pub err_then : Option (List ℕ)
-  pub ends : EndsBy input job failed_then out_old out_new err_old err_then cause
+  pub ends : InspectEndsBy input job failed_then out_old out_new err_old err_then cause
   pub last : IsTold failed_then failed err_then err_new (failure_line cause)
   pub end_is : end ≡ failure_status cause
 
 -- ---- on the way
 
 -- why there is no answer
-abbrev pub IsFault : Option (List ℕ) → Fault → Type 0
-IsFault input (fault.Refused text) = IfSome input (IsRefusal (string_bytes text))
-IsFault input (fault.Failure f) = Unit {0}
+abbrev pub IsUnanswered : Option (List ℕ) → Unanswered → Type 0
+IsUnanswered input (fault.Refused text) = IfSome input (IsInspectRefusal (string_bytes text))
+IsUnanswered input (fault.Failure f) = Unit {0}
 
 -- the answer for the input
-abbrev pub IsAnswerOf : InspectJob → Answer → List ℕ → Type 0
-IsAnswerOf job answer input = IsAnswer job (string_bytes answer.text) (string_bytes answer.warning) input
+abbrev pub IsInspectAnswerOf : InspectJob → InspectAnswer → List ℕ → Type 0
+IsInspectAnswerOf job answer input = IsInspectAnswer job (string_bytes answer.text) (string_bytes answer.warning) input
 
 -- the answer is printed, or the refusal is told
-pub data IsSaid (input : Option (List ℕ)) (job : InspectJob) (out_old out_new err_old err_new : Option (List ℕ)) : Status → Type 0 where
-  is_answered : IfSome input (IsAnswered job out_old out_new err_old err_new) → IsSaid input job out_old out_new err_old err_new status.Done
-  is_refused : out_new ≡ out_old → IfSome input (IsRefusalTold err_old err_new) → IsSaid input job out_old out_new err_old err_new status.Refused
+pub data IsInspectSaid (input : Option (List ℕ)) (job : InspectJob) (out_old out_new err_old err_new : Option (List ℕ)) : Status → Type 0 where
+  is_answered : IfSome input (IsInspectAnswered job out_old out_new err_old err_new) → IsInspectSaid input job out_old out_new err_old err_new status.Done
+  is_refused : out_new ≡ out_old → IfSome input (IsInspectRefusalTold err_old err_new) → IsInspectSaid input job out_old out_new err_old err_new status.Refused
 
 -- one of these, or it ended early
-abbrev pub IsEnding : Option (List ℕ) → InspectJob → FailedStreams → Option (List ℕ) → Option (List ℕ) → Option (List ℕ) → Option (List ℕ) → Status → Type 0
-IsEnding input job failed out_old out_new err_old err_new end =
-    IsSaid input job out_old out_new err_old err_new end ⊎ IsCutShort input job failed out_old out_new err_old err_new end
+abbrev pub IsInspectEnding : Option (List ℕ) → InspectJob → FailedStreams → Option (List ℕ) → Option (List ℕ) → Option (List ℕ) → Option (List ℕ) → Status → Type 0
+IsInspectEnding input job failed out_old out_new err_old err_new end =
+    IsInspectSaid input job out_old out_new err_old err_new end ⊎ IsInspectCutShort input job failed out_old out_new err_old err_new end

@@ -18,7 +18,7 @@ use Rattle.ospf_graph.specs.declared.graph.Vertex.TheVariants as vertex
 use Rattle.ospf_edges.specs.Given.{StandsFor}
 use Rattle.ospf_records.specs.Graph.{prefix_under}
 use Rattle.ospf_inspect.specs.declared.lsas.NetworkName.{NetworkName}
-use Rattle.ospf_inspect.specs.declared.lsas.Way.{Way}
+use Rattle.ospf_inspect.specs.declared.lsas.LinkWay.{LinkWay}
 use Rattle.ospf_script.specs.Texts.{floor_text, hexadecimal}
 use Rattle.ospf_inspect.specs.Lines.{AreLines}
 
@@ -37,8 +37,8 @@ unused = codes " unused"
 -- ---- both ways
 
 -- one of these edges leads from the one to the other
-abbrev pub Joins : List Edge → Vertex → Vertex → Type 0
-Joins edges v w = (e : Edge) × Contains edges e × (e.from ≡ v) × (e.to ≡ w)
+abbrev pub AreJoinedBy : List Edge → Vertex → Vertex → Type 0
+AreJoinedBy edges v w = (e : Edge) × Contains edges e × (e.from ≡ v) × (e.to ≡ w)
 
 -- an edge of the graph leads there: the LSAs at both ends name each other (section 16.1, step 2 (b))
 abbrev pub AreJoined : List Advertisement → Vertex → Vertex → Type 0
@@ -47,14 +47,14 @@ AreJoined adverts v w = (cost link_data : ℕ) × IsEdgeBetween adverts v w cost
 -- ---- links of a router
 
 -- where a link of type 1 or 2 leads, the address that it is from, and its cost
-abbrev pub way_of : Link → Way
+abbrev pub way_of : Link → LinkWay
 way_of link = record { to = record { 0 = link.id }; from = record { 0 = link.link_data }; cost = link.metric }
 
-abbrev pub way_text : Way → List ℕ
+abbrev pub way_text : LinkWay → List ℕ
 way_text way = number_text way.to.0 ++ codes " from " ++ number_text way.from.0 ++ codes " cost " ++ decimal way.cost
 
 -- a link to a router or a transit network, and its mark
-abbrev pub link_line : List ℕ → Way → List ℕ → List ℕ
+abbrev pub link_line : List ℕ → LinkWay → List ℕ → List ℕ
 link_line what way mark = codes "  " ++ what ++ codes " " ++ way_text way ++ mark ++ codes "\n"
 
 abbrev pub stub_text : Link → List ℕ
@@ -97,15 +97,15 @@ abbrev pub router_line : RouterId → ℕ → Instance → List ℕ
 router_line router age instance = codes "router " ++ number_text router.0 ++ instance_text age instance ++ codes "\n"
 
 -- what names a network-LSA: its Link State ID, mask and router
-abbrev pub name_of : List ℕ → NetworkName
-name_of lsa = record { id = record { 0 = (key_of lsa).id }; mask = network_mask_of lsa; router = (key_of lsa).router }
+abbrev pub network_name_of : List ℕ → NetworkName
+network_name_of lsa = record { id = record { 0 = (key_of lsa).id }; mask = network_mask_of lsa; router = (key_of lsa).router }
 
-abbrev pub name_text : NetworkName → List ℕ
-name_text name = prefix_under name.id.0 name.mask ++ codes " of " ++ number_text name.id.0 ++ codes " by " ++ number_text name.router.0
+abbrev pub network_name_text : NetworkName → List ℕ
+network_name_text name = prefix_under name.id.0 name.mask ++ codes " of " ++ number_text name.id.0 ++ codes " by " ++ number_text name.router.0
 
 -- a network-LSA: its name, age, number and sum, and its mark
 abbrev pub network_line : NetworkName → ℕ → Instance → List ℕ → List ℕ
-network_line name age instance mark = codes "network " ++ name_text name ++ instance_text age instance ++ mark ++ codes "\n"
+network_line name age instance mark = codes "network " ++ network_name_text name ++ instance_text age instance ++ mark ++ codes "\n"
 
 -- and its links in their order
 abbrev pub SaysOfRouter : List Advertisement → List ℕ → List ℕ → Type 0
@@ -116,7 +116,7 @@ SaysOfRouter adverts lsa text =
 abbrev pub SaysOfNetwork : List Advertisement → List ℕ → List ℕ → Type 0
 SaysOfNetwork adverts lsa text =
     (mark lines : List ℕ) × IsMarkUnless (StandsFor adverts (key_of lsa).id (key_of lsa).router) unused mark
-    × AreLines (SaysOfAttached adverts (key_of lsa).id) (attached_of lsa) lines × (text ≡ network_line (name_of lsa) (header_of lsa).age (instance_of lsa) mark ++ lines)
+    × AreLines (SaysOfAttached adverts (key_of lsa).id) (attached_of lsa) lines × (text ≡ network_line (network_name_of lsa) (header_of lsa).age (instance_of lsa) mark ++ lines)
 
 abbrev pub SaysOfLsaKind : List Advertisement → List ℕ → Kind → List ℕ → Type 0
 SaysOfLsaKind adverts lsa kind.Router text = SaysOfRouter adverts lsa text

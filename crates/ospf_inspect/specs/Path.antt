@@ -11,20 +11,20 @@ use Rattle.ospf_graph.specs.declared.hop.NextHop.{NextHop}
 use Rattle.ospf_graph.specs.declared.hop.NextHop.TheVariants.{Attached}
 use Rattle.ospf_graph.specs.declared.route.Route.{Route}
 use Rattle.ospf_base.specs.declared.prefix.Prefix.{Prefix}
-use Rattle.ospf_inspect.specs.declared.path.Leg.{Leg}
+use Rattle.ospf_inspect.specs.declared.path.PathLeg.{PathLeg}
 
 -- ---- lines
 
 -- a router, the hop that it takes, what that costs, and which of a route's hops it is, from 0, of how many
-abbrev pub leg_of : RouterId → ℕ → Route → NextHop → ℕ → Leg
+abbrev pub leg_of : RouterId → ℕ → Route → NextHop → ℕ → PathLeg
 leg_of at choice route hop cost = record { at = at; hop = hop; cost = cost; place = choice % length route.hops; count = length route.hops }
 
-abbrev pub leg_text : Leg → List ℕ
+abbrev pub leg_text : PathLeg → List ℕ
 leg_text leg =
     number_text leg.at.0 ++ codes " " ++ hop_text leg.hop ++ codes " cost " ++ decimal leg.cost ++ codes " "
     ++ (codes "hop " ++ decimal leg.place ++ codes " of " ++ decimal leg.count)
 
-abbrev pub leg_line : Leg → List ℕ
+abbrev pub leg_line : PathLeg → List ℕ
 leg_line leg = leg_text leg ++ codes "\n"
 
 -- the prefix that was reached, and what all of it cost
@@ -52,14 +52,14 @@ later_choices [] = []
 later_choices (_ ∷ choices) = choices
 
 -- the router's best route for the address, by its table, and the hop of it that the choice takes (section 11.1)
-pub record Takes (adverts : List Advertisement) (address choice : ℕ) (at : RouterId) (route : Route) (hop : NextHop) : Type 0 where
+pub record TakesHop (adverts : List Advertisement) (address choice : ℕ) (at : RouterId) (route : Route) (hop : NextHop) : Type 0 where
   pub table : List Route
   pub is_table : IsTable adverts at table
   pub best : IsBest table address route
   pub chosen : slice_get route.hops (choice % length route.hops) ≡ Some hop
 
 -- the router's table has no route for the address
-pub record HasNone (adverts : List Advertisement) (address : ℕ) (at : RouterId) : Type 0 where
+pub record HasNoRouteFor (adverts : List Advertisement) (address : ℕ) (at : RouterId) : Type 0 where
   pub table : List Route
   pub is_table : IsTable adverts at table
   pub none : (route : Route) → Contains table route → Holds route.prefix address → ⊥
@@ -68,14 +68,14 @@ pub record HasNone (adverts : List Advertisement) (address : ℕ) (at : RouterId
 -- route; it has arrived; it goes on at the router that the hop names, over a link of least cost; or where as many were met as may be,
 -- it turns in a circle
 pub data SaysWay (adverts : List Advertisement) (address : ℕ) : ℕ → List ℕ → RouterId → ℕ → List ℕ → Type 0 where
-  strays : {most : ℕ} {choices : List ℕ} {at : RouterId} {paid : ℕ} → HasNone adverts address at → SaysWay adverts address most choices at paid (no_route_line at)
-  arrives : {most : ℕ} {choices : List ℕ} {at : RouterId} {paid : ℕ} (route : Route) → Takes adverts address (first_choice choices) at route Attached
+  strays : {most : ℕ} {choices : List ℕ} {at : RouterId} {paid : ℕ} → HasNoRouteFor adverts address at → SaysWay adverts address most choices at paid (no_route_line at)
+  arrives : {most : ℕ} {choices : List ℕ} {at : RouterId} {paid : ℕ} (route : Route) → TakesHop adverts address (first_choice choices) at route Attached
       → SaysWay adverts address most choices at paid (leg_line (leg_of at (first_choice choices) route Attached route.cost) ++ arrived_line route.prefix (paid + route.cost))
   goes_on : {most : ℕ} {choices : List ℕ} {at : RouterId} {paid : ℕ} {text : List ℕ} (route : Route) (hop : NextHop) (next : RouterId) (link : ℕ)
-      → Takes adverts address (first_choice choices) at route hop → IsNext hop next → IsLinkCost adverts at hop link
+      → TakesHop adverts address (first_choice choices) at route hop → IsNext hop next → IsLinkCost adverts at hop link
       → SaysWay adverts address most (later_choices choices) next (paid + link) text
       → SaysWay adverts address (suc most) choices at paid (leg_line (leg_of at (first_choice choices) route hop link) ++ text)
-  turns : {choices : List ℕ} {at : RouterId} {paid : ℕ} (route : Route) (hop : NextHop) (next : RouterId) → Takes adverts address (first_choice choices) at route hop
+  turns : {choices : List ℕ} {at : RouterId} {paid : ℕ} (route : Route) (hop : NextHop) (next : RouterId) → TakesHop adverts address (first_choice choices) at route hop
       → IsNext hop next → SaysWay adverts address 0 choices at paid (turns_line at)
 
 -- what is said of the way from a router at its start: no more routers may be met than LSAs are listed

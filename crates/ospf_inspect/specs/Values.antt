@@ -18,7 +18,7 @@ use Rattle.ospf_edges.specs.Given.{StandsFor}
 use Rattle.ospf_records.specs.Graph.{prefix_under}
 use Rattle.ospf_script.specs.Texts.{floor_text, hexadecimal}
 use Rattle.ospf_inspect.specs.Json.{IsArray, json_line}
-use Rattle.ospf_inspect.specs.Lsas.{AreJoined, name_of}
+use Rattle.ospf_inspect.specs.Lsas.{AreJoined, network_name_of}
 use Rattle.ospf_inspect.specs.declared.lsas.NetworkName.{NetworkName}
 
 -- ---- links of a router
@@ -92,7 +92,7 @@ TellsRouter adverts lsa d =
 abbrev pub TellsNetwork : List Advertisement → List ℕ → Data → Type 0
 TellsNetwork adverts lsa d =
     (attached : Data) × (unused : Bool) × IsArray (TellsAttached adverts (key_of lsa).id) (attached_of lsa) attached
-    × (IsTrue unused ↔ (StandsFor adverts (key_of lsa).id (key_of lsa).router → ⊥)) × (d ≡ network_data (name_of lsa) (header_of lsa).age (instance_of lsa) attached unused)
+    × (IsTrue unused ↔ (StandsFor adverts (key_of lsa).id (key_of lsa).router → ⊥)) × (d ≡ network_data (network_name_of lsa) (header_of lsa).age (instance_of lsa) attached unused)
 
 abbrev pub TellsLsaKind : List Advertisement → List ℕ → Kind → Data → Type 0
 TellsLsaKind adverts lsa kind.Router d = TellsRouter adverts lsa d

@@ -5,7 +5,7 @@ ghost use Rattle.ospf_files.specs.declared.streams.FailedStreams.{FailedStreams}
 ghost use Rattle.ospf_records.specs.Graph.{graph_text};
 ghost use Rattle.ospf_table.specs.Line.{Reads, Refuses};
 ghost use Rattle.ospf_table.specs.Output.{IsWarning};
-ghost use Rattle.ospf_inspect.specs.Answer.{EndsBy, IsAnswerOf, IsAnswered, IsCutShort, IsEnding, IsFault, IsRefusal, IsRefusalTold, IsSaid, Says, Warns};
+ghost use Rattle.ospf_inspect.specs.Answer.{InspectEndsBy, IsInspectAnswerOf, IsInspectAnswered, IsInspectCutShort, IsInspectEnding, IsUnanswered, IsInspectRefusal, IsInspectRefusalTold, IsInspectSaid, Says, Warns};
 ghost use Rattle.ospf_inspect.specs.declared.answer.InspectJob.{InspectJob};
 
 use crate::lsas::lsas_text;
@@ -50,20 +50,20 @@ pub enum InspectJob {
 
 // Why nothing is to be printed: the input is refused, and this is said of it, or something failed.
 #[derive(Drop)]
-pub(crate) enum Fault {
+pub(crate) enum Unanswered {
     Refused(String),
     Failure(Failure),
 }
 
-impl From<AllocError> for Fault {
+impl From<AllocError> for Unanswered {
     ghost use Rattle.std.specs.Prelude.{◌≡◌};
     ghost use Rattle.ospf_files.specs.declared.status.Failure.TheVariants as failure;
-    ghost use Rattle.ospf_inspect.specs.declared.answer.Fault.TheVariants as fault;
+    ghost use Rattle.ospf_inspect.specs.declared.answer.Unanswered.TheVariants as fault;
 
     ghost from_gives = { λ _ f. f ≡ fault.Failure failure.Memory };
 
-    fn from(_error: AllocError) -> Fault {
-        Fault::Failure(Failure::Memory)
+    fn from(_error: AllocError) -> Unanswered {
+        Unanswered::Failure(Failure::Memory)
     }
 }
 
@@ -71,10 +71,9 @@ impl From<AllocError> for Fault {
 /// JSON, a drawing of all, the routing table of each router or of one, or the way from a router to an address.
 ///
 /// Where LSAs are listed and the router-LSA of the router whose table it is, or that a way begins at, is not among them, `err`
-/// says so. The first line
-/// that is refused is told on `err`; then nothing is printed, with status `Refused`. Status `Memory` says that memory ran out, and
-/// `Stream` that a read or a write failed; what it was is told on `err`, as far as that can be written. Then no more than a
-/// beginning is printed.
+/// says so. The first line that is refused is told on `err`; then nothing is printed, with status `Refused`. Status `Memory`
+/// says that memory ran out, and `Stream` that a read or a write failed; what it was is told on `err`, as far as that can be
+/// written. Then no more than a beginning is printed.
 pub fn inspect_text<R: BufRead + Drop, O: Write, E: Write>(
     alloc: Global,
     job: &InspectJob,
@@ -84,16 +83,17 @@ pub fn inspect_text<R: BufRead + Drop, O: Write, E: Write>(
 ) -> Status
     // All is printed; or the refusal is told, and nothing is printed.
     ensures answered { result ≡ Status.Done → IfSome (R.remaining input)
-        (IsAnswered job.now (O.contents out.old) (O.contents out.new) (E.contents err.old)
+        (IsInspectAnswered job.now (O.contents out.old) (O.contents out.new) (E.contents err.old)
         (E.contents err.new)) }
     ensures refused { result ≡ Status.Refused →
-        IfSome (R.remaining input) (IsRefusalTold (E.contents err.old) (E.contents err.new)) }
+        IfSome (R.remaining input) (IsInspectRefusalTold (E.contents err.old)
+        (E.contents err.new)) }
     ensures unwritten { result ≡ Status.Refused → O.contents out.new ≡ O.contents out.old }
     // Or memory or a stream failed, which is told last, as far as it can be; there is no other end.
     ensures cut { (result ≡ Status.Memory) ⊎ (result ≡ Status.Stream) →
         (failed : FailedStreams)
-        × IsCutShort (R.remaining input) job.now failed (O.contents out.old) (O.contents out.new)
-        (E.contents err.old) (E.contents err.new) result }
+        × IsInspectCutShort (R.remaining input) job.now failed (O.contents out.old)
+        (O.contents out.new) (E.contents err.old) (E.contents err.new) result }
     ensures not_words { result ≢ Status.Words }
 {
     inspect_noted(alloc, job, input, out, err, &mut FailedStreams::none())
@@ -101,7 +101,7 @@ pub fn inspect_text<R: BufRead + Drop, O: Write, E: Write>(
 
 // What is to be printed.
 #[derive(Drop)]
-struct Answer {
+struct InspectAnswer {
     warning: String,
     text: String,
 }
@@ -115,7 +115,7 @@ fn inspect_noted<R: BufRead + Drop, O: Write, E: Write>(
     err: &mut E,
     streams: &mut FailedStreams,
 ) -> Status
-    ensures { IsEnding (R.remaining input) job.now streams.new (O.contents out.old)
+    ensures { IsInspectEnding (R.remaining input) job.now streams.new (O.contents out.old)
         (O.contents out.new) (E.contents err.old) (E.contents err.new) result }
 {
     match answer_or_refuse(alloc, job, input, out, err, streams) {
@@ -133,51 +133,55 @@ fn answer_or_refuse<R: BufRead + Drop, O: Write, E: Write>(
     err: &mut E,
     streams: &mut FailedStreams,
 ) -> Result<Status, Failure>
-    ensures said { IfOk result (IsSaid (R.remaining input) job.now (O.contents out.old)
+    ensures said { IfOk result (IsInspectSaid (R.remaining input) job.now (O.contents out.old)
         (O.contents out.new) (E.contents err.old) (E.contents err.new)) }
-    ensures cut { IfErr result (EndsBy (R.remaining input) job.now streams.new (O.contents out.old)
-        (O.contents out.new) (E.contents err.old) (E.contents err.new)) }
+    ensures cut { IfErr result (InspectEndsBy (R.remaining input) job.now streams.new
+        (O.contents out.old) (O.contents out.new) (E.contents err.old) (E.contents err.new)) }
 {
     match answer_of(alloc, job, input) {
         Ok(answer) => print(job, &answer, out, err, streams),
-        Err(Fault::Refused(text)) => refuse(&text, err, streams),
-        Err(Fault::Failure(failure)) => Err(failure),
+        Err(Unanswered::Refused(text)) => refuse(&text, err, streams),
+        Err(Unanswered::Failure(failure)) => Err(failure),
     }
 }
 
 // What is to be printed of the LSAs that the lines of an input are.
-fn answer_of<R: BufRead + Drop>(alloc: Global, job: &InspectJob, input: R) -> Result<Answer, Fault>
+fn answer_of<R: BufRead + Drop>(
+    alloc: Global,
+    job: &InspectJob,
+    input: R,
+) -> Result<InspectAnswer, Unanswered>
     ensures answer { IfOk result (λ answer. IfSome (R.remaining input)
-        (IsAnswerOf job.now answer)) }
-    ensures fault { IfErr result (IsFault (R.remaining input)) }
+        (IsInspectAnswerOf job.now answer)) }
+    ensures fault { IfErr result (IsUnanswered (R.remaining input)) }
 {
     let listing = listing_of(alloc, input)?;
     let warning = warning_of(alloc, job, &listing)?;
     let text = text_of(alloc, job, &listing)?;
-    Ok(Answer { warning, text })
+    Ok(InspectAnswer { warning, text })
 }
 
 // The listing of the lines of an input.
-fn listing_of<R: BufRead + Drop>(alloc: Global, input: R) -> Result<Listing, Fault>
+fn listing_of<R: BufRead + Drop>(alloc: Global, input: R) -> Result<Listing, Unanswered>
     ensures whole { IfOk result (λ listing. IfSome (R.remaining input)
         (λ bytes. Reads bytes [] listing)) }
-    ensures fault { IfErr result (IsFault (R.remaining input)) }
+    ensures fault { IfErr result (IsUnanswered (R.remaining input)) }
 {
     match read_listing(alloc, input) {
         Ok(listing) => Ok(listing),
         Err(TableFault::Entry { number, fault }) => Err(line_refused(alloc, number, fault)),
-        Err(TableFault::Failure(failure)) => Err(Fault::Failure(failure)),
+        Err(TableFault::Failure(failure)) => Err(Unanswered::Failure(failure)),
     }
 }
 
 // The refusal of a line.
-fn line_refused(alloc: Global, number: u64, fault: EntryFault) -> Fault
+fn line_refused(alloc: Global, number: u64, fault: EntryFault) -> Unanswered
     ensures { (input : Option (List ℕ)) → IfSome input (λ bytes. Refuses bytes [] number fault) →
-        IsFault input result }
+        IsUnanswered input result }
 {
     match format!(in alloc; "line {number}: {}\n", fault.text()) {
-        Ok(text) => Fault::Refused(text),
-        Err(error) => Fault::from(error),
+        Ok(text) => Unanswered::Refused(text),
+        Err(error) => Unanswered::from(error),
     }
 }
 
@@ -238,17 +242,17 @@ fn drawing_text(alloc: Global, listing: &Listing) -> Result<String, AllocError>
 // Prints an answer, behind its warning.
 fn print<O: Write, E: Write>(
     job: &InspectJob,
-    answer: &Answer,
+    answer: &InspectAnswer,
     out: &mut O,
     err: &mut E,
     streams: &mut FailedStreams,
 ) -> Result<Status, Failure>
-    ensures said { (input : Option (List ℕ)) → IfSome input (IsAnswerOf job.now answer.now) →
-        IfOk result (IsSaid input job.now (O.contents out.old) (O.contents out.new)
+    ensures said { (input : Option (List ℕ)) → IfSome input (IsInspectAnswerOf job.now answer.now) →
+        IfOk result (IsInspectSaid input job.now (O.contents out.old) (O.contents out.new)
         (E.contents err.old) (E.contents err.new)) }
-    ensures cut { (input : Option (List ℕ)) → IfSome input (IsAnswerOf job.now answer.now) →
-        IfErr result (EndsBy input job.now streams.new (O.contents out.old) (O.contents out.new)
-        (E.contents err.old) (E.contents err.new)) }
+    ensures cut { (input : Option (List ℕ)) → IfSome input (IsInspectAnswerOf job.now answer.now) →
+        IfErr result (InspectEndsBy input job.now streams.new (O.contents out.old)
+        (O.contents out.new) (E.contents err.old) (E.contents err.new)) }
 {
     match streams.tell(err, &answer.warning) {
         Ok(()) => {}
@@ -263,11 +267,11 @@ fn print<O: Write, E: Write>(
 // Tells a refusal.
 fn refuse<E: Write>(text: &str, err: &mut E, streams: &mut FailedStreams) -> Result<Status, Failure>
     ensures said { (input : Option (List ℕ)) (job : InspectJob) (out : Option (List ℕ)) →
-        IfSome input (IsRefusal text.now) →
-        IfOk result (IsSaid input job out out (E.contents err.old) (E.contents err.new)) }
+        IfSome input (IsInspectRefusal text.now) →
+        IfOk result (IsInspectSaid input job out out (E.contents err.old) (E.contents err.new)) }
     ensures cut { (input : Option (List ℕ)) (job : InspectJob) (out : Option (List ℕ)) →
-        IfSome input (IsRefusal text.now) →
-        IfErr result (EndsBy input job streams.new out out (E.contents err.old)
+        IfSome input (IsInspectRefusal text.now) →
+        IfErr result (InspectEndsBy input job streams.new out out (E.contents err.old)
         (E.contents err.new)) }
 {
     match streams.tell(err, text) {

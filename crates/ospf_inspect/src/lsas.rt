@@ -11,7 +11,7 @@ ghost use Rattle.ospf_edges.specs.Listed.{advertisements_of};
 ghost use Rattle.ospf_edges.specs.Near.{AreEdgesAt};
 ghost use Rattle.ospf_script.specs.Texts.{hexadecimal};
 ghost use Rattle.ospf_inspect.specs.Lines.{AreLines};
-ghost use Rattle.ospf_inspect.specs.Lsas.{Joins, SaysOfAttached, SaysOfLink, SaysOfLsa, SaysOfNetwork, SaysOfRouter, link_line, member_text, name_of, network_line, one_way, router_line, stub_text, unused, virtual_text, way_of};
+ghost use Rattle.ospf_inspect.specs.Lsas.{AreJoinedBy, SaysOfAttached, SaysOfLink, SaysOfLsa, SaysOfNetwork, SaysOfRouter, link_line, member_text, network_name_of, network_line, one_way, router_line, stub_text, unused, virtual_text, way_of};
 
 use ospf_base::{Addr, Instance, Kind, RouterId};
 use ospf_edges::edges_at;
@@ -58,13 +58,13 @@ fn lsa_text(alloc: Global, listing: &Listing, lsa: &Lsa) -> Result<String, Alloc
 
 // What names the instance of an LSA, and its age.
 #[derive(Clone, Copy)]
-pub(crate) struct Shown {
+pub(crate) struct LsaShown {
     pub(crate) age: u16,
     pub(crate) instance: Instance,
 }
 
 /// As ` age 5 number 80000002 sum e02d`.
-impl Display for Shown {
+impl Display for LsaShown {
     ghost use Rattle.std.specs.Prelude.{Some};
     ghost use Rattle.ospf_inspect.specs.Lsas.{instance_text};
 
@@ -101,11 +101,11 @@ fn write_sum<W: Write>(f: &mut Formatter<W>, sum: u16) -> fmt::Result
 }
 
 // What names the instance of an LSA, and its age.
-pub(crate) fn shown_of(lsa: &LsaView) -> Shown
+pub(crate) fn shown_of(lsa: &LsaView) -> LsaShown
     ensures age { result.age ≡ (header_of lsa.now).age }
     ensures instance { result.instance ≡ instance_of lsa.now }
 {
-    Shown {
+    LsaShown {
         age: lsa.header().age.ticks(),
         instance: lsa.instance(),
     }
@@ -125,7 +125,7 @@ fn router_text(alloc: Global, listing: &Listing, lsa: &LsaView) -> Result<String
 }
 
 // The line of a router-LSA itself.
-fn router_line(alloc: Global, router: RouterId, shown: Shown) -> Result<String, AllocError>
+fn router_line(alloc: Global, router: RouterId, shown: LsaShown) -> Result<String, AllocError>
     ensures { IfOk result (λ line. string_bytes line
         ≡ router_line router shown.age shown.instance) }
 {
@@ -177,7 +177,7 @@ fn link_text(
 }
 
 // The line of a link to a router.
-fn router_link_line(alloc: Global, way: Way, mark: &str) -> Result<String, AllocError>
+fn router_link_line(alloc: Global, way: LinkWay, mark: &str) -> Result<String, AllocError>
     ensures { IfOk result (λ line. string_bytes line ≡ link_line (codes "router") way mark.now) }
 {
     let line = format!(in alloc; "  router {way}{mark}\n")?;
@@ -185,7 +185,7 @@ fn router_link_line(alloc: Global, way: Way, mark: &str) -> Result<String, Alloc
 }
 
 // The line of a link to a transit network.
-fn network_link_line(alloc: Global, way: Way, mark: &str) -> Result<String, AllocError>
+fn network_link_line(alloc: Global, way: LinkWay, mark: &str) -> Result<String, AllocError>
     ensures { IfOk result (λ line. string_bytes line ≡ link_line (codes "network") way mark.now) }
 {
     let line = format!(in alloc; "  network {way}{mark}\n")?;
@@ -194,14 +194,14 @@ fn network_link_line(alloc: Global, way: Way, mark: &str) -> Result<String, Allo
 
 // Where a link of type 1 or 2 leads, the address that it is from, and its cost.
 #[derive(Clone, Copy)]
-pub(crate) struct Way {
+pub(crate) struct LinkWay {
     to: Addr,
     from: Addr,
     cost: u16,
 }
 
 /// As `2.2.2.2 from 10.0.0.1 cost 10`.
-impl Display for Way {
+impl Display for LinkWay {
     ghost use Rattle.std.specs.Prelude.{Some};
     ghost use Rattle.ospf_inspect.specs.Lsas.{way_text};
 
@@ -213,10 +213,10 @@ impl Display for Way {
 }
 
 // Where a link leads.
-fn way_of(link: Link) -> Way
+fn way_of(link: Link) -> LinkWay
     ensures { result ≡ way_of link }
 {
-    Way {
+    LinkWay {
         to: Addr(link.id),
         from: Addr(link.link_data),
         cost: link.metric,
@@ -245,7 +245,7 @@ fn virtual_line(alloc: Global, to: RouterId) -> Result<String, AllocError>
 
 // Whether one of the edges leads from one vertex to the other.
 pub(crate) fn joins(edges: &[Edge], from: Vertex, to: Vertex) -> bool
-    ensures { IsTrue result ↔ Joins edges.now from to }
+    ensures { IsTrue result ↔ AreJoinedBy edges.now from to }
 {
     edges
         .iter()
@@ -278,7 +278,7 @@ fn network_text(alloc: Global, listing: &Listing, lsa: &LsaView) -> Result<Strin
 fn network_line(
     alloc: Global,
     name: NetworkName,
-    shown: Shown,
+    shown: LsaShown,
     mark: &str,
 ) -> Result<String, AllocError>
     ensures { IfOk result (λ line. string_bytes line
@@ -299,9 +299,9 @@ pub(crate) struct NetworkName {
 /// As `10.1.0.0/24 of 10.1.0.2 by 2.2.2.2`.
 impl Display for NetworkName {
     ghost use Rattle.std.specs.Prelude.{Some};
-    ghost use Rattle.ospf_inspect.specs.Lsas.{name_text};
+    ghost use Rattle.ospf_inspect.specs.Lsas.{network_name_text};
 
-    ghost output = { λ name. Some (name_text name) };
+    ghost output = { λ name. Some (network_name_text name) };
 
     fn fmt<W: Write>(&self, f: &mut Formatter<W>) -> fmt::Result {
         let prefix = Under {
@@ -315,7 +315,7 @@ impl Display for NetworkName {
 // The name of a network-LSA.
 pub(crate) fn name_of(lsa: &LsaView) -> NetworkName
     requires { IsNetworkLsa lsa.now }
-    ensures { result ≡ name_of lsa.now }
+    ensures { result ≡ network_name_of lsa.now }
 {
     let key = lsa.key();
     NetworkName {

@@ -30,7 +30,7 @@ pub fn path_text(
         choices.now (length listing.now) (string_bytes text)) }
 {
     let mut text = String::new(alloc);
-    let way = Way {
+    let way = PathState {
         at: from,
         paid: 0,
         choices,
@@ -42,7 +42,7 @@ pub fn path_text(
 
 // Where a way stands: at which router, what it has paid, the choices that are left, and how many more routers it may meet.
 #[derive(Clone, Copy)]
-struct Way<'a> {
+struct PathState<'a> {
     at: RouterId,
     paid: u128,
     choices: &'a [u32],
@@ -54,7 +54,7 @@ fn add_way(
     alloc: Global,
     listing: &Listing,
     address: Addr,
-    way: Way<'_>,
+    way: PathState<'_>,
     text: &mut String,
 ) -> Result<(), AllocError>
     requires { way.paid + 65536 * way.most < 2 ^ 127 }
@@ -72,7 +72,7 @@ fn add_way(
     let hop = hop_at(route, choice);
     let Some(next) = next_of(&hop) else {
         text.push_str(&leg_line(alloc, leg_of(way.at, route, choice, hop, route.cost))?)?;
-        let arrival = Arrival {
+        let arrival = PathEnd {
             prefix: route.prefix,
             paid: way.paid + route.cost as u128,
         };
@@ -85,7 +85,7 @@ fn add_way(
     }
     let cost = cost_of(listing, way.at, &hop);
     text.push_str(&leg_line(alloc, leg_of(way.at, route, choice, hop, cost as u64))?)?;
-    let onward = Way {
+    let onward = PathState {
         at: next,
         paid: way.paid + cost as u128,
         choices: later,
@@ -137,7 +137,7 @@ fn next_of(hop: &NextHop) -> Option<RouterId>
 
 // A router on a way: the hop that it takes, what that costs, and which of how many hops it is, from 0.
 #[derive(Clone, Copy)]
-pub(crate) struct Leg {
+pub(crate) struct PathLeg {
     at: RouterId,
     hop: NextHop,
     cost: u64,
@@ -146,7 +146,7 @@ pub(crate) struct Leg {
 }
 
 /// As `1.1.1.1 10.0.0.1>2.2.2.2 cost 10 hop 0 of 2`.
-impl Display for Leg {
+impl Display for PathLeg {
     ghost use Rattle.std.specs.Prelude.{Some};
     ghost use Rattle.ospf_inspect.specs.Path.{leg_text};
 
@@ -159,12 +159,12 @@ impl Display for Leg {
 }
 
 // What a router does on a way, by the hop that a choice takes.
-fn leg_of(at: RouterId, route: &Route, choice: u32, hop: NextHop, cost: u64) -> Leg
+fn leg_of(at: RouterId, route: &Route, choice: u32, hop: NextHop, cost: u64) -> PathLeg
     requires { 0 < length route.now.hops }
     ensures { result ≡ leg_of at choice route.now hop cost }
 {
     let count = route.hops.as_slice().len();
-    Leg {
+    PathLeg {
         at,
         hop,
         cost,
@@ -174,7 +174,7 @@ fn leg_of(at: RouterId, route: &Route, choice: u32, hop: NextHop, cost: u64) -> 
 }
 
 // The line of a router on a way.
-fn leg_line(alloc: Global, leg: Leg) -> Result<String, AllocError>
+fn leg_line(alloc: Global, leg: PathLeg) -> Result<String, AllocError>
     ensures { IfOk result (λ line. string_bytes line ≡ leg_line leg) }
 {
     let line = format!(in alloc; "{leg}\n")?;
@@ -182,7 +182,7 @@ fn leg_line(alloc: Global, leg: Leg) -> Result<String, AllocError>
 }
 
 // The line of the end of a way.
-fn arrived_line(alloc: Global, arrival: Arrival) -> Result<String, AllocError>
+fn arrived_line(alloc: Global, arrival: PathEnd) -> Result<String, AllocError>
     ensures { IfOk result (λ line. string_bytes line ≡ arrived_line arrival.prefix arrival.paid) }
 {
     let line = format!(in alloc; "{arrival}\n")?;
@@ -191,13 +191,13 @@ fn arrived_line(alloc: Global, arrival: Arrival) -> Result<String, AllocError>
 
 // The end of a way: the prefix that was reached, and what all of it cost.
 #[derive(Clone, Copy)]
-struct Arrival {
+struct PathEnd {
     prefix: Prefix,
     paid: u128,
 }
 
 /// As `10.0.0.0/30 cost 10 arrived`.
-impl Display for Arrival {
+impl Display for PathEnd {
     ghost use Rattle.std.specs.Prelude.{Some};
     ghost use Rattle.ospf_inspect.specs.Path.{arrived_text};
 

@@ -11,7 +11,7 @@ ghost use Rattle.ospf_inspect.specs.Json.{IsArray};
 ghost use Rattle.ospf_inspect.specs.Values.{SaysLsasInJson, TellsAttached, TellsLink, TellsLsa, TellsLsas, TellsNetwork, TellsRouter, instance_data, member_data, network_data, router_data, stub_data, virtual_data, way_data};
 
 use crate::json::json_line;
-use crate::lsas::{NetworkName, Shown, Sum, joins, name_of, shown_of, stands_for};
+use crate::lsas::{LsaShown, NetworkName, Sum, joins, name_of, shown_of, stands_for};
 use ospf_base::{Addr, Kind, RouterId};
 use ospf_edges::edges_at;
 use ospf_graph::{Edge, Vertex};
@@ -72,7 +72,7 @@ fn router_value(alloc: Global, listing: &Listing, lsa: &LsaView) -> Result<Value
 fn router_object(
     alloc: Global,
     router: RouterId,
-    shown: Shown,
+    shown: LsaShown,
     links: Value,
 ) -> Result<Value, AllocError>
     ensures { IfOk result (λ value. view value
@@ -92,7 +92,7 @@ fn router_object(
 }
 
 // What each object of an LSA has: its age, LS sequence number and checksum.
-fn instance_members(alloc: Global, shown: Shown) -> Result<Map<String, Value>, AllocError>
+fn instance_members(alloc: Global, shown: LsaShown) -> Result<Map<String, Value>, AllocError>
     ensures { IfOk result (λ members. members_view members.entries
         ≡ instance_data shown.age shown.instance) }
 {
@@ -193,7 +193,7 @@ fn network_value(alloc: Global, listing: &Listing, lsa: &LsaView) -> Result<Valu
 fn network_object(
     alloc: Global,
     name: NetworkName,
-    shown: Shown,
+    shown: LsaShown,
     attached: Value,
     unused: bool,
 ) -> Result<Value, AllocError>

@@ -14,8 +14,8 @@ use Rattle.ospf_spf.specs.Changes as tables
 use Rattle.ospf_spf.specs.declared.changes.Change as spf
 use Rattle.ospf_spf.specs.declared.changes.Change.TheVariants as put
 use Rattle.ospf_journal.specs.Seen.{SeenLinkValue, SeenValue}
-use Rattle.ospf_journal.specs.declared.change.Change.{Change}
-use Rattle.ospf_journal.specs.declared.change.Change.TheVariants as change
+use Rattle.ospf_journal.specs.declared.change.RouterChange.{RouterChange}
+use Rattle.ospf_journal.specs.declared.change.RouterChange.TheVariants as change
 use Rattle.ospf_journal.specs.declared.change.DroppedAt.{DroppedAt}
 use Rattle.ospf_journal.specs.declared.seen.SeenIface.{SeenIface}
 use Rattle.ospf_journal.specs.declared.seen.SeenNeighbour.{SeenNeighbour}
@@ -51,24 +51,24 @@ seen_state None = state.Down
 seen_state (Some n) = n.state
 
 -- a neighbour's state is another one
-abbrev pub state_change : ℕ → RouterId → (before now : NeighbourState) → List Change
+abbrev pub state_change : ℕ → RouterId → (before now : NeighbourState) → List RouterChange
 state_change link q before now =
     if state_place before == state_place now then [] else change.Neighbour link q before now ∷ []
 
 -- what changed of a neighbour that is there
-abbrev pub standing_change : ℕ → List SeenNeighbour → SeenNeighbour → List Change
+abbrev pub standing_change : ℕ → List SeenNeighbour → SeenNeighbour → List RouterChange
 standing_change link before n = state_change link n.router (seen_state (seen_as before n.router)) n.state
 
 -- one that was there is no more
-abbrev pub gone_change : ℕ → List SeenNeighbour → SeenNeighbour → List Change
+abbrev pub gone_change : ℕ → List SeenNeighbour → SeenNeighbour → List RouterChange
 gone_change link now n = if is_some (seen_as now n.router) then [] else state_change link n.router n.state state.Down
 
 -- the neighbours of a link whose state is another one: those that are there, and then those that are gone, each by Router ID
-abbrev pub link_changes : ℕ → (before now : List SeenNeighbour) → List Change
+abbrev pub link_changes : ℕ → (before now : List SeenNeighbour) → List RouterChange
 link_changes link before now = flat_map (standing_change link before) now ++ flat_map (gone_change link now) before
 
 -- those of the first so many links
-abbrev pub links_changes : (before now : List SeenLinkValue) → ℕ → List Change
+abbrev pub links_changes : (before now : List SeenLinkValue) → ℕ → List RouterChange
 links_changes before now zero = []
 links_changes before now (suc link) =
     links_changes before now link ++ link_changes link (seen_on before link) (seen_on now link)
@@ -100,12 +100,12 @@ abbrev pub is_same_iface : SeenIface → SeenIface → Bool
 is_same_iface a b = (iface_place a.state == iface_place b.state) && (a.dr.0 == b.dr.0) && (a.backup.0 == b.backup.0)
 
 -- its state, the Designated Router or the Backup is another one
-abbrev pub iface_change : ℕ → (before now : SeenIface) → List Change
+abbrev pub iface_change : ℕ → (before now : SeenIface) → List RouterChange
 iface_change link before now =
     if is_same_iface before now then [] else change.Interface link before.state now ∷ []
 
 -- those of the first so many links
-abbrev pub ifaces_changes : (before now : List SeenLinkValue) → ℕ → List Change
+abbrev pub ifaces_changes : (before now : List SeenLinkValue) → ℕ → List RouterChange
 ifaces_changes before now zero = []
 ifaces_changes before now (suc link) =
     ifaces_changes before now link ++ iface_change link (iface_on before link) (iface_on now link)
@@ -134,24 +134,24 @@ abbrev pub held_before : Option SeenOwn → Bool
 held_before None = false
 held_before (Some o) = o.is_held
 
-abbrev pub issue_change : Option SeenOwn → SeenOwn → List Change
+abbrev pub issue_change : Option SeenOwn → SeenOwn → List RouterChange
 issue_change before o = if is_issued (issued_before before) o.issued_at then change.Issued o.key o.number ∷ [] else []
 
 -- it came to MaxAge (14.1)
-abbrev pub flush_change : Option SeenOwn → SeenOwn → List Change
+abbrev pub flush_change : Option SeenOwn → SeenOwn → List RouterChange
 flush_change before o = if o.is_flushed && not (flushed_before before) then change.Flushed o.key o.number ∷ [] else []
 
 -- it left the database (14)
-abbrev pub removal_change : Option SeenOwn → SeenOwn → List Change
+abbrev pub removal_change : Option SeenOwn → SeenOwn → List RouterChange
 removal_change before o = if held_before before && not o.is_held then change.Removed o.key ∷ [] else []
 
-abbrev pub change_of_own : Option SeenOwn → SeenOwn → List Change
+abbrev pub change_of_own : Option SeenOwn → SeenOwn → List RouterChange
 change_of_own before o = issue_change before o ++ flush_change before o ++ removal_change before o
 
-abbrev pub own_change : List SeenOwn → SeenOwn → List Change
+abbrev pub own_change : List SeenOwn → SeenOwn → List RouterChange
 own_change before o = change_of_own (own_as before o.key) o
 
-abbrev pub own_changes : (before now : List SeenOwn) → List Change
+abbrev pub own_changes : (before now : List SeenOwn) → List RouterChange
 own_changes before now = flat_map (own_change before) now
 
 -- ---- routes
@@ -160,34 +160,34 @@ own_changes before now = flat_map (own_change before) now
 pub record LeadsOn (before now : List Route) (routes : List spf.Change) : Type 0 where
   pub applied : tables.edited before routes ≡ now
   pub in_order : AllPairs tables.IsChangeBefore routes
-  pub puts : (route : Route) → Contains routes (put.Put route) ↔ tables.IsNew before now route
+  pub puts : (route : Route) → Contains routes (put.Put route) ↔ tables.IsNewRoute before now route
   pub gone : (prefix : Prefix) → Contains routes (put.Gone prefix) ↔ tables.IsGone before now prefix
 
 -- as a journal tells it
-abbrev pub route_change : spf.Change → Change
+abbrev pub route_change : spf.Change → RouterChange
 route_change (put.Put route) = change.Route route
 route_change (put.Gone prefix) = change.NoRoute prefix
 
 -- ---- a step
 
 -- a datagram that is dropped
-abbrev pub drop_change : Option DroppedAt → List Change
+abbrev pub drop_change : Option DroppedAt → List RouterChange
 drop_change None = []
 drop_change (Some dropped) = change.Dropped dropped ∷ []
 
 -- all but the routes: the datagram that is dropped, the neighbours whose state is another one, link by link, then the interfaces, and then the own LSAs
-abbrev pub standing_changes : (before now : SeenValue) → Option DroppedAt → List Change
+abbrev pub standing_changes : (before now : SeenValue) → Option DroppedAt → List RouterChange
 standing_changes before now dropped =
     drop_change dropped ++ links_changes before.links now.links (max (length before.links) (length now.links))
     ++ ifaces_changes before.links now.links (max (length before.links) (length now.links))
     ++ own_changes before.own now.own
 
 -- the changes of a table go on from these changes to those
-pub record LeadsAlong (before now : List Route) (changes changes' : List Change) : Type 0 where
+pub record LeadsAlong (before now : List Route) (changes changes' : List RouterChange) : Type 0 where
   pub routes : List spf.Change
   pub leads : LeadsOn before now routes
   pub all : changes' ≡ changes ++ map route_change routes
 
 -- the changes of a step that leads from the one to the other: these, and behind them the routes that are others
-abbrev pub AreChanges : (before now : SeenValue) → Option DroppedAt → List Change → Type 0
+abbrev pub AreChanges : (before now : SeenValue) → Option DroppedAt → List RouterChange → Type 0
 AreChanges before now dropped changes = LeadsAlong before.table now.table (standing_changes before now dropped) changes

@@ -9,11 +9,11 @@ use Rattle.ospf_iface.specs.declared.machine.IfaceState.TheVariants as iface
 use Rattle.ospf_neighbour.specs.Text.{state_text}
 use Rattle.ospf_neighbour.specs.declared.machine.NeighbourState.{NeighbourState}
 use Rattle.ospf_script.specs.Texts.{floor_text}
-use Rattle.ospf_script.specs.Views.{kind_text}
+use Rattle.ospf_script.specs.Views.{lsa_kind_text}
 use Rattle.ospf_step.specs.Text.{dropped_text}
-use Rattle.ospf_journal.specs.declared.change.Change.{Change}
-use Rattle.ospf_journal.specs.declared.change.Change.TheVariants as change
-use Rattle.ospf_journal.specs.declared.line.Line.{Line}
+use Rattle.ospf_journal.specs.declared.change.RouterChange.{RouterChange}
+use Rattle.ospf_journal.specs.declared.change.RouterChange.TheVariants as change
+use Rattle.ospf_journal.specs.declared.line.JournalLine.{JournalLine}
 use Rattle.ospf_journal.specs.declared.seen.SeenIface.{SeenIface}
 
 -- the name of an interface's state (RFC 2328, section 9.1)
@@ -27,7 +27,7 @@ iface_text iface.Dr = codes "DR"
 
 -- the kind and the Link State ID of an own LSA
 unfoldable pub own_text : LsaKey → List ℕ
-own_text key = kind_text key.kind ++ codes " " ++ number_text key.id
+own_text key = lsa_kind_text key.kind ++ codes " " ++ number_text key.id
 
 -- a state that was, and one that is
 unfoldable pub states_text : NeighbourState → NeighbourState → List ℕ
@@ -45,7 +45,7 @@ unfoldable pub neighbour_on : ℕ → RouterId → List ℕ
 neighbour_on link q = codes "link " ++ decimal link ++ codes " neighbour " ++ number_text q.0 ++ codes " "
 
 -- what changed
-abbrev pub change_text : Change → List ℕ
+abbrev pub change_text : RouterChange → List ℕ
 change_text (change.Dropped d) =
     codes "link " ++ decimal d.link ++ codes " dropped " ++ dropped_text d.cause ++ codes " " ++ number_text d.source.0
 change_text (change.Neighbour link router before now) = neighbour_on link router ++ states_text before now
@@ -58,5 +58,5 @@ change_text (change.Route route) = codes "route " ++ route_text route
 change_text (change.NoRoute prefix) = codes "no route " ++ prefix_text prefix
 
 -- a line: the tick, the router, and what changed
-abbrev pub line_text : Line → List ℕ
+abbrev pub line_text : JournalLine → List ℕ
 line_text line = decimal line.tick ++ codes " " ++ number_text line.router.0 ++ codes " " ++ change_text line.change.now

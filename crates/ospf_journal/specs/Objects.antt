@@ -10,11 +10,11 @@ use Rattle.ospf_iface.specs.declared.machine.IfaceState.{IfaceState}
 use Rattle.ospf_neighbour.specs.Text.{state_text}
 use Rattle.ospf_neighbour.specs.declared.machine.NeighbourState.{NeighbourState}
 use Rattle.ospf_script.specs.Texts.{floor_text}
-use Rattle.ospf_script.specs.Views.{kind_text}
+use Rattle.ospf_script.specs.Views.{lsa_kind_text}
 use Rattle.ospf_step.specs.Text.{dropped_text}
 use Rattle.ospf_journal.specs.Lines.{iface_text}
-use Rattle.ospf_journal.specs.declared.change.Change.{Change}
-use Rattle.ospf_journal.specs.declared.change.Change.TheVariants as change
+use Rattle.ospf_journal.specs.declared.change.RouterChange.{RouterChange}
+use Rattle.ospf_journal.specs.declared.change.RouterChange.TheVariants as change
 use Rattle.ospf_journal.specs.declared.change.DroppedAt.{DroppedAt}
 use Rattle.ospf_journal.specs.declared.json.Object.{Object}
 use Rattle.ospf_journal.specs.declared.seen.SeenIface.{SeenIface}
@@ -40,7 +40,7 @@ elected_members i = codes ",\"dr\":\"" ++ number_text i.dr.0 ++ codes "\",\"back
 
 -- the kind and the Link State ID of an own LSA
 unfoldable pub own_members : LsaKey → List ℕ
-own_members key = codes ",\"lsa\":\"" ++ kind_text key.kind ++ codes "\",\"id\":\"" ++ number_text key.id ++ codes "\""
+own_members key = codes ",\"lsa\":\"" ++ lsa_kind_text key.kind ++ codes "\",\"id\":\"" ++ number_text key.id ++ codes "\""
 
 -- its number
 unfoldable pub number_member : ℤ → List ℕ
@@ -55,7 +55,7 @@ unfoldable pub path_members : Route → List ℕ
 path_members route = codes ",\"cost\":" ++ decimal route.cost ++ codes ",\"hops\":\"" ++ hops_text route.hops ++ codes "\""
 
 -- the members of what changed, the first of which names it
-abbrev pub change_members : Change → List ℕ
+abbrev pub change_members : RouterChange → List ℕ
 change_members (change.Dropped d) = codes "\"event\":\"dropped\",\"link\":" ++ decimal d.link ++ cause_members d
 change_members (change.Neighbour link router before now) =
     codes "\"event\":\"neighbour\",\"link\":" ++ decimal link ++ router_member router ++ states_members before now

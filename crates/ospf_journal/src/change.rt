@@ -17,7 +17,7 @@ pub struct DroppedAt {
 
 /// One change of a router.
 #[derive(Debug, Drop)]
-pub enum Change {
+pub enum RouterChange {
     /// A datagram was dropped.
     Dropped(DroppedAt),
     /// The state of a neighbour on a link is another one; one that is not there is Down.

@@ -4,7 +4,7 @@ ghost use Rattle.std.specs.Fmt.{WritesOnOk};
 ghost use Rattle.std.specs.Prelude.{◌++◌};
 ghost use Rattle.ospf_journal.specs.Objects.{cause_members, change_members, elected_members, iface_states_members, moment_members, number_member, own_members, path_members, prefix_member, router_member, states_members};
 
-use crate::change::{Change, DroppedAt};
+use crate::change::{DroppedAt, RouterChange};
 use crate::line::iface_text;
 use crate::seen::SeenIface;
 use ospf_base::{Kind, LsaKey, Prefix, RouterId};
@@ -19,7 +19,7 @@ use std::fmt::{self, Display, Formatter, Write};
 pub struct Object<'a> {
     pub tick: u64,
     pub router: RouterId,
-    pub change: &'a Change,
+    pub change: &'a RouterChange,
 }
 
 /// As `{"tick":1204,"router":"1.1.1.1","event":"no route","prefix":"10.0.0.0/30"}`.
@@ -45,15 +45,15 @@ fn write_moment<W: Write>(f: &mut Formatter<W>, tick: u64, router: RouterId) -> 
 }
 
 // The members of what changed.
-fn write_change<W: Write>(f: &mut Formatter<W>, change: &Change) -> fmt::Result
+fn write_change<W: Write>(f: &mut Formatter<W>, change: &RouterChange) -> fmt::Result
     ensures { WritesOnOk W.Write.write_str_gives f.old result (change_members change.now) f.new }
 {
     match change {
-        Change::Dropped(d) => {
+        RouterChange::Dropped(d) => {
             write!(f, "\"event\":\"dropped\",\"link\":{}", d.link)?;
             write_cause(f, d)
         }
-        Change::Neighbour {
+        RouterChange::Neighbour {
             link,
             router,
             before,
@@ -62,28 +62,28 @@ fn write_change<W: Write>(f: &mut Formatter<W>, change: &Change) -> fmt::Result
             write!(f, "\"event\":\"neighbour\",\"link\":{link}")?;
             write_neighbour(f, *router, *before, *now)
         }
-        Change::Interface { link, before, now } => {
+        RouterChange::Interface { link, before, now } => {
             write!(f, "\"event\":\"interface\",\"link\":{link}")?;
             write_iface_states(f, *before, now.state)?;
             write_elected(f, now)
         }
-        Change::Issued { key, number } => {
+        RouterChange::Issued { key, number } => {
             f.write_str("\"event\":\"issued\"")?;
             write_numbered(f, key, *number)
         }
-        Change::Flushed { key, number } => {
+        RouterChange::Flushed { key, number } => {
             f.write_str("\"event\":\"flushed\"")?;
             write_numbered(f, key, *number)
         }
-        Change::Removed { key } => {
+        RouterChange::Removed { key } => {
             f.write_str("\"event\":\"removed\"")?;
             write_own(f, key)
         }
-        Change::Route(route) => {
+        RouterChange::Route(route) => {
             f.write_str("\"event\":\"route\"")?;
             write_route(f, route)
         }
-        Change::NoRoute(prefix) => {
+        RouterChange::NoRoute(prefix) => {
             f.write_str("\"event\":\"no route\"")?;
             write_prefix(f, prefix)
         }

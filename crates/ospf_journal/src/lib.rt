@@ -1,7 +1,7 @@
 //! A journal of routers: what changes of one in a step, a line a change.
 //!
-//! A `Seen` is what is kept of a router from step to step. `Seen::follow` tells what changed of it (`Change`), in the
-//! order that `specs/Changes` states, and `Line` and `Object` write a change as a line of text and as a JSON object
+//! A `Seen` is what is kept of a router from step to step. `Seen::follow` tells what changed of it (`RouterChange`), in the
+//! order that `specs/Changes` states, and `JournalLine` and `Object` write a change as a line of text and as a JSON object
 //! (`specs/Lines`, `specs/Objects`). `dropped_of` tells why a router drops a datagram that comes to it.
 #![tactic(auto)]
 
@@ -13,8 +13,8 @@ mod seen;
 mod told;
 
 pub use crate::cause::dropped_of;
-pub use crate::change::{Change, DroppedAt};
+pub use crate::change::{DroppedAt, RouterChange};
 pub use crate::json::Object;
-pub use crate::line::{Line, iface_text};
+pub use crate::line::{JournalLine, iface_text};
 pub use crate::seen::{Seen, SeenIface, SeenNeighbour, SeenOwn};
 pub use ospf_step::Dropped;

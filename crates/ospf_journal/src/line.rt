@@ -4,7 +4,7 @@ ghost use Rattle.std.specs.Fmt.{WritesOnOk};
 ghost use Rattle.std.specs.Prelude.{◌≡◌};
 ghost use Rattle.ospf_journal.specs.Lines.{elected_text, iface_states_text, iface_text, neighbour_on, own_text, states_text};
 
-use crate::change::Change;
+use crate::change::RouterChange;
 use crate::seen::SeenIface;
 use ospf_base::{Kind, LsaKey, RouterId};
 use ospf_iface::IfaceState;
@@ -14,14 +14,14 @@ use std::fmt::{self, Display, Formatter, Write};
 
 /// A line of a journal: the tick, the router, and what changed of it.
 #[derive(Clone, Copy, Debug)]
-pub struct Line<'a> {
+pub struct JournalLine<'a> {
     pub tick: u64,
     pub router: RouterId,
-    pub change: &'a Change,
+    pub change: &'a RouterChange,
 }
 
 /// As `1204 1.1.1.1 link 0 neighbour 2.2.2.2 Exchange Loading`.
-impl Display for Line<'_> {
+impl Display for JournalLine<'_> {
     ghost use Rattle.std.specs.Prelude.{Some};
     ghost use Rattle.ospf_journal.specs.Lines.{line_text};
 
@@ -33,7 +33,7 @@ impl Display for Line<'_> {
 }
 
 /// As `link 0 neighbour 2.2.2.2 Exchange Loading`.
-impl Display for Change {
+impl Display for RouterChange {
     ghost use Rattle.std.specs.Prelude.{Some};
     ghost use Rattle.ospf_journal.specs.Lines.{change_text};
 
@@ -41,8 +41,12 @@ impl Display for Change {
 
     fn fmt<W: Write>(&self, f: &mut Formatter<W>) -> fmt::Result {
         match self {
-            Change::Dropped(d) => write!(f, "link {} dropped {} {}", d.link, d.cause, d.source),
-            Change::Neighbour {
+            RouterChange::Dropped(d) => write!(
+                f,
+                "link {} dropped {} {}",
+                d.link, d.cause, d.source
+            ),
+            RouterChange::Neighbour {
                 link,
                 router,
                 before,
@@ -51,27 +55,27 @@ impl Display for Change {
                 write_neighbour_on(f, *link, *router)?;
                 write_states(f, *before, *now)
             }
-            Change::Interface { link, before, now } => {
+            RouterChange::Interface { link, before, now } => {
                 write!(f, "link {link} interface ")?;
                 write_iface_states(f, *before, now.state)?;
                 write_elected(f, now)
             }
-            Change::Issued { key, number } => {
+            RouterChange::Issued { key, number } => {
                 f.write_str("issued ")?;
                 write_own(f, key)?;
                 write!(f, " {}", FloorShown(*number))
             }
-            Change::Flushed { key, number } => {
+            RouterChange::Flushed { key, number } => {
                 f.write_str("flushed ")?;
                 write_own(f, key)?;
                 write!(f, " {}", FloorShown(*number))
             }
-            Change::Removed { key } => {
+            RouterChange::Removed { key } => {
                 f.write_str("removed ")?;
                 write_own(f, key)
             }
-            Change::Route(route) => write!(f, "route {route}"),
-            Change::NoRoute(prefix) => write!(f, "no route {prefix}"),
+            RouterChange::Route(route) => write!(f, "route {route}"),
+            RouterChange::NoRoute(prefix) => write!(f, "no route {prefix}"),
         }
     }
 }

@@ -4,9 +4,9 @@ ghost use Rattle.std.specs.Prelude.{◌≡◌, IfOk, map};
 ghost use Rattle.std.specs.Option.{option_copied};
 ghost use Rattle.ospf_journal.specs.Seen.{is_flushed_in, seen_iface, seen_link, seen_links, seen_neighbour, seen_own, seen_owns};
 
-use crate::change::{Change, DroppedAt};
+use crate::change::{DroppedAt, RouterChange};
 use crate::told::{lead, push_drop, push_ifaces, push_neighbours, push_own};
-use ospf_area::{Area, Link, Numbering};
+use ospf_area::{Area, AreaLink, Numbering};
 use ospf_base::{Addr, LsaKey, MAX_AGE, RouterId};
 use ospf_iface::{Iface, IfaceState};
 use ospf_lsdb::{EntryView, Lsdb};
@@ -110,7 +110,7 @@ impl Seen {
         router: &Router,
         dropped: Option<DroppedAt>,
         alloc: Global,
-    ) -> Result<Vec<Change>, AllocError>
+    ) -> Result<Vec<RouterChange>, AllocError>
         ensures changes { IfOk result (λ changes. AreChanges self.old (seen_of router.now) dropped
             changes.items) }
         ensures seen { OnOk result (self.new ≡ seen_of router.now) }
@@ -118,19 +118,19 @@ impl Seen {
     {
         let links = links_in(router.area(), alloc)?;
         let own = own_in(router.area(), alloc)?;
-        self.go_to(Standing { links, own }, router.table(), dropped, alloc)
+        self.go_to(SeenState { links, own }, router.table(), dropped, alloc)
     }
 
     /// What changed as the router stopped; nothing is seen of it from now on.
     ///
     /// `AllocError` where memory runs out; then it is seen as before.
-    pub fn end(&mut self, alloc: Global) -> Result<Vec<Change>, AllocError>
+    pub fn end(&mut self, alloc: Global) -> Result<Vec<RouterChange>, AllocError>
         ensures changes { IfOk result (λ changes. AreChanges self.old nothing_seen None
             changes.items) }
         ensures seen { OnOk result (self.new ≡ nothing_seen) }
         ensures err { OnErr result (self.new ≡ self.old) }
     {
-        let standing = Standing {
+        let standing = SeenState {
             links: Vec::new(alloc),
             own: Vec::new(alloc),
         };
@@ -141,11 +141,11 @@ impl Seen {
     // What changes to these links, these own LSAs and this table, which are seen from now on.
     fn go_to(
         &mut self,
-        standing: Standing,
+        standing: SeenState,
         table: &RouteTable,
         dropped: Option<DroppedAt>,
         alloc: Global,
-    ) -> Result<Vec<Change>, AllocError>
+    ) -> Result<Vec<RouterChange>, AllocError>
         ensures changes { IfOk result (λ changes. AreChanges self.old
             (record { links = standing.links.items; own = standing.own.items; table = table.now })
             dropped changes.items) }
@@ -162,7 +162,7 @@ impl Seen {
         push_ifaces(&mut changes, &self.links, &standing.links)?;
         push_own(&mut changes, &self.own, &standing.own)?;
         lead(&mut self.table, table, &mut changes, alloc)?;
-        let Standing { links, own } = standing;
+        let SeenState { links, own } = standing;
         self.links = links;
         self.own = own;
         Ok(changes)
@@ -171,7 +171,7 @@ impl Seen {
 
 // All that is kept of a router but its table.
 #[derive(Drop)]
-struct Standing {
+struct SeenState {
     links: Vec<SeenLink>,
     own: Vec<SeenOwn>,
 }
@@ -187,7 +187,7 @@ fn links_in(area: Option<&Area>, alloc: Global) -> Result<Vec<SeenLink>, AllocEr
 }
 
 // What is kept of links.
-fn links_of(links: &[Link], alloc: Global) -> Result<Vec<SeenLink>, AllocError>
+fn links_of(links: &[AreaLink], alloc: Global) -> Result<Vec<SeenLink>, AllocError>
     ensures { IfOk result (λ seen. seen.items ≡ map seen_link links.now) }
 {
     let mut seen = Vec::with_capacity(alloc, links.len())?;
@@ -198,7 +198,7 @@ fn links_of(links: &[Link], alloc: Global) -> Result<Vec<SeenLink>, AllocError>
 }
 
 // What is kept of a link.
-fn link_of(link: &Link, alloc: Global) -> Result<SeenLink, AllocError>
+fn link_of(link: &AreaLink, alloc: Global) -> Result<SeenLink, AllocError>
     ensures { IfOk result (λ seen. seen ≡ seen_link link.now) }
 {
     Ok(SeenLink {

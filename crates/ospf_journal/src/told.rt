@@ -5,7 +5,7 @@ ghost use Rattle.std.specs.Prelude.{◌≡◌, ◌++◌, All, AllPairs, IfOk, On
 ghost use Rattle.std.specs.Option.{option_copied};
 ghost use Rattle.ospf_journal.specs.Changes.{LeadsAlong, change_of_own, drop_change, flush_change, flushed_before, gone_change, held_before, iface_change, iface_on, iface_place, ifaces_changes, is_issued, is_same_iface, issue_change, issued_before, link_changes, links_changes, own_as, own_change, own_changes, removal_change, route_change, seen_as, seen_on, seen_state, standing_change, state_change, state_place};
 
-use crate::change::{Change, DroppedAt};
+use crate::change::{DroppedAt, RouterChange};
 use crate::seen::{SeenIface, SeenLink, SeenNeighbour, SeenOwn};
 use ospf_base::{Addr, LsaKey, RouterId};
 use ospf_iface::IfaceState;
@@ -15,20 +15,20 @@ use std::alloc::{AllocError, Global};
 
 /// Adds the datagram that was dropped, if one was.
 pub(crate) fn push_drop(
-    changes: &mut Vec<Change>,
+    changes: &mut Vec<RouterChange>,
     dropped: Option<DroppedAt>,
 ) -> Result<(), AllocError>
     ensures { OnOk result (changes.new.items ≡ changes.old.items ++ drop_change dropped) }
 {
     if let Some(dropped) = dropped {
-        changes.push(Change::Dropped(dropped))?;
+        changes.push(RouterChange::Dropped(dropped))?;
     }
     Ok(())
 }
 
 /// Adds the neighbours of all links whose state is another one.
 pub(crate) fn push_neighbours(
-    changes: &mut Vec<Change>,
+    changes: &mut Vec<RouterChange>,
     before: &[SeenLink],
     now: &[SeenLink],
 ) -> Result<(), AllocError>
@@ -43,7 +43,7 @@ pub(crate) fn push_neighbours(
 
 /// Adds the interfaces of all links that are others.
 pub(crate) fn push_ifaces(
-    changes: &mut Vec<Change>,
+    changes: &mut Vec<RouterChange>,
     before: &[SeenLink],
     now: &[SeenLink],
 ) -> Result<(), AllocError>
@@ -58,7 +58,7 @@ pub(crate) fn push_ifaces(
 
 /// Adds what changed of the router's own LSAs.
 pub(crate) fn push_own(
-    changes: &mut Vec<Change>,
+    changes: &mut Vec<RouterChange>,
     before: &[SeenOwn],
     now: &[SeenOwn],
 ) -> Result<(), AllocError>
@@ -77,7 +77,7 @@ pub(crate) fn push_own(
 pub(crate) fn lead(
     table: &mut RouteTable,
     to: &RouteTable,
-    changes: &mut Vec<Change>,
+    changes: &mut Vec<RouterChange>,
     alloc: Global,
 ) -> Result<(), AllocError>
     ensures along { OnOk result (LeadsAlong table.old to.now changes.old.items changes.new.items) }
@@ -92,7 +92,7 @@ pub(crate) fn lead(
 
 // Adds the changes of a table.
 fn push_routes(
-    changes: &mut Vec<Change>,
+    changes: &mut Vec<RouterChange>,
     routes: &[spf::Change],
     alloc: Global,
 ) -> Result<(), AllocError>
@@ -120,7 +120,7 @@ fn edit(table: &mut RouteTable, routes: &[spf::Change], alloc: Global) -> Result
 
 // Adds the neighbours of a link whose state is another one.
 fn push_of_link(
-    changes: &mut Vec<Change>,
+    changes: &mut Vec<RouterChange>,
     link: usize,
     before: &[SeenNeighbour],
     now: &[SeenNeighbour],
@@ -134,7 +134,7 @@ fn push_of_link(
 
 // Adds those that are there.
 fn push_standing(
-    changes: &mut Vec<Change>,
+    changes: &mut Vec<RouterChange>,
     link: usize,
     before: &[SeenNeighbour],
     now: &[SeenNeighbour],
@@ -151,7 +151,7 @@ fn push_standing(
 
 // Adds those that are gone.
 fn push_gone(
-    changes: &mut Vec<Change>,
+    changes: &mut Vec<RouterChange>,
     link: usize,
     now: &[SeenNeighbour],
     before: &[SeenNeighbour],
@@ -167,7 +167,7 @@ fn push_gone(
 
 // Adds one that is gone.
 fn push_gone_one(
-    changes: &mut Vec<Change>,
+    changes: &mut Vec<RouterChange>,
     link: usize,
     now: &[SeenNeighbour],
     neighbour: &SeenNeighbour,
@@ -184,7 +184,7 @@ fn push_gone_one(
 
 // Adds a state that is another one.
 fn push_state(
-    changes: &mut Vec<Change>,
+    changes: &mut Vec<RouterChange>,
     link: usize,
     router: RouterId,
     before: NeighbourState,
@@ -194,7 +194,7 @@ fn push_state(
         ++ state_change link router before now) }
 {
     if state_place(before) != state_place(now) {
-        changes.push(Change::Neighbour {
+        changes.push(RouterChange::Neighbour {
             link,
             router,
             before,
@@ -248,7 +248,7 @@ fn seen_state(neighbour: Option<&SeenNeighbour>) -> NeighbourState
 
 // Adds an interface that is another one.
 fn push_iface(
-    changes: &mut Vec<Change>,
+    changes: &mut Vec<RouterChange>,
     link: usize,
     before: SeenIface,
     now: SeenIface,
@@ -256,7 +256,7 @@ fn push_iface(
     ensures { OnOk result (changes.new.items ≡ changes.old.items ++ iface_change link before now) }
 {
     if !is_same_iface(before, now) {
-        changes.push(Change::Interface {
+        changes.push(RouterChange::Interface {
             link,
             before: before.state,
             now,
@@ -311,7 +311,7 @@ fn own_as<'a>(own: &'a [SeenOwn], key: &LsaKey) -> Option<&'a SeenOwn>
 
 // Adds what changed of an own LSA.
 fn push_own_of(
-    changes: &mut Vec<Change>,
+    changes: &mut Vec<RouterChange>,
     before: Option<&SeenOwn>,
     own: &SeenOwn,
 ) -> Result<(), AllocError>
@@ -320,13 +320,13 @@ fn push_own_of(
 {
     let SeenOwn { key, number, .. } = *own;
     if is_issued(issued_before(before), own.issued_at) {
-        changes.push(Change::Issued { key, number })?;
+        changes.push(RouterChange::Issued { key, number })?;
     }
     if own.is_flushed && !flushed_before(before) {
-        changes.push(Change::Flushed { key, number })?;
+        changes.push(RouterChange::Flushed { key, number })?;
     }
     if held_before(before) && !own.is_held {
-        changes.push(Change::Removed { key })?;
+        changes.push(RouterChange::Removed { key })?;
     }
     Ok(())
 }
@@ -373,11 +373,11 @@ fn held_before(before: Option<&SeenOwn>) -> bool
 }
 
 // A change of a table, as a journal tells it.
-fn route_change(change: &spf::Change, alloc: Global) -> Result<Change, AllocError>
+fn route_change(change: &spf::Change, alloc: Global) -> Result<RouterChange, AllocError>
     ensures { IfOk result (λ told. told ≡ route_change change.now) }
 {
     match change {
-        spf::Change::Put(route) => Ok(Change::Route(route.copy(alloc)?)),
-        spf::Change::Gone(prefix) => Ok(Change::NoRoute(*prefix)),
+        spf::Change::Put(route) => Ok(RouterChange::Route(route.copy(alloc)?)),
+        spf::Change::Gone(prefix) => Ok(RouterChange::NoRoute(*prefix)),
     }
 }

@@ -12,7 +12,7 @@ use Rattle.ospf_adjacency.proofs.StayLemmas.{adjusted_rises}
 use Rattle.std.proofs.Common.{if◌then◌else◌, true, false}
 use Rattle.ospf_iface.specs.declared.machine.Iface.{Iface}
 use Rattle.ospf_neighbour.specs.Neighbour.{NeighbourValue}
-use Rattle.ospf_neighbour.specs.Neighbours.{AreNeighbours, IsRising, neighbour_of}
+use Rattle.ospf_neighbour.specs.Neighbours.{AreNeighbours, AreNeighboursRising, neighbour_of}
 use Rattle.ospf_packet.specs.declared.body.Hello.{Hello}
 use Rattle.ospf_exchange.specs.declared.rule.Local.{Local}
 use Rattle.ospf_adjacency.specs.Heard.{Neighbourhood, hello_on, hello_turn, turn_of, sender_of, place_for, put}
@@ -28,7 +28,7 @@ few_new n ns lt other =
     let longer : length (put n ns) ≡ length ns + 1 = ap (λ (l : List NeighbourValue). length l) (put_new ns n other) ∙ length-insert ns (place_for ns n.router.0) n (place_within ns n.router.0) in
     omega (arith, longer, lt)
 
-pub few_by : (n : NeighbourValue) (ns : List NeighbourValue) → IsRising ns → length ns ≤ 255 → (neighbour_of ns n.router ≡ None → length ns < 255) → (o : Option NeighbourValue) → o ≡ slice_get ns (place_for ns n.router.0) → length (put n ns) ≤ 255
+pub few_by : (n : NeighbourValue) (ns : List NeighbourValue) → AreNeighboursRising ns → length ns ≤ 255 → (neighbour_of ns n.router ≡ None → length ns < 255) → (o : Option NeighbourValue) → o ≡ slice_get ns (place_for ns n.router.0) → length (put n ns) ≤ 255
 few_by n ns rises few room None is =
     let other : (e : NeighbourValue) → slice_get ns (place_for ns n.router.0) ≡ Some e → e.router.0 ≢ n.router.0 = λ e there same. absurd (let no : None ≡ Some e = is ∙ there in cc) in
     few_new n ns (room (not_found ns n.router rises other)) other

@@ -9,15 +9,15 @@ use Rattle.ospf_area.specs.declared.sending.Own.{Own}
 use Rattle.ospf_area.specs.declared.state.LinkSettings.{LinkSettings}
 use Rattle.ospf_adjacency.proofs.QuietLemmas.{repeats_are_quiet}
 use Rattle.ospf_area.specs.Posting.{local_by}
-use Rattle.ospf_links.specs.Repeats.{repeated}
+use Rattle.ospf_links.specs.Repeats.{neighbour_repeated}
 
-repeated_router : (own : Own) (i : Iface) (settings : LinkSettings) (db : List Held) (n : NeighbourValue) → (repeated own i settings db n).router ≡ n.router
+repeated_router : (own : Own) (i : Iface) (settings : LinkSettings) (db : List Held) (n : NeighbourValue) → (neighbour_repeated own i settings db n).router ≡ n.router
 repeated_router own i settings db n = (repeats_are_quiet i (local_by own settings) settings.retransmit settings.transmit_delay db (record { neighbour = n; next = 0; sent = [] })).same.router
 
-repeated_routers : (own : Own) (i : Iface) (settings : LinkSettings) (db : List Held) (ns : List NeighbourValue) → routers (map (repeated own i settings db) ns) ≡ routers ns
+repeated_routers : (own : Own) (i : Iface) (settings : LinkSettings) (db : List Held) (ns : List NeighbourValue) → routers (map (neighbour_repeated own i settings db) ns) ≡ routers ns
 repeated_routers own i settings db [] = refl
 repeated_routers own i settings db (n ∷ ns) =
-    ap (λ r. r ∷ routers (map (repeated own i settings db) ns)) (repeated_router own i settings db n) ∙ ap (λ rs. n.router ∷ rs) (repeated_routers own i settings db ns)
+    ap (λ r. r ∷ routers (map (neighbour_repeated own i settings db) ns)) (repeated_router own i settings db n) ∙ ap (λ rs. n.router ∷ rs) (repeated_routers own i settings db ns)
 
-pub repeated_stay : (own : Own) (i : Iface) (settings : LinkSettings) (db : List Held) (ns : List NeighbourValue) → AreNeighbours ns → AreNeighbours (map (repeated own i settings db) ns)
+pub repeated_stay : (own : Own) (i : Iface) (settings : LinkSettings) (db : List Held) (ns : List NeighbourValue) → AreNeighbours ns → AreNeighbours (map (neighbour_repeated own i settings db) ns)
 repeated_stay own i settings db ns are = AreNeighbours-same _ _ (repeated_routers own i settings db ns) are

@@ -5,7 +5,7 @@ use Rattle.ospf_iface.specs.declared.machine.Iface.{Iface}
 use Rattle.ospf_lsa.specs.declared.header.LsaHeader.{LsaHeader}
 use Rattle.ospf_lsdb.specs.Database.{Held}
 use Rattle.ospf_neighbour.specs.Neighbour.{NeighbourValue}
-use Rattle.ospf_neighbour.specs.Neighbours.{IsRising, AreNeighbours, neighbour_of}
+use Rattle.ospf_neighbour.specs.Neighbours.{AreNeighboursRising, AreNeighbours, neighbour_of}
 use Rattle.ospf_packet.specs.declared.body.Description.{Description}
 use Rattle.ospf_packet.specs.declared.body.Hello.{Hello}
 use Rattle.ospf_packet.specs.declared.entry.RequestEntry.{RequestEntry}
@@ -30,7 +30,7 @@ use Rattle.ospf_area.specs.State.{LinkValue}
 use Rattle.ospf_area.specs.declared.flooding.Origin.{Origin}
 use Rattle.ospf_area.specs.declared.sending.Own.{Own}
 use Rattle.ospf_exchange.specs.Laws.{KeepsRouter}
-use Rattle.ospf_links.specs.Parts.{description_at, description_by, description_on, hello_at, left_by, request_at, request_by, request_on, with_neighbourhood}
+use Rattle.ospf_links.specs.Parts.{description_comes, description_by, description_on, hello_comes, left_beside, request_at, request_by, request_on, with_neighbourhood}
 use Rattle.ospf_links.specs.Works.{work_sent, work_sent_on, up_out_on}
 
 -- nothing is sent
@@ -62,7 +62,7 @@ is_put ns k q e m at there e_is same =
 pub is_found : (ns : List NeighbourValue) (k : ℕ) (q : RouterId) (e : NeighbourValue) → k ≡ place_for ns q.0 → slice_get ns k ≡ Some e → e.router ≡ q → neighbour_of ns q ≡ Some e
 is_found ns k q e at there e_is = found ns q e (ap (slice_get ns) (sym at) ∙ there) (ap (λ (r : RouterId). r.0) e_is)
 
-pub is_none : (ns : List NeighbourValue) (k : ℕ) (q : RouterId) → IsRising ns → k ≡ place_for ns q.0 → ((o : NeighbourValue) → slice_get ns k ≡ Some o → o.router ≢ q) → neighbour_of ns q ≡ None
+pub is_none : (ns : List NeighbourValue) (k : ℕ) (q : RouterId) → AreNeighboursRising ns → k ≡ place_for ns q.0 → ((o : NeighbourValue) → slice_get ns k ≡ Some o → o.router ≢ q) → neighbour_of ns q ≡ None
 is_none ns k q rises at other =
     not_found ns q rises (λ o there same. other o (ap (slice_get ns) at ∙ there) (λ j. record { 0 = same j }))
 
@@ -100,7 +100,7 @@ request_due i local q delay db es ns b p (Some n) = refl
 -- the link, and what is left beside it, once its neighbours are put back
 pub record PutBack (x : Neighbourhood) (link after : LinkValue) (p' : PostValue) : Type 0 where
   pub after_is : after ≡ with_neighbourhood x link
-  pub left_is : p' ≡ left_by x
+  pub left_is : p' ≡ left_beside x
 
 puts_back : (x : Neighbourhood) (link bare after : LinkValue) (ns : List NeighbourValue) (elects due : Bool) (p' : PostValue)
     → bare ≡ record link { neighbours = [] } → after ≡ record bare { neighbours = ns; elects = due } → due ≡ bare.elects || elects
@@ -110,19 +110,19 @@ puts_back x link bare after ns elects due p' is_bare is_after is_due is = record
       is_after ∙ ap (λ (l : LinkValue). record l { neighbours = ns; elects = due }) is_bare
       ∙ ap (λ (b : Bool). record link { neighbours = ns; elects = b }) (is_due ∙ ap (λ (l : LinkValue). l.elects || elects) is_bare)
       ∙ ap (λ (y : Neighbourhood). with_neighbourhood (and_due link.elects y) link) is;
-  left_is = ap left_by is;
+  left_is = ap left_beside is;
 }
 
 pub hello_back : (own : Own) (f : Origin) (h : Hello) (named : Bool) (link bare after : LinkValue) (ns : List NeighbourValue) (elects due : Bool) (p p' : PostValue)
     → bare ≡ record link { neighbours = [] } → after ≡ record bare { neighbours = ns; elects = due } → due ≡ bare.elects || elects
     → neighbourhood ns elects p' ≡ hello_on link.iface (local_of own link) f.router f.address h named (neighbourhood link.neighbours false p)
-    → PutBack (hello_at own f h named p link) link after p'
+    → PutBack (hello_comes own f h named p link) link after p'
 hello_back own f h named link bare after ns elects due p p' is_bare is_after is_due is = puts_back _ link bare after ns elects due p' is_bare is_after is_due is
 
 pub description_back : (own : Own) (f : Origin) (d : Description) (hs : List LsaHeader) (db : List Held) (link bare after : LinkValue) (ns : List NeighbourValue) (elects due : Bool) (p p' : PostValue)
     → bare ≡ record link { neighbours = [] } → after ≡ record bare { neighbours = ns; elects = due } → due ≡ bare.elects || elects
     → neighbourhood ns elects p' ≡ description_on link.iface (local_of own link) f.router d hs db (neighbourhood link.neighbours false p)
-    → PutBack (description_at own f d hs db p link) link after p'
+    → PutBack (description_comes own f d hs db p link) link after p'
 description_back own f d hs db link bare after ns elects due p p' is_bare is_after is_due is =
     subst (λ (x : Neighbourhood). PutBack x link after p')
     (description_due link.iface (local_of own link) f.router d hs db link.neighbours link.elects p (neighbour_of link.neighbours f.router))

@@ -48,5 +48,5 @@ ElectsFrom zero before out after out' = (after ≡ before) × (out' ≡ out)
 ElectsFrom (suc l) before out after out' = (mid : AreaValue) × (mid_out : OutputsValue) × ElectsFrom l before out mid mid_out × ElectsAt l mid mid_out after out'
 
 -- the elections of all links
-abbrev pub Elects : AreaValue → OutputsValue → AreaValue → OutputsValue → Type 0
-Elects before out after out' = ElectsFrom (length before.links) before out after out'
+abbrev pub ElectsAll : AreaValue → OutputsValue → AreaValue → OutputsValue → Type 0
+ElectsAll before out after out' = ElectsFrom (length before.links) before out after out'

@@ -36,14 +36,14 @@ abbrev pub with_neighbourhood : Neighbourhood → LinkValue → LinkValue
 with_neighbourhood x link = record link { neighbours = x.neighbours; elects = x.elects }
 
 -- and what it leaves beside the link
-abbrev pub left_by : Neighbourhood → PostValue
-left_by x = record { next = x.next; sent = x.sent }
+abbrev pub left_beside : Neighbourhood → PostValue
+left_beside x = record { next = x.next; sent = x.sent }
 
 -- ---- packets that come
 
 -- a Hello of the router f that comes on a link, and names this router or does not (10.5)
-abbrev pub hello_at : Own → Origin → Hello → Bool → PostValue → LinkValue → Neighbourhood
-hello_at own f h named p link =
+abbrev pub hello_comes : Own → Origin → Hello → Bool → PostValue → LinkValue → Neighbourhood
+hello_comes own f h named p link =
     hello_on link.iface (local_of own link) f.router f.address h named (neighbourhood_at link p)
 
 -- where nothing has gone out yet
@@ -62,9 +62,9 @@ abbrev pub description_on : Iface → Local → RouterId → Description → Lis
 description_on i local q d headers db x = description_by (neighbour_of x.neighbours q) i local q d headers db x
 
 -- a Database Description that comes on a link
-abbrev pub description_at : Own → Origin → Description → List LsaHeader → List Held → PostValue → LinkValue
+abbrev pub description_comes : Own → Origin → Description → List LsaHeader → List Held → PostValue → LinkValue
     → Neighbourhood
-description_at own f d headers db p link =
+description_comes own f d headers db p link =
     description_on link.iface (local_of own link) f.router d headers db (neighbourhood_at link p)
 
 -- where nothing has gone out yet

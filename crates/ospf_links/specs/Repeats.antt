@@ -26,8 +26,8 @@ abbrev pub repeats_for : Own → Iface → LinkSettings → List Held → Neighb
 repeats_for own i settings db n = repeats_turn i (local_by own settings) settings.retransmit settings.transmit_delay db (record { neighbour = n; next = 0; sent = [] })
 
 -- the neighbour then
-abbrev pub repeated : Own → Iface → LinkSettings → List Held → NeighbourValue → NeighbourValue
-repeated own i settings db n = (repeats_for own i settings db n).neighbour
+abbrev pub neighbour_repeated : Own → Iface → LinkSettings → List Held → NeighbourValue → NeighbourValue
+neighbour_repeated own i settings db n = (repeats_for own i settings db n).neighbour
 
 -- what goes out of link l to it
 abbrev pub repeats_to : Own → ℕ → Iface → LinkSettings → List Held → NeighbourValue → List SentValue
@@ -40,10 +40,10 @@ keys_to own settings db n = due_keys settings.retransmit own.tick db n
 -- ---- one link
 
 abbrev pub link_repeated : Own → List Held → LinkValue → LinkValue
-link_repeated own db link = record link { neighbours = map (repeated own link.iface link.settings db) link.neighbours }
+link_repeated own db link = record link { neighbours = map (neighbour_repeated own link.iface link.settings db) link.neighbours }
 
-abbrev pub repeats_out : Own → List Held → ℕ → LinkValue → List SentValue
-repeats_out own db l link = flat_map (repeats_to own l link.iface link.settings db) link.neighbours
+abbrev pub link_repeats_out : Own → List Held → ℕ → LinkValue → List SentValue
+link_repeats_out own db l link = flat_map (repeats_to own l link.iface link.settings db) link.neighbours
 
 abbrev pub keys_out : Own → List Held → LinkValue → List LsaKey
 keys_out own db link = flat_map (keys_to own link.settings db) link.neighbours
@@ -54,7 +54,7 @@ abbrev pub repeated_links : Own → List Held → List LinkValue → List LinkVa
 repeated_links own db links = map (link_repeated own db) links
 
 abbrev pub all_repeats : Own → List Held → List LinkValue → List SentValue
-all_repeats own db links = flat_from (repeats_out own db) 0 links
+all_repeats own db links = flat_from (link_repeats_out own db) 0 links
 
 abbrev pub all_keys : Own → List Held → List LinkValue → List LsaKey
 all_keys own db links = flat_map (keys_out own db) links

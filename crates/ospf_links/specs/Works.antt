@@ -40,13 +40,13 @@ worked part l s = record s { links = worked_links part l s.links; next_dd = work
 
 -- ---- changes of a link
 
-abbrev pub changed_on : Option LinkValue → (LinkValue → LinkValue) → ℕ → AreaValue → AreaValue
-changed_on None change l s = s
-changed_on (Some link) change l s = record s { links = set s.links l (change link) }
+abbrev pub some_changed : Option LinkValue → (LinkValue → LinkValue) → ℕ → AreaValue → AreaValue
+some_changed None change l s = s
+some_changed (Some link) change l s = record s { links = set s.links l (change link) }
 
 -- the router after a change of link l
-abbrev pub changed : (LinkValue → LinkValue) → ℕ → AreaValue → AreaValue
-changed change l s = changed_on (slice_get s.links l) change l s
+abbrev pub link_changed : (LinkValue → LinkValue) → ℕ → AreaValue → AreaValue
+link_changed change l s = some_changed (slice_get s.links l) change l s
 
 -- the first Hello of a link that goes up, if it is there (9.5)
 abbrev pub up_out_on : Option LinkValue → Own → ℕ → List SentValue

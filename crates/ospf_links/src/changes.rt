@@ -5,11 +5,11 @@ ghost use Rattle.ospf_area.specs.Sending.{and_sends, own_of};
 ghost use Rattle.ospf_adjacency.specs.Links.{up};
 ghost use Rattle.ospf_links.specs.Parts.{link_down, link_up, up_parcels};
 ghost use Rattle.ospf_area.specs.Posting.{posted_all};
-ghost use Rattle.ospf_links.specs.Works.{changed, up_out_on};
+ghost use Rattle.ospf_links.specs.Works.{link_changed, up_out_on};
 
 use crate::link::take_out;
 use ospf_adjacency::{go_down, go_up, send_hello};
-use ospf_area::{Area, Link, Outputs, Own, Post, own_of};
+use ospf_area::{Area, AreaLink, Outputs, Own, Post, own_of};
 use std::alloc::{AllocError, Global};
 
 /// A link of the router goes up (RFC 2328, section 9.3): where it was down its first Hello goes out.
@@ -21,7 +21,7 @@ pub fn take_up(
     out: &mut Outputs,
     alloc: Global,
 ) -> Result<(), AllocError>
-    ensures after { OnOk result (area.new ≡ changed link_up number area.old) }
+    ensures after { OnOk result (area.new ≡ link_changed link_up number area.old) }
     ensures sent { OnOk result (out.new ≡ and_sends out.old
         (up_out_on (slice_get area.old.links number) (own_of area.old) number)) }
 {
@@ -34,7 +34,7 @@ pub fn take_up(
 
 /// A link of the router goes down (RFC 2328, section 9.3): its neighbours are gone. No memory is taken.
 pub fn take_down(area: &mut Area, number: usize, alloc: Global)
-    ensures { area.new ≡ changed link_down number area.old }
+    ensures { area.new ≡ link_changed link_down number area.old }
 {
     if let Some(link) = area.links.get_mut(number) {
         link_down(link, alloc);
@@ -43,7 +43,7 @@ pub fn take_down(area: &mut Area, number: usize, alloc: Global)
 
 // A link goes up; where it was down its first Hello goes out.
 fn link_goes_up(
-    link: &mut Link,
+    link: &mut AreaLink,
     number: usize,
     own: Own,
     out: &mut Outputs,
@@ -63,7 +63,7 @@ fn link_goes_up(
 }
 
 // A link goes down.
-fn link_down(link: &mut Link, alloc: Global)
+fn link_down(link: &mut AreaLink, alloc: Global)
     ensures { link.new ≡ link_down link.old }
 {
     let mut all = take_out(link, alloc);

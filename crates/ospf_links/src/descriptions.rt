@@ -1,17 +1,17 @@
 //! Database Descriptions that come.
 
 ghost use Rattle.std.specs.Prelude.{◌≡◌, false, IfOk, OnOk};
-ghost use Rattle.ospf_neighbour.specs.Neighbours.{IsRising};
+ghost use Rattle.ospf_neighbour.specs.Neighbours.{AreNeighboursRising};
 ghost use Rattle.ospf_area.specs.Sending.{and_sends, own_of};
 ghost use Rattle.ospf_adjacency.specs.Descriptions.{description_turn};
 ghost use Rattle.ospf_area.specs.Turns.{turn};
 ghost use Rattle.ospf_adjacency.specs.Heard.{elects_by_change, neighbourhood};
-ghost use Rattle.ospf_links.specs.Parts.{description_at, description_on, description_part, left_by, with_neighbourhood};
+ghost use Rattle.ospf_links.specs.Parts.{description_comes, description_on, description_part, left_beside, with_neighbourhood};
 ghost use Rattle.ospf_links.specs.Works.{work_sent, worked};
 
 use crate::link::{iface_of, is_due, put_back, take_out};
 use ospf_adjacency::{is_at, is_settled, place_for, take_description as describe_to};
-use ospf_area::{Area, Link, OnLink, Origin, Outputs, Own, Post, own_of};
+use ospf_area::{Area, AreaLink, OnLink, Origin, Outputs, Own, Post, own_of};
 use ospf_lsdb::Lsdb;
 use ospf_neighbour::Neighbour;
 use ospf_packet::{Description, Headers};
@@ -58,7 +58,7 @@ pub fn take_description(
 
 // A Database Description comes on a link.
 fn description_comes(
-    link: &mut Link,
+    link: &mut AreaLink,
     from: Origin,
     fields: Description,
     headers: Headers<'_>,
@@ -69,10 +69,11 @@ fn description_comes(
     ensures after { OnOk result
         (link.new
         ≡ with_neighbourhood
-        (description_at own from fields headers.entry database.now post.old link.old) link.old) }
+        (description_comes own from fields headers.entry database.now post.old link.old) link.old) }
     ensures left { OnOk result
         (post.new
-        ≡ left_by (description_at own from fields headers.entry database.now post.old link.old)) }
+        ≡ left_beside (description_comes own from fields headers.entry database.now post.old
+        link.old)) }
 {
     let at = OnLink::of(own, link);
     let mut all = take_out(link, post.alloc());
@@ -92,7 +93,7 @@ fn describe_in(
     at: &OnLink,
     post: &mut Post,
 ) -> Result<bool, AllocError>
-    requires { IsRising all.old.items }
+    requires { AreNeighboursRising all.old.items }
     ensures { IfOk result
         (λ elects.
         neighbourhood all.new.items elects post.new

@@ -5,11 +5,11 @@ ghost use Rattle.ospf_adjacency.specs.Elections.{AreOfLink, ElectsOn, elects_in}
 ghost use Rattle.ospf_area.specs.Packets.{Parcel};
 ghost use Rattle.ospf_area.specs.Posting.{posted_all};
 ghost use Rattle.ospf_area.specs.Sending.{and_sends};
-ghost use Rattle.ospf_links.specs.Elections.{AreReady, Elects, ElectsAt, ElectsLink, ElectsOnLink, IsReady};
+ghost use Rattle.ospf_links.specs.Elections.{AreReady, ElectsAll, ElectsAt, ElectsLink, ElectsOnLink, IsReady};
 
 use crate::link::{iface_of, put_back, take_out};
 use ospf_adjacency::elect_on;
-use ospf_area::{Area, Link, Outputs, Own, Post, local_of, own_of};
+use ospf_area::{Area, AreaLink, Outputs, Own, Post, local_of, own_of};
 use ospf_exchange::Local;
 use ospf_neighbour::Neighbour;
 use std::alloc::{AllocError, Global};
@@ -19,7 +19,7 @@ use std::alloc::{AllocError, Global};
 /// `AllocError` where memory runs out.
 pub fn elect(area: &mut Area, out: &mut Outputs, alloc: Global) -> Result<(), AllocError>
     requires { AreReady area.old.links }
-    ensures { OnOk result (Elects area.old out.old area.new out.new) }
+    ensures { OnOk result (ElectsAll area.old out.old area.new out.new) }
 {
     let count = area.links.len();
     for number in 0..count {
@@ -47,7 +47,7 @@ fn elect_at(
 
 // The election of a link, where one is due, and what goes out by it.
 fn elect_link(
-    link: &mut Link,
+    link: &mut AreaLink,
     number: usize,
     own: Own,
     next: &mut u32,
@@ -72,7 +72,7 @@ fn elect_link(
 }
 
 // The election of a link on which one is due, and AdjOK?.
-fn link_election(link: &mut Link, local: Local, post: &mut Post) -> Result<(), AllocError>
+fn link_election(link: &mut AreaLink, local: Local, post: &mut Post) -> Result<(), AllocError>
     requires electing { elects_in link.old.iface.state ≡ true }
     requires others { AreOfLink link.old.iface link.old.neighbours }
     ensures { OnOk result
@@ -88,7 +88,7 @@ fn link_election(link: &mut Link, local: Local, post: &mut Post) -> Result<(), A
 
 // The election, over neighbours that were taken out.
 fn elect_over(
-    link: &mut Link,
+    link: &mut AreaLink,
     all: &mut Vec<Neighbour>,
     local: Local,
     post: &mut Post,

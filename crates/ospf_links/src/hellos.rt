@@ -5,12 +5,12 @@ ghost use Rattle.ospf_neighbour.specs.Neighbours.{neighbour_of};
 ghost use Rattle.ospf_area.specs.Sending.{and_sends, own_of};
 ghost use Rattle.ospf_area.specs.State.{LinkValue};
 ghost use Rattle.ospf_adjacency.specs.Heard.{names};
-ghost use Rattle.ospf_links.specs.Parts.{hello_at, hello_part, left_by, with_neighbourhood};
+ghost use Rattle.ospf_links.specs.Parts.{hello_comes, hello_part, left_beside, with_neighbourhood};
 ghost use Rattle.ospf_links.specs.Works.{work_sent, worked};
 
 use crate::link::{iface_of, is_due, put_back, take_out};
 use ospf_adjacency::{hello_on, is_named};
-use ospf_area::{Area, Link, OnLink, Origin, Outputs, Own, Post, own_of};
+use ospf_area::{Area, AreaLink, OnLink, Origin, Outputs, Own, Post, own_of};
 use ospf_packet::{Hello, Neighbours};
 use std::alloc::{AllocError, Global};
 
@@ -58,7 +58,7 @@ pub fn take_hello(
 
 // Takes a Hello that comes on a link.
 fn hello_comes(
-    link: &mut Link,
+    link: &mut AreaLink,
     from: Origin,
     hello: &Hello,
     named: bool,
@@ -69,9 +69,9 @@ fn hello_comes(
         length link.old.neighbours < 255 }
     ensures after { OnOk result
         (link.new
-        ≡ with_neighbourhood (hello_at own from hello.now named post.old link.old) link.old) }
+        ≡ with_neighbourhood (hello_comes own from hello.now named post.old link.old) link.old) }
     ensures left { OnOk result (post.new
-        ≡ left_by (hello_at own from hello.now named post.old link.old)) }
+        ≡ left_beside (hello_comes own from hello.now named post.old link.old)) }
 {
     let at = OnLink::of(own, link);
     let mut all = take_out(link, post.alloc());

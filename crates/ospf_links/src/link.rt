@@ -3,14 +3,14 @@
 ghost use Rattle.std.specs.Prelude.{◌≡◌, ◌||◌, []};
 ghost use Rattle.ospf_neighbour.specs.Neighbours.{AreNeighbours};
 
-use ospf_area::Link;
+use ospf_area::AreaLink;
 use ospf_iface::Iface;
 use ospf_neighbour::Neighbour;
 use std::alloc::Global;
 use std::mem;
 
 // Takes the neighbours of a link out, to be worked on.
-pub(crate) fn take_out(link: &mut Link, alloc: Global) -> Vec<Neighbour>
+pub(crate) fn take_out(link: &mut AreaLink, alloc: Global) -> Vec<Neighbour>
     ensures neighbours { result.items ≡ link.old.neighbours }
     ensures rest { link.new ≡ record link.old { neighbours = [] } }
     ensures rising { AreNeighbours link.old.neighbours }
@@ -20,7 +20,7 @@ pub(crate) fn take_out(link: &mut Link, alloc: Global) -> Vec<Neighbour>
 }
 
 // Puts them back, and whether an election is due.
-pub(crate) fn put_back(link: &mut Link, all: Vec<Neighbour>, elects: bool)
+pub(crate) fn put_back(link: &mut AreaLink, all: Vec<Neighbour>, elects: bool)
     requires { AreNeighbours all.items }
     ensures { link.new ≡ record link.old { neighbours = all.items; elects = elects } }
 {
@@ -30,14 +30,14 @@ pub(crate) fn put_back(link: &mut Link, all: Vec<Neighbour>, elects: bool)
 }
 
 // The interface of a link.
-pub(crate) fn iface_of(link: &Link) -> Iface
+pub(crate) fn iface_of(link: &AreaLink) -> Iface
     ensures { result ≡ link.now.iface }
 {
     link.iface
 }
 
 // Whether an election is due on a link, by what was before or by this.
-pub(crate) fn is_due(link: &Link, elects: bool) -> bool
+pub(crate) fn is_due(link: &AreaLink, elects: bool) -> bool
     ensures { result ≡ link.now.elects || elects }
 {
     link.elects || elects

@@ -4,12 +4,12 @@ ghost use Rattle.std.specs.Prelude.{◌≡◌, OnOk, map};
 ghost use Rattle.std.specs.List.{flat_map};
 ghost use Rattle.ospf_area.specs.Sending.{and_sends};
 ghost use Rattle.ospf_area.specs.Posting.{local_by};
-ghost use Rattle.ospf_links.specs.Repeats.{all_keys, all_repeats, keys_out, keys_to, link_repeated, marked_all, repeated, repeated_links, repeats_out, repeats_to};
+ghost use Rattle.ospf_links.specs.Repeats.{all_keys, all_repeats, keys_out, keys_to, link_repeated, marked_all, neighbour_repeated, repeated_links, link_repeats_out, repeats_to};
 
 use crate::link::{put_back, take_out};
 use crate::marks::mark_all;
 use ospf_adjacency::repeat;
-use ospf_area::{Link, LinkSettings, OnLink, Outputs, Own, Post, local_by};
+use ospf_area::{AreaLink, LinkSettings, OnLink, Outputs, Own, Post, local_by};
 use ospf_base::LsaKey;
 use ospf_iface::Iface;
 use ospf_lsdb::Lsdb;
@@ -22,7 +22,7 @@ use std::collections::BTreeSet;
 ///
 /// `AllocError` where memory runs out; then the router is to be stopped.
 pub fn repeat_all(
-    links: &mut [Link],
+    links: &mut [AreaLink],
     database: &Lsdb,
     own: Own,
     sent: &mut BTreeSet<LsaKey>,
@@ -52,7 +52,7 @@ struct Repeating {
 
 // The repeats on a link.
 fn repeat_on(
-    link: &mut Link,
+    link: &mut AreaLink,
     number: usize,
     database: &Lsdb,
     own: Own,
@@ -62,7 +62,7 @@ fn repeat_on(
 ) -> Result<(), AllocError>
     ensures after { OnOk result (link.new ≡ link_repeated own database.now link.old) }
     ensures sent { OnOk result (out.new ≡ and_sends out.old
-        (repeats_out own database.now number link.old)) }
+        (link_repeats_out own database.now number link.old)) }
     ensures marks { OnOk result (sent.new.keys
         ≡ marked_all (keys_out own database.now link.old) sent.old.keys) }
 {
@@ -90,7 +90,8 @@ fn repeat_to_all(
 ) -> Result<(), AllocError>
     ensures after { OnOk result
         (all.new.items
-        ≡ map (repeated on.now.own on.now.iface on.now.settings database.now) all.old.items) }
+        ≡ map (neighbour_repeated on.now.own on.now.iface on.now.settings database.now)
+        all.old.items) }
     ensures sent { OnOk result
         (out.new
         ≡ and_sends out.old
@@ -116,7 +117,8 @@ fn repeat_to_each(
     alloc: Global,
 ) -> Result<(), AllocError>
     ensures after { OnOk result
-        (all.new ≡ map (repeated on.now.own on.now.iface on.now.settings database.now) all.old) }
+        (all.new ≡ map (neighbour_repeated on.now.own on.now.iface on.now.settings database.now)
+        all.old) }
     ensures sent { OnOk result
         (out.new
         ≡ and_sends out.old
@@ -145,7 +147,7 @@ fn repeat_to(
 ) -> Result<(), AllocError>
     ensures after { OnOk result
         (neighbour.new
-        ≡ repeated on.now.own on.now.iface on.now.settings database.now neighbour.old) }
+        ≡ neighbour_repeated on.now.own on.now.iface on.now.settings database.now neighbour.old) }
     ensures sent { OnOk result
         (out.new
         ≡ and_sends out.old

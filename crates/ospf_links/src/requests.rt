@@ -3,18 +3,18 @@
 ghost use Rattle.std.specs.Prelude.{◌≡◌, false, true, Some, IfOk, OnOk, slice_get};
 ghost use Rattle.ospf_neighbour.specs.Machine.{is_exchanging};
 ghost use Rattle.ospf_neighbour.specs.Neighbour.{NeighbourValue};
-ghost use Rattle.ospf_neighbour.specs.Neighbours.{IsRising, neighbour_of};
+ghost use Rattle.ospf_neighbour.specs.Neighbours.{AreNeighboursRising, neighbour_of};
 ghost use Rattle.ospf_area.specs.Sending.{and_sends, own_of};
 ghost use Rattle.ospf_area.specs.State.{LinkValue};
 ghost use Rattle.ospf_adjacency.specs.Heard.{neighbourhood};
-ghost use Rattle.ospf_links.specs.Parts.{answered_by, answered_on, left_by, request_at, request_on, request_part, with_neighbourhood};
+ghost use Rattle.ospf_links.specs.Parts.{answered_by, answered_on, left_beside, request_at, request_on, request_part, with_neighbourhood};
 ghost use Rattle.ospf_links.specs.Repeats.{marked_all};
 ghost use Rattle.ospf_links.specs.Works.{work_sent, worked};
 
 use crate::link::{iface_of, is_due, put_back, take_out};
 use crate::marks::mark_all;
 use ospf_adjacency::{is_at, place_for, take_request as answer_to};
-use ospf_area::{Area, Link, OnLink, Origin, Outputs, Own, Post, own_of};
+use ospf_area::{Area, AreaLink, OnLink, Origin, Outputs, Own, Post, own_of};
 use ospf_base::LsaKey;
 use ospf_lsdb::Lsdb;
 use ospf_neighbour::Neighbour;
@@ -72,7 +72,7 @@ pub fn take_request(
 
 // A Request comes on a link. Answers the keys whose copies go out.
 fn request_comes(
-    link: &mut Link,
+    link: &mut AreaLink,
     from: Origin,
     requests: Requests<'_>,
     database: &Lsdb,
@@ -87,7 +87,8 @@ fn request_comes(
         ≡ with_neighbourhood
         (request_at own from database.now requests.entry post.old link.old) link.old) }
     ensures left { OnOk result
-        (post.new ≡ left_by (request_at own from database.now requests.entry post.old link.old)) }
+        (post.new ≡ left_beside (request_at own from database.now requests.entry post.old
+        link.old)) }
     ensures keys { IfOk result
         (λ keys.
         keys.keys
@@ -113,7 +114,7 @@ fn answer_in(
     delay: u16,
     post: &mut Post,
 ) -> Result<BTreeSet<LsaKey>, AllocError>
-    requires rising { IsRising all.old.items }
+    requires rising { AreNeighboursRising all.old.items }
     requires exchanging { (n : NeighbourValue) → neighbour_of all.old.items from.router ≡ Some n
         → is_exchanging n.state ≡ true }
     ensures turn { OnOk result

@@ -8,12 +8,12 @@ ghost use Rattle.ospf_links.specs.Parts.{hello_out, hello_sent, link_timed};
 
 use crate::link::{put_back, take_out};
 use ospf_adjacency::{send_due_hello, tick_timers};
-use ospf_area::{Link, Outputs, Own, Post};
+use ospf_area::{AreaLink, Outputs, Own, Post};
 use ospf_neighbour::Neighbour;
 use std::alloc::{AllocError, Global};
 
 /// A tick of the wait timers and the inactivity timers of all links (RFC 2328, sections 9.3 and 10.3). No memory is taken.
-pub fn count_timers(links: &mut [Link], alloc: Global)
+pub fn count_timers(links: &mut [AreaLink], alloc: Global)
     ensures { links.new ≡ map link_timed links.old }
 {
     for link in links.iter_mut() {
@@ -25,7 +25,7 @@ pub fn count_timers(links: &mut [Link], alloc: Global)
 ///
 /// `AllocError` where memory runs out.
 pub fn send_hellos(
-    links: &mut [Link],
+    links: &mut [AreaLink],
     own: Own,
     out: &mut Outputs,
     alloc: Global,
@@ -41,7 +41,7 @@ pub fn send_hellos(
 }
 
 // A tick of a link's timers.
-fn link_timers(link: &mut Link, alloc: Global)
+fn link_timers(link: &mut AreaLink, alloc: Global)
     ensures { link.new ≡ link_timed link.old }
 {
     let mut all = take_out(link, alloc);
@@ -50,7 +50,7 @@ fn link_timers(link: &mut Link, alloc: Global)
 }
 
 // The timers of an interface and of neighbours that were taken out.
-fn count(link: &mut Link, all: &mut Vec<Neighbour>) -> bool
+fn count(link: &mut AreaLink, all: &mut Vec<Neighbour>) -> bool
     ensures due { result ≡ link.old.elects || elects_by_timers link.old.iface all.old.items }
     ensures link { link.new ≡ record link.old { iface = wait_ticked link.old.iface } }
     ensures neighbours { all.new.items ≡ timed all.old.items }
@@ -61,7 +61,7 @@ fn count(link: &mut Link, all: &mut Vec<Neighbour>) -> bool
 
 // A tick of a link's Hello timer.
 fn send_hello_on(
-    link: &mut Link,
+    link: &mut AreaLink,
     number: usize,
     own: Own,
     out: &mut Outputs,

@@ -12,7 +12,7 @@ use Rattle.ospf_lsa.specs.declared.fault.LsaFault.TheVariants as fault
 use Rattle.ospf_base.specs.Keys.{Precedes, ls_type}
 use Rattle.ospf_base.proofs.KeyOrder.{Precedes-trans, Precedes-irrefl, Precedes-cases}
 use Rattle.ospf_lsa.specs.Lsa.{IsLsa, key_of, kind_of, type_of}
-use Rattle.ospf_lsa.specs.Listing.{IsRising, IsListed, IsListing, HasKey, IsPlace, IsInserted, IsCount, IsNetworkOf, IsOfNetwork}
+use Rattle.ospf_lsa.specs.Listing.{IsRising, IsListable, IsListing, HasKey, IsPlace, IsInserted, IsCount, IsNetworkOf, IsOfNetwork}
 
 abbrev pub AllBefore : LsaKey → List (List ℕ) → Type 0
 AllBefore key lsas = AllByRecursion (λ l. Precedes (key_of l) key) lsas
@@ -50,11 +50,19 @@ IsRising-insert (x ∷ xs) l ys rises below above = (
   IsRising-insert xs l ys rises.1 below.1 above,
 )
 
-pub IsListing-insert : (xs : List (List ℕ)) (l : List ℕ) (ys : List (List ℕ)) → IsListing (xs ++ ys) → IsListed l → AllBefore (key_of l) xs → AllAfter (key_of l) ys → IsListing (xs ++ l ∷ ys)
+pub IsListing-insert : (xs : List (List ℕ)) (l : List ℕ) (ys : List (List ℕ)) → IsListing (xs ++ ys) → IsListable l → AllBefore (key_of l) xs → AllAfter (key_of l) ys → IsListing (xs ++ l ∷ ys)
 IsListing-insert xs l ys is new below above = record {
   rising = IsRising-insert xs l ys is.rising below above;
-  listed = all_join IsListed xs (l ∷ ys) (all_front IsListed xs ys is.listed) (new, all_back IsListed xs ys is.listed);
+  listed = all_join IsListable xs (l ∷ ys) (all_front IsListable xs ys is.listed) (new, all_back IsListable xs ys is.listed);
 }
+
+append_nil : (xs : List (List ℕ)) → xs ++ [] ≡ xs
+append_nil [] = refl
+append_nil (x ∷ xs) = ap (λ (t : List (List ℕ)). x ∷ t) (append_nil xs)
+
+-- a listing with an LSA put behind all others
+pub IsListing-last : (lsas : List (List ℕ)) (l : List ℕ) → IsListing lsas → IsListable l → AllBefore (key_of l) lsas → IsListing (lsas ++ l ∷ [])
+IsListing-last lsas l is new below = IsListing-insert lsas l [] (subst (λ (ls : List (List ℕ)). IsListing ls) (sym (append_nil lsas)) is) new below tt
 
 -- no key of a list is one that all precede, or that precedes all
 none_here : (key : LsaKey) (xs : List (List ℕ)) → AllByRecursion (λ l. key_of l ≡ key → ⊥) xs → HasKey xs key → ⊥
@@ -88,7 +96,7 @@ IsPlace-behind lsas key at last pos within is rises lt above =
     }
 
 -- a listing with an LSA put in at its place
-pub IsListing-place : (lsas : List (List ℕ)) (l : List ℕ) (at : ℕ) → IsListing lsas → IsListed l → IsPlace lsas (key_of l) at → IsListing (take at lsas ++ l ∷ drop at lsas)
+pub IsListing-place : (lsas : List (List ℕ)) (l : List ℕ) (at : ℕ) → IsListing lsas → IsListable l → IsPlace lsas (key_of l) at → IsListing (take at lsas ++ l ∷ drop at lsas)
 IsListing-place lsas l at is new p =
     IsListing-insert (take at lsas) l (drop at lsas) (subst (λ (ls : List (List ℕ)). IsListing ls) (sym (take-append-drop at lsas)) is) new p.before p.after
 
@@ -205,8 +213,8 @@ within_group t id r network fits (inr (p, inr q)) = let lt = q.1 in omega arith
 
 module _ (lsas : List (List ℕ)) (is : IsListing lsas) (id n : ℕ)
     (count : IsCount lsas (record { kind = Network; id = id; router = record { 0 = 4294967295 } }) n) where
-  abbrev listed_at : (k : ℕ) (d : List ℕ) → k < length lsas → IsListed (get_or lsas k d)
-  listed_at k d within = All-from_recursion IsListed lsas is.listed k d within
+  abbrev listed_at : (k : ℕ) (d : List ℕ) → k < length lsas → IsListable (get_or lsas k d)
+  listed_at k d within = All-from_recursion IsListable lsas is.listed k d within
 
   -- a network-LSA of the ID stands in front of place n
   early : (other : List ℕ) (m : Contains lsas other) → IsOfNetwork id other → m.0 < n
@@ -218,7 +226,7 @@ module _ (lsas : List (List ℕ)) (is : IsListing lsas) (id n : ℕ)
       late : n ≤ m.0 → ⊥
       late low =
           let there : get_or lsas m.0 other ≡ other = m.2 in
-          let valid : IsListed other = subst (λ l. IsListed l) there (listed_at m.0 other m.1) in
+          let valid : IsListable other = subst (λ l. IsListable l) there (listed_at m.0 other m.1) in
           let behind = subst (λ l. Precedes (record { kind = Network; id = id; router = record { 0 = 4294967295 } }) (key_of l)) there (count.after m.0 other low m.1) in
           let fits : number_at 8 4 other < 2 ^ 32 = valid.1.router in
           let kind : ls_type (kind_of other) ≡ 2 = type_is other valid.0 ∙ of.0 in
@@ -231,15 +239,15 @@ module _ (lsas : List (List ℕ)) (is : IsListing lsas) (id n : ℕ)
     last_in : Contains lsas last
     last_in = (n - 1, (let low = count.within in omega arith), sym last_is)
 
-    last_valid : IsListed last
-    last_valid = subst (λ l. IsListed l) (sym last_is) (listed_at (n - 1) last (let low = count.within in omega arith))
+    last_valid : IsListable last
+    last_valid = subst (λ l. IsListable l) (sym last_is) (listed_at (n - 1) last (let low = count.within in omega arith))
 
     -- another of the ID stands in front of the last
     group : (other : List ℕ) (m : Contains lsas other) → IsOfNetwork id other → m.0 < n - 1
         → (ls_type (kind_of last) ≡ 2) × (number_at 4 4 last ≡ id) × (number_at 8 4 other < number_at 8 4 last)
     group other m of front =
         let there : get_or lsas m.0 other ≡ other = m.2 in
-        let valid : IsListed other = subst (λ l. IsListed l) there (listed_at m.0 other m.1) in
+        let valid : IsListable other = subst (λ l. IsListable l) there (listed_at m.0 other m.1) in
         let kind : ls_type (kind_of other) ≡ 2 = type_is other valid.0 ∙ of.0 in
         let low = count.within in
         let rise : Precedes (key_of (get_or lsas m.0 other)) (key_of (get_or lsas (n - 1) other)) = rising_at lsas is.rising m.0 (n - 1) other front (omega arith) in
@@ -274,5 +282,5 @@ module _ (lsas : List (List ℕ)) (is : IsListing lsas) (id n : ℕ)
     ]
 
 -- what is listed may be
-pub listed_in : (lsas : List (List ℕ)) → IsListing lsas → (lsa : List ℕ) → Contains lsas lsa → IsListed lsa
-listed_in lsas is lsa m = subst (λ l. IsListed l) m.2 (All-from_recursion IsListed lsas is.listed m.0 lsa m.1)
+pub listed_in : (lsas : List (List ℕ)) → IsListing lsas → (lsa : List ℕ) → Contains lsas lsa → IsListable lsa
+listed_in lsas is lsa m = subst (λ l. IsListable l) m.2 (All-from_recursion IsListable lsas is.listed m.0 lsa m.1)

@@ -5,7 +5,7 @@ use Rattle.std.proofs.lemmas.List.{drop_more, take-append-drop}
 use Rattle.std.proofs.lemmas.List.Elements.{Contains-append_left, Contains-append_right, Contains-append_cases, Contains-push, Contains-push_cases}
 use Rattle.ospf_base.specs.Keys.{Precedes}
 use Rattle.ospf_lsa.specs.Lsa.{key_of}
-use Rattle.ospf_lsa.specs.Listing.{IsRising, IsListed, IsListing, IsPlace, IsPut}
+use Rattle.ospf_lsa.specs.Listing.{IsRising, IsListable, IsListing, IsPlace, IsPut}
 use Rattle.ospf_lsa.proofs.ListingLemmas.{AllBefore, AllAfter, all_join, all_front, all_back, before_it, no_key, IsListing-insert}
 
 -- one element more
@@ -70,7 +70,7 @@ rising_without (x ∷ xs) y ys rises = (
 listing_without : (xs : List (List ℕ)) (y : List ℕ) (ys : List (List ℕ)) → IsListing (xs ++ y ∷ ys) → IsListing (xs ++ ys)
 listing_without xs y ys is = record {
   rising = rising_without xs y ys is.rising;
-  listed = all_join IsListed xs ys (all_front IsListed xs (y ∷ ys) is.listed) (all_back IsListed xs (y ∷ ys) is.listed).1;
+  listed = all_join IsListable xs ys (all_front IsListable xs (y ∷ ys) is.listed) (all_back IsListable xs (y ∷ ys) is.listed).1;
 }
 
 set_is : (xs : List (List ℕ)) (i : ℕ) (y : List ℕ) → i < length xs → set xs i y ≡ take i xs ++ y ∷ drop (suc i) xs
@@ -116,7 +116,7 @@ module _ (lsas : List (List ℕ)) (l : List ℕ) (at : ℕ) (is : IsListing lsas
         subst (λ (ls : List (List ℕ)). IsPut l lsas ls) (sym new_is)
         (subst (λ (ls : List (List ℕ)). IsPut l ls (front ++ l ∷ back)) whole (put_over l front back below above old key))
 
-    pub listing_at : IsListed l → IsListing (set lsas at l)
+    pub listing_at : IsListable l → IsListing (set lsas at l)
     listing_at new =
         subst (λ (ls : List (List ℕ)). IsListing ls) (sym new_is)
         (IsListing-insert front l back (listing_without front old back listed) new below above)

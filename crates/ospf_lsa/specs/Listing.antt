@@ -13,13 +13,13 @@ IsRising [] = Unit {0}
 IsRising (lsa ∷ lsas) = AllByRecursion (λ other. Precedes (key_of lsa) (key_of other)) lsas × IsRising lsas
 
 -- an LSA that may be listed, the numbers of its header being those of its fields
-abbrev pub IsListed : List ℕ → Type 0
-IsListed lsa = IsLsa lsa × HeaderFits (header_of lsa) × ((header_of lsa).age < 3600)
+abbrev pub IsListable : List ℕ → Type 0
+IsListable lsa = IsLsa lsa × HeaderFits (header_of lsa) × ((header_of lsa).age < 3600)
 
 -- LSAs below age MaxAge, at most one a key, in the order of their keys
 pub record IsListing (lsas : List (List ℕ)) : Type 0 where
   pub rising : IsRising lsas
-  pub listed : AllByRecursion IsListed lsas
+  pub listed : AllByRecursion IsListable lsas
 
 -- an LSA of this key is listed
 abbrev pub HasKey : List (List ℕ) → LsaKey → Type 0

@@ -97,22 +97,22 @@ abbrev pub IsLsa : List ℕ → Type 0
 IsLsa lsa = (f : LsaFault) → IsFreeOf f lsa
 
 -- the order in which faults are told
-abbrev pub fault_number : LsaFault → ℕ
-fault_number fault.Short = 1
-fault_number fault.Length = 2
-fault_number fault.Sum = 3
-fault_number fault.Kind = 4
-fault_number fault.Links = 5
-fault_number fault.Mask = 6
-fault_number fault.ZeroMetric = 7
-fault_number fault.IdMismatch = 8
-fault_number fault.Number = 9
-fault_number fault.Memory = 10
+abbrev pub lsa_fault_number : LsaFault → ℕ
+lsa_fault_number fault.Short = 1
+lsa_fault_number fault.Length = 2
+lsa_fault_number fault.Sum = 3
+lsa_fault_number fault.Kind = 4
+lsa_fault_number fault.Links = 5
+lsa_fault_number fault.Mask = 6
+lsa_fault_number fault.ZeroMetric = 7
+lsa_fault_number fault.IdMismatch = 8
+lsa_fault_number fault.Number = 9
+lsa_fault_number fault.Memory = 10
 
 -- the rule of this fault does not hold, and each of a lower number does
-abbrev pub IsFirst : (LsaFault → Type 0) → LsaFault → Type 0
-IsFirst Rule f = faults.IsFirstBroken fault_number Rule f
+abbrev pub IsFirstRuleBroken : (LsaFault → Type 0) → LsaFault → Type 0
+IsFirstRuleBroken Rule f = faults.IsFirstBroken lsa_fault_number Rule f
 
 -- the bytes have this fault, and none of a lower number
 abbrev pub IsFirstFault : List ℕ → LsaFault → Type 0
-IsFirstFault lsa f = IsFirst (λ g. IsFreeOf g lsa) f
+IsFirstFault lsa f = IsFirstRuleBroken (λ g. IsFreeOf g lsa) f

@@ -1,9 +1,11 @@
 //! The LSAs that a database lists.
 
-ghost use Rattle.std.specs.Prelude.{◌≡◌, ◌<◌, ◌↔◌, ◌⊎◌, ℕ, List, [], IsTrue, OnOk, OnErr, Err, IfOk, IfErr, IfSome, IfNone, Contains, length, slice_index_or};
+ghost use Rattle.std.specs.Prelude.{◌≡◌, ◌<◌, ◌↔◌, ◌⊎◌, ◌∷◌, ◌++◌, ℕ, List, [], IsTrue, OnOk, OnErr, Err, IfOk, IfErr, IfSome, IfNone, Contains, length, slice_index_or};
+ghost use Rattle.std.specs.List.{AllByRecursion};
+ghost use Rattle.ospf_base.specs.Keys.{Precedes};
 ghost use Rattle.ospf_lsa.specs.Header.{header_of};
 ghost use Rattle.ospf_lsa.specs.Lsa.{key_of};
-ghost use Rattle.ospf_lsa.specs.Listing.{IsListing, IsListed, IsRising, HasKey, IsPlace, IsInserted, IsPut, IsCount, IsNetworkOf, IsOfNetwork};
+ghost use Rattle.ospf_lsa.specs.Listing.{IsListing, IsListable, IsRising, HasKey, IsPlace, IsInserted, IsPut, IsCount, IsNetworkOf, IsOfNetwork};
 ghost use Rattle.ospf_lsa.specs.declared.listing.ListingFault.TheVariants as fault;
 
 use crate::lsa::Lsa;
@@ -134,6 +136,24 @@ impl Listing {
         Ok(())
     }
 
+    /// Puts an LSA behind all others.
+    ///
+    /// `AllocError` where memory runs out: then the listing is unchanged.
+    pub fn append(&mut self, lsa: Lsa) -> Result<(), AllocError>
+        // Its key stands behind the others, and its age is below `MAX_AGE`.
+        requires last { AllByRecursion (λ other. Precedes (key_of other) (key_of lsa)) self.old }
+        requires young { (header_of lsa).age < 3600 }
+        // It stands at the end; where it is refused the listing is unchanged.
+        ensures ok { OnOk result (self.new ≡ self.old ++ lsa ∷ []) }
+        ensures err { OnErr result (self.new ≡ self.old) }
+    {
+        // For the proof: the bytes are an LSA, and the header fits.
+        let view = lsa.view();
+        let (_lsa, _fits) = (view.as_bytes(), view.header());
+        self.lsas.push(lsa)?;
+        Ok(())
+    }
+
     /// Puts an LSA in the place of the one of its key, or in where its key belongs if none is
     /// listed (RFC 2328, section 12.2).
     ///
@@ -243,7 +263,7 @@ fn place_of(lsas: &[Lsa], key: &LsaKey) -> Option<usize>
 // Puts an LSA in the place of the one of its key, or in where its key belongs.
 fn put_in(lsas: &mut Vec<Lsa>, lsa: Lsa) -> Result<(), AllocError>
     requires listing { IsListing lsas.old.items }
-    requires listed { IsListed lsa }
+    requires listed { IsListable lsa }
     // The LSA stands in its place.
     ensures ok { OnOk result (IsPut lsa lsas.old.items lsas.new.items) }
     // Want of memory comes only where its key was not listed, and changes nothing.

@@ -5,7 +5,7 @@ use Rattle.ospf_base.specs.Keys.{Precedes, same_key}
 use Rattle.ospf_base.proofs.KeyOrder.{Precedes-cases}
 use Rattle.ospf_base.proofs.SameKeys.{same_key-eq, same_key-refl}
 use Rattle.ospf_lsdb.specs.Counts.{fresh_count, fresh_in}
-use Rattle.ospf_lsdb.specs.Database.{Ages, Entry, Held, Installs, IsDatabase, entry_of, key_in, IsRising, Puts, expired, held_of, is_expired, is_fresh, is_some_and, key_at, older, reached_at, removed}
+use Rattle.ospf_lsdb.specs.Database.{Ages, Entry, Held, Installs, IsDatabase, entry_of, key_in, AreKeysRising, Puts, expired, held_of, is_expired, is_fresh, is_some_and, key_at, older, reached_at, removed}
 use Rattle.ospf_lsdb.specs.Places.{AllBefore, AllAfter}
 use Rattle.ospf_lsdb.proofs.EntryLemmas.{is_expired-old, is_expired-young, older-young, older-old}
 use Rattle.std.proofs.lemmas.Bool.{lt-ltb}
@@ -46,7 +46,7 @@ data Place (key : LsaKey) (db : List Held) : Type 0 where
   Found : (xs : List Held) (h : Held) (ys : List Held) → db ≡ xs ++ h ∷ ys → key_at h ≡ key → AllBefore key xs → AllAfter key ys → Place key db
   Free : (xs ys : List Held) → db ≡ xs ++ ys → AllBefore key xs → AllAfter key ys → Place key db
 
-place : (key : LsaKey) (db : List Held) → IsRising db → Place key db
+place : (key : LsaKey) (db : List Held) → AreKeysRising db → Place key db
 place key [] rises = Free [] [] refl tt tt
 place key (x ∷ xs) rises = by (Precedes-cases (key_at x) key) (place key xs rises.1)
   where

@@ -5,11 +5,11 @@ use Rattle.std.specs.Map.{keys_of}
 use Rattle.std.specs.BTreeMap as tree
 use Rattle.ospf_base.specs.declared.ids.LsaKey.{LsaKey}
 use Rattle.ospf_lsdb.specs.Database.{Held, held_of, is_told, expired, Puts}
-use Rattle.ospf_base.specs.Keys.{same_key}
-use Rattle.ospf_lsdb.specs.declared.moments.Due.{Due}
+use Rattle.ospf_base.specs.Keys.{same_key, key_cmp}
+use Rattle.ospf_lsdb.specs.declared.moments.AgeDue.{AgeDue}
 use Rattle.ospf_lsdb.specs.declared.dated.Stored.{Stored}
-use Rattle.ospf_lsdb.specs.Moments.{ahead, key_cmp, has, same_due, is_coming}
-use Rattle.ospf_lsdb.specs.Timers.{age_at, held_at, stored_of, age_of, Comes, AreDue, IsStored, IsKept, stopped}
+use Rattle.ospf_lsdb.specs.Moments.{ahead, has_due, same_due, is_coming}
+use Rattle.ospf_lsdb.specs.Timers.{age_at, held_at, stored_of, age_of, ComesToAge, AreDue, IsStored, AreKeptEntries, timer_stopped}
 use Rattle.ospf_lsdb.proofs.EntryLemmas.{expired-young}
 use Rattle.ospf_lsdb.proofs.MapLemmas.{bool_cases, Puts-words}
 use Rattle.ospf_base.proofs.SameKeys.{same_key-eq}
@@ -17,9 +17,9 @@ use Rattle.ospf_lsdb.proofs.MomentLemmas.{same_due-refl}
 use Rattle.ospf_lsdb.proofs.TimerLemmas.{all_stored, stored_one, KeysRise-ordered, AreDue-put, Puts-stored, held_of-stored, comes_to}
 
 -- a map that changed at one key, and what is due with it
-pub IsKept-put : (clock : ℕ) (key : LsaKey) (o : Option Stored) (m n : BTreeMap LsaKey Stored) (due after : List Due) → IsKept clock m.entries due → tree.IsOrdered key_cmp n
+pub IsKept-put : (clock : ℕ) (key : LsaKey) (o : Option Stored) (m n : BTreeMap LsaKey Stored) (due after : List AgeDue) → AreKeptEntries clock m.entries due → tree.IsOrdered key_cmp n
     → ((q : LsaKey) → stored_of n.entries q ≡ (if same_key key q then o else stored_of m.entries q))
-    → ((s : Stored) → o ≡ Some s → IsStored clock (key, s)) → AreDue clock n.entries after → IsKept clock n.entries after
+    → ((s : Stored) → o ≡ Some s → IsStored clock (key, s)) → AreDue clock n.entries after → AreKeptEntries clock n.entries after
 IsKept-put clock key o m n due after kept ordered put fits are_due = record {
   on_ring = kept.on_ring;
   stored = all_stored (IsStored clock) n ordered (λ k s is. elim (bool_cases (same_key key k)) [
@@ -39,11 +39,11 @@ and_false : (a : Bool) → a && false ≡ false
 and_false true = refl
 and_false false = refl
 
-pub due_apart : (m a : ℕ) (key : LsaKey) (d : Due) → same_key key d.key ≡ false → same_due (record { moment = m; age = a; key = key }) d ≡ false
+pub due_apart : (m a : ℕ) (key : LsaKey) (d : AgeDue) → same_key key d.key ≡ false → same_due (record { moment = m; age = a; key = key }) d ≡ false
 unfolding same_due
 due_apart m a key d apart = rw apart (ap (λ (b : Bool). (m == d.moment) && b) (and_false (a == d.age)) ∙ and_false (m == d.moment))
 
-pub coming_apart : (clock age : ℕ) (key : LsaKey) (d : Due) → same_key key d.key ≡ false → is_coming clock age key d ≡ false
+pub coming_apart : (clock age : ℕ) (key : LsaKey) (d : AgeDue) → same_key key d.key ≡ false → is_coming clock age key d ≡ false
 unfolding is_coming
 coming_apart clock age key d apart =
     let x = due_apart ((clock + (1800 - age)) % 65536) 1800 key d apart in
@@ -62,17 +62,17 @@ parted false true h is = absurd (cc)
 parted false false h is = (refl, refl, is)
 
 -- nothing is left of what an entry came and comes to
-pub none_left : (clock age : ℕ) (key : LsaKey) (es : List (LsaKey × Stored)) (due after : List Due) → clock < 65536 → AreDue clock es due → age_of clock es key ≡ Some age
-    → ((q : Due) → has after q ≡ (not (is_coming clock age key q) && (not (same_due (record { moment = clock; age = age; key = key }) q) && has due q)))
-    → (d : Due) → d.key ≡ key → has after d ≡ true → ⊥
+pub none_left : (clock age : ℕ) (key : LsaKey) (es : List (LsaKey × Stored)) (due after : List AgeDue) → clock < 65536 → AreDue clock es due → age_of clock es key ≡ Some age
+    → ((q : AgeDue) → has_due after q ≡ (not (is_coming clock age key q) && (not (same_due (record { moment = clock; age = age; key = key }) q) && has_due due q)))
+    → (d : AgeDue) → d.key ≡ key → has_due after d ≡ true → ⊥
 none_left clock age key es due after c are age_is ops d k there =
-    let p = parted (is_coming clock age key d) (same_due (record { moment = clock; age = age; key = key }) d) (has due d) (sym (ops d) ∙ there) in
+    let p = parted (is_coming clock age key d) (same_due (record { moment = clock; age = age; key = key }) d) (has_due due d) (sym (ops d) ∙ there) in
     let at : age_of clock es d.key ≡ Some age = subst (λ (q : LsaKey). age_of clock es q ≡ Some age) (sym k) age_is in
-    let comes : Comes clock (Some age) d = subst (λ (o : Option ℕ). Comes clock o d) at (are.sound d p.2) in
+    let comes : ComesToAge clock (Some age) d = subst (λ (o : Option ℕ). ComesToAge clock o d) at (are.sound d p.2) in
     elim (comes_to clock age d c comes) [
       | inl now ↦
           let same : d ≡ record { moment = clock; age = age; key = key } = now ∙ ap (λ (q : LsaKey). record { moment = clock; age = age; key = q }) k in
-          let sure : same_due (record { moment = clock; age = age; key = key }) d ≡ true = subst (λ (x : Due). same_due x d ≡ true) same (same_due-refl d) in
+          let sure : same_due (record { moment = clock; age = age; key = key }) d ≡ true = subst (λ (x : AgeDue). same_due x d ≡ true) same (same_due-refl d) in
           absurd (let f = p.1 in cc)
       | inr later ↦
           let sure : is_coming clock age key d ≡ true = subst (λ (q : LsaKey). is_coming clock age q d ≡ true) k later in
@@ -80,15 +80,15 @@ none_left clock age key es due after c are age_is ops d k there =
     ]
 
 -- and nothing else is touched
-pub others_stay : (clock age : ℕ) (key : LsaKey) (due after : List Due)
-    → ((q : Due) → has after q ≡ (not (is_coming clock age key q) && (not (same_due (record { moment = clock; age = age; key = key }) q) && has due q)))
-    → (d : Due) → same_key key d.key ≡ false → has after d ≡ has due d
+pub others_stay : (clock age : ℕ) (key : LsaKey) (due after : List AgeDue)
+    → ((q : AgeDue) → has_due after q ≡ (not (is_coming clock age key q) && (not (same_due (record { moment = clock; age = age; key = key }) q) && has_due due q)))
+    → (d : AgeDue) → same_key key d.key ≡ false → has_due after d ≡ has_due due d
 others_stay clock age key due after ops d apart =
     let x = coming_apart clock age key d apart in
     let y = due_apart clock age key d apart in
     ops d ∙ (rw (x, y) refl)
 
-no_more : (clock : ℕ) (d : Due) → 0 < ahead clock d.moment → Comes clock (Some 3600) d → ⊥
+no_more : (clock : ℕ) (d : AgeDue) → 0 < ahead clock d.moment → ComesToAge clock (Some 3600) d → ⊥
 no_more clock d far comes =
     let same : 3600 ≡ comes.age = some_is 3600 comes.age comes.is in
     let told : d.age ≤ 3600 = at_most d.age comes.told in
@@ -101,9 +101,9 @@ no_more clock d far comes =
     at_most n is = grind (arith, common_steps)
 
 -- what is due once an entry has come to MaxAge before its time
-pub AreDue-expired : (clock age : ℕ) (key : LsaKey) (es fs : List (LsaKey × Stored)) (due after : List Due) → clock < 65536 → AreDue clock es due → age_of clock es key ≡ Some age
+pub AreDue-expired : (clock age : ℕ) (key : LsaKey) (es fs : List (LsaKey × Stored)) (due after : List AgeDue) → clock < 65536 → AreDue clock es due → age_of clock es key ≡ Some age
     → ((q : LsaKey) → age_of clock fs q ≡ (if same_key key q then Some 3600 else age_of clock es q))
-    → ((q : Due) → has after q ≡ (not (is_coming clock age key q) && (not (same_due (record { moment = clock; age = age; key = key }) q) && has due q)))
+    → ((q : AgeDue) → has_due after q ≡ (not (is_coming clock age key q) && (not (same_due (record { moment = clock; age = age; key = key }) q) && has_due due q)))
     → AreDue clock fs after
 AreDue-expired clock age key es fs due after c are age_is ages ops =
     AreDue-put clock key (Some 3600) es fs due after are ages (others_stay clock age key due after ops)
@@ -126,7 +126,7 @@ unaged clock es key is = found (stored_of es key) refl is
     found (Some s) at some = absurd (cc)
 
 -- what stopped entries are of age
-stopped_age : (clock : ℕ) (s : Stored) → age_at clock (stopped s).timer ≡ 3600
+stopped_age : (clock : ℕ) (s : Stored) → age_at clock (timer_stopped s).timer ≡ 3600
 unfolding age_at
 stopped_age clock s = refl
 
@@ -134,8 +134,8 @@ pub ages_put : (clock : ℕ) (key : LsaKey) (o : Option Stored) (es fs : List (L
     → (q : LsaKey) → age_of clock fs q ≡ (if same_key key q then option_map (λ s. age_at clock s.timer) o else age_of clock es q)
 ages_put clock key o es fs put q = ap (λ (x : Option Stored). option_map (λ s. age_at clock s.timer) x) (put q) ∙ elim (bool_cases (same_key key q)) [ inl one ↦ rw one refl | inr two ↦ rw two refl ]
 
-stopped_all : (key : LsaKey) (s : Stored) (es fs : List (LsaKey × Stored)) → stored_of es key ≡ Some s → ((q : LsaKey) → stored_of fs q ≡ (if same_key key q then option_map stopped (stored_of es q) else stored_of es q))
-    → (q : LsaKey) → stored_of fs q ≡ (if same_key key q then Some (stopped s) else stored_of es q)
+stopped_all : (key : LsaKey) (s : Stored) (es fs : List (LsaKey × Stored)) → stored_of es key ≡ Some s → ((q : LsaKey) → stored_of fs q ≡ (if same_key key q then option_map timer_stopped (stored_of es q) else stored_of es q))
+    → (q : LsaKey) → stored_of fs q ≡ (if same_key key q then Some (timer_stopped s) else stored_of es q)
 stopped_all key s es fs was put q = put q ∙ elim (bool_cases (same_key key q)) [
   | inl one ↦
       let e = same_key-eq key q one in
@@ -145,20 +145,20 @@ stopped_all key s es fs was put q = put q ∙ elim (bool_cases (same_key key q))
 ]
 
 -- an entry expires before its time
-pub expires_kept : (clock age : ℕ) (key : LsaKey) (m n : BTreeMap LsaKey Stored) (due after : List Due) → IsKept clock m.entries due → tree.IsOrdered key_cmp n → age_of clock m.entries key ≡ Some age
-    → ((q : LsaKey) → stored_of n.entries q ≡ (if same_key key q then option_map stopped (stored_of m.entries q) else stored_of m.entries q))
-    → ((q : Due) → has after q ≡ (not (is_coming clock age key q) && (not (same_due (record { moment = clock; age = age; key = key }) q) && has due q)))
-    → IsKept clock n.entries after
+pub expires_kept : (clock age : ℕ) (key : LsaKey) (m n : BTreeMap LsaKey Stored) (due after : List AgeDue) → AreKeptEntries clock m.entries due → tree.IsOrdered key_cmp n → age_of clock m.entries key ≡ Some age
+    → ((q : LsaKey) → stored_of n.entries q ≡ (if same_key key q then option_map timer_stopped (stored_of m.entries q) else stored_of m.entries q))
+    → ((q : AgeDue) → has_due after q ≡ (not (is_coming clock age key q) && (not (same_due (record { moment = clock; age = age; key = key }) q) && has_due due q)))
+    → AreKeptEntries clock n.entries after
 expires_kept clock age key m n due after kept ordered age_is put ops =
     let found = stored_aged clock age m.entries key age_is in
     let s = found.0 in
     let all = stopped_all key s m.entries n.entries found.1 put in
     let one = stored_one clock m.entries kept.stored key s found.1 in
-    let three : age_at clock (stopped s).timer ≡ 3600 = stopped_age clock s in
-    IsKept-put clock key (Some (stopped s)) m n due after kept ordered all
-    (λ t is. subst (λ (x : Stored). IsStored clock (key, x)) (stored_is (stopped s) t is) (one.0, omega arith, λ e. refl))
+    let three : age_at clock (timer_stopped s).timer ≡ 3600 = stopped_age clock s in
+    IsKept-put clock key (Some (timer_stopped s)) m n due after kept ordered all
+    (λ t is. subst (λ (x : Stored). IsStored clock (key, x)) (stored_is (timer_stopped s) t is) (one.0, omega arith, λ e. refl))
     (AreDue-expired clock age key m.entries n.entries due after kept.on_ring kept.are_due age_is
-    (λ q. ages_put clock key (Some (stopped s)) m.entries n.entries all q ∙ ap (λ (x : ℕ). if same_key key q then Some x else age_of clock m.entries q) three) ops)
+    (λ q. ages_put clock key (Some (timer_stopped s)) m.entries n.entries all q ∙ ap (λ (x : ℕ). if same_key key q then Some x else age_of clock m.entries q) three) ops)
   where
     stored_is : (a b : Stored) → Some a ≡ Some b → a ≡ b
     stored_is a b is = cc
@@ -169,30 +169,30 @@ held_made a c t f r = record { entry = record { age = a; contents = c; tick = t;
 held_same : (a b : ℕ) (c : List ℕ) (t : ℕ) (f r : Bool) → b ≡ a → r ≡ false → held_made b c t f r ≡ held_made a c t f false
 held_same a b c t f r p q = ap (λ (n : ℕ). held_made n c t f r) p ∙ ap (λ (x : Bool). held_made a c t f x) q
 
-pub expires_put : (clock age : ℕ) (key : LsaKey) (m n : BTreeMap LsaKey Stored) (due after : List Due) → IsKept clock m.entries due → IsKept clock n.entries after → age < 3600 → age_of clock m.entries key ≡ Some age
-    → ((q : LsaKey) → stored_of n.entries q ≡ (if same_key key q then option_map stopped (stored_of m.entries q) else stored_of m.entries q))
-    → ((q : Due) → has after q ≡ (not (is_coming clock age key q) && (not (same_due (record { moment = clock; age = age; key = key }) q) && has due q)))
+pub expires_put : (clock age : ℕ) (key : LsaKey) (m n : BTreeMap LsaKey Stored) (due after : List AgeDue) → AreKeptEntries clock m.entries due → AreKeptEntries clock n.entries after → age < 3600 → age_of clock m.entries key ≡ Some age
+    → ((q : LsaKey) → stored_of n.entries q ≡ (if same_key key q then option_map timer_stopped (stored_of m.entries q) else stored_of m.entries q))
+    → ((q : AgeDue) → has_due after q ≡ (not (is_coming clock age key q) && (not (same_due (record { moment = clock; age = age; key = key }) q) && has_due due q)))
     → Puts key (option_map expired (held_of (map (held_at clock due) m.entries) key)) (map (held_at clock due) m.entries) (map (held_at clock after) n.entries)
 expires_put clock age key m n due after kept kept_after young age_is put ops =
     let found = stored_aged clock age m.entries key age_is in
     let s = found.0 in
     let all = stopped_all key s m.entries n.entries found.1 put in
-    let three : age_at clock (stopped s).timer ≡ 3600 = stopped_age clock s in
-    let quiet : has after (record { moment = clock; age = age_at clock (stopped s).timer; key = key }) ≡ false = elim (bool_cases (has after (record { moment = clock; age = age_at clock (stopped s).timer; key = key }))) [
-      | inl there ↦ absurd (none_left clock age key m.entries due after kept.on_ring kept.are_due age_is ops (record { moment = clock; age = age_at clock (stopped s).timer; key = key }) refl there)
+    let three : age_at clock (timer_stopped s).timer ≡ 3600 = stopped_age clock s in
+    let quiet : has_due after (record { moment = clock; age = age_at clock (timer_stopped s).timer; key = key }) ≡ false = elim (bool_cases (has_due after (record { moment = clock; age = age_at clock (timer_stopped s).timer; key = key }))) [
+      | inl there ↦ absurd (none_left clock age key m.entries due after kept.on_ring kept.are_due age_is ops (record { moment = clock; age = age_at clock (timer_stopped s).timer; key = key }) refl there)
       | inr two ↦ two
     ] in
-    let now : held_at clock after (key, stopped s) ≡ record { entry = record (held_at clock due (key, s)).entry { age = 3600 }; reached = false } =
-    held_same 3600 (age_at clock (stopped s).timer) s.lsa s.tick s.by_flooding (has after (record { moment = clock; age = age_at clock (stopped s).timer; key = key })) three quiet in
+    let now : held_at clock after (key, timer_stopped s) ≡ record { entry = record (held_at clock due (key, s)).entry { age = 3600 }; reached = false } =
+    held_same 3600 (age_at clock (timer_stopped s).timer) s.lsa s.tick s.by_flooding (has_due after (record { moment = clock; age = age_at clock (timer_stopped s).timer; key = key })) three quiet in
     let less : (held_at clock due (key, s)).entry.age < 3600 = subst (λ (n : ℕ). n < 3600) (sym found.2) young in
     let was : held_of (map (held_at clock due) m.entries) key ≡ Some (held_at clock due (key, s)) = held_of-stored clock due m.entries kept.stored key ∙ ap (λ (o : Option Stored). option_map (λ t. held_at clock due (key, t)) o) found.1 in
-    let same : Some (held_at clock after (key, stopped s)) ≡ option_map expired (held_of (map (held_at clock due) m.entries) key) =
+    let same : Some (held_at clock after (key, timer_stopped s)) ≡ option_map expired (held_of (map (held_at clock due) m.entries) key) =
     ap (λ (h : Held). Some h) (now ∙ sym (expired-young (held_at clock due (key, s)) less)) ∙ sym (ap (λ (o : Option Held). option_map expired o) was) in
-    Puts-words key (Some (held_at clock after (key, stopped s))) (option_map expired (held_of (map (held_at clock due) m.entries) key)) (map (held_at clock due) m.entries) (map (held_at clock due) m.entries) (map (held_at clock after) n.entries) same refl
-    (Puts-stored clock key (Some (stopped s)) m.entries n.entries due after kept.stored kept_after.stored all (others_stay clock age key due after ops))
+    Puts-words key (Some (held_at clock after (key, timer_stopped s))) (option_map expired (held_of (map (held_at clock due) m.entries) key)) (map (held_at clock due) m.entries) (map (held_at clock due) m.entries) (map (held_at clock after) n.entries) same refl
+    (Puts-stored clock key (Some (timer_stopped s)) m.entries n.entries due after kept.stored kept_after.stored all (others_stay clock age key due after ops))
 
 -- the entry of a key, as the database has it
-pub held_aged : (clock age : ℕ) (es : List (LsaKey × Stored)) (due : List Due) (key : LsaKey) → IsKept clock es due → age_of clock es key ≡ Some age
+pub held_aged : (clock age : ℕ) (es : List (LsaKey × Stored)) (due : List AgeDue) (key : LsaKey) → AreKeptEntries clock es due → age_of clock es key ≡ Some age
     → (h : Held) × (held_of (map (held_at clock due) es) key ≡ Some h) × (h.entry.age ≡ age) × (age ≤ 3600)
 held_aged clock age es due key kept is =
     let found = stored_aged clock age es key is in
@@ -204,7 +204,7 @@ held_aged clock age es due key kept is =
       subst (λ (n : ℕ). n ≤ 3600) found.2 one.1,
     )
 
-pub held_none : (clock : ℕ) (es : List (LsaKey × Stored)) (due : List Due) (key : LsaKey) → IsKept clock es due → age_of clock es key ≡ None → held_of (map (held_at clock due) es) key ≡ None
+pub held_none : (clock : ℕ) (es : List (LsaKey × Stored)) (due : List AgeDue) (key : LsaKey) → AreKeptEntries clock es due → age_of clock es key ≡ None → held_of (map (held_at clock due) es) key ≡ None
 held_none clock es due key kept is = held_of-stored clock due es kept.stored key ∙ ap (λ (o : Option Stored). option_map (λ t. held_at clock due (key, t)) o) (unaged clock es key is)
 
 pub fresh_not : (h : Held) → 3600 ≤ h.entry.age → nat_lt h.entry.age 3600 ≡ false
@@ -212,18 +212,18 @@ fresh_not h old = grind arith
 
 -- ---- an entry of MaxAge is taken out
 
-no_coming : (clock : ℕ) (key : LsaKey) (d : Due) → is_coming clock 3600 key d ≡ false
+no_coming : (clock : ℕ) (key : LsaKey) (d : AgeDue) → is_coming clock 3600 key d ≡ false
 unfolding is_coming
 no_coming clock key d = refl
 
-with_none : (clock : ℕ) (key : LsaKey) (due after : List Due) → ((q : Due) → has after q ≡ (not (same_due (record { moment = clock; age = 3600; key = key }) q) && has due q))
-    → (q : Due) → has after q ≡ (not (is_coming clock 3600 key q) && (not (same_due (record { moment = clock; age = 3600; key = key }) q) && has due q))
+with_none : (clock : ℕ) (key : LsaKey) (due after : List AgeDue) → ((q : AgeDue) → has_due after q ≡ (not (same_due (record { moment = clock; age = 3600; key = key }) q) && has_due due q))
+    → (q : AgeDue) → has_due after q ≡ (not (is_coming clock 3600 key q) && (not (same_due (record { moment = clock; age = 3600; key = key }) q) && has_due due q))
 with_none clock key due after ops q = let no_more = no_coming clock key q in ops q ∙ sym (rw no_more refl)
 
-pub removes_kept : (clock : ℕ) (key : LsaKey) (m n : BTreeMap LsaKey Stored) (due after : List Due) → IsKept clock m.entries due → tree.IsOrdered key_cmp n → age_of clock m.entries key ≡ Some 3600
+pub removes_kept : (clock : ℕ) (key : LsaKey) (m n : BTreeMap LsaKey Stored) (due after : List AgeDue) → AreKeptEntries clock m.entries due → tree.IsOrdered key_cmp n → age_of clock m.entries key ≡ Some 3600
     → ((q : LsaKey) → stored_of n.entries q ≡ (if same_key key q then None else stored_of m.entries q))
-    → ((q : Due) → has after q ≡ (not (same_due (record { moment = clock; age = 3600; key = key }) q) && has due q))
-    → IsKept clock n.entries after
+    → ((q : AgeDue) → has_due after q ≡ (not (same_due (record { moment = clock; age = 3600; key = key }) q) && has_due due q))
+    → AreKeptEntries clock n.entries after
 removes_kept clock key m n due after kept ordered age_is put ops =
     let all = with_none clock key due after ops in
     IsKept-put clock key None m n due after kept ordered put (λ t is. absurd (cc))
@@ -231,9 +231,9 @@ removes_kept clock key m n due after kept ordered age_is put ops =
     (λ d k there. absurd (none_left clock 3600 key m.entries due after kept.on_ring kept.are_due age_is all d k there))
     (λ d k far comes. absurd (let e = comes.is in cc)))
 
-pub removes_put : (clock : ℕ) (key : LsaKey) (m n : BTreeMap LsaKey Stored) (due after : List Due) → IsKept clock m.entries due → IsKept clock n.entries after → age_of clock m.entries key ≡ Some 3600
+pub removes_put : (clock : ℕ) (key : LsaKey) (m n : BTreeMap LsaKey Stored) (due after : List AgeDue) → AreKeptEntries clock m.entries due → AreKeptEntries clock n.entries after → age_of clock m.entries key ≡ Some 3600
     → ((q : LsaKey) → stored_of n.entries q ≡ (if same_key key q then None else stored_of m.entries q))
-    → ((q : Due) → has after q ≡ (not (same_due (record { moment = clock; age = 3600; key = key }) q) && has due q))
+    → ((q : AgeDue) → has_due after q ≡ (not (same_due (record { moment = clock; age = 3600; key = key }) q) && has_due due q))
     → Puts key None (map (held_at clock due) m.entries) (map (held_at clock after) n.entries)
 removes_put clock key m n due after kept kept_after age_is put ops =
     Puts-stored clock key None m.entries n.entries due after kept.stored kept_after.stored put (others_stay clock 3600 key due after (with_none clock key due after ops))

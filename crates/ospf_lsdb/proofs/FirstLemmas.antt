@@ -2,8 +2,8 @@
 use Rattle.std.proofs.Common.{◌≡◌, ◌<◌, ◌≤◌, ◌⊎◌, inl, inr, ℕ, true, List, [], ◌∷◌, refl, sym, ◌∙◌, arith, BTreeSet}
 use Rattle.std.specs.BTreeSet as sorted
 use Rattle.std.specs.declared.ops.Bound.TheVariants.{Included, Unbounded}
-use Rattle.ospf_lsdb.specs.declared.moments.Due.{Due}
-use Rattle.ospf_lsdb.specs.Moments.{ahead, due_cmp, has, IsIdle}
+use Rattle.ospf_lsdb.specs.declared.moments.AgeDue.{AgeDue}
+use Rattle.ospf_lsdb.specs.Moments.{ahead, due_cmp, has_due, IsIdleUntil}
 use Rattle.ospf_lsdb.proofs.MomentLemmas.{has-contains}
 use Rattle.ospf_lsdb.proofs.OrderLemmas.{first_key, first_due_le, moment_le}
 
@@ -26,12 +26,12 @@ side : (a b : ℕ) → (a ≤ b) ⊎ (b < a)
 side a b = grind arith
 
 -- the first of what is due at any moment
-abbrev pub at_once : ℕ → Due
+abbrev pub at_once : ℕ → AgeDue
 at_once clock = record { moment = clock; age = 0; key = first_key }
 
 -- where something is due from this moment on
-pub first_later : (clock : ℕ) (s : BTreeSet Due) (f : Due) (rest : List Due) → f.moment < 65536 → sorted.IsKeyRangeOf due_cmp (Included (at_once clock)) Unbounded s (f ∷ rest)
-    → (has s.keys f ≡ true) × IsIdle clock (ahead clock f.moment) s.keys
+pub first_later : (clock : ℕ) (s : BTreeSet AgeDue) (f : AgeDue) (rest : List AgeDue) → f.moment < 65536 → sorted.IsKeyRangeOf due_cmp (Included (at_once clock)) Unbounded s (f ∷ rest)
+    → (has_due s.keys f ≡ true) × IsIdleUntil clock (ahead clock f.moment) s.keys
 first_later clock s f rest fits range =
     let from = moment_le (at_once clock) f range.1.0.0 in (
       sym (has-contains s f) ∙ range.1.1,
@@ -46,8 +46,8 @@ first_later clock s f rest fits range =
     )
 
 -- where nothing is
-pub first_around : (clock : ℕ) (s : BTreeSet Due) (f : Due) → clock < 65536 → sorted.IsKeyRangeOf due_cmp (Included (at_once clock)) Unbounded s [] → sorted.IsLowerBound due_cmp s f
-    → IsIdle clock (ahead clock f.moment) s.keys
+pub first_around : (clock : ℕ) (s : BTreeSet AgeDue) (f : AgeDue) → clock < 65536 → sorted.IsKeyRangeOf due_cmp (Included (at_once clock)) Unbounded s [] → sorted.IsLowerBound due_cmp s f
+    → IsIdleUntil clock (ahead clock f.moment) s.keys
 first_around clock s f c range least = record {
   none_before = λ d within there.
       let has_it = has-contains s d ∙ there in

@@ -7,9 +7,9 @@ use Rattle.std.specs.Map.{values_of}
 use Rattle.ospf_base.specs.Keys.{Precedes}
 use Rattle.ospf_base.specs.declared.ids.LsaKey.{LsaKey}
 use Rattle.ospf_lsa.specs.Lsa.{key_of}
-use Rattle.ospf_lsdb.specs.Database.{Held, key_at, key_in, lsa_of, is_fresh, listed, listed_of, IsRising}
+use Rattle.ospf_lsdb.specs.Database.{Held, key_at, key_in, lsa_of, is_fresh, listed, listed_of, AreKeysRising}
 use Rattle.ospf_lsdb.specs.Places.{AllAfter}
-use Rattle.ospf_lsdb.specs.declared.moments.Due.{Due}
+use Rattle.ospf_lsdb.specs.declared.moments.AgeDue.{AgeDue}
 use Rattle.ospf_lsdb.specs.declared.dated.Stored.{Stored}
 use Rattle.ospf_lsdb.specs.Timers.{age_at, held_at, IsStored}
 use Rattle.ospf_lsdb.proofs.MapLemmas.{bool_cases}
@@ -20,18 +20,18 @@ use Rattle.ospf_lsdb.proofs.ReachedLemmas.{listed_before}
 abbrev pub bare : ℕ → Stored → Held
 bare clock s = record { entry = record { age = age_at clock s.timer; contents = s.lsa; tick = s.tick; by_flooding = s.by_flooding }; reached = false }
 
-bare_listed : (clock : ℕ) (due : List Due) (es : List (LsaKey × Stored)) → listed (map (held_at clock due) es) ≡ listed (map (bare clock) (values_of es))
+bare_listed : (clock : ℕ) (due : List AgeDue) (es : List (LsaKey × Stored)) → listed (map (held_at clock due) es) ≡ listed (map (bare clock) (values_of es))
 bare_listed clock due [] = refl
 bare_listed clock due (e ∷ es) = elim (bool_cases (is_fresh (bare clock e.1).entry)) [
   | inl one ↦ rw one (ap (λ (t : List (List ℕ)). lsa_of (bare clock e.1).entry ∷ t) (bare_listed clock due es))
   | inr two ↦ rw two (bare_listed clock due es)
 ]
 
-bare_after : (clock : ℕ) (due : List Due) (k : LsaKey) (es : List (LsaKey × Stored)) → AllAfter k (map (held_at clock due) es) → AllAfter k (map (bare clock) (values_of es))
+bare_after : (clock : ℕ) (due : List AgeDue) (k : LsaKey) (es : List (LsaKey × Stored)) → AllAfter k (map (held_at clock due) es) → AllAfter k (map (bare clock) (values_of es))
 bare_after clock due k [] after = tt
 bare_after clock due k (e ∷ es) after = (after.0, bare_after clock due k es after.1)
 
-bare_rising : (clock : ℕ) (due : List Due) (es : List (LsaKey × Stored)) → IsRising (map (held_at clock due) es) → IsRising (map (bare clock) (values_of es))
+bare_rising : (clock : ℕ) (due : List AgeDue) (es : List (LsaKey × Stored)) → AreKeysRising (map (held_at clock due) es) → AreKeysRising (map (bare clock) (values_of es))
 bare_rising clock due [] rises = tt
 bare_rising clock due (e ∷ es) rises = (bare_after clock due (key_in e.1.lsa) es rises.0, bare_rising clock due es rises.1)
 
@@ -43,12 +43,12 @@ age_among clock (e ∷ es) all [] s rest is = let same : e.1 ≡ s = cc in subst
 age_among clock (e ∷ es) all (d ∷ ds) s rest is = let left : values_of es ≡ ds ++ s ∷ rest = cc in age_among clock es all.1 ds s rest left
 
 -- an LSA stands behind those listed before it
-pub bare_last : (clock : ℕ) (due : List Due) (es : List (LsaKey × Stored)) → IsRising (map (held_at clock due) es) → (done : List Stored) (s : Stored) (rest : List Stored) → values_of es ≡ done ++ s ∷ rest
+pub bare_last : (clock : ℕ) (due : List AgeDue) (es : List (LsaKey × Stored)) → AreKeysRising (map (held_at clock due) es) → (done : List Stored) (s : Stored) (rest : List Stored) → values_of es ≡ done ++ s ∷ rest
     → AllByRecursion (λ lsa. Precedes (key_of lsa) (key_at (bare clock s))) (listed (map (bare clock) done))
 bare_last clock due es rises done s rest is =
     listed_before (key_at (bare clock s)) (map (bare clock) done)
     (rising_before (map (bare clock) done) (bare clock s) (map (bare clock) rest)
-    (subst (λ (hs : List Held). IsRising hs) (ap (λ (ss : List Stored). map (bare clock) ss) is ∙ map-append (bare clock) done (s ∷ rest)) (bare_rising clock due es rises)))
+    (subst (λ (hs : List Held). AreKeysRising hs) (ap (λ (ss : List Stored). map (bare clock) ss) is ∙ map-append (bare clock) done (s ∷ rest)) (bare_rising clock due es rises)))
 
 listed_one : (h : Held) → listed (h ∷ []) ≡ listed_of h.entry
 unfolding listed_of
@@ -63,5 +63,5 @@ bare_more clock done s =
     ∙ ap (λ (t : List (List ℕ)). listed (map (bare clock) done) ++ t) (listed_one (bare clock s))
 
 -- all of them
-pub bare_all : (clock : ℕ) (due : List Due) (es : List (LsaKey × Stored)) (done : List Stored) → values_of es ≡ done → listed (map (bare clock) done) ≡ listed (map (held_at clock due) es)
+pub bare_all : (clock : ℕ) (due : List AgeDue) (es : List (LsaKey × Stored)) (done : List Stored) → values_of es ≡ done → listed (map (bare clock) done) ≡ listed (map (held_at clock due) es)
 bare_all clock due es done is = ap (λ (ss : List Stored). listed (map (bare clock) ss)) (sym is) ∙ sym (bare_listed clock due es)

@@ -3,7 +3,7 @@ use Rattle.std.proofs.Common.{◌≡◌, inl, inr, nat_lt, false, List, [], ◌�
 use Rattle.ospf_base.specs.declared.ids.LsaKey.{LsaKey}
 use Rattle.ospf_base.specs.Keys.{Precedes, same_key}
 use Rattle.ospf_base.proofs.KeyOrder.{Precedes-cases}
-use Rattle.ospf_lsdb.specs.Database.{Entry, Held, key_at, key_in, held_of, aged, older, IsRising}
+use Rattle.ospf_lsdb.specs.Database.{Entry, Held, key_at, key_in, held_of, aged, older, AreKeysRising}
 use Rattle.ospf_lsdb.specs.Laws.{InstallsOne, TickAgesAll, OneDatabaseOfAMap}
 use Rattle.ospf_lsdb.proofs.MapLemmas.{bool_cases, after-none}
 use Rattle.ospf_base.proofs.SameKeys.{same_key-eq, same_key-refl}
@@ -30,10 +30,10 @@ ages before after risen key = ap (λ (o : Option Held). option_map (λ h. h.entr
 first_of : (h : Held) (hs : List Held) → held_of (h ∷ hs) (key_at h) ≡ Some h
 first_of h hs = let is = same_key-refl (key_at h) in rw is refl
 
-none_before : (k : LsaKey) (h : Held) (hs : List Held) → IsRising (h ∷ hs) → Precedes k (key_at h) → held_of (h ∷ hs) k ≡ None
+none_before : (k : LsaKey) (h : Held) (hs : List Held) → AreKeysRising (h ∷ hs) → Precedes k (key_at h) → held_of (h ∷ hs) k ≡ None
 none_before k h hs rises lt = after-none k (h ∷ hs) (lt, all_after-trans k (key_at h) hs lt rises.0)
 
-same_lists : (a b : List Held) → IsRising a → IsRising b → ((key : LsaKey) → held_of a key ≡ held_of b key) → a ≡ b
+same_lists : (a b : List Held) → AreKeysRising a → AreKeysRising b → ((key : LsaKey) → held_of a key ≡ held_of b key) → a ≡ b
 same_lists [] [] ra rb same = refl
 same_lists [] (y ∷ ys) ra rb same = absurd (let e = same (key_at y) in let f = first_of y ys in cc)
 same_lists (x ∷ xs) [] ra rb same = absurd (let e = same (key_at x) in let f = first_of x xs in cc)

@@ -1,52 +1,19 @@
--- The orders of keys and of what is due.
-use Rattle.std.proofs.Common.{◌≡◌, ◌<◌, ◌≤◌, ◌==◌, ◌&&◌, ◌+◌, ◌⊎◌, inl, inr, ℕ, Bool, true, false, refl, ◌∙◌, arith}
-use Rattle.std.proofs.lemmas.Grind.{common_steps}
+-- The order of what is due.
+use Rattle.std.proofs.Common.{◌≡◌, ◌<◌, ◌≤◌, ◌==◌, ◌+◌, ◌⊎◌, inl, inr, ℕ, true, false, refl, ◌∙◌, arith}
 use Rattle.std.specs.Ordering.{nat_cmp, is_eq, is_le, is_gt, ordering_then}
 use Rattle.std.specs.declared.cmp.Ordering.{Ordering}
 use Rattle.std.specs.declared.cmp.Ordering.TheVariants.{Less, Equal, Greater}
 use Rattle.ospf_base.specs.declared.ids.LsaKey.{LsaKey}
 use Rattle.ospf_base.specs.declared.ids.Kind.{Kind}
 use Rattle.ospf_base.specs.declared.ids.Kind.TheVariants.{Router, Network}
-use Rattle.ospf_base.specs.Keys.{ls_type, Precedes, same_key}
-use Rattle.ospf_base.specs.contracts.ids.KindOrd.TheImpl as kind_ord
-use Rattle.ospf_lsdb.specs.declared.moments.Due.{Due}
+use Rattle.ospf_base.specs.Keys.{Precedes, key_cmp}
+use Rattle.ospf_base.proofs.KeyMaps.{is_eq-key_cmp, is_eq-nat_cmp, is_eq-then, key_cmp-less, kind_cmp, nat_cmp-eq, nat_cmp-gt, nat_cmp-less, nat_cmp-lt, then-less}
+use Rattle.ospf_lsdb.specs.declared.moments.AgeDue.{AgeDue}
 use Rattle.std.specs.BTreeMap.Range.{range_contains}
 use Rattle.std.specs.declared.ops.Bound.TheVariants.{Included, Excluded}
-use Rattle.ospf_lsdb.specs.Moments.{key_cmp, due_cmp, same_due, is_at}
+use Rattle.ospf_lsdb.specs.Moments.{due_cmp, same_due, is_due_at}
 
-abbrev pub kind_cmp : Kind → Kind → Ordering
-kind_cmp = (kind_ord.ghosts).cmp
-
-is_eq-then : (a b : Ordering) → is_eq (ordering_then a b) ≡ is_eq a && is_eq b
-is_eq-then Less b = refl
-is_eq-then Equal b = refl
-is_eq-then Greater b = refl
-
-is_eq-nat_cmp : (a b : ℕ) → is_eq (nat_cmp a b) ≡ (a == b)
-is_eq-nat_cmp a b = grind (arith, common_steps)
-
-is_eq-kind_cmp : (a b : Kind) → is_eq (kind_cmp a b) ≡ (ls_type a == ls_type b)
-is_eq-kind_cmp Router Router = refl
-is_eq-kind_cmp Router Network = refl
-is_eq-kind_cmp Network Router = refl
-is_eq-kind_cmp Network Network = refl
-
--- keys that the map takes for one are one
-pub is_eq-key_cmp : (a b : LsaKey) → is_eq (key_cmp a b) ≡ same_key a b
-unfolding same_key
-is_eq-key_cmp a b =
-    let k = is_eq-kind_cmp a.kind b.kind in
-    let i = is_eq-nat_cmp a.id b.id in
-    let r = is_eq-nat_cmp a.router.0 b.router.0 in
-    let x = is_eq-then (kind_cmp a.kind b.kind) (ordering_then (nat_cmp a.id b.id) (nat_cmp a.router.0 b.router.0)) in
-    let y = is_eq-then (nat_cmp a.id b.id) (nat_cmp a.router.0 b.router.0) in
-    x ∙ (rw (k, y, i, r) (assoc (ls_type a.kind == ls_type b.kind) (a.id == b.id) (a.router.0 == b.router.0)))
-  where
-    assoc : (p q s : Bool) → p && (q && s) ≡ (p && q) && s
-    assoc true q s = refl
-    assoc false q s = refl
-
-pub is_eq-due_cmp : (a b : Due) → is_eq (due_cmp a b) ≡ same_due a b
+pub is_eq-due_cmp : (a b : AgeDue) → is_eq (due_cmp a b) ≡ same_due a b
 unfolding same_due
 is_eq-due_cmp a b =
     let x = is_eq-then (nat_cmp a.moment b.moment) (ordering_then (nat_cmp a.age b.age) (key_cmp a.key b.key)) in
@@ -56,41 +23,8 @@ is_eq-due_cmp a b =
     let k = is_eq-key_cmp a.key b.key in
     x ∙ (rw (y, m, n, k) refl)
 
-then-less : (a b : Ordering) → ordering_then a b ≡ Less → (a ≡ Less) ⊎ ((a ≡ Equal) × (b ≡ Less))
-then-less Less b is = inl refl
-then-less Equal b is = inr (refl, is)
-then-less Greater b is = absurd (cc)
-
-nat_cmp-less : (a b : ℕ) → nat_cmp a b ≡ Less → a < b
-nat_cmp-less a b is = grind (arith, common_steps)
-
-nat_cmp-equal : (a b : ℕ) → nat_cmp a b ≡ Equal → a ≡ b
-nat_cmp-equal a b is = grind (arith, common_steps)
-
-kind_cmp-less : (a b : Kind) → kind_cmp a b ≡ Less → ls_type a < ls_type b
-kind_cmp-less Router Router is = absurd (cc)
-kind_cmp-less Router Network is = omega arith
-kind_cmp-less Network Router is = absurd (cc)
-kind_cmp-less Network Network is = absurd (cc)
-
-kind_cmp-equal : (a b : Kind) → kind_cmp a b ≡ Equal → ls_type a ≡ ls_type b
-kind_cmp-equal Router Router is = refl
-kind_cmp-equal Router Network is = absurd (cc)
-kind_cmp-equal Network Router is = absurd (cc)
-kind_cmp-equal Network Network is = refl
-
--- what the map puts first stands first
-pub key_cmp-less : (a b : LsaKey) → key_cmp a b ≡ Less → Precedes a b
-key_cmp-less a b is = elim (then-less (kind_cmp a.kind b.kind) (ordering_then (nat_cmp a.id b.id) (nat_cmp a.router.0 b.router.0)) is) [
-  | inl k ↦ inl (kind_cmp-less a.kind b.kind k)
-  | inr more ↦ elim (then-less (nat_cmp a.id b.id) (nat_cmp a.router.0 b.router.0) more.1) [
-    | inl i ↦ inr (kind_cmp-equal a.kind b.kind more.0, inl (nat_cmp-less a.id b.id i))
-    | inr last ↦ inr (kind_cmp-equal a.kind b.kind more.0, inr (nat_cmp-equal a.id b.id last.0, nat_cmp-less a.router.0 b.router.0 last.1))
-  ]
-]
-
 -- of one moment and one age, what stands first has the first key
-pub due_cmp-less : (a b : Due) → a.moment ≡ b.moment → a.age ≡ b.age → due_cmp a b ≡ Less → Precedes a.key b.key
+pub due_cmp-less : (a b : AgeDue) → a.moment ≡ b.moment → a.age ≡ b.age → due_cmp a b ≡ Less → Precedes a.key b.key
 due_cmp-less a b m n is = elim (then-less (nat_cmp a.moment b.moment) (ordering_then (nat_cmp a.age b.age) (key_cmp a.key b.key)) is) [
   | inl less ↦ let lt = nat_cmp-less a.moment b.moment less in absurd (omega arith)
   | inr more ↦ elim (then-less (nat_cmp a.age b.age) (key_cmp a.key b.key) more.1) [
@@ -98,15 +32,6 @@ due_cmp-less a b m n is = elim (then-less (nat_cmp a.moment b.moment) (ordering_
     | inr last ↦ key_cmp-less a.key b.key last.1
   ]
 ]
-
-nat_cmp-lt : (a b : ℕ) → a < b → nat_cmp a b ≡ Less
-nat_cmp-lt a b is = grind (arith, common_steps)
-
-nat_cmp-eq : (a b : ℕ) → a ≡ b → nat_cmp a b ≡ Equal
-nat_cmp-eq a b is = grind (arith, common_steps)
-
-nat_cmp-gt : (a b : ℕ) → b < a → nat_cmp a b ≡ Greater
-nat_cmp-gt a b is = grind (arith, common_steps)
 
 differ : (a b : ℕ) → (a < b) ⊎ (b < a) → (b == a) ≡ false
 differ a b (inl lt) = grind arith
@@ -141,7 +66,7 @@ first_le : (k : LsaKey) → is_le (key_cmp first_key k) ≡ true
 first_le k = is_le-then (kind_cmp Router k.kind) (ordering_then (nat_cmp 0 k.id) (nat_cmp 0 k.router.0)) (kind_le k.kind) (is_le-then (nat_cmp 0 k.id) (nat_cmp 0 k.router.0) (zero_le k.id) (zero_le k.router.0))
 
 -- what the set puts first is due no later in the count of the clock
-pub moment_le : (f d : Due) → is_gt (due_cmp f d) ≡ false → f.moment ≤ d.moment
+pub moment_le : (f d : AgeDue) → is_gt (due_cmp f d) ≡ false → f.moment ≤ d.moment
 moment_le f d le = elim (order f.moment d.moment) [
   | inl lt ↦ omega arith
   | inr more ↦ elim more [
@@ -159,7 +84,7 @@ not_gt Equal is = refl
 not_gt Greater is = absurd (cc)
 
 -- and the first of all at a moment stands in front of what is due from then on
-pub first_due_le : (clock : ℕ) (d : Due) → clock ≤ d.moment → is_gt (due_cmp (record { moment = clock; age = 0; key = first_key }) d) ≡ false
+pub first_due_le : (clock : ℕ) (d : AgeDue) → clock ≤ d.moment → is_gt (due_cmp (record { moment = clock; age = 0; key = first_key }) d) ≡ false
 first_due_le clock d from = not_gt (due_cmp (record { moment = clock; age = 0; key = first_key }) d)
     (is_le-then (nat_cmp clock d.moment) (ordering_then (nat_cmp 0 d.age) (key_cmp first_key d.key)) (not_past clock d.moment from)
     (is_le-then (nat_cmp 0 d.age) (key_cmp first_key d.key) (zero_le d.age) (first_le d.key)))
@@ -171,7 +96,7 @@ first_due_le clock d from = not_gt (due_cmp (record { moment = clock; age = 0; k
     ]
 
 -- the range of one moment and one age
-pub in_range : (m a : ℕ) (q : Due) → range_contains due_cmp (Included (record { moment = m; age = a; key = first_key })) (Excluded (record { moment = m; age = a + 1; key = first_key })) q ≡ is_at m a q
+pub in_range : (m a : ℕ) (q : AgeDue) → range_contains due_cmp (Included (record { moment = m; age = a; key = first_key })) (Excluded (record { moment = m; age = a + 1; key = first_key })) q ≡ is_due_at m a q
 in_range m a q = elim (order m q.moment) [
   | inl lt ↦ let e = nat_cmp-lt m q.moment lt in let n = differ m q.moment (inl lt) in rw (e, n) refl
   | inr more ↦ elim more [
@@ -203,21 +128,3 @@ in_range m a q = elim (order m q.moment) [
         ]
   ]
 ]
-
-kind_cmp-lt : (a b : Kind) → ls_type a < ls_type b → kind_cmp a b ≡ Less
-kind_cmp-lt Router Router lt = absurd (omega arith)
-kind_cmp-lt Router Network lt = refl
-kind_cmp-lt Network Router lt = absurd (omega arith)
-kind_cmp-lt Network Network lt = absurd (omega arith)
-
-kind_cmp-eq : (a b : Kind) → ls_type a ≡ ls_type b → kind_cmp a b ≡ Equal
-kind_cmp-eq Router Router is = refl
-kind_cmp-eq Router Network is = absurd (omega arith)
-kind_cmp-eq Network Router is = absurd (omega arith)
-kind_cmp-eq Network Network is = refl
-
--- what stands first, the map puts first
-pub less-key_cmp : (a b : LsaKey) → Precedes a b → key_cmp a b ≡ Less
-less-key_cmp a b (inl k) = let e = kind_cmp-lt a.kind b.kind k in rw e refl
-less-key_cmp a b (inr (k, inl i)) = let e = kind_cmp-eq a.kind b.kind k in let f = nat_cmp-lt a.id b.id i in rw (e, f) refl
-less-key_cmp a b (inr (k, inr r)) = let e = kind_cmp-eq a.kind b.kind k in let f = nat_cmp-eq a.id b.id r.0 in let g = nat_cmp-lt a.router.0 b.router.0 r.1 in rw (e, f, g) refl

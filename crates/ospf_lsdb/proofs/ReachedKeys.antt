@@ -7,12 +7,12 @@ use Rattle.std.specs.declared.cmp.Ordering.TheVariants.{Less}
 use Rattle.ospf_base.specs.Keys.{Precedes, same_key}
 use Rattle.ospf_base.proofs.KeyOrder.{Precedes-cases, Precedes-trans}
 use Rattle.ospf_base.specs.declared.ids.LsaKey.{LsaKey}
-use Rattle.ospf_lsdb.specs.Database.{Held, key_at, held_of, is_some_and, reached_at, IsRising}
+use Rattle.ospf_lsdb.specs.Database.{Held, key_at, held_of, is_some_and, reached_at, AreKeysRising}
 use Rattle.ospf_lsdb.specs.Places.{AllAfter}
-use Rattle.ospf_lsdb.specs.declared.moments.Due.{Due}
+use Rattle.ospf_lsdb.specs.declared.moments.AgeDue.{AgeDue}
 use Rattle.ospf_lsdb.specs.declared.dated.Stored.{Stored}
-use Rattle.ospf_lsdb.specs.Moments.{due_cmp, has, same_due, is_at, keys_at, among}
-use Rattle.ospf_lsdb.specs.Timers.{age_at, held_at, stored_of, age_of, AreDue, KeysRise, IsKept}
+use Rattle.ospf_lsdb.specs.Moments.{due_cmp, has_due, same_due, is_due_at, keys_at, among}
+use Rattle.ospf_lsdb.specs.Timers.{age_at, held_at, stored_of, age_of, AreDue, KeysRise, AreKeptEntries}
 use Rattle.ospf_lsdb.proofs.MapLemmas.{bool_cases}
 use Rattle.ospf_base.proofs.SameKeys.{same_key-eq, same_key-refl, same_key-apart_after}
 use Rattle.ospf_lsdb.proofs.MomentLemmas.{same_due-eq, same_due-refl, split_and, made_is, apart_at}
@@ -62,10 +62,10 @@ same_keys_lists (x ∷ xs) (y ∷ ys) ra rb same = elim (Precedes-cases x y) [
     ]
 
 -- what is due at a moment and an age rises
-due_after : (m a : ℕ) (d : Due) (ds : List Due) → is_at m a d ≡ true → AllByRecursion (λ y. due_cmp d y ≡ Less) ds → KeysAfter d.key (keys_at m a ds)
+due_after : (m a : ℕ) (d : AgeDue) (ds : List AgeDue) → is_due_at m a d ≡ true → AllByRecursion (λ y. due_cmp d y ≡ Less) ds → KeysAfter d.key (keys_at m a ds)
 unfolding keys_at
 due_after m a d [] at less = tt
-due_after m a d (x ∷ xs) at less = elim (bool_cases (is_at m a x)) [
+due_after m a d (x ∷ xs) at less = elim (bool_cases (is_due_at m a x)) [
   | inl one ↦
       let p = split_and (d.moment == m) (d.age == a) at in
       let q = split_and (x.moment == m) (x.age == a) one in
@@ -75,34 +75,34 @@ due_after m a d (x ∷ xs) at less = elim (bool_cases (is_at m a x)) [
   | inr two ↦ rw two (due_after m a d xs at less.1)
 ]
 
-pub keys_at-rise : (m a : ℕ) (ds : List Due) → IsStrictlySortedBy due_cmp ds → KeysRise (keys_at m a ds)
+pub keys_at-rise : (m a : ℕ) (ds : List AgeDue) → IsStrictlySortedBy due_cmp ds → KeysRise (keys_at m a ds)
 unfolding keys_at IsStrictlySortedBy
 keys_at-rise m a [] sorted = tt
-keys_at-rise m a (d ∷ ds) sorted = elim (bool_cases (is_at m a d)) [
+keys_at-rise m a (d ∷ ds) sorted = elim (bool_cases (is_due_at m a d)) [
   | inl one ↦ rw one (due_after m a d ds one sorted.0, keys_at-rise m a ds sorted.1)
   | inr two ↦ rw two (keys_at-rise m a ds sorted.1)
 ]
 
 -- what is among them
-same_due_at : (m a : ℕ) (k : LsaKey) (d : Due) → is_at m a d ≡ true → same_due (record { moment = m; age = a; key = k }) d ≡ same_key d.key k
+same_due_at : (m a : ℕ) (k : LsaKey) (d : AgeDue) → is_due_at m a d ≡ true → same_due (record { moment = m; age = a; key = k }) d ≡ same_key d.key k
 same_due_at m a k d at = elim (bool_cases (same_key d.key k)) [
   | inl one ↦
       let p = split_and (d.moment == m) (d.age == a) at in
       let is : d ≡ record { moment = m; age = a; key = k } = made_is d m a k (eqb-true d.moment m p.0) (eqb-true d.age a p.1) (same_key-eq d.key k one) in
-      subst (λ (x : Due). same_due x d ≡ true) is (same_due-refl d) ∙ sym one
+      subst (λ (x : AgeDue). same_due x d ≡ true) is (same_due-refl d) ∙ sym one
   | inr two ↦ elim (bool_cases (same_due (record { moment = m; age = a; key = k }) d)) [
     | inl same ↦
-        let key : d.key ≡ k = sym (ap (λ (x : Due). x.key) (same_due-eq (record { moment = m; age = a; key = k }) d same)) in
+        let key : d.key ≡ k = sym (ap (λ (x : AgeDue). x.key) (same_due-eq (record { moment = m; age = a; key = k }) d same)) in
         let sure : same_key d.key k ≡ true = subst (λ (q : LsaKey). same_key d.key q ≡ true) key (same_key-refl d.key) in
         absurd (cc)
     | inr other ↦ other ∙ sym two
   ]
 ]
 
-pub keys_at-among : (m a : ℕ) (ds : List Due) (k : LsaKey) → among (keys_at m a ds) k ≡ has ds (record { moment = m; age = a; key = k })
+pub keys_at-among : (m a : ℕ) (ds : List AgeDue) (k : LsaKey) → among (keys_at m a ds) k ≡ has_due ds (record { moment = m; age = a; key = k })
 unfolding keys_at
 keys_at-among m a [] k = refl
-keys_at-among m a (d ∷ ds) k = elim (bool_cases (is_at m a d)) [
+keys_at-among m a (d ∷ ds) k = elim (bool_cases (is_due_at m a d)) [
   | inl one ↦ let e = same_due_at m a k d one in rw (one, e) (ap (λ (b : Bool). same_key d.key k || b) (keys_at-among m a ds k))
   | inr two ↦ let e = apart_at m a k d two in rw (two, e) (keys_at-among m a ds k)
 ]
@@ -116,7 +116,7 @@ reached_after age k (h ∷ hs) after = elim (bool_cases (h.reached && (h.entry.a
   | inr two ↦ rw two (reached_after age k hs after.1)
 ]
 
-pub reached-rise : (age : ℕ) (hs : List Held) → IsRising hs → KeysRise (reached_at age hs)
+pub reached-rise : (age : ℕ) (hs : List Held) → AreKeysRising hs → KeysRise (reached_at age hs)
 unfolding reached_at
 reached-rise age [] rises = tt
 reached-rise age (h ∷ hs) rises = elim (bool_cases (h.reached && (h.entry.age == age))) [
@@ -124,7 +124,7 @@ reached-rise age (h ∷ hs) rises = elim (bool_cases (h.reached && (h.entry.age 
   | inr two ↦ rw two (reached-rise age hs rises.1)
 ]
 
-pub reached-among : (age : ℕ) (hs : List Held) → IsRising hs → (k : LsaKey) → among (reached_at age hs) k ≡ is_some_and (λ h. h.reached && (h.entry.age == age)) (held_of hs k)
+pub reached-among : (age : ℕ) (hs : List Held) → AreKeysRising hs → (k : LsaKey) → among (reached_at age hs) k ≡ is_some_and (λ h. h.reached && (h.entry.age == age)) (held_of hs k)
 unfolding reached_at
 reached-among age [] rises k = refl
 reached-among age (h ∷ hs) rises k = elim (bool_cases (same_key (key_at h) k)) [
@@ -142,9 +142,9 @@ reached-among age (h ∷ hs) rises k = elim (bool_cases (same_key (key_at h) k))
 ]
 
 -- what is due now is what came to its age at the last tick
-due_of : (clock a : ℕ) (es : List (LsaKey × Stored)) (due : List Due) (k : LsaKey) → clock < 65536 → AreDue clock es due → (o : Option Stored) → stored_of es k ≡ o
-    → has due (record { moment = clock; age = a; key = k }) ≡ is_some_and (λ h. h.reached && (h.entry.age == a)) (option_map (λ s. held_at clock due (k, s)) o)
-due_of clock a es due k c are None is = elim (bool_cases (has due (record { moment = clock; age = a; key = k }))) [
+due_of : (clock a : ℕ) (es : List (LsaKey × Stored)) (due : List AgeDue) (k : LsaKey) → clock < 65536 → AreDue clock es due → (o : Option Stored) → stored_of es k ≡ o
+    → has_due due (record { moment = clock; age = a; key = k }) ≡ is_some_and (λ h. h.reached && (h.entry.age == a)) (option_map (λ s. held_at clock due (k, s)) o)
+due_of clock a es due k c are None is = elim (bool_cases (has_due due (record { moment = clock; age = a; key = k }))) [
   | inl one ↦
       let comes = are.sound (record { moment = clock; age = a; key = k }) one in
       let none : age_of clock es k ≡ None = ap (λ (o : Option Stored). option_map (λ s. age_at clock s.timer) o) is in
@@ -154,9 +154,9 @@ due_of clock a es due k c are None is = elim (bool_cases (has due (record { mome
 due_of clock a es due k c are (Some s) is = elim (bool_cases (age_at clock s.timer == a)) [
   | inl one ↦
       let e = eqb-true (age_at clock s.timer) a one in
-      rw one (ap (λ (n : ℕ). has due (record { moment = clock; age = n; key = k })) (sym e) ∙ and_one (has due (record { moment = clock; age = age_at clock s.timer; key = k })))
+      rw one (ap (λ (n : ℕ). has_due due (record { moment = clock; age = n; key = k })) (sym e) ∙ and_one (has_due due (record { moment = clock; age = age_at clock s.timer; key = k })))
   | inr two ↦
-      rw two (quiet two ∙ sym (and_none (has due (record { moment = clock; age = age_at clock s.timer; key = k }))))
+      rw two (quiet two ∙ sym (and_none (has_due due (record { moment = clock; age = age_at clock s.timer; key = k }))))
 ]
   where
     and_one : (b : Bool) → b ≡ b && true
@@ -167,8 +167,8 @@ due_of clock a es due k c are (Some s) is = elim (bool_cases (age_at clock s.tim
     and_none true = refl
     and_none false = refl
 
-    quiet : (age_at clock s.timer == a) ≡ false → has due (record { moment = clock; age = a; key = k }) ≡ false
-    quiet two = elim (bool_cases (has due (record { moment = clock; age = a; key = k }))) [
+    quiet : (age_at clock s.timer == a) ≡ false → has_due due (record { moment = clock; age = a; key = k }) ≡ false
+    quiet two = elim (bool_cases (has_due due (record { moment = clock; age = a; key = k }))) [
       | inl there ↦
           let comes = are.sound (record { moment = clock; age = a; key = k }) there in
           let some : age_of clock es k ≡ Some (age_at clock s.timer) = ap (λ (o : Option Stored). option_map (λ s. age_at clock s.timer) o) is in
@@ -183,7 +183,7 @@ due_of clock a es due k c are (Some s) is = elim (bool_cases (age_at clock s.tim
         some_is x y e = cc
 
 -- so the walk over what is due now gives the keys that reached the age
-pub keys_at-reached : (clock a : ℕ) (es : List (LsaKey × Stored)) (due : List Due) → clock < 65536 → IsKept clock es due → IsStrictlySortedBy due_cmp due
+pub keys_at-reached : (clock a : ℕ) (es : List (LsaKey × Stored)) (due : List AgeDue) → clock < 65536 → AreKeptEntries clock es due → IsStrictlySortedBy due_cmp due
     → keys_at clock a due ≡ reached_at a (map (held_at clock due) es)
 keys_at-reached clock a es due c kept sorted =
     let rises = rising_stored clock due es kept.stored kept.rising in

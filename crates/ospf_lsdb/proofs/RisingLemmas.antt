@@ -6,7 +6,7 @@ use Rattle.std.specs.List.{AllByRecursion}
 use Rattle.ospf_base.specs.declared.ids.LsaKey.{LsaKey}
 use Rattle.ospf_base.specs.Keys.{Precedes}
 use Rattle.ospf_base.proofs.KeyOrder.{Precedes-trans}
-use Rattle.ospf_lsdb.specs.Database.{Held, key_at, IsRising, IsDatabase, older}
+use Rattle.ospf_lsdb.specs.Database.{Held, key_at, AreKeysRising, IsDatabase, older}
 use Rattle.ospf_lsdb.specs.Places.{AllBefore, AllAfter}
 use Rattle.ospf_lsdb.proofs.EntryLemmas.{older-young, older-old}
 use Rattle.ospf_lsa.proofs.ListingLemmas.{all_back, all_front, all_join}
@@ -17,12 +17,12 @@ all_after-trans k m [] lt p = tt
 all_after-trans k m (x ∷ xs) lt p = (Precedes-trans k m (key_at x) lt p.0, all_after-trans k m xs lt p.1)
 
 -- entries in front of it
-pub rising_before : (xs : List Held) (h : Held) (ys : List Held) → IsRising (xs ++ h ∷ ys) → AllBefore (key_at h) xs
+pub rising_before : (xs : List Held) (h : Held) (ys : List Held) → AreKeysRising (xs ++ h ∷ ys) → AllBefore (key_at h) xs
 rising_before [] h ys rises = tt
 rising_before (x ∷ xs) h ys rises = ((all_back (λ o. Precedes (key_at x) (key_at o)) xs (h ∷ ys) rises.0).0, rising_before xs h ys rises.1)
 
 -- a rising list with an entry put in where its key belongs
-pub IsRising-insert : (xs : List Held) (h : Held) (ys : List Held) → IsRising (xs ++ ys) → AllBefore (key_at h) xs → AllAfter (key_at h) ys → IsRising (xs ++ h ∷ ys)
+pub IsRising-insert : (xs : List Held) (h : Held) (ys : List Held) → AreKeysRising (xs ++ ys) → AllBefore (key_at h) xs → AllAfter (key_at h) ys → AreKeysRising (xs ++ h ∷ ys)
 IsRising-insert [] h ys rises below above = (above, rises)
 IsRising-insert (x ∷ xs) h ys rises below above = (
   all_join (λ o. Precedes (key_at x) (key_at o)) xs (h ∷ ys) (all_front (λ o. Precedes (key_at x) (key_at o)) xs ys rises.0) (below.0, all_back (λ o. Precedes (key_at x) (key_at o)) xs ys rises.0),
@@ -30,7 +30,7 @@ IsRising-insert (x ∷ xs) h ys rises below above = (
 )
 
 -- and with one taken out
-pub IsRising-remove : (xs : List Held) (h : Held) (ys : List Held) → IsRising (xs ++ h ∷ ys) → IsRising (xs ++ ys)
+pub IsRising-remove : (xs : List Held) (h : Held) (ys : List Held) → AreKeysRising (xs ++ h ∷ ys) → AreKeysRising (xs ++ ys)
 IsRising-remove [] h ys rises = rises.1
 IsRising-remove (x ∷ xs) h ys rises = (
   all_join (λ o. Precedes (key_at x) (key_at o)) xs ys (all_front (λ o. Precedes (key_at x) (key_at o)) xs (h ∷ ys) rises.0) (all_back (λ o. Precedes (key_at x) (key_at o)) xs (h ∷ ys) rises.0).1,
@@ -79,7 +79,7 @@ all_after-older : (k : LsaKey) (xs : List Held) → AllAfter k xs → AllAfter k
 all_after-older k [] p = tt
 all_after-older k (x ∷ xs) p = (subst (λ (q : LsaKey). Precedes k q) (sym (key_at-older x)) p.0, all_after-older k xs p.1)
 
-pub IsRising-older : (db : List Held) → IsRising db → IsRising (map older db)
+pub IsRising-older : (db : List Held) → AreKeysRising db → AreKeysRising (map older db)
 IsRising-older [] rises = tt
 IsRising-older (h ∷ hs) rises = (subst (λ (q : LsaKey). AllAfter q (map older hs)) (sym (key_at-older h)) (all_after-older (key_at h) hs rises.0), IsRising-older hs rises.1)
 

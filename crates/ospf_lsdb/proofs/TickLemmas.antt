@@ -6,19 +6,19 @@ use Rattle.std.specs.List.{AllByRecursion}
 use Rattle.std.specs.List.Sorted.{IsStrictlySortedBy}
 use Rattle.std.specs.Map.{keys_of}
 use Rattle.std.specs.declared.cmp.Ordering.TheVariants.{Less}
-use Rattle.ospf_base.specs.Keys.{Precedes}
+use Rattle.ospf_base.specs.Keys.{Precedes, key_cmp}
 use Rattle.ospf_base.specs.declared.ids.LsaKey.{LsaKey}
 use Rattle.ospf_lsdb.specs.Database.{Held, is_told, older, reached_at, Ages}
-use Rattle.ospf_lsdb.specs.declared.moments.Due.{Due}
+use Rattle.ospf_lsdb.specs.declared.moments.AgeDue.{AgeDue}
 use Rattle.ospf_lsdb.specs.declared.dated.Stored.{Stored}
 use Rattle.ospf_lsdb.specs.declared.dated.Timer.{Timer}
 use Rattle.ospf_lsdb.specs.declared.dated.Timer.TheVariants.{Since, Expired}
-use Rattle.ospf_lsdb.specs.Moments.{ahead, key_cmp, due_cmp, has, is_at, keys_at, among}
-use Rattle.ospf_lsdb.specs.Timers.{age_at, held_at, stored_of, age_of, stopped, Comes, AreDue, IsStored, KeysRise, IsKept}
+use Rattle.ospf_lsdb.specs.Moments.{ahead, due_cmp, has_due, is_due_at, keys_at, among}
+use Rattle.ospf_lsdb.specs.Timers.{age_at, held_at, stored_of, age_of, timer_stopped, ComesToAge, AreDue, IsStored, KeysRise, AreKeptEntries}
 use Rattle.ospf_lsdb.proofs.EntryLemmas.{older-young, older-old}
 use Rattle.ospf_lsdb.proofs.MapLemmas.{bool_cases}
 use Rattle.ospf_lsdb.proofs.MomentLemmas.{split_and}
-use Rattle.ospf_lsdb.proofs.OrderLemmas.{less-key_cmp}
+use Rattle.ospf_base.proofs.KeyMaps.{less-key_cmp}
 use Rattle.ospf_lsdb.proofs.RingLemmas.{ahead-none, ahead-now, ahead-of, ahead-tick, ahead-past}
 use Rattle.ospf_lsdb.proofs.TimerLemmas.{told_cases, all_stored, stored_one, held_of-stored, KeysRise-ordered}
 use Rattle.ospf_lsdb.proofs.ExpireLemmas.{parted, stored_aged, held_made}
@@ -39,19 +39,19 @@ abbrev pub then_at : ℕ → ℕ
 then_at clock = (clock + 1) % 65536
 
 -- what is due once what came to pass at a moment is forgotten
-abbrev pub Forgets : ℕ → List Due → List Due → Type 0
-Forgets clock due after = (q : Due) → has after q ≡ (not (is_at clock 3600 q) && (not (is_at clock 1800 q) && has due q))
+abbrev pub Forgets : ℕ → List AgeDue → List AgeDue → Type 0
+Forgets clock due after = (q : AgeDue) → has_due after q ≡ (not (is_due_at clock 3600 q) && (not (is_due_at clock 1800 q) && has_due due q))
 
-is_at_here : (m a : ℕ) (d : Due) → d.moment ≡ m → d.age ≡ a → is_at m a d ≡ true
+is_at_here : (m a : ℕ) (d : AgeDue) → d.moment ≡ m → d.age ≡ a → is_due_at m a d ≡ true
 is_at_here m a d p q = let x = eq-eqb d.moment m p in let y = eq-eqb d.age a q in rw (x, y) refl
 
 some_or_none : (n : ℕ) → (n ≡ 0) ⊎ (0 < n)
 some_or_none n = grind arith
 
 -- what is left is still to come
-left_of : (clock : ℕ) (es : List (LsaKey × Stored)) (due after : List Due) → clock < 65536 → AreDue clock es due → Forgets clock due after → (d : Due) → has after d ≡ true → (has due d ≡ true) × (0 < ahead clock d.moment)
+left_of : (clock : ℕ) (es : List (LsaKey × Stored)) (due after : List AgeDue) → clock < 65536 → AreDue clock es due → Forgets clock due after → (d : AgeDue) → has_due after d ≡ true → (has_due due d ≡ true) × (0 < ahead clock d.moment)
 left_of clock es due after c are ops d there =
-    let p = parted (is_at clock 3600 d) (is_at clock 1800 d) (has due d) (sym (ops d) ∙ there) in
+    let p = parted (is_due_at clock 3600 d) (is_due_at clock 1800 d) (has_due due d) (sym (ops d) ∙ there) in
     let comes = are.sound d p.2 in
     elim (some_or_none (ahead clock d.moment)) [
       | inl none ↦
@@ -63,8 +63,8 @@ left_of clock es due after c are ops d there =
       | inr far ↦ (p.2, far)
     ]
 
-far_off : (clock a : ℕ) (d : Due) → clock < 65536 → 0 < ahead clock d.moment → is_at clock a d ≡ false
-far_off clock a d c far = elim (bool_cases (is_at clock a d)) [
+far_off : (clock a : ℕ) (d : AgeDue) → clock < 65536 → 0 < ahead clock d.moment → is_due_at clock a d ≡ false
+far_off clock a d c far = elim (bool_cases (is_due_at clock a d)) [
   | inl one ↦
       let p = split_and (d.moment == clock) (d.age == a) one in
       let now : ahead clock d.moment ≡ 0 = ap (λ (m : ℕ). ahead clock m) (eqb-true d.moment clock p.0) ∙ ahead-now clock c in
@@ -72,7 +72,7 @@ far_off clock a d c far = elim (bool_cases (is_at clock a d)) [
   | inr two ↦ two
 ]
 
-left_whole : (clock : ℕ) (due after : List Due) → clock < 65536 → Forgets clock due after → (d : Due) → has due d ≡ true → 0 < ahead clock d.moment → has after d ≡ true
+left_whole : (clock : ℕ) (due after : List AgeDue) → clock < 65536 → Forgets clock due after → (d : AgeDue) → has_due due d ≡ true → 0 < ahead clock d.moment → has_due after d ≡ true
 left_whole clock due after c ops d there far =
     let x = far_off clock 3600 d c far in
     let y = far_off clock 1800 d c far in
@@ -93,11 +93,11 @@ next_ahead clock c = ahead-of clock 1 c (omega arith)
 
 -- an entry a tick later
 abbrev pub passed : Bool → Stored → Stored
-passed b s = if b then stopped s else s
+passed b s = if b then timer_stopped s else s
 
 -- the entry of a key comes to a told age at the next moment
-comes_next : (clock : ℕ) (es : List (LsaKey × Stored)) (due after : List Due) (k : LsaKey) (s : Stored) → clock < 65536 → AreDue clock es due → Forgets clock due after → stored_of es k ≡ Some s
-    → is_told (age_at clock s.timer + 1) ≡ true → has after (record { moment = then_at clock; age = age_at clock s.timer + 1; key = k }) ≡ true
+comes_next : (clock : ℕ) (es : List (LsaKey × Stored)) (due after : List AgeDue) (k : LsaKey) (s : Stored) → clock < 65536 → AreDue clock es due → Forgets clock due after → stored_of es k ≡ Some s
+    → is_told (age_at clock s.timer + 1) ≡ true → has_due after (record { moment = then_at clock; age = age_at clock s.timer + 1; key = k }) ≡ true
 comes_next clock es due after k s c are ops is told =
     let one = next_ahead clock c in
     let far : 0 < ahead clock (then_at clock) = omega arith in
@@ -109,8 +109,8 @@ some_is : (a b : ℕ) → Some a ≡ Some b → a ≡ b
 some_is a b is = cc
 
 -- and to nothing else
-comes_only : (clock : ℕ) (es : List (LsaKey × Stored)) (due after : List Due) (k : LsaKey) (s : Stored) (x : ℕ) → clock < 65536 → AreDue clock es due → Forgets clock due after → stored_of es k ≡ Some s
-    → has after (record { moment = then_at clock; age = x; key = k }) ≡ true → (age_at clock s.timer + 1 ≡ x) × (is_told x ≡ true)
+comes_only : (clock : ℕ) (es : List (LsaKey × Stored)) (due after : List AgeDue) (k : LsaKey) (s : Stored) (x : ℕ) → clock < 65536 → AreDue clock es due → Forgets clock due after → stored_of es k ≡ Some s
+    → has_due after (record { moment = then_at clock; age = x; key = k }) ≡ true → (age_at clock s.timer + 1 ≡ x) × (is_told x ≡ true)
 comes_only clock es due after k s x c are ops is there =
     let left = left_of clock es due after c are ops (record { moment = then_at clock; age = x; key = k }) there in
     let comes = are.sound (record { moment = then_at clock; age = x; key = k }) left.0 in
@@ -120,34 +120,34 @@ comes_only clock es due after k s x c are ops is there =
     (omega (arith, comes.then_is), comes.told)
 
 -- what a tick makes of the entry of a key
-pub record Passes (clock : ℕ) (due after : List Due) (k : LsaKey) (s t : Stored) : Type 0 where
+pub record Passes (clock : ℕ) (due after : List AgeDue) (k : LsaKey) (s t : Stored) : Type 0 where
   pub stored : IsStored (then_at clock) (k, t)
   pub young : age_at clock s.timer < 3600 → age_at (then_at clock) t.timer ≡ age_at clock s.timer + 1
   pub old : 3600 ≤ age_at clock s.timer → age_at (then_at clock) t.timer ≡ 3600
   pub held : held_at (then_at clock) after (k, t) ≡ older (held_at clock due (k, s))
 
-held_young : (clock : ℕ) (es : List (LsaKey × Stored)) (due after : List Due) (k : LsaKey) (s t : Stored) → clock < 65536 → AreDue clock es due → Forgets clock due after → stored_of es k ≡ Some s
-    → age_at clock s.timer < 3600 → age_at (then_at clock) t.timer ≡ age_at clock s.timer + 1 → held_at (then_at clock) after (k, t) ≡ held_made (age_at (then_at clock) t.timer) s.lsa s.tick s.by_flooding (has after (record { moment = then_at clock; age = age_at (then_at clock) t.timer; key = k }))
+held_young : (clock : ℕ) (es : List (LsaKey × Stored)) (due after : List AgeDue) (k : LsaKey) (s t : Stored) → clock < 65536 → AreDue clock es due → Forgets clock due after → stored_of es k ≡ Some s
+    → age_at clock s.timer < 3600 → age_at (then_at clock) t.timer ≡ age_at clock s.timer + 1 → held_at (then_at clock) after (k, t) ≡ held_made (age_at (then_at clock) t.timer) s.lsa s.tick s.by_flooding (has_due after (record { moment = then_at clock; age = age_at (then_at clock) t.timer; key = k }))
     → held_at (then_at clock) after (k, t) ≡ older (held_at clock due (k, s))
 held_young clock es due after k s t c are ops is less aged same =
     same
-    ∙ ap (λ (n : ℕ). held_made n s.lsa s.tick s.by_flooding (has after (record { moment = then_at clock; age = n; key = k }))) aged
+    ∙ ap (λ (n : ℕ). held_made n s.lsa s.tick s.by_flooding (has_due after (record { moment = then_at clock; age = n; key = k }))) aged
     ∙ ap (λ (b : Bool). held_made (age_at clock s.timer + 1) s.lsa s.tick s.by_flooding b) (told (is_told (age_at clock s.timer + 1)) refl)
     ∙ sym (older-young (held_at clock due (k, s)) less)
   where
-    told : (b : Bool) → is_told (age_at clock s.timer + 1) ≡ b → has after (record { moment = then_at clock; age = age_at clock s.timer + 1; key = k }) ≡ b
+    told : (b : Bool) → is_told (age_at clock s.timer + 1) ≡ b → has_due after (record { moment = then_at clock; age = age_at clock s.timer + 1; key = k }) ≡ b
     told true sure = comes_next clock es due after k s c are ops is sure
-    told false untold = elim (bool_cases (has after (record { moment = then_at clock; age = age_at clock s.timer + 1; key = k }))) [
+    told false untold = elim (bool_cases (has_due after (record { moment = then_at clock; age = age_at clock s.timer + 1; key = k }))) [
       | inl there ↦ absurd (let e = (comes_only clock es due after k s (age_at clock s.timer + 1) c are ops is there).1 in cc)
       | inr two ↦ two
     ]
 
-held_old : (clock : ℕ) (es : List (LsaKey × Stored)) (due after : List Due) (k : LsaKey) (s t : Stored) → clock < 65536 → AreDue clock es due → Forgets clock due after → stored_of es k ≡ Some s
-    → 3600 ≤ age_at clock s.timer → age_at clock s.timer ≤ 3600 → age_at (then_at clock) t.timer ≡ 3600 → held_at (then_at clock) after (k, t) ≡ held_made (age_at (then_at clock) t.timer) s.lsa s.tick s.by_flooding (has after (record { moment = then_at clock; age = age_at (then_at clock) t.timer; key = k }))
+held_old : (clock : ℕ) (es : List (LsaKey × Stored)) (due after : List AgeDue) (k : LsaKey) (s t : Stored) → clock < 65536 → AreDue clock es due → Forgets clock due after → stored_of es k ≡ Some s
+    → 3600 ≤ age_at clock s.timer → age_at clock s.timer ≤ 3600 → age_at (then_at clock) t.timer ≡ 3600 → held_at (then_at clock) after (k, t) ≡ held_made (age_at (then_at clock) t.timer) s.lsa s.tick s.by_flooding (has_due after (record { moment = then_at clock; age = age_at (then_at clock) t.timer; key = k }))
     → held_at (then_at clock) after (k, t) ≡ older (held_at clock due (k, s))
 held_old clock es due after k s t c are ops is more most aged same =
     same
-    ∙ ap (λ (n : ℕ). held_made n s.lsa s.tick s.by_flooding (has after (record { moment = then_at clock; age = n; key = k }))) aged
+    ∙ ap (λ (n : ℕ). held_made n s.lsa s.tick s.by_flooding (has_due after (record { moment = then_at clock; age = n; key = k }))) aged
     ∙ ap (λ (b : Bool). held_made 3600 s.lsa s.tick s.by_flooding b) quiet
     ∙ ap (λ (n : ℕ). held_made n s.lsa s.tick s.by_flooding false) full
     ∙ sym (older-old (held_at clock due (k, s)) more)
@@ -155,8 +155,8 @@ held_old clock es due after k s t c are ops is more most aged same =
     full : 3600 ≡ age_at clock s.timer
     full = omega arith
 
-    quiet : has after (record { moment = then_at clock; age = 3600; key = k }) ≡ false
-    quiet = elim (bool_cases (has after (record { moment = then_at clock; age = 3600; key = k }))) [
+    quiet : has_due after (record { moment = then_at clock; age = 3600; key = k }) ≡ false
+    quiet = elim (bool_cases (has_due after (record { moment = then_at clock; age = 3600; key = k }))) [
       | inl there ↦ absurd (let e = (comes_only clock es due after k s 3600 c are ops is there).0 in omega arith)
       | inr two ↦ two
     ]
@@ -165,8 +165,8 @@ young_or_old : (n : ℕ) → (n < 3600) ⊎ (3600 ≤ n)
 young_or_old n = grind arith
 
 -- the entry of a key that comes to MaxAge
-passes_stopped : (clock : ℕ) (es : List (LsaKey × Stored)) (due after : List Due) (k : LsaKey) (s : Stored) → clock < 65536 → AreDue clock es due → Forgets clock due after → stored_of es k ≡ Some s → IsStored clock (k, s)
-    → has after (record { moment = then_at clock; age = 3600; key = k }) ≡ true → Passes clock due after k s (stopped s)
+passes_stopped : (clock : ℕ) (es : List (LsaKey × Stored)) (due after : List AgeDue) (k : LsaKey) (s : Stored) → clock < 65536 → AreDue clock es due → Forgets clock due after → stored_of es k ≡ Some s → IsStored clock (k, s)
+    → has_due after (record { moment = then_at clock; age = 3600; key = k }) ≡ true → Passes clock due after k s (timer_stopped s)
 unfolding age_at
 passes_stopped clock es due after k s c are ops is was there =
     let at = (comes_only clock es due after k s 3600 c are ops is there).0 in
@@ -175,12 +175,12 @@ passes_stopped clock es due after k s c are ops is was there =
       stored = (was.0, omega arith, λ e. refl);
       young = λ y. sym at;
       old = λ more. refl;
-      held = held_young clock es due after k s (stopped s) c are ops is less (sym at) refl;
+      held = held_young clock es due after k s (timer_stopped s) c are ops is less (sym at) refl;
     }
 
 -- that of one that does not
-passes_on : (clock : ℕ) (es : List (LsaKey × Stored)) (due after : List Due) (k : LsaKey) (s : Stored) → clock < 65536 → AreDue clock es due → Forgets clock due after → stored_of es k ≡ Some s → IsStored clock (k, s)
-    → has after (record { moment = then_at clock; age = 3600; key = k }) ≡ false → Passes clock due after k s s
+passes_on : (clock : ℕ) (es : List (LsaKey × Stored)) (due after : List AgeDue) (k : LsaKey) (s : Stored) → clock < 65536 → AreDue clock es due → Forgets clock due after → stored_of es k ≡ Some s → IsStored clock (k, s)
+    → has_due after (record { moment = then_at clock; age = 3600; key = k }) ≡ false → Passes clock due after k s s
 passes_on clock es due after k s c are ops is was apart = elim (young_or_old (age_at clock s.timer)) [
   | inl less ↦
       let later = age_then clock s.timer c less in
@@ -208,19 +208,19 @@ passes_on clock es due after k s c are ops is was apart = elim (young_or_old (ag
     not_yet at =
         let told : is_told (age_at clock s.timer + 1) ≡ true = ap is_told at in
         let e = comes_next clock es due after k s c are ops is told in
-        let f : has after (record { moment = then_at clock; age = 3600; key = k }) ≡ true = subst (λ (n : ℕ). has after (record { moment = then_at clock; age = n; key = k }) ≡ true) at e in
+        let f : has_due after (record { moment = then_at clock; age = 3600; key = k }) ≡ true = subst (λ (n : ℕ). has_due after (record { moment = then_at clock; age = n; key = k }) ≡ true) at e in
         absurd (cc)
 
-passes : (clock : ℕ) (es : List (LsaKey × Stored)) (due after : List Due) (k : LsaKey) (s : Stored) → clock < 65536 → AreDue clock es due → Forgets clock due after → stored_of es k ≡ Some s → IsStored clock (k, s)
-    → (b : Bool) → has after (record { moment = then_at clock; age = 3600; key = k }) ≡ b → Passes clock due after k s (passed b s)
+passes : (clock : ℕ) (es : List (LsaKey × Stored)) (due after : List AgeDue) (k : LsaKey) (s : Stored) → clock < 65536 → AreDue clock es due → Forgets clock due after → stored_of es k ≡ Some s → IsStored clock (k, s)
+    → (b : Bool) → has_due after (record { moment = then_at clock; age = 3600; key = k }) ≡ b → Passes clock due after k s (passed b s)
 passes clock es due after k s c are ops is was true there = passes_stopped clock es due after k s c are ops is was there
 passes clock es due after k s c are ops is was false there = passes_on clock es due after k s c are ops is was there
 
 -- the map a tick later
 abbrev pub Looks : List LsaKey → List (LsaKey × Stored) → List (LsaKey × Stored) → Type 0
-Looks keys es fs = (q : LsaKey) → stored_of fs q ≡ (if among keys q then option_map stopped (stored_of es q) else stored_of es q)
+Looks keys es fs = (q : LsaKey) → stored_of fs q ≡ (if among keys q then option_map timer_stopped (stored_of es q) else stored_of es q)
 
-looked : (b : Bool) (o : Option Stored) → (if b then option_map stopped o else o) ≡ option_map (passed b) o
+looked : (b : Bool) (o : Option Stored) → (if b then option_map timer_stopped o else o) ≡ option_map (passed b) o
 looked true o = refl
 looked false None = refl
 looked false (Some s) = refl
@@ -231,18 +231,18 @@ was_stored b None t is = absurd (cc)
 was_stored b (Some s) t is = (s, refl, cc)
 
 -- each entry a tick later
-ticks_one : (clock : ℕ) (es fs : List (LsaKey × Stored)) (due after : List Due) → IsKept clock es due → Forgets clock due after → Looks (keys_at (then_at clock) 3600 after) es fs
+ticks_one : (clock : ℕ) (es fs : List (LsaKey × Stored)) (due after : List AgeDue) → AreKeptEntries clock es due → Forgets clock due after → Looks (keys_at (then_at clock) 3600 after) es fs
     → (k : LsaKey) (t : Stored) → stored_of fs k ≡ Some t → (s : Stored) × (stored_of es k ≡ Some s) × Passes clock due after k s t
 ticks_one clock es fs due after kept ops looks k t is =
-    let b = has after (record { moment = then_at clock; age = 3600; key = k }) in
-    let now : option_map (passed b) (stored_of es k) ≡ Some t = sym (looked b (stored_of es k)) ∙ sym (ap (λ (x : Bool). if x then option_map stopped (stored_of es k) else stored_of es k) (keys_at-among (then_at clock) 3600 after k)) ∙ sym (looks k) ∙ is in
+    let b = has_due after (record { moment = then_at clock; age = 3600; key = k }) in
+    let now : option_map (passed b) (stored_of es k) ≡ Some t = sym (looked b (stored_of es k)) ∙ sym (ap (λ (x : Bool). if x then option_map timer_stopped (stored_of es k) else stored_of es k) (keys_at-among (then_at clock) 3600 after k)) ∙ sym (looks k) ∙ is in
     let from = was_stored b (stored_of es k) t now in
     let there : Passes clock due after k from.0 (passed b from.0) = passes clock es due after k from.0 kept.on_ring kept.are_due ops from.1 (stored_one clock es kept.stored k from.0 from.1) b refl in
     (from.0, from.1, subst (λ (x : Stored). Passes clock due after k from.0 x) from.2 there)
 
-ticks_put : (clock : ℕ) (es fs : List (LsaKey × Stored)) (due after : List Due) → Looks (keys_at (then_at clock) 3600 after) es fs → (k : LsaKey) → stored_of fs k ≡ option_map (passed (has after (record { moment = then_at clock; age = 3600; key = k }))) (stored_of es k)
+ticks_put : (clock : ℕ) (es fs : List (LsaKey × Stored)) (due after : List AgeDue) → Looks (keys_at (then_at clock) 3600 after) es fs → (k : LsaKey) → stored_of fs k ≡ option_map (passed (has_due after (record { moment = then_at clock; age = 3600; key = k }))) (stored_of es k)
 ticks_put clock es fs due after looks k =
-    looks k ∙ ap (λ (x : Bool). if x then option_map stopped (stored_of es k) else stored_of es k) (keys_at-among (then_at clock) 3600 after k) ∙ looked (has after (record { moment = then_at clock; age = 3600; key = k })) (stored_of es k)
+    looks k ∙ ap (λ (x : Bool). if x then option_map timer_stopped (stored_of es k) else stored_of es k) (keys_at-among (then_at clock) 3600 after k) ∙ looked (has_due after (record { moment = then_at clock; age = 3600; key = k })) (stored_of es k)
 
 most_told : (n : ℕ) → is_told n ≡ true → n ≤ 3600
 most_told n told = elim (told_cases n told) [ inl a ↦ omega arith | inr b ↦ omega arith ]
@@ -251,14 +251,14 @@ age_some : (clock : ℕ) (es : List (LsaKey × Stored)) (k : LsaKey) (s : Stored
 age_some clock es k s n is aged = ap (λ (o : Option Stored). option_map (λ s. age_at clock s.timer) o) is ∙ ap (λ (x : ℕ). Some x) aged
 
 -- what is due after a tick is still to come of the entries
-due_sound : (clock : ℕ) (es fs : List (LsaKey × Stored)) (due after : List Due) → IsKept clock es due → Forgets clock due after → Looks (keys_at (then_at clock) 3600 after) es fs
-    → (d : Due) → has after d ≡ true → Comes (then_at clock) (age_of (then_at clock) fs d.key) d
+due_sound : (clock : ℕ) (es fs : List (LsaKey × Stored)) (due after : List AgeDue) → AreKeptEntries clock es due → Forgets clock due after → Looks (keys_at (then_at clock) 3600 after) es fs
+    → (d : AgeDue) → has_due after d ≡ true → ComesToAge (then_at clock) (age_of (then_at clock) fs d.key) d
 due_sound clock es fs due after kept ops looks d there =
     let left = left_of clock es due after kept.on_ring kept.are_due ops d there in
     let comes = kept.are_due.sound d left.0 in
     let found = stored_aged clock comes.age es d.key comes.is in
     let s = found.0 in
-    let b = has after (record { moment = then_at clock; age = 3600; key = d.key }) in
+    let b = has_due after (record { moment = then_at clock; age = 3600; key = d.key }) in
     let most = most_told d.age comes.told in
     let young : age_at clock s.timer < 3600 = omega (arith, found.2, comes.then_is, left.1) in
     let one = passes clock es due after d.key s kept.on_ring kept.are_due ops found.1 (stored_one clock es kept.stored d.key s found.1) b refl in
@@ -273,8 +273,8 @@ due_sound clock es fs due after kept ops looks d there =
     }
 
 -- and nothing is left out
-due_whole : (clock : ℕ) (es fs : List (LsaKey × Stored)) (due after : List Due) → IsKept clock es due → Forgets clock due after → Looks (keys_at (then_at clock) 3600 after) es fs
-    → (d : Due) → 0 < ahead (then_at clock) d.moment → Comes (then_at clock) (age_of (then_at clock) fs d.key) d → has after d ≡ true
+due_whole : (clock : ℕ) (es fs : List (LsaKey × Stored)) (due after : List AgeDue) → AreKeptEntries clock es due → Forgets clock due after → Looks (keys_at (then_at clock) 3600 after) es fs
+    → (d : AgeDue) → 0 < ahead (then_at clock) d.moment → ComesToAge (then_at clock) (age_of (then_at clock) fs d.key) d → has_due after d ≡ true
 due_whole clock es fs due after kept ops looks d far comes =
     let found = stored_aged (then_at clock) comes.age fs d.key comes.is in
     let from = ticks_one clock es fs due after kept ops looks d.key found.0 found.1 in
@@ -304,8 +304,8 @@ due_whole clock es fs due after kept ops looks d far comes =
     ]
 
 -- a tick keeps what is kept
-pub ticks_kept : (clock : ℕ) (m n : BTreeMap LsaKey Stored) (due after : List Due) → IsKept clock m.entries due → tree.IsOrdered key_cmp n → Forgets clock due after → Looks (keys_at (then_at clock) 3600 after) m.entries n.entries
-    → IsKept (then_at clock) n.entries after
+pub ticks_kept : (clock : ℕ) (m n : BTreeMap LsaKey Stored) (due after : List AgeDue) → AreKeptEntries clock m.entries due → tree.IsOrdered key_cmp n → Forgets clock due after → Looks (keys_at (then_at clock) 3600 after) m.entries n.entries
+    → AreKeptEntries (then_at clock) n.entries after
 ticks_kept clock m n due after kept ordered ops looks = record {
   on_ring = omega arith;
   stored = all_stored (IsStored (then_at clock)) n ordered (λ k t is. (ticks_one clock m.entries n.entries due after kept ops looks k t is).2.stored);
@@ -317,7 +317,7 @@ ticks_kept clock m n due after kept ordered ops looks = record {
 }
 
 -- and makes each entry older
-pub ticks_ages : (clock : ℕ) (es fs : List (LsaKey × Stored)) (due after : List Due) → IsKept clock es due → IsKept (then_at clock) fs after → Forgets clock due after → Looks (keys_at (then_at clock) 3600 after) es fs
+pub ticks_ages : (clock : ℕ) (es fs : List (LsaKey × Stored)) (due after : List AgeDue) → AreKeptEntries clock es due → AreKeptEntries (then_at clock) fs after → Forgets clock due after → Looks (keys_at (then_at clock) 3600 after) es fs
     → Ages (map (held_at clock due) es) (map (held_at (then_at clock) after) fs)
 ticks_ages clock es fs due after kept kept_after ops looks k =
     held_of-stored (then_at clock) after fs kept_after.stored k
@@ -325,11 +325,11 @@ ticks_ages clock es fs due after kept kept_after ops looks k =
     ∙ each (stored_of es k) refl
     ∙ sym (ap (λ (o : Option Held). option_map older o) (held_of-stored clock due es kept.stored k))
   where
-    each : (o : Option Stored) → stored_of es k ≡ o → option_map (λ s. held_at (then_at clock) after (k, s)) (option_map (passed (has after (record { moment = then_at clock; age = 3600; key = k }))) o) ≡ option_map older (option_map (λ s. held_at clock due (k, s)) o)
+    each : (o : Option Stored) → stored_of es k ≡ o → option_map (λ s. held_at (then_at clock) after (k, s)) (option_map (passed (has_due after (record { moment = then_at clock; age = 3600; key = k }))) o) ≡ option_map older (option_map (λ s. held_at clock due (k, s)) o)
     each None is = refl
-    each (Some s) is = ap (λ (h : Held). Some h) (passes clock es due after k s kept.on_ring kept.are_due ops is (stored_one clock es kept.stored k s is) (has after (record { moment = then_at clock; age = 3600; key = k })) refl).held
+    each (Some s) is = ap (λ (h : Held). Some h) (passes clock es due after k s kept.on_ring kept.are_due ops is (stored_one clock es kept.stored k s is) (has_due after (record { moment = then_at clock; age = 3600; key = k })) refl).held
 
 -- the looks are as many as the entries that come to MaxAge
-pub ticks_looks : (clock : ℕ) (fs : List (LsaKey × Stored)) (after : List Due) → IsKept (then_at clock) fs after → IsStrictlySortedBy due_cmp after
+pub ticks_looks : (clock : ℕ) (fs : List (LsaKey × Stored)) (after : List AgeDue) → AreKeptEntries (then_at clock) fs after → IsStrictlySortedBy due_cmp after
     → length (keys_at (then_at clock) 3600 after) ≡ length (reached_at 3600 (map (held_at (then_at clock) after) fs))
 ticks_looks clock fs after kept sorted = ap length (keys_at-reached (then_at clock) 3600 fs after kept.on_ring kept sorted)

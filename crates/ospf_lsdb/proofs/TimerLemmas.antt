@@ -10,19 +10,19 @@ use Rattle.std.proofs.lemmas.Map.Views.{All-found}
 use Rattle.std.proofs.lemmas.List.Elements.{recursion_from_All}
 use Rattle.std.specs.Cmp.{IsTotalOrder}
 use Rattle.ospf_base.specs.contracts.ids.LsaKeyOrd.TheImpl.Laws.{total-law}
-use Rattle.ospf_base.specs.Keys.{Precedes, same_key}
+use Rattle.ospf_base.specs.Keys.{Precedes, same_key, key_cmp}
 use Rattle.ospf_base.specs.declared.ids.LsaKey.{LsaKey}
-use Rattle.ospf_lsdb.specs.Database.{key_at, held_of, is_told, IsRising, IsDatabase, Puts}
+use Rattle.ospf_lsdb.specs.Database.{key_at, held_of, is_told, AreKeysRising, IsDatabase, Puts}
 use Rattle.ospf_lsdb.specs.Places.{AllAfter}
-use Rattle.ospf_lsdb.specs.declared.moments.Due.{Due}
+use Rattle.ospf_lsdb.specs.declared.moments.AgeDue.{AgeDue}
 use Rattle.ospf_lsdb.specs.declared.dated.Stored.{Stored}
-use Rattle.ospf_lsdb.specs.Moments.{ahead, key_cmp, has, same_due, coming, is_coming}
+use Rattle.ospf_lsdb.specs.Moments.{ahead, has_due, same_due, coming, is_coming}
 use Rattle.std.proofs.lemmas.Bool.{eqb-true, lt-ltb, ltb-true}
-use Rattle.ospf_lsdb.specs.Timers.{age_at, held_at, stored_of, age_of, Comes, AreDue, IsStored, KeysRise, IsKept, stopped}
+use Rattle.ospf_lsdb.specs.Timers.{age_at, held_at, stored_of, age_of, ComesToAge, AreDue, IsStored, KeysRise, AreKeptEntries, timer_stopped}
 use Rattle.ospf_lsdb.specs.declared.dated.Timer.TheVariants.{Expired}
 use Rattle.ospf_lsdb.proofs.MapLemmas.{bool_cases}
 use Rattle.ospf_base.proofs.SameKeys.{same_key-eq}
-use Rattle.ospf_lsdb.proofs.OrderLemmas.{is_eq-key_cmp, key_cmp-less}
+use Rattle.ospf_base.proofs.KeyMaps.{is_eq-key_cmp, key_cmp-less}
 use Rattle.ospf_lsdb.proofs.MomentLemmas.{same_due-eq, same_due-refl, made_is, split_and}
 use Rattle.ospf_lsdb.proofs.RingLemmas.{ahead-is, ahead-of, ahead-none}
 
@@ -47,7 +47,7 @@ same_key-turned a b = elim (bool_cases (same_key a b)) [
 ]
 
 -- the database at a key
-pub held_of-stored : (clock : ℕ) (due : List Due) (es : List (LsaKey × Stored)) → AllByRecursion (IsStored clock) es → (k : LsaKey)
+pub held_of-stored : (clock : ℕ) (due : List AgeDue) (es : List (LsaKey × Stored)) → AllByRecursion (IsStored clock) es → (k : LsaKey)
     → held_of (map (held_at clock due) es) k ≡ option_map (λ s. held_at clock due (k, s)) (stored_of es k)
 held_of-stored clock due [] all k = refl
 held_of-stored clock due (e ∷ es) all k =
@@ -60,20 +60,20 @@ held_of-stored clock due (e ∷ es) all k =
       | inr two ↦ let at = key ∙ two in rw (at, two) (held_of-stored clock due es all.1 k)
     ]
 
-all_after_keys : (clock : ℕ) (due : List Due) (k : LsaKey) (es : List (LsaKey × Stored)) → AllByRecursion (IsStored clock) es → AllByRecursion (λ o. Precedes k o) (keys_of es) → AllAfter k (map (held_at clock due) es)
+all_after_keys : (clock : ℕ) (due : List AgeDue) (k : LsaKey) (es : List (LsaKey × Stored)) → AllByRecursion (IsStored clock) es → AllByRecursion (λ o. Precedes k o) (keys_of es) → AllAfter k (map (held_at clock due) es)
 all_after_keys clock due k [] all after = tt
 all_after_keys clock due k (e ∷ es) all after = (subst (λ (q : LsaKey). Precedes k q) (sym all.0.0) after.0, all_after_keys clock due k es all.1 after.1)
 
-pub rising_stored : (clock : ℕ) (due : List Due) (es : List (LsaKey × Stored)) → AllByRecursion (IsStored clock) es → KeysRise (keys_of es) → IsRising (map (held_at clock due) es)
+pub rising_stored : (clock : ℕ) (due : List AgeDue) (es : List (LsaKey × Stored)) → AllByRecursion (IsStored clock) es → KeysRise (keys_of es) → AreKeysRising (map (held_at clock due) es)
 rising_stored clock due [] all rise = tt
 rising_stored clock due (e ∷ es) all rise = (subst (λ (q : LsaKey). AllAfter q (map (held_at clock due) es)) (sym all.0.0) (all_after_keys clock due e.0 es all.1 rise.0), rising_stored clock due es all.1 rise.1)
 
-ages_stored : (clock : ℕ) (due : List Due) (es : List (LsaKey × Stored)) → AllByRecursion (IsStored clock) es → AllByRecursion (λ h. h.entry.age ≤ 3600) (map (held_at clock due) es)
+ages_stored : (clock : ℕ) (due : List AgeDue) (es : List (LsaKey × Stored)) → AllByRecursion (IsStored clock) es → AllByRecursion (λ h. h.entry.age ≤ 3600) (map (held_at clock due) es)
 ages_stored clock due [] all = tt
 ages_stored clock due (e ∷ es) all = (all.0.1, ages_stored clock due es all.1)
 
 -- stored entries are a database
-pub IsDatabase-stored : (clock : ℕ) (es : List (LsaKey × Stored)) (due : List Due) → IsKept clock es due → IsDatabase (map (held_at clock due) es)
+pub IsDatabase-stored : (clock : ℕ) (es : List (LsaKey × Stored)) (due : List AgeDue) → AreKeptEntries clock es due → IsDatabase (map (held_at clock due) es)
 IsDatabase-stored clock es due kept = record { rising = rising_stored clock due es kept.stored kept.rising; ages = ages_stored clock due es kept.stored }
 
 all_less : (k : LsaKey) (ks : List LsaKey) → AllByRecursion (λ y. key_cmp k y ≡ Less) ks → AllByRecursion (λ o. Precedes k o) ks
@@ -104,7 +104,7 @@ pub bool_or : (a b : Bool) → a || b ≡ true → (a ≡ true) ⊎ (b ≡ true)
 bool_or true b is = inl refl
 bool_or false b is = inr is
 
-due_made : (d : Due) (m a : ℕ) → d.moment ≡ m → d.age ≡ a → d ≡ record { moment = m; age = a; key = d.key }
+due_made : (d : AgeDue) (m a : ℕ) → d.moment ≡ m → d.age ≡ a → d ≡ record { moment = m; age = a; key = d.key }
 due_made d m a p q = made_is d m a d.key p q refl
 
 pub told_cases : (n : ℕ) → is_told n ≡ true → (n ≡ 1800) ⊎ (n ≡ 3600)
@@ -123,16 +123,16 @@ or_right true b p = refl
 or_right false b p = p
 
 -- what comes to pass at a told age
-comes_at : (clock age told : ℕ) (d : Due) → age < told → d.age ≡ told → d.moment ≡ (clock + (told - age)) % 65536 → nat_lt age told && same_due (coming clock age told d.key) d ≡ true
+comes_at : (clock age told : ℕ) (d : AgeDue) → age < told → d.age ≡ told → d.moment ≡ (clock + (told - age)) % 65536 → nat_lt age told && same_due (coming clock age told d.key) d ≡ true
 comes_at clock age told d young at when =
     let is : d ≡ coming clock age told d.key = due_made d ((clock + (told - age)) % 65536) told when at in
-    and_both (nat_lt age told) (same_due (coming clock age told d.key) d) (lt-ltb age told young) (subst (λ (x : Due). same_due x d ≡ true) is (same_due-refl d))
+    and_both (nat_lt age told) (same_due (coming clock age told d.key) d) (lt-ltb age told young) (subst (λ (x : AgeDue). same_due x d ≡ true) is (same_due-refl d))
 
 some_is : (a b : ℕ) → Some a ≡ Some b → a ≡ b
 some_is a b is = cc
 
 -- an entry comes to what is due in so many moments, and to nothing else
-pub comes_to : (clock age : ℕ) (d : Due) → clock < 65536 → Comes clock (Some age) d → (d ≡ record { moment = clock; age = age; key = d.key }) ⊎ (is_coming clock age d.key d ≡ true)
+pub comes_to : (clock age : ℕ) (d : AgeDue) → clock < 65536 → ComesToAge clock (Some age) d → (d ≡ record { moment = clock; age = age; key = d.key }) ⊎ (is_coming clock age d.key d ≡ true)
 unfolding is_coming
 comes_to clock age d c comes =
     let same : age ≡ comes.age = some_is age comes.age comes.is in
@@ -154,16 +154,16 @@ comes_to clock age d c comes =
     zero_or : (n : ℕ) → (n ≡ 0) ⊎ (0 < n)
     zero_or n = grind arith
 
-coming_told : (clock age told : ℕ) (key : LsaKey) (d : Due) → clock < 65536 → told < 65536 → is_told told ≡ true → nat_lt age told && same_due (coming clock age told key) d ≡ true → (d.key ≡ key) × Comes clock (Some age) d × (0 < ahead clock d.moment)
+coming_told : (clock age told : ℕ) (key : LsaKey) (d : AgeDue) → clock < 65536 → told < 65536 → is_told told ≡ true → nat_lt age told && same_due (coming clock age told key) d ≡ true → (d.key ≡ key) × ComesToAge clock (Some age) d × (0 < ahead clock d.moment)
 coming_told clock age told key d c small is_one is =
     let p = split_and (nat_lt age told) (same_due (coming clock age told key) d) is in
     let young : age < told = ltb-true age told p.0 in
     let same : coming clock age told key ≡ d = same_due-eq (coming clock age told key) d p.1 in
     let far : ahead clock ((clock + (told - age)) % 65536) ≡ told - age = ahead-of clock (told - age) c (omega arith) in
-    subst (λ (x : Due). (x.key ≡ key) × Comes clock (Some age) x × (0 < ahead clock x.moment)) same
+    subst (λ (x : AgeDue). (x.key ≡ key) × ComesToAge clock (Some age) x × (0 < ahead clock x.moment)) same
     (refl, record { told = is_one; within = omega arith; age = age; is = refl; then_is = omega arith }, omega arith)
 
-pub coming_is : (clock age : ℕ) (key : LsaKey) (d : Due) → clock < 65536 → is_coming clock age key d ≡ true → (d.key ≡ key) × Comes clock (Some age) d × (0 < ahead clock d.moment)
+pub coming_is : (clock age : ℕ) (key : LsaKey) (d : AgeDue) → clock < 65536 → is_coming clock age key d ≡ true → (d.key ≡ key) × ComesToAge clock (Some age) d × (0 < ahead clock d.moment)
 unfolding is_coming
 coming_is clock age key d c is =
     elim (bool_or (nat_lt age 1800 && same_due (coming clock age 1800 key) d) (nat_lt age 3600 && same_due (coming clock age 3600 key) d) is) [
@@ -174,30 +174,30 @@ coming_is clock age key d c is =
 -- ---- one entry changes
 
 -- the entry of a key has another age, or none, and what is due of it is so too
-pub AreDue-put : (clock : ℕ) (key : LsaKey) (now : Option ℕ) (es fs : List (LsaKey × Stored)) (due after : List Due) → AreDue clock es due
+pub AreDue-put : (clock : ℕ) (key : LsaKey) (now : Option ℕ) (es fs : List (LsaKey × Stored)) (due after : List AgeDue) → AreDue clock es due
     → ((q : LsaKey) → age_of clock fs q ≡ (if same_key key q then now else age_of clock es q))
-    → ((d : Due) → same_key key d.key ≡ false → has after d ≡ has due d)
-    → ((d : Due) → d.key ≡ key → has after d ≡ true → Comes clock now d)
-    → ((d : Due) → d.key ≡ key → 0 < ahead clock d.moment → Comes clock now d → has after d ≡ true)
+    → ((d : AgeDue) → same_key key d.key ≡ false → has_due after d ≡ has_due due d)
+    → ((d : AgeDue) → d.key ≡ key → has_due after d ≡ true → ComesToAge clock now d)
+    → ((d : AgeDue) → d.key ≡ key → 0 < ahead clock d.moment → ComesToAge clock now d → has_due after d ≡ true)
     → AreDue clock fs after
 AreDue-put clock key now es fs due after was ages others sound whole = record {
   sound = λ d there. elim (bool_cases (same_key key d.key)) [
     | inl one ↦
         let k = same_key-eq key d.key one in
         let age : age_of clock fs d.key ≡ now = ages d.key ∙ (rw one refl) in
-        subst (λ (o : Option ℕ). Comes clock o d) (sym age) (sound d (sym k) there)
+        subst (λ (o : Option ℕ). ComesToAge clock o d) (sym age) (sound d (sym k) there)
     | inr two ↦
         let age : age_of clock fs d.key ≡ age_of clock es d.key = ages d.key ∙ (rw two refl) in
-        subst (λ (o : Option ℕ). Comes clock o d) (sym age) (was.sound d (sym (others d two) ∙ there))
+        subst (λ (o : Option ℕ). ComesToAge clock o d) (sym age) (was.sound d (sym (others d two) ∙ there))
   ];
   whole = λ d far comes. elim (bool_cases (same_key key d.key)) [
     | inl one ↦
         let k = same_key-eq key d.key one in
         let age : age_of clock fs d.key ≡ now = ages d.key ∙ (rw one refl) in
-        whole d (sym k) far (subst (λ (o : Option ℕ). Comes clock o d) age comes)
+        whole d (sym k) far (subst (λ (o : Option ℕ). ComesToAge clock o d) age comes)
     | inr two ↦
         let age : age_of clock fs d.key ≡ age_of clock es d.key = ages d.key ∙ (rw two refl) in
-        others d two ∙ was.whole d far (subst (λ (o : Option ℕ). Comes clock o d) age comes)
+        others d two ∙ was.whole d far (subst (λ (o : Option ℕ). ComesToAge clock o d) age comes)
   ];
 }
 
@@ -218,10 +218,10 @@ all_stored P m ordered each = all_from m.entries (recursion_from_All (λ e. tree
     all_from (e ∷ es) all = (each e.0 e.1 (sym (stored_of-get m e.0) ∙ all.0), all_from es all.1)
 
 -- the database after a change at a key
-pub Puts-stored : (clock : ℕ) (key : LsaKey) (o : Option Stored) (es fs : List (LsaKey × Stored)) (due after : List Due)
+pub Puts-stored : (clock : ℕ) (key : LsaKey) (o : Option Stored) (es fs : List (LsaKey × Stored)) (due after : List AgeDue)
     → AllByRecursion (IsStored clock) es → AllByRecursion (IsStored clock) fs
     → ((q : LsaKey) → stored_of fs q ≡ (if same_key key q then o else stored_of es q))
-    → ((d : Due) → same_key key d.key ≡ false → has after d ≡ has due d)
+    → ((d : AgeDue) → same_key key d.key ≡ false → has_due after d ≡ has_due due d)
     → Puts key (option_map (λ s. held_at clock after (key, s)) o) (map (held_at clock due) es) (map (held_at clock after) fs)
 Puts-stored clock key o es fs due after all_es all_fs put others q = held_of-stored clock after fs all_fs q ∙ elim (bool_cases (same_key key q)) [
   | inl one ↦
@@ -239,17 +239,17 @@ Puts-stored clock key o es fs due after all_es all_fs put others q = held_of-sto
 
 -- an entry brought to MaxAge, in the words of the map
 pub stopped_put : (key q : LsaKey) (s : Stored) (es : List (LsaKey × Stored)) (o : Option Stored) → stored_of es key ≡ Some s → o ≡ (if same_key key q then Some (record s { timer = Expired }) else stored_of es q)
-    → o ≡ (if same_key key q then option_map stopped (stored_of es q) else stored_of es q)
+    → o ≡ (if same_key key q then option_map timer_stopped (stored_of es q) else stored_of es q)
 stopped_put key q s es o was is = elim (bool_cases (same_key key q)) [
   | inl one ↦
       let k = same_key-eq key q one in
       let there : stored_of es q ≡ Some s = subst (λ (x : LsaKey). stored_of es x ≡ Some s) k was in
       let here : o ≡ Some (record s { timer = Expired }) = is ∙ (rw one refl) in
-      rw one (here ∙ sym (ap (λ (x : Option Stored). option_map stopped x) there))
+      rw one (here ∙ sym (ap (λ (x : Option Stored). option_map timer_stopped x) there))
   | inr two ↦ is ∙ (rw two refl)
 ]
 
-pub stopped_none : (key q : LsaKey) (es : List (LsaKey × Stored)) → stored_of es key ≡ None → stored_of es q ≡ (if same_key key q then option_map stopped (stored_of es q) else stored_of es q)
+pub stopped_none : (key q : LsaKey) (es : List (LsaKey × Stored)) → stored_of es key ≡ None → stored_of es q ≡ (if same_key key q then option_map timer_stopped (stored_of es q) else stored_of es q)
 stopped_none key q es was = elim (bool_cases (same_key key q)) [
   | inl one ↦
       let k = same_key-eq key q one in

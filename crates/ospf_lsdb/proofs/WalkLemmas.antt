@@ -4,8 +4,8 @@ use Rattle.std.specs.List.{AllByRecursion}
 use Rattle.std.specs.Map.{values_of}
 use Rattle.ospf_base.specs.declared.ids.LsaKey.{LsaKey}
 use Rattle.ospf_lsdb.specs.Database.{Entry}
-use Rattle.ospf_lsdb.specs.Entries.{entry_at, AgeFits}
-use Rattle.ospf_lsdb.specs.declared.moments.Due.{Due}
+use Rattle.ospf_lsdb.specs.Entries.{entry_now, AgeFits}
+use Rattle.ospf_lsdb.specs.declared.moments.AgeDue.{AgeDue}
 use Rattle.ospf_lsdb.specs.declared.dated.Stored.{Stored}
 use Rattle.ospf_lsdb.specs.Timers.{held_at, IsStored}
 
@@ -15,6 +15,6 @@ young_values clock [] all = tt
 young_values clock (e ∷ es) all = (all.0.1, young_values clock es all.1)
 
 -- the entries as they are lent
-pub map_values : (clock : ℕ) (due : List Due) (es : List (LsaKey × Stored)) → map (entry_at clock) (values_of es) ≡ map (λ h. h.entry) (map (held_at clock due) es)
+pub map_values : (clock : ℕ) (due : List AgeDue) (es : List (LsaKey × Stored)) → map (entry_now clock) (values_of es) ≡ map (λ h. h.entry) (map (held_at clock due) es)
 map_values clock due [] = refl
-map_values clock due (e ∷ es) = ap (λ (t : List Entry). entry_at clock e.1 ∷ t) (map_values clock due es)
+map_values clock due (e ∷ es) = ap (λ (t : List Entry). entry_now clock e.1 ∷ t) (map_values clock due es)

@@ -69,13 +69,13 @@ abbrev pub entry_of : List Held → LsaKey → Option Entry
 entry_of db key = option_map (λ h. h.entry) (held_of db key)
 
 -- the keys rise, so no two are the same
-abbrev pub IsRising : List Held → Type 0
-IsRising [] = Unit {0}
-IsRising (h ∷ hs) = AllByRecursion (λ o. Precedes (key_at h) (key_at o)) hs × IsRising hs
+abbrev pub AreKeysRising : List Held → Type 0
+AreKeysRising [] = Unit {0}
+AreKeysRising (h ∷ hs) = AllByRecursion (λ o. Precedes (key_at h) (key_at o)) hs × AreKeysRising hs
 
 -- a database: its entries in the order of their keys, at most one a key, none older than MaxAge
 pub record IsDatabase (db : List Held) : Type 0 where
-  pub rising : IsRising db
+  pub rising : AreKeysRising db
   pub ages : AllByRecursion (λ h. h.entry.age ≤ max_age) db
 
 -- the entry of one key is another, which may be none, and all else is as it was

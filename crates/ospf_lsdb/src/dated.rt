@@ -4,9 +4,9 @@ ghost use Rattle.std.specs.Prelude.{◌≡◌, ◌≤◌, ◌<◌, ◌⊎◌, �
 ghost use Rattle.ospf_base.specs.Constants.{max_age};
 ghost use Rattle.ospf_base.specs.declared.ids.LsaKey.{LsaKey};
 ghost use Rattle.ospf_lsdb.specs.Database.{Held, entry_from, held_of, entry_of, IsDatabase, Puts, Installs, Ages, expired, removed, is_fresh, is_expired, is_some_and, listed, ls_refresh_time, reached_at};
-ghost use Rattle.ospf_base.specs.Keys.{same_key};
-ghost use Rattle.ospf_lsdb.specs.Timers.{age_at, age_of, Stops};
-ghost use Rattle.ospf_lsdb.specs.Moments.{key_cmp, among};
+ghost use Rattle.ospf_base.specs.Keys.{same_key, key_cmp};
+ghost use Rattle.ospf_lsdb.specs.Timers.{age_at, age_of, StopsTimers};
+ghost use Rattle.ospf_lsdb.specs.Moments.{among};
 ghost use Rattle.ospf_lsdb.specs.declared.dated.Timer.TheVariants as timer;
 ghost use Rattle.std.specs.BTreeMap.{IsOrdered};
 
@@ -14,7 +14,7 @@ use crate::LS_REFRESH_TIME;
 use crate::ageless::Ageless;
 use crate::entries::Entries;
 use crate::entry::{EntryView, add_fresh};
-use crate::moments::{Moments, Reached, moments_until, sooner, until_told};
+use crate::moments::{AgesReached, Moments, moments_until, sooner, until_told};
 use ospf_base::{LsaKey, MAX_AGE};
 use ospf_lsa::{Listing, Lsa};
 use std::alloc::{AllocError, Global};
@@ -30,12 +30,12 @@ pub(crate) struct Stored {
 }
 
 impl Stored {
-    ghost use Rattle.ospf_lsdb.specs.Entries.{entry_at, AgeFits};
+    ghost use Rattle.ospf_lsdb.specs.Entries.{entry_now, AgeFits};
 
     // The entry as it is at a moment.
     pub(crate) fn at(&self, clock: u16) -> EntryView<'_>
         requires { AgeFits clock self.now }
-        ensures { result ≡ entry_at clock self.now }
+        ensures { result ≡ entry_now clock self.now }
     {
         let age = self.timer.age(clock);
         EntryView::new(&self.lsa, age, self.tick, self.by_flooding)
@@ -199,7 +199,7 @@ impl Dated {
 
     /// The keys whose age became this one, `LS_REFRESH_TIME` or `MAX_AGE`, at the last tick, in
     /// order. An entry that was installed since, or brought to `MAX_AGE`, is none of them.
-    pub(crate) fn reached(&self, age: u16) -> Reached<'_>
+    pub(crate) fn reached(&self, age: u16) -> AgesReached<'_>
         requires told { (age ≡ ls_refresh_time) ⊎ (age ≡ max_age) }
         ensures keys { result ≡ reached_at age self.now }
     {
@@ -278,7 +278,7 @@ fn age_in(entries: &BTreeMap<LsaKey, Stored>, clock: u16, key: &LsaKey) -> Optio
 
 // Brings the entry of a key to `MAX_AGE`.
 fn stop(entries: &mut BTreeMap<LsaKey, Stored>, key: &LsaKey)
-    ensures entry { Stops (same_key key.now) entries.old.entries entries.new.entries }
+    ensures entry { StopsTimers (same_key key.now) entries.old.entries entries.new.entries }
     ensures ordered { IsOrdered key_cmp entries.new }
 {
     if let Some(stored) = entries.get_mut(key) {
@@ -287,12 +287,12 @@ fn stop(entries: &mut BTreeMap<LsaKey, Stored>, key: &LsaKey)
 }
 
 // Looks at the entry of each of these keys, and counts the looks.
-fn look_at_all(entries: &mut BTreeMap<LsaKey, Stored>, keys: Reached<'_>) -> u64
+fn look_at_all(entries: &mut BTreeMap<LsaKey, Stored>, keys: AgesReached<'_>) -> u64
     // The map is one, and the keys can be counted.
     requires count { length keys < 2 ^ 64 }
     requires ordered { IsOrdered key_cmp entries.old }
     // The entries of these keys stop, all others stay, and each key is a look.
-    ensures entry { Stops (among keys.entry) entries.old.entries entries.new.entries }
+    ensures entry { StopsTimers (among keys.entry) entries.old.entries entries.new.entries }
     ensures ordered { IsOrdered key_cmp entries.new }
     ensures looks { result ≡ length keys.entry }
 {
@@ -306,7 +306,7 @@ fn look_at_all(entries: &mut BTreeMap<LsaKey, Stored>, keys: Reached<'_>) -> u64
 // The one look of a tick at an entry: it has come to `MAX_AGE`.
 fn look(entries: &mut BTreeMap<LsaKey, Stored>, key: LsaKey, looks: u64) -> u64
     requires { looks + 1 < 2 ^ 64 }
-    ensures entry { Stops (same_key key) entries.old.entries entries.new.entries }
+    ensures entry { StopsTimers (same_key key) entries.old.entries entries.new.entries }
     ensures ordered { IsOrdered key_cmp entries.new }
     ensures looks { result ≡ looks + 1 }
 {

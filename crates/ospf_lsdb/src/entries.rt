@@ -17,11 +17,11 @@ impl<'a> Model for Entries<'a> {
     ghost use Rattle.std.specs.Prelude.{List, map};
     ghost use Rattle.std.specs.List.{AllByRecursion};
     ghost use Rattle.ospf_lsdb.specs.Database.{Entry};
-    ghost use Rattle.ospf_lsdb.specs.Entries.{entry_at, AgeFits};
+    ghost use Rattle.ospf_lsdb.specs.Entries.{entry_now, AgeFits};
 
     ghost Value = { List Entry };
 
-    ghost view = { λ w. map (entry_at w.clock) w.left };
+    ghost view = { λ w. map (entry_now w.clock) w.left };
 
     ghost invariant = { λ w. AllByRecursion (AgeFits w.clock) w.left };
 }
@@ -44,12 +44,12 @@ impl<'a> Iterator for Entries<'a> {
 impl<'a> Entries<'a> {
     ghost use Rattle.std.specs.Prelude.{◌≡◌, map};
     ghost use Rattle.std.specs.List.{AllByRecursion};
-    ghost use Rattle.ospf_lsdb.specs.Entries.{entry_at, AgeFits};
+    ghost use Rattle.ospf_lsdb.specs.Entries.{entry_now, AgeFits};
 
     // The walk over what is stored, at a moment.
     pub(crate) fn new(clock: u16, left: Values<'a, LsaKey, Stored>) -> Entries<'a>
         requires { AllByRecursion (AgeFits clock) left }
-        ensures { result ≡ map (entry_at clock) left.entry }
+        ensures { result ≡ map (entry_now clock) left.entry }
     {
         Entries { clock, left }
     }

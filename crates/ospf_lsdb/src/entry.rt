@@ -1,6 +1,6 @@
 //! Entries, as a database lends them.
 
-ghost use Rattle.std.specs.Prelude.{◌≡◌, ◌≤◌, ◌++◌, ◌∷◌, [], IfOk, IfErr, OnOk};
+ghost use Rattle.std.specs.Prelude.{◌≡◌, ◌≤◌, ◌++◌, ◌∷◌, IfOk, IfErr, OnOk};
 ghost use Rattle.std.specs.List.{AllByRecursion};
 ghost use Rattle.ospf_base.specs.Constants.{max_age};
 ghost use Rattle.ospf_base.specs.Keys.{Precedes};
@@ -148,11 +148,6 @@ pub(crate) fn add_fresh(
     let Ok(lsa) = entry.copy(alloc) else {
         return Err(AllocError);
     };
-    // The key is new, so what `add` refuses it refuses for memory.
-    let Ok(_added) = listing.add(lsa) else {
-        return Err(AllocError);
-    };
-    // For the proof.
-    let _in_order = listing.lsas();
+    listing.append(lsa)?;
     Ok(())
 }

@@ -8,7 +8,7 @@ ghost use Rattle.ospf_lsdb.specs.Counts.{fresh_count, fresh_in};
 use crate::dated::Dated;
 use crate::entries::Entries;
 use crate::entry::EntryView;
-use crate::moments::Reached;
+use crate::moments::AgesReached;
 use ospf_base::{LsaKey, MAX_AGE};
 use ospf_lsa::{Listing, Lsa};
 use std::alloc::{AllocError, Global};
@@ -141,7 +141,7 @@ impl Lsdb {
 
     /// The keys whose age became this one, `LS_REFRESH_TIME` or `MAX_AGE`, at the last tick, in
     /// order. An entry that was installed since, or brought to `MAX_AGE`, is none of them.
-    pub fn reached(&self, age: u16) -> Reached<'_>
+    pub fn reached(&self, age: u16) -> AgesReached<'_>
         requires told { (age ≡ ls_refresh_time) ⊎ (age ≡ max_age) }
         ensures keys { result ≡ reached_at age self.now }
     {

@@ -5,8 +5,8 @@ ghost use Rattle.std.specs.List.Sorted.{IsStrictlySortedBy};
 ghost use Rattle.ospf_base.specs.Constants.{max_age};
 ghost use Rattle.ospf_lsdb.specs.Database.{is_told, ls_refresh_time};
 ghost use Rattle.ospf_base.specs.Keys.{same_key};
-ghost use Rattle.ospf_lsdb.specs.Moments.{ahead, due_at, due_cmp, ring, same_due, has, IsIdle, ComesIn, coming, is_coming, is_at, keys_at};
-ghost use Rattle.ospf_lsdb.specs.declared.moments.Due.{Due};
+ghost use Rattle.ospf_lsdb.specs.Moments.{ahead, due_at, due_cmp, ring, same_due, has_due, IsIdleUntil, ComesIn, coming, is_coming, is_due_at, keys_at};
+ghost use Rattle.ospf_lsdb.specs.declared.moments.AgeDue.{AgeDue};
 
 use crate::LS_REFRESH_TIME;
 use ospf_base::{Kind, LsaKey, MAX_AGE, RouterId};
@@ -24,18 +24,18 @@ const FIRST_KEY: LsaKey = LsaKey {
 
 // At this moment the entry of a key comes to an age.
 #[derive(Clone, Copy, PartialEq, Eq, PartialOrd, Ord, Drop)]
-pub(crate) struct Due {
+pub(crate) struct AgeDue {
     moment: u16,
     age: u16,
     key: LsaKey,
 }
 
-impl Due {
+impl AgeDue {
     // When an entry that is younger now comes to an age.
-    fn coming(clock: u16, age: u16, told: u16, key: LsaKey) -> Due
+    fn coming(clock: u16, age: u16, told: u16, key: LsaKey) -> AgeDue
         ensures { result ≡ coming clock age told key }
     {
-        Due {
+        AgeDue {
             moment: clock.wrapping_add(told.saturating_sub(age)),
             age: told,
             key,
@@ -46,14 +46,14 @@ impl Due {
 // What is due at each moment.
 #[derive(Drop)]
 pub(crate) struct Moments {
-    set: BTreeSet<Due>,
+    set: BTreeSet<AgeDue>,
 }
 
 impl Model for Moments {
     ghost use Rattle.std.specs.Prelude.{List};
-    ghost use Rattle.ospf_lsdb.specs.declared.moments.Due.{Due};
+    ghost use Rattle.ospf_lsdb.specs.declared.moments.AgeDue.{AgeDue};
 
-    ghost Value = { List Due };
+    ghost Value = { List AgeDue };
 
     ghost view = { λ m. m.set.keys };
 }
@@ -69,12 +69,12 @@ impl Moments {
 
     // Adds what an entry of an age comes to.
     pub(crate) fn add_coming(&mut self, clock: u16, age: u16, key: LsaKey) -> Result<(), AllocError>
-        ensures ok { OnOk result ((q : Due) →
-            has self.new q ≡ (is_coming clock age key q || has self.old q)) }
-        ensures err { OnErr result ((q : Due) → has self.new q ≡ has self.old q) }
+        ensures ok { OnOk result ((q : AgeDue) →
+            has_due self.new q ≡ (is_coming clock age key q || has_due self.old q)) }
+        ensures err { OnErr result ((q : AgeDue) → has_due self.new q ≡ has_due self.old q) }
     {
-        let refresh = Due::coming(clock, age, LS_REFRESH_TIME, key);
-        let expiry = Due::coming(clock, age, MAX_AGE, key);
+        let refresh = AgeDue::coming(clock, age, LS_REFRESH_TIME, key);
+        let expiry = AgeDue::coming(clock, age, MAX_AGE, key);
         let is_new = self.add_if(age < LS_REFRESH_TIME, refresh)?;
         match self.add_if(age < MAX_AGE, expiry) {
             Ok(_) => Ok(()),
@@ -87,29 +87,31 @@ impl Moments {
 
     // Removes what an entry of an age comes to.
     pub(crate) fn remove_coming(&mut self, clock: u16, age: u16, key: LsaKey)
-        ensures { (q : Due) → has self.new q ≡ (not (is_coming clock age key q) && has self.old q) }
+        ensures { (q : AgeDue) → has_due self.new q
+            ≡ (not (is_coming clock age key q) && has_due self.old q) }
     {
         self.remove_if(
             age < LS_REFRESH_TIME,
-            Due::coming(clock, age, LS_REFRESH_TIME, key),
+            AgeDue::coming(clock, age, LS_REFRESH_TIME, key),
         );
-        self.remove_if(age < MAX_AGE, Due::coming(clock, age, MAX_AGE, key));
+        self.remove_if(age < MAX_AGE, AgeDue::coming(clock, age, MAX_AGE, key));
     }
 
     // Removes that an entry came to an age at this moment.
     pub(crate) fn remove_reached(&mut self, moment: u16, age: u16, key: LsaKey)
-        ensures gone { (q : Due) → has self.new q
-            ≡ (not (same_due (due_at moment age key) q) && has self.old q) }
-        ensures fewer { has self.old (due_at moment age key) ≡ true →
+        ensures gone { (q : AgeDue) → has_due self.new q
+            ≡ (not (same_due (due_at moment age key) q) && has_due self.old q) }
+        ensures fewer { has_due self.old (due_at moment age key) ≡ true →
             length self.new < length self.old }
     {
-        self.remove(Due { moment, age, key });
+        self.remove(AgeDue { moment, age, key });
     }
 
     // Removes all that came to an age at a moment.
     pub(crate) fn forget(&mut self, moment: u16, age: u16)
         requires { age ≤ max_age }
-        ensures { (q : Due) → has self.new q ≡ (not (is_at moment age q) && has self.old q) }
+        ensures { (q : AgeDue) → has_due self.new q
+            ≡ (not (is_due_at moment age q) && has_due self.old q) }
     {
         while let Some(key) = self.at(moment, age).next() {
             self.remove_reached(moment, age, key);
@@ -117,34 +119,34 @@ impl Moments {
     }
 
     // The keys whose entries came to this age at this moment.
-    pub(crate) fn at(&self, moment: u16, age: u16) -> Reached<'_>
+    pub(crate) fn at(&self, moment: u16, age: u16) -> AgesReached<'_>
         requires { age ≤ max_age }
         ensures keys { result ≡ keys_at moment age self.now }
         ensures fits { length result < 2 ^ 63 }
         ensures ordered { IsStrictlySortedBy due_cmp self.now }
     {
-        let first = Due {
+        let first = AgeDue {
             moment,
             age,
             key: FIRST_KEY,
         };
-        let past = Due {
+        let past = AgeDue {
             moment,
             age: age + 1,
             key: FIRST_KEY,
         };
-        Reached {
+        AgesReached {
             left: self.set.range(first..past),
         }
     }
 
     // In how many moments from this one something is due first; `u16::MAX` where nothing is.
     pub(crate) fn idle_from(&self, clock: u16) -> u16
-        ensures idle { IsIdle clock result self.now }
+        ensures idle { IsIdleUntil clock result self.now }
         ensures until { (result ≡ 65535) ⊎ ComesIn clock result self.now }
         ensures fits { result < ring }
     {
-        let now = Due {
+        let now = AgeDue {
             moment: clock,
             age: 0,
             key: FIRST_KEY,
@@ -160,10 +162,10 @@ impl Moments {
     }
 
     // Adds what is due, if it is, and answers whether that was new.
-    fn add_if(&mut self, is_due: bool, due: Due) -> Result<bool, AllocError>
-        ensures added { IfOk result (λ is_new. is_new ≡ (is_due && not (has self.old due))) }
-        ensures ok { OnOk result ((q : Due) →
-            has self.new q ≡ ((is_due && same_due due q) || has self.old q)) }
+    fn add_if(&mut self, is_due: bool, due: AgeDue) -> Result<bool, AllocError>
+        ensures added { IfOk result (λ is_new. is_new ≡ (is_due && not (has_due self.old due))) }
+        ensures ok { OnOk result ((q : AgeDue) →
+            has_due self.new q ≡ ((is_due && same_due due q) || has_due self.old q)) }
         ensures err { OnErr result (self.new ≡ self.old) }
     {
         if !is_due {
@@ -173,17 +175,19 @@ impl Moments {
         Ok(is_new)
     }
 
-    fn remove_if(&mut self, is_due: bool, due: Due)
-        ensures { (q : Due) → has self.new q ≡ (not (is_due && same_due due q) && has self.old q) }
+    fn remove_if(&mut self, is_due: bool, due: AgeDue)
+        ensures { (q : AgeDue) → has_due self.new q
+            ≡ (not (is_due && same_due due q) && has_due self.old q) }
     {
         if is_due {
             self.remove(due);
         }
     }
 
-    fn remove(&mut self, due: Due)
-        ensures gone { (q : Due) → has self.new q ≡ (not (same_due due q) && has self.old q) }
-        ensures fewer { has self.old due ≡ true → length self.new < length self.old }
+    fn remove(&mut self, due: AgeDue)
+        ensures gone { (q : AgeDue) → has_due self.new q
+            ≡ (not (same_due due q) && has_due self.old q) }
+        ensures fewer { has_due self.old due ≡ true → length self.new < length self.old }
     {
         self.set.remove(&due);
     }
@@ -191,21 +195,21 @@ impl Moments {
 
 /// The keys whose age became one of `LS_REFRESH_TIME` and `MAX_AGE` at the last tick, in order.
 #[derive(Drop)]
-pub struct Reached<'a> {
-    left: Range<'a, Due>,
+pub struct AgesReached<'a> {
+    left: Range<'a, AgeDue>,
 }
 
-impl<'a> Model for Reached<'a> {
+impl<'a> Model for AgesReached<'a> {
     ghost use Rattle.std.specs.Prelude.{List, map};
     ghost use Rattle.ospf_base.specs.declared.ids.LsaKey.{LsaKey};
-    ghost use Rattle.ospf_lsdb.specs.declared.moments.Due.{Due};
+    ghost use Rattle.ospf_lsdb.specs.declared.moments.AgeDue.{AgeDue};
 
     ghost Value = { List LsaKey };
 
     ghost view = { λ r. map (λ d. d.key) r.left };
 }
 
-impl<'a> Iterator for Reached<'a> {
+impl<'a> Iterator for AgesReached<'a> {
     type Item = LsaKey;
 
     ghost use Rattle.std.specs.Iterator.{YieldsFirst, item_count};

@@ -62,19 +62,19 @@ pub struct Neighbour {
 }
 
 impl Model for Neighbour {
-    ghost use Rattle.ospf_neighbour.specs.Neighbour.{NeighbourValue, IsSound};
+    ghost use Rattle.ospf_neighbour.specs.Neighbour.{NeighbourValue, IsSoundNeighbour};
 
     ghost Value = { NeighbourValue };
 
     ghost view = { λ n. record { router = n.router; address = n.address; declared = n.declared; state = n.state; inactivity = n.inactivity; exchanging = n.exchanging; summary = n.summary.items; last_dd = n.last_dd.items; requests = n.requests.items; asked = n.asked; asked_at = n.asked_at; retransmission = n.retransmission.items } };
 
-    ghost invariant = { λ n. IsSound n.state n.summary.items n.last_dd.items n.requests.items n.asked n.retransmission.items };
+    ghost invariant = { λ n. IsSoundNeighbour n.state n.summary.items n.last_dd.items n.requests.items n.asked n.retransmission.items };
 }
 
 impl Neighbour {
     ghost use Rattle.std.specs.Prelude.{◌≡◌, ◌≤◌, ◌-◌, ◌∷◌, ◌++◌, ◌↔◌, [], IsTrue, OnOk, OnErr, drop, length, take};
     ghost use Rattle.ospf_neighbour.specs.Machine.{is_exchanging, transition, LeavesNone};
-    ghost use Rattle.ospf_neighbour.specs.Neighbour.{IsSound, is_empty, new_neighbour, effected, emptied, negotiated};
+    ghost use Rattle.ospf_neighbour.specs.Neighbour.{IsSoundNeighbour, is_empty, new_neighbour, effected, emptied, negotiated};
     ghost use Rattle.ospf_neighbour.specs.Lists.{request_of, requesting, unrequested, is_listed, is_key_listed, unlisted, key_unlisted, relisted, resent};
     ghost use Rattle.ospf_neighbour.specs.OneAKey.{IsAloneOfKeys};
 
@@ -188,7 +188,8 @@ impl Neighbour {
     /// Whether it is in Exchange or above. Below, its lists are empty. No list has two entries of one LSA.
     pub fn is_exchanging(&self) -> bool
         ensures value { result ≡ is_exchanging self.now.state }
-        ensures lists { IsSound self.now.state self.now.summary self.now.last_dd self.now.requests
+        ensures lists { IsSoundNeighbour self.now.state self.now.summary self.now.last_dd
+            self.now.requests
             self.now.asked self.now.retransmission }
     {
         // For the proof.

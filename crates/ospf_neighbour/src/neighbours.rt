@@ -3,7 +3,7 @@
 ghost use Rattle.std.specs.Prelude.{◌≡◌, ◌↔◌, [], OnOk, OnErr, Err, IfNone, length, map};
 ghost use Rattle.std.specs.Option.{option_copied};
 ghost use Rattle.ospf_neighbour.specs.Lists.{key_unlisted};
-ghost use Rattle.ospf_neighbour.specs.Neighbours.{AreNeighbours, HasNeighbour, IsAdded, IsPlace, IsRising, at_address, max_neighbours, neighbour_of, place_of, some_lists, some_loading, without_router};
+ghost use Rattle.ospf_neighbour.specs.Neighbours.{AreNeighbours, HasNeighbour, IsAdded, IsNeighbourPlace, AreNeighboursRising, at_address, max_neighbours, neighbour_of, neighbour_place, some_lists, some_loading, without_router};
 ghost use Rattle.ospf_neighbour.specs.declared.neighbours.NeighbourFault.TheVariants as fault;
 
 use crate::neighbour::Neighbour;
@@ -91,7 +91,7 @@ impl Neighbours {
 
     /// The place of the neighbour of a Router ID among `all`.
     pub fn position(&self, router: RouterId) -> Option<usize>
-        ensures { result ≡ place_of self.now router }
+        ensures { result ≡ neighbour_place self.now router }
     {
         self.all.iter().position(|n| n.router().0 == router.0)
     }
@@ -179,9 +179,9 @@ fn unlist_key_of(key: &LsaKey, all: &mut [Neighbour])
 
 // Where a neighbour of this Router ID belongs, which is not there.
 fn place_for(all: &[Neighbour], router: RouterId) -> usize
-    requires rising { IsRising all.now }
+    requires rising { AreNeighboursRising all.now }
     requires new { HasNeighbour all.now router → ⊥ }
-    ensures { IsPlace all.now router.0 result }
+    ensures { IsNeighbourPlace all.now router.0 result }
 {
     let mut at = all.len();
     while at > 0 {

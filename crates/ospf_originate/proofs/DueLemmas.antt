@@ -5,16 +5,16 @@ use Rattle.std.proofs.lemmas.List.{take_more}
 use Rattle.std.proofs.lemmas.Bool.{false≢true}
 use Rattle.ospf_base.specs.declared.ids.LsaKey.{LsaKey}
 use Rattle.ospf_lsdb.specs.Database.{Entry}
-use Rattle.ospf_lsdb.specs.Moments.{among, key_cmp}
+use Rattle.ospf_lsdb.specs.Moments.{among}
 use Rattle.ospf_exchange.proofs.KeyLemmas.{among_added}
 use Rattle.std.specs.BTreeSet as sorted
-use Rattle.ospf_base.specs.Keys.{same_key}
+use Rattle.ospf_base.specs.Keys.{same_key, key_cmp}
 use Rattle.ospf_area.specs.Numbers.{is_own}
-use Rattle.ospf_area.specs.State.{AreaValue, entry_of, numbering_of, kept_number}
+use Rattle.ospf_area.specs.State.{AreaValue, database_entry, numbering_of, kept_number}
 use Rattle.ospf_area.specs.declared.state.Numbering.{Numbering}
 use Rattle.ospf_originate.specs.Actions.{own_action, unwanted_action}
 use Rattle.ospf_originate.specs.Numbers.{waits}
-use Rattle.ospf_wanted.specs.Own.{value_of}
+use Rattle.ospf_wanted.specs.Own.{wanted_value}
 use Rattle.ospf_wanted.specs.declared.wants.OwnLsa.{OwnLsa}
 use Rattle.ospf_originate.specs.Sound.{AreNumbered}
 use Rattle.ospf_originate.specs.Steps.{wants, is_heard, action_of, candidates}
@@ -93,22 +93,22 @@ no_candidate s key numbered is =
     let wanted : wanted_of (wants s) key ≡ None = none_wanted (wants s) key front.0 in
     let unnumbered : numbering_of s.numbering key ≡ None = none_numbered s.numbering key front.1 in
     let unheard : is_heard s key ≡ false = none_heard s.heard key parts.1 in
-    let never : is_some (entry_of s key) ≡ true → (is_own s.router key) ≡ true → ⊥ =
+    let never : is_some (database_entry s key) ≡ true → (is_own s.router key) ≡ true → ⊥ =
     λ there own. false≢true (sym (ap (λ (o : Option Numbering). is_some o) unnumbered) ∙ numbered key there own) in
-    ap (λ (o : Option WantedValue). own_action o (entry_of s key) (is_heard s key) (is_own s.router key) (waits s.tick s.numbering key) (kept_number s key)) wanted
-    ∙ ap (λ (b : Bool). unwanted_action (entry_of s key) b (is_own s.router key)) unheard
-    ∙ left_alone (entry_of s key) (is_own s.router key) never
+    ap (λ (o : Option WantedValue). own_action o (database_entry s key) (is_heard s key) (is_own s.router key) (waits s.tick s.numbering key) (kept_number s key)) wanted
+    ∙ ap (λ (b : Bool). unwanted_action (database_entry s key) b (is_own s.router key)) unheard
+    ∙ left_alone (database_entry s key) (is_own s.router key) never
 
 -- all candidates, but not of their representation
-pub all_candidates : (xs : List OwnLsa) (ns : List Numbering) (heard a b c : List LsaKey) → a ≡ map (λ w. wanted_key (value_of w)) xs → b ≡ map (λ n. n.key) ns
-    → c ≡ (a ++ b) ++ heard → c ≡ candidates (map value_of xs) ns heard
+pub all_candidates : (xs : List OwnLsa) (ns : List Numbering) (heard a b c : List LsaKey) → a ≡ map (λ w. wanted_key (wanted_value w)) xs → b ≡ map (λ n. n.key) ns
+    → c ≡ (a ++ b) ++ heard → c ≡ candidates (map wanted_value xs) ns heard
 all_candidates xs ns heard a b c is_a is_b is =
-    is ∙ ap (λ (ks : List LsaKey). (ks ++ b) ++ heard) (is_a ∙ map-map wanted_key value_of xs)
-    ∙ ap (λ (ks : List LsaKey). (map wanted_key (map value_of xs) ++ ks) ++ heard) is_b
+    is ∙ ap (λ (ks : List LsaKey). (ks ++ b) ++ heard) (is_a ∙ map-map wanted_key wanted_value xs)
+    ∙ ap (λ (ks : List LsaKey). (map wanted_key (map wanted_value xs) ++ ks) ++ heard) is_b
 
 -- what is left out of the keys in their order
-pub due_whole : (s : AreaValue) (xs : List OwnLsa) (ns : List Numbering) (heard ks seen rising : List LsaKey) (key : LsaKey) → AreNumbered s → map value_of xs ≡ wants s
-    → ns ≡ s.numbering → heard ≡ s.heard → ks ≡ candidates (map value_of xs) ns heard → seen ≡ ks → ((q : LsaKey) → among rising q ≡ among seen q)
+pub due_whole : (s : AreaValue) (xs : List OwnLsa) (ns : List Numbering) (heard ks seen rising : List LsaKey) (key : LsaKey) → AreNumbered s → map wanted_value xs ≡ wants s
+    → ns ≡ s.numbering → heard ≡ s.heard → ks ≡ candidates (map wanted_value xs) ns heard → seen ≡ ks → ((q : LsaKey) → among rising q ≡ among seen q)
     → among rising key ≡ false → action_of s key ≡ Leave
 due_whole s xs ns heard ks seen rising key numbered wanted is_ns is_heard_by is same whole out =
     let all : ks ≡ candidates (wants s) s.numbering s.heard =
@@ -118,7 +118,7 @@ due_whole s xs ns heard ks seen rising key numbered wanted is_ns is_heard_by is 
 
 -- what becomes of a key, from what is known of it
 pub action_is : (s : AreaValue) (key : LsaKey) (ws : List WantedValue) (w : Option WantedValue) (copy : Option Entry) (heard own waited : Bool) (kept : ℤ) (a : OwnAction)
-    → ws ≡ wants s → w ≡ wanted_of ws key → copy ≡ entry_of s key → heard ≡ is_heard s key → own ≡ is_own s.router key → waited ≡ waits s.tick s.numbering key → kept ≡ kept_number s key
+    → ws ≡ wants s → w ≡ wanted_of ws key → copy ≡ database_entry s key → heard ≡ is_heard s key → own ≡ is_own s.router key → waited ≡ waits s.tick s.numbering key → kept ≡ kept_number s key
     → a ≡ own_action w copy heard own waited kept → a ≡ action_of s key
 unfolding action_of
 action_is s key ws w copy heard own waited kept a of_ws of_w of_copy of_heard of_own of_waited of_kept is =
@@ -126,7 +126,7 @@ action_is s key ws w copy heard own waited kept a of_ws of_w of_copy of_heard of
     is
     ∙ ap (λ (o : Option WantedValue). own_action o copy heard own waited kept) found
     ∙ ap (λ (o : Option Entry). own_action (wanted_of (wants s) key) o heard own waited kept) of_copy
-    ∙ ap (λ (b : Bool). own_action (wanted_of (wants s) key) (entry_of s key) b own waited kept) of_heard
-    ∙ ap (λ (b : Bool). own_action (wanted_of (wants s) key) (entry_of s key) (is_heard s key) b waited kept) of_own
-    ∙ ap (λ (b : Bool). own_action (wanted_of (wants s) key) (entry_of s key) (is_heard s key) (is_own s.router key) b kept) of_waited
-    ∙ ap (λ (n : ℤ). own_action (wanted_of (wants s) key) (entry_of s key) (is_heard s key) (is_own s.router key) (waits s.tick s.numbering key) n) of_kept
+    ∙ ap (λ (b : Bool). own_action (wanted_of (wants s) key) (database_entry s key) b own waited kept) of_heard
+    ∙ ap (λ (b : Bool). own_action (wanted_of (wants s) key) (database_entry s key) (is_heard s key) b waited kept) of_own
+    ∙ ap (λ (b : Bool). own_action (wanted_of (wants s) key) (database_entry s key) (is_heard s key) (is_own s.router key) b kept) of_waited
+    ∙ ap (λ (n : ℤ). own_action (wanted_of (wants s) key) (database_entry s key) (is_heard s key) (is_own s.router key) (waits s.tick s.numbering key) n) of_kept

@@ -12,7 +12,7 @@ use Rattle.ospf_base.specs.declared.ids.RouterId.{RouterId}
 use Rattle.ospf_lsdb.specs.Database.{Entry}
 use Rattle.ospf_area.specs.Numbers.{is_own}
 use Rattle.ospf_area.specs.Outputs.{OutputsValue}
-use Rattle.ospf_area.specs.State.{AreaValue, LinkValue, entry_of, kept_number, numbering_of}
+use Rattle.ospf_area.specs.State.{AreaValue, LinkValue, database_entry, kept_number, numbering_of}
 use Rattle.ospf_area.specs.declared.state.Numbering.{Numbering}
 use Rattle.ospf_originate.specs.Actions.{is_due, next_action, own_action, unwanted_action, wanted_action}
 use Rattle.ospf_originate.specs.Idle.{IsIdle, is_left, is_quiet, key_left, network_left, none_heard, own_router, unwanted_left, wanted_left}
@@ -41,7 +41,7 @@ not_both true due = refl
 not_both false due = refl
 
 -- a wanted LSA, from what is known of it
-pub wanted_left_is : (s : AreaValue) (w : WantedValue) (key : LsaKey) (copy : Option Entry) (due result : Bool) → key ≡ wanted_key w → copy ≡ entry_of s key → due ≡ is_due w copy
+pub wanted_left_is : (s : AreaValue) (w : WantedValue) (key : LsaKey) (copy : Option Entry) (due result : Bool) → key ≡ wanted_key w → copy ≡ database_entry s key → due ≡ is_due w copy
     → result ≡ ((waits s.tick s.numbering key || not due) || is_left (next_action copy (kept_number s key))) → result ≡ wanted_left s w
 unfolding wanted_left
 wanted_left_is s w key copy due result of_key of_copy of_due is =
@@ -51,7 +51,7 @@ wanted_left_is s w key copy due result of_key of_copy of_due is =
     ∙ ap (λ (b : Bool). b || is_left (next_action copy kept)) (not_both waiting (is_due w copy))
     ∙ sym (left_if (not waiting && is_due w copy) (next_action copy kept))
     ∙ ap (λ (o : Option Entry). is_left (wanted_action w o false waiting kept)) of_copy
-    ∙ ap (λ (k : LsaKey). is_left (wanted_action w (entry_of s k) false (waits s.tick s.numbering k) (kept_number s k))) of_key
+    ∙ ap (λ (k : LsaKey). is_left (wanted_action w (database_entry s k) false (waits s.tick s.numbering k) (kept_number s k))) of_key
 
 all_if : (p : WantedValue → Bool) (b : Bool) (w : WantedValue) → list_all p (one_if b w) ≡ (not b || p w)
 unfolding one_if
@@ -170,25 +170,25 @@ unheard_is (k ∷ ks) is = absurd (false≢true is)
 
 -- the action of a key that is wanted, and of one that is not, where none was heard
 wanted_action_is : (s : AreaValue) (key : LsaKey) (w : WantedValue) → s.heard ≡ [] → wanted_of (wants s) key ≡ Some w
-    → action_of s key ≡ wanted_action w (entry_of s key) false (waits s.tick s.numbering key) (kept_number s key)
+    → action_of s key ≡ wanted_action w (database_entry s key) false (waits s.tick s.numbering key) (kept_number s key)
 unfolding action_of own_action
 wanted_action_is s key w unheard is =
-    ap (λ (o : Option WantedValue). own_action o (entry_of s key) (is_heard s key) (is_own s.router key) (waits s.tick s.numbering key) (kept_number s key)) is
-    ∙ ap (λ (ks : List LsaKey). wanted_action w (entry_of s key) (list_any (λ k. same_key k key) ks) (waits s.tick s.numbering key) (kept_number s key)) unheard
+    ap (λ (o : Option WantedValue). own_action o (database_entry s key) (is_heard s key) (is_own s.router key) (waits s.tick s.numbering key) (kept_number s key)) is
+    ∙ ap (λ (ks : List LsaKey). wanted_action w (database_entry s key) (list_any (λ k. same_key k key) ks) (waits s.tick s.numbering key) (kept_number s key)) unheard
 
-unwanted_action_is : (s : AreaValue) (key : LsaKey) → s.heard ≡ [] → wanted_of (wants s) key ≡ None → action_of s key ≡ unwanted_action (entry_of s key) false (is_own s.router key)
+unwanted_action_is : (s : AreaValue) (key : LsaKey) → s.heard ≡ [] → wanted_of (wants s) key ≡ None → action_of s key ≡ unwanted_action (database_entry s key) false (is_own s.router key)
 unfolding action_of own_action
 unwanted_action_is s key unheard is =
-    ap (λ (o : Option WantedValue). own_action o (entry_of s key) (is_heard s key) (is_own s.router key) (waits s.tick s.numbering key) (kept_number s key)) is
-    ∙ ap (λ (ks : List LsaKey). unwanted_action (entry_of s key) (list_any (λ k. same_key k key) ks) (is_own s.router key)) unheard
+    ap (λ (o : Option WantedValue). own_action o (database_entry s key) (is_heard s key) (is_own s.router key) (waits s.tick s.numbering key) (kept_number s key)) is
+    ∙ ap (λ (ks : List LsaKey). unwanted_action (database_entry s key) (list_any (λ k. same_key k key) ks) (is_own s.router key)) unheard
 
 wanted_rests : (s : AreaValue) (key : LsaKey) (w : WantedValue) → IsFound (wanted_left s) key w
-    → wanted_action w (entry_of s key) false (waits s.tick s.numbering key) (kept_number s key) ≡ Leave
+    → wanted_action w (database_entry s key) false (waits s.tick s.numbering key) (kept_number s key) ≡ Leave
 unfolding wanted_left
 wanted_rests s key w it =
-    subst (λ (k : LsaKey). wanted_action w (entry_of s k) false (waits s.tick s.numbering k) (kept_number s k) ≡ Leave) it.of_key (left_is _ it.holds)
+    subst (λ (k : LsaKey). wanted_action w (database_entry s k) false (waits s.tick s.numbering k) (kept_number s k) ≡ Leave) it.of_key (left_is _ it.holds)
 
-unwanted_rests : (s : AreaValue) (key : LsaKey) → wanted_of (wants s) key ≡ None → key_left s key ≡ true → unwanted_action (entry_of s key) false (is_own s.router key) ≡ Leave
+unwanted_rests : (s : AreaValue) (key : LsaKey) → wanted_of (wants s) key ≡ None → key_left s key ≡ true → unwanted_action (database_entry s key) false (is_own s.router key) ≡ Leave
 unfolding key_left unwanted_left
 unwanted_rests s key none is =
     left_is _ (with_false (unwanted_left s key) ∙ ap (λ (o : Option WantedValue). unwanted_left s key || is_some o) (sym none) ∙ is)
@@ -197,9 +197,9 @@ unwanted_rests s key none is =
     with_false true = refl
     with_false false = refl
 
-unnumbered_rests : (s : AreaValue) (key : LsaKey) → AreNumbered s → numbering_of s.numbering key ≡ None → unwanted_action (entry_of s key) false (is_own s.router key) ≡ Leave
+unnumbered_rests : (s : AreaValue) (key : LsaKey) → AreNumbered s → numbering_of s.numbering key ≡ None → unwanted_action (database_entry s key) false (is_own s.router key) ≡ Leave
 unnumbered_rests s key numbered none =
-    left_alone (entry_of s key) (is_own s.router key) (λ there own. false≢true (sym (ap (λ (o : Option Numbering). is_some o) none) ∙ numbered key there own))
+    left_alone (database_entry s key) (is_own s.router key) (λ there own. false≢true (sym (ap (λ (o : Option Numbering). is_some o) none) ∙ numbered key there own))
 
 pub quiet_idle : (s : AreaValue) → AreNumbered s → is_quiet s ≡ true → IsIdle s
 unfolding is_quiet
@@ -213,7 +213,7 @@ quiet_idle s numbered quiet =
     record { unheard = unheard; left = λ key. by_wanted s key numbered unheard wanted_rest third.1 (wanted_of (wants s) key) refl }
   where
     by_number : (s : AreaValue) (key : LsaKey) → AreNumbered s → list_all (λ n. key_left s n.key) s.numbering ≡ true → wanted_of (wants s) key ≡ None
-        → (o : Option Numbering) → numbering_of s.numbering key ≡ o → unwanted_action (entry_of s key) false (is_own s.router key) ≡ Leave
+        → (o : Option Numbering) → numbering_of s.numbering key ≡ o → unwanted_action (database_entry s key) false (is_own s.router key) ≡ Leave
     by_number s key numbered keys none None is = unnumbered_rests s key numbered is
     by_number s key numbered keys none (Some n) is = unwanted_rests s key none (found_numbered (key_left s) s.numbering key n keys is)
 

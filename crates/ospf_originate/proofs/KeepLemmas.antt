@@ -16,9 +16,9 @@ use Rattle.ospf_lsa.specs.declared.recency.Recency.TheVariants.{Newer}
 use Rattle.ospf_lsdb.proofs.MapLemmas.{bool_cases}
 use Rattle.ospf_lsdb.specs.Database.{Entry, is_fresh}
 use Rattle.ospf_area.specs.Numbers.{is_own}
-use Rattle.ospf_area.specs.State.{AreaValue, entry_of, kept_number}
+use Rattle.ospf_area.specs.State.{AreaValue, database_entry, kept_number}
 use Rattle.ospf_originate.specs.Actions.{own_action, wanted_action, unwanted_action, next_action, makes_room, is_due}
-use Rattle.ospf_originate.specs.Laws.{IsNext}
+use Rattle.ospf_originate.specs.Laws.{IsNextIssue}
 use Rattle.ospf_wanted.specs.Made.{lsa_value}
 use Rattle.ospf_originate.specs.Numbers.{waits}
 use Rattle.ospf_originate.specs.Steps.{wants, is_heard, action_of}
@@ -86,14 +86,14 @@ wanted_tells w copy heard waited kept number is = elim (bool_cases (heard || (no
   | inr rests ↦ absurd (let no_issue : Leave ≡ Issue number = sym (if_false (heard || (not waited && is_due w copy)) (next_action copy kept) Leave rests) ∙ is in cc)
 ]
 
-tells : (o : Option WantedValue) (copy : Option Entry) (heard own waited : Bool) (kept number : ℤ) → own_action o copy heard own waited kept ≡ Issue number → IsNext o kept number
+tells : (o : Option WantedValue) (copy : Option Entry) (heard own waited : Bool) (kept number : ℤ) → own_action o copy heard own waited kept ≡ Issue number → IsNextIssue o kept number
 unfolding own_action
 tells None copy heard own waited kept number is = absurd (unwanted_is_none copy heard own number is)
 tells (Some w) copy heard own waited kept number is = record { value = w; is_wanted = refl; next = wanted_tells w copy heard waited kept number is }
 
-pub issue_tells : (s : AreaValue) (key : LsaKey) (number : ℤ) → action_of s key ≡ Issue number → IsNext (wanted_of (wants s) key) (kept_number s key) number
+pub issue_tells : (s : AreaValue) (key : LsaKey) (number : ℤ) → action_of s key ≡ Issue number → IsNextIssue (wanted_of (wants s) key) (kept_number s key) number
 unfolding action_of
-issue_tells s key number is = tells (wanted_of (wants s) key) (entry_of s key) (is_heard s key) (is_own s.router key) (waits s.tick s.numbering key) (kept_number s key) number is
+issue_tells s key number is = tells (wanted_of (wants s) key) (database_entry s key) (is_heard s key) (is_own s.router key) (waits s.tick s.numbering key) (kept_number s key) number is
 
 pub next_is_newer : (new copy : LsaHeader) (kept : ℤ) → copy.number ≤ℤ kept → new.number ≡ kept +ℤ pos 1 → recency new copy ≡ Newer
 next_is_newer new copy kept below next =

@@ -15,7 +15,7 @@ use Rattle.ospf_originate.specs.Numbers.{issued, issued_at_in}
 use Rattle.ospf_originate.specs.Sound.{IsSound}
 use Rattle.ospf_originate.specs.Steps.{Acts, ActsInTurn, Issues, IssuesIf, OwnLsas, wants}
 use Rattle.ospf_wanted.specs.Wanted.{WantedValue, wanted_key, wanted_of}
-use Rattle.ospf_originate.specs.declared.action.Due.{Due}
+use Rattle.ospf_originate.specs.declared.action.DueAction.{DueAction}
 use Rattle.ospf_originate.specs.declared.action.OwnAction.{OwnAction}
 use Rattle.ospf_originate.specs.declared.action.OwnAction.TheVariants.{Leave, Flush, Issue}
 use Rattle.ospf_originate.proofs.KeepLemmas.{if_true, made_key, made_number}
@@ -88,7 +88,7 @@ act_sound Leave ws key s o o' s' is sound = along s s' is.state sound
 act_sound Flush ws key s o o' s' is sound = flush_sound key s is.sent s' is.flushes sound
 act_sound (Issue number) ws key s o o' s' is sound = issue_if_sound (wanted_of ws key) number s o o' s' is sound
 
-acts_sound : (ws : List WantedValue) (ds : List Due) (s : AreaValue) (o o' : OutputsValue) (s' : AreaValue) → ActsInTurn ws ds s o o' s' → IsSound s → IsSound s'
+acts_sound : (ws : List WantedValue) (ds : List DueAction) (s : AreaValue) (o o' : OutputsValue) (s' : AreaValue) → ActsInTurn ws ds s o o' s' → IsSound s → IsSound s'
 acts_sound ws [] s o o' s' is sound = along s s' is.state sound
 acts_sound ws (d ∷ ds) s o o' s' (mid, mid_out, first, others) sound = acts_sound ws ds mid mid_out o' s' others (act_sound d.action ws d.key s o mid_out mid first sound)
 
@@ -96,5 +96,5 @@ pub own_sound : (s : AreaValue) (o o' : OutputsValue) (s' : AreaValue) → OwnLs
 own_sound s o o' s' is sound = along (record is.mid { heard = [] }) s' is.answered (answered_sound is.mid (acts_sound (wants s) is.due s o o' is.mid is.each sound))
 
 -- from what the calls of a step do
-pub ends_sound : (ws : List WantedValue) (ds : List Due) (s : AreaValue) (o o' : OutputsValue) (mid s' : AreaValue) → ActsInTurn ws ds s o o' mid → s' ≡ record mid { heard = [] } → IsSound s → IsSound s'
+pub ends_sound : (ws : List WantedValue) (ds : List DueAction) (s : AreaValue) (o o' : OutputsValue) (mid s' : AreaValue) → ActsInTurn ws ds s o o' mid → s' ≡ record mid { heard = [] } → IsSound s → IsSound s'
 ends_sound ws ds s o o' mid s' acts forgets sound = along (record mid { heard = [] }) s' forgets (answered_sound mid (acts_sound ws ds s o o' mid acts sound))

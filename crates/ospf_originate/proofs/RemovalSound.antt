@@ -5,10 +5,10 @@ use Rattle.std.proofs.lemmas.Option.{none-some, same_Some}
 use Rattle.ospf_base.proofs.SameKeys.{same_key-apart, same_key-eq, same_key-refl}
 use Rattle.ospf_base.specs.Keys.{Precedes, same_key}
 use Rattle.ospf_base.specs.declared.ids.LsaKey.{LsaKey}
-use Rattle.ospf_lsdb.specs.Database.{Entry, Held, IsDatabase, IsRising, entries, header_at, held_of, instance_at, is_expired, key_at, removed}
+use Rattle.ospf_lsdb.specs.Database.{Entry, Held, IsDatabase, AreKeysRising, entries, header_at, held_of, instance_at, is_expired, key_at, removed}
 use Rattle.ospf_area.specs.Numbers.{is_own}
 use Rattle.ospf_area.specs.Outputs.{OutputsValue}
-use Rattle.ospf_area.specs.State.{AreaValue, entry_of, kept_number, some_link_loading}
+use Rattle.ospf_area.specs.State.{AreaValue, database_entry, kept_number, some_link_loading}
 use Rattle.ospf_update.specs.Removal.{Removes, RemovesAll, RemovesOne, ends_run, is_last, is_leaving, key_of_entry, leaving, lowest_number, reset, some_awaits}
 use Rattle.ospf_originate.specs.Sound.{IsSound}
 use Rattle.ospf_originate.proofs.SoundLemmas.{Numbers, ended_numbers, fewer, known, last_is_high, numbers_of, sound_of}
@@ -47,12 +47,12 @@ module _ (k : LsaKey) (s : AreaValue) (o o' : OutputsValue) (s' : AreaValue) (is
   low : IsSound s → ends_run s k ≡ true → lowest_number ≤ℤ s.greatest
   low sound ends = by_own (is_own s.router k) refl ends
     where
-      by_copy : (copy : Option Entry) → entry_of s k ≡ copy → is_own s.router k ≡ true → is_last copy ≡ true → lowest_number ≤ℤ s.greatest
+      by_copy : (copy : Option Entry) → database_entry s k ≡ copy → is_own s.router k ≡ true → is_last copy ≡ true → lowest_number ≤ℤ s.greatest
       by_copy None at own last = absurd (cc)
       by_copy (Some e) at own last = last_is_high (header_at e).number (kept_number s k) s.greatest last (sound.counted k e at own) (sound.greatest k)
 
-      by_own : (b : Bool) → is_own s.router k ≡ b → (b && is_last (entry_of s k)) ≡ true → lowest_number ≤ℤ s.greatest
-      by_own true own last = by_copy (entry_of s k) refl own last
+      by_own : (b : Bool) → is_own s.router k ≡ b → (b && is_last (database_entry s k)) ≡ true → lowest_number ≤ℤ s.greatest
+      by_own true own last = by_copy (database_entry s k) refl own last
       by_own false other last = absurd (cc)
 
   one_sound : IsOld s k → IsSound s → IsSound s'
@@ -72,7 +72,7 @@ all_sound (k ∷ keys) s o o' s' (mid, so_far, one, others) old sound =
 
 -- ---- those that leave are at MaxAge
 
-each_found : (db : List Held) → IsRising db → AllByRecursion (λ h. held_of db (key_at h) ≡ Some h) db
+each_found : (db : List Held) → AreKeysRising db → AllByRecursion (λ h. held_of db (key_at h) ≡ Some h) db
 each_found [] rises = tt
 each_found (x ∷ xs) rises = (ap (λ (b : Bool). if b then Some x else held_of xs (key_at x)) (same_key-refl (key_at x)), later xs rises.0 (each_found xs rises.1))
   where

@@ -17,7 +17,7 @@ use Rattle.ospf_wanted.specs.Wanted.WantedValue.{RouterLsa, NetworkLsa}
 use Rattle.ospf_wanted.proofs.MakeLemmas.{found_made, wanted_made}
 use Rattle.ospf_originate.specs.Sound.{AreSetUp}
 use Rattle.ospf_originate.specs.Steps.{Acts, ActsInTurn, Issues, IssuesIf, OwnLsas, wants}
-use Rattle.ospf_originate.specs.declared.action.Due.{Due}
+use Rattle.ospf_originate.specs.declared.action.DueAction.{DueAction}
 use Rattle.ospf_originate.specs.declared.action.OwnAction.{OwnAction}
 use Rattle.ospf_originate.specs.declared.action.OwnAction.TheVariants.{Leave, Flush, Issue}
 
@@ -61,7 +61,7 @@ act_short Leave ws key s o o' s' is needs short = same s s' (ap (λ (x : AreaVal
 act_short Flush ws key s o o' s' is needs short = flush_short key s is.sent s' is.flushes short
 act_short (Issue number) ws key s o o' s' is needs short = if_short (wanted_of ws key) number s o o' s' is needs short
 
-acts_short : (ws : List WantedValue) → ((key : LsaKey) → CanBeMadeIf (pos 0) (wanted_of ws key)) → (ds : List Due) (s : AreaValue) (o o' : OutputsValue) (s' : AreaValue) → ActsInTurn ws ds s o o' s'
+acts_short : (ws : List WantedValue) → ((key : LsaKey) → CanBeMadeIf (pos 0) (wanted_of ws key)) → (ds : List DueAction) (s : AreaValue) (o o' : OutputsValue) (s' : AreaValue) → ActsInTurn ws ds s o o' s'
     → AreShort s.database → AreShort s'.database
 acts_short ws needs [] s o o' s' is short = same s s' (ap (λ (x : AreaValue). x.database) is.state) short
 acts_short ws needs (d ∷ ds) s o o' s' (mid, mid_out, first, others) short =

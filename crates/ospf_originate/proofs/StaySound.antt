@@ -17,7 +17,7 @@ use Rattle.ospf_flood.specs.declared.acknowledgement.Acknowledgement.TheVariants
 use Rattle.ospf_flood.specs.declared.rule.LsaRule.{LsaRule}
 use Rattle.ospf_flood.specs.declared.rule.LsaRule.TheVariants.{AcknowledgesExpired, TooSoon, Installs, BadRequest, Duplicate, Stale}
 use Rattle.ospf_iface.specs.declared.machine.Iface.{Iface}
-use Rattle.ospf_exchange.specs.Headers.{copy_of}
+use Rattle.ospf_exchange.specs.Headers.{copy_in_database}
 use Rattle.ospf_lsa.specs.Header.{header_of, key_of_header}
 use Rattle.ospf_lsa.specs.Lsa.{key_of, instance_of}
 use Rattle.ospf_lsa.specs.declared.header.LsaHeader.{LsaHeader}
@@ -27,7 +27,7 @@ use Rattle.ospf_lsdb.specs.Database as lsdb
 use Rattle.ospf_neighbour.specs.Lists.{key_unlisted}
 use Rattle.ospf_neighbour.specs.Neighbours.{max_neighbours}
 use Rattle.ospf_area.proofs.PlaceLemmas.{length-map_from}
-use Rattle.ospf_area.specs.Asking.{turned, turned_link, turned_links}
+use Rattle.ospf_area.specs.Asking.{turned_to_next, turned_link, turned_links}
 use Rattle.ospf_area.specs.Changes.{changed_at, changed_if, changed_link, changed_on, delayed_at, delayed_on}
 use Rattle.ospf_area.specs.Flooding.{flooded_link, flooded_links, flooded_neighbour, on_link, goes_anywhere, released, released_link}
 use Rattle.ospf_update.specs.Acks.{undelayed_link}
@@ -36,8 +36,8 @@ use Rattle.ospf_area.specs.Outputs.{OutputsValue, SentValue}
 use Rattle.ospf_area.specs.Places.{map_from}
 use Rattle.ospf_area.specs.Sending.{own_of}
 use Rattle.ospf_area.specs.Standing.{acknowledging}
-use Rattle.ospf_area.specs.State.{AreaValue, LinkValue, entry_of, kept_in, numbering_of}
-use Rattle.ospf_area.specs.declared.changes.Change.{Change}
+use Rattle.ospf_area.specs.State.{AreaValue, LinkValue, database_entry, kept_in, numbering_of}
+use Rattle.ospf_area.specs.declared.changes.AdjacencyChange.{AdjacencyChange}
 use Rattle.ospf_area.specs.declared.flooding.Origin.{Origin}
 use Rattle.ospf_area.specs.declared.sending.Own.{Own}
 use Rattle.ospf_area.specs.declared.state.Numbering.{Numbering}
@@ -107,9 +107,9 @@ flooded_up key h from tick xs up =
     set_up_from (flooded_link key h from tick) (λ l x. record { iface = refl; many = length-map x.neighbours (flooded_neighbour key h (on_link from l) tick) }) xs up
 
 turned_up : (own : Own) (xs : List LinkValue) → AreSetUp xs → AreSetUp (turned_links own xs)
-turned_up own xs up = set_up_map (turned_link own) (λ x. record { iface = refl; many = length-map x.neighbours (turned x.settings.mtu own.tick) }) xs up
+turned_up own xs up = set_up_map (turned_link own) (λ x. record { iface = refl; many = length-map x.neighbours (turned_to_next x.settings.mtu own.tick) }) xs up
 
-changed_up : (f : Origin) (change : Change) (tick : ℕ) (xs : List LinkValue) → AreSetUp xs → AreSetUp (changed_at f change tick xs)
+changed_up : (f : Origin) (change : AdjacencyChange) (tick : ℕ) (xs : List LinkValue) → AreSetUp xs → AreSetUp (changed_at f change tick xs)
 changed_up f change tick xs up = set_up_from (changed_on f change tick) (λ l x. by_test x (l == f.link)) xs up
   where
     by_test : (x : LinkValue) (b : Bool) → IsLike x (if b then changed_link f.router change tick x else x)
@@ -141,7 +141,7 @@ turned_sound s sound = relinked s (turned_links (own_of s) s.links) (turned_up (
 pub answered_sound : (s : AreaValue) → IsSound s → IsSound (record s { heard = [] })
 answered_sound s sound = rest s s.links s.direct s.tick s.next_dd s.sent [] sound.links sound
 
-changed_sound : (f : Origin) (change : Change) (s : AreaValue) → IsSound s → IsSound (record s { links = changed_at f change s.tick s.links })
+changed_sound : (f : Origin) (change : AdjacencyChange) (s : AreaValue) → IsSound s → IsSound (record s { links = changed_at f change s.tick s.links })
 changed_sound f change s sound = relinked s (changed_at f change s.tick s.links) (changed_up f change s.tick s.links sound.links) sound
 
 acknowledging_sound : (a : Acknowledgement) (f : Origin) (h : LsaHeader) (s : AreaValue) → IsSound s → IsSound (acknowledging a f h s)
@@ -195,12 +195,12 @@ store_sound lsa from s s' stores sound =
 replied_sound : (reply : Option (List ℕ)) (f : Origin) (key : LsaKey) (s : AreaValue) → IsSound s → IsSound (replied reply f key s)
 replied_sound None f key s sound = sound
 replied_sound (Some lsa) f key s sound =
-    let links = changed_at f (Change.IsSent (instance_of lsa)) s.tick s.links in
-    rest s links s.direct s.tick s.next_dd (marked key true s.sent) s.heard (changed_up f (Change.IsSent (instance_of lsa)) s.tick s.links sound.links) sound
+    let links = changed_at f (AdjacencyChange.IsSent (instance_of lsa)) s.tick s.links in
+    rest s links s.direct s.tick s.next_dd (marked key true s.sent) s.heard (changed_up f (AdjacencyChange.IsSent (instance_of lsa)) s.tick s.links sound.links) sound
 
 restart_sound : (f : Origin) (s : AreaValue) (o o' : OutputsValue) (s' : AreaValue) → RestartsExchange f s o o' s' → IsSound s → IsSound s'
 restart_sound f s o o' s' is sound =
-    along _ s' is.state (rest s (changed_at f (Change.Restarts s.next_dd) s.tick s.links) s.direct s.tick _ s.sent s.heard (changed_up f (Change.Restarts s.next_dd) s.tick s.links sound.links) sound)
+    along _ s' is.state (rest s (changed_at f (AdjacencyChange.Restarts s.next_dd) s.tick s.links) s.direct s.tick _ s.sent s.heard (changed_up f (AdjacencyChange.Restarts s.next_dd) s.tick s.links sound.links) sound)
 
 rule_sound : (r : Option LsaRule) (f : Origin) (lsa : List ℕ) (s : AreaValue) (o o' : OutputsValue) (s' : AreaValue) → MeetsRule r f lsa s o o' s' → IsSound s → IsSound s'
 rule_sound None f lsa s o o' s' is sound = along s s' is.state sound
@@ -210,7 +210,7 @@ rule_sound (Some Installs) f lsa s o o' s' is sound =
     along _ s' is.state (heard_sound (key_of lsa) _ (acknowledging_sound _ f (header_of lsa) is.mid (store_sound lsa (Some f) s is.mid is.stores sound)))
 rule_sound (Some BadRequest) f lsa s o o' s' is sound = restart_sound f s o o' s' is sound
 rule_sound (Some Duplicate) f lsa s o o' s' is sound =
-    along _ s' is.state (acknowledging_sound _ f (header_of lsa) _ (changed_sound f (Change.Acknowledges (instance_of lsa)) s sound))
+    along _ s' is.state (acknowledging_sound _ f (header_of lsa) _ (changed_sound f (AdjacencyChange.Acknowledges (instance_of lsa)) s sound))
 rule_sound (Some Stale) f lsa s o o' s' is sound = along _ s' is.state (replied_sound (reply_to s (key_of lsa)) f (key_of lsa) s sound)
 
 met_sound : (f : Origin) (lsa : List ℕ) (s : AreaValue) (o o' : OutputsValue) (s' : AreaValue) → MeetsAndTurns f lsa s o o' s' → IsSound s → IsSound s'
@@ -232,11 +232,11 @@ update_sound f slices s o o' s' is sound =
     along (record is.mid { direct = [] }) s' is.state (rest is.mid is.mid.links [] is.mid.tick is.mid.next_dd is.mid.sent is.mid.heard mid_sound.links mid_sound)
 
 pub header_sound : (f : Origin) (h : LsaHeader) (s : AreaValue) → IsSound s → IsSound (header_met f h s)
-header_sound f h s sound = by_named (named_by h (copy_of s.database (key_of_header h)))
+header_sound f h s sound = by_named (named_by h (copy_in_database s.database (key_of_header h)))
   where
     by_named : (i : Option Instance) → IsSound (taken_off f i s)
     by_named None = sound
-    by_named (Some i) = changed_sound f (Change.Acknowledges i) s sound
+    by_named (Some i) = changed_sound f (AdjacencyChange.Acknowledges i) s sound
 
 -- ---- copies at MaxAge
 
@@ -279,7 +279,7 @@ copy_sound (Some e) key s sound =
     (relinked s (flooded_links (key_of lsa) (header_of lsa) None s.tick s.links) (flooded_up (key_of lsa) (header_of lsa) None s.tick s.links sound.links) sound)
 
 sent_sound : (key : LsaKey) (s : AreaValue) → IsSound s → IsSound (copy_sent key s)
-sent_sound key s sound = turned_sound (copy_flooded key s) (copy_sound (entry_of s key) key s sound)
+sent_sound key s sound = turned_sound (copy_flooded key s) (copy_sound (database_entry s key) key s sound)
 
 all_sent_sound : (keys : List LsaKey) (s : AreaValue) → IsSound s → IsSound (copies_sent keys s)
 all_sent_sound [] s sound = sound

@@ -3,7 +3,7 @@ use Rattle.std.specs.Prelude.{◌≡◌, ◌&&◌, ◌||◌, Bool, true, false, 
 use Rattle.std.specs.List.{flat_map, list_all}
 use Rattle.ospf_base.specs.declared.ids.LsaKey.{LsaKey}
 use Rattle.ospf_area.specs.Numbers.{is_own}
-use Rattle.ospf_area.specs.State.{AreaValue, LinkValue, entry_of, kept_number}
+use Rattle.ospf_area.specs.State.{AreaValue, LinkValue, database_entry, kept_number}
 use Rattle.ospf_originate.specs.Actions.{unwanted_action, wanted_action}
 use Rattle.ospf_originate.specs.Numbers.{waits}
 use Rattle.ospf_originate.specs.Steps.{action_of, wants}
@@ -26,11 +26,11 @@ is_left (Issue number) = false
 
 -- nothing is due of an LSA that is wanted
 unfoldable pub wanted_left : AreaValue → WantedValue → Bool
-wanted_left s w = is_left (wanted_action w (entry_of s (wanted_key w)) false (waits s.tick s.numbering (wanted_key w)) (kept_number s (wanted_key w)))
+wanted_left s w = is_left (wanted_action w (database_entry s (wanted_key w)) false (waits s.tick s.numbering (wanted_key w)) (kept_number s (wanted_key w)))
 
 -- nothing is due of a key of which none is wanted
 unfoldable pub unwanted_left : AreaValue → LsaKey → Bool
-unwanted_left s key = is_left (unwanted_action (entry_of s key) false (is_own s.router key))
+unwanted_left s key = is_left (unwanted_action (database_entry s key) false (is_own s.router key))
 
 -- nothing is due of a key, unless it is wanted
 unfoldable pub key_left : AreaValue → LsaKey → Bool

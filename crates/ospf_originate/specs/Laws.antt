@@ -17,7 +17,7 @@ use Rattle.ospf_area.specs.Numbers.{counts, greatest_after, is_own}
 use Rattle.ospf_area.specs.Outputs.{OutputsValue, SentValue}
 use Rattle.ospf_area.specs.Standing.{acknowledging}
 use Rattle.ospf_area.specs.State.{AreaValue, LinkValue, kept_number, numbering_of}
-use Rattle.ospf_area.specs.declared.changes.Change.{Change}
+use Rattle.ospf_area.specs.declared.changes.AdjacencyChange.{AdjacencyChange}
 use Rattle.ospf_area.specs.declared.flooding.Origin.{Origin}
 use Rattle.ospf_area.specs.declared.sending.Own.{Own}
 use Rattle.ospf_flood.specs.declared.acknowledgement.Acknowledgement.{Acknowledgement}
@@ -50,13 +50,13 @@ IssuedWaits = (w : WantedValue) (number : ℤ) (s : AreaValue) (o o' : OutputsVa
 -- ---- the own LSAs that end a step
 
 -- an issue is of what is wanted, with the number after the kept one (12.1.6)
-pub record IsNext (w : Option WantedValue) (kept number : ℤ) : Type 0 where
+pub record IsNextIssue (w : Option WantedValue) (kept number : ℤ) : Type 0 where
   pub value : WantedValue
   pub is_wanted : w ≡ Some value
   pub next : number ≡ kept +ℤ pos 1
 
 abbrev pub IssueIsNext : Type 0
-IssueIsNext = (s : AreaValue) (key : LsaKey) (number : ℤ) → action_of s key ≡ Issue number → IsNext (wanted_of (wants s) key) (kept_number s key) number
+IssueIsNext = (s : AreaValue) (key : LsaKey) (number : ℤ) → action_of s key ≡ Issue number → IsNextIssue (wanted_of (wants s) key) (kept_number s key) number
 
 -- it is newer than a copy whose number is not above the kept one (13.1)
 abbrev pub NextIsNewer : Type 0
@@ -87,7 +87,7 @@ pub record LinksStaySetUp : Type 0 where
   pub released : (key : LsaKey) (links : List LinkValue) → AreSetUp links → AreSetUp (released key links)
   pub flooded : (key : LsaKey) (h : LsaHeader) (from : Option Origin) (tick : ℕ) (links : List LinkValue) → AreSetUp links → AreSetUp (flooded_links key h from tick links)
   pub turned : (own : Own) (links : List LinkValue) → AreSetUp links → AreSetUp (turned_links own links)
-  pub changed : (f : Origin) (change : Change) (tick : ℕ) (links : List LinkValue) → AreSetUp links → AreSetUp (changed_at f change tick links)
+  pub changed : (f : Origin) (change : AdjacencyChange) (tick : ℕ) (links : List LinkValue) → AreSetUp links → AreSetUp (changed_at f change tick links)
   pub delayed : (number : ℕ) (h : LsaHeader) (links : List LinkValue) → AreSetUp links → AreSetUp (delayed_at number h links)
   pub undelayed : (links : List LinkValue) → AreSetUp links → AreSetUp (undelayed links)
 

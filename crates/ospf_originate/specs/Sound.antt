@@ -3,18 +3,18 @@ use Rattle.std.specs.Prelude.{◌≡◌, ◌≤ℤ◌, true, Some, is_some}
 use Rattle.ospf_base.specs.declared.ids.LsaKey.{LsaKey}
 use Rattle.ospf_lsdb.specs.Database.{Entry, header_at}
 use Rattle.ospf_area.specs.Numbers.{is_own}
-use Rattle.ospf_area.specs.State.{AreaValue, entry_of, kept_number, numbering_of}
+use Rattle.ospf_area.specs.State.{AreaValue, database_entry, kept_number, numbering_of}
 pub use Rattle.ospf_wanted.specs.SetUp.{IsSetUp, AreApart, max_links, AreSetUp}
 
 -- ---- numbers
 
 -- each key of the router's own that the database has is numbered
 abbrev pub AreNumbered : AreaValue → Type 0
-AreNumbered s = (key : LsaKey) → is_some (entry_of s key) ≡ true → is_own s.router key ≡ true → is_some (numbering_of s.numbering key) ≡ true
+AreNumbered s = (key : LsaKey) → is_some (database_entry s key) ≡ true → is_own s.router key ≡ true → is_some (numbering_of s.numbering key) ≡ true
 
 -- and the number of its copy is at most the kept one: the next one issued is newer (12.1.6)
 abbrev pub AreCounted : AreaValue → Type 0
-AreCounted s = (key : LsaKey) (copy : Entry) → entry_of s key ≡ Some copy → is_own s.router key ≡ true → (header_at copy).number ≤ℤ kept_number s key
+AreCounted s = (key : LsaKey) (copy : Entry) → database_entry s key ≡ Some copy → is_own s.router key ≡ true → (header_at copy).number ≤ℤ kept_number s key
 
 -- no kept number is above the greatest one
 abbrev pub AreBelowGreatest : AreaValue → Type 0

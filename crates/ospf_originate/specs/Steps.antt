@@ -10,7 +10,7 @@ use Rattle.ospf_lsdb.specs.Timers.{KeysRise}
 use Rattle.ospf_area.specs.Numbers.{is_own}
 use Rattle.ospf_area.specs.Outputs.{OutputsValue, SentValue}
 use Rattle.ospf_area.specs.Sending.{and_sends}
-use Rattle.ospf_area.specs.State.{AreaValue, entry_of, kept_number}
+use Rattle.ospf_area.specs.State.{AreaValue, database_entry, kept_number}
 use Rattle.ospf_area.specs.declared.state.Numbering.{Numbering}
 use Rattle.ospf_update.specs.Aging.{Flushes, turn_out, turned_area}
 use Rattle.ospf_update.specs.Meets.{Stores, Unchanged, store_updates}
@@ -18,7 +18,7 @@ use Rattle.ospf_originate.specs.Actions.{IsUsed, own_action}
 use Rattle.ospf_wanted.specs.Made.{lsa_value}
 use Rattle.ospf_originate.specs.Numbers.{waits, issued}
 use Rattle.ospf_wanted.specs.Wanted.{WantedValue, wanted, wanted_of, wanted_key}
-use Rattle.ospf_originate.specs.declared.action.Due.{Due}
+use Rattle.ospf_originate.specs.declared.action.DueAction.{DueAction}
 use Rattle.ospf_originate.specs.declared.action.OwnAction.{OwnAction}
 use Rattle.ospf_originate.specs.declared.action.OwnAction.TheVariants.{Leave, Flush, Issue}
 
@@ -50,7 +50,7 @@ is_heard s key = list_any (λ k. same_key k key) s.heard
 
 -- what becomes of a key (12.4, 13.4)
 unfoldable pub action_of : AreaValue → LsaKey → OwnAction
-action_of s key = own_action (wanted_of (wants s) key) (entry_of s key) (is_heard s key) (is_own s.router key) (waits s.tick s.numbering key) (kept_number s key)
+action_of s key = own_action (wanted_of (wants s) key) (database_entry s key) (is_heard s key) (is_own s.router key) (waits s.tick s.numbering key) (kept_number s key)
 
 -- an issue, and LoadingDone and the next Requests that come of it (10.3, 10.9)
 pub record IssuesAndTurns (w : WantedValue) (number : ℤ) (before : AreaValue) (out out' : OutputsValue) (after : AreaValue) : Type 0 where
@@ -79,21 +79,21 @@ Acts Flush ws key before out out' after = FlushesAndTurns key before out out' af
 Acts (Issue number) ws key before out out' after = IssuesIf (wanted_of ws key) number before out out' after
 
 -- what is due of a key
-abbrev pub due_as : OwnAction → LsaKey → List Due
+abbrev pub due_as : OwnAction → LsaKey → List DueAction
 due_as Leave key = []
 due_as Flush key = record { key = key; action = Flush } ∷ []
 due_as (Issue number) key = record { key = key; action = Issue number } ∷ []
 
 -- what is due is no issue, or one with a number that is used
-abbrev pub HasUsedNumber : Due → Type 0
+abbrev pub HasUsedNumber : DueAction → Type 0
 HasUsedNumber d = IsUsed d.action
 
 -- what is due of keys, in their order
-abbrev pub due_of : (LsaKey → OwnAction) → List LsaKey → List Due
+abbrev pub due_of : (LsaKey → OwnAction) → List LsaKey → List DueAction
 due_of action keys = flat_map (λ key. due_as (action key) key) keys
 
 -- one after the other
-abbrev pub ActsInTurn : List WantedValue → List Due → AreaValue → OutputsValue → OutputsValue → AreaValue → Type 0
+abbrev pub ActsInTurn : List WantedValue → List DueAction → AreaValue → OutputsValue → OutputsValue → AreaValue → Type 0
 ActsInTurn ws [] before out out' after = Unchanged before out out' after
 ActsInTurn ws (d ∷ ds) before out out' after =
     (mid : AreaValue) × (mid_out : OutputsValue) × Acts d.action ws d.key before out mid_out mid × ActsInTurn ws ds mid mid_out out' after
@@ -103,7 +103,7 @@ abbrev pub candidates : List WantedValue → List Numbering → List LsaKey → 
 candidates ws ns heard = map wanted_key ws ++ map (λ n. n.key) ns ++ heard
 
 -- what is due in a state: of keys that rise, which leave out none of which something becomes
-pub record IsDue (s : AreaValue) (due : List Due) : Type 0 where
+pub record IsDue (s : AreaValue) (due : List DueAction) : Type 0 where
   pub keys : List LsaKey
   pub rising : KeysRise keys
   pub whole : (key : LsaKey) → among keys key ≡ false → action_of s key ≡ Leave
@@ -111,7 +111,7 @@ pub record IsDue (s : AreaValue) (due : List Due) : Type 0 where
 
 -- the own LSAs that end a step: exactly those that are due in the state in which they begin, in order of key (12.4)
 pub record OwnLsas (before : AreaValue) (out out' : OutputsValue) (after : AreaValue) : Type 0 where
-  pub due : List Due
+  pub due : List DueAction
   pub is_due : IsDue before due
   pub mid : AreaValue
   pub each : ActsInTurn (wants before) due before out out' mid

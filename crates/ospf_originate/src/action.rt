@@ -5,7 +5,7 @@ ghost use Rattle.ospf_lsa.specs.Value.{IsUnmade};
 ghost use Rattle.ospf_lsdb.specs.Database.{is_fresh};
 ghost use Rattle.ospf_originate.specs.Actions.{makes_room, next_action, is_due, wanted_action, unwanted_action, own_action, IsUsed};
 ghost use Rattle.ospf_wanted.specs.Made.{IsUnmadeIf, Needs, first_number};
-ghost use Rattle.ospf_wanted.specs.Own.{value_of};
+ghost use Rattle.ospf_wanted.specs.Own.{wanted_value};
 
 use ospf_base::{LsaKey, MAX_AGE};
 use ospf_flood::MAX_SEQUENCE_NUMBER;
@@ -27,7 +27,7 @@ pub enum OwnAction {
 
 /// What is due of a key.
 #[derive(Clone, Copy, Debug, PartialEq, Eq)]
-pub struct Due {
+pub struct DueAction {
     pub key: LsaKey,
     pub action: OwnAction,
 }
@@ -49,10 +49,10 @@ pub fn own_action(
     alloc: Global,
 ) -> Result<OwnAction, LsaFault>
     ensures is { IfOk result (λ action. action
-        ≡ own_action (option_map (λ w. value_of w.now) wanted.entry) copy.entry heard own waits
+        ≡ own_action (option_map (λ w. wanted_value w.now) wanted.entry) copy.entry heard own waits
         kept) }
     ensures used { IfOk result IsUsed }
-    ensures fault { IfErr result (IsUnmadeIf (option_map (λ w. value_of w.now) wanted.entry)) }
+    ensures fault { IfErr result (IsUnmadeIf (option_map (λ w. wanted_value w.now) wanted.entry)) }
 {
     match wanted {
         Some(wanted) => wanted_action(wanted, copy, heard, waits, kept, alloc),
@@ -88,9 +88,9 @@ fn wanted_action(
     alloc: Global,
 ) -> Result<OwnAction, LsaFault>
     ensures is { IfOk result (λ action. action
-        ≡ wanted_action (value_of wanted.now) copy.entry heard waits kept) }
+        ≡ wanted_action (wanted_value wanted.now) copy.entry heard waits kept) }
     ensures used { IfOk result IsUsed }
-    ensures fault { IfErr result (λ f. IsUnmade (Needs first_number (value_of wanted.now)) f) }
+    ensures fault { IfErr result (λ f. IsUnmade (Needs first_number (wanted_value wanted.now)) f) }
 {
     if heard {
         return Ok(next_action(copy, kept));
@@ -104,8 +104,8 @@ fn wanted_action(
 // Whether a wanted LSA is due.
 fn is_due(wanted: &OwnLsa, copy: Option<&EntryView<'_>>, alloc: Global) -> Result<bool, LsaFault>
     ensures is { IfOk result (λ due. due
-        ≡ is_due (value_of wanted.now) (option_copied copy.entry)) }
-    ensures fault { IfErr result (λ f. IsUnmade (Needs first_number (value_of wanted.now)) f) }
+        ≡ is_due (wanted_value wanted.now) (option_copied copy.entry)) }
+    ensures fault { IfErr result (λ f. IsUnmade (Needs first_number (wanted_value wanted.now)) f) }
 {
     match copy {
         Some(copy) => {

@@ -15,7 +15,7 @@ ghost use Rattle.ospf_wanted.specs.Wanted.WantedValue.{RouterLsa};
 
 use crate::action::{OwnAction, is_fresh, next_action};
 use crate::numbers::{kept_number, waits};
-use ospf_area::{Area, Link as AreaLink, Numbering, is_own};
+use ospf_area::{Area, AreaLink, Numbering, is_own};
 use ospf_base::{Kind, LsaKey, RouterId};
 use ospf_lsdb::{EntryView, LS_REFRESH_TIME};
 use ospf_wanted::{is_dr_of, says_network, says_router};

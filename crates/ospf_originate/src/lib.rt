@@ -8,7 +8,7 @@ mod numbers;
 mod own;
 mod step;
 
-pub use crate::action::{Due, OwnAction, own_action};
+pub use crate::action::{DueAction, OwnAction, own_action};
 pub use crate::laws::{
     area_stays_sound, issue_is_next, issued_is_kept, issued_waits, next_is_newer, own_stay_short,
     own_stay_sound, parts_stay_sound, starts_sound,

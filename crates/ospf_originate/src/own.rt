@@ -3,20 +3,20 @@
 ghost use Rattle.std.specs.Prelude.{◌≡◌, ◌++◌, [], false, IfOk, OnErr, OnOk, find, map, option_copied, option_map};
 ghost use Rattle.std.specs.BTreeSet.{IsOrdered};
 ghost use Rattle.std.specs.List.{AllByRecursion, list_any};
-ghost use Rattle.ospf_base.specs.Keys.{same_key};
+ghost use Rattle.ospf_base.specs.Keys.{same_key, key_cmp};
 ghost use Rattle.ospf_base.specs.declared.ids.LsaKey.{LsaKey};
 ghost use Rattle.ospf_lsa.specs.Value.{HasAll};
-ghost use Rattle.ospf_lsdb.specs.Moments.{among, key_cmp};
+ghost use Rattle.ospf_lsdb.specs.Moments.{among};
 ghost use Rattle.ospf_lsdb.specs.Timers.{KeysRise};
 ghost use Rattle.ospf_originate.specs.Actions.{IsUsed};
 ghost use Rattle.ospf_wanted.specs.Made.{CanBeMade, CanBeMadeIf, Needs};
 ghost use Rattle.ospf_originate.specs.Idle.{IsIdle};
-ghost use Rattle.ospf_wanted.specs.Own.{value_of};
+ghost use Rattle.ospf_wanted.specs.Own.{wanted_value};
 ghost use Rattle.ospf_originate.specs.Sound.{AreNumbered, IsSound};
 ghost use Rattle.ospf_originate.specs.Steps.{wants, action_of, Acts, ActsInTurn, FlushesAndTurns, HasUsedNumber, IssuesAndTurns, IssuesIf, due_as, due_of, candidates, IsDue, OwnLsas};
 ghost use Rattle.ospf_wanted.specs.Wanted.{wanted_of, wanted_key};
 
-use crate::action::{Due, OwnAction, own_action};
+use crate::action::{DueAction, OwnAction, own_action};
 use crate::idle::is_idle;
 use crate::numbers::{kept_number, waits};
 use crate::step::{issue, want_of_memory};
@@ -58,15 +58,15 @@ fn issue_and_flush(area: &mut Area, out: &mut Outputs, alloc: Global) -> Result<
 
 // What the router wants.
 fn wanted_by(area: &Area, alloc: Global) -> Result<Vec<OwnLsa>, AllocError>
-    ensures { IfOk result (λ v. map value_of v.items ≡ wants area.now) }
+    ensures { IfOk result (λ v. map wanted_value v.items ≡ wants area.now) }
 {
     wanted(area.stub_router, area.router, &area.links, alloc)
 }
 
 // All that is due.
-fn due_now(area: &Area, all: &[OwnLsa], alloc: Global) -> Result<Vec<Due>, AllocError>
+fn due_now(area: &Area, all: &[OwnLsa], alloc: Global) -> Result<Vec<DueAction>, AllocError>
     // These are the LSAs that are wanted, their numbers are kept, and each can be made.
-    requires wants { map value_of all.now ≡ wants area.now }
+    requires wants { map wanted_value all.now ≡ wants area.now }
     requires numbered { AreNumbered area.now }
     requires made { AllByRecursion CanBeMade (wants area.now) }
     // Then just what is due is told, each with a number that is used.
@@ -80,7 +80,7 @@ fn due_now(area: &Area, all: &[OwnLsa], alloc: Global) -> Result<Vec<Due>, Alloc
 
 // The keys of which something may be due, in their order.
 fn due_keys(area: &Area, all: &[OwnLsa], alloc: Global) -> Result<Vec<LsaKey>, AllocError>
-    requires wants { map value_of all.now ≡ wants area.now }
+    requires wants { map wanted_value all.now ≡ wants area.now }
     requires numbered { AreNumbered area.now }
     ensures rising { IfOk result (λ v. KeysRise v.items) }
     ensures whole { IfOk result (λ v. (key : LsaKey) → among v.items key ≡ false →
@@ -100,7 +100,7 @@ fn candidates(
     alloc: Global,
 ) -> Result<Vec<LsaKey>, AllocError>
     ensures { IfOk result (λ v. v.items
-        ≡ candidates (map value_of wanted.now) numbering.now heard.now) }
+        ≡ candidates (map wanted_value wanted.now) numbering.now heard.now) }
 {
     let mut keys = wanted_keys(wanted, alloc)?;
     let numbered = numbered_keys(numbering, alloc)?;
@@ -110,7 +110,7 @@ fn candidates(
 }
 
 fn wanted_keys(wanted: &[OwnLsa], alloc: Global) -> Result<Vec<LsaKey>, AllocError>
-    ensures { IfOk result (λ v. v.items ≡ map (λ w. wanted_key (value_of w)) wanted.now) }
+    ensures { IfOk result (λ v. v.items ≡ map (λ w. wanted_key (wanted_value w)) wanted.now) }
 {
     wanted.iter().map(|w| w.key()).collect(alloc)
 }
@@ -156,8 +156,8 @@ fn due_of(
     all: &[OwnLsa],
     keys: &[LsaKey],
     alloc: Global,
-) -> Result<Vec<Due>, AllocError>
-    requires wants { map value_of all.now ≡ wants area.now }
+) -> Result<Vec<DueAction>, AllocError>
+    requires wants { map wanted_value all.now ≡ wants area.now }
     requires made { AllByRecursion CanBeMade (wants area.now) }
     ensures is { IfOk result (λ v. v.items ≡ due_of (action_of area.now) keys.now) }
     ensures used { IfOk result (λ v. AllByRecursion HasUsedNumber v.items) }
@@ -178,7 +178,7 @@ fn action_of(
     key: &LsaKey,
     alloc: Global,
 ) -> Result<OwnAction, AllocError>
-    requires wants { map value_of all.now ≡ wants area.now }
+    requires wants { map wanted_value all.now ≡ wants area.now }
     requires made { AllByRecursion CanBeMade (wants area.now) }
     ensures is { IfOk result (λ action. action ≡ action_of area.now key.now) }
     ensures used { IfOk result IsUsed }
@@ -197,14 +197,15 @@ fn action_of(
 
 // The wanted LSA of a key.
 fn wanted_of<'a>(all: &'a [OwnLsa], key: &LsaKey) -> Option<&'a OwnLsa>
-    ensures { option_map (λ w. value_of w.now) result ≡ wanted_of (map value_of all.now) key.now }
+    ensures { option_map (λ w. wanted_value w.now) result
+        ≡ wanted_of (map wanted_value all.now) key.now }
 {
     first_of(all, key)
 }
 
 // The first wanted LSA of a key.
 fn first_of<'a>(all: &'a [OwnLsa], key: &LsaKey) -> Option<&'a OwnLsa>
-    ensures { option_copied result ≡ find (λ w. same_key (wanted_key (value_of w)) key.now)
+    ensures { option_copied result ≡ find (λ w. same_key (wanted_key (wanted_value w)) key.now)
         all.now }
 {
     all.iter().find(|w| w.key().is_same(key))
@@ -218,13 +219,13 @@ fn is_heard(heard: &[LsaKey], key: &LsaKey) -> bool
 }
 
 // Puts what is due of a key at the end.
-fn push_due(out: &mut Vec<Due>, key: LsaKey, action: OwnAction) -> Result<(), AllocError>
+fn push_due(out: &mut Vec<DueAction>, key: LsaKey, action: OwnAction) -> Result<(), AllocError>
     ensures { OnOk result (out.new.items ≡ out.old.items ++ due_as action key) }
 {
     match action {
         OwnAction::Leave => {}
-        OwnAction::Flush => out.push(Due { key, action })?,
-        OwnAction::Issue(_) => out.push(Due { key, action })?,
+        OwnAction::Flush => out.push(DueAction { key, action })?,
+        OwnAction::Issue(_) => out.push(DueAction { key, action })?,
     }
     Ok(())
 }
@@ -233,13 +234,13 @@ fn push_due(out: &mut Vec<Due>, key: LsaKey, action: OwnAction) -> Result<(), Al
 fn act_in_turn(
     area: &mut Area,
     all: &[OwnLsa],
-    due: &[Due],
+    due: &[DueAction],
     out: &mut Outputs,
     alloc: Global,
 ) -> Result<(), AllocError>
-    requires made { AllByRecursion CanBeMade (map value_of all.now) }
+    requires made { AllByRecursion CanBeMade (map wanted_value all.now) }
     requires used { AllByRecursion HasUsedNumber due.now }
-    ensures { OnOk result (ActsInTurn (map value_of all.now) due.now area.old out.old out.new
+    ensures { OnOk result (ActsInTurn (map wanted_value all.now) due.now area.old out.old out.new
         area.new) }
 {
     for d in due {
@@ -252,13 +253,14 @@ fn act_in_turn(
 fn act(
     area: &mut Area,
     all: &[OwnLsa],
-    due: &Due,
+    due: &DueAction,
     out: &mut Outputs,
     alloc: Global,
 ) -> Result<(), AllocError>
-    requires made { AllByRecursion CanBeMade (map value_of all.now) }
+    requires made { AllByRecursion CanBeMade (map wanted_value all.now) }
     requires used { IsUsed due.now.action }
-    ensures { OnOk result (Acts due.now.action (map value_of all.now) due.now.key area.old out.old
+    ensures { OnOk result (Acts due.now.action (map wanted_value all.now) due.now.key area.old
+        out.old
         out.new area.new) }
 {
     match due.action {
@@ -290,8 +292,9 @@ fn issue_key(
     out: &mut Outputs,
     alloc: Global,
 ) -> Result<(), AllocError>
-    requires { CanBeMadeIf number (option_map (λ w. value_of w.now) wanted) }
-    ensures { OnOk result (IssuesIf (option_map (λ w. value_of w.now) wanted.entry) number area.old
+    requires { CanBeMadeIf number (option_map (λ w. wanted_value w.now) wanted) }
+    ensures { OnOk result (IssuesIf (option_map (λ w. wanted_value w.now) wanted.entry) number
+        area.old
         out.old out.new area.new) }
 {
     match wanted {
@@ -308,8 +311,8 @@ fn issue_one(
     out: &mut Outputs,
     alloc: Global,
 ) -> Result<(), AllocError>
-    requires { HasAll (Needs number (value_of wanted.now)) }
-    ensures { OnOk result (IssuesAndTurns (value_of wanted.now) number area.old out.old out.new
+    requires { HasAll (Needs number (wanted_value wanted.now)) }
+    ensures { OnOk result (IssuesAndTurns (wanted_value wanted.now) number area.old out.old out.new
         area.new) }
 {
     issue(area, wanted, number, out, alloc)?;

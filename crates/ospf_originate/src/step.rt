@@ -5,7 +5,7 @@ ghost use Rattle.ospf_lsa.specs.Lsa.{IsLsa};
 ghost use Rattle.ospf_lsa.specs.Value.{HasAll, IsMade};
 ghost use Rattle.ospf_wanted.specs.Made.{Needs, lsa_value};
 ghost use Rattle.ospf_originate.specs.Numbers.{issued};
-ghost use Rattle.ospf_wanted.specs.Own.{value_of};
+ghost use Rattle.ospf_wanted.specs.Own.{wanted_value};
 ghost use Rattle.ospf_originate.specs.Steps.{Issues};
 
 use crate::numbers::note_issue;
@@ -27,8 +27,9 @@ pub fn issue(
     out: &mut Outputs,
     alloc: Global,
 ) -> Result<(), AllocError>
-    requires { HasAll (Needs number (value_of wanted.now)) }
-    ensures { OnOk result (Issues (value_of wanted.now) number area.old out.old out.new area.new) }
+    requires { HasAll (Needs number (wanted_value wanted.now)) }
+    ensures { OnOk result (Issues (wanted_value wanted.now) number area.old out.old out.new
+        area.new) }
 {
     let key = wanted.key();
     let lsa = made(wanted, number, alloc)?;
@@ -48,8 +49,8 @@ pub(crate) fn want_of_memory(fault: LsaFault) -> AllocError
 
 // The LSA of a wanted one, with a number.
 fn made(wanted: &OwnLsa, number: i32, alloc: Global) -> Result<Lsa, AllocError>
-    requires { HasAll (Needs number (value_of wanted.now)) }
-    ensures { IfOk result (λ lsa. IsMade (lsa_value number (value_of wanted.now)) lsa) }
+    requires { HasAll (Needs number (wanted_value wanted.now)) }
+    ensures { IfOk result (λ lsa. IsMade (lsa_value number (wanted_value wanted.now)) lsa) }
 {
     match wanted.make(number, alloc) {
         Ok(lsa) => Ok(lsa),

@@ -11,7 +11,7 @@ use Rattle.ospf_packet.specs.Headers.{AgedFits}
 use Rattle.ospf_packet.specs.Meaning.{head_bytes}
 use Rattle.ospf_lsa.specs.Attached.{router_bytes, RouterFits}
 use Rattle.ospf_packet.proofs.Routers.{router_at}
-use Rattle.ospf_packet.specs.Requests.{entry_at, entry_bytes, EntryFits}
+use Rattle.ospf_packet.specs.Requests.{request_entry_at, request_entry_bytes, RequestEntryFits}
 use Rattle.ospf_packet.specs.Spelling.{HeaderEntry, header_entry_bytes, HeaderEntryFits}
 
 -- ---- what holds of so many cells, and bytes behind them, holds of bytes that are so many
@@ -99,16 +99,16 @@ router_again bytes fits long =
 pub router_fits : (bytes : List ℕ) → AreBytes bytes → 4 ≤ length bytes → RouterFits (router_at bytes)
 router_fits bytes fit long = let f0 = fit 0 in let f1 = fit 1 in let f2 = fit 2 in let f3 = fit 3 in omega arith
 
-pub entry_again : (bytes : List ℕ) → AreBytes bytes → 12 ≤ length bytes → entry_bytes (entry_at bytes) ≡ take 12 bytes
+pub entry_again : (bytes : List ℕ) → AreBytes bytes → 12 ≤ length bytes → request_entry_bytes (request_entry_at bytes) ≡ take 12 bytes
 entry_again bytes fits long =
-    twelve_cells (λ (x : List ℕ). AreBytes x → entry_bytes (entry_at x) ≡ take 12 x) bytes long
+    twelve_cells (λ (x : List ℕ). AreBytes x → request_entry_bytes (request_entry_at x) ≡ take 12 x) bytes long
     (λ a b c d e f g h i j k l rest len fit.
     let kind = four_bytes a b c d [] (fit 0) (fit 1) (fit 2) (fit 3) in
     let id = four_bytes e f g h [] (fit 4) (fit 5) (fit 6) (fit 7) in
     let router = four_bytes i j k l [] (fit 8) (fit 9) (fit 10) (fit 11) in
     cc) fits
 
-pub entry_fits : (bytes : List ℕ) → AreBytes bytes → 12 ≤ length bytes → EntryFits (entry_at bytes)
+pub entry_fits : (bytes : List ℕ) → AreBytes bytes → 12 ≤ length bytes → RequestEntryFits (request_entry_at bytes)
 entry_fits bytes fit long =
     let f0 = fit 0 in let f1 = fit 1 in let f2 = fit 2 in let f3 = fit 3 in let f4 = fit 4 in let f5 = fit 5 in
     let f6 = fit 6 in let f7 = fit 7 in let f8 = fit 8 in let f9 = fit 9 in let f10 = fit 10 in let f11 = fit 11 in

@@ -4,7 +4,7 @@ use Rattle.std.specs.List.{flat_map, AllByRecursion}
 use Rattle.std.proofs.lemmas.List.{drop_at, take_more, flat_map_more, length-append, length-drop, take-append-drop, get_or-drop}
 use Rattle.std.proofs.lemmas.List.Folds.{length-flat_map-take}
 use Rattle.ospf_base.specs.Bytes.{AreBytes}
-use Rattle.ospf_packet.specs.Entries.{entries_in}
+use Rattle.ospf_packet.specs.Entries.{packet_entries_in}
 use Rattle.ospf_lsa.proofs.BuildLemmas.{all_push}
 
 pub AreBytes-drop : (n : ℕ) (bytes : List ℕ) → AreBytes bytes → AreBytes (drop n bytes)
@@ -12,7 +12,7 @@ AreBytes-drop n bytes h i = rw get_or-drop (h (n + i))
 
 -- the entry at the front, and those behind it
 pub entries_step : {X : Type 0} (size : ℕ) (read : List ℕ → X) (n : ℕ) (bytes : List ℕ) → 0 < n
-    → entries_in size read n bytes ≡ read bytes ∷ entries_in size read (n - 1) (drop size bytes)
+    → packet_entries_in size read n bytes ≡ read bytes ∷ packet_entries_in size read (n - 1) (drop size bytes)
 entries_step size read zero bytes pos = absurd (omega arith)
 entries_step size read (suc n) bytes pos = let e : suc n - 1 ≡ n = omega arith in rw e refl
 
@@ -22,12 +22,12 @@ cons_same a b xs ys p q = cc
 -- entries that were written are read
 pub entries_back : {X : Type 0} (size : ℕ) (read : List ℕ → X) (spell : X → List ℕ) (Fits : X → Type 0)
     → ((x : X) → length (spell x) ≡ size) → ((x : X) (rest : List ℕ) → Fits x → read (spell x ++ rest) ≡ x)
-    → (xs : List X) → AllByRecursion Fits xs → entries_in size read (length xs) (flat_map spell xs) ≡ xs
+    → (xs : List X) → AllByRecursion Fits xs → packet_entries_in size read (length xs) (flat_map spell xs) ≡ xs
 entries_back size read spell Fits sized back [] fits = refl
 entries_back size read spell Fits sized back (x ∷ xs) fits =
     let rest = flat_map spell xs in
     let behind = drop_at (spell x) rest size (sized x) in
-    cons_same _ _ _ _ (back x rest fits.0) (ap (entries_in size read (length xs)) behind ∙ entries_back size read spell Fits sized back xs fits.1)
+    cons_same _ _ _ _ (back x rest fits.0) (ap (packet_entries_in size read (length xs)) behind ∙ entries_back size read spell Fits sized back xs fits.1)
 
 pub length_entries : {X : Type 0} (size : ℕ) (spell : X → List ℕ) → ((x : X) → length (spell x) ≡ size)
     → (xs : List X) → length (flat_map spell xs) ≡ length xs * size
@@ -66,18 +66,18 @@ one_more n size = omega arith
 
 pub entries_again : {X : Type 0} (size : ℕ) (read : List ℕ → X) (spell : X → List ℕ)
     → ((bytes : List ℕ) → AreBytes bytes → size ≤ length bytes → spell (read bytes) ≡ take size bytes)
-    → (n : ℕ) (bytes : List ℕ) → AreBytes bytes → length bytes ≡ n * size → flat_map spell (entries_in size read n bytes) ≡ bytes
+    → (n : ℕ) (bytes : List ℕ) → AreBytes bytes → length bytes ≡ n * size → flat_map spell (packet_entries_in size read n bytes) ≡ bytes
 entries_again size read spell again zero bytes fits len = no_bytes bytes (omega arith)
 entries_again size read spell again (suc n) bytes fits len =
     let more = one_more n size in
     let rest = entries_again size read spell again n (drop size bytes) (AreBytes-drop size bytes fits) (omega (arith, length-drop size bytes)) in
-    ap (λ (t : List ℕ). t ++ flat_map spell (entries_in size read n (drop size bytes))) (again bytes fits (omega arith))
+    ap (λ (t : List ℕ). t ++ flat_map spell (packet_entries_in size read n (drop size bytes))) (again bytes fits (omega arith))
     ∙ ap (λ (t : List ℕ). take size bytes ++ t) rest
     ∙ take-append-drop size bytes
 
 pub fits_again : {X : Type 0} (size : ℕ) (read : List ℕ → X) (Fits : X → Type 0)
     → ((bytes : List ℕ) → AreBytes bytes → size ≤ length bytes → Fits (read bytes))
-    → (n : ℕ) (bytes : List ℕ) → AreBytes bytes → length bytes ≡ n * size → AllByRecursion Fits (entries_in size read n bytes)
+    → (n : ℕ) (bytes : List ℕ) → AreBytes bytes → length bytes ≡ n * size → AllByRecursion Fits (packet_entries_in size read n bytes)
 fits_again size read Fits fit zero bytes fits len = tt
 fits_again size read Fits fit (suc n) bytes fits len =
     let more = one_more n size in (

@@ -11,7 +11,7 @@ use Rattle.ospf_packet.specs.Fields.{hello_at, hello_bytes, HelloFits, descripti
 use Rattle.ospf_packet.specs.Spelling.{HeaderEntry, header_entry_bytes, HeaderEntryFits}
 use Rattle.ospf_lsa.specs.Attached.{router_bytes, RouterFits}
 use Rattle.ospf_packet.proofs.Routers.{router_at}
-use Rattle.ospf_packet.specs.Requests.{entry_at, entry_bytes, EntryFits}
+use Rattle.ospf_packet.specs.Requests.{request_entry_at, request_entry_bytes, RequestEntryFits}
 use Rattle.ospf_packet.specs.declared.body.Hello.{Hello}
 use Rattle.ospf_packet.specs.declared.body.Description.{Description}
 use Rattle.ospf_packet.specs.declared.entry.RequestEntry.{RequestEntry}
@@ -41,9 +41,9 @@ router_back r rest fits =
     let number : number_at 0 4 (router_bytes r ++ rest) ≡ r.0 = omega arith in
     rw number refl
 
-pub entry_back : (e : RequestEntry) (rest : List ℕ) → EntryFits e → entry_at (entry_bytes e ++ rest) ≡ e
+pub entry_back : (e : RequestEntry) (rest : List ℕ) → RequestEntryFits e → request_entry_at (request_entry_bytes e ++ rest) ≡ e
 entry_back e rest fits =
-    let bytes = entry_bytes e ++ rest in
+    let bytes = request_entry_bytes e ++ rest in
     let f1 = fits.kind in let f2 = fits.id in let f3 = fits.router in
     let kind : number_at 0 4 bytes ≡ e.kind = omega arith in
     let id : number_at 4 4 bytes ≡ e.id = omega arith in

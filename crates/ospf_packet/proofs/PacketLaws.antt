@@ -7,7 +7,7 @@ use Rattle.ospf_base.specs.Bytes.{number_at}
 use Rattle.ospf_base.specs.Constants.{largest_packet, lsa_header, packet_header}
 use Rattle.ospf_base.specs.Sums.{packet_checksum}
 use Rattle.ospf_packet.specs.Fields.{description_fields, hello_fields}
-use Rattle.ospf_packet.specs.Packet.{IsBody, IsFreeOf, IsPacket, meaning_of, type_of, body_of}
+use Rattle.ospf_packet.specs.Packet.{IsBody, IsPacketFreeOf, IsPacket, meaning_of, packet_type, body_of}
 use Rattle.ospf_packet.specs.PacketOf.{are_slices, implies, is_body, is_first_slice, is_packet, packet_of}
 use Rattle.ospf_packet.specs.Requests.{request_size}
 use Rattle.ospf_packet.specs.Slices.{AreSlices, IsFirstSlice, lsa_length}
@@ -65,8 +65,8 @@ body_tests kind body =
       back = λ is. all.back (is.hello_is, (is.description_is, (is.request_is, (is.update_is, is.acknowledgment_is))));
     }
 
-all_of : (packet : List ℕ) → IsFreeOf fault.Short packet → IsFreeOf fault.Version packet → IsFreeOf fault.Kind packet → IsFreeOf fault.Length packet
-    → IsFreeOf fault.Sum packet → IsFreeOf fault.Auth packet → IsFreeOf fault.Body packet → IsFreeOf fault.TooLong packet → IsPacket packet
+all_of : (packet : List ℕ) → IsPacketFreeOf fault.Short packet → IsPacketFreeOf fault.Version packet → IsPacketFreeOf fault.Kind packet → IsPacketFreeOf fault.Length packet
+    → IsPacketFreeOf fault.Sum packet → IsPacketFreeOf fault.Auth packet → IsPacketFreeOf fault.Body packet → IsPacketFreeOf fault.TooLong packet → IsPacket packet
 all_of packet a b c d e f g h fault.Short = a
 all_of packet a b c d e f g h fault.Version = b
 all_of packet a b c d e f g h fault.Kind = c
@@ -79,7 +79,7 @@ all_of packet a b c d e f g h fault.TooLong = h
 packet_tests : (packet : List ℕ) → Tests (is_packet packet) (IsPacket packet)
 unfolding is_packet
 packet_tests packet =
-    let kind = type_of packet in
+    let kind = packet_type packet in
     let all =
     and_tests _ _ _ _ (le_tests packet_header (length packet)) (and_tests _ _ _ _ (eq_tests (slice_index packet 0) 2)
     (and_tests _ _ _ _ (and_tests _ _ _ _ (le_tests 1 kind) (le_tests kind 5))

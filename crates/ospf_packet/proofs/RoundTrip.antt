@@ -8,16 +8,16 @@ use Rattle.ospf_base.specs.declared.ids.RouterId.{RouterId}
 use Rattle.ospf_lsa.specs.declared.header.LsaHeader.{LsaHeader}
 use Rattle.ospf_packet.specs.Fields.{description_bytes, DescriptionFits}
 use Rattle.ospf_packet.specs.Headers.{aged_bytes, headers_in}
-use Rattle.ospf_packet.specs.Meaning.{BodyMeaning, hello, description, request, update, acknowledgment, Meaning, body_type, body_bytes, head_bytes, bytes_with_sum, packet_bytes, BodyFits, MeaningFits}
+use Rattle.ospf_packet.specs.Meaning.{BodyMeaning, hello, description, request, update, acknowledgment, Meaning, packet_body_type, packet_body_bytes, head_bytes, bytes_with_sum, packet_bytes, PacketBodyFits, MeaningFits}
 use Rattle.ospf_lsa.specs.Attached.{router_bytes, routers_in, RouterFits}
 use Rattle.ospf_packet.proofs.Routers.{router_at, routers_entries}
-use Rattle.ospf_packet.specs.Packet.{IsBody, IsPacket, body_at, meaning_of, type_of}
+use Rattle.ospf_packet.specs.Packet.{IsBody, IsPacket, body_at, meaning_of, packet_type}
 use Rattle.ospf_packet.specs.PacketOf.{packet_of}
 use Rattle.ospf_packet.proofs.PacketLaws.{packet_of-is}
-use Rattle.ospf_packet.specs.Requests.{entry_at, entry_bytes, EntryFits, requests_in}
+use Rattle.ospf_packet.specs.Requests.{request_entry_at, request_entry_bytes, RequestEntryFits, requests_in}
 use Rattle.ospf_packet.specs.Slices.{IsSlice, lsas_bytes, AreSlices, slices_in}
 use Rattle.ospf_packet.proofs.SliceLaws.{slices_back}
-use Rattle.ospf_packet.specs.Spelling.{SpellHeaders, SpellBody, Spells}
+use Rattle.ospf_packet.specs.Spelling.{SpellHeaders, SpellBody, SpellsPacket}
 use Rattle.ospf_packet.specs.declared.body.Hello.{Hello}
 use Rattle.ospf_packet.specs.declared.body.Description.{Description}
 use Rattle.ospf_packet.specs.declared.fault.PacketFault.TheVariants as fault
@@ -38,7 +38,7 @@ slices_long [] each = omega arith
 slices_long (lsa ∷ lsas) each = omega (arith, slices_long lsas each.1, each.0.long, length-append lsa (lsas_bytes lsas))
 
 -- a body is as long as what is written of it
-pub body_length_is : (b : BodyMeaning) (bytes : List ℕ) → SpellBody b bytes → length bytes ≡ length (body_bytes b)
+pub body_length_is : (b : BodyMeaning) (bytes : List ℕ) → SpellBody b bytes → length bytes ≡ length (packet_body_bytes b)
 body_length_is (hello f ns) bytes s = ap length s
 body_length_is (description f hs) bytes s =
     let listed = spelled_length hs s.listed s.headers_spelled in
@@ -95,8 +95,8 @@ only_acknowledgment body whole = record {
 
 -- bytes that are read as this body of its type
 record Reads (b : BodyMeaning) (bytes : List ℕ) : Type 0 where
-  is : IsBody (body_type b) bytes
-  means : body_at (body_type b) bytes ≡ b
+  is : IsBody (packet_body_type b) bytes
+  means : body_at (packet_body_type b) bytes ≡ b
 
 description_reads : (f : Description) (hs : List LsaHeader) (fields : DescriptionFits f) (listed : List ℕ) → SpellHeaders hs listed
     → Reads (description f hs) (description_bytes f ++ listed)
@@ -111,27 +111,27 @@ description_reads f hs fields listed s =
     }
 
 -- bytes that spell a body are one of its type, and are read as it
-body_back : (b : BodyMeaning) (bytes : List ℕ) → BodyFits b → 24 + length (body_bytes b) ≤ 16384 → SpellBody b bytes → Reads b bytes
+body_back : (b : BodyMeaning) (bytes : List ℕ) → PacketBodyFits b → 24 + length (packet_body_bytes b) ≤ 16384 → SpellBody b bytes → Reads b bytes
 body_back (hello f ns) bytes fits short s =
     let len = hello_length f ns in
     let four = length_entries 4 router_bytes (λ r. refl) ns in
-    let listed : routers_in (drop 20 (body_bytes (hello f ns))) ≡ ns = routers_entries (length ns) (flat_map router_bytes ns) four ∙ entries_back 4 router_at router_bytes RouterFits (λ r. refl) router_back ns fits.1 in
+    let listed : routers_in (drop 20 (packet_body_bytes (hello f ns))) ≡ ns = routers_entries (length ns) (flat_map router_bytes ns) four ∙ entries_back 4 router_at router_bytes RouterFits (λ r. refl) router_back ns fits.1 in
     subst (λ (b : List ℕ). Reads (hello f ns) b) (sym s) (record {
-      is = only_hello (body_bytes (hello f ns)) (omega arith) (omega arith);
+      is = only_hello (packet_body_bytes (hello f ns)) (omega arith) (omega arith);
       means = hello_same _ _ _ _ (hello_back f (flat_map router_bytes ns) fits.0) listed;
     })
 body_back (description f hs) bytes fits short s =
     subst (λ (b : List ℕ). Reads (description f hs) b) (sym s.spelled) (description_reads f hs fits.0 s.listed s.headers_spelled)
 body_back (request es) bytes fits short s =
     let len = request_length es in
-    let count : length (body_bytes (request es)) / 12 ≡ length es = omega arith in
-    let listed = ap (λ (n : ℕ). requests_in n (body_bytes (request es))) count ∙ entries_back 12 entry_at entry_bytes EntryFits (λ e. refl) entry_back es fits in
-    subst (λ (b : List ℕ). Reads (request es) b) (sym s) (record { is = only_request (body_bytes (request es)) (omega arith); means = ap request listed })
+    let count : length (packet_body_bytes (request es)) / 12 ≡ length es = omega arith in
+    let listed = ap (λ (n : ℕ). requests_in n (packet_body_bytes (request es))) count ∙ entries_back 12 request_entry_at request_entry_bytes RequestEntryFits (λ e. refl) entry_back es fits in
+    subst (λ (b : List ℕ). Reads (request es) b) (sym s) (record { is = only_request (packet_body_bytes (request es)) (omega arith); means = ap request listed })
 body_back (update lsas) bytes fits short s =
     let few = slices_long lsas fits in
-    let count : number_at 0 4 (body_bytes (update lsas)) ≡ length lsas = omega arith in
+    let count : number_at 0 4 (packet_body_bytes (update lsas)) ≡ length lsas = omega arith in
     subst (λ (b : List ℕ). Reads (update lsas) b) (sym s) (record {
-      is = only_update (body_bytes (update lsas)) (omega arith) (record { slices = lsas; counted = sym count; each = fits; spelled = refl });
+      is = only_update (packet_body_bytes (update lsas)) (omega arith) (record { slices = lsas; counted = sym count; each = fits; spelled = refl });
       means = ap update (ap (λ (n : ℕ). slices_in n (lsas_bytes lsas)) count ∙ slices_back lsas fits);
     })
 body_back (acknowledgment hs) bytes fits short s =
@@ -140,7 +140,7 @@ body_back (acknowledgment hs) bytes fits short s =
     let headers = ap (λ (n : ℕ). headers_in n bytes) count ∙ headers_back hs bytes s in
     record { is = only_acknowledgment bytes (omega arith); means = ap acknowledgment headers }
 
-type_known : (b : BodyMeaning) → (1 ≤ body_type b) × (body_type b ≤ 5)
+type_known : (b : BodyMeaning) → (1 ≤ packet_body_type b) × (packet_body_type b ≤ 5)
 type_known (hello f ns) = (omega arith, omega arith)
 type_known (description f hs) = (omega arith, omega arith)
 type_known (request es) = (omega arith, omega arith)
@@ -167,11 +167,11 @@ number_in_front at (suc w) n bytes within =
     let there = number_in_front (suc at) w n bytes (omega arith) in
     rw (here, there) refl
 
-module _ (m : Meaning) (packet : List ℕ) (fits : MeaningFits m) (s : Spells m packet) where
+module _ (m : Meaning) (packet : List ℕ) (fits : MeaningFits m) (s : SpellsPacket m packet) where
   abbrev head : List ℕ
-  head = head_bytes (body_type m.body) (length packet) m.router m.area ++ number_bytes 2 (packet_checksum packet) ++ (0 ∷ 0 ∷ [])
+  head = head_bytes (packet_body_type m.body) (length packet) m.router m.area ++ number_bytes 2 (packet_checksum packet) ++ (0 ∷ 0 ∷ [])
 
-  same_length : length packet ≡ 24 + length (body_bytes m.body)
+  same_length : length packet ≡ 24 + length (packet_body_bytes m.body)
   same_length =
       let l = s.long in
       omega (arith, body_length_is m.body (drop 24 packet) s.body, length-drop 24 packet)
@@ -185,7 +185,7 @@ module _ (m : Meaning) (packet : List ℕ) (fits : MeaningFits m) (s : Spells m 
   body : Reads m.body (drop 24 packet)
   body = body_back m.body (drop 24 packet) fits.body fits.short s.body
 
-  kind : type_of packet ≡ body_type m.body
+  kind : packet_type packet ≡ packet_body_type m.body
   kind = byte_in_head 1 (omega arith)
 
   is_packet : IsPacket packet
@@ -205,7 +205,7 @@ module _ (m : Meaning) (packet : List ℕ) (fits : MeaningFits m) (s : Spells m 
       let a = fits.area in
       let router : number_at 4 4 head ≡ m.router.0 = omega arith in
       let area : number_at 8 4 head ≡ m.area.0 = omega arith in
-      meaning_same (number_at 4 4 packet) m.router.0 (number_at 8 4 packet) m.area.0 (body_at (type_of packet) (drop 24 packet)) m.body
+      meaning_same (number_at 4 4 packet) m.router.0 (number_at 8 4 packet) m.area.0 (body_at (packet_type packet) (drop 24 packet)) m.body
       (in_head 4 4 (omega arith) ∙ router) (in_head 8 4 (omega arith) ∙ area) (ap (λ (t : ℕ). body_at t (drop 24 packet)) kind ∙ body.means)
 
   pub spelled_is_read : packet_of packet ≡ Some m
@@ -213,17 +213,17 @@ module _ (m : Meaning) (packet : List ℕ) (fits : MeaningFits m) (s : Spells m 
 
 -- ---- what was written
 
-body_spelled : (b : BodyMeaning) → BodyFits b → SpellBody b (body_bytes b)
+body_spelled : (b : BodyMeaning) → PacketBodyFits b → SpellBody b (packet_body_bytes b)
 body_spelled (hello f ns) fits = refl
 body_spelled (description f hs) fits = record { listed = flat_map aged_bytes hs; headers_spelled = aged_spelled hs fits.1; spelled = refl }
 body_spelled (request es) fits = refl
 body_spelled (update lsas) fits = refl
 body_spelled (acknowledgment hs) fits = aged_spelled hs fits
 
-written_is_spelled : (m : Meaning) → MeaningFits m → Spells m (packet_bytes m)
+written_is_spelled : (m : Meaning) → MeaningFits m → SpellsPacket m (packet_bytes m)
 written_is_spelled m fits = record {
   long = omega arith;
-  head = ap (λ (n : ℕ). head_bytes (body_type m.body) n m.router m.area ++ number_bytes 2 (packet_checksum (bytes_with_sum m 0)) ++ (0 ∷ 0 ∷ [])) (omega arith);
+  head = ap (λ (n : ℕ). head_bytes (packet_body_type m.body) n m.router m.area ++ number_bytes 2 (packet_checksum (bytes_with_sum m 0)) ++ (0 ∷ 0 ∷ [])) (omega arith);
   body = body_spelled m.body fits.body;
 }
 

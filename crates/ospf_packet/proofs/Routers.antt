@@ -3,12 +3,12 @@ use Rattle.std.proofs.Common.{◌≡◌, ℕ, zero, suc, ◌*◌, List, [], ◌�
 use Rattle.ospf_base.specs.Bytes.{number_at}
 use Rattle.ospf_base.specs.declared.ids.RouterId.{RouterId}
 use Rattle.ospf_lsa.specs.Attached.{routers_in}
-use Rattle.ospf_packet.specs.Entries.{entries_in}
+use Rattle.ospf_packet.specs.Entries.{packet_entries_in}
 
 abbrev pub router_at : List ℕ → RouterId
 router_at bytes = record { 0 = number_at 0 4 bytes }
 
-pub routers_entries : (n : ℕ) (bytes : List ℕ) → length bytes ≡ n * 4 → routers_in bytes ≡ entries_in 4 router_at n bytes
+pub routers_entries : (n : ℕ) (bytes : List ℕ) → length bytes ≡ n * 4 → routers_in bytes ≡ packet_entries_in 4 router_at n bytes
 routers_entries zero [] len = refl
 routers_entries zero (a ∷ rest) len = absurd (omega arith)
 routers_entries (suc n) [] len = absurd (omega arith)

@@ -3,7 +3,7 @@ use Rattle.std.proofs.Common.{◌≡◌, ℕ, ◌+◌, ◌-◌, ◌≤◌, List,
 use Rattle.std.specs.Prelude.{slice_set}
 use Rattle.std.proofs.lemmas.List.{take_at, drop_at, take-append-drop, length-take, length-drop, set-append_right}
 use Rattle.ospf_base.specs.Sums.{packet_checksum}
-use Rattle.ospf_packet.specs.Meaning.{Meaning, body_type, body_bytes, head_bytes, no_authentication, bytes_with_sum, packet_bytes, with_packet_sum}
+use Rattle.ospf_packet.specs.Meaning.{Meaning, packet_body_type, packet_body_bytes, head_bytes, no_authentication, bytes_with_sum, packet_bytes, with_packet_sum}
 use Rattle.ospf_packet.proofs.Cells.{sixteen_cells}
 
 -- two bytes are set in a packet
@@ -34,13 +34,13 @@ set_sum_behind bytes start high low long =
 
 -- a header without its checksum and a body are the packet with zeros for its checksum
 pub unsealed : (m : Meaning) (kind size : ℕ) (before headed whole : List ℕ)
-    → headed ≡ before ++ (head_bytes kind size m.router m.area ++ (0 ∷ 0 ∷ no_authentication)) → whole ≡ headed ++ body_bytes m.body
-    → kind ≡ body_type m.body → size ≡ 24 + length (body_bytes m.body) → whole ≡ before ++ bytes_with_sum m 0
+    → headed ≡ before ++ (head_bytes kind size m.router m.area ++ (0 ∷ 0 ∷ no_authentication)) → whole ≡ headed ++ packet_body_bytes m.body
+    → kind ≡ packet_body_type m.body → size ≡ 24 + length (packet_body_bytes m.body) → whole ≡ before ++ bytes_with_sum m 0
 unsealed m kind size before headed whole head_is body_is kind_is size_is =
-    body_is ∙ ap (λ (x : List ℕ). x ++ body_bytes m.body) head_is
-    ∙ append_assoc before (head_bytes kind size m.router m.area ++ (0 ∷ 0 ∷ no_authentication)) (body_bytes m.body)
-    ∙ ap (λ k. before ++ ((head_bytes k size m.router m.area ++ (0 ∷ 0 ∷ no_authentication)) ++ body_bytes m.body)) kind_is
-    ∙ ap (λ n. before ++ ((head_bytes (body_type m.body) n m.router m.area ++ (0 ∷ 0 ∷ no_authentication)) ++ body_bytes m.body)) size_is
+    body_is ∙ ap (λ (x : List ℕ). x ++ packet_body_bytes m.body) head_is
+    ∙ append_assoc before (head_bytes kind size m.router m.area ++ (0 ∷ 0 ∷ no_authentication)) (packet_body_bytes m.body)
+    ∙ ap (λ k. before ++ ((head_bytes k size m.router m.area ++ (0 ∷ 0 ∷ no_authentication)) ++ packet_body_bytes m.body)) kind_is
+    ∙ ap (λ n. before ++ ((head_bytes (packet_body_type m.body) n m.router m.area ++ (0 ∷ 0 ∷ no_authentication)) ++ packet_body_bytes m.body)) size_is
 
 -- a packet that was written with zeros for its checksum, and then got it
 pub sealed_behind : (m : Meaning) (before bytes : List ℕ) (start : ℕ) → length before ≡ start → bytes ≡ before ++ bytes_with_sum m 0

@@ -8,31 +8,31 @@ use Rattle.ospf_base.specs.Sums.{packet_checksum}
 use Rattle.ospf_base.specs.declared.ids.RouterId.{RouterId}
 use Rattle.ospf_lsa.specs.Header.{header_of}
 use Rattle.ospf_lsa.specs.declared.header.LsaHeader.{LsaHeader}
-use Rattle.ospf_packet.specs.Entries.{entries_in}
+use Rattle.ospf_packet.specs.Entries.{packet_entries_in}
 use Rattle.ospf_packet.specs.Fields.{hello_at, hello_bytes, description_at, description_bytes}
 use Rattle.ospf_packet.specs.Headers.{headers_in, AgedFits}
-use Rattle.ospf_packet.specs.Meaning.{Meaning, body_type, head_bytes, BodyFits, MeaningFits}
+use Rattle.ospf_packet.specs.Meaning.{Meaning, packet_body_type, head_bytes, PacketBodyFits, MeaningFits}
 use Rattle.ospf_lsa.specs.Attached.{router_bytes, routers_in, RouterFits}
 use Rattle.ospf_packet.proofs.Routers.{router_at, routers_entries}
-use Rattle.ospf_packet.specs.Packet.{IsBody, IsPacket, body_at, meaning_of, type_of, body_of}
+use Rattle.ospf_packet.specs.Packet.{IsBody, IsPacket, body_at, meaning_of, packet_type, body_of}
 use Rattle.ospf_packet.specs.PacketOf.{packet_of}
 use Rattle.ospf_packet.proofs.PacketLaws.{packet_decided, packet_of-is, packet_of-not}
-use Rattle.ospf_packet.specs.Requests.{entry_at, entry_bytes, EntryFits}
+use Rattle.ospf_packet.specs.Requests.{request_entry_at, request_entry_bytes, RequestEntryFits}
 use Rattle.ospf_packet.specs.Slices.{IsSlice, lsas_bytes, AreSlices, slices_in}
 use Rattle.ospf_packet.proofs.SliceLaws.{slices_back}
-use Rattle.ospf_packet.specs.Spelling.{HeaderEntry, header_entry_bytes, HeaderEntryFits, SpellHeaders, SpellBody, Spells}
+use Rattle.ospf_packet.specs.Spelling.{HeaderEntry, header_entry_bytes, HeaderEntryFits, SpellHeaders, SpellBody, SpellsPacket}
 use Rattle.ospf_packet.specs.declared.fault.PacketFault.TheVariants as fault
 use Rattle.ospf_packet.proofs.Cells.{hello_again, hello_fits, description_again, description_fits, router_again, router_fits, entry_again, entry_fits, header_entry_at, header_again, aged_fits, header_entry_fits, head_again}
 use Rattle.ospf_packet.proofs.EntryLemmas.{AreBytes-drop, entries_again, fits_again}
 use Rattle.ospf_packet.proofs.RoundTrip.{body_length_is, spelled_is_read}
 
-entry_headers : (n : ℕ) (bytes : List ℕ) → map (λ (e : HeaderEntry). e.header) (entries_in 20 header_entry_at n bytes) ≡ headers_in n bytes
+entry_headers : (n : ℕ) (bytes : List ℕ) → map (λ (e : HeaderEntry). e.header) (packet_entries_in 20 header_entry_at n bytes) ≡ headers_in n bytes
 entry_headers zero bytes = refl
 entry_headers (suc n) bytes = ap (λ (t : List LsaHeader). header_of bytes ∷ t) (entry_headers n (drop 20 bytes))
 
 headers_again : (n : ℕ) (bytes : List ℕ) → AreBytes bytes → length bytes ≡ n * 20 → SpellHeaders (headers_in n bytes) bytes
 headers_again n bytes fits len = record {
-  entries = entries_in 20 header_entry_at n bytes;
+  entries = packet_entries_in 20 header_entry_at n bytes;
   are = entry_headers n bytes;
   fit = fits_again 20 header_entry_at HeaderEntryFits header_entry_fits n bytes fits len;
   spelled = sym (entries_again 20 header_entry_at header_entry_bytes header_again n bytes fits len);
@@ -48,9 +48,9 @@ in_two n body front back p q = sym (take-append-drop n body) ∙ ap (λ (t : Lis
 
 -- the body of a packet of this type spells what is read of it
 record Again (kind : ℕ) (body : List ℕ) : Type 0 where
-  type_is : body_type (body_at kind body) ≡ kind
+  type_is : packet_body_type (body_at kind body) ≡ kind
   spelled : SpellBody (body_at kind body) body
-  fits : BodyFits (body_at kind body)
+  fits : PacketBodyFits (body_at kind body)
 
 body_again : (kind : ℕ) (body : List ℕ) → AreBytes body → 1 ≤ kind → kind ≤ 5 → IsBody kind body → Again kind body
 body_again zero body fits low high is = absurd (omega arith)
@@ -86,8 +86,8 @@ body_again (suc (suc (suc zero))) body fits low high is =
     let len : length body ≡ n * 12 = omega arith in
     record {
       type_is = refl;
-      spelled = sym (entries_again 12 entry_at entry_bytes entry_again n body fits len);
-      fits = fits_again 12 entry_at EntryFits entry_fits n body fits len;
+      spelled = sym (entries_again 12 request_entry_at request_entry_bytes entry_again n body fits len);
+      fits = fits_again 12 request_entry_at RequestEntryFits entry_fits n body fits len;
     }
 body_again (suc (suc (suc (suc zero)))) body fits low high is =
     let u = is.update_is refl in
@@ -112,10 +112,10 @@ body_again (suc (suc (suc (suc (suc zero))))) body fits low high is =
 body_again (suc (suc (suc (suc (suc (suc kind)))))) body fits low high is = absurd (omega arith)
 
 module _ (packet : List ℕ) (fits : AreBytes packet) (is : IsPacket packet) where
-  again : Again (type_of packet) (body_of packet)
-  again = body_again (type_of packet) (body_of packet) (AreBytes-drop 24 packet fits) (is fault.Kind).0 (is fault.Kind).1 (is fault.Body)
+  again : Again (packet_type packet) (body_of packet)
+  again = body_again (packet_type packet) (body_of packet) (AreBytes-drop 24 packet fits) (is fault.Kind).0 (is fault.Kind).1 (is fault.Body)
 
-  spelled : Spells (meaning_of packet) packet
+  spelled : SpellsPacket (meaning_of packet) packet
   spelled = record {
     long = is fault.Short;
     head =
@@ -132,7 +132,7 @@ module _ (packet : List ℕ) (fits : AreBytes packet) (is : IsPacket packet) whe
         router = omega arith;
         area = omega arith;
         body = again.fits;
-        short = omega (arith, body_length_is (body_at (type_of packet) (body_of packet)) (body_of packet) again.spelled, length-drop 24 packet, is fault.Short, is fault.TooLong);
+        short = omega (arith, body_length_is (body_at (packet_type packet) (body_of packet)) (body_of packet) again.spelled, length-drop 24 packet, is fault.Short, is fault.TooLong);
       }
 
 -- what is read is of a packet
@@ -146,10 +146,10 @@ read_as packet m e = elim (packet_decided packet) [
   | inr not ↦ (let none = packet_of-not packet not in absurd (cc))
 ]
 
-read_is_spelled : (m : Meaning) (packet : List ℕ) → AreBytes packet → packet_of packet ≡ Some m → MeaningFits m × Spells m packet
+read_is_spelled : (m : Meaning) (packet : List ℕ) → AreBytes packet → packet_of packet ≡ Some m → MeaningFits m × SpellsPacket m packet
 read_is_spelled m packet fits e =
     let as_read = read_as packet m e in
-    subst (λ (x : Meaning). MeaningFits x × Spells x packet) as_read.means (fits_fields packet fits as_read.valid, spelled packet fits as_read.valid)
+    subst (λ (x : Meaning). MeaningFits x × SpellsPacket x packet) as_read.means (fits_fields packet fits as_read.valid, spelled packet fits as_read.valid)
 
-pub reads_exactly : (m : Meaning) (packet : List ℕ) → AreBytes packet → (packet_of packet ≡ Some m) ↔ (MeaningFits m × Spells m packet)
+pub reads_exactly : (m : Meaning) (packet : List ℕ) → AreBytes packet → (packet_of packet ≡ Some m) ↔ (MeaningFits m × SpellsPacket m packet)
 reads_exactly m packet fits = (read_is_spelled m packet fits, λ p. spelled_is_read m packet p.0 p.1)

@@ -2,6 +2,6 @@
 use Rattle.std.specs.Prelude.{ℕ, zero, suc, List, [], ◌∷◌, drop}
 
 -- so many entries, each read from the bytes that it begins
-abbrev pub entries_in : {X : Type 0} → ℕ → (List ℕ → X) → ℕ → List ℕ → List X
-entries_in size read zero bytes = []
-entries_in size read (suc n) bytes = read bytes ∷ entries_in size read n (drop size bytes)
+abbrev pub packet_entries_in : {X : Type 0} → ℕ → (List ℕ → X) → ℕ → List ℕ → List X
+packet_entries_in size read zero bytes = []
+packet_entries_in size read (suc n) bytes = read bytes ∷ packet_entries_in size read n (drop size bytes)

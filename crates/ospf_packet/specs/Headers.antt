@@ -4,11 +4,11 @@ use Rattle.ospf_base.specs.Bytes.{number_bytes}
 use Rattle.ospf_base.specs.Constants.{lsa_header, max_age}
 use Rattle.ospf_lsa.specs.Header.{header_of, header_bytes, HeaderFits}
 use Rattle.ospf_lsa.specs.declared.header.LsaHeader.{LsaHeader}
-use Rattle.ospf_packet.specs.Entries.{entries_in}
+use Rattle.ospf_packet.specs.Entries.{packet_entries_in}
 
 -- so many headers, one after the other
 abbrev pub headers_in : ℕ → List ℕ → List LsaHeader
-headers_in = entries_in lsa_header header_of
+headers_in = packet_entries_in lsa_header header_of
 
 -- the 20 bytes of a header
 abbrev pub aged_bytes : LsaHeader → List ℕ

@@ -6,11 +6,11 @@ use Rattle.ospf_lsa.specs.Lsa as lsa
 use Rattle.ospf_lsa.specs.declared.fault.LsaFault.{LsaFault}
 use Rattle.ospf_packet.specs.Meaning.{Meaning, MeaningFits, packet_bytes}
 use Rattle.ospf_packet.specs.PacketOf.{packet_of}
-use Rattle.ospf_packet.specs.Spelling.{Spells}
+use Rattle.ospf_packet.specs.Spelling.{SpellsPacket}
 
 -- bytes are read as a packet exactly where they spell it
-abbrev pub ReadsWhatIsSpelled : Type 0
-ReadsWhatIsSpelled = (m : Meaning) (packet : List ℕ) → AreBytes packet → (packet_of packet ≡ Some m) ↔ (MeaningFits m × Spells m packet)
+abbrev pub ReadsSpelledPackets : Type 0
+ReadsSpelledPackets = (m : Meaning) (packet : List ℕ) → AreBytes packet → (packet_of packet ≡ Some m) ↔ (MeaningFits m × SpellsPacket m packet)
 
 -- what was written is read again
 abbrev pub ReadsWhatWasWritten : Type 0

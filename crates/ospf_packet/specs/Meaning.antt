@@ -9,7 +9,7 @@ use Rattle.ospf_lsa.specs.Attached.{routers_bytes, RouterFits}
 use Rattle.ospf_lsa.specs.declared.header.LsaHeader.{LsaHeader}
 use Rattle.ospf_packet.specs.Fields.{hello_bytes, HelloFits, description_bytes, DescriptionFits}
 use Rattle.ospf_packet.specs.Headers.{aged_bytes, AgedFits}
-use Rattle.ospf_packet.specs.Requests.{entry_bytes, EntryFits}
+use Rattle.ospf_packet.specs.Requests.{request_entry_bytes, RequestEntryFits}
 use Rattle.ospf_packet.specs.Slices.{lsas_bytes, IsSlice}
 use Rattle.ospf_packet.specs.declared.body.Hello.{Hello}
 use Rattle.ospf_packet.specs.declared.body.Description.{Description}
@@ -31,19 +31,19 @@ pub record Meaning : Type 0 where
   pub body : BodyMeaning
 
 -- the type in the header (appendix A.3.1)
-abbrev pub body_type : BodyMeaning → ℕ
-body_type (hello fields neighbours) = 1
-body_type (description fields headers) = 2
-body_type (request entries) = 3
-body_type (update lsas) = 4
-body_type (acknowledgment headers) = 5
+abbrev pub packet_body_type : BodyMeaning → ℕ
+packet_body_type (hello fields neighbours) = 1
+packet_body_type (description fields headers) = 2
+packet_body_type (request entries) = 3
+packet_body_type (update lsas) = 4
+packet_body_type (acknowledgment headers) = 5
 
-abbrev pub body_bytes : BodyMeaning → List ℕ
-body_bytes (hello fields neighbours) = hello_bytes fields ++ routers_bytes neighbours
-body_bytes (description fields headers) = description_bytes fields ++ flat_map aged_bytes headers
-body_bytes (request entries) = flat_map entry_bytes entries
-body_bytes (update lsas) = number_bytes 4 (length lsas) ++ lsas_bytes lsas
-body_bytes (acknowledgment headers) = flat_map aged_bytes headers
+abbrev pub packet_body_bytes : BodyMeaning → List ℕ
+packet_body_bytes (hello fields neighbours) = hello_bytes fields ++ routers_bytes neighbours
+packet_body_bytes (description fields headers) = description_bytes fields ++ flat_map aged_bytes headers
+packet_body_bytes (request entries) = flat_map request_entry_bytes entries
+packet_body_bytes (update lsas) = number_bytes 4 (length lsas) ++ lsas_bytes lsas
+packet_body_bytes (acknowledgment headers) = flat_map aged_bytes headers
 
 -- the header up to the checksum
 abbrev pub head_bytes : ℕ → ℕ → RouterId → AreaId → List ℕ
@@ -56,8 +56,8 @@ no_authentication = 0 ∷ 0 ∷ 0 ∷ 0 ∷ 0 ∷ 0 ∷ 0 ∷ 0 ∷ 0 ∷ 0 ∷ 
 -- the packet with this checksum
 abbrev pub bytes_with_sum : Meaning → ℕ → List ℕ
 bytes_with_sum m sum =
-    head_bytes (body_type m.body) (packet_header + length (body_bytes m.body)) m.router m.area ++ number_bytes 2 sum ++ no_authentication
-    ++ body_bytes m.body
+    head_bytes (packet_body_type m.body) (packet_header + length (packet_body_bytes m.body)) m.router m.area ++ number_bytes 2 sum ++ no_authentication
+    ++ packet_body_bytes m.body
 
 -- the packet, its checksum right
 abbrev pub packet_bytes : Meaning → List ℕ
@@ -67,12 +67,12 @@ packet_bytes m = bytes_with_sum m (packet_checksum (bytes_with_sum m 0))
 abbrev pub with_packet_sum : List ℕ → ℕ → List ℕ
 with_packet_sum packet sum = take 12 packet ++ number_bytes 2 sum ++ drop 14 packet
 
-abbrev pub BodyFits : BodyMeaning → Type 0
-BodyFits (hello fields neighbours) = HelloFits fields × AllByRecursion RouterFits neighbours
-BodyFits (description fields headers) = DescriptionFits fields × AllByRecursion AgedFits headers
-BodyFits (request entries) = AllByRecursion EntryFits entries
-BodyFits (update lsas) = AllByRecursion IsSlice lsas
-BodyFits (acknowledgment headers) = AllByRecursion AgedFits headers
+abbrev pub PacketBodyFits : BodyMeaning → Type 0
+PacketBodyFits (hello fields neighbours) = HelloFits fields × AllByRecursion RouterFits neighbours
+PacketBodyFits (description fields headers) = DescriptionFits fields × AllByRecursion AgedFits headers
+PacketBodyFits (request entries) = AllByRecursion RequestEntryFits entries
+PacketBodyFits (update lsas) = AllByRecursion IsSlice lsas
+PacketBodyFits (acknowledgment headers) = AllByRecursion AgedFits headers
 
 -- the count of an Update fits its field
 abbrev pub CountFits : BodyMeaning → Type 0
@@ -83,5 +83,5 @@ CountFits _ = Unit {0}
 pub record MeaningFits (m : Meaning) : Type 0 where
   pub router : m.router.0 < 2 ^ 32
   pub area : m.area.0 < 2 ^ 32
-  pub body : BodyFits m.body
-  pub short : packet_header + length (body_bytes m.body) ≤ largest_packet
+  pub body : PacketBodyFits m.body
+  pub short : packet_header + length (packet_body_bytes m.body) ≤ largest_packet

@@ -14,8 +14,8 @@ use Rattle.ospf_packet.specs.declared.fault.PacketFault.{PacketFault}
 use Rattle.ospf_packet.specs.declared.fault.PacketFault.TheVariants as fault
 
 -- 1 Hello, 2 Database Description, 3 Link State Request, 4 Link State Update, 5 Link State Acknowledgment
-abbrev pub type_of : List ℕ → ℕ
-type_of packet = slice_index packet 1
+abbrev pub packet_type : List ℕ → ℕ
+packet_type packet = slice_index packet 1
 
 -- what stands behind the header (appendix A.3.1)
 abbrev pub body_of : List ℕ → List ℕ
@@ -30,19 +30,19 @@ pub record IsBody (kind : ℕ) (body : List ℕ) : Type 0 where
   pub acknowledgment_is : kind ≡ 5 → length body % lsa_header ≡ 0
 
 -- bytes without one fault
-abbrev pub IsFreeOf : PacketFault → List ℕ → Type 0
-IsFreeOf fault.TooLong packet = length packet ≤ largest_packet
-IsFreeOf fault.Short packet = packet_header ≤ length packet
-IsFreeOf fault.Version packet = slice_index packet 0 ≡ 2
-IsFreeOf fault.Kind packet = (1 ≤ type_of packet) × (type_of packet ≤ 5)
-IsFreeOf fault.Length packet = number_at 2 2 packet ≡ length packet
-IsFreeOf fault.Sum packet = number_at 12 2 packet ≡ packet_checksum packet
-IsFreeOf fault.Auth packet = number_at 14 2 packet ≡ 0
-IsFreeOf fault.Body packet = IsBody (type_of packet) (body_of packet)
+abbrev pub IsPacketFreeOf : PacketFault → List ℕ → Type 0
+IsPacketFreeOf fault.TooLong packet = length packet ≤ largest_packet
+IsPacketFreeOf fault.Short packet = packet_header ≤ length packet
+IsPacketFreeOf fault.Version packet = slice_index packet 0 ≡ 2
+IsPacketFreeOf fault.Kind packet = (1 ≤ packet_type packet) × (packet_type packet ≤ 5)
+IsPacketFreeOf fault.Length packet = number_at 2 2 packet ≡ length packet
+IsPacketFreeOf fault.Sum packet = number_at 12 2 packet ≡ packet_checksum packet
+IsPacketFreeOf fault.Auth packet = number_at 14 2 packet ≡ 0
+IsPacketFreeOf fault.Body packet = IsBody (packet_type packet) (body_of packet)
 
 -- the bytes are a packet
 abbrev pub IsPacket : List ℕ → Type 0
-IsPacket packet = (f : PacketFault) → IsFreeOf f packet
+IsPacket packet = (f : PacketFault) → IsPacketFreeOf f packet
 
 -- the order in which faults are told
 abbrev pub fault_order : PacketFault → ℕ
@@ -56,8 +56,8 @@ fault_order fault.Auth = 6
 fault_order fault.Body = 7
 
 -- the bytes have this fault, and none that is told before it
-abbrev pub IsFirstFault : List ℕ → PacketFault → Type 0
-IsFirstFault packet f = faults.IsFirstBroken fault_order (λ g. IsFreeOf g packet) f
+abbrev pub IsFirstPacketFault : List ℕ → PacketFault → Type 0
+IsFirstPacketFault packet f = faults.IsFirstBroken fault_order (λ g. IsPacketFreeOf g packet) f
 
 -- ---- what a packet says
 
@@ -75,5 +75,5 @@ abbrev pub meaning_of : List ℕ → Meaning
 meaning_of packet = record {
   router = record { 0 = number_at 4 4 packet };
   area = record { 0 = number_at 8 4 packet };
-  body = body_at (type_of packet) (body_of packet);
+  body = body_at (packet_type packet) (body_of packet);
 }

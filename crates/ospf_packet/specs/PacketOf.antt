@@ -5,7 +5,7 @@ use Rattle.ospf_base.specs.Constants.{largest_packet, lsa_header, packet_header}
 use Rattle.ospf_base.specs.Sums.{packet_checksum}
 use Rattle.ospf_packet.specs.Fields.{description_fields, hello_fields}
 use Rattle.ospf_packet.specs.Meaning.{Meaning}
-use Rattle.ospf_packet.specs.Packet.{meaning_of, type_of, body_of}
+use Rattle.ospf_packet.specs.Packet.{meaning_of, packet_type, body_of}
 use Rattle.ospf_packet.specs.Requests.{request_size}
 use Rattle.ospf_packet.specs.Slices.{lsa_length}
 
@@ -34,9 +34,9 @@ is_body kind body =
 -- the bytes are a packet, as a test (`IsPacket` of Packet; section 8.2, appendix A.3)
 unfoldable pub is_packet : List ℕ → Bool
 is_packet packet =
-    nat_le packet_header (length packet) && ((slice_index packet 0 == 2) && ((nat_le 1 (type_of packet) && nat_le (type_of packet) 5)
+    nat_le packet_header (length packet) && ((slice_index packet 0 == 2) && ((nat_le 1 (packet_type packet) && nat_le (packet_type packet) 5)
     && ((number_at 2 2 packet == length packet) && ((number_at 12 2 packet == packet_checksum packet)
-    && ((number_at 14 2 packet == 0) && (is_body (type_of packet) (body_of packet) && nat_le (length packet) largest_packet))))))
+    && ((number_at 14 2 packet == 0) && (is_body (packet_type packet) (body_of packet) && nat_le (length packet) largest_packet))))))
 
 -- what a packet says; nothing is said by bytes that are none
 unfoldable pub packet_of : List ℕ → Option Meaning

@@ -7,7 +7,7 @@ use Rattle.ospf_base.specs.Sums.{packet_checksum}
 use Rattle.ospf_lsa.specs.Header.{header_bytes, HeaderFits}
 use Rattle.ospf_lsa.specs.declared.header.LsaHeader.{LsaHeader}
 use Rattle.ospf_packet.specs.Fields.{description_bytes}
-use Rattle.ospf_packet.specs.Meaning.{BodyMeaning, hello, description, request, update, acknowledgment, Meaning, body_type, body_bytes, head_bytes}
+use Rattle.ospf_packet.specs.Meaning.{BodyMeaning, hello, description, request, update, acknowledgment, Meaning, packet_body_type, packet_body_bytes, head_bytes}
 
 -- a header as it stands in a packet: its age field may be above MaxAge
 pub record HeaderEntry : Type 0 where
@@ -38,15 +38,15 @@ pub record SpellDescription (fields : List ℕ) (headers : List LsaHeader) (byte
 
 -- the bytes are this body
 abbrev pub SpellBody : BodyMeaning → List ℕ → Type 0
-SpellBody (hello fields neighbours) bytes = bytes ≡ body_bytes (hello fields neighbours)
+SpellBody (hello fields neighbours) bytes = bytes ≡ packet_body_bytes (hello fields neighbours)
 SpellBody (description fields headers) bytes = SpellDescription (description_bytes fields) headers bytes
-SpellBody (request entries) bytes = bytes ≡ body_bytes (request entries)
-SpellBody (update lsas) bytes = bytes ≡ body_bytes (update lsas)
+SpellBody (request entries) bytes = bytes ≡ packet_body_bytes (request entries)
+SpellBody (update lsas) bytes = bytes ≡ packet_body_bytes (update lsas)
 SpellBody (acknowledgment headers) bytes = SpellHeaders headers bytes
 
 -- the bytes are this packet: its header with the right length and checksum and AuType 0, then eight bytes of
 -- authentication, whatever they are, then its body
-pub record Spells (m : Meaning) (packet : List ℕ) : Type 0 where
+pub record SpellsPacket (m : Meaning) (packet : List ℕ) : Type 0 where
   pub long : packet_header ≤ length packet
-  pub head : take 16 packet ≡ head_bytes (body_type m.body) (length packet) m.router m.area ++ number_bytes 2 (packet_checksum packet) ++ (0 ∷ 0 ∷ [])
+  pub head : take 16 packet ≡ head_bytes (packet_body_type m.body) (length packet) m.router m.area ++ number_bytes 2 (packet_checksum packet) ++ (0 ∷ 0 ∷ [])
   pub body : SpellBody m.body (drop packet_header packet)

@@ -18,12 +18,12 @@ pub struct RequestEntry {
 }
 
 impl RequestEntry {
-    ghost use Rattle.ospf_packet.specs.Requests.{entry_at, entry_bytes, request_size, EntryFits};
+    ghost use Rattle.ospf_packet.specs.Requests.{request_entry_at, request_entry_bytes, request_size, RequestEntryFits};
 
     // The entry in the first 12 bytes.
     pub(crate) fn read(bytes: &[u8]) -> RequestEntry
         requires { request_size ≤ length bytes.now }
-        ensures { result ≡ entry_at bytes.now }
+        ensures { result ≡ request_entry_at bytes.now }
     {
         RequestEntry {
             kind: u32_at(bytes, 0),
@@ -34,8 +34,8 @@ impl RequestEntry {
 
     // The 12 bytes of the entry.
     pub(crate) fn to_bytes(self) -> [u8; 12]
-        ensures bytes { result ≡ entry_bytes self }
-        ensures fits { EntryFits self }
+        ensures bytes { result ≡ request_entry_bytes self }
+        ensures fits { RequestEntryFits self }
     {
         let [a, b, c, d] = self.kind.to_be_bytes();
         let [e, f, g, h] = self.id.to_be_bytes();

@@ -1,10 +1,10 @@
 //! Laws: each holds of all bytes or values.
 
-ghost use Rattle.ospf_packet.specs.Laws.{ReadsWhatIsSpelled, ReadsWhatWasWritten, AgeChangesNoVerdict};
+ghost use Rattle.ospf_packet.specs.Laws.{ReadsSpelledPackets, ReadsWhatWasWritten, AgeChangesNoVerdict};
 
 /// Bytes are read as a packet exactly where they spell it.
 pub fn reads_what_is_spelled()
-    ensures { ReadsWhatIsSpelled }
+    ensures { ReadsSpelledPackets }
 {}
 
 /// What was written is read again.

@@ -2,7 +2,7 @@
 
 ghost use Rattle.std.specs.Prelude.{◌≡◌, ◌≤◌, ◌<◌, ◌↔◌, IsTrue, IfOk, IfErr, OnOk, OnErr, IfSome, IfNone, Some, None, length};
 ghost use Rattle.ospf_base.specs.Constants.{packet_header};
-ghost use Rattle.ospf_packet.specs.Packet.{IsBody, IsPacket, IsFirstFault, body_at, type_of, body_of, meaning_of};
+ghost use Rattle.ospf_packet.specs.Packet.{IsBody, IsPacket, IsFirstPacketFault, body_at, packet_type, body_of, meaning_of};
 ghost use Rattle.ospf_packet.specs.PacketOf.{packet_of};
 ghost use Rattle.ospf_packet.specs.Said.{said, body_said};
 
@@ -36,7 +36,7 @@ impl<'a> Packet<'a> {
     pub fn read(bytes: &'a [u8]) -> Result<Packet<'a>, PacketFault>
         ensures ok { IfOk result (λ p. packet_of bytes.now ≡ Some (said p)) }
         ensures valid { OnOk result (IsPacket bytes.now) }
-        ensures fault { IfErr result (λ f. IsFirstFault bytes.now f) }
+        ensures fault { IfErr result (λ f. IsFirstPacketFault bytes.now f) }
         ensures none { OnErr result (packet_of bytes.now ≡ None) }
     {
         match first_fault(bytes) {
@@ -65,7 +65,7 @@ fn body(kind: u8, bytes: &[u8]) -> Body<'_>
 
 // The first fault of the bytes.
 fn first_fault(bytes: &[u8]) -> Option<PacketFault>
-    ensures fault { IfSome result (λ f. IsFirstFault bytes.now f) }
+    ensures fault { IfSome result (λ f. IsFirstPacketFault bytes.now f) }
     ensures none { IfNone result (IsPacket bytes.now) }
 {
     if bytes.len() > LARGEST_PACKET {
@@ -113,7 +113,7 @@ fn has_body(kind: u8, body: &[u8]) -> bool
 // The packet that the bytes are.
 fn valid_packet(bytes: &[u8]) -> Packet<'_>
     requires long { packet_header ≤ length bytes.now }
-    requires body { IsBody (type_of bytes.now) (body_of bytes.now) }
+    requires body { IsBody (packet_type bytes.now) (body_of bytes.now) }
     ensures { said result ≡ meaning_of bytes.now }
 {
     Packet {

@@ -7,9 +7,9 @@ ghost use Rattle.ospf_packet.specs.Fields.{hello_fields};
 ghost use Rattle.ospf_base.specs.Sums.{packet_checksum};
 ghost use Rattle.ospf_lsa.specs.Attached.{routers_bytes, RouterFits};
 ghost use Rattle.ospf_packet.specs.Headers.{aged_bytes, AgedFits};
-ghost use Rattle.ospf_packet.specs.Meaning.{body_type, body_bytes, bytes_with_sum, head_bytes, no_authentication, with_packet_sum, packet_bytes, BodyFits, CountFits, MeaningFits};
+ghost use Rattle.ospf_packet.specs.Meaning.{packet_body_type, packet_body_bytes, bytes_with_sum, head_bytes, no_authentication, with_packet_sum, packet_bytes, PacketBodyFits, CountFits, MeaningFits};
 ghost use Rattle.ospf_packet.specs.PacketOf.{packet_of};
-ghost use Rattle.ospf_packet.specs.Requests.{entry_bytes, EntryFits};
+ghost use Rattle.ospf_packet.specs.Requests.{request_entry_bytes, RequestEntryFits};
 ghost use Rattle.ospf_packet.specs.Said.{body_meant, meant};
 ghost use Rattle.ospf_packet.specs.Slices.{lsas_bytes, IsSlice};
 ghost use Rattle.ospf_packet.specs.declared.fault.WriteFault.TheVariants as fault;
@@ -52,11 +52,11 @@ pub fn write_packet(value: &PacketValue, out: &mut Vec<u8>) -> Result<(), WriteF
 
 // The number of bytes of a body, unless a packet does not hold it.
 fn body_length(body: &BodyValue) -> Option<usize>
-    ensures found { IfSome result (λ n. (n ≡ length (body_bytes (body_meant body.now)))
+    ensures found { IfSome result (λ n. (n ≡ length (packet_body_bytes (body_meant body.now)))
         × (packet_header + n ≤ largest_packet)) }
     ensures count { OnSome result (CountFits (body_meant body.now)) }
     ensures none { IfNone result (largest_packet
-        < packet_header + length (body_bytes (body_meant body.now))) }
+        < packet_header + length (packet_body_bytes (body_meant body.now))) }
 {
     match body {
         BodyValue::Hello(_, neighbours) => entries_length(
@@ -118,7 +118,7 @@ fn lsas_length(lsas: &[Lsa]) -> Option<usize>
 // Puts a packet of so many bytes at the end, where there is room for them.
 fn push_packet(out: &mut Vec<u8>, value: &PacketValue, size: u16)
     // The size is that of the packet, which is short enough, and there is room for it.
-    requires size { size ≡ packet_header + length (body_bytes (body_meant value.now.body)) }
+    requires size { size ≡ packet_header + length (packet_body_bytes (body_meant value.now.body)) }
     requires short { size ≤ largest_packet }
     requires count { CountFits (body_meant value.now.body) }
     requires room { vec_len out.old + size ≤ vec_capacity out.old }
@@ -161,7 +161,7 @@ fn head(kind: u8, size: u16, router: RouterId, area: AreaId) -> [u8; 24]
 
 // The type of a body.
 fn kind_of(body: &BodyValue) -> u8
-    ensures { result ≡ body_type (body_meant body.now) }
+    ensures { result ≡ packet_body_type (body_meant body.now) }
 {
     match body {
         BodyValue::Hello(..) => 1,
@@ -175,10 +175,10 @@ fn kind_of(body: &BodyValue) -> u8
 // Puts the bytes of a body at the end.
 fn push_body(out: &mut Vec<u8>, body: &BodyValue)
     requires count { CountFits (body_meant body.now) }
-    requires room { vec_len out.old + length (body_bytes (body_meant body.now))
+    requires room { vec_len out.old + length (packet_body_bytes (body_meant body.now))
         ≤ vec_capacity out.old }
-    ensures bytes { out.new.items ≡ out.old.items ++ body_bytes (body_meant body.now) }
-    ensures fits { BodyFits (body_meant body.now) }
+    ensures bytes { out.new.items ≡ out.old.items ++ packet_body_bytes (body_meant body.now) }
+    ensures fits { PacketBodyFits (body_meant body.now) }
 {
     match body {
         BodyValue::Hello(fields, neighbours) => {
@@ -235,10 +235,10 @@ fn header_bytes(header: &LsaHeader) -> [u8; 20]
 
 // Puts the bytes of the entries of a Request at the end.
 fn push_entries(out: &mut Vec<u8>, entries: &[RequestEntry])
-    requires room { vec_len out.old + length (flat_map entry_bytes entries.now)
+    requires room { vec_len out.old + length (flat_map request_entry_bytes entries.now)
         ≤ vec_capacity out.old }
-    ensures entries { out.new.items ≡ out.old.items ++ flat_map entry_bytes entries.now }
-    ensures fit { AllByRecursion EntryFits entries.now }
+    ensures entries { out.new.items ≡ out.old.items ++ flat_map request_entry_bytes entries.now }
+    ensures fit { AllByRecursion RequestEntryFits entries.now }
 {
     for entry in entries {
         push_bytes(out, &entry.to_bytes());
@@ -260,7 +260,8 @@ fn push_lsas(out: &mut Vec<u8>, lsas: &[Lsa])
 fn seal(out: &mut Vec<u8>, start: usize)
     requires { start + packet_header ≤ vec_len out.old }
     ensures { let packet = drop start out.old.items in
-        out.new.items ≡ take start out.old.items ++ with_packet_sum packet (packet_checksum packet) }
+        out.new.items ≡ take start out.old.items
+        ++ with_packet_sum packet (packet_checksum packet) }
 {
     let [high, low] = packet_sum(&out[start..]).to_be_bytes();
     out[start + 12] = high;

@@ -3,20 +3,20 @@ use Rattle.std.proofs.Common.{rules, ◌≡◌, ◌==◌, ℕ, Bool, true, false
 use Rattle.std.proofs.lemmas.Option.{same_Some}
 use Rattle.std.specs.List.{Contains}
 use Rattle.ospf_base.specs.Masks.{mask_of}
-use Rattle.ospf_plan.specs.declared.ends.End.{End}
+use Rattle.ospf_plan.specs.declared.ends.LinkEnd.{LinkEnd}
 use Rattle.ospf_plan.specs.declared.fault.AreaFault.{AreaFault}
 use Rattle.ospf_plan.specs.declared.fault.AreaFault.TheVariants as fault
 use Rattle.ospf_plan.specs.declared.finding.Finding.{Finding}
-use Rattle.ospf_plan.specs.declared.finding.Around.{Around}
+use Rattle.ospf_plan.specs.declared.finding.Surroundings.{Surroundings}
 use Rattle.ospf_plan.specs.Ends.{first_on, network_of, same_network}
 use Rattle.ospf_plan.specs.Findings.{around_of, every_fault, found, found_at, found_in, is_wrong, other_of}
-use Rattle.ospf_plan.specs.Laws.{Holds, IsOfHellos, NoneTold, Refuses, Takes}
+use Rattle.ospf_plan.specs.Laws.{FindingHolds, IsOfHellos, NoneTold, RefusesHellos, TakesHellos}
 use Rattle.ospf_plan.proofs.Members.{finds, flat_from, flat_to, some_from, some_to}
 
 never : false ≡ true → ⊥
 never e = search rules
 
-all_told : (a : Around) (d e : End) (f : AreaFault) → is_wrong f a d e ≡ true → Contains every_fault f
+all_told : (a : Surroundings) (d e : LinkEnd) (f : AreaFault) → is_wrong f a d e ≡ true → Contains every_fault f
 all_told a d e fault.SameRouter wrong = (0, omega arith, refl)
 all_told a d e fault.SameAddress wrong = (1, omega arith, refl)
 all_told a d e fault.Area wrong = (2, omega arith, refl)
@@ -39,7 +39,7 @@ all_told a d e fault.Apart wrong = absurd (never wrong)
 -- ---- the finding of a fault at an interface
 
 -- what the finding g of the fault f at the interface e says
-pub record Says (a : Around) (e : End) (f : AreaFault) (g : Finding) : Type 0 where
+pub record Says (a : Surroundings) (e : LinkEnd) (f : AreaFault) (g : Finding) : Type 0 where
   pub fault_is : g.fault ≡ f
   pub here_is : g.here ≡ e
   pub other_is : other_of f a ≡ Some g.other
@@ -48,31 +48,31 @@ pub record Says (a : Around) (e : End) (f : AreaFault) (g : Finding) : Type 0 wh
 pub none_is_some : {X : Type 0} (x : X) → None ≡ Some x → ⊥
 none_is_some x e = search rules
 
-made : AreaFault → End → End → Finding
+made : AreaFault → LinkEnd → LinkEnd → Finding
 made f e d = record { fault = f; other = d; here = e }
 
-said_by : (a : Around) (e : End) (f : AreaFault) (g : Finding) (d : End) (b : Bool) → other_of f a ≡ Some d → is_wrong f a d e ≡ b
+said_by : (a : Surroundings) (e : LinkEnd) (f : AreaFault) (g : Finding) (d : LinkEnd) (b : Bool) → other_of f a ≡ Some d → is_wrong f a d e ≡ b
     → (if b then Some (record { fault = f; other = d; here = e }) else None) ≡ Some g → Says a e f g
 said_by a e f g d false at wrong is = absurd (none_is_some g is)
 said_by a e f g d true at wrong is =
     subst (λ x. Says a e f x) (same_Some (record { fault = f; other = d; here = e }) g is) (record { fault_is = refl; here_is = refl; other_is = at; wrong_is = wrong })
 
-said_at : (a : Around) (e : End) (f : AreaFault) (g : Finding) (o : Option End) → other_of f a ≡ o
+said_at : (a : Surroundings) (e : LinkEnd) (f : AreaFault) (g : Finding) (o : Option LinkEnd) → other_of f a ≡ o
     → option_and_then (λ d. if is_wrong f a d e then Some (record { fault = f; other = d; here = e }) else None) o ≡ Some g → Says a e f g
 said_at a e f g None at is = absurd (none_is_some g is)
 said_at a e f g (Some d) at is = said_by a e f g d (is_wrong f a d e) at refl is
 
-pub says : (a : Around) (e : End) (f : AreaFault) (g : Finding) → found a e f ≡ Some g → Says a e f g
+pub says : (a : Surroundings) (e : LinkEnd) (f : AreaFault) (g : Finding) → found a e f ≡ Some g → Says a e f g
 says a e f g is = said_at a e f g (other_of f a) refl is
 
-finds_it : (a : Around) (e : End) (f : AreaFault) (d : End) → other_of f a ≡ Some d → is_wrong f a d e ≡ true → found a e f ≡ Some (record { fault = f; other = d; here = e })
+finds_it : (a : Surroundings) (e : LinkEnd) (f : AreaFault) (d : LinkEnd) → other_of f a ≡ Some d → is_wrong f a d e ≡ true → found a e f ≡ Some (record { fault = f; other = d; here = e })
 finds_it a e f d at wrong =
     ap (λ o. option_and_then (λ x. if is_wrong f a x e then Some (record { fault = f; other = x; here = e }) else None) o) at
     ∙ ap (λ b. if b then Some (record { fault = f; other = d; here = e }) else None) wrong
 
 -- ---- what is told is what holds
 
-holds_by : (ends : List End) (e : End) (w : AreaFault) (f : Finding) → Contains ends e → Says (around_of ends e) e w f → Holds ends f
+holds_by : (ends : List LinkEnd) (e : LinkEnd) (w : AreaFault) (f : Finding) → Contains ends e → Says (around_of ends e) e w f → FindingHolds ends f
 holds_by ends e w f at s =
     let other : other_of f.fault (around_of ends f.here) ≡ Some f.other =
     ap (λ x. other_of f.fault (around_of ends x)) s.here_is ∙ ap (λ x. other_of x (around_of ends e)) s.fault_is ∙ s.other_is in
@@ -80,13 +80,13 @@ holds_by ends e w f at s =
     ap (λ x. is_wrong f.fault (around_of ends x) f.other x) s.here_is ∙ ap (λ x. is_wrong x (around_of ends e) f.other e) s.fault_is ∙ s.wrong_is in
     record { here = subst (λ x. Contains ends x) (sym s.here_is) at; other = other; wrong = wrong }
 
-pub told_holds : (ends : List End) (f : Finding) → Contains (found_in ends) f → Holds ends f
+pub told_holds : (ends : List LinkEnd) (f : Finding) → Contains (found_in ends) f → FindingHolds ends f
 told_holds ends f told =
     let (e, at, some) = flat_from (found_at ends) ends f told in
     let (w, among, is) = some_from (found (around_of ends e) e) every_fault f some in
     holds_by ends e w f at (says (around_of ends e) e w f is)
 
-pub held_told : (ends : List End) (f : Finding) → Holds ends f → Contains (found_in ends) f
+pub held_told : (ends : List LinkEnd) (f : Finding) → FindingHolds ends f → Contains (found_in ends) f
 held_told ends f h =
     let is : found (around_of ends f.here) f.here f.fault ≡ Some f = finds_it (around_of ends f.here) f.here f.fault f.other h.other h.wrong in
     flat_to (found_at ends) ends f f.here h.here (some_to (found (around_of ends f.here) f.here) every_fault f f.fault (all_told (around_of ends f.here) f.other f.here f.fault h.wrong) is)
@@ -99,13 +99,13 @@ apart x y ne is = grind (arith, ne, is)
 one_by : (x y : ℕ) → (not (x == y) ≡ true → ⊥) → x ≡ y
 one_by x y h = grind (arith, h)
 
-refuses_by_hello : (e d : End) → (e.hello ≡ d.hello → ⊥) → Refuses e d
+refuses_by_hello : (e d : LinkEnd) → (e.hello ≡ d.hello → ⊥) → RefusesHellos e d
 refuses_by_hello e d ne i j h of_i of_j fields agrees = ne (sym of_i.hello ∙ sym agrees.interval ∙ fields.interval ∙ of_j.hello)
 
-refuses_by_dead : (e d : End) → (e.dead ≡ d.dead → ⊥) → Refuses e d
+refuses_by_dead : (e d : LinkEnd) → (e.dead ≡ d.dead → ⊥) → RefusesHellos e d
 refuses_by_dead e d ne i j h of_i of_j fields agrees = ne (sym of_i.dead ∙ sym agrees.dead ∙ fields.dead ∙ of_j.dead)
 
-pub told_refuse : (ends : List End) (f : Finding) → Contains (found_in ends) f → IsOfHellos f.fault → Refuses f.here f.other × Refuses f.other f.here
+pub told_refuse : (ends : List LinkEnd) (f : Finding) → Contains (found_in ends) f → IsOfHellos f.fault → RefusesHellos f.here f.other × RefusesHellos f.other f.here
 told_refuse ends f told (inl is) =
     let wrong = (told_holds ends f told).wrong in
     let ne = apart f.other.hello f.here.hello (subst (λ w. is_wrong w (around_of ends f.here) f.other f.here ≡ true) is wrong) in
@@ -119,14 +119,14 @@ itself : (k : ℕ × ℕ) → same_network k k ≡ true
 itself k = grind arith
 
 -- the first on the network, of which the intervals of an interface there are no other where nothing is told
-as_first : (ends : List End) (e d : End) (q : ℕ × ℕ) → Contains ends e → network_of e.address ≡ q → first_on ends q ≡ Some d → NoneTold ends q → (d.hello ≡ e.hello) × (d.dead ≡ e.dead)
+as_first : (ends : List LinkEnd) (e d : LinkEnd) (q : ℕ × ℕ) → Contains ends e → network_of e.address ≡ q → first_on ends q ≡ Some d → NoneTold ends q → (d.hello ≡ e.hello) × (d.dead ≡ e.dead)
 as_first ends e d q at on first none =
     let at_e : first_on ends (network_of e.address) ≡ Some d = ap (λ k. first_on ends k) on ∙ first in (
       one_by d.hello e.hello (λ ne. none (record { fault = fault.Hello; other = d; here = e }) (held_told ends _ (record { here = at; other = at_e; wrong = ne })) (inl refl) on),
       one_by d.dead e.dead (λ ne. none (record { fault = fault.Dead; other = d; here = e }) (held_told ends _ (record { here = at; other = at_e; wrong = ne })) (inr refl) on),
     )
 
-pub others_take : (ends : List End) (d e : End) → Contains ends d → Contains ends e → network_of d.address ≡ network_of e.address → NoneTold ends (network_of e.address) → Takes d e
+pub others_take : (ends : List LinkEnd) (d e : LinkEnd) → Contains ends d → Contains ends e → network_of d.address ≡ network_of e.address → NoneTold ends (network_of e.address) → TakesHellos d e
 others_take ends d e at_d at_e on none i j h of_i of_j fields =
     let q = network_of e.address in
     let (first, is) = finds (λ x. same_network (network_of x.address) q) ends e at_e (itself q) in

@@ -8,7 +8,7 @@ use Rattle.std.specs.Ordering.{is_eq, nat_cmp, ordering_then}
 use Rattle.std.specs.declared.cmp.Ordering.{Ordering}
 use Rattle.std.specs.declared.cmp.Ordering.TheVariants.{Less, Equal, Greater}
 use Rattle.ospf_config.specs.declared.config.Config.{Config}
-use Rattle.ospf_plan.specs.declared.ends.End.{End}
+use Rattle.ospf_plan.specs.declared.ends.LinkEnd.{LinkEnd}
 use Rattle.ospf_plan.specs.declared.fault.AreaFault.TheVariants as fault
 use Rattle.ospf_plan.specs.declared.finding.Finding.{Finding}
 use Rattle.ospf_plan.specs.declared.joins.Join.{Join}
@@ -17,7 +17,7 @@ use Rattle.ospf_plan.specs.Findings.{found_in}
 use Rattle.ospf_plan.specs.Joins.{IsJoined, back, forth, itself}
 use Rattle.ospf_plan.specs.Parts.{AreFindings, AreReached, IsWay, LinkKey, apart, apart_in, cross, first_linked, first_of_all, is_apart, join_at, joins_of, link_cmp, link_of, same_link, stay}
 use Rattle.ospf_plan.specs.Wires.{wire_faults_in, wires_of}
-use Rattle.ospf_plan.specs.Laws.{Holds, HoldsApart, HoldsOfWire, IsAhead, IsRising}
+use Rattle.ospf_plan.specs.Laws.{FindingHolds, HoldsApart, HoldsOfWire, IsAhead, IsRisingBy}
 use Rattle.ospf_plan.proofs.Members.{finds, head_in, later_in, some_from, some_to}
 use Rattle.ospf_plan.proofs.FindingLemmas.{held_told, none_is_some, told_holds}
 use Rattle.ospf_plan.proofs.Order.{ends_rise, rising_some}
@@ -94,7 +94,7 @@ pub none_of : {X : Type 0} (o : Option X) → is_some o ≡ false → o ≡ None
 none_of None h = refl
 none_of (Some x) h = absurd (never (sym h))
 
-module _ (old new : LinkKey → Option End) (link : LinkKey) (e : End) (absent : old link ≡ None) (updates : (q : LinkKey) → new q ≡ cond (is_eq (link_cmp link q)) (Some e) (old q)) where
+module _ (old new : LinkKey → Option LinkEnd) (link : LinkKey) (e : LinkEnd) (absent : old link ≡ None) (updates : (q : LinkKey) → new q ≡ cond (is_eq (link_cmp link q)) (Some e) (old q)) where
   added_by : (k : LinkKey) (b : Bool) → same_link link k ≡ b → new k ≡ option_or (old k) (cond b (Some e) None)
   added_by k true t =
       updates k ∙ ap (λ b. cond b (Some e) (old k)) (link_is link k ∙ t)
@@ -120,17 +120,17 @@ found_is p (z ∷ zs) y is = found_by p z zs y (p z) refl is (found_is p zs y)
 -- ---- joins and ways
 
 -- the two interfaces that a join is of
-record IsJoinOf (ends : List End) (j : Join) : Type 0 where
-  one : End
-  other : End
+record IsJoinOf (ends : List LinkEnd) (j : Join) : Type 0 where
+  one : LinkEnd
+  other : LinkEnd
   one_among : Contains ends one
   other_among : Contains ends other
   linked : link_of one ≡ link_of other
   one_is : j.one ≡ one.file
   other_is : j.other ≡ other.file
 
-module _ (ends : List End) (j : Join) where
-  of_first : (e : End) (o : Option End) → Contains ends e → first_linked ends (link_of e) ≡ o → option_map (λ d. record { one = d.file; other = e.file }) o ≡ Some j → IsJoinOf ends j
+module _ (ends : List LinkEnd) (j : Join) where
+  of_first : (e : LinkEnd) (o : Option LinkEnd) → Contains ends e → first_linked ends (link_of e) ≡ o → option_map (λ d. record { one = d.file; other = e.file }) o ≡ Some j → IsJoinOf ends j
   of_first e None among at is = absurd (none_is_some j is)
   of_first e (Some d) among at is =
       let (there, linked) = found_is (λ x. same_link (link_of x) (link_of e)) ends d at in
@@ -156,16 +156,16 @@ module _ (ends : List End) (j : Join) where
   way_back : IsJoinOf ends j → IsWay ends 0 j.other → IsWay ends 0 j.one
   way_back i w = subst (IsWay ends 0) (sym i.one_is) (cross i.other i.one i.other_among i.one_among (sym i.linked) (subst (IsWay ends 0) i.other_is w))
 
-pub way_of : (ends : List End) (q : ℕ) → IsJoined (joins_of ends) 0 q → IsWay ends 0 q
+pub way_of : (ends : List LinkEnd) (q : ℕ) → IsJoined (joins_of ends) 0 q → IsWay ends 0 q
 way_of ends _ itself = stay
 way_of ends _ (forth j at rest) = way_forth ends j (join_from ends j at) (way_of ends j.one rest)
 way_of ends _ (back j at rest) = way_back ends j (join_from ends j at) (way_of ends j.other rest)
 
-join_to : (ends : List End) (e f : End) → Contains ends e → first_linked ends (link_of e) ≡ Some f → Contains (joins_of ends) (record { one = f.file; other = e.file })
+join_to : (ends : List LinkEnd) (e f : LinkEnd) → Contains ends e → first_linked ends (link_of e) ≡ Some f → Contains (joins_of ends) (record { one = f.file; other = e.file })
 join_to ends e f among at =
-    some_to (join_at (first_linked ends)) ends (record { one = f.file; other = e.file }) e among (ap (option_map (λ (d : End). record { one = d.file; other = e.file })) at)
+    some_to (join_at (first_linked ends)) ends (record { one = f.file; other = e.file }) e among (ap (option_map (λ (d : LinkEnd). record { one = d.file; other = e.file })) at)
 
-pub joined_of : (ends : List End) (q : ℕ) → IsWay ends 0 q → IsJoined (joins_of ends) 0 q
+pub joined_of : (ends : List LinkEnd) (q : ℕ) → IsWay ends 0 q → IsJoined (joins_of ends) 0 q
 joined_of ends _ stay = itself
 joined_of ends _ (cross d e in_d in_e linked rest) =
     let (f, at_d) = finds (λ x. same_link (link_of x) (link_of d)) ends d in_d (itself_linked (link_of d)) in
@@ -180,23 +180,23 @@ unreached a true h = absurd (never (and_cases (a == 0) false h).1)
 unreached a false h = (same a 0 (and_cases (a == 0) true h).0, refl)
 
 -- what is found of an interface by whether it is apart
-record IsApartAt (reached : ℕ → Bool) (first : Option End) (e : End) (f : Finding) : Type 0 where
+record IsApartAt (reached : ℕ → Bool) (first : Option LinkEnd) (e : LinkEnd) (f : Finding) : Type 0 where
   fault_is : f.fault ≡ fault.Apart
   here_is : e ≡ f.here
   other_is : first ≡ Some f.other
   wrong_is : is_apart reached e ≡ true
 
-apart_by : (reached : ℕ → Bool) (e d : End) (f : Finding) (b : Bool) → is_apart reached e ≡ b
+apart_by : (reached : ℕ → Bool) (e d : LinkEnd) (f : Finding) (b : Bool) → is_apart reached e ≡ b
     → (if b then Some (record { fault = fault.Apart; other = d; here = e }) else None) ≡ Some f → IsApartAt reached (Some d) e f
 apart_by reached e d f false wrong is = absurd (none_is_some f is)
 apart_by reached e d f true wrong is =
     subst (IsApartAt reached (Some d) e) (same_Some (record { fault = fault.Apart; other = d; here = e }) f is) (record { fault_is = refl; here_is = refl; other_is = refl; wrong_is = wrong })
 
-apart_says : (reached : ℕ → Bool) (first : Option End) (e : End) (f : Finding) → apart reached first e ≡ Some f → IsApartAt reached first e f
+apart_says : (reached : ℕ → Bool) (first : Option LinkEnd) (e : LinkEnd) (f : Finding) → apart reached first e ≡ Some f → IsApartAt reached first e f
 apart_says reached None e f is = absurd (none_is_some f is)
 apart_says reached (Some d) e f is = apart_by reached e d f (is_apart reached e) refl is
 
-apart_holds : (ends : List End) (reached : ℕ → Bool) (f : Finding) → AreReached ends reached → Contains (apart_in reached ends) f → HoldsApart ends f
+apart_holds : (ends : List LinkEnd) (reached : ℕ → Bool) (f : Finding) → AreReached ends reached → Contains (apart_in reached ends) f → HoldsApart ends f
 apart_holds ends reached f are told =
     let (e, among, is) = some_from (apart reached (first_of_all ends)) ends f told in
     let s = apart_says reached (first_of_all ends) e f is in
@@ -204,16 +204,16 @@ apart_holds ends reached f are told =
     record {
       fault = s.fault_is;
       here = subst (Contains ends) s.here_is among;
-      link = ap (λ (x : End). x.link) (sym s.here_is) ∙ link;
+      link = ap (λ (x : LinkEnd). x.link) (sym s.here_is) ∙ link;
       other = s.other_is;
-      apart = λ w. never (sym off ∙ (are e.file).1 (subst (λ (x : End). IsWay ends 0 x.file) (sym s.here_is) w));
+      apart = λ w. never (sym off ∙ (are e.file).1 (subst (λ (x : LinkEnd). IsWay ends 0 x.file) (sym s.here_is) w));
     }
 
 off_by : (b : Bool) → (b ≡ true → ⊥) → b ≡ false
 off_by true h = absurd (h refl)
 off_by false h = refl
 
-apart_told : (ends : List End) (reached : ℕ → Bool) (f : Finding) → AreReached ends reached → HoldsApart ends f → Contains (apart_in reached ends) f
+apart_told : (ends : List LinkEnd) (reached : ℕ → Bool) (f : Finding) → AreReached ends reached → HoldsApart ends f → Contains (apart_in reached ends) f
 apart_told ends reached f are h =
     let off : reached f.here.file ≡ false = off_by (reached f.here.file) (λ t. h.apart ((are f.here.file).0 t)) in
     let wrong : is_apart reached f.here ≡ true = ap (λ n. (n == 0) && not (reached f.here.file)) h.link ∙ ap (λ b. not b) off in
@@ -222,7 +222,7 @@ apart_told ends reached f are h =
     some_to (apart reached (first_of_all ends)) ends f f.here h.here (made ∙ ap (λ x. Some (record { fault = x; other = f.other; here = f.here })) (sym h.fault))
 
 pub tells_exactly : (configs : List Config) (fs : List Finding) (f : Finding) → AreFindings configs fs
-    → Contains fs f ↔ ((Holds (ends_of configs) f ⊎ HoldsOfWire (ends_of configs) (wires_of configs) f) ⊎ HoldsApart (ends_of configs) f)
+    → Contains fs f ↔ ((FindingHolds (ends_of configs) f ⊎ HoldsOfWire (ends_of configs) (wires_of configs) f) ⊎ HoldsApart (ends_of configs) f)
 tells_exactly configs fs f are =
     let ends = ends_of configs in
     let wires = wires_of configs in
@@ -242,7 +242,7 @@ tells_exactly configs fs f are =
       ])),
     )
 
-pub parts_rise : (configs : List Config) (reached : ℕ → Bool) → IsRising (λ (f g : Finding). IsAhead f.here g.here) (apart_in reached (ends_of configs))
+pub parts_rise : (configs : List Config) (reached : ℕ → Bool) → IsRisingBy (λ (f g : Finding). IsAhead f.here g.here) (apart_in reached (ends_of configs))
 parts_rise configs reached =
     let ends = ends_of configs in
     rising_some IsAhead (λ (f g : Finding). IsAhead f.here g.here) (apart reached (first_of_all ends)) ends (ends_rise configs)

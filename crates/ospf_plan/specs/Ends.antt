@@ -10,14 +10,14 @@ use Rattle.ospf_config.specs.Conflicts.{network_part}
 use Rattle.ospf_config.specs.declared.config.Config.{Config}
 use Rattle.ospf_config.specs.declared.interface.Interface.{Interface}
 use Rattle.ospf_config.specs.declared.address.InterfaceAddress.{InterfaceAddress}
-use Rattle.ospf_plan.specs.declared.ends.End.{End}
+use Rattle.ospf_plan.specs.declared.ends.LinkEnd.{LinkEnd}
 use Rattle.ospf_plan.specs.declared.maps.Maps.{Maps}
 
 -- ---- the interfaces
 
 -- an interface of a configuration, with their numbers
-abbrev pub end_of : ℕ × Config → ℕ × Interface → End
-end_of f i = record {
+abbrev pub link_end_of : ℕ × Config → ℕ × Interface → LinkEnd
+link_end_of f i = record {
   file = f.0;
   link = i.0;
   router = f.1.router_id;
@@ -34,19 +34,19 @@ end_of f i = record {
 }
 
 -- the interfaces of a configuration, in order
-abbrev pub ends_at : ℕ × Config → List End
-ends_at f = map (end_of f) (enumerate_from 0 f.1.interfaces.items)
+abbrev pub ends_at : ℕ × Config → List LinkEnd
+ends_at f = map (link_end_of f) (enumerate_from 0 f.1.interfaces.items)
 
 -- the interfaces of configurations, in order
-abbrev pub ends_of : List Config → List End
+abbrev pub ends_of : List Config → List LinkEnd
 ends_of configs = flat_map ends_at (enumerate_from 0 configs)
 
 -- the same interface of the same configuration
-abbrev pub is_same : End → End → Bool
+abbrev pub is_same : LinkEnd → LinkEnd → Bool
 is_same d e = (d.file == e.file) && (d.link == e.link)
 
 -- it can be elected (RFC 2328, section 9.4)
-abbrev pub can_be_elected : End → Bool
+abbrev pub can_be_elected : LinkEnd → Bool
 can_be_elected e = nat_lt 0 e.priority
 
 -- an InfTransDelay by which an LSA becomes another instance as it is sent (RFC 2328, sections 13.1 and 13.3)
@@ -54,11 +54,11 @@ abbrev pub is_slow : ℕ → Bool
 is_slow delay = nat_lt max_age_diff delay
 
 -- the interface has such a one
-abbrev pub is_slow_end : End → Bool
+abbrev pub is_slow_end : LinkEnd → Bool
 is_slow_end e = is_slow e.transmit_delay
 
 -- the port of an interface, and 0 where it has none
-abbrev pub port_of : End → ℕ
+abbrev pub port_of : LinkEnd → ℕ
 port_of e = elim e.port [ None ↦ 0 | Some p ↦ p.number ]
 
 -- ---- the networks: a length, and the address without the bits behind so many
@@ -72,19 +72,19 @@ abbrev pub same_network : ℕ × ℕ → ℕ × ℕ → Bool
 same_network k q = (k.0 == q.0) && (k.1 == q.1)
 
 -- the first of the interfaces on the network
-abbrev pub first_on : List End → ℕ × ℕ → Option End
+abbrev pub first_on : List LinkEnd → ℕ × ℕ → Option LinkEnd
 first_on ends q = find (λ e. same_network (network_of e.address) q) ends
 
 -- the first of the interfaces with the address
-abbrev pub first_at : List End → ℕ → Option End
+abbrev pub first_at : List LinkEnd → ℕ → Option LinkEnd
 first_at ends a = find (λ e. e.address.address.0 == a) ends
 
 -- the first of the interfaces of a router with the Router ID
-abbrev pub first_of : List End → ℕ → Option End
+abbrev pub first_of : List LinkEnd → ℕ → Option LinkEnd
 first_of ends r = find (λ e. e.router.0 == r) ends
 
 -- the first of the interfaces with the port
-abbrev pub first_at_port : List End → ℕ → Option End
+abbrev pub first_at_port : List LinkEnd → ℕ → Option LinkEnd
 first_at_port ends p = find (λ e. port_of e == p) ends
 
 -- the network of so many bits that holds an address
@@ -92,47 +92,47 @@ abbrev pub network_under : InterfaceAddress → ℕ → ℕ × ℕ
 network_under a n = (n, bit_and a.address.0 (mask_of n))
 
 -- the first of the interfaces on the shortest network of fewer than n bits that holds the address
-abbrev pub first_around : List End → InterfaceAddress → ℕ → Option End
+abbrev pub first_around : List LinkEnd → InterfaceAddress → ℕ → Option LinkEnd
 first_around ends a zero = None
 first_around ends a (suc n) = option_or (first_around ends a n) (first_on ends (network_under a n))
 
 -- the interface is the one that was found
-abbrev pub is_found : Option End → End → Bool
+abbrev pub is_found : Option LinkEnd → LinkEnd → Bool
 is_found None e = false
 is_found (Some d) e = is_same d e
 
 -- those that are not the first on their networks
-abbrev pub others : List End → List End
+abbrev pub others : List LinkEnd → List LinkEnd
 others ends = filter (λ e. not (is_found (first_on ends (network_of e.address)) e)) ends
 
 -- ---- maps of them
 
 -- what a map has at a network
-abbrev pub end_in : tree.BTreeMap (ℕ × ℕ) End → ℕ × ℕ → Option End
+abbrev pub end_in : tree.BTreeMap (ℕ × ℕ) LinkEnd → ℕ × ℕ → Option LinkEnd
 end_in m q = tree.get (λ (k q : ℕ × ℕ). ordering_then (nat_cmp k.0 q.0) (nat_cmp k.1 q.1)) m q
 
 -- the map has the first on each network
-abbrev pub AreFirsts : tree.BTreeMap (ℕ × ℕ) End → List End → Type 0
+abbrev pub AreFirsts : tree.BTreeMap (ℕ × ℕ) LinkEnd → List LinkEnd → Type 0
 AreFirsts m ends = (q : ℕ × ℕ) → end_in m q ≡ first_on ends q
 
 -- what a map has at an address
-abbrev pub holder_in : tree.BTreeMap ℕ End → ℕ → Option End
+abbrev pub holder_in : tree.BTreeMap ℕ LinkEnd → ℕ → Option LinkEnd
 holder_in m a = tree.get nat_cmp m a
 
 -- the map has the first of each router
-abbrev pub AreRouters : tree.BTreeMap ℕ End → List End → Type 0
+abbrev pub AreRouters : tree.BTreeMap ℕ LinkEnd → List LinkEnd → Type 0
 AreRouters m ends = (r : ℕ) → holder_in m r ≡ first_of ends r
 
 -- the map has the first with each address
-abbrev pub AreHolders : tree.BTreeMap ℕ End → List End → Type 0
+abbrev pub AreHolders : tree.BTreeMap ℕ LinkEnd → List LinkEnd → Type 0
 AreHolders m ends = (a : ℕ) → holder_in m a ≡ first_at ends a
 
 -- the map has the first with each port
-abbrev pub ArePorts : tree.BTreeMap ℕ End → List End → Type 0
+abbrev pub ArePorts : tree.BTreeMap ℕ LinkEnd → List LinkEnd → Type 0
 ArePorts m ends = (p : ℕ) → holder_in m p ≡ first_at_port ends p
 
 -- the maps of an area's interfaces
-pub record AreMaps (m : Maps) (ends : List End) : Type 0 where
+pub record AreMaps (m : Maps) (ends : List LinkEnd) : Type 0 where
   pub routers : AreRouters m.routers ends
   pub holders : AreHolders m.holders ends
   pub firsts : AreFirsts m.firsts ends

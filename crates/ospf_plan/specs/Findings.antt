@@ -3,11 +3,11 @@ use Rattle.std.specs.Prelude.{◌==◌, ◌&&◌, not, Bool, true, false, List, 
 use Rattle.std.specs.List.{filter_map, flat_map}
 use Rattle.ospf_base.specs.declared.interface.InterfaceKind.{InterfaceKind}
 use Rattle.ospf_base.specs.declared.interface.InterfaceKind.TheVariants.{PointToPoint, Broadcast}
-use Rattle.ospf_plan.specs.declared.ends.End.{End}
+use Rattle.ospf_plan.specs.declared.ends.LinkEnd.{LinkEnd}
 use Rattle.ospf_plan.specs.declared.fault.AreaFault.{AreaFault}
 use Rattle.ospf_plan.specs.declared.fault.AreaFault.TheVariants as fault
 use Rattle.ospf_plan.specs.declared.finding.Finding.{Finding}
-use Rattle.ospf_plan.specs.declared.finding.Around.{Around}
+use Rattle.ospf_plan.specs.declared.finding.Surroundings.{Surroundings}
 use Rattle.ospf_plan.specs.Ends.{can_be_elected, first_around, first_at, first_at_port, first_of, first_on, is_found, is_same, is_slow_end, network_of, others, port_of}
 
 -- the faults that are looked for at each interface, in the order in which they are told
@@ -18,7 +18,7 @@ every_fault =
 
 -- what stands around an interface: the first of its router's Router ID, the first with its address, on its network the first three and the
 -- first that can be elected and that is slow, the first on the shortest network of fewer bits that holds its address, and the first with its port
-abbrev pub around_of : List End → End → Around
+abbrev pub around_of : List LinkEnd → LinkEnd → Surroundings
 around_of ends e =
     let q = network_of e.address in
     record {
@@ -39,7 +39,7 @@ same_kind Broadcast Broadcast = true
 same_kind _ _ = false
 
 -- the other interface of the finding
-abbrev pub other_of : AreaFault → Around → Option End
+abbrev pub other_of : AreaFault → Surroundings → Option LinkEnd
 other_of fault.SameRouter a = a.router
 other_of fault.SameAddress a = a.holder
 other_of fault.Mask a = a.wider
@@ -50,7 +50,7 @@ other_of fault.SamePort a = a.plug
 other_of _ a = a.first
 
 -- the fault is between the other interface d and this one
-abbrev pub is_wrong : AreaFault → Around → End → End → Bool
+abbrev pub is_wrong : AreaFault → Surroundings → LinkEnd → LinkEnd → Bool
 is_wrong fault.SameRouter a d e = (e.link == 0) && not (d.file == e.file)
 is_wrong fault.SameAddress a d e = not (is_same d e)
 is_wrong fault.Area a d e = not (d.area.0 == e.area.0)
@@ -71,13 +71,13 @@ is_wrong fault.Delay a d e = is_slow_end e && not (is_same d e)
 is_wrong fault.SamePort a d e = is_some e.port && not (is_same d e)
 
 -- the finding, where the other interface is there and the fault is between the two
-abbrev pub found : Around → End → AreaFault → Option Finding
+abbrev pub found : Surroundings → LinkEnd → AreaFault → Option Finding
 found a e f = option_and_then (λ d. if is_wrong f a d e then Some (record { fault = f; other = d; here = e }) else None) (other_of f a)
 
 -- what is found at an interface, in the order of the faults
-abbrev pub found_at : List End → End → List Finding
+abbrev pub found_at : List LinkEnd → LinkEnd → List Finding
 found_at ends e = filter_map (found (around_of ends e) e) every_fault
 
 -- what is found, in the order of the interfaces
-abbrev pub found_in : List End → List Finding
+abbrev pub found_in : List LinkEnd → List Finding
 found_in ends = flat_map (found_at ends) ends

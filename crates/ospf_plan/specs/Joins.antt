@@ -13,23 +13,23 @@ pub data IsJoined (joins : List Join) (r : ℕ) : ℕ → Type 0 where
 -- ---- how it is found
 
 -- what a set has
-abbrev pub has : sorted.BTreeSet ℕ → ℕ → Bool
-has s q = sorted.contains nat_cmp s q
+abbrev pub set_has : sorted.BTreeSet ℕ → ℕ → Bool
+set_has s q = sorted.contains nat_cmp s q
 
 -- an end of the join is reached
 abbrev pub touches : (ℕ → Bool) → Join → Bool
 touches s j = s j.one || s j.other
 
 -- what is reached behind the join
-abbrev pub marked : (ℕ → Bool) → Join → ℕ → Bool
-marked s j q = s q || (touches s j && ((j.one == q) || (j.other == q)))
+abbrev pub marked_by : (ℕ → Bool) → Join → ℕ → Bool
+marked_by s j q = s q || (touches s j && ((j.one == q) || (j.other == q)))
 
 -- what is reached behind the joins, one after the other
-abbrev pub after : (ℕ → Bool) → List Join → ℕ → Bool
-after s [] q = s q
-after s (j ∷ js) q = after (marked s j) js q
+abbrev pub reached_after : (ℕ → Bool) → List Join → ℕ → Bool
+reached_after s [] q = s q
+reached_after s (j ∷ js) q = reached_after (marked_by s j) js q
 
 -- the joins that are not reached
 abbrev pub left : (ℕ → Bool) → List Join → List Join
 left s [] = []
-left s (j ∷ js) = if touches s j then left (marked s j) js else j ∷ left (marked s j) js
+left s (j ∷ js) = if touches s j then left (marked_by s j) js else j ∷ left (marked_by s j) js

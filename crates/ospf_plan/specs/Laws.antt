@@ -4,39 +4,39 @@ use Rattle.ospf_base.specs.Masks.{mask_of}
 use Rattle.ospf_packet.specs.declared.body.Hello.{Hello}
 use Rattle.ospf_iface.specs.Hello.{Agrees, AreFieldsOf}
 use Rattle.ospf_iface.specs.declared.machine.Iface.{Iface}
-use Rattle.ospf_plan.specs.declared.ends.End.{End}
+use Rattle.ospf_plan.specs.declared.ends.LinkEnd.{LinkEnd}
 use Rattle.ospf_plan.specs.declared.fault.AreaFault.{AreaFault}
 use Rattle.ospf_plan.specs.declared.fault.AreaFault.TheVariants as fault
 use Rattle.ospf_plan.specs.declared.finding.Finding.{Finding}
 use Rattle.ospf_config.specs.declared.config.Config.{Config}
-use Rattle.ospf_plan.specs.declared.wires.Wire.{Wire}
+use Rattle.ospf_plan.specs.declared.wires.PeerWire.{PeerWire}
 use Rattle.ospf_plan.specs.Ends.{ends_of, first_at_port, network_of, port_of}
-use Rattle.ospf_plan.specs.Wires.{is_beside, is_wired, key_of, wire_faults_in, wires_of}
+use Rattle.ospf_plan.specs.Wires.{is_beside, is_wired, wire_key, wire_faults_in, wires_of}
 use Rattle.ospf_plan.specs.Parts.{AreFindings, IsWay, apart_in, first_of_all}
 use Rattle.ospf_plan.specs.Findings.{around_of, found_in, is_wrong, other_of}
 
 -- the finding holds: its interface is one of these, its other is whom the fault is about, and the fault is between the two
-pub record Holds (ends : List End) (f : Finding) : Type 0 where
+pub record FindingHolds (ends : List LinkEnd) (f : Finding) : Type 0 where
   pub here : Contains ends f.here
   pub other : other_of f.fault (around_of ends f.here) ≡ Some f.other
   pub wrong : is_wrong f.fault (around_of ends f.here) f.other f.here ≡ true
 
 -- the fault holds of a wire: no interface has its port, or that which has it is on another network, or does not send back
-pub data IsFaultOfWire (ends : List End) (wires : List Wire) (w : Wire) : AreaFault → End → Type 0 where
+pub data IsFaultOfWire (ends : List LinkEnd) (wires : List PeerWire) (w : PeerWire) : AreaFault → LinkEnd → Type 0 where
   to_nobody : first_at_port ends w.peer ≡ None → IsFaultOfWire ends wires w (fault.Nowhere w.peer) w.end
-  to_another_network : (d : End) → first_at_port ends w.peer ≡ Some d → is_beside d w.end ≡ false → IsFaultOfWire ends wires w fault.Astray d
-  to_silence : (d : End) → first_at_port ends w.peer ≡ Some d → is_beside d w.end ≡ true → is_wired wires (key_of d (port_of w.end)) ≡ false
+  to_another_network : (d : LinkEnd) → first_at_port ends w.peer ≡ Some d → is_beside d w.end ≡ false → IsFaultOfWire ends wires w fault.Astray d
+  to_silence : (d : LinkEnd) → first_at_port ends w.peer ≡ Some d → is_beside d w.end ≡ true → is_wired wires (wire_key d (port_of w.end)) ≡ false
       → IsFaultOfWire ends wires w fault.OneSided d
 
 -- the finding holds of a wire of its interface
-pub record HoldsOfWire (ends : List End) (wires : List Wire) (f : Finding) : Type 0 where
-  pub wire : Wire
+pub record HoldsOfWire (ends : List LinkEnd) (wires : List PeerWire) (f : Finding) : Type 0 where
+  pub wire : PeerWire
   pub among : Contains wires wire
   pub here : f.here ≡ wire.end
   pub holds : IsFaultOfWire ends wires wire f.fault f.other
 
 -- the finding holds of a file: no way leads there from the first, and its interface is the first of it
-pub record HoldsApart (ends : List End) (f : Finding) : Type 0 where
+pub record HoldsApart (ends : List LinkEnd) (f : Finding) : Type 0 where
   pub fault : f.fault ≡ fault.Apart
   pub here : Contains ends f.here
   pub link : f.here.link ≡ 0
@@ -47,46 +47,46 @@ pub record HoldsApart (ends : List End) (f : Finding) : Type 0 where
 abbrev pub TellsExactly : Type 0
 TellsExactly =
     (configs : List Config) (fs : List Finding) (f : Finding) → AreFindings configs fs
-    → Contains fs f ↔ ((Holds (ends_of configs) f ⊎ HoldsOfWire (ends_of configs) (wires_of configs) f) ⊎ HoldsApart (ends_of configs) f)
+    → Contains fs f ↔ ((FindingHolds (ends_of configs) f ⊎ HoldsOfWire (ends_of configs) (wires_of configs) f) ⊎ HoldsApart (ends_of configs) f)
 
 -- ---- the order in which it is told
 
 -- each member is in the relation with each later one
-abbrev pub IsRising : {X : Type 0} → (X → X → Type 0) → List X → Type 0
-IsRising R [] = ⊤
-IsRising {X} R (x ∷ xs) = ((y : X) → Contains xs y → R x y) × IsRising R xs
+abbrev pub IsRisingBy : {X : Type 0} → (X → X → Type 0) → List X → Type 0
+IsRisingBy R [] = ⊤
+IsRisingBy {X} R (x ∷ xs) = ((y : X) → Contains xs y → R x y) × IsRisingBy R xs
 
 -- in an earlier configuration, or in the same and earlier
-abbrev pub IsAhead : End → End → Type 0
+abbrev pub IsAhead : LinkEnd → LinkEnd → Type 0
 IsAhead d e = (d.file < e.file) ⊎ ((d.file ≡ e.file) × (d.link < e.link))
 
-abbrev pub fault_number : AreaFault → ℕ
-fault_number fault.SameRouter = 1
-fault_number fault.SameAddress = 2
-fault_number fault.Area = 3
-fault_number fault.Kind = 4
-fault_number fault.Hello = 5
-fault_number fault.Dead = 6
-fault_number fault.Mtu = 7
-fault_number fault.Mask = 8
-fault_number fault.Crowded = 9
-fault_number fault.NoDr = 10
-fault_number fault.OneSided = 11
-fault_number fault.Cost = 12
-fault_number fault.Alone = 13
-fault_number fault.Delay = 14
-fault_number fault.SamePort = 15
-fault_number fault.Astray = 16
-fault_number (fault.Nowhere peer) = 17
-fault_number fault.Apart = 18
+abbrev pub area_fault_number : AreaFault → ℕ
+area_fault_number fault.SameRouter = 1
+area_fault_number fault.SameAddress = 2
+area_fault_number fault.Area = 3
+area_fault_number fault.Kind = 4
+area_fault_number fault.Hello = 5
+area_fault_number fault.Dead = 6
+area_fault_number fault.Mtu = 7
+area_fault_number fault.Mask = 8
+area_fault_number fault.Crowded = 9
+area_fault_number fault.NoDr = 10
+area_fault_number fault.OneSided = 11
+area_fault_number fault.Cost = 12
+area_fault_number fault.Alone = 13
+area_fault_number fault.Delay = 14
+area_fault_number fault.SamePort = 15
+area_fault_number fault.Astray = 16
+area_fault_number (fault.Nowhere peer) = 17
+area_fault_number fault.Apart = 18
 
 -- of an earlier interface, or of the same and of a fault of lesser number
-abbrev pub IsBefore : Finding → Finding → Type 0
-IsBefore f g = IsAhead f.here g.here ⊎ ((f.here ≡ g.here) × (fault_number f.fault < fault_number g.fault))
+abbrev pub IsFindingBefore : Finding → Finding → Type 0
+IsFindingBefore f g = IsAhead f.here g.here ⊎ ((f.here ≡ g.here) × (area_fault_number f.fault < area_fault_number g.fault))
 
 -- what is told of interfaces is told in order, and so once
 abbrev pub TellsInOrder : Type 0
-TellsInOrder = (configs : List Config) → IsRising IsBefore (found_in (ends_of configs))
+TellsInOrder = (configs : List Config) → IsRisingBy IsFindingBefore (found_in (ends_of configs))
 
 -- of an earlier interface, or of the same
 abbrev pub IsNotBehind : Finding → Finding → Type 0
@@ -94,16 +94,16 @@ IsNotBehind f g = IsAhead f.here g.here ⊎ (f.here ≡ g.here)
 
 -- what is told of who sends to whom is told in the order of the interfaces
 abbrev pub TellsWiresInOrder : Type 0
-TellsWiresInOrder = (configs : List Config) → IsRising IsNotBehind (wire_faults_in (ends_of configs) (wires_of configs))
+TellsWiresInOrder = (configs : List Config) → IsRisingBy IsNotBehind (wire_faults_in (ends_of configs) (wires_of configs))
 
 -- what is told of the parts of the area is told in the order of the files, and so once
 abbrev pub TellsPartsInOrder : Type 0
-TellsPartsInOrder = (configs : List Config) (reached : ℕ → Bool) → IsRising (λ (f g : Finding). IsAhead f.here g.here) (apart_in reached (ends_of configs))
+TellsPartsInOrder = (configs : List Config) (reached : ℕ → Bool) → IsRisingBy (λ (f g : Finding). IsAhead f.here g.here) (apart_in reached (ends_of configs))
 
 -- ---- Hellos
 
 -- an interface of a router that is so configured
-pub record IsIfaceOf (e : End) (i : Iface) : Type 0 where
+pub record IsIfaceOf (e : LinkEnd) (i : Iface) : Type 0 where
   pub kind : i.settings.kind ≡ e.kind
   pub mask : i.settings.mask ≡ mask_of e.address.length
   pub hello : i.settings.hello ≡ e.hello
@@ -114,22 +114,22 @@ abbrev pub IsOfHellos : AreaFault → Type 0
 IsOfHellos f = (f ≡ fault.Hello) ⊎ (f ≡ fault.Dead)
 
 -- the interface does not agree with any Hello that the other sends (RFC 2328, sections 9.5 and 10.5)
-abbrev pub Refuses : End → End → Type 0
-Refuses e d = (i j : Iface) (h : Hello) → IsIfaceOf e i → IsIfaceOf d j → AreFieldsOf j h → Agrees i h → ⊥
+abbrev pub RefusesHellos : LinkEnd → LinkEnd → Type 0
+RefusesHellos e d = (i j : Iface) (h : Hello) → IsIfaceOf e i → IsIfaceOf d j → AreFieldsOf j h → Agrees i h → ⊥
 
 -- it agrees with each
-abbrev pub Takes : End → End → Type 0
-Takes e d = (i j : Iface) (h : Hello) → IsIfaceOf e i → IsIfaceOf d j → AreFieldsOf j h → Agrees i h
+abbrev pub TakesHellos : LinkEnd → LinkEnd → Type 0
+TakesHellos e d = (i j : Iface) (h : Hello) → IsIfaceOf e i → IsIfaceOf d j → AreFieldsOf j h → Agrees i h
 
 -- of two interfaces of which a fault of Hellos is told, each refuses the other's
 abbrev pub ToldRefuse : Type 0
-ToldRefuse = (ends : List End) (f : Finding) → Contains (found_in ends) f → IsOfHellos f.fault → Refuses f.here f.other × Refuses f.other f.here
+ToldRefuse = (ends : List LinkEnd) (f : Finding) → Contains (found_in ends) f → IsOfHellos f.fault → RefusesHellos f.here f.other × RefusesHellos f.other f.here
 
 -- no fault of Hellos is told of an interface on the network
-abbrev pub NoneTold : List End → ℕ × ℕ → Type 0
+abbrev pub NoneTold : List LinkEnd → ℕ × ℕ → Type 0
 NoneTold ends q = (f : Finding) → Contains (found_in ends) f → IsOfHellos f.fault → network_of f.here.address ≡ q → ⊥
 
 -- of a network of which none is told, each two interfaces take each other's Hellos
 abbrev pub OthersTake : Type 0
-OthersTake = (ends : List End) (d e : End) → Contains ends d → Contains ends e → network_of d.address ≡ network_of e.address → NoneTold ends (network_of e.address)
-    → Takes d e
+OthersTake = (ends : List LinkEnd) (d e : LinkEnd) → Contains ends d → Contains ends e → network_of d.address ≡ network_of e.address → NoneTold ends (network_of e.address)
+    → TakesHellos d e

@@ -8,7 +8,7 @@ use Rattle.ospf_base.specs.declared.interface.InterfaceKind.{InterfaceKind}
 use Rattle.ospf_base.specs.declared.interface.InterfaceKind.TheVariants.{PointToPoint, Broadcast}
 use Rattle.ospf_config.specs.Conflicts.{network_part}
 use Rattle.ospf_config.specs.declared.config.Config.{Config}
-use Rattle.ospf_plan.specs.declared.ends.End.{End}
+use Rattle.ospf_plan.specs.declared.ends.LinkEnd.{LinkEnd}
 use Rattle.ospf_plan.specs.declared.fault.AreaFault.TheVariants as fault
 use Rattle.ospf_plan.specs.declared.finding.Finding.{Finding}
 use Rattle.ospf_plan.specs.declared.joins.Join.{Join}
@@ -27,34 +27,34 @@ kind_number Broadcast = 1
 abbrev pub LinkKey : Type 0
 LinkKey = ℕ × ℕ × ℕ × ℕ × ℕ × ℕ × ℕ
 
-abbrev pub link_of : End → LinkKey
+abbrev pub link_of : LinkEnd → LinkKey
 link_of e = (e.address.length, network_part e.address, e.area.0, kind_number e.kind, e.hello, e.dead, e.mtu)
 
 -- from one file to another by interfaces of one link each
-pub data IsWay (ends : List End) (r : ℕ) : ℕ → Type 0 where
+pub data IsWay (ends : List LinkEnd) (r : ℕ) : ℕ → Type 0 where
   stay : IsWay ends r r
-  cross : (d e : End) → Contains ends d → Contains ends e → link_of d ≡ link_of e → IsWay ends r d.file → IsWay ends r e.file
+  cross : (d e : LinkEnd) → Contains ends d → Contains ends e → link_of d ≡ link_of e → IsWay ends r d.file → IsWay ends r e.file
 
 -- these files are reached from the first
-abbrev pub AreReached : List End → (ℕ → Bool) → Type 0
+abbrev pub AreReached : List LinkEnd → (ℕ → Bool) → Type 0
 AreReached ends reached = (q : ℕ) → (reached q ≡ true) ↔ IsWay ends 0 q
 
 -- ---- what is told
 
 -- the first interface of all
-abbrev pub first_of_all : List End → Option End
+abbrev pub first_of_all : List LinkEnd → Option LinkEnd
 first_of_all ends = slice_get ends 0
 
 -- it is the first interface of a file that is not reached
-abbrev pub is_apart : (ℕ → Bool) → End → Bool
+abbrev pub is_apart : (ℕ → Bool) → LinkEnd → Bool
 is_apart reached e = (e.link == 0) && not (reached e.file)
 
 -- the finding that it is
-abbrev pub apart : (ℕ → Bool) → Option End → End → Option Finding
+abbrev pub apart : (ℕ → Bool) → Option LinkEnd → LinkEnd → Option Finding
 apart reached first e = option_and_then (λ d. if is_apart reached e then Some (record { fault = fault.Apart; other = d; here = e }) else None) first
 
 -- the files that are not reached, in order
-abbrev pub apart_in : (ℕ → Bool) → List End → List Finding
+abbrev pub apart_in : (ℕ → Bool) → List LinkEnd → List Finding
 apart_in reached ends = filter_map (apart reached (first_of_all ends)) ends
 
 -- what is wrong between configurations: of their interfaces in order, then of who sends to whom, and then of the parts of the area
@@ -69,7 +69,7 @@ abbrev pub same_link : LinkKey → LinkKey → Bool
 same_link k q = ((((((k.0 == q.0) && (k.1 == q.1)) && (k.2 == q.2)) && (k.3 == q.3)) && (k.4 == q.4)) && (k.5 == q.5)) && (k.6 == q.6)
 
 -- the first of the interfaces of the link
-abbrev pub first_linked : List End → LinkKey → Option End
+abbrev pub first_linked : List LinkEnd → LinkKey → Option LinkEnd
 first_linked ends k = find (λ e. same_link (link_of e) k) ends
 
 -- how links are ordered
@@ -79,16 +79,16 @@ link_cmp a b =
     (nat_cmp a.2 b.2)) (nat_cmp a.3 b.3)) (nat_cmp a.4 b.4)) (nat_cmp a.5 b.5)) (nat_cmp a.6 b.6)
 
 -- what a map has of a link
-abbrev pub linked_in : tree.BTreeMap LinkKey End → LinkKey → Option End
+abbrev pub linked_in : tree.BTreeMap LinkKey LinkEnd → LinkKey → Option LinkEnd
 linked_in m k = tree.get (λ (a b : LinkKey). link_cmp a b) m k
 
 -- the map has the first of each link
-abbrev pub AreLinks : tree.BTreeMap LinkKey End → List End → Type 0
-AreLinks m ends = (k : LinkKey) → linked_in m k ≡ first_linked ends k
+abbrev pub AreFirstLinks : tree.BTreeMap LinkKey LinkEnd → List LinkEnd → Type 0
+AreFirstLinks m ends = (k : LinkKey) → linked_in m k ≡ first_linked ends k
 
 -- an interface joins its file with that of the first of its link
-abbrev pub join_at : (LinkKey → Option End) → End → Option Join
+abbrev pub join_at : (LinkKey → Option LinkEnd) → LinkEnd → Option Join
 join_at linked e = option_map (λ d. record { one = d.file; other = e.file }) (linked (link_of e))
 
-abbrev pub joins_of : List End → List Join
+abbrev pub joins_of : List LinkEnd → List Join
 joins_of ends = filter_map (join_at (first_linked ends)) ends

@@ -3,32 +3,32 @@ use Rattle.std.specs.Prelude.{ℕ, Bool, true, false, List, [], Option, None, So
 use Rattle.ospf_base.specs.Text.{number_text}
 use Rattle.ospf_config.specs.Texts.{kind_text}
 use Rattle.ospf_config.specs.declared.interface.Port.{Port}
-use Rattle.ospf_plan.specs.declared.ends.End.{End}
+use Rattle.ospf_plan.specs.declared.ends.LinkEnd.{LinkEnd}
 use Rattle.ospf_plan.specs.declared.finding.Finding.{Finding}
-use Rattle.ospf_plan.specs.declared.told.Told.{Told}
+use Rattle.ospf_plan.specs.declared.told.NamedFinding.{NamedFinding}
 use Rattle.ospf_plan.specs.declared.fault.AreaFault.{AreaFault}
 use Rattle.ospf_plan.specs.declared.fault.AreaFault.TheVariants as fault
 
 -- the number and the name of a fault
-abbrev pub fault_text : AreaFault → List ℕ
-fault_text fault.SameRouter = codes "A1 SameRouter"
-fault_text fault.SameAddress = codes "A2 SameAddress"
-fault_text fault.Area = codes "A3 Area"
-fault_text fault.Kind = codes "A4 Kind"
-fault_text fault.Hello = codes "A5 Hello"
-fault_text fault.Dead = codes "A6 Dead"
-fault_text fault.Mtu = codes "A7 Mtu"
-fault_text fault.Mask = codes "A8 Mask"
-fault_text fault.Crowded = codes "A9 Crowded"
-fault_text fault.NoDr = codes "A10 NoDr"
-fault_text fault.OneSided = codes "A11 OneSided"
-fault_text fault.Cost = codes "A12 Cost"
-fault_text fault.Alone = codes "A13 Alone"
-fault_text fault.Delay = codes "A14 Delay"
-fault_text fault.SamePort = codes "A15 SamePort"
-fault_text fault.Astray = codes "A16 Astray"
-fault_text (fault.Nowhere peer) = codes "A17 Nowhere"
-fault_text fault.Apart = codes "A18 Apart"
+abbrev pub area_fault_text : AreaFault → List ℕ
+area_fault_text fault.SameRouter = codes "A1 SameRouter"
+area_fault_text fault.SameAddress = codes "A2 SameAddress"
+area_fault_text fault.Area = codes "A3 Area"
+area_fault_text fault.Kind = codes "A4 Kind"
+area_fault_text fault.Hello = codes "A5 Hello"
+area_fault_text fault.Dead = codes "A6 Dead"
+area_fault_text fault.Mtu = codes "A7 Mtu"
+area_fault_text fault.Mask = codes "A8 Mask"
+area_fault_text fault.Crowded = codes "A9 Crowded"
+area_fault_text fault.NoDr = codes "A10 NoDr"
+area_fault_text fault.OneSided = codes "A11 OneSided"
+area_fault_text fault.Cost = codes "A12 Cost"
+area_fault_text fault.Alone = codes "A13 Alone"
+area_fault_text fault.Delay = codes "A14 Delay"
+area_fault_text fault.SamePort = codes "A15 SamePort"
+area_fault_text fault.Astray = codes "A16 Astray"
+area_fault_text (fault.Nowhere peer) = codes "A17 Nowhere"
+area_fault_text fault.Apart = codes "A18 Apart"
 
 -- what is a note, and no fault
 abbrev pub is_note : AreaFault → Bool
@@ -64,7 +64,7 @@ port_text None = codes "no port"
 port_text (Some port) = codes "port " ++ decimal port.number
 
 -- a value of an interface that a fault is about, with the key that it stands at
-abbrev pub value_text : AreaFault → End → List ℕ
+abbrev pub value_text : AreaFault → LinkEnd → List ℕ
 value_text fault.SameRouter e = codes "router_id " ++ number_text e.router.0
 value_text fault.Apart e = codes "router_id " ++ number_text e.router.0
 value_text fault.Area e = codes "area " ++ number_text e.area.0
@@ -82,24 +82,24 @@ value_text (fault.Nowhere peer) e = codes "peers " ++ decimal peer
 value_text _ e = codes "address " ++ number_text e.address.address.0 ++ codes "/" ++ decimal e.address.length
 
 -- where the value stands: at the top, or at an interface
-abbrev pub place_text : AreaFault → End → List ℕ
+abbrev pub place_text : AreaFault → LinkEnd → List ℕ
 place_text fault.SameRouter e = []
 place_text fault.Apart e = []
 place_text _ e = codes "interface " ++ decimal e.link ++ codes ": "
 
 -- what an interface has, and where
-abbrev pub side_text : AreaFault → End → List ℕ
+abbrev pub side_text : AreaFault → LinkEnd → List ℕ
 side_text f e = place_text f e ++ value_text f e
 
 -- what the other interface has, and nothing where there is none
-abbrev pub other_text : AreaFault → End → List ℕ → List ℕ
+abbrev pub other_text : AreaFault → LinkEnd → List ℕ → List ℕ
 other_text fault.Alone e name = []
 other_text (fault.Nowhere peer) e name = []
 other_text f e name = codes ", " ++ name ++ codes ": " ++ side_text f e
 
 -- as `b.toml: A5 Hello: interface 1: hello 5, a.toml: interface 0: hello 10`, by the names of the two files
 abbrev pub finding_text : Finding → (here other : List ℕ) → List ℕ
-finding_text f here other = (here ++ codes ": " ++ fault_text f.fault ++ codes ": ") ++ side_text f.fault f.here ++ other_text f.fault f.other other
+finding_text f here other = (here ++ codes ": " ++ area_fault_text f.fault ++ codes ": ") ++ side_text f.fault f.here ++ other_text f.fault f.other other
 
-abbrev pub told_text : Told → List ℕ
+abbrev pub told_text : NamedFinding → List ℕ
 told_text t = finding_text t.finding t.here.now t.other.now

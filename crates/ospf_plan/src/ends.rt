@@ -1,7 +1,7 @@
 //! The interfaces of an area's configurations.
 
 ghost use Rattle.std.specs.Prelude.{◌≡◌, ◌++◌, IfOk, OnOk, filter};
-ghost use Rattle.ospf_plan.specs.Ends.{can_be_elected, end_of, ends_at, ends_of, is_slow, is_slow_end, port_of};
+ghost use Rattle.ospf_plan.specs.Ends.{can_be_elected, link_end_of, ends_at, ends_of, is_slow, is_slow_end, port_of};
 
 use ospf_base::{AreaId, InterfaceKind, RouterId};
 use ospf_config::{Config, Interface, InterfaceAddress, Port};
@@ -12,7 +12,7 @@ const MAX_AGE_DIFF: u16 = 900;
 
 /// An interface of one of the configurations, as the others of its network see it.
 #[derive(Clone, Copy, Debug, PartialEq, Eq)]
-pub struct End {
+pub struct LinkEnd {
     /// The number of the configuration, from 0.
     pub file: usize,
     /// The number of the interface in it, from 0.
@@ -40,10 +40,10 @@ pub fn is_slow(transmit_delay: u16) -> bool
 }
 
 // An interface of a configuration, with their numbers.
-pub(crate) fn end_of(file: usize, config: &Config, link: usize, interface: &Interface) -> End
-    ensures { result ≡ end_of (file, config.now) (link, interface.now) }
+pub(crate) fn end_of(file: usize, config: &Config, link: usize, interface: &Interface) -> LinkEnd
+    ensures { result ≡ link_end_of (file, config.now) (link, interface.now) }
 {
-    End {
+    LinkEnd {
         file,
         link,
         router: config.router_id,
@@ -61,7 +61,7 @@ pub(crate) fn end_of(file: usize, config: &Config, link: usize, interface: &Inte
 }
 
 // The interfaces of configurations, in order.
-pub(crate) fn ends_of(alloc: Global, configs: &[Config]) -> Result<Vec<End>, AllocError>
+pub(crate) fn ends_of(alloc: Global, configs: &[Config]) -> Result<Vec<LinkEnd>, AllocError>
     ensures { IfOk result (λ ends. ends.items ≡ ends_of configs.now) }
 {
     let mut ends = Vec::new(alloc);
@@ -72,7 +72,7 @@ pub(crate) fn ends_of(alloc: Global, configs: &[Config]) -> Result<Vec<End>, All
 }
 
 /// The ends that can be elected as Designated Router.
-pub(crate) fn electors(alloc: Global, ends: &[End]) -> Result<Vec<End>, AllocError>
+pub(crate) fn electors(alloc: Global, ends: &[LinkEnd]) -> Result<Vec<LinkEnd>, AllocError>
     ensures { IfOk result (λ some. some.items ≡ filter can_be_elected ends.now) }
 {
     let mut some = Vec::new(alloc);
@@ -85,7 +85,7 @@ pub(crate) fn electors(alloc: Global, ends: &[End]) -> Result<Vec<End>, AllocErr
 }
 
 // The port of an interface; 0 where it has none.
-pub(crate) fn port_of(end: &End) -> u16
+pub(crate) fn port_of(end: &LinkEnd) -> u16
     ensures { result ≡ port_of end.now }
 {
     match end.port {
@@ -95,7 +95,7 @@ pub(crate) fn port_of(end: &End) -> u16
 }
 
 /// The ends whose InfTransDelay makes them slow.
-pub(crate) fn slow_ends(alloc: Global, ends: &[End]) -> Result<Vec<End>, AllocError>
+pub(crate) fn slow_ends(alloc: Global, ends: &[LinkEnd]) -> Result<Vec<LinkEnd>, AllocError>
     ensures { IfOk result (λ some. some.items ≡ filter is_slow_end ends.now) }
 {
     let mut some = Vec::new(alloc);
@@ -108,7 +108,7 @@ pub(crate) fn slow_ends(alloc: Global, ends: &[End]) -> Result<Vec<End>, AllocEr
 }
 
 // Adds the interfaces of a configuration.
-fn push_ends(ends: &mut Vec<End>, file: usize, config: &Config) -> Result<(), AllocError>
+fn push_ends(ends: &mut Vec<LinkEnd>, file: usize, config: &Config) -> Result<(), AllocError>
     ensures { OnOk result (ends.new.items ≡ ends.old.items ++ ends_at (file, config.now)) }
 {
     for (link, interface) in config.interfaces.iter().enumerate() {

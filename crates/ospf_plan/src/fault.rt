@@ -48,11 +48,11 @@ pub enum AreaFault {
 
 impl AreaFault {
     ghost use Rattle.std.specs.Prelude.{◌≡◌};
-    ghost use Rattle.ospf_plan.specs.Shown.{fault_text, is_note, meaning_text};
+    ghost use Rattle.ospf_plan.specs.Shown.{area_fault_text, is_note, meaning_text};
 
     /// The number and the name, as they are printed.
     pub fn text(self) -> &'static str
-        ensures { result.now ≡ fault_text self }
+        ensures { result.now ≡ area_fault_text self }
     {
         match self {
             AreaFault::SameRouter => "A1 SameRouter",
@@ -135,9 +135,9 @@ impl AreaFault {
 /// The number and the name, as `A5 Hello`.
 impl Display for AreaFault {
     ghost use Rattle.std.specs.Prelude.{Some};
-    ghost use Rattle.ospf_plan.specs.Shown.{fault_text};
+    ghost use Rattle.ospf_plan.specs.Shown.{area_fault_text};
 
-    ghost output = { λ fault. Some (fault_text fault) };
+    ghost output = { λ fault. Some (area_fault_text fault) };
 
     fn fmt<W: Write>(&self, f: &mut Formatter<W>) -> fmt::Result {
         f.write_str(self.text())

@@ -7,9 +7,9 @@ ghost use Rattle.ospf_base.specs.declared.interface.InterfaceKind.TheVariants as
 ghost use Rattle.ospf_plan.specs.Ends.{AreMaps, is_found, is_same};
 ghost use Rattle.ospf_plan.specs.Findings.{every_fault, found, found_at, found_in, is_wrong, other_of, same_kind};
 ghost use Rattle.ospf_plan.specs.Parts.{AreFindings};
-ghost use Rattle.ospf_plan.specs.declared.ends.End.{End};
+ghost use Rattle.ospf_plan.specs.declared.ends.LinkEnd.{LinkEnd};
 
-use crate::ends::{End, ends_of, is_slow};
+use crate::ends::{LinkEnd, ends_of, is_slow};
 use crate::fault::{AreaFault, every_fault};
 use crate::maps::{Maps, maps_of};
 use crate::parts::push_apart;
@@ -23,29 +23,29 @@ use std::alloc::{AllocError, Global};
 pub struct Finding {
     pub fault: AreaFault,
     /// What the fault is about; `here` where there is none.
-    pub other: End,
-    pub here: End,
+    pub other: LinkEnd,
+    pub here: LinkEnd,
 }
 
 // What stands around an interface.
 #[derive(Clone, Copy)]
-pub(crate) struct Around {
+pub(crate) struct Surroundings {
     // The first interface of a router with its Router ID.
-    pub(crate) router: Option<End>,
+    pub(crate) router: Option<LinkEnd>,
     // The first interface with its address.
-    pub(crate) holder: Option<End>,
+    pub(crate) holder: Option<LinkEnd>,
     // The first three interfaces on its network.
-    pub(crate) first: Option<End>,
-    pub(crate) second: Option<End>,
-    pub(crate) third: Option<End>,
+    pub(crate) first: Option<LinkEnd>,
+    pub(crate) second: Option<LinkEnd>,
+    pub(crate) third: Option<LinkEnd>,
     // The first on its network that can be elected.
-    pub(crate) elector: Option<End>,
+    pub(crate) elector: Option<LinkEnd>,
     // The first on its network whose InfTransDelay is over MaxAgeDiff.
-    pub(crate) slow: Option<End>,
+    pub(crate) slow: Option<LinkEnd>,
     // The first on the shortest network that holds its own.
-    pub(crate) wider: Option<End>,
+    pub(crate) wider: Option<LinkEnd>,
     // The first with its port, or without a port where it has none.
-    pub(crate) plug: Option<End>,
+    pub(crate) plug: Option<LinkEnd>,
 }
 
 /// What is wrong between the configurations of one area: in the order of the configurations and of their interfaces, and
@@ -79,7 +79,7 @@ pub(crate) fn push_one(
 }
 
 // What is found, in the order of the interfaces.
-fn found_in(alloc: Global, ends: &[End], maps: &Maps) -> Result<Vec<Finding>, AllocError>
+fn found_in(alloc: Global, ends: &[LinkEnd], maps: &Maps) -> Result<Vec<Finding>, AllocError>
     requires { AreMaps maps.now ends.now }
     ensures { IfOk result (λ findings. findings.items ≡ found_in ends.now) }
 {
@@ -92,7 +92,11 @@ fn found_in(alloc: Global, ends: &[End], maps: &Maps) -> Result<Vec<Finding>, Al
 }
 
 // Adds what is found at an interface.
-fn push_found(findings: &mut Vec<Finding>, around: &Around, here: &End) -> Result<(), AllocError>
+fn push_found(
+    findings: &mut Vec<Finding>,
+    around: &Surroundings,
+    here: &LinkEnd,
+) -> Result<(), AllocError>
     ensures { OnOk result (findings.new.items ≡ findings.old.items
         ++ filter_map (found around.now here.now) every_fault) }
 {
@@ -102,8 +106,8 @@ fn push_found(findings: &mut Vec<Finding>, around: &Around, here: &End) -> Resul
 // Adds what is found of some faults at an interface.
 fn push_each(
     findings: &mut Vec<Finding>,
-    around: &Around,
-    here: &End,
+    around: &Surroundings,
+    here: &LinkEnd,
     faults: &[AreaFault],
 ) -> Result<(), AllocError>
     ensures { OnOk result (findings.new.items ≡ findings.old.items
@@ -116,7 +120,7 @@ fn push_each(
 }
 
 // The finding of a fault at an interface, if there is one.
-fn found(fault: AreaFault, around: &Around, here: &End) -> Option<Finding>
+fn found(fault: AreaFault, around: &Surroundings, here: &LinkEnd) -> Option<Finding>
     ensures { result ≡ found around.now here.now fault }
 {
     let other = other_of(fault, around)?;
@@ -128,7 +132,7 @@ fn found(fault: AreaFault, around: &Around, here: &End) -> Option<Finding>
 }
 
 // The other interface of a fault.
-fn other_of(fault: AreaFault, around: &Around) -> Option<End>
+fn other_of(fault: AreaFault, around: &Surroundings) -> Option<LinkEnd>
     ensures { result ≡ other_of fault around.now }
 {
     match fault {
@@ -144,7 +148,7 @@ fn other_of(fault: AreaFault, around: &Around) -> Option<End>
 }
 
 // Whether a fault is between the other interface and this one.
-fn is_wrong(fault: AreaFault, around: &Around, other: &End, here: &End) -> bool
+fn is_wrong(fault: AreaFault, around: &Surroundings, other: &LinkEnd, here: &LinkEnd) -> bool
     ensures { result ≡ is_wrong fault around.now other.now here.now }
 {
     match fault {
@@ -175,7 +179,7 @@ fn is_wrong(fault: AreaFault, around: &Around, other: &End, here: &End) -> bool
 }
 
 // Whether two are one interface.
-fn is_same(one: &End, other: &End) -> bool
+fn is_same(one: &LinkEnd, other: &LinkEnd) -> bool
     ensures { result ≡ is_same one.now other.now }
 {
     one.file == other.file && one.link == other.link
@@ -193,7 +197,7 @@ fn same_kind(one: InterfaceKind, other: InterfaceKind) -> bool
 }
 
 // Whether an interface is the first on its network.
-fn is_first(around: &Around, here: &End) -> bool
+fn is_first(around: &Surroundings, here: &LinkEnd) -> bool
     ensures { result ≡ is_found around.now.first here.now }
 {
     match &around.first {

@@ -4,7 +4,7 @@ ghost use Rattle.std.specs.Prelude.{◌≡◌, ◌==◌, not, ℕ, IfOk, OnOk, S
 ghost use Rattle.std.specs.Option.{option_or};
 ghost use Rattle.ospf_plan.specs.Ends.{AreFirsts, AreHolders, ArePorts, AreRouters, end_in, holder_in, network_of, others, same_network, is_found};
 
-use crate::ends::{End, port_of};
+use crate::ends::{LinkEnd, port_of};
 use ospf_base::mask_of;
 use ospf_config::InterfaceAddress;
 use std::alloc::{AllocError, Global};
@@ -21,7 +21,10 @@ pub(crate) fn network_of(address: &InterfaceAddress) -> Network
 }
 
 // The first interface on each network.
-pub(crate) fn firsts(alloc: Global, ends: &[End]) -> Result<BTreeMap<Network, End>, AllocError>
+pub(crate) fn firsts(
+    alloc: Global,
+    ends: &[LinkEnd],
+) -> Result<BTreeMap<Network, LinkEnd>, AllocError>
     ensures { IfOk result (λ m. AreFirsts m ends.now) }
 {
     let mut map = BTreeMap::new(alloc);
@@ -32,7 +35,7 @@ pub(crate) fn firsts(alloc: Global, ends: &[End]) -> Result<BTreeMap<Network, En
 }
 
 // The first interface with each address.
-pub(crate) fn holders(alloc: Global, ends: &[End]) -> Result<BTreeMap<u32, End>, AllocError>
+pub(crate) fn holders(alloc: Global, ends: &[LinkEnd]) -> Result<BTreeMap<u32, LinkEnd>, AllocError>
     ensures { IfOk result (λ m. AreHolders m ends.now) }
 {
     let mut map = BTreeMap::new(alloc);
@@ -43,7 +46,7 @@ pub(crate) fn holders(alloc: Global, ends: &[End]) -> Result<BTreeMap<u32, End>,
 }
 
 // The first interface with each port.
-pub(crate) fn ports(alloc: Global, ends: &[End]) -> Result<BTreeMap<u32, End>, AllocError>
+pub(crate) fn ports(alloc: Global, ends: &[LinkEnd]) -> Result<BTreeMap<u32, LinkEnd>, AllocError>
     ensures { IfOk result (λ m. ArePorts m ends.now) }
 {
     let mut map = BTreeMap::new(alloc);
@@ -54,7 +57,7 @@ pub(crate) fn ports(alloc: Global, ends: &[End]) -> Result<BTreeMap<u32, End>, A
 }
 
 // The first interface of each router.
-pub(crate) fn routers(alloc: Global, ends: &[End]) -> Result<BTreeMap<u32, End>, AllocError>
+pub(crate) fn routers(alloc: Global, ends: &[LinkEnd]) -> Result<BTreeMap<u32, LinkEnd>, AllocError>
     ensures { IfOk result (λ m. AreRouters m ends.now) }
 {
     let mut map = BTreeMap::new(alloc);
@@ -65,14 +68,14 @@ pub(crate) fn routers(alloc: Global, ends: &[End]) -> Result<BTreeMap<u32, End>,
 }
 
 // What a map has at a network.
-pub(crate) fn end_in(map: &BTreeMap<Network, End>, network: Network) -> Option<End>
+pub(crate) fn end_in(map: &BTreeMap<Network, LinkEnd>, network: Network) -> Option<LinkEnd>
     ensures { result ≡ end_in map.now network }
 {
     map.get(&network).copied()
 }
 
 // What a map has at an address.
-pub(crate) fn holder_in(map: &BTreeMap<u32, End>, address: u32) -> Option<End>
+pub(crate) fn holder_in(map: &BTreeMap<u32, LinkEnd>, address: u32) -> Option<LinkEnd>
     ensures { result ≡ holder_in map.now address }
 {
     map.get(&address).copied()
@@ -81,9 +84,9 @@ pub(crate) fn holder_in(map: &BTreeMap<u32, End>, address: u32) -> Option<End>
 // The interfaces that are not the first on their networks.
 pub(crate) fn others(
     alloc: Global,
-    ends: &[End],
-    firsts: &BTreeMap<Network, End>,
-) -> Result<Vec<End>, AllocError>
+    ends: &[LinkEnd],
+    firsts: &BTreeMap<Network, LinkEnd>,
+) -> Result<Vec<LinkEnd>, AllocError>
     requires { AreFirsts firsts.now ends.now }
     ensures { IfOk result (λ rest. rest.items ≡ others ends.now) }
 {
@@ -98,7 +101,11 @@ pub(crate) fn others(
 }
 
 // Keeps an interface as the first on a network, unless there is one.
-fn add_end(ends: &mut BTreeMap<Network, End>, network: Network, end: End) -> Result<(), AllocError>
+fn add_end(
+    ends: &mut BTreeMap<Network, LinkEnd>,
+    network: Network,
+    end: LinkEnd,
+) -> Result<(), AllocError>
     ensures { OnOk result ((q : ℕ × ℕ) →
         end_in ends.new q ≡ option_or (end_in ends.old q)
         (cond (same_network network q) (Some end) None)) }
@@ -113,7 +120,11 @@ fn add_end(ends: &mut BTreeMap<Network, End>, network: Network, end: End) -> Res
 }
 
 // Keeps an interface as the first with an address, unless there is one.
-fn add_holder(ends: &mut BTreeMap<u32, End>, address: u32, end: End) -> Result<(), AllocError>
+fn add_holder(
+    ends: &mut BTreeMap<u32, LinkEnd>,
+    address: u32,
+    end: LinkEnd,
+) -> Result<(), AllocError>
     ensures { OnOk result ((a : ℕ) →
         holder_in ends.new a ≡ option_or (holder_in ends.old a)
         (cond (address == a) (Some end) None)) }
@@ -128,7 +139,7 @@ fn add_holder(ends: &mut BTreeMap<u32, End>, address: u32, end: End) -> Result<(
 }
 
 // Whether an interface is the one that was found.
-fn is_found(found: Option<End>, end: &End) -> bool
+fn is_found(found: Option<LinkEnd>, end: &LinkEnd) -> bool
     ensures { result ≡ is_found found end.now }
 {
     match found {

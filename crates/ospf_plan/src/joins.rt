@@ -1,7 +1,7 @@
 //! Joins, and who is joined with whom.
 
 ghost use Rattle.std.specs.Prelude.{◌≡◌, ◌==◌, ◌||◌, ◌&&◌, ◌↔◌, ◌++◌, ◌∷◌, [], if◌then◌else◌, ℕ, true, IfOk, OnOk};
-ghost use Rattle.ospf_plan.specs.Joins.{IsJoined, after, has, left, marked, touches};
+ghost use Rattle.ospf_plan.specs.Joins.{IsJoined, reached_after, set_has, left, marked_by, touches};
 
 use std::alloc::{AllocError, Global};
 use std::collections::BTreeSet;
@@ -19,7 +19,8 @@ pub(crate) fn joined_with(
     one: usize,
     joins: &[Join],
 ) -> Result<BTreeSet<usize>, AllocError>
-    ensures { IfOk result (λ reached. (q : ℕ) → (has reached q ≡ true) ↔ IsJoined joins.now one q) }
+    ensures { IfOk result (λ reached. (q : ℕ) → (set_has reached q ≡ true)
+        ↔ IsJoined joins.now one q) }
 {
     let mut reached = BTreeSet::new(alloc);
     add(&mut reached, one)?;
@@ -34,7 +35,8 @@ pub(crate) fn joined_with(
 
 // Adds one to those that are reached.
 fn add(reached: &mut BTreeSet<usize>, one: usize) -> Result<(), AllocError>
-    ensures { OnOk result ((q : ℕ) → has reached.new q ≡ (has reached.old q || (one == q))) }
+    ensures { OnOk result ((q : ℕ) → set_has reached.new q
+        ≡ (set_has reached.old q || (one == q))) }
 {
     match reached.insert(one) {
         Ok(_) => Ok(()),
@@ -49,8 +51,8 @@ fn pass(
     joins: &[Join],
 ) -> Result<Vec<Join>, AllocError>
     ensures after { OnOk result ((q : ℕ) →
-        has reached.new q ≡ after (has reached.old) joins.now q) }
-    ensures rest { IfOk result (λ rest. rest.items ≡ left (has reached.old) joins.now) }
+        set_has reached.new q ≡ reached_after (set_has reached.old) joins.now q) }
+    ensures rest { IfOk result (λ rest. rest.items ≡ left (set_has reached.old) joins.now) }
 {
     let mut rest = Vec::new(alloc);
     for join in joins {
@@ -62,9 +64,9 @@ fn pass(
 
 // Reaches both ends of a join where one is reached. The answer is whether one is.
 fn visit(reached: &mut BTreeSet<usize>, join: &Join) -> Result<bool, AllocError>
-    ensures touched { IfOk result (λ t. t ≡ touches (has reached.old) join.now) }
+    ensures touched { IfOk result (λ t. t ≡ touches (set_has reached.old) join.now) }
     ensures after { OnOk result ((q : ℕ) →
-        has reached.new q ≡ marked (has reached.old) join.now q) }
+        set_has reached.new q ≡ marked_by (set_has reached.old) join.now q) }
 {
     if !touches(reached, join) {
         return Ok(false);
@@ -76,7 +78,7 @@ fn visit(reached: &mut BTreeSet<usize>, join: &Join) -> Result<bool, AllocError>
 
 // Whether an end of a join is reached.
 fn touches(reached: &BTreeSet<usize>, join: &Join) -> bool
-    ensures { result ≡ touches (has reached.now) join.now }
+    ensures { result ≡ touches (set_has reached.now) join.now }
 {
     reached.contains(&join.one) || reached.contains(&join.other)
 }

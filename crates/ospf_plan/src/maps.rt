@@ -3,10 +3,10 @@
 ghost use Rattle.std.specs.Prelude.{◌≡◌, List, IfOk};
 ghost use Rattle.ospf_plan.specs.Ends.{AreFirsts, AreMaps, first_around};
 ghost use Rattle.ospf_plan.specs.Findings.{around_of};
-ghost use Rattle.ospf_plan.specs.declared.ends.End.{End};
+ghost use Rattle.ospf_plan.specs.declared.ends.LinkEnd.{LinkEnd};
 
-use crate::ends::{End, electors, port_of, slow_ends};
-use crate::finding::Around;
+use crate::ends::{LinkEnd, electors, port_of, slow_ends};
+use crate::finding::Surroundings;
 use crate::index::{
     Network, end_in, firsts, holder_in, holders, network_of, others, ports, routers,
 };
@@ -18,26 +18,26 @@ use std::collections::BTreeMap;
 // The first interfaces of an area, by Router ID, by address, by port and by network.
 #[derive(Drop)]
 pub(crate) struct Maps {
-    routers: BTreeMap<u32, End>,
-    holders: BTreeMap<u32, End>,
-    firsts: BTreeMap<Network, End>,
+    routers: BTreeMap<u32, LinkEnd>,
+    holders: BTreeMap<u32, LinkEnd>,
+    firsts: BTreeMap<Network, LinkEnd>,
     // Without the firsts, and without the firsts and the seconds.
-    seconds: BTreeMap<Network, End>,
-    thirds: BTreeMap<Network, End>,
+    seconds: BTreeMap<Network, LinkEnd>,
+    thirds: BTreeMap<Network, LinkEnd>,
     // Of those that can be elected.
-    electors: BTreeMap<Network, End>,
+    electors: BTreeMap<Network, LinkEnd>,
     // Of those that are slow.
-    slow: BTreeMap<Network, End>,
-    pub(crate) ports: BTreeMap<u32, End>,
+    slow: BTreeMap<Network, LinkEnd>,
+    pub(crate) ports: BTreeMap<u32, LinkEnd>,
 }
 
 impl Maps {
     // What stands around an interface.
-    pub(crate) fn around(&self, end: &End) -> Around
-        ensures { (ends : List End) → AreMaps self.now ends → result ≡ around_of ends end.now }
+    pub(crate) fn around(&self, end: &LinkEnd) -> Surroundings
+        ensures { (ends : List LinkEnd) → AreMaps self.now ends → result ≡ around_of ends end.now }
     {
         let network = network_of(&end.address);
-        Around {
+        Surroundings {
             router: holder_in(&self.routers, end.router.0),
             holder: holder_in(&self.holders, end.address.address.0),
             first: end_in(&self.firsts, network),
@@ -52,7 +52,7 @@ impl Maps {
 }
 
 // The maps of an area's interfaces.
-pub(crate) fn maps_of(alloc: Global, ends: &[End]) -> Result<Maps, AllocError>
+pub(crate) fn maps_of(alloc: Global, ends: &[LinkEnd]) -> Result<Maps, AllocError>
     ensures { IfOk result (λ m. AreMaps m ends.now) }
 {
     let routers = routers(alloc, ends)?;
@@ -79,8 +79,8 @@ pub(crate) fn maps_of(alloc: Global, ends: &[End]) -> Result<Maps, AllocError>
 }
 
 // The first interface on the shortest network of fewer bits that holds an address.
-fn around(firsts: &BTreeMap<Network, End>, address: &InterfaceAddress) -> Option<End>
-    ensures { (ends : List End) → AreFirsts firsts.now ends →
+fn around(firsts: &BTreeMap<Network, LinkEnd>, address: &InterfaceAddress) -> Option<LinkEnd>
+    ensures { (ends : List LinkEnd) → AreFirsts firsts.now ends →
         result ≡ first_around ends address.now address.now.length }
 {
     let mut found = None;

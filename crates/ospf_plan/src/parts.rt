@@ -3,12 +3,12 @@
 ghost use Rattle.std.specs.Prelude.{◌≡◌, ◌++◌, ℕ, Bool, List, IfOk, OnOk, Some, None, cond};
 ghost use Rattle.std.specs.Option.{option_or, option_to_list};
 ghost use Rattle.std.specs.List.{filter_map};
-ghost use Rattle.ospf_plan.specs.Joins.{has};
-ghost use Rattle.ospf_plan.specs.Parts.{AreLinks, AreReached, LinkKey, apart, apart_in, first_of_all, is_apart, join_at, joins_of, kind_number, link_of, linked_in, same_link};
-ghost use Rattle.ospf_plan.specs.declared.ends.End.{End};
+ghost use Rattle.ospf_plan.specs.Joins.{set_has};
+ghost use Rattle.ospf_plan.specs.Parts.{AreFirstLinks, AreReached, LinkKey, apart, apart_in, first_of_all, is_apart, join_at, joins_of, kind_number, link_of, linked_in, same_link};
+ghost use Rattle.ospf_plan.specs.declared.ends.LinkEnd.{LinkEnd};
 ghost use Rattle.ospf_plan.specs.declared.joins.Join.{Join};
 
-use crate::ends::End;
+use crate::ends::LinkEnd;
 use crate::fault::AreaFault;
 use crate::finding::{Finding, push_one};
 use crate::index::network_of;
@@ -21,7 +21,7 @@ use std::collections::{BTreeMap, BTreeSet};
 pub(crate) fn push_apart(
     alloc: Global,
     findings: &mut Vec<Finding>,
-    ends: &[End],
+    ends: &[LinkEnd],
 ) -> Result<(), AllocError>
     ensures { OnOk result ((reached : ℕ → Bool) × AreReached ends.now reached
         × (findings.new.items ≡ findings.old.items ++ apart_in reached ends.now)) }
@@ -31,18 +31,18 @@ pub(crate) fn push_apart(
 }
 
 // What the interfaces of a link have in common: their network, area, kind, intervals and MTU.
-type Common = (u8, u32, u32, u8, u16, u16, u16);
+type SharedSettings = (u8, u32, u32, u8, u16, u16, u16);
 
 // The files that are reached from the first.
-fn reached_of(alloc: Global, ends: &[End]) -> Result<BTreeSet<usize>, AllocError>
-    ensures { IfOk result (λ reached. AreReached ends.now (has reached)) }
+fn reached_of(alloc: Global, ends: &[LinkEnd]) -> Result<BTreeSet<usize>, AllocError>
+    ensures { IfOk result (λ reached. AreReached ends.now (set_has reached)) }
 {
     let joins = joins_of(alloc, ends)?;
     joined_with(alloc, 0, &joins)
 }
 
 // The joins of all interfaces.
-fn joins_of(alloc: Global, ends: &[End]) -> Result<Vec<Join>, AllocError>
+fn joins_of(alloc: Global, ends: &[LinkEnd]) -> Result<Vec<Join>, AllocError>
     ensures { IfOk result (λ joins. joins.items ≡ joins_of ends.now) }
 {
     let links = links_of(alloc, ends)?;
@@ -52,8 +52,11 @@ fn joins_of(alloc: Global, ends: &[End]) -> Result<Vec<Join>, AllocError>
 }
 
 // The first interface of each link.
-fn links_of(alloc: Global, ends: &[End]) -> Result<BTreeMap<Common, End>, AllocError>
-    ensures { IfOk result (λ links. AreLinks links ends.now) }
+fn links_of(
+    alloc: Global,
+    ends: &[LinkEnd],
+) -> Result<BTreeMap<SharedSettings, LinkEnd>, AllocError>
+    ensures { IfOk result (λ links. AreFirstLinks links ends.now) }
 {
     let mut links = BTreeMap::new(alloc);
     for end in ends {
@@ -63,7 +66,11 @@ fn links_of(alloc: Global, ends: &[End]) -> Result<BTreeMap<Common, End>, AllocE
 }
 
 // Keeps an interface as the first of a link, unless there is one.
-fn add_linked(links: &mut BTreeMap<Common, End>, link: Common, end: End) -> Result<(), AllocError>
+fn add_linked(
+    links: &mut BTreeMap<SharedSettings, LinkEnd>,
+    link: SharedSettings,
+    end: LinkEnd,
+) -> Result<(), AllocError>
     ensures { OnOk result ((k : LinkKey) →
         linked_in links.new k ≡ option_or (linked_in links.old k)
         (cond (same_link link k) (Some end) None)) }
@@ -78,7 +85,7 @@ fn add_linked(links: &mut BTreeMap<Common, End>, link: Common, end: End) -> Resu
 }
 
 // What an interface has in common with the others of its link.
-fn link_of(end: &End) -> Common
+fn link_of(end: &LinkEnd) -> SharedSettings
     ensures { result ≡ link_of end.now }
 {
     let (length, network) = network_of(&end.address);
@@ -101,8 +108,8 @@ fn kind_number(kind: InterfaceKind) -> u8
 // Adds the joins of some interfaces.
 fn push_joins(
     joins: &mut Vec<Join>,
-    links: &BTreeMap<Common, End>,
-    ends: &[End],
+    links: &BTreeMap<SharedSettings, LinkEnd>,
+    ends: &[LinkEnd],
 ) -> Result<(), AllocError>
     ensures { OnOk result (joins.new.items ≡ joins.old.items
         ++ filter_map (join_at (linked_in links.now)) ends.now) }
@@ -124,7 +131,7 @@ fn push_join(joins: &mut Vec<Join>, join: Option<Join>) -> Result<(), AllocError
 }
 
 // The join of an interface's file with that of the first of its link.
-fn join_at(links: &BTreeMap<Common, End>, end: &End) -> Option<Join>
+fn join_at(links: &BTreeMap<SharedSettings, LinkEnd>, end: &LinkEnd) -> Option<Join>
     ensures { result ≡ join_at (linked_in links.now) end.now }
 {
     let first = links.get(&link_of(end)).copied()?;
@@ -138,11 +145,11 @@ fn join_at(links: &BTreeMap<Common, End>, end: &End) -> Option<Join>
 fn push_each(
     findings: &mut Vec<Finding>,
     reached: &BTreeSet<usize>,
-    first: Option<End>,
-    ends: &[End],
+    first: Option<LinkEnd>,
+    ends: &[LinkEnd],
 ) -> Result<(), AllocError>
     ensures { OnOk result (findings.new.items ≡ findings.old.items
-        ++ filter_map (apart (has reached.now) first) ends.now) }
+        ++ filter_map (apart (set_has reached.now) first) ends.now) }
 {
     for end in ends {
         push_one(findings, apart(reached, first, end))?;
@@ -151,8 +158,8 @@ fn push_each(
 }
 
 // The finding that it is.
-fn apart(reached: &BTreeSet<usize>, first: Option<End>, here: &End) -> Option<Finding>
-    ensures { result ≡ apart (has reached.now) first here.now }
+fn apart(reached: &BTreeSet<usize>, first: Option<LinkEnd>, here: &LinkEnd) -> Option<Finding>
+    ensures { result ≡ apart (set_has reached.now) first here.now }
 {
     let other = first?;
     if !is_apart(reached, here) {
@@ -164,14 +171,14 @@ fn apart(reached: &BTreeSet<usize>, first: Option<End>, here: &End) -> Option<Fi
 }
 
 // Whether an interface is the first of a file that is not reached.
-fn is_apart(reached: &BTreeSet<usize>, end: &End) -> bool
-    ensures { result ≡ is_apart (has reached.now) end.now }
+fn is_apart(reached: &BTreeSet<usize>, end: &LinkEnd) -> bool
+    ensures { result ≡ is_apart (set_has reached.now) end.now }
 {
     end.link == 0 && !reached.contains(&end.file)
 }
 
 // The first interface of all.
-fn first_of_all(ends: &[End]) -> Option<End>
+fn first_of_all(ends: &[LinkEnd]) -> Option<LinkEnd>
     ensures { result ≡ first_of_all ends.now }
 {
     match ends.first() {

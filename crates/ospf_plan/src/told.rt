@@ -5,7 +5,7 @@ ghost use Rattle.std.specs.Fmt.{WritesOnOk};
 ghost use Rattle.ospf_config.specs.Texts.{kind_text};
 ghost use Rattle.ospf_plan.specs.Shown.{other_text, place_text, port_text, side_text, value_text};
 
-use crate::ends::End;
+use crate::ends::LinkEnd;
 use crate::fault::AreaFault;
 use crate::finding::Finding;
 use ospf_base::InterfaceKind;
@@ -14,14 +14,14 @@ use std::fmt::{self, Display, Formatter, Write};
 
 /// A finding, and the names of the files that its interfaces are in.
 #[derive(Clone, Copy, Debug)]
-pub struct Told<'a> {
+pub struct NamedFinding<'a> {
     pub finding: Finding,
     pub here: &'a str,
     pub other: &'a str,
 }
 
 /// As `b.toml: A5 Hello: interface 1: hello 5, a.toml: interface 0: hello 10`.
-impl<'a> Display for Told<'a> {
+impl<'a> Display for NamedFinding<'a> {
     ghost use Rattle.std.specs.Prelude.{Some};
     ghost use Rattle.ospf_plan.specs.Shown.{told_text};
 
@@ -36,7 +36,7 @@ impl<'a> Display for Told<'a> {
 }
 
 // Writes what an interface has, and where.
-fn write_side<W: Write>(f: &mut Formatter<W>, fault: AreaFault, end: &End) -> fmt::Result
+fn write_side<W: Write>(f: &mut Formatter<W>, fault: AreaFault, end: &LinkEnd) -> fmt::Result
     ensures { WritesOnOk W.Write.write_str_gives f.old result (side_text fault end.now) f.new }
 {
     write_place(f, fault, end)?;
@@ -44,7 +44,7 @@ fn write_side<W: Write>(f: &mut Formatter<W>, fault: AreaFault, end: &End) -> fm
 }
 
 // Writes where a value stands.
-fn write_place<W: Write>(f: &mut Formatter<W>, fault: AreaFault, end: &End) -> fmt::Result
+fn write_place<W: Write>(f: &mut Formatter<W>, fault: AreaFault, end: &LinkEnd) -> fmt::Result
     ensures { WritesOnOk W.Write.write_str_gives f.old result (place_text fault end.now) f.new }
 {
     match fault {
@@ -54,7 +54,7 @@ fn write_place<W: Write>(f: &mut Formatter<W>, fault: AreaFault, end: &End) -> f
 }
 
 // Writes a value, with its key.
-fn write_value<W: Write>(f: &mut Formatter<W>, fault: AreaFault, end: &End) -> fmt::Result
+fn write_value<W: Write>(f: &mut Formatter<W>, fault: AreaFault, end: &LinkEnd) -> fmt::Result
     ensures { WritesOnOk W.Write.write_str_gives f.old result (value_text fault end.now) f.new }
 {
     match fault {
@@ -97,7 +97,7 @@ fn write_port<W: Write>(f: &mut Formatter<W>, port: Option<Port>) -> fmt::Result
 fn write_other<W: Write>(
     f: &mut Formatter<W>,
     fault: AreaFault,
-    end: &End,
+    end: &LinkEnd,
     name: &str,
 ) -> fmt::Result
     ensures { WritesOnOk W.Write.write_str_gives f.old result (other_text fault end.now name.now)

@@ -3,10 +3,10 @@
 ghost use Rattle.std.specs.Prelude.{◌≡◌, ◌||◌, ◌++◌, List, ℕ, IfOk, OnOk};
 ghost use Rattle.std.specs.List.{filter_map};
 ghost use Rattle.ospf_plan.specs.Ends.{ArePorts, holder_in};
-ghost use Rattle.ospf_plan.specs.Wires.{AreHeard, fault_between, has_wire, is_beside, key_of, same_wire, wire_fault, wire_faults_in, wires_at, wires_from, wires_of};
-ghost use Rattle.ospf_plan.specs.declared.ends.End.{End};
+ghost use Rattle.ospf_plan.specs.Wires.{AreHeard, fault_between, has_wire, is_beside, wire_key, same_wire, wire_fault, wire_faults_in, wires_at, wires_from, wires_of};
+ghost use Rattle.ospf_plan.specs.declared.ends.LinkEnd.{LinkEnd};
 
-use crate::ends::{End, end_of, port_of};
+use crate::ends::{LinkEnd, end_of, port_of};
 use crate::fault::AreaFault;
 use crate::finding::{Finding, push_one};
 use crate::index::{holder_in, network_of};
@@ -16,13 +16,13 @@ use std::collections::{BTreeMap, BTreeSet};
 
 /// An interface sends to a UDP port.
 #[derive(Clone, Copy, Debug, PartialEq, Eq)]
-pub struct Wire {
-    pub end: End,
+pub struct PeerWire {
+    pub end: LinkEnd,
     pub peer: u16,
 }
 
 /// What the interfaces of configurations send to, in order.
-pub(crate) fn wires_of(alloc: Global, configs: &[Config]) -> Result<Vec<Wire>, AllocError>
+pub(crate) fn wires_of(alloc: Global, configs: &[Config]) -> Result<Vec<PeerWire>, AllocError>
     ensures { IfOk result (λ wires. wires.items ≡ wires_of configs.now) }
 {
     let mut wires = Vec::new(alloc);
@@ -36,10 +36,10 @@ pub(crate) fn wires_of(alloc: Global, configs: &[Config]) -> Result<Vec<Wire>, A
 pub(crate) fn push_wire_faults(
     alloc: Global,
     findings: &mut Vec<Finding>,
-    ports: &BTreeMap<u32, End>,
-    wires: &[Wire],
+    ports: &BTreeMap<u32, LinkEnd>,
+    wires: &[PeerWire],
 ) -> Result<(), AllocError>
-    ensures { (ends : List End) → ArePorts ports.now ends →
+    ensures { (ends : List LinkEnd) → ArePorts ports.now ends →
         OnOk result (findings.new.items ≡ findings.old.items ++ wire_faults_in ends wires.now) }
 {
     let heard = heard(alloc, wires)?;
@@ -50,7 +50,7 @@ pub(crate) fn push_wire_faults(
 type WireKey = (usize, usize, u16);
 
 // Adds what the interfaces of a configuration send to.
-fn push_all_wires(wires: &mut Vec<Wire>, file: usize, config: &Config) -> Result<(), AllocError>
+fn push_all_wires(wires: &mut Vec<PeerWire>, file: usize, config: &Config) -> Result<(), AllocError>
     ensures { OnOk result (wires.new.items ≡ wires.old.items ++ wires_at (file, config.now)) }
 {
     for (link, interface) in config.interfaces.iter().enumerate() {
@@ -60,12 +60,16 @@ fn push_all_wires(wires: &mut Vec<Wire>, file: usize, config: &Config) -> Result
 }
 
 // Adds what an interface sends to.
-fn push_wires(wires: &mut Vec<Wire>, end: &End, interface: &Interface) -> Result<(), AllocError>
+fn push_wires(
+    wires: &mut Vec<PeerWire>,
+    end: &LinkEnd,
+    interface: &Interface,
+) -> Result<(), AllocError>
     ensures { OnOk result (wires.new.items ≡ wires.old.items ++ wires_from end.now interface.now) }
 {
     let end = *end;
     for port in &interface.peers {
-        wires.push(Wire {
+        wires.push(PeerWire {
             end,
             peer: port.number,
         })?;
@@ -74,7 +78,7 @@ fn push_wires(wires: &mut Vec<Wire>, end: &End, interface: &Interface) -> Result
 }
 
 // The wires, to be looked up.
-fn heard(alloc: Global, wires: &[Wire]) -> Result<BTreeSet<WireKey>, AllocError>
+fn heard(alloc: Global, wires: &[PeerWire]) -> Result<BTreeSet<WireKey>, AllocError>
     ensures { IfOk result (λ set. AreHeard set wires.now) }
 {
     let mut set = BTreeSet::new(alloc);
@@ -96,8 +100,8 @@ fn add_wire(set: &mut BTreeSet<WireKey>, key: WireKey) -> Result<(), AllocError>
 }
 
 // What tells a wire apart.
-fn key_of(end: &End, peer: u16) -> WireKey
-    ensures { result ≡ key_of end.now peer }
+fn key_of(end: &LinkEnd, peer: u16) -> WireKey
+    ensures { result ≡ wire_key end.now peer }
 {
     (end.file, end.link, peer)
 }
@@ -105,9 +109,9 @@ fn key_of(end: &End, peer: u16) -> WireKey
 // Adds what is wrong with some wires.
 fn push_each(
     findings: &mut Vec<Finding>,
-    ports: &BTreeMap<u32, End>,
+    ports: &BTreeMap<u32, LinkEnd>,
     heard: &BTreeSet<WireKey>,
-    wires: &[Wire],
+    wires: &[PeerWire],
 ) -> Result<(), AllocError>
     ensures { OnOk result (findings.new.items ≡ findings.old.items
         ++ filter_map (wire_fault (holder_in ports.now) (has_wire heard.now)) wires.now) }
@@ -119,7 +123,11 @@ fn push_each(
 }
 
 // What is wrong with a wire: nobody is where it leads, or one of another network, or one that does not send back.
-fn wire_fault(ports: &BTreeMap<u32, End>, heard: &BTreeSet<WireKey>, wire: &Wire) -> Option<Finding>
+fn wire_fault(
+    ports: &BTreeMap<u32, LinkEnd>,
+    heard: &BTreeSet<WireKey>,
+    wire: &PeerWire,
+) -> Option<Finding>
     ensures { result ≡ wire_fault (holder_in ports.now) (has_wire heard.now) wire.now }
 {
     let here = wire.end;
@@ -135,7 +143,7 @@ fn wire_fault(ports: &BTreeMap<u32, End>, heard: &BTreeSet<WireKey>, wire: &Wire
 }
 
 // What is wrong where an interface sends to another: that one is not on its network, or does not send to it.
-fn fault_between(heard: &BTreeSet<WireKey>, other: &End, here: &End) -> Option<AreaFault>
+fn fault_between(heard: &BTreeSet<WireKey>, other: &LinkEnd, here: &LinkEnd) -> Option<AreaFault>
     ensures { result ≡ fault_between (has_wire heard.now) other.now here.now }
 {
     if !is_beside(other, here) {
@@ -148,7 +156,7 @@ fn fault_between(heard: &BTreeSet<WireKey>, other: &End, here: &End) -> Option<A
 }
 
 // Whether two interfaces are on one network.
-fn is_beside(one: &End, other: &End) -> bool
+fn is_beside(one: &LinkEnd, other: &LinkEnd) -> bool
     ensures { result ≡ is_beside one.now other.now }
 {
     let (here, there) = (network_of(&one.address), network_of(&other.address));

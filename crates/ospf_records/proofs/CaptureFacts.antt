@@ -15,9 +15,9 @@ use Rattle.ospf_records.specs.Ip.{largest_ip_packet}
 use Rattle.ospf_records.specs.Pcap.{Captured}
 use Rattle.ospf_records.specs.declared.moment.Moment.{Moment}
 use Rattle.ospf_headline.specs.declared.logs.Datagram.{Datagram}
-use Rattle.ospf_records.specs.Captures.{captured_at, captured_of, is_tick_of, microsecond_of, numbered, second_of, seconds, within_second}
-use Rattle.ospf_records.specs.Counts.{IsCounted, capped, count_in}
-use Rattle.ospf_records.specs.Stamps.{IsRead, IsReadTo}
+use Rattle.ospf_records.specs.Captures.{captured_at, captured_of, is_tick_of, microsecond_of, numbered_datagrams, second_of, seconds, within_second}
+use Rattle.ospf_records.specs.Counts.{IsOneMoreOf, capped, count_in}
+use Rattle.ospf_records.specs.Stamps.{AreTicksRead, IsReadTo}
 use Rattle.ospf_records.proofs.CountFacts.{all_weaker, counts_more}
 use Rattle.ospf_world.specs.declared.ticks.Ticked.{Ticked}
 
@@ -52,18 +52,18 @@ none_counted counts none k = ap (λ es. unwrap_or (lookup (tree.is_at (nat_cmp k
 -- ---- one more
 
 module _ (ticks : List Ticked) (datagrams : List Datagram) (n : ℕ) (g : Datagram) (within : n < length datagrams) (is : g ≡ get_or datagrams n g) where
-  there : n < length (numbered datagrams)
+  there : n < length (numbered_datagrams datagrams)
   there = let h = length-enumerate_from 0 datagrams in omega (arith, h)
 
-  at : get_or (numbered datagrams) n (n, g) ≡ (n, g)
+  at : get_or (numbered_datagrams datagrams) n (n, g) ≡ (n, g)
   at = get_or-enumerate_from 0 datagrams n (n, g) within ∙ (let zero_more : 0 + n ≡ n = omega arith in λ i. (zero_more i, sym is i))
 
-  pub captured_more : flat_map (captured_of ticks datagrams) (take (n + 1) (numbered datagrams)) ≡ flat_map (captured_of ticks datagrams) (take n (numbered datagrams)) ++ captured_of ticks datagrams (n, g)
+  pub captured_more : flat_map (captured_of ticks datagrams) (take (n + 1) (numbered_datagrams datagrams)) ≡ flat_map (captured_of ticks datagrams) (take n (numbered_datagrams datagrams)) ++ captured_of ticks datagrams (n, g)
   captured_more =
       let f = captured_of ticks datagrams in
-      ap (flat_map f) (take_more (numbered datagrams) n (n, g) there) ∙ flat_map-append f (take n (numbered datagrams)) (get_or (numbered datagrams) n (n, g) ∷ [])
-      ∙ ap (λ (x : ℕ × Datagram). flat_map f (take n (numbered datagrams)) ++ flat_map f (x ∷ [])) at
-      ∙ ap (λ (cs : List Captured). flat_map f (take n (numbered datagrams)) ++ cs) (append-nil (f (n, g)))
+      ap (flat_map f) (take_more (numbered_datagrams datagrams) n (n, g) there) ∙ flat_map-append f (take n (numbered_datagrams datagrams)) (get_or (numbered_datagrams datagrams) n (n, g) ∷ [])
+      ∙ ap (λ (x : ℕ × Datagram). flat_map f (take n (numbered_datagrams datagrams)) ++ flat_map f (x ∷ [])) at
+      ∙ ap (λ (cs : List Captured). flat_map f (take n (numbered_datagrams datagrams)) ++ cs) (append-nil (f (n, g)))
 
   -- its second
   pub second_is : (read second : ℕ) (clocks : tree.BTreeMap ℕ ℕ) → IsReadTo ticks n read clocks → second ≡ count_in clocks g.router.0 → second ≡ second_of ticks (n, g)
@@ -71,12 +71,12 @@ module _ (ticks : List Ticked) (datagrams : List Datagram) (n : ℕ) (g : Datagr
   second_is read second clocks r is =
       is ∙ r.is.counts g.router.0 ∙ ap (λ (ts : List Ticked). capped (count_by (is_tick_of g.router.0) ts)) (sym r.all)
 
-  pub stamped_more : (second : ℕ) (before after : tree.BTreeMap ℕ ℕ) → second ≡ second_of ticks (n, g) → IsCounted second before after →
+  pub stamped_more : (second : ℕ) (before after : tree.BTreeMap ℕ ℕ) → second ≡ second_of ticks (n, g) → IsOneMoreOf second before after →
       ((k : ℕ) → count_in before k ≡ capped (count_by (λ s. s == k) (take n (seconds ticks datagrams)))) → (k : ℕ) → count_in after k ≡ capped (count_by (λ s. s == k) (take (n + 1) (seconds ticks datagrams)))
   stamped_more second before after is counted counts =
-      let long : n < length (seconds ticks datagrams) = (let h = length-map (numbered datagrams) (second_of ticks) in let t = there in omega (arith, h, t)) in
-      let same : second ≡ get_or (seconds ticks datagrams) n 0 = is ∙ ap (second_of ticks) (sym at) ∙ sym (get_or-map (second_of ticks) (numbered datagrams) n (n, g) 0 there) in
-      counts_more (λ (s : ℕ). s) (seconds ticks datagrams) n 0 before after long (subst (λ (k : ℕ). IsCounted k before after) same counted) counts
+      let long : n < length (seconds ticks datagrams) = (let h = length-map (numbered_datagrams datagrams) (second_of ticks) in let t = there in omega (arith, h, t)) in
+      let same : second ≡ get_or (seconds ticks datagrams) n 0 = is ∙ ap (second_of ticks) (sym at) ∙ sym (get_or-map (second_of ticks) (numbered_datagrams datagrams) n (n, g) 0 there) in
+      counts_more (λ (s : ℕ). s) (seconds ticks datagrams) n 0 before after long (subst (λ (k : ℕ). IsOneMoreOf k before after) same counted) counts
 
 capped_within : (n : ℕ) → within_second (capped n) ≡ within_second n
 unfolding capped within_second
@@ -91,7 +91,7 @@ microsecond_is ticks datagrams n g second before stamped is count counts =
     ∙ ap (λ (k : ℕ). within_second (count_by (λ s. s == k) (take n (seconds ticks datagrams)))) is
 
 -- ticks that came by one datagram came by the next
-pub read_on : (ticks : List Ticked) (n read : ℕ) (clocks : tree.BTreeMap ℕ ℕ) → IsRead ticks n read clocks → IsRead ticks (n + 1) read clocks
+pub read_on : (ticks : List Ticked) (n read : ℕ) (clocks : tree.BTreeMap ℕ ℕ) → AreTicksRead ticks n read clocks → AreTicksRead ticks (n + 1) read clocks
 read_on ticks n read clocks r = record {
   within = r.within;
   came = all_weaker (λ (t : Ticked). t.sent ≤ n) (λ (t : Ticked). t.sent ≤ n + 1) (take read ticks) (λ t le. omega (arith, le)) r.came;
@@ -99,7 +99,7 @@ read_on ticks n read clocks r = record {
 }
 
 pub all_taken : (ticks : List Ticked) (datagrams : List Datagram) (n : ℕ) → length datagrams ≤ n →
-    flat_map (captured_of ticks datagrams) (take n (numbered datagrams)) ≡ flat_map (captured_of ticks datagrams) (numbered datagrams)
+    flat_map (captured_of ticks datagrams) (take n (numbered_datagrams datagrams)) ≡ flat_map (captured_of ticks datagrams) (numbered_datagrams datagrams)
 all_taken ticks datagrams n all =
-    let short : length (numbered datagrams) ≤ n = (let h = length-enumerate_from 0 datagrams in omega (arith, h, all)) in
-    ap (flat_map (captured_of ticks datagrams)) (take_all n (numbered datagrams) short)
+    let short : length (numbered_datagrams datagrams) ≤ n = (let h = length-enumerate_from 0 datagrams in omega (arith, h, all)) in
+    ap (flat_map (captured_of ticks datagrams)) (take_all n (numbered_datagrams datagrams) short)

@@ -6,7 +6,7 @@ use Rattle.std.specs.List.{AllByRecursion}
 use Rattle.std.proofs.lemmas.Bool.Decides.{nat_tests}
 use Rattle.std.proofs.lemmas.List.Sums.{count_by_more_no, count_by_more_yes, take_while-cons}
 use Rattle.ospf_records.specs.Captures.{is_by}
-use Rattle.ospf_records.specs.Counts.{IsCounted, capped, count_in, one_more}
+use Rattle.ospf_records.specs.Counts.{IsOneMoreOf, capped, count_in, one_more}
 use Rattle.ospf_world.specs.declared.ticks.Ticked.{Ticked}
 
 capped_more : (n : ℕ) → one_more (capped n) ≡ capped (n + 1)
@@ -22,7 +22,7 @@ count_more p xs i d within = by (p (get_or xs i d)) refl
     by false is = ap capped (sym (count_by_more_no p xs i d within is))
 
 -- one more is counted by its key
-pub counts_more : {X : Type 0} (key : X → ℕ) (xs : List X) (i : ℕ) (d : X) (before after : tree.BTreeMap ℕ ℕ) → i < length xs → IsCounted (key (get_or xs i d)) before after →
+pub counts_more : {X : Type 0} (key : X → ℕ) (xs : List X) (i : ℕ) (d : X) (before after : tree.BTreeMap ℕ ℕ) → i < length xs → IsOneMoreOf (key (get_or xs i d)) before after →
     ((k : ℕ) → count_in before k ≡ capped (count_by (λ x. key x == k) (take i xs))) → (k : ℕ) → count_in after k ≡ capped (count_by (λ x. key x == k) (take (i + 1) xs))
 counts_more key xs i d before after within counted counts k =
     counted k ∙ ap (λ (n : ℕ). if key (get_or xs i d) == k then one_more n else n) (counts k) ∙ count_more (λ x. key x == k) xs i d within

@@ -22,7 +22,7 @@ use Rattle.ospf_lsa.proofs.LinkLemmas.{links_of_entries}
 use Rattle.ospf_lsa.proofs.ListingLemmas.{listed_in, one_key}
 use Rattle.ospf_edges.proofs.ListedLemmas.{keyed_router, router_key}
 use Rattle.ospf_graph.proofs.ListLemmas.{bool_cases, member_cases, member_head, member_later}
-use Rattle.ospf_records.specs.Graph.{attached_to, is_lsa_of_network, is_lsa_of_router, link_line, link_lines, links_by, links_in_some, routers_in_some}
+use Rattle.ospf_records.specs.Graph.{attached_to, is_lsa_of_network, is_lsa_of_router, drawn_link_line, drawn_link_lines, links_listed_by, links_in_some, routers_in_some}
 
 module _ {X : Type 0} (test : X → Bool) where
   -- the only one that passes is found
@@ -82,10 +82,10 @@ module _ (lsas : List (List ℕ)) (is : IsListing lsas) where
       find_only (is_lsa_of_router r.0) lsas lsa there (is_of_router r.0 lsa (keyed_router lsas is r lsa there key) at)
       (λ x h e. one_key lsas is.rising x lsa h there (keyed r x h e ∙ sym key))
 
-  pub links_found : (r : RouterId) (lsa : List ℕ) → Contains lsas lsa → key_of lsa ≡ router_key r → links_by lsas r.0 ≡ links_of lsa
+  pub links_found : (r : RouterId) (lsa : List ℕ) → Contains lsas lsa → key_of lsa ≡ router_key r → links_listed_by lsas r.0 ≡ links_of lsa
   links_found r lsa there key = ap links_in_some (found_router r lsa there key)
 
-  pub links_none : (r : RouterId) → (HasKey lsas (router_key r) → ⊥) → links_by lsas r.0 ≡ []
+  pub links_none : (r : RouterId) → (HasKey lsas (router_key r) → ⊥) → links_listed_by lsas r.0 ≡ []
   links_none r none =
       ap links_in_some (find_none (is_lsa_of_router r.0) lsas (λ x h e. none (h.0, x, h.1, h.2, keyed r x h e)))
 
@@ -146,12 +146,12 @@ attached_none id lsas none = ap routers_in_some (last_none id lsas none)
 
 -- the line of one link more
 pub link_lines_more : (lsas : List (List ℕ)) (router : ℕ) (before xs : List Link) (x : Link)
-    → link_lines lsas router before (xs ++ x ∷ []) ≡ link_lines lsas router before xs ++ link_line lsas router (before ++ xs) x
-link_lines_more lsas router before [] x = append-nil (link_line lsas router before x) ∙ ap (λ (b : List Link). link_line lsas router b x) (sym (append-nil before))
+    → drawn_link_lines lsas router before (xs ++ x ∷ []) ≡ drawn_link_lines lsas router before xs ++ drawn_link_line lsas router (before ++ xs) x
+link_lines_more lsas router before [] x = append-nil (drawn_link_line lsas router before x) ∙ ap (λ (b : List Link). drawn_link_line lsas router b x) (sym (append-nil before))
 link_lines_more lsas router before (y ∷ ys) x =
     let rest = link_lines_more lsas router (before ++ y ∷ []) ys x in
-    ap (λ t. link_line lsas router before y ++ t) (rest ∙ ap (λ (b : List Link). link_lines lsas router (before ++ y ∷ []) ys ++ link_line lsas router b x) (append_assoc before (y ∷ []) ys))
-    ∙ sym (append_assoc (link_line lsas router before y) (link_lines lsas router (before ++ y ∷ []) ys) (link_line lsas router (before ++ y ∷ ys) x))
+    ap (λ t. drawn_link_line lsas router before y ++ t) (rest ∙ ap (λ (b : List Link). drawn_link_lines lsas router (before ++ y ∷ []) ys ++ drawn_link_line lsas router b x) (append_assoc before (y ∷ []) ys))
+    ∙ sym (append_assoc (drawn_link_line lsas router before y) (drawn_link_lines lsas router (before ++ y ∷ []) ys) (drawn_link_line lsas router (before ++ y ∷ ys) x))
 
 -- ---- how many links there are
 

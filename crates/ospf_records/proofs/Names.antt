@@ -10,7 +10,7 @@ use Rattle.std.proofs.NetLemmas.Texts.{IsDotted-ipv4_text}
 use Rattle.std.proofs.lemmas.Option.{none-some}
 use Rattle.std.proofs.lemmas.Nat.{from_be_bytes-to_be_bytes_4}
 use Rattle.ospf_base.specs.Text.{number_text}
-use Rattle.ospf_records.specs.GraphLaws.{Drawn, router, network, name_of, DrawnFits}
+use Rattle.ospf_records.specs.GraphLaws.{Drawn, router, network, node_name, DrawnFits}
 
 octet : (n k : ℕ) → get_or (to_be_bytes w32 n) k 0 < 2 ^ 8
 octet n zero = omega arith
@@ -38,7 +38,7 @@ no_letter m xs ys stop e =
     let none : read_ipv4 (110 ∷ ys) ≡ None = read_ipv4_none [] (110 ∷ ys) tt (omega arith) (λ h. omega arith) in
     none-some _ (sym none ∙ ap read_ipv4 (sym e) ∙ read_back m xs stop)
 
-pub names_tell_apart : (a b : Drawn) → DrawnFits a → DrawnFits b → name_of a ≡ name_of b → a ≡ b
+pub names_tell_apart : (a b : Drawn) → DrawnFits a → DrawnFits b → node_name a ≡ node_name b → a ≡ b
 names_tell_apart (router a) (router b) fa fb e = ap router (same_number a b (34 ∷ []) (34 ∷ []) fa fb (omega arith) (omega arith) (ap (drop 1) e)).0
 names_tell_apart (network a) (network b) fa fb e = ap network (same_number a b (34 ∷ []) (34 ∷ []) fa fb (omega arith) (omega arith) (ap (drop 9) e)).0
 names_tell_apart (router a) (network b) fa fb e = absurd (no_letter a (34 ∷ []) _ (omega arith) (ap (drop 1) e))

@@ -5,7 +5,7 @@ use Rattle.ospf_base.specs.Bytes.{number_at}
 use Rattle.ospf_base.specs.Constants.{ip_header}
 use Rattle.ospf_base.specs.Sums.{words, ones_complement_sum}
 use Rattle.ospf_records.specs.Datagram.{captured, datagram_bytes}
-use Rattle.ospf_records.specs.Ip.{header_bytes, largest_ip_packet}
+use Rattle.ospf_records.specs.Ip.{ip_header_bytes, largest_ip_packet}
 use Rattle.ospf_records.specs.Pcap.{Captured, CapturedFits, capture_bytes}
 use Rattle.ospf_base.specs.declared.ids.Addr.{Addr}
 use Rattle.ospf_records.specs.declared.moment.Moment.{Moment}
@@ -13,7 +13,7 @@ use Rattle.ospf_records.specs.declared.moment.Moment.{Moment}
 -- the words of a header, its checksum among them, sum to all ones
 abbrev pub ChecksumHolds : Type 0
 ChecksumHolds = (size source destination : ℕ) → size ≤ largest_ip_packet → source < 2 ^ 32 → destination < 2 ^ 32
-    → ones_complement_sum (sum (words (header_bytes size source destination))) ≡ 65535
+    → ones_complement_sum (sum (words (ip_header_bytes size source destination))) ≡ 65535
 
 -- what a record and the IP header in it tell of lengths: the bytes kept, the bytes there were, the Total Length
 pub record TellsLengths (recorded packet : List ℕ) : Type 0 where

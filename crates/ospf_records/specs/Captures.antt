@@ -21,11 +21,11 @@ unfoldable pub second_of : List Ticked → ℕ × Datagram → ℕ
 second_of ticks sent = capped (count_by (is_tick_of sent.1.router.0) (take_while (is_by sent.0) ticks))
 
 -- the datagrams with their numbers, and the seconds of all of them
-abbrev pub numbered : List Datagram → List (ℕ × Datagram)
-numbered datagrams = enumerate_from 0 datagrams
+abbrev pub numbered_datagrams : List Datagram → List (ℕ × Datagram)
+numbered_datagrams datagrams = enumerate_from 0 datagrams
 
 abbrev pub seconds : List Ticked → List Datagram → List ℕ
-seconds ticks datagrams = map (second_of ticks) (numbered datagrams)
+seconds ticks datagrams = map (second_of ticks) (numbered_datagrams datagrams)
 
 -- the last microsecond of a second
 abbrev pub last_microsecond : ℕ
@@ -51,4 +51,4 @@ captured_of ticks datagrams sent = captured_at (second_of ticks sent) (microseco
 
 -- the capture of all datagrams, in their order
 abbrev pub capture_of : List Ticked → List Datagram → List ℕ
-capture_of ticks datagrams = capture_bytes (flat_map (captured_of ticks datagrams) (numbered datagrams))
+capture_of ticks datagrams = capture_bytes (flat_map (captured_of ticks datagrams) (numbered_datagrams datagrams))

@@ -20,5 +20,5 @@ abbrev pub count_in : tree.BTreeMap ℕ ℕ → ℕ → ℕ
 count_in counts key = unwrap_or (tree.get nat_cmp counts key) 0
 
 -- one more of a key
-abbrev pub IsCounted : ℕ → tree.BTreeMap ℕ ℕ → tree.BTreeMap ℕ ℕ → Type 0
-IsCounted key before after = (k : ℕ) → count_in after k ≡ (if key == k then one_more (count_in before k) else count_in before k)
+abbrev pub IsOneMoreOf : ℕ → tree.BTreeMap ℕ ℕ → tree.BTreeMap ℕ ℕ → Type 0
+IsOneMoreOf key before after = (k : ℕ) → count_in after k ≡ (if key == k then one_more (count_in before k) else count_in before k)

@@ -42,8 +42,8 @@ links_in_some None = []
 links_in_some (Some lsa) = links_of lsa
 
 -- the links of a router; none where its LSA is not listed
-abbrev pub links_by : List (List ℕ) → ℕ → List Link
-links_by lsas router = links_in_some (find (is_lsa_of_router router) lsas)
+abbrev pub links_listed_by : List (List ℕ) → ℕ → List Link
+links_listed_by lsas router = links_in_some (find (is_lsa_of_router router) lsas)
 
 -- the routers that an LSA names, if there is one
 abbrev pub routers_in_some : Option (List ℕ) → List RouterId
@@ -61,7 +61,7 @@ names_router lsas id router = list_any (λ r. r.0 == router) (attached_to lsas i
 
 -- a router has a link to a transit network
 abbrev pub links_to_network : List (List ℕ) → ℕ → ℕ → Bool
-links_to_network lsas router id = list_any (is_transit_to id) (links_by lsas router)
+links_to_network lsas router id = list_any (is_transit_to id) (links_listed_by lsas router)
 
 -- type 1 of links (RFC 2328, appendix A.4.2)
 abbrev pub is_point_to_point : LinkKind → Bool
@@ -71,17 +71,17 @@ is_point_to_point Stub = false
 is_point_to_point Virtual = false
 
 -- a link of type 1 to a router
-abbrev pub is_link_to : ℕ → Link → Bool
-is_link_to router link = is_point_to_point link.kind && (link.id == router)
+abbrev pub is_drawn_link_to : ℕ → Link → Bool
+is_drawn_link_to router link = is_point_to_point link.kind && (link.id == router)
 
 -- those of the links that lead to a router
 abbrev pub links_to : ℕ → List Link → List Link
-links_to router links = filter (is_link_to router) links
+links_to router links = filter (is_drawn_link_to router) links
 
 -- the other end of a link of type 1 that stands behind these links of its router: the n-th link to a router is one with the n-th link
 -- of that router back
 abbrev pub back_of : List (List ℕ) → ℕ → List Link → Link → Option Link
-back_of lsas router before link = slice_get (links_to router (links_by lsas link.id)) (length (links_to link.id before))
+back_of lsas router before link = slice_get (links_to router (links_listed_by lsas link.id)) (length (links_to link.id before))
 
 -- ---- boxes
 
@@ -93,21 +93,21 @@ stub_of_kind link Transit = []
 stub_of_kind link Virtual = []
 
 -- a stub network in the box of its router, on a line of its own
-abbrev pub stub_text : Link → List ℕ
-stub_text link = stub_of_kind link link.kind
+abbrev pub drawn_stub_text : Link → List ℕ
+drawn_stub_text link = stub_of_kind link link.kind
 
 -- all of a router
 abbrev pub stub_texts : List Link → List ℕ
-stub_texts links = flat_map stub_text links
+stub_texts links = flat_map drawn_stub_text links
 
 -- a router, with its stub networks
-abbrev pub router_line : ℕ → List Link → List ℕ
-router_line router links =
+abbrev pub drawn_router_line : ℕ → List Link → List ℕ
+drawn_router_line router links =
     codes "  " ++ router_node router ++ codes " [shape=box, label=\"" ++ number_text router ++ stub_texts links ++ codes "\"];\n"
 
 -- a transit network, by its prefix
-abbrev pub network_line : ℕ → ℕ → List ℕ
-network_line id mask = codes "  " ++ network_node id ++ codes " [shape=box, style=\"filled,rounded\", label=\"" ++ prefix_under id mask ++ codes "\"];\n"
+abbrev pub drawn_network_line : ℕ → ℕ → List ℕ
+drawn_network_line id mask = codes "  " ++ network_node id ++ codes " [shape=box, style=\"filled,rounded\", label=\"" ++ prefix_under id mask ++ codes "\"];\n"
 
 -- a router that does not run
 abbrev pub stopped_line : RouterId → List ℕ
@@ -155,13 +155,13 @@ line_of_kind lsas router before link Stub = []
 line_of_kind lsas router before link Virtual = []
 
 -- the same by the link
-abbrev pub link_line : List (List ℕ) → ℕ → List Link → Link → List ℕ
-link_line lsas router before link = line_of_kind lsas router before link link.kind
+abbrev pub drawn_link_line : List (List ℕ) → ℕ → List Link → Link → List ℕ
+drawn_link_line lsas router before link = line_of_kind lsas router before link link.kind
 
 -- the lines of links that stand behind these of their router
-abbrev pub link_lines : List (List ℕ) → ℕ → List Link → List Link → List ℕ
-link_lines lsas router before [] = []
-link_lines lsas router before (link ∷ rest) = link_line lsas router before link ++ link_lines lsas router (before ++ link ∷ []) rest
+abbrev pub drawn_link_lines : List (List ℕ) → ℕ → List Link → List Link → List ℕ
+drawn_link_lines lsas router before [] = []
+drawn_link_lines lsas router before (link ∷ rest) = drawn_link_line lsas router before link ++ drawn_link_lines lsas router (before ++ link ∷ []) rest
 
 -- a router that a network names, and that has a link there or has none
 abbrev pub named_unless : ℕ → RouterId → Bool → List ℕ
@@ -190,16 +190,16 @@ steps_of walked = zip walked (drop 1 walked)
 -- ---- a listing
 
 -- a router and its links
-abbrev pub router_lines : List (List ℕ) → ℕ → List Link → List ℕ
-router_lines lsas router links = router_line router links ++ link_lines lsas router [] links
+abbrev pub drawn_router_lines : List (List ℕ) → ℕ → List Link → List ℕ
+drawn_router_lines lsas router links = drawn_router_line router links ++ drawn_link_lines lsas router [] links
 
 -- a network and the routers that it names
 abbrev pub network_lines : List (List ℕ) → ℕ → ℕ → List RouterId → List ℕ
-network_lines lsas id mask routers = network_line id mask ++ attached_lines lsas id routers
+network_lines lsas id mask routers = drawn_network_line id mask ++ attached_lines lsas id routers
 
 -- a router-LSA, drawn by its Advertising Router, and a network-LSA, drawn by its Link State ID
 abbrev pub lines_of_kind : List (List ℕ) → List ℕ → Kind → List ℕ
-lines_of_kind lsas lsa Router = router_lines lsas (number_at 8 4 lsa) (links_of lsa)
+lines_of_kind lsas lsa Router = drawn_router_lines lsas (number_at 8 4 lsa) (links_of lsa)
 lines_of_kind lsas lsa Network = network_lines lsas (number_at 4 4 lsa) (network_mask_of lsa) (attached_of lsa)
 
 -- the lines of an LSA

@@ -14,9 +14,9 @@ pub data Drawn : Type 0 where
   router : (id : ℕ) → Drawn
   network : (id : ℕ) → Drawn
 
-abbrev pub name_of : Drawn → List ℕ
-name_of (router id) = router_node id
-name_of (network id) = network_node id
+abbrev pub node_name : Drawn → List ℕ
+node_name (router id) = router_node id
+node_name (network id) = network_node id
 
 -- the number fits its field
 abbrev pub DrawnFits : Drawn → Type 0
@@ -25,4 +25,4 @@ DrawnFits (network id) = id < 2 ^ 32
 
 -- different things have different names
 abbrev pub NamesTellApart : Type 0
-NamesTellApart = (a b : Drawn) → DrawnFits a → DrawnFits b → name_of a ≡ name_of b → a ≡ b
+NamesTellApart = (a b : Drawn) → DrawnFits a → DrawnFits b → node_name a ≡ node_name b → a ≡ b

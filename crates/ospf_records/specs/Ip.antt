@@ -35,10 +35,10 @@ abbrev pub header_checksum : List ℕ → ℕ
 header_checksum header = 65535 - ones_complement_sum (sum (words header))
 
 -- the header, its checksum computed with its own field as 0
-abbrev pub header_bytes : ℕ → ℕ → ℕ → List ℕ
-header_bytes size source destination =
+abbrev pub ip_header_bytes : ℕ → ℕ → ℕ → List ℕ
+ip_header_bytes size source destination =
     header_with_sum size source destination (header_checksum (header_with_sum size source destination 0))
 
 -- an OSPF packet as an IP packet
 abbrev pub ip_packet : ℕ → ℕ → List ℕ → List ℕ
-ip_packet source destination ospf = header_bytes (ip_header + length ospf) source destination ++ ospf
+ip_packet source destination ospf = ip_header_bytes (ip_header + length ospf) source destination ++ ospf

@@ -4,6 +4,6 @@ use Rattle.ospf_records.specs.declared.fault.CaptureFault.{CaptureFault}
 use Rattle.ospf_records.specs.declared.fault.CaptureFault.TheVariants.{TooLong, Memory}
 
 -- the name of a fault
-abbrev pub fault_text : CaptureFault → List ℕ
-fault_text TooLong = codes "TooLong"
-fault_text Memory = codes "Memory"
+abbrev pub capture_fault_text : CaptureFault → List ℕ
+capture_fault_text TooLong = codes "TooLong"
+capture_fault_text Memory = codes "Memory"

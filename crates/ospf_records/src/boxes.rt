@@ -1,7 +1,7 @@
 //! The boxes of a drawing.
 
 ghost use Rattle.std.specs.Fmt.{WritesOnOk};
-ghost use Rattle.ospf_records.specs.Graph.{network_line, router_line, stopped_line, stub_text, stub_texts};
+ghost use Rattle.ospf_records.specs.Graph.{drawn_network_line, drawn_router_line, stopped_line, drawn_stub_text, stub_texts};
 
 use crate::nodes::{NetworkNode, RouterNode, Under};
 use ospf_base::RouterId;
@@ -14,7 +14,8 @@ pub(crate) fn write_router<W: Write>(
     router: RouterId,
     links: Links,
 ) -> fmt::Result
-    ensures { WritesOnOk W.Write.write_str_gives f.old result (router_line router.0 links.entry)
+    ensures { WritesOnOk W.Write.write_str_gives f.old result (drawn_router_line router.0
+        links.entry)
         f.new }
 {
     write!(f, "  {} [shape=box, label=\"{router}", RouterNode(router.0))?;
@@ -24,7 +25,7 @@ pub(crate) fn write_router<W: Write>(
 
 // A transit network, by its prefix.
 pub(crate) fn write_network<W: Write>(f: &mut Formatter<W>, id: u32, mask: u32) -> fmt::Result
-    ensures { WritesOnOk W.Write.write_str_gives f.old result (network_line id mask) f.new }
+    ensures { WritesOnOk W.Write.write_str_gives f.old result (drawn_network_line id mask) f.new }
 {
     let prefix = Under { address: id, mask };
     writeln!(
@@ -57,7 +58,7 @@ fn write_stubs<W: Write>(f: &mut Formatter<W>, links: Links) -> fmt::Result
 
 // A stub network, on a line of its own in the label.
 fn write_stub<W: Write>(f: &mut Formatter<W>, link: Link) -> fmt::Result
-    ensures { WritesOnOk W.Write.write_str_gives f.old result (stub_text link) f.new }
+    ensures { WritesOnOk W.Write.write_str_gives f.old result (drawn_stub_text link) f.new }
 {
     match link.kind {
         LinkKind::Stub => {

@@ -51,7 +51,8 @@ fn capture_of(
 // Adds a datagram to a capture. One that fits into no IP packet is left out.
 fn add_datagram(out: &mut Vec<u8>, at: Moment, datagram: &Datagram) -> Result<(), AllocError>
     ensures { (packets : List Captured) → out.old.items ≡ capture_bytes packets
-        → OnOk result (out.new.items ≡ capture_bytes (packets ++ captured_at at.seconds at.microseconds datagram.now)) }
+        → OnOk result (out.new.items ≡ capture_bytes (packets
+        ++ captured_at at.seconds at.microseconds datagram.now)) }
 {
     let sent = &datagram.sent;
     match write_datagram(out, at, sent.source, sent.destination, &sent.bytes) {

@@ -1,7 +1,7 @@
 //! Counts by key.
 
 ghost use Rattle.std.specs.Prelude.{◌≡◌, OnOk};
-ghost use Rattle.ospf_records.specs.Counts.{IsCounted, count_in};
+ghost use Rattle.ospf_records.specs.Counts.{IsOneMoreOf, count_in};
 
 use std::alloc::AllocError;
 use std::collections::BTreeMap;
@@ -16,7 +16,7 @@ pub(crate) fn count(counts: &BTreeMap<u32, u32>, key: u32) -> u32
 /// Counts a key once more.
 #[tactic(auto, unfolding(crate::specs::Counts::one_more))]
 pub(crate) fn count_one(counts: &mut BTreeMap<u32, u32>, key: u32) -> Result<(), AllocError>
-    ensures { OnOk result (IsCounted key counts.old counts.new) }
+    ensures { OnOk result (IsOneMoreOf key counts.old counts.new) }
 {
     let before = count(counts, key);
     let now = if before < u32::MAX {

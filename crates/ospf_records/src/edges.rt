@@ -3,7 +3,7 @@
 ghost use Rattle.std.specs.Fmt.{WritesOnOk};
 ghost use Rattle.std.specs.Prelude.{[], take};
 ghost use Rattle.ospf_lsa.specs.Lsa.{IsRouterLsa, links_of};
-ghost use Rattle.ospf_records.specs.Graph.{attached_line, attached_lines, both_line, link_line, link_lines, point_line, transit_line};
+ghost use Rattle.ospf_records.specs.Graph.{attached_line, attached_lines, both_line, drawn_link_line, drawn_link_lines, point_line, transit_line};
 
 use crate::ends::{link_back, links_in, links_to_network, names_router, place_among};
 use crate::nodes::{NetworkNode, RouterNode};
@@ -20,7 +20,7 @@ pub(crate) fn write_links<W: Write>(
 ) -> fmt::Result
     requires { IsRouterLsa lsa.now }
     ensures { WritesOnOk W.Write.write_str_gives f.old result
-        (link_lines listing.now router.0 [] (links_of lsa.now)) f.new }
+        (drawn_link_lines listing.now router.0 [] (links_of lsa.now)) f.new }
 {
     let mut at = 0;
     for link in links_in(lsa) {
@@ -56,7 +56,7 @@ fn write_link<W: Write>(
     link: Link,
 ) -> fmt::Result
     requires { IsRouterLsa lsa.now }
-    ensures { WritesOnOk W.Write.write_str_gives f.old result (link_line listing.now router.0
+    ensures { WritesOnOk W.Write.write_str_gives f.old result (drawn_link_line listing.now router.0
         (take at (links_of lsa.now)) link) f.new }
 {
     let other = RouterId(link.id);

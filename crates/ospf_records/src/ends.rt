@@ -4,7 +4,7 @@ ghost use Rattle.std.specs.List.{list_any};
 ghost use Rattle.std.specs.Prelude.{◌≡◌, ◌==◌, ◌<◌, ◌^◌, [], IfNone, IfSome, length, slice_get, take};
 ghost use Rattle.ospf_lsa.specs.Lsa.{IsRouterLsa, links_of};
 ghost use Rattle.ospf_graph.specs.Advertisements.{is_transit_to};
-ghost use Rattle.ospf_records.specs.Graph.{attached_to, is_link_to, links_by, links_to, links_to_network, names_router};
+ghost use Rattle.ospf_records.specs.Graph.{attached_to, is_drawn_link_to, links_listed_by, links_to, links_to_network, names_router};
 
 use ospf_base::{Kind, LsaKey, RouterId};
 use ospf_lsa::{Attached, Link, LinkKind, Links, Listing, LsaView};
@@ -37,7 +37,7 @@ pub(crate) fn link_back(
     to: RouterId,
     place: usize,
 ) -> Option<Link>
-    ensures { result ≡ slice_get (links_to to.0 (links_by listing.now router.0)) place }
+    ensures { result ≡ slice_get (links_to to.0 (links_listed_by listing.now router.0)) place }
 {
     match links_by(listing, router) {
         Some(links) => nth_to(links, to, place),
@@ -67,8 +67,8 @@ pub(crate) fn links_to_network(listing: &Listing, router: RouterId, id: u32) -> 
 
 // The links of a router's LSA, if it is listed.
 fn links_by<'a>(listing: &'a Listing, router: RouterId) -> Option<Links<'a>>
-    ensures found { IfSome result (λ links. links ≡ links_by listing.now router.0) }
-    ensures none { IfNone result (links_by listing.now router.0 ≡ []) }
+    ensures found { IfSome result (λ links. links ≡ links_listed_by listing.now router.0) }
+    ensures none { IfNone result (links_listed_by listing.now router.0 ≡ []) }
 {
     let key = LsaKey {
         kind: Kind::Router,
@@ -115,7 +115,7 @@ fn has_transit_link(mut links: Links, id: u32) -> bool
 
 // Whether this is a link of type 1 to a router.
 fn is_link_to(link: &Link, router: RouterId) -> bool
-    ensures { result ≡ is_link_to router.0 link.now }
+    ensures { result ≡ is_drawn_link_to router.0 link.now }
 {
     match link.kind {
         LinkKind::PointToPoint => link.id == router.0,

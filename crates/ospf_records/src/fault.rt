@@ -14,11 +14,11 @@ pub enum CaptureFault {
 
 impl CaptureFault {
     ghost use Rattle.std.specs.Prelude.{◌≡◌};
-    ghost use Rattle.ospf_records.specs.Text.{fault_text};
+    ghost use Rattle.ospf_records.specs.Text.{capture_fault_text};
 
     /// The fault's name, as it is printed.
     pub fn text(self) -> &'static str
-        ensures { result.now ≡ fault_text self }
+        ensures { result.now ≡ capture_fault_text self }
     {
         match self {
             CaptureFault::TooLong => "TooLong",
@@ -30,9 +30,9 @@ impl CaptureFault {
 /// The name, as `TooLong`.
 impl Display for CaptureFault {
     ghost use Rattle.std.specs.Prelude.{Some};
-    ghost use Rattle.ospf_records.specs.Text.{fault_text};
+    ghost use Rattle.ospf_records.specs.Text.{capture_fault_text};
 
-    ghost output = { λ fault. Some (fault_text fault) };
+    ghost output = { λ fault. Some (capture_fault_text fault) };
 
     fn fmt<W: Write>(&self, f: &mut Formatter<W>) -> fmt::Result {
         f.write_str(self.text())

@@ -3,7 +3,7 @@
 ghost use Rattle.std.specs.Fmt.{WritesOnOk};
 ghost use Rattle.std.specs.Prelude.{flat_map};
 ghost use Rattle.ospf_lsa.specs.Lsa.{IsRouterLsa, links_of};
-ghost use Rattle.ospf_records.specs.Graph.{lsa_lines, network_lines, router_lines, stopped_line};
+ghost use Rattle.ospf_records.specs.Graph.{lsa_lines, network_lines, drawn_router_lines, stopped_line};
 
 use crate::arrows::write_walk;
 use crate::boxes::{write_network, write_router, write_stopped};
@@ -77,7 +77,7 @@ fn write_router_lsa<W: Write>(
 ) -> fmt::Result
     requires { IsRouterLsa lsa.now }
     ensures { WritesOnOk W.Write.write_str_gives f.old result
-        (router_lines listing.now router.0 (links_of lsa.now)) f.new }
+        (drawn_router_lines listing.now router.0 (links_of lsa.now)) f.new }
 {
     write_router(f, router, lsa.links())?;
     write_links(f, listing, router, lsa)

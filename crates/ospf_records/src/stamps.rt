@@ -2,7 +2,7 @@
 
 ghost use Rattle.std.specs.Prelude.{◌≡◌, IfOk};
 ghost use Rattle.ospf_records.specs.Captures.{within_second};
-ghost use Rattle.ospf_records.specs.Stamps.{IsRead, IsReadTo};
+ghost use Rattle.ospf_records.specs.Stamps.{AreTicksRead, IsReadTo};
 
 use crate::counts::count_one;
 use crate::moment::Moment;
@@ -21,7 +21,7 @@ pub(crate) fn read_ticks(
     read: usize,
     number: usize,
 ) -> Result<usize, AllocError>
-    requires { IsRead ticks.now number read clocks.old }
+    requires { AreTicksRead ticks.now number read clocks.old }
     ensures { IfOk result (λ now. IsReadTo ticks.now number now clocks.new) }
 {
     let mut next = read;

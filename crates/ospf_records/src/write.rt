@@ -5,7 +5,7 @@ ghost use Rattle.ospf_base.specs.Bytes.{number_bytes};
 ghost use Rattle.ospf_base.specs.Constants.{ip_header};
 ghost use Rattle.ospf_base.specs.Sums.{words};
 ghost use Rattle.ospf_records.specs.Datagram.{captured, datagram_bytes};
-ghost use Rattle.ospf_records.specs.Ip.{header_bytes, header_checksum, header_with_sum, largest_ip_packet};
+ghost use Rattle.ospf_records.specs.Ip.{ip_header_bytes, header_checksum, header_with_sum, largest_ip_packet};
 ghost use Rattle.ospf_records.specs.Pcap.{Captured, capture_bytes, file_header, record_header};
 ghost use Rattle.ospf_records.specs.declared.fault.CaptureFault.TheVariants as fault;
 
@@ -67,10 +67,12 @@ pub fn write_datagram(
     ensures too_long { (result ≡ Err fault.TooLong)
         ↔ (largest_ip_packet < ip_header + length ospf.now) }
     ensures memory { (result ≡ Err fault.Memory)
-        → vec_capacity out.old < vec_len out.old + length (datagram_bytes at source destination ospf.now) }
+        → vec_capacity out.old < vec_len out.old
+        + length (datagram_bytes at source destination ospf.now) }
     // A capture stays one, with this packet behind the others.
     ensures capture { (packets : List Captured) → out.old.items ≡ capture_bytes packets
-        → OnOk result (out.new.items ≡ capture_bytes (packets ++ captured at source destination ospf.now ∷ [])) }
+        → OnOk result (out.new.items ≡ capture_bytes (packets
+        ++ captured at source destination ospf.now ∷ [])) }
 {
     if ospf.len() > LARGEST_IP_PACKET - IP_HEADER {
         return Err(CaptureFault::TooLong);
@@ -123,7 +125,7 @@ fn record_header_of(at: Moment, size: u16) -> [u8; 16]
 
 // The header of an IP packet of so many bytes.
 fn ip_header_of(size: u16, source: Addr, destination: Addr) -> [u8; 20]
-    ensures { result ≡ header_bytes size source.0 destination.0 }
+    ensures { result ≡ ip_header_bytes size source.0 destination.0 }
 {
     let [a, b] = size.to_be_bytes();
     let [c, d] = header_sum(size, source, destination).to_be_bytes();

@@ -29,7 +29,7 @@ use Rattle.ospf_graph.proofs.ElsewhereLemmas.{edges_elsewhere, touching_or_not}
 use Rattle.ospf_graph.proofs.CandidateLemmas.{same_or_other}
 use Rattle.ospf_graph.proofs.ListLemmas.{member_of_map, member_to_map}
 use Rattle.ospf_graph.proofs.TreeLemmas.{IsTree-map}
-use Rattle.ospf_router.specs.Ends.{IsSpared, ReplacesEnds}
+use Rattle.ospf_router.specs.Ends.{IsSparedPrefix, ReplacesEnds}
 use Rattle.ospf_router.specs.Growing.{AreGone, HasEndOf, IsGrownOver, IsTurn, IsUntouched}
 use Rattle.ospf_router.specs.declared.growing.Turn.{Turn}
 use Rattle.ospf_router.proofs.RouteFrame.{IsKeptHere, kept_routes}
@@ -252,7 +252,7 @@ module _ (old new : List (List ℕ)) (root : RouterId) (paths : KeptTree) (ends 
       | inr other ↦ none_old w c ((elsewhere p w c other).1 is)
     ]
 
-    pub without_ends : IsSpared (advertisements_of old) (advertisements_of new) root p
+    pub without_ends : IsSparedPrefix (advertisements_of old) (advertisements_of new) root p
     without_ends =
         record {
           routes = λ r of is. absurd (none_old is.way.end is.way.end_cost (subst (λ (q : Prefix). IsEnd (advertisements_of old) q is.way.end is.way.end_cost) of is.way.ends));
@@ -311,6 +311,6 @@ module _ (old new : List (List ℕ)) (root : RouterId) (paths grown : KeptTree) 
           starts = λ w d c x at is. same.starts w x (λ m. free w c m (end_in w c is));
         }
 
-    pub spared : IsUntouched (advertisements_of new) changed grown.settled t p → IsSpared (advertisements_of old) (advertisements_of new) root p
+    pub spared : IsUntouched (advertisements_of new) changed grown.settled t p → IsSparedPrefix (advertisements_of old) (advertisements_of new) root p
     spared untouched =
         kept_routes (advertisements_of old) (advertisements_of new) root paths grown (own_tree root old paths ends turn.over) now listed_to listed_from p (kept_here untouched)

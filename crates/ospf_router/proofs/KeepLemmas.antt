@@ -11,7 +11,7 @@ use Rattle.ospf_lsa.specs.Listing as listing
 use Rattle.ospf_lsa.specs.Listing.{IsListing, IsPut}
 use Rattle.ospf_lsa.specs.Lsa.{key_of}
 use Rattle.ospf_lsdb.specs.Counts.{fresh_count}
-use Rattle.ospf_lsdb.specs.Database.{Entry, Held, IsDatabase, IsRising, entries, entry_of, held_of, is_fresh, key_at, key_in, listed, lsa_of}
+use Rattle.ospf_lsdb.specs.Database.{Entry, Held, IsDatabase, AreKeysRising, entries, entry_of, held_of, is_fresh, key_at, key_in, listed, lsa_of}
 use Rattle.ospf_lsdb.specs.Places.{AllAfter}
 use Rattle.ospf_lsdb.proofs.EntryLemmas.{key_of-contents}
 use Rattle.ospf_lsdb.proofs.MapLemmas.{after-none, bool_cases}
@@ -48,7 +48,7 @@ held_behind h hs key g after is = elim (bool_cases (same_key (key_at h) key)) [
 ]
 
 -- what is held in a rising list stands nowhere before the first
-held_after : (key : LsaKey) (h : Held) (hs : List Held) (g : Held) → IsRising (h ∷ hs) → held_of (h ∷ hs) key ≡ Some g → (key ≡ key_at h) ⊎ Precedes (key_at h) key
+held_after : (key : LsaKey) (h : Held) (hs : List Held) (g : Held) → AreKeysRising (h ∷ hs) → held_of (h ∷ hs) key ≡ Some g → (key ≡ key_at h) ⊎ Precedes (key_at h) key
 held_after key h hs g rises is = elim (bool_cases (same_key (key_at h) key)) [
   | inl one ↦ inl (sym (same_key-eq (key_at h) key one))
   | inr two ↦ inr (behind hs rises.0 (sym (rest_held h hs key two) ∙ is))
@@ -67,7 +67,7 @@ record IsFront (a b : List Held) : Type 0 where
   fewer : length b ≤ length a
   same : length b ≡ length a → contents_of b ≡ contents_of a
 
-is_front : (a b : List Held) → IsRising a → IsRising b → AreAmong a b → IsFront a b
+is_front : (a b : List Held) → AreKeysRising a → AreKeysRising b → AreAmong a b → IsFront a b
 is_front a [] ra rb among = record { fewer = omega arith; same = λ n. none a n }
   where
     none : (xs : List Held) → 0 ≡ length xs → contents_of [] ≡ contents_of xs
@@ -139,16 +139,16 @@ fresh_after k (h ∷ hs) after = by (is_fresh h.entry) refl (fresh_after k hs af
     by true e rest = rw e (after.0, rest)
     by false e rest = rw e rest
 
-fresh_rising : (db : List Held) → IsRising db → IsRising (fresh_held db)
+fresh_rising : (db : List Held) → AreKeysRising db → AreKeysRising (fresh_held db)
 fresh_rising [] rises = tt
 fresh_rising (h ∷ hs) rises = by (is_fresh h.entry) refl (fresh_rising hs rises.1)
   where
-    by : (b : Bool) → is_fresh h.entry ≡ b → IsRising (fresh_held hs) → IsRising (fresh_held (h ∷ hs))
+    by : (b : Bool) → is_fresh h.entry ≡ b → AreKeysRising (fresh_held hs) → AreKeysRising (fresh_held (h ∷ hs))
     by true e rest = rw e (fresh_after (key_at h) hs rises.0, rest)
     by false e rest = rw e rest
 
 -- what is held among the fresh ones is held, and fresh
-fresh_is : (db : List Held) (key : LsaKey) (h : Held) → IsRising db → held_of (fresh_held db) key ≡ Some h → (held_of db key ≡ Some h) × (is_fresh h.entry ≡ true)
+fresh_is : (db : List Held) (key : LsaKey) (h : Held) → AreKeysRising db → held_of (fresh_held db) key ≡ Some h → (held_of db key ≡ Some h) × (is_fresh h.entry ≡ true)
 fresh_is [] key h rises is = absurd (cc)
 fresh_is (x ∷ xs) key h rises is = by (is_fresh x.entry) refl (same_key (key_at x) key) refl (fresh_is xs key h rises.1)
   where
@@ -210,7 +210,7 @@ unfolding helds_of
 after_as k [] after = tt
 after_as k (l ∷ ls) after = (subst (λ (q : LsaKey). Precedes k q) (sym (key_as l)) after.0, after_as k ls after.1)
 
-rising_as : (lsas : List (List ℕ)) → listing.IsRising lsas → IsRising (helds_of lsas)
+rising_as : (lsas : List (List ℕ)) → listing.IsRising lsas → AreKeysRising (helds_of lsas)
 unfolding helds_of
 rising_as [] rises = tt
 rising_as (l ∷ ls) rises = (subst (λ (q : LsaKey). AllAfter q (helds_of ls)) (sym (key_as l)) (after_as (key_of l) ls rises.0), rising_as ls rises.1)

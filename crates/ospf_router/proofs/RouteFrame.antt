@@ -14,7 +14,7 @@ use Rattle.ospf_graph.specs.declared.graph.Vertex.TheVariants.{Network, Router}
 use Rattle.ospf_graph.specs.declared.route.Route.{Route}
 use Rattle.ospf_incremental.specs.Kept.{KeptTree}
 use Rattle.ospf_spf.proofs.RouteLemmas.{IsReach, reach_of_way, route_exact, route_reached, way_of_reach}
-use Rattle.ospf_router.specs.Ends.{IsSpared}
+use Rattle.ospf_router.specs.Ends.{IsSparedPrefix}
 use Rattle.ospf_spf.specs.Reach.{IsReachedRoute}
 
 -- what is reached of the prefix's ends is the same
@@ -77,7 +77,7 @@ module _ (A B : List Advertisement) (root : RouterId) (paths grown : KeptTree)
         let r = reach_of_way B root of_b (AtIn grown.settled) (StartsIn grown.starts) now p w in
         (way_of_reach A root of_a (AtIn paths.settled) (StartsIn paths.starts) was p w.end r.0 (reach_from w.end r.0 r.1)).0
 
-  pub kept_routes : IsSpared A B root p
+  pub kept_routes : IsSparedPrefix A B root p
   kept_routes =
       record {
         routes = λ route of is. route_kept is.way.listed (listed_to is.way.listed) route of is;

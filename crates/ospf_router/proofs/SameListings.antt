@@ -6,7 +6,7 @@ use Rattle.ospf_base.specs.Keys.{Precedes}
 use Rattle.ospf_base.specs.Sums.{contents}
 use Rattle.ospf_base.specs.declared.ids.LsaKey.{LsaKey}
 use Rattle.ospf_lsa.specs.Header.{HeaderFits}
-use Rattle.ospf_lsa.specs.Listing.{IsListed, IsListing, IsRising}
+use Rattle.ospf_lsa.specs.Listing.{IsListable, IsListing, IsRising}
 use Rattle.ospf_lsa.specs.Lsa.{key_of, with_age}
 use Rattle.ospf_lsa.specs.declared.fault.LsaFault.TheVariants as fault
 use Rattle.ospf_lsa.specs.declared.header.LsaHeader.{LsaHeader}
@@ -27,7 +27,7 @@ same_key_of x y same = key_by x ∙ (ap (λ c. key_of (0 ∷ 0 ∷ c)) same ∙ 
 entry_key : (e : Entry) (lsa : List ℕ) → e.contents ≡ contents lsa → key_of (lsa_of e) ≡ key_of lsa
 entry_key e lsa same = same_key_of (lsa_of e) lsa same
 
-aged_listed : (lsa : List ℕ) (age : ℕ) → age < 3600 → IsListed lsa → IsListed (with_age age lsa)
+aged_listed : (lsa : List ℕ) (age : ℕ) → age < 3600 → IsListable lsa → IsListable (with_age age lsa)
 aged_listed lsa age young is =
     let long = (is.0 fault.Short).0 in
     let header = header_of-with_age age lsa (omega (arith, long)) (omega (arith, young)) in (
@@ -36,8 +36,8 @@ aged_listed lsa age young is =
       subst (λ (h : LsaHeader). h.age < 3600) (sym header) young,
     )
 
-entry_listed : (e : Entry) (lsa : List ℕ) → e.contents ≡ contents lsa → is_fresh e ≡ true → IsListed lsa → IsListed (lsa_of e)
-entry_listed e lsa same fresh is = subst (λ (c : List ℕ). IsListed (lsa_of (record e { contents = c }))) (sym same) (aged_listed lsa e.age (ltb-true e.age 3600 fresh) is)
+entry_listed : (e : Entry) (lsa : List ℕ) → e.contents ≡ contents lsa → is_fresh e ≡ true → IsListable lsa → IsListable (lsa_of e)
+entry_listed e lsa same fresh is = subst (λ (c : List ℕ). IsListable (lsa_of (record e { contents = c }))) (sym same) (aged_listed lsa e.age (ltb-true e.age 3600 fresh) is)
 
 -- ---- all of them
 
@@ -64,7 +64,7 @@ rising_same (e ∷ es) (l ∷ ls) same rises =
       rising_same es ls rest rises.1,
     )
 
-listed_same : (es : List Entry) (ls : List (List ℕ)) → map (λ e. e.contents) es ≡ map contents ls → AllFresh es → AllByRecursion IsListed ls → AllByRecursion IsListed (map lsa_of es)
+listed_same : (es : List Entry) (ls : List (List ℕ)) → map (λ e. e.contents) es ≡ map contents ls → AllFresh es → AllByRecursion IsListable ls → AllByRecursion IsListable (map lsa_of es)
 listed_same [] ls same fresh all = tt
 listed_same (e ∷ es) [] same fresh all = absurd (cc)
 listed_same (e ∷ es) (l ∷ ls) same fresh all =

@@ -14,7 +14,7 @@ use Rattle.ospf_router.specs.declared.followed.Grown.{Grown}
 use Rattle.ospf_router.specs.Listings.{ListsAs}
 use Rattle.ospf_router.specs.Routes.{AreRoutes}
 use Rattle.ospf_router.proofs.ListLemmas.{same_told}
-use Rattle.ospf_router.specs.Ends.{IsSpared, SparesBut}
+use Rattle.ospf_router.specs.Ends.{IsSparedPrefix, SparesBut}
 use Rattle.ospf_router.specs.Growing.{GrowingValue}
 
 -- the table of a listing is that of the database
@@ -37,7 +37,7 @@ each_some (Err e) P Q f h = tt
 pub from_itself : (grown : Grown) → IsGrownFrom grown.tree grown.touched.items grown
 from_itself grown = record { root = refl; kept = λ p m. m; spares = λ p free. record { routes = λ r of is. is; ways = λ w. w } }
 
-spared_then : (A B C : List Advertisement) (root : RouterId) (p : Prefix) → IsSpared A B root p → IsSpared B C root p → IsSpared A C root p
+spared_then : (A B C : List Advertisement) (root : RouterId) (p : Prefix) → IsSparedPrefix A B root p → IsSparedPrefix B C root p → IsSparedPrefix A C root p
 spared_then A B C root p first then = record { routes = λ r of is. then.routes r of (first.routes r of is); ways = λ w. first.ways (then.ways w) }
 
 -- one LSA more
@@ -51,5 +51,5 @@ grown_more tree before mid new first then =
           let B = advertisements_of mid.tree.listing in
           let C = advertisements_of new.tree.listing in
           spared_then A B C tree.root p (first.spares p (λ m. free (then.kept p m)))
-          (subst (λ (r : RouterId). IsSpared B C r p) first.root (then.spares p free));
+          (subst (λ (r : RouterId). IsSparedPrefix B C r p) first.root (then.spares p free));
     }

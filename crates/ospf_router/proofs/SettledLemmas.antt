@@ -16,7 +16,7 @@ use Rattle.ospf_step.specs.Drops.{is_dropped}
 use Rattle.ospf_router.proofs.KeepLemmas.{lists_each}
 use Rattle.ospf_router.proofs.TouchedChains.{step_keeps}
 use Rattle.ospf_router.specs.Listings.{AreListedAt, ListsAs, ListsBut, ListsEntry, StayListed}
-use Rattle.ospf_router.specs.Touched.{KeepsBut, Touches}
+use Rattle.ospf_router.specs.Touched.{KeepsBut, TouchesKey}
 
 module _ (out : OutputsValue) (s t : AreaValue) (lsas : List (List ℕ)) (keeps : KeepsBut out s t) (lists : ListsAs s.database lsas) where
   none_at : (key : LsaKey) (e : Entry) → entry_of t.database key ≡ Some e → entry_of t.database key ≡ None → ⊥
@@ -25,7 +25,7 @@ module _ (out : OutputsValue) (s t : AreaValue) (lsas : List (List ℕ)) (keeps 
   old_at : (key : LsaKey) (e : Entry) → entry_of t.database key ≡ Some e → is_fresh e ≡ false → AreListedAt t.database key lsas
   old_at key e at old d is fresh = absurd (let same : Some d ≡ Some e = sym is ∙ at in let one : d ≡ e = (cc) in let no : is_fresh e ≡ true = subst (λ (x : Entry). is_fresh x ≡ true) one fresh in cc)
 
-  fresh_at : (key : LsaKey) (e : Entry) → entry_of t.database key ≡ Some e → is_fresh e ≡ true → Touches out key ⊎ AreListedAt t.database key lsas
+  fresh_at : (key : LsaKey) (e : Entry) → entry_of t.database key ≡ Some e → is_fresh e ≡ true → TouchesKey out key ⊎ AreListedAt t.database key lsas
   fresh_at key e at fresh = elim (keeps key e at fresh) [
     | inl touched ↦ inl touched
     | inr d ↦ inr (λ x is young. let same : Some e ≡ Some x = sym at ∙ is in let one : e ≡ x = (cc) in let l = lists_each s.database lsas key lists d.0 d.1 d.2 in subst (λ (y : Entry). ListsEntry lsas y) one (l.0, l.1, l.2 ∙ d.3))
@@ -34,11 +34,11 @@ module _ (out : OutputsValue) (s t : AreaValue) (lsas : List (List ℕ)) (keeps 
   pub lists_but : ListsBut out t.database lsas
   lists_but key = by (entry_of t.database key) refl
     where
-      by : (o : Option Entry) → entry_of t.database key ≡ o → Touches out key ⊎ AreListedAt t.database key lsas
+      by : (o : Option Entry) → entry_of t.database key ≡ o → TouchesKey out key ⊎ AreListedAt t.database key lsas
       by None at = inr (λ e is fresh. absurd (none_at key e is at))
       by (Some e) at = go (is_fresh e) refl
         where
-          go : (b : Bool) → is_fresh e ≡ b → Touches out key ⊎ AreListedAt t.database key lsas
+          go : (b : Bool) → is_fresh e ≡ b → TouchesKey out key ⊎ AreListedAt t.database key lsas
           go true fresh = fresh_at key e at fresh
           go false old = inr (old_at key e at old)
 

@@ -28,7 +28,7 @@ use Rattle.ospf_iface.specs.declared.machine.Iface.{Iface}
 use Rattle.ospf_neighbour.specs.Neighbour.{NeighbourValue}
 use Rattle.ospf_step.specs.Words.{IsSoundState}
 use Rattle.ospf_neighbour.specs.Neighbours.{max_neighbours, neighbour_of}
-use Rattle.ospf_step.specs.Fit.{IsFit, IsFitLink}
+use Rattle.ospf_step.specs.Fit.{IsFitRouter, IsFitLink}
 use Rattle.ospf_router.specs.Starts.{AreLinksOf, IsAreaOf, IsLinkOf, area_of}
 
 -- one link more
@@ -112,12 +112,12 @@ links_set_up config ls are most = record {
 
 -- ---- the router
 
-pub area_fit : StartsSound → (config : Config) (dd_start : ℕ) (floor : ℤ) (s : AreaValue) → IsAreaOf config dd_start floor s → length config.interfaces.items ≤ 32 → IsFit s
+pub area_fit : StartsSound → (config : Config) (dd_start : ℕ) (floor : ℤ) (s : AreaValue) → IsAreaOf config dd_start floor s → length config.interfaces.items ≤ 32 → IsFitRouter s
 area_fit law config dd_start floor s is most =
     let now : AreaValue = area_of config dd_start floor s.links in
     let sound : IsSound now = law.begun now (links_set_up config s.links is.links most) refl refl refl in
-    let fit : IsFit now = record { links = all_fit config.router_id config.interfaces.items s.links is.links; sound = sound } in
-    subst (λ (x : AreaValue). IsFit x) (sym is.rest) fit
+    let fit : IsFitRouter now = record { links = all_fit config.router_id config.interfaces.items s.links is.links; sound = sound } in
+    subst (λ (x : AreaValue). IsFitRouter x) (sym is.rest) fit
 
 pub empty_routes : (r : RouterId) → IsTable (advertisements_of []) r []
 unfolding advertisements_of

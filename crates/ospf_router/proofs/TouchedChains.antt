@@ -18,7 +18,7 @@ use Rattle.ospf_lsdb.proofs.MapLaws.{ages, installs}
 use Rattle.ospf_area.specs.Numbers.{is_self_originated}
 use Rattle.ospf_area.specs.Outputs.{OutputsValue, no_outputs, then_outputs}
 use Rattle.ospf_area.specs.Standing.{acknowledging}
-use Rattle.ospf_area.specs.State.{AreaValue, entry_of}
+use Rattle.ospf_area.specs.State.{AreaValue, database_entry}
 use Rattle.ospf_area.specs.declared.flooding.Origin.{Origin}
 use Rattle.ospf_update.specs.Meets.{MeetsRule, heard_by, replied, rule_met, taken_off}
 use Rattle.ospf_update.proofs.PassLemmas.{passed}
@@ -26,13 +26,13 @@ use Rattle.ospf_step.specs.Parts.{AgesPart, AnswersAll, ExpiryPart, IssuePart, L
 use Rattle.ospf_step.specs.Step.{AndRequests, Chain, Event, ExpiryStep, IsPart, OwnStep, Part, StepLaws, Then, Times}
 use Rattle.ospf_step.specs.Step.Part.{HelloComes, DdComes, RequestComes, LsaComes, HeaderComes, DirectAcknowledgements, LinkChanges, Ages, Timers, Hellos, Acknowledgements, Repeats, Requests, Elections, OwnLsas, Removals}
 use Rattle.ospf_step.specs.Words.{Brings}
-use Rattle.ospf_router.specs.Touched.{KeepsBut, Touches}
+use Rattle.ospf_router.specs.Touched.{KeepsBut, TouchesKey}
 
-by_entries : (out : OutputsValue) (s t : AreaValue) → ((key : LsaKey) → entry_of t key ≡ entry_of s key) → KeepsBut out s t
+by_entries : (out : OutputsValue) (s t : AreaValue) → ((key : LsaKey) → database_entry t key ≡ database_entry s key) → KeepsBut out s t
 by_entries out s t same key e at fresh = inr (e, sym (same key) ∙ at, fresh, refl)
 
 by_database : (out : OutputsValue) (s t : AreaValue) → t.database ≡ s.database → KeepsBut out s t
-by_database out s t same = by_entries out s t (λ key. ap (λ db. entry_of (record s { database = db }) key) same)
+by_database out s t same = by_entries out s t (λ key. ap (λ db. database_entry (record s { database = db }) key) same)
 
 by_state : (out : OutputsValue) (s t : AreaValue) → t ≡ s → KeepsBut out s t
 by_state out s t same = by_database out s t (ap (λ (x : AreaValue). x.database) same)
@@ -60,10 +60,10 @@ last_of xs x = Contains-append_right xs (x ∷ []) x (zero, omega arith, refl)
 -- ---- one after the other
 
 module _ (out a b : OutputsValue) (both : out ≡ then_outputs a b) where
-  first_touches : (key : LsaKey) → Touches a key → Touches out key
+  first_touches : (key : LsaKey) → TouchesKey a key → TouchesKey out key
   first_touches key (i, brings, of) = (i, subst (λ (o : OutputsValue). Brings o i) (sym both) (first_brings a b i brings), of)
 
-  next_touches : (key : LsaKey) → Touches b key → Touches out key
+  next_touches : (key : LsaKey) → TouchesKey b key → TouchesKey out key
   next_touches key (i, brings, of) = (i, subst (λ (o : OutputsValue). Brings o i) (sym both) (next_brings a b i brings), of)
 
   keeps_then : (s t u : AreaValue) → KeepsBut a s t → KeepsBut b t u → KeepsBut out s u
@@ -124,13 +124,13 @@ stores_keep : (lsa : List ℕ) (tick : ℕ) (by_flooding : Bool) (out : OutputsV
     → Brings out (instance_of lsa) → KeepsBut out s t
 stores_keep lsa tick by_flooding out s t stores brings key e at fresh = by (same_key (key_in (entry_from lsa tick by_flooding).contents) key) refl
   where
-    is : entry_of t key ≡ cond (same_key (key_in (entry_from lsa tick by_flooding).contents) key) (Some (entry_from lsa tick by_flooding)) (entry_of s key)
+    is : database_entry t key ≡ cond (same_key (key_in (entry_from lsa tick by_flooding).contents) key) (Some (entry_from lsa tick by_flooding)) (database_entry s key)
     is = installs (entry_from lsa tick by_flooding) s.database t.database stores key
 
     by : (b : Bool) → same_key (key_in (entry_from lsa tick by_flooding).contents) key ≡ b
-        → Touches out key ⊎ ((d : Entry) × (entry_of s key ≡ Some d) × (is_fresh d ≡ true) × (d.contents ≡ e.contents))
+        → TouchesKey out key ⊎ ((d : Entry) × (database_entry s key ≡ Some d) × (is_fresh d ≡ true) × (d.contents ≡ e.contents))
     by true one = inl (instance_of lsa, brings, key-entry_from lsa tick by_flooding ∙ same_key-eq _ key one)
-    by false two = let there : entry_of s key ≡ Some e = simp two at (sym is ∙ at) in inr (e, there, fresh, refl)
+    by false two = let there : database_entry s key ≡ Some e = simp two at (sym is ∙ at) in inr (e, there, fresh, refl)
 
 rule_keeps : (r : Option LsaRule) (f : Origin) (lsa : List ℕ) (s : AreaValue) (out : OutputsValue) (t : AreaValue) → MeetsRule r f lsa s no_outputs out t → KeepsBut out s t
 unfolding database_of
@@ -151,32 +151,32 @@ lsa_keeps f lsa s out t (LsaPart.PassedOver other passes outputs) = by_database 
 
 ages_keep : (s : AreaValue) (out : OutputsValue) (t : AreaValue) → AgesPart s out t → KeepsBut out s t
 unfolding aged
-ages_keep s out t part key e at fresh = inr (by (entry_of s key) refl (sym (ages s.database t.database part.rise.database key) ∙ at))
+ages_keep s out t part key e at fresh = inr (by (database_entry s key) refl (sym (ages s.database t.database part.rise.database key) ∙ at))
   where
-    by : (o : Option Entry) → entry_of s key ≡ o → option_map aged o ≡ Some e → (d : Entry) × (entry_of s key ≡ Some d) × (is_fresh d ≡ true) × (d.contents ≡ e.contents)
+    by : (o : Option Entry) → database_entry s key ≡ o → option_map aged o ≡ Some e → (d : Entry) × (database_entry s key ≡ Some d) × (is_fresh d ≡ true) × (d.contents ≡ e.contents)
     by None was is = absurd (none_some e is)
     by (Some d) was is = go (is_fresh d) refl (some_same (aged d) e is)
       where
-        go : (b : Bool) → is_fresh d ≡ b → aged d ≡ e → (x : Entry) × (entry_of s key ≡ Some x) × (is_fresh x ≡ true) × (x.contents ≡ e.contents)
+        go : (b : Bool) → is_fresh d ≡ b → aged d ≡ e → (x : Entry) × (database_entry s key ≡ Some x) × (is_fresh x ≡ true) × (x.contents ≡ e.contents)
         go true young same = (d, was, young, (let same_contents : (aged d).contents ≡ d.contents = rw young refl in sym same_contents ∙ ap (λ (x : Entry). x.contents) same))
         go false old same = absurd (let is_d : aged d ≡ d = rw old refl in let no = ap is_fresh (sym is_d ∙ same) in cc)
 
 expiry_keeps : (key : LsaKey) (copy : Entry) (s : AreaValue) (out : OutputsValue) (t : AreaValue) → ExpiryPart key copy s out t → KeepsBut out s t
 expiry_keeps key copy s out t part k e at fresh = inr (by (same_key key k) refl)
   where
-    by : (b : Bool) → same_key key k ≡ b → (d : Entry) × (entry_of s k ≡ Some d) × (is_fresh d ≡ true) × (d.contents ≡ e.contents)
+    by : (b : Bool) → same_key key k ≡ b → (d : Entry) × (database_entry s k ≡ Some d) × (is_fresh d ≡ true) × (d.contents ≡ e.contents)
     by true one = absurd (
         let here : Some (record copy { age = 3600 }) ≡ Some e = simp one at (sym (part.database k) ∙ at) in
         let no = ap is_fresh (some_same (record copy { age = 3600 }) e here) in
         cc)
-    by false two = let there : entry_of s k ≡ Some e = simp two at (sym (part.database k) ∙ at) in (e, there, fresh, refl)
+    by false two = let there : database_entry s k ≡ Some e = simp two at (sym (part.database k) ∙ at) in (e, there, fresh, refl)
 
 removal_keeps : (s : AreaValue) (out : OutputsValue) (t : AreaValue) → RemovalPart s out t → KeepsBut out s t
-removal_keeps s out t part key e at fresh = inr (by (leaves_if s (entry_of s key)) refl)
+removal_keeps s out t part key e at fresh = inr (by (leaves_if s (database_entry s key)) refl)
   where
-    by : (b : Bool) → leaves_if s (entry_of s key) ≡ b → (d : Entry) × (entry_of s key ≡ Some d) × (is_fresh d ≡ true) × (d.contents ≡ e.contents)
+    by : (b : Bool) → leaves_if s (database_entry s key) ≡ b → (d : Entry) × (database_entry s key ≡ Some d) × (is_fresh d ≡ true) × (d.contents ≡ e.contents)
     by true goes = absurd (none_some e (simp goes at (sym (part.database key) ∙ at)))
-    by false stays = let there : entry_of s key ≡ Some e = simp stays at (sym (part.database key) ∙ at) in (e, there, fresh, refl)
+    by false stays = let there : database_entry s key ≡ Some e = simp stays at (sym (part.database key) ∙ at) in (e, there, fresh, refl)
 
 expiry_step_keeps : (s : AreaValue) (out : OutputsValue) (t : AreaValue) → ExpiryStep s out t → KeepsBut out s t
 expiry_step_keeps s out t step = requests_keep (ExpiryPart step.key step.copy) s out t (expiry_keeps step.key step.copy s) step.expires

@@ -26,7 +26,7 @@ IsRight adverts root (Put route) = IsRoute adverts root route
 IsRight adverts root (Gone prefix) = Way adverts root prefix → ⊥
 
 -- a prefix to which the routes over the one listing are those over the other
-pub record IsSpared (A B : List Advertisement) (root : RouterId) (p : Prefix) : Type 0 where
+pub record IsSparedPrefix (A B : List Advertisement) (root : RouterId) (p : Prefix) : Type 0 where
   pub routes : (r : Route) → r.prefix ≡ p → IsRoute A root r → IsRoute B root r
   pub ways : Way B root p → Way A root p
 
@@ -36,4 +36,4 @@ HoldsPrefixes old new = (p : Prefix) → Contains old p → Contains new p
 
 -- but for prefixes of the list, the routes over the one listing are those over the other
 abbrev pub SparesBut : List Prefix → List Advertisement → List Advertisement → RouterId → Type 0
-SparesBut touched A B root = (p : Prefix) → (Contains touched p → ⊥) → IsSpared A B root p
+SparesBut touched A B root = (p : Prefix) → (Contains touched p → ⊥) → IsSparedPrefix A B root p

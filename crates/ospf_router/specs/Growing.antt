@@ -9,7 +9,7 @@ use Rattle.ospf_graph.specs.Advertisements.{Advertisement, IsListed}
 use Rattle.ospf_graph.specs.Elsewhere.{AreSameBut}
 use Rattle.ospf_incremental.specs.Kept.{IsKeptTree, KeptTree}
 use Rattle.ospf_graph.specs.Routes.{IsEnd}
-use Rattle.ospf_graph.specs.Search.{AtIn, IsFit}
+use Rattle.ospf_graph.specs.Search.{AtIn, AreFitEdges}
 use Rattle.ospf_graph.specs.declared.graph.Edge.{Edge}
 use Rattle.ospf_graph.specs.declared.graph.Vertex.{Vertex}
 use Rattle.ospf_graph.specs.declared.graph.Vertex.TheVariants.{Router}
@@ -35,7 +35,7 @@ pub record IsGrownOver (root : RouterId) (lsas : List (List ℕ)) (paths : KeptT
 -- what a listing says of a vertex: the edges that touch it, the ends at it, and whether the root is listed
 pub record IsAround (adverts : List Advertisement) (v : Vertex) (root : RouterId) (a : Around) : Type 0 where
   pub edges : AreEdgesAt adverts v a.edges.items
-  pub fit : IsFit a.edges.items
+  pub fit : AreFitEdges a.edges.items
   pub ends : AreEndsAt adverts v a.ends.items
   pub root_is : IsTrue a.has_root ↔ IsListed adverts root
 

@@ -10,9 +10,9 @@ use Rattle.ospf_router.specs.Ends.{HoldsPrefixes, SparesBut}
 use Rattle.ospf_router.specs.Growing.{GrowingValue}
 
 -- the LSAs of the tree that is kept, if one is
-abbrev pub lsas_in : Option GrowingValue → List (List ℕ)
-lsas_in None = []
-lsas_in (Some tree) = tree.listing
+abbrev pub kept_lsas_in : Option GrowingValue → List (List ℕ)
+kept_lsas_in None = []
+kept_lsas_in (Some tree) = tree.listing
 
 -- the tree is the router's and the table is that of its listing, if one is kept
 abbrev pub IsServed : RouterId → List Route → Option GrowingValue → Type 0

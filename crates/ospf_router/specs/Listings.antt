@@ -4,7 +4,7 @@ use Rattle.ospf_area.specs.Outputs.{OutputsValue}
 use Rattle.ospf_base.specs.Sums.{contents}
 use Rattle.ospf_base.specs.declared.ids.LsaKey.{LsaKey}
 use Rattle.ospf_lsdb.specs.Database.{Entry, Held, entry_of, is_fresh, listed}
-use Rattle.ospf_router.specs.Touched.{Touches}
+use Rattle.ospf_router.specs.Touched.{TouchesKey}
 
 -- the very LSAs, at whatever ages
 abbrev pub ListsAs : List Held → List (List ℕ) → Type 0
@@ -24,4 +24,4 @@ StayListed db old new = (key : LsaKey) → AreListedAt db key old → AreListedA
 
 -- what the database has below MaxAge is listed, but at the keys that a step took or issued
 abbrev pub ListsBut : OutputsValue → List Held → List (List ℕ) → Type 0
-ListsBut out db lsas = (key : LsaKey) → Touches out key ⊎ AreListedAt db key lsas
+ListsBut out db lsas = (key : LsaKey) → TouchesKey out key ⊎ AreListedAt db key lsas

@@ -10,7 +10,7 @@ use Rattle.ospf_lsdb.specs.Database.{listed}
 use Rattle.ospf_neighbour.specs.Neighbour.{NeighbourValue}
 use Rattle.ospf_router.specs.Listings.{ListsAs}
 use Rattle.ospf_router.specs.Routes.{AreRoutes, RoutesValue}
-use Rattle.ospf_step.specs.Fit.{IsFit}
+use Rattle.ospf_step.specs.Fit.{IsFitRouter}
 
 -- a router: how many links it has, the floor of its start, its routing table, and its part of the area; one that has stopped
 -- has none
@@ -26,7 +26,7 @@ HasRoutes s table = AreRoutes s.router s.database table
 
 -- what each step needs, and keeps: it can be taken, and the router can answer to others for what it does
 pub record IsKept (s : AreaValue) : Type 0 where
-  pub fit : IsFit s
+  pub fit : IsFitRouter s
   pub sound : IsSoundState s
 
 -- a router that runs; its routes were made of LSAs that its database lists, at whatever ages

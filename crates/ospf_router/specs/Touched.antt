@@ -3,15 +3,15 @@ use Rattle.std.specs.Prelude.{◌≡◌, ◌⊎◌, true, Some}
 use Rattle.ospf_base.specs.declared.ids.Instance.{Instance}
 use Rattle.ospf_base.specs.declared.ids.LsaKey.{LsaKey}
 use Rattle.ospf_area.specs.Outputs.{OutputsValue}
-use Rattle.ospf_area.specs.State.{AreaValue, entry_of}
+use Rattle.ospf_area.specs.State.{AreaValue, database_entry}
 use Rattle.ospf_step.specs.Words.{Brings}
 use Rattle.ospf_lsdb.specs.Database.{Entry, is_fresh}
 
 -- an instance of this key is taken or issued
-abbrev pub Touches : OutputsValue → LsaKey → Type 0
-Touches out key = (i : Instance) × Brings out i × (i.key ≡ key)
+abbrev pub TouchesKey : OutputsValue → LsaKey → Type 0
+TouchesKey out key = (i : Instance) × Brings out i × (i.key ≡ key)
 
 -- each entry below MaxAge is of a key that is taken or issued, or stood there before, with the same contents
 abbrev pub KeepsBut : OutputsValue → AreaValue → AreaValue → Type 0
-KeepsBut out s t = (key : LsaKey) (e : Entry) → entry_of t key ≡ Some e → is_fresh e ≡ true
-    → Touches out key ⊎ ((d : Entry) × (entry_of s key ≡ Some d) × (is_fresh d ≡ true) × (d.contents ≡ e.contents))
+KeepsBut out s t = (key : LsaKey) (e : Entry) → database_entry t key ≡ Some e → is_fresh e ≡ true
+    → TouchesKey out key ⊎ ((d : Entry) × (database_entry s key ≡ Some d) × (is_fresh d ≡ true) × (d.contents ≡ e.contents))

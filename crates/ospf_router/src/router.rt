@@ -24,7 +24,7 @@ use ospf_lsa::Listing;
 use ospf_neighbour::Neighbour;
 use ospf_originate::starts_sound;
 use ospf_spf::RouteTable;
-use ospf_step::{Dropped, Event, Taken};
+use ospf_step::{Dropped, Event, StepResult};
 use std::alloc::{AllocError, Global};
 use std::marker::Model;
 
@@ -109,7 +109,7 @@ impl Router {
         match advance(&mut area, &mut self.routes, event, alloc) {
             Ok(advanced) => {
                 self.area = Some(area);
-                let Taken { out, dropped } = advanced.taken;
+                let StepResult { out, dropped } = advanced.taken;
                 Ok(Step {
                     out,
                     dropped,
@@ -220,7 +220,7 @@ impl Router {
 // The area's step, and whether the routing table after it is another one.
 #[derive(Drop)]
 struct Advanced {
-    taken: Taken,
+    taken: StepResult,
     table_changed: bool,
 }
 
@@ -259,7 +259,7 @@ fn advance(
 
 // The routes after a step: where its datagram is dropped they stay, with no look at the database.
 fn refresh(
-    taken: &Taken,
+    taken: &StepResult,
     area: &Area,
     routes: &mut KeptRoutes,
     alloc: Global,

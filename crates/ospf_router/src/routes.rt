@@ -33,12 +33,12 @@ pub struct KeptRoutes {
 }
 
 impl Model for KeptRoutes {
-    ghost use Rattle.ospf_router.specs.Kept.{IsServed, lsas_in};
+    ghost use Rattle.ospf_router.specs.Kept.{IsServed, kept_lsas_in};
     ghost use Rattle.ospf_router.specs.Routes.{RoutesValue};
 
     ghost Value = { RoutesValue };
 
-    ghost view = { λ r. record { router = r.router; table = r.table; listing = lsas_in r.tree } };
+    ghost view = { λ r. record { router = r.router; table = r.table; listing = kept_lsas_in r.tree } };
 
     ghost invariant = { λ r. IsServed r.router r.table r.tree };
 }
@@ -185,7 +185,8 @@ impl KeptRoutes {
     fn turn(&mut self, grown: Grown, alloc: Global) -> Result<bool, AllocError>
         requires root { grown.tree.root ≡ self.old.router }
         requires turned { (A : List Advertisement) × IsTable A self.old.router self.old.table
-            × SparesBut grown.touched.items A (advertisements_of grown.tree.listing) self.old.router }
+            × SparesBut grown.touched.items A (advertisements_of grown.tree.listing)
+            self.old.router }
         // The table is that of the tree's listing, which is kept; a change of the table is told.
         ensures table { OnOk result (IsTable (advertisements_of grown.tree.listing) self.old.router
             self.new.table) }

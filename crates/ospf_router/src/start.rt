@@ -3,7 +3,7 @@
 ghost use Rattle.std.specs.Prelude.{◌≡◌, IfOk};
 ghost use Rattle.ospf_router.specs.Starts.{AreLinksOf, IsAreaOf, IsLinkOf, iface_of};
 
-use ospf_area::{Area, Link, LinkSettings};
+use ospf_area::{Area, AreaLink, LinkSettings};
 use ospf_base::{Addr, RouterId, mask_of};
 use ospf_config::{Config, Interface};
 use ospf_iface::{Iface, IfaceSettings, IfaceState};
@@ -47,7 +47,7 @@ fn links_of(
     router: RouterId,
     interfaces: &[Interface],
     alloc: Global,
-) -> Result<Vec<Link>, AllocError>
+) -> Result<Vec<AreaLink>, AllocError>
     ensures { IfOk result (λ links. AreLinksOf router interfaces.now links.items) }
 {
     let mut links = Vec::new(alloc);
@@ -58,10 +58,10 @@ fn links_of(
 }
 
 // A link with no neighbour.
-fn link_of(router: RouterId, interface: &Interface, alloc: Global) -> Link
+fn link_of(router: RouterId, interface: &Interface, alloc: Global) -> AreaLink
     ensures { IsLinkOf router interface.now result }
 {
-    Link {
+    AreaLink {
         iface: iface_of(router, interface),
         settings: LinkSettings {
             cost: interface.cost,

@@ -14,9 +14,9 @@ use Rattle.ospf_base.specs.declared.ids.Addr.{Addr}
 use Rattle.ospf_files.specs.declared.files.NamedFile.{NamedFile}
 use Rattle.ospf_index.specs.Known.{Known}
 use Rattle.ospf_run.specs.Lookers.{IsFrom}
-use Rattle.ospf_run.specs.Runs.{AreOutcomes, Begins, IsOutcome, Terms, Trio, Trios}
+use Rattle.ospf_run.specs.Runs.{AreOutcomes, BeginsRun, IsOutcome, Terms, Trio, Trios}
 use Rattle.ospf_run.specs.declared.outcome.Outcome.{Outcome}
-use Rattle.ospf_run.specs.declared.look.Looker.{Looker}
+use Rattle.ospf_run.specs.declared.look.RouterSeat.{RouterSeat}
 
 -- the front of a list, with one more
 pub front_more : {A : Type 0} (xs : List A) (i : ℕ) (x : A) → i < length xs → x ≡ get_or xs i x → take (i + 1) xs ≡ take i xs ++ x ∷ []
@@ -78,8 +78,8 @@ all_over {J} {W} f P jobs wires over all = go jobs (subst (λ (ws : List W). All
     go (j ∷ js) h = All-cons (λ job. P (f job)) j js (of_first P (f j ∷ map f js) (f j) refl (omega (arith)) h) (go js (of_later P (f j ∷ map f js) (map f js) refl h))
 
 -- what began and what came of it, router by router
-pub trios_of : {J : Type 0} (begins : J → Moment) (terms : Terms) (configs : List Config) (jobs : List J) (drivens : List Driven) (seats : List Known) (lookers : List Looker)
-    → Pairs (λ config job. Begins terms.floor config (begins job).router (begins job).known) configs jobs → All (λ job. (begins job).traffic ≡ Ticks 0 terms.span) jobs → Pairs (λ job driven. IsDriven (begins job) driven) jobs drivens
+pub trios_of : {J : Type 0} (begins : J → Moment) (terms : Terms) (configs : List Config) (jobs : List J) (drivens : List Driven) (seats : List Known) (lookers : List RouterSeat)
+    → Pairs (λ config job. BeginsRun terms.floor config (begins job).router (begins job).known) configs jobs → All (λ job. (begins job).traffic ≡ Ticks 0 terms.span) jobs → Pairs (λ job driven. IsDriven (begins job) driven) jobs drivens
     → Pairs (λ job seat. seat ≡ (begins job).known) jobs seats → Pairs IsFrom seats lookers → Trios terms configs drivens lookers
 trios_of begins terms [] [] [] [] [] p n q r s = tt
 trios_of begins terms [] [] [] [] (l ∷ ls) p n q r s = absurd s
@@ -94,24 +94,24 @@ trios_of begins terms (c ∷ cs) (j ∷ js) (d ∷ ds) (k ∷ ks) (l ∷ ls) p n
     (record { a = begins j; begins = p.0; counted = of_first (λ job. (begins job).traffic ≡ Ticks 0 terms.span) (j ∷ js) j refl (omega (arith)) n; ended = q.0; looks = subst (λ (known : Known). IsFrom known l) r.0 s.0 }, trios_of begins terms cs js ds ks ls p.1 (of_later (λ job. (begins job).traffic ≡ Ticks 0 terms.span) (j ∷ js) js refl n) q.1 r.1 s.1)
 
 -- the first of those that are left
-pub record HasFirst (terms : Terms) (config : Config) (configs : List Config) (drivens : List Driven) (lookers : List Looker) : Type 0 where
+pub record HasFirst (terms : Terms) (config : Config) (configs : List Config) (drivens : List Driven) (lookers : List RouterSeat) : Type 0 where
   pub driven : Driven
-  pub looker : Looker
+  pub looker : RouterSeat
   pub later_drivens : List Driven
-  pub later_lookers : List Looker
+  pub later_lookers : List RouterSeat
   pub drivens_are : drivens ≡ driven ∷ later_drivens
   pub lookers_are : lookers ≡ looker ∷ later_lookers
   pub first : Trio terms config driven looker
   pub later : Trios terms configs later_drivens later_lookers
 
-first_of : (terms : Terms) (config : Config) (configs : List Config) (drivens : List Driven) (lookers : List Looker) → Trios terms (config ∷ configs) drivens lookers
+first_of : (terms : Terms) (config : Config) (configs : List Config) (drivens : List Driven) (lookers : List RouterSeat) → Trios terms (config ∷ configs) drivens lookers
     → HasFirst terms config configs drivens lookers
 first_of terms config configs [] ls trios = absurd trios
 first_of terms config configs (d ∷ ds) [] trios = absurd trios
 first_of terms config configs (d ∷ ds) (l ∷ ls) trios =
     record { driven = d; looker = l; later_drivens = ds; later_lookers = ls; drivens_are = refl; lookers_are = refl; first = trios.0; later = trios.1 }
 
-pub first_left : (terms : Terms) (configs : List Config) (i : ℕ) (config : Config) (drivens : List Driven) (lookers : List Looker) → i < length configs
+pub first_left : (terms : Terms) (configs : List Config) (i : ℕ) (config : Config) (drivens : List Driven) (lookers : List RouterSeat) → i < length configs
     → config ≡ get_or configs i config → Trios terms (drop i configs) drivens lookers → HasFirst terms config (drop (i + 1) configs) drivens lookers
 first_left terms configs i config ds ls within is trios =
     let split : drop i configs ≡ config ∷ drop (i + 1) configs =

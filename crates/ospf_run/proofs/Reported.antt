@@ -8,11 +8,11 @@ use Rattle.ospf_files.specs.declared.files.NamedFile.{NamedFile}
 use Rattle.ospf_files.specs.declared.status.Failure.{Failure}
 use Rattle.ospf_files.specs.declared.status.Status.{Status}
 use Rattle.ospf_files.specs.declared.streams.FailedStreams.{FailedStreams}
-use Rattle.ospf_run.specs.Cut.{Ends, EndsBy, IsRunCut, comes, cut_short, in_report, last_status}
+use Rattle.ospf_run.specs.Cut.{EndsRun, EndsBy, IsRunCut, comes, cut_short, in_report, last_status}
 use Rattle.ospf_udp.specs.Obstacles.{Hinders, obstacle_line, obstacle_status}
 use Rattle.ospf_udp.specs.Plans.{floor_refused, greatest, no_config, no_number, no_port, same_router}
-use Rattle.ospf_run.specs.Printed.{IsReportCut, IsReported}
-use Rattle.ospf_run.specs.Runs.{AreExtras, Asked, Comes, HaveRun, asked_of, no_socket, ran, refused, unread}
+use Rattle.ospf_run.specs.Printed.{IsReportCut, AreOutcomesReported}
+use Rattle.ospf_run.specs.Runs.{AreExtras, Asked, ComesOfRun, HaveRun, asked_of, no_socket, ran, refused, unread}
 use Rattle.ospf_run.specs.declared.outcome.Extras.{Extras}
 use Rattle.ospf_run.specs.declared.outcome.Outcome.{Outcome}
 use Rattle.ospf_run.specs.declared.settings.Settings.{Settings}
@@ -21,7 +21,7 @@ use Rattle.ospf_udp.specs.declared.stop.Obstacle.TheVariants as obstacle
 
 -- what keeps the routers from running is told
 pub obstacle_comes : (asked : Asked) (files : List NamedFile) (o : Obstacle) (oo eo en : Option (List ℕ))
-    → Hinders asked.floor files o → Appends eo en (obstacle_line o) → Comes asked files (obstacle_status o) oo oo eo en
+    → Hinders asked.floor files o → Appends eo en (obstacle_line o) → ComesOfRun asked files (obstacle_status o) oo oo eo en
 obstacle_comes asked files obstacle.NoNumber oo eo en is told = refused refl (floor_refused (no_number is told)) refl
 obstacle_comes asked files obstacle.GreatestFloor oo eo en is told = refused refl (floor_refused (greatest is told)) refl
 obstacle_comes asked files (obstacle.Unread file) oo eo en is told =
@@ -38,7 +38,7 @@ obstacle_comes asked files (obstacle.NoSocket file none) oo eo en is told =
 -- what came of the routers is reported
 pub report_comes : (asked : Asked) (files : List NamedFile) (outcomes outcomes' : List Outcome) (extras : Extras) (s : Status)
     (oo on eo en : Option (List ℕ)) → HaveRun asked files outcomes → AreExtras asked extras → outcomes' ≡ outcomes
-    → IsReported extras outcomes' s oo on eo en → Comes asked files s oo on eo en
+    → AreOutcomesReported extras outcomes' s oo on eo en → ComesOfRun asked files s oo on eo en
 report_comes asked files outcomes outcomes' extras s oo on eo en has wanted same reported =
     ran (record {
       configs = has.configs;
@@ -49,7 +49,7 @@ report_comes asked files outcomes outcomes' extras s oo on eo en has wanted same
         extras = extras;
         are = has.are;
         wanted = wanted;
-        reported = subst (λ (os : List Outcome). IsReported extras os s oo on eo en) same reported;
+        reported = subst (λ (os : List Outcome). AreOutcomesReported extras os s oo on eo en) same reported;
       };
     })
 
@@ -62,7 +62,7 @@ report_cut asked files outcomes outcomes' extras failed f oo on eo en has wanted
 
 -- a status, or a failure
 pub ends_by : (settings : Settings) (files : List NamedFile) (failed : FailedStreams) (oo on eo en : Option (List ℕ)) (r : Result Status Failure)
-    → IfOk r (λ s. Comes (asked_of settings) files s oo on eo en)
+    → IfOk r (λ s. ComesOfRun (asked_of settings) files s oo on eo en)
     → IfErr r (λ f. IsRunCut (asked_of settings) files failed oo on eo en f) → EndsBy settings files failed oo on eo en r
 ends_by settings files failed oo on eo en (Ok s) come cut = come
 ends_by settings files failed oo on eo en (Err f) come cut = cut
@@ -77,9 +77,9 @@ ends_by_failure settings files failed oo on eo en (Err x) f is cut =
 -- the failure that cuts a run is told last
 pub all_ends : (settings : Settings) (files : List NamedFile) (said : Result Status Failure) (s : Status) (then last : FailedStreams) (oo on eo em en : Option (List ℕ))
     → EndsBy settings files then oo on eo em said → s ≡ last_status said → OnOk said (en ≡ em) → IfErr said (λ f. IsTold then last em en (failure_line f))
-    → Ends (asked_of settings) files s oo on eo en
+    → EndsRun (asked_of settings) files s oo on eo en
 all_ends settings files (Ok status) s then last oo on eo em en comes_so is same told =
-    comes (subst (λ (e : Option (List ℕ)). Comes (asked_of settings) files s oo on eo e) (sym same)
-    (subst (λ (t : Status). Comes (asked_of settings) files t oo on eo em) (sym is) comes_so))
+    comes (subst (λ (e : Option (List ℕ)). ComesOfRun (asked_of settings) files s oo on eo e) (sym same)
+    (subst (λ (t : Status). ComesOfRun (asked_of settings) files t oo on eo em) (sym is) comes_so))
 all_ends settings files (Err f) s then last oo on eo em en cut is same told =
     cut_short last (record { cause = f; failed_then = then; err_then = em; cut = cut; last = told; status_is = is })

@@ -5,10 +5,10 @@ use Rattle.ospf_files.specs.declared.files.NamedFile.{NamedFile}
 use Rattle.ospf_files.specs.declared.status.Status.{Status}
 use Rattle.ospf_files.specs.declared.status.Status.TheVariants as status
 use Rattle.std.specs.List.{list_any}
-use Rattle.ospf_run.specs.Cut.{Ends, comes, cut_short}
-use Rattle.ospf_udp.specs.Plans.{IsRefused}
+use Rattle.ospf_run.specs.Cut.{EndsRun, comes, cut_short}
+use Rattle.ospf_udp.specs.Plans.{IsPlanRefused}
 use Rattle.ospf_run.specs.Printed.{is_early, is_failed}
-use Rattle.ospf_run.specs.Runs.{Asked, Comes, IsRun, refused, unread, no_socket, ran}
+use Rattle.ospf_run.specs.Runs.{Asked, ComesOfRun, IsPlanRun, refused, unread, no_socket, ran}
 use Rattle.ospf_run.specs.declared.outcome.Outcome.{Outcome}
 
 not_refused : (a b : Bool) → cond a status.Stream (cond b status.Memory status.Done) ≡ status.Refused → ⊥
@@ -22,28 +22,28 @@ not_words false true is = absurd (cc is)
 not_words false false is = absurd (cc is)
 
 run_not_refused : (asked : Asked) (files : List NamedFile) (s : Status) (oo on eo en : Option (List ℕ))
-    → IsRun asked files s oo on eo en → s ≡ status.Refused → ⊥
+    → IsPlanRun asked files s oo on eo en → s ≡ status.Refused → ⊥
 run_not_refused asked files s oo on eo en run is =
     let outcomes : List Outcome = run.reports.outcomes in
     not_refused (list_any is_failed outcomes) (list_any is_early outcomes) (sym run.reports.reported.status_is ∙ is)
 
 run_not_words : (asked : Asked) (files : List NamedFile) (s : Status) (oo on eo en : Option (List ℕ))
-    → IsRun asked files s oo on eo en → s ≡ status.Words → ⊥
+    → IsPlanRun asked files s oo on eo en → s ≡ status.Words → ⊥
 run_not_words asked files s oo on eo en run is =
     let outcomes : List Outcome = run.reports.outcomes in
     not_words (list_any is_failed outcomes) (list_any is_early outcomes) (sym run.reports.reported.status_is ∙ is)
 
 -- where all is done, all has run
 done_runs : (asked : Asked) (files : List NamedFile) (s : Status) (oo on eo en : Option (List ℕ))
-    → Comes asked files s oo on eo en → s ≡ status.Done → IsRun asked files status.Done oo on eo en
+    → ComesOfRun asked files s oo on eo en → s ≡ status.Done → IsPlanRun asked files status.Done oo on eo en
 done_runs asked files s oo on eo en (refused is told same) done = absurd (cc (is, done))
 done_runs asked files s oo on eo en (unread is told same) done = absurd (cc (is, done))
 done_runs asked files s oo on eo en (no_socket is configs least plan told same) done = absurd (cc (is, done))
-done_runs asked files s oo on eo en (ran run) done = subst (λ (t : Status). IsRun asked files t oo on eo en) done run
+done_runs asked files s oo on eo en (ran run) done = subst (λ (t : Status). IsPlanRun asked files t oo on eo en) done run
 
 -- what is refused is told, and nothing is written
 refused_told : (asked : Asked) (files : List NamedFile) (s : Status) (oo on eo en : Option (List ℕ))
-    → Comes asked files s oo on eo en → s ≡ status.Refused → IsRefused asked.floor files eo en × (on ≡ oo)
+    → ComesOfRun asked files s oo on eo en → s ≡ status.Refused → IsPlanRefused asked.floor files eo en × (on ≡ oo)
 refused_told asked files s oo on eo en (refused is told same) so = (told, same)
 refused_told asked files s oo on eo en (unread is told same) so = absurd (cc (is, so))
 refused_told asked files s oo on eo en (no_socket is configs least plan told same) so = absurd (cc (is, so))
@@ -51,7 +51,7 @@ refused_told asked files s oo on eo en (ran run) so = absurd (run_not_refused as
 
 -- no run ends for its words
 comes_not_words : (asked : Asked) (files : List NamedFile) (s : Status) (oo on eo en : Option (List ℕ))
-    → Comes asked files s oo on eo en → s ≡ status.Words → ⊥
+    → ComesOfRun asked files s oo on eo en → s ≡ status.Words → ⊥
 comes_not_words asked files s oo on eo en (refused is told same) so = absurd (cc (is, so))
 comes_not_words asked files s oo on eo en (unread is told same) so = absurd (cc (is, so))
 comes_not_words asked files s oo on eo en (no_socket is configs least plan told same) so = absurd (cc (is, so))
@@ -60,16 +60,16 @@ comes_not_words asked files s oo on eo en (ran run) so = run_not_words asked fil
 -- ---- the same of a run that may be cut
 
 pub end_done : (asked : Asked) (files : List NamedFile) (s : Status) (oo on eo en : Option (List ℕ))
-    → Ends asked files s oo on eo en → s ≡ status.Done → IsRun asked files status.Done oo on eo en
+    → EndsRun asked files s oo on eo en → s ≡ status.Done → IsPlanRun asked files status.Done oo on eo en
 end_done asked files s oo on eo en (comes c) done = done_runs asked files s oo on eo en c done
 end_done asked files s oo on eo en (cut_short failed cut) done = absurd (failed_not_done cut.cause (sym cut.status_is ∙ done))
 
 pub end_refused : (asked : Asked) (files : List NamedFile) (s : Status) (oo on eo en : Option (List ℕ))
-    → Ends asked files s oo on eo en → s ≡ status.Refused → IsRefused asked.floor files eo en × (on ≡ oo)
+    → EndsRun asked files s oo on eo en → s ≡ status.Refused → IsPlanRefused asked.floor files eo en × (on ≡ oo)
 end_refused asked files s oo on eo en (comes c) so = refused_told asked files s oo on eo en c so
 end_refused asked files s oo on eo en (cut_short failed cut) so = absurd (failed_not_refused cut.cause (sym cut.status_is ∙ so))
 
 pub end_not_words : (asked : Asked) (files : List NamedFile) (s : Status) (oo on eo en : Option (List ℕ))
-    → Ends asked files s oo on eo en → s ≡ status.Words → ⊥
+    → EndsRun asked files s oo on eo en → s ≡ status.Words → ⊥
 end_not_words asked files s oo on eo en (comes c) so = comes_not_words asked files s oo on eo en c so
 end_not_words asked files s oo on eo en (cut_short failed cut) so = failed_not_words cut.cause (sym cut.status_is ∙ so)

@@ -8,7 +8,7 @@ use Rattle.ospf_files.specs.declared.status.Status.{Status}
 use Rattle.ospf_files.specs.declared.streams.FailedStreams.{FailedStreams}
 use Rattle.ospf_udp.specs.Obstacles.{Hinders, IsEarly, obstacle_line}
 use Rattle.ospf_run.specs.Printed.{IsReportCut}
-use Rattle.ospf_run.specs.Runs.{AreExtras, Asked, Comes, HaveRun, asked_of}
+use Rattle.ospf_run.specs.Runs.{AreExtras, Asked, ComesOfRun, HaveRun, asked_of}
 use Rattle.ospf_run.specs.declared.outcome.Extras.{Extras}
 use Rattle.ospf_run.specs.declared.outcome.Outcome.{Outcome}
 use Rattle.ospf_run.specs.declared.settings.Settings.{Settings}
@@ -25,7 +25,7 @@ pub data IsRunCut (asked : Asked) (files : List NamedFile) (failed : FailedStrea
       → IsRunCut asked files failed out_old out_new err_old err_new f
 
 -- a run was cut by a failure, which was told last, as far as it could be, and of which the status is
-pub record IsCutShort (asked : Asked) (files : List NamedFile) (failed : FailedStreams) (status : Status) (out_old out_new err_old err_new : Option (List ℕ)) : Type 0 where
+pub record IsRunCutShort (asked : Asked) (files : List NamedFile) (failed : FailedStreams) (status : Status) (out_old out_new err_old err_new : Option (List ℕ)) : Type 0 where
   pub cause : Failure
   pub failed_then : FailedStreams
   pub err_then : Option (List ℕ)
@@ -34,15 +34,15 @@ pub record IsCutShort (asked : Asked) (files : List NamedFile) (failed : FailedS
   pub status_is : status ≡ failure_status cause
 
 -- how the program ends: a run comes to its end, or it is cut short
-pub data Ends (asked : Asked) (files : List NamedFile) (status : Status) (out_old out_new err_old err_new : Option (List ℕ)) : Type 0 where
-  comes : Comes asked files status out_old out_new err_old err_new → Ends asked files status out_old out_new err_old err_new
-  cut_short : (failed : FailedStreams) → IsCutShort asked files failed status out_old out_new err_old err_new
-      → Ends asked files status out_old out_new err_old err_new
+pub data EndsRun (asked : Asked) (files : List NamedFile) (status : Status) (out_old out_new err_old err_new : Option (List ℕ)) : Type 0 where
+  comes : ComesOfRun asked files status out_old out_new err_old err_new → EndsRun asked files status out_old out_new err_old err_new
+  cut_short : (failed : FailedStreams) → IsRunCutShort asked files failed status out_old out_new err_old err_new
+      → EndsRun asked files status out_old out_new err_old err_new
 
 -- what is asked for comes to its end with this status, or this failure cuts it
 abbrev pub EndsBy : Settings → List NamedFile → FailedStreams → Option (List ℕ) → Option (List ℕ) → Option (List ℕ) → Option (List ℕ) → Result Status Failure → Type 0
 EndsBy settings files failed out_old out_new err_old err_new (Ok status) =
-    Comes (asked_of settings) files status out_old out_new err_old err_new
+    ComesOfRun (asked_of settings) files status out_old out_new err_old err_new
 EndsBy settings files failed out_old out_new err_old err_new (Err failure) =
     IsRunCut (asked_of settings) files failed out_old out_new err_old err_new failure
 

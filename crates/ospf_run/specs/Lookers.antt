@@ -2,8 +2,8 @@
 use Rattle.std.specs.Prelude.{◌≡◌, ⊤}
 use mathlib.Core.List.{IsPrefix}
 use Rattle.ospf_index.specs.Known.{Known}
-use Rattle.ospf_run.specs.declared.look.Looker.{Looker}
-use Rattle.ospf_run.specs.declared.look.Looker.TheVariants as looker
+use Rattle.ospf_run.specs.declared.look.RouterSeat.{RouterSeat}
+use Rattle.ospf_run.specs.declared.look.RouterSeat.TheVariants as looker
 
 -- what a seat knows after another: of the same table, and no less
 pub record Follows (old new : Known) : Type 0 where
@@ -11,7 +11,7 @@ pub record Follows (old new : Known) : Type 0 where
   pub tables : IsPrefix old.tables new.tables
 
 -- a seat that knew this before anything was looked up there
-abbrev pub IsFrom : Known → Looker → Type 0
+abbrev pub IsFrom : Known → RouterSeat → Type 0
 IsFrom known (looker.Idle seat) = seat ≡ known
 IsFrom known (looker.Looking began) = began ≡ known
 IsFrom known looker.NotStarted = ⊤

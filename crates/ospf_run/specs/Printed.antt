@@ -4,7 +4,7 @@ use Rattle.std.specs.List.{list_any}
 use Rattle.std.specs.Io.KnownBytes.{Appends}
 use Rattle.ospf_base.specs.Text.{number_text}
 use Rattle.ospf_base.specs.declared.ids.RouterId.{RouterId}
-use Rattle.ospf_drive.specs.Faults.{fault_text}
+use Rattle.ospf_drive.specs.Faults.{drive_fault_text}
 use Rattle.ospf_drive.specs.declared.fault.DriveFault.{DriveFault}
 use Rattle.ospf_drive.specs.declared.fault.DriveFault.TheVariants as fault
 use Rattle.ospf_files.specs.declared.files.NamedFile.{NamedFile}
@@ -24,7 +24,7 @@ use Rattle.ospf_run.specs.declared.outcome.Drops.{Drops}
 use Rattle.ospf_run.specs.declared.outcome.Extras.{Extras}
 use Rattle.ospf_run.specs.declared.outcome.Looked.{Looked}
 use Rattle.ospf_run.specs.declared.outcome.Outcome.{Outcome}
-use Rattle.ospf_run.specs.declared.outcome.Shown.{Shown}
+use Rattle.ospf_run.specs.declared.outcome.RouterShown.{RouterShown}
 
 -- ---- standard output
 
@@ -63,19 +63,19 @@ extra_lines extras router x =
     ++ (viewed_lines extras.listing view.Listing x ++ (flat_map (drops_of router) extras.drops.items ++ floor_lines extras.floor x))
 
 -- the Router ID
-abbrev pub router_line : RouterId → List ℕ
-router_line router = codes "router " ++ number_text router.0 ++ codes "\n"
+abbrev pub router_id_line : RouterId → List ℕ
+router_id_line router = codes "router " ++ number_text router.0 ++ codes "\n"
 
 -- the Router ID and the routes
-abbrev pub table_lines : RouterId → Shown → List ℕ
-table_lines router shown = router_line router ++ routes_text shown.router.table
+abbrev pub table_lines : RouterId → RouterShown → List ℕ
+table_lines router shown = router_id_line router ++ routes_text shown.router.table
 
 -- a router: its Router ID, its routes, what a lookup found, and the extras
-abbrev pub router_lines : Extras → RouterId → Shown → List ℕ
+abbrev pub router_lines : Extras → RouterId → RouterShown → List ℕ
 router_lines extras router shown = table_lines router shown ++ (looked_lines shown.looked ++ extra_lines extras router shown.router)
 
 -- what is printed of a router: nothing where its driver did not come to the end
-abbrev pub came_lines : Extras → RouterId → Result Shown DriveFault → List ℕ
+abbrev pub came_lines : Extras → RouterId → Result RouterShown DriveFault → List ℕ
 came_lines extras router (Ok shown) = router_lines extras router shown
 came_lines extras router (Err f) = []
 
@@ -100,9 +100,9 @@ at_tick_lines router tick x = at_tick_line router tick ++ routes_text x.table
 
 -- the line of a file whose router's driver did not come to the end
 abbrev pub fault_line : NamedFile → DriveFault → List ℕ
-fault_line file f = string_bytes file.name ++ codes ": " ++ fault_text f ++ codes "\n"
+fault_line file f = string_bytes file.name ++ codes ": " ++ drive_fault_text f ++ codes "\n"
 
-abbrev pub came_told : NamedFile → Result Shown DriveFault → List ℕ
+abbrev pub came_told : NamedFile → Result RouterShown DriveFault → List ℕ
 came_told file (Ok shown) = []
 came_told file (Err f) = fault_line file f
 
@@ -123,11 +123,11 @@ is_fault_of_system fault.Thread = true
 is_fault_of_system fault.Stopped = false
 is_fault_of_system fault.Publish = false
 
-abbrev pub came_failed : Result Shown DriveFault → Bool
+abbrev pub came_failed : Result RouterShown DriveFault → Bool
 came_failed (Ok shown) = false
 came_failed (Err f) = is_fault_of_system f
 
-abbrev pub came_early : Result Shown DriveFault → Bool
+abbrev pub came_early : Result RouterShown DriveFault → Bool
 came_early (Ok shown) = false
 came_early (Err f) = true
 
@@ -144,7 +144,7 @@ status_for outcomes = cond (list_any is_failed outcomes) status.Stream (cond (li
 -- ---- all of it
 
 -- what came of routers is printed and told, in their order
-pub record IsReported (extras : Extras) (outcomes : List Outcome) (status : Status) (out_old out_new err_old err_new : Option (List ℕ)) : Type 0 where
+pub record AreOutcomesReported (extras : Extras) (outcomes : List Outcome) (status : Status) (out_old out_new err_old err_new : Option (List ℕ)) : Type 0 where
   pub status_is : status ≡ status_for outcomes
   pub out : Appends out_old out_new (report_lines extras outcomes)
   pub err : Appends err_old err_new (report_told outcomes)

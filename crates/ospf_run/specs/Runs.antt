@@ -16,19 +16,19 @@ use Rattle.ospf_index.specs.Known.{Known, Table, opening}
 use Rattle.ospf_router.specs.Routers.{RouterValue}
 use Rattle.ospf_router.specs.Starts.{IsStarted}
 use Rattle.ospf_run.specs.Lookers.{IsFrom}
-use Rattle.ospf_udp.specs.Plans.{IsPlan, IsRefused, IsUnreadTold}
-use Rattle.ospf_run.specs.Printed.{IsReported}
+use Rattle.ospf_udp.specs.Plans.{IsPlan, IsPlanRefused, IsPlanUnreadTold}
+use Rattle.ospf_run.specs.Printed.{AreOutcomesReported}
 use Rattle.ospf_run.specs.Wires.{IsSocketTold}
 use Rattle.ospf_run.specs.declared.outcome.Extras.{Extras}
 use Rattle.ospf_run.specs.declared.outcome.Looked.{Looked}
 use Rattle.ospf_run.specs.declared.outcome.Outcome.{Outcome}
-use Rattle.ospf_run.specs.declared.outcome.Shown.{Shown}
-use Rattle.ospf_run.specs.declared.look.Looker.{Looker}
+use Rattle.ospf_run.specs.declared.outcome.RouterShown.{RouterShown}
+use Rattle.ospf_run.specs.declared.look.RouterSeat.{RouterSeat}
 use Rattle.ospf_udp.specs.declared.plan.Plan.{Plan}
 use Rattle.ospf_run.specs.declared.settings.Settings.{Settings}
 
 -- a router begins with its configuration, DD sequence number 1 and the floor, and the empty table is published
-pub record Begins (floor : ℤ) (config : Config) (router : RouterValue) (known : Known) : Type 0 where
+pub record BeginsRun (floor : ℤ) (config : Config) (router : RouterValue) (known : Known) : Type 0 where
   pub started : IsStarted config 1 floor router
   pub opened : known.tables ≡ opening
 
@@ -45,7 +45,7 @@ IsLookedUp _ tables _ = ⊥
 
 -- a driver that began there came to the end, with this router, when as many ticks were taken as the span of its wire says, and the
 -- lookup is in the table that it published last
-pub record ComesToEnd (lookup : Option Addr) (a : Moment) (shown : Shown) : Type 0 where
+pub record ComesToEnd (lookup : Option Addr) (a : Moment) (shown : RouterShown) : Type 0 where
   pub known : Known
   pub told : Option Known
   pub drives : DrivesToEnd a shown.router known told
@@ -53,7 +53,7 @@ pub record ComesToEnd (lookup : Option Addr) (a : Moment) (shown : Shown) : Type
   pub looked : IsLookedUp lookup known.tables shown.looked
 
 -- what came of a router whose driver began there
-abbrev pub Came : Option Addr → Moment → Result Shown DriveFault → Type 0
+abbrev pub Came : Option Addr → Moment → Result RouterShown DriveFault → Type 0
 Came lookup a (Ok shown) = ComesToEnd lookup a shown
 Came lookup a (Err f) = IsDriven a (Err f)
 
@@ -62,7 +62,7 @@ pub record IsOutcome (lookup : Option Addr) (terms : Terms) (file : NamedFile) (
   pub file_is : outcome.file.now ≡ file
   pub router_is : outcome.router ≡ config.router_id
   pub a : Moment
-  pub begins : Begins terms.floor config a.router a.known
+  pub begins : BeginsRun terms.floor config a.router a.known
   pub counted : a.traffic ≡ Ticks 0 terms.span
   pub came : Came lookup a outcome.came
 
@@ -117,25 +117,25 @@ ComeOf settings plan files outcomes =
     AreOutcomes settings.lookup (record { span = span_of settings; floor = plan.floor }) files plan.configs.items outcomes
 
 -- what the last publish of a driver told: all that its writer has published; nothing where that is the empty table alone
-abbrev pub IsTold : Known → Option Known → Type 0
-IsTold known None = known.tables ≡ opening
-IsTold known (Some told) = told ≡ known
+abbrev pub IsPublishTold : Known → Option Known → Type 0
+IsPublishTold known None = known.tables ≡ opening
+IsPublishTold known (Some told) = told ≡ known
 
 -- a driver that began there has ended, and what looks up beside it has
-pub record Ran (a : Moment) (driven : Driven) (looker : Looker) : Type 0 where
+pub record Ran (a : Moment) (driven : Driven) (looker : RouterSeat) : Type 0 where
   pub opened : a.known.tables ≡ opening
   pub ended : IsDriven a driven
   pub looks : IsFrom a.known looker
 
 -- the router of a configuration began, and this came of its driver and of what looks up beside it
-pub record Trio (terms : Terms) (config : Config) (driven : Driven) (looker : Looker) : Type 0 where
+pub record Trio (terms : Terms) (config : Config) (driven : Driven) (looker : RouterSeat) : Type 0 where
   pub a : Moment
-  pub begins : Begins terms.floor config a.router a.known
+  pub begins : BeginsRun terms.floor config a.router a.known
   pub counted : a.traffic ≡ Ticks 0 terms.span
   pub ended : IsDriven a driven
   pub looks : IsFrom a.known looker
 
-abbrev pub Trios : Terms → List Config → List Driven → List Looker → Type 0
+abbrev pub Trios : Terms → List Config → List Driven → List RouterSeat → Type 0
 Trios terms [] [] [] = ⊤
 Trios terms (config ∷ configs) (driven ∷ drivens) (looker ∷ lookers) = Trio terms config driven looker × Trios terms configs drivens lookers
 Trios terms _ _ _ = ⊥
@@ -146,7 +146,7 @@ pub record Reports (asked : Asked) (terms : Terms) (files : List NamedFile) (con
   pub extras : Extras
   pub are : AreOutcomes asked.lookup terms files configs outcomes
   pub wanted : AreExtras asked extras
-  pub reported : IsReported extras outcomes status out_old out_new err_old err_new
+  pub reported : AreOutcomesReported extras outcomes status out_old out_new err_old err_new
 
 -- ---- runs
 
@@ -158,19 +158,19 @@ pub record HaveRun (asked : Asked) (files : List NamedFile) (outcomes : List Out
   pub are : AreOutcomes asked.lookup (record { span = asked.span; floor = least }) files configs outcomes
 
 -- the plan of the files was run, with the span: what came of each router is printed and told
-pub record IsRun (asked : Asked) (files : List NamedFile) (status : Status) (out_old out_new err_old err_new : Option (List ℕ)) : Type 0 where
+pub record IsPlanRun (asked : Asked) (files : List NamedFile) (status : Status) (out_old out_new err_old err_new : Option (List ℕ)) : Type 0 where
   pub configs : List Config
   pub least : ℤ
   pub plan : IsPlan asked.floor files configs least
   pub reports : Reports asked (record { span = asked.span; floor = least }) files configs status out_old out_new err_old err_new
 
 -- how a run comes to its end: it is refused, a file could not be read, a socket could not be made, or it was run
-pub data Comes (asked : Asked) (files : List NamedFile) (status : Status) (out_old out_new err_old err_new : Option (List ℕ)) : Type 0 where
-  refused : status ≡ Refused → IsRefused asked.floor files err_old err_new → out_new ≡ out_old → Comes asked files status out_old out_new err_old err_new
-  unread : status ≡ Stream → IsUnreadTold asked.floor files err_old err_new → out_new ≡ out_old → Comes asked files status out_old out_new err_old err_new
+pub data ComesOfRun (asked : Asked) (files : List NamedFile) (status : Status) (out_old out_new err_old err_new : Option (List ℕ)) : Type 0 where
+  refused : status ≡ Refused → IsPlanRefused asked.floor files err_old err_new → out_new ≡ out_old → ComesOfRun asked files status out_old out_new err_old err_new
+  unread : status ≡ Stream → IsPlanUnreadTold asked.floor files err_old err_new → out_new ≡ out_old → ComesOfRun asked files status out_old out_new err_old err_new
   no_socket : status ≡ Stream → (configs : List Config) (least : ℤ) → IsPlan asked.floor files configs least → IsSocketTold files configs err_old err_new
-      → out_new ≡ out_old → Comes asked files status out_old out_new err_old err_new
-  ran : IsRun asked files status out_old out_new err_old err_new → Comes asked files status out_old out_new err_old err_new
+      → out_new ≡ out_old → ComesOfRun asked files status out_old out_new err_old err_new
+  ran : IsPlanRun asked files status out_old out_new err_old err_new → ComesOfRun asked files status out_old out_new err_old err_new
 
 -- the plan of the files was run as is asked for, and this came of its routers, with what is to be printed beside it
 abbrev pub RunsTo : Settings → List NamedFile → List Outcome → Extras → Type 0

@@ -5,10 +5,10 @@ ghost use Rattle.ospf_drive.specs.Driven.{Pairs};
 ghost use Rattle.ospf_flood.specs.Rules.{max_sequence_number};
 ghost use Rattle.ospf_index.specs.Known.{opening};
 ghost use Rattle.ospf_router.specs.Starts.{IsStarted};
-ghost use Rattle.ospf_run.specs.Runs.{Begins};
+ghost use Rattle.ospf_run.specs.Runs.{BeginsRun};
 
 use ospf_config::Config;
-use ospf_drive::{Job, Wire};
+use ospf_drive::{DriverJob, Wire};
 use ospf_fib::{Fib, OpenRefused, Seat, Writer};
 use ospf_router::{Router, StartFault};
 use ospf_udp::put;
@@ -27,11 +27,11 @@ pub(crate) fn begin_all<W: Wire + Drop, R: Wait + Copy + Drop>(
     configs: &[Config],
     floor: i32,
     mut wires: Vec<W>,
-) -> Result<(Vec<Job<W, R>>, Vec<Seat>), AllocError>
+) -> Result<(Vec<DriverJob<W, R>>, Vec<Seat>), AllocError>
     requires floor { floor ≢ max_sequence_number }
     requires wires { length wires.items ≡ length configs.now }
     requires fresh { All (λ wire. W.failed wire + 1 < 2 ^ 64) wires.items }
-    ensures begins { IfOk result (λ begun. Pairs (λ config job. Begins floor config job.0 job.2)
+    ensures begins { IfOk result (λ begun. Pairs (λ config job. BeginsRun floor config job.0 job.2)
         configs.now begun.0.items) }
     ensures over { IfOk result (λ begun. map (λ job. job.1) begun.0.items ≡ wires.items) }
     ensures fresh { IfOk result (λ begun. All (λ job. W.failed job.1 + 1 < 2 ^ 64) begun.0.items) }
@@ -56,9 +56,9 @@ fn begin<W: Wire + Drop, R: Wait + Drop>(
     config: &Config,
     floor: i32,
     wire: W,
-) -> Result<(Job<W, R>, Seat), AllocError>
+) -> Result<(DriverJob<W, R>, Seat), AllocError>
     requires { floor ≢ max_sequence_number }
-    ensures begins { IfOk result (λ begun. Begins floor config.now begun.0.0 begun.0.2) }
+    ensures begins { IfOk result (λ begun. BeginsRun floor config.now begun.0.0 begun.0.2) }
     ensures wire { IfOk result (λ begun. begun.0.1 ≡ wire) }
     ensures seat { IfOk result (λ begun. begun.1 ≡ begun.0.2) }
 {

@@ -53,9 +53,11 @@ fn print_viewed<O: Write>(
     streams: &mut FailedStreams,
 ) -> Result<(), Failure>
     ensures printed { OnOk result
-        (Appends (O.contents out.old) (O.contents out.new) (viewed_lines is_wanted view router.now)) }
+        (Appends (O.contents out.old) (O.contents out.new) (viewed_lines is_wanted view
+        router.now)) }
     ensures begun { OnErr result
-        (IsBegun (O.contents out.old) (O.contents out.new) (viewed_lines is_wanted view router.now)) }
+        (IsBegun (O.contents out.old) (O.contents out.new) (viewed_lines is_wanted view
+        router.now)) }
     ensures cut { IfErr result (IsOutputCut streams.new) }
 {
     if !is_wanted {

@@ -6,10 +6,10 @@ ghost use Rattle.ospf_drive.specs.Moments.{Moment};
 ghost use Rattle.ospf_fib.specs.Answers.{IsAnswerOfLast};
 ghost use Rattle.ospf_index.specs.Known.{opening};
 ghost use Rattle.ospf_udp.specs.Obstacles.{FailsPlan};
-ghost use Rattle.ospf_run.specs.Runs.{AreOutcomes, Came, IsLookedUp, IsTold, Ran, Terms, Trios};
+ghost use Rattle.ospf_run.specs.Runs.{AreOutcomes, Came, IsLookedUp, IsPublishTold, Ran, Terms, Trios};
 
-use crate::look::Looker;
-use crate::outcome::{Looked, Outcome, Shown};
+use crate::look::RouterSeat;
+use crate::outcome::{Looked, Outcome, RouterShown};
 use ospf_base::Addr;
 use ospf_config::Config;
 use ospf_drive::{DriveFault, Driven, all_ticks_are_taken};
@@ -27,7 +27,7 @@ pub(crate) fn finish_all<'a, R: Wait + Drop, S: Threads>(
     files: &'a [NamedFile],
     configs: &[Config],
     mut driven: Vec<Driven<R>>,
-    mut lookers: Vec<Looker>,
+    mut lookers: Vec<RouterSeat>,
     lookup: Option<Addr>,
 ) -> Result<Vec<Outcome<'a>>, Failure>
     requires files { length files.now ≡ length configs.now }
@@ -53,9 +53,9 @@ pub(crate) fn finish_all<'a, R: Wait + Drop, S: Threads>(
 fn finish<R: Wait + Drop, S: Threads>(
     rt: &S,
     driven: Driven<R>,
-    looker: Looker,
+    looker: RouterSeat,
     lookup: Option<Addr>,
-) -> Result<Result<Shown, DriveFault>, Closed>
+) -> Result<Result<RouterShown, DriveFault>, Closed>
     requires { (a : Moment) × Ran a driven looker }
     ensures { (a : Moment) → Ran a driven looker → IfOk result (Came lookup a) }
 {
@@ -69,7 +69,7 @@ fn finish<R: Wait + Drop, S: Threads>(
         return Ok(Err(DriveFault::Thread));
     };
     match look_if_asked(writer, seat, told, lookup) {
-        Ok(looked) => Ok(Ok(Shown { router, looked })),
+        Ok(looked) => Ok(Ok(RouterShown { router, looked })),
         Err(Closed) => Err(Closed),
     }
 }
@@ -83,7 +83,7 @@ fn look_if_asked<R: Wait + Drop>(
 ) -> Result<Option<Looked>, Closed>
     requires fib { seat.fib ≡ writer.fib }
     requires began { IsPrefix opening seat.tables }
-    requires told { IsTold writer told }
+    requires told { IsPublishTold writer told }
     ensures { IfOk result (IsLookedUp lookup writer.tables) }
 {
     let Some(address) = lookup else {
@@ -102,7 +102,7 @@ fn look_last<R: Wait + Drop>(
 ) -> Result<Option<Answer>, Closed>
     requires fib { seat.fib ≡ writer.old.fib }
     requires began { IsPrefix opening seat.tables }
-    requires told { IsTold writer.old told }
+    requires told { IsPublishTold writer.old told }
     ensures { IfOk result (IsAnswerOfLast writer.old.tables address 0) }
 {
     let mut seat = learned(seat, told);
@@ -131,7 +131,7 @@ fn learned(mut seat: Seat, told: Option<Told>) -> Seat
 fn outcome_of<'a>(
     file: &'a NamedFile,
     config: &Config,
-    came: Result<Shown, DriveFault>,
+    came: Result<RouterShown, DriveFault>,
 ) -> Outcome<'a>
     ensures file { result.file.now ≡ file.now }
     ensures router { result.router ≡ config.now.router_id }

@@ -22,7 +22,7 @@ mod tap;
 mod wires;
 
 pub use crate::at_tick::print_at_tick;
-pub use crate::outcome::{Drops, Extras, Looked, Outcome, Shown};
+pub use crate::outcome::{Drops, Extras, Looked, Outcome, RouterShown};
 pub use crate::print::report;
 pub use crate::run::run_text;
 pub use crate::settings::Settings;

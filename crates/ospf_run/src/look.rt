@@ -37,7 +37,7 @@ impl Model for Looking {
 
 /// The seat of a router.
 #[derive(Drop)]
-pub(crate) enum Looker {
+pub(crate) enum RouterSeat {
     /// Nothing is looked up there.
     Idle(Seat),
     Looking(Looking),
@@ -45,15 +45,15 @@ pub(crate) enum Looker {
     NotStarted,
 }
 
-impl Looker {
+impl RouterSeat {
     /// The seat, once nothing is looked up there any more. `None` where the thread did not start.
     pub(crate) fn into_seat<S: Threads>(self, rt: &S) -> Option<Seat>
         ensures { (k : Known) → IsFrom k self → IfSome result (Follows k) }
     {
         match self {
-            Looker::Idle(seat) => Some(seat),
-            Looker::Looking(Looking { handle }) => Some(handle.join(rt)),
-            Looker::NotStarted => None,
+            RouterSeat::Idle(seat) => Some(seat),
+            RouterSeat::Looking(Looking { handle }) => Some(handle.join(rt)),
+            RouterSeat::NotStarted => None,
         }
     }
 }
@@ -64,15 +64,15 @@ pub(crate) fn start_looker<S: Threads + Wait + Clock + Copy + Send + 'static>(
     seat: Seat,
     lookup: Option<Addr>,
     done: &Done,
-) -> Looker
+) -> RouterSeat
     ensures { IsFrom seat result }
 {
     let Some(address) = lookup else {
-        return Looker::Idle(seat);
+        return RouterSeat::Idle(seat);
     };
     match Arc::try_clone(done) {
         Ok(done) => start_looking(rt, seat, address, done),
-        Err(AllocError) => Looker::NotStarted,
+        Err(AllocError) => RouterSeat::NotStarted,
     }
 }
 
@@ -90,7 +90,7 @@ fn start_looking<S: Threads + Wait + Clock + Copy + Send + 'static>(
     seat: Seat,
     address: Addr,
     done: Done,
-) -> Looker
+) -> RouterSeat
     ensures { IsFrom seat result }
 {
     let promise = SeatOf(Snapshot::of(&seat));
@@ -98,8 +98,8 @@ fn start_looking<S: Threads + Wait + Clock + Copy + Send + 'static>(
         look_until(&rt, seat, address, &done)
     });
     match thread {
-        Ok(handle) => Looker::Looking(Looking { handle }),
-        Err(_) => Looker::NotStarted,
+        Ok(handle) => RouterSeat::Looking(Looking { handle }),
+        Err(_) => RouterSeat::NotStarted,
     }
 }
 

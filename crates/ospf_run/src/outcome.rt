@@ -15,7 +15,7 @@ pub struct Looked {
 
 /// A router whose driver came to the end, and what a lookup in the table that was published last found.
 #[derive(Drop)]
-pub struct Shown {
+pub struct RouterShown {
     pub router: Router,
     pub looked: Option<Looked>,
 }
@@ -25,7 +25,7 @@ pub struct Shown {
 pub struct Outcome<'a> {
     pub file: &'a NamedFile,
     pub router: RouterId,
-    pub came: Result<Shown, DriveFault>,
+    pub came: Result<RouterShown, DriveFault>,
 }
 
 /// How many packets a router dropped that came in on a link, for one cause.

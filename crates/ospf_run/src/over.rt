@@ -7,16 +7,16 @@ ghost use Rattle.ospf_drive.specs.Moments.{at};
 ghost use Rattle.ospf_flood.specs.Rules.{max_sequence_number};
 ghost use Rattle.ospf_run.specs.Lookers.{IsFrom};
 ghost use Rattle.ospf_udp.specs.Obstacles.{FailsPlan};
-ghost use Rattle.ospf_run.specs.Runs.{Begins, ComeOf, Terms, Trios, span_of};
+ghost use Rattle.ospf_run.specs.Runs.{BeginsRun, ComeOf, Terms, Trios, span_of};
 ghost use Rattle.ospf_drive.specs.Traffic.Carried.{Ticks};
 
 use crate::begin::begin_all;
 use crate::finish::finish_all;
-use crate::look::{Done, Looker, start_looker};
+use crate::look::{Done, RouterSeat, start_looker};
 use crate::outcome::Outcome;
 use crate::settings::Settings;
 use ospf_base::Addr;
-use ospf_drive::{Driven, Job, Wire, drive_all};
+use ospf_drive::{Driven, DriverJob, Wire, drive_all};
 use ospf_fib::Seat;
 use ospf_files::{Failure, NamedFile};
 use ospf_udp::Plan;
@@ -67,13 +67,13 @@ fn drive_and_look<
 >(
     rt: &R,
     alloc: Global,
-    jobs: Vec<Job<W, R>>,
+    jobs: Vec<DriverJob<W, R>>,
     seats: Vec<Seat>,
     lookup: Option<Addr>,
-) -> Result<(Vec<Driven<R>>, Vec<Looker>), AllocError>
+) -> Result<(Vec<Driven<R>>, Vec<RouterSeat>), AllocError>
     requires { All (λ job. W.failed job.1 + 1 < 2 ^ 64) jobs.items }
     ensures { (terms : Terms) (configs : List Config) →
-        Pairs (λ config job. Begins terms.floor config job.0 job.2) configs jobs.items →
+        Pairs (λ config job. BeginsRun terms.floor config job.0 job.2) configs jobs.items →
         All (λ job. W.traffic job.1 ≡ Ticks 0 terms.span) jobs.items →
         Pairs (λ job seat. seat ≡ job.2) jobs.items seats.items →
         IfOk result (λ ended. Trios terms configs ended.0.items ended.1.items) }
@@ -91,7 +91,7 @@ fn start_lookers<S: Threads + Wait + Clock + Copy + Send + 'static>(
     mut seats: Vec<Seat>,
     lookup: Option<Addr>,
     done: &Done,
-    lookers: &mut Vec<Looker>,
+    lookers: &mut Vec<RouterSeat>,
 )
     requires none { lookers.old.items ≡ [] }
     requires room { vec_len seats ≤ vec_capacity lookers.old }
@@ -110,7 +110,12 @@ fn start_lookers<S: Threads + Wait + Clock + Copy + Send + 'static>(
 fn drive_to_end<
     W: Wire + Send + Drop + 'static,
     R: Threads + Wait + Clock + Copy + Send + Drop + 'static,
->(rt: &R, alloc: Global, jobs: Vec<Job<W, R>>, done: &Done) -> Result<Vec<Driven<R>>, AllocError>
+>(
+    rt: &R,
+    alloc: Global,
+    jobs: Vec<DriverJob<W, R>>,
+    done: &Done,
+) -> Result<Vec<Driven<R>>, AllocError>
     requires { All (λ job. W.failed job.1 + 1 < 2 ^ 64) jobs.items }
     ensures { IfOk result (λ all. Pairs
         (λ job driven. IsDriven (at job.0 (W.traffic job.1) (W.failed job.1) job.2) driven)

@@ -3,10 +3,10 @@
 ghost use Rattle.std.specs.Prelude.{◌≡◌, IfErr, IfOk, OnErr, OnOk, string_bytes};
 ghost use Rattle.std.specs.Io.KnownBytes.{Appends};
 ghost use Rattle.ospf_files.specs.Streams.{IsBegun, IsErrorCut, IsOutputCut};
-ghost use Rattle.ospf_run.specs.Printed.{IsReportCut, IsReported, fault_line, looked_lines, outcome_lines, outcome_told, report_lines, report_told, router_line, router_lines, table_lines};
+ghost use Rattle.ospf_run.specs.Printed.{IsReportCut, AreOutcomesReported, fault_line, looked_lines, outcome_lines, outcome_told, report_lines, report_told, router_id_line, router_lines, table_lines};
 
 use crate::extras::print_extras;
-use crate::outcome::{Extras, Looked, Outcome, Shown};
+use crate::outcome::{Extras, Looked, Outcome, RouterShown};
 use crate::status::status_of;
 use ospf_base::RouterId;
 use ospf_drive::DriveFault;
@@ -28,7 +28,7 @@ pub fn report<O: Write, E: Write>(
     err: &mut E,
     streams: &mut FailedStreams,
 ) -> Result<Status, Failure>
-    ensures reported { IfOk result (λ status. IsReported extras.now outcomes.now status
+    ensures reported { IfOk result (λ status. AreOutcomesReported extras.now outcomes.now status
         (O.contents out.old) (O.contents out.new) (E.contents err.old) (E.contents err.new)) }
     ensures cut { IfErr result
         (IsReportCut extras.now outcomes.now streams.new (O.contents out.old) (O.contents out.new)
@@ -84,15 +84,17 @@ fn print_outcome<O: Write>(
 fn print_router<O: Write>(
     alloc: Global,
     router: RouterId,
-    shown: &Shown,
+    shown: &RouterShown,
     extras: &Extras,
     out: &mut O,
     streams: &mut FailedStreams,
 ) -> Result<(), Failure>
     ensures printed { OnOk result
-        (Appends (O.contents out.old) (O.contents out.new) (router_lines extras.now router shown.now)) }
+        (Appends (O.contents out.old) (O.contents out.new) (router_lines extras.now router
+        shown.now)) }
     ensures begun { OnErr result
-        (IsBegun (O.contents out.old) (O.contents out.new) (router_lines extras.now router shown.now)) }
+        (IsBegun (O.contents out.old) (O.contents out.new) (router_lines extras.now router
+        shown.now)) }
     ensures cut { IfErr result (IsOutputCut streams.new) }
 {
     print_table(alloc, router, shown, out, streams)?;
@@ -104,7 +106,7 @@ fn print_router<O: Write>(
 fn print_table<O: Write>(
     alloc: Global,
     router: RouterId,
-    shown: &Shown,
+    shown: &RouterShown,
     out: &mut O,
     streams: &mut FailedStreams,
 ) -> Result<(), Failure>
@@ -121,7 +123,7 @@ fn print_table<O: Write>(
 
 // The line of a router.
 fn router_line(alloc: Global, router: RouterId) -> Result<String, AllocError>
-    ensures { IfOk result (λ line. string_bytes line ≡ router_line router) }
+    ensures { IfOk result (λ line. string_bytes line ≡ router_id_line router) }
 {
     let line = format!(in alloc; "router {router}\n")?;
     Ok(line)

@@ -3,10 +3,10 @@
 ghost use Rattle.std.specs.Prelude.{◌≡◌, ◌≢◌, [], ℕ, List, Option, IfErr, IfOk, OnOk, false};
 ghost use Rattle.ospf_files.specs.Status.{failure_line};
 ghost use Rattle.ospf_files.specs.Streams.{IsTold};
-ghost use Rattle.ospf_run.specs.Cut.{EndsBy, Ends, last_status};
+ghost use Rattle.ospf_run.specs.Cut.{EndsBy, EndsRun, last_status};
 ghost use Rattle.ospf_udp.specs.Obstacles.{IsStop};
-ghost use Rattle.ospf_udp.specs.Plans.{IsPlanAt, IsRefused};
-ghost use Rattle.ospf_run.specs.Runs.{ComeOf, IsRun, RunsTo, asked_of, floor_of};
+ghost use Rattle.ospf_udp.specs.Plans.{IsPlanAt, IsPlanRefused};
+ghost use Rattle.ospf_run.specs.Runs.{ComeOf, IsPlanRun, RunsTo, asked_of, floor_of};
 
 use crate::outcome::{Drops, Extras, Outcome};
 use crate::over::run_over;
@@ -57,14 +57,14 @@ pub fn run_text<
     err: &mut E,
 ) -> Status
     ensures done { result ≡ Status.Done →
-        IsRun (asked_of settings.now) files.now Status.Done (O.contents out.old)
+        IsPlanRun (asked_of settings.now) files.now Status.Done (O.contents out.old)
         (O.contents out.new) (E.contents err.old) (E.contents err.new) }
     ensures refused { result ≡ Status.Refused →
-        IsRefused (floor_of settings.now) files.now (E.contents err.old) (E.contents err.new) }
+        IsPlanRefused (floor_of settings.now) files.now (E.contents err.old) (E.contents err.new) }
     ensures unwritten { result ≡ Status.Refused → O.contents out.new ≡ O.contents out.old }
     // However it ends, the run has come to its end, or a failure has cut it short.
     ensures not_words { result ≢ Status.Words }
-    ensures ended { Ends (asked_of settings.now) files.now result (O.contents out.old)
+    ensures ended { EndsRun (asked_of settings.now) files.now result (O.contents out.old)
         (O.contents out.new) (E.contents err.old) (E.contents err.new) }
 {
     let ran = run(rt, alloc, settings, files, tap);

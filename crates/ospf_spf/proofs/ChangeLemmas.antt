@@ -10,13 +10,13 @@ use Rattle.ospf_graph.specs.declared.route.Route.{Route}
 use Rattle.ospf_graph.specs.Routes.{IsRouteBefore}
 use Rattle.ospf_spf.proofs.EditLemmas.{changed_at, edited_push, edited_none}
 use Rattle.ospf_spf.proofs.PrefixOrder.{prefixes_told}
-use Rattle.ospf_spf.specs.Changes.{changed, edited, prefix_of, IsChangeBefore, IsGone, IsNew, PutsHops, Reaches}
+use Rattle.ospf_spf.specs.Changes.{changed, edited, prefix_of, IsChangeBefore, IsGone, IsNewRoute, PutsHops, Reaches}
 use Rattle.ospf_spf.specs.declared.changes.Change.{Change}
 use Rattle.ospf_spf.specs.declared.changes.Change.TheVariants.{Put, Gone}
 
 -- the change is one that the two tables differ by
 abbrev pub IsReal : List Route → List Route → Change → Type 0
-IsReal old new (Put route) = IsNew old new route
+IsReal old new (Put route) = IsNewRoute old new route
 IsReal old new (Gone prefix) = IsGone old new prefix
 
 -- the changes of the first routes of both tables: each of these stands before what the other table has left
@@ -290,7 +290,7 @@ module _ (old new : List Route) (i j : ℕ) (cs : List Change) (m : IsMerged old
       let all : take j new ≡ new = take_all j new (omega arith) in
       m.applied ∙ ap (λ l. l ++ drop i old) all ∙ ap (λ l. new ++ l) rest ∙ append-nil new
 
-  pub all_puts : (route : Route) → Contains cs (Put route) ↔ IsNew old new route
+  pub all_puts : (route : Route) → Contains cs (Put route) ↔ IsNewRoute old new route
   all_puts route = (
     (λ h. All-contains (IsReal old new) cs (Put route) m.real h),
     λ is.
@@ -313,7 +313,7 @@ module _ (old new : List Route) (i j : ℕ) (cs : List Change) (m : IsMerged old
   )
 
 -- routes with hops make changes with hops
-pub puts_hops : (old new : List Route) (cs : List Change) → All (λ r. 0 < length r.hops) new → ((route : Route) → Contains cs (Put route) ↔ IsNew old new route) → All PutsHops cs
+pub puts_hops : (old new : List Route) (cs : List Change) → All (λ r. 0 < length r.hops) new → ((route : Route) → Contains cs (Put route) ↔ IsNewRoute old new route) → All PutsHops cs
 puts_hops old new cs hops puts k d lt = each (get_or cs k d) (Contains-get_or cs k d lt)
   where
     each : (c : Change) → Contains cs c → PutsHops c

@@ -14,8 +14,8 @@ use Rattle.ospf_graph.specs.declared.paths.ShortestPaths.{ShortestPaths}
 use Rattle.ospf_graph.proofs.GraphLemmas.{same_edges}
 use Rattle.ospf_graph.proofs.TreeLemmas.{IsTree-map}
 use Rattle.ospf_edges.specs.Items.{graph_in, items_of_all}
-use Rattle.ospf_spf.specs.Kept.{IsKept, IsTreeOf}
-use Rattle.ospf_spf.specs.Reach.{AreStartsInOrder}
+use Rattle.ospf_spf.specs.Kept.{IsKeptFor, IsTreeOf}
+use Rattle.ospf_graph.specs.Paths.{AreStartsInOrder}
 use Rattle.ospf_edges.specs.Given.{IsEdgesOf}
 use Rattle.ospf_edges.specs.declared.items.GraphItem.{GraphItem}
 use Rattle.ospf_edges.proofs.ItemLemmas.{graph_in-items, items_of_parts}
@@ -39,7 +39,7 @@ module _ (A : List Advertisement) (items : List GraphItem) (is : items ≡ items
   pub kept : (root : RouterId) (paths : ShortestPaths) (edges : List Edge) → IsEdgesOf A edges
       → IsTree (Contains edges) (Router root) (AtIn paths.settled.items) (StartsIn paths.starts.items)
       → All (λ s. s.distance < 2 ^ 63) paths.settled.items → IsNonDecreasingBy (λ s. vertex_code s.vertex) paths.settled.items → AreStartsInOrder paths.starts.items
-      → IsKept items root paths
+      → IsKeptFor items root paths
   kept root paths edges edges_are tree near settled_in_order starts_in_order =
       record {
         told = record { near = near; one = tree.one; settled_in_order = settled_in_order; starts_in_order = starts_in_order };
@@ -49,6 +49,6 @@ module _ (A : List Advertisement) (items : List GraphItem) (is : items ≡ items
       }
 
 -- for another listing of the graph
-pub tree_for : (items : List GraphItem) (root : RouterId) (paths : ShortestPaths) → IsKept items root paths → (A : List Advertisement) → map graph_part A ≡ graph_in items
+pub tree_for : (items : List GraphItem) (root : RouterId) (paths : ShortestPaths) → IsKeptFor items root paths → (A : List Advertisement) → map graph_part A ≡ graph_in items
     → IsTreeOf A root paths
 tree_for items root paths kept A same = tree_of_same (graph_in items) A (sym (same ∙ own_part items kept.whole)) root paths kept.tree

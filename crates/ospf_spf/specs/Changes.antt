@@ -5,8 +5,8 @@ use Rattle.ospf_base.specs.Prefixes.{IsPrefixBefore}
 use Rattle.ospf_graph.specs.declared.route.Route.{Route}
 use Rattle.ospf_spf.specs.declared.changes.Change.{Change}
 use Rattle.ospf_spf.specs.declared.changes.Change.TheVariants.{Put, Gone}
-use Rattle.ospf_spf.specs.declared.changes.Step.{Step}
-use Rattle.ospf_spf.specs.declared.changes.Step.TheVariants.{Old, Both, New}
+use Rattle.ospf_spf.specs.declared.changes.MergeStep.{MergeStep}
+use Rattle.ospf_spf.specs.declared.changes.MergeStep.TheVariants.{Old, Both, New}
 
 -- the prefix that a change is about
 abbrev pub prefix_of : Change → Prefix
@@ -45,24 +45,24 @@ abbrev pub Reaches : List Route → Prefix → Type 0
 Reaches routes prefix = (r : Route) × Contains routes r × (r.prefix ≡ prefix)
 
 -- the route stands in the new table and not in the old one, which has another one to its prefix or none
-abbrev pub IsNew : List Route → List Route → Route → Type 0
-IsNew old new route = Contains new route × (Contains old route → ⊥)
+abbrev pub IsNewRoute : List Route → List Route → Route → Type 0
+IsNewRoute old new route = Contains new route × (Contains old route → ⊥)
 
 -- the old table has a route to the prefix, and the new one has none
 abbrev pub IsGone : List Route → List Route → Prefix → Type 0
 IsGone old new prefix = Reaches old prefix × (Reaches new prefix → ⊥)
 
 -- which of two prefixes stands first, if they are not the same
-abbrev pub StandsFirst : Prefix → Prefix → Step → Type 0
+abbrev pub StandsFirst : Prefix → Prefix → MergeStep → Type 0
 StandsFirst old new Old = IsPrefixBefore old new
 StandsFirst old new New = IsPrefixBefore new old
 StandsFirst old new Both = old ≡ new
 
 -- what is next in two tables, from these places on: a route of one that stands before all that the other has left, or a route of each to one prefix
-abbrev pub IsStep : List Route → ℕ → List Route → ℕ → Step → Type 0
-IsStep old i new j Old = (i < length old) × (j < length new → (d e : Route) → IsPrefixBefore (slice_index_or old i d).prefix (slice_index_or new j e).prefix)
-IsStep old i new j New = (j < length new) × (i < length old → (d e : Route) → IsPrefixBefore (slice_index_or new j e).prefix (slice_index_or old i d).prefix)
-IsStep old i new j Both = (i < length old) × (j < length new) × ((d e : Route) → (slice_index_or old i d).prefix ≡ (slice_index_or new j e).prefix)
+abbrev pub IsMergeStep : List Route → ℕ → List Route → ℕ → MergeStep → Type 0
+IsMergeStep old i new j Old = (i < length old) × (j < length new → (d e : Route) → IsPrefixBefore (slice_index_or old i d).prefix (slice_index_or new j e).prefix)
+IsMergeStep old i new j New = (j < length new) × (i < length old → (d e : Route) → IsPrefixBefore (slice_index_or new j e).prefix (slice_index_or old i d).prefix)
+IsMergeStep old i new j Both = (i < length old) × (j < length new) × ((d e : Route) → (slice_index_or old i d).prefix ≡ (slice_index_or new j e).prefix)
 
 -- an edit for which there is memory: its changes, and how many routes the table may have
 pub record PlannedEdit : Type 0 where

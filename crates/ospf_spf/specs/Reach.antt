@@ -28,9 +28,9 @@ abbrev pub HasNoReach : List Reach → Prefix → Type 0
 HasNoReach reaches prefix = (v : Vertex) (k : ℕ) → Contains reaches (record { prefix = prefix; vertex = v; cost = k }) → ⊥
 
 -- what is known of a least cost: there is no reach, or this is it
-abbrev pub IsLeastOf : List Reach → Prefix → Option ℕ → Type 0
-IsLeastOf reaches prefix None = HasNoReach reaches prefix
-IsLeastOf reaches prefix (Some cost) = IsBestCost reaches prefix cost
+abbrev pub IsLeastReach : List Reach → Prefix → Option ℕ → Type 0
+IsLeastReach reaches prefix None = HasNoReach reaches prefix
+IsLeastReach reaches prefix (Some cost) = IsBestCost reaches prefix cost
 
 -- both are networks, and the first has the larger Link State ID
 abbrev pub IsLargerNetwork : Vertex → Vertex → Type 0
@@ -109,9 +109,6 @@ prefix_code p = p.address.0 * 64 + p.length
 
 abbrev pub AreReachesInOrder : List Reach → Type 0
 AreReachesInOrder reaches = IsNonDecreasingBy (λ r. prefix_code r.prefix) reaches
-
-abbrev pub AreStartsInOrder : List VertexStart → Type 0
-AreStartsInOrder starts = IsNonDecreasingBy (λ b. vertex_code b.vertex) starts
 
 -- the reaches from place to end have the prefix that stands at place, and the next has another
 pub record IsGroup (reaches : List Reach) (place end : ℕ) : Type 0 where

@@ -5,7 +5,7 @@ ghost use Rattle.ospf_base.specs.declared.prefix.Prefix.{Prefix};
 ghost use Rattle.ospf_base.specs.Prefixes.{IsPrefixBefore};
 ghost use Rattle.ospf_graph.specs.declared.route.Route.{Route};
 ghost use Rattle.ospf_graph.specs.Routes.{IsRouteBefore};
-ghost use Rattle.ospf_spf.specs.Changes.{prefix_of, edited, IsChangeBefore, IsGone, IsNew, IsStep, StandsFirst, PutsHops};
+ghost use Rattle.ospf_spf.specs.Changes.{prefix_of, edited, IsChangeBefore, IsGone, IsNewRoute, IsMergeStep, StandsFirst, PutsHops};
 
 use crate::table::RouteTable;
 use ospf_base::Prefix;
@@ -50,7 +50,7 @@ impl Change {
 
 /// Which of two tables goes on next: the old one, the new one, or both with routes to one prefix.
 #[derive(Clone, Copy, Debug, PartialEq, Eq)]
-pub enum Step {
+pub enum MergeStep {
     Old,
     Both,
     New,
@@ -60,7 +60,7 @@ impl RouteTable {
     ghost use Rattle.std.specs.Prelude.{◌≡◌, ◌↔◌, All, AllPairs, Contains, IfOk};
     ghost use Rattle.ospf_base.specs.declared.prefix.Prefix.{Prefix};
     ghost use Rattle.ospf_graph.specs.declared.route.Route.{Route};
-    ghost use Rattle.ospf_spf.specs.Changes.{edited, IsChangeBefore, IsGone, IsNew, PutsHops};
+    ghost use Rattle.ospf_spf.specs.Changes.{edited, IsChangeBefore, IsGone, IsNewRoute, PutsHops};
 
     /// The changes that lead to another table, in the order of tables: one for each prefix at which the two
     /// differ, in cost or in hops, and no other. It takes as many steps as both have routes.
@@ -72,7 +72,7 @@ impl RouteTable {
         ensures in_order { IfOk result (λ changes. AllPairs IsChangeBefore changes.items) }
         // They put exactly the new routes, each with a hop, and take away what is gone and no more.
         ensures puts { IfOk result (λ changes. (route : Route) →
-            Contains changes.items (Change.Put route) ↔ IsNew self.now to.now route) }
+            Contains changes.items (Change.Put route) ↔ IsNewRoute self.now to.now route) }
         ensures gone { IfOk result (λ changes. (prefix : Prefix) →
             Contains changes.items (Change.Gone prefix) ↔ IsGone self.now to.now prefix) }
         ensures have_hops { IfOk result (λ changes. All PutsHops changes.items) }
@@ -97,7 +97,7 @@ fn changes_of(alloc: Global, old: &[Route], new: &[Route]) -> Result<Vec<Change>
     ensures in_order { IfOk result (λ changes. AllPairs IsChangeBefore changes.items) }
     // They put exactly the routes that are new, and take exactly the prefixes that are gone.
     ensures puts { IfOk result (λ changes. (route : Route) →
-        Contains changes.items (Change.Put route) ↔ IsNew old.now new.now route) }
+        Contains changes.items (Change.Put route) ↔ IsNewRoute old.now new.now route) }
     ensures gone { IfOk result (λ changes. (prefix : Prefix) →
         Contains changes.items (Change.Gone prefix) ↔ IsGone old.now new.now prefix) }
 {
@@ -105,15 +105,15 @@ fn changes_of(alloc: Global, old: &[Route], new: &[Route]) -> Result<Vec<Change>
     let (mut i, mut j) = (0, 0);
     while let Some(step) = next_step(old, i, new, j) {
         match step {
-            Step::Old => {
+            MergeStep::Old => {
                 changes.push(Change::Gone(old[i].prefix))?;
                 i += 1;
             }
-            Step::New => {
+            MergeStep::New => {
                 changes.push(Change::Put(new[j].copy(alloc)?))?;
                 j += 1;
             }
-            Step::Both => {
+            MergeStep::Both => {
                 if !is_same_route(&old[i], &new[j]) {
                     changes.push(Change::Put(new[j].copy(alloc)?))?;
                 }
@@ -126,29 +126,29 @@ fn changes_of(alloc: Global, old: &[Route], new: &[Route]) -> Result<Vec<Change>
 }
 
 // Which of two tables goes on next, from these places on; `None` at the end of both.
-fn next_step(old: &[Route], i: usize, new: &[Route], j: usize) -> Option<Step>
+fn next_step(old: &[Route], i: usize, new: &[Route], j: usize) -> Option<MergeStep>
     requires { (i ≤ length old.now) × (j ≤ length new.now) }
     ensures { MatchOption result ((i ≡ length old.now) × (j ≡ length new.now))
-        (IsStep old.now i new.now j) }
+        (IsMergeStep old.now i new.now j) }
 {
     match (old.get(i), new.get(j)) {
         (None, None) => None,
-        (Some(_), None) => Some(Step::Old),
-        (None, Some(_)) => Some(Step::New),
+        (Some(_), None) => Some(MergeStep::Old),
+        (None, Some(_)) => Some(MergeStep::New),
         (Some(a), Some(b)) => Some(step_at(a.prefix, b.prefix)),
     }
 }
 
 // Which of two prefixes stands first.
-fn step_at(old: Prefix, new: Prefix) -> Step
+fn step_at(old: Prefix, new: Prefix) -> MergeStep
     ensures { StandsFirst old new result }
 {
     if is_before(old, new) {
-        Step::Old
+        MergeStep::Old
     } else if is_before(new, old) {
-        Step::New
+        MergeStep::New
     } else {
-        Step::Both
+        MergeStep::Both
     }
 }
 

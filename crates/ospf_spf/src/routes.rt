@@ -8,13 +8,14 @@ ghost use Rattle.ospf_graph.specs.declared.hop.NextHop.{NextHop};
 ghost use Rattle.ospf_graph.specs.declared.route.Route.{Route};
 ghost use Rattle.ospf_graph.specs.Advertisements.{Advertisement, IsListed};
 ghost use Rattle.ospf_graph.specs.Routes.{IsTable};
+ghost use Rattle.ospf_graph.specs.Paths.{AreStartsInOrder};
 ghost use Rattle.ospf_graph.specs.Search.{AtIn, vertex_code};
 ghost use Rattle.ospf_graph.specs.Tree.{hop_of_start};
 ghost use Rattle.ospf_spf.specs.Reach.{IsRouteBy};
-ghost use Rattle.ospf_spf.specs.Kept.{AreTold, IsTreeOf};
+ghost use Rattle.ospf_spf.specs.Kept.{AreWellFormed, IsTreeOf};
 ghost use Rattle.ospf_spf.specs.declared.routes.Reach.{Reach};
 ghost use Rattle.ospf_base.specs.declared.ids.RouterId.{RouterId};
-ghost use Rattle.ospf_spf.specs.Reach.{AddsHops, AreEndsWithin, GathersHops, HasHop, HasHopOf, IsLargestOf, IsLeastOf, IsReachOf, IsRouteOf, IsRouterOr, IsGroup, AreReachesInOrder, AreStartsInOrder, network_reach, prefix_code};
+ghost use Rattle.ospf_spf.specs.Reach.{AddsHops, AreEndsWithin, GathersHops, HasHop, HasHopOf, IsLargestOf, IsLeastReach, IsReachOf, IsRouteOf, IsRouterOr, IsGroup, AreReachesInOrder, network_reach, prefix_code};
 ghost use Rattle.std.specs.List.Sorted.{IsNonDecreasingBy};
 
 use ospf_base::Prefix;
@@ -46,10 +47,11 @@ pub fn table_of(
     paths: &ShortestPaths,
     ends: &[End],
 ) -> Result<Vec<Route>, AllocError>
-    requires told { AreTold paths.now }
+    requires told { AreWellFormed paths.now }
     ensures { IfOk result (λ routes. (adverts : List Advertisement) (root : RouterId) →
         IsListed adverts root → IsTreeOf adverts root paths.now →
-        AreEndsWithin adverts paths.now.settled.items ends.now → IsTable adverts root routes.items) }
+        AreEndsWithin adverts paths.now.settled.items ends.now →
+        IsTable adverts root routes.items) }
 {
     let mut reaches = reaches_of(alloc, ends, &paths.settled)?;
     sort_reaches(&mut reaches);
@@ -238,7 +240,7 @@ fn route_to(
 
 // The least cost of the reaches of a prefix.
 fn least_cost(prefix: Prefix, reaches: &[Reach]) -> Option<u64>
-    ensures { IsLeastOf reaches.now prefix result }
+    ensures { IsLeastReach reaches.now prefix result }
 {
     let mut best = None;
     for reach in reaches {

@@ -28,13 +28,13 @@ pub struct Tree {
 
 impl Model for Tree {
     ghost use Rattle.ospf_edges.specs.Items.{graph_in};
-    ghost use Rattle.ospf_spf.specs.Kept.{IsKept, KeptTree};
+    ghost use Rattle.ospf_spf.specs.Kept.{IsKeptFor, KeptSearch};
 
-    ghost Value = { KeptTree };
+    ghost Value = { KeptSearch };
 
     ghost view = { λ t. record { graph = graph_in t.items.items; root = t.root; looks = t.paths.looks } };
 
-    ghost invariant = { λ t. IsKept t.items.items t.root t.paths };
+    ghost invariant = { λ t. IsKeptFor t.items.items t.root t.paths };
 }
 
 impl Tree {

@@ -2,7 +2,7 @@
 use Rattle.std.proofs.Common.{◌≡◌, ◌++◌, List, [], Option, get_or, sym, ap, subst, ◌∙◌, append-nil, true, ℕ}
 use Rattle.std.proofs.lemmas.Option.{same_Some}
 use Rattle.ospf_packet.specs.Meaning.{Meaning}
-use Rattle.ospf_area.specs.Outputs.{OutputsValue, SentValue, no_outputs, then_outputs, AreRead, IsRead}
+use Rattle.ospf_area.specs.Outputs.{OutputsValue, SentValue, no_outputs, then_outputs, AreReadAsSent, IsReadAsSent}
 use Rattle.ospf_area.specs.State.{AreaValue, state_of}
 use Rattle.ospf_base.specs.declared.ids.Instance.{Instance}
 use Rattle.ospf_base.specs.declared.ids.LsaKey.{LsaKey}
@@ -52,14 +52,14 @@ unfolding outputs_from
 then_nothing o = ap (λ xs. outputs_from xs (o.taken ++ []) (o.issued ++ []) (o.ended ++ [])) (append-nil o.sent) ∙ (ap (λ xs. outputs_from o.sent xs (o.issued ++ []) (o.ended ++ [])) (append-nil o.taken) ∙ (ap (λ xs. outputs_from o.sent o.taken xs (o.ended ++ [])) (append-nil o.issued) ∙ ap (λ xs. outputs_from o.sent o.taken o.issued xs) (append-nil o.ended)))
 
 -- a packet that is sent is that of its datagram
-pub sent_packet : (out : OutputsValue) (p : Meaning) → AreRead out.sent → (s : Sends out p) → s.datagram.packet ≡ p
-sent_packet out p read s = same_Some s.datagram.packet p (sym (All-contains IsRead out.sent s.datagram read s.sent) ∙ s.reads)
+pub sent_packet : (out : OutputsValue) (p : Meaning) → AreReadAsSent out.sent → (s : Sends out p) → s.datagram.packet ≡ p
+sent_packet out p read s = same_Some s.datagram.packet p (sym (All-contains IsReadAsSent out.sent s.datagram read s.sent) ∙ s.reads)
 
-pub each_read : (ds : List SentValue) → ((d : SentValue) → Contains ds d → IsRead d) → AreRead ds
+pub each_read : (ds : List SentValue) → ((d : SentValue) → Contains ds d → IsReadAsSent d) → AreReadAsSent ds
 each_read ds each k d within = each (get_or ds k d) (Contains-get_or ds k d within)
 
-pub AreRead-left : (a b : OutputsValue) → AreRead (then_outputs a b).sent → AreRead a.sent
-AreRead-left a b read = each_read a.sent (λ d c. All-contains IsRead (a.sent ++ b.sent) d read (Contains-append_left a.sent b.sent d c))
+pub AreRead-left : (a b : OutputsValue) → AreReadAsSent (then_outputs a b).sent → AreReadAsSent a.sent
+AreRead-left a b read = each_read a.sent (λ d c. All-contains IsReadAsSent (a.sent ++ b.sent) d read (Contains-append_left a.sent b.sent d c))
 
-pub AreRead-right : (a b : OutputsValue) → AreRead (then_outputs a b).sent → AreRead b.sent
-AreRead-right a b read = each_read b.sent (λ d c. All-contains IsRead (a.sent ++ b.sent) d read (Contains-append_right a.sent b.sent d c))
+pub AreRead-right : (a b : OutputsValue) → AreReadAsSent (then_outputs a b).sent → AreReadAsSent b.sent
+AreRead-right a b read = each_read b.sent (λ d c. All-contains IsReadAsSent (a.sent ++ b.sent) d read (Contains-append_right a.sent b.sent d c))

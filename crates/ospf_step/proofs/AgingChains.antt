@@ -14,8 +14,8 @@ use Rattle.ospf_update.specs.Aging.{TickAges, Flushes, turn_out, noted, copy_flo
 use Rattle.ospf_area.specs.Flooding.{flooded_links, flooding_updates, goes_anywhere}
 use Rattle.ospf_update.specs.Meets.{flooded_area}
 use Rattle.ospf_area.specs.Sending.{own_of}
-use Rattle.ospf_area.specs.Outputs.{SentValue, no_outputs, sends, AreRead}
-use Rattle.ospf_area.specs.State.{AreaValue, entry_of, kept_number}
+use Rattle.ospf_area.specs.Outputs.{SentValue, no_outputs, sends, AreReadAsSent}
+use Rattle.ospf_area.specs.State.{AreaValue, database_entry, kept_number}
 use Rattle.ospf_step.specs.Parts.{ExpiryPart, at_max_age}
 use Rattle.ospf_step.specs.Step.{AndRequests, ExpiryStep, Times, Part, IsPart}
 use Rattle.ospf_step.specs.Neighbours.{Quiet}
@@ -35,16 +35,16 @@ at_its_age copy age = ap (set_age copy) (sym age)
 
 -- the copy of the key is at MaxAge
 IsExpiring : AreaValue → LsaKey → Type 0
-IsExpiring s key = (copy : Entry) × (entry_of s key ≡ Some copy) × (copy.age ≡ max_age)
+IsExpiring s key = (copy : Entry) × (database_entry s key ≡ Some copy) × (copy.age ≡ max_age)
 
-noted-part : (key : LsaKey) (copy : Entry) (s : AreaValue) (b : Bool) → entry_of s key ≡ Some copy → copy.age ≡ max_age → ExpiryPart key copy s (sends (flooding_updates (own_of s) (lsa_of copy) None s.links)) (noted key b (flooded_area (lsa_of copy) None s))
+noted-part : (key : LsaKey) (copy : Entry) (s : AreaValue) (b : Bool) → database_entry s key ≡ Some copy → copy.age ≡ max_age → ExpiryPart key copy s (sends (flooding_updates (own_of s) (lsa_of copy) None s.links)) (noted key b (flooded_area (lsa_of copy) None s))
 noted-part key copy s b at age = go b
   where
-    entries_same : (k : LsaKey) → entry_of s k ≡ (if same_key key k then Some (at_max_age copy) else entry_of s k)
+    entries_same : (k : LsaKey) → database_entry s k ≡ (if same_key key k then Some (at_max_age copy) else database_entry s k)
     entries_same k = by (same_key key k) refl
       where
-        by : (c : Bool) → same_key key k ≡ c → entry_of s k ≡ cond c (Some (at_max_age copy)) (entry_of s k)
-        by true same = ap (entry_of s) (sym (same_key-eq key k same)) ∙ (at ∙ ap Some (sym (at_its_age copy age)))
+        by : (c : Bool) → same_key key k ≡ c → database_entry s k ≡ cond c (Some (at_max_age copy)) (database_entry s k)
+        by true same = ap (database_entry s) (sym (same_key-eq key k same)) ∙ (at ∙ ap Some (sym (at_its_age copy age)))
         by false other = refl
 
     links_same : flooded_links (key_of (lsa_of copy)) (header_of (lsa_of copy)) None s.tick s.links ≡ flooded_links key (header_of (lsa_of (at_max_age copy))) None s.tick s.links
@@ -59,13 +59,13 @@ noted-part key copy s b at age = go b
     go true = record { at = at; database = entries_same; links = links_same; same_router = refl; same_direct = refl; numbering = λ k. refl; outputs = out_same }
     go false = record { at = at; database = entries_same; links = links_same; same_router = refl; same_direct = refl; numbering = λ k. refl; outputs = out_same }
 
-flood-part : (key : LsaKey) (copy : Entry) (s : AreaValue) → entry_of s key ≡ Some copy → copy.age ≡ max_age → ExpiryPart key copy s (sends (copy_flood_out key s)) (copy_flooded key s)
+flood-part : (key : LsaKey) (copy : Entry) (s : AreaValue) → database_entry s key ≡ Some copy → copy.age ≡ max_age → ExpiryPart key copy s (sends (copy_flood_out key s)) (copy_flooded key s)
 flood-part key copy s at age =
     subst (λ o. ExpiryPart key copy s (sends (copy_flood_out_by o s)) (copy_flooded_by o key s)) (sym at)
     (noted-part key copy s (goes_anywhere (key_of (lsa_of copy)) (header_of (lsa_of copy)) None s.links) at age)
 
 pub same_database : (key : LsaKey) (s : AreaValue) → (copy_sent key s).database ≡ s.database
-same_database key s = by (entry_of s key)
+same_database key s = by (database_entry s key)
   where
     in_noted : (e : Entry) (b : Bool) → (noted key b (flooded_area (lsa_of e) None s)).database ≡ s.database
     in_noted e true = refl
@@ -75,7 +75,7 @@ same_database key s = by (entry_of s key)
     by None = refl
     by (Some e) = in_noted e (goes_anywhere (key_of (lsa_of e)) (header_of (lsa_of e)) None s.links)
 
-expiry_step : (key : LsaKey) (s : AreaValue) → IsExpiring s key → AreRead (copy_out key s) → ExpiryStep s (sends (copy_out key s)) (copy_sent key s)
+expiry_step : (key : LsaKey) (s : AreaValue) → IsExpiring s key → AreReadAsSent (copy_out key s) → ExpiryStep s (sends (copy_out key s)) (copy_sent key s)
 unfolding IsExpiring
 expiry_step key s (copy, at, age) read = record {
   key = key;
@@ -94,7 +94,7 @@ still_expiring : (key k : LsaKey) (s : AreaValue) → IsExpiring s k → IsExpir
 unfolding IsExpiring
 still_expiring key k s (copy, at, age) = (copy, ap (λ db. lsdb.entry_of db k) (same_database key s) ∙ at, age)
 
-copies_put : (keys : List LsaKey) (s : AreaValue) → ((key : LsaKey) → Contains keys key → IsExpiring s key) → AreRead (copies_out keys s) → (n : ℕ) × Times n ExpiryStep s (sends (copies_out keys s)) (copies_sent keys s)
+copies_put : (keys : List LsaKey) (s : AreaValue) → ((key : LsaKey) → Contains keys key → IsExpiring s key) → AreReadAsSent (copies_out keys s) → (n : ℕ) × Times n ExpiryStep s (sends (copies_out keys s)) (copies_sent keys s)
 copies_put [] s each read = (0, record { state = refl; outputs = refl })
 copies_put (key ∷ keys) s each read =
     let (n, rest) = copies_put keys (copy_sent key s) (λ k c. let (i, within, is) = c in still_expiring key k s (each k (suc i, omega arith, is))) (AreRead-right (sends (copy_out key s)) (sends (copies_out keys (copy_sent key s))) read) in (
@@ -117,12 +117,12 @@ reached_expire s is key c =
     let (here, told) = Contains-filter_cases (λ h. h.reached && (h.entry.age == max_age)) s.database h inside in
     let (e, at, same) = of_copy (λ e. e) s.database is.rising h.entry (Contains-map (λ e. e) (entries s.database) h.entry (Contains-map (λ h. h.entry) s.database h here)) in
     let key_is : key_in e.contents ≡ key = ap (λ e. key_in e.contents) same ∙ of in
-    (e, ap (λ k. entry_of s k) (sym key_is) ∙ at, ap (λ e. e.age) same ∙ eqb-true h.entry.age max_age (and_parts h.reached (h.entry.age == max_age) told).1)
+    (e, ap (λ k. database_entry s k) (sym key_is) ∙ at, ap (λ e. e.age) same ∙ eqb-true h.entry.age max_age (and_parts h.reached (h.entry.age == max_age) told).1)
 
 -- the first point of a tick (14)
-pub TickAges-is_part : (before after : AreaValue) (sent : List SentValue) → (t : TickAges before sent after) → IsDatabase t.mid.database → AreRead sent → IsPart Part.Ages before (sends sent) after
+pub TickAges-is_part : (before after : AreaValue) (sent : List SentValue) → (t : TickAges before sent after) → IsDatabase t.mid.database → AreReadAsSent sent → IsPart Part.Ages before (sends sent) after
 TickAges-is_part before after sent t is read =
-    let (n, times) = copies_put (reached_at max_age t.mid.database) t.mid (λ key c. reached_expire t.mid is key c) (subst (λ ds. AreRead ds) t.sends read) in (
+    let (n, times) = copies_put (reached_at max_age t.mid.database) t.mid (λ key c. reached_expire t.mid is key c) (subst (λ ds. AreReadAsSent ds) t.sends read) in (
       n,
       record {
         mid = t.mid;
@@ -136,27 +136,27 @@ TickAges-is_part before after sent t is read =
 
 -- ---- a flush (14.1)
 
-pub Flushes-is_part : (key : LsaKey) (copy : Entry) (before after : AreaValue) (sent : List SentValue) → IsDatabase before.database → entry_of before key ≡ Some copy → Flushes key before sent after → AreRead sent → AndRequests (ExpiryPart key copy) before (sends sent) after
+pub Flushes-is_part : (key : LsaKey) (copy : Entry) (before after : AreaValue) (sent : List SentValue) → IsDatabase before.database → database_entry before key ≡ Some copy → Flushes key before sent after → AreReadAsSent sent → AndRequests (ExpiryPart key copy) before (sends sent) after
 Flushes-is_part key copy before after sent is at x read = record {
   mid = copy_flooded key x.mid;
   first_out = sends (copy_flood_out key x.mid);
   next_out = sends (turn_out (copy_flooded key x.mid));
   first = expires;
   next = subst (λ t. Quiet (copy_flooded key x.mid) (sends (turn_out (copy_flooded key x.mid))) t) (sym x.state)
-      (turned-quiet (copy_flooded key x.mid) (AreRead-right (sends (copy_flood_out key x.mid)) (sends (turn_out (copy_flooded key x.mid))) (subst (λ ds. AreRead ds) x.sends read)));
+      (turned-quiet (copy_flooded key x.mid) (AreRead-right (sends (copy_flood_out key x.mid)) (sends (turn_out (copy_flooded key x.mid))) (subst (λ ds. AreReadAsSent ds) x.sends read)));
   both = ap sends x.sends;
 }
   where
-    entries_mid : (k : LsaKey) → entry_of x.mid k ≡ (if same_key key k then Some (at_max_age copy) else entry_of before k)
+    entries_mid : (k : LsaKey) → database_entry x.mid k ≡ (if same_key key k then Some (at_max_age copy) else database_entry before k)
     entries_mid k = expires-entries key copy before.database x.mid.database is at x.database k
 
-    at_mid : entry_of x.mid key ≡ Some (at_max_age copy)
+    at_mid : database_entry x.mid key ≡ Some (at_max_age copy)
     at_mid = entries_mid key ∙ cond-true (same_key key key) _ _ (same_key-refl key)
 
     part : ExpiryPart key (at_max_age copy) x.mid (sends (copy_flood_out key x.mid)) (copy_flooded key x.mid)
     part = flood-part key (at_max_age copy) x.mid at_mid refl
 
-    entries_by : (k : LsaKey) (b : Bool) → entry_of x.mid k ≡ cond b (Some (at_max_age copy)) (entry_of before k) → cond b (Some (at_max_age copy)) (entry_of x.mid k) ≡ cond b (Some (at_max_age copy)) (entry_of before k)
+    entries_by : (k : LsaKey) (b : Bool) → database_entry x.mid k ≡ cond b (Some (at_max_age copy)) (database_entry before k) → cond b (Some (at_max_age copy)) (database_entry x.mid k) ≡ cond b (Some (at_max_age copy)) (database_entry before k)
     entries_by k true e = refl
     entries_by k false e = e
 

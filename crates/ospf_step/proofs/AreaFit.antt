@@ -8,7 +8,7 @@ use Rattle.ospf_flood.specs.declared.acknowledgement.Acknowledgement.{Acknowledg
 use Rattle.ospf_flood.specs.declared.acknowledgement.Acknowledgement.TheVariants as answer
 use Rattle.ospf_flood.specs.declared.rule.LsaRule.{LsaRule}
 use Rattle.ospf_flood.specs.declared.rule.LsaRule.TheVariants.{AcknowledgesExpired, TooSoon, Installs, BadRequest, Duplicate, Stale}
-use Rattle.ospf_exchange.specs.Headers.{copy_of}
+use Rattle.ospf_exchange.specs.Headers.{copy_in_database}
 use Rattle.ospf_lsa.specs.Header.{header_of, key_of_header}
 use Rattle.ospf_lsa.specs.Lsa.{key_of, instance_of}
 use Rattle.ospf_lsa.specs.declared.header.LsaHeader.{LsaHeader}
@@ -16,15 +16,15 @@ use Rattle.ospf_lsdb.specs.Database.{Entry, reached_at}
 use Rattle.ospf_lsdb.specs.Database as lsdb
 use Rattle.ospf_neighbour.specs.Lists.{key_unlisted}
 use Rattle.ospf_area.proofs.NeighbourLemmas.{changed_if-router, flooded-router, turned-router}
-use Rattle.ospf_area.specs.Asking.{turned, turned_link, turned_links}
+use Rattle.ospf_area.specs.Asking.{turned_to_next, turned_link, turned_links}
 use Rattle.ospf_area.specs.Changes.{changed_at, changed_if, changed_link, changed_on, delayed_at, delayed_on}
 use Rattle.ospf_area.specs.Flooding.{came_from, flooded_link, flooded_links, flooded_neighbour, on_link, goes_anywhere, released, released_link}
 use Rattle.ospf_area.specs.Numbers.{is_self_originated}
 use Rattle.ospf_area.specs.Outputs.{OutputsValue, SentValue}
 use Rattle.ospf_area.specs.Sending.{own_of}
 use Rattle.ospf_area.specs.Standing.{acknowledging}
-use Rattle.ospf_area.specs.State.{AreaValue, LinkValue, entry_of}
-use Rattle.ospf_area.specs.declared.changes.Change.{Change}
+use Rattle.ospf_area.specs.State.{AreaValue, LinkValue, database_entry}
+use Rattle.ospf_area.specs.declared.changes.AdjacencyChange.{AdjacencyChange}
 use Rattle.ospf_area.specs.declared.flooding.Origin.{Origin}
 use Rattle.ospf_area.specs.declared.sending.Own.{Own}
 use Rattle.ospf_update.specs.Aging.{Flushes, TickAges, copies_sent, copy_flooded, copy_flooded_by, copy_sent, noted, turned_area}
@@ -36,7 +36,7 @@ use Rattle.ospf_update.proofs.PassLemmas.{passed}
 use Rattle.ospf_step.specs.Puts.{headers_met}
 use Rattle.ospf_originate.specs.Steps.{Acts, ActsInTurn, Issues, IssuesIf, OwnLsas, wants}
 use Rattle.ospf_originate.specs.Wanted.{WantedValue, wanted_of}
-use Rattle.ospf_originate.specs.declared.action.Due.{Due}
+use Rattle.ospf_originate.specs.declared.action.DueAction.{DueAction}
 use Rattle.ospf_originate.specs.declared.action.OwnAction.{OwnAction}
 use Rattle.ospf_originate.specs.declared.action.OwnAction.TheVariants.{Leave, Flush, Issue}
 use Rattle.ospf_step.proofs.FitLemmas.{AllFit, IsFor, IsKin, along, fit_from, fit_map, kin_fit, ids_map}
@@ -53,9 +53,9 @@ module _ (r : RouterId) where
 
   turned_fit : (own : Own) (xs : List LinkValue) → AllFit r xs → AllFit r (turned_links own xs)
   turned_fit own xs fit = fit_map r (turned_link own)
-      (λ x. kin_fit r x (turned_link own x) (record { iface = refl; elects = refl; same = ids_map (turned x.settings.mtu own.tick) (turned-router x.settings.mtu own.tick) x.neighbours })) xs fit
+      (λ x. kin_fit r x (turned_link own x) (record { iface = refl; elects = refl; same = ids_map (turned_to_next x.settings.mtu own.tick) (turned-router x.settings.mtu own.tick) x.neighbours })) xs fit
 
-  changed_fit : (f : Origin) (change : Change) (tick : ℕ) (xs : List LinkValue) → AllFit r xs → AllFit r (changed_at f change tick xs)
+  changed_fit : (f : Origin) (change : AdjacencyChange) (tick : ℕ) (xs : List LinkValue) → AllFit r xs → AllFit r (changed_at f change tick xs)
   changed_fit f change tick xs fit = fit_from r (changed_on f change tick) (λ l x. by_test x (l == f.link)) 0 xs fit
     where
       by_test : (x : LinkValue) (b : Bool) → IsKin x (if b then changed_link f.router change tick x else x)
@@ -94,9 +94,9 @@ module _ (r : RouterId) where
 
   replied_for : (reply : Option (List ℕ)) (f : Origin) (key : LsaKey) (s : AreaValue) → IsFor r s → IsFor r (replied reply f key s)
   replied_for None f key s fit = fit
-  replied_for (Some lsa) f key s fit = record { own = fit.own; links = changed_fit f (Change.IsSent (instance_of lsa)) s.tick s.links fit.links }
+  replied_for (Some lsa) f key s fit = record { own = fit.own; links = changed_fit f (AdjacencyChange.IsSent (instance_of lsa)) s.tick s.links fit.links }
 
-  change_for : (f : Origin) (change : Change) (s : AreaValue) → IsFor r s → IsFor r (record s { links = changed_at f change s.tick s.links })
+  change_for : (f : Origin) (change : AdjacencyChange) (s : AreaValue) → IsFor r s → IsFor r (record s { links = changed_at f change s.tick s.links })
   change_for f change s fit = record { own = fit.own; links = changed_fit f change s.tick s.links fit.links }
 
   rule_for : (rule : Option LsaRule) (f : Origin) (lsa : List ℕ) (s : AreaValue) (o o' : OutputsValue) (s' : AreaValue) → MeetsRule rule f lsa s o o' s' → IsFor r s → IsFor r s'
@@ -105,8 +105,8 @@ module _ (r : RouterId) where
   rule_for (Some TooSoon) f lsa s o o' s' is fit = along r s s' is.state fit
   rule_for (Some Installs) f lsa s o o' s' is fit =
       along r _ s' is.state (heard_for (key_of lsa) _ (acknowledging_for _ f (header_of lsa) is.mid (store_for lsa (Some f) s is.mid is.stores fit)))
-  rule_for (Some BadRequest) f lsa s o o' s' is fit = along r _ s' is.state (record { own = fit.own; links = changed_fit f (Change.Restarts s.next_dd) s.tick s.links fit.links })
-  rule_for (Some Duplicate) f lsa s o o' s' is fit = along r _ s' is.state (acknowledging_for _ f (header_of lsa) _ (change_for f (Change.Acknowledges (instance_of lsa)) s fit))
+  rule_for (Some BadRequest) f lsa s o o' s' is fit = along r _ s' is.state (record { own = fit.own; links = changed_fit f (AdjacencyChange.Restarts s.next_dd) s.tick s.links fit.links })
+  rule_for (Some Duplicate) f lsa s o o' s' is fit = along r _ s' is.state (acknowledging_for _ f (header_of lsa) _ (change_for f (AdjacencyChange.Acknowledges (instance_of lsa)) s fit))
   rule_for (Some Stale) f lsa s o o' s' is fit = along r _ s' is.state (replied_for (reply_to s (key_of lsa)) f (key_of lsa) s fit)
 
   slice_for : (f : Origin) (bytes : List ℕ) (s : AreaValue) (o o' : OutputsValue) (s' : AreaValue) → TakesSlice f bytes s o o' s' → IsFor r s → IsFor r s'
@@ -127,11 +127,11 @@ module _ (r : RouterId) where
   -- ---- headers of an Acknowledgment
 
   header_for : (f : Origin) (h : LsaHeader) (s : AreaValue) → IsFor r s → IsFor r (header_met f h s)
-  header_for f h s fit = by_named (named_by h (copy_of s.database (key_of_header h)))
+  header_for f h s fit = by_named (named_by h (copy_in_database s.database (key_of_header h)))
     where
       by_named : (i : Option Instance) → IsFor r (taken_off f i s)
       by_named None = fit
-      by_named (Some i) = change_for f (Change.Acknowledges i) s fit
+      by_named (Some i) = change_for f (AdjacencyChange.Acknowledges i) s fit
 
   pub headers_for : (f : Origin) (hs : List LsaHeader) (s : AreaValue) → IsFor r s → IsFor r (headers_met f hs s)
   headers_for f [] s fit = fit
@@ -151,7 +151,7 @@ module _ (r : RouterId) where
       by_test false = record { own = fit.own; links = flooded_fit (key_of lsa) (header_of lsa) None s.tick s.links fit.links }
 
   sent_for : (key : LsaKey) (s : AreaValue) → IsFor r s → IsFor r (copy_sent key s)
-  sent_for key s fit = turned_for (copy_flooded key s) (copy_for (entry_of s key) key s fit)
+  sent_for key s fit = turned_for (copy_flooded key s) (copy_for (database_entry s key) key s fit)
 
   all_sent_for : (keys : List LsaKey) (s : AreaValue) → IsFor r s → IsFor r (copies_sent keys s)
   all_sent_for [] s fit = fit
@@ -187,7 +187,7 @@ module _ (r : RouterId) where
   acts_for Flush ws key s out out' s' is fit = flush_for key s is.sent s' is.flushes fit
   acts_for (Issue number) ws key s out out' s' is fit = issues_if_for (wanted_of ws key) number s out out' s' is fit
 
-  in_turn_for : (ws : List WantedValue) (due : List Due) (s : AreaValue) (out out' : OutputsValue) (s' : AreaValue) → ActsInTurn ws due s out out' s' → IsFor r s → IsFor r s'
+  in_turn_for : (ws : List WantedValue) (due : List DueAction) (s : AreaValue) (out out' : OutputsValue) (s' : AreaValue) → ActsInTurn ws due s out out' s' → IsFor r s → IsFor r s'
   in_turn_for ws [] s out out' s' unchanged fit = along r s s' unchanged.state fit
   in_turn_for ws (d ∷ ds) s out out' s' (mid, mid_out, first, others) fit = in_turn_for ws ds mid mid_out out' s' others (acts_for d.action ws d.key s out mid_out mid first fit)
 

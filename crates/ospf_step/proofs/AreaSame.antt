@@ -8,7 +8,7 @@ use Rattle.ospf_flood.specs.declared.acknowledgement.Acknowledgement.{Acknowledg
 use Rattle.ospf_flood.specs.declared.acknowledgement.Acknowledgement.TheVariants as answer
 use Rattle.ospf_flood.specs.declared.rule.LsaRule.{LsaRule}
 use Rattle.ospf_flood.specs.declared.rule.LsaRule.TheVariants.{AcknowledgesExpired, TooSoon, Installs, BadRequest, Duplicate, Stale}
-use Rattle.ospf_exchange.specs.Headers.{copy_of}
+use Rattle.ospf_exchange.specs.Headers.{copy_in_database}
 use Rattle.ospf_lsa.specs.Header.{header_of, key_of_header}
 use Rattle.ospf_lsa.specs.Lsa.{key_of, instance_of}
 use Rattle.ospf_lsa.specs.declared.header.LsaHeader.{LsaHeader}
@@ -23,8 +23,8 @@ use Rattle.ospf_area.specs.Numbers.{is_self_originated}
 use Rattle.ospf_area.specs.Outputs.{OutputsValue, SentValue}
 use Rattle.ospf_area.specs.Sending.{own_of}
 use Rattle.ospf_area.specs.Standing.{acknowledging}
-use Rattle.ospf_area.specs.State.{AreaValue, LinkValue, entry_of}
-use Rattle.ospf_area.specs.declared.changes.Change.{Change}
+use Rattle.ospf_area.specs.State.{AreaValue, LinkValue, database_entry}
+use Rattle.ospf_area.specs.declared.changes.AdjacencyChange.{AdjacencyChange}
 use Rattle.ospf_area.specs.declared.flooding.Origin.{Origin}
 use Rattle.ospf_update.specs.Aging.{Flushes, TickAges, copies_sent, copy_flooded, copy_flooded_by, copy_sent, noted, turned_area}
 use Rattle.ospf_update.specs.Meets.{MeetsRule, Stores, flooded_area, header_met, heard_by, named_by, replied, reply_to, rule_met, taken_off}
@@ -35,7 +35,7 @@ use Rattle.ospf_update.proofs.PassLemmas.{passed}
 use Rattle.ospf_step.specs.Puts.{headers_met}
 use Rattle.ospf_originate.specs.Steps.{Acts, ActsInTurn, Issues, IssuesIf, OwnLsas, wants}
 use Rattle.ospf_originate.specs.Wanted.{WantedValue, wanted_of}
-use Rattle.ospf_originate.specs.declared.action.Due.{Due}
+use Rattle.ospf_originate.specs.declared.action.DueAction.{DueAction}
 use Rattle.ospf_originate.specs.declared.action.OwnAction.{OwnAction}
 use Rattle.ospf_originate.specs.declared.action.OwnAction.TheVariants.{Leave, Flush, Issue}
 
@@ -73,9 +73,9 @@ module _ (r : RouterId) (n : ℕ) where
 
   replied_as : (reply : Option (List ℕ)) (f : Origin) (key : LsaKey) (s : AreaValue) → IsAs r n s → IsAs r n (replied reply f key s)
   replied_as None f key s as_was = as_was
-  replied_as (Some lsa) f key s as_was = record { own = as_was.own; many = length-map_from (changed_on f (Change.IsSent (instance_of lsa)) s.tick) 0 s.links ∙ as_was.many }
+  replied_as (Some lsa) f key s as_was = record { own = as_was.own; many = length-map_from (changed_on f (AdjacencyChange.IsSent (instance_of lsa)) s.tick) 0 s.links ∙ as_was.many }
 
-  change_as : (f : Origin) (change : Change) (s : AreaValue) → IsAs r n s → IsAs r n (record s { links = changed_at f change s.tick s.links })
+  change_as : (f : Origin) (change : AdjacencyChange) (s : AreaValue) → IsAs r n s → IsAs r n (record s { links = changed_at f change s.tick s.links })
   change_as f change s as_was = record { own = as_was.own; many = length-map_from (changed_on f change s.tick) 0 s.links ∙ as_was.many }
 
   rule_as : (rule : Option LsaRule) (f : Origin) (lsa : List ℕ) (s : AreaValue) (o o' : OutputsValue) (s' : AreaValue) → MeetsRule rule f lsa s o o' s' → IsAs r n s → IsAs r n s'
@@ -84,8 +84,8 @@ module _ (r : RouterId) (n : ℕ) where
   rule_as (Some TooSoon) f lsa s o o' s' is as_was = along r n s s' is.state as_was
   rule_as (Some Installs) f lsa s o o' s' is as_was =
       along r n _ s' is.state (heard_as (key_of lsa) _ (acknowledging_as _ f (header_of lsa) is.mid (store_as lsa (Some f) s is.mid is.stores as_was)))
-  rule_as (Some BadRequest) f lsa s o o' s' is as_was = along r n _ s' is.state (record { own = as_was.own; many = length-map_from (changed_on f (Change.Restarts s.next_dd) s.tick) 0 s.links ∙ as_was.many })
-  rule_as (Some Duplicate) f lsa s o o' s' is as_was = along r n _ s' is.state (acknowledging_as _ f (header_of lsa) _ (change_as f (Change.Acknowledges (instance_of lsa)) s as_was))
+  rule_as (Some BadRequest) f lsa s o o' s' is as_was = along r n _ s' is.state (record { own = as_was.own; many = length-map_from (changed_on f (AdjacencyChange.Restarts s.next_dd) s.tick) 0 s.links ∙ as_was.many })
+  rule_as (Some Duplicate) f lsa s o o' s' is as_was = along r n _ s' is.state (acknowledging_as _ f (header_of lsa) _ (change_as f (AdjacencyChange.Acknowledges (instance_of lsa)) s as_was))
   rule_as (Some Stale) f lsa s o o' s' is as_was = along r n _ s' is.state (replied_as (reply_to s (key_of lsa)) f (key_of lsa) s as_was)
 
   slice_as : (f : Origin) (bytes : List ℕ) (s : AreaValue) (o o' : OutputsValue) (s' : AreaValue) → TakesSlice f bytes s o o' s' → IsAs r n s → IsAs r n s'
@@ -106,11 +106,11 @@ module _ (r : RouterId) (n : ℕ) where
   -- ---- headers of an Acknowledgment
 
   header_as : (f : Origin) (h : LsaHeader) (s : AreaValue) → IsAs r n s → IsAs r n (header_met f h s)
-  header_as f h s as_was = by_named (named_by h (copy_of s.database (key_of_header h)))
+  header_as f h s as_was = by_named (named_by h (copy_in_database s.database (key_of_header h)))
     where
       by_named : (i : Option Instance) → IsAs r n (taken_off f i s)
       by_named None = as_was
-      by_named (Some i) = change_as f (Change.Acknowledges i) s as_was
+      by_named (Some i) = change_as f (AdjacencyChange.Acknowledges i) s as_was
 
   pub headers_as : (f : Origin) (hs : List LsaHeader) (s : AreaValue) → IsAs r n s → IsAs r n (headers_met f hs s)
   headers_as f [] s as_was = as_was
@@ -130,7 +130,7 @@ module _ (r : RouterId) (n : ℕ) where
       by_test false = record { own = as_was.own; many = length-map_from (flooded_link (key_of lsa) (header_of lsa) None s.tick) 0 s.links ∙ as_was.many }
 
   sent_as : (key : LsaKey) (s : AreaValue) → IsAs r n s → IsAs r n (copy_sent key s)
-  sent_as key s as_was = turned_as (copy_flooded key s) (copy_as (entry_of s key) key s as_was)
+  sent_as key s as_was = turned_as (copy_flooded key s) (copy_as (database_entry s key) key s as_was)
 
   all_sent_as : (keys : List LsaKey) (s : AreaValue) → IsAs r n s → IsAs r n (copies_sent keys s)
   all_sent_as [] s as_was = as_was
@@ -166,7 +166,7 @@ module _ (r : RouterId) (n : ℕ) where
   acts_as Flush ws key s out out' s' is as_was = flush_as key s is.sent s' is.flushes as_was
   acts_as (Issue number) ws key s out out' s' is as_was = issues_if_as (wanted_of ws key) number s out out' s' is as_was
 
-  in_turn_as : (ws : List WantedValue) (due : List Due) (s : AreaValue) (out out' : OutputsValue) (s' : AreaValue) → ActsInTurn ws due s out out' s' → IsAs r n s → IsAs r n s'
+  in_turn_as : (ws : List WantedValue) (due : List DueAction) (s : AreaValue) (out out' : OutputsValue) (s' : AreaValue) → ActsInTurn ws due s out out' s' → IsAs r n s → IsAs r n s'
   in_turn_as ws [] s out out' s' unchanged as_was = along r n s s' unchanged.state as_was
   in_turn_as ws (d ∷ ds) s out out' s' (mid, mid_out, first, others) as_was = in_turn_as ws ds mid mid_out out' s' others (acts_as d.action ws d.key s out mid_out mid first as_was)
 

@@ -8,7 +8,7 @@ use Rattle.ospf_update.specs.Acks.{direct_out}
 use Rattle.ospf_update.specs.Aging.{turned_area, turn_out}
 use Rattle.ospf_update.specs.Meets as meets
 use Rattle.ospf_update.specs.Meets.{MeetsLsa, MeetsRule, rule_met}
-use Rattle.ospf_area.specs.Outputs.{OutputsValue, SentValue, no_outputs, sends, then_outputs, and_takes, AreRead}
+use Rattle.ospf_area.specs.Outputs.{OutputsValue, SentValue, no_outputs, sends, then_outputs, and_takes, AreReadAsSent}
 use Rattle.ospf_area.specs.Sending.{and_sends}
 use Rattle.ospf_area.specs.State.{AreaValue}
 use Rattle.ospf_update.specs.Updates.{TakesSlice, TakesSlices, TakesUpdate}
@@ -63,12 +63,12 @@ puts_more part parts s t u out mid_out out' first next = record {
 }
 
 -- a step that began with no outputs
-pub step_from_chain : (is_dropped : Event → AreaValue → Bool) (event : Event) (before : AreaValue) (out : OutputsValue) (after : AreaValue) → is_dropped event before ≡ false → AreRead out.sent → PutsOut (λ o. Chain (first_parts event ++ last_parts) before o after) no_outputs out → StepLaws is_dropped event before out after
+pub step_from_chain : (is_dropped : Event → AreaValue → Bool) (event : Event) (before : AreaValue) (out : OutputsValue) (after : AreaValue) → is_dropped event before ≡ false → AreReadAsSent out.sent → PutsOut (λ o. Chain (first_parts event ++ last_parts) before o after) no_outputs out → StepLaws is_dropped event before out after
 step_from_chain is_dropped event before out after taken read p = StepLaws.Takes taken read (subst (λ o. Chain (first_parts event ++ last_parts) before o after) (sym p.behind) p.is)
 
 -- what is put behind, is read where all is
-read_own : (R : OutputsValue → Type 0) (out out' : OutputsValue) → AreRead out'.sent → (p : PutsOut R out out') → AreRead p.own.sent
-read_own R out out' read p = AreRead-right out p.own (subst (λ o. AreRead o.sent) p.behind read)
+read_own : (R : OutputsValue → Type 0) (out out' : OutputsValue) → AreReadAsSent out'.sent → (p : PutsOut R out out') → AreReadAsSent p.own.sent
+read_own R out out' read p = AreRead-right out p.own (subst (λ o. AreReadAsSent o.sent) p.behind read)
 
 -- ---- an LSA of an Update
 
@@ -87,19 +87,19 @@ lsa_puts f lsa before out out' after m = by (rule_met before f lsa) m
     by (Some rule.Duplicate) a = record { own = no_outputs; is = record { state = a.state; outputs = refl }; behind = a.outputs ∙ sym (then_nothing out) }
     by (Some rule.Stale) a = record { own = _; is = record { state = a.state; outputs = refl }; behind = a.outputs ∙ then_sends out _ }
 
-pub requests_put : (s t : AreaValue) (out out' : OutputsValue) → t ≡ turned_area s → out' ≡ and_sends out (turn_out s) → AreRead out'.sent → PutsOut (λ o. Quiet s o t) out out'
+pub requests_put : (s t : AreaValue) (out out' : OutputsValue) → t ≡ turned_area s → out' ≡ and_sends out (turn_out s) → AreReadAsSent out'.sent → PutsOut (λ o. Quiet s o t) out out'
 requests_put s t out out' state outputs read = record {
   own = sends (turn_out s);
-  is = subst (λ t. Quiet s (sends (turn_out s)) t) (sym state) (turned-quiet s (AreRead-right out (sends (turn_out s)) (subst (λ o. AreRead o.sent) (outputs ∙ then_sends out (turn_out s)) read)));
+  is = subst (λ t. Quiet s (sends (turn_out s)) t) (sym state) (turned-quiet s (AreRead-right out (sends (turn_out s)) (subst (λ o. AreReadAsSent o.sent) (outputs ∙ then_sends out (turn_out s)) read)));
   behind = outputs ∙ then_sends out (turn_out s);
 }
 
 -- what is read in the end was read on the way
-read_before : (R : OutputsValue → Type 0) (out out' : OutputsValue) → AreRead out'.sent → PutsOut R out out' → AreRead out.sent
-read_before R out out' read p = AreRead-left out p.own (subst (λ o. AreRead o.sent) p.behind read)
+read_before : (R : OutputsValue → Type 0) (out out' : OutputsValue) → AreReadAsSent out'.sent → PutsOut R out out' → AreReadAsSent out.sent
+read_before R out out' read p = AreRead-left out p.own (subst (λ o. AreReadAsSent o.sent) p.behind read)
 
 -- one slice, with the Requests that become due by it, in front of what follows
-slice_put : (f : Origin) (bytes : List ℕ) (parts : List Part) (s t u : AreaValue) (out mid_out out' : OutputsValue) → AreRead mid_out.sent → TakesSlice f bytes s out mid_out t → PutsOut (λ o. Chain parts t o u) mid_out out' → PutsOut (λ o. Chain (LsaComes f bytes ∷ Requests ∷ parts) s o u) out out'
+slice_put : (f : Origin) (bytes : List ℕ) (parts : List Part) (s t u : AreaValue) (out mid_out out' : OutputsValue) → AreReadAsSent mid_out.sent → TakesSlice f bytes s out mid_out t → PutsOut (λ o. Chain parts t o u) mid_out out' → PutsOut (λ o. Chain (LsaComes f bytes ∷ Requests ∷ parts) s o u) out out'
 slice_put f bytes parts s t u out mid_out out' read (TakesSlice.Met is m) next =
     let met = lsa_puts f bytes s out m.so_far m.mid m.meets in
     puts_more (LsaComes f bytes) (Requests ∷ parts) s m.mid u out m.so_far out' (record { own = met.own; is = LsaPart.Meets is met.is; behind = met.behind })
@@ -109,7 +109,7 @@ slice_put f bytes parts s t u out mid_out out' read (TakesSlice.PassedOver not_o
     puts_more (LsaComes f bytes) (Requests ∷ parts) s t u out out out' (record { own = no_outputs; is = LsaPart.PassedOver not_one passes refl; behind = sym (then_nothing out) })
     (puts_more Requests parts t t u out out out' (record { own = no_outputs; is = nothing-quiet t; behind = sym (then_nothing out) }) here)
 
-slices_put : (f : Origin) (slices : List (List ℕ)) (rest : List Part) (s t u : AreaValue) (out mid_out out' : OutputsValue) → AreRead out'.sent → TakesSlices f slices s out mid_out t → PutsOut (λ o. Chain rest t o u) mid_out out' → PutsOut (λ o. Chain (lsa_parts f slices ++ rest) s o u) out out'
+slices_put : (f : Origin) (slices : List (List ℕ)) (rest : List Part) (s t u : AreaValue) (out mid_out out' : OutputsValue) → AreReadAsSent out'.sent → TakesSlices f slices s out mid_out t → PutsOut (λ o. Chain rest t o u) mid_out out' → PutsOut (λ o. Chain (lsa_parts f slices ++ rest) s o u) out out'
 slices_put f [] rest s t u out mid_out out' read same next =
     subst (λ o. PutsOut (λ x. Chain rest s x u) o out') same.outputs (subst (λ t. PutsOut (λ x. Chain rest t x u) mid_out out') same.state next)
 slices_put f (bytes ∷ slices) rest s t u out mid_out out' read (m, so_far, slice, more) next =
@@ -117,7 +117,7 @@ slices_put f (bytes ∷ slices) rest s t u out mid_out out' read (m, so_far, sli
     slice_put f bytes (lsa_parts f slices ++ rest) s m u out so_far out' (read_before (λ o. Chain (lsa_parts f slices ++ rest) m o u) so_far out' read later) slice later
 
 -- an Update, and then what follows: the chain of its parts
-pub update_puts : (f : Origin) (slices : List (List ℕ)) (rest : List Part) (s t u : AreaValue) (out mid_out out' : OutputsValue) → AreRead out'.sent → TakesUpdate f slices s out mid_out t → PutsOut (λ o. Chain rest t o u) mid_out out' → PutsOut (λ o. Chain ((lsa_parts f slices ++ DirectAcknowledgements f ∷ []) ++ rest) s o u) out out'
+pub update_puts : (f : Origin) (slices : List (List ℕ)) (rest : List Part) (s t u : AreaValue) (out mid_out out' : OutputsValue) → AreReadAsSent out'.sent → TakesUpdate f slices s out mid_out t → PutsOut (λ o. Chain rest t o u) mid_out out' → PutsOut (λ o. Chain ((lsa_parts f slices ++ DirectAcknowledgements f ∷ []) ++ rest) s o u) out out'
 update_puts f slices rest s t u out mid_out out' read update next =
     subst (λ parts. PutsOut (λ o. Chain parts s o u) out out') (sym (append_assoc (lsa_parts f slices) (DirectAcknowledgements f ∷ []) rest))
     (slices_put f slices (DirectAcknowledgements f ∷ rest) s update.mid u out update.so_far out' read update.takes

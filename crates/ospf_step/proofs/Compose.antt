@@ -21,9 +21,9 @@ use Rattle.ospf_neighbour.specs.Machine.{is_exchanging}
 use Rattle.ospf_area.specs.Outputs.{OutputsValue, then_outputs}
 use Rattle.ospf_area.specs.State.{AreaValue, state_of, kept_number, Awaits}
 use Rattle.ospf_step.specs.Packets.{Received}
-use Rattle.ospf_step.specs.Words.{CanName, Holds, Asks, Brings}
+use Rattle.ospf_step.specs.Words.{CanName, HoldsInstance, Asks, Brings}
 use Rattle.ospf_lsdb.specs.Moments.{among}
-use Rattle.ospf_step.specs.Accounts.{Accounts, Numbers, Has, IsDescribed, IsReplaced, IsStored, Sends, HasWord, MayLeave, WaitsOn, WasKept, NoneEntersExchange}
+use Rattle.ospf_step.specs.Accounts.{Accounts, Numbers, HasContents, IsDescribed, IsReplaced, TakesItsPlace, Sends, HasWord, MayLeave, WaitsOn, WasKept, NoneEntersExchange}
 use Rattle.ospf_step.proofs.StateFacts.{greater_is_newer, newer_than_expired, same_contents}
 
 -- R holds of each pair of a list joined from two: within either, and across
@@ -67,15 +67,15 @@ Sends-cases a b p s = elim (Contains-append_cases a.sent b.sent s.datagram s.sen
 
 -- what one part answers for and then the next, the two answer for together
 module _ (heard : Option Received) (s t u : AreaValue) (a b : OutputsValue) (first : Accounts heard s a t) (next : Accounts heard t b u) (none_enters : NoneEntersExchange t u) (none_ended : a.ended ≡ []) where
-  has_first : (content : List ℕ) → Has heard s a content → Has heard s (then_outputs a b) content
-  has_first content (Has.Held lsa c e) = Has.Held lsa c e
-  has_first content (Has.Heard p lsa h c e) = Has.Heard p lsa h c e
-  has_first content (Has.Issued lsa c e) = Has.Issued lsa (Contains-append_left a.issued b.issued lsa c) e
+  has_first : (content : List ℕ) → HasContents heard s a content → HasContents heard s (then_outputs a b) content
+  has_first content (HasContents.Held lsa c e) = HasContents.Held lsa c e
+  has_first content (HasContents.Heard p lsa h c e) = HasContents.Heard p lsa h c e
+  has_first content (HasContents.Issued lsa c e) = HasContents.Issued lsa (Contains-append_left a.issued b.issued lsa c) e
 
-  has_next : (content : List ℕ) → Has heard t b content → Has heard s (then_outputs a b) content
-  has_next content (Has.Held lsa c e) = subst (λ k. Has heard s (then_outputs a b) k) e (has_first (contents lsa) (first.database lsa c))
-  has_next content (Has.Heard p lsa h c e) = Has.Heard p lsa h c e
-  has_next content (Has.Issued lsa c e) = Has.Issued lsa (Contains-append_right a.issued b.issued lsa c) e
+  has_next : (content : List ℕ) → HasContents heard t b content → HasContents heard s (then_outputs a b) content
+  has_next content (HasContents.Held lsa c e) = subst (λ k. HasContents heard s (then_outputs a b) k) e (has_first (contents lsa) (first.database lsa c))
+  has_next content (HasContents.Heard p lsa h c e) = HasContents.Heard p lsa h c e
+  has_next content (HasContents.Issued lsa c e) = HasContents.Issued lsa (Contains-append_right a.issued b.issued lsa c) e
 
   names_first : (i : Instance) → CanName s i ⊎ Brings a i → CanName s i ⊎ Brings (then_outputs a b) i
   names_first i (inl n) = inl n
@@ -85,7 +85,7 @@ module _ (heard : Option Received) (s t u : AreaValue) (a b : OutputsValue) (fir
   names_next i (inl n) = names_first i (first.names i n)
   names_next i (inr x) = inr (Brings-right a b i x)
 
-  holds_next : (i : Instance) → Holds t i ⊎ Brings b i → Holds s i ⊎ Brings (then_outputs a b) i
+  holds_next : (i : Instance) → HoldsInstance t i ⊎ Brings b i → HoldsInstance s i ⊎ Brings (then_outputs a b) i
   holds_next i (inl n) = elim (first.holds i n) [ inl o ↦ inl o | inr x ↦ inr (Brings-left a b i x) ]
   holds_next i (inr x) = inr (Brings-right a b i x)
 
@@ -102,25 +102,25 @@ module _ (heard : Option Received) (s t u : AreaValue) (a b : OutputsValue) (fir
   word_first l q i w = w
 
   -- what took a copy's place in either part took it in both
-  stored_first : (old new : List ℕ) → IsStored heard a old new → IsStored heard (then_outputs a b) old new
-  stored_first old new (IsStored.Installed p h c taken) = IsStored.Installed p h c (Contains-append_left a.taken b.taken (instance_of new) taken)
-  stored_first old new (IsStored.Issued c more) = IsStored.Issued (Contains-append_left a.issued b.issued new c) more
+  stored_first : (old new : List ℕ) → TakesItsPlace heard a old new → TakesItsPlace heard (then_outputs a b) old new
+  stored_first old new (TakesItsPlace.Installed p h c taken) = TakesItsPlace.Installed p h c (Contains-append_left a.taken b.taken (instance_of new) taken)
+  stored_first old new (TakesItsPlace.Issued c more) = TakesItsPlace.Issued (Contains-append_left a.issued b.issued new c) more
 
-  stored_next : (old was new : List ℕ) → instance_of was ≡ instance_of old → IsStored heard b old new → IsStored heard (then_outputs a b) was new
-  stored_next old was new same (IsStored.Installed p h c taken) = IsStored.Installed p h c (Contains-append_right a.taken b.taken (instance_of new) taken)
-  stored_next old was new same (IsStored.Issued c more) = IsStored.Issued (Contains-append_right a.issued b.issued new c) (subst (λ i. i.number <ℤ (instance_of new).number) (sym same) more)
+  stored_next : (old was new : List ℕ) → instance_of was ≡ instance_of old → TakesItsPlace heard b old new → TakesItsPlace heard (then_outputs a b) was new
+  stored_next old was new same (TakesItsPlace.Installed p h c taken) = TakesItsPlace.Installed p h c (Contains-append_right a.taken b.taken (instance_of new) taken)
+  stored_next old was new same (TakesItsPlace.Issued c more) = TakesItsPlace.Issued (Contains-append_right a.issued b.issued new c) (subst (λ i. i.number <ℤ (instance_of new).number) (sym same) more)
 
   -- an LSA that is newer than a copy that was kept is newer than the copy was
-  newer_than_kept : (old new : List ℕ) (k : WasKept heard s old) → recency (header_of new) (header_of old) ≡ Newer → IsStored heard b old new → recency (header_of new) (header_of k.old) ≡ Newer
+  newer_than_kept : (old new : List ℕ) (k : WasKept heard s old) → recency (header_of new) (header_of old) ≡ Newer → TakesItsPlace heard b old new → recency (header_of new) (header_of k.old) ≡ Newer
   newer_than_kept old new k newer stored = by k.age stored
     where
       same : instance_of k.old ≡ instance_of old
       same = same_contents k.old old k.same
 
-      by : (k.old ≡ old) ⊎ ((heard ≡ None) ⊎ ((header_of old).age ≡ max_age)) → IsStored heard b old new → recency (header_of new) (header_of k.old) ≡ Newer
+      by : (k.old ≡ old) ⊎ ((heard ≡ None) ⊎ ((header_of old).age ≡ max_age)) → TakesItsPlace heard b old new → recency (header_of new) (header_of k.old) ≡ Newer
       by (inl it) stored = subst (λ l. recency (header_of new) (header_of l) ≡ Newer) (sym it) newer
-      by (inr (inl silent)) (IsStored.Installed p h c taken) = absurd (none-some p (sym silent ∙ h))
-      by (inr (inl silent)) (IsStored.Issued c more) = greater_is_newer (header_of new) (header_of k.old) (subst (λ i. i.number <ℤ (instance_of new).number) (sym same) more)
+      by (inr (inl silent)) (TakesItsPlace.Installed p h c taken) = absurd (none-some p (sym silent ∙ h))
+      by (inr (inl silent)) (TakesItsPlace.Issued c more) = greater_is_newer (header_of new) (header_of k.old) (subst (λ i. i.number <ℤ (instance_of new).number) (sym same) more)
       by (inr (inr expired)) stored = newer_than_expired (header_of new) (header_of old) (header_of k.old) expired (ap (λ i. i.number) same) (ap (λ i. i.sum) same) newer
 
   replaced_since : (i : Instance) (r : IsReplaced heard t b i) → WasKept heard s r.old → IsReplaced heard s (then_outputs a b) i
@@ -178,7 +178,7 @@ module _ (heard : Option Received) (s t u : AreaValue) (a b : OutputsValue) (fir
       by_first (inl one) = by_next one (next.leaves l q i one.awaits)
       by_first (inr may) = inr (leave_first l q i may)
 
-  listed_both : (l : ℕ) (q : RouterId) (i : Instance) → Brings (then_outputs a b) i → Holds u i → is_exchanging (state_of u l q) ≡ true → Awaits u l q i ⊎ HasWord heard s l q i
+  listed_both : (l : ℕ) (q : RouterId) (i : Instance) → Brings (then_outputs a b) i → HoldsInstance u i → is_exchanging (state_of u l q) ≡ true → Awaits u l q i ⊎ HasWord heard s l q i
   listed_both l q i brings holds up = by_part (Brings-cases a b i brings)
     where
       by_second : Brings b i → Awaits u l q i ⊎ HasWord heard s l q i
@@ -194,7 +194,7 @@ module _ (heard : Option Received) (s t u : AreaValue) (a b : OutputsValue) (fir
       by_mid (inl awaits) = by_leave (next.leaves l q i awaits)
       by_mid (inr word) = inr word
 
-      by_holds : Brings a i → Holds t i ⊎ Brings b i → Awaits u l q i ⊎ HasWord heard s l q i
+      by_holds : Brings a i → HoldsInstance t i ⊎ Brings b i → Awaits u l q i ⊎ HasWord heard s l q i
       by_holds x (inl there) = by_mid (first.listed l q i x there (none_enters l q up))
       by_holds x (inr now) = by_second now
 

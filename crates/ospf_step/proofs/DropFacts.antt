@@ -22,8 +22,8 @@ use Rattle.ospf_step.specs.declared.dropped.Dropped.{Dropped}
 use Rattle.ospf_step.specs.declared.dropped.Dropped.TheVariants as dropped
 use Rattle.ospf_iface.specs.Machine.{is_down}
 use Rattle.ospf_step.specs.Drops.{drop_on}
-use Rattle.ospf_step.specs.Fit.{IsFit, IsFitLink}
-use Rattle.ospf_step.specs.Ready.{CanTake, CanTakeOn}
+use Rattle.ospf_step.specs.Fit.{IsFitRouter, IsFitLink}
+use Rattle.ospf_step.specs.Ready.{CanTakePacket, CanTakeOn}
 use Rattle.ospf_step.specs.Takes.{origin_of}
 use Rattle.ospf_step.proofs.FitLemmas.{eq_false, all_at}
 use Rattle.ospf_step.proofs.StepFit.{CanCome}
@@ -73,14 +73,14 @@ pub not_dropped_as : (s : AreaValue) (link : ℕ) (source destination : Addr) (o
     → drop_on (slice_get s.links link) s source destination (Some m) ≡ None
 not_dropped_as s link source destination o m is taken = subst (λ (x : Option Meaning). drop_on (slice_get s.links link) s source destination x ≡ None) is taken
 
-module _ (law : NotDroppedIsTaken) (s : AreaValue) (link : ℕ) (source destination : Addr) (m : Meaning) (fit : IsFit s) (is : drop_on (slice_get s.links link) s source destination (Some m) ≡ None) where
+module _ (law : NotDroppedIsTaken) (s : AreaValue) (link : ℕ) (source destination : Addr) (m : Meaning) (fit : IsFitRouter s) (is : drop_on (slice_get s.links link) s source destination (Some m) ≡ None) where
   packet_is : (a : LinkValue) → slice_get s.links link ≡ Some a → drop_of_packet (local_of (own_of s) a) a.iface a.neighbours s.area source destination m ≡ None
   packet_is a at = subst (λ (o : Option LinkValue). drop_on o s source destination (Some m) ≡ None) at is
 
   taken : (a : LinkValue) → slice_get s.links link ≡ Some a → CanBeTaken (local_of (own_of s) a) a.neighbours m.router m.body
   taken a at = law (local_of (own_of s) a) a.iface a.neighbours s.area source destination m (all_at (IsFitLink s.router) s.links link a fit.links at).neighbours.rising (packet_is a at)
 
-  pub can_take : CanTake (origin_of link source m) m.body s
+  pub can_take : CanTakePacket (origin_of link source m) m.body s
   can_take a at = by_body m.body (taken a at)
     where
       by_body : (b : BodyMeaning) → CanBeTaken (local_of (own_of s) a) a.neighbours m.router b → CanTakeOn b (origin_of link source m) a

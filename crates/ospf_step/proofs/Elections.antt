@@ -11,7 +11,7 @@ use Rattle.ospf_adjacency.specs.Elections.{adjusted, first_dds}
 use Rattle.ospf_area.specs.Packets.{Parcel}
 use Rattle.ospf_adjacency.specs.HelloLaws as hellos
 use Rattle.ospf_adjacency.proofs.GoLemmas.{adj_ok_goes}
-use Rattle.ospf_area.specs.Outputs.{AreRead, OutputsValue, SentValue, sends}
+use Rattle.ospf_area.specs.Outputs.{AreReadAsSent, OutputsValue, SentValue, sends}
 use Rattle.ospf_area.specs.Sending.{and_sends, own_of}
 use Rattle.ospf_area.specs.State.{AreaValue, LinkValue}
 use Rattle.ospf_step.specs.Links.{AllEach, AreKnown, ChangesLinks, Each, LinkQuiet}
@@ -20,14 +20,14 @@ use Rattle.ospf_step.specs.Puts.{PutsOut}
 use Rattle.ospf_step.proofs.LinkParts.{each_same, part_quiet, quiet_same}
 use Rattle.ospf_step.proofs.StateFacts.{Contains-nil}
 use Rattle.ospf_step.proofs.PutParts.{puts_sent}
-use Rattle.ospf_links.specs.Elections.{Elects, ElectsFrom, ElectsIf, ElectsThere}
+use Rattle.ospf_links.specs.Elections.{ElectsAll, ElectsFrom, ElectsIf, ElectsThere}
 use Rattle.ospf_area.specs.Posting.{posted_all}
 use Rattle.ospf_step.proofs.Known.{AreBare, bare_known, first_bare, link_quiet, same_goes, both_known, none_known}
 use Rattle.ospf_step.proofs.Works.{read_sent}
 
 -- ---- one link
 
-elected_goes : (b : Bool) (i : Iface) (tick next : ℕ) (ns : List NeighbourValue) (q : RouterId) → hellos.Goes (neighbour_of ns q) (neighbour_of (if b then adjusted i tick next ns else ns) q)
+elected_goes : (b : Bool) (i : Iface) (tick next : ℕ) (ns : List NeighbourValue) (q : RouterId) → hellos.KeepsOrLosesLists (neighbour_of ns q) (neighbour_of (if b then adjusted i tick next ns else ns) q)
 elected_goes true i tick next ns q = adj_ok_goes i tick next ns q
 elected_goes false i tick next ns q = same_goes (neighbour_of ns q)
 
@@ -49,7 +49,7 @@ quietly s l n n' true link link' sent e =
     let changed = is_changed link.iface e.elects.result in
     record {
       quiet = link_quiet s link link'
-          (λ q. subst (λ ns. hellos.Goes (neighbour_of link.neighbours q) (neighbour_of ns q)) (sym e.elects.neighbours) (elected_goes changed link'.iface s.tick n link.neighbours q))
+          (λ q. subst (λ ns. hellos.KeepsOrLosesLists (neighbour_of link.neighbours q) (neighbour_of ns q)) (sym e.elects.neighbours) (elected_goes changed link'.iface s.tick n link.neighbours q))
           (λ h c. subst (λ hs. Contains hs h) (ap (λ (x : LinkValue). x.delayed) e.rest) c);
       known = bare_known s l link.iface sent (subst AreBare (sym e.elects.sends) (elected_bare changed link'.iface link.settings.mtu s.tick n link.neighbours));
     }
@@ -141,11 +141,11 @@ done s t zero out out' (same, none) =
 done s t (suc l) out out' (mid, mid_out, first, there) = one_more s mid t l out mid_out out' (done s mid l out mid_out first) (slice_get mid.links l) refl there
 
 -- all of them
-pub elects_put : (s t : AreaValue) (out out' : OutputsValue) → AreRead out'.sent → Elects s out t out' → PutsOut (λ o. Quiet s o t) out out'
+pub elects_put : (s t : AreaValue) (out out' : OutputsValue) → AreReadAsSent out'.sent → ElectsAll s out t out' → PutsOut (λ o. Quiet s o t) out out'
 elects_put s t out out' read e =
     let d = done s t (length s.links) out out' e in
     puts_sent (λ o. Quiet s o t) out out' d.sent (part_quiet s t (sends d.sent) d.sent d.rest refl (read_sent out out' d.sent d.outputs read) d.each d.known) d.outputs
 
 -- they leave the database as it was
-pub elects_database : (s t : AreaValue) (out out' : OutputsValue) → Elects s out t out' → t.database ≡ s.database
+pub elects_database : (s t : AreaValue) (out out' : OutputsValue) → ElectsAll s out t out' → t.database ≡ s.database
 elects_database s t out out' e = ap (λ (a : AreaValue). a.database) (done s t (length s.links) out out' e).rest

@@ -4,11 +4,11 @@ use Rattle.std.specs.List.{AllByRecursion}
 use Rattle.ospf_base.specs.declared.ids.RouterId.{RouterId}
 use Rattle.ospf_iface.specs.declared.machine.Iface.{Iface}
 use Rattle.ospf_neighbour.specs.Neighbour.{NeighbourValue}
-use Rattle.ospf_neighbour.specs.Neighbours.{IsRising, neighbour_of}
+use Rattle.ospf_neighbour.specs.Neighbours.{AreNeighboursRising, neighbour_of}
 use Rattle.ospf_adjacency.specs.Elections.{AreOfLink, elects_in}
 use Rattle.ospf_area.specs.Places.{map_from}
 use Rattle.ospf_area.specs.State.{AreaValue, LinkValue}
-use Rattle.ospf_step.specs.Fit.{IsFitLink, IsFit}
+use Rattle.ospf_step.specs.Fit.{IsFitLink, IsFitRouter}
 use Rattle.std.proofs.lemmas.List.{length-map, length-set}
 use Rattle.std.proofs.lemmas.Option.{same_Some, none-some}
 use Rattle.ospf_base.specs.declared.ids.LsaKey.{LsaKey}
@@ -39,7 +39,7 @@ all_ids P (m ∷ ms) (n ∷ ns) same all =
     let tail : ids ms ≡ ids ns = cc in
     (subst P head all.0, all_ids P ms ns tail all.1)
 
-pub ids_rise : (ms ns : List NeighbourValue) → ids ms ≡ ids ns → IsRising ns → IsRising ms
+pub ids_rise : (ms ns : List NeighbourValue) → ids ms ≡ ids ns → AreNeighboursRising ns → AreNeighboursRising ms
 ids_rise [] ns same rises = tt
 ids_rise (m ∷ ms) [] same rises = absurd (cc)
 ids_rise (m ∷ ms) (n ∷ ns) same rises =
@@ -140,10 +140,10 @@ module _ (g : LinkValue → LinkValue) (same : (x : LinkValue) → (g x).iface.s
 -- ---- the router
 
 -- what nothing of it hangs on
-pub aside : (s : AreaValue) (links : List LinkValue) (next_dd : ℕ) (sent : List LsaKey) → AllFit s.router links → AreSetUp links → IsFit s → IsFit (record s { links = links; next_dd = next_dd; sent = sent })
+pub aside : (s : AreaValue) (links : List LinkValue) (next_dd : ℕ) (sent : List LsaKey) → AllFit s.router links → AreSetUp links → IsFitRouter s → IsFitRouter (record s { links = links; next_dd = next_dd; sent = sent })
 aside s links next_dd sent fit up is = record { links = fit; sound = record { links = up; numbered = is.sound.numbered; counted = is.sound.counted; greatest = is.sound.greatest } }
 
-pub set_fit : (s : AreaValue) (k : ℕ) (a b : LinkValue) (next_dd : ℕ) (sent : List LsaKey) → slice_get s.links k ≡ Some a → Stays s.router a b → IsFit s → IsFit (record s { links = set s.links k b; next_dd = next_dd; sent = sent })
+pub set_fit : (s : AreaValue) (k : ℕ) (a b : LinkValue) (next_dd : ℕ) (sent : List LsaKey) → slice_get s.links k ≡ Some a → Stays s.router a b → IsFitRouter s → IsFitRouter (record s { links = set s.links k b; next_dd = next_dd; sent = sent })
 set_fit s k a b next_dd sent at stays is = aside s (set s.links k b) next_dd sent (all_set (IsFitLink s.router) s.links k b is.links stays.fit) (record {
   few = subst (λ (n : ℕ). n ≤ max_links) (sym (length-set s.links k b)) is.sound.links.few;
   each = all_set IsSetUp s.links k b is.sound.links.each stays.set_up;
@@ -151,7 +151,7 @@ set_fit s k a b next_dd sent at stays is = aside s (set s.links k b) next_dd sen
 }) is
 
 pub map_fit : (s : AreaValue) (g : LinkValue → LinkValue) (sent : List LsaKey) → ((x : LinkValue) → (g x).iface.settings ≡ x.iface.settings) → ((x : LinkValue) → IsFitLink s.router x → IsFitLink s.router (g x))
-    → ((x : LinkValue) → IsSetUp x → IsSetUp (g x)) → IsFit s → IsFit (record s { links = map g s.links; sent = sent })
+    → ((x : LinkValue) → IsSetUp x → IsSetUp (g x)) → IsFitRouter s → IsFitRouter (record s { links = map g s.links; sent = sent })
 map_fit s g sent same fit up is = aside s (map g s.links) s.next_dd sent (fit_map s.router g fit s.links is.links) (record {
   few = subst (λ (n : ℕ). n ≤ max_links) (sym (length-map s.links g)) is.sound.links.few;
   each = all_mapped IsSetUp g up s.links is.sound.links.each;
@@ -185,7 +185,7 @@ found_all P (m ∷ ms) q n at all = by_test (λ at. found_all P ms q n at all.1)
     by_test rest false at = rest at
 
 -- put in the place of who is found, no Router ID changes
-pub put_same : (ns : List NeighbourValue) (q : RouterId) (n n' : NeighbourValue) → IsRising ns → neighbour_of ns q ≡ Some n → n'.router.0 ≡ n.router.0 → ids (put n' ns) ≡ ids ns
+pub put_same : (ns : List NeighbourValue) (q : RouterId) (n n' : NeighbourValue) → AreNeighboursRising ns → neighbour_of ns q ≡ Some n → n'.router.0 ≡ n.router.0 → ids (put n' ns) ≡ ids ns
 put_same [] q n n' rises at same = absurd (none-some n at)
 put_same (m ∷ ms) q n n' rises at same = by_test (λ at. put_same ms q n n' rises.1 at same) (m.router.0 == q.0) refl at
   where

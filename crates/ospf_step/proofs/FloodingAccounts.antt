@@ -25,13 +25,13 @@ use Rattle.ospf_neighbour.specs.Laws.{Waits}
 use Rattle.ospf_neighbour.specs.Machine.{is_exchanging}
 use Rattle.ospf_neighbour.specs.Neighbour.{NeighbourValue}
 use Rattle.ospf_area.specs.Outputs.{OutputsValue}
-use Rattle.ospf_area.specs.State.{AreaValue, LinkValue, neighbour, state_of, state_in, entry_of, copy_of, copy_in, kept_number, Awaits, WaitsIn}
-use Rattle.ospf_step.specs.Headers.{IsOf, Lists}
-use Rattle.ospf_step.specs.Packets.{Received, lsas_in, headers_in}
+use Rattle.ospf_area.specs.State.{AreaValue, LinkValue, neighbour, state_of, state_in, database_entry, copy_of, copy_in, kept_number, Awaits, WaitsIn}
+use Rattle.ospf_step.specs.Headers.{IsOfInstance, Lists}
+use Rattle.ospf_step.specs.Packets.{Received, lsas_in, headers_in_packet}
 use Rattle.ospf_area.specs.Places.{map_from}
-use Rattle.ospf_step.specs.Words.{CanName, Holds, HasCopy, Asks, Brings, ListsAreHeld, IsSoundState, delayed, delayed_in, list_in}
+use Rattle.ospf_step.specs.Words.{CanName, HoldsInstance, HasCopy, Asks, Brings, ListsAreHeld, IsSoundState, delayed, delayed_in, list_in}
 use Rattle.ospf_lsdb.specs.Moments.{among}
-use Rattle.ospf_step.specs.Accounts.{Accounts, Numbers, Has, IsAcknowledged, IsDescribed, IsStored, Sends, HasWord, MayLeave, WaitsOn, WasKept, NoneEntersExchange}
+use Rattle.ospf_step.specs.Accounts.{Accounts, Numbers, HasContents, IsAcknowledged, IsDescribed, TakesItsPlace, Sends, HasWord, MayLeave, WaitsOn, WasKept, NoneEntersExchange}
 use Rattle.ospf_step.proofs.StateFacts.{Contains-nil, same_contents, neighbour-changed, link-changed, neighbour-router, list-changed, held_agree, key_of-lsa_of, copy_of-has}
 use Rattle.ospf_step.proofs.QuietAccounts.{kept_same, waits_in}
 
@@ -39,7 +39,7 @@ use Rattle.ospf_step.proofs.QuietAccounts.{kept_same, waits_in}
 pub data Reached (i : Instance) (came : Bool) (n m : NeighbourValue) : Type 0 where
   IsListed : Waits m i → Reached i came n m
   SentIt : came ≡ true → Reached i came n m
-  AskedFor : (h : LsaHeader) (j : Instance) → Contains n.requests h → IsOf h j → Covers j i → Reached i came n m
+  AskedFor : (h : LsaHeader) (j : Instance) → Contains n.requests h → IsOfInstance h j → Covers j i → Reached i came n m
 
 -- an LSA of instance i is flooded past a neighbour, which becomes m. Where the key's copy was of this very instance,
 -- Kept, others of the key need not have left its list
@@ -55,7 +55,7 @@ pub record FloodsTo (i : Instance) (Kept : Type 0) (came : Bool) (n m : Neighbou
 
 -- the entry takes the place of its key's (13.2)
 abbrev pub Stores : Entry → AreaValue → AreaValue → Type 0
-Stores e before after = (key : LsaKey) → entry_of after key ≡ (if same_key (key_in e.contents) key then Some e else entry_of before key)
+Stores e before after = (key : LsaKey) → database_entry after key ≡ (if same_key (key_in e.contents) key then Some e else database_entry before key)
 
 -- the entry is stored, and flooded by f over the links and by g over the neighbours; some acknowledgements are delayed
 pub record IsFlooded (e : Entry) (came : ℕ → NeighbourValue → Bool) (acks : ℕ → List LsaHeader) (f : ℕ → LinkValue → LinkValue) (g : ℕ → NeighbourValue → NeighbourValue) (before after : AreaValue) : Type 0 where
@@ -63,14 +63,14 @@ pub record IsFlooded (e : Entry) (came : ℕ → NeighbourValue → Bool) (acks 
   pub links : after.links ≡ map_from f 0 before.links
   pub each : (l : ℕ) (link : LinkValue) → (f l link).neighbours ≡ map (g l) link.neighbours
   pub waiting : (l : ℕ) (link : LinkValue) (h : LsaHeader) → Contains (f l link).delayed h → Contains link.delayed h ⊎ Contains (acks l) h
-  pub floods : (l : ℕ) (n : NeighbourValue) → FloodsTo (instance_at e) (Holds before (instance_at e)) (came l n) n (g l n)
+  pub floods : (l : ℕ) (n : NeighbourValue) → FloodsTo (instance_at e) (HoldsInstance before (instance_at e)) (came l n) n (g l n)
   pub same_router : after.router ≡ before.router
   pub direct : (h : LsaHeader) → Contains after.direct h → Contains before.direct h
 
 -- why instances of the key may leave lists: the LSA is newer than the copy, and takes its place; or it is the copy at
 -- MaxAge, which stays where it was
 pub data Replaces (heard : Option Received) (out : OutputsValue) (e : Entry) (g : ℕ → NeighbourValue → NeighbourValue) (copy : List ℕ) : Type 0 where
-  ByNewer : (new : List ℕ) → instance_of new ≡ instance_at e → recency (header_of new) (header_of copy) ≡ Newer → IsStored heard out copy new → Replaces heard out e g copy
+  ByNewer : (new : List ℕ) → instance_of new ≡ instance_at e → recency (header_of new) (header_of copy) ≡ Newer → TakesItsPlace heard out copy new → Replaces heard out e g copy
   ByItself : contents copy ≡ e.contents → (header_of (lsa_of e)).age ≡ max_age → ((l : ℕ) (n : NeighbourValue) → Waits n (instance_at e) → Waits (g l n) (instance_at e)) → Replaces heard out e g copy
 
 -- what is known beside the flooding itself
@@ -78,14 +78,14 @@ pub record IsAccounted (heard : Option Received) (before : AreaValue) (out : Out
   pub is_lsa : IsLsa (lsa_of e)
   pub replaces : (copy : List ℕ) → copy_of before (key_in e.contents) ≡ Some copy → Replaces heard out e g copy
   pub known : CanName before (instance_at e) ⊎ Brings out (instance_at e)
-  pub holds : Holds before (instance_at e) ⊎ Brings out (instance_at e)
-  pub has : Has heard before out e.contents
+  pub holds : HoldsInstance before (instance_at e) ⊎ Brings out (instance_at e)
+  pub has : HasContents heard before out e.contents
   pub brings_only : (i : Instance) → Brings out i → i ≡ instance_at e
   pub told : (l : ℕ) (n : NeighbourValue) → came l n ≡ true → IsAcknowledged heard l n.router (instance_at e)
-  pub acknowledged : (l : ℕ) (h : LsaHeader) (i : Instance) → Contains (acks l) h → IsOf h i → i ≡ instance_at e
+  pub acknowledged : (l : ℕ) (h : LsaHeader) (i : Instance) → Contains (acks l) h → IsOfInstance h i → i ≡ instance_at e
   pub bears : (p : Meaning) → Sends out p → p.router ≡ before.router
   pub sends : (p : Meaning) (lsa : List ℕ) → Sends out p → Contains (lsas_in p) lsa → contents lsa ≡ e.contents
-  pub names : (p : Meaning) (i : Instance) → Sends out p → Lists (headers_in p) i → i ≡ instance_at e
+  pub names : (p : Meaning) (i : Instance) → Sends out p → Lists (headers_in_packet p) i → i ≡ instance_at e
   pub numbers : Numbers heard before out after
   pub counted : (instance_at e).key.router ≡ before.router → (instance_at e).number ≤ℤ kept_number after (instance_at e).key
   pub none_ended : out.ended ≡ []
@@ -134,7 +134,7 @@ module _ (heard : Option Received) (before : AreaValue) (out : OutputsValue) (af
   has_this : HasCopy after (lsa_of e)
   has_this = copy_stored (key_of (lsa_of e)) (subst (λ key. same_key (key_in e.contents) key ≡ true) (sym (key_of-lsa_of e)) (same_key-refl (key_in e.contents)))
 
-  holds_this : Holds after this
+  holds_this : HoldsInstance after this
   unfolding this
   holds_this = (lsa_of e, has_this, refl)
 
@@ -144,18 +144,18 @@ module _ (heard : Option Received) (before : AreaValue) (out : OutputsValue) (af
     | inr other ↦ inl (sym (copy_other (key_of lsa) other) ∙ c)
   ]
 
-  holds_on : (i : Instance) → Holds before i → (i ≡ this) ⊎ ((i.key ≡ this.key) ⊎ Holds after i)
+  holds_on : (i : Instance) → HoldsInstance before i → (i ≡ this) ⊎ ((i.key ≡ this.key) ⊎ HoldsInstance after i)
   unfolding this
   holds_on i (lsa, c, is) = elim (cases_Bool (same_key (key_in e.contents) (key_of lsa))) [
     | inl same ↦ inr (inl (sym (ap (λ i. i.key) is) ∙ (sym (same_key-eq (key_in e.contents) (key_of lsa) same) ∙ sym (key_of-lsa_of e))))
     | inr other ↦ inr (inr (lsa, copy_other (key_of lsa) other ∙ c, is))
   ]
 
-  database_accounted : (lsa : List ℕ) → HasCopy after lsa → Has heard before out (contents lsa)
-  database_accounted lsa c = elim (copy_after lsa c) [ inl there ↦ Has.Held lsa there refl | inr new ↦ subst (λ k. Has heard before out k) (ap contents new) a.has ]
+  database_accounted : (lsa : List ℕ) → HasCopy after lsa → HasContents heard before out (contents lsa)
+  database_accounted lsa c = elim (copy_after lsa c) [ inl there ↦ HasContents.Held lsa there refl | inr new ↦ subst (λ k. HasContents heard before out k) (ap contents new) a.has ]
 
-  holds_accounted : (i : Instance) → Holds after i → Holds before i ⊎ Brings out i
-  holds_accounted i (lsa, c, is) = elim (copy_after lsa c) [ inl there ↦ inl (lsa, there, is) | inr new ↦ subst (λ i. Holds before i ⊎ Brings out i) (ap instance_of new ∙ is) a.holds ]
+  holds_accounted : (i : Instance) → HoldsInstance after i → HoldsInstance before i ⊎ Brings out i
+  holds_accounted i (lsa, c, is) = elim (copy_after lsa c) [ inl there ↦ inl (lsa, there, is) | inr new ↦ subst (λ i. HoldsInstance before i ⊎ Brings out i) (ap instance_of new ∙ is) a.holds ]
 
   known_as : (i : Instance) → i ≡ this → CanName before i ⊎ Brings out i
   unfolding this
@@ -198,14 +198,14 @@ module _ (heard : Option Received) (before : AreaValue) (out : OutputsValue) (af
   unfolding this
   lists_held held l q i w = go (awaits_after l q i w)
     where
-      as_this : i ≡ this → Holds after i
-      as_this same = subst (λ i. Holds after i) (sym same) holds_this
+      as_this : i ≡ this → HoldsInstance after i
+      as_this same = subst (λ i. HoldsInstance after i) (sym same) holds_this
 
-      go : (n : NeighbourValue) × (neighbour before l q ≡ Some n) × Waits (g l n) i → Holds after i
+      go : (n : NeighbourValue) × (neighbour before l q ≡ Some n) × Waits (g l n) i → HoldsInstance after i
       go (n, at, m) = elim ((fl.floods l n).old i m) [
         | inl new ↦ as_this new
         | inr old ↦ (
-            let was : Holds before i = held l q i (to_before l q n i at old.0) in
+            let was : HoldsInstance before i = held l q i (to_before l q n i at old.0) in
             elim (holds_on i was) [
               | inl same ↦ as_this same
               | inr more ↦ elim more [
@@ -215,15 +215,15 @@ module _ (heard : Option Received) (before : AreaValue) (out : OutputsValue) (af
             ])
       ]
 
-  stored_brings : (old new : List ℕ) → IsStored heard out old new → Brings out (instance_of new)
-  stored_brings old new (IsStored.Installed r h c taken) = Brings.Takes taken
-  stored_brings old new (IsStored.Issued c more) = Brings.Issues new c refl
+  stored_brings : (old new : List ℕ) → TakesItsPlace heard out old new → Brings out (instance_of new)
+  stored_brings old new (TakesItsPlace.Installed r h c taken) = Brings.Takes taken
+  stored_brings old new (TakesItsPlace.Issued c more) = Brings.Issues new c refl
 
   leaves_accounted : IsSoundState before → (l : ℕ) (q : RouterId) (i : Instance) → Awaits before l q i → WaitsOn heard before after l q i ⊎ MayLeave heard before out after l q i
   unfolding this
   leaves_accounted sound l q i w = go (waits_in (neighbour before l q) i w) (cases_Bool (same_key (key_in e.contents) i.key))
     where
-      brings_again : Brings out this → i.key ≡ this.key → Holds after i → Brings out i
+      brings_again : Brings out this → i.key ≡ this.key → HoldsInstance after i → Brings out i
       brings_again brings key holds = subst (λ i. Brings out i) (held_agree after this i holds_this holds (sym key)) brings
 
       kept_there : (copy : List ℕ) → HasCopy before copy → contents copy ≡ e.contents → (header_of (lsa_of e)).age ≡ max_age → (lsa : List ℕ) → HasCopy after lsa → WasKept heard before lsa
@@ -270,7 +270,7 @@ module _ (heard : Option Received) (before : AreaValue) (out : OutputsValue) (af
         | inr key ↦ absurd (false≢true (sym other ∙ its_key key))
       ]
 
-  listed_accounted : (l : ℕ) (q : RouterId) (i : Instance) → Brings out i → Holds after i → is_exchanging (state_of after l q) ≡ true → Awaits after l q i ⊎ HasWord heard before l q i
+  listed_accounted : (l : ℕ) (q : RouterId) (i : Instance) → Brings out i → HoldsInstance after i → is_exchanging (state_of after l q) ≡ true → Awaits after l q i ⊎ HasWord heard before l q i
   unfolding this
   listed_accounted l q i brings holds up = go (exchanging_in (neighbour before l q) (g l) (sym (ap (λ o. is_exchanging (state_in o)) (neighbour_after l q)) ∙ up))
     where
@@ -291,7 +291,7 @@ module _ (heard : Option Received) (before : AreaValue) (out : OutputsValue) (af
     same_router = fl.same_router;
     bears = a.bears;
     database = database_accounted;
-    updates = λ p lsa sends c. subst (λ k. Has heard before out k) (sym (a.sends p lsa sends c)) a.has;
+    updates = λ p lsa sends c. subst (λ k. HasContents heard before out k) (sym (a.sends p lsa sends c)) a.has;
     names = names_accounted;
     named = λ p i sends lists. known_as i (a.names p i sends lists);
     holds = holds_accounted;

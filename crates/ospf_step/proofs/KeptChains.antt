@@ -12,7 +12,7 @@ use Rattle.ospf_lsdb.specs.Database.{Entry, Held, aged, is_fresh}
 use Rattle.ospf_lsdb.proofs.MapLaws.{ages}
 use Rattle.ospf_area.specs.Outputs.{OutputsValue, no_outputs, then_outputs}
 use Rattle.ospf_area.specs.Standing.{acknowledging}
-use Rattle.ospf_area.specs.State.{AreaValue, entry_of}
+use Rattle.ospf_area.specs.State.{AreaValue, database_entry}
 use Rattle.ospf_area.specs.declared.flooding.Origin.{Origin}
 use Rattle.ospf_update.specs.Meets.{MeetsRule, replied, rule_met, taken_off}
 use Rattle.ospf_step.specs.Parts.{AgesPart, AnswersAll, ExpiryPart, LsaPart, RemovalPart, leaves_if}
@@ -22,17 +22,17 @@ use Rattle.ospf_update.proofs.PassLemmas.{passed}
 
 -- each entry below MaxAge stood there before, with the same contents
 abbrev pub Keeps : AreaValue → AreaValue → Type 0
-Keeps s t = (key : LsaKey) (e : Entry) → entry_of t key ≡ Some e → is_fresh e ≡ true → (d : Entry) × (entry_of s key ≡ Some d) × (is_fresh d ≡ true) × (d.contents ≡ e.contents)
+Keeps s t = (key : LsaKey) (e : Entry) → database_entry t key ≡ Some e → is_fresh e ≡ true → (d : Entry) × (database_entry s key ≡ Some d) × (is_fresh d ≡ true) × (d.contents ≡ e.contents)
 
 -- nothing is taken or issued
 abbrev pub BringsNone : OutputsValue → Type 0
 BringsNone out = (out.taken ≡ []) × (out.issued ≡ [])
 
-by_entries : (s t : AreaValue) → ((key : LsaKey) → entry_of t key ≡ entry_of s key) → Keeps s t
+by_entries : (s t : AreaValue) → ((key : LsaKey) → database_entry t key ≡ database_entry s key) → Keeps s t
 by_entries s t same key e at fresh = (e, sym (same key) ∙ at, fresh, refl)
 
 by_database : (s t : AreaValue) → t.database ≡ s.database → Keeps s t
-by_database s t same = by_entries s t (λ key. ap (λ db. entry_of (record s { database = db }) key) same)
+by_database s t same = by_entries s t (λ key. ap (λ db. database_entry (record s { database = db }) key) same)
 
 by_state : (s t : AreaValue) → t ≡ s → Keeps s t
 by_state s t same = by_database s t (ap (λ (x : AreaValue). x.database) same)
@@ -131,32 +131,32 @@ lsa_keeps f lsa s out t (LsaPart.PassedOver other passes outputs) none = by_data
 
 ages_keep : (s : AreaValue) (out : OutputsValue) (t : AreaValue) → AgesPart s out t → Keeps s t
 unfolding aged
-ages_keep s out t part key e at fresh = by (entry_of s key) refl (sym (ages s.database t.database part.rise.database key) ∙ at)
+ages_keep s out t part key e at fresh = by (database_entry s key) refl (sym (ages s.database t.database part.rise.database key) ∙ at)
   where
-    by : (o : Option Entry) → entry_of s key ≡ o → option_map aged o ≡ Some e → (d : Entry) × (entry_of s key ≡ Some d) × (is_fresh d ≡ true) × (d.contents ≡ e.contents)
+    by : (o : Option Entry) → database_entry s key ≡ o → option_map aged o ≡ Some e → (d : Entry) × (database_entry s key ≡ Some d) × (is_fresh d ≡ true) × (d.contents ≡ e.contents)
     by None was is = absurd (none_some e is)
     by (Some d) was is = go (is_fresh d) refl (some_same (aged d) e is)
       where
-        go : (b : Bool) → is_fresh d ≡ b → aged d ≡ e → (x : Entry) × (entry_of s key ≡ Some x) × (is_fresh x ≡ true) × (x.contents ≡ e.contents)
+        go : (b : Bool) → is_fresh d ≡ b → aged d ≡ e → (x : Entry) × (database_entry s key ≡ Some x) × (is_fresh x ≡ true) × (x.contents ≡ e.contents)
         go true young same = (d, was, young, (let same_contents : (aged d).contents ≡ d.contents = rw young refl in sym same_contents ∙ ap (λ (x : Entry). x.contents) same))
         go false old same = absurd (let is_d : aged d ≡ d = rw old refl in let no = ap is_fresh (sym is_d ∙ same) in cc)
 
 expiry_keeps : (key : LsaKey) (copy : Entry) (s : AreaValue) (out : OutputsValue) (t : AreaValue) → ExpiryPart key copy s out t → Keeps s t
 expiry_keeps key copy s out t part k e at fresh = by (same_key key k) refl
   where
-    by : (b : Bool) → same_key key k ≡ b → (d : Entry) × (entry_of s k ≡ Some d) × (is_fresh d ≡ true) × (d.contents ≡ e.contents)
+    by : (b : Bool) → same_key key k ≡ b → (d : Entry) × (database_entry s k ≡ Some d) × (is_fresh d ≡ true) × (d.contents ≡ e.contents)
     by true one = absurd (
         let here : Some (record copy { age = 3600 }) ≡ Some e = simp one at (sym (part.database k) ∙ at) in
         let no = ap is_fresh (some_same (record copy { age = 3600 }) e here) in
         cc)
-    by false two = let there : entry_of s k ≡ Some e = simp two at (sym (part.database k) ∙ at) in (e, there, fresh, refl)
+    by false two = let there : database_entry s k ≡ Some e = simp two at (sym (part.database k) ∙ at) in (e, there, fresh, refl)
 
 removal_keeps : (s : AreaValue) (out : OutputsValue) (t : AreaValue) → RemovalPart s out t → Keeps s t
-removal_keeps s out t part key e at fresh = by (leaves_if s (entry_of s key)) refl
+removal_keeps s out t part key e at fresh = by (leaves_if s (database_entry s key)) refl
   where
-    by : (b : Bool) → leaves_if s (entry_of s key) ≡ b → (d : Entry) × (entry_of s key ≡ Some d) × (is_fresh d ≡ true) × (d.contents ≡ e.contents)
+    by : (b : Bool) → leaves_if s (database_entry s key) ≡ b → (d : Entry) × (database_entry s key ≡ Some d) × (is_fresh d ≡ true) × (d.contents ≡ e.contents)
     by true goes = absurd (none_some e (simp goes at (sym (part.database key) ∙ at)))
-    by false stays = let there : entry_of s key ≡ Some e = simp stays at (sym (part.database key) ∙ at) in (e, there, fresh, refl)
+    by false stays = let there : database_entry s key ≡ Some e = simp stays at (sym (part.database key) ∙ at) in (e, there, fresh, refl)
 
 expiry_step_keeps : (s : AreaValue) (out : OutputsValue) (t : AreaValue) → ExpiryStep s out t → BringsNone out → Keeps s t
 expiry_step_keeps s out t step none = requests_keep (ExpiryPart step.key step.copy) s out t (λ o m is _. expiry_keeps step.key step.copy s o m is) step.expires none

@@ -18,10 +18,10 @@ use Rattle.ospf_area.specs.Places.{flat_from}
 use Rattle.ospf_area.specs.Sending.{own_of, packet_of, way_out}
 use Rattle.ospf_area.specs.State.{AreaValue, LinkValue, neighbour}
 use Rattle.ospf_step.specs.Accounts.{WasHeld}
-use Rattle.ospf_step.specs.Headers.{IsOf, Lists}
-use Rattle.ospf_step.specs.Links.{AreKnown, IsIn, IsKnownPacket, EntersNot, LinkQuiet}
-use Rattle.ospf_step.specs.Packets.{lsas_of, headers_of}
-use Rattle.ospf_step.specs.Words.{CanName, Holds, list_in}
+use Rattle.ospf_step.specs.Headers.{IsOfInstance, Lists}
+use Rattle.ospf_step.specs.Links.{AreKnown, IsLinkIn, IsKnownPacket, EntersNot, LinkQuiet}
+use Rattle.ospf_step.specs.Packets.{lsas_of, headers_in_body}
+use Rattle.ospf_step.specs.Words.{CanName, HoldsInstance, list_in}
 use Rattle.ospf_step.proofs.SentFacts.{flat_map-members, datagrams-packet}
 use Rattle.ospf_step.proofs.StateFacts.{HasHeader-held, Contains-nil, HasInstance-held}
 use Rattle.ospf_area.specs.Posting.{posted, posted_all}
@@ -35,7 +35,7 @@ use Rattle.ospf_adjacency.specs.Elections.{adj_ok_for, first_dds}
 use Rattle.ospf_adjacency.proofs.MemberLemmas.{cons_cases}
 use Rattle.std.proofs.lemmas.Bool.{false≢true}
 use Rattle.ospf_neighbour.specs.Neighbours.{neighbour_of}
-use Rattle.ospf_step.specs.Neighbours.{Goes, GoesOn}
+use Rattle.ospf_step.specs.Neighbours.{NeighbourGoes, NeighbourGoesOn}
 use Rattle.ospf_adjacency.specs.Laws as adjacency
 use Rattle.ospf_adjacency.specs.HelloLaws as hellos
 
@@ -43,10 +43,10 @@ use Rattle.ospf_adjacency.specs.HelloLaws as hellos
 -- what a packet says is known
 pub record SaysKnown (s : AreaValue) (b : BodyMeaning) : Type 0 where
   pub lsas : (lsa : List ℕ) → Contains (lsas_of b) lsa → WasHeld s (contents lsa)
-  pub names : (i : Instance) → Lists (headers_of b) i → CanName s i
+  pub names : (i : Instance) → Lists (headers_in_body b) i → CanName s i
 
 -- a packet without headers and LSAs
-pub says_nothing : (s : AreaValue) (b : BodyMeaning) → lsas_of b ≡ [] → headers_of b ≡ [] → SaysKnown s b
+pub says_nothing : (s : AreaValue) (b : BodyMeaning) → lsas_of b ≡ [] → headers_in_body b ≡ [] → SaysKnown s b
 says_nothing s b no_lsas no_headers = record {
   lsas = λ lsa c. absurd (Contains-nil lsa (subst (λ ls. Contains ls lsa) no_lsas c));
   names = λ i lists. absurd (Contains-nil lists.0 (subst (λ hs. Contains hs lists.0) no_headers lists.1));
@@ -69,21 +69,21 @@ pub both_known : (s : AreaValue) (a b : List SentValue) → AreKnown s a → Are
 both_known s a b of_a of_b d c = elim (Contains-append_cases a b d c) [ inl here ↦ of_a d here | inr later ↦ of_b d later ]
 
 -- those of all links
-flat_known : (s : AreaValue) (g : ℕ → LinkValue → List SentValue) → ((k : ℕ) (link : LinkValue) → IsIn s link → AreKnown s (g k link)) → (k : ℕ) (links : List LinkValue) → ((l : ℕ) (link : LinkValue) → slice_get links l ≡ Some link → IsIn s link) → AreKnown s (flat_from g k links)
+flat_known : (s : AreaValue) (g : ℕ → LinkValue → List SentValue) → ((k : ℕ) (link : LinkValue) → IsLinkIn s link → AreKnown s (g k link)) → (k : ℕ) (links : List LinkValue) → ((l : ℕ) (link : LinkValue) → slice_get links l ≡ Some link → IsLinkIn s link) → AreKnown s (flat_from g k links)
 flat_known s g one k [] within = none_known s
 flat_known s g one k (link ∷ links) within =
     both_known s (g k link) (flat_from g (suc k) links) (one k link (within 0 link refl)) (flat_known s g one (suc k) links (λ l link at. within (suc l) link at))
 
-pub links_known : (s : AreaValue) (g : ℕ → LinkValue → List SentValue) → ((k : ℕ) (link : LinkValue) → IsIn s link → AreKnown s (g k link)) → AreKnown s (flat_from g 0 s.links)
+pub links_known : (s : AreaValue) (g : ℕ → LinkValue → List SentValue) → ((k : ℕ) (link : LinkValue) → IsLinkIn s link → AreKnown s (g k link)) → AreKnown s (flat_from g 0 s.links)
 links_known s g one = flat_known s g one 0 s.links (λ l link at. (l, at))
 
 -- ---- what is said of a neighbour
 
 -- headers that stood on its lists, or are held
 abbrev IsOnLists : AreaValue → NeighbourValue → LsaHeader → Type 0
-IsOnLists s n h = Contains n.last_dd h ⊎ (Contains n.summary h ⊎ ((i : Instance) → IsOf h i → Holds s i))
+IsOnLists s n h = Contains n.last_dd h ⊎ (Contains n.summary h ⊎ ((i : Instance) → IsOfInstance h i → HoldsInstance s i))
 
-lists_named : (s : AreaValue) (l : ℕ) (q : RouterId) (n : NeighbourValue) → neighbour s l q ≡ Some n → (h : LsaHeader) (i : Instance) → IsOf h i → IsOnLists s n h → CanName s i
+lists_named : (s : AreaValue) (l : ℕ) (q : RouterId) (n : NeighbourValue) → neighbour s l q ≡ Some n → (h : LsaHeader) (i : Instance) → IsOfInstance h i → IsOnLists s n h → CanName s i
 lists_named s l q n at h i is (inl old) = CanName.InLastDd l q (h, subst (λ o. Contains (list_in (λ (n : NeighbourValue). n.last_dd) o) h) (sym at) old, is)
 lists_named s l q n at h i is (inr (inl told)) = CanName.OnSummaryList l q (h, subst (λ o. Contains (list_in (λ (n : NeighbourValue). n.summary) o) h) (sym at) told, is)
 lists_named s l q n at h i is (inr (inr held)) = CanName.InDatabase (held i is)
@@ -106,7 +106,7 @@ says_known s l q n at is (description fields headers) says = record {
 
 -- Packets without headers and LSAs: Hellos, and the first DD packets.
 abbrev pub IsBare : BodyMeaning → Type 0
-IsBare b = (lsas_of b ≡ []) × (headers_of b ≡ [])
+IsBare b = (lsas_of b ≡ []) × (headers_in_body b ≡ [])
 
 abbrev pub AreBare : List Parcel → Type 0
 AreBare ps = (p : Parcel) → Contains ps p → IsBare p.body
@@ -145,7 +145,7 @@ first_bare i mtu tick next (n ∷ ns) p c =
 
 -- Neighbours that go on by the words of the layers below do so by those of the area.
 -- what keeps its lists, or has lost them, goes on
-pub keeps_goes : (s : AreaValue) (told : List LsaHeader) (n m : NeighbourValue) → KeepsLists n m → GoesOn s told n m
+pub keeps_goes : (s : AreaValue) (told : List LsaHeader) (n m : NeighbourValue) → KeepsLists n m → NeighbourGoesOn s told n m
 keeps_goes s told n m (inl k) = record {
   requests = λ h c. inl (subst (λ hs. Contains hs h) k.requests c);
   retransmission = λ i w. inl (subst (λ ls. Contains (map (λ l. l.instance) ls) i) k.retransmission w);
@@ -162,7 +162,7 @@ keeps_goes s told n m (inr (gone, low)) = record {
 }
 
 -- what goes on by the words of the layers below does so by those of the area
-pub goes_on : (s : AreaValue) (told : List LsaHeader) (n m : NeighbourValue) → IsDatabase s.database → adjacency.GoesOn s.database told n m → GoesOn s told n m
+pub goes_on : (s : AreaValue) (told : List LsaHeader) (n m : NeighbourValue) → IsDatabase s.database → adjacency.GoesOn s.database told n m → NeighbourGoesOn s told n m
 goes_on s told n m is g = record {
   requests = g.requests;
   retransmission = λ i w. elim (g.retransmission i w) [ inl old ↦ inl old | inr has ↦ inr (HasInstance-held s i is has) ];
@@ -171,25 +171,25 @@ goes_on s told n m is g = record {
   stays = g.stays;
 }
 
-goes_by : (s : AreaValue) (told : List LsaHeader) (o o' : Option NeighbourValue) → hellos.Goes o o' → Goes s told o o'
+goes_by : (s : AreaValue) (told : List LsaHeader) (o o' : Option NeighbourValue) → hellos.KeepsOrLosesLists o o' → NeighbourGoes s told o o'
 goes_by s told None None g = tt
 goes_by s told None (Some m) g = record { requests = g.0.requests; retransmission = g.0.retransmission; summary = g.0.summary; last_dd = g.0.last_dd }
 goes_by s told (Some n) None g = tt
 goes_by s told (Some n) (Some m) g = keeps_goes s told n m g.0
 
-enters_by : (o o' : Option NeighbourValue) → hellos.Goes o o' → EntersNot o o'
+enters_by : (o o' : Option NeighbourValue) → hellos.KeepsOrLosesLists o o' → EntersNot o o'
 enters_by None None g up = up
 enters_by None (Some m) g up = absurd (false≢true (sym g.1 ∙ up))
 enters_by (Some n) None g up = absurd (false≢true up)
 enters_by (Some n) (Some m) g up = g.1 up
 
 -- the neighbours of a link go by Hellos, timers and the like
-pub link_quiet : (s : AreaValue) (b a : LinkValue) → ((q : RouterId) → hellos.Goes (neighbour_of b.neighbours q) (neighbour_of a.neighbours q)) → ((h : LsaHeader) → Contains a.delayed h → Contains b.delayed h) → LinkQuiet s b a
+pub link_quiet : (s : AreaValue) (b a : LinkValue) → ((q : RouterId) → hellos.KeepsOrLosesLists (neighbour_of b.neighbours q) (neighbour_of a.neighbours q)) → ((h : LsaHeader) → Contains a.delayed h → Contains b.delayed h) → LinkQuiet s b a
 link_quiet s b a goes waiting = record {
   link = record { goes = λ q. goes_by s [] (neighbour_of b.neighbours q) (neighbour_of a.neighbours q) (goes q); waiting = waiting };
   enters = λ q. enters_by (neighbour_of b.neighbours q) (neighbour_of a.neighbours q) (goes q);
 }
 
-pub same_goes : (o : Option NeighbourValue) → hellos.Goes o o
+pub same_goes : (o : Option NeighbourValue) → hellos.KeepsOrLosesLists o o
 same_goes None = tt
 same_goes (Some n) = (inl (record { summary = refl; last_dd = refl; requests = refl; retransmission = refl }), λ up. up)

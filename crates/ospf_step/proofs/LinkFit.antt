@@ -3,7 +3,7 @@ use Rattle.std.proofs.Common.{◌≡◌, ◌≢◌, ◌≤◌, ◌-◌, ℕ, suc
 use Rattle.std.specs.List.{AllByRecursion}
 use Rattle.ospf_base.specs.declared.ids.RouterId.{RouterId}
 use Rattle.ospf_base.specs.Masks.{IsMask}
-use Rattle.ospf_iface.specs.Machine.{is_changed, is_down, started, stopped}
+use Rattle.ospf_iface.specs.Machine.{is_changed, is_down, started, iface_stopped}
 use Rattle.ospf_iface.specs.declared.machine.Iface.{Iface}
 use Rattle.ospf_iface.specs.declared.settings.IfaceSettings.{IfaceSettings}
 use Rattle.ospf_iface.specs.declared.machine.IfaceState.{IfaceState}
@@ -20,7 +20,7 @@ use Rattle.ospf_adjacency.specs.Links.{elects_by_timers, hello_ticked, inactivit
 use Rattle.ospf_links.specs.Elections.{AreReady, ElectsIf, ElectsOnLink}
 use Rattle.ospf_links.specs.Parts.{hello_sent, link_down, link_timed, link_up}
 use Rattle.ospf_area.specs.Posting.{local_by}
-use Rattle.ospf_links.specs.Repeats.{link_repeated, repeated}
+use Rattle.ospf_links.specs.Repeats.{link_repeated, neighbour_repeated}
 use Rattle.ospf_adjacency.specs.ResendLaws.{RepeatsAreQuiet}
 use Rattle.ospf_update.specs.Acks.{undelayed_link}
 use Rattle.ospf_originate.specs.Sound.{IsSetUp}
@@ -71,7 +71,7 @@ up_stays r a fit set_up = by_down (is_down a.iface.state) refl
 pub down_stays : (r : RouterId) (a : LinkValue) → IsFitLink r a → IsSetUp a → Stays r a (link_down a)
 down_stays r a fit set_up = by_down (is_down a.iface.state) refl
   where
-    by_down : (b : Bool) → is_down a.iface.state ≡ b → Stays r a (if b then a else record a { iface = (if b then a.iface else stopped a.iface); neighbours = []; delayed = []; elects = false })
+    by_down : (b : Bool) → is_down a.iface.state ≡ b → Stays r a (if b then a else record a { iface = (if b then a.iface else iface_stopped a.iface); neighbours = []; delayed = []; elects = false })
     by_down true is = record { settings = refl; fit = fit; set_up = set_up }
     by_down false is = record {
       settings = refl;
@@ -142,7 +142,7 @@ undelayed_set_up a up = record { mask = up.mask; few = up.few; two_ends = up.two
 
 module _ (quiet : RepeatsAreQuiet) (own : Own) (db : List Held) where
   repeated_ids : (a : LinkValue) → ids (link_repeated own db a).neighbours ≡ ids a.neighbours
-  repeated_ids a = ids_map (repeated own a.iface a.settings db)
+  repeated_ids a = ids_map (neighbour_repeated own a.iface a.settings db)
       (λ n. (quiet a.iface (local_by own a.settings) a.settings.retransmit a.settings.transmit_delay db (record { neighbour = n; next = 0; sent = [] })).same.router) a.neighbours
 
   pub repeats_fit : (r : RouterId) (a : LinkValue) → IsFitLink r a → IsFitLink r (link_repeated own db a)

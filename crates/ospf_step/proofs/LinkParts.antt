@@ -7,17 +7,17 @@ use Rattle.ospf_base.specs.declared.ids.RouterId.{RouterId}
 use Rattle.ospf_lsa.specs.declared.header.LsaHeader.{LsaHeader}
 use Rattle.ospf_neighbour.specs.Neighbour.{NeighbourValue}
 use Rattle.ospf_neighbour.specs.Neighbours.{neighbour_of}
-use Rattle.ospf_area.specs.Outputs.{AreRead, OutputsValue, SentValue, sends}
+use Rattle.ospf_area.specs.Outputs.{AreReadAsSent, OutputsValue, SentValue, sends}
 use Rattle.ospf_area.specs.State.{AreaValue, LinkValue, neighbours_in}
 use Rattle.ospf_step.specs.Packets.{Received}
 use Rattle.ospf_step.specs.Words.{delayed_in}
-use Rattle.ospf_step.specs.Neighbours.{Goes, NeighboursGo, Quiet, told_by}
+use Rattle.ospf_step.specs.Neighbours.{NeighbourGoes, NeighboursGo, Quiet, told_by}
 use Rattle.ospf_step.proofs.MeetAccounts.{sends_known}
 use Rattle.ospf_step.specs.Links.{AllEach, AllGo, AreKnown, ChangesLinks, Each, EntersNot, LinkGoes, LinkQuiet, OnOneLink}
 
 -- ---- one neighbour
 
-pub goes_same : (s : AreaValue) (told : List LsaHeader) (o : Option NeighbourValue) → Goes s told o o
+pub goes_same : (s : AreaValue) (told : List LsaHeader) (o : Option NeighbourValue) → NeighbourGoes s told o o
 goes_same s told None = tt
 goes_same s told (Some n) = record {
   requests = λ h c. inl c;
@@ -69,7 +69,7 @@ map_each P f (y ∷ ys) p (suc l) = map_each P f ys (λ k link at. p (suc k) lin
 abbrev with_links : AreaValue → List LinkValue → ℕ → List LsaKey → AreaValue
 with_links s links next keys = record s { links = links; next_dd = next; sent = keys }
 
-goes_at : (s : AreaValue) (told : RouterId → List LsaHeader) (o o' : Option LinkValue) (q : RouterId) → Each (LinkGoes s told) o o' → Goes s (told q) (neighbour_of (neighbours_in o) q) (neighbour_of (neighbours_in o') q)
+goes_at : (s : AreaValue) (told : RouterId → List LsaHeader) (o o' : Option LinkValue) (q : RouterId) → Each (LinkGoes s told) o o' → NeighbourGoes s (told q) (neighbour_of (neighbours_in o) q) (neighbour_of (neighbours_in o') q)
 goes_at s told None None q e = tt
 goes_at s told None (Some a) q e = absurd e
 goes_at s told (Some b) None q e = absurd e
@@ -87,7 +87,7 @@ waits_at s told None (Some a) h e c = absurd e
 waits_at s told (Some b) None h e c = absurd e
 waits_at s told (Some b) (Some a) h e c = e.waiting h c
 
-links_go : (heard : Option Received) (s : AreaValue) (links : List LinkValue) (next : ℕ) (keys : List LsaKey) (ds : List SentValue) → AllGo s heard s.links links → AreRead ds → AreKnown s ds → NeighboursGo heard s (sends ds) (with_links s links next keys)
+links_go : (heard : Option Received) (s : AreaValue) (links : List LinkValue) (next : ℕ) (keys : List LsaKey) (ds : List SentValue) → AllGo s heard s.links links → AreReadAsSent ds → AreKnown s ds → NeighboursGo heard s (sends ds) (with_links s links next keys)
 links_go heard s links next keys ds each read known =
     let sent = sends_known s ds read known in
     record {
@@ -106,12 +106,12 @@ links_go heard s links next keys ds each read known =
     }
 
 -- links that go, and datagrams that are known, are a part
-pub part_goes : (heard : Option Received) (s after : AreaValue) (out : OutputsValue) (ds : List SentValue) → ChangesLinks s after → out ≡ sends ds → AreRead out.sent → AllGo s heard s.links after.links → AreKnown s ds → NeighboursGo heard s out after
+pub part_goes : (heard : Option Received) (s after : AreaValue) (out : OutputsValue) (ds : List SentValue) → ChangesLinks s after → out ≡ sends ds → AreReadAsSent out.sent → AllGo s heard s.links after.links → AreKnown s ds → NeighboursGo heard s out after
 part_goes heard s after out ds rest outputs read each known =
     subst (λ a. NeighboursGo heard s out a) (sym rest) (subst (λ o. NeighboursGo heard s o (with_links s after.links after.next_dd after.sent)) (sym outputs)
-    (links_go heard s after.links after.next_dd after.sent ds each (subst (λ o. AreRead o.sent) outputs read) known))
+    (links_go heard s after.links after.next_dd after.sent ds each (subst (λ o. AreReadAsSent o.sent) outputs read) known))
 
-pub part_quiet : (s after : AreaValue) (out : OutputsValue) (ds : List SentValue) → ChangesLinks s after → out ≡ sends ds → AreRead out.sent → AllEach (LinkQuiet s) s.links after.links → AreKnown s ds → Quiet s out after
+pub part_quiet : (s after : AreaValue) (out : OutputsValue) (ds : List SentValue) → ChangesLinks s after → out ≡ sends ds → AreReadAsSent out.sent → AllEach (LinkQuiet s) s.links after.links → AreKnown s ds → Quiet s out after
 part_quiet s after out ds rest outputs read each known = record {
   neighbours = part_goes None s after out ds rest outputs read (λ l. each_more (LinkQuiet s) (LinkGoes s (λ q. [])) (λ b a e. e.link) (slice_get s.links l) (slice_get after.links l) (each l)) known;
   none_enters = λ l q. enters_at s (slice_get s.links l) (slice_get after.links l) q (each l);

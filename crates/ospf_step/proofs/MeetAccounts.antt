@@ -28,22 +28,22 @@ use Rattle.ospf_update.specs.Meets as meets
 use Rattle.ospf_update.specs.Meets.{Stores, store_updates, rule_met, MeetsRule, MeetsLsa, Admits, AnswersExpired, RestartsExchange, AcknowledgesDuplicate, Replies, reply_of, reply_to, reply_out, lsa_out, lsa_out_on, heard_by, first_dd_on, restarted, replied, named_as, named_by, header_met, taken_off}
 use Rattle.ospf_area.specs.Sending.{own_of, and_sends, packet_of, sent_lsa}
 use Rattle.ospf_area.specs.Numbers.{is_self_originated}
-use Rattle.ospf_area.specs.Outputs.{OutputsValue, SentValue, no_outputs, AreRead}
+use Rattle.ospf_area.specs.Outputs.{OutputsValue, SentValue, no_outputs, AreReadAsSent}
 use Rattle.ospf_area.specs.Places.{map_from}
 use Rattle.ospf_area.specs.Flooding.{flooded_back, released}
 use Rattle.ospf_flood.specs.Links.{case_of_newer, case_of_same}
 use Rattle.ospf_flood.specs.declared.acknowledgement.AcknowledgementCase.TheVariants.{Expired}
-use Rattle.ospf_area.specs.Standing.{acknowledging, answer_at, is_awaited_of, is_requested_of, is_taken_in, origin_of}
-use Rattle.ospf_area.specs.State.{AreaValue, LinkValue, entry_of, copy_in, copy_of, kept_in, numbering_of, some_link_loading, was_sent}
-use Rattle.ospf_area.specs.declared.changes.Change.{Change}
-use Rattle.ospf_area.specs.declared.changes.Change.TheVariants as change
+use Rattle.ospf_area.specs.Standing.{acknowledging, answer_at, is_awaited_of, is_requested_of, is_taken_in, origin_neighbour}
+use Rattle.ospf_area.specs.State.{AreaValue, LinkValue, database_entry, copy_in, copy_of, kept_in, numbering_of, some_link_loading, was_sent}
+use Rattle.ospf_area.specs.declared.changes.AdjacencyChange.{AdjacencyChange}
+use Rattle.ospf_area.specs.declared.changes.AdjacencyChange.TheVariants as change
 use Rattle.ospf_area.specs.declared.flooding.Origin.{Origin}
 use Rattle.ospf_step.specs.Links.{AreKnown, IsKnownPacket}
-use Rattle.ospf_step.specs.Headers.{IsOf}
+use Rattle.ospf_step.specs.Headers.{IsOfInstance}
 use Rattle.ospf_step.specs.Packets.{Received, lsas_in, lsas_of, acknowledging_headers_in, acknowledging_headers_of}
 use Rattle.ospf_step.specs.Parts.{LsaPart, HeaderPart}
-use Rattle.ospf_step.specs.Words.{CanName, Holds, HasCopy, Brings, IsSoundState}
-use Rattle.ospf_step.specs.Accounts.{Has, IsAcknowledged, IsStored, Sends, Numbers}
+use Rattle.ospf_step.specs.Words.{CanName, HoldsInstance, HasCopy, Brings, IsSoundState}
+use Rattle.ospf_step.specs.Accounts.{HasContents, IsAcknowledged, TakesItsPlace, Sends, Numbers}
 use Rattle.ospf_step.proofs.Accountable.{IsAccountable, Unchanged-accountable, both-accountable, then_nothing, sent_packet}
 use Rattle.ospf_step.proofs.StateFacts.{Contains-nil, Contains-map, same_contents, header_is_of, header_names, recency-same, copy_of-has, entry_of-key, key_of-lsa_of}
 use Rattle.ospf_update.proofs.PassLemmas.{Passes, passed}
@@ -60,25 +60,25 @@ one_of x y (suc k, within, is) = absurd (omega arith)
 -- ---- what a rule says of the copy
 
 abbrev Says : AreaValue → List ℕ → LsaRule → Type 0
-Says s lsa rule.AcknowledgesExpired = entry_of s (key_of lsa) ≡ None
+Says s lsa rule.AcknowledgesExpired = database_entry s (key_of lsa) ≡ None
 Says s lsa rule.TooSoon = ⊤
-Says s lsa rule.Installs = (copy : Entry) → entry_of s (key_of lsa) ≡ Some copy → recency (header_of lsa) (header_at copy) ≡ Newer
+Says s lsa rule.Installs = (copy : Entry) → database_entry s (key_of lsa) ≡ Some copy → recency (header_of lsa) (header_at copy) ≡ Newer
 Says s lsa rule.BadRequest = ⊤
-Says s lsa rule.Duplicate = (copy : Entry) × (entry_of s (key_of lsa) ≡ Some copy) × (recency (header_of lsa) (header_at copy) ≡ Same)
+Says s lsa rule.Duplicate = (copy : Entry) × (database_entry s (key_of lsa) ≡ Some copy) × (recency (header_of lsa) (header_at copy) ≡ Same)
 Says s lsa rule.Stale = ⊤
 
-rule_says : (s : AreaValue) (lsa : List ℕ) (loading requested : Bool) (tick : ℕ) → Says s lsa (lsa_rule (header_of lsa) (entry_of s (key_of lsa)) loading requested tick)
-rule_says s lsa loading requested tick = by (entry_of s (key_of lsa)) refl
+rule_says : (s : AreaValue) (lsa : List ℕ) (loading requested : Bool) (tick : ℕ) → Says s lsa (lsa_rule (header_of lsa) (database_entry s (key_of lsa)) loading requested tick)
+rule_says s lsa loading requested tick = by (database_entry s (key_of lsa)) refl
   where
-    new : (b : Bool) → entry_of s (key_of lsa) ≡ None → Says s lsa (cond b rule.AcknowledgesExpired rule.Installs)
+    new : (b : Bool) → database_entry s (key_of lsa) ≡ None → Says s lsa (cond b rule.AcknowledgesExpired rule.Installs)
     new true none = none
     new false none = λ copy has. absurd (none-some copy (sym none ∙ has))
 
-    newer : (b : Bool) → ((c : Entry) → entry_of s (key_of lsa) ≡ Some c → recency (header_of lsa) (header_at c) ≡ Newer) → Says s lsa (cond b rule.TooSoon rule.Installs)
+    newer : (b : Bool) → ((c : Entry) → database_entry s (key_of lsa) ≡ Some c → recency (header_of lsa) (header_at c) ≡ Newer) → Says s lsa (cond b rule.TooSoon rule.Installs)
     newer true says = tt
     newer false says = says
 
-    same : (b : Bool) → (c : Entry) × (entry_of s (key_of lsa) ≡ Some c) × (recency (header_of lsa) (header_at c) ≡ Same) → Says s lsa (cond b rule.BadRequest rule.Duplicate)
+    same : (b : Bool) → (c : Entry) × (database_entry s (key_of lsa) ≡ Some c) × (recency (header_of lsa) (header_at c) ≡ Same) → Says s lsa (cond b rule.BadRequest rule.Duplicate)
     same true says = tt
     same false says = says
 
@@ -86,12 +86,12 @@ rule_says s lsa loading requested tick = by (entry_of s (key_of lsa)) refl
     older true = tt
     older false = tt
 
-    over : (copy : Entry) → entry_of s (key_of lsa) ≡ Some copy → (r : Recency) → recency (header_of lsa) (header_at copy) ≡ r → Says s lsa (rule_over r copy requested tick)
+    over : (copy : Entry) → database_entry s (key_of lsa) ≡ Some copy → (r : Recency) → recency (header_of lsa) (header_at copy) ≡ r → Says s lsa (rule_over r copy requested tick)
     over copy has Newer is = newer (came_just_now copy tick) (λ c has'. subst (λ c. recency (header_of lsa) (header_at c) ≡ Newer) (same_Some copy c (sym has ∙ has')) is)
     over copy has Same is = same requested (copy, has, is)
     over copy has Older is = older requested
 
-    by : (o : Option Entry) → entry_of s (key_of lsa) ≡ o → Says s lsa (lsa_rule (header_of lsa) o loading requested tick)
+    by : (o : Option Entry) → database_entry s (key_of lsa) ≡ o → Says s lsa (lsa_rule (header_of lsa) o loading requested tick)
     by None has = new (((header_of lsa).age == max_age) && not loading) has
     by (Some copy) has = over copy has (recency (header_of lsa) (header_at copy)) refl
 
@@ -149,10 +149,10 @@ ack-accountable heard out a f h key noted s sends known = by a noted
 
 -- ---- changes of the sender
 
-abbrev changed_area : Origin → Change → AreaValue → AreaValue
+abbrev changed_area : Origin → AdjacencyChange → AreaValue → AreaValue
 changed_area f c s = record s { links = map_from (changed_on f c s.tick) 0 s.links }
 
-change_by : (heard : Option Received) (out : OutputsValue) (f : Origin) (c : Change) (s after : AreaValue) → after.links ≡ map_from (changed_on f c s.tick) 0 s.links → after.router ≡ s.router → after.database ≡ s.database → after.numbering ≡ s.numbering → after.floor ≡ s.floor → after.direct ≡ s.direct → ((n : NeighbourValue) → n.router ≡ f.router → IsTold heard f.link n c) → ShrinkBy heard s out (changed_on f c s.tick) (change_of f c s.tick) after
+change_by : (heard : Option Received) (out : OutputsValue) (f : Origin) (c : AdjacencyChange) (s after : AreaValue) → after.links ≡ map_from (changed_on f c s.tick) 0 s.links → after.router ≡ s.router → after.database ≡ s.database → after.numbering ≡ s.numbering → after.floor ≡ s.floor → after.direct ≡ s.direct → ((n : NeighbourValue) → n.router ≡ f.router → IsTold heard f.link n c) → ShrinkBy heard s out (changed_on f c s.tick) (change_of f c s.tick) after
 change_by heard out f c s after links router database numbering floor direct told =
     shrink_by heard out s after (changed_on f c s.tick) (change_of f c s.tick) links router database numbering floor
     (λ h x. inl (subst (λ hs. Contains hs h) direct x))
@@ -162,7 +162,7 @@ change_by heard out f c s after links router database numbering floor direct tol
 
 -- ---- what is sent
 
-pub sends_known : (s : AreaValue) (ds : List SentValue) → AreRead (and_sends no_outputs ds).sent → AreKnown s ds → OnlySendsKnown s (and_sends no_outputs ds)
+pub sends_known : (s : AreaValue) (ds : List SentValue) → AreReadAsSent (and_sends no_outputs ds).sent → AreKnown s ds → OnlySendsKnown s (and_sends no_outputs ds)
 sends_known s ds read known = record {
   unheld = λ i b. absurd (brings_none (and_sends no_outputs ds) i refl refl b);
   issued = refl;
@@ -177,16 +177,16 @@ sends_known s ds read known = record {
 
 -- ---- the copy
 
-has_entry : (s : AreaValue) (key : LsaKey) (copy : Entry) → entry_of s key ≡ Some copy → HasCopy s (lsa_of copy)
+has_entry : (s : AreaValue) (key : LsaKey) (copy : Entry) → database_entry s key ≡ Some copy → HasCopy s (lsa_of copy)
 has_entry s key copy at = copy_of-has s key (lsa_of copy) (ap copy_in at)
 
-entry_instance : (s : AreaValue) (key : LsaKey) (copy : Entry) → entry_of s key ≡ Some copy → (instance_at copy).key ≡ key
+entry_instance : (s : AreaValue) (key : LsaKey) (copy : Entry) → database_entry s key ≡ Some copy → (instance_at copy).key ≡ key
 entry_instance s key copy at = key_of-lsa_of copy ∙ entry_of-key s key copy at
 
-copy_is_of : (s : AreaValue) (key : LsaKey) (copy : Entry) → IsSoundState s → entry_of s key ≡ Some copy → IsOf (header_at copy) (instance_at copy)
+copy_is_of : (s : AreaValue) (key : LsaKey) (copy : Entry) → IsSoundState s → database_entry s key ≡ Some copy → IsOfInstance (header_at copy) (instance_at copy)
 copy_is_of s key copy sound at = header_is_of (lsa_of copy) (sound.lsas (lsa_of copy) (has_entry s key copy at))
 
-holds_copy : (s : AreaValue) (key : LsaKey) (copy : Entry) → entry_of s key ≡ Some copy → Holds s (instance_at copy)
+holds_copy : (s : AreaValue) (key : LsaKey) (copy : Entry) → database_entry s key ≡ Some copy → HoldsInstance s (instance_at copy)
 holds_copy s key copy at = (lsa_of copy, has_entry s key copy at, refl)
 
 -- an LSA heard names its instance
@@ -208,7 +208,7 @@ as_state heard s t u a same x = subst (λ v. IsAccountable heard s a v) (sym sam
 
 -- ---- the rules of an Update
 
-module _ (heard : Option Received) (p : Meaning) (f : Origin) (lsa : List ℕ) (before : AreaValue) (out : OutputsValue) (after : AreaValue) (is_lsa : IsLsa lsa) (sound : IsSoundState before) (hears : heard ≡ Some (record { link = f.link; packet = p })) (from : p.router ≡ f.router) (in_p : Contains (lsas_in p) lsa) (read : AreRead out.sent) where
+module _ (heard : Option Received) (p : Meaning) (f : Origin) (lsa : List ℕ) (before : AreaValue) (out : OutputsValue) (after : AreaValue) (is_lsa : IsLsa lsa) (sound : IsSoundState before) (hears : heard ≡ Some (record { link = f.link; packet = p })) (from : p.router ≡ f.router) (in_p : Contains (lsas_in p) lsa) (read : AreReadAsSent out.sent) where
   received : Received
   received = record { link = f.link; packet = p }
 
@@ -226,7 +226,7 @@ module _ (heard : Option Received) (p : Meaning) (f : Origin) (lsa : List ℕ) (
   nothing u = Unchanged-accountable heard before out after (record { state = u.state; outputs = u.outputs })
 
   -- it is stored, and flooded
-  admitted : ((copy : Entry) → entry_of before (key_of lsa) ≡ Some copy → recency (header_of lsa) (header_at copy) ≡ Newer) → Admits f lsa before no_outputs out after → IsAccountable heard before out after
+  admitted : ((copy : Entry) → database_entry before (key_of lsa) ≡ Some copy → recency (header_of lsa) (header_at copy) ≡ Newer) → Admits f lsa before no_outputs out after → IsAccountable heard before out after
   admitted newer a =
       as_state heard before after _ out a.state
       (subst (λ o. IsAccountable heard before o (heard_by (key_of lsa) (acknowledging how f (header_of lsa) a.mid))) (then_nothing out) (both-accountable heard before a.mid _ out no_outputs stored acknowledged))
@@ -235,9 +235,9 @@ module _ (heard : Option Received) (p : Meaning) (f : Origin) (lsa : List ℕ) (
       how = answer_at (case_of_newer (flooded_back (key_of lsa) (header_of lsa) (Some f) (released (key_of lsa) before.links))) f a.mid.links
 
       newer_copy : (copy : List ℕ) → copy_of before (key_of lsa) ≡ Some copy → recency (header_of lsa) (header_of copy) ≡ Newer
-      newer_copy copy is = go (entry_of before (key_of lsa)) refl is
+      newer_copy copy is = go (database_entry before (key_of lsa)) refl is
         where
-          go : (o : Option Entry) → entry_of before (key_of lsa) ≡ o → copy_in o ≡ Some copy → recency (header_of lsa) (header_of copy) ≡ Newer
+          go : (o : Option Entry) → database_entry before (key_of lsa) ≡ o → copy_in o ≡ Some copy → recency (header_of lsa) (header_of copy) ≡ Newer
           go None at is = absurd (none-some copy is)
           go (Some e) at is = subst (λ l. recency (header_of lsa) (header_of l) ≡ Newer) (same_Some (lsa_of e) copy is) (newer e at)
 
@@ -258,8 +258,8 @@ module _ (heard : Option Received) (p : Meaning) (f : Origin) (lsa : List ℕ) (
           (λ key ends. absurd (none_ended out key ends_none ends))
 
       stored : IsAccountable heard before out a.mid
-      stored = Stores-accountable heard lsa (Some f) true before out a.mid (Stores-by lsa (Some f) before a.mid a.stores) is_lsa newer_copy (λ copy is. IsStored.Installed (record { link = f.link; packet = p }) hears in_p taken) (Brings.Takes taken) only
-          (Has.Heard (record { link = f.link; packet = p }) lsa hears in_p refl)
+      stored = Stores-accountable heard lsa (Some f) true before out a.mid (Stores-by lsa (Some f) before a.mid a.stores) is_lsa newer_copy (λ copy is. TakesItsPlace.Installed (record { link = f.link; packet = p }) hears in_p taken) (Brings.Takes taken) only
+          (HasContents.Heard (record { link = f.link; packet = p }) lsa hears in_p refl)
           (λ g same. subst (λ g. IsAcknowledged heard g.link g.router (instance_of lsa)) (same_Some f g same) told)
           (ap (λ o. o.sent) a.outputs) read numbers (Stores-known lsa (Some f) before a.mid a.stores) ends_none
 
@@ -268,7 +268,7 @@ module _ (heard : Option Received) (p : Meaning) (f : Origin) (lsa : List ℕ) (
           (named a.mid no_outputs (inl (CanName.InDatabase (Stores-holds lsa (Some f) true before a.mid (Stores-by lsa (Some f) before a.mid a.stores)))))
 
   -- it is at MaxAge, and not known
-  answered : entry_of before (key_of lsa) ≡ None → AnswersExpired f lsa before no_outputs out after → IsAccountable heard before out after
+  answered : database_entry before (key_of lsa) ≡ None → AnswersExpired f lsa before no_outputs out after → IsAccountable heard before out after
   answered none a =
       as_state heard before after _ out a.state
       (ack-accountable heard out (answer_at Expired f before.links) f (header_of lsa) (key_of lsa) false before sends (named before out (inr brings)))
@@ -276,7 +276,7 @@ module _ (heard : Option Received) (p : Meaning) (f : Origin) (lsa : List ℕ) (
       brings : Brings out (instance_of lsa)
       brings = Brings.Takes (subst (λ o. Contains o.taken (instance_of lsa)) (sym a.outputs) (0, omega arith, refl))
 
-      not_held : (i : Instance) → Brings out i → Holds before i → ⊥
+      not_held : (i : Instance) → Brings out i → HoldsInstance before i → ⊥
       not_held i (Brings.Takes c) (copy, has, is) =
           let this : i ≡ instance_of lsa = one_of (instance_of lsa) i (subst (λ o. Contains o.taken i) a.outputs c) in
           none-some copy (sym (ap copy_in none) ∙ (ap (copy_of before) (sym (ap (λ i. i.key) (is ∙ this))) ∙ has))
@@ -299,7 +299,7 @@ module _ (heard : Option Received) (p : Meaning) (f : Origin) (lsa : List ℕ) (
       (as_state heard before after (restarted f before) _ r.state
       (Shrinks-accountable heard before (and_sends no_outputs (meets.first_dd f before)) (restarted f before) (changed_on f (change.Restarts before.next_dd) before.tick) (change_of f (change.Restarts before.next_dd) before.tick)
       (change_by heard (and_sends no_outputs (meets.first_dd f before)) f (change.Restarts before.next_dd) before (restarted f before) refl refl refl refl refl refl (λ n same. tt))
-      (sends_known before (meets.first_dd f before) (subst (λ o. AreRead o.sent) r.outputs read) first)))
+      (sends_known before (meets.first_dd f before) (subst (λ o. AreReadAsSent o.sent) r.outputs read) first)))
     where
       by : (o : Option LinkValue) (d : SentValue) → Contains (first_dd_on (own_of before) f before.next_dd o) d → IsKnownPacket before d.packet
       by None d c = absurd (Contains-nil d c)
@@ -313,7 +313,7 @@ module _ (heard : Option Received) (p : Meaning) (f : Origin) (lsa : List ℕ) (
       first d c = by (slice_get before.links f.link) d c
 
   -- the same instance as the copy
-  duplicate : (copy : Entry) → entry_of before (key_of lsa) ≡ Some copy → recency (header_of lsa) (header_at copy) ≡ Same → AcknowledgesDuplicate f lsa before no_outputs out after → IsAccountable heard before out after
+  duplicate : (copy : Entry) → database_entry before (key_of lsa) ≡ Some copy → recency (header_of lsa) (header_at copy) ≡ Same → AcknowledgesDuplicate f lsa before no_outputs out after → IsAccountable heard before out after
   duplicate copy at same d =
       as_outputs heard before after out no_outputs d.outputs
       (as_state heard before after _ no_outputs d.state
@@ -325,8 +325,8 @@ module _ (heard : Option Received) (p : Meaning) (f : Origin) (lsa : List ℕ) (
       one : instance_of lsa ≡ instance_at copy
       one = recency-same (header_of lsa) (header_at copy) (instance_of lsa) (instance_at copy) (header_is_of lsa is_lsa) (copy_is_of before (key_of lsa) copy sound at) (sym (entry_instance before (key_of lsa) copy at)) same
 
-      holds : Holds mid (instance_of lsa)
-      holds = subst (λ i. Holds mid i) (sym one) (holds_copy mid (key_of lsa) copy at)
+      holds : HoldsInstance mid (instance_of lsa)
+      holds = subst (λ i. HoldsInstance mid i) (sym one) (holds_copy mid (key_of lsa) copy at)
 
       left : IsAccountable heard before no_outputs mid
       left = Shrinks-accountable heard before no_outputs mid (changed_on f (change.Acknowledges (instance_of lsa)) before.tick) (change_of f (change.Acknowledges (instance_of lsa)) before.tick)
@@ -334,16 +334,16 @@ module _ (heard : Option Received) (p : Meaning) (f : Origin) (lsa : List ℕ) (
           (sends_nothing before)
 
       how : Acknowledgement
-      how = answer_at (case_of_same (is_awaited_of (instance_of lsa) (origin_of before.links f))) f before.links
+      how = answer_at (case_of_same (is_awaited_of (instance_of lsa) (origin_neighbour before.links f))) f before.links
 
       acknowledged : IsAccountable heard mid no_outputs (acknowledging how f (header_of lsa) mid)
       acknowledged = ack-accountable heard no_outputs how f (header_of lsa) (key_of lsa) false mid (sends_nothing mid) (named mid no_outputs (inl (CanName.InDatabase holds)))
 
   -- older than the copy
   stale : Replies f (key_of lsa) before no_outputs out after → IsAccountable heard before out after
-  stale r = go (reply_to before (key_of lsa)) is_copy (subst (λ o. AreRead o.sent) r.outputs read) r.state r.outputs
+  stale r = go (reply_to before (key_of lsa)) is_copy (subst (λ o. AreReadAsSent o.sent) r.outputs read) r.state r.outputs
     where
-      by : (o : Option Entry) (sent : Bool) → entry_of before (key_of lsa) ≡ o → (l : List ℕ) → reply_of o sent ≡ Some l → HasCopy before l
+      by : (o : Option Entry) (sent : Bool) → database_entry before (key_of lsa) ≡ o → (l : List ℕ) → reply_of o sent ≡ Some l → HasCopy before l
       by None sent at l is = absurd (none-some l is)
       by (Some copy) sent at l is = if_sent (is_sent_back copy sent) is
         where
@@ -352,7 +352,7 @@ module _ (heard : Option Received) (p : Meaning) (f : Origin) (lsa : List ℕ) (
           if_sent false is = absurd (none-some l is)
 
       is_copy : (l : List ℕ) → reply_to before (key_of lsa) ≡ Some l → HasCopy before l
-      is_copy l is = by (entry_of before (key_of lsa)) (was_sent before.sent (key_of lsa)) refl l is
+      is_copy l is = by (database_entry before (key_of lsa)) (was_sent before.sent (key_of lsa)) refl l is
 
       link_sends : (l : List ℕ) (o : Option LinkValue) (d : SentValue) → HasCopy before l → Contains (lsa_out_on (own_of before) f l o) d → IsKnownPacket before d.packet
       link_sends l None d has c = absurd (Contains-nil d c)
@@ -362,11 +362,11 @@ module _ (heard : Option Received) (p : Meaning) (f : Origin) (lsa : List ℕ) (
         names = λ i lists. CanName.InDatabase (
           l,
           has,
-          same_contents l (sent_lsa link.settings.transmit_delay l) refl ∙ header_names (sent_lsa link.settings.transmit_delay l) i (subst (λ h. IsOf h i) (one_of (header_of (sent_lsa link.settings.transmit_delay l)) lists.0 lists.1) lists.2),
+          same_contents l (sent_lsa link.settings.transmit_delay l) refl ∙ header_names (sent_lsa link.settings.transmit_delay l) i (subst (λ h. IsOfInstance h i) (one_of (header_of (sent_lsa link.settings.transmit_delay l)) lists.0 lists.1) lists.2),
         );
       })
 
-      go : (o : Option (List ℕ)) → ((l : List ℕ) → o ≡ Some l → HasCopy before l) → AreRead (and_sends no_outputs (reply_out o f before)).sent → after ≡ replied o f (key_of lsa) before → out ≡ and_sends no_outputs (reply_out o f before) → IsAccountable heard before out after
+      go : (o : Option (List ℕ)) → ((l : List ℕ) → o ≡ Some l → HasCopy before l) → AreReadAsSent (and_sends no_outputs (reply_out o f before)).sent → after ≡ replied o f (key_of lsa) before → out ≡ and_sends no_outputs (reply_out o f before) → IsAccountable heard before out after
       go None has reads state outputs = Unchanged-accountable heard before out after (record { state = state; outputs = outputs })
       go (Some l) has reads state outputs =
           as_outputs heard before after out (and_sends no_outputs (lsa_out f l before)) outputs
@@ -384,29 +384,29 @@ module _ (heard : Option Received) (p : Meaning) (f : Origin) (lsa : List ℕ) (
   by_rule rule.Stale says m = stale m
 
   pub MeetsLsa-accountable : MeetsLsa f lsa before no_outputs out after → IsAccountable heard before out after
-  MeetsLsa-accountable m = go (is_taken_in (origin_of before.links f)) m
+  MeetsLsa-accountable m = go (is_taken_in (origin_neighbour before.links f)) m
     where
       rule_here : LsaRule
-      rule_here = lsa_rule (header_of lsa) (entry_of before (key_of lsa)) (some_link_loading before.links) (is_requested_of (key_of lsa) (origin_of before.links f)) before.tick
+      rule_here = lsa_rule (header_of lsa) (database_entry before (key_of lsa)) (some_link_loading before.links) (is_requested_of (key_of lsa) (origin_neighbour before.links f)) before.tick
 
       go : (b : Bool) → MeetsRule (cond b (Some rule_here) None) f lsa before no_outputs out after → IsAccountable heard before out after
       go false m = nothing m
-      go true m = by_rule rule_here (rule_says before lsa (some_link_loading before.links) (is_requested_of (key_of lsa) (origin_of before.links f)) before.tick) m
+      go true m = by_rule rule_here (rule_says before lsa (some_link_loading before.links) (is_requested_of (key_of lsa) (origin_neighbour before.links f)) before.tick) m
 
 -- ---- a header of an Acknowledgment
 
 module _ (heard : Option Received) (p : Meaning) (f : Origin) (h : LsaHeader) (before : AreaValue) (out : OutputsValue) (after : AreaValue) (sound : IsSoundState before) (hears : heard ≡ Some (record { link = f.link; packet = p })) (from : p.router ≡ f.router) (in_p : Contains (acknowledging_headers_in p) h) where
   -- where it is the same as the copy, it names the copy's instance
-  names_copy : (o : Option LsaKey) → key_of_header h ≡ o → (copy : Entry) → exchange.copy_of before.database o ≡ Some copy → recency h (header_at copy) ≡ Same → IsOf h (instance_at copy)
+  names_copy : (o : Option LsaKey) → key_of_header h ≡ o → (copy : Entry) → exchange.copy_in_database before.database o ≡ Some copy → recency h (header_at copy) ≡ Same → IsOfInstance h (instance_at copy)
   names_copy None key copy at same = absurd (none-some copy at)
   names_copy (Some k) key copy at same =
-      let its : IsOf h (record { key = k; number = h.number; sum = h.sum }) = record { key = key; number = refl; sum = refl } in
-      subst (λ i. IsOf h i) (recency-same h (header_at copy) (record { key = k; number = h.number; sum = h.sum }) (instance_at copy) its (copy_is_of before k copy sound at) (sym (entry_instance before k copy at)) same) its
+      let its : IsOfInstance h (record { key = k; number = h.number; sum = h.sum }) = record { key = key; number = refl; sum = refl } in
+      subst (λ i. IsOfInstance h i) (recency-same h (header_at copy) (record { key = k; number = h.number; sum = h.sum }) (instance_at copy) its (copy_is_of before k copy sound at) (sym (entry_instance before k copy at)) same) its
 
-  told_of : (i : Instance) → IsOf h i → (n : NeighbourValue) → n.router ≡ f.router → IsAcknowledged heard f.link n.router i
+  told_of : (i : Instance) → IsOfInstance h i → (n : NeighbourValue) → n.router ≡ f.router → IsAcknowledged heard f.link n.router i
   told_of i is n same = record { received = record { link = f.link; packet = p }; is_heard = hears; link = refl; from = from ∙ sym same; named = (h, in_p, is) }
 
-  taken_off_by : (o : Option Instance) → ((i : Instance) → o ≡ Some i → IsOf h i) → after ≡ taken_off f o before → out ≡ no_outputs → IsAccountable heard before out after
+  taken_off_by : (o : Option Instance) → ((i : Instance) → o ≡ Some i → IsOfInstance h i) → after ≡ taken_off f o before → out ≡ no_outputs → IsAccountable heard before out after
   taken_off_by None is state outputs = Unchanged-accountable heard before out after (record { state = state; outputs = outputs })
   taken_off_by (Some i) is state outputs =
       as_outputs heard before after out no_outputs outputs
@@ -415,17 +415,17 @@ module _ (heard : Option Received) (p : Meaning) (f : Origin) (h : LsaHeader) (b
       (change_by heard no_outputs f (change.Acknowledges i) before (changed_area f (change.Acknowledges i) before) refl refl refl refl refl refl (told_of i (is i refl)))
       (sends_nothing before)))
 
-  is_named : (o : Option Entry) → exchange.copy_of before.database (key_of_header h) ≡ o → (i : Instance) → named_by h o ≡ Some i → IsOf h i
+  is_named : (o : Option Entry) → exchange.copy_in_database before.database (key_of_header h) ≡ o → (i : Instance) → named_by h o ≡ Some i → IsOfInstance h i
   is_named None at i is = absurd (none-some i is)
   is_named (Some copy) at i is = by (recency h (header_at copy)) refl is
     where
-      by : (r : Recency) → recency h (header_at copy) ≡ r → named_as r copy ≡ Some i → IsOf h i
-      by Same same is = subst (λ i. IsOf h i) (same_Some (instance_at copy) i is) (names_copy (key_of_header h) refl copy at same)
+      by : (r : Recency) → recency h (header_at copy) ≡ r → named_as r copy ≡ Some i → IsOfInstance h i
+      by Same same is = subst (λ i. IsOfInstance h i) (same_Some (instance_at copy) i is) (names_copy (key_of_header h) refl copy at same)
       by Newer same is = absurd (none-some i is)
       by Older same is = absurd (none-some i is)
 
   pub HeaderPart-accountable : HeaderPart f h before out after → IsAccountable heard before out after
-  HeaderPart-accountable m = taken_off_by (named_by h (exchange.copy_of before.database (key_of_header h))) (is_named (exchange.copy_of before.database (key_of_header h)) refl) m.state m.outputs
+  HeaderPart-accountable m = taken_off_by (named_by h (exchange.copy_in_database before.database (key_of_header h))) (is_named (exchange.copy_in_database before.database (key_of_header h)) refl) m.state m.outputs
 
 -- what is passed over: a new acknowledgement is of no instance
 passed-accountable : (heard : Option Received) (s t : AreaValue) → Passes s t → IsAccountable heard s no_outputs t
@@ -447,7 +447,7 @@ passed-accountable heard s t p = subst (λ x. IsAccountable heard s no_outputs x
     shrinks = shrink_by heard no_outputs s after still alone (map_from-id 0 s.links) refl refl refl refl now (λ l link. map-id link.neighbours) (λ l link x c. inl c) (λ l n. same-shrinks heard l n)
 
 -- one LSA of an Update, or what is passed over
-pub LsaPart-accountable : (heard : Option Received) (p : Meaning) (f : Origin) (lsa : List ℕ) (before : AreaValue) (out : OutputsValue) (after : AreaValue) → IsSoundState before → heard ≡ Some (record { link = f.link; packet = p }) → p.router ≡ f.router → Contains (lsas_in p) lsa → AreRead out.sent → LsaPart f lsa before out after → IsAccountable heard before out after
+pub LsaPart-accountable : (heard : Option Received) (p : Meaning) (f : Origin) (lsa : List ℕ) (before : AreaValue) (out : OutputsValue) (after : AreaValue) → IsSoundState before → heard ≡ Some (record { link = f.link; packet = p }) → p.router ≡ f.router → Contains (lsas_in p) lsa → AreReadAsSent out.sent → LsaPart f lsa before out after → IsAccountable heard before out after
 LsaPart-accountable heard p f lsa before out after sound hears from in_p read (LsaPart.Meets is m) = MeetsLsa-accountable heard p f lsa before out after is sound hears from in_p read m
 LsaPart-accountable heard p f lsa before out after sound hears from in_p read (LsaPart.PassedOver not_one passes outputs) =
     subst (λ o. IsAccountable heard before o after) (sym outputs) (passed-accountable heard before after (passed before.passes_over f lsa before after passes))

@@ -11,16 +11,16 @@ use Rattle.ospf_neighbour.specs.Machine.{is_exchanging}
 use Rattle.ospf_neighbour.specs.Neighbour.{NeighbourValue}
 use Rattle.ospf_area.specs.Outputs.{OutputsValue}
 use Rattle.ospf_area.specs.State.{AreaValue, neighbour, state_in, copy_in, WaitsIn}
-use Rattle.ospf_step.specs.Headers.{IsOf, Lists}
+use Rattle.ospf_step.specs.Headers.{IsOfInstance, Lists}
 use Rattle.ospf_step.specs.Packets.{Received}
-use Rattle.ospf_step.specs.Words.{CanName, Holds, HasCopy, list_in}
+use Rattle.ospf_step.specs.Words.{CanName, HoldsInstance, HasCopy, list_in}
 use Rattle.ospf_step.specs.Accounts.{Adjusts, IsDescribed}
-use Rattle.ospf_step.specs.Neighbours.{Goes, NeighboursGo, told_by, IsOldOrHeld}
+use Rattle.ospf_step.specs.Neighbours.{NeighbourGoes, NeighboursGo, told_by, IsOldOrHeld}
 use Rattle.ospf_step.proofs.StateFacts.{Contains-nil, same_router}
 use Rattle.ospf_step.proofs.QuietAccounts.{brings_none, kept_same, none_ended}
 
 -- what is told in a DD packet is heard
-told-hears : (heard : Option Received) (l : ℕ) (q : RouterId) (h : LsaHeader) (i : Instance) → IsOf h i → Contains (told_by heard l q) h → IsDescribed heard l q i
+told-hears : (heard : Option Received) (l : ℕ) (q : RouterId) (h : LsaHeader) (i : Instance) → IsOfInstance h i → Contains (told_by heard l q) h → IsDescribed heard l q i
 told-hears None l q h i is c = absurd (Contains-nil h c)
 told-hears (Some r) l q h i is c = go (cases_Bool ((r.link == l) && (r.packet.router.0 == q.0)))
   where
@@ -44,31 +44,31 @@ module _ (heard : Option Received) (before : AreaValue) (out : OutputsValue) (af
   copy_on lsa c = ap copy_in (g.database (key_of lsa)) ∙ c
 
   -- one neighbour, by what was there and what is
-  asks_go : (l : ℕ) (q : RouterId) (h : LsaHeader) (i : Instance) (o o' : Option NeighbourValue) → IsOf h i → Goes before (told_by heard l q) o o' → Contains (list_in (λ n. n.requests) o') h → Contains (list_in (λ n. n.requests) o) h ⊎ IsDescribed heard l q i
+  asks_go : (l : ℕ) (q : RouterId) (h : LsaHeader) (i : Instance) (o o' : Option NeighbourValue) → IsOfInstance h i → NeighbourGoes before (told_by heard l q) o o' → Contains (list_in (λ n. n.requests) o') h → Contains (list_in (λ n. n.requests) o) h ⊎ IsDescribed heard l q i
   asks_go l q h i None None is goes c = inl c
   asks_go l q h i None (Some n') is goes c = absurd (Contains-nil h (subst (λ hs. Contains hs h) goes.requests c))
   asks_go l q h i (Some n) None is goes c = absurd (Contains-nil h c)
   asks_go l q h i (Some n) (Some n') is goes c = elim (goes.requests h c) [ inl there ↦ inl there | inr told ↦ inr (told-hears heard l q h i is told) ]
 
-  awaits_go : (told : List LsaHeader) (i : Instance) (o o' : Option NeighbourValue) → Goes before told o o' → WaitsIn o' i → WaitsIn o i ⊎ Holds before i
+  awaits_go : (told : List LsaHeader) (i : Instance) (o o' : Option NeighbourValue) → NeighbourGoes before told o o' → WaitsIn o' i → WaitsIn o i ⊎ HoldsInstance before i
   awaits_go told i None None goes w = inl w
   awaits_go told i None (Some n') goes w = absurd (Contains-nil i (subst (λ ls. Contains (instances ls) i) goes.retransmission w))
   awaits_go told i (Some n) None goes w = absurd w
   awaits_go told i (Some n) (Some n') goes w = goes.retransmission i w
 
-  summary_go : (told : List LsaHeader) (h : LsaHeader) (o o' : Option NeighbourValue) → Goes before told o o' → Contains (list_in (λ n. n.summary) o') h → IsOldOrHeld before (list_in (λ n. n.summary) o) h
+  summary_go : (told : List LsaHeader) (h : LsaHeader) (o o' : Option NeighbourValue) → NeighbourGoes before told o o' → Contains (list_in (λ n. n.summary) o') h → IsOldOrHeld before (list_in (λ n. n.summary) o) h
   summary_go told h None None goes c = inl c
   summary_go told h None (Some n') goes c = absurd (Contains-nil h (subst (λ hs. Contains hs h) goes.summary c))
   summary_go told h (Some n) None goes c = absurd (Contains-nil h c)
   summary_go told h (Some n) (Some n') goes c = goes.summary h c
 
-  last_dd_go : (told : List LsaHeader) (h : LsaHeader) (o o' : Option NeighbourValue) → Goes before told o o' → Contains (list_in (λ n. n.last_dd) o') h → Contains (list_in (λ n. n.last_dd) o) h ⊎ IsOldOrHeld before (list_in (λ n. n.summary) o) h
+  last_dd_go : (told : List LsaHeader) (h : LsaHeader) (o o' : Option NeighbourValue) → NeighbourGoes before told o o' → Contains (list_in (λ n. n.last_dd) o') h → Contains (list_in (λ n. n.last_dd) o) h ⊎ IsOldOrHeld before (list_in (λ n. n.summary) o) h
   last_dd_go told h None None goes c = inl c
   last_dd_go told h None (Some n') goes c = absurd (Contains-nil h (subst (λ hs. Contains hs h) goes.last_dd c))
   last_dd_go told h (Some n) None goes c = absurd (Contains-nil h c)
   last_dd_go told h (Some n) (Some n') goes c = goes.last_dd h c
 
-  leaves_go : (told : List LsaHeader) (i : Instance) (o o' : Option NeighbourValue) → Goes before told o o' → WaitsIn o i → WaitsIn o' i ⊎ (is_exchanging (state_in o') ≡ false)
+  leaves_go : (told : List LsaHeader) (i : Instance) (o o' : Option NeighbourValue) → NeighbourGoes before told o o' → WaitsIn o i → WaitsIn o' i ⊎ (is_exchanging (state_in o') ≡ false)
   leaves_go told i None None goes w = absurd w
   leaves_go told i None (Some n') goes w = absurd w
   leaves_go told i (Some n) None goes w = inr refl
@@ -82,7 +82,7 @@ module _ (heard : Option Received) (before : AreaValue) (out : OutputsValue) (af
   names_go i (CanName.ToAcknowledge l (h, c, is)) = CanName.ToAcknowledge l (h, g.waiting l h c, is)
   names_go i (CanName.ToAcknowledgeNow lists) = CanName.ToAcknowledgeNow (subst (λ hs. Lists hs i) g.same_direct lists)
 
-  still_holds : (i : Instance) → Holds before i → Holds after i
+  still_holds : (i : Instance) → HoldsInstance before i → HoldsInstance after i
   still_holds i (lsa, c, is) = (lsa, copy_on lsa c, is)
 
   pub NeighboursGo-adjusts : Adjusts heard before out after

@@ -27,7 +27,7 @@ use Rattle.ospf_flood.specs.Offers.{instance_with, looked_at, offer_over, offer_
 use Rattle.ospf_flood.specs.declared.offer.Offer.{Offer}
 use Rattle.ospf_flood.specs.declared.offer.Offer.TheVariants.{PassesOver, Satisfies, Lists}
 use Rattle.ospf_flood.proofs.LawLemmas.{flood_takes, flooded_is_put}
-use Rattle.ospf_step.specs.Headers.{IsOf}
+use Rattle.ospf_step.specs.Headers.{IsOfInstance}
 use Rattle.ospf_step.proofs.StateFacts.{Contains-map_cases, Contains-map, Contains-filter_cases, find-some, recency-older, recency-same, same_router}
 use Rattle.ospf_step.proofs.FloodingAccounts.{FloodsTo, Reached}
 
@@ -40,7 +40,7 @@ unfolding key_made
 named_by_type kind.Router type id router e = ap (λ t. key_from t id router) (sym e)
 named_by_type kind.Network type id router e = ap (λ t. key_from t id router) (sym e)
 
-pub header_of_key : (key : LsaKey) (h : LsaHeader) → is_header_of key h ≡ true → IsOf h (instance_with key h)
+pub header_of_key : (key : LsaKey) (h : LsaHeader) → is_header_of key h ≡ true → IsOfInstance h (instance_with key h)
 unfolding is_header_of key_made
 header_of_key key h is =
     let (front, router) = and_parts ((ls_type key.kind == h.kind) && (key.id == h.id)) (key.router.0 == h.router.0) is in
@@ -135,7 +135,7 @@ looked state.TwoWay o e is = absurd (cc)
 looked state.ExStart o e is = absurd (cc)
 looked state.Full o e is = absurd (cc)
 
-module _ (key : LsaKey) (h : LsaHeader) (from_it : Bool) (tick : ℕ) (n : NeighbourValue) (is_of : IsOf h (instance_with key h)) where
+module _ (key : LsaKey) (h : LsaHeader) (from_it : Bool) (tick : ℕ) (n : NeighbourValue) (is_of : IsOfInstance h (instance_with key h)) where
   abbrev pub this : Instance
   this = instance_with key h
 
@@ -147,7 +147,7 @@ module _ (key : LsaKey) (h : LsaHeader) (from_it : Bool) (tick : ℕ) (n : Neigh
   listed_by o is (inl lists) = Reached.IsListed (flooded_is_put key h from_it tick n (is ∙ lists))
   listed_by o is (inr came) = Reached.SentIt came
 
-  over : (e : LsaHeader) → Contains n.requests e → IsOf e (instance_with key e) → (r : Recency) → recency h e ≡ r → offer_to key h from_it n ≡ offer_over r from_it → Reached this from_it n (flooded key h from_it tick n)
+  over : (e : LsaHeader) → Contains n.requests e → IsOfInstance e (instance_with key e) → (r : Recency) → recency h e ≡ r → offer_to key h from_it n ≡ offer_over r from_it → Reached this from_it n (flooded key h from_it tick n)
   over e c names Older is offer = Reached.AskedFor e (instance_with key e) c names (recency-older h e (instance_with key h) (instance_with key e) is_of names refl is)
   over e c names Same is offer =
       let equal : instance_with key h ≡ instance_with key e = recency-same h e (instance_with key h) (instance_with key e) is_of names refl is in
@@ -186,7 +186,7 @@ module _ (key : LsaKey) (h : LsaHeader) (from_it : Bool) (tick : ℕ) (n : Neigh
       go Lists = relist_waits (instance_with key h) tick (unrequested key n)
 
 -- first the old copy leaves its list
-module _ (key : LsaKey) (h : LsaHeader) (from_it : Bool) (tick : ℕ) (n : NeighbourValue) (is_of : IsOf h (instance_with key h)) where
+module _ (key : LsaKey) (h : LsaHeader) (from_it : Bool) (tick : ℕ) (n : NeighbourValue) (is_of : IsOfInstance h (instance_with key h)) where
   then_reached : Reached (instance_with key h) from_it (key_unlisted key n) (flooded key h from_it tick (key_unlisted key n)) → Reached (instance_with key h) from_it n (flooded key h from_it tick (key_unlisted key n))
   then_reached (Reached.IsListed w) = Reached.IsListed w
   then_reached (Reached.SentIt came) = Reached.SentIt came

@@ -18,9 +18,9 @@ use Rattle.ospf_lsdb.specs.Timers.{KeysRise}
 use Rattle.ospf_lsdb.proofs.EntryLemmas.{key-entry_from}
 use Rattle.ospf_area.specs.Flooding.{flooded_links, flooding_updates, goes_anywhere}
 use Rattle.ospf_area.specs.Numbers.{counts, is_own}
-use Rattle.ospf_area.specs.Outputs.{AreRead, OutputsValue, SentValue, sends, then_outputs}
+use Rattle.ospf_area.specs.Outputs.{AreReadAsSent, OutputsValue, SentValue, sends, then_outputs}
 use Rattle.ospf_area.specs.Sending.{own_of}
-use Rattle.ospf_area.specs.State.{AreaValue, entry_of, kept_in, kept_number, numbering_of}
+use Rattle.ospf_area.specs.State.{AreaValue, database_entry, kept_in, kept_number, numbering_of}
 use Rattle.ospf_area.proofs.NumberLemmas.{own_counted}
 use Rattle.ospf_update.specs.Aging.{Flushes, copy_flood_out, copy_flood_out_by, copy_flooded, copy_flooded_by, noted, turn_out}
 use Rattle.ospf_update.specs.Meets.{flooded_area, store_updates}
@@ -101,19 +101,19 @@ module _ (w : WantedValue) (number : ℤ) (s : AreaValue) (out out1 : OutputsVal
 
 -- ---- a flush
 
-module _ (key : LsaKey) (copy : Entry) (s : AreaValue) (sent : List SentValue) (t : AreaValue) (x : Flushes key s sent t) (at : entry_of s key ≡ Some copy) (ages : (h : Held) → held_of s.database key ≡ Some h → h.entry.age ≤ max_age) where
-  entries_mid : (k : LsaKey) → entry_of x.mid k ≡ (if same_key key k then Some (at_max_age copy) else entry_of s k)
+module _ (key : LsaKey) (copy : Entry) (s : AreaValue) (sent : List SentValue) (t : AreaValue) (x : Flushes key s sent t) (at : database_entry s key ≡ Some copy) (ages : (h : Held) → held_of s.database key ≡ Some h → h.entry.age ≤ max_age) where
+  entries_mid : (k : LsaKey) → database_entry x.mid k ≡ (if same_key key k then Some (at_max_age copy) else database_entry s k)
   entries_mid k = ap (option_map (λ (h : Held). h.entry)) (x.database k) ∙ go (same_key key k)
     where
       now : (o : Option Held) → held_of s.database key ≡ o → option_map (λ h. h.entry) o ≡ Some copy → option_map (λ h. h.entry) (option_map expired o) ≡ Some (at_max_age copy)
       now None here e = absurd (none-some copy e)
       now (Some h) here e = ap Some (expired_entry h (ages h here) ∙ ap at_max_age (same_Some h.entry copy e))
 
-      go : (b : Bool) → option_map (λ h. h.entry) (cond b (option_map expired (held_of s.database key)) (held_of s.database k)) ≡ cond b (Some (at_max_age copy)) (entry_of s k)
+      go : (b : Bool) → option_map (λ h. h.entry) (cond b (option_map expired (held_of s.database key)) (held_of s.database k)) ≡ cond b (Some (at_max_age copy)) (database_entry s k)
       go true = now (held_of s.database key) refl at
       go false = refl
 
-  at_mid : entry_of x.mid key ≡ Some (at_max_age copy)
+  at_mid : database_entry x.mid key ≡ Some (at_max_age copy)
   at_mid = entries_mid key ∙ cond-true (same_key key key) _ _ (same_key-refl key)
 
   links_is : flooded_links (key_of (lsa_of (at_max_age copy))) (header_of (lsa_of (at_max_age copy))) None x.mid.tick x.mid.links ≡ flooded_links key (header_of (lsa_of (at_max_age copy))) None s.tick s.links
@@ -140,14 +140,14 @@ module _ (key : LsaKey) (copy : Entry) (s : AreaValue) (sent : List SentValue) (
       go true = record { at = at; database = entries_mid; links = links_is; same_router = router_is; same_direct = direct_is; numbering = kept_is; outputs = out_is }
       go false = record { at = at; database = entries_mid; links = links_is; same_router = router_is; same_direct = direct_is; numbering = kept_is; outputs = out_is }
 
-  flush_turns : AreRead sent → AndRequests (ExpiryPart key copy) s (sends sent) t
+  flush_turns : AreReadAsSent sent → AndRequests (ExpiryPart key copy) s (sends sent) t
   flush_turns read = record {
     mid = copy_flooded key x.mid;
     first_out = sends (copy_flood_out key x.mid);
     next_out = sends (turn_out (copy_flooded key x.mid));
     first = flush_is;
     next = subst (λ t. Quiet (copy_flooded key x.mid) (sends (turn_out (copy_flooded key x.mid))) t) (sym x.state)
-        (turned-quiet (copy_flooded key x.mid) (AreRead-right (sends (copy_flood_out key x.mid)) (sends (turn_out (copy_flooded key x.mid))) (subst (λ ds. AreRead ds) x.sends read)));
+        (turned-quiet (copy_flooded key x.mid) (AreRead-right (sends (copy_flood_out key x.mid)) (sends (turn_out (copy_flooded key x.mid))) (subst (λ ds. AreReadAsSent ds) x.sends read)));
     both = ap sends x.sends;
   }
 
@@ -183,9 +183,9 @@ flush_copy (Some w) None heard own waited kept e = go (heard || (not waited && i
     go true e = next_copy None kept e
     go false e = absurd cc
 
-flush_tells : (s : AreaValue) (key : LsaKey) → action_of s key ≡ Flush → (copy : Entry) × (entry_of s key ≡ Some copy)
+flush_tells : (s : AreaValue) (key : LsaKey) → action_of s key ≡ Flush → (copy : Entry) × (database_entry s key ≡ Some copy)
 unfolding action_of
-flush_tells s key e = flush_copy _ (entry_of s key) _ _ _ _ e
+flush_tells s key e = flush_copy _ (database_entry s key) _ _ _ _ e
 
 -- ---- one after the other
 
@@ -201,7 +201,7 @@ one_more : (s mid t : AreaValue) (out mid_out out' : OutputsValue) → PutsOut (
 one_more s mid t out mid_out out' first (n, rest) = (suc n, own_more n s mid t out mid_out out' first rest)
 
 -- an issue and the Requests that come of it
-issue_puts : (w : WantedValue) (number : ℤ) (s mid : AreaValue) (out mid_out : OutputsValue) → (x : IssuesAndTurns w number s out mid_out mid) → (wanted_key w).router ≡ s.router → number ≡ kept_number s (wanted_key w) +ℤ pos 1 → AreRead mid_out.sent → PutsOut (λ o. OwnStep s o mid) out mid_out
+issue_puts : (w : WantedValue) (number : ℤ) (s mid : AreaValue) (out mid_out : OutputsValue) → (x : IssuesAndTurns w number s out mid_out mid) → (wanted_key w).router ≡ s.router → number ≡ kept_number s (wanted_key w) +ℤ pos 1 → AreReadAsSent mid_out.sent → PutsOut (λ o. OwnStep s o mid) out mid_out
 issue_puts w number s mid out mid_out x own next read =
     let lsa = x.issues.lsa in
     let ds = store_updates lsa None s in
@@ -215,19 +215,19 @@ issue_puts w number s mid out mid_out x own next read =
         first_out = first;
         next_out = turns;
         first = issue_is w number s out x.mid_out x.mid x.issues own next;
-        next = subst (λ m. Quiet x.mid turns m) (sym x.turned) (turned-quiet x.mid (AreRead-right x.mid_out turns (subst (λ o. AreRead o.sent) whole read)));
+        next = subst (λ m. Quiet x.mid turns m) (sym x.turned) (turned-quiet x.mid (AreRead-right x.mid_out turns (subst (λ o. AreReadAsSent o.sent) whole read)));
         both = refl;
       });
       behind = whole ∙ (ap (λ o. then_outputs o turns) (x.issues.outputs ∙ then_issues out ds lsa) ∙ then_assoc out first turns);
     }
 
-flush_puts : (key : LsaKey) (copy : Entry) (s mid : AreaValue) (out mid_out : OutputsValue) → (x : FlushesAndTurns key s out mid_out mid) → entry_of s key ≡ Some copy → ((h : Held) → held_of s.database key ≡ Some h → h.entry.age ≤ max_age) → AreRead mid_out.sent → PutsOut (λ o. OwnStep s o mid) out mid_out
+flush_puts : (key : LsaKey) (copy : Entry) (s mid : AreaValue) (out mid_out : OutputsValue) → (x : FlushesAndTurns key s out mid_out mid) → database_entry s key ≡ Some copy → ((h : Held) → held_of s.database key ≡ Some h → h.entry.age ≤ max_age) → AreReadAsSent mid_out.sent → PutsOut (λ o. OwnStep s o mid) out mid_out
 flush_puts key copy s mid out mid_out x at ages read =
     puts_sent (λ o. OwnStep s o mid) out mid_out x.sent (OwnStep.Flush key copy (flush_turns key copy s x.sent mid x.flushes at ages (read_sent out mid_out x.sent x.outputs read))) x.outputs
 
 -- those of these keys, from any state that is the same for them
 abbrev Steps : AreaValue → List LsaKey → Type 0
-Steps s0 keys = (s t : AreaValue) (out out' : OutputsValue) → s.router ≡ s0.router → ((k : LsaKey) → Contains keys k → IsSame s0 s k) → ActsInTurn (wants s0) (due_of (action_of s0) keys) s out out' t → AreRead out'.sent → SomeSteps s out t out'
+Steps s0 keys = (s t : AreaValue) (out out' : OutputsValue) → s.router ≡ s0.router → ((k : LsaKey) → Contains keys k → IsSame s0 s k) → ActsInTurn (wants s0) (due_of (action_of s0) keys) s out out' t → AreReadAsSent out'.sent → SomeSteps s out t out'
 
 all_of : {X : Type 0} (P : X → Type 0) (xs : List X) (x : X) → AllByRecursion P xs → Contains xs x → P x
 all_of P [] x all (k, within, e) = absurd (omega arith)
@@ -245,8 +245,8 @@ module _ (s0 : AreaValue) (is : IsDatabase s0.database) (key : LsaKey) (keys : L
       let of = others k (same_key-apart key k (all_of (λ o. Precedes key o) keys k rises c)) in
       record { held = of.0 ∙ was.held; kept = of.1 ∙ was.kept }
 
-  read_mid : (mid t : AreaValue) (mid_out out' : OutputsValue) → SomeSteps mid mid_out t out' → AreRead out'.sent → AreRead mid_out.sent
-  read_mid mid t mid_out out' (n, rest) read = AreRead-left mid_out rest.own (subst (λ o. AreRead o.sent) rest.behind read)
+  read_mid : (mid t : AreaValue) (mid_out out' : OutputsValue) → SomeSteps mid mid_out t out' → AreReadAsSent out'.sent → AreReadAsSent mid_out.sent
+  read_mid mid t mid_out out' (n, rest) read = AreRead-left mid_out rest.own (subst (λ o. AreReadAsSent o.sent) rest.behind read)
 
   wanted_is : (w : WantedValue) → wanted_of (wants s0) key ≡ Some w → (wanted_key w ≡ key) × ((wanted_key w).router ≡ s0.router)
   wanted_is w at =
@@ -261,7 +261,7 @@ module _ (s0 : AreaValue) (is : IsDatabase s0.database) (key : LsaKey) (keys : L
       by Flush at (mid, mid_out, x, rest) =
           let here = same key (0, omega arith, refl) in
           let (copy, there) = flush_tells s0 key at in
-          let entry : entry_of s key ≡ Some copy = ap (option_map (λ (h : Held). h.entry)) here.held ∙ there in
+          let entry : database_entry s key ≡ Some copy = ap (option_map (λ (h : Held). h.entry)) here.held ∙ there in
           let ages : (h : Held) → held_of s.database key ≡ Some h → h.entry.age ≤ max_age = λ h found. age_of_held s0.database key h is (sym here.held ∙ found) in
           let on = rec mid t mid_out out' (flush_router key copy s x.sent mid x.flushes entry ages ∙ router) (stay s mid (flush_others key copy s x.sent mid x.flushes entry ages) same) rest read in
           one_more s mid t out mid_out out' (flush_puts key copy s mid out mid_out x entry ages (read_mid mid t mid_out out' on read)) on
@@ -288,7 +288,7 @@ steps s0 is [] rises = λ s t out out' router same acts read. (
 steps s0 is (key ∷ keys) rises = cons_steps s0 is key keys rises.0 (steps s0 is keys rises.1)
 
 -- all of them, and what was heard is forgotten
-pub own_put : (s t : AreaValue) (out out' : OutputsValue) → IsDatabase s.database → AreRead out'.sent → OwnLsas s out out' t → PutsOut (λ o. IsPart Part.OwnLsas s o t) out out'
+pub own_put : (s t : AreaValue) (out out' : OutputsValue) → IsDatabase s.database → AreReadAsSent out'.sent → OwnLsas s out out' t → PutsOut (λ o. IsPart Part.OwnLsas s o t) out out'
 own_put s t out out' is read o =
     let (n, done) = steps s is o.is_due.keys o.is_due.rising s o.mid out out' refl (λ k c. record { held = refl; kept = refl }) (subst (λ ds. ActsInTurn (wants s) ds s out out' o.mid) o.is_due.is o.each) read in
     own_end n s o.mid t out out' done o.answered

@@ -31,18 +31,18 @@ use Rattle.ospf_flood.specs.Offers.{flooded, instance_with}
 use Rattle.ospf_update.specs.Acks.{direct_out}
 use Rattle.ospf_area.specs.Flooding.{flooded_link}
 use Rattle.ospf_area.specs.Sending.{own_of}
-use Rattle.ospf_area.specs.Outputs.{OutputsValue, SentValue, no_outputs, sends, AreRead}
-use Rattle.ospf_area.specs.State.{AreaValue, LinkValue, neighbour, neighbours_in, state_in, entry_of, copy_in, copy_of, kept_number, some_link_loading, Awaits, WaitsIn}
+use Rattle.ospf_area.specs.Outputs.{OutputsValue, SentValue, no_outputs, sends, AreReadAsSent}
+use Rattle.ospf_area.specs.State.{AreaValue, LinkValue, neighbour, neighbours_in, state_in, database_entry, copy_in, copy_of, kept_number, some_link_loading, Awaits, WaitsIn}
 use Rattle.ospf_area.specs.declared.flooding.Origin.{Origin}
-use Rattle.ospf_step.specs.Headers.{IsOf, Lists}
-use Rattle.ospf_step.specs.Packets.{Received, lsas_in, headers_in}
-use Rattle.ospf_step.specs.Parts.{DirectPart, IssuePart, ExpiryPart, AgesPart, AnswersAll, RemovalPart, at_max_age, leaves_if, ends_if}
+use Rattle.ospf_step.specs.Headers.{IsOfInstance, Lists}
+use Rattle.ospf_step.specs.Packets.{Received, lsas_in, headers_in_packet}
+use Rattle.ospf_step.specs.Parts.{DirectPart, IssuePart, ExpiryPart, AgesPart, AnswersAll, RemovalPart, at_max_age, leaves_if, ends_run_if}
 use Rattle.ospf_update.specs.Removal.{some_awaits, lowest_number, is_last}
 use Rattle.ospf_area.specs.Numbers.{is_own}
-use Rattle.ospf_step.specs.Words.{CanName, Holds, HasCopy, Brings, IsSoundState, ListsAreHeld, delayed_in, list_in}
+use Rattle.ospf_step.specs.Words.{CanName, HoldsInstance, HasCopy, Brings, IsSoundState, ListsAreHeld, delayed_in, list_in}
 use Rattle.ospf_lsdb.specs.Moments.{among}
 use Rattle.ospf_flood.specs.Rules.{max_sequence_number}
-use Rattle.ospf_step.specs.Accounts.{Adjusts, Has, HasLargest, IsStored, Sends, WasHeld, WasKept, Numbers, NoneEntersExchange}
+use Rattle.ospf_step.specs.Accounts.{Adjusts, HasContents, HasLargest, TakesItsPlace, Sends, WasHeld, WasKept, Numbers, NoneEntersExchange}
 use Rattle.ospf_step.proofs.Accountable.{IsAccountable, Adjusts-accountable, sent_packet}
 use Rattle.ospf_step.proofs.SentFacts.{direct-packets, IsUpdateOf, flooding-packets}
 use Rattle.ospf_step.proofs.FloodingAccounts as flooding
@@ -63,12 +63,12 @@ one_of x y (suc k, within, is) = absurd (omega arith)
 
 -- ---- direct acknowledgements
 
-pub DirectPart-accountable : (heard : Option Received) (f : Origin) (before : AreaValue) (out : OutputsValue) (after : AreaValue) → AreRead out.sent → DirectPart f before out after → IsAccountable heard before out after
+pub DirectPart-accountable : (heard : Option Received) (f : Origin) (before : AreaValue) (out : OutputsValue) (after : AreaValue) → AreReadAsSent out.sent → DirectPart f before out after → IsAccountable heard before out after
 DirectPart-accountable heard f before out after read d =
     subst (λ o. IsAccountable heard before o after) (sym d.outputs)
     (subst (λ s. IsAccountable heard before (sends (direct_out f before)) s) (sym d.state)
     (Shrinks-accountable heard before (sends (direct_out f before)) (record before { direct = [] }) (λ l link. link) (λ l n. n) quiet
-    (sends_known before (direct_out f before) (subst (λ o. AreRead o.sent) d.outputs read) known)))
+    (sends_known before (direct_out f before) (subst (λ o. AreReadAsSent o.sent) d.outputs read) known)))
   where
     quiet : ShrinkBy heard before (sends (direct_out f before)) (λ l link. link) (λ l n. n) (record before { direct = [] })
     quiet = record {
@@ -88,16 +88,16 @@ DirectPart-accountable heard f before out after read d =
         record {
           router = ap (λ m. m.router) a.packet;
           lsas = λ lsa m. absurd (Contains-nil lsa (subst (λ m. Contains (lsas_in m) lsa) a.packet m));
-          names = λ i lists. let (h, m, is) = lists in CanName.ToAcknowledgeNow (h, a.within h (subst (λ m. Contains (headers_in m) h) a.packet m), is);
+          names = λ i lists. let (h, m, is) = lists in CanName.ToAcknowledgeNow (h, a.within h (subst (λ m. Contains (headers_in_packet m) h) a.packet m), is);
         }
 
 -- ---- an own LSA is issued
 
-pub IssuePart-accountable : (heard : Option Received) (lsa : List ℕ) (before : AreaValue) (out : OutputsValue) (after : AreaValue) → IsSoundState before → AreRead out.sent → IssuePart lsa before out after → IsAccountable heard before out after
+pub IssuePart-accountable : (heard : Option Received) (lsa : List ℕ) (before : AreaValue) (out : OutputsValue) (after : AreaValue) → IsSoundState before → AreReadAsSent out.sent → IssuePart lsa before out after → IsAccountable heard before out after
 IssuePart-accountable heard lsa before out after sound read issue =
     Stores-accountable heard lsa None false before out after
     (record { database = issue.stores.database; links = issue.stores.links; same_router = issue.stores.same_router; same_direct = issue.stores.same_direct })
-    issue.is_lsa newer (λ copy is. IsStored.Issued in_issued (more copy is)) brings only (Has.Issued lsa in_issued refl) (λ g is. absurd (none-some g is)) issue.sent read numbers (λ own. issue.known) issue.ended
+    issue.is_lsa newer (λ copy is. TakesItsPlace.Issued in_issued (more copy is)) brings only (HasContents.Issued lsa in_issued refl) (λ g is. absurd (none-some g is)) issue.sent read numbers (λ own. issue.known) issue.ended
   where
     -- the copy's number is at most the kept one
     more : (copy : List ℕ) → copy_of before (key_of lsa) ≡ Some copy → (instance_of copy).number <ℤ (instance_of lsa).number
@@ -139,7 +139,7 @@ IssuePart-accountable heard lsa before out after sound read issue =
 
 -- ---- a copy comes to MaxAge
 
-module _ (heard : Option Received) (key : LsaKey) (copy : Entry) (before : AreaValue) (out : OutputsValue) (after : AreaValue) (sound : IsSoundState before) (read : AreRead out.sent) (x : ExpiryPart key copy before out after) where
+module _ (heard : Option Received) (key : LsaKey) (copy : Entry) (before : AreaValue) (out : OutputsValue) (after : AreaValue) (sound : IsSoundState before) (read : AreReadAsSent out.sent) (x : ExpiryPart key copy before out after) where
   e : Entry
   e = at_max_age copy
 
@@ -158,10 +158,10 @@ module _ (heard : Option Received) (key : LsaKey) (copy : Entry) (before : AreaV
   whole : instance_with key (header_of (lsa_of (at_max_age copy))) ≡ instance_at (at_max_age copy)
   whole = ap (λ k. instance_with k (header_of (lsa_of (at_max_age copy)))) (sym (key_of-lsa_of (at_max_age copy) ∙ its_key))
 
-  is_of : IsOf (header_of (lsa_of (at_max_age copy))) (instance_with key (header_of (lsa_of (at_max_age copy))))
-  is_of = subst (λ i. IsOf (header_of (lsa_of (at_max_age copy))) i) (sym whole) (header_is_of (lsa_of (at_max_age copy)) is_lsa)
+  is_of : IsOfInstance (header_of (lsa_of (at_max_age copy))) (instance_with key (header_of (lsa_of (at_max_age copy))))
+  is_of = subst (λ i. IsOfInstance (header_of (lsa_of (at_max_age copy))) i) (sym whole) (header_is_of (lsa_of (at_max_age copy)) is_lsa)
 
-  holds : Holds before (instance_at (at_max_age copy))
+  holds : HoldsInstance before (instance_at (at_max_age copy))
   holds = (lsa_of copy, has_copy, copy_instance)
 
   past : ℕ → NeighbourValue → NeighbourValue
@@ -173,15 +173,15 @@ module _ (heard : Option Received) (key : LsaKey) (copy : Entry) (before : AreaV
   no_acks : ℕ → List LsaHeader
   no_acks l = []
 
-  past_floods : (l : ℕ) (n : NeighbourValue) → FloodsTo (instance_at (at_max_age copy)) (Holds before (instance_at (at_max_age copy))) (came l n) n (past l n)
+  past_floods : (l : ℕ) (n : NeighbourValue) → FloodsTo (instance_at (at_max_age copy)) (HoldsInstance before (instance_at (at_max_age copy))) (came l n) n (past l n)
   unfolding came past
-  past_floods l n = subst (λ i. FloodsTo i (Holds before (instance_at (at_max_age copy))) false n (flooded key (header_of (lsa_of (at_max_age copy))) false before.tick n)) whole
-      (floods_to key (header_of (lsa_of (at_max_age copy))) false before.tick n is_of (Holds before (instance_at (at_max_age copy))) (λ j w same. holds))
+  past_floods l n = subst (λ i. FloodsTo i (HoldsInstance before (instance_at (at_max_age copy))) false n (flooded key (header_of (lsa_of (at_max_age copy))) false before.tick n)) whole
+      (floods_to key (header_of (lsa_of (at_max_age copy))) false before.tick n is_of (HoldsInstance before (instance_at (at_max_age copy))) (λ j w same. holds))
 
   is_flooded : IsFlooded e came no_acks (flooded_link key (header_of (lsa_of (at_max_age copy))) None before.tick) past before after
   unfolding e came no_acks past
   is_flooded = record {
-    database = λ k. x.database k ∙ ap (λ key. if same_key key k then Some (at_max_age copy) else entry_of before k) (sym its_key);
+    database = λ k. x.database k ∙ ap (λ key. if same_key key k then Some (at_max_age copy) else database_entry before k) (sym its_key);
     links = x.links;
     each = λ l link. refl;
     waiting = λ l link h c. inl c;
@@ -196,10 +196,10 @@ module _ (heard : Option Received) (key : LsaKey) (copy : Entry) (before : AreaV
   an_update : (p : Meaning) → Sends out p → IsUpdateOf (own_of before) (lsa_of (at_max_age copy)) p
   an_update p s = subst (λ m. IsUpdateOf (own_of before) (lsa_of (at_max_age copy)) m) (sent_packet out p read s) (flooding-packets (own_of before) (lsa_of (at_max_age copy)) None before.links s.datagram (subst (λ o. Contains o.sent s.datagram) x.outputs s.sent))
 
-  names_it : (p : Meaning) (i : Instance) → IsUpdateOf (own_of before) (lsa_of (at_max_age copy)) p → Lists (headers_in p) i → i ≡ instance_at (at_max_age copy)
+  names_it : (p : Meaning) (i : Instance) → IsUpdateOf (own_of before) (lsa_of (at_max_age copy)) p → Lists (headers_in_packet p) i → i ≡ instance_at (at_max_age copy)
   names_it p i u (h, c, is) =
-      let it = one_of (header_of u.one) h (subst (λ m. Contains (headers_in m) h) u.packet c) in
-      sym (header_names u.one i (subst (λ h. IsOf h i) it is)) ∙ same_contents u.one (lsa_of (at_max_age copy)) u.same
+      let it = one_of (header_of u.one) h (subst (λ m. Contains (headers_in_packet m) h) u.packet c) in
+      sym (header_names u.one i (subst (λ h. IsOfInstance h i) it is)) ∙ same_contents u.one (lsa_of (at_max_age copy)) u.same
 
   is_accounted : IsAccounted heard before out after e came no_acks past
   unfolding e came no_acks past
@@ -211,7 +211,7 @@ module _ (heard : Option Received) (key : LsaKey) (copy : Entry) (before : AreaV
         (λ l n w. subst (λ i. Waits (past l n) i) whole (stays_itself key (header_of (lsa_of (at_max_age copy))) false before.tick n is_of (subst (λ i. Waits n i) (sym whole) w)));
     known = inl (CanName.InDatabase holds);
     holds = inl holds;
-    has = Has.Held (lsa_of copy) has_copy refl;
+    has = HasContents.Held (lsa_of copy) has_copy refl;
     brings_only = λ i b. absurd (nothing i b);
     told = λ l n c. absurd (false≢true c);
     acknowledged = λ l h i c. absurd (Contains-nil h c);
@@ -291,22 +291,22 @@ aged_contents None e is = absurd (none-some e is)
 aged_contents (Some was) e is = (was, refl, sym (aged_same was) ∙ ap (λ e. e.contents) (same_Some (aged was) e is))
 
 -- a copy after is one before at another age
-copies_older : (before after : AreaValue) → ((key : LsaKey) → entry_of after key ≡ option_map aged (entry_of before key)) → (lsa : List ℕ) → HasCopy after lsa → WasHeld before (contents lsa)
-copies_older before after database lsa c = go (entry_of after (key_of lsa)) refl c
+copies_older : (before after : AreaValue) → ((key : LsaKey) → database_entry after key ≡ option_map aged (database_entry before key)) → (lsa : List ℕ) → HasCopy after lsa → WasHeld before (contents lsa)
+copies_older before after database lsa c = go (database_entry after (key_of lsa)) refl c
   where
-    go : (o : Option Entry) → entry_of after (key_of lsa) ≡ o → copy_in o ≡ Some lsa → WasHeld before (contents lsa)
+    go : (o : Option Entry) → database_entry after (key_of lsa) ≡ o → copy_in o ≡ Some lsa → WasHeld before (contents lsa)
     go None at is = absurd (none-some lsa is)
     go (Some e) at is =
-        let (was, there, same) = aged_contents (entry_of before (key_of lsa)) e (sym (database (key_of lsa)) ∙ at) in
+        let (was, there, same) = aged_contents (database_entry before (key_of lsa)) e (sym (database (key_of lsa)) ∙ at) in
         record { lsa = lsa_of was; copy = copy_of-has before (key_of lsa) (lsa_of was) (ap copy_in there); same = same ∙ ap contents (same_Some (lsa_of e) lsa is) }
 
-still_held : (before after : AreaValue) → ((key : LsaKey) → entry_of after key ≡ option_map aged (entry_of before key)) → (i : Instance) → Holds before i → Holds after i
-still_held before after database i (lsa, c, is) = go (entry_of before (key_of lsa)) refl c
+still_held : (before after : AreaValue) → ((key : LsaKey) → database_entry after key ≡ option_map aged (database_entry before key)) → (i : Instance) → HoldsInstance before i → HoldsInstance after i
+still_held before after database i (lsa, c, is) = go (database_entry before (key_of lsa)) refl c
   where
-    go : (o : Option Entry) → entry_of before (key_of lsa) ≡ o → copy_in o ≡ Some lsa → Holds after i
+    go : (o : Option Entry) → database_entry before (key_of lsa) ≡ o → copy_in o ≡ Some lsa → HoldsInstance after i
     go None at is' = absurd (none-some lsa is')
     go (Some e) at is' =
-        let now : entry_of after (key_of lsa) ≡ Some (aged e) = database (key_of lsa) ∙ ap (option_map aged) at in (
+        let now : database_entry after (key_of lsa) ≡ Some (aged e) = database (key_of lsa) ∙ ap (option_map aged) at in (
           lsa_of (aged e),
           copy_of-has after (key_of lsa) (lsa_of (aged e)) (ap copy_in now),
           same_contents (lsa_of (aged e)) (lsa_of e) (aged_same e) ∙ (ap instance_of (same_Some (lsa_of e) lsa is') ∙ is),
@@ -326,7 +326,7 @@ AgesPart-accountable heard before out after silent a =
     (λ l q up. ap (λ o. is_exchanging (state_in o)) (sym (neighbours_same l q)) ∙ up)
     (ap (λ o. o.ended) a.outputs)
   where
-    entries : (key : LsaKey) → entry_of after key ≡ option_map aged (entry_of before key)
+    entries : (key : LsaKey) → database_entry after key ≡ option_map aged (database_entry before key)
     entries key = ages before.database after.database a.rise.database key
 
     neighbours_same : (l : ℕ) (q : RouterId) → neighbour after l q ≡ neighbour before l q
@@ -395,7 +395,7 @@ stays_if s e waits = ap (λ b. not (some_link_loading s.links) && ((e.age == max
 
 pub RemovalPart-adjusts : (heard : Option Received) (before : AreaValue) (out : OutputsValue) (after : AreaValue) → RemovalPart before out after → Adjusts heard before out after × NoneEntersExchange before after
 RemovalPart-adjusts heard before out after r = (
-  OnlyDatabase-adjusts heard before out after r.same_links r.same_router r.same_direct r.sent r.taken r.issued copies stays (λ key goes_on. r.numbering key ∙ cond-false _ _ _ goes_on) (λ key ends. r.numbering key ∙ cond-true _ _ _ ends) (λ key ends. ap copy_in (r.database key ∙ left key (entry_of before key) (sym (r.ended key) ∙ ends))) (λ key ends. by key (entry_of before key) refl (sym (r.ended key) ∙ ends)),
+  OnlyDatabase-adjusts heard before out after r.same_links r.same_router r.same_direct r.sent r.taken r.issued copies stays (λ key goes_on. r.numbering key ∙ cond-false _ _ _ goes_on) (λ key ends. r.numbering key ∙ cond-true _ _ _ ends) (λ key ends. ap copy_in (r.database key ∙ left key (database_entry before key) (sym (r.ended key) ∙ ends))) (λ key ends. by key (database_entry before key) refl (sym (r.ended key) ∙ ends)),
   λ l q up. ap (λ o. is_exchanging (state_in o)) (sym (neighbours_same l q)) ∙ up,
 )
   where
@@ -403,9 +403,9 @@ RemovalPart-adjusts heard before out after r = (
     neighbours_same l q = ap (λ ls. neighbour_of (neighbours_in (slice_get ls l)) q) r.same_links
 
     copy_before : (lsa : List ℕ) → HasCopy after lsa → HasCopy before lsa
-    copy_before lsa c = go (leaves_if before (entry_of before (key_of lsa))) (sym (ap copy_in (r.database (key_of lsa))) ∙ c)
+    copy_before lsa c = go (leaves_if before (database_entry before (key_of lsa))) (sym (ap copy_in (r.database (key_of lsa))) ∙ c)
       where
-        go : (b : Bool) → copy_in (cond b None (entry_of before (key_of lsa))) ≡ Some lsa → HasCopy before lsa
+        go : (b : Bool) → copy_in (cond b None (database_entry before (key_of lsa))) ≡ Some lsa → HasCopy before lsa
         go true e = absurd (none-some lsa e)
         go false e = e
 
@@ -418,25 +418,25 @@ RemovalPart-adjusts heard before out after r = (
         waits : Awaits before l q i
         waits = subst (λ o. WaitsIn o i) (neighbours_same l q) w
 
-        go : Holds before i → Holds after i
-        go (lsa, c, is) = in_entry (entry_of before (key_of lsa)) refl c
+        go : HoldsInstance before i → HoldsInstance after i
+        go (lsa, c, is) = in_entry (database_entry before (key_of lsa)) refl c
           where
-            in_entry : (o : Option Entry) → entry_of before (key_of lsa) ≡ o → copy_in o ≡ Some lsa → Holds after i
+            in_entry : (o : Option Entry) → database_entry before (key_of lsa) ≡ o → copy_in o ≡ Some lsa → HoldsInstance after i
             in_entry None at e = absurd (none-some lsa e)
             in_entry (Some x) at e =
                 let one : instance_at x ≡ i = ap instance_of (same_Some (lsa_of x) lsa e) ∙ is in
-                let not_gone : leaves_if before (entry_of before (key_of lsa)) ≡ false = ap (leaves_if before) at ∙ stays_if before x (subst (λ i. some_awaits i before.links ≡ true) (sym one) (awaits_some before l q i waits)) in
+                let not_gone : leaves_if before (database_entry before (key_of lsa)) ≡ false = ap (leaves_if before) at ∙ stays_if before x (subst (λ i. some_awaits i before.links ≡ true) (sym one) (awaits_some before l q i waits)) in
                 (lsa, ap copy_in (r.database (key_of lsa) ∙ cond-false _ _ _ not_gone) ∙ c, is)
 
     -- what ends a run has left
-    left : (key : LsaKey) (o : Option Entry) → ends_if before key o ≡ true → cond (leaves_if before o) None o ≡ None
+    left : (key : LsaKey) (o : Option Entry) → ends_run_if before key o ≡ true → cond (leaves_if before o) None o ≡ None
     left key None ends = absurd (false≢true ends)
     left key (Some e) ends =
         cond-true _ _ _ (and_parts (leaves_if before (Some e)) (is_own before.router key && is_last (Some e)) ends).0
 
-    by : (key : LsaKey) (o : Option Entry) → entry_of before key ≡ o → ends_if before key o ≡ true → HasLargest heard before out
+    by : (key : LsaKey) (o : Option Entry) → database_entry before key ≡ o → ends_run_if before key o ≡ true → HasLargest heard before out
     by key None at ends = absurd (false≢true ends)
     by key (Some e) at ends =
         let runs_out = (and_parts (leaves_if before (Some e)) (is_own before.router key && is_last (Some e)) ends).1 in
         let largest = (and_parts (is_own before.router key) (is_last (Some e)) runs_out).1 in
-        record { lsa = lsa_of e; has = Has.Held (lsa_of e) (copy_of-has before key (lsa_of e) (ap copy_in at)) refl; number = (Decides-int_eq (instance_at e).number max_sequence_number).0 largest }
+        record { lsa = lsa_of e; has = HasContents.Held (lsa_of e) (copy_of-has before key (lsa_of e) (ap copy_in at)) refl; number = (Decides-int_eq (instance_at e).number max_sequence_number).0 largest }

@@ -13,7 +13,7 @@ use Rattle.ospf_adjacency.specs.HelloLaws as hellos
 use Rattle.ospf_iface.specs.Machine.{is_down}
 use Rattle.ospf_adjacency.specs.Links.{down, hello_parcel, hello_ticked, is_hello_due, up}
 use Rattle.ospf_adjacency.proofs.GoLemmas.{hello_goes, timers_go}
-use Rattle.ospf_area.specs.Outputs.{AreRead, OutputsValue}
+use Rattle.ospf_area.specs.Outputs.{AreReadAsSent, OutputsValue}
 use Rattle.ospf_area.specs.Places.{flat_from}
 use Rattle.ospf_area.specs.Sending.{and_sends, own_of}
 use Rattle.ospf_area.specs.State.{AreaValue, LinkValue}
@@ -26,7 +26,7 @@ use Rattle.ospf_step.proofs.StateFacts.{Contains-nil}
 use Rattle.ospf_step.proofs.PutParts.{puts_sent}
 use Rattle.ospf_links.specs.Parts.{hello_out, hello_part, hello_sent, link_down, link_timed, link_up, neighbourhood_of, up_parcels, with_neighbourhood}
 use Rattle.ospf_area.specs.Posting.{local_of, posted_all}
-use Rattle.ospf_links.specs.Works.{changed, changed_on, up_out_on, work_sent, worked}
+use Rattle.ospf_links.specs.Works.{link_changed, some_changed, up_out_on, work_sent, worked}
 use Rattle.ospf_step.specs.Invariants.{AreRising}
 use Rattle.ospf_step.proofs.Known.{AreBare, bare_if, bare_known, event_bare, link_quiet, same_goes, links_known, none_known}
 use Rattle.ospf_step.proofs.Works.{all_links_put, nothing_read, one_link, puts_nothing, read_sent, same_quiet, silent_links_put, work_puts}
@@ -39,7 +39,7 @@ hello_bare i local h named t none p c = elim (event_bare i local (naming_event i
   | inr bare ↦ bare
 ]
 
-pub hello_puts : (f : Origin) (h : Hello) (named : Bool) (s t : AreaValue) (out out' : OutputsValue) → AreRead out'.sent → t ≡ worked (hello_part (own_of s) f h named s.next_dd) f.link s → out' ≡ and_sends out (work_sent (hello_part (own_of s) f h named s.next_dd) (own_of s) f.link s.links) → PutsOut (λ o. Quiet s o t) out out'
+pub hello_puts : (f : Origin) (h : Hello) (named : Bool) (s t : AreaValue) (out out' : OutputsValue) → AreReadAsSent out'.sent → t ≡ worked (hello_part (own_of s) f h named s.next_dd) f.link s → out' ≡ and_sends out (work_sent (hello_part (own_of s) f h named s.next_dd) (own_of s) f.link s.links) → PutsOut (λ o. Quiet s o t) out out'
 hello_puts f h named s t out out' read state outputs =
     work_puts (λ o. Quiet s o t) (hello_part (own_of s) f h named s.next_dd) f.link s.sent s t out out' state outputs read (λ same. same_quiet s t same)
     (λ link one.
@@ -58,10 +58,10 @@ hello_if b i ns = bare_if b (hello_parcel i ns) (λ is. (refl, refl))
 up_quiet : (s : AreaValue) (link : LinkValue) → LinkQuiet s link (link_up link)
 up_quiet s link = link_quiet s link (link_up link) (λ q. same_goes (neighbour_of link.neighbours q)) (λ a c. c)
 
-pub up_puts : (l : ℕ) (s t : AreaValue) (out out' : OutputsValue) → AreRead out'.sent → t ≡ changed link_up l s → out' ≡ and_sends out (up_out_on (slice_get s.links l) (own_of s) l) → PutsOut (λ o. Quiet s o t) out out'
+pub up_puts : (l : ℕ) (s t : AreaValue) (out out' : OutputsValue) → AreReadAsSent out'.sent → t ≡ link_changed link_up l s → out' ≡ and_sends out (up_out_on (slice_get s.links l) (own_of s) l) → PutsOut (λ o. Quiet s o t) out out'
 up_puts l s t out out' read state outputs = by (slice_get s.links l) refl state outputs
   where
-    by : (o : Option LinkValue) → slice_get s.links l ≡ o → t ≡ changed_on o link_up l s → out' ≡ and_sends out (up_out_on o (own_of s) l) → PutsOut (λ o. Quiet s o t) out out'
+    by : (o : Option LinkValue) → slice_get s.links l ≡ o → t ≡ some_changed o link_up l s → out' ≡ and_sends out (up_out_on o (own_of s) l) → PutsOut (λ o. Quiet s o t) out out'
     by None at state outputs = puts_sent (λ o. Quiet s o t) out out' [] (same_quiet s t state) outputs
     by (Some link) at state outputs =
         let ds = up_out_on (Some link) (own_of s) l in
@@ -69,7 +69,7 @@ up_puts l s t out out' read state outputs = by (slice_get s.links l) refl state 
         (one_quiet l link (link_up link) ds s _ t (one_link l link (link_up link) s.next_dd s.sent ds s t at state (read_sent out out' ds outputs read)) (up_quiet s link)
         (bare_known s l (up link.iface) (up_parcels link) (hello_if (is_down link.iface.state) (up link.iface) link.neighbours))) outputs
 
-all_leave : (o : Option NeighbourValue) → hellos.Goes o None
+all_leave : (o : Option NeighbourValue) → hellos.KeepsOrLosesLists o None
 all_leave None = tt
 all_leave (Some n) = tt
 
@@ -83,10 +83,10 @@ down_quiet s link = go (is_down link.iface.state)
     go true = quiet_same s link
     go false = link_quiet s link gone (λ q. all_leave (neighbour_of link.neighbours q)) (λ a c. absurd (Contains-nil a c))
 
-pub down_puts : (l : ℕ) (s t : AreaValue) (out : OutputsValue) → t ≡ changed link_down l s → PutsOut (λ o. Quiet s o t) out out
+pub down_puts : (l : ℕ) (s t : AreaValue) (out : OutputsValue) → t ≡ link_changed link_down l s → PutsOut (λ o. Quiet s o t) out out
 down_puts l s t out state = by (slice_get s.links l) refl state
   where
-    by : (o : Option LinkValue) → slice_get s.links l ≡ o → t ≡ changed_on o link_down l s → PutsOut (λ o. Quiet s o t) out out
+    by : (o : Option LinkValue) → slice_get s.links l ≡ o → t ≡ some_changed o link_down l s → PutsOut (λ o. Quiet s o t) out out
     by None at state = puts_nothing (λ o. Quiet s o t) out (same_quiet s t state)
     by (Some link) at state =
         puts_nothing (λ o. Quiet s o t) out
@@ -99,7 +99,7 @@ timers_put s t out rising state =
     silent_links_put link_timed s t out (ap (λ (a : AreaValue). a.links) state) (subst (λ a. ChangesLinks s a) (sym state) refl)
     (λ l link at. link_quiet s link (link_timed link) (λ q. timers_go link.neighbours q (rising l link at)) (λ a c. c))
 
-pub due_hellos_put : (s t : AreaValue) (out out' : OutputsValue) → AreRead out'.sent → t ≡ record s { links = map hello_sent s.links } → out' ≡ and_sends out (flat_from (hello_out (own_of s)) 0 s.links) → PutsOut (λ o. Quiet s o t) out out'
+pub due_hellos_put : (s t : AreaValue) (out out' : OutputsValue) → AreReadAsSent out'.sent → t ≡ record s { links = map hello_sent s.links } → out' ≡ and_sends out (flat_from (hello_out (own_of s)) 0 s.links) → PutsOut (λ o. Quiet s o t) out out'
 due_hellos_put s t out out' read state outputs =
     all_links_put hello_sent (flat_from (hello_out (own_of s)) 0 s.links) s t out out' (ap (λ (a : AreaValue). a.links) state) (subst (λ a. ChangesLinks s a) (sym state) refl) outputs read
     (λ l link at. link_quiet s link (hello_sent link) (λ q. same_goes (neighbour_of link.neighbours q)) (λ h c. c))

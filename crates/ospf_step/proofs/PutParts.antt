@@ -8,16 +8,16 @@ use Rattle.ospf_base.specs.declared.ids.Instance.{Instance}
 use Rattle.ospf_base.specs.declared.ids.LsaKey.{LsaKey}
 use Rattle.ospf_lsa.specs.declared.header.LsaHeader.{LsaHeader}
 use Rattle.ospf_lsdb.specs.Database.{Entry, IsDatabase, reached_at}
-use Rattle.ospf_area.specs.Outputs.{AreRead, OutputsValue, SentValue, no_outputs, sends, then_outputs}
+use Rattle.ospf_area.specs.Outputs.{AreReadAsSent, OutputsValue, SentValue, no_outputs, sends, then_outputs}
 use Rattle.ospf_area.specs.Places.{flat_from}
 use Rattle.ospf_area.specs.Sending.{and_sends, own_of}
-use Rattle.ospf_area.specs.State.{AreaValue, LinkValue, entry_of}
+use Rattle.ospf_area.specs.State.{AreaValue, LinkValue, database_entry}
 use Rattle.ospf_area.specs.declared.flooding.Origin.{Origin}
 use Rattle.ospf_update.specs.Acks.{delayed_out, delayed_out_on, undelayed, undelayed_link}
 use Rattle.ospf_update.specs.Aging.{Flushes, TickAges, copies_sent, copy_sent}
 use Rattle.ospf_update.specs.Meets.{header_met}
 use Rattle.ospf_update.specs.Removal.{Removes, RemovesAll, and_ends, ends_run, leaving}
-use Rattle.ospf_step.specs.Links.{AllEach, AreKnown, ChangesLinks, IsIn, IsKnownPacket, LinkQuiet}
+use Rattle.ospf_step.specs.Links.{AllEach, AreKnown, ChangesLinks, IsLinkIn, IsKnownPacket, LinkQuiet}
 use Rattle.ospf_step.specs.Neighbours.{Quiet}
 use Rattle.ospf_step.specs.Parts.{ExpiryPart, RemovalPart}
 use Rattle.ospf_step.specs.Puts.{PutsOut, headers_met}
@@ -37,8 +37,8 @@ pub puts_sent : (R : OutputsValue → Type 0) (out out' : OutputsValue) (ds : Li
 puts_sent R out out' ds is outputs = record { own = sends ds; is = is; behind = outputs ∙ then_sends out ds }
 
 -- what it sent is read
-read_own : (out out' : OutputsValue) (ds : List SentValue) → out' ≡ and_sends out ds → AreRead out'.sent → AreRead ds
-read_own out out' ds outputs read = AreRead-right out (sends ds) (subst (λ o. AreRead o.sent) (outputs ∙ then_sends out ds) read)
+read_own : (out out' : OutputsValue) (ds : List SentValue) → out' ≡ and_sends out ds → AreReadAsSent out'.sent → AreReadAsSent ds
+read_own out out' ds outputs read = AreRead-right out (sends ds) (subst (λ o. AreReadAsSent o.sent) (outputs ∙ then_sends out ds) read)
 
 -- ---- headers of an Acknowledgment
 
@@ -59,11 +59,11 @@ same_databases (key ∷ keys) s = same_databases keys (copy_sent key s) ∙ same
 pub mid_is_database : (s t : AreaValue) (sent : List SentValue) → (a : TickAges s sent t) → IsDatabase t.database → IsDatabase a.mid.database
 mid_is_database s t sent a is = subst IsDatabase (ap (λ s. s.database) a.state ∙ same_databases (reached_at max_age a.mid.database) a.mid) is
 
-pub ages_put : (s t : AreaValue) (out out' : OutputsValue) (sent : List SentValue) → IsDatabase t.database → AreRead out'.sent → TickAges s sent t → out' ≡ and_sends out sent → PutsOut (λ o. IsPart Part.Ages s o t) out out'
+pub ages_put : (s t : AreaValue) (out out' : OutputsValue) (sent : List SentValue) → IsDatabase t.database → AreReadAsSent out'.sent → TickAges s sent t → out' ≡ and_sends out sent → PutsOut (λ o. IsPart Part.Ages s o t) out out'
 ages_put s t out out' sent is read ages outputs =
     puts_sent (λ o. IsPart Part.Ages s o t) out out' sent (TickAges-is_part s t sent ages (mid_is_database s t sent ages is) (read_own out out' sent outputs read)) outputs
 
-pub flushes_put : (key : LsaKey) (copy : Entry) (s t : AreaValue) (out out' : OutputsValue) (sent : List SentValue) → IsDatabase s.database → entry_of s key ≡ Some copy → AreRead out'.sent → Flushes key s sent t → out' ≡ and_sends out sent → PutsOut (λ o. AndRequests (ExpiryPart key copy) s o t) out out'
+pub flushes_put : (key : LsaKey) (copy : Entry) (s t : AreaValue) (out out' : OutputsValue) (sent : List SentValue) → IsDatabase s.database → database_entry s key ≡ Some copy → AreReadAsSent out'.sent → Flushes key s sent t → out' ≡ and_sends out sent → PutsOut (λ o. AndRequests (ExpiryPart key copy) s o t) out out'
 flushes_put key copy s t out out' sent is at read flushes outputs =
     puts_sent (λ o. AndRequests (ExpiryPart key copy) s o t) out out' sent (Flushes-is_part key copy s t sent is at flushes (read_own out out' sent outputs read)) outputs
 
@@ -75,7 +75,7 @@ undelayed_quiet s link = record {
   enters = λ q up. up;
 }
 
-acks_known : (s : AreaValue) (link : LinkValue) → IsIn s link → (k : ℕ) → AreKnown s (delayed_out_on (own_of s) k link)
+acks_known : (s : AreaValue) (link : LinkValue) → IsLinkIn s link → (k : ℕ) → AreKnown s (delayed_out_on (own_of s) k link)
 acks_known s link (l, at) k d c =
     let is = acks-packets (own_of s) _ link.settings.mtu link.delayed d c in
     subst (λ m. IsKnownPacket s m) (sym is.packet) (record {
@@ -84,14 +84,14 @@ acks_known s link (l, at) k d c =
       names = λ i lists. let (h, inside, of) = lists in CanName.ToAcknowledge l (h, subst (λ o. Contains (delayed_in o) h) (sym at) (is.within h inside), of);
     })
 
-all_acks_known : (s : AreaValue) (k : ℕ) (links : List LinkValue) → ((l : ℕ) (link : LinkValue) → slice_get links l ≡ Some link → IsIn s link) → AreKnown s (flat_from (delayed_out_on (own_of s)) k links)
+all_acks_known : (s : AreaValue) (k : ℕ) (links : List LinkValue) → ((l : ℕ) (link : LinkValue) → slice_get links l ≡ Some link → IsLinkIn s link) → AreKnown s (flat_from (delayed_out_on (own_of s)) k links)
 all_acks_known s k [] within d c = absurd (Contains-nil d c)
 all_acks_known s k (link ∷ links) within d c = elim (Contains-append_cases (delayed_out_on (own_of s) k link) (flat_from (delayed_out_on (own_of s)) (suc k) links) d c) [
   | inl here ↦ acks_known s link (within 0 link refl) k d here
   | inr later ↦ all_acks_known s (suc k) links (λ l link at. within (suc l) link at) d later
 ]
 
-pub acknowledgements_put : (s t : AreaValue) (out out' : OutputsValue) → AreRead out'.sent → t ≡ record s { links = undelayed s.links } → out' ≡ and_sends out (delayed_out (own_of s) s.links) → PutsOut (λ o. Quiet s o t) out out'
+pub acknowledgements_put : (s t : AreaValue) (out out' : OutputsValue) → AreReadAsSent out'.sent → t ≡ record s { links = undelayed s.links } → out' ≡ and_sends out (delayed_out (own_of s) s.links) → PutsOut (λ o. Quiet s o t) out out'
 acknowledgements_put s t out out' read state outputs =
     let ds = delayed_out (own_of s) s.links in
     let links : t.links ≡ undelayed s.links = ap (λ s. s.links) state in

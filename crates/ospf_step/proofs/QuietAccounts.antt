@@ -19,15 +19,15 @@ use Rattle.ospf_neighbour.specs.Laws.{Waits}
 use Rattle.ospf_neighbour.specs.Machine.{is_exchanging}
 use Rattle.ospf_neighbour.specs.Neighbour.{NeighbourValue}
 use Rattle.ospf_area.specs.Outputs.{OutputsValue, no_outputs}
-use Rattle.ospf_area.specs.State.{AreaValue, LinkValue, neighbour, state_of, state_in, entry_of, copy_in, kept_number, Awaits, WaitsIn}
-use Rattle.ospf_step.specs.Headers.{IsOf, Lists}
-use Rattle.ospf_step.specs.Packets.{Received, lsas_in, headers_in, dd_headers_in, acknowledging_headers_in}
+use Rattle.ospf_area.specs.State.{AreaValue, LinkValue, neighbour, state_of, state_in, database_entry, copy_in, kept_number, Awaits, WaitsIn}
+use Rattle.ospf_step.specs.Headers.{IsOfInstance, Lists}
+use Rattle.ospf_step.specs.Packets.{Received, lsas_in, headers_in_packet, dd_headers_in, acknowledging_headers_in}
 use Rattle.ospf_area.specs.Places.{map_from}
 use Rattle.ospf_step.specs.Unchanged.{DoesNothing}
-use Rattle.ospf_step.specs.Words.{CanName, Holds, HasCopy, Brings, IsSoundState, delayed, delayed_in, list_in}
+use Rattle.ospf_step.specs.Words.{CanName, HoldsInstance, HasCopy, Brings, IsSoundState, delayed, delayed_in, list_in}
 use Rattle.ospf_update.specs.Removal.{lowest_number}
 use Rattle.ospf_lsdb.specs.Moments.{among}
-use Rattle.ospf_step.specs.Accounts.{Accounts, Adjusts, WasHeld, WasKept, HasLargest, Numbers, Has, Hears, IsAcknowledged, Sends, MayLeave}
+use Rattle.ospf_step.specs.Accounts.{Accounts, Adjusts, WasHeld, WasKept, HasLargest, Numbers, HasContents, Hears, IsAcknowledged, Sends, MayLeave}
 use Rattle.ospf_step.proofs.StateFacts.{Contains-nil, same_contents, neighbour-changed, link-changed, neighbour-router, list-changed}
 
 pub brings_none : (out : OutputsValue) (i : Instance) → out.taken ≡ [] → out.issued ≡ [] → Brings out i → ⊥
@@ -64,8 +64,8 @@ pub Adjusts-accounts : (heard : Option Received) (before : AreaValue) (out : Out
 Adjusts-accounts heard before out after a = record {
   same_router = a.same_router;
   bears = a.bears;
-  database = λ lsa c. let was = a.copies lsa c in Has.Held was.old was.copy was.same;
-  updates = λ p lsa sends c. let was = a.updates p lsa sends c in Has.Held was.lsa was.copy was.same;
+  database = λ lsa c. let was = a.copies lsa c in HasContents.Held was.old was.copy was.same;
+  updates = λ p lsa sends c. let was = a.updates p lsa sends c in HasContents.Held was.lsa was.copy was.same;
   names = a.names;
   named = λ p i sends c. inl (a.named p i sends c);
   holds = λ i h. let (lsa, copy, is) = h in let was = a.copies lsa copy in inl (was.old, was.copy, same_contents was.old lsa was.same ∙ is);
@@ -83,7 +83,7 @@ same_lsa a (x ∷ y ∷ rest) same long is = subst (λ c. IsLsa (x ∷ y ∷ c))
 
 -- a copy has its two bytes of the age
 pub copy_long : (s : AreaValue) (lsa : List ℕ) → HasCopy s lsa → 2 ≤ length lsa
-copy_long s lsa c = go (entry_of s (key_of lsa)) c
+copy_long s lsa c = go (database_entry s (key_of lsa)) c
   where
     go : (o : Option Entry) → copy_in o ≡ Some lsa → 2 ≤ length lsa
     go None e = absurd (none-some lsa e)
@@ -149,23 +149,23 @@ Adjusts-with_packet heard before out after same a = record {
   leaves = λ l q i c. elim (a.leaves l q i c) [ inl stays ↦ inl stays | inr left ↦ inr (elim left [ inl e ↦ absurd (deaf acknowledging_headers_in l q i e) | inr fell ↦ inr fell ]) ];
 }
   where
-    hear : (content : List ℕ) → Has None before out content → Has heard before out content
-    hear content (Has.Held lsa c e) = Has.Held lsa c e
-    hear content (Has.Heard p lsa h c e) = absurd (none-some p h)
-    hear content (Has.Issued lsa c e) = Has.Issued lsa c e
+    hear : (content : List ℕ) → HasContents None before out content → HasContents heard before out content
+    hear content (HasContents.Held lsa c e) = HasContents.Held lsa c e
+    hear content (HasContents.Heard p lsa h c e) = absurd (none-some p h)
+    hear content (HasContents.Issued lsa c e) = HasContents.Issued lsa c e
 
     deaf : (headers : Meaning → List LsaHeader) (l : ℕ) (q : RouterId) (i : Instance) → Hears headers None l q i → ⊥
     deaf headers l q i e = none-some e.received e.is_heard
 
 -- the header is of what the router can name, or takes now
 abbrev pub IsNamed : AreaValue → OutputsValue → LsaHeader → Type 0
-IsNamed s out h = (i : Instance) → IsOf h i → CanName s i ⊎ Brings out i
+IsNamed s out h = (i : Instance) → IsOfInstance h i → CanName s i ⊎ Brings out i
 
 -- a change of neighbours that only shrinks their lists. The database, the numbers and the Router ID stay
 pub record OnlyShrinks (heard : Option Received) (before : AreaValue) (out : OutputsValue) (f : ℕ → LinkValue → LinkValue) (g : ℕ → NeighbourValue → NeighbourValue) (after : AreaValue) : Type 0 where
   pub links : after.links ≡ map_from f 0 before.links
   pub same_router : after.router ≡ before.router
-  pub database : (key : LsaKey) → entry_of after key ≡ entry_of before key
+  pub database : (key : LsaKey) → database_entry after key ≡ database_entry before key
   pub numbering : (key : LsaKey) → kept_number after key ≡ kept_number before key
   pub direct : (h : LsaHeader) → Contains after.direct h → Contains before.direct h ⊎ IsNamed before out h
   pub each : (l : ℕ) (link : LinkValue) → (f l link).neighbours ≡ map (g l) link.neighbours
@@ -179,12 +179,12 @@ pub record OnlyShrinks (heard : Option Received) (before : AreaValue) (out : Out
 
 -- the outputs install, issue and end nothing, and their packets have copies, and name what the router can name
 pub record OnlySendsKnown (before : AreaValue) (out : OutputsValue) : Type 0 where
-  pub unheld : (i : Instance) → Brings out i → Holds before i → ⊥
+  pub unheld : (i : Instance) → Brings out i → HoldsInstance before i → ⊥
   pub issued : out.issued ≡ []
   pub ended : out.ended ≡ []
   pub bears : (p : Meaning) → Sends out p → p.router ≡ before.router
   pub updates : (p : Meaning) (lsa : List ℕ) → Sends out p → Contains (lsas_in p) lsa → WasHeld before (contents lsa)
-  pub named : (p : Meaning) (i : Instance) → Sends out p → Lists (headers_in p) i → CanName before i
+  pub named : (p : Meaning) (i : Instance) → Sends out p → Lists (headers_in_packet p) i → CanName before i
 
 pub waits_in : (o : Option NeighbourValue) (i : Instance) → WaitsIn o i → (n : NeighbourValue) × (o ≡ Some n) × Waits n i
 waits_in None i w = absurd w

@@ -6,16 +6,16 @@ use Rattle.std.specs.Option.{option_map}
 use Rattle.std.proofs.lemmas.Bool.{false≢true, cases_Bool, cond-true, cond-false}
 use Rattle.ospf_base.specs.declared.ids.LsaKey.{LsaKey}
 use Rattle.ospf_lsdb.specs.Database as lsdb
-use Rattle.ospf_lsdb.specs.Database.{Entry, Held, IsDatabase, IsRising, Puts, held_of, key_at, key_in, removed, is_expired, entries, instance_at}
+use Rattle.ospf_lsdb.specs.Database.{Entry, Held, IsDatabase, AreKeysRising, Puts, held_of, key_at, key_in, removed, is_expired, entries, instance_at}
 use Rattle.ospf_lsdb.proofs.MapLemmas.{after-none}
 use Rattle.ospf_base.specs.Keys.{same_key}
 use Rattle.ospf_base.proofs.SameKeys.{same_key-eq}
 use Rattle.ospf_area.specs.Numbers.{is_numbering_of, is_own}
 use Rattle.ospf_area.specs.Outputs.{OutputsValue, no_outputs}
 use Rattle.ospf_update.specs.Removal.{is_leaving, key_of_entry, leaving, is_last, ends_run, reset_one, reset, and_ends, RemovesOne, RemovesAll, Removes, some_awaits, lowest_number}
-use Rattle.ospf_area.specs.State.{AreaValue, entry_of, kept_number, kept_in, numbering_of, some_link_loading}
+use Rattle.ospf_area.specs.State.{AreaValue, database_entry, kept_number, kept_in, numbering_of, some_link_loading}
 use Rattle.ospf_area.specs.declared.state.Numbering.{Numbering}
-use Rattle.ospf_step.specs.Parts.{RemovalPart, leaves_if, ends_if}
+use Rattle.ospf_step.specs.Parts.{RemovalPart, leaves_if, ends_run_if}
 use Rattle.ospf_lsdb.specs.Moments.{among}
 use Rattle.ospf_step.proofs.StateFacts.{find-map, find-some}
 use Rattle.ospf_step.proofs.NumberFacts.{first_found, find-append, any_found, none_found}
@@ -73,12 +73,12 @@ last-gone (Some e) = go (e.age == max_age)
     go true = inr refl
     go false = inl refl
 
-one_entry : (key : LsaKey) (s t : AreaValue) (out out' : OutputsValue) → RemovesOne key s out out' t → (k : LsaKey) → entry_of t k ≡ (if same_key key k then gone (entry_of s k) else entry_of s k)
+one_entry : (key : LsaKey) (s t : AreaValue) (out out' : OutputsValue) → RemovesOne key s out out' t → (k : LsaKey) → database_entry t k ≡ (if same_key key k then gone (database_entry s k) else database_entry s k)
 one_entry key s t out out' r k =
     ap (option_map (λ h. h.entry)) (r.database k) ∙ go (same_key key k) refl
   where
-    go : (b : Bool) → same_key key k ≡ b → option_map (λ h. h.entry) (cond b (removed (held_of s.database key)) (held_of s.database k)) ≡ cond b (gone (entry_of s k)) (entry_of s k)
-    go true is = removed-gone (held_of s.database key) ∙ ap (λ q. gone (entry_of s q)) (same_key-eq key k is)
+    go : (b : Bool) → same_key key k ≡ b → option_map (λ h. h.entry) (cond b (removed (held_of s.database key)) (held_of s.database k)) ≡ cond b (gone (database_entry s k)) (database_entry s k)
+    go true is = removed-gone (held_of s.database key) ∙ ap (λ q. gone (database_entry s q)) (same_key-eq key k is)
     go false is = refl
 
 one-key : (key : LsaKey) (n : Numbering) → (reset_one key n).key ≡ n.key
@@ -141,7 +141,7 @@ one_ended key s t out out' r k = ap (λ o. among o.ended k) r.outputs ∙ go (en
 
 -- what becomes of one key
 record RemovedAt (keys : List LsaKey) (s t : AreaValue) (out out' : OutputsValue) (k : LsaKey) : Type 0 where
-  entry : entry_of t k ≡ (if among keys k then gone (entry_of s k) else entry_of s k)
+  entry : database_entry t k ≡ (if among keys k then gone (database_entry s k) else database_entry s k)
   kept : kept_number t k ≡ (if among keys k && ends_run s k then lowest_number else kept_number s k)
   ended : among out'.ended k ≡ among out.ended k || (among keys k && ends_run s k)
 
@@ -192,14 +192,14 @@ two_ended false false later false then_ p q = ap (λ b. later && b) (q refl)
 
 all_removed : (keys : List LsaKey) (s t : AreaValue) (out out' : OutputsValue) → RemovesAll keys s out out' t → (k : LsaKey) → RemovedAt keys s t out out' k
 all_removed [] s t out out' (state, outputs) k = record {
-  entry = ap (λ s. entry_of s k) state;
+  entry = ap (λ s. database_entry s k) state;
   kept = ap (λ s. kept_number s k) state;
   ended = ap (λ o. among o.ended k) outputs ∙ sym (or_false (among out.ended k));
 }
 all_removed (key ∷ keys) s t out out' (m, so_far, one, rest) k =
     let r = all_removed keys m t so_far out' rest k in
     record {
-      entry = r.entry ∙ (ap (λ o. cond (among keys k) (gone o) o) (one_entry key s m out so_far one k) ∙ entries_by (same_key key k) (among keys k) (entry_of s k));
+      entry = r.entry ∙ (ap (λ o. cond (among keys k) (gone o) o) (one_entry key s m out so_far one k) ∙ entries_by (same_key key k) (among keys k) (database_entry s k));
       kept = r.kept ∙ (ap (λ n. cond (among keys k && ends_run m k) lowest_number n) (one_kept key s m out so_far one k) ∙ kept_by (same_key key k) refl (among keys k));
       ended = r.ended ∙ (ap (λ b. b || (among keys k && ends_run m k)) (one_ended key s m out so_far one k ∙ ap (λ b. among out.ended k || b) (here (same_key key k) refl))
           ∙ two_ended (among out.ended k) (same_key key k) (among keys k) (ends_run s k) (ends_run m k) same_run other_run);
@@ -218,19 +218,19 @@ all_removed (key ∷ keys) s t out out' (m, so_far, one, rest) k =
     same_owner : m.router ≡ s.router
     same_owner = ap (λ s. s.router) one.rest
 
-    run_at : (o : Option Entry) → entry_of m k ≡ o → ends_run m k ≡ is_own s.router k && is_last o
-    run_at o at = ap (λ r. is_own r k && is_last (entry_of m k)) same_owner ∙ ap (λ o. is_own s.router k && is_last o) at
+    run_at : (o : Option Entry) → database_entry m k ≡ o → ends_run m k ≡ is_own s.router k && is_last o
+    run_at o at = ap (λ r. is_own r k && is_last (database_entry m k)) same_owner ∙ ap (λ o. is_own s.router k && is_last o) at
 
     same_run : same_key key k ≡ true → (ends_run m k ≡ ends_run s k) ⊎ (ends_run m k ≡ false)
     same_run is =
-        let at : entry_of m k ≡ gone (entry_of s k) = one_entry key s m out so_far one k ∙ cond-true (same_key key k) _ _ is in
-        elim (last-gone (entry_of s k)) [
-          | inl as_before ↦ inl (run_at (gone (entry_of s k)) at ∙ ap (λ b. is_own s.router k && b) as_before)
-          | inr none ↦ inr (run_at (gone (entry_of s k)) at ∙ (ap (λ b. is_own s.router k && b) none ∙ and_false (is_own s.router k)))
+        let at : database_entry m k ≡ gone (database_entry s k) = one_entry key s m out so_far one k ∙ cond-true (same_key key k) _ _ is in
+        elim (last-gone (database_entry s k)) [
+          | inl as_before ↦ inl (run_at (gone (database_entry s k)) at ∙ ap (λ b. is_own s.router k && b) as_before)
+          | inr none ↦ inr (run_at (gone (database_entry s k)) at ∙ (ap (λ b. is_own s.router k && b) none ∙ and_false (is_own s.router k)))
         ]
 
     other_run : same_key key k ≡ false → ends_run m k ≡ ends_run s k
-    other_run is = run_at (entry_of s k) (one_entry key s m out so_far one k ∙ cond-false (same_key key k) _ _ is)
+    other_run is = run_at (database_entry s k) (one_entry key s m out so_far one k ∙ cond-false (same_key key k) _ _ is)
 
     numbers : (same later here then_ : Bool) → (same ≡ true → (then_ ≡ here) ⊎ (then_ ≡ false)) → (same ≡ false → then_ ≡ here) → (low n : ℤ) → cond (later && then_) low (cond (here && same) low n) ≡ cond ((same || later) && here) low n
     numbers true true true true p q low n = refl
@@ -253,7 +253,7 @@ passes p None = false
 passes p (Some e) = p e
 
 -- a key is among those of the entries that pass a test, where its entry passes
-keys_pass : (p : Entry → Bool) (db : List Held) (k : LsaKey) → IsRising db → among (map key_of_entry (filter p (entries db))) k ≡ passes p (lsdb.entry_of db k)
+keys_pass : (p : Entry → Bool) (db : List Held) (k : LsaKey) → AreKeysRising db → among (map key_of_entry (filter p (entries db))) k ≡ passes p (lsdb.entry_of db k)
 unfolding passes
 keys_pass p [] k rises = refl
 keys_pass p (h ∷ hs) k rises = go (p h.entry) refl (same_key (key_at h) k) refl (keys_pass p hs k rises.1)
@@ -293,12 +293,12 @@ unfolding leaves_with
 as_leaves s None = refl
 as_leaves s (Some e) = refl
 
-leaving_by : (s : AreaValue) (k : LsaKey) → IsDatabase s.database → among (leaving s) k ≡ leaves_if s (entry_of s k)
-leaving_by s k is = go (some_link_loading s.links) ∙ as_leaves s (entry_of s k)
+leaving_by : (s : AreaValue) (k : LsaKey) → IsDatabase s.database → among (leaving s) k ≡ leaves_if s (database_entry s k)
+leaving_by s k is = go (some_link_loading s.links) ∙ as_leaves s (database_entry s k)
   where
-    go : (b : Bool) → among (cond b [] (map key_of_entry (filter (is_leaving s.links) (entries s.database)))) k ≡ leaves_with b s (entry_of s k)
-    go true = sym (none_leaves s (entry_of s k))
-    go false = keys_pass (is_leaving s.links) s.database k is.rising ∙ some_leave s (entry_of s k)
+    go : (b : Bool) → among (cond b [] (map key_of_entry (filter (is_leaving s.links) (entries s.database)))) k ≡ leaves_with b s (database_entry s k)
+    go true = sym (none_leaves s (database_entry s k))
+    go false = keys_pass (is_leaving s.links) s.database k is.rising ∙ some_leave s (database_entry s k)
 
 -- what leaves is gone
 gone_leaves : (s : AreaValue) (o : Option Entry) → (if leaves_if s o then gone o else o) ≡ (if leaves_if s o then None else o)
@@ -312,14 +312,14 @@ gone_leaves s (Some e) = go (not (some_link_loading s.links)) (e.age == max_age)
     go true false c = refl
     go false b c = refl
 
-ends_by : (s : AreaValue) (k : LsaKey) (o : Option Entry) → leaves_if s o && (is_own s.router k && is_last o) ≡ ends_if s k o
+ends_by : (s : AreaValue) (k : LsaKey) (o : Option Entry) → leaves_if s o && (is_own s.router k && is_last o) ≡ ends_run_if s k o
 ends_by s k None = refl
 ends_by s k (Some e) = refl
 
 -- the removals that end a step (14, 12.1.6)
 pub Removes-is_part : (before after : AreaValue) (out : OutputsValue) → IsDatabase before.database → Removes before no_outputs out after → RemovalPart before out after
 Removes-is_part before after out is r = record {
-  database = λ k. (all_removed (leaving before) before after no_outputs out r.all k).entry ∙ (ap (λ b. cond b (gone (entry_of before k)) (entry_of before k)) (leaving_by before k is) ∙ gone_leaves before (entry_of before k));
+  database = λ k. (all_removed (leaving before) before after no_outputs out r.all k).entry ∙ (ap (λ b. cond b (gone (database_entry before k)) (database_entry before k)) (leaving_by before k is) ∙ gone_leaves before (database_entry before k));
   same_links = rest.links;
   same_router = rest.router;
   same_direct = rest.direct;
@@ -327,7 +327,7 @@ Removes-is_part before after out is r = record {
   sent = rest.sent;
   taken = rest.taken;
   issued = rest.issued;
-  ended = λ k. (all_removed (leaving before) before after no_outputs out r.all k).ended ∙ (ap (λ b. b && ends_run before k) (leaving_by before k is) ∙ ends_by before k (entry_of before k));
+  ended = λ k. (all_removed (leaving before) before after no_outputs out r.all k).ended ∙ (ap (λ b. b && ends_run before k) (leaving_by before k is) ∙ ends_by before k (database_entry before k));
 }
   where
     rest : RestStays before after no_outputs out

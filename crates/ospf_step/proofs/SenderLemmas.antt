@@ -9,7 +9,7 @@ use Rattle.ospf_iface.specs.declared.machine.Iface.{Iface}
 use Rattle.ospf_lsa.specs.declared.header.LsaHeader.{LsaHeader}
 use Rattle.ospf_neighbour.specs.Machine.{is_exchanging}
 use Rattle.ospf_neighbour.specs.Neighbour.{NeighbourValue}
-use Rattle.ospf_neighbour.specs.Neighbours.{IsRising, at_address, max_neighbours, neighbour_of}
+use Rattle.ospf_neighbour.specs.Neighbours.{AreNeighboursRising, at_address, max_neighbours, neighbour_of}
 use Rattle.ospf_packet.specs.Meaning.{BodyMeaning, hello, description, request, update, acknowledgment}
 use Rattle.ospf_packet.specs.declared.body.Description.{Description}
 use Rattle.ospf_adjacency.specs.Adjacency.{is_broadcast}
@@ -29,7 +29,7 @@ none_at (m ∷ ms) a q n above is same = elim (eqb_tells m.address.0 a.0) [
 ]
 
 -- one that its address finds is found by its Router ID
-by_address : (ns : List NeighbourValue) (a : Addr) (q : RouterId) (n : NeighbourValue) → IsRising ns → at_address ns a ≡ Some n → n.router.0 ≡ q.0 → neighbour_of ns q ≡ Some n
+by_address : (ns : List NeighbourValue) (a : Addr) (q : RouterId) (n : NeighbourValue) → AreNeighboursRising ns → at_address ns a ≡ Some n → n.router.0 ≡ q.0 → neighbour_of ns q ≡ Some n
 by_address [] a q n rises is same = absurd cc
 by_address (m ∷ ms) a q n rises is same = elim (eqb_tells m.address.0 a.0) [
   | inl w ↦
@@ -45,7 +45,7 @@ by_address (m ∷ ms) a q n rises is same = elim (eqb_tells m.address.0 a.0) [
       ]
 ]
 
-by_kind : (b : Bool) (ns : List NeighbourValue) (source : Addr) (q : RouterId) (n : NeighbourValue) → IsRising ns → (if b then at_address ns source else neighbour_of ns q) ≡ Some n → n.router.0 ≡ q.0 → neighbour_of ns q ≡ Some n
+by_kind : (b : Bool) (ns : List NeighbourValue) (source : Addr) (q : RouterId) (n : NeighbourValue) → AreNeighboursRising ns → (if b then at_address ns source else neighbour_of ns q) ≡ Some n → n.router.0 ≡ q.0 → neighbour_of ns q ≡ Some n
 by_kind true ns source q n rises is same = by_address ns source q n rises is same
 by_kind false ns source q n rises is same = is
 
@@ -59,14 +59,14 @@ few_new true n e = absurd cc
 few_new false n e = elim (leb_tells (suc n) max_neighbours) [ inl w ↦ omega (arith, w.1) | inr w ↦ absurd (let bad : Some dropped.State ≡ None = rw w.0 at e in cc) ]
 
 -- a Hello of a known router needs no room
-room : (o : Option NeighbourValue) (i : Iface) (ns : List NeighbourValue) (q : RouterId) (source : Addr) → IsRising ns → sender_in i ns q source ≡ o → drop_of_hello i ns q o ≡ None → neighbour_of ns q ≡ None → length ns < max_neighbours
+room : (o : Option NeighbourValue) (i : Iface) (ns : List NeighbourValue) (q : RouterId) (source : Addr) → AreNeighboursRising ns → sender_in i ns q source ≡ o → drop_of_hello i ns q o ≡ None → neighbour_of ns q ≡ None → length ns < max_neighbours
 room None i ns q source rises is e none = few_new (is_elsewhere i ns q) (length ns) e
 room (Some n) i ns q source rises is e none = elim (eqb_tells n.router.0 q.0) [
   | inl w ↦ absurd (let bad : None ≡ Some n = sym none ∙ senders i ns q source n rises is w.1 in cc)
   | inr w ↦ absurd (let bad : Some dropped.WrongRouter ≡ None = rw w.0 at e in cc)
 ]
 
-hello_room : (b : Bool) (i : Iface) (ns : List NeighbourValue) (q : RouterId) (source : Addr) → IsRising ns
+hello_room : (b : Bool) (i : Iface) (ns : List NeighbourValue) (q : RouterId) (source : Addr) → AreNeighboursRising ns
     → (if b then drop_of_hello i ns q (sender_in i ns q source) else Some dropped.HelloMismatch) ≡ None → neighbour_of ns q ≡ None → length ns < max_neighbours
 hello_room true i ns q source rises e none = room (sender_in i ns q source) i ns q source rises refl e none
 hello_room false i ns q source rises e none = absurd cc
@@ -79,7 +79,7 @@ if_so : (b : Bool) (d : Dropped) → (if b then None else Some d) ≡ None → b
 if_so true d e = refl
 if_so false d e = absurd cc
 
-described : (o : Option NeighbourValue) (local : Local) (i : Iface) (ns : List NeighbourValue) (q : RouterId) (source : Addr) (d : Description) (hs : List LsaHeader) → IsRising ns → sender_in i ns q source ≡ o
+described : (o : Option NeighbourValue) (local : Local) (i : Iface) (ns : List NeighbourValue) (q : RouterId) (source : Addr) (d : Description) (hs : List LsaHeader) → AreNeighboursRising ns → sender_in i ns q source ≡ o
     → drop_of_description local q d hs o ≡ None → (n : NeighbourValue) × (neighbour_of ns q ≡ Some n) × (dd_dropped local q d hs n ≡ false)
 described None local i ns q source d hs rises is e = absurd cc
 described (Some n) local i ns q source d hs rises is e = elim (eqb_tells n.router.0 q.0) [
@@ -87,14 +87,14 @@ described (Some n) local i ns q source d hs rises is e = elim (eqb_tells n.route
   | inr w ↦ absurd (let bad : Some dropped.WrongRouter ≡ None = rw w.0 at e in cc)
 ]
 
-exchanging : (o : Option NeighbourValue) (i : Iface) (ns : List NeighbourValue) (q : RouterId) (source : Addr) → IsRising ns → sender_in i ns q source ≡ o → drop_below_exchange q o ≡ None → IsExchanging ns q
+exchanging : (o : Option NeighbourValue) (i : Iface) (ns : List NeighbourValue) (q : RouterId) (source : Addr) → AreNeighboursRising ns → sender_in i ns q source ≡ o → drop_below_exchange q o ≡ None → IsExchanging ns q
 exchanging None i ns q source rises is e = absurd cc
 exchanging (Some n) i ns q source rises is e = elim (eqb_tells n.router.0 q.0) [
   | inl w ↦ (n, senders i ns q source n rises is w.1, if_so (is_exchanging n.state) dropped.State (rw w.0 at e))
   | inr w ↦ absurd (let bad : Some dropped.WrongRouter ≡ None = rw w.0 at e in cc)
 ]
 
-by_body : (body : BodyMeaning) (local : Local) (i : Iface) (ns : List NeighbourValue) (q : RouterId) (source : Addr) → IsRising ns
+by_body : (body : BodyMeaning) (local : Local) (i : Iface) (ns : List NeighbourValue) (q : RouterId) (source : Addr) → AreNeighboursRising ns
     → drop_by_body local body i ns q (sender_in i ns q source) ≡ None → CanBeTaken local ns q body
 by_body (hello fields heard) local i ns q source rises e = hello_room (agrees i fields) i ns q source rises e
 by_body (description fields headers) local i ns q source rises e = described (sender_in i ns q source) local i ns q source fields headers rises refl e

@@ -17,12 +17,12 @@ use Rattle.ospf_neighbour.specs.declared.machine.NbrEvent.TheVariants as event
 use Rattle.ospf_neighbour.specs.declared.machine.NeighbourState.{NeighbourState}
 use Rattle.ospf_neighbour.specs.declared.machine.NeighbourState.TheVariants as state
 use Rattle.ospf_neighbour.proofs.LawLemmas.{takes_one, resend_keeps}
-use Rattle.ospf_area.specs.Changes.{changed, changed_if, changed_link, changed_on, delayed_on}
+use Rattle.ospf_area.specs.Changes.{neighbour_changed, changed_if, changed_link, changed_on, delayed_on}
 use Rattle.ospf_area.specs.Outputs.{OutputsValue}
 use Rattle.ospf_area.specs.Places.{map_from}
-use Rattle.ospf_area.specs.State.{AreaValue, LinkValue, neighbour, state_in, entry_of, kept_number}
-use Rattle.ospf_area.specs.declared.changes.Change.{Change}
-use Rattle.ospf_area.specs.declared.changes.Change.TheVariants.{Acknowledges, IsSent, Restarts}
+use Rattle.ospf_area.specs.State.{AreaValue, LinkValue, neighbour, state_in, database_entry, kept_number}
+use Rattle.ospf_area.specs.declared.changes.AdjacencyChange.{AdjacencyChange}
+use Rattle.ospf_area.specs.declared.changes.AdjacencyChange.TheVariants.{Acknowledges, IsSent, Restarts}
 use Rattle.ospf_area.specs.declared.flooding.Origin.{Origin}
 use Rattle.ospf_step.specs.Packets.{Received}
 use Rattle.ospf_step.specs.Accounts.{IsAcknowledged}
@@ -92,12 +92,12 @@ restarts-as heard l n number tick s at = by s at
     by state.Full at = emptied
 
 -- what each change asks to be known
-abbrev pub IsTold : Option Received → ℕ → NeighbourValue → Change → Type 0
+abbrev pub IsTold : Option Received → ℕ → NeighbourValue → AdjacencyChange → Type 0
 IsTold heard l n (Acknowledges i) = IsAcknowledged heard l n.router i
 IsTold heard l n (IsSent i) = Unit {0}
 IsTold heard l n (Restarts number) = Unit {0}
 
-changed-shrinks : (heard : Option Received) (l : ℕ) (change : Change) (tick : ℕ) (n : NeighbourValue) → IsTold heard l n change → ShrinksTo heard l n (changed change tick n)
+changed-shrinks : (heard : Option Received) (l : ℕ) (change : AdjacencyChange) (tick : ℕ) (n : NeighbourValue) → IsTold heard l n change → ShrinksTo heard l n (neighbour_changed change tick n)
 changed-shrinks heard l (Acknowledges i) tick n told = unlisted-shrinks heard l i n told
 changed-shrinks heard l (IsSent i) tick n told = resent-shrinks heard l i tick n
 changed-shrinks heard l (Restarts number) tick n told = restarts-as heard l n number tick n.state refl
@@ -108,7 +108,7 @@ changed-shrinks heard l (Restarts number) tick n told = restarts-as heard l n nu
 pub record ShrinkBy (heard : Option Received) (before : AreaValue) (out : OutputsValue) (f : ℕ → LinkValue → LinkValue) (g : ℕ → NeighbourValue → NeighbourValue) (after : AreaValue) : Type 0 where
   pub links : after.links ≡ map_from f 0 before.links
   pub same_router : after.router ≡ before.router
-  pub database : (key : LsaKey) → entry_of after key ≡ entry_of before key
+  pub database : (key : LsaKey) → database_entry after key ≡ database_entry before key
   pub numbering : (key : LsaKey) → kept_number after key ≡ kept_number before key
   pub direct : (h : LsaHeader) → Contains after.direct h → Contains before.direct h ⊎ IsNamed before out h
   pub each : (l : ℕ) (link : LinkValue) → (f l link).neighbours ≡ map (g l) link.neighbours
@@ -151,10 +151,10 @@ map_from-id k [] = refl
 map_from-id k (x ∷ xs) = ap (λ ys. x ∷ ys) (map_from-id (suc k) xs)
 
 -- the change of the origin's neighbour
-pub change_of : Origin → Change → ℕ → ℕ → NeighbourValue → NeighbourValue
+pub change_of : Origin → AdjacencyChange → ℕ → ℕ → NeighbourValue → NeighbourValue
 change_of f change tick l n = cond (l == f.link) (changed_if f.router change tick n) n
 
-pub change-each : (f : Origin) (change : Change) (tick l : ℕ) (link : LinkValue) → (changed_on f change tick l link).neighbours ≡ map (change_of f change tick l) link.neighbours
+pub change-each : (f : Origin) (change : AdjacencyChange) (tick l : ℕ) (link : LinkValue) → (changed_on f change tick l link).neighbours ≡ map (change_of f change tick l) link.neighbours
 unfolding change_of
 change-each f change tick l link = go (l == f.link)
   where
@@ -162,18 +162,18 @@ change-each f change tick l link = go (l == f.link)
     go true = refl
     go false = map-id link.neighbours
 
-pub change-waiting : (f : Origin) (change : Change) (tick l : ℕ) (link : LinkValue) → (changed_on f change tick l link).delayed ≡ link.delayed
+pub change-waiting : (f : Origin) (change : AdjacencyChange) (tick l : ℕ) (link : LinkValue) → (changed_on f change tick l link).delayed ≡ link.delayed
 change-waiting f change tick l link = go (l == f.link)
   where
     go : (b : Bool) → (cond b (changed_link f.router change tick link) link).delayed ≡ link.delayed
     go true = refl
     go false = refl
 
-pub change-shrinks : (heard : Option Received) (f : Origin) (change : Change) (tick l : ℕ) (n : NeighbourValue) → (n.router ≡ f.router → IsTold heard f.link n change) → ShrinksTo heard l n (change_of f change tick l n)
+pub change-shrinks : (heard : Option Received) (f : Origin) (change : AdjacencyChange) (tick l : ℕ) (n : NeighbourValue) → (n.router ≡ f.router → IsTold heard f.link n change) → ShrinksTo heard l n (change_of f change tick l n)
 unfolding change_of
 change-shrinks heard f change tick l n told =
     cond-shrinks heard l (l == f.link) n (changed_if f.router change tick n) (λ here.
-    cond-shrinks heard l (n.router.0 == f.router.0) n (changed change tick n) (λ this.
+    cond-shrinks heard l (n.router.0 == f.router.0) n (neighbour_changed change tick n) (λ this.
     changed-shrinks heard l change tick n (subst (λ k. IsTold heard k n change) (sym (eqb-true l f.link here)) (told (same_router n.router f.router (eqb-true n.router.0 f.router.0 this))))))
 
 -- an acknowledgement that waits

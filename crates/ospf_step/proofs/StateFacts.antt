@@ -21,14 +21,14 @@ use Rattle.ospf_lsa.specs.declared.header.LsaHeader.{LsaHeader}
 use Rattle.ospf_lsa.specs.declared.recency.Recency.{Recency}
 use Rattle.ospf_lsa.specs.declared.recency.Recency.TheVariants.{Newer, Older, Same}
 use Rattle.ospf_base.specs.Keys.{key_from, same_key}
-use Rattle.ospf_step.specs.Headers.{IsOf}
+use Rattle.ospf_step.specs.Headers.{IsOfInstance}
 use Rattle.ospf_lsdb.specs.Database.{Entry, Held, lsa_of, key_in, key_at, held_of, Puts, expired, IsDatabase, header_at, instance_at}
 use Rattle.ospf_base.proofs.SameKeys.{same_key-eq}
 use Rattle.ospf_neighbour.specs.Neighbour.{NeighbourValue}
 use Rattle.ospf_neighbour.specs.Neighbours.{neighbour_of}
-use Rattle.ospf_area.specs.State.{AreaValue, LinkValue, neighbour, neighbours_in, entry_of, copy_of, copy_in}
+use Rattle.ospf_area.specs.State.{AreaValue, LinkValue, neighbour, neighbours_in, database_entry, copy_of, copy_in}
 use Rattle.ospf_area.specs.Places.{map_from}
-use Rattle.ospf_step.specs.Words.{HasCopy, Holds, list_in}
+use Rattle.ospf_step.specs.Words.{HasCopy, HoldsInstance, list_in}
 use Rattle.ospf_step.specs.Parts.{at_max_age}
 use Rattle.ospf_exchange.specs.Laws.{HasHeader, HasInstance}
 use Rattle.ospf_exchange.proofs.LawLemmas.{of_copy}
@@ -149,7 +149,7 @@ same_contents a b same = instance_of-contents a ∙ (ap (λ c. instance_of (0 �
 -- ---- headers
 
 -- a header is of one instance
-pub IsOf-one : (h : LsaHeader) (i j : Instance) → IsOf h i → IsOf h j → i ≡ j
+pub IsOf-one : (h : LsaHeader) (i j : Instance) → IsOfInstance h i → IsOfInstance h j → i ≡ j
 IsOf-one h i j a b = instance_from_parts i j (same_Some i.key j.key (sym a.key ∙ b.key)) (sym a.number ∙ b.number) (sym a.sum ∙ b.sum)
 
 key_made : Kind → ℕ → RouterId → LsaKey
@@ -171,7 +171,7 @@ by_type type id router key e = go (type == 1) refl e
     go false is e = second (type == 2) e
 
 -- the header of an LSA names its instance alone
-pub header_names : (lsa : List ℕ) (i : Instance) → IsOf (header_of lsa) i → instance_of lsa ≡ i
+pub header_names : (lsa : List ℕ) (i : Instance) → IsOfInstance (header_of lsa) i → instance_of lsa ≡ i
 unfolding key_made
 header_names lsa i is = instance_from_parts (instance_of lsa) i (by_type (type_of lsa) (header_of lsa).id (header_of lsa).router i.key is.key) is.number is.sum
 
@@ -181,7 +181,7 @@ known_type lsa type (inl one) = rw one refl
 known_type lsa type (inr two) = rw two refl
 
 -- and names it
-pub header_is_of : (lsa : List ℕ) → IsLsa lsa → IsOf (header_of lsa) (instance_of lsa)
+pub header_is_of : (lsa : List ℕ) → IsLsa lsa → IsOfInstance (header_of lsa) (instance_of lsa)
 unfolding key_made
 header_is_of lsa is = record { key = known_type lsa (type_of lsa) (is fault.Kind); number = refl; sum = refl }
 
@@ -214,7 +214,7 @@ older_numbers a b e = go (older_tests (int_lt b.number a.number) (int_lt a.numbe
     go (t1, inr (t2, t3)) = inr (neither_less a.number b.number t2 t1, ltb-false b.sum a.sum t3)
 
 -- an older header is covered by the other
-pub recency-older : (a b : LsaHeader) (i j : Instance) → IsOf a i → IsOf b j → i.key ≡ j.key → recency a b ≡ Older → Covers j i
+pub recency-older : (a b : LsaHeader) (i j : Instance) → IsOfInstance a i → IsOfInstance b j → i.key ≡ j.key → recency a b ≡ Older → Covers j i
 recency-older a b i j is_a is_b same e = (sym same, go (older_numbers a b e))
   where
     go : (a.number <ℤ b.number) ⊎ ((a.number ≡ b.number) × (a.sum ≤ b.sum)) → (i.number <ℤ j.number) ⊎ ((j.number ≡ i.number) × (i.sum ≤ j.sum))
@@ -222,7 +222,7 @@ recency-older a b i j is_a is_b same e = (sym same, go (older_numbers a b e))
     go (inr (n, le)) = inr (sym is_b.number ∙ (sym n ∙ is_a.number), subst (λ s. s ≤ j.sum) is_a.sum (subst (λ s. a.sum ≤ s) is_b.sum le))
 
 -- headers that are the same are of one instance
-pub recency-same : (a b : LsaHeader) (i j : Instance) → IsOf a i → IsOf b j → i.key ≡ j.key → recency a b ≡ Same → i ≡ j
+pub recency-same : (a b : LsaHeader) (i j : Instance) → IsOfInstance a i → IsOfInstance b j → i.key ≡ j.key → recency a b ≡ Same → i ≡ j
 recency-same a b i j is_a is_b same e =
     let (t1, t2, t3, t4) = same_tests (int_lt b.number a.number) (int_lt a.number b.number) (nat_lt b.sum a.sum) (nat_lt a.sum b.sum) (recency_by_age a.age b.age) e in
     let above : a.sum ≤ b.sum = ltb-false b.sum a.sum t3 in
@@ -300,7 +300,7 @@ pub neighbour-router : (s : AreaValue) (l : ℕ) (q : RouterId) (n : NeighbourVa
 neighbour-router s l q n e = same_router n.router q (eqb-true n.router.0 q.0 (find-some (λ n. n.router.0 == q.0) (neighbours_in (slice_get s.links l)) n e).1)
 
 -- the copy of a key has the key
-pub entry_of-key : (s : AreaValue) (key : LsaKey) (e : Entry) → entry_of s key ≡ Some e → key_in e.contents ≡ key
+pub entry_of-key : (s : AreaValue) (key : LsaKey) (e : Entry) → database_entry s key ≡ Some e → key_in e.contents ≡ key
 entry_of-key s key e is = go (held_of s.database key) refl is
   where
     go : (o : Option Held) → held_of s.database key ≡ o → option_map (λ h. h.entry) o ≡ Some e → key_in e.contents ≡ key
@@ -312,9 +312,9 @@ unfolding key_in
 key_of-lsa_of e = refl
 
 pub copy_of-key : (s : AreaValue) (key : LsaKey) (lsa : List ℕ) → copy_of s key ≡ Some lsa → key_of lsa ≡ key
-copy_of-key s key lsa is = go (entry_of s key) refl is
+copy_of-key s key lsa is = go (database_entry s key) refl is
   where
-    go : (o : Option Entry) → entry_of s key ≡ o → copy_in o ≡ Some lsa → key_of lsa ≡ key
+    go : (o : Option Entry) → database_entry s key ≡ o → copy_in o ≡ Some lsa → key_of lsa ≡ key
     go None at is = absurd (none-some lsa is)
     go (Some e) at is = ap key_of (sym (same_Some (lsa_of e) lsa is)) ∙ (key_of-lsa_of e ∙ entry_of-key s key e at)
 
@@ -327,7 +327,7 @@ pub copies_agree : (s : AreaValue) (a b : List ℕ) → HasCopy s a → HasCopy 
 copies_agree s a b has_a has_b same = same_Some a b (sym has_a ∙ (ap (copy_of s) same ∙ has_b))
 
 -- instances of one key that are held are one
-pub held_agree : (s : AreaValue) (i j : Instance) → Holds s i → Holds s j → i.key ≡ j.key → i ≡ j
+pub held_agree : (s : AreaValue) (i j : Instance) → HoldsInstance s i → HoldsInstance s j → i.key ≡ j.key → i ≡ j
 held_agree s i j (a, has_a, is_a) (b, has_b, is_b) same =
     sym is_a ∙ (ap instance_of (copies_agree s a b has_a has_b (ap (λ i. i.key) is_a ∙ (same ∙ sym (ap (λ i. i.key) is_b)))) ∙ is_b)
 
@@ -337,15 +337,15 @@ list-changed list g None o' x same c = absurd (let (k, within, is) = subst (λ o
 list-changed list g (Some n) o' x same c = (n, refl, subst (λ o. Contains (list_in list o) x) same c)
 
 -- What the layers below call a header or an instance of the database is held.
-pub HasInstance-held : (s : AreaValue) (i : Instance) → IsDatabase s.database → HasInstance s.database i → Holds s i
+pub HasInstance-held : (s : AreaValue) (i : Instance) → IsDatabase s.database → HasInstance s.database i → HoldsInstance s i
 HasInstance-held s i is has =
     let (e, at, same) = of_copy instance_at s.database is.rising i has in
     (lsa_of e, copy_of-has s (key_in e.contents) (lsa_of e) (ap copy_in at), same)
 
-pub HasHeader-held : (s : AreaValue) (h : LsaHeader) → IsDatabase s.database → HasHeader s.database h → (i : Instance) → IsOf h i → Holds s i
+pub HasHeader-held : (s : AreaValue) (h : LsaHeader) → IsDatabase s.database → HasHeader s.database h → (i : Instance) → IsOfInstance h i → HoldsInstance s i
 HasHeader-held s h is has i names =
     let (e, at, same) = of_copy header_at s.database is.rising h has in
-    (lsa_of e, copy_of-has s (key_in e.contents) (lsa_of e) (ap copy_in at), header_names (lsa_of e) i (subst (λ h. IsOf h i) (sym same) names))
+    (lsa_of e, copy_of-has s (key_in e.contents) (lsa_of e) (ap copy_in at), header_names (lsa_of e) i (subst (λ h. IsOfInstance h i) (sym same) names))
 
 -- ---- a copy that is brought to MaxAge
 

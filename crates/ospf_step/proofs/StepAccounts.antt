@@ -7,7 +7,7 @@ use Rattle.ospf_base.specs.declared.ids.Addr.{Addr}
 use Rattle.ospf_lsa.specs.declared.header.LsaHeader.{LsaHeader}
 use Rattle.ospf_packet.specs.Meaning.{BodyMeaning, hello, description, request, update, acknowledgment, Meaning}
 use Rattle.ospf_packet.specs.PacketOf.{packet_of}
-use Rattle.ospf_area.specs.Outputs.{OutputsValue, then_outputs, AreRead}
+use Rattle.ospf_area.specs.Outputs.{OutputsValue, then_outputs, AreReadAsSent}
 use Rattle.ospf_area.specs.State.{AreaValue}
 use Rattle.ospf_area.specs.declared.flooding.Origin.{Origin}
 use Rattle.ospf_step.specs.Accounts.{Accounts, Adjusts, NoneEntersExchange}
@@ -24,12 +24,12 @@ use Rattle.ospf_step.proofs.NeighbourAccounts.{NeighboursGo-adjusts, copy_back}
 use Rattle.ospf_step.proofs.PartAccounts.{DirectPart-accountable, IssuePart-accountable, ExpiryPart-accountable, AgesPart-accountable, AnswersAll-accountable, RemovalPart-adjusts}
 use Rattle.ospf_step.proofs.QuietAccounts.{Adjusts-accounts, Adjusts-sound, Adjusts-with_packet, Unchanged-adjusts}
 
-Then-accountable : (heard : Option Received) (before : AreaValue) (First : OutputsValue → AreaValue → Type 0) (Next : AreaValue → OutputsValue → AreaValue → Type 0) (out : OutputsValue) (after : AreaValue) → IsSoundState before → AreRead out.sent → ((o : OutputsValue) (mid : AreaValue) → AreRead o.sent → First o mid → IsAccountable heard before o mid) → ((mid : AreaValue) (o : OutputsValue) (after : AreaValue) → IsSoundState mid → AreRead o.sent → Next mid o after → IsAccountable heard mid o after) → Then First Next out after → IsAccountable heard before out after
+Then-accountable : (heard : Option Received) (before : AreaValue) (First : OutputsValue → AreaValue → Type 0) (Next : AreaValue → OutputsValue → AreaValue → Type 0) (out : OutputsValue) (after : AreaValue) → IsSoundState before → AreReadAsSent out.sent → ((o : OutputsValue) (mid : AreaValue) → AreReadAsSent o.sent → First o mid → IsAccountable heard before o mid) → ((mid : AreaValue) (o : OutputsValue) (after : AreaValue) → IsSoundState mid → AreReadAsSent o.sent → Next mid o after → IsAccountable heard mid o after) → Then First Next out after → IsAccountable heard before out after
 Then-accountable heard before First Next out after sound read first next t =
     subst (λ o. IsAccountable heard before o after) (sym t.both) (both-accountable heard before t.mid after t.first_out t.next_out one two)
   where
-    all_read : AreRead (then_outputs t.first_out t.next_out).sent
-    all_read = subst (λ o. AreRead o.sent) t.both read
+    all_read : AreReadAsSent (then_outputs t.first_out t.next_out).sent
+    all_read = subst (λ o. AreReadAsSent o.sent) t.both read
 
     one : IsAccountable heard before t.first_out t.mid
     one = first t.first_out t.mid (AreRead-left t.first_out t.next_out all_read) t.first
@@ -37,7 +37,7 @@ Then-accountable heard before First Next out after sound read first next t =
     two : IsAccountable heard t.mid t.next_out after
     two = next t.mid t.next_out after (one.sound sound) (AreRead-right t.first_out t.next_out all_read) t.next
 
-Times-accountable : (heard : Option Received) (n : ℕ) (R : AreaValue → OutputsValue → AreaValue → Type 0) → ((before : AreaValue) (out : OutputsValue) (after : AreaValue) → IsSoundState before → AreRead out.sent → R before out after → IsAccountable heard before out after) → (before : AreaValue) (out : OutputsValue) (after : AreaValue) → IsSoundState before → AreRead out.sent → Times n R before out after → IsAccountable heard before out after
+Times-accountable : (heard : Option Received) (n : ℕ) (R : AreaValue → OutputsValue → AreaValue → Type 0) → ((before : AreaValue) (out : OutputsValue) (after : AreaValue) → IsSoundState before → AreReadAsSent out.sent → R before out after → IsAccountable heard before out after) → (before : AreaValue) (out : OutputsValue) (after : AreaValue) → IsSoundState before → AreReadAsSent out.sent → Times n R before out after → IsAccountable heard before out after
 Times-accountable heard zero R each before out after sound read u = Unchanged-accountable heard before out after u
 Times-accountable heard (suc n) R each before out after sound read t =
     Then-accountable heard before (R before) (Times n R) out after sound read (λ o mid r x. each before o mid sound r x) (Times-accountable heard n R each) t
@@ -46,15 +46,15 @@ Quiet-accountable : (heard : Option Received) (before : AreaValue) (out : Output
 Quiet-accountable heard before out after q =
     Adjusts-accountable heard before out after (Adjusts-with_packet heard before out after (copy_back None before out after q.neighbours) (NeighboursGo-adjusts None before out after q.neighbours)) q.none_enters q.neighbours.ended
 
-AndRequests-accountable : (heard : Option Received) (R : AreaValue → OutputsValue → AreaValue → Type 0) (before : AreaValue) (out : OutputsValue) (after : AreaValue) → IsSoundState before → AreRead out.sent → ((o : OutputsValue) (mid : AreaValue) → AreRead o.sent → R before o mid → IsAccountable heard before o mid) → AndRequests R before out after → IsAccountable heard before out after
+AndRequests-accountable : (heard : Option Received) (R : AreaValue → OutputsValue → AreaValue → Type 0) (before : AreaValue) (out : OutputsValue) (after : AreaValue) → IsSoundState before → AreReadAsSent out.sent → ((o : OutputsValue) (mid : AreaValue) → AreReadAsSent o.sent → R before o mid → IsAccountable heard before o mid) → AndRequests R before out after → IsAccountable heard before out after
 AndRequests-accountable heard R before out after sound read each t =
     Then-accountable heard before (R before) Quiet out after sound read each (λ mid o after s r q. Quiet-accountable heard mid o after q) t
 
-OwnStep-accountable : (heard : Option Received) (before : AreaValue) (out : OutputsValue) (after : AreaValue) → IsSoundState before → AreRead out.sent → OwnStep before out after → IsAccountable heard before out after
+OwnStep-accountable : (heard : Option Received) (before : AreaValue) (out : OutputsValue) (after : AreaValue) → IsSoundState before → AreReadAsSent out.sent → OwnStep before out after → IsAccountable heard before out after
 OwnStep-accountable heard before out after sound read (OwnStep.Issue lsa i) = AndRequests-accountable heard (IssuePart lsa) before out after sound read (λ o mid r x. IssuePart-accountable heard lsa before o mid sound r x) i
 OwnStep-accountable heard before out after sound read (OwnStep.Flush key copy x) = AndRequests-accountable heard (ExpiryPart key copy) before out after sound read (λ o mid r x. ExpiryPart-accountable heard key copy before o mid sound r x) x
 
-ExpiryStep-accountable : (heard : Option Received) (before : AreaValue) (out : OutputsValue) (after : AreaValue) → IsSoundState before → AreRead out.sent → ExpiryStep before out after → IsAccountable heard before out after
+ExpiryStep-accountable : (heard : Option Received) (before : AreaValue) (out : OutputsValue) (after : AreaValue) → IsSoundState before → AreReadAsSent out.sent → ExpiryStep before out after → IsAccountable heard before out after
 ExpiryStep-accountable heard before out after sound read x = AndRequests-accountable heard (ExpiryPart x.key x.copy) before out after sound read (λ o mid r y. ExpiryPart-accountable heard x.key x.copy before o mid sound r y) x.expires
 
 -- the parts that stand between the first DD packet and the removals, with what they are of
@@ -76,7 +76,7 @@ Between heard Requests = ⊤
 Between heard Elections = ⊤
 Between heard OwnLsas = ⊤
 
-part-accountable : (heard : Option Received) (part : Part) (before : AreaValue) (out : OutputsValue) (after : AreaValue) → IsSoundState before → AreRead out.sent → Between heard part → IsPart part before out after → IsAccountable heard before out after
+part-accountable : (heard : Option Received) (part : Part) (before : AreaValue) (out : OutputsValue) (after : AreaValue) → IsSoundState before → AreReadAsSent out.sent → Between heard part → IsPart part before out after → IsAccountable heard before out after
 part-accountable heard (LsaComes f lsa) before out after sound read (p, h, from, c) is = LsaPart-accountable heard p f lsa before out after sound h from c read is
 part-accountable heard (HeaderComes f x) before out after sound read (p, h, from, c) is = HeaderPart-accountable heard p f x before out after sound h from c is
 part-accountable heard (DdComes f p) before out after sound read b is = absurd b
@@ -117,15 +117,15 @@ removals_end heard before out after sound t =
     same : out ≡ t.first_out
     same = t.both ∙ (ap (λ o. then_outputs t.first_out o) t.next.outputs ∙ then_nothing t.first_out)
 
-one_more : (heard : Option Received) (part : Part) (parts : List Part) (before : AreaValue) (out : OutputsValue) (after : AreaValue) → IsSoundState before → AreRead out.sent → Between heard part → ((mid : AreaValue) (o : OutputsValue) → IsSoundState mid → AreRead o.sent → Chain parts mid o after → EndsWell heard mid o after) → Chain (part ∷ parts) before out after → EndsWell heard before out after
+one_more : (heard : Option Received) (part : Part) (parts : List Part) (before : AreaValue) (out : OutputsValue) (after : AreaValue) → IsSoundState before → AreReadAsSent out.sent → Between heard part → ((mid : AreaValue) (o : OutputsValue) → IsSoundState mid → AreReadAsSent o.sent → Chain parts mid o after → EndsWell heard mid o after) → Chain (part ∷ parts) before out after → EndsWell heard before out after
 one_more heard part parts before out after sound read b rest t = record {
   accounts = subst (λ out. Accounts heard before out after) (sym t.both) (Accounts-then heard before t.mid after t.first_out t.next_out (one.accounts sound) two.accounts two.none_enters one.none_ended);
   sound = two.sound;
   none_enters = λ l q up. one.none_enters l q (two.none_enters l q up);
 }
   where
-    all_read : AreRead (then_outputs t.first_out t.next_out).sent
-    all_read = subst (λ o. AreRead o.sent) t.both read
+    all_read : AreReadAsSent (then_outputs t.first_out t.next_out).sent
+    all_read = subst (λ o. AreReadAsSent o.sent) t.both read
 
     one : IsAccountable heard before t.first_out t.mid
     one = part-accountable heard part before t.first_out t.mid sound (AreRead-left t.first_out t.next_out all_read) b t.first
@@ -133,7 +133,7 @@ one_more heard part parts before out after sound read b rest t = record {
     two : EndsWell heard t.mid t.next_out after
     two = rest t.mid t.next_out (one.sound sound) (AreRead-right t.first_out t.next_out all_read) t.next
 
-last_end : (heard : Option Received) (before : AreaValue) (out : OutputsValue) (after : AreaValue) → IsSoundState before → AreRead out.sent → Chain last_parts before out after → EndsWell heard before out after
+last_end : (heard : Option Received) (before : AreaValue) (out : OutputsValue) (after : AreaValue) → IsSoundState before → AreReadAsSent out.sent → Chain last_parts before out after → EndsWell heard before out after
 last_end heard before out after sound read t =
     one_more heard Elections (OwnLsas ∷ Removals ∷ []) before out after sound read tt (λ s o sound read.
     one_more heard OwnLsas (Removals ∷ []) s o after sound read tt (λ s o sound read. removals_end heard s o after sound)) t
@@ -142,7 +142,7 @@ abbrev AllBetween : Option Received → List Part → Type 0
 AllBetween heard [] = ⊤
 AllBetween heard (part ∷ parts) = Between heard part × AllBetween heard parts
 
-chain_ends : (heard : Option Received) (parts : List Part) (before : AreaValue) (out : OutputsValue) (after : AreaValue) → IsSoundState before → AreRead out.sent → AllBetween heard parts → Chain (parts ++ last_parts) before out after → EndsWell heard before out after
+chain_ends : (heard : Option Received) (parts : List Part) (before : AreaValue) (out : OutputsValue) (after : AreaValue) → IsSoundState before → AreReadAsSent out.sent → AllBetween heard parts → Chain (parts ++ last_parts) before out after → EndsWell heard before out after
 chain_ends heard [] before out after sound read b t = last_end heard before out after sound read t
 chain_ends heard (part ∷ parts) before out after sound read (b, bs) t = one_more heard part (parts ++ last_parts) before out after sound read b (λ mid o sound read rest. chain_ends heard parts mid o after sound read bs rest) t
 
@@ -162,7 +162,7 @@ pub record IsAnswered (heard : Option Received) (before : AreaValue) (out : Outp
 answered : (heard : Option Received) (before : AreaValue) (out : OutputsValue) (after : AreaValue) → EndsWell heard before out after → IsAnswered heard before out after
 answered heard before out after e = record { accounts = e.accounts; sound = e.sound }
 
-packet_ends : (heard : Option Received) (f : Origin) (p : Meaning) (before : AreaValue) (out : OutputsValue) (after : AreaValue) → IsSoundState before → AreRead out.sent → heard ≡ Some (record { link = f.link; packet = p }) → p.router ≡ f.router → (b : BodyMeaning) → p.body ≡ b → Chain (parts_of_packet f p b ++ last_parts) before out after → IsAnswered heard before out after
+packet_ends : (heard : Option Received) (f : Origin) (p : Meaning) (before : AreaValue) (out : OutputsValue) (after : AreaValue) → IsSoundState before → AreReadAsSent out.sent → heard ≡ Some (record { link = f.link; packet = p }) → p.router ≡ f.router → (b : BodyMeaning) → p.body ≡ b → Chain (parts_of_packet f p b ++ last_parts) before out after → IsAnswered heard before out after
 packet_ends heard f p before out after sound read h from (hello fields neighbours) is t = answered heard before out after (chain_ends heard (HelloComes f p ∷ []) before out after sound read (tt, tt) t)
 packet_ends heard f p before out after sound read h from (description fields headers) is t = record {
   accounts = subst (λ out. Accounts heard before out after) (sym t.both) (Accounts-then heard before t.mid after t.first_out t.next_out (Adjusts-accounts heard before t.first_out t.mid first) rest.accounts rest.none_enters t.first.ended);
@@ -173,7 +173,7 @@ packet_ends heard f p before out after sound read h from (description fields hea
     first = subst (λ heard. Adjusts heard before t.first_out t.mid) (sym h) (NeighboursGo-adjusts (Some (record { link = f.link; packet = p })) before t.first_out t.mid t.first)
 
     rest : EndsWell heard t.mid t.next_out after
-    rest = last_end heard t.mid t.next_out after (Adjusts-sound heard before t.first_out t.mid first sound) (AreRead-right t.first_out t.next_out (subst (λ o. AreRead o.sent) t.both read)) t.next
+    rest = last_end heard t.mid t.next_out after (Adjusts-sound heard before t.first_out t.mid first sound) (AreRead-right t.first_out t.next_out (subst (λ o. AreReadAsSent o.sent) t.both read)) t.next
 packet_ends heard f p before out after sound read h from (request entries) is t = answered heard before out after (chain_ends heard (RequestComes f p ∷ []) before out after sound read (tt, tt) t)
 packet_ends heard f p before out after sound read h from (update lsas) is t =
     answered heard before out after (chain_ends heard (lsa_parts f lsas ++ DirectAcknowledgements f ∷ []) before out after sound read (between_lsas heard f p lsas h from (λ lsa c. subst (λ b. Contains (lsas_of b) lsa) (sym is) c)) t)

@@ -2,7 +2,7 @@
 use Rattle.std.proofs.Common.{◌≡◌, ◌++◌, List, ◌∷◌, refl, subst, ℕ, Bool, true, false, Some, sym, ap, slice_get, ◌∙◌, []}
 use Rattle.ospf_base.specs.declared.ids.LsaKey.{LsaKey}
 use Rattle.ospf_lsdb.specs.Database.{IsDatabase}
-use Rattle.ospf_area.specs.Outputs.{AreRead, OutputsValue, SentValue}
+use Rattle.ospf_area.specs.Outputs.{AreReadAsSent, OutputsValue, SentValue}
 use Rattle.ospf_area.specs.Sending.{and_sends, own_of}
 use Rattle.ospf_area.specs.State.{AreaValue}
 use Rattle.ospf_update.specs.Aging.{TickAges}
@@ -28,20 +28,20 @@ use Rattle.ospf_packet.specs.declared.entry.RequestEntry.{RequestEntry}
 use Rattle.ospf_update.specs.Updates.{TakesUpdate}
 use Rattle.ospf_step.specs.Packets.{dd_headers_of}
 use Rattle.ospf_links.specs.Parts.{description_part, hello_part, link_down, link_up, request_part}
-use Rattle.ospf_links.specs.Works.{changed, up_out_on, work_sent, worked}
+use Rattle.ospf_links.specs.Works.{link_changed, up_out_on, work_sent, worked}
 use Rattle.ospf_step.specs.Takes.{origin_of}
 use Rattle.ospf_update.specs.Removal.{Removes}
-use Rattle.ospf_links.specs.Elections.{Elects}
+use Rattle.ospf_links.specs.Elections.{ElectsAll}
 use Rattle.ospf_originate.specs.Steps.{OwnLsas}
 use Rattle.ospf_step.proofs.Elections.{elects_database, elects_put}
 use Rattle.ospf_step.proofs.OwnParts.{own_put}
 
 -- A tick is the chain of its parts.
 -- what is read in the end was read before a part
-pub read_before : (R : OutputsValue → Type 0) (out out' : OutputsValue) → PutsOut R out out' → AreRead out'.sent → AreRead out.sent
-read_before R out out' p read = AreRead-left out p.own (subst (λ o. AreRead o.sent) p.behind read)
+pub read_before : (R : OutputsValue → Type 0) (out out' : OutputsValue) → PutsOut R out out' → AreReadAsSent out'.sent → AreReadAsSent out.sent
+read_before R out out' p read = AreRead-left out p.own (subst (λ o. AreReadAsSent o.sent) p.behind read)
 
-pub tick_puts : (rest : List Part) (marks : List LsaKey) (s aged t u : AreaValue) (expired : List SentValue) (out mid_out out' : OutputsValue) → AreRising aged.links → AreRising (ticked_area aged).links → IsDatabase aged.database → AreRead out'.sent → TickAges s expired aged
+pub tick_puts : (rest : List Part) (marks : List LsaKey) (s aged t u : AreaValue) (expired : List SentValue) (out mid_out out' : OutputsValue) → AreRising aged.links → AreRising (ticked_area aged).links → IsDatabase aged.database → AreReadAsSent out'.sent → TickAges s expired aged
     → t ≡ record (ticked_area aged) { links = repeated_links (own_of aged) aged.database (ticked_area aged).links; sent = marks } → mid_out ≡ tick_out aged (and_sends out expired)
     → PutsOut (λ o. Chain rest t o u) mid_out out' → PutsOut (λ o. Chain (first_parts Event.Tick ++ rest) s o u) out out'
 tick_puts rest marks s aged t u expired out mid_out out' aged_rise ticked_rise is read ages state outputs next =
@@ -75,8 +75,8 @@ module _ (link : ℕ) (source destination : Addr) (bytes : List ℕ) (p : Meanin
       let is : first_parts (Event.Datagram link source destination bytes) ≡ parts_of_packet (origin_of link source p) p body = ap (parts_of_datagram link source) at ∙ ap (parts_of_packet (origin_of link source p) p) says in
       subst (λ parts. PutsOut (λ o. Chain (parts ++ rest) s o u) out out') (sym is) puts
 
-  module _ (read : AreRead out'.sent) (next : PutsOut (λ o. Chain rest t o u) mid_out out') where
-    read_mid : AreRead mid_out.sent
+  module _ (read : AreReadAsSent out'.sent) (next : PutsOut (λ o. Chain rest t o u) mid_out out') where
+    read_mid : AreReadAsSent mid_out.sent
     read_mid = read_before (λ o. Chain rest t o u) mid_out out' next read
 
     pub hello_chain : (h : Hello) (heard : List RouterId) (named : Bool) → p.body ≡ hello h heard → t ≡ worked (hello_part (own_of s) (origin_of link source p) h named s.next_dd) link s → mid_out ≡ and_sends out (work_sent (hello_part (own_of s) (origin_of link source p) h named s.next_dd) (own_of s) link s.links) → PutsOut (λ o. Chain (first_parts (Event.Datagram link source destination bytes) ++ rest) s o u) out out'
@@ -102,14 +102,14 @@ module _ (link : ℕ) (source destination : Addr) (bytes : List ℕ) (p : Meanin
 -- ---- links that go up and down
 
 module _ (l : ℕ) (rest : List Part) (s t u : AreaValue) (out mid_out out' : OutputsValue) (next : PutsOut (λ o. Chain rest t o u) mid_out out') where
-  pub up_chain : AreRead out'.sent → t ≡ changed link_up l s → mid_out ≡ and_sends out (up_out_on (slice_get s.links l) (own_of s) l) → PutsOut (λ o. Chain (first_parts (Event.LinkUp l) ++ rest) s o u) out out'
+  pub up_chain : AreReadAsSent out'.sent → t ≡ link_changed link_up l s → mid_out ≡ and_sends out (up_out_on (slice_get s.links l) (own_of s) l) → PutsOut (λ o. Chain (first_parts (Event.LinkUp l) ++ rest) s o u) out out'
   up_chain read state outputs = puts_more (LinkChanges l true) rest s t u out mid_out out' (up_puts l s t out mid_out (read_before (λ o. Chain rest t o u) mid_out out' next read) state outputs) next
 
-  pub down_chain : t ≡ changed link_down l s → mid_out ≡ out → PutsOut (λ o. Chain (first_parts (Event.LinkDown l) ++ rest) s o u) out out'
+  pub down_chain : t ≡ link_changed link_down l s → mid_out ≡ out → PutsOut (λ o. Chain (first_parts (Event.LinkDown l) ++ rest) s o u) out out'
   down_chain state same = puts_more (LinkChanges l false) rest s t u out out out' (down_puts l s t out state) (subst (λ o. PutsOut (λ x. Chain rest t x u) o out') same next)
 
 -- The end of a step is the chain of its last parts.
-pub ends_put : (s t u v : AreaValue) (out out1 out2 out' : OutputsValue) → IsDatabase s.database → IsDatabase u.database → AreRead out'.sent → Elects s out t out1 → OwnLsas t out1 out2 u → Removes u out2 out' v → PutsOut (λ o. Chain last_parts s o v) out out'
+pub ends_put : (s t u v : AreaValue) (out out1 out2 out' : OutputsValue) → IsDatabase s.database → IsDatabase u.database → AreReadAsSent out'.sent → ElectsAll s out t out1 → OwnLsas t out1 out2 u → Removes u out2 out' v → PutsOut (λ o. Chain last_parts s o v) out out'
 ends_put s t u v out out1 out2 out' is_s is_u read elects own r =
     let removals = removals_put u v out2 out' is_u r in
     let read2 = read_before (λ o. IsPart Part.Removals u o v) out2 out' removals read in

@@ -12,10 +12,10 @@ use Rattle.ospf_area.specs.Outputs.{OutputsValue, SentValue}
 use Rattle.ospf_area.specs.Sending.{own_of}
 use Rattle.ospf_area.specs.State.{AreaValue, LinkValue}
 use Rattle.ospf_area.specs.declared.flooding.Origin.{Origin}
-use Rattle.ospf_links.specs.Elections.{Elects, ElectsAt, ElectsFrom, ElectsThere}
+use Rattle.ospf_links.specs.Elections.{ElectsAll, ElectsAt, ElectsFrom, ElectsThere}
 use Rattle.ospf_links.specs.Parts.{description_part, hello_part, hello_sent, link_down, link_timed, link_up, request_part, with_neighbourhood}
 use Rattle.ospf_links.specs.Repeats.{link_repeated}
-use Rattle.ospf_links.specs.Works.{changed, changed_on, worked, worked_links_on, work_next_on}
+use Rattle.ospf_links.specs.Works.{link_changed, some_changed, worked, worked_links_on, work_next_on}
 use Rattle.ospf_step.specs.Puts.{headers_met}
 use Rattle.ospf_packet.specs.Meaning.{BodyMeaning, hello, description, request, update, acknowledgment}
 use Rattle.ospf_update.specs.Acks.{undelayed_link}
@@ -25,7 +25,7 @@ use Rattle.ospf_update.specs.Removal.{Removes}
 use Rattle.ospf_originate.specs.Laws.{AreaStaysSound, OwnStaySound}
 use Rattle.ospf_originate.specs.Sound.{IsSetUp, IsSound}
 use Rattle.ospf_originate.specs.Steps.{OwnLsas}
-use Rattle.ospf_step.specs.Fit.{IsFit, IsFitLink}
+use Rattle.ospf_step.specs.Fit.{IsFitRouter, IsFitLink}
 use Rattle.ospf_step.specs.Ticks.{acknowledged_area, helloed_area, timed_area}
 use Rattle.ospf_step.specs.Takes.{TakesBody, TakesTick, repeated}
 use Rattle.ospf_step.proofs.AreaFit.{age_for, headers_for, own_for, removes_for, update_for}
@@ -35,35 +35,35 @@ use Rattle.ospf_step.proofs.PartFit.{CanGreet, description_stays, hello_stays, r
 
 -- ---- a router of the same Router ID
 
-for_itself : (s : AreaValue) → IsFit s → IsFor s.router s
+for_itself : (s : AreaValue) → IsFitRouter s → IsFor s.router s
 for_itself s fit = record { own = refl; links = fit.links }
 
-fit_for : (s s' : AreaValue) → IsFor s.router s' → IsSound s' → IsFit s'
+fit_for : (s s' : AreaValue) → IsFor s.router s' → IsSound s' → IsFitRouter s'
 fit_for s s' is sound = record { links = subst (λ (r : RouterId). AllFit r s'.links) (sym is.own) is.links; sound = sound }
 
-moved : (s s' : AreaValue) → s' ≡ s → IsFit s → IsFit s'
-moved s s' is fit = subst (λ (x : AreaValue). IsFit x) (sym is) fit
+moved : (s s' : AreaValue) → s' ≡ s → IsFitRouter s → IsFitRouter s'
+moved s s' is fit = subst (λ (x : AreaValue). IsFitRouter x) (sym is) fit
 
-link_fit : (s : AreaValue) (l : ℕ) (a : LinkValue) → slice_get s.links l ≡ Some a → IsFit s → IsFitLink s.router a
+link_fit : (s : AreaValue) (l : ℕ) (a : LinkValue) → slice_get s.links l ≡ Some a → IsFitRouter s → IsFitLink s.router a
 link_fit s l a at fit = all_at (IsFitLink s.router) s.links l a fit.links at
 
-link_set_up : (s : AreaValue) (l : ℕ) (a : LinkValue) → slice_get s.links l ≡ Some a → IsFit s → IsSetUp a
+link_set_up : (s : AreaValue) (l : ℕ) (a : LinkValue) → slice_get s.links l ≡ Some a → IsFitRouter s → IsSetUp a
 link_set_up s l a at fit = all_at IsSetUp s.links l a fit.sound.links.each at
 
 -- ---- a part on one link
 
 pub worked_fit : (part : LinkValue → Neighbourhood) (l : ℕ) (sent : List LsaKey) (s : AreaValue)
-    → ((a : LinkValue) → slice_get s.links l ≡ Some a → Stays s.router a (with_neighbourhood (part a) a)) → IsFit s → IsFit (record (worked part l s) { sent = sent })
+    → ((a : LinkValue) → slice_get s.links l ≡ Some a → Stays s.router a (with_neighbourhood (part a) a)) → IsFitRouter s → IsFitRouter (record (worked part l s) { sent = sent })
 worked_fit part l sent s stays fit = by_link (slice_get s.links l) refl
   where
-    by_link : (o : Option LinkValue) → slice_get s.links l ≡ o → IsFit (record s { links = worked_links_on o part l s.links; next_dd = work_next_on o part s.next_dd; sent = sent })
+    by_link : (o : Option LinkValue) → slice_get s.links l ≡ o → IsFitRouter (record s { links = worked_links_on o part l s.links; next_dd = work_next_on o part s.next_dd; sent = sent })
     by_link None at = record { links = fit.links; sound = record { links = fit.sound.links; numbered = fit.sound.numbered; counted = fit.sound.counted; greatest = fit.sound.greatest } }
     by_link (Some a) at = set_fit s l a (with_neighbourhood (part a) a) (part a).next sent at (stays a at) fit
 
-pub changed_fit : (change : LinkValue → LinkValue) (l : ℕ) (s : AreaValue) → ((a : LinkValue) → IsFitLink s.router a → IsSetUp a → Stays s.router a (change a)) → IsFit s → IsFit (changed change l s)
+pub changed_fit : (change : LinkValue → LinkValue) (l : ℕ) (s : AreaValue) → ((a : LinkValue) → IsFitLink s.router a → IsSetUp a → Stays s.router a (change a)) → IsFitRouter s → IsFitRouter (link_changed change l s)
 changed_fit change l s stays fit = by_link (slice_get s.links l) refl
   where
-    by_link : (o : Option LinkValue) → slice_get s.links l ≡ o → IsFit (changed_on o change l s)
+    by_link : (o : Option LinkValue) → slice_get s.links l ≡ o → IsFitRouter (some_changed o change l s)
     by_link None at = fit
     by_link (Some a) at = set_fit s l a (change a) s.next_dd s.sent at (stays a (link_fit s l a at fit) (link_set_up s l a at fit)) fit
 
@@ -83,7 +83,7 @@ module _ (stay : NeighboursStayOfLink) (come : ElectionsComeAbout) (keeps : Desc
   headers_sound f (h ∷ hs) s sound = headers_sound f hs (header_met f h s) (area.acknowledged f h s sound)
 
   pub body_fit : (body : BodyMeaning) (f : Origin) (s : AreaValue) (out out' : OutputsValue) (s' : AreaValue)
-      → ((a : LinkValue) → slice_get s.links f.link ≡ Some a → CanCome body f a) → TakesBody body f s out out' s' → IsFit s → IsFit s'
+      → ((a : LinkValue) → slice_get s.links f.link ≡ Some a → CanCome body f a) → TakesBody body f s out out' s' → IsFitRouter s → IsFitRouter s'
   body_fit (hello fields heard) f s out out' s' can is fit =
       moved _ s' is.state (worked_fit (hello_part (own_of s) f fields (names heard s.router) s.next_dd) f.link s.sent s
       (λ a at. hello_stays stay come s.router (own_of s) f fields (names heard s.router) s.next_dd a (can a at) (link_fit s f.link a at fit) (link_set_up s f.link a at fit)) fit)
@@ -101,52 +101,52 @@ module _ (stay : NeighboursStayOfLink) (come : ElectionsComeAbout) (keeps : Desc
 -- ---- ticks
 
 module _ (stay : NeighboursStayOfLink) (come : ElectionsComeAbout) (repeats : RepeatsAreQuiet) (area : AreaStaysSound) where
-  pub aged_fit : (s : AreaValue) (sent : List SentValue) (a : AreaValue) → TickAges s sent a → IsFit s → IsFit a
+  pub aged_fit : (s : AreaValue) (sent : List SentValue) (a : AreaValue) → TickAges s sent a → IsFitRouter s → IsFitRouter a
   aged_fit s sent a ages fit = fit_for s a (age_for s.router s sent a ages (for_itself s fit)) (area.aged s sent a ages fit.sound)
 
   -- up to what is sent again
-  pub ticked_fit : (a : AreaValue) → IsFit a → IsFit (acknowledged_area (helloed_area (timed_area a)))
+  pub ticked_fit : (a : AreaValue) → IsFitRouter a → IsFitRouter (acknowledged_area (helloed_area (timed_area a)))
   ticked_fit a aged =
       let t = timed_area a in
-      let timed : IsFit t = map_fit a link_timed a.sent (λ x. refl) (timers_fit stay come a.router) timers_set_up aged in
+      let timed : IsFitRouter t = map_fit a link_timed a.sent (λ x. refl) (timers_fit stay come a.router) timers_set_up aged in
       let h = helloed_area t in
-      let said : IsFit h = map_fit t hello_sent t.sent hellos_settings (hellos_fit t.router) hellos_set_up timed in
+      let said : IsFitRouter h = map_fit t hello_sent t.sent hellos_settings (hellos_fit t.router) hellos_set_up timed in
       map_fit h undelayed_link h.sent (λ x. refl) (undelayed_fit h.router) undelayed_set_up said
 
-  pub tick_fit : (s : AreaValue) (out out' : OutputsValue) (s' : AreaValue) → TakesTick s out out' s' → IsFit s → IsFit s'
+  pub tick_fit : (s : AreaValue) (out out' : OutputsValue) (s' : AreaValue) → TakesTick s out out' s' → IsFitRouter s → IsFitRouter s'
   tick_fit s out out' s' is fit =
       let k = acknowledged_area (helloed_area (timed_area is.aged)) in
-      let told : IsFit k = ticked_fit is.aged (aged_fit s is.expired_out is.aged is.ages fit) in
+      let told : IsFitRouter k = ticked_fit is.aged (aged_fit s is.expired_out is.aged is.ages fit) in
       moved (repeated k) s' is.state (map_fit k (link_repeated (own_of k) k.database) _ (λ x. refl) (repeats_fit repeats (own_of k) k.database k.router) (repeats_set_up repeats (own_of k) k.database) told)
 
 -- ---- links
 
-pub up_fit : (l : ℕ) (s : AreaValue) → IsFit s → IsFit (changed link_up l s)
+pub up_fit : (l : ℕ) (s : AreaValue) → IsFitRouter s → IsFitRouter (link_changed link_up l s)
 up_fit l s fit = changed_fit link_up l s (up_stays s.router) fit
 
-pub down_fit : (l : ℕ) (s : AreaValue) → IsFit s → IsFit (changed link_down l s)
+pub down_fit : (l : ℕ) (s : AreaValue) → IsFitRouter s → IsFitRouter (link_changed link_down l s)
 down_fit l s fit = changed_fit link_down l s (down_stays s.router) fit
 
 -- ---- the end of a step
 
 module _ (stay : NeighboursStayOfLink) where
-  elects_at_fit : (l : ℕ) (s : AreaValue) (out : OutputsValue) (s' : AreaValue) (out' : OutputsValue) → ElectsAt l s out s' out' → IsFit s → IsFit s'
+  elects_at_fit : (l : ℕ) (s : AreaValue) (out : OutputsValue) (s' : AreaValue) (out' : OutputsValue) → ElectsAt l s out s' out' → IsFitRouter s → IsFitRouter s'
   elects_at_fit l s out s' out' is fit = by_link (slice_get s.links l) refl is
     where
-      by_link : (o : Option LinkValue) → slice_get s.links l ≡ o → ElectsThere o l s out s' out' → IsFit s'
+      by_link : (o : Option LinkValue) → slice_get s.links l ≡ o → ElectsThere o l s out s' out' → IsFitRouter s'
       by_link None at is = moved s s' is.0 fit
       by_link (Some a) at (b, next, sent, elects, state, outputs) =
           moved _ s' state (set_fit s l a b next s.sent at (elects_stays stay s.router a.elects (own_of s) s.next_dd a b next sent elects (link_fit s l a at fit) (link_set_up s l a at fit)) fit)
 
-  elects_from_fit : (l : ℕ) (s : AreaValue) (out : OutputsValue) (s' : AreaValue) (out' : OutputsValue) → ElectsFrom l s out s' out' → IsFit s → IsFit s'
+  elects_from_fit : (l : ℕ) (s : AreaValue) (out : OutputsValue) (s' : AreaValue) (out' : OutputsValue) → ElectsFrom l s out s' out' → IsFitRouter s → IsFitRouter s'
   elects_from_fit zero s out s' out' is fit = moved s s' is.0 fit
   elects_from_fit (suc l) s out s' out' (mid, mid_out, first, last) fit = elects_at_fit l mid mid_out s' out' last (elects_from_fit l s out mid mid_out first fit)
 
-  pub elects_fit : (s : AreaValue) (out : OutputsValue) (s' : AreaValue) (out' : OutputsValue) → Elects s out s' out' → IsFit s → IsFit s'
+  pub elects_fit : (s : AreaValue) (out : OutputsValue) (s' : AreaValue) (out' : OutputsValue) → ElectsAll s out s' out' → IsFitRouter s → IsFitRouter s'
   elects_fit s out s' out' is fit = elects_from_fit (length s.links) s out s' out' is fit
 
-pub own_fit : (own : OwnStaySound) (s : AreaValue) (out out' : OutputsValue) (s' : AreaValue) → OwnLsas s out out' s' → IsFit s → IsFit s'
+pub own_fit : (own : OwnStaySound) (s : AreaValue) (out out' : OutputsValue) (s' : AreaValue) → OwnLsas s out out' s' → IsFitRouter s → IsFitRouter s'
 own_fit own s out out' s' is fit = fit_for s s' (own_for s.router s out out' s' is (for_itself s fit)) (own.ended s out out' s' is fit.sound)
 
-pub removes_fit : (area : AreaStaysSound) (s : AreaValue) (out out' : OutputsValue) (s' : AreaValue) → IsDatabase s.database → Removes s out out' s' → IsFit s → IsFit s'
+pub removes_fit : (area : AreaStaysSound) (s : AreaValue) (out out' : OutputsValue) (s' : AreaValue) → IsDatabase s.database → Removes s out out' s' → IsFitRouter s → IsFitRouter s'
 removes_fit area s out out' s' db is fit = fit_for s s' (removes_for s.router s out out' s' is (for_itself s fit)) (area.removed s out out' s' db is fit.sound)

@@ -7,7 +7,7 @@ use Rattle.ospf_base.specs.declared.ids.Addr.{Addr}
 use Rattle.ospf_lsdb.specs.Database.{IsDatabase}
 use Rattle.ospf_packet.specs.Meaning.{BodyMeaning, Meaning, hello, description, request, update, acknowledgment}
 use Rattle.ospf_packet.specs.PacketOf.{packet_of}
-use Rattle.ospf_area.specs.Outputs.{AreRead, OutputsValue, no_outputs}
+use Rattle.ospf_area.specs.Outputs.{AreReadAsSent, OutputsValue, no_outputs}
 use Rattle.ospf_area.specs.Sending.{and_sends}
 use Rattle.ospf_area.specs.State.{AreaValue}
 use Rattle.ospf_adjacency.specs.Heard.{names}
@@ -25,12 +25,12 @@ use Rattle.ospf_step.proofs.StepAccounts.{StepLaws-accounts, StepLaws-sound}
 use Rattle.ospf_step.specs.Invariants.{AreRising}
 use Rattle.ospf_step.proofs.StepChains.{acknowledgment_chain, description_chain, down_chain, hello_chain, request_chain, up_chain, update_chain, ends_put, tick_puts}
 use Rattle.ospf_step.specs.Drops.{is_dropped}
-use Rattle.ospf_step.specs.Fit.{IsFit, IsFitLink}
+use Rattle.ospf_step.specs.Fit.{IsFitRouter, IsFitLink}
 use Rattle.ospf_step.specs.Ready.{IsReadyFor, IsSenderReady}
 use Rattle.ospf_step.specs.Steps.{StepsArea, Takes}
 use Rattle.ospf_step.specs.Ticks.{acknowledged_area, helloed_area, timed_area}
 use Rattle.ospf_step.specs.Takes.{TakesBody, TakesDatagram, TakesEvent, TakesTick, origin_of}
-use Rattle.ospf_step.specs.declared.steps.Taken.{Taken}
+use Rattle.ospf_step.specs.declared.steps.StepResult.{StepResult}
 use Rattle.ospf_step.proofs.FitLemmas.{all_at}
 use Rattle.ospf_step.proofs.StepFit.{aged_fit, ticked_fit}
 
@@ -38,12 +38,12 @@ use Rattle.ospf_step.proofs.StepFit.{aged_fit, ticked_fit}
 none_sent : (out out' : OutputsValue) → out' ≡ and_sends out [] → out' ≡ out
 none_sent out out' is = is ∙ ap (λ sent. record out { sent = sent }) (append-nil out.sent)
 
-links_rise : (s : AreaValue) → IsFit s → AreRising s.links
+links_rise : (s : AreaValue) → IsFitRouter s → AreRising s.links
 links_rise s fit l link at = (all_at (IsFitLink s.router) s.links l link fit.links at).neighbours.rising
 
 -- ---- an event, in front of what follows
 
-module _ (stay : NeighboursStayOfLink) (come : ElectionsComeAbout) (repeats : RepeatsAreQuiet) (area : AreaStaysSound) (rest : List Part) (s t u : AreaValue) (out mid_out out' : OutputsValue) (read : AreRead out'.sent) (next : PutsOut (λ o. Chain rest t o u) mid_out out') where
+module _ (stay : NeighboursStayOfLink) (come : ElectionsComeAbout) (repeats : RepeatsAreQuiet) (area : AreaStaysSound) (rest : List Part) (s t u : AreaValue) (out mid_out out' : OutputsValue) (read : AreReadAsSent out'.sent) (next : PutsOut (λ o. Chain rest t o u) mid_out out') where
   datagram_puts : (link : ℕ) (source destination : Addr) (bytes : List ℕ) (o : Option Meaning) → packet_of bytes ≡ o → IsSenderReady link o s → TakesDatagram link source o s out mid_out t
       → PutsOut (λ o. Chain (first_parts (Datagram link source destination bytes) ++ rest) s o u) out out'
   datagram_puts link source destination bytes None at ready is = absurd is
@@ -57,14 +57,14 @@ module _ (stay : NeighboursStayOfLink) (come : ElectionsComeAbout) (repeats : Re
       by_body (acknowledgment headers) says is = acknowledgment_chain link source destination bytes m at rest s t u out mid_out out' read next headers says is.state (none_sent out mid_out is.outputs)
 
   -- a tick leaves the database as its ages leave it
-  take_tick_puts : IsFit s → IsDatabase t.database → TakesTick s out mid_out t → PutsOut (λ o. Chain (first_parts Tick ++ rest) s o u) out out'
+  take_tick_puts : IsFitRouter s → IsDatabase t.database → TakesTick s out mid_out t → PutsOut (λ o. Chain (first_parts Tick ++ rest) s o u) out out'
   take_tick_puts fit after is =
       let aged : IsDatabase is.aged.database = subst IsDatabase (ap (λ (x : AreaValue). x.database) is.state) after in
-      let aged_fits : IsFit is.aged = aged_fit stay come repeats area s is.expired_out is.aged is.ages fit in
+      let aged_fits : IsFitRouter is.aged = aged_fit stay come repeats area s is.expired_out is.aged is.ages fit in
       let ticked = acknowledged_area (helloed_area (timed_area is.aged)) in
       tick_puts rest _ s is.aged t u is.expired_out out mid_out out' (links_rise is.aged aged_fits) (links_rise ticked (ticked_fit stay come repeats area is.aged aged_fits)) aged read is.ages is.state is.outputs next
 
-  event_puts : (e : Event) → IsFit s → IsDatabase t.database → IsReadyFor e s → TakesEvent e s out mid_out t → PutsOut (λ o. Chain (first_parts e ++ rest) s o u) out out'
+  event_puts : (e : Event) → IsFitRouter s → IsDatabase t.database → IsReadyFor e s → TakesEvent e s out mid_out t → PutsOut (λ o. Chain (first_parts e ++ rest) s o u) out out'
   event_puts (Datagram link source destination bytes) fit after ready is = datagram_puts link source destination bytes (packet_of bytes) refl ready is
   event_puts Tick fit after ready is = take_tick_puts fit after is
   event_puts (LinkUp link) fit after ready is = up_chain link rest s t u out mid_out out' next read is.state is.outputs
@@ -73,13 +73,13 @@ module _ (stay : NeighboursStayOfLink) (come : ElectionsComeAbout) (repeats : Re
 -- ---- a step
 
 module _ (stay : NeighboursStayOfLink) (come : ElectionsComeAbout) (repeats : RepeatsAreQuiet) (area : AreaStaysSound) where
-  takes_laws : (e : Event) (s : AreaValue) (out : OutputsValue) (s' : AreaValue) → IsFit s → IsReadyFor e s → is_dropped e s ≡ false → Takes e s out s' → StepLaws is_dropped e s out s'
+  takes_laws : (e : Event) (s : AreaValue) (out : OutputsValue) (s' : AreaValue) → IsFitRouter s → IsReadyFor e s → is_dropped e s ≡ false → Takes e s out s' → StepLaws is_dropped e s out s'
   takes_laws e s out s' fit ready taken is =
       let end = is.end in
       let ends = ends_put is.mid end.elected end.issued s' is.mid_out end.elected_out end.issued_out out end.database end.issued_database end.read end.elects end.own end.removes in
       step_from_chain is_dropped e s out s' taken end.read (event_puts stay come repeats area last_parts s is.mid s' no_outputs is.mid_out out end.read ends e fit end.database ready is.event)
 
-  pub step_laws : (r : Result Taken AllocError) (e : Event) (s s' : AreaValue) → IsFit s → IfOk r (λ t. t.dropped ≡ None → IsReadyFor e s)
+  pub step_laws : (r : Result StepResult AllocError) (e : Event) (s s' : AreaValue) → IsFitRouter s → IfOk r (λ t. t.dropped ≡ None → IsReadyFor e s)
       → IfOk r (λ t. StepsArea e s t.dropped t.out s') → IfOk r (λ t. StepLaws is_dropped e s t.out s')
   step_laws (Err x) e s s' fit ready is = tt
   step_laws (Ok t) e s s' fit ready is = by_cause t.dropped refl
@@ -92,10 +92,10 @@ module _ (stay : NeighboursStayOfLink) (come : ElectionsComeAbout) (repeats : Re
 
 -- ---- what a step answers for
 
-pub laws_account : (r : Result Taken AllocError) (e : Event) (s s' : AreaValue) → IsSoundState s → IfOk r (λ t. StepLaws is_dropped e s t.out s') → IfOk r (λ t. Accounts (heard_in e) s t.out s')
+pub laws_account : (r : Result StepResult AllocError) (e : Event) (s s' : AreaValue) → IsSoundState s → IfOk r (λ t. StepLaws is_dropped e s t.out s') → IfOk r (λ t. Accounts (heard_in e) s t.out s')
 laws_account (Err x) e s s' sound is = tt
 laws_account (Ok t) e s s' sound is = StepLaws-accounts is_dropped e s t.out s' sound is
 
-pub laws_sound : (r : Result Taken AllocError) (e : Event) (s s' : AreaValue) → IsSoundState s → IfOk r (λ t. StepLaws is_dropped e s t.out s') → OnOk r (IsSoundState s')
+pub laws_sound : (r : Result StepResult AllocError) (e : Event) (s s' : AreaValue) → IsSoundState s → IfOk r (λ t. StepLaws is_dropped e s t.out s') → OnOk r (IsSoundState s')
 laws_sound (Err x) e s s' sound is = tt
 laws_sound (Ok t) e s s' sound is = StepLaws-sound is_dropped e s t.out s' sound is

@@ -13,16 +13,16 @@ use Rattle.ospf_step.specs.Step.Event.{Datagram, Tick, LinkUp, LinkDown}
 use Rattle.ospf_links.specs.Elections.{ElectsAt, ElectsFrom, ElectsThere}
 use Rattle.ospf_links.specs.Parts.{description_part, hello_part, hello_sent, link_down, link_timed, link_up, request_part, with_neighbourhood}
 use Rattle.ospf_links.specs.Repeats.{link_repeated}
-use Rattle.ospf_links.specs.Works.{changed, changed_on, worked, worked_links_on, work_next_on}
+use Rattle.ospf_links.specs.Works.{link_changed, some_changed, worked, worked_links_on, work_next_on}
 use Rattle.ospf_packet.specs.Meaning.{BodyMeaning, Meaning, hello, description, request, update, acknowledgment}
 use Rattle.ospf_packet.specs.PacketOf.{packet_of}
 use Rattle.ospf_update.specs.Acks.{undelayed_link}
-use Rattle.ospf_step.specs.Ends.{Ends}
+use Rattle.ospf_step.specs.Ends.{EndsStep}
 use Rattle.ospf_step.specs.Same.{IsSameRouter}
 use Rattle.ospf_step.specs.declared.dropped.Dropped.{Dropped}
 use Rattle.ospf_step.specs.Drops.{dropped_by}
 use Rattle.ospf_step.specs.Steps.{StepsArea, Takes}
-use Rattle.ospf_step.specs.declared.steps.Taken.{Taken}
+use Rattle.ospf_step.specs.declared.steps.StepResult.{StepResult}
 use Rattle.std.specs.declared.alloc.AllocError.{AllocError}
 use Rattle.std.proofs.lemmas.Option.{none-some}
 use Rattle.ospf_step.specs.Takes.{TakesBody, TakesDatagram, TakesEvent, TakesTick, origin_of}
@@ -47,10 +47,10 @@ worked_as part l sent s = by_link (slice_get s.links l)
     by_link None = record { own = refl; many = refl }
     by_link (Some a) = record { own = refl; many = length-set s.links l (with_neighbourhood (part a) a) }
 
-changed_as : (change : LinkValue → LinkValue) (l : ℕ) (s : AreaValue) → IsStill s (changed change l s)
+changed_as : (change : LinkValue → LinkValue) (l : ℕ) (s : AreaValue) → IsStill s (link_changed change l s)
 changed_as change l s = by_link (slice_get s.links l)
   where
-    by_link : (o : Option LinkValue) → IsStill s (changed_on o change l s)
+    by_link : (o : Option LinkValue) → IsStill s (some_changed o change l s)
     by_link None = itself s
     by_link (Some a) = record { own = refl; many = length-set s.links l (change a) }
 
@@ -91,7 +91,7 @@ elects_as : (l : ℕ) (s : AreaValue) (out : OutputsValue) (s' : AreaValue) (out
 elects_as zero s out s' out' is = moved s s s' is.0 (itself s)
 elects_as (suc l) s out s' out' (mid, mid_out, first, last) = then s mid s' (elects_as l s out mid mid_out first) (elects_at_as l mid mid_out s' out' last)
 
-ends_as : (s : AreaValue) (out out' : OutputsValue) (s' : AreaValue) → Ends s out out' s' → IsStill s s'
+ends_as : (s : AreaValue) (out out' : OutputsValue) (s' : AreaValue) → EndsStep s out out' s' → IsStill s s'
 ends_as s out out' s' is =
     let elected = elects_as (length s.links) s out is.elected is.elected_out is.elects in
     let issued = own_as s.router (length s.links) is.elected is.elected_out is.issued_out is.issued is.own elected in
@@ -105,7 +105,7 @@ takes_same e s out s' is =
 
 -- a step whose event was taken, and that has ended
 pub taken_steps : (e : Event) (s mid after : AreaValue) (o mid_out out : OutputsValue) (d : Option Dropped) → o ≡ no_outputs → is_some d ≡ false → d ≡ dropped_by e s
-    → (d ≡ None → TakesEvent e s o mid_out mid) → Ends mid mid_out out after → StepsArea e s d out after
+    → (d ≡ None → TakesEvent e s o mid_out mid) → EndsStep mid mid_out out after → StepsArea e s d out after
 taken_steps e s mid after o mid_out out (Some d) empty taken cause takes ends = absurd cc
 taken_steps e s mid after o mid_out out None empty taken cause takes ends = record {
   cause = cause;
@@ -121,7 +121,7 @@ dropped_steps e s after o out None empty dropped cause unchanged silent = absurd
 dropped_steps e s after o out (Some d) empty dropped cause unchanged silent =
     record { cause = cause; unchanged = unchanged; silent = λ some. silent some ∙ empty; takes = λ none. absurd cc }
 
-pub step_same : (r : Result Taken AllocError) (e : Event) (s s' : AreaValue) → IfOk r (λ t. StepsArea e s t.dropped t.out s') → OnOk r (IsSameRouter s s')
+pub step_same : (r : Result StepResult AllocError) (e : Event) (s s' : AreaValue) → IfOk r (λ t. StepsArea e s t.dropped t.out s') → OnOk r (IsSameRouter s s')
 step_same (Err x) e s s' is = tt
 step_same (Ok t) e s s' is = by_cause t.dropped refl
   where

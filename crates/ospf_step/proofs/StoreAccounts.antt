@@ -23,14 +23,14 @@ use Rattle.ospf_neighbour.specs.Neighbour.{NeighbourValue}
 use Rattle.ospf_area.specs.Flooding.{on_link, came_from, flooded_neighbour, flooded_link, flooded_links, released, released_link}
 use Rattle.ospf_update.specs.Meets.{Stores, store_updates}
 use Rattle.ospf_area.specs.Sending.{own_of}
-use Rattle.ospf_area.specs.Outputs.{OutputsValue, AreRead}
+use Rattle.ospf_area.specs.Outputs.{OutputsValue, AreReadAsSent}
 use Rattle.ospf_area.specs.Places.{map_from}
-use Rattle.ospf_area.specs.State.{AreaValue, LinkValue, entry_of, copy_in, copy_of, kept_number}
+use Rattle.ospf_area.specs.State.{AreaValue, LinkValue, database_entry, copy_in, copy_of, kept_number}
 use Rattle.ospf_area.specs.declared.flooding.Origin.{Origin}
-use Rattle.ospf_step.specs.Headers.{IsOf, Lists}
-use Rattle.ospf_step.specs.Packets.{Received, lsas_in, headers_in}
-use Rattle.ospf_step.specs.Words.{Holds, Brings}
-use Rattle.ospf_step.specs.Accounts.{Has, IsAcknowledged, IsStored, Sends, Numbers}
+use Rattle.ospf_step.specs.Headers.{IsOfInstance, Lists}
+use Rattle.ospf_step.specs.Packets.{Received, lsas_in, headers_in_packet}
+use Rattle.ospf_step.specs.Words.{HoldsInstance, Brings}
+use Rattle.ospf_step.specs.Accounts.{HasContents, IsAcknowledged, TakesItsPlace, Sends, Numbers}
 use Rattle.ospf_step.proofs.Accountable.{IsAccountable, sent_packet}
 use Rattle.ospf_step.proofs.FloodingAccounts as flooding
 use Rattle.ospf_step.proofs.FloodingAccounts.{FloodsTo, IsFlooded, IsAccounted, Replaces}
@@ -55,10 +55,10 @@ one_of x y (suc k, within, is) = absurd (omega arith)
 sent_one : (out : OutputsValue) (s : AreaValue) (lsa : List ℕ) (p : Meaning) → IsUpdateOf (own_of s) lsa p → (one : List ℕ) → Contains (lsas_in p) one → contents one ≡ contents lsa
 sent_one out s lsa p u one c = ap contents (one_of u.one one (subst (λ m. Contains (lsas_in m) one) u.packet c)) ∙ u.same
 
-names_one : (s : AreaValue) (lsa : List ℕ) (p : Meaning) (i : Instance) → IsUpdateOf (own_of s) lsa p → Lists (headers_in p) i → i ≡ instance_of lsa
+names_one : (s : AreaValue) (lsa : List ℕ) (p : Meaning) (i : Instance) → IsUpdateOf (own_of s) lsa p → Lists (headers_in_packet p) i → i ≡ instance_of lsa
 names_one s lsa p i u (h, c, is) =
-    let it = one_of (header_of u.one) h (subst (λ m. Contains (headers_in m) h) u.packet c) in
-    sym (header_names u.one i (subst (λ h. IsOf h i) it is)) ∙ same_contents u.one lsa u.same
+    let it = one_of (header_of u.one) h (subst (λ m. Contains (headers_in_packet m) h) u.packet c) in
+    sym (header_names u.one i (subst (λ h. IsOfInstance h i) it is)) ∙ same_contents u.one lsa u.same
 
 -- the entry that an LSA is stored as
 long : (lsa : List ℕ) → IsLsa lsa → 2 ≤ length lsa
@@ -94,7 +94,7 @@ Stores-by lsa from before after stores = record {
   same_direct = ap (λ s. s.direct) stores.rest;
 }
 
-module _ (heard : Option Received) (lsa : List ℕ) (from : Option Origin) (by_flooding : Bool) (before : AreaValue) (out : OutputsValue) (after : AreaValue) (stores : StoresBy lsa from by_flooding before after) (is_lsa : IsLsa lsa) (newer : (copy : List ℕ) → copy_of before (key_of lsa) ≡ Some copy → recency (header_of lsa) (header_of copy) ≡ Newer) (stored : (copy : List ℕ) → copy_of before (key_of lsa) ≡ Some copy → IsStored heard out copy lsa) (brings : Brings out (instance_of lsa)) (brings_only : (i : Instance) → Brings out i → i ≡ instance_of lsa) (has : Has heard before out (contents lsa)) (told : (f : Origin) → from ≡ Some f → IsAcknowledged heard f.link f.router (instance_of lsa)) (sent : out.sent ≡ store_updates lsa from before) (read : AreRead out.sent) (numbers : Numbers heard before out after) (counted : (key_of lsa).router ≡ before.router → (instance_of lsa).number ≤ℤ kept_number after (key_of lsa)) (none_ended : out.ended ≡ []) where
+module _ (heard : Option Received) (lsa : List ℕ) (from : Option Origin) (by_flooding : Bool) (before : AreaValue) (out : OutputsValue) (after : AreaValue) (stores : StoresBy lsa from by_flooding before after) (is_lsa : IsLsa lsa) (newer : (copy : List ℕ) → copy_of before (key_of lsa) ≡ Some copy → recency (header_of lsa) (header_of copy) ≡ Newer) (stored : (copy : List ℕ) → copy_of before (key_of lsa) ≡ Some copy → TakesItsPlace heard out copy lsa) (brings : Brings out (instance_of lsa)) (brings_only : (i : Instance) → Brings out i → i ≡ instance_of lsa) (has : HasContents heard before out (contents lsa)) (told : (f : Origin) → from ≡ Some f → IsAcknowledged heard f.link f.router (instance_of lsa)) (sent : out.sent ≡ store_updates lsa from before) (read : AreReadAsSent out.sent) (numbers : Numbers heard before out after) (counted : (key_of lsa).router ≡ before.router → (instance_of lsa).number ≤ℤ kept_number after (key_of lsa)) (none_ended : out.ended ≡ []) where
   key : LsaKey
   key = key_of lsa
 
@@ -117,11 +117,11 @@ module _ (heard : Option Received) (lsa : List ℕ) (from : Option Origin) (by_f
   came_same None n = refl
   came_same (Some f) n = refl
 
-  past_floods : (l : ℕ) (n : NeighbourValue) → FloodsTo (instance_of lsa) (Holds before (instance_of lsa)) (came l n) n (past l n)
+  past_floods : (l : ℕ) (n : NeighbourValue) → FloodsTo (instance_of lsa) (HoldsInstance before (instance_of lsa)) (came l n) n (past l n)
   unfolding past came
   past_floods l n =
-      subst (λ b. FloodsTo (instance_of lsa) (Holds before (instance_of lsa)) b n (past l n)) (came_same (on_link from l) n)
-      (released_floods_to (key_of lsa) (header_of lsa) (came_from (on_link from l) (key_unlisted (key_of lsa) n)) before.tick n (header_is_of lsa is_lsa) (Holds before (instance_of lsa)))
+      subst (λ b. FloodsTo (instance_of lsa) (HoldsInstance before (instance_of lsa)) b n (past l n)) (came_same (on_link from l) n)
+      (released_floods_to (key_of lsa) (header_of lsa) (came_from (on_link from l) (key_unlisted (key_of lsa) n)) before.tick n (header_is_of lsa is_lsa) (HoldsInstance before (instance_of lsa)))
 
   is_flooded : IsFlooded e came no_acks change past before after
   unfolding e change past came no_acks
@@ -130,7 +130,7 @@ module _ (heard : Option Received) (lsa : List ℕ) (from : Option Origin) (by_f
     links = stores.links ∙ map_from-map (flooded_link (key_of lsa) (header_of lsa) from before.tick) (released_link (key_of lsa)) 0 before.links;
     each = λ l link. map-map (flooded_neighbour (key_of lsa) (header_of lsa) (on_link from l) before.tick) (key_unlisted (key_of lsa)) link.neighbours;
     waiting = λ l link h c. inl c;
-    floods = λ l n. subst (λ i. FloodsTo i (Holds before i) (came l n) n (past l n)) (sym (stored_instance lsa before.tick by_flooding)) (past_floods l n);
+    floods = λ l n. subst (λ i. FloodsTo i (HoldsInstance before i) (came l n) n (past l n)) (sym (stored_instance lsa before.tick by_flooding)) (past_floods l n);
     same_router = stores.same_router;
     direct = λ h c. subst (λ hs. Contains hs h) stores.same_direct c;
   }
@@ -157,7 +157,7 @@ module _ (heard : Option Received) (lsa : List ℕ) (from : Option Origin) (by_f
         (stored copy (ap (copy_of before) (sym (stored_key lsa before.tick by_flooding)) ∙ is));
     known = inr (subst (λ i. Brings out i) (sym (stored_instance lsa before.tick by_flooding)) brings);
     holds = inr (subst (λ i. Brings out i) (sym (stored_instance lsa before.tick by_flooding)) brings);
-    has = subst (λ c. Has heard before out c) (sym (stored_contents lsa before.tick by_flooding)) has;
+    has = subst (λ c. HasContents heard before out c) (sym (stored_contents lsa before.tick by_flooding)) has;
     brings_only = λ i b. brings_only i b ∙ sym (stored_instance lsa before.tick by_flooding);
     told = λ l n c. subst (λ i. IsAcknowledged heard l n.router i) (sym (stored_instance lsa before.tick by_flooding)) (from_told l n from refl c);
     acknowledged = λ l h i c. absurd (Contains-nil h c);
@@ -185,11 +185,11 @@ pub Stores-known : (lsa : List ℕ) (from : Option Origin) (before after : AreaV
 Stores-known lsa from before after stores own = subst (λ s. (instance_of lsa).number ≤ℤ kept_number s (key_of lsa)) (sym stores.rest) (counts-known (key_of lsa) (header_of lsa).number before own)
 
 -- the LSA is held
-pub Stores-holds : (lsa : List ℕ) (from : Option Origin) (by_flooding : Bool) (before after : AreaValue) → StoresBy lsa from by_flooding before after → Holds after (instance_of lsa)
+pub Stores-holds : (lsa : List ℕ) (from : Option Origin) (by_flooding : Bool) (before after : AreaValue) → StoresBy lsa from by_flooding before after → HoldsInstance after (instance_of lsa)
 Stores-holds lsa from by_flooding before after stores = (lsa_of e, copy_of-has after (key_of lsa) (lsa_of e) (ap copy_in here), stored_instance lsa before.tick by_flooding)
   where
     e : Entry
     e = entry_from lsa before.tick by_flooding
 
-    here : entry_of after (key_of lsa) ≡ Some e
+    here : database_entry after (key_of lsa) ≡ Some e
     here = installs e before.database after.database stores.database (key_of lsa) ∙ cond-true _ _ _ (subst (λ k. same_key k (key_of lsa) ≡ true) (sym (stored_key lsa before.tick by_flooding)) (same_key-refl (key_of lsa)))

@@ -14,15 +14,15 @@ use Rattle.ospf_neighbour.specs.declared.machine.NbrEvent.TheVariants as event
 use Rattle.ospf_neighbour.specs.declared.machine.NeighbourState.{NeighbourState}
 use Rattle.ospf_neighbour.specs.declared.machine.NeighbourState.TheVariants as state
 use Rattle.ospf_update.specs.Aging.{turned_area, turn_out}
-use Rattle.ospf_area.specs.Asking.{loaded, turned, turned_link, turned_links, request_body, turn_request, turn_requests_on}
+use Rattle.ospf_area.specs.Asking.{loaded, turned_to_next, turned_link, turned_links, request_body, turn_request, turn_requests_on}
 use Rattle.ospf_area.specs.Sending.{own_of, datagrams, packet_of, to_address, way_out}
-use Rattle.ospf_area.specs.Outputs.{SentValue, no_outputs, sends, AreRead}
+use Rattle.ospf_area.specs.Outputs.{SentValue, no_outputs, sends, AreReadAsSent}
 use Rattle.ospf_area.specs.Places.{flat_from}
 use Rattle.ospf_area.specs.State.{AreaValue, LinkValue, neighbour, neighbours_in, state_in}
 use Rattle.ospf_area.specs.declared.sending.Own.{Own}
 use Rattle.ospf_area.specs.declared.sending.Way.{Way}
 use Rattle.ospf_step.specs.Words.{delayed_in}
-use Rattle.ospf_step.specs.Neighbours.{Goes, GoesOn, Quiet}
+use Rattle.ospf_step.specs.Neighbours.{NeighbourGoes, NeighbourGoesOn, Quiet}
 use Rattle.ospf_step.proofs.SentFacts.{flat_map-members, datagrams-packet}
 use Rattle.ospf_step.proofs.StateFacts.{Contains-nil, find-map}
 use Rattle.ospf_step.specs.Links.{IsKnownPacket}
@@ -58,14 +58,14 @@ loaded-keeps n = by n.state refl
     by state.Loading at = described_by (is_empty n.requests) at
     by state.Full at = stays state.Full at
 
-turned-keeps : (mtu tick : ℕ) (n : NeighbourValue) → KeepsAll n (turned mtu tick n)
+turned-keeps : (mtu tick : ℕ) (n : NeighbourValue) → KeepsAll n (turned_to_next mtu tick n)
 turned-keeps mtu tick n = go (request_due (loaded n)) (loaded-keeps n)
   where
     go : (b : Bool) → KeepsAll n (loaded n) → KeepsAll n (cond b (asked_next mtu tick (loaded n)) (loaded n))
     go true k = record { router = k.router; requests = k.requests; summary = k.summary; last_dd = k.last_dd; retransmission = k.retransmission; enters = k.enters }
     go false k = k
 
-keeps-goes : (s : AreaValue) (n m : NeighbourValue) → KeepsAll n m → GoesOn s [] n m
+keeps-goes : (s : AreaValue) (n m : NeighbourValue) → KeepsAll n m → NeighbourGoesOn s [] n m
 keeps-goes s n m k = record {
   requests = λ h c. inl (subst (λ hs. Contains hs h) k.requests c);
   retransmission = λ i w. inl (subst (λ ls. Contains (map (λ l. l.instance) ls) i) k.retransmission w);
@@ -99,7 +99,7 @@ nothing-quiet s =
       none_enters = λ l q up. up;
     }
   where
-    go : (o : Option NeighbourValue) → Goes s [] o o
+    go : (o : Option NeighbourValue) → NeighbourGoes s [] o o
     go None = tt
     go (Some n) = keeps-goes s n n (same-keeps n)
 
@@ -110,25 +110,25 @@ link_turned own [] l = refl
 link_turned own (link ∷ links) zero = refl
 link_turned own (link ∷ links) (suc l) = link_turned own links l
 
-neighbour_turned : (own : Own) (o : Option LinkValue) (q : RouterId) → (mtu : ℕ) × (neighbour_of (neighbours_in (option_map (turned_link own) o)) q ≡ option_map (turned mtu own.tick) (neighbour_of (neighbours_in o) q))
+neighbour_turned : (own : Own) (o : Option LinkValue) (q : RouterId) → (mtu : ℕ) × (neighbour_of (neighbours_in (option_map (turned_link own) o)) q ≡ option_map (turned_to_next mtu own.tick) (neighbour_of (neighbours_in o) q))
 neighbour_turned own None q = (0, refl)
-neighbour_turned own (Some link) q = (link.settings.mtu, find-map (λ n. n.router.0 == q.0) (turned link.settings.mtu own.tick) link.neighbours (λ n. ap (λ r. r.0 == q.0) (turned-keeps link.settings.mtu own.tick n).router))
+neighbour_turned own (Some link) q = (link.settings.mtu, find-map (λ n. n.router.0 == q.0) (turned_to_next link.settings.mtu own.tick) link.neighbours (λ n. ap (λ r. r.0 == q.0) (turned-keeps link.settings.mtu own.tick n).router))
 
 module _ (s : AreaValue) where
   after : AreaValue
   after = turned_area s
 
-  there : (l : ℕ) (q : RouterId) → (mtu : ℕ) × (neighbour after l q ≡ option_map (turned mtu s.tick) (neighbour s l q))
+  there : (l : ℕ) (q : RouterId) → (mtu : ℕ) × (neighbour after l q ≡ option_map (turned_to_next mtu s.tick) (neighbour s l q))
   unfolding after
   there l q =
       let (mtu, is) = neighbour_turned (own_of s) (slice_get s.links l) q in
       (mtu, ap (λ o. neighbour_of (neighbours_in o) q) (link_turned (own_of s) s.links l) ∙ is)
 
-  goes_by : (mtu : ℕ) (o : Option NeighbourValue) → Goes s [] o (option_map (turned mtu s.tick) o)
+  goes_by : (mtu : ℕ) (o : Option NeighbourValue) → NeighbourGoes s [] o (option_map (turned_to_next mtu s.tick) o)
   goes_by mtu None = tt
-  goes_by mtu (Some n) = keeps-goes s n (turned mtu s.tick n) (turned-keeps mtu s.tick n)
+  goes_by mtu (Some n) = keeps-goes s n (turned_to_next mtu s.tick n) (turned-keeps mtu s.tick n)
 
-  enters_by : (mtu : ℕ) (o : Option NeighbourValue) → is_exchanging (state_in (option_map (turned mtu s.tick) o)) ≡ true → is_exchanging (state_in o) ≡ true
+  enters_by : (mtu : ℕ) (o : Option NeighbourValue) → is_exchanging (state_in (option_map (turned_to_next mtu s.tick) o)) ≡ true → is_exchanging (state_in o) ≡ true
   enters_by mtu None up = absurd (false≢true up)
   enters_by mtu (Some n) up = (turned-keeps mtu s.tick n).enters up
 
@@ -150,13 +150,13 @@ module _ (s : AreaValue) where
     | inr rest ↦ all_send (suc k) links d rest
   ]
 
-  pub turned-quiet : AreRead (turn_out s) → Quiet s (sends (turn_out s)) (turned_area s)
+  pub turned-quiet : AreReadAsSent (turn_out s) → Quiet s (sends (turn_out s)) (turned_area s)
   unfolding after
   turned-quiet read =
       let known = sends_known s (turn_out s) read (λ d c. all_send 0 s.links d c) in
       record {
         neighbours = record {
-          goes = λ l q. let (mtu, is) = there l q in subst (λ o. Goes s [] (neighbour s l q) o) (sym is) (goes_by mtu (neighbour s l q));
+          goes = λ l q. let (mtu, is) = there l q in subst (λ o. NeighbourGoes s [] (neighbour s l q) o) (sym is) (goes_by mtu (neighbour s l q));
           waiting = λ l h c. subst (λ hs. Contains hs h) (ap delayed_in (link_turned (own_of s) s.links l) ∙ same_delayed (slice_get s.links l)) c;
           same_direct = refl;
           same_router = refl;

@@ -11,7 +11,7 @@ use Rattle.ospf_lsa.specs.Header.{header_of}
 use Rattle.ospf_lsa.specs.declared.header.LsaHeader.{LsaHeader}
 use Rattle.ospf_lsdb.specs.Database.{IsDatabase, lsa_of}
 use Rattle.ospf_neighbour.specs.Neighbour.{NeighbourValue}
-use Rattle.ospf_neighbour.specs.Neighbours.{IsRising, neighbour_of}
+use Rattle.ospf_neighbour.specs.Neighbours.{AreNeighboursRising, neighbour_of}
 use Rattle.ospf_packet.specs.Meaning.{BodyMeaning, hello, description, request, update, acknowledgment, Meaning}
 use Rattle.ospf_packet.specs.declared.body.Description.{Description}
 use Rattle.ospf_packet.specs.declared.entry.RequestEntry.{RequestEntry}
@@ -27,14 +27,14 @@ use Rattle.ospf_adjacency.proofs.GoLemmas.{puts_one}
 use Rattle.ospf_adjacency.specs.Answers.{answer_turn}
 use Rattle.ospf_adjacency.specs.ResendLaws.{HasCopiesOnly, IsCopy, IsQuiet}
 use Rattle.ospf_adjacency.proofs.QuietLemmas.{answers_are_quiet, repeats_are_quiet}
-use Rattle.ospf_area.specs.Outputs.{AreRead, OutputsValue, SentValue, sends}
+use Rattle.ospf_area.specs.Outputs.{AreReadAsSent, OutputsValue, SentValue, sends}
 use Rattle.ospf_area.specs.Sending.{and_sends, own_of}
 use Rattle.ospf_area.specs.State.{AreaValue, LinkValue, neighbour, neighbours_in, copy_in}
 use Rattle.ospf_area.specs.declared.flooding.Origin.{Origin}
 use Rattle.ospf_step.specs.Accounts.{WasHeld}
-use Rattle.ospf_step.specs.Headers.{IsOf}
+use Rattle.ospf_step.specs.Headers.{IsOfInstance}
 use Rattle.ospf_step.specs.Links.{AreKnown, ChangesLinks, EntersNot, OnOneLink}
-use Rattle.ospf_step.specs.Neighbours.{Goes, GoesOn, NeighboursGo, Quiet, told_by}
+use Rattle.ospf_step.specs.Neighbours.{NeighbourGoes, NeighbourGoesOn, NeighboursGo, Quiet, told_by}
 use Rattle.ospf_step.specs.Packets.{dd_headers_in}
 use Rattle.ospf_step.specs.Puts.{PutsOut}
 use Rattle.ospf_step.specs.Words.{CanName}
@@ -42,7 +42,7 @@ use Rattle.ospf_step.proofs.LinkParts.{goes_same, link_same, one_goes, one_quiet
 use Rattle.ospf_step.proofs.StateFacts.{Contains-map_cases, Contains-nil, header_names, same_contents, copy_of-has, neighbour-router, same_router}
 use Rattle.ospf_links.specs.Parts.{description_by, description_part, neighbourhood_of, request_by, request_part, with_neighbourhood}
 use Rattle.ospf_area.specs.Posting.{local_by, local_of, posted_all}
-use Rattle.ospf_links.specs.Repeats.{all_repeats, link_repeated, repeated, repeated_links, repeats_for, repeats_out, repeats_to}
+use Rattle.ospf_links.specs.Repeats.{all_repeats, link_repeated, neighbour_repeated, repeated_links, repeats_for, link_repeats_out, repeats_to}
 use Rattle.ospf_links.specs.Works.{work_sent, worked}
 use Rattle.ospf_step.specs.Invariants.{AreRising, NoneWaitsBelow}
 use Rattle.ospf_step.proofs.Known.{goes_on, SaysKnown, both_known, links_known, none_known, posted_known, says_known, says_nothing}
@@ -63,10 +63,10 @@ at_one P m r ns is here others q = subst (λ o. P q o) (sym (puts_one m ns q)) (
         subst (λ o. P q o) (sym (cond-true _ _ _ same)) (subst (λ q. P q (Some m)) one here)
     go (inr other) = subst (λ o. P q o) (sym (cond-false _ _ _ other)) (others q)
 
-one_goes_on : (s : AreaValue) (told : RouterId → List LsaHeader) (n m : NeighbourValue) (r : RouterId) (ns : List NeighbourValue) → neighbour_of ns r ≡ Some n → m.router ≡ r → GoesOn s (told r) n m → (q : RouterId) → Goes s (told q) (neighbour_of ns q) (neighbour_of (put m ns) q)
+one_goes_on : (s : AreaValue) (told : RouterId → List LsaHeader) (n m : NeighbourValue) (r : RouterId) (ns : List NeighbourValue) → neighbour_of ns r ≡ Some n → m.router ≡ r → NeighbourGoesOn s (told r) n m → (q : RouterId) → NeighbourGoes s (told q) (neighbour_of ns q) (neighbour_of (put m ns) q)
 one_goes_on s told n m r ns found is goes =
-    at_one (λ q o. Goes s (told q) (neighbour_of ns q) o) m r ns is
-    (subst (λ o. Goes s (told r) o (Some m)) (sym found) goes) (λ q. goes_same s (told q) (neighbour_of ns q))
+    at_one (λ q o. NeighbourGoes s (told q) (neighbour_of ns q) o) m r ns is
+    (subst (λ o. NeighbourGoes s (told r) o (Some m)) (sym found) goes) (λ q. goes_same s (told q) (neighbour_of ns q))
 
 one_enters_not : (n m : NeighbourValue) (r : RouterId) (ns : List NeighbourValue) → neighbour_of ns r ≡ Some n → m.router ≡ r → EntersNot (Some n) (Some m) → (q : RouterId) → EntersNot (neighbour_of ns q) (neighbour_of (put m ns) q)
 one_enters_not n m r ns found is enters =
@@ -95,7 +95,7 @@ module _ (f : Origin) (p : Meaning) (d : Description) (s t : AreaValue) (is : Is
       let goes = goes_on s (dd_headers_in p) n u.neighbour is (description_goes link.iface local f.router d (dd_headers_in p) s.database turn (below n at)) in
       one_goes (Some (record { link = f.link; packet = p })) f.link link (with_neighbourhood (after link (Some n)) link) (posted_all (own_of s) f.link link.iface u.sent) s _ t one
       (record {
-        goes = one_goes_on s (told_by (Some (record { link = f.link; packet = p })) f.link) n u.neighbour f.router link.neighbours found same (subst (λ hs. GoesOn s hs n u.neighbour) (sym told) goes);
+        goes = one_goes_on s (told_by (Some (record { link = f.link; packet = p })) f.link) n u.neighbour f.router link.neighbours found same (subst (λ hs. NeighbourGoesOn s hs n u.neighbour) (sym told) goes);
         waiting = λ h c. c;
       })
       (posted_known s f.link link.iface u.sent (λ q inside. says q (description_says_only link.iface local f.router d (dd_headers_in p) s.database turn q inside) at))
@@ -104,14 +104,14 @@ module _ (f : Origin) (p : Meaning) (d : Description) (s t : AreaValue) (is : Is
       says q (inl none) at = absurd (Contains-nil q none)
       says q (inr only) at = says_known s f.link f.router n at is q.body only
 
-pub description_puts : (f : Origin) (p : Meaning) (d : Description) (s t : AreaValue) (out out' : OutputsValue) → IsDatabase s.database → NoneWaitsBelow s f.link f.router → p.router ≡ f.router → AreRead out'.sent → t ≡ worked (description_part (own_of s) f d (dd_headers_in p) s.database s.next_dd) f.link s → out' ≡ and_sends out (work_sent (description_part (own_of s) f d (dd_headers_in p) s.database s.next_dd) (own_of s) f.link s.links) → PutsOut (λ o. NeighboursGo (Some (record { link = f.link; packet = p })) s o t) out out'
+pub description_puts : (f : Origin) (p : Meaning) (d : Description) (s t : AreaValue) (out out' : OutputsValue) → IsDatabase s.database → NoneWaitsBelow s f.link f.router → p.router ≡ f.router → AreReadAsSent out'.sent → t ≡ worked (description_part (own_of s) f d (dd_headers_in p) s.database s.next_dd) f.link s → out' ≡ and_sends out (work_sent (description_part (own_of s) f d (dd_headers_in p) s.database s.next_dd) (own_of s) f.link s.links) → PutsOut (λ o. NeighboursGo (Some (record { link = f.link; packet = p })) s o t) out out'
 unfolding after
 description_puts f p d s t out out' is below sender read state outputs =
     work_puts (λ o. NeighboursGo (Some (record { link = f.link; packet = p })) s o t) (description_part (own_of s) f d (dd_headers_in p) s.database s.next_dd) f.link s.sent s t out out' state outputs read (λ same. same_go (Some (record { link = f.link; packet = p })) s t same)
     (λ link one. described f p d s t is below sender link (neighbour_of link.neighbours f.router) refl one)
 
 -- of these headers, which the packet tells
-pub description_told : (f : Origin) (p : Meaning) (d : Description) (headers : List LsaHeader) (s t : AreaValue) (out out' : OutputsValue) → IsDatabase s.database → NoneWaitsBelow s f.link f.router → p.router ≡ f.router → headers ≡ dd_headers_in p → AreRead out'.sent → t ≡ worked (description_part (own_of s) f d headers s.database s.next_dd) f.link s → out' ≡ and_sends out (work_sent (description_part (own_of s) f d headers s.database s.next_dd) (own_of s) f.link s.links) → PutsOut (λ o. NeighboursGo (Some (record { link = f.link; packet = p })) s o t) out out'
+pub description_told : (f : Origin) (p : Meaning) (d : Description) (headers : List LsaHeader) (s t : AreaValue) (out out' : OutputsValue) → IsDatabase s.database → NoneWaitsBelow s f.link f.router → p.router ≡ f.router → headers ≡ dd_headers_in p → AreReadAsSent out'.sent → t ≡ worked (description_part (own_of s) f d headers s.database s.next_dd) f.link s → out' ≡ and_sends out (work_sent (description_part (own_of s) f d headers s.database s.next_dd) (own_of s) f.link s.links) → PutsOut (λ o. NeighboursGo (Some (record { link = f.link; packet = p })) s o t) out out'
 description_told f p d headers s t out out' is below sender told read state outputs =
     description_puts f p d s t out out' is below sender read (state ∙ ap (λ hs. worked (description_part (own_of s) f d hs s.database s.next_dd) f.link s) told)
     (outputs ∙ ap (λ hs. and_sends out (work_sent (description_part (own_of s) f d hs s.database s.next_dd) (own_of s) f.link s.links)) told)
@@ -132,10 +132,10 @@ copies_known s l q n delay at is (update lsas) has = record {
   names = λ i lists. let (h, c, of) = lists in named i h of (Contains-map_cases header_of lsas h c);
 }
   where
-    named : (i : Instance) (h : LsaHeader) → IsOf h i → (lsa : List ℕ) × Contains lsas lsa × (header_of lsa ≡ h) → CanName s i
+    named : (i : Instance) (h : LsaHeader) → IsOfInstance h i → (lsa : List ℕ) × Contains lsas lsa × (header_of lsa ≡ h) → CanName s i
     named i h of (lsa, inside, header) =
         let was = copy_held s delay lsa (has lsa inside) in
-        CanName.InDatabase (was.lsa, was.copy, same_contents was.lsa lsa was.same ∙ header_names lsa i (subst (λ h. IsOf h i) (sym header) of))
+        CanName.InDatabase (was.lsa, was.copy, same_contents was.lsa lsa was.same ∙ header_names lsa i (subst (λ h. IsOfInstance h i) (sym header) of))
 
 -- what a quiet turn sends is known
 turn_known : (s : AreaValue) (l : ℕ) (q : RouterId) (n : NeighbourValue) (delay next : ℕ) (u : Turn) → neighbour s l q ≡ Some n → IsDatabase s.database → IsQuiet s.database delay (record { neighbour = n; next = next; sent = [] }) u → (p : Parcel) → Contains u.sent p → SaysKnown s p.body
@@ -172,7 +172,7 @@ module _ (f : Origin) (entries : List RequestEntry) (s t : AreaValue) (is : IsDa
       })
       (posted_known s f.link link.iface u.sent (turn_known s f.link f.router n delay s.next_dd u at is quiet))
 
-pub request_puts : (f : Origin) (entries : List RequestEntry) (keys : List LsaKey) (s t : AreaValue) (out out' : OutputsValue) → IsDatabase s.database → AreRead out'.sent → t ≡ record (worked (request_part (own_of s) f s.database entries s.next_dd) f.link s) { sent = keys } → out' ≡ and_sends out (work_sent (request_part (own_of s) f s.database entries s.next_dd) (own_of s) f.link s.links) → PutsOut (λ o. Quiet s o t) out out'
+pub request_puts : (f : Origin) (entries : List RequestEntry) (keys : List LsaKey) (s t : AreaValue) (out out' : OutputsValue) → IsDatabase s.database → AreReadAsSent out'.sent → t ≡ record (worked (request_part (own_of s) f s.database entries s.next_dd) f.link s) { sent = keys } → out' ≡ and_sends out (work_sent (request_part (own_of s) f s.database entries s.next_dd) (own_of s) f.link s.links) → PutsOut (λ o. Quiet s o t) out out'
 unfolding answered
 request_puts f entries keys s t out out' is read state outputs =
     work_puts (λ o. Quiet s o t) (request_part (own_of s) f s.database entries s.next_dd) f.link keys s t out out' state outputs read (λ same. marks_quiet s t keys same)
@@ -186,7 +186,7 @@ above r (m ∷ ms) all zero n at = subst (λ (x : NeighbourValue). r < x.router.
 above r (m ∷ ms) all (suc k) n at = above r ms all.1 k n at
 
 -- one that stands there is the one found
-stands : (ns : List NeighbourValue) → IsRising ns → (k : ℕ) (n : NeighbourValue) → slice_get ns k ≡ Some n → neighbour_of ns n.router ≡ Some n
+stands : (ns : List NeighbourValue) → AreNeighboursRising ns → (k : ℕ) (n : NeighbourValue) → slice_get ns k ≡ Some n → neighbour_of ns n.router ≡ Some n
 stands [] rises k n at = absurd (none-some n at)
 stands (m ∷ ms) rises zero n at =
     let is : m ≡ n = same_Some m n at in
@@ -199,19 +199,19 @@ stands (m ∷ ms) rises (suc k) n at =
 
 -- one neighbour more
 record NeighboursQuiet (s : AreaValue) (ns ms : List NeighbourValue) : Type 0 where
-  goes : (q : RouterId) → Goes s [] (neighbour_of ns q) (neighbour_of ms q)
+  goes : (q : RouterId) → NeighbourGoes s [] (neighbour_of ns q) (neighbour_of ms q)
   enters : (q : RouterId) → EntersNot (neighbour_of ns q) (neighbour_of ms q)
 
-quiet_more : (s : AreaValue) (n m : NeighbourValue) (ns ms : List NeighbourValue) → m.router ≡ n.router → GoesOn s [] n m → NeverEnters n m → NeighboursQuiet s ns ms → NeighboursQuiet s (n ∷ ns) (m ∷ ms)
+quiet_more : (s : AreaValue) (n m : NeighbourValue) (ns ms : List NeighbourValue) → m.router ≡ n.router → NeighbourGoesOn s [] n m → NeverEnters n m → NeighboursQuiet s ns ms → NeighboursQuiet s (n ∷ ns) (m ∷ ms)
 quiet_more s n m ns ms same goes enters rest = record {
-  goes = λ q. subst (λ r. Goes s [] (at n.router q (Some n) ns) (at r q (Some m) ms)) (sym same) (goes_by (n.router.0 == q.0) q);
+  goes = λ q. subst (λ r. NeighbourGoes s [] (at n.router q (Some n) ns) (at r q (Some m) ms)) (sym same) (goes_by (n.router.0 == q.0) q);
   enters = λ q. subst (λ r. EntersNot (at n.router q (Some n) ns) (at r q (Some m) ms)) (sym same) (enters_by (n.router.0 == q.0) q);
 }
   where
     at : RouterId → RouterId → Option NeighbourValue → List NeighbourValue → Option NeighbourValue
     at r q o xs = if r.0 == q.0 then o else neighbour_of xs q
 
-    goes_by : (b : Bool) (q : RouterId) → Goes s [] (cond b (Some n) (neighbour_of ns q)) (cond b (Some m) (neighbour_of ms q))
+    goes_by : (b : Bool) (q : RouterId) → NeighbourGoes s [] (cond b (Some n) (neighbour_of ns q)) (cond b (Some m) (neighbour_of ms q))
     goes_by true q = goes
     goes_by false q = rest.goes q
 
@@ -224,7 +224,7 @@ record RepeatsQuiet (s : AreaValue) (ns ms : List NeighbourValue) (ds : List Sen
   known : AreKnown s ds
 
 module _ (s : AreaValue) (is : IsDatabase s.database) (l k : ℕ) (link : LinkValue) where
-  repeats_quiet : (ns : List NeighbourValue) → ((j : ℕ) (n : NeighbourValue) → slice_get ns j ≡ Some n → neighbour s l n.router ≡ Some n) → RepeatsQuiet s ns (map (repeated (own_of s) link.iface link.settings s.database) ns) (flat_map (repeats_to (own_of s) k link.iface link.settings s.database) ns)
+  repeats_quiet : (ns : List NeighbourValue) → ((j : ℕ) (n : NeighbourValue) → slice_get ns j ≡ Some n → neighbour s l n.router ≡ Some n) → RepeatsQuiet s ns (map (neighbour_repeated (own_of s) link.iface link.settings s.database) ns) (flat_map (repeats_to (own_of s) k link.iface link.settings s.database) ns)
   repeats_quiet [] there = record { quiet = record { goes = λ q. tt; enters = λ q up. up }; known = none_known s }
   repeats_quiet (n ∷ ns) there =
       let delay = link.settings.transmit_delay in
@@ -233,15 +233,15 @@ module _ (s : AreaValue) (is : IsDatabase s.database) (l k : ℕ) (link : LinkVa
       let rest = repeats_quiet ns (λ j m at. there (suc j) m at) in
       let known : AreKnown s (posted_all (own_of s) k link.iface u.sent) = posted_known s k link.iface u.sent (turn_known s l n.router n delay 0 u (there 0 n refl) is one) in
       record {
-        quiet = quiet_more s n u.neighbour ns (map (repeated (own_of s) link.iface link.settings s.database) ns) one.same.router (goes_on s [] n u.neighbour is (one.goes [])) one.enters rest.quiet;
+        quiet = quiet_more s n u.neighbour ns (map (neighbour_repeated (own_of s) link.iface link.settings s.database) ns) one.same.router (goes_on s [] n u.neighbour is (one.goes [])) one.enters rest.quiet;
         known = both_known s (posted_all (own_of s) k link.iface u.sent) (flat_map (repeats_to (own_of s) k link.iface link.settings s.database) ns) known rest.known;
       }
 
-link_repeats : (s : AreaValue) → IsDatabase s.database → AreRising s.links → (l k : ℕ) (link : LinkValue) → slice_get s.links l ≡ Some link → RepeatsQuiet s link.neighbours (link_repeated (own_of s) s.database link).neighbours (repeats_out (own_of s) s.database k link)
+link_repeats : (s : AreaValue) → IsDatabase s.database → AreRising s.links → (l k : ℕ) (link : LinkValue) → slice_get s.links l ≡ Some link → RepeatsQuiet s link.neighbours (link_repeated (own_of s) s.database link).neighbours (link_repeats_out (own_of s) s.database k link)
 link_repeats s is rising l k link at = repeats_quiet s is l k link link.neighbours (λ j n there. of_area s l link n.router n at (stands link.neighbours (rising l link at) j n there))
 
-pub repeats_put : (s t : AreaValue) (keys : List LsaKey) (out out' : OutputsValue) → IsDatabase s.database → AreRising s.links → AreRead out'.sent → t ≡ record s { links = repeated_links (own_of s) s.database s.links; sent = keys } → out' ≡ and_sends out (all_repeats (own_of s) s.database s.links) → PutsOut (λ o. Quiet s o t) out out'
+pub repeats_put : (s t : AreaValue) (keys : List LsaKey) (out out' : OutputsValue) → IsDatabase s.database → AreRising s.links → AreReadAsSent out'.sent → t ≡ record s { links = repeated_links (own_of s) s.database s.links; sent = keys } → out' ≡ and_sends out (all_repeats (own_of s) s.database s.links) → PutsOut (λ o. Quiet s o t) out out'
 repeats_put s t keys out out' is rising read state outputs =
     all_links_put (link_repeated (own_of s) s.database) (all_repeats (own_of s) s.database s.links) s t out out' (ap (λ (a : AreaValue). a.links) state) (subst (λ a. ChangesLinks s a) (sym state) refl) outputs read
     (λ l link at. let quiet = (link_repeats s is rising l l link at).quiet in record { link = record { goes = quiet.goes; waiting = λ h c. c }; enters = quiet.enters })
-    (links_known s (repeats_out (own_of s) s.database) (λ k link is_in. (link_repeats s is rising is_in.0 k link is_in.1).known))
+    (links_known s (link_repeats_out (own_of s) s.database) (λ k link is_in. (link_repeats s is rising is_in.0 k link is_in.1).known))

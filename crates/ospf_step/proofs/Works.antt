@@ -2,7 +2,7 @@
 use Rattle.std.proofs.Common.{◌≡◌, ℕ, List, [], map, Option, None, Some, set, slice_get, refl, sym, ap, subst, ◌∙◌}
 use Rattle.ospf_base.specs.declared.ids.LsaKey.{LsaKey}
 use Rattle.ospf_adjacency.specs.Heard.{Neighbourhood}
-use Rattle.ospf_area.specs.Outputs.{AreRead, OutputsValue, SentValue, no_outputs, sends}
+use Rattle.ospf_area.specs.Outputs.{AreReadAsSent, OutputsValue, SentValue, no_outputs, sends}
 use Rattle.ospf_area.specs.Sending.{and_sends, own_of}
 use Rattle.ospf_area.specs.State.{AreaValue, LinkValue}
 use Rattle.ospf_step.specs.Links.{AllEach, AreKnown, ChangesLinks, LinkQuiet, OnOneLink}
@@ -20,10 +20,10 @@ use Rattle.ospf_links.specs.Works.{work_next_on, work_sent, work_sent_on, worked
 use Rattle.ospf_step.proofs.Known.{none_known}
 
 -- what is sent behind the outputs so far is read where all is
-pub read_sent : (out out' : OutputsValue) (ds : List SentValue) → out' ≡ and_sends out ds → AreRead out'.sent → AreRead ds
-read_sent out out' ds outputs read = AreRead-right out (sends ds) (subst (λ o. AreRead o.sent) (outputs ∙ then_sends out ds) read)
+pub read_sent : (out out' : OutputsValue) (ds : List SentValue) → out' ≡ and_sends out ds → AreReadAsSent out'.sent → AreReadAsSent ds
+read_sent out out' ds outputs read = AreRead-right out (sends ds) (subst (λ o. AreReadAsSent o.sent) (outputs ∙ then_sends out ds) read)
 
-pub nothing_read : AreRead no_outputs.sent
+pub nothing_read : AreReadAsSent no_outputs.sent
 nothing_read = each_read [] (λ d c. absurd (Contains-nil d c))
 
 -- ---- nothing is done
@@ -50,7 +50,7 @@ puts_nothing R out is = record { own = no_outputs; is = is; behind = sym (then_n
 
 -- ---- one link, which may not be there
 
-pub one_link : (l : ℕ) (link link' : LinkValue) (next : ℕ) (keys : List LsaKey) (ds : List SentValue) (s t : AreaValue) → slice_get s.links l ≡ Some link → t ≡ record s { links = set s.links l link'; next_dd = next; sent = keys } → AreRead ds → OnOneLink l link link' ds s (sends ds) t
+pub one_link : (l : ℕ) (link link' : LinkValue) (next : ℕ) (keys : List LsaKey) (ds : List SentValue) (s t : AreaValue) → slice_get s.links l ≡ Some link → t ≡ record s { links = set s.links l link'; next_dd = next; sent = keys } → AreReadAsSent ds → OnOneLink l link link' ds s (sends ds) t
 one_link l link link' next keys ds s t at state read = record {
   at = at;
   links = ap (λ (a : AreaValue). a.links) state;
@@ -61,7 +61,7 @@ one_link l link link' next keys ds s t at state read = record {
 
 -- what is so where the link is not there, and where it is, is so of a part on its neighbours
 pub work_puts : (R : OutputsValue → Type 0) (part : LinkValue → Neighbourhood) (l : ℕ) (keys : List LsaKey) (s t : AreaValue) (out out' : OutputsValue)
-    → t ≡ record (worked part l s) { sent = keys } → out' ≡ and_sends out (work_sent part (own_of s) l s.links) → AreRead out'.sent
+    → t ≡ record (worked part l s) { sent = keys } → out' ≡ and_sends out (work_sent part (own_of s) l s.links) → AreReadAsSent out'.sent
     → (t ≡ record s { sent = keys } → R no_outputs)
     → ((link : LinkValue) → OnOneLink l link (with_neighbourhood (part link) link) (posted_all (own_of s) l link.iface (part link).sent) s (sends (posted_all (own_of s) l link.iface (part link).sent)) t → R (sends (posted_all (own_of s) l link.iface (part link).sent)))
     → PutsOut R out out'
@@ -76,7 +76,7 @@ work_puts R part l keys s t out out' state outputs read none some = by (slice_ge
 -- ---- all links
 
 -- each by a function, and these datagrams go out
-pub all_links_put : (f : LinkValue → LinkValue) (ds : List SentValue) (s t : AreaValue) (out out' : OutputsValue) → t.links ≡ map f s.links → ChangesLinks s t → out' ≡ and_sends out ds → AreRead out'.sent → ((l : ℕ) (link : LinkValue) → slice_get s.links l ≡ Some link → LinkQuiet s link (f link)) → AreKnown s ds → PutsOut (λ o. Quiet s o t) out out'
+pub all_links_put : (f : LinkValue → LinkValue) (ds : List SentValue) (s t : AreaValue) (out out' : OutputsValue) → t.links ≡ map f s.links → ChangesLinks s t → out' ≡ and_sends out ds → AreReadAsSent out'.sent → ((l : ℕ) (link : LinkValue) → slice_get s.links l ≡ Some link → LinkQuiet s link (f link)) → AreKnown s ds → PutsOut (λ o. Quiet s o t) out out'
 all_links_put f ds s t out out' links rest outputs read quiet known =
     puts_sent (λ o. Quiet s o t) out out' ds
     (part_quiet s t (sends ds) ds rest refl (read_sent out out' ds outputs read) (subst (λ cs. AllEach (LinkQuiet s) s.links cs) (sym links) (map_each (LinkQuiet s) f s.links quiet)) known) outputs

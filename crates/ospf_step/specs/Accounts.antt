@@ -17,8 +17,8 @@ use Rattle.ospf_neighbour.specs.Machine.{is_exchanging}
 use Rattle.ospf_area.specs.Outputs.{OutputsValue, SentValue}
 use Rattle.ospf_area.specs.State.{AreaValue, Awaits, state_of, copy_of, kept_number}
 use Rattle.ospf_step.specs.Headers.{Lists}
-use Rattle.ospf_step.specs.Packets.{Received, lsas_in, headers_in, dd_headers_in, acknowledging_headers_in}
-use Rattle.ospf_step.specs.Words.{HasCopy, Holds, Asks, CanName, Brings, ListsAreHeld}
+use Rattle.ospf_step.specs.Packets.{Received, lsas_in, headers_in_packet, dd_headers_in, acknowledging_headers_in}
+use Rattle.ospf_step.specs.Words.{HasCopy, HoldsInstance, Asks, CanName, Brings, ListsAreHeld}
 use Rattle.ospf_lsdb.specs.Moments.{among}
 use Rattle.ospf_update.specs.Removal.{lowest_number}
 use Rattle.ospf_flood.specs.Rules.{max_sequence_number}
@@ -46,10 +46,10 @@ abbrev pub IsAcknowledged : Option Received → ℕ → RouterId → Instance �
 IsAcknowledged heard l q i = Hears acknowledging_headers_in heard l q i
 
 -- an LSA of these contents was held before, was heard in an Update, or is issued now
-pub data Has (heard : Option Received) (before : AreaValue) (out : OutputsValue) (content : List ℕ) : Type 0 where
-  Held : (lsa : List ℕ) → HasCopy before lsa → contents lsa ≡ content → Has heard before out content
-  Heard : (received : Received) (lsa : List ℕ) → heard ≡ Some received → Contains (lsas_in received.packet) lsa → contents lsa ≡ content → Has heard before out content
-  Issued : (lsa : List ℕ) → Contains out.issued lsa → contents lsa ≡ content → Has heard before out content
+pub data HasContents (heard : Option Received) (before : AreaValue) (out : OutputsValue) (content : List ℕ) : Type 0 where
+  Held : (lsa : List ℕ) → HasCopy before lsa → contents lsa ≡ content → HasContents heard before out content
+  Heard : (received : Received) (lsa : List ℕ) → heard ≡ Some received → Contains (lsas_in received.packet) lsa → contents lsa ≡ content → HasContents heard before out content
+  Issued : (lsa : List ℕ) → Contains out.issued lsa → contents lsa ≡ content → HasContents heard before out content
 
 -- q on link l has told of i in the packet heard, or in a DD packet of one that covers i: in the packet heard, or in one
 -- that put it on the request list
@@ -60,9 +60,9 @@ pub data HasWord (heard : Option Received) (before : AreaValue) (l : ℕ) (q : R
 
 -- the new LSA took the old one's place: it was heard in an Update and installed, or is issued, with a greater number.
 -- What is taken while there is a copy of its key is installed
-pub data IsStored (heard : Option Received) (out : OutputsValue) (old new : List ℕ) : Type 0 where
-  Installed : (received : Received) → heard ≡ Some received → Contains (lsas_in received.packet) new → Contains out.taken (instance_of new) → IsStored heard out old new
-  Issued : Contains out.issued new → (instance_of old).number <ℤ (instance_of new).number → IsStored heard out old new
+pub data TakesItsPlace (heard : Option Received) (out : OutputsValue) (old new : List ℕ) : Type 0 where
+  Installed : (received : Received) → heard ≡ Some received → Contains (lsas_in received.packet) new → Contains out.taken (instance_of new) → TakesItsPlace heard out old new
+  Issued : Contains out.issued new → (instance_of old).number <ℤ (instance_of new).number → TakesItsPlace heard out old new
 
 -- an LSA took the place of the copy of instance i that the database had, at its age then, and is newer than it (13.1)
 pub record IsReplaced (heard : Option Received) (before : AreaValue) (out : OutputsValue) (i : Instance) : Type 0 where
@@ -72,13 +72,13 @@ pub record IsReplaced (heard : Option Received) (before : AreaValue) (out : Outp
   pub old_is : instance_of old ≡ i
   pub same_key : key_of new ≡ i.key
   pub newer : recency (header_of new) (header_of old) ≡ Newer
-  pub stored : IsStored heard out old new
+  pub stored : TakesItsPlace heard out old new
 
 -- why an instance may leave q's retransmission list: q acknowledged it, a newer LSA took the place of its copy, or q is
 -- below Exchange
 pub data MayLeave (heard : Option Received) (before : AreaValue) (out : OutputsValue) (after : AreaValue) (l : ℕ) (q : RouterId) (i : Instance) : Type 0 where
   Acknowledged : IsAcknowledged heard l q i → MayLeave heard before out after l q i
-  Replaced : IsReplaced heard before out i → (Holds after i → Brings out i) → MayLeave heard before out after l q i
+  Replaced : IsReplaced heard before out i → (HoldsInstance after i → Brings out i) → MayLeave heard before out after l q i
   Fell : is_exchanging (state_of after l q) ≡ false → MayLeave heard before out after l q i
 
 -- a copy that was held before, at this age, or at another where no packet was heard or it has come to MaxAge
@@ -96,7 +96,7 @@ pub record WaitsOn (heard : Option Received) (before after : AreaValue) (l : ℕ
 -- an LSA with MaxSequenceNumber was held, heard or issued
 pub record HasLargest (heard : Option Received) (before : AreaValue) (out : OutputsValue) : Type 0 where
   pub lsa : List ℕ
-  pub has : Has heard before out (contents lsa)
+  pub has : HasContents heard before out (contents lsa)
   pub number : (instance_of lsa).number ≡ max_sequence_number
 
 -- how numbers are used: each issued LSA has a number above all that its run had (12.1.6)
@@ -114,16 +114,16 @@ pub record Accounts (heard : Option Received) (before : AreaValue) (out : Output
   pub same_router : after.router ≡ before.router
   pub bears : (p : Meaning) → Sends out p → p.router ≡ before.router
   -- what is held and sent on was held, heard or issued, unchanged but for its age
-  pub database : (lsa : List ℕ) → HasCopy after lsa → Has heard before out (contents lsa)
-  pub updates : (p : Meaning) (lsa : List ℕ) → Sends out p → Contains (lsas_in p) lsa → Has heard before out (contents lsa)
+  pub database : (lsa : List ℕ) → HasCopy after lsa → HasContents heard before out (contents lsa)
+  pub updates : (p : Meaning) (lsa : List ℕ) → Sends out p → Contains (lsas_in p) lsa → HasContents heard before out (contents lsa)
   -- what it can name, and names, it could name before or brings now
   pub names : (i : Instance) → CanName after i → CanName before i ⊎ Brings out i
-  pub named : (p : Meaning) (i : Instance) → Sends out p → Lists (headers_in p) i → CanName before i ⊎ Brings out i
-  pub holds : (i : Instance) → Holds after i → Holds before i ⊎ Brings out i
+  pub named : (p : Meaning) (i : Instance) → Sends out p → Lists (headers_in_packet p) i → CanName before i ⊎ Brings out i
+  pub holds : (i : Instance) → HoldsInstance after i → HoldsInstance before i ⊎ Brings out i
   -- what it asks of q, q told in a DD packet
   pub asks : (l : ℕ) (q : RouterId) (i : Instance) → Asks after l q i → Asks before l q i ⊎ IsDescribed heard l q i
   pub leaves : (l : ℕ) (q : RouterId) (i : Instance) → Awaits before l q i → WaitsOn heard before after l q i ⊎ MayLeave heard before out after l q i
-  pub listed : (l : ℕ) (q : RouterId) (i : Instance) → Brings out i → Holds after i → is_exchanging (state_of after l q) ≡ true → Awaits after l q i ⊎ HasWord heard before l q i
+  pub listed : (l : ℕ) (q : RouterId) (i : Instance) → Brings out i → HoldsInstance after i → is_exchanging (state_of after l q) ≡ true → Awaits after l q i ⊎ HasWord heard before l q i
   pub numbers : Numbers heard before out after
 
 -- no neighbour enters Exchange
@@ -144,11 +144,11 @@ pub record Adjusts (heard : Option Received) (before : AreaValue) (out : Outputs
   pub copies : (lsa : List ℕ) → HasCopy after lsa → WasKept heard before lsa
   pub updates : (p : Meaning) (lsa : List ℕ) → Sends out p → Contains (lsas_in p) lsa → WasHeld before (contents lsa)
   pub names : (i : Instance) → CanName after i → CanName before i ⊎ Brings out i
-  pub named : (p : Meaning) (i : Instance) → Sends out p → Lists (headers_in p) i → CanName before i
+  pub named : (p : Meaning) (i : Instance) → Sends out p → Lists (headers_in_packet p) i → CanName before i
   pub asks : (l : ℕ) (q : RouterId) (i : Instance) → Asks after l q i → Asks before l q i ⊎ IsDescribed heard l q i
   pub leaves : (l : ℕ) (q : RouterId) (i : Instance) → Awaits before l q i → Awaits after l q i ⊎ (IsAcknowledged heard l q i ⊎ (is_exchanging (state_of after l q) ≡ false))
   pub lists : ListsAreHeld before → ListsAreHeld after
-  pub unheld : (i : Instance) → Brings out i → Holds after i → ⊥
+  pub unheld : (i : Instance) → Brings out i → HoldsInstance after i → ⊥
   pub issues_none : out.issued ≡ []
   pub kept : (key : LsaKey) → among out.ended key ≡ false → kept_number after key ≡ kept_number before key
   pub again : (key : LsaKey) → among out.ended key ≡ true → kept_number after key ≡ lowest_number

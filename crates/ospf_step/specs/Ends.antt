@@ -1,19 +1,19 @@
 -- How every step ends: elections with AdjOK?, own LSAs, and removals (RFC 2328, sections 9.4, 12.4 and 14).
-use Rattle.ospf_area.specs.Outputs.{AreRead, OutputsValue}
+use Rattle.ospf_area.specs.Outputs.{AreReadAsSent, OutputsValue}
 use Rattle.ospf_area.specs.State.{AreaValue}
-use Rattle.ospf_links.specs.Elections.{Elects}
+use Rattle.ospf_links.specs.Elections.{ElectsAll}
 use Rattle.ospf_lsdb.specs.Database.{IsDatabase}
 use Rattle.ospf_originate.specs.Steps.{OwnLsas}
 use Rattle.ospf_update.specs.Removal.{Removes}
 
-pub record Ends (s : AreaValue) (out out' : OutputsValue) (after : AreaValue) : Type 0 where
+pub record EndsStep (s : AreaValue) (out out' : OutputsValue) (after : AreaValue) : Type 0 where
   pub database : IsDatabase s.database
   pub elected : AreaValue
   pub elected_out : OutputsValue
-  pub elects : Elects s out elected elected_out
+  pub elects : ElectsAll s out elected elected_out
   pub issued : AreaValue
   pub issued_out : OutputsValue
   pub own : OwnLsas elected elected_out issued_out issued
   pub issued_database : IsDatabase issued.database
   pub removes : Removes issued issued_out out' after
-  pub read : AreRead out'.sent
+  pub read : AreReadAsSent out'.sent

@@ -13,6 +13,6 @@ pub record IsFitLink (router : RouterId) (link : LinkValue) : Type 0 where
   pub electing : link.elects ≡ true → elects_in link.iface.state ≡ true
 
 -- its links are, and what it keeps for its own LSAs is sound
-pub record IsFit (s : AreaValue) : Type 0 where
+pub record IsFitRouter (s : AreaValue) : Type 0 where
   pub links : AllByRecursion (IsFitLink s.router) s.links
   pub sound : IsSound s

@@ -2,13 +2,13 @@
 use Rattle.std.specs.Prelude.{◌≡◌, ℕ, List, Some, slice_get}
 use Rattle.ospf_base.specs.declared.ids.RouterId.{RouterId}
 use Rattle.ospf_neighbour.specs.Neighbour.{NeighbourValue}
-use Rattle.ospf_neighbour.specs.Neighbours.{IsRising}
+use Rattle.ospf_neighbour.specs.Neighbours.{AreNeighboursRising}
 use Rattle.ospf_adjacency.specs.Laws.{HasNoneBelow}
 use Rattle.ospf_area.specs.State.{AreaValue, LinkValue, neighbour}
 
 -- the neighbours of each link are in rising Router ID
 abbrev pub AreRising : List LinkValue → Type 0
-AreRising links = (l : ℕ) (link : LinkValue) → slice_get links l ≡ Some link → IsRising link.neighbours
+AreRising links = (l : ℕ) (link : LinkValue) → slice_get links l ≡ Some link → AreNeighboursRising link.neighbours
 
 -- nothing waits for the acknowledgement of router q on link l while that is below Exchange (10.1)
 abbrev pub NoneWaitsBelow : AreaValue → ℕ → RouterId → Type 0

@@ -8,13 +8,13 @@ use Rattle.ospf_packet.specs.Meaning.{Meaning}
 use Rattle.ospf_neighbour.specs.Machine.{is_exchanging}
 use Rattle.ospf_neighbour.specs.Neighbour.{NeighbourValue}
 use Rattle.ospf_neighbour.specs.Neighbours.{neighbour_of}
-use Rattle.ospf_area.specs.Outputs.{AreRead, OutputsValue, SentValue, sends}
+use Rattle.ospf_area.specs.Outputs.{AreReadAsSent, OutputsValue, SentValue, sends}
 use Rattle.ospf_area.specs.State.{AreaValue, LinkValue, state_in}
 use Rattle.ospf_step.specs.Headers.{Lists}
-use Rattle.ospf_step.specs.Packets.{Received, lsas_in, headers_in}
+use Rattle.ospf_step.specs.Packets.{Received, lsas_in, headers_in_packet}
 use Rattle.ospf_step.specs.Words.{CanName}
 use Rattle.ospf_step.specs.Accounts.{WasHeld}
-use Rattle.ospf_step.specs.Neighbours.{Goes, told_by}
+use Rattle.ospf_step.specs.Neighbours.{NeighbourGoes, told_by}
 
 -- the area has other links, and all else is as it was but for the next DD number and the keys sent, which no law reads
 abbrev pub ChangesLinks : AreaValue → AreaValue → Type 0
@@ -26,7 +26,7 @@ pub record OnOneLink (l : ℕ) (link link' : LinkValue) (ds : List SentValue) (b
   pub links : after.links ≡ set before.links l link'
   pub rest : ChangesLinks before after
   pub outputs : out ≡ sends ds
-  pub read : AreRead out.sent
+  pub read : AreReadAsSent out.sent
 
 -- ---- what each link, and each packet, is to be
 
@@ -34,7 +34,7 @@ pub record OnOneLink (l : ℕ) (link link' : LinkValue) (ds : List SentValue) (b
 pub record IsKnownPacket (s : AreaValue) (m : Meaning) : Type 0 where
   pub router : m.router ≡ s.router
   pub lsas : (lsa : List ℕ) → Contains (lsas_in m) lsa → WasHeld s (contents lsa)
-  pub names : (i : Instance) → Lists (headers_in m) i → CanName s i
+  pub names : (i : Instance) → Lists (headers_in_packet m) i → CanName s i
 
 -- each of these datagrams is of such a packet
 abbrev pub AreKnown : AreaValue → List SentValue → Type 0
@@ -46,7 +46,7 @@ EntersNot o o' = is_exchanging (state_in o') ≡ true → is_exchanging (state_i
 
 -- neighbours of a link go on, come and leave, by what is told of them, and no acknowledgement is delayed
 pub record LinkGoes (s : AreaValue) (told : RouterId → List LsaHeader) (b a : LinkValue) : Type 0 where
-  pub goes : (q : RouterId) → Goes s (told q) (neighbour_of b.neighbours q) (neighbour_of a.neighbours q)
+  pub goes : (q : RouterId) → NeighbourGoes s (told q) (neighbour_of b.neighbours q) (neighbour_of a.neighbours q)
   pub waiting : (h : LsaHeader) → Contains a.delayed h → Contains b.delayed h
 
 -- and none comes into Exchange
@@ -70,5 +70,5 @@ abbrev pub AllGo : AreaValue → Option Received → List LinkValue → List Lin
 AllGo s heard bs cs = (l : ℕ) → Each (LinkGoes s (told_by heard l)) (slice_get bs l) (slice_get cs l)
 
 -- a link of the area
-abbrev pub IsIn : AreaValue → LinkValue → Type 0
-IsIn s link = (l : ℕ) × (slice_get s.links l ≡ Some link)
+abbrev pub IsLinkIn : AreaValue → LinkValue → Type 0
+IsLinkIn s link = (l : ℕ) × (slice_get s.links l ≡ Some link)

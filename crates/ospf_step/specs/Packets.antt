@@ -21,12 +21,12 @@ dd_headers_of (update lsas) = []
 dd_headers_of (acknowledgment headers) = []
 
 -- the headers by which a packet names instances: of a DD packet, an Update and an Acknowledgment
-abbrev pub headers_of : BodyMeaning → List LsaHeader
-headers_of (description fields headers) = headers
-headers_of (update lsas) = map header_of lsas
-headers_of (acknowledgment headers) = headers
-headers_of (hello fields neighbours) = []
-headers_of (request entries) = []
+abbrev pub headers_in_body : BodyMeaning → List LsaHeader
+headers_in_body (description fields headers) = headers
+headers_in_body (update lsas) = map header_of lsas
+headers_in_body (acknowledgment headers) = headers
+headers_in_body (hello fields neighbours) = []
+headers_in_body (request entries) = []
 
 -- the headers by which it acknowledges: of an Acknowledgment, and of an Update (13.7; 13, step 7a)
 abbrev pub acknowledging_headers_of : BodyMeaning → List LsaHeader
@@ -45,8 +45,8 @@ abbrev pub dd_headers_in : Meaning → List LsaHeader
 dd_headers_in p = dd_headers_of p.body
 
 -- the headers by which a packet names instances
-abbrev pub headers_in : Meaning → List LsaHeader
-headers_in p = headers_of p.body
+abbrev pub headers_in_packet : Meaning → List LsaHeader
+headers_in_packet p = headers_in_body p.body
 
 -- the headers by which a packet acknowledges (13.7; 13, step 7a)
 abbrev pub acknowledging_headers_in : Meaning → List LsaHeader

@@ -12,7 +12,7 @@ use Rattle.ospf_area.specs.Flooding.{flooded_links, flooding_updates, released}
 use Rattle.ospf_area.specs.Numbers.{is_own}
 use Rattle.ospf_area.specs.Outputs.{OutputsValue, no_outputs, sends}
 use Rattle.ospf_area.specs.Sending.{own_of}
-use Rattle.ospf_area.specs.State.{AreaValue, entry_of, kept_number, some_link_loading}
+use Rattle.ospf_area.specs.State.{AreaValue, database_entry, kept_number, some_link_loading}
 use Rattle.ospf_area.specs.declared.flooding.Origin.{Origin}
 use Rattle.ospf_update.specs.Acks.{direct_out}
 use Rattle.ospf_update.specs.Aging.{AgesRise}
@@ -65,8 +65,8 @@ at_max_age copy = record copy { age = max_age }
 
 -- a copy is brought to MaxAge, or has come there, and is flooded to all (14, 14.1)
 pub record ExpiryPart (key : LsaKey) (copy : Entry) (before : AreaValue) (out : OutputsValue) (after : AreaValue) : Type 0 where
-  pub at : entry_of before key ≡ Some copy
-  pub database : (k : LsaKey) → entry_of after k ≡ (if same_key key k then Some (at_max_age copy) else entry_of before k)
+  pub at : database_entry before key ≡ Some copy
+  pub database : (k : LsaKey) → database_entry after k ≡ (if same_key key k then Some (at_max_age copy) else database_entry before k)
   pub links : after.links ≡ flooded_links key (header_of (lsa_of (at_max_age copy))) None before.tick before.links
   pub same_router : after.router ≡ before.router
   pub same_direct : after.direct ≡ before.direct
@@ -86,9 +86,9 @@ leaves_if s None = false
 leaves_if s (Some e) = not (some_link_loading s.links) && is_leaving s.links e
 
 -- and with it goes the numbering run of an own key that has used up its numbers (12.1.6)
-abbrev pub ends_if : AreaValue → LsaKey → Option Entry → Bool
-ends_if s key None = false
-ends_if s key (Some e) = leaves_if s (Some e) && (is_own s.router key && is_last (Some e))
+abbrev pub ends_run_if : AreaValue → LsaKey → Option Entry → Bool
+ends_run_if s key None = false
+ends_run_if s key (Some e) = leaves_if s (Some e) && (is_own s.router key && is_last (Some e))
 
 -- the own LSAs that were due are issued and flushed, and what was to be answered is answered (12.4, 13.4)
 pub record AnswersAll (before : AreaValue) (out : OutputsValue) (after : AreaValue) : Type 0 where
@@ -97,7 +97,7 @@ pub record AnswersAll (before : AreaValue) (out : OutputsValue) (after : AreaVal
 
 -- the last of a step
 pub record RemovalPart (before : AreaValue) (out : OutputsValue) (after : AreaValue) : Type 0 where
-  pub database : (key : LsaKey) → entry_of after key ≡ (if leaves_if before (entry_of before key) then None else entry_of before key)
+  pub database : (key : LsaKey) → database_entry after key ≡ (if leaves_if before (database_entry before key) then None else database_entry before key)
   pub same_links : after.links ≡ before.links
   pub same_router : after.router ≡ before.router
   pub same_direct : after.direct ≡ before.direct
@@ -105,4 +105,4 @@ pub record RemovalPart (before : AreaValue) (out : OutputsValue) (after : AreaVa
   pub sent : out.sent ≡ []
   pub taken : out.taken ≡ []
   pub issued : out.issued ≡ []
-  pub ended : (key : LsaKey) → among out.ended key ≡ ends_if before key (entry_of before key)
+  pub ended : (key : LsaKey) → among out.ended key ≡ ends_run_if before key (database_entry before key)

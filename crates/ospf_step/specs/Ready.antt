@@ -20,8 +20,8 @@ CanTakeOn (request entries) f link = (n : NeighbourValue) → neighbour_of link.
 CanTakeOn (update lsas) f link = ⊤
 CanTakeOn (acknowledgment headers) f link = ⊤
 
-abbrev pub CanTake : Origin → BodyMeaning → AreaValue → Type 0
-CanTake f body s = (link : LinkValue) → slice_get s.links f.link ≡ Some link → CanTakeOn body f link
+abbrev pub CanTakePacket : Origin → BodyMeaning → AreaValue → Type 0
+CanTakePacket f body s = (link : LinkValue) → slice_get s.links f.link ≡ Some link → CanTakeOn body f link
 
 -- the database is one, and nothing waits for the sender of a packet below Exchange (10.1)
 abbrev pub IsSenderReady : ℕ → Option Meaning → AreaValue → Type 0

@@ -7,7 +7,7 @@ use Rattle.ospf_exchange.specs.declared.rule.Local.{Local}
 use Rattle.ospf_iface.specs.declared.machine.Iface.{Iface}
 use Rattle.ospf_neighbour.specs.Machine.{is_exchanging}
 use Rattle.ospf_neighbour.specs.Neighbour.{NeighbourValue}
-use Rattle.ospf_neighbour.specs.Neighbours.{IsRising, max_neighbours, neighbour_of}
+use Rattle.ospf_neighbour.specs.Neighbours.{AreNeighboursRising, max_neighbours, neighbour_of}
 use Rattle.ospf_packet.specs.Meaning.{BodyMeaning, Meaning, hello, description, request, update, acknowledgment}
 use Rattle.ospf_adjacency.specs.Descriptions.{dd_dropped}
 use Rattle.ospf_step.specs.Receipt.{drop_of_packet, sender_in}
@@ -15,7 +15,7 @@ use Rattle.ospf_step.specs.Receipt.{drop_of_packet, sender_in}
 -- one that its address finds, and that has the Router ID, is the neighbour of that Router ID
 abbrev pub SendersAreNeighbours : Type 0
 SendersAreNeighbours = (i : Iface) (ns : List NeighbourValue) (q : RouterId) (source : Addr) (n : NeighbourValue)
-    → IsRising ns → sender_in i ns q source ≡ Some n → n.router.0 ≡ q.0 → neighbour_of ns q ≡ Some n
+    → AreNeighboursRising ns → sender_in i ns q source ≡ Some n → n.router.0 ≡ q.0 → neighbour_of ns q ≡ Some n
 
 -- the neighbour of a Router ID is in Exchange or above
 abbrev pub IsExchanging : List NeighbourValue → RouterId → Type 0
@@ -33,4 +33,4 @@ CanBeTaken local ns q (acknowledgment headers) = IsExchanging ns q
 -- a packet that is not dropped can be taken
 abbrev pub NotDroppedIsTaken : Type 0
 NotDroppedIsTaken = (local : Local) (i : Iface) (ns : List NeighbourValue) (area : AreaId) (source destination : Addr) (m : Meaning)
-    → IsRising ns → drop_of_packet local i ns area source destination m ≡ None → CanBeTaken local ns m.router m.body
+    → AreNeighboursRising ns → drop_of_packet local i ns area source destination m ≡ None → CanBeTaken local ns m.router m.body

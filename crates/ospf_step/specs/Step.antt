@@ -6,7 +6,7 @@ use Rattle.ospf_lsa.specs.declared.header.LsaHeader.{LsaHeader}
 use Rattle.ospf_lsdb.specs.Database.{Entry}
 use Rattle.ospf_packet.specs.Meaning.{BodyMeaning, hello, description, request, update, acknowledgment, Meaning}
 use Rattle.ospf_packet.specs.PacketOf.{packet_of}
-use Rattle.ospf_area.specs.Outputs.{OutputsValue, then_outputs, AreRead}
+use Rattle.ospf_area.specs.Outputs.{OutputsValue, then_outputs, AreReadAsSent}
 use Rattle.ospf_area.specs.State.{AreaValue}
 use Rattle.ospf_area.specs.declared.flooding.Origin.{Origin}
 use Rattle.ospf_step.specs.Neighbours.{NeighboursGo, Quiet}
@@ -134,4 +134,4 @@ last_parts = Elections ∷ OwnLsas ∷ Removals ∷ []
 -- again
 pub data StepLaws (is_dropped : Event → AreaValue → Bool) (event : Event) (before : AreaValue) (out : OutputsValue) (after : AreaValue) : Type 0 where
   Drops : is_dropped event before ≡ true → DoesNothing before out after → StepLaws is_dropped event before out after
-  Takes : is_dropped event before ≡ false → AreRead out.sent → Chain (first_parts event ++ last_parts) before out after → StepLaws is_dropped event before out after
+  Takes : is_dropped event before ≡ false → AreReadAsSent out.sent → Chain (first_parts event ++ last_parts) before out after → StepLaws is_dropped event before out after

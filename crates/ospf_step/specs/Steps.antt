@@ -5,14 +5,14 @@ use Rattle.ospf_area.specs.State.{AreaValue}
 use Rattle.ospf_step.specs.Step.{Event}
 use Rattle.ospf_step.specs.declared.dropped.Dropped.{Dropped}
 use Rattle.ospf_step.specs.Drops.{dropped_by}
-use Rattle.ospf_step.specs.Ends.{Ends}
+use Rattle.ospf_step.specs.Ends.{EndsStep}
 use Rattle.ospf_step.specs.Takes.{TakesEvent}
 
 pub record Takes (e : Event) (s : AreaValue) (out : OutputsValue) (after : AreaValue) : Type 0 where
   pub mid : AreaValue
   pub mid_out : OutputsValue
   pub event : TakesEvent e s no_outputs mid_out mid
-  pub end : Ends mid mid_out out after
+  pub end : EndsStep mid mid_out out after
 
 -- an event that is dropped, for the first cause that applies, changes nothing and puts nothing out, and any other is taken
 pub record StepsArea (e : Event) (s : AreaValue) (dropped : Option Dropped) (out : OutputsValue) (after : AreaValue) : Type 0 where

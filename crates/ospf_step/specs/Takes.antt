@@ -12,14 +12,14 @@ use Rattle.ospf_step.specs.Step.{Event}
 use Rattle.ospf_step.specs.Step.Event.{Datagram, Tick, LinkUp, LinkDown}
 use Rattle.ospf_links.specs.Parts.{answered_on, description_part, hello_part, link_down, link_up, request_part}
 use Rattle.ospf_links.specs.Repeats.{all_keys, all_repeats, marked_all, repeated_links}
-use Rattle.ospf_links.specs.Works.{changed, up_out_on, work_sent, worked}
+use Rattle.ospf_links.specs.Works.{link_changed, up_out_on, work_sent, worked}
 use Rattle.ospf_packet.specs.Meaning.{BodyMeaning, Meaning, hello, description, request, update, acknowledgment}
 use Rattle.ospf_packet.specs.PacketOf.{packet_of}
 use Rattle.ospf_update.specs.Aging.{TickAges}
 use Rattle.ospf_update.specs.Updates.{TakesUpdate}
 
 -- the router becomes this, and these datagrams go out
-pub record Becomes (made : AreaValue) (datagrams : List SentValue) (out out' : OutputsValue) (after : AreaValue) : Type 0 where
+pub record BecomesState (made : AreaValue) (datagrams : List SentValue) (out out' : OutputsValue) (after : AreaValue) : Type 0 where
   pub state : after ≡ made
   pub outputs : out' ≡ and_sends out datagrams
 
@@ -28,16 +28,16 @@ pub record Becomes (made : AreaValue) (datagrams : List SentValue) (out out' : O
 -- what a packet of this origin says is taken
 abbrev pub TakesBody : BodyMeaning → Origin → AreaValue → OutputsValue → OutputsValue → AreaValue → Type 0
 TakesBody (hello fields heard) f s out out' after =
-    Becomes (worked (hello_part (own_of s) f fields (names heard s.router) s.next_dd) f.link s)
+    BecomesState (worked (hello_part (own_of s) f fields (names heard s.router) s.next_dd) f.link s)
     (work_sent (hello_part (own_of s) f fields (names heard s.router) s.next_dd) (own_of s) f.link s.links) out out' after
 TakesBody (description fields headers) f s out out' after =
-    Becomes (worked (description_part (own_of s) f fields headers s.database s.next_dd) f.link s)
+    BecomesState (worked (description_part (own_of s) f fields headers s.database s.next_dd) f.link s)
     (work_sent (description_part (own_of s) f fields headers s.database s.next_dd) (own_of s) f.link s.links) out out' after
 TakesBody (request entries) f s out out' after =
-    Becomes (record (worked (request_part (own_of s) f s.database entries s.next_dd) f.link s) { sent = marked_all (answered_on (slice_get s.links f.link) f.router s.database entries) s.sent })
+    BecomesState (record (worked (request_part (own_of s) f s.database entries s.next_dd) f.link s) { sent = marked_all (answered_on (slice_get s.links f.link) f.router s.database entries) s.sent })
     (work_sent (request_part (own_of s) f s.database entries s.next_dd) (own_of s) f.link s.links) out out' after
 TakesBody (update lsas) f s out out' after = TakesUpdate f lsas s out out' after
-TakesBody (acknowledgment headers) f s out out' after = Becomes (headers_met f headers s) [] out out' after
+TakesBody (acknowledgment headers) f s out out' after = BecomesState (headers_met f headers s) [] out out' after
 
 -- where a packet comes from
 abbrev pub origin_of : ℕ → Addr → Meaning → Origin
@@ -71,5 +71,5 @@ pub record TakesTick (s : AreaValue) (out out' : OutputsValue) (after : AreaValu
 abbrev pub TakesEvent : Event → AreaValue → OutputsValue → OutputsValue → AreaValue → Type 0
 TakesEvent (Datagram link source destination bytes) s out out' after = TakesDatagram link source (packet_of bytes) s out out' after
 TakesEvent Tick s out out' after = TakesTick s out out' after
-TakesEvent (LinkUp link) s out out' after = Becomes (changed link_up link s) (up_out_on (slice_get s.links link) (own_of s) link) out out' after
-TakesEvent (LinkDown link) s out out' after = Becomes (changed link_down link s) [] out out' after
+TakesEvent (LinkUp link) s out out' after = BecomesState (link_changed link_up link s) (up_out_on (slice_get s.links link) (own_of s) link) out out' after
+TakesEvent (LinkDown link) s out out' after = BecomesState (link_changed link_down link s) [] out out' after

@@ -16,8 +16,8 @@ abbrev pub HasCopy : AreaValue → List ℕ → Type 0
 HasCopy s lsa = copy_of s (key_of lsa) ≡ Some lsa
 
 -- the database has an LSA of this instance
-abbrev pub Holds : AreaValue → Instance → Type 0
-Holds s i = (lsa : List ℕ) × HasCopy s lsa × (instance_of lsa ≡ i)
+abbrev pub HoldsInstance : AreaValue → Instance → Type 0
+HoldsInstance s i = (lsa : List ℕ) × HasCopy s lsa × (instance_of lsa ≡ i)
 
 -- a list of a neighbour that may not be there
 abbrev pub list_in : {A : Type 0} → (NeighbourValue → List A) → Option NeighbourValue → List A
@@ -48,7 +48,7 @@ delayed s l = delayed_in (slice_get s.links l)
 -- the instances that a router can name to others: in a packet sent from now on there is no other, but for those
 -- that it installs or issues first
 pub data CanName (s : AreaValue) (i : Instance) : Type 0 where
-  InDatabase : Holds s i → CanName s i
+  InDatabase : HoldsInstance s i → CanName s i
   OnRetransmissionList : (l : ℕ) (q : RouterId) → Awaits s l q i → CanName s i
   OnSummaryList : (l : ℕ) (q : RouterId) → Lists (summary s l q) i → CanName s i
   InLastDd : (l : ℕ) (q : RouterId) → Lists (last_dd s l q) i → CanName s i
@@ -57,7 +57,7 @@ pub data CanName (s : AreaValue) (i : Instance) : Type 0 where
 
 -- what waits for an acknowledgement is of the database's copy of its key
 abbrev pub ListsAreHeld : AreaValue → Type 0
-ListsAreHeld s = (l : ℕ) (q : RouterId) (i : Instance) → Awaits s l q i → Holds s i
+ListsAreHeld s = (l : ℕ) (q : RouterId) (i : Instance) → Awaits s l q i → HoldsInstance s i
 
 -- what holds of each state that a router comes to, beside what its types say: each copy is an LSA, no number kept for an
 -- own key is below that of its copy, and what waits for an acknowledgement is held

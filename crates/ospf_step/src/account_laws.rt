@@ -13,7 +13,8 @@ ghost use Rattle.ospf_step.specs.Words.{IsSoundState};
 /// What one part answers for and then the next, the two answer for together.
 pub fn accounts_add_up()
     ensures { (heard : Option Received) (s t u : AreaValue) (a b : OutputsValue) →
-        Accounts heard s a t → Accounts heard t b u → NoneEntersExchange t u → a.ended ≡ [] → Accounts heard s (then_outputs a b) u }
+        Accounts heard s a t → Accounts heard t b u → NoneEntersExchange t u → a.ended ≡ [] →
+        Accounts heard s (then_outputs a b) u }
 {}
 
 /// A part that touches neighbours alone answers for all.
@@ -27,7 +28,8 @@ pub fn quiet_parts_account()
 pub fn steps_account()
     ensures accounts { (is_dropped : Event → AreaValue → Bool) (event : Event) (before : AreaValue)
         (out : OutputsValue) (after : AreaValue) →
-        IsSoundState before → StepLaws is_dropped event before out after → Accounts (heard_in event) before out after }
+        IsSoundState before → StepLaws is_dropped event before out after →
+        Accounts (heard_in event) before out after }
     ensures sound { (is_dropped : Event → AreaValue → Bool) (event : Event) (before : AreaValue)
         (out : OutputsValue) (after : AreaValue) →
         IsSoundState before → StepLaws is_dropped event before out after → IsSoundState after }
@@ -37,5 +39,6 @@ pub fn steps_account()
 pub fn some_state_ticks()
     ensures { (before : AreaValue) × (out : OutputsValue) × (after : AreaValue)
         × IsSoundState before ×
-        StepLaws (λ event s. false) Event.Tick before out after × (after.tick ≡ 1) × (before.tick ≡ 0) }
+        StepLaws (λ event s. false) Event.Tick before out after × (after.tick ≡ 1) × (before.tick
+        ≡ 0) }
 {}

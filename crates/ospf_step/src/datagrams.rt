@@ -7,8 +7,8 @@ ghost use Rattle.ospf_area.specs.Posting.{local_of};
 ghost use Rattle.ospf_packet.specs.PacketOf.{packet_of};
 ghost use Rattle.ospf_packet.specs.Said.{body_said, said};
 ghost use Rattle.ospf_step.specs.Drops.{drop_on};
-ghost use Rattle.ospf_step.specs.Fit.{IsFit};
-ghost use Rattle.ospf_step.specs.Ready.{CanTake, IsSenderReady};
+ghost use Rattle.ospf_step.specs.Fit.{IsFitRouter};
+ghost use Rattle.ospf_step.specs.Ready.{CanTakePacket, IsSenderReady};
 ghost use Rattle.ospf_step.specs.Takes.{TakesBody, TakesDatagram};
 
 use crate::dropped::Dropped;
@@ -36,7 +36,7 @@ pub(crate) fn take_datagram(
     out: &mut Outputs,
     alloc: Global,
 ) -> Result<Option<Dropped>, AllocError>
-    requires { IsFit area.old }
+    requires { IsFitRouter area.old }
     // It is dropped for the cause that applies, if one does, or else taken by the rules.
     ensures dropped { IfOk result (λ d. d ≡ drop_on (slice_get area.old.links link) area.old source
         destination (packet_of bytes.now)) }
@@ -50,7 +50,7 @@ pub(crate) fn take_datagram(
     // One that is dropped needs no memory, and the area is fit for what follows.
     ensures memory { OnErr result (drop_on (slice_get area.old.links link) area.old source
         destination (packet_of bytes.now) ≡ None) }
-    ensures fit { OnOk result (IsFit area.new) }
+    ensures fit { OnOk result (IsFitRouter area.new) }
 {
     // For the proof.
     not_dropped_is_taken();
@@ -113,7 +113,7 @@ fn take_body(
     out: &mut Outputs,
     alloc: Global,
 ) -> Result<(), AllocError>
-    requires { CanTake from (body_said body) area.old }
+    requires { CanTakePacket from (body_said body) area.old }
     ensures { OnOk result (TakesBody (body_said body.entry) from area.old out.old out.new
         area.new) }
 {

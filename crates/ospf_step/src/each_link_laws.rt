@@ -2,7 +2,7 @@
 
 ghost use Rattle.std.specs.Prelude.{◌≡◌, List, Option, ℕ};
 ghost use Rattle.ospf_packet.specs.Meaning.{Meaning};
-ghost use Rattle.ospf_area.specs.Outputs.{AreRead, OutputsValue, SentValue, sends};
+ghost use Rattle.ospf_area.specs.Outputs.{AreReadAsSent, OutputsValue, SentValue, sends};
 ghost use Rattle.ospf_area.specs.State.{AreaValue, LinkValue};
 ghost use Rattle.ospf_step.specs.Packets.{Received};
 ghost use Rattle.ospf_step.specs.Links.{AllEach, AllGo, AreKnown, ChangesLinks, LinkGoes, LinkQuiet, OnOneLink};
@@ -11,10 +11,10 @@ ghost use Rattle.ospf_step.specs.Neighbours.{NeighboursGo, Quiet, told_by};
 /// What each link does by what is known, and what it does by the packet heard.
 pub fn links_go()
     ensures quiet { (s after : AreaValue) (out : OutputsValue) (ds : List SentValue) →
-        ChangesLinks s after → out ≡ sends ds → AreRead out.sent →
+        ChangesLinks s after → out ≡ sends ds → AreReadAsSent out.sent →
         AllEach (LinkQuiet s) s.links after.links → AreKnown s ds → Quiet s out after }
     ensures goes { (heard : Option Received) (s after : AreaValue) (out : OutputsValue)
-        (ds : List SentValue) → ChangesLinks s after → out ≡ sends ds → AreRead out.sent →
+        (ds : List SentValue) → ChangesLinks s after → out ≡ sends ds → AreReadAsSent out.sent →
         AllGo s heard s.links after.links → AreKnown s ds → NeighboursGo heard s out after }
 {}
 
@@ -22,8 +22,10 @@ pub fn links_go()
 pub fn one_link_goes()
     ensures quiet { (l : ℕ) (link link' : LinkValue) (ds : List SentValue) (s : AreaValue)
         (out : OutputsValue) (after : AreaValue) →
-        OnOneLink l link link' ds s out after → LinkQuiet s link link' → AreKnown s ds → Quiet s out after }
+        OnOneLink l link link' ds s out after → LinkQuiet s link link' → AreKnown s ds →
+        Quiet s out after }
     ensures goes { (heard : Option Received) (l : ℕ) (link link' : LinkValue) (ds : List SentValue)
         (s : AreaValue) (out : OutputsValue) (after : AreaValue) →
-        OnOneLink l link link' ds s out after → LinkGoes s (told_by heard l) link link' → AreKnown s ds → NeighboursGo heard s out after }
+        OnOneLink l link link' ds s out after → LinkGoes s (told_by heard l) link link' →
+        AreKnown s ds → NeighboursGo heard s out after }
 {}

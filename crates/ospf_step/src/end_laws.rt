@@ -1,10 +1,10 @@
 //! Laws: what ends a step is the chain of its last parts, put behind the outputs so far.
 
 ghost use Rattle.ospf_lsdb.specs.Database.{IsDatabase};
-ghost use Rattle.ospf_area.specs.Outputs.{AreRead, OutputsValue};
+ghost use Rattle.ospf_area.specs.Outputs.{AreReadAsSent, OutputsValue};
 ghost use Rattle.ospf_area.specs.State.{AreaValue};
 ghost use Rattle.ospf_update.specs.Removal.{Removes};
-ghost use Rattle.ospf_links.specs.Elections.{Elects};
+ghost use Rattle.ospf_links.specs.Elections.{ElectsAll};
 ghost use Rattle.ospf_originate.specs.Steps.{OwnLsas};
 ghost use Rattle.ospf_step.specs.Puts.{PutsOut};
 ghost use Rattle.ospf_step.specs.Step.{Chain, IsPart, Part, last_parts};
@@ -12,19 +12,22 @@ ghost use Rattle.ospf_step.specs.Step.{Chain, IsPart, Part, last_parts};
 /// The elections, one after the other.
 pub fn elections_put_out()
     ensures { (s t : AreaValue) (out out' : OutputsValue) →
-        AreRead out'.sent → Elects s out t out' → PutsOut (λ o. IsPart Part.Elections s o t) out out' }
+        AreReadAsSent out'.sent → ElectsAll s out t out' →
+        PutsOut (λ o. IsPart Part.Elections s o t) out out' }
 {}
 
 /// The own LSAs that are due.
 pub fn own_lsas_put_out()
     ensures { (s t : AreaValue) (out out' : OutputsValue) →
-        IsDatabase s.database → AreRead out'.sent → OwnLsas s out out' t → PutsOut (λ o. IsPart Part.OwnLsas s o t) out out' }
+        IsDatabase s.database → AreReadAsSent out'.sent → OwnLsas s out out' t →
+        PutsOut (λ o. IsPart Part.OwnLsas s o t) out out' }
 {}
 
 /// The elections, then own LSAs, then removals. Elections leave the database as it was.
 pub fn ends_are_chains()
     ensures { (s elected owned t : AreaValue) (out elected_out owned_out out' : OutputsValue) →
-        IsDatabase s.database → IsDatabase owned.database → AreRead out'.sent →
-        Elects s out elected elected_out → OwnLsas elected elected_out owned_out owned → Removes owned owned_out out' t →
+        IsDatabase s.database → IsDatabase owned.database → AreReadAsSent out'.sent →
+        ElectsAll s out elected elected_out → OwnLsas elected elected_out owned_out owned →
+        Removes owned owned_out out' t →
         PutsOut (λ o. Chain last_parts s o t) out out' }
 {}

@@ -1,11 +1,11 @@
 //! How every step ends.
 
 ghost use Rattle.std.specs.Prelude.{OnOk};
-ghost use Rattle.ospf_links.specs.Elections.{Elects};
+ghost use Rattle.ospf_links.specs.Elections.{ElectsAll};
 ghost use Rattle.ospf_lsdb.specs.Database.{IsDatabase};
 ghost use Rattle.ospf_originate.specs.Steps.{OwnLsas};
-ghost use Rattle.ospf_step.specs.Ends.{Ends};
-ghost use Rattle.ospf_step.specs.Fit.{IsFit};
+ghost use Rattle.ospf_step.specs.Ends.{EndsStep};
+ghost use Rattle.ospf_step.specs.Fit.{IsFitRouter};
 ghost use Rattle.ospf_update.specs.Removal.{Removes};
 
 use crate::outputs_laws::database_is_one;
@@ -16,9 +16,9 @@ use std::alloc::{AllocError, Global};
 
 /// The elections that are due, the router's own LSAs, and the LSAs that leave the database.
 pub(crate) fn end(area: &mut Area, out: &mut Outputs, alloc: Global) -> Result<(), AllocError>
-    requires { IsFit area.old }
-    ensures ends { OnOk result (Ends area.old out.old out.new area.new) }
-    ensures fit { OnOk result (IsFit area.new) }
+    requires { IsFitRouter area.old }
+    ensures ends { OnOk result (EndsStep area.old out.old out.new area.new) }
+    ensures fit { OnOk result (IsFitRouter area.new) }
 {
     // For the proof.
     database_is_one(area);
@@ -35,9 +35,9 @@ pub(crate) fn end(area: &mut Area, out: &mut Outputs, alloc: Global) -> Result<(
 
 // As `ospf_links::elect`, and the router stays fit.
 fn elect(area: &mut Area, out: &mut Outputs, alloc: Global) -> Result<(), AllocError>
-    requires { IsFit area.old }
-    ensures elects { OnOk result (Elects area.old out.old area.new out.new) }
-    ensures fit { OnOk result (IsFit area.new) }
+    requires { IsFitRouter area.old }
+    ensures elects { OnOk result (ElectsAll area.old out.old area.new out.new) }
+    ensures fit { OnOk result (IsFitRouter area.new) }
 {
     // For the proof.
     neighbours_stay_of_link();
@@ -46,9 +46,9 @@ fn elect(area: &mut Area, out: &mut Outputs, alloc: Global) -> Result<(), AllocE
 
 // As `ospf_originate::own_lsas`, and the router stays fit.
 fn own_lsas(area: &mut Area, out: &mut Outputs, alloc: Global) -> Result<(), AllocError>
-    requires { IsFit area.old }
+    requires { IsFitRouter area.old }
     ensures own { OnOk result (OwnLsas area.old out.old out.new area.new) }
-    ensures fit { OnOk result (IsFit area.new) }
+    ensures fit { OnOk result (IsFitRouter area.new) }
 {
     // For the proof.
     own_stay_sound();
@@ -57,10 +57,10 @@ fn own_lsas(area: &mut Area, out: &mut Outputs, alloc: Global) -> Result<(), All
 
 // As `ospf_update::remove`, and the router stays fit.
 fn remove(area: &mut Area, out: &mut Outputs, alloc: Global) -> Result<(), AllocError>
-    requires { IsFit area.old }
+    requires { IsFitRouter area.old }
     ensures database { IsDatabase area.old.database }
     ensures removes { OnOk result (Removes area.old out.old out.new area.new) }
-    ensures fit { OnOk result (IsFit area.new) }
+    ensures fit { OnOk result (IsFitRouter area.new) }
 {
     // For the proof.
     database_is_one(area);

@@ -46,7 +46,7 @@ pub use crate::part_laws::{
     updates_are_chains,
 };
 pub use crate::senders::{not_dropped_is_taken, senders_are_neighbours};
-pub use crate::steps::{Taken, step};
+pub use crate::steps::{StepResult, step};
 pub use crate::tick_laws::{
     due_hellos_put_out, outputs_before_are_read, repeats_put_out, ticks_are_chains, timers_put_out,
 };

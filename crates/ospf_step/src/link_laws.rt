@@ -8,12 +8,12 @@ ghost use Rattle.ospf_packet.specs.Meaning.{Meaning};
 ghost use Rattle.ospf_packet.specs.declared.body.Description.{Description};
 ghost use Rattle.ospf_packet.specs.declared.body.Hello.{Hello};
 ghost use Rattle.ospf_packet.specs.declared.entry.RequestEntry.{RequestEntry};
-ghost use Rattle.ospf_area.specs.Outputs.{AreRead, OutputsValue};
+ghost use Rattle.ospf_area.specs.Outputs.{AreReadAsSent, OutputsValue};
 ghost use Rattle.ospf_area.specs.Sending.{and_sends, own_of};
 ghost use Rattle.ospf_area.specs.State.{AreaValue};
 ghost use Rattle.ospf_area.specs.declared.flooding.Origin.{Origin};
 ghost use Rattle.ospf_links.specs.Parts.{description_part, hello_part, link_down, link_up, request_part};
-ghost use Rattle.ospf_links.specs.Works.{changed, up_out_on, work_sent, worked};
+ghost use Rattle.ospf_links.specs.Works.{link_changed, up_out_on, work_sent, worked};
 ghost use Rattle.ospf_step.specs.Packets.{dd_headers_in};
 ghost use Rattle.ospf_step.specs.Puts.{PutsOut};
 ghost use Rattle.ospf_step.specs.Step.{IsPart, Part};
@@ -23,8 +23,9 @@ ghost use Rattle.ospf_step.specs.Invariants.{NoneWaitsBelow};
 pub fn hellos_put_out()
     ensures { (f : Origin) (p : Meaning) (h : Hello) (named : Bool) (s t : AreaValue)
         (out out' : OutputsValue) →
-        AreRead out'.sent → t ≡ worked (hello_part (own_of s) f h named s.next_dd) f.link s →
-        out' ≡ and_sends out (work_sent (hello_part (own_of s) f h named s.next_dd) (own_of s) f.link s.links) →
+        AreReadAsSent out'.sent → t ≡ worked (hello_part (own_of s) f h named s.next_dd) f.link s →
+        out' ≡ and_sends out (work_sent (hello_part (own_of s) f h named s.next_dd) (own_of s)
+        f.link s.links) →
         PutsOut (λ o. IsPart (Part.HelloComes f p) s o t) out out' }
 {}
 
@@ -32,9 +33,11 @@ pub fn hellos_put_out()
 pub fn descriptions_put_out()
     ensures { (f : Origin) (p : Meaning) (d : Description) (headers : List LsaHeader)
         (s t : AreaValue) (out out' : OutputsValue) →
-        IsDatabase s.database → NoneWaitsBelow s f.link f.router → p.router ≡ f.router → headers ≡ dd_headers_in p → AreRead out'.sent →
+        IsDatabase s.database → NoneWaitsBelow s f.link f.router → p.router ≡ f.router → headers
+        ≡ dd_headers_in p → AreReadAsSent out'.sent →
         t ≡ worked (description_part (own_of s) f d headers s.database s.next_dd) f.link s →
-        out' ≡ and_sends out (work_sent (description_part (own_of s) f d headers s.database s.next_dd) (own_of s) f.link s.links) →
+        out' ≡ and_sends out (work_sent (description_part (own_of s) f d headers s.database
+        s.next_dd) (own_of s) f.link s.links) →
         PutsOut (λ o. IsPart (Part.DdComes f p) s o t) out out' }
 {}
 
@@ -42,21 +45,27 @@ pub fn descriptions_put_out()
 pub fn requests_put_out()
     ensures { (f : Origin) (p : Meaning) (entries : List RequestEntry) (marks : List LsaKey)
         (s t : AreaValue) (out out' : OutputsValue) →
-        IsDatabase s.database → AreRead out'.sent →
-        t ≡ record (worked (request_part (own_of s) f s.database entries s.next_dd) f.link s) { sent = marks } →
-        out' ≡ and_sends out (work_sent (request_part (own_of s) f s.database entries s.next_dd) (own_of s) f.link s.links) →
+        IsDatabase s.database → AreReadAsSent out'.sent →
+        t ≡ record (worked (request_part (own_of s) f s.database entries s.next_dd) f.link s) {
+          sent
+              = marks;
+        } →
+        out' ≡ and_sends out (work_sent (request_part (own_of s) f s.database entries s.next_dd)
+        (own_of s) f.link s.links) →
         PutsOut (λ o. IsPart (Part.RequestComes f p) s o t) out out' }
 {}
 
 /// A link that goes up, or is not there.
 pub fn links_up_put_out()
     ensures { (l : ℕ) (s t : AreaValue) (out out' : OutputsValue) →
-        AreRead out'.sent → t ≡ changed link_up l s → out' ≡ and_sends out (up_out_on (slice_get s.links l) (own_of s) l) →
+        AreReadAsSent out'.sent → t ≡ link_changed link_up l s → out'
+        ≡ and_sends out (up_out_on (slice_get s.links l) (own_of s) l) →
         PutsOut (λ o. IsPart (Part.LinkChanges l true) s o t) out out' }
 {}
 
 /// A link that goes down, or is not there.
 pub fn links_down_put_out()
     ensures { (l : ℕ) (s t : AreaValue) (out : OutputsValue) →
-        t ≡ changed link_down l s → PutsOut (λ o. IsPart (Part.LinkChanges l false) s o t) out out }
+        t ≡ link_changed link_down l s → PutsOut (λ o. IsPart (Part.LinkChanges l false) s o t) out
+        out }
 {}

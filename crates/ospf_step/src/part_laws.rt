@@ -4,9 +4,9 @@ ghost use Rattle.std.specs.Prelude.{◌≡◌, ◌++◌, ◌∷◌, [], Bool, fa
 ghost use Rattle.ospf_base.specs.declared.ids.LsaKey.{LsaKey};
 ghost use Rattle.ospf_lsa.specs.declared.header.LsaHeader.{LsaHeader};
 ghost use Rattle.ospf_lsdb.specs.Database.{Entry, IsDatabase};
-ghost use Rattle.ospf_area.specs.Outputs.{AreRead, OutputsValue, SentValue, no_outputs};
+ghost use Rattle.ospf_area.specs.Outputs.{AreReadAsSent, OutputsValue, SentValue, no_outputs};
 ghost use Rattle.ospf_area.specs.Sending.{and_sends, own_of};
-ghost use Rattle.ospf_area.specs.State.{AreaValue, entry_of};
+ghost use Rattle.ospf_area.specs.State.{AreaValue, database_entry};
 ghost use Rattle.ospf_area.specs.declared.flooding.Origin.{Origin};
 ghost use Rattle.ospf_update.specs.Acks.{delayed_out, undelayed};
 ghost use Rattle.ospf_update.specs.Aging.{Flushes, TickAges, turn_out, turned_area};
@@ -23,7 +23,8 @@ pub fn chains_put_out()
         PutsOut (λ o. Chain [] s o t) out out' }
     ensures more { (part : Part) (parts : List Part) (s t u : AreaValue)
         (out mid_out out' : OutputsValue) →
-        PutsOut (λ o. IsPart part s o t) out mid_out → PutsOut (λ o. Chain parts t o u) mid_out out' →
+        PutsOut (λ o. IsPart part s o t) out mid_out →
+        PutsOut (λ o. Chain parts t o u) mid_out out' →
         PutsOut (λ o. Chain (part ∷ parts) s o u) out out' }
 {}
 
@@ -31,7 +32,8 @@ pub fn chains_put_out()
 pub fn steps_are_chains()
     ensures { (is_dropped : Event → AreaValue → Bool) (event : Event) (before : AreaValue)
         (out : OutputsValue) (after : AreaValue) →
-        is_dropped event before ≡ false → AreRead out.sent → PutsOut (λ o. Chain (first_parts event ++ last_parts) before o after) no_outputs out →
+        is_dropped event before ≡ false → AreReadAsSent out.sent →
+        PutsOut (λ o. Chain (first_parts event ++ last_parts) before o after) no_outputs out →
         StepLaws is_dropped event before out after }
 {}
 
@@ -39,8 +41,10 @@ pub fn steps_are_chains()
 pub fn updates_are_chains()
     ensures { (f : Origin) (slices : List (List ℕ)) (rest : List Part) (s t u : AreaValue)
         (out mid_out out' : OutputsValue) →
-        AreRead out'.sent → TakesUpdate f slices s out mid_out t → PutsOut (λ o. Chain rest t o u) mid_out out' →
-        PutsOut (λ o. Chain ((lsa_parts f slices ++ Part.DirectAcknowledgements f ∷ []) ++ rest) s o u) out out' }
+        AreReadAsSent out'.sent → TakesUpdate f slices s out mid_out t →
+        PutsOut (λ o. Chain rest t o u) mid_out out' →
+        PutsOut (λ o. Chain ((lsa_parts f slices ++ Part.DirectAcknowledgements f ∷ [])
+        ++ rest) s o u) out out' }
 {}
 
 /// What is done with the headers of an Acknowledgment, and then what follows, is the chain of its parts.
@@ -54,19 +58,22 @@ pub fn headers_are_chains()
 /// What is done at a tick with ages is a part.
 pub fn ages_put_out()
     ensures { (s t : AreaValue) (out out' : OutputsValue) (sent : List SentValue) →
-        IsDatabase t.database → AreRead out'.sent → TickAges s sent t → out' ≡ and_sends out sent → PutsOut (λ o. IsPart Part.Ages s o t) out out' }
+        IsDatabase t.database → AreReadAsSent out'.sent → TickAges s sent t → out'
+        ≡ and_sends out sent → PutsOut (λ o. IsPart Part.Ages s o t) out out' }
 {}
 
 /// LoadingDone and the next Requests are a part.
 pub fn next_requests_put_out()
     ensures { (s t : AreaValue) (out out' : OutputsValue) →
-        t ≡ turned_area s → out' ≡ and_sends out (turn_out s) → AreRead out'.sent → PutsOut (λ o. Quiet s o t) out out' }
+        t ≡ turned_area s → out' ≡ and_sends out (turn_out s) → AreReadAsSent out'.sent →
+        PutsOut (λ o. Quiet s o t) out out' }
 {}
 
 /// The delayed acknowledgements of a tick are a part.
 pub fn acknowledgements_put_out()
     ensures { (s t : AreaValue) (out out' : OutputsValue) →
-        AreRead out'.sent → t ≡ record s { links = undelayed s.links } → out' ≡ and_sends out (delayed_out (own_of s) s.links) →
+        AreReadAsSent out'.sent → t ≡ record s { links = undelayed s.links } → out'
+        ≡ and_sends out (delayed_out (own_of s) s.links) →
         PutsOut (λ o. Quiet s o t) out out' }
 {}
 
@@ -74,7 +81,8 @@ pub fn acknowledgements_put_out()
 pub fn flushes_put_out()
     ensures { (key : LsaKey) (copy : Entry) (s t : AreaValue) (out out' : OutputsValue)
         (sent : List SentValue) →
-        IsDatabase s.database → entry_of s key ≡ Some copy → AreRead out'.sent → Flushes key s sent t → out' ≡ and_sends out sent →
+        IsDatabase s.database → database_entry s key ≡ Some copy → AreReadAsSent out'.sent →
+        Flushes key s sent t → out' ≡ and_sends out sent →
         PutsOut (λ o. AndRequests (ExpiryPart key copy) s o t) out out' }
 {}
 
@@ -83,10 +91,12 @@ pub fn own_steps_put_out()
     ensures none { (s : AreaValue) (out : OutputsValue) →
         PutsOut (λ o. Times 0 OwnStep s o s) out out }
     ensures more { (n : ℕ) (s t u : AreaValue) (out mid_out out' : OutputsValue) →
-        PutsOut (λ o. OwnStep s o t) out mid_out → PutsOut (λ o. Times n OwnStep t o u) mid_out out' →
+        PutsOut (λ o. OwnStep s o t) out mid_out →
+        PutsOut (λ o. Times n OwnStep t o u) mid_out out' →
         PutsOut (λ o. Times (suc n) OwnStep s o u) out out' }
     ensures end { (n : ℕ) (s t u : AreaValue) (out out' : OutputsValue) →
-        PutsOut (λ o. Times n OwnStep s o t) out out' → u ≡ record t { heard = [] } → PutsOut (λ o. IsPart Part.OwnLsas s o u) out out' }
+        PutsOut (λ o. Times n OwnStep s o t) out out' → u ≡ record t { heard = [] } →
+        PutsOut (λ o. IsPart Part.OwnLsas s o u) out out' }
 {}
 
 /// The removals that end a step are a part.

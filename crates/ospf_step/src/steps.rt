@@ -7,14 +7,14 @@ ghost use Rattle.ospf_step.specs.Accounts.{Accounts};
 ghost use Rattle.ospf_step.specs.Step.{StepLaws, heard_in};
 ghost use Rattle.ospf_step.specs.Words.{IsSoundState};
 ghost use Rattle.ospf_links.specs.Parts.{link_down, link_up};
-ghost use Rattle.ospf_links.specs.Works.{changed, up_out_on};
+ghost use Rattle.ospf_links.specs.Works.{link_changed, up_out_on};
 ghost use Rattle.ospf_step.specs.Drops.{dropped_by, is_dropped};
 ghost use Rattle.ospf_step.specs.Events.{happening};
-ghost use Rattle.ospf_step.specs.Fit.{IsFit};
+ghost use Rattle.ospf_step.specs.Fit.{IsFitRouter};
 ghost use Rattle.ospf_step.specs.Ready.{IsReadyFor};
 ghost use Rattle.ospf_step.specs.Same.{IsSameRouter};
 ghost use Rattle.ospf_step.specs.Steps.{StepsArea, Takes};
-ghost use Rattle.ospf_step.specs.Takes.{Becomes, TakesEvent};
+ghost use Rattle.ospf_step.specs.Takes.{BecomesState, TakesEvent};
 
 use crate::datagrams::take_datagram;
 use crate::dropped::Dropped;
@@ -28,7 +28,7 @@ use std::alloc::{AllocError, Global};
 
 /// What a step gives: what it puts out, and why its datagram is dropped, if it is.
 #[derive(Drop)]
-pub struct Taken {
+pub struct StepResult {
     pub out: Outputs,
     pub dropped: Option<Dropped>,
 }
@@ -38,8 +38,8 @@ pub struct Taken {
 /// database. Each step keeps the laws of a step, and from a sound state it answers to other routers for all that it does.
 ///
 /// `AllocError` where memory runs out; then the router is to be stopped.
-pub fn step(area: &mut Area, event: Event<'_>, alloc: Global) -> Result<Taken, AllocError>
-    requires { IsFit area.old }
+pub fn step(area: &mut Area, event: Event<'_>, alloc: Global) -> Result<StepResult, AllocError>
+    requires { IsFitRouter area.old }
     // What the step does by the exact rules, and the laws of a step, which it keeps.
     ensures step { IfOk result (λ t. StepsArea (happening event.entry) area.old t.dropped t.out
         area.new) }
@@ -52,7 +52,7 @@ pub fn step(area: &mut Area, event: Event<'_>, alloc: Global) -> Result<Taken, A
     // It stays the same router, fit for what follows, and a dropped event needs no memory.
     ensures same { OnOk result (IsSameRouter area.old area.new) }
     ensures memory { OnErr result (dropped_by (happening event.entry) area.old ≡ None) }
-    ensures fit { OnOk result (IsFit area.new) }
+    ensures fit { OnOk result (IsFitRouter area.new) }
 {
     // For the proof.
     neighbours_stay_of_link();
@@ -62,10 +62,10 @@ pub fn step(area: &mut Area, event: Event<'_>, alloc: Global) -> Result<Taken, A
     let mut out = Outputs::new(alloc);
     let dropped = take(area, event, &mut out, alloc)?;
     if dropped.is_some() {
-        return Ok(Taken { out, dropped });
+        return Ok(StepResult { out, dropped });
     }
     end(area, &mut out, alloc)?;
-    Ok(Taken { out, dropped })
+    Ok(StepResult { out, dropped })
 }
 
 // What an event does before the step ends.
@@ -75,7 +75,7 @@ fn take(
     out: &mut Outputs,
     alloc: Global,
 ) -> Result<Option<Dropped>, AllocError>
-    requires { IsFit area.old }
+    requires { IsFitRouter area.old }
     // The event is dropped for the cause that applies, if one does, or else taken by the rules.
     ensures dropped { IfOk result (λ d. d ≡ dropped_by (happening event.entry) area.old) }
     ensures sender { IfOk result (λ d. d ≡ None → IsReadyFor (happening event.entry) area.old) }
@@ -86,7 +86,7 @@ fn take(
     ensures silent { IfOk result (λ d. d ≢ None → out.new ≡ out.old) }
     // One that is dropped needs no memory, and the area is fit for what follows.
     ensures memory { OnErr result (dropped_by (happening event.entry) area.old ≡ None) }
-    ensures fit { OnOk result (IsFit area.new) }
+    ensures fit { OnOk result (IsFitRouter area.new) }
 {
     match event {
         // (8.2)
@@ -116,19 +116,20 @@ fn take(
 
 // As `ospf_links::take_up`, and the router stays fit.
 fn take_up(area: &mut Area, link: usize, out: &mut Outputs, alloc: Global) -> Result<(), AllocError>
-    requires { IsFit area.old }
-    ensures takes { OnOk result (Becomes (changed link_up link area.old)
-        (up_out_on (slice_get area.old.links link) (own_of area.old) link) out.old out.new area.new) }
-    ensures fit { OnOk result (IsFit area.new) }
+    requires { IsFitRouter area.old }
+    ensures takes { OnOk result (BecomesState (link_changed link_up link area.old)
+        (up_out_on (slice_get area.old.links link) (own_of area.old) link) out.old out.new
+        area.new) }
+    ensures fit { OnOk result (IsFitRouter area.new) }
 {
     ospf_links::take_up(area, link, out, alloc)
 }
 
 // As `ospf_links::take_down`, and the router stays fit.
 fn take_down(area: &mut Area, link: usize, alloc: Global)
-    requires { IsFit area.old }
-    ensures after { area.new ≡ changed link_down link area.old }
-    ensures fit { IsFit area.new }
+    requires { IsFitRouter area.old }
+    ensures after { area.new ≡ link_changed link_down link area.old }
+    ensures fit { IsFitRouter area.new }
 {
     ospf_links::take_down(area, link, alloc);
 }

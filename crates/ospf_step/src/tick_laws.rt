@@ -3,7 +3,7 @@
 ghost use Rattle.std.specs.Prelude.{◌≡◌, ◌++◌, List, map};
 ghost use Rattle.ospf_base.specs.declared.ids.LsaKey.{LsaKey};
 ghost use Rattle.ospf_lsdb.specs.Database.{IsDatabase};
-ghost use Rattle.ospf_area.specs.Outputs.{AreRead, OutputsValue, SentValue};
+ghost use Rattle.ospf_area.specs.Outputs.{AreReadAsSent, OutputsValue, SentValue};
 ghost use Rattle.ospf_area.specs.Places.{flat_from};
 ghost use Rattle.ospf_area.specs.Sending.{and_sends, own_of};
 ghost use Rattle.ospf_area.specs.State.{AreaValue};
@@ -18,20 +18,22 @@ ghost use Rattle.ospf_step.specs.Ticks.{tick_out, ticked_area};
 /// The wait timers and the inactivity timers.
 pub fn timers_put_out()
     ensures { (s t : AreaValue) (out : OutputsValue) →
-        AreRising s.links → t ≡ record s { links = map link_timed s.links } → PutsOut (λ o. IsPart Part.Timers s o t) out out }
+        AreRising s.links → t ≡ record s { links = map link_timed s.links } →
+        PutsOut (λ o. IsPart Part.Timers s o t) out out }
 {}
 
 /// The Hellos that are due.
 pub fn due_hellos_put_out()
     ensures { (s t : AreaValue) (out out' : OutputsValue) →
-        AreRead out'.sent → t ≡ record s { links = map hello_sent s.links } → out' ≡ and_sends out (flat_from (hello_out (own_of s)) 0 s.links) →
+        AreReadAsSent out'.sent → t ≡ record s { links = map hello_sent s.links } → out'
+        ≡ and_sends out (flat_from (hello_out (own_of s)) 0 s.links) →
         PutsOut (λ o. IsPart Part.Hellos s o t) out out' }
 {}
 
 /// What is sent again. The keys whose copies go out are marked.
 pub fn repeats_put_out()
     ensures { (marks : List LsaKey) (s t : AreaValue) (out out' : OutputsValue) →
-        IsDatabase s.database → AreRising s.links → AreRead out'.sent →
+        IsDatabase s.database → AreRising s.links → AreReadAsSent out'.sent →
         t ≡ record s { links = repeated_links (own_of s) s.database s.links; sent = marks } →
         out' ≡ and_sends out (all_repeats (own_of s) s.database s.links) →
         PutsOut (λ o. IsPart Part.Repeats s o t) out out' }
@@ -41,14 +43,21 @@ pub fn repeats_put_out()
 pub fn ticks_are_chains()
     ensures { (rest : List Part) (marks : List LsaKey) (s aged t u : AreaValue)
         (expired : List SentValue) (out mid_out out' : OutputsValue) →
-        AreRising aged.links → AreRising (ticked_area aged).links → IsDatabase aged.database → AreRead out'.sent → TickAges s expired aged →
-        t ≡ record (ticked_area aged) { links = repeated_links (own_of aged) aged.database (ticked_area aged).links; sent = marks } →
+        AreRising aged.links → AreRising (ticked_area aged).links → IsDatabase aged.database →
+        AreReadAsSent out'.sent → TickAges s expired aged →
+        t ≡ record (ticked_area aged) {
+          links = repeated_links (own_of aged) aged.database
+              (ticked_area aged).links;
+          sent = marks;
+        } →
         mid_out ≡ tick_out aged (and_sends out expired) →
-        PutsOut (λ o. Chain rest t o u) mid_out out' → PutsOut (λ o. Chain (first_parts Event.Tick ++ rest) s o u) out out' }
+        PutsOut (λ o. Chain rest t o u) mid_out out' →
+        PutsOut (λ o. Chain (first_parts Event.Tick ++ rest) s o u) out out' }
 {}
 
 /// What is read once a part was put out, was read before.
 pub fn outputs_before_are_read()
     ensures { (rest : List Part) (s t : AreaValue) (out out' : OutputsValue) →
-        PutsOut (λ o. Chain rest s o t) out out' → AreRead out'.sent → AreRead out.sent }
+        PutsOut (λ o. Chain rest s o t) out out' → AreReadAsSent out'.sent →
+        AreReadAsSent out.sent }
 {}

@@ -2,7 +2,7 @@
 
 ghost use Rattle.std.specs.Prelude.{◌≡◌, OnOk};
 ghost use Rattle.ospf_area.specs.Sending.{and_sends};
-ghost use Rattle.ospf_step.specs.Fit.{IsFit};
+ghost use Rattle.ospf_step.specs.Fit.{IsFitRouter};
 ghost use Rattle.ospf_step.specs.Ticks.{acknowledged_area, acknowledgements_out, helloed_area, hellos_out, timed_area};
 ghost use Rattle.ospf_step.specs.Takes.{TakesTick, repeated, repeats_out};
 
@@ -14,9 +14,9 @@ use std::alloc::{AllocError, Global};
 
 /// Takes a tick: ages, timers, Hellos, acknowledgements and repeats.
 pub(crate) fn take_tick(area: &mut Area, out: &mut Outputs, alloc: Global) -> Result<(), AllocError>
-    requires { IsFit area.old }
+    requires { IsFitRouter area.old }
     ensures takes { OnOk result (TakesTick area.old out.old out.new area.new) }
-    ensures fit { OnOk result (IsFit area.new) }
+    ensures fit { OnOk result (IsFitRouter area.new) }
 {
     // For the proof.
     neighbours_stay_of_link();

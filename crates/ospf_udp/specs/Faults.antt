@@ -18,13 +18,13 @@ cause_text cause.TooMany = codes ": too many open files"
 cause_text cause.Refused = codes ": refused by the system"
 
 -- the port, or all sockets where it is none of them
-abbrev pub port_text : Option Port → List ℕ
-port_text (Some port) = codes "port " ++ decimal port.number
-port_text None = codes "sockets"
+abbrev pub sockets_text : Option Port → List ℕ
+sockets_text (Some port) = codes "port " ++ decimal port.number
+sockets_text None = codes "sockets"
 
 -- what is printed of a socket that could not be made
 abbrev pub no_socket_text : NoSocket → List ℕ
-no_socket_text fault = port_text fault.port ++ cause_text fault.cause
+no_socket_text fault = sockets_text fault.port ++ cause_text fault.cause
 
 -- a port that is named is that of an interface
 abbrev pub IsPortIn : List Interface → Option Port → Type 0

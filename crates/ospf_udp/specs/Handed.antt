@@ -2,8 +2,8 @@
 use Rattle.std.specs.Prelude.{⊤, ◌<◌, ℕ, Option, None, Some}
 use Rattle.ospf_drive.specs.declared.wire.Arrival.{Arrival}
 use Rattle.ospf_drive.specs.declared.wire.Arrival.TheVariants as arrival
-use Rattle.ospf_udp.specs.declared.sockets.Looked.{Looked}
-use Rattle.ospf_udp.specs.declared.sockets.Looked.TheVariants as looked
+use Rattle.ospf_udp.specs.declared.sockets.Polled.{Polled}
+use Rattle.ospf_udp.specs.declared.sockets.Polled.TheVariants as looked
 
 -- so many ticks are fewer than there are
 abbrev pub HasMore : Option ℕ → ℕ → Type 0
@@ -27,6 +27,6 @@ IsFromOutside arrival.End = ⊥
 IsFromOutside _ = ⊤
 
 -- what the sockets gave comes from outside
-abbrev pub AreFromOutside : Looked → Type 0
+abbrev pub AreFromOutside : Polled → Type 0
 AreFromOutside (looked.Arrived a) = IsFromOutside a
 AreFromOutside _ = ⊤

@@ -3,7 +3,7 @@ use Rattle.std.specs.Prelude.{◌≡◌, ◌++◌, ℕ, ℤ, List, Option, Some,
 use Rattle.ospf_config.specs.declared.config.Config.{Config}
 use Rattle.ospf_config.specs.declared.fault.ConfigFault.{ConfigFault}
 use Rattle.ospf_files.specs.Files.{IsConfigIn, IsRefusedFor, refused_line, text_in, unread_line}
-use Rattle.ospf_files.specs.Listed.{AreConfigs, AreRead, IsFirstRefused, IsFirstUnread}
+use Rattle.ospf_files.specs.Listed.{AreConfigs, AreFilesRead, IsFirstRefused, IsFirstUnread, same_router_line}
 use Rattle.ospf_files.specs.declared.files.NamedFile.{NamedFile}
 use Rattle.ospf_files.specs.declared.status.Failure.{Failure}
 use Rattle.ospf_files.specs.declared.status.Failure.TheVariants as failure
@@ -12,7 +12,8 @@ use Rattle.ospf_files.specs.declared.status.Status.TheVariants as status
 use Rattle.ospf_flood.specs.Rules.{max_sequence_number}
 use Rattle.ospf_udp.specs.Faults.{IsPortIn, no_socket_text}
 use Rattle.ospf_udp.specs.declared.fault.NoSocket.{NoSocket}
-use Rattle.ospf_udp.specs.Plans.{HasFloor, HasPlan, IsFirstPortless, IsFloorOf, IsPlan, ShareRouter, greatest_floor_line, no_floor_line, no_port_line, same_router_line}
+use Rattle.ospf_config.specs.Configs.{ShareRouter}
+use Rattle.ospf_udp.specs.Plans.{HasFloor, HasPlan, IsFirstPortless, IsFloorOf, IsPlan, greatest_floor_line, no_floor_line, no_port_line}
 use Rattle.ospf_udp.specs.declared.stop.Obstacle.{Obstacle}
 use Rattle.ospf_udp.specs.declared.stop.Obstacle.TheVariants as obstacle
 use Rattle.ospf_udp.specs.declared.stop.Stop.{Stop}
@@ -27,7 +28,7 @@ IsReadAs file (Err fault) = IsRefusedFor (text_in file) fault
 pub record Hold (floor : Option (List ℕ)) (files : List NamedFile) (configs : List Config) : Type 0 where
   pub least : ℤ
   pub has_floor : HasFloor floor least
-  pub read : AreRead files
+  pub read : AreFilesRead files
   pub are_configs : AreConfigs files configs
 
 -- a socket of the router of a file could not be made; a port that is named is that of one of its interfaces
@@ -44,7 +45,7 @@ abbrev pub Hinders : Option (List ℕ) → List NamedFile → Obstacle → Type 
 Hinders floor files obstacle.NoNumber = (least : ℤ) → IsFloorOf floor least → ⊥
 Hinders floor files obstacle.GreatestFloor = IsFloorOf floor max_sequence_number
 Hinders floor files (obstacle.Unread file) = (least : ℤ) × HasFloor floor least × IsFirstUnread file.now files
-Hinders floor files (obstacle.NoConfig file fault) = (least : ℤ) × HasFloor floor least × AreRead files × IsFirstRefused file.now fault files
+Hinders floor files (obstacle.NoConfig file fault) = (least : ℤ) × HasFloor floor least × AreFilesRead files × IsFirstRefused file.now fault files
 Hinders floor files obstacle.SameRouter = (configs : List Config) × Hold floor files configs × ShareRouter configs
 Hinders floor files (obstacle.NoPort file) =
     (configs : List Config) × Hold floor files configs × (ShareRouter configs → ⊥) × IsFirstPortless file.now files configs
@@ -89,7 +90,7 @@ IsStop floor files (stop.Failure failure) = IsEarly floor files failure
 
 -- why no configurations come of files that were read, where there is a floor
 abbrev pub IsStopOfConfigs : List NamedFile → Stop → Type 0
-IsStopOfConfigs files s = (floor : Option (List ℕ)) (least : ℤ) → HasFloor floor least → AreRead files → IsStop floor files s
+IsStopOfConfigs files s = (floor : Option (List ℕ)) (least : ℤ) → HasFloor floor least → AreFilesRead files → IsStop floor files s
 
 -- why the routers of these configurations, where they are the plan of the files, did not run to their end
 abbrev pub IsStopOfPlan : List NamedFile → List Config → Stop → Type 0

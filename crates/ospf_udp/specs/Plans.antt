@@ -2,9 +2,10 @@
 use Rattle.std.specs.Prelude.{◌≡◌, ◌≢◌, ◌<◌, ℕ, ℤ, List, ◌++◌, All, Option, None, Some, IsSome, codes, slice_get, string_bytes}
 use Rattle.std.specs.Io.KnownBytes.{Appends}
 use Rattle.ospf_base.specs.declared.ids.RouterId.{RouterId}
+use Rattle.ospf_config.specs.Configs.{ShareRouter}
 use Rattle.ospf_config.specs.declared.config.Config.{Config}
 use Rattle.ospf_files.specs.Files.{unread_line}
-use Rattle.ospf_files.specs.Listed.{AreConfigs, AreRead, IsFirstUnread, IsRefusalTold}
+use Rattle.ospf_files.specs.Listed.{AreConfigs, AreFilesRead, IsFirstUnread, IsRefusalTold, same_router_line}
 use Rattle.ospf_files.specs.declared.files.NamedFile.{NamedFile}
 use Rattle.ospf_flood.specs.Rules.{max_sequence_number}
 use Rattle.ospf_script.specs.Commands.{no_floor}
@@ -43,20 +44,6 @@ pub record IsAmong (configs : List Config) (router : RouterId) : Type 0 where
   pub at : slice_get configs place ≡ Some config
   pub same : config.router_id ≡ router
 
--- two configurations, at different places, of one Router ID
-pub record ShareRouter (configs : List Config) : Type 0 where
-  pub place : ℕ
-  pub later : ℕ
-  pub before : place < later
-  pub one : Config
-  pub other : Config
-  pub at_place : slice_get configs place ≡ Some one
-  pub at_later : slice_get configs later ≡ Some other
-  pub same : one.router_id ≡ other.router_id
-
-abbrev pub same_router_line : List ℕ
-same_router_line = codes "W7 SameRouter\n"
-
 -- each interface has a port
 abbrev pub HasPorts : Config → Type 0
 HasPorts config = All (λ interface. IsSome interface.port) config.interfaces.items
@@ -78,7 +65,7 @@ no_port_line file = string_bytes file.name ++ codes ": no port\n"
 -- what is to run: the floor, and the configurations in the files, of one Router ID each, with ports
 pub record IsPlan (floor : Option (List ℕ)) (files : List NamedFile) (configs : List Config) (least : ℤ) : Type 0 where
   pub has_floor : HasFloor floor least
-  pub read : AreRead files
+  pub read : AreFilesRead files
   pub are_configs : AreConfigs files configs
   pub one_each : ShareRouter configs → ⊥
   pub ports : All HasPorts configs
@@ -95,16 +82,16 @@ IsPlanAt floor files plan = IsPlan floor files plan.configs.items plan.floor
 
 -- what is refused, the first of these that is, and told: the floor; then, where all files were read, a file that holds no
 -- configuration, two routers of one Router ID, an interface without a port
-pub data IsRefused (floor : Option (List ℕ)) (files : List NamedFile) (old new : Option (List ℕ)) : Type 0 where
-  floor_refused : IsFloorRefused floor old new → IsRefused floor files old new
-  no_config : (least : ℤ) → HasFloor floor least → AreRead files → IsRefusalTold files old new → IsRefused floor files old new
-  same_router : (least : ℤ) → HasFloor floor least → AreRead files → (configs : List Config) → AreConfigs files configs → ShareRouter configs
-      → Appends old new same_router_line → IsRefused floor files old new
-  no_port : (least : ℤ) → HasFloor floor least → AreRead files → (configs : List Config) → AreConfigs files configs → (ShareRouter configs → ⊥)
-      → (file : NamedFile) → IsFirstPortless file files configs → Appends old new (no_port_line file) → IsRefused floor files old new
+pub data IsPlanRefused (floor : Option (List ℕ)) (files : List NamedFile) (old new : Option (List ℕ)) : Type 0 where
+  floor_refused : IsFloorRefused floor old new → IsPlanRefused floor files old new
+  no_config : (least : ℤ) → HasFloor floor least → AreFilesRead files → IsRefusalTold files old new → IsPlanRefused floor files old new
+  same_router : (least : ℤ) → HasFloor floor least → AreFilesRead files → (configs : List Config) → AreConfigs files configs → ShareRouter configs
+      → Appends old new same_router_line → IsPlanRefused floor files old new
+  no_port : (least : ℤ) → HasFloor floor least → AreFilesRead files → (configs : List Config) → AreConfigs files configs → (ShareRouter configs → ⊥)
+      → (file : NamedFile) → IsFirstPortless file files configs → Appends old new (no_port_line file) → IsPlanRefused floor files old new
 
 -- the first file that could not be read, where the floor is not refused, and it is told
-pub record IsUnreadTold (floor : Option (List ℕ)) (files : List NamedFile) (old new : Option (List ℕ)) : Type 0 where
+pub record IsPlanUnreadTold (floor : Option (List ℕ)) (files : List NamedFile) (old new : Option (List ℕ)) : Type 0 where
   pub least : ℤ
   pub has_floor : HasFloor floor least
   pub file : NamedFile

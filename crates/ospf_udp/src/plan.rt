@@ -1,9 +1,10 @@
 //! What is found before any socket is made: the floor, the files, the configurations in them, and their ports.
 
 ghost use Rattle.std.specs.Prelude.{◌≡◌, ◌↔◌, All, ℤ, IfOk, IfErr, IfSome, IfNone, IsTrue, length, option_map, string_bytes};
-ghost use Rattle.ospf_files.specs.Listed.{AreConfigs, AreRead};
+ghost use Rattle.ospf_files.specs.Listed.{AreConfigs, AreFilesRead};
 ghost use Rattle.ospf_udp.specs.Obstacles.{IsReadAs, IsStop, IsStopOfConfigs};
-ghost use Rattle.ospf_udp.specs.Plans.{HasPorts, HasFloor, IsAmong, IsFirstPortless, IsFloorOf, IsPlanAt, ShareRouter};
+ghost use Rattle.ospf_config.specs.Configs.{ShareRouter};
+ghost use Rattle.ospf_udp.specs.Plans.{HasPorts, HasFloor, IsAmong, IsFirstPortless, IsFloorOf, IsPlanAt};
 
 use crate::list::put;
 use crate::stop::{Obstacle, Stop};
@@ -81,7 +82,7 @@ fn plan_in<'a>(
     files: &'a [NamedFile],
 ) -> Result<Plan, Stop<'a>>
     requires floor { HasFloor (option_map string_bytes floor.now) least }
-    requires read { AreRead files.now }
+    requires read { AreFilesRead files.now }
     ensures plan { IfOk result (IsPlanAt (option_map string_bytes floor.now) files.now) }
     ensures stop { IfErr result (IsStop (option_map string_bytes floor.now) files.now) }
 {
@@ -123,7 +124,7 @@ fn plan_of<'a>(
     configs: Vec<Config>,
 ) -> Result<Plan, Stop<'a>>
     requires floor { HasFloor (option_map string_bytes floor.now) least }
-    requires read { AreRead files.now }
+    requires read { AreFilesRead files.now }
     requires are { AreConfigs files.now configs.items }
     ensures plan { IfOk result (IsPlanAt (option_map string_bytes floor.now) files.now) }
     ensures stop { IfErr result (IsStop (option_map string_bytes floor.now) files.now) }

@@ -144,17 +144,17 @@ impl<C: Clock + Drop> Sockets<C> {
         };
         self.ticked = false;
         match (self.look(buffer)?, wait) {
-            (Looked::Arrived(arrival), _) => Ok(Some(arrival)),
-            (Looked::Nothing, Some(_)) => {
+            (Polled::Arrived(arrival), _) => Ok(Some(arrival)),
+            (Polled::Nothing, Some(_)) => {
                 self.poll.poll(&mut self.events, wait)?;
                 Ok(None)
             }
-            (Looked::Nothing, None) | (Looked::Useless, _) => Ok(None),
+            (Polled::Nothing, None) | (Polled::Useless, _) => Ok(None),
         }
     }
 
     // Looks at each socket once, from the one that is first.
-    fn look(&mut self, buffer: &mut [u8; LONGEST]) -> io::Result<Looked>
+    fn look(&mut self, buffer: &mut [u8; LONGEST]) -> io::Result<Polled>
         ensures ticks { self.new.ticks ≡ self.old.ticks }
         ensures outside { IfOk result AreFromOutside }
     {
@@ -162,12 +162,12 @@ impl<C: Clock + Drop> Sockets<C> {
         for step in 0..count {
             let link = self.first.wrapping_add(step) % count;
             match receive(&self.outlets[link].socket, buffer)? {
-                Found::Nothing => {}
-                Found::Useless => {
+                SocketGave::Nothing => {}
+                SocketGave::Useless => {
                     self.first = link.wrapping_add(1) % count;
-                    return Ok(Looked::Useless);
+                    return Ok(Polled::Useless);
                 }
-                Found::Packet(
+                SocketGave::Packet(
                     Frame {
                         source,
                         destination,
@@ -175,7 +175,7 @@ impl<C: Clock + Drop> Sockets<C> {
                     },
                 ) => {
                     self.first = link.wrapping_add(1) % count;
-                    return Ok(Looked::Arrived(Arrival::Datagram {
+                    return Ok(Polled::Arrived(Arrival::Datagram {
                         link,
                         source,
                         destination,
@@ -184,7 +184,7 @@ impl<C: Clock + Drop> Sockets<C> {
                 }
             }
         }
-        Ok(Looked::Nothing)
+        Ok(Polled::Nothing)
     }
 }
 
@@ -197,7 +197,7 @@ struct Outlet {
 
 // What a socket gave.
 #[derive(Drop)]
-enum Found {
+enum SocketGave {
     Nothing,
     // A datagram that is passed over, or an interrupted call: there may be more.
     Useless,
@@ -206,7 +206,7 @@ enum Found {
 
 // What the sockets gave.
 #[derive(Drop)]
-enum Looked {
+enum Polled {
     Nothing,
     Useless,
     Arrived(Arrival),
@@ -264,15 +264,15 @@ fn local(port: Port) -> SocketAddr {
 }
 
 // The next datagram of a socket.
-fn receive(socket: &UdpSocket, buffer: &mut [u8; LONGEST]) -> io::Result<Found> {
+fn receive(socket: &UdpSocket, buffer: &mut [u8; LONGEST]) -> io::Result<SocketGave> {
     match socket.recv_from(buffer) {
         Ok((count, _)) => match read_frame(buffer, count) {
-            Some(frame) => Ok(Found::Packet(frame)),
-            None => Ok(Found::Useless),
+            Some(frame) => Ok(SocketGave::Packet(frame)),
+            None => Ok(SocketGave::Useless),
         },
         Err(error) => match error.kind() {
-            ErrorKind::WouldBlock => Ok(Found::Nothing),
-            ErrorKind::Interrupted | ErrorKind::ConnectionRefused => Ok(Found::Useless),
+            ErrorKind::WouldBlock => Ok(SocketGave::Nothing),
+            ErrorKind::Interrupted | ErrorKind::ConnectionRefused => Ok(SocketGave::Useless),
             _ => Err(error),
         },
     }

@@ -7,7 +7,7 @@ use Rattle.ospf_base.specs.Bytes.{number_at}
 use Rattle.ospf_base.specs.Constants.{largest_lsa, largest_packet, packet_header}
 use Rattle.ospf_packet.proofs.PacketLaws.{packet_decided, packet_of-is, packet_of-not}
 use Rattle.ospf_packet.specs.Meaning.{BodyMeaning, Meaning, hello, description, request, update, acknowledgment}
-use Rattle.ospf_packet.specs.Packet.{body_at, body_of, meaning_of, type_of}
+use Rattle.ospf_packet.specs.Packet.{body_at, body_of, meaning_of, packet_type}
 use Rattle.ospf_packet.specs.PacketOf.{packet_of}
 use Rattle.ospf_packet.specs.Slices.{lsa_length, slices_in}
 use Rattle.ospf_packet.specs.declared.fault.PacketFault.TheVariants as fault
@@ -49,10 +49,10 @@ unfolding lsas_of
 brings_short bytes m lsas read is = elim (packet_decided bytes) [
   | inl packet ↦
       let m_is : meaning_of bytes ≡ m = same_Some (meaning_of bytes) m (sym (packet_of-is bytes packet) ∙ read) in
-      let body : body_at (type_of bytes) (body_of bytes) ≡ update lsas = ap (λ (x : Meaning). x.body) m_is ∙ is in
+      let body : body_at (packet_type bytes) (body_of bytes) ≡ update lsas = ap (λ (x : Meaning). x.body) m_is ∙ is in
       let whole : length bytes ≤ largest_packet = packet fault.TooLong in
       let behind = length-drop packet_header bytes in
       let left = length-drop 4 (body_of bytes) in
-      subst (λ (ls : List (List ℕ)). AllByRecursion IsShortLsa ls) (ap lsas_of body) (body_short (type_of bytes) (body_of bytes) (omega arith))
+      subst (λ (ls : List (List ℕ)). AllByRecursion IsShortLsa ls) (ap lsas_of body) (body_short (packet_type bytes) (body_of bytes) (omega arith))
   | inr not ↦ absurd (none-some m (sym (packet_of-not bytes not) ∙ read))
 ]

@@ -20,7 +20,7 @@ use Rattle.ospf_area.proofs.WaitLemmas.{flood_waits, reaches, turn_waits}
 use Rattle.ospf_area.specs.Flooding.{flooded_neighbour, goes_anywhere}
 use Rattle.ospf_area.specs.Laws.{IsSpared}
 use Rattle.ospf_area.specs.Sending.{own_of}
-use Rattle.ospf_area.specs.State.{AreaValue, Awaits, WaitsIn, entry_of, kept_number, neighbour}
+use Rattle.ospf_area.specs.State.{AreaValue, Awaits, WaitsIn, database_entry, kept_number, neighbour}
 use Rattle.ospf_update.specs.Aging.{copies_sent, copy_flooded, copy_flooded_by, copy_sent, noted, turned_area}
 use Rattle.ospf_update.specs.Meets.{flooded_area}
 
@@ -32,7 +32,7 @@ pub record KeepsAll (s t : AreaValue) : Type 0 where
   pub numbers : (key : LsaKey) → kept_number t key ≡ kept_number s key
 
 pub copy_keeps : (key : LsaKey) (s : AreaValue) → KeepsAll s (copy_sent key s)
-copy_keeps key s = by_copy (entry_of s key)
+copy_keeps key s = by_copy (database_entry s key)
   where
     by_noted : (e : Entry) (b : Bool) → KeepsAll s (turned_area (noted key b (flooded_area (lsa_of e) None s)))
     by_noted e true = record { database = refl; numbers = λ k. refl }
@@ -59,7 +59,7 @@ found_key (x ∷ xs) key h is = by_test (same_key (key_at x) key) refl is (found
     by_test true e is' rest = ap key_at (sym (same_Some x h is')) ∙ same_key-eq (key_at x) key e
     by_test false e is' rest = rest is'
 
-pub copy_key : (s : AreaValue) (key : LsaKey) (e : Entry) → entry_of s key ≡ Some e → key_of (lsa_of e) ≡ key
+pub copy_key : (s : AreaValue) (key : LsaKey) (e : Entry) → database_entry s key ≡ Some e → key_of (lsa_of e) ≡ key
 unfolding key_in
 copy_key s key e is = by_held (held_of s.database key) refl is
   where
@@ -80,7 +80,7 @@ noted_neighbour key true s l q = refl
 noted_neighbour key false s l q = refl
 
 -- a neighbour once the copy was flooded
-pub flooded_copy : (key : LsaKey) (e : Entry) (s : AreaValue) → entry_of s key ≡ Some e → (l : ℕ) (q : RouterId)
+pub flooded_copy : (key : LsaKey) (e : Entry) (s : AreaValue) → database_entry s key ≡ Some e → (l : ℕ) (q : RouterId)
     → neighbour (copy_flooded key s) l q ≡ option_map (flooded_neighbour key (header_at e) None s.tick) (neighbour s l q)
 flooded_copy key e s at l q =
     ap (λ (o : Option Entry). neighbour (copy_flooded_by o key s) l q) at
@@ -89,12 +89,12 @@ flooded_copy key e s at l q =
     ∙ ap (λ (k : LsaKey). option_map (flooded_neighbour k (header_at e) None s.tick) (neighbour s l q)) (copy_key s key e at)
 
 pub copy_waits : (key : LsaKey) (s : AreaValue) (l : ℕ) (q : RouterId) (j : Instance) → Awaits s l q j → Awaits (copy_sent key s) l q j ⊎ (j.key ≡ key)
-copy_waits key s l q j waits = elim (by_copy (entry_of s key) refl) [
+copy_waits key s l q j waits = elim (by_copy (database_entry s key) refl) [
   | inl on ↦ inl (turn_keeps (copy_flooded key s) l q j on)
   | inr is ↦ inr is
 ]
   where
-    by_copy : (o : Option Entry) → entry_of s key ≡ o → Awaits (copy_flooded key s) l q j ⊎ (j.key ≡ key)
+    by_copy : (o : Option Entry) → database_entry s key ≡ o → Awaits (copy_flooded key s) l q j ⊎ (j.key ≡ key)
     by_copy None at = inl (subst (λ (o : Option Entry). Awaits (copy_flooded_by o key s) l q j) (sym at) waits)
     by_copy (Some e) at =
         subst (λ (o : Option NeighbourValue). WaitsIn o j ⊎ (j.key ≡ key)) (sym (flooded_copy key e s at l q)) (flood_waits key (header_at e) None s.tick (neighbour s l q) j waits)
@@ -113,7 +113,7 @@ copies_wait (key ∷ keys) s l q j waits = elim (copy_waits key s l q j waits) [
 
 -- ---- whom a copy reaches
 
-pub copy_reaches : (key : LsaKey) (e : Entry) (s : AreaValue) → entry_of s key ≡ Some e → (l : ℕ) (q : RouterId) (n : NeighbourValue) → neighbour s l q ≡ Some n → is_exchanging n.state ≡ true
+pub copy_reaches : (key : LsaKey) (e : Entry) (s : AreaValue) → database_entry s key ≡ Some e → (l : ℕ) (q : RouterId) (n : NeighbourValue) → neighbour s l q ≡ Some n → is_exchanging n.state ≡ true
     → Awaits (copy_sent key s) l q (instance_with key (header_at e)) ⊎ IsSpared key (header_at e) None n
 copy_reaches key e s at l q n is up = elim (reaches key (header_at e) None s.tick n up) [
   | inl waits ↦

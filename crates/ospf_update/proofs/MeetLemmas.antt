@@ -2,7 +2,7 @@
 use Rattle.std.proofs.Common.{◌≡◌, ◌⊎◌, ◌++◌, inl, inr, if◌then◌else◌, ℕ, Bool, true, false, Option, None, Some, List, [], ◌∷◌, refl, sym, subst, ◌∙◌}
 use Rattle.ospf_base.specs.declared.ids.Instance.{Instance}
 use Rattle.ospf_base.specs.declared.ids.LsaKey.{LsaKey}
-use Rattle.ospf_exchange.specs.Headers.{copy_of}
+use Rattle.ospf_exchange.specs.Headers.{copy_in_database}
 use Rattle.ospf_flood.specs.Links.{case_of_newer, case_of_same}
 use Rattle.ospf_flood.specs.declared.acknowledgement.Acknowledgement.{Acknowledgement}
 use Rattle.ospf_flood.specs.declared.acknowledgement.Acknowledgement.TheVariants as answer
@@ -16,9 +16,9 @@ use Rattle.ospf_area.specs.Changes.{changed_at}
 use Rattle.ospf_area.specs.Flooding.{flooded_back, released}
 use Rattle.ospf_area.specs.Numbers.{is_self_originated}
 use Rattle.ospf_area.specs.Outputs.{OutputsValue}
-use Rattle.ospf_area.specs.Standing.{acknowledging, answer_at, is_awaited_of, origin_of}
+use Rattle.ospf_area.specs.Standing.{acknowledging, answer_at, is_awaited_of, origin_neighbour}
 use Rattle.ospf_area.specs.State.{AreaValue}
-use Rattle.ospf_area.specs.declared.changes.Change.TheVariants.{Acknowledges}
+use Rattle.ospf_area.specs.declared.changes.AdjacencyChange.TheVariants.{Acknowledges}
 use Rattle.ospf_area.specs.declared.flooding.Origin.{Origin}
 use Rattle.ospf_update.specs.Laws.{is_installed}
 use Rattle.ospf_update.specs.Meets.{MeetsLsa, MeetsRule, Stores, header_met, heard_by, named_by, replied, reply_to, rule_met, taken_off}
@@ -56,7 +56,7 @@ abbrev on_newer : Origin → List ℕ → AreaValue → AreaValue → Acknowledg
 on_newer f lsa s m = answer_at (case_of_newer (flooded_back (key_of lsa) (header_of lsa) (Some f) (released (key_of lsa) s.links))) f m.links
 
 abbrev on_same : Origin → List ℕ → AreaValue → Acknowledgement
-on_same f lsa s = answer_at (case_of_same (is_awaited_of (instance_of lsa) (origin_of s.links f))) f s.links
+on_same f lsa s = answer_at (case_of_same (is_awaited_of (instance_of lsa) (origin_neighbour s.links f))) f s.links
 
 -- it was stored, or nothing is changed
 pub met_cases : (f : Origin) (lsa : List ℕ) (s : AreaValue) (o o' : OutputsValue) (t : AreaValue) → MeetsLsa f lsa s o o' t
@@ -92,7 +92,7 @@ met_cases f lsa s o o' t meets = by_rule (rule_met s f lsa) meets
     by_rule (Some Stale) is = inr (refl, subst (KeepsAll s) (sym is.state) (replied_keeps (reply_to s (key_of lsa)) f (key_of lsa) s))
 
 pub header_keeps : (f : Origin) (h : LsaHeader) (s : AreaValue) → KeepsAll s (header_met f h s)
-header_keeps f h s = by_name (named_by h (copy_of s.database (key_of_header h)))
+header_keeps f h s = by_name (named_by h (copy_in_database s.database (key_of_header h)))
   where
     by_name : (o : Option Instance) → KeepsAll s (taken_off f o s)
     by_name None = record { database = refl; numbers = λ k. refl }

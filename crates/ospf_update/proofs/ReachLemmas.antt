@@ -28,7 +28,7 @@ use Rattle.ospf_area.specs.Flooding.{flooded_neighbour}
 use Rattle.ospf_area.specs.Laws.{IsSpared, turned_there}
 use Rattle.ospf_area.specs.Laws.IsSpared.{Came, Described}
 use Rattle.ospf_area.specs.Sending.{own_of}
-use Rattle.ospf_area.specs.State.{AreaValue, Awaits, LinkValue, entry_of, neighbour}
+use Rattle.ospf_area.specs.State.{AreaValue, Awaits, LinkValue, database_entry, neighbour}
 use Rattle.ospf_area.specs.declared.sending.Own.{Own}
 use Rattle.ospf_update.specs.Aging.{copies_sent, copy_flooded, copy_flooded_by, copy_sent}
 use Rattle.ospf_update.proofs.CopyLemmas.{copies_wait, copy_keeps, copy_reaches, flooded_copy}
@@ -111,7 +111,7 @@ record IsAfter (k key : LsaKey) (s : AreaValue) (l : ℕ) (q : RouterId) (n : Ne
   still : IsStill key n next
 
 copy_after : (k key : LsaKey) (s : AreaValue) (l : ℕ) (q : RouterId) (n : NeighbourValue) → neighbour s l q ≡ Some n → is_exchanging n.state ≡ true → IsAfter k key s l q n
-copy_after k key s l q n is up = by_copy (entry_of s k) refl
+copy_after k key s l q n is up = by_copy (database_entry s k) refl
   where
     then_turned : (m : NeighbourValue) → neighbour (copy_flooded k s) l q ≡ Some m → IsStill key n m → IsAfter k key s l q n
     then_turned m at still =
@@ -122,7 +122,7 @@ copy_after k key s l q n is up = by_copy (entry_of s k) refl
           still = still_both key n m (turned_there (own_of t) (slice_get t.links l) m) still (turned_still (own_of t) (slice_get t.links l) key m still.up);
         }
 
-    by_copy : (o : Option Entry) → entry_of s k ≡ o → IsAfter k key s l q n
+    by_copy : (o : Option Entry) → database_entry s k ≡ o → IsAfter k key s l q n
     by_copy None at = then_turned n (ap (λ (o : Option Entry). neighbour (copy_flooded_by o k s) l q) at ∙ is) (record { up = up; requests = λ e is'. is' })
     by_copy (Some e) at =
         then_turned (flooded_neighbour k (header_at e) None s.tick n) (flooded_copy k e s at l q ∙ ap (option_map (flooded_neighbour k (header_at e) None s.tick)) is)
@@ -133,7 +133,7 @@ still_spared : (key : LsaKey) (h : LsaHeader) (n m : NeighbourValue) → IsStill
 still_spared key h n m still (Came is) = Came is
 still_spared key h n m still (Described entry is not_newer) = Described entry (still.requests entry is) not_newer
 
-pub copies_reach : (keys : List LsaKey) (s : AreaValue) (key : LsaKey) → among keys key ≡ true → (e : Entry) → entry_of s key ≡ Some e
+pub copies_reach : (keys : List LsaKey) (s : AreaValue) (key : LsaKey) → among keys key ≡ true → (e : Entry) → database_entry s key ≡ Some e
     → (l : ℕ) (q : RouterId) (n : NeighbourValue) → neighbour s l q ≡ Some n → is_exchanging n.state ≡ true
     → Awaits (copies_sent keys s) l q (instance_with key (header_at e)) ⊎ IsSpared key (header_at e) None n
 copies_reach [] s key has e at l q n is up = absurd (false≢true has)

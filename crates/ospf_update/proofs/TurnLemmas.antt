@@ -24,14 +24,14 @@ use Rattle.ospf_neighbour.specs.declared.machine.NeighbourState.TheVariants.{Dow
 use Rattle.ospf_neighbour.specs.declared.neighbour.Listed.{Listed}
 use Rattle.ospf_area.proofs.NeighbourLemmas.{turned-router}
 use Rattle.ospf_area.proofs.SendingLemmas.{sends_none}
-use Rattle.ospf_area.specs.Asking.{loaded, request_to, turn_request, turn_requests, turn_requests_on, turned, turned_link, turned_links}
+use Rattle.ospf_area.specs.Asking.{loaded, request_to, turn_request, turn_requests, turn_requests_on, turned_to_next, turned_link, turned_links}
 use Rattle.ospf_area.specs.Changes.{changed_at, delayed_on}
 use Rattle.ospf_area.specs.Outputs.{OutputsValue, SentValue}
 use Rattle.ospf_area.specs.Places.{flat_from, map_from}
 use Rattle.ospf_area.specs.Sending.{and_sends, own_of}
-use Rattle.ospf_area.specs.Standing.{acknowledging, answer_at, is_awaited_of, origin_of}
+use Rattle.ospf_area.specs.Standing.{acknowledging, answer_at, is_awaited_of, origin_neighbour}
 use Rattle.ospf_area.specs.State.{AreaValue, LinkValue}
-use Rattle.ospf_area.specs.declared.changes.Change.TheVariants.{Acknowledges, IsSent}
+use Rattle.ospf_area.specs.declared.changes.AdjacencyChange.TheVariants.{Acknowledges, IsSent}
 use Rattle.ospf_area.specs.declared.flooding.Origin.{Origin}
 use Rattle.ospf_area.specs.declared.sending.Own.{Own}
 use Rattle.ospf_update.specs.Aging.{turn_out, turned_area}
@@ -145,14 +145,14 @@ abbrev sends_if : Bool → Own → ℕ → Iface → ℕ → NeighbourValue → 
 sends_if b own l i mtu n = if b then request_to own l i (asked_next mtu own.tick n) else []
 
 -- behind a turn no LoadingDone is left
-loaded_turned : (mtu tick : ℕ) (n : NeighbourValue) → loaded (turned mtu tick n) ≡ turned mtu tick n
+loaded_turned : (mtu tick : ℕ) (n : NeighbourValue) → loaded (turned_to_next mtu tick n) ≡ turned_to_next mtu tick n
 loaded_turned mtu tick n = by_test (request_due (loaded n))
   where
     by_test : (b : Bool) → loaded (asks_if b mtu tick (loaded n)) ≡ asks_if b mtu tick (loaded n)
     by_test true = loaded_asked mtu tick (loaded n) ∙ ap (asked_next mtu tick) (loaded_again n)
     by_test false = loaded_again n
 
-turned_again : (mtu tick : ℕ) (n : NeighbourValue) → turned mtu tick (turned mtu tick n) ≡ turned mtu tick n
+turned_again : (mtu tick : ℕ) (n : NeighbourValue) → turned_to_next mtu tick (turned_to_next mtu tick n) ≡ turned_to_next mtu tick n
 turned_again mtu tick n = ap (λ m. asks_if (request_due m) mtu tick m) (loaded_turned mtu tick n) ∙ by_test (request_due (loaded n)) refl
   where
     by_test : (b : Bool) → request_due (loaded n) ≡ b → asks_if (request_due (asks_if b mtu tick (loaded n))) mtu tick (asks_if b mtu tick (loaded n)) ≡ asks_if b mtu tick (loaded n)
@@ -160,7 +160,7 @@ turned_again mtu tick n = ap (λ m. asks_if (request_due m) mtu tick m) (loaded_
     by_test false is = ap (λ b. asks_if b mtu tick (loaded n)) is
 
 -- where a turn sends nothing, nor does the next
-quiet_again : (own : Own) (l : ℕ) (i : Iface) (mtu : ℕ) (n : NeighbourValue) → turn_request own l i mtu n ≡ [] → turn_request own l i mtu (turned mtu own.tick n) ≡ []
+quiet_again : (own : Own) (l : ℕ) (i : Iface) (mtu : ℕ) (n : NeighbourValue) → turn_request own l i mtu n ≡ [] → turn_request own l i mtu (turned_to_next mtu own.tick n) ≡ []
 quiet_again own l i mtu n quiet = ap (λ m. sends_if (request_due m) own l i mtu m) (loaded_turned mtu own.tick n) ∙ by_test (request_due (loaded n)) refl quiet
   where
     by_due : (b : Bool) → request_to own l i (asked_next mtu own.tick (loaded n)) ≡ [] → sends_if b own l i mtu (asked_next mtu own.tick (loaded n)) ≡ []
@@ -176,11 +176,11 @@ quiet_again own l i mtu n quiet = ap (λ m. sends_if (request_due m) own l i mtu
 
 link_again : (own : Own) (link : LinkValue) → turned_link own (turned_link own link) ≡ turned_link own link
 link_again own link =
-    ap (λ (ns : List NeighbourValue). record link { neighbours = ns }) (map_again (turned link.settings.mtu own.tick) (turned_again link.settings.mtu own.tick) link.neighbours)
+    ap (λ (ns : List NeighbourValue). record link { neighbours = ns }) (map_again (turned_to_next link.settings.mtu own.tick) (turned_again link.settings.mtu own.tick) link.neighbours)
 
 link_quiet : (own : Own) (l : ℕ) (link : LinkValue) → turn_requests_on own l link ≡ [] → turn_requests_on own l (turned_link own link) ≡ []
 link_quiet own l link quiet =
-    flat_map_none (turn_request own l link.iface link.settings.mtu) (turned link.settings.mtu own.tick) (quiet_again own l link.iface link.settings.mtu) link.neighbours quiet
+    flat_map_none (turn_request own l link.iface link.settings.mtu) (turned_to_next link.settings.mtu own.tick) (quiet_again own l link.iface link.settings.mtu) link.neighbours quiet
 
 -- behind a turn that sent nothing none waits
 pub turned_rests : (own : Own) (links : List LinkValue) → turn_requests own links ≡ [] → AreTurned own (turned_links own links)
@@ -197,9 +197,9 @@ record IsUnseen (own : Own) (c : ℕ → LinkValue → LinkValue) : Type 0 where
   same : (l : ℕ) (link : LinkValue) → turn_requests_on own l (c l link) ≡ turn_requests_on own l link
 
 unseen_rests : (own : Own) (c : ℕ → LinkValue → LinkValue) (links : List LinkValue) → IsUnseen own c → AreTurned own links → AreTurned own (map_from c 0 links)
-unseen_rests own c links unseen turned = record {
-  still = map_from_commutes (turned_link own) c unseen.commutes 0 links ∙ ap (map_from c 0) turned.still;
-  quiet = flat_from_same (turn_requests_on own) c unseen.same 0 links ∙ turned.quiet;
+unseen_rests own c links unseen turned_to_next = record {
+  still = map_from_commutes (turned_link own) c unseen.commutes 0 links ∙ ap (map_from c 0) turned_to_next.still;
+  quiet = flat_from_same (turn_requests_on own) c unseen.same 0 links ∙ turned_to_next.quiet;
 }
 
 delayed_unseen : (own : Own) (number : ℕ) (h : LsaHeader) → IsUnseen own (delayed_on number h)
@@ -218,15 +218,15 @@ delayed_unseen own number h = record { commutes = λ l link. commutes link (l ==
 abbrev relists_if : RouterId → (List Listed → List Listed) → NeighbourValue → NeighbourValue
 relists_if q g n = if n.router.0 == q.0 then relists g n else n
 
-relists_commutes : (q : RouterId) (g : List Listed → List Listed) (mtu tick : ℕ) (n : NeighbourValue) → turned mtu tick (relists_if q g n) ≡ relists_if q g (turned mtu tick n)
+relists_commutes : (q : RouterId) (g : List Listed → List Listed) (mtu tick : ℕ) (n : NeighbourValue) → turned_to_next mtu tick (relists_if q g n) ≡ relists_if q g (turned_to_next mtu tick n)
 relists_commutes q g mtu tick n =
-    by_test (n.router.0 == q.0) ∙ ap (λ (r : RouterId). if r.0 == q.0 then relists g (turned mtu tick n) else turned mtu tick n) (sym (turned-router mtu tick n))
+    by_test (n.router.0 == q.0) ∙ ap (λ (r : RouterId). if r.0 == q.0 then relists g (turned_to_next mtu tick n) else turned_to_next mtu tick n) (sym (turned-router mtu tick n))
   where
     by_due : (b : Bool) → asks_if b mtu tick (relists g (loaded n)) ≡ relists g (asks_if b mtu tick (loaded n))
     by_due true = refl
     by_due false = refl
 
-    by_test : (b : Bool) → turned mtu tick (if b then relists g n else n) ≡ (if b then relists g (turned mtu tick n) else turned mtu tick n)
+    by_test : (b : Bool) → turned_to_next mtu tick (if b then relists g n else n) ≡ (if b then relists g (turned_to_next mtu tick n) else turned_to_next mtu tick n)
     by_test true = ap (λ m. asks_if (request_due m) mtu tick m) (loaded_relists g n) ∙ by_due (request_due (loaded n))
     by_test false = refl
 
@@ -250,7 +250,7 @@ relists_unseen own f g = record { commutes = λ l link. commutes link (l == f.li
     commutes : (link : LinkValue) (b : Bool) → turned_link own (if b then relists_link f.router g link else link) ≡ (if b then relists_link f.router g (turned_link own link) else turned_link own link)
     commutes link true =
         ap (λ (ns : List NeighbourValue). record link { neighbours = ns })
-        (map_commutes (turned link.settings.mtu own.tick) (relists_if f.router g) (relists_commutes f.router g link.settings.mtu own.tick) link.neighbours)
+        (map_commutes (turned_to_next link.settings.mtu own.tick) (relists_if f.router g) (relists_commutes f.router g link.settings.mtu own.tick) link.neighbours)
     commutes link false = refl
 
     same : (l : ℕ) (link : LinkValue) (b : Bool) → turn_requests_on own l (if b then relists_link f.router g link else link) ≡ turn_requests_on own l link
@@ -260,44 +260,44 @@ relists_unseen own f g = record { commutes = λ l link. commutes link (l == f.li
 
 -- an instance that is acknowledged, or sent, is one
 acknowledged_rests : (own : Own) (f : Origin) (i : Instance) (tick : ℕ) (links : List LinkValue) → AreTurned own links → AreTurned own (changed_at f (Acknowledges i) tick links)
-acknowledged_rests own f i tick links turned = unseen_rests own (relists_on f (without_instance i)) links (relists_unseen own f (without_instance i)) turned
+acknowledged_rests own f i tick links turned_to_next = unseen_rests own (relists_on f (without_instance i)) links (relists_unseen own f (without_instance i)) turned_to_next
 
 sent_rests : (own : Own) (f : Origin) (i : Instance) (tick : ℕ) (links : List LinkValue) → AreTurned own links → AreTurned own (changed_at f (IsSent i) tick links)
-sent_rests own f i tick links turned = unseen_rests own (relists_on f (map (sent_again i tick))) links (relists_unseen own f (map (sent_again i tick))) turned
+sent_rests own f i tick links turned_to_next = unseen_rests own (relists_on f (map (sent_again i tick))) links (relists_unseen own f (map (sent_again i tick))) turned_to_next
 
 acknowledging_rests : (a : Acknowledgement) (f : Origin) (h : LsaHeader) (s : AreaValue) → IsTurned s → IsTurned (acknowledging a f h s)
-acknowledging_rests answer.None f h s turned = turned
-acknowledging_rests answer.Delayed f h s turned = unseen_rests (own_of s) (delayed_on f.link h) s.links (delayed_unseen (own_of s) f.link h) turned
-acknowledging_rests answer.Direct f h s turned = turned
+acknowledging_rests answer.None f h s turned_to_next = turned_to_next
+acknowledging_rests answer.Delayed f h s turned_to_next = unseen_rests (own_of s) (delayed_on f.link h) s.links (delayed_unseen (own_of s) f.link h) turned_to_next
+acknowledging_rests answer.Direct f h s turned_to_next = turned_to_next
 
 replied_rests : (o : Option (List ℕ)) (f : Origin) (key : LsaKey) (s : AreaValue) → IsTurned s → IsTurned (replied o f key s)
-replied_rests None f key s turned = turned
-replied_rests (Some lsa) f key s turned = sent_rests (own_of s) f (instance_of lsa) s.tick s.links turned
+replied_rests None f key s turned_to_next = turned_to_next
+replied_rests (Some lsa) f key s turned_to_next = sent_rests (own_of s) f (instance_of lsa) s.tick s.links turned_to_next
 
 -- ---- the rules of an Update
 
 -- all rules but two leave none to wait
 pub rule_rests : (r : Option LsaRule) (f : Origin) (lsa : List ℕ) (s : AreaValue) (o o' : OutputsValue) (t : AreaValue) → leaves_turned r ≡ true → MeetsRule r f lsa s o o' t → IsTurned s → IsTurned t
-rule_rests None f lsa s o o' t leaves is turned = subst IsTurned (sym is.state) turned
-rule_rests (Some AcknowledgesExpired) f lsa s o o' t leaves is turned = subst IsTurned (sym is.state) (acknowledging_rests (answer_at Expired f s.links) f (header_of lsa) s turned)
-rule_rests (Some TooSoon) f lsa s o o' t leaves is turned = subst IsTurned (sym is.state) turned
-rule_rests (Some Installs) f lsa s o o' t leaves is turned = absurd (cc)
-rule_rests (Some BadRequest) f lsa s o o' t leaves is turned = absurd (cc)
-rule_rests (Some Duplicate) f lsa s o o' t leaves is turned =
+rule_rests None f lsa s o o' t leaves is turned_to_next = subst IsTurned (sym is.state) turned_to_next
+rule_rests (Some AcknowledgesExpired) f lsa s o o' t leaves is turned_to_next = subst IsTurned (sym is.state) (acknowledging_rests (answer_at Expired f s.links) f (header_of lsa) s turned_to_next)
+rule_rests (Some TooSoon) f lsa s o o' t leaves is turned_to_next = subst IsTurned (sym is.state) turned_to_next
+rule_rests (Some Installs) f lsa s o o' t leaves is turned_to_next = absurd (cc)
+rule_rests (Some BadRequest) f lsa s o o' t leaves is turned_to_next = absurd (cc)
+rule_rests (Some Duplicate) f lsa s o o' t leaves is turned_to_next =
     let i = instance_of lsa in
     subst IsTurned (sym is.state)
-    (acknowledging_rests (answer_at (case_of_same (is_awaited_of i (origin_of s.links f))) f s.links) f (header_of lsa) (record s { links = changed_at f (Acknowledges i) s.tick s.links })
-    (acknowledged_rests (own_of s) f i s.tick s.links turned))
-rule_rests (Some Stale) f lsa s o o' t leaves is turned = subst IsTurned (sym is.state) (replied_rests (reply_to s (key_of lsa)) f (key_of lsa) s turned)
+    (acknowledging_rests (answer_at (case_of_same (is_awaited_of i (origin_neighbour s.links f))) f s.links) f (header_of lsa) (record s { links = changed_at f (Acknowledges i) s.tick s.links })
+    (acknowledged_rests (own_of s) f i s.tick s.links turned_to_next))
+rule_rests (Some Stale) f lsa s o o' t leaves is turned_to_next = subst IsTurned (sym is.state) (replied_rests (reply_to s (key_of lsa)) f (key_of lsa) s turned_to_next)
 
 -- where none waits, a turn is the same as none
 pub turns_none : (r : Option LsaRule) (f : Origin) (lsa : List ℕ) (s : AreaValue) (o o' : OutputsValue) (t : AreaValue) → r ≡ rule_met s f lsa → MeetsRule r f lsa s o o' t → IsTurned t → MeetsAndTurns f lsa s o o' t
-turns_none r f lsa s o o' t met is turned = record {
+turns_none r f lsa s o o' t met is turned_to_next = record {
   mid = t;
   so_far = o';
   meets = subst (λ (rule : Option LsaRule). MeetsRule rule f lsa s o o' t) met is;
-  state = ap (λ (links : List LinkValue). record t { links = links }) (sym turned.still);
-  outputs = sends_none o' ∙ ap (and_sends o') (sym turned.quiet);
+  state = ap (λ (links : List LinkValue). record t { links = links }) (sym turned_to_next.still);
+  outputs = sends_none o' ∙ ap (and_sends o') (sym turned_to_next.quiet);
 }
 
 empty_is_none : {X : Type 0} (xs : List X) → is_empty xs ≡ true → xs ≡ []
@@ -305,6 +305,6 @@ empty_is_none [] is = refl
 empty_is_none (x ∷ xs) is = absurd (cc)
 
 -- and a turn that sent nothing leaves none to wait
-pub turn_rests : {E : Type 0} (r : Result Bool E) (s t : AreaValue) → OnOk r (t ≡ turned_area s) → IfOk r (λ quiet. quiet ≡ is_empty (turn_out s)) → IfOk r (λ turned. turned ≡ true → IsTurned t)
+pub turn_rests : {E : Type 0} (r : Result Bool E) (s t : AreaValue) → OnOk r (t ≡ turned_area s) → IfOk r (λ quiet. quiet ≡ is_empty (turn_out s)) → IfOk r (λ turned_to_next. turned_to_next ≡ true → IsTurned t)
 turn_rests (Ok quiet) s t after told = λ is. subst IsTurned (sym after) (turned_rests (own_of s) s.links (empty_is_none (turn_out s) (sym told ∙ is)))
 turn_rests (Err e) s t after told = tt

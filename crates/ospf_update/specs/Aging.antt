@@ -12,7 +12,7 @@ use Rattle.ospf_update.specs.Meets.{flooded_area}
 use Rattle.ospf_area.specs.Numbers.{marked}
 use Rattle.ospf_area.specs.Outputs.{SentValue}
 use Rattle.ospf_area.specs.Sending.{own_of}
-use Rattle.ospf_area.specs.State.{AreaValue, entry_of}
+use Rattle.ospf_area.specs.State.{AreaValue, database_entry}
 
 -- ---- what comes of each flood
 
@@ -35,14 +35,14 @@ copy_flooded_by None key s = s
 copy_flooded_by (Some e) key s = noted key (goes_anywhere (key_of (lsa_of e)) (header_of (lsa_of e)) None s.links) (flooded_area (lsa_of e) None s)
 
 abbrev pub copy_flooded : LsaKey → AreaValue → AreaValue
-copy_flooded key s = copy_flooded_by (entry_of s key) key s
+copy_flooded key s = copy_flooded_by (database_entry s key) key s
 
 abbrev pub copy_flood_out_by : Option Entry → AreaValue → List SentValue
 copy_flood_out_by None s = []
 copy_flood_out_by (Some e) s = flooding_updates (own_of s) (lsa_of e) None s.links
 
 abbrev pub copy_flood_out : LsaKey → AreaValue → List SentValue
-copy_flood_out key s = copy_flood_out_by (entry_of s key) s
+copy_flood_out key s = copy_flood_out_by (database_entry s key) s
 
 -- and the Requests that come of it
 abbrev pub copy_sent : LsaKey → AreaValue → AreaValue

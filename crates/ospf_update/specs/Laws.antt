@@ -29,7 +29,7 @@ use Rattle.ospf_update.specs.Updates.{TakesUpdate}
 use Rattle.ospf_area.specs.Numbers.{is_own}
 use Rattle.ospf_area.specs.Outputs.{OutputsValue, SentValue}
 use Rattle.ospf_update.specs.Removal.{Removes, ends_run, leaving, lowest_number}
-use Rattle.ospf_area.specs.State.{Awaits, AreaValue, entry_of, kept_number, neighbour}
+use Rattle.ospf_area.specs.State.{Awaits, AreaValue, database_entry, kept_number, neighbour}
 use Rattle.ospf_area.specs.declared.flooding.Origin.{Origin}
 
 -- each neighbour has the old copy off its list, and then the LSA was flooded to it or past it (13, step 5)
@@ -40,7 +40,7 @@ StoredNeighbours = (lsa : List ℕ) (from : Option Origin) (before after : AreaV
 -- the database has the LSA in place of its key's, and nothing else changes (13.2)
 abbrev pub StoredEntry : Type 0
 StoredEntry = (lsa : List ℕ) (from : Option Origin) (before after : AreaValue) → Stores lsa from before after → (key : LsaKey)
-    → entry_of after key ≡ (if same_key (lsdb.key_in (entry_from lsa before.tick (is_some from)).contents) key then Some (entry_from lsa before.tick (is_some from)) else entry_of before key)
+    → database_entry after key ≡ (if same_key (lsdb.key_in (entry_from lsa before.tick (is_some from)).contents) key then Some (entry_from lsa before.tick (is_some from)) else database_entry before key)
 
 -- of the router's own keys the greatest number is kept (12.1.6)
 abbrev pub StoredNumbers : Type 0
@@ -78,11 +78,11 @@ pub record CopiesStay : Type 0 where
 
 -- each neighbour in Exchange or above waits for what is flushed, and for what comes to MaxAge, or is spared (13.3, step 1)
 pub record CopiesReach : Type 0 where
-  pub flushed : (key : LsaKey) (before : AreaValue) (sent : List SentValue) (after : AreaValue) → Flushes key before sent after → (copy : Entry) → entry_of after key ≡ Some copy
+  pub flushed : (key : LsaKey) (before : AreaValue) (sent : List SentValue) (after : AreaValue) → Flushes key before sent after → (copy : Entry) → database_entry after key ≡ Some copy
       → (l : ℕ) (q : RouterId) (n : NeighbourValue) → neighbour before l q ≡ Some n → is_exchanging n.state ≡ true
       → Awaits after l q (instance_with key (header_at copy)) ⊎ IsSpared key (header_at copy) None n
   pub aged : (before : AreaValue) (sent : List SentValue) (after : AreaValue) → TickAges before sent after → (key : LsaKey) → among (reached_at max_age after.database) key ≡ true
-      → (copy : Entry) → entry_of after key ≡ Some copy → (l : ℕ) (q : RouterId) (n : NeighbourValue) → neighbour before l q ≡ Some n → is_exchanging n.state ≡ true
+      → (copy : Entry) → database_entry after key ≡ Some copy → (l : ℕ) (q : RouterId) (n : NeighbourValue) → neighbour before l q ≡ Some n → is_exchanging n.state ≡ true
       → Awaits after l q (instance_with key (header_at copy)) ⊎ IsSpared key (header_at copy) None n
 
 -- ---- kept numbers

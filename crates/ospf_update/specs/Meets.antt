@@ -3,7 +3,7 @@ use Rattle.std.specs.Prelude.{◌≡◌, ◌+◌, ◌%◌, ◌^◌, ◌++◌, �
 use Rattle.ospf_base.specs.Constants.{router_options}
 use Rattle.ospf_base.specs.declared.ids.Instance.{Instance}
 use Rattle.ospf_base.specs.declared.ids.LsaKey.{LsaKey}
-use Rattle.ospf_exchange.specs.Headers.{copy_of}
+use Rattle.ospf_exchange.specs.Headers.{copy_in_database}
 use Rattle.ospf_lsa.specs.Header.{key_of_header}
 use Rattle.ospf_exchange.specs.Flags.{first_flags}
 use Rattle.ospf_flood.specs.Links.{case_of_newer, case_of_same}
@@ -27,9 +27,9 @@ use Rattle.ospf_area.specs.Flooding.{flooded_back, flooded_links, flooding_updat
 use Rattle.ospf_area.specs.Numbers.{counts, greatest_after, is_self_originated, marked}
 use Rattle.ospf_area.specs.Outputs.{OutputsValue, SentValue, and_takes}
 use Rattle.ospf_area.specs.Sending.{and_sends, datagrams, own_of, packet_of, sent_lsa, to_address, update_out, way_out}
-use Rattle.ospf_area.specs.Standing.{acknowledging, answer_at, is_awaited_of, is_requested_of, is_taken_in, origin_of}
-use Rattle.ospf_area.specs.State.{AreaValue, LinkValue, entry_of, some_link_loading, was_sent}
-use Rattle.ospf_area.specs.declared.changes.Change.TheVariants.{Acknowledges, IsSent, Restarts}
+use Rattle.ospf_area.specs.Standing.{acknowledging, answer_at, is_awaited_of, is_requested_of, is_taken_in, origin_neighbour}
+use Rattle.ospf_area.specs.State.{AreaValue, LinkValue, database_entry, some_link_loading, was_sent}
+use Rattle.ospf_area.specs.declared.changes.AdjacencyChange.TheVariants.{Acknowledges, IsSent, Restarts}
 use Rattle.ospf_area.specs.declared.flooding.Origin.{Origin}
 use Rattle.ospf_area.specs.declared.sending.Own.{Own}
 
@@ -65,8 +65,8 @@ pub record Stores (lsa : List ℕ) (from : Option Origin) (before after : AreaVa
 -- which rule an LSA meets, if its sender is in Exchange or above
 abbrev pub rule_met : AreaValue → Origin → List ℕ → Option LsaRule
 rule_met s f lsa =
-    if is_taken_in (origin_of s.links f)
-    then Some (lsa_rule (header_of lsa) (entry_of s (key_of lsa)) (some_link_loading s.links) (is_requested_of (key_of lsa) (origin_of s.links f)) s.tick)
+    if is_taken_in (origin_neighbour s.links f)
+    then Some (lsa_rule (header_of lsa) (database_entry s (key_of lsa)) (some_link_loading s.links) (is_requested_of (key_of lsa) (origin_neighbour s.links f)) s.tick)
     else None
 
 -- nothing happens
@@ -119,7 +119,7 @@ pub record RestartsExchange (f : Origin) (before : AreaValue) (out out' : Output
 -- where it was waited for, that ends; it is acknowledged by the table (13, step 7)
 abbrev pub duplicated : Origin → List ℕ → AreaValue → AreaValue
 duplicated f lsa s =
-    acknowledging (answer_at (case_of_same (is_awaited_of (instance_of lsa) (origin_of s.links f))) f s.links) f (header_of lsa)
+    acknowledging (answer_at (case_of_same (is_awaited_of (instance_of lsa) (origin_neighbour s.links f))) f s.links) f (header_of lsa)
     (record s { links = changed_at f (Acknowledges (instance_of lsa)) s.tick s.links })
 
 pub record AcknowledgesDuplicate (f : Origin) (lsa : List ℕ) (before : AreaValue) (out out' : OutputsValue) (after : AreaValue) : Type 0 where
@@ -134,7 +134,7 @@ reply_of None sent = None
 reply_of (Some copy) sent = if is_sent_back copy sent then Some (lsa_of copy) else None
 
 abbrev pub reply_to : AreaValue → LsaKey → Option (List ℕ)
-reply_to s key = reply_of (entry_of s key) (was_sent s.sent key)
+reply_to s key = reply_of (database_entry s key) (was_sent s.sent key)
 
 -- an LSA in an Update to the neighbour
 abbrev pub lsa_out_on : Own → Origin → List ℕ → Option LinkValue → List SentValue
@@ -191,4 +191,4 @@ taken_off f (Some i) s = record s { links = changed_at f (Acknowledges i) s.tick
 
 -- the router once the neighbour acknowledged it
 abbrev pub header_met : Origin → LsaHeader → AreaValue → AreaValue
-header_met f h s = taken_off f (named_by h (copy_of s.database (key_of_header h))) s
+header_met f h s = taken_off f (named_by h (copy_in_database s.database (key_of_header h))) s

@@ -11,7 +11,7 @@ use Rattle.ospf_neighbour.specs.Lists.{is_listed}
 use Rattle.ospf_neighbour.specs.Neighbour.{NeighbourValue}
 use Rattle.ospf_area.specs.Numbers.{is_numbering_of, is_own}
 use Rattle.ospf_area.specs.Outputs.{OutputsValue}
-use Rattle.ospf_area.specs.State.{AreaValue, LinkValue, entry_of, some_link_loading}
+use Rattle.ospf_area.specs.State.{AreaValue, LinkValue, database_entry, some_link_loading}
 use Rattle.ospf_area.specs.declared.state.Numbering.{Numbering}
 
 -- ---- which leave
@@ -48,7 +48,7 @@ is_last (Some e) = int_eq (header_at e).number max_sequence_number
 
 -- with the copy of the key goes its numbering run
 abbrev pub ends_run : AreaValue → LsaKey → Bool
-ends_run s key = is_own s.router key && is_last (entry_of s key)
+ends_run s key = is_own s.router key && is_last (database_entry s key)
 
 abbrev pub reset_one : LsaKey → Numbering → Numbering
 reset_one key n = if is_numbering_of key n then record n { kept = lowest_number } else n

@@ -14,7 +14,7 @@ use Rattle.ospf_update.specs.Meets.{MeetsLsa, Unchanged}
 use Rattle.ospf_area.specs.Asking.{turn_requests, turned_links}
 use Rattle.ospf_area.specs.Outputs.{OutputsValue}
 use Rattle.ospf_area.specs.Sending.{and_sends, own_of}
-use Rattle.ospf_area.specs.Standing.{is_taken_in, origin_of}
+use Rattle.ospf_area.specs.Standing.{is_taken_in, origin_neighbour}
 use Rattle.ospf_area.specs.State.{AreaValue, LinkValue}
 use Rattle.ospf_area.specs.declared.flooding.Origin.{Origin}
 use Rattle.ospf_area.specs.declared.sending.Own.{Own}
@@ -37,7 +37,7 @@ pub record IsOtherLsa (bytes : List ℕ) : Type 0 where
 
 -- one that comes from a neighbour in Exchange or above
 pub record ComesToBePassed (f : Origin) (bytes : List ℕ) (s : AreaValue) : Type 0 where
-  pub taken : is_taken_in (origin_of s.links f) ≡ true
+  pub taken : is_taken_in (origin_neighbour s.links f) ≡ true
   pub lsa : IsOtherLsa bytes
 
 -- it is acknowledged to its sender (13.5), and nothing else

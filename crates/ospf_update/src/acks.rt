@@ -6,7 +6,7 @@ ghost use Rattle.ospf_update.specs.Acks.{header_precedes, in_order, ack_room, ac
 ghost use Rattle.ospf_area.specs.Posting.{and_parcels};
 ghost use Rattle.ospf_area.specs.Sending.{and_sends, own_of};
 
-use ospf_area::{Area, Link, LinkSettings, Origin, Outputs, Own, Post, own_of, to_address};
+use ospf_area::{Area, AreaLink, LinkSettings, Origin, Outputs, Own, Post, own_of, to_address};
 use ospf_base::{Addr, IP_HEADER, LSA_HEADER, PACKET_HEADER};
 use ospf_flood::flooding_address;
 use ospf_lsa::LsaHeader;
@@ -52,7 +52,7 @@ pub fn send_direct(
 ///
 /// `AllocError` where memory runs out; then the router is to be stopped.
 pub fn send_delayed(
-    links: &mut [Link],
+    links: &mut [AreaLink],
     own: Own,
     out: &mut Outputs,
     alloc: Global,
@@ -118,7 +118,7 @@ fn ack_room(settings: LinkSettings) -> usize
 }
 
 fn send_direct_from(
-    links: &[Link],
+    links: &[AreaLink],
     own: Own,
     from: Origin,
     headers: &[LsaHeader],
@@ -135,7 +135,7 @@ fn send_direct_from(
 }
 
 fn send_direct_on(
-    link: &Link,
+    link: &AreaLink,
     own: Own,
     from: Origin,
     headers: &[LsaHeader],
@@ -152,7 +152,7 @@ fn send_direct_on(
 }
 
 fn send_delayed_on(
-    link: &mut Link,
+    link: &mut AreaLink,
     number: usize,
     own: Own,
     out: &mut Outputs,

@@ -2,7 +2,7 @@
 
 ghost use Rattle.std.specs.Prelude.{◌≡◌, ◌==◌, IfOk, None, OnOk, Some, slice_get};
 ghost use Rattle.ospf_base.specs.Constants.{max_age};
-ghost use Rattle.ospf_exchange.specs.Headers.{copy_of};
+ghost use Rattle.ospf_exchange.specs.Headers.{copy_in_database};
 ghost use Rattle.ospf_lsa.specs.Header.{key_of_header};
 ghost use Rattle.ospf_lsa.specs.Header.{header_of};
 ghost use Rattle.ospf_lsa.specs.Lsa.{key_of, instance_of};
@@ -11,12 +11,13 @@ ghost use Rattle.ospf_area.specs.Numbers.{marked};
 ghost use Rattle.ospf_update.specs.Meets.{InstallsIn, store_updates, Stores, rule_met, heard_by, Admits, AnswersExpired, RestartsExchange, first_dd_on, duplicated, reply_to, lsa_out_on, Replies, MeetsRule, MeetsLsa, named_by, header_met};
 ghost use Rattle.ospf_area.specs.Outputs.{and_takes};
 ghost use Rattle.ospf_area.specs.Sending.{and_sends, own_of};
-ghost use Rattle.ospf_area.specs.State.{entry_of};
+ghost use Rattle.ospf_area.specs.State.{database_entry};
 
 use ospf_area::{
-    Area, Change, Flooded, Link, Origin, Outputs, Own, Post, acknowledge_by, answer_at, change_at,
-    count_number, description_body, flood, is_awaited, is_requested, is_self_originated, is_taken,
-    mark, own_of, release, send_lsa, sent_lsa, some_link_loading, to_address, was_sent,
+    AdjacencyChange, Area, AreaLink, Flooded, Origin, Outputs, Own, Post, acknowledge_by,
+    answer_at, change_at, count_number, description_body, flood, is_awaited, is_requested,
+    is_self_originated, is_taken, mark, own_of, release, send_lsa, sent_lsa, some_link_loading,
+    to_address, was_sent,
 };
 use ospf_base::{Instance, LsaKey, MAX_AGE};
 use ospf_exchange::beginning;
@@ -34,7 +35,12 @@ pub fn on_header(area: &mut Area, from: Origin, header: &LsaHeader)
 {
     if let Some(instance) = named_in(area, header) {
         let tick = area.tick;
-        change_at(&mut area.links, from, Change::Acknowledges(instance), tick);
+        change_at(
+            &mut area.links,
+            from,
+            AdjacencyChange::Acknowledges(instance),
+            tick,
+        );
     }
 }
 
@@ -98,7 +104,12 @@ pub fn restart(
     let own = own_of(area);
     let number = area.next_dd;
     send_first_dd(&area.links, own, from, number, out, alloc)?;
-    change_at(&mut area.links, from, Change::Restarts(number), own.tick);
+    change_at(
+        &mut area.links,
+        from,
+        AdjacencyChange::Restarts(number),
+        own.tick,
+    );
     area.next_dd = number.wrapping_add(1);
     Ok(())
 }
@@ -150,7 +161,8 @@ pub(crate) fn follow(
 }
 
 fn named_in(area: &Area, header: &LsaHeader) -> Option<Instance>
-    ensures { result ≡ named_by header.now (copy_of area.now.database (key_of_header header.now)) }
+    ensures { result ≡ named_by header.now (copy_in_database area.now.database (key_of_header
+        header.now)) }
 {
     let key = header.key()?;
     named_by(header, area.database.get(&key))
@@ -194,7 +206,7 @@ fn asks_who_loads(header: &LsaHeader) -> bool
 
 // The first Database Description of an exchange, to the neighbour of the origin.
 fn send_first_dd(
-    links: &[Link],
+    links: &[AreaLink],
     own: Own,
     from: Origin,
     number: u32,
@@ -211,7 +223,7 @@ fn send_first_dd(
 }
 
 fn send_first_dd_on(
-    link: &Link,
+    link: &AreaLink,
     own: Own,
     from: Origin,
     number: u32,
@@ -287,7 +299,12 @@ fn on_same(area: &mut Area, from: Origin, lsa: &LsaView) -> Result<(), AllocErro
     let implied = is_awaited(&area.links, from, &instance);
     let answer = answer_at(&area.links, case_of_same(implied), from);
     let tick = area.tick;
-    change_at(&mut area.links, from, Change::Acknowledges(instance), tick);
+    change_at(
+        &mut area.links,
+        from,
+        AdjacencyChange::Acknowledges(instance),
+        tick,
+    );
     // (13, step 7b)
     acknowledge_by(area, answer, from, &lsa.header())
 }
@@ -307,7 +324,12 @@ fn reply(
     let own = own_of(area);
     send_back(&area.links, own, from, &copy.view(), out, alloc)?;
     let instance = copy.view().instance();
-    change_at(&mut area.links, from, Change::IsSent(instance), own.tick);
+    change_at(
+        &mut area.links,
+        from,
+        AdjacencyChange::IsSent(instance),
+        own.tick,
+    );
     mark(&mut area.sent, key, true)
 }
 
@@ -329,7 +351,7 @@ fn reply_to(area: &Area, key: &LsaKey, alloc: Global) -> Result<Option<Lsa>, All
 
 // Sends an LSA to the neighbour of the origin.
 fn send_back(
-    links: &[Link],
+    links: &[AreaLink],
     own: Own,
     from: Origin,
     lsa: &LsaView,
@@ -346,7 +368,7 @@ fn send_back(
 }
 
 fn send_back_on(
-    link: &Link,
+    link: &AreaLink,
     own: Own,
     from: Origin,
     lsa: &LsaView,

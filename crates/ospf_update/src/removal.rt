@@ -3,9 +3,9 @@
 ghost use Rattle.std.specs.Prelude.{◌≡◌, IfOk, OnOk, map, filter, if◌then◌else◌};
 ghost use Rattle.ospf_lsdb.specs.Database.{Puts, entries, held_of, removed};
 ghost use Rattle.ospf_update.specs.Removal.{some_awaits_on, some_awaits, is_leaving, key_of_entry, leaving, is_last, ends_run, reset_one, reset, and_ends, RemovesOne, RemovesAll, Removes};
-ghost use Rattle.ospf_area.specs.State.{entry_of};
+ghost use Rattle.ospf_area.specs.State.{database_entry};
 
-use ospf_area::{Area, Link, Numbering, Outputs, is_numbered, is_own, some_link_loading};
+use ospf_area::{Area, AreaLink, Numbering, Outputs, is_numbered, is_own, some_link_loading};
 use ospf_base::{Instance, LsaKey, MAX_AGE};
 use ospf_flood::MAX_SEQUENCE_NUMBER;
 use ospf_lsdb::{EntryView, Lsdb};
@@ -15,7 +15,7 @@ use std::alloc::{AllocError, Global};
 const LOWEST_NUMBER: i32 = i32::MIN;
 
 /// Whether some neighbour has yet to acknowledge an instance.
-pub fn some_awaits(instance: &Instance, links: &[Link]) -> bool
+pub fn some_awaits(instance: &Instance, links: &[AreaLink]) -> bool
     ensures { result ≡ some_awaits instance.now links.now }
 {
     links.iter().any(|link| some_awaits_on(instance, link))
@@ -33,7 +33,7 @@ pub fn remove(area: &mut Area, out: &mut Outputs, alloc: Global) -> Result<(), A
     remove_all(area, &keys, out)
 }
 
-fn some_awaits_on(instance: &Instance, link: &Link) -> bool
+fn some_awaits_on(instance: &Instance, link: &AreaLink) -> bool
     ensures { result ≡ some_awaits_on instance.now link.now }
 {
     let all = link.neighbours.all();
@@ -53,7 +53,7 @@ fn leaving(area: &Area, alloc: Global) -> Result<Vec<LsaKey>, AllocError>
     leaving_of(&area.links, &area.database, alloc)
 }
 
-fn leaving_of(links: &[Link], database: &Lsdb, alloc: Global) -> Result<Vec<LsaKey>, AllocError>
+fn leaving_of(links: &[AreaLink], database: &Lsdb, alloc: Global) -> Result<Vec<LsaKey>, AllocError>
     ensures { IfOk result (λ keys. keys.items
         ≡ map key_of_entry (filter (is_leaving links.now) (entries database.now))) }
 {
@@ -66,7 +66,7 @@ fn leaving_of(links: &[Link], database: &Lsdb, alloc: Global) -> Result<Vec<LsaK
     Ok(keys)
 }
 
-fn is_leaving(links: &[Link], copy: &EntryView<'_>) -> bool
+fn is_leaving(links: &[AreaLink], copy: &EntryView<'_>) -> bool
     ensures { result ≡ is_leaving links.now copy.now }
 {
     copy.age().ticks() == MAX_AGE && !some_awaits(&copy.instance(), links)

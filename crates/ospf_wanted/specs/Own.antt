@@ -4,6 +4,6 @@ use Rattle.ospf_wanted.specs.declared.wants.OwnLsa.TheVariants as got
 use Rattle.ospf_wanted.specs.Wanted.{WantedValue}
 
 -- a wanted LSA as it is held
-abbrev pub value_of : OwnLsa → WantedValue
-value_of (got.Router router links) = WantedValue.RouterLsa router links.items
-value_of (got.Network id router mask routers) = WantedValue.NetworkLsa id router mask routers.items
+abbrev pub wanted_value : OwnLsa → WantedValue
+wanted_value (got.Router router links) = WantedValue.RouterLsa router links.items
+wanted_value (got.Network id router mask routers) = WantedValue.NetworkLsa id router mask routers.items

@@ -37,13 +37,13 @@ is_full n = is_full_state n.state
 abbrev pub is_full_at : ℕ → NeighbourValue → Bool
 is_full_at address n = is_full n && (n.address.0 == address)
 
-abbrev pub is_dr : IfaceState → Bool
-is_dr Dr = true
-is_dr _ = false
+abbrev pub is_dr_state : IfaceState → Bool
+is_dr_state Dr = true
+is_dr_state _ = false
 
 -- the router is the Designated Router of the link, and fully adjacent to someone there
 abbrev pub is_dr_of : LinkValue → Bool
-is_dr_of a = is_dr a.iface.state && list_any is_full a.neighbours
+is_dr_of a = is_dr_state a.iface.state && list_any is_full a.neighbours
 
 -- the link is one to a transit network: the router is fully adjacent to the Designated Router, or is that itself and
 -- fully adjacent to someone (12.4.1.2)

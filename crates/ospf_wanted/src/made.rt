@@ -5,7 +5,7 @@ ghost use Rattle.std.specs.Str.{bytes_eq};
 ghost use Rattle.ospf_base.specs.Sums.{contents};
 ghost use Rattle.ospf_lsa.specs.Value.{HasAll, IsMade, IsUnmade};
 ghost use Rattle.ospf_wanted.specs.Made.{lsa_value, Needs, aside, first_number, says};
-ghost use Rattle.ospf_wanted.specs.Own.{value_of};
+ghost use Rattle.ospf_wanted.specs.Own.{wanted_value};
 
 use crate::wants::OwnLsa;
 use ospf_lsa::{Lsa, LsaFault, LsaView};
@@ -19,9 +19,9 @@ impl OwnLsa {
     ///
     /// A fault tells the first that it needs and that is missing; `Memory` where nothing else is.
     pub fn make(&self, number: i32, alloc: Global) -> Result<Lsa, LsaFault>
-        ensures ok { IfOk result (λ lsa. IsMade (lsa_value number (value_of self.now)) lsa) }
-        ensures needs { OnOk result (HasAll (Needs number (value_of self.now))) }
-        ensures fault { IfErr result (λ f. IsUnmade (Needs number (value_of self.now)) f) }
+        ensures ok { IfOk result (λ lsa. IsMade (lsa_value number (wanted_value self.now)) lsa) }
+        ensures needs { OnOk result (HasAll (Needs number (wanted_value self.now))) }
+        ensures fault { IfErr result (λ f. IsUnmade (Needs number (wanted_value self.now)) f) }
     {
         match self {
             OwnLsa::Router { router, links } => Lsa::router(alloc, *router, number, links),
@@ -38,8 +38,9 @@ impl OwnLsa {
     ///
     /// A fault is that of the wanted LSA, if it cannot be made.
     pub fn is_said_by(&self, copy: &LsaView<'_>, alloc: Global) -> Result<bool, LsaFault>
-        ensures ok { IfOk result (λ said. said ≡ says (contents copy.now) (value_of self.now)) }
-        ensures fault { IfErr result (λ f. IsUnmade (Needs first_number (value_of self.now)) f) }
+        ensures ok { IfOk result (λ said. said ≡ says (contents copy.now) (wanted_value self.now)) }
+        ensures fault { IfErr result (λ f. IsUnmade (Needs first_number (wanted_value self.now))
+            f) }
     {
         let lsa = self.make(INITIAL_SEQUENCE_NUMBER, alloc)?;
         Ok(same_aside(copy, &lsa.view()))

@@ -17,7 +17,7 @@ ghost use Rattle.ospf_wanted.specs.Wanted.{attached_routers, is_full, links_at, 
 ghost use Rattle.ospf_wanted.specs.Wanted.WantedValue.{RouterLsa, NetworkLsa};
 
 use crate::wants::{broadcast_link, is_full, router_link, subnet_link};
-use ospf_area::Link as AreaLink;
+use ospf_area::AreaLink;
 use ospf_base::{Age, InterfaceKind, OPTIONS, RouterId, u16_at};
 use ospf_lsa::{Link, LsaHeader, LsaView};
 use ospf_neighbour::Neighbour;

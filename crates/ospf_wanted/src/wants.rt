@@ -2,10 +2,10 @@
 
 ghost use Rattle.std.specs.Prelude.{◌≡◌, ◌++◌, ◌∷◌, [], IfOk, OnOk, OnErr, map, filter};
 ghost use Rattle.std.specs.List.{list_any, flat_map};
-ghost use Rattle.ospf_wanted.specs.Wanted.{is_full, is_full_at, is_dr, is_dr_of, is_transit, through_metric, router_link, network_link, subnet_link, broadcast_link, links_at, is_full_before, is_full_behind, attached_routers, networks_at, wanted, wanted_key};
-ghost use Rattle.ospf_wanted.specs.Own.{value_of};
+ghost use Rattle.ospf_wanted.specs.Wanted.{is_full, is_full_at, is_dr_state, is_dr_of, is_transit, through_metric, router_link, network_link, subnet_link, broadcast_link, links_at, is_full_before, is_full_behind, attached_routers, networks_at, wanted, wanted_key};
+ghost use Rattle.ospf_wanted.specs.Own.{wanted_value};
 
-use ospf_area::Link as AreaLink;
+use ospf_area::AreaLink;
 use ospf_base::{InterfaceKind, Kind, LsaKey, RouterId};
 use ospf_iface::{Iface, IfaceState};
 use ospf_lsa::{Link, LinkKind};
@@ -35,11 +35,11 @@ pub enum OwnLsa {
 impl OwnLsa {
     ghost use Rattle.std.specs.Prelude.{◌≡◌};
     ghost use Rattle.ospf_wanted.specs.Wanted.{wanted_key};
-    ghost use Rattle.ospf_wanted.specs.Own.{value_of};
+    ghost use Rattle.ospf_wanted.specs.Own.{wanted_value};
 
     /// What names it.
     pub fn key(&self) -> LsaKey
-        ensures { result ≡ wanted_key (value_of self.now) }
+        ensures { result ≡ wanted_key (wanted_value self.now) }
     {
         match self {
             OwnLsa::Router { router, .. } => LsaKey {
@@ -75,7 +75,7 @@ pub fn wanted(
     links: &[AreaLink],
     alloc: Global,
 ) -> Result<Vec<OwnLsa>, AllocError>
-    ensures { IfOk result (λ v. map value_of v.items ≡ wanted stub_router router links.now) }
+    ensures { IfOk result (λ v. map wanted_value v.items ≡ wanted stub_router router links.now) }
 {
     let own = own_links(stub_router, links, alloc)?;
     let mut all = Vec::new(alloc);
@@ -129,7 +129,7 @@ pub(crate) fn broadcast_link(stub_router: bool, link: &AreaLink) -> Link
 }
 
 fn is_dr(state: IfaceState) -> bool
-    ensures { result ≡ is_dr state }
+    ensures { result ≡ is_dr_state state }
 {
     matches!(state, IfaceState::Dr)
 }
@@ -201,7 +201,7 @@ fn push_network(
     link: &AreaLink,
     alloc: Global,
 ) -> Result<(), AllocError>
-    ensures { OnOk result (map value_of out.new.items ≡ map value_of out.old.items
+    ensures { OnOk result (map wanted_value out.new.items ≡ map wanted_value out.old.items
         ++ networks_at router link.now) }
 {
     if is_dr_of(link) {

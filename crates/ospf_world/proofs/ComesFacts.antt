@@ -7,7 +7,7 @@ use Rattle.ospf_lsa.specs.Lsa.{key_of}
 use Rattle.ospf_area.specs.Outputs.{OutputsValue}
 use Rattle.ospf_step.specs.Step.{Event}
 use Rattle.ospf_headline.specs.Headline.{IsReached}
-use Rattle.ospf_headline.specs.World.{Becomes, Comes, LogsGrow, Running, SameLogs, World, member, of_member, refusal, router_at, stepped_by, IsStarted}
+use Rattle.ospf_headline.specs.World.{Becomes, Comes, LogsGrow, Running, SameLogs, World, member, of_member, refusal, router_at, stepped_by, IsRunningStarted}
 use Rattle.ospf_headline.specs.declared.event.WorldEvent.{WorldEvent}
 use Rattle.ospf_headline.specs.declared.event.WorldEvent.TheVariants.{Start, Stop, Tick, LinkUp, LinkDown, Deliver}
 use Rattle.ospf_headline.specs.declared.event.WorldFault.{WorldFault}
@@ -18,7 +18,7 @@ use Rattle.ospf_headline.proofs.RunFacts.{Runs-append}
 use Rattle.ospf_headline.proofs.RunningFacts.{run_of-is}
 use Rattle.ospf_headline.specs.Logs.{LogsTake, LogsValue}
 use Rattle.ospf_headline.specs.Running.{delivery}
-use Rattle.ospf_headline.specs.Slots.{GoesOn, SlotSteps, SlotTakes, SlotValue, fed_by, member_of, refused_by, router_in, with_running}
+use Rattle.ospf_headline.specs.Slots.{SlotGoesOn, SlotSteps, SlotTakes, SlotValue, fed_by, member_of, refused_by, router_in, with_running}
 use Rattle.ospf_router.specs.Steps.{is_dropped}
 use Rattle.ospf_world.specs.Does.{Does}
 use Rattle.ospf_world.specs.Ticks.{ticked_by}
@@ -96,7 +96,7 @@ comes event w w' k s s' result at get slots steps = by steps
     now : (x : Option Running) → s' ≡ with_running s x → Becomes (world_of w) (world_of w') (router_in event) x
     now x after = subst (λ x. Becomes (world_of w) (world_of w') (router_in event) x) (ap (λ (s : SlotValue). s.running) after) (becomes w w' (router_in event) k s s' at get (config_kept event s s' w.logs w'.logs result steps) slots)
 
-    goes : (e : Event) → refusal (world_of w) event ≡ None → fed_by w.logs.datagrams event ≡ Some e → result ≡ Ok tt → GoesOn e s w.logs s' w'.logs → Comes is_dropped event (world_of w) result (world_of w')
+    goes : (e : Event) → refusal (world_of w) event ≡ None → fed_by w.logs.datagrams event ≡ Some e → result ≡ Ok tt → SlotGoesOn e s w.logs s' w'.logs → Comes is_dropped event (world_of w) result (world_of w')
     goes e none fed ok g = Comes.Stepped none ok (router_in event) e g.x g.x' g.out (steps_with (world_of w) event e fed) (record {
       was = was ∙ g.was;
       changes = now (Some g.x') g.is;
@@ -110,7 +110,7 @@ comes event w w' k s s' result at get slots steps = by steps
     by (SlotSteps.Refused f why is after same) = Comes.Refused f (refused ∙ why) is (unchanged after same)
     by (SlotSteps.Taken none (SlotTakes.NotDone err after same)) = Comes.NotDone (refused ∙ none) err (unchanged after same)
     by (SlotSteps.Taken none (SlotTakes.MemoryStops e fed err after same)) = Comes.MemoryStops (refused ∙ none) err (router_in event) e (steps_with (world_of w) event e fed) (now None after) (same_logs w w' same)
-    by (SlotSteps.Taken none (SlotTakes.Starts r dd floor x is ok stopped after starts same)) = Comes.Starts (refused ∙ none) ok r dd floor x is (subst (λ r. router_at (world_of w) r ≡ None) (ap router_in is) (was ∙ stopped)) (subst (λ r. Becomes (world_of w) (world_of w') r (Some x)) (ap router_in is) (now (Some x) after)) (subst (λ r. IsStarted w.logs.issued r floor x) (id ∙ ap router_in is) starts.begins) (same_logs w w' same)
+    by (SlotSteps.Taken none (SlotTakes.Starts r dd floor x is ok stopped after starts same)) = Comes.Starts (refused ∙ none) ok r dd floor x is (subst (λ r. router_at (world_of w) r ≡ None) (ap router_in is) (was ∙ stopped)) (subst (λ r. Becomes (world_of w) (world_of w') r (Some x)) (ap router_in is) (now (Some x) after)) (subst (λ r. IsRunningStarted w.logs.issued r floor x) (id ∙ ap router_in is) starts.begins) (same_logs w w' same)
     by (SlotSteps.Taken none (SlotTakes.Stops r is ok after same)) = Comes.Stops (refused ∙ none) ok r is (subst (λ r. Becomes (world_of w) (world_of w') r None) (ap router_in is) (now None after)) (same_logs w w' same)
     by (SlotSteps.Taken none (SlotTakes.Stepped e fed ok g)) = goes e (refused ∙ none) fed ok g
 

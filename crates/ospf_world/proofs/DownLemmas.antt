@@ -14,25 +14,25 @@ use Rattle.ospf_neighbour.specs.Neighbour.{NeighbourValue}
 use Rattle.ospf_graph.proofs.ListLemmas.{bool_cases}
 use Rattle.ospf_wanted.specs.Wanted.{is_full, is_transit, links_at, links_of_kind, network_link, router_link, subnet_link}
 use Rattle.ospf_whatif.specs.Failure.{kept_links, takes}
-use Rattle.ospf_whatif.specs.declared.failure.Failure.{Failure}
-use Rattle.ospf_whatif.specs.declared.failure.Failure.TheVariants as fails
+use Rattle.ospf_whatif.specs.declared.failure.AreaFailure.{AreaFailure}
+use Rattle.ospf_whatif.specs.declared.failure.AreaFailure.TheVariants as fails
 use Rattle.ospf_whatif.proofs.WithoutLemmas.{kept_links-append}
-use Rattle.ospf_world.specs.Wanted.{AreSpared, IsLeft, IsOfNetwork, IsWireUp, wanted_links}
+use Rattle.ospf_world.specs.Wanted.{AreSpared, IsLeft, IsNetworkFailure, IsWireUp, wanted_links}
 use Rattle.ospf_wanted.proofs.SaidLemmas.{up_is}
 
 -- ---- links that are all kept, or all taken
 
-kept_all : (f : Failure) (r : RouterId) (xs : List Link) → AllByRecursion (λ l. takes f r l ≡ false) xs → kept_links f r xs ≡ xs
+kept_all : (f : AreaFailure) (r : RouterId) (xs : List Link) → AllByRecursion (λ l. takes f r l ≡ false) xs → kept_links f r xs ≡ xs
 kept_all f r [] all = refl
 kept_all f r (l ∷ rest) all = rw all.0 (ap (λ more. l ∷ more) (kept_all f r rest all.1))
 
-kept_none : (f : Failure) (r : RouterId) (xs : List Link) → AllByRecursion (λ l. takes f r l ≡ true) xs → kept_links f r xs ≡ []
+kept_none : (f : AreaFailure) (r : RouterId) (xs : List Link) → AllByRecursion (λ l. takes f r l ≡ true) xs → kept_links f r xs ≡ []
 kept_none f r [] all = refl
 kept_none f r (l ∷ rest) all = rw all.0 (kept_none f r rest all.1)
 
 -- ---- one interface changes
 
-module _ (f : Failure) (router : RouterId) (stub_router : Bool) (front back : List LinkValue) (before after : LinkValue)
+module _ (f : AreaFailure) (router : RouterId) (stub_router : Bool) (front back : List LinkValue) (before after : LinkValue)
     (spared_front : AreSpared f router stub_router front) (spared_back : AreSpared f router stub_router back) where
   split : (l : LinkValue) → wanted_links stub_router (front ++ l ∷ back) ≡ wanted_links stub_router front ++ (links_at stub_router l ++ wanted_links stub_router back)
   split l = flat_map-append (links_at stub_router) front (l ∷ back)
@@ -56,7 +56,7 @@ wire_is stub_router l up is = up_is stub_router l up ∙ ap (λ k. links_of_kind
 -- ---- a point-to-point link
 
 module _ (router other : RouterId) (subnet : Prefix) (stub_router : Bool) (l : LinkValue) (w : IsWireUp l other subnet) where
-  f : Failure
+  f : AreaFailure
   f = fails.Link router other subnet
 
   masked : bit_and l.iface.settings.address.0 (mask_of subnet.length) ≡ subnet.address.0
@@ -102,7 +102,7 @@ links_go_down router other subnet stub_router front back before after w down spa
 
 -- ---- a transit network
 
-network_taken : (f : Failure) (router : RouterId) (network : ℕ) (l : LinkValue) (stub_router : Bool) → IsOfNetwork f router network → l.iface.dr.0 ≡ network
+network_taken : (f : AreaFailure) (router : RouterId) (network : ℕ) (l : LinkValue) (stub_router : Bool) → IsNetworkFailure f router network → l.iface.dr.0 ≡ network
     → takes f router (network_link stub_router l) ≡ true
 network_taken (fails.Attachment q n) router network l stub_router of is =
     let one : eqb router.0 q.0 ≡ true = eq-eqb _ _ (ap (λ (r : RouterId). r.0) (sym of.0)) in
@@ -115,7 +115,7 @@ network_taken (fails.Router _) router network l stub_router of is = absurd of
 
 pub interfaces_go_down : (router : RouterId) (stub_router : Bool) (front back : List LinkValue) (before after : LinkValue)
     → is_down before.iface.state ≡ false → before.iface.settings.kind ≡ kind.Broadcast → is_transit before ≡ true → is_down after.iface.state ≡ true
-    → (f : Failure) → IsOfNetwork f router before.iface.dr.0 → AreSpared f router stub_router front → AreSpared f router stub_router back
+    → (f : AreaFailure) → IsNetworkFailure f router before.iface.dr.0 → AreSpared f router stub_router front → AreSpared f router stub_router back
     → IsLeft f router stub_router front before after back
 interfaces_go_down router stub_router front back before after up is transit down f of spared_front spared_back =
     let one : links_at stub_router before ≡ network_link stub_router before ∷ [] =

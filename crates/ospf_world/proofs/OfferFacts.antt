@@ -13,9 +13,9 @@ use Rattle.ospf_headline.specs.declared.event.WorldEvent.{WorldEvent}
 use Rattle.ospf_headline.specs.declared.event.WorldEvent.TheVariants.{Deliver}
 use Rattle.ospf_headline.specs.declared.logs.Datagram.{Datagram}
 use Rattle.ospf_headline.specs.Slots.{SlotValue}
-use Rattle.ospf_world.specs.Networks.{AreNetworks, links_at, links_from, links_on, router_links}
+use Rattle.ospf_world.specs.Networks.{AreNetworks, places_on_network, links_from, links_on, router_links}
 use Rattle.ospf_world.specs.Offers.{address_at, is_for, is_offered, offers_to}
-use Rattle.ospf_world.specs.Rounds.{is_offered_to, is_sender, offer_at, offer_on, offer_to, offers_at, offers_by, offers_of, sender_in}
+use Rattle.ospf_world.specs.Rounds.{is_offered_to, is_sender, offer_at, offer_on, offered_to, offers_at, offers_by, offers_of, sender_in}
 use Rattle.ospf_world.specs.Worlds.{config_of, place_of}
 use Rattle.ospf_world.specs.declared.networks.LinkPlace.{LinkPlace}
 use Rattle.ospf_world.proofs.PlaceFacts.{not_placed, placed, slot_at}
@@ -51,7 +51,7 @@ module _ (d : ℕ) (from : InterfaceAddress) (g : Datagram) (all : List SlotValu
   here : (s : SlotValue) (k i : ℕ) (x : Interface) → slice_get all k ≡ Some s → slice_get s.config.interfaces.items i ≡ Some x
       → offer_at d from g all (record { place = k; link = i }) ≡ (if takes s && is_offered from g.sent.destination x.address then Deliver d s.config.router_id i ∷ [] else [])
   here s k i x stands has =
-      ap (offer_on d from g i) stands ∙ ap (λ (o : Option Interface). offer_to d from g s i (option_map (λ (j : Interface). j.address) o)) has
+      ap (offer_on d from g i) stands ∙ ap (λ (o : Option Interface). offered_to d from g s i (option_map (λ (j : Interface). j.address) o)) has
 
   -- the test of an interface before those that are left
   part_of : (s : SlotValue) (i : ℕ) (x : Interface) (xs : List Interface) (u o : Bool) → o ≡ is_offered from g.sent.destination x.address
@@ -111,13 +111,13 @@ nothing_more xs es none = sym (append-nil xs) ∙ ap (λ (ys : List WorldEvent).
 pub no_link : (d : ℕ) (from : InterfaceAddress) (g : Datagram) (s : SlotValue) (config : Config) (link : ℕ) (xs : List WorldEvent) → config ≡ s.config → None ≡ address_at config link
     → xs ≡ xs ++ offer_on d from g link (Some s)
 no_link d from g s config link xs same none =
-    nothing_more xs (offer_on d from g link (Some s)) (ap (offer_to d from g s link) (ap (λ (c : Config). address_at c link) (sym same) ∙ sym none))
+    nothing_more xs (offer_on d from g link (Some s)) (ap (offered_to d from g s link) (ap (λ (c : Config). address_at c link) (sym same) ∙ sym none))
 
 -- at one
 pub at_link : (d : ℕ) (from to : InterfaceAddress) (g : Datagram) (s : SlotValue) (config : Config) (link : ℕ) (b : Bool) → config ≡ s.config → Some to ≡ address_at config link → b ≡ is_offered_to from g s to
     → offer_on d from g link (Some s) ≡ (if b then Deliver d config.router_id link ∷ [] else [])
 at_link d from to g s config link b same is offered =
-    ap (offer_to d from g s link) (ap (λ (c : Config). address_at c link) (sym same) ∙ sym is)
+    ap (offered_to d from g s link) (ap (λ (c : Config). address_at c link) (sym same) ∙ sym is)
     ∙ ap (λ (t : Bool). if t then Deliver d s.config.router_id link ∷ [] else []) (sym offered)
     ∙ ap (λ (c : Config). if b then Deliver d c.router_id link ∷ [] else []) (sym same)
 
@@ -134,10 +134,10 @@ at_no_slot d from g slots at xs past = nothing_more xs (offer_at d from g slots 
 
 -- of a datagram that went out of this interface, by the interfaces that the index has on its network
 pub offers_near : (w_places : tree.BTreeMap ℕ (Vec LinkPlace)) (slots : List SlotValue) (d network : ℕ) (from : InterfaceAddress) (g : Datagram) (links : List LinkPlace) (events : List WorldEvent) (source : Option InterfaceAddress)
-    → AreNetworks w_places (map config_of slots) → source ≡ sender_in slots g → source ≡ Some from → network ≡ network_part from → links ≡ links_at w_places network
+    → AreNetworks w_places (map config_of slots) → source ≡ sender_in slots g → source ≡ Some from → network ≡ network_part from → links ≡ places_on_network w_places network
     → events ≡ flat_map (offer_at d from g slots) links → events ≡ offers_of slots d g
 offers_near networks slots d network from g links events source are is found number near offers =
-    offers ∙ ap (λ (ls : List LinkPlace). flat_map (offer_at d from g slots) ls) (near ∙ ap (links_at networks) number ∙ are (network_part from))
+    offers ∙ ap (λ (ls : List LinkPlace). flat_map (offer_at d from g slots) ls) (near ∙ ap (places_on_network networks) number ∙ are (network_part from))
     ∙ by_routers d from g slots 0 slots refl
     ∙ ap (offers_by d g slots) (sym found ∙ is)
 

@@ -10,13 +10,13 @@ use Rattle.ospf_headline.specs.declared.logs.Datagram.{Datagram}
 use Rattle.ospf_headline.specs.Runs.{is_memory}
 use Rattle.ospf_headline.proofs.RunFacts.{Runs-append}
 use Rattle.ospf_headline.specs.Headline.{IsReached}
-use Rattle.ospf_headline.specs.World.{Member, Runs, World}
+use Rattle.ospf_headline.specs.World.{Member, RunsEvents, World}
 use Rattle.ospf_headline.specs.declared.event.WorldEvent.{WorldEvent}
 use Rattle.ospf_headline.specs.declared.event.WorldFault.{WorldFault}
 use Rattle.ospf_headline.specs.Slots.{SlotValue, member_of}
 use Rattle.ospf_router.specs.Steps.{is_dropped}
 use Rattle.ospf_world.specs.Does.{Does}
-use Rattle.ospf_world.specs.Random.{GoesOn, IsRandom, Meets}
+use Rattle.ospf_world.specs.Random.{GoesOnWith, IsRandom, Meets}
 use Rattle.ospf_world.specs.Worlds.{SameSettings, WorldValue, world_of}
 use Rattle.ospf_world.proofs.ComesFacts.{does_comes}
 use Rattle.ospf_world.proofs.ListFacts.{none_left, one_left}
@@ -83,7 +83,7 @@ random_more count i g g' g'' words o answer before now next within draws is meet
     let event : o ≡ drawn (words_from g').0 (world_of now) = is ∙ ap (λ (ws : Words). drawn ws (world_of now)) words_are in
     let part : Meets (drawn (words_from g').0 (world_of now)) now (Ok tt) next = subst (λ (x : Option WorldEvent). Meets x now (Ok tt) next) event (subst (λ (r : Result (Unit {0}) WorldFault). Meets o now r next) ok meets) in
     let more : IsRandom (count - (i + 1)) (words_from g').1 next result after = subst (λ (h : Lcg). IsRandom (count - (i + 1)) h next result after) next_is rest in
-    let all : IsRandom (suc (count - (i + 1))) g' now result after = GoesOn.Further next part more in
+    let all : IsRandom (suc (count - (i + 1))) g' now result after = GoesOnWith.Further next part more in
     comes result after (subst (λ (n : ℕ). IsRandom n g' now result after) (sym (one_left count i within)) all)
 
 pub random_ends : (count i : ℕ) (g g' g'' : Lcg) (words : Words) (o : Option WorldEvent) (answer : Result (Unit {0}) WorldFault) (before now next : WorldValue) (f : WorldFault) → i < count → (words, g'') ≡ words_from g' → o ≡ drawn words (world_of now) →
@@ -92,7 +92,7 @@ random_ends count i g g' g'' words o answer before now next f within draws is me
     let words_are : words ≡ (words_from g').0 = ap (λ (p : Words × Lcg). p.0) draws in
     let event : o ≡ drawn (words_from g').0 (world_of now) = is ∙ ap (λ (ws : Words). drawn ws (world_of now)) words_are in
     let part : Meets (drawn (words_from g').0 (world_of now)) now (Err f) next = subst (λ (x : Option WorldEvent). Meets x now (Err f) next) event (subst (λ (r : Result (Unit {0}) WorldFault). Meets o now r next) err meets) in
-    let all : IsRandom (suc (count - (i + 1))) g' now (Err f) next = GoesOn.Ended f part refl in
+    let all : IsRandom (suc (count - (i + 1))) g' now (Err f) next = GoesOnWith.Ended f part refl in
     comes (Err f) next (subst (λ (n : ℕ). IsRandom n g' now (Err f) next) (sym (one_left count i within)) all)
 
 pub random_done : (count i : ℕ) (g g' : Lcg) (before now : WorldValue) → count ≤ i → Comes_to count g before (count - i) g' now → IsRandom count g before (Ok tt) now
@@ -118,7 +118,7 @@ drawn_all count i g g' all within is = let same : i ≡ count = omega (arith, al
 -- ---- as a list of events
 
 abbrev pub LeadsOn : World → World → Type 0
-LeadsOn before after = (later : List WorldEvent) × Runs is_dropped later before after
+LeadsOn before after = (later : List WorldEvent) × RunsEvents is_dropped later before after
 
 pub leads_nowhere : (w w' : World) → w' ≡ w → LeadsOn w w'
 leads_nowhere w w' same = ([], same)
@@ -137,9 +137,9 @@ meets_leads o w w' answer (Meets.Ends e f is does memory err) = leads_once e (Er
 
 pub random_leads : (count : ℕ) (g : Lcg) (w w' : WorldValue) (result : Result (Unit {0}) WorldFault) → IsRandom count g w result w' → LeadsOn (world_of w) (world_of w')
 random_leads zero g w w' result same = leads_nowhere (world_of w) (world_of w') (ap world_of same.0)
-random_leads (suc count) g w w' result (GoesOn.Further mid part rest) =
+random_leads (suc count) g w w' result (GoesOnWith.Further mid part rest) =
     leads_further (world_of w) (world_of mid) (world_of w') (meets_leads (drawn (words_from g).0 (world_of w)) w mid (Ok tt) part) (random_leads count (words_from g).1 mid w' result rest)
-random_leads (suc count) g w w' result (GoesOn.Ended f part is) = meets_leads (drawn (words_from g).0 (world_of w)) w w' (Err f) part
+random_leads (suc count) g w w' result (GoesOnWith.Ended f part is) = meets_leads (drawn (words_from g).0 (world_of w)) w w' (Err f) part
 
 -- a world that was reached leads to worlds that are
 pub reached_on : (w w' : World) → IsReached is_dropped w → LeadsOn w w' → IsReached is_dropped w'

@@ -4,7 +4,7 @@ use Rattle.std.proofs.lemmas.List.{take_more}
 use Rattle.std.proofs.lemmas.Option.{slice_get-get_or}
 use Rattle.ospf_headline.specs.Headline.{Headline, IsReached}
 use Rattle.ospf_headline.specs.Runs.{GoesOver, IsRun, RunsOn, is_memory}
-use Rattle.ospf_headline.specs.World.{Comes, Runs, World}
+use Rattle.ospf_headline.specs.World.{Comes, RunsEvents, World}
 use Rattle.ospf_headline.specs.declared.event.WorldEvent.{WorldEvent}
 use Rattle.ospf_headline.specs.declared.event.WorldFault.{WorldFault}
 use Rattle.ospf_headline.specs.declared.event.WorldFault.TheVariants as fault
@@ -69,9 +69,9 @@ run_comes events w w' result (IsRun.EndsEarly i n event mid stopped runs get doe
 
 -- the headline of a world that events led on from
 pub run_headline : (events : List WorldEvent) (w w' : World) (result : Result ℕ WorldFault) → IsRun (Comes is_dropped) events w result w' → IsReached is_dropped w →
-    (IsRun (Comes is_dropped) events w result w' → (later : List WorldEvent) × Runs is_dropped later w w') → ((later : List WorldEvent) → IsReached is_dropped w → Runs is_dropped later w w' → Headline w w') → Headline w w'
+    (IsRun (Comes is_dropped) events w result w' → (later : List WorldEvent) × RunsEvents is_dropped later w w') → ((later : List WorldEvent) → IsReached is_dropped w → RunsEvents is_dropped later w w' → Headline w w') → Headline w w'
 run_headline events w w' result run reached leads law = let (later, runs) = leads run in law later reached runs
 
 -- and it was reached
-pub run_reached : (events : List WorldEvent) (w w' : World) (result : Result ℕ WorldFault) → IsRun (Comes is_dropped) events w result w' → IsReached is_dropped w → (IsRun (Comes is_dropped) events w result w' → (later : List WorldEvent) × Runs is_dropped later w w') → IsReached is_dropped w'
+pub run_reached : (events : List WorldEvent) (w w' : World) (result : Result ℕ WorldFault) → IsRun (Comes is_dropped) events w result w' → IsReached is_dropped w → (IsRun (Comes is_dropped) events w result w' → (later : List WorldEvent) × RunsEvents is_dropped later w w') → IsReached is_dropped w'
 run_reached events w w' result run (before, by) leads = let (later, runs) = leads run in (before ++ later, record { start = by.start; new = by.new; runs = Runs-append is_dropped before later by.start w w' by.runs runs })

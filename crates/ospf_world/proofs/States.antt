@@ -16,7 +16,7 @@ use Rattle.ospf_graph.specs.declared.graph.Vertex.{Vertex}
 use Rattle.ospf_graph.specs.declared.graph.Vertex.TheVariants as vertex
 use Rattle.ospf_step.proofs.StateFacts.{Contains-nil}
 use Rattle.ospf_links.specs.Parts.{link_up}
-use Rattle.ospf_links.specs.Works.{changed, up_out_on}
+use Rattle.ospf_links.specs.Works.{link_changed, up_out_on}
 use Rattle.ospf_lsa.specs.declared.link.Link.{Link}
 use Rattle.ospf_lsa.specs.declared.link.LinkKind.TheVariants.{Stub}
 use Rattle.ospf_lsa.specs.Header.{HeaderFits, header_of}
@@ -128,7 +128,7 @@ has_issued = record (turned_area issuing) { heard = [] }
 
 -- its link has gone up
 abbrev pub linked : AreaValue
-linked = changed link_up 0 has_issued
+linked = link_changed link_up 0 has_issued
 
 abbrev pub linked_out : OutputsValue
 linked_out = and_sends no_outputs (up_out_on (Some down_link) (own_of has_issued) 0)

@@ -3,7 +3,7 @@ use Rattle.std.proofs.Common.{◌≡◌, ◌||◌, ℕ, zero, suc, negsuc, Bool,
 use Rattle.std.specs.Option.{option_map}
 use Rattle.std.proofs.lemmas.Bool.{false≢true}
 use Rattle.std.proofs.lemmas.Option.{none-some, same_Some}
-use Rattle.ospf_area.specs.Outputs.{AreRead, no_outputs}
+use Rattle.ospf_area.specs.Outputs.{AreReadAsSent, no_outputs}
 use Rattle.ospf_area.specs.Sending.{datagrams, own_of, packet_of}
 use Rattle.ospf_area.specs.State.{AreaValue, Awaits, LinkValue}
 use Rattle.ospf_area.specs.declared.state.Numbering.{Numbering}
@@ -17,21 +17,21 @@ use Rattle.ospf_step.proofs.Chains.{step_from_chain}
 use Rattle.ospf_step.proofs.StepAccounts.{StepLaws-accounts, StepLaws-sound}
 use Rattle.ospf_step.specs.Step.{Event, StepLaws, last_parts}
 use Rattle.ospf_step.specs.Words.{IsSoundState}
-use Rattle.ospf_links.specs.Elections.{Elects}
+use Rattle.ospf_links.specs.Elections.{ElectsAll}
 use Rattle.ospf_links.specs.Parts.{link_up}
 use Rattle.ospf_lsdb.specs.Database.{Held, IsDatabase, entry_from, key_in, reached_at}
-use Rattle.ospf_neighbour.specs.Neighbours.{IsRising}
+use Rattle.ospf_neighbour.specs.Neighbours.{AreNeighboursRising}
 use Rattle.ospf_originate.proofs.DueLemmas.{no_candidate}
 use Rattle.ospf_originate.specs.Actions.{own_action}
 use Rattle.ospf_originate.specs.Sound.{AreNumbered}
 use Rattle.ospf_originate.specs.Steps.{ActsInTurn, IsDue, OwnLsas, action_of, wants}
-use Rattle.ospf_originate.specs.declared.action.Due.{Due}
+use Rattle.ospf_originate.specs.declared.action.DueAction.{DueAction}
 use Rattle.ospf_originate.specs.declared.action.OwnAction.TheVariants.{Issue}
 use Rattle.ospf_packet.proofs.RoundTrip.{read_again}
 use Rattle.ospf_packet.specs.Meaning.{Meaning, MeaningFits}
 use Rattle.ospf_router.specs.Steps.{IsLawful}
 use Rattle.ospf_step.specs.Drops.{is_dropped}
-use Rattle.ospf_step.specs.Ends.{Ends}
+use Rattle.ospf_step.specs.Ends.{EndsStep}
 use Rattle.ospf_step.specs.Steps.{StepsArea}
 use Rattle.ospf_step.specs.Takes.{TakesTick}
 use Rattle.ospf_update.specs.Acks.{cut}
@@ -51,13 +51,13 @@ takes_tick = record {
   outputs = refl;
 }
 
-none_elects : Elects ticked no_outputs ticked no_outputs
+none_elects : ElectsAll ticked no_outputs ticked no_outputs
 none_elects = (ticked, no_outputs, (refl, refl), (down_link, 1, [], (refl, refl, refl), refl, refl))
 
 is_numbered : AreNumbered ticked
 is_numbered key has own = absurd (false≢true has)
 
-due : List Due
+due : List DueAction
 due = record { key = own_key; action = Issue (negsuc 0x7ffffffe) } ∷ []
 
 is_due : IsDue ticked due
@@ -99,7 +99,7 @@ pub issued_database : IsDatabase has_issued.database
 unfolding entry_from
 issued_database = record { rising = (tt, tt); ages = (lit≤ tt, tt) }
 
-ends_tick : Ends ticked no_outputs issuing_out has_issued
+ends_tick : EndsStep ticked no_outputs issuing_out has_issued
 unfolding entry_from
 ends_tick = record {
   database = record { rising = tt; ages = tt };
@@ -135,7 +135,7 @@ hello_fits = record {
   short = lit≤ tt;
 }
 
-pub hello_read : AreRead linked_out.sent
+pub hello_read : AreReadAsSent linked_out.sent
 unfolding datagrams
 hello_read zero d within = read_again hello_said hello_fits
 hello_read (suc k) d within = absurd (omega arith)
@@ -164,7 +164,7 @@ none_due = record {
   is = refl;
 }
 
-ends_up : Ends linked linked_out linked_out linked
+ends_up : EndsStep linked linked_out linked_out linked
 unfolding entry_from datagrams
 ends_up = record {
   database = issued_database;
@@ -199,14 +199,14 @@ rising_links : (s : AreaValue) (link : LinkValue) → s.links ≡ link ∷ [] �
 rising_links s link is none l other at =
     by_place l (subst (λ (links : List LinkValue). slice_get links l ≡ Some other) is at)
   where
-    by_place : (k : ℕ) → slice_get (link ∷ []) k ≡ Some other → IsRising other.neighbours
-    by_place zero here = subst IsRising (sym none ∙ ap (λ (x : LinkValue). x.neighbours) (same_Some link other here)) tt
+    by_place : (k : ℕ) → slice_get (link ∷ []) k ≡ Some other → AreNeighboursRising other.neighbours
+    by_place zero here = subst AreNeighboursRising (sym none ∙ ap (λ (x : LinkValue). x.neighbours) (same_Some link other here)) tt
     by_place (suc k) there = absurd (none-some other there)
 
 tick_laws : StepLaws is_dropped Event.Tick begun issuing_out has_issued
 unfolding takes_tick ends_tick
 tick_laws =
-    let read : AreRead issuing_out.sent = λ k d within. absurd (omega arith) in
+    let read : AreReadAsSent issuing_out.sent = λ k d within. absurd (omega arith) in
     let end = ends_tick in
     step_from_chain is_dropped Event.Tick begun issuing_out has_issued refl read
     (tick_puts last_parts _ begun ticked ticked has_issued [] no_outputs no_outputs issuing_out

@@ -4,7 +4,7 @@ use Rattle.std.specs.Prelude.{if◌then◌else◌}
 use Rattle.std.proofs.lemmas.List.{append-nil}
 use Rattle.ospf_base.specs.declared.ids.RouterId.{RouterId}
 use Rattle.ospf_headline.specs.Headline.{IsReached}
-use Rattle.ospf_headline.specs.Sound.{IsSound}
+use Rattle.ospf_headline.specs.Sound.{IsSoundAcknowledgement}
 use Rattle.ospf_headline.specs.World.{Comes, Happens, World}
 use Rattle.ospf_headline.specs.declared.event.WorldEvent.{WorldEvent}
 use Rattle.ospf_headline.specs.declared.event.WorldEvent.TheVariants.{Start, Stop, Tick, LinkUp, LinkDown, Deliver}
@@ -79,7 +79,7 @@ ticks_once event result w w' ts ts' comes log = (event ∷ [], (w', result, come
 
 -- the law of one event
 abbrev pub SoundEach : Type 0
-SoundEach = (event : WorldEvent) (before after : World) → IsReached is_dropped before → Happens is_dropped event before after → IsSound event before after
+SoundEach = (event : WorldEvent) (before after : World) → IsReached is_dropped before → Happens is_dropped event before after → IsSoundAcknowledgement event before after
 
 pub sound_between : SoundEach → (w w' : World) → IsReached is_dropped w → LeadsOn w w' → IsSoundBetween w w'
 sound_between law w w' reached leads = record {

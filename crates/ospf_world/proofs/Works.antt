@@ -21,9 +21,9 @@ use Rattle.ospf_packet.specs.Meaning.{packet_bytes}
 use Rattle.ospf_router.specs.Routers.{RouterValue}
 use Rattle.ospf_router.specs.Starts.{IsStarted}
 use Rattle.ospf_headline.proofs.StartFacts.{begins}
-use Rattle.ospf_headline.specs.Logs.{LogsValue, held_by, holdings_by, issued_in, sent_by}
+use Rattle.ospf_headline.specs.Logs.{LogsValue, held_by, holdings_by, issued_in, sent_as_datagram}
 use Rattle.ospf_headline.specs.Running.{StartsAs}
-use Rattle.ospf_headline.specs.Slots.{GoesOn, SlotSteps, SlotTakes, SlotValue}
+use Rattle.ospf_headline.specs.Slots.{SlotGoesOn, SlotSteps, SlotTakes, SlotValue}
 use Rattle.ospf_update.specs.Removal.{lowest_number}
 use Rattle.ospf_world.specs.Does.{Does}
 use Rattle.ospf_world.specs.Worlds.{WorldValue, new_world, no_logs}
@@ -46,7 +46,7 @@ slot o = record { config = config; running = o }
 
 abbrev logs_after : LogsValue → OutputsValue → LogsValue
 logs_after logs out = record {
-  datagrams = logs.datagrams ++ map (sent_by it) out.sent;
+  datagrams = logs.datagrams ++ map (sent_as_datagram it) out.sent;
   issued = logs.issued ++ map (issued_in first_run []) out.issued;
   held = logs.held ++ (map (held_by it) out.taken ++ map (holdings_by it) out.issued);
 }
@@ -99,7 +99,7 @@ issued_table = record {
   is_table = is_table;
 }
 
-ticks_on : GoesOn Event.Tick (slot (Some (runs_at begun))) no_logs (slot (Some (runs_at has_issued))) issued_logs
+ticks_on : SlotGoesOn Event.Tick (slot (Some (runs_at begun))) no_logs (slot (Some (runs_at has_issued))) issued_logs
 unfolding run_of
 ticks_on = record {
   x = runs_at begun;
@@ -128,7 +128,7 @@ linked_table = record {
   is_table = is_table;
 }
 
-goes_up : GoesOn (Event.LinkUp 0) (slot (Some (runs_at has_issued))) issued_logs (slot (Some (runs_at linked))) all_logs
+goes_up : SlotGoesOn (Event.LinkUp 0) (slot (Some (runs_at has_issued))) issued_logs (slot (Some (runs_at linked))) all_logs
 unfolding run_of
 goes_up = record {
   x = runs_at has_issued;

@@ -24,13 +24,13 @@ links_on network place [] = []
 links_on network place (config ∷ configs) = router_links network place config ++ links_on network (place + 1) configs
 
 -- those that an index has
-abbrev pub links_in : Option (Vec LinkPlace) → List LinkPlace
-links_in None = []
-links_in (Some links) = links.items
+abbrev pub places_in : Option (Vec LinkPlace) → List LinkPlace
+places_in None = []
+places_in (Some links) = links.items
 
-abbrev pub links_at : tree.BTreeMap ℕ (Vec LinkPlace) → ℕ → List LinkPlace
-links_at networks network = links_in (tree.get nat_cmp networks network)
+abbrev pub places_on_network : tree.BTreeMap ℕ (Vec LinkPlace) → ℕ → List LinkPlace
+places_on_network networks network = places_in (tree.get nat_cmp networks network)
 
 -- the index has the interfaces of these routers on each network
 abbrev pub AreNetworks : tree.BTreeMap ℕ (Vec LinkPlace) → List Config → Type 0
-AreNetworks networks configs = (network : ℕ) → links_at networks network ≡ links_on network 0 configs
+AreNetworks networks configs = (network : ℕ) → places_on_network networks network ≡ links_on network 0 configs

@@ -14,8 +14,8 @@ abbrev pub address_at : Config → ℕ → Option InterfaceAddress
 address_at config link = option_map (λ i. i.address) (slice_get config.interfaces.items link)
 
 -- two interfaces have one prefix
-abbrev pub is_on : InterfaceAddress → InterfaceAddress → Bool
-is_on one other = (one.length == other.length) && (network_part one == network_part other)
+abbrev pub share_prefix : InterfaceAddress → InterfaceAddress → Bool
+share_prefix one other = (one.length == other.length) && (network_part one == network_part other)
 
 -- an interface listens to the destination: all routers, those that a network elects, or its own address
 abbrev pub is_for : Addr → InterfaceAddress → Bool
@@ -23,7 +23,7 @@ is_for destination to = (destination.0 == all_spf_routers.0) || (destination.0 =
 
 -- what goes out of one interface is offered to another: it has the same prefix and listens to the destination
 unfoldable pub is_offered : InterfaceAddress → Addr → InterfaceAddress → Bool
-is_offered from destination to = is_on from to && is_for destination to
+is_offered from destination to = share_prefix from to && is_for destination to
 
 -- the deliveries of a datagram that a router is offered, in the order of its links
 unfoldable pub offers_to : ℕ → InterfaceAddress → Addr → Config → List WorldEvent

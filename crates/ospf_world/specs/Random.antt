@@ -16,11 +16,11 @@ pub data Meets (event : Option WorldEvent) (before : WorldValue) (answer : Resul
   Ends : (e : WorldEvent) (f : WorldFault) → event ≡ Some e → Does e before (Err f) after → is_memory f ≡ true → answer ≡ Err f → Meets event before answer after
 
 -- what comes of a part, and where that was not refused of the rest
-pub data GoesOn (Part : Result (Unit {0}) WorldFault → WorldValue → Type 0) (Rest : WorldValue → Result (Unit {0}) WorldFault → WorldValue → Type 0) (result : Result (Unit {0}) WorldFault) (after : WorldValue) : Type 0 where
-  Further : (mid : WorldValue) → Part (Ok tt) mid → Rest mid result after → GoesOn Part Rest result after
-  Ended : (f : WorldFault) → Part (Err f) after → result ≡ Err f → GoesOn Part Rest result after
+pub data GoesOnWith (Part : Result (Unit {0}) WorldFault → WorldValue → Type 0) (Rest : WorldValue → Result (Unit {0}) WorldFault → WorldValue → Type 0) (result : Result (Unit {0}) WorldFault) (after : WorldValue) : Type 0 where
+  Further : (mid : WorldValue) → Part (Ok tt) mid → Rest mid result after → GoesOnWith Part Rest result after
+  Ended : (f : WorldFault) → Part (Err f) after → result ≡ Err f → GoesOnWith Part Rest result after
 
 -- so many events, each drawn by four words of the generator, which goes on behind them
 abbrev pub IsRandom : ℕ → Lcg → WorldValue → Result (Unit {0}) WorldFault → WorldValue → Type 0
 IsRandom zero g before result after = (after ≡ before) × (result ≡ Ok tt)
-IsRandom (suc count) g before result after = GoesOn (Meets (drawn (words_from g).0 (world_of before)) before) (IsRandom count (words_from g).1) result after
+IsRandom (suc count) g before result after = GoesOnWith (Meets (drawn (words_from g).0 (world_of before)) before) (IsRandom count (words_from g).1) result after

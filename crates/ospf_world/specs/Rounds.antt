@@ -45,14 +45,14 @@ abbrev pub is_offered_to : InterfaceAddress → Datagram → SlotValue → Inter
 is_offered_to from g s to = is_some s.running && not (is_sender g s) && is_offered from g.sent.destination to
 
 -- what is offered of it to an interface of this address, if there is that, of a router on this link
-abbrev pub offer_to : ℕ → InterfaceAddress → Datagram → SlotValue → ℕ → Option InterfaceAddress → List WorldEvent
-offer_to d from g s link None = []
-offer_to d from g s link (Some to) = if is_offered_to from g s to then Deliver d s.config.router_id link ∷ [] else []
+abbrev pub offered_to : ℕ → InterfaceAddress → Datagram → SlotValue → ℕ → Option InterfaceAddress → List WorldEvent
+offered_to d from g s link None = []
+offered_to d from g s link (Some to) = if is_offered_to from g s to then Deliver d s.config.router_id link ∷ [] else []
 
 -- on this link of a router, if there is that
 abbrev pub offer_on : ℕ → InterfaceAddress → Datagram → ℕ → Option SlotValue → List WorldEvent
 offer_on d from g link None = []
-offer_on d from g link (Some s) = offer_to d from g s link (address_at s.config link)
+offer_on d from g link (Some s) = offered_to d from g s link (address_at s.config link)
 
 -- at a place
 abbrev pub offer_at : ℕ → InterfaceAddress → Datagram → List SlotValue → LinkPlace → List WorldEvent

@@ -1,12 +1,12 @@
 -- Sound acknowledgement from one moment of a world to another.
 use Rattle.std.specs.Prelude.{List}
-use Rattle.ospf_headline.specs.Sound.{IsSound}
-use Rattle.ospf_headline.specs.World.{Happens, Runs, World}
+use Rattle.ospf_headline.specs.Sound.{IsSoundAcknowledgement}
+use Rattle.ospf_headline.specs.World.{Happens, RunsEvents, World}
 use Rattle.ospf_headline.specs.declared.event.WorldEvent.{WorldEvent}
 use Rattle.ospf_router.specs.Steps.{is_dropped}
 
 -- some events lead from the one to the other, and whatever events do, acknowledgement is sound at each of them
 pub record IsSoundBetween (before after : World) : Type 0 where
-  pub leads : (events : List WorldEvent) × Runs is_dropped events before after
+  pub leads : (events : List WorldEvent) × RunsEvents is_dropped events before after
   pub each : (earlier later : List WorldEvent) (event : WorldEvent) (mid next : World) →
-      Runs is_dropped earlier before mid → Happens is_dropped event mid next → Runs is_dropped later next after → IsSound event mid next
+      RunsEvents is_dropped earlier before mid → Happens is_dropped event mid next → RunsEvents is_dropped later next after → IsSoundAcknowledgement event mid next

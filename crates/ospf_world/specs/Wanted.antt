@@ -10,19 +10,19 @@ use Rattle.ospf_area.specs.State.{LinkValue}
 use Rattle.ospf_iface.specs.Machine.{is_down}
 use Rattle.ospf_wanted.specs.Wanted.{is_transit, links_at}
 use Rattle.ospf_whatif.specs.Failure.{kept_links, takes}
-use Rattle.ospf_whatif.specs.declared.failure.Failure.{Failure}
-use Rattle.ospf_whatif.specs.declared.failure.Failure.TheVariants as fails
+use Rattle.ospf_whatif.specs.declared.failure.AreaFailure.{AreaFailure}
+use Rattle.ospf_whatif.specs.declared.failure.AreaFailure.TheVariants as fails
 
 -- the links of the router-LSA that a router of these interfaces wants
 abbrev pub wanted_links : Bool → List LinkValue → List Link
 wanted_links stub_router links = flat_map (links_at stub_router) links
 
 -- the failure takes none of the links that these interfaces make
-abbrev pub AreSpared : Failure → RouterId → Bool → List LinkValue → Type 0
+abbrev pub AreSpared : AreaFailure → RouterId → Bool → List LinkValue → Type 0
 AreSpared f router stub_router links = AllByRecursion (λ l. takes f router l ≡ false) (wanted_links stub_router links)
 
 -- the router wants what the failure leaves of what it wanted, where one of its interfaces has changed
-abbrev pub IsLeft : Failure → RouterId → Bool → (front : List LinkValue) (before after : LinkValue) (back : List LinkValue) → Type 0
+abbrev pub IsLeft : AreaFailure → RouterId → Bool → (front : List LinkValue) (before after : LinkValue) (back : List LinkValue) → Type 0
 IsLeft f router stub_router front before after back =
     kept_links f router (wanted_links stub_router (front ++ before ∷ back)) ≡ wanted_links stub_router (front ++ after ∷ back)
 
@@ -42,19 +42,19 @@ LinksGoDown =
     IsLeft (fails.Link router other subnet) router stub_router front before after back
 
 -- the failure of a router's attachment to a network, or of the network
-abbrev pub IsOfNetwork : Failure → RouterId → ℕ → Type 0
-IsOfNetwork (fails.Attachment q n) router network = (q ≡ router) × (n ≡ network)
-IsOfNetwork (fails.Network n) router network = n ≡ network
-IsOfNetwork (fails.Link _ _ _) _ _ = ⊥
-IsOfNetwork (fails.Links _ _) _ _ = ⊥
-IsOfNetwork (fails.Router _) _ _ = ⊥
+abbrev pub IsNetworkFailure : AreaFailure → RouterId → ℕ → Type 0
+IsNetworkFailure (fails.Attachment q n) router network = (q ≡ router) × (n ≡ network)
+IsNetworkFailure (fails.Network n) router network = n ≡ network
+IsNetworkFailure (fails.Link _ _ _) _ _ = ⊥
+IsNetworkFailure (fails.Links _ _) _ _ = ⊥
+IsNetworkFailure (fails.Router _) _ _ = ⊥
 
 -- an interface to a transit network goes down
 abbrev pub InterfacesGoDown : Type 0
 InterfacesGoDown =
     (router : RouterId) (stub_router : Bool) (front back : List LinkValue) (before after : LinkValue) →
     is_down before.iface.state ≡ false → before.iface.settings.kind ≡ kind.Broadcast → is_transit before ≡ true → is_down after.iface.state ≡ true →
-    (f : Failure) → IsOfNetwork f router before.iface.dr.0 →
+    (f : AreaFailure) → IsNetworkFailure f router before.iface.dr.0 →
     AreSpared f router stub_router front → AreSpared f router stub_router back → IsLeft f router stub_router front before after back
 
 -- the neighbour on a point-to-point link is heard no more, and the interface stays up

@@ -1,9 +1,10 @@
 -- Worlds in code: a slot for each router, and the logs.
-use Rattle.std.specs.Prelude.{◌≡◌, ◌<◌, ◌==◌, ◌+◌, ◌++◌, ℕ, Bool, List, [], ◌∷◌, Option, None, Some, Result, Ok, Err, false, cond, length, map, slice_get}
+use Rattle.std.specs.Prelude.{◌≡◌, ◌==◌, ◌+◌, ◌++◌, ℕ, Bool, List, [], ◌∷◌, Option, None, Some, Result, Ok, Err, false, cond, length, map}
 use Rattle.std.specs.Borrow.{Bor}
 use Rattle.std.specs.BTreeMap as tree
 use Rattle.std.specs.Ordering.{nat_cmp}
 use Rattle.ospf_base.specs.declared.ids.RouterId.{RouterId}
+use Rattle.ospf_config.specs.Configs.{ShareRouter}
 use Rattle.ospf_config.specs.declared.config.Config.{Config}
 use Rattle.ospf_headline.specs.World.{Member, World, member}
 use Rattle.ospf_headline.specs.declared.event.WorldFault.{WorldFault}
@@ -54,32 +55,21 @@ place_of slots r = place_from r 0 slots
 abbrev pub place_in : tree.BTreeMap ℕ ℕ → ℕ → Option ℕ
 place_in places r = tree.get nat_cmp places r
 
-abbrev pub ArePlaces : tree.BTreeMap ℕ ℕ → List SlotValue → Type 0
-ArePlaces places slots = (r : ℕ) → place_in places r ≡ place_of slots r
+abbrev pub AreSlotPlaces : tree.BTreeMap ℕ ℕ → List SlotValue → Type 0
+AreSlotPlaces places slots = (r : ℕ) → place_in places r ≡ place_of slots r
 
 -- ---- new worlds
 
 -- a router that does not run
-abbrev pub stopped : Config → SlotValue
-stopped config = record { config = config; running = None }
+abbrev pub stopped_slot : Config → SlotValue
+stopped_slot config = record { config = config; running = None }
 
 abbrev pub no_logs : LogsValue
 no_logs = record { datagrams = []; issued = []; held = [] }
 
 -- a world of these configurations, in which nothing runs and nothing has happened
 abbrev pub new_world : List Config → WorldValue
-new_world configs = record { slots = map stopped configs; logs = no_logs; ticks = []; offered = 0 }
-
--- two configurations, at different places, of one Router ID
-pub record ShareRouter (configs : List Config) : Type 0 where
-  pub i : ℕ
-  pub j : ℕ
-  pub before : i < j
-  pub a : Config
-  pub b : Config
-  pub at_i : slice_get configs i ≡ Some a
-  pub at_j : slice_get configs j ≡ Some b
-  pub same : a.router_id ≡ b.router_id
+new_world configs = record { slots = map stopped_slot configs; logs = no_logs; ticks = []; offered = 0 }
 
 -- what comes of these configurations: a new world of them, where no two share a Router ID; none, where two do; or memory ran out
 pub data Opens (configs : List Config) (result : Result WorldValue WorldFault) : Type 0 where
@@ -88,10 +78,10 @@ pub data Opens (configs : List Config) (result : Result WorldValue WorldFault) :
   NoMemory : result ≡ Err (fault.Memory false) → Opens configs result
 
 -- a configuration is added to those that have a slot: it has the next one, or is of a Router ID that has one, or memory ran out
-pub data Adds (config : Config) (slots : List SlotValue) (places : tree.BTreeMap ℕ ℕ) (result : Result (Unit {0}) WorldFault) (slots' : List SlotValue) (places' : tree.BTreeMap ℕ ℕ) : Type 0 where
-  Added : place_in places config.router_id.0 ≡ None → result ≡ Ok tt → slots' ≡ slots ++ stopped config ∷ [] → ((r : ℕ) → place_in places' r ≡ cond (config.router_id.0 == r) (Some (length slots)) (place_in places r)) → Adds config slots places result slots' places'
-  SameRouter : (k : ℕ) → place_in places config.router_id.0 ≡ Some k → result ≡ Err fault.SameRouter → Adds config slots places result slots' places'
-  NoMemory : result ≡ Err (fault.Memory false) → Adds config slots places result slots' places'
+pub data AddsConfig (config : Config) (slots : List SlotValue) (places : tree.BTreeMap ℕ ℕ) (result : Result (Unit {0}) WorldFault) (slots' : List SlotValue) (places' : tree.BTreeMap ℕ ℕ) : Type 0 where
+  Added : place_in places config.router_id.0 ≡ None → result ≡ Ok tt → slots' ≡ slots ++ stopped_slot config ∷ [] → ((r : ℕ) → place_in places' r ≡ cond (config.router_id.0 == r) (Some (length slots)) (place_in places r)) → AddsConfig config slots places result slots' places'
+  SameRouter : (k : ℕ) → place_in places config.router_id.0 ≡ Some k → result ≡ Err fault.SameRouter → AddsConfig config slots places result slots' places'
+  NoMemory : result ≡ Err (fault.Memory false) → AddsConfig config slots places result slots' places'
 
 -- ---- the router of a Router ID
 

@@ -2,7 +2,7 @@
 
 ghost use Rattle.std.specs.Prelude.{◌≡◌, ◌==◌, ◌++◌, ◌∷◌, [], ℕ, IfOk, OnOk, if◌then◌else◌, map};
 ghost use Rattle.ospf_config.specs.Conflicts.{network_part};
-ghost use Rattle.ospf_world.specs.Networks.{AreNetworks, links_at, router_links};
+ghost use Rattle.ospf_world.specs.Networks.{AreNetworks, places_on_network, router_links};
 ghost use Rattle.ospf_world.specs.Worlds.{config_of};
 
 use ospf_base::mask_of;
@@ -37,7 +37,7 @@ pub(crate) fn networks_of(slots: &[Slot], alloc: Global) -> Result<Networks, All
 
 /// Where the interfaces on a network stand.
 pub(crate) fn links_at(networks: &Networks, network: u32) -> &[LinkPlace]
-    ensures { result.now ≡ links_at networks.now network }
+    ensures { result.now ≡ places_on_network networks.now network }
 {
     match networks.get(&network) {
         Some(there) => there,
@@ -59,8 +59,8 @@ fn add_router(
     config: &Config,
     alloc: Global,
 ) -> Result<(), AllocError>
-    ensures { OnOk result ((network : ℕ) → links_at networks.new network
-        ≡ links_at networks.old network ++ router_links network place config.now) }
+    ensures { OnOk result ((network : ℕ) → places_on_network networks.new network
+        ≡ places_on_network networks.old network ++ router_links network place config.now) }
 {
     for (link, interface) in config.interfaces.iter().enumerate() {
         let network = network_of(&interface.address);
@@ -76,8 +76,8 @@ fn add_interface(
     at: LinkPlace,
     alloc: Global,
 ) -> Result<(), AllocError>
-    ensures { OnOk result ((q : ℕ) → links_at networks.new q
-        ≡ links_at networks.old q ++ (if q == network then at ∷ [] else [])) }
+    ensures { OnOk result ((q : ℕ) → places_on_network networks.new q
+        ≡ places_on_network networks.old q ++ (if q == network then at ∷ [] else [])) }
 {
     let mut links = match networks.remove(&network) {
         Some(links) => links,

@@ -2,7 +2,7 @@
 
 ghost use Rattle.std.specs.Prelude.{◌≡◌, ◌++◌, IfOk, OnOk, Some};
 ghost use Rattle.std.specs.List.{flat_map};
-ghost use Rattle.ospf_world.specs.Offers.{address_at, is_for, is_offered, is_on};
+ghost use Rattle.ospf_world.specs.Offers.{address_at, is_for, is_offered, share_prefix};
 ghost use Rattle.ospf_world.specs.Rounds.{is_offered_to, offer_at, offer_on};
 
 use crate::networks::LinkPlace;
@@ -110,7 +110,7 @@ fn takes(from: &InterfaceAddress, destination: Addr, to: &InterfaceAddress) -> b
 
 // Whether two interfaces have one prefix.
 fn is_beside(one: &InterfaceAddress, other: &InterfaceAddress) -> bool
-    ensures { result ≡ is_on one.now other.now }
+    ensures { result ≡ share_prefix one.now other.now }
 {
     one.length == other.length
         && one.address.0 & mask_of(one.length) == other.address.0 & mask_of(other.length)

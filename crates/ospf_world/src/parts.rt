@@ -4,7 +4,7 @@ ghost use Rattle.std.specs.Prelude.{◌≡◌, ◌<◌, ◌+◌, ◌++◌, IfOk,
 ghost use Rattle.ospf_headline.specs.Slots.{router_in};
 ghost use Rattle.ospf_world.specs.Does.{Does};
 ghost use Rattle.ospf_world.specs.Rounds.{offers_of, sender_in};
-ghost use Rattle.ospf_world.specs.Worlds.{Adds, Lends, LendsSlot, Opens, place_in, world_of};
+ghost use Rattle.ospf_world.specs.Worlds.{AddsConfig, Lends, LendsSlot, Opens, place_in, world_of};
 
 use crate::networks::{Networks, links_at, network_of, networks_of};
 use crate::offers::{address_of, offers_at};
@@ -34,13 +34,13 @@ pub(crate) struct Parts {
 impl Model for Parts {
     ghost use Rattle.std.specs.Prelude.{map};
     ghost use Rattle.ospf_world.specs.Networks.{AreNetworks};
-    ghost use Rattle.ospf_world.specs.Worlds.{ArePlaces, WorldValue, config_of};
+    ghost use Rattle.ospf_world.specs.Worlds.{AreSlotPlaces, WorldValue, config_of};
 
     ghost Value = { WorldValue };
 
     ghost view = { λ w. record { slots = w.slots.items; logs = w.logs; ticks = w.ticks.items; offered = w.offered } };
 
-    ghost invariant = { λ w. ArePlaces w.places w.slots.items × AreNetworks w.networks (map config_of w.slots.items) };
+    ghost invariant = { λ w. AreSlotPlaces w.places w.slots.items × AreNetworks w.networks (map config_of w.slots.items) };
 }
 
 impl Parts {
@@ -136,7 +136,7 @@ fn add(
     places: &mut BTreeMap<u32, usize>,
     config: Config,
 ) -> Result<(), WorldFault>
-    ensures { Adds config slots.old.items places.old result slots.new.items places.new }
+    ensures { AddsConfig config slots.old.items places.old result slots.new.items places.new }
 {
     let router = config.router_id;
     if place(places, router).is_some() {

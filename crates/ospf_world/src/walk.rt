@@ -172,7 +172,8 @@ fn hop_in(route: &Route, choice: u32) -> NextHop
 // What a hop does, at the cost of its route.
 fn leg_over(router: &Router, at: RouterId, hop: &NextHop, cost: u64) -> Leg
     requires { hop.now ≢ hops.Attached →
-        (metric : ℕ) × HasLinkFor (advertisements_of (listing_of router.now.area)) at hop.now metric }
+        (metric : ℕ) × HasLinkFor (advertisements_of (listing_of router.now.area)) at hop.now
+        metric }
     ensures { LegsOver (advertisements_of (listing_of router.now.area)) at hop.now cost result }
 {
     match hop {

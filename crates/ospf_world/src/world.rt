@@ -3,7 +3,7 @@
 ghost use Rattle.std.specs.Prelude.{◌≡◌, ◌<◌, ◌+◌, ◌++◌, IfOk, length};
 ghost use Rattle.ospf_headline.specs.Headline.{Headline, IsReached};
 ghost use Rattle.ospf_headline.specs.Runs.{IsRun, is_memory};
-ghost use Rattle.ospf_headline.specs.Sound.{IsSound};
+ghost use Rattle.ospf_headline.specs.Sound.{IsSoundAcknowledgement};
 ghost use Rattle.ospf_headline.specs.World.{Comes};
 ghost use Rattle.ospf_router.specs.Steps.{is_dropped};
 ghost use Rattle.ospf_world.specs.Does.{Does};
@@ -67,7 +67,7 @@ impl World {
         // What holds of every network holds of this one again, and its log of ticks goes on.
         ensures reached { IsReached is_dropped (world_of self.new) }
         ensures headline { Headline (world_of self.old) (world_of self.new) }
-        ensures sound { IsSound event (world_of self.old) (world_of self.new) }
+        ensures sound { IsSoundAcknowledgement event (world_of self.old) (world_of self.new) }
         ensures ticks { self.new.ticks ≡ self.old.ticks
             ++ ticked_by event result (length self.old.logs.datagrams) }
     {

@@ -2,7 +2,8 @@ use Rattle.std.proofs.Common.{◌≡◌, take}
 use Rattle.std.specs.BTreeSet.{IsOrdered}
 use Rattle.std.specs.List.{list_any}
 use Rattle.ospf_base.specs.declared.ids.LsaKey.{LsaKey}
-use Rattle.ospf_lsdb.specs.Moments.{among, key_cmp}
+use Rattle.ospf_base.specs.Keys.{key_cmp}
+use Rattle.ospf_lsdb.specs.Moments.{among}
 use Rattle.ospf_adjacency.proofs.DueLemmas.{is_due_of}
 use Rattle.ospf_adjacency.proofs.repeating.due_keys.Given as goal
 

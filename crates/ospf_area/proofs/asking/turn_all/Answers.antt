@@ -2,7 +2,7 @@
 use Rattle.std.proofs.Common.{◌≡◌, ◌∙◌, ap, set, sym, get_or, take}
 use Rattle.std.proofs.lemmas.List.Edits.{map_over_more}
 use Rattle.ospf_neighbour.specs.Neighbour.{NeighbourValue}
-use Rattle.ospf_area.specs.Asking.{turned}
+use Rattle.ospf_area.specs.Asking.{turned_to_next}
 use Rattle.ospf_area.specs.Posting.{PostValue, and_parcels}
 use Rattle.ospf_area.specs.Turns.{all_next_parcels, next_parcels}
 use Rattle.ospf_neighbour.proofs.NeighbourLemmas.{AreNeighbours-same, routers-set}
@@ -13,7 +13,7 @@ use Rattle.ospf_area.proofs.asking.turn_all.Goals as goal
 
 pub returns-in_err-request_turn-clause-still : goal.returns-in_err-request_turn-clause-still
 returns-in_err-request_turn-clause-still c =
-    let f = turned c.args.at.now.local.mtu c.args.at.now.local.tick in
+    let f = turned_to_next c.args.at.now.local.mtu c.args.at.now.local.tick in
     let is_new : c.request_turn.new.neighbour ≡ f c.neighbour-item.result = c.request_turn.ensures.after ∙ ap f (sym c.neighbour-item.is) in
     AreNeighbours-same _ _ (routers-set c.loop-neighbour.neighbours c.loop-neighbour.neighbour-index c.neighbour-item.result c.request_turn.new.neighbour c.neighbour-item.is (ap (λ (n : NeighbourValue). n.router) is_new ∙ turned-router _ _ c.neighbour-item.result) ∙ c.loop-neighbour.invariant.still) c.requires.few
 
@@ -21,7 +21,7 @@ pub loop-neighbour-preserved : goal.loop-neighbour-preserved
 loop-neighbour-preserved c =
     let iface = c.args.at.now.iface in
     let local = c.args.at.now.local in
-    let f = turned local.mtu local.tick in
+    let f = turned_to_next local.mtu local.tick in
     let xs = c.args.neighbours.now in
     let ys = c.loop-neighbour.neighbours in
     let i = c.loop-neighbour.neighbour-index in

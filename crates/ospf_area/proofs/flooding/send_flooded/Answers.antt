@@ -11,6 +11,6 @@ pub returns : goal.returns
 returns c =
     on_ok_weaker c.send_all.result
     (λ e. e ∙ ap (and_sends c.args.out.now)
-    (lsa_posted c.args.own c.args.number 0 flooding_address c.args.link.now (state.Link.the_view c.link.inside) c.args.lsa.now c.in_ok-lsa.lsa c.flooding_address.result c.new-post.result c.send_lsa.new.post
+    (lsa_posted c.args.own c.args.number 0 flooding_address c.args.link.now (state.AreaLink.the_view c.link.inside) c.args.lsa.now c.in_ok-lsa.lsa c.flooding_address.result c.new-post.result c.send_lsa.new.post
     c.link.view_is c.new-post.ensures c.in_ok-lsa.ensures c.flooding_address.ensures c.in_ok-send_lsa.ensures))
     c.send_all.ensures

@@ -4,7 +4,7 @@ use Rattle.ospf_base.specs.Constants.{largest_packet}
 use Rattle.ospf_packet.specs.Meaning.{packet_bytes}
 use Rattle.ospf_packet.specs.Packet.{meaning_of}
 use Rattle.ospf_packet.specs.Said.{meant}
-use Rattle.ospf_area.specs.Outputs.{AreRead, IsRead}
+use Rattle.ospf_area.specs.Outputs.{AreReadAsSent, IsReadAsSent}
 use Rattle.ospf_area.proofs.SendingLemmas.{datagrams_long, datagrams_read, sends_none, packet_said, read_again}
 use Rattle.ospf_area.proofs.sending.send.Goals as goal
 
@@ -21,8 +21,8 @@ invariant_of-push c =
 pub invariant_of-out-2 : goal.invariant_of-out-2
 invariant_of-out-2 c =
     let m = meant c.args.packet.now in
-    subst AreRead (sym c.in_ok-push.ensures.items)
-    (All-push IsRead _ _ c.out.invariant (read_again c.write_packet.new.out.items m (c.in-Ok.ensures.ok ∙ ap (λ bs. bs ++ packet_bytes m) c.new-bytes.ensures.items) c.in-Ok.ensures.again))
+    subst AreReadAsSent (sym c.in_ok-push.ensures.items)
+    (All-push IsReadAsSent _ _ c.out.invariant (read_again c.write_packet.new.out.items m (c.in-Ok.ensures.ok ∙ ap (λ bs. bs ++ packet_bytes m) c.new-bytes.ensures.items) c.in-Ok.ensures.again))
 
 pub returns : goal.returns
 returns c =

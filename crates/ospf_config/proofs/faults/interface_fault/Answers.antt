@@ -2,14 +2,14 @@ use Rattle.std.proofs.Common.{◌⊎◌, Err, inl, inr}
 use Rattle.toml.specs.Data.{Members}
 use Rattle.toml.specs.View.{table_view}
 use Rattle.ospf_config.specs.declared.fault.ConfigFault.{ConfigFault}
-use Rattle.ospf_config.specs.Keys.{ReadsKind, ReadsAddress, ReadsHello, ReadsDead, ReadsRetransmit, ReadsTransmitDelay, ReadsCost, ReadsPriority, ReadsMtu, ReadsPort, ReadsPeers}
+use Rattle.ospf_config.specs.Keys.{ReadsKind, ReadsInterfaceAddress, ReadsHello, ReadsDead, ReadsRetransmit, ReadsTransmitDelay, ReadsCost, ReadsPriority, ReadsMtu, ReadsPort, ReadsPeers}
 use Rattle.ospf_config.specs.Tables.{HasInterfaceFault, in_kind, in_address, in_hello, in_dead, in_retransmit, in_transmit_delay, in_cost, in_priority, in_mtu, in_port, in_peers}
 use Rattle.ospf_config.proofs.Least.{least_both, least_same, least_error, least_fault}
 use Rattle.ospf_config.proofs.Singles.{kind_single, address_single, hello_single, dead_single, retransmit_single, transmit_delay_single, only_cost, priority_single, mtu_single, port_single, peers_single}
 use Rattle.ospf_config.proofs.faults.interface_fault.Goals as goal
 
 abbrev Texts : Members → ConfigFault → Type 0
-Texts t f = ReadsKind t (Err f) ⊎ ReadsAddress t (Err f)
+Texts t f = ReadsKind t (Err f) ⊎ ReadsInterfaceAddress t (Err f)
 
 abbrev Times : Members → ConfigFault → Type 0
 Times t f = (ReadsHello t (Err f) ⊎ ReadsDead t (Err f)) ⊎ (ReadsRetransmit t (Err f) ⊎ ReadsTransmitDelay t (Err f))
@@ -53,7 +53,7 @@ pub returns : goal.returns
 returns c =
     let t = table_view c.args.table.now in
     let kind = least_error (ReadsKind t) (kind_single t) c.kind_at.result c.err.result c.kind_at.ensures c.err.ensures.value in
-    let address = least_error (ReadsAddress t) (address_single t) c.address_at.result c.err-2.result c.address_at.ensures c.err-2.ensures.value in
+    let address = least_error (ReadsInterfaceAddress t) (address_single t) c.address_at.result c.err-2.result c.address_at.ensures c.err-2.ensures.value in
     let hello = least_error (ReadsHello t) (hello_single t) c.hello_at.result c.err-3.result c.hello_at.ensures.reads c.err-3.ensures.value in
     let dead = least_error (ReadsDead t) (dead_single t) c.dead_at.result c.err-4.result c.dead_at.ensures.reads c.err-4.ensures.value in
     let retransmit = least_error (ReadsRetransmit t) (retransmit_single t) c.retransmit_at.result c.err-5.result c.retransmit_at.ensures.reads c.err-5.ensures.value in

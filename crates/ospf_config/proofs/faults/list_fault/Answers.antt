@@ -1,7 +1,7 @@
 use Rattle.std.proofs.Common.{◌≡◌, length, sym, ◌∙◌, true, false, arith}
 use Rattle.toml.specs.Text.{are_tables}
 use Rattle.toml.specs.View.{items_view}
-use Rattle.ospf_config.specs.Tables.{tables_of}
+use Rattle.ospf_config.specs.Tables.{tables_among}
 use Rattle.ospf_config.proofs.TableLists.{all_tables, length_tables, list_no_tables, list_out, list_in}
 use Rattle.ospf_config.proofs.faults.list_fault.Goals as goal
 
@@ -15,19 +15,19 @@ pub returns-then-len-lt1 : goal.returns-then-len-lt1
 returns-then-len-lt1 c =
     let are : are_tables (items_view c.deref.result.now) ≡ true = sym (all_tables c.deref.result.now) ∙ sym c.are_all_tables.ensures ∙ c.if-not-are_all_tables.false in
     let here : are_tables (items_view c.in-Some-as_array.values.now.items) ≡ true = rw c.deref.ensures.value at are in
-    let long : length (tables_of (items_view c.in-Some-as_array.values.now.items)) ≡ length c.in-Some-as_array.values.now.items = length_tables _ here in
+    let long : length (tables_among (items_view c.in-Some-as_array.values.now.items)) ≡ length c.in-Some-as_array.values.now.items = length_tables _ here in
     list_out _ _ _ c.in-Some.ensures c.in-Some-as_array.ensures here (λ low high. omega (arith, long))
 
 pub returns-then-len-gt32 : goal.returns-then-len-gt32
 returns-then-len-gt32 c =
     let are : are_tables (items_view c.deref.result.now) ≡ true = sym (all_tables c.deref.result.now) ∙ sym c.are_all_tables.ensures ∙ c.if-not-are_all_tables.false in
     let here : are_tables (items_view c.in-Some-as_array.values.now.items) ≡ true = rw c.deref.ensures.value at are in
-    let long : length (tables_of (items_view c.in-Some-as_array.values.now.items)) ≡ length c.in-Some-as_array.values.now.items = length_tables _ here in
+    let long : length (tables_among (items_view c.in-Some-as_array.values.now.items)) ≡ length c.in-Some-as_array.values.now.items = length_tables _ here in
     list_out _ _ _ c.in-Some.ensures c.in-Some-as_array.ensures here (λ low high. omega (arith, long))
 
 pub returns-else-len-gt32 : goal.returns-else-len-gt32
 returns-else-len-gt32 c =
     let are : are_tables (items_view c.deref.result.now) ≡ true = sym (all_tables c.deref.result.now) ∙ sym c.are_all_tables.ensures ∙ c.if-not-are_all_tables.false in
     let here : are_tables (items_view c.in-Some-as_array.values.now.items) ≡ true = rw c.deref.ensures.value at are in
-    let long : length (tables_of (items_view c.in-Some-as_array.values.now.items)) ≡ length c.in-Some-as_array.values.now.items = length_tables _ here in
+    let long : length (tables_among (items_view c.in-Some-as_array.values.now.items)) ≡ length c.in-Some-as_array.values.now.items = length_tables _ here in
     list_in _ _ _ c.in-Some.ensures c.in-Some-as_array.ensures here (omega (arith, long)) (omega (arith, long))

@@ -1,13 +1,13 @@
 use Rattle.std.proofs.Common.{◌≡◌, inl, inr, ℕ, List, Bor, String, Global, map, string_bytes, refl, ◌∙◌}
 use Rattle.std.proofs.lemmas.Bool.{iff_false}
 use Rattle.std.specs.BTreeMap.{keys}
-use Rattle.ospf_config.specs.Tables.{IsOther}
+use Rattle.ospf_config.specs.Tables.{IsOtherKey}
 use Rattle.ospf_config.proofs.TableLists.{any_here, any_later, any_cons}
 use Rattle.ospf_config.proofs.rules.is_any_other.Goals as goal
 
 -- the key of a map is none of the names
 abbrev Other : List (Bor (List ℕ)) → String Global → Type 0
-Other names k = IsOther (map (λ n. n.now) names) (string_bytes k)
+Other names k = IsOtherKey (map (λ n. n.now) names) (string_bytes k)
 
 pub loop-key-init : goal.loop-key-init
 loop-key-init c =

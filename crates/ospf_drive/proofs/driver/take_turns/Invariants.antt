@@ -1,9 +1,9 @@
 use Rattle.ospf_drive.specs.Moments.{at}
-use Rattle.ospf_drive.specs.Drives.{GoesOn}
+use Rattle.ospf_drive.specs.Drives.{DriverGoesOn}
 use Rattle.ospf_drive.proofs.driver.take_turns.Given as goal
 
 -- the driver went on from its call to now
 abbrev pub invariant-loop : goal.invariant-loop
 invariant-loop g l =
     (goal.iterator-loop g).can_next l.iterator' × (goal.iterator-loop g).is_finite l.iterator'
-    × GoesOn (at l.fn.router (g.W.Wire.traffic l.fn.wire) (g.W.Wire.failed l.fn.wire) l.fn.writer) (at l.router (g.W.Wire.traffic l.wire) (g.W.Wire.failed l.wire) l.writer) l.told
+    × DriverGoesOn (at l.fn.router (g.W.Wire.traffic l.fn.wire) (g.W.Wire.failed l.fn.wire) l.fn.writer) (at l.router (g.W.Wire.traffic l.wire) (g.W.Wire.failed l.wire) l.writer) l.told

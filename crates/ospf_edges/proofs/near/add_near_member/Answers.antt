@@ -1,11 +1,11 @@
 use Rattle.ospf_graph.specs.declared.graph.Vertex.TheVariants.{Network}
 use Rattle.ospf_edges.specs.Listed.{advertisements_of}
-use Rattle.ospf_edges.specs.Near.{MemberGives, Sends}
+use Rattle.ospf_edges.specs.Near.{MemberGives, SendsEdge}
 use Rattle.ospf_edges.proofs.AddsLemmas.{adds_both}
 use Rattle.ospf_edges.proofs.near.add_near_member.Goals as goal
 
 pub returns : goal.returns
 returns c =
     let A = advertisements_of c.args.listing.now in
-    adds_both (MemberGives c.args.id c.args.member A) (Sends c.args.member (Network c.args.id) A) c.args.edges.now.items c.add_member.new.edges.items
+    adds_both (MemberGives c.args.id c.args.member A) (SendsEdge c.args.member (Network c.args.id) A) c.args.edges.now.items c.add_member.new.edges.items
     c.add_sent.new.edges.items c.in_ok-add_member.ensures c.in_ok-add_sent.ensures

@@ -1,6 +1,6 @@
 use Rattle.ospf_edges.specs.Given.{Adds}
 use Rattle.ospf_edges.specs.Listed.{advertisements_of}
-use Rattle.ospf_edges.specs.Near.{LinksSend, Sends}
+use Rattle.ospf_edges.specs.Near.{LinksSend, SendsEdge}
 use Rattle.ospf_edges.proofs.NearLemmas.{on_ok, sends_as}
 use Rattle.ospf_edges.proofs.near.add_sent.Goals as goal
 
@@ -9,5 +9,5 @@ returns-in-Some c =
     let A = advertisements_of c.args.listing.now in
     let old = c.args.edges.now.items in
     let new = c.add_sent_links.new.edges.items in
-    on_ok c.add_sent_links.result (Adds (LinksSend c.args.router c.args.to c.in-Some.links) old new) (Adds (Sends c.args.router c.args.to A) old new)
+    on_ok c.add_sent_links.result (Adds (LinksSend c.args.router c.args.to c.in-Some.links) old new) (Adds (SendsEdge c.args.router c.args.to A) old new)
     (sends_as A c.args.router c.args.to c.in-Some.links c.in-Some.ensures.found old new) c.add_sent_links.ensures

@@ -1,5 +1,5 @@
 use Rattle.std.proofs.Common.{sym, ◌∙◌, subst, refl}
-use Rattle.ospf_election.specs.Election.{IsRound}
+use Rattle.ospf_election.specs.Election.{IsElectionRound}
 use Rattle.ospf_election.proofs.Choosing.{own_declaration}
 use Rattle.ospf_election.proofs.election.elect.Goals as goal
 
@@ -12,7 +12,7 @@ returns-then-is_new_role c =
       member = c.find_me-own.ensures.member;
       is_me = c.find_me-own.ensures.me;
       first = c.round-first.result;
-      round = subst (λ xs. IsRound xs c.round-first.result) as_it_is c.round-first.ensures;
+      round = subst (λ xs. IsElectionRound xs c.round-first.result) as_it_is c.round-first.ensures;
       again = (rw (sym c.is_new_role.ensures ∙ c.if-is_new_role.true) c.round.ensures);
     }
 
@@ -25,6 +25,6 @@ returns-else-is_new_role c =
       member = c.find_me-own.ensures.member;
       is_me = c.find_me-own.ensures.me;
       first = c.round-first.result;
-      round = subst (λ xs. IsRound xs c.round-first.result) as_it_is c.round-first.ensures;
+      round = subst (λ xs. IsElectionRound xs c.round-first.result) as_it_is c.round-first.ensures;
       again = (rw (sym c.is_new_role.ensures ∙ c.if-is_new_role.false) refl);
     }

@@ -3,13 +3,13 @@ use Rattle.std.specs.Result.{IfOk}
 use Rattle.left_right.specs.Sides.{view}
 use Rattle.ospf_index.specs.Known.{Known, Table}
 use Rattle.ospf_spf.specs.declared.changes.Change.{Change}
-use Rattle.ospf_fib.specs.Rule.{IsNamed}
+use Rattle.ospf_fib.specs.Rule.{IsKnownBook}
 use Rattle.ospf_fib.specs.Versions.{after_of, edited_by, shown_tables}
-use Rattle.ospf_fib.specs.Writing.{IsShown, after, common_of, end_of}
+use Rattle.ospf_fib.specs.Writing.{IsListShown, shown_after, common_of, shown_end}
 use Rattle.ospf_fib.specs.declared.rule.Knows.{Knows}
 use Rattle.ospf_fib.specs.declared.shown.Common.{Common}
-use Rattle.ospf_fib.specs.declared.shown.Handed.{Handed}
-use Rattle.ospf_fib.specs.declared.shown.Shown.{Shown}
+use Rattle.ospf_fib.specs.declared.shown.HandedOver.{HandedOver}
+use Rattle.ospf_fib.specs.declared.shown.ShownTable.{ShownTable}
 use Rattle.ospf_fib.proofs.fib.opening_copies.Goals as goal
 use Rattle.ospf_fib.proofs.fib.opening_copies.Goals.{in-Ok, in-Err}
 
@@ -33,14 +33,14 @@ opened true was changes known e = refl
 opened false was changes known e = absurd cc
 
 -- what is shown where the opening alone waited, and nothing waits any more
-shows_opening : (v : Knows) (shown first : Shown) (rest waiting : List Handed) (next : Handed) (known : Known)
-    → next.is_opening ≡ true → next.known ≡ known → waiting ≡ next ∷ [] → rest ≡ [] → common_of shown ≡ end_of first waiting → IsNamed v shown.known.fib
-    → shown.live ≡ true → IsNamed v known.fib × IsShown shown known × ((end_of shown rest).table ≡ [])
+shows_opening : (v : Knows) (shown first : ShownTable) (rest waiting : List HandedOver) (next : HandedOver) (known : Known)
+    → next.is_opening ≡ true → next.known ≡ known → waiting ≡ next ∷ [] → rest ≡ [] → common_of shown ≡ shown_end first waiting → IsKnownBook v shown.known.fib
+    → shown.live ≡ true → IsKnownBook v known.fib × IsListShown shown known × ((shown_end shown rest).table ≡ [])
 shows_opening v shown first rest waiting next known opens same one none shows named live =
-    let end : end_of first waiting ≡ common [] next.known = ap (end_of first) one ∙ opened next.is_opening first.table next.changes next.known opens in
+    let end : shown_end first waiting ≡ common [] next.known = ap (shown_end first) one ∙ opened next.is_opening first.table next.changes next.known opens in
     let is : common_of shown ≡ common [] next.known = shows ∙ end in
     let list : shown.known ≡ known = sym (live_list shown.live shown.table shown.known live) ∙ ap (λ x. x.list) is ∙ same in
-    (subst (λ (k : Known). IsNamed v k.fib) list named, (live, list), ap (λ l. (end_of shown l).table) none ∙ ap (λ x. x.table) is)
+    (subst (λ (k : Known). IsKnownBook v k.fib) list named, (live, list), ap (λ l. (shown_end shown l).table) none ∙ ap (λ x. x.table) is)
 
 pub returns-then-published-clause-named : goal.returns-then-published-clause-named
 returns-then-published-clause-named g c =

@@ -3,7 +3,7 @@ use Rattle.std.proofs.lemmas.Result.{IfOk-weaker}
 use Rattle.ospf_graph.specs.declared.graph.Vertex.TheVariants as vertex
 use Rattle.ospf_lsa.specs.declared.link.LinkKind.{LinkKind}
 use Rattle.ospf_inspect.specs.Lsas.{SaysOfKind, link_line}
-use Rattle.ospf_inspect.specs.declared.lsas.Way.{Way}
+use Rattle.ospf_inspect.specs.declared.lsas.LinkWay.{LinkWay}
 use Rattle.ospf_inspect.proofs.Marks.{mark_between}
 use Rattle.ospf_inspect.proofs.lsas.link_text.Goals as goal
 
@@ -13,7 +13,7 @@ returns-in-PointToPoint c = λ adverts at.
       c.one_way_unless-mark.result.now,
       mark_between adverts (vertex.Router c.args.router) _ c.args.edges.now c.joins.result c.one_way_unless-mark.result.now at c.joins.ensures
           c.one_way_unless-mark.ensures.both c.one_way_unless-mark.ensures.one,
-      is ∙ ap (λ (w : Way). link_line (codes "router") w c.one_way_unless-mark.result.now) c.way_of.ensures,
+      is ∙ ap (λ (w : LinkWay). link_line (codes "router") w c.one_way_unless-mark.result.now) c.way_of.ensures,
     )) c.router_link_line.ensures
 
 pub returns-in-Transit : goal.returns-in-Transit
@@ -22,7 +22,7 @@ returns-in-Transit c = λ adverts at.
       c.one_way_unless-mark-in-Transit.result.now,
       mark_between adverts (vertex.Router c.args.router) _ c.args.edges.now c.joins-in-Transit.result c.one_way_unless-mark-in-Transit.result.now at
           c.joins-in-Transit.ensures c.one_way_unless-mark-in-Transit.ensures.both c.one_way_unless-mark-in-Transit.ensures.one,
-      is ∙ ap (λ (w : Way). link_line (codes "network") w c.one_way_unless-mark-in-Transit.result.now) c.way_of-in-Transit.ensures,
+      is ∙ ap (λ (w : LinkWay). link_line (codes "network") w c.one_way_unless-mark-in-Transit.result.now) c.way_of-in-Transit.ensures,
     )) c.network_link_line.ensures
 
 pub returns-in-Stub : goal.returns-in-Stub

@@ -2,14 +2,14 @@ use Rattle.std.proofs.Common.{rules, ◌≡◌, ◌++◌, arith, refl, string_by
 use Rattle.std.proofs.lemmas.Result.{IfOk-weaker}
 use Rattle.ospf_edges.specs.Listed.{advertisements_of}
 use Rattle.ospf_graph.specs.declared.hop.NextHop.TheVariants as hops
-use Rattle.ospf_inspect.specs.Path.{HasNone}
+use Rattle.ospf_inspect.specs.Path.{HasNoRouteFor}
 use Rattle.ospf_inspect.proofs.Ways.{arrives_said, goes_on_said, hop_linked, leg_said, strays_said, takes_it, turns_said}
 use Rattle.ospf_inspect.proofs.path.+add_way.Goals as goal
 
 pub returns-in_default : goal.returns-in_default
 returns-in_default t c =
     let adverts = advertisements_of c.args.listing.now in
-    let none : HasNone adverts c.args.address.0 c.args.way.at = record { table = c.in_ok-table.table; is_table = c.in_ok-table.ensures; none = c.in_default.ensures.none } in
+    let none : HasNoRouteFor adverts c.args.address.0 c.args.way.at = record { table = c.in_ok-table.table; is_table = c.in_ok-table.ensures; none = c.in_default.ensures.none } in
     let pushed : string_bytes c.push_str.new.self ≡ string_bytes c.args.text.now ++ string_bytes c.in_ok-no_route_line.field-0 = search rules in
     strays_said adverts c.args.address.0 c.args.way.most c.args.way.choices.now c.args.way.at c.args.way.paid (string_bytes c.args.text.now) (string_bytes c.push_str.new.self)
     (string_bytes c.in_ok-no_route_line.field-0) none c.in_ok-no_route_line.ensures pushed

@@ -3,7 +3,7 @@ use Rattle.std.proofs.lemmas.List.Edits.{map_over_more}
 use Rattle.ospf_neighbour.specs.Neighbour.{NeighbourValue}
 use Rattle.ospf_area.proofs.PlaceLemmas.{map_read}
 use Rattle.ospf_area.proofs.SendingLemmas.{sends_step}
-use Rattle.ospf_links.specs.Repeats.{keys_to, repeated, repeats_to}
+use Rattle.ospf_links.specs.Repeats.{keys_to, neighbour_repeated, repeats_to}
 use Rattle.ospf_links.proofs.MarkLemmas.{marks_step}
 use Rattle.ospf_links.proofs.repeats.repeat_to_each.Goals as goal
 
@@ -11,7 +11,7 @@ pub loop-neighbour-preserved : goal.loop-neighbour-preserved
 loop-neighbour-preserved c =
     let on = c.args.on.now in
     let db = c.args.database.now in
-    let f = repeated on.own on.iface on.settings db in
+    let f = neighbour_repeated on.own on.iface on.settings db in
     let xs = c.args.all.now in
     let ys = c.loop-neighbour.all in
     let i = c.loop-neighbour.neighbour-index in

@@ -2,7 +2,7 @@ use Rattle.std.proofs.Common.{◌≡◌, ap, subst, sym, ◌∙◌, Option, None
 use Rattle.std.specs.BTreeMap as tree
 use Rattle.std.specs.BTreeMap.{BTreeMap}
 use Rattle.ospf_base.specs.declared.ids.LsaKey.{LsaKey}
-use Rattle.ospf_lsdb.specs.Moments.{key_cmp}
+use Rattle.ospf_base.specs.Keys.{key_cmp}
 use Rattle.ospf_lsdb.specs.Timers.{stored_of}
 use Rattle.ospf_lsdb.specs.declared.dated.Stored.{Stored}
 use Rattle.ospf_lsdb.specs.declared.dated.Timer.TheVariants.{Expired}

@@ -1,5 +1,5 @@
 use Rattle.std.proofs.Common.{◌≡◌, rules}
-use Rattle.ospf_area.specs.State.{entry_of}
+use Rattle.ospf_area.specs.State.{database_entry}
 use Rattle.ospf_originate.specs.Actions.{is_due}
 use Rattle.ospf_wanted.specs.Wanted.{network_of, wanted_key}
 use Rattle.ospf_originate.proofs.IdleLemmas.{wanted_left_is}
@@ -12,6 +12,6 @@ returns c =
     let wanted = network_of s.router c.args.link.now in
     let key = c.network_key-key.result in
     let of_key : key ≡ wanted_key wanted = search rules in
-    let copy : c.get-copy.result ≡ entry_of s key = search rules in
+    let copy : c.get-copy.result ≡ database_entry s key = search rules in
     let due : c.network_is_due-due.result ≡ is_due wanted c.get-copy.result = search rules in
     wanted_left_is s wanted key c.get-copy.result c.network_is_due-due.result c.stays.result of_key copy due c.stays.ensures

@@ -1,9 +1,9 @@
 use Rattle.std.proofs.Common.{◌≡◌, map, rules, subst, List, Option}
 use Rattle.std.specs.Int.{w32}
 use mir.Val.{to_z, of_z}
-use Rattle.ospf_area.specs.State.{entry_of, kept_number}
+use Rattle.ospf_area.specs.State.{database_entry, kept_number}
 use Rattle.ospf_wanted.specs.Made.{IsUnmadeIf}
-use Rattle.ospf_wanted.specs.Own.{value_of}
+use Rattle.ospf_wanted.specs.Own.{wanted_value}
 use Rattle.ospf_originate.specs.Steps.{wants}
 use Rattle.ospf_wanted.specs.Wanted.{WantedValue, wanted_of}
 use Rattle.ospf_originate.proofs.DueLemmas.{action_is}
@@ -21,7 +21,7 @@ returns-in-Ok-clause-is c =
     let s = c.args.area.now in
     let key = c.args.key.now in
     let view = c.area.view_is in
-    let copy : c.get-copy.result ≡ entry_of s key = search rules in
+    let copy : c.get-copy.result ≡ database_entry s key = search rules in
     let kept : to_z w32 (of_z w32 c.kept_number-kept.result) ≡ kept_number s key = search rules in
-    action_is s key (map value_of c.args.all.now) _ c.get-copy.result c.is_heard-heard.result c.is_own-own.result c.waits-waits.result (to_z w32 (of_z w32 c.kept_number-kept.result)) c.in-Ok.action
+    action_is s key (map wanted_value c.args.all.now) _ c.get-copy.result c.is_heard-heard.result c.is_own-own.result c.waits-waits.result (to_z w32 (of_z w32 c.kept_number-kept.result)) c.in-Ok.action
     c.requires.wants c.wanted_of-wanted.ensures copy (search rules) (search rules) (search rules) kept c.in-Ok.ensures.is

@@ -1,7 +1,7 @@
 use Rattle.std.proofs.Common.{◌∙◌, sym, ap, subst, List, map}
 use Rattle.std.specs.List.{AllByRecursion}
 use Rattle.ospf_wanted.specs.Made.{CanBeMade}
-use Rattle.ospf_wanted.specs.Own.{value_of}
+use Rattle.ospf_wanted.specs.Own.{wanted_value}
 use Rattle.ospf_wanted.specs.Wanted.{WantedValue}
 use Rattle.ospf_wanted.specs.declared.wants.OwnLsa.{OwnLsa}
 use Rattle.ospf_wanted.proofs.MakeLemmas.{wanted_made}
@@ -14,10 +14,10 @@ due_now-requires-clause-made c = let s = c.args.area.now in wanted_made s.stub_r
 pub act_in_turn-requires-clause-made : goal.act_in_turn-requires-clause-made
 act_in_turn-requires-clause-made c =
     let s = c.args.area.now in
-    subst (λ (ws : List WantedValue). AllByRecursion CanBeMade ws) (sym (ap (λ (xs : List OwnLsa). map value_of xs) c.deref-2.ensures.value ∙ c.in_ok-all.ensures))
+    subst (λ (ws : List WantedValue). AllByRecursion CanBeMade ws) (sym (ap (λ (xs : List OwnLsa). map wanted_value xs) c.deref-2.ensures.value ∙ c.in_ok-all.ensures))
     (wanted_made s.stub_router s.router s.links c.requires.links)
 
 pub returns-clause-sound : goal.returns-clause-sound
 returns-clause-sound c =
-    ends_sound (map value_of c.deref-2.result.now) c.deref-3.result.now c.args.area.now c.args.out.now c.act_in_turn.new.out c.act_in_turn.new.area c.forget_heard.new.area
+    ends_sound (map wanted_value c.deref-2.result.now) c.deref-3.result.now c.args.area.now c.args.out.now c.act_in_turn.new.out c.act_in_turn.new.area c.forget_heard.new.area
     c.in_ok-act_in_turn.ensures c.forget_heard.ensures c.requires

@@ -1,13 +1,13 @@
 use Rattle.std.proofs.Common.{◌++◌, ◌∙◌, ap}
 use Rattle.std.specs.List.{filter_map}
-use Rattle.ospf_plan.specs.Joins.{has}
+use Rattle.ospf_plan.specs.Joins.{set_has}
 use Rattle.ospf_plan.specs.Parts.{apart}
 use Rattle.ospf_plan.proofs.PartLemmas.{on_ok}
 use Rattle.ospf_plan.proofs.parts.push_apart.Goals as goal
 
 pub returns : goal.returns
 returns c =
-    let reached = has c.in_ok-reached.reached in
+    let reached = set_has c.in_ok-reached.reached in
     on_ok c.push_each.result (λ told. (
       reached,
       c.in_ok-reached.ensures,

@@ -1,7 +1,7 @@
 use Rattle.std.proofs.Common.{◌<◌, ◌++◌, ◌∙◌, ap, sym, arith, length, take, append_assoc}
 use Rattle.std.specs.Option.{option_to_list}
 use Rattle.std.specs.List.{filter_map}
-use Rattle.ospf_plan.specs.Joins.{has}
+use Rattle.ospf_plan.specs.Joins.{set_has}
 use Rattle.ospf_plan.specs.Parts.{apart}
 use Rattle.ospf_plan.proofs.Steps.{filter_map_more}
 use Rattle.ospf_plan.proofs.parts.push_each.Goals as goal
@@ -11,7 +11,7 @@ loop-end-preserved c =
     let ends = c.args.ends.now in
     let i = c.loop-end.end-index in
     let x = c.end-item.result in
-    let h = apart (has c.args.reached.now) c.args.first in
+    let h = apart (set_has c.args.reached.now) c.args.first in
     let within : i < length ends = omega arith in
     let old = c.args.findings.now.items in
     let before = filter_map h (take i ends) in

@@ -1,6 +1,6 @@
 use Rattle.std.proofs.Common.{ap, sym, ◌∙◌, List, ◌++◌, flat_map, take, arith}
 use Rattle.ospf_records.specs.Pcap.{Captured, capture_bytes}
-use Rattle.ospf_records.specs.Captures.{captured_at, captured_of, numbered}
+use Rattle.ospf_records.specs.Captures.{captured_at, captured_of, numbered_datagrams}
 use Rattle.ospf_records.proofs.CaptureFacts.{all_taken, captured_more, microsecond_is, none_counted, read_on, second_is, stamped_more}
 use Rattle.ospf_records.proofs.captures.capture_of.Goals as goal
 
@@ -23,7 +23,7 @@ loop-number-preserved c =
       read = read_on ticks n c.in_ok-read.read c.read_ticks.new.clocks c.in_ok-read.ensures.is;
       stamped = stamped_more ticks ds n g c.loop-number-test.true c.index-datagrams-number.is c.count-second.result c.loop-number.stamped c.count_one.new.counts second c.in_ok-count_one.ensures c.loop-number.invariant.stamped;
       out = c.in_ok-add_datagram.ensures _ c.loop-number.invariant.out
-          ∙ ap (λ (cs : List Captured). capture_bytes (flat_map (captured_of ticks ds) (take n (numbered ds)) ++ cs)) (λ i. captured_at ((c.moment_of-at.ensures.seconds ∙ second) i) ((c.moment_of-at.ensures.microseconds ∙ micro) i) g)
+          ∙ ap (λ (cs : List Captured). capture_bytes (flat_map (captured_of ticks ds) (take n (numbered_datagrams ds)) ++ cs)) (λ i. captured_at ((c.moment_of-at.ensures.seconds ∙ second) i) ((c.moment_of-at.ensures.microseconds ∙ micro) i) g)
           ∙ ap capture_bytes (sym (captured_more ticks ds n g c.loop-number-test.true c.index-datagrams-number.is));
     }
 

@@ -4,7 +4,7 @@ use Rattle.std.proofs.lemmas.Grind.{put_two}
 use Rattle.ospf_lsa.specs.declared.link.Link.{Link}
 use Rattle.ospf_lsa.specs.Lsa.{links_of}
 use Rattle.ospf_records.proofs.Drawn.{link_lines_more}
-use Rattle.ospf_records.specs.Graph.{link_line, link_lines}
+use Rattle.ospf_records.specs.Graph.{drawn_link_line, drawn_link_lines}
 use Rattle.ospf_records.proofs.edges.write_links.Goals as goal
 
 pub loop-link-preserved : goal.loop-link-preserved
@@ -24,5 +24,5 @@ loop-link-preserved g c =
       written = λ plain.
           let old = c.loop-link.invariant.written plain in
           put_two _ _ _ _ _ _ _ old (c.in_ok-write_link.ensures old.plain refl)
-          (ap (λ (b : List Link). link_lines lsas router [] so_far ++ link_line lsas router b link) before ∙ sym (link_lines_more lsas router [] so_far link));
+          (ap (λ (b : List Link). drawn_link_lines lsas router [] so_far ++ drawn_link_line lsas router b link) before ∙ sym (link_lines_more lsas router [] so_far link));
     }

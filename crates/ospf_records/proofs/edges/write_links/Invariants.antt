@@ -1,7 +1,7 @@
 use Rattle.std.proofs.Common.{◌≡◌, ◌<◌, ◌^◌, ◌++◌, [], length}
 use Rattle.std.specs.Fmt.{HasWritten, IsPlainFormatter}
 use Rattle.ospf_lsa.specs.Lsa.{links_of}
-use Rattle.ospf_records.specs.Graph.{link_lines}
+use Rattle.ospf_records.specs.Graph.{drawn_link_lines}
 use Rattle.ospf_records.proofs.edges.write_links.Given as goal
 
 -- the links so far are written
@@ -10,5 +10,5 @@ invariant-loop-link g l = record {
   walked : links_of l.fn.lsa ≡ l.yielded ++ l.link-iterator;
   counted : l.at ≡ length l.yielded;
   few : length (links_of l.fn.lsa) < 2 ^ 63;
-  written : IsPlainFormatter l.fn.f → HasWritten g.W.Write.write_str_gives l.fn.f (link_lines l.fn.listing l.fn.router.0 [] l.yielded) l.f;
+  written : IsPlainFormatter l.fn.f → HasWritten g.W.Write.write_str_gives l.fn.f (drawn_link_lines l.fn.listing l.fn.router.0 [] l.yielded) l.f;
 }

@@ -5,7 +5,7 @@ use Rattle.ospf_drive.specs.declared.fault.DriveFault.{DriveFault}
 use Rattle.ospf_files.proofs.Cut.{for_memory}
 use Rattle.ospf_udp.specs.Obstacles.{FailsPlan, closed, no_memory}
 use Rattle.ospf_run.specs.Runs.{Came, Terms, Trios}
-use Rattle.ospf_run.specs.declared.outcome.Shown.{Shown}
+use Rattle.ospf_run.specs.declared.outcome.RouterShown.{RouterShown}
 use Rattle.ospf_run.specs.declared.outcome.Outcome.{Outcome}
 use Rattle.ospf_run.proofs.finish.finish_all.Goals as goal
 
@@ -41,6 +41,6 @@ loop-place-preserved g c =
                 outcome within c.index-files-place.is c.loop-place-test.true c.index-configs-place.is before.1
                 (outcome_of c.args.lookup terms c.index-files-place.result c.index-configs-place.result (drop (c.loop-place.place + 1) c.args.configs.now) c.loop-place.driven.items c.loop-place.lookers.items h
                 c.remove-ended.result c.remove-looker.result outcome c.outcome_of-outcome.ensures.file c.outcome_of-outcome.ensures.router (ran terms h)
-                (λ a has. subst (λ (came : Result Shown DriveFault). Came c.args.lookup a came) (sym c.outcome_of-outcome.ensures.came) (c.in-Ok.ensures a has))) items,
+                (λ a has. subst (λ (came : Result RouterShown DriveFault). Came c.args.lookup a came) (sym c.outcome_of-outcome.ensures.came) (c.in-Ok.ensures a has))) items,
           );
     }

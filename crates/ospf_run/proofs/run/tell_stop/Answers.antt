@@ -2,7 +2,7 @@ use Rattle.std.proofs.Common.{refl, subst, sym}
 use Rattle.ospf_run.proofs.Reported.{ends_by_failure, obstacle_comes}
 use Rattle.ospf_run.specs.Cut.{before_all, in_obstacle}
 use Rattle.ospf_udp.specs.Obstacles.{IsStop}
-use Rattle.ospf_run.specs.Runs.{Comes, asked_of, floor_of}
+use Rattle.ospf_run.specs.Runs.{ComesOfRun, asked_of, floor_of}
 use Rattle.ospf_run.proofs.run.tell_stop.Goals as goal
 
 pub returns-in_err-tell_obstacle-in-Obstacle : goal.returns-in_err-tell_obstacle-in-Obstacle
@@ -15,7 +15,7 @@ pub returns-in_ok-tell_obstacle-in-Obstacle : goal.returns-in_ok-tell_obstacle-i
 returns-in_ok-tell_obstacle-in-Obstacle g c = λ out.
     let settings = c.args.settings.now in
     let hinders = subst (IsStop (floor_of settings) c.args.files.now) c.in-Obstacle.is c.requires in
-    subst (λ status. Comes (asked_of settings) c.args.files.now status out out (g.E.Write.contents c.args.err.now) (g.E.Write.contents c.tell_obstacle.new.err))
+    subst (λ status. ComesOfRun (asked_of settings) c.args.files.now status out out (g.E.Write.contents c.args.err.now) (g.E.Write.contents c.tell_obstacle.new.err))
     (sym c.status_of.ensures)
     (obstacle_comes (asked_of settings) c.args.files.now c.in-Obstacle.obstacle _ _ _ hinders c.in_ok-tell_obstacle-in-Obstacle.ensures.told)
 

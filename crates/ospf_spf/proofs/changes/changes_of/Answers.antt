@@ -1,7 +1,7 @@
 use Rattle.std.proofs.Common.{rules, ◌≡◌, ◌+◌, ◌++◌, ◌∷◌, [], ap, subst, arith, List, get_or, sym, ◌∙◌, true}
 use Rattle.std.proofs.lemmas.List.{get_or_default}
 use Rattle.ospf_graph.specs.declared.route.Route.{Route}
-use Rattle.ospf_spf.specs.Changes.{IsStep}
+use Rattle.ospf_spf.specs.Changes.{IsMergeStep}
 use Rattle.ospf_spf.specs.declared.changes.Change.{Change}
 use Rattle.ospf_spf.specs.declared.changes.Change.TheVariants.{Put, Gone}
 use Rattle.ospf_spf.proofs.ChangeLemmas.{IsMerged, start, old_next, new_next, both_same, both_differ, before_rest, all_puts, all_gone}
@@ -18,7 +18,7 @@ loop-step-preserved-in-Old c =
     let i = c.loop-step.i in
     let j = c.loop-step.j in
     let d = c.index-old-i.result in
-    let step = subst (IsStep old i new j) c.in-Old.is c.in-Some.ensures in
+    let step = subst (IsMergeStep old i new j) c.in-Old.is c.in-Some.ensures in
     let first = before_rest (get_or old i d).prefix new j c.requires.1 in
     let later : (cs : List Change) → cs ≡ c.loop-step.changes.items ++ Gone (get_or old i d).prefix ∷ [] → IsMerged old new (i + 1) j cs =
     λ cs e. rw e (old_next old new i j c.loop-step.changes.items c.requires.0 c.requires.1 c.loop-step.invariant d step.0
@@ -33,7 +33,7 @@ loop-step-preserved-in-New c =
     let j = c.loop-step.j in
     let d = c.index-new-j.result in
     let route : c.in_ok-copy-in-New.field-0 ≡ get_or new j d = c.in_ok-copy-in-New.ensures ∙ c.index-new-j.is in
-    let step = subst (IsStep old i new j) c.in-New.is c.in-Some.ensures in
+    let step = subst (IsMergeStep old i new j) c.in-New.is c.in-Some.ensures in
     let first = before_rest (get_or new j d).prefix old i c.requires.0 in
     let later : (cs : List Change) → cs ≡ c.loop-step.changes.items ++ Put (get_or new j d) ∷ [] → IsMerged old new i (j + 1) cs =
     λ cs e. rw e (new_next old new i j c.loop-step.changes.items c.requires.0 c.requires.1 c.loop-step.invariant d step.0
@@ -48,7 +48,7 @@ loop-step-preserved c =
     let j = c.loop-step.j in
     let a = c.index-old-i-in-Both.result in
     let b = c.index-new-j-in-Both.result in
-    let step = subst (IsStep old i new j) c.in-Both.is c.in-Some.ensures in
+    let step = subst (IsMergeStep old i new j) c.in-Both.is c.in-Some.ensures in
     let same = c.is_same_route.ensures in
     let of_old : a ≡ get_or old i a = c.index-old-i-in-Both.is in
     let of_new : b ≡ get_or new j b = c.index-new-j-in-Both.is in

@@ -1,7 +1,7 @@
 -- ospf_step/proofs/steps/step/Answers.antt
 use Rattle.std.proofs.Common.{Ok, sym, ◌∙◌}
 use Rattle.ospf_step.specs.Events.{happening}
-use Rattle.ospf_step.specs.declared.steps.Taken.{Taken}
+use Rattle.ospf_step.specs.declared.steps.StepResult.{StepResult}
 use Rattle.ospf_step.proofs.StepLawful.{laws_account, laws_sound, step_laws}
 use Rattle.ospf_step.proofs.StepSame.{dropped_steps, step_same, taken_steps}
 use Rattle.ospf_step.proofs.steps.step.Goals as goal
@@ -10,7 +10,7 @@ pub returns-then-is_some-clause-accounts : goal.returns-then-is_some-clause-acco
 returns-then-is_some-clause-accounts c sound =
     let e = happening c.args.event in
     let s = c.args.area.now in
-    let taken : Taken = record { out = c.take.new.out; dropped = c.in_ok-dropped.dropped } in
+    let taken : StepResult = record { out = c.take.new.out; dropped = c.in_ok-dropped.dropped } in
     let is = c.in_ok-dropped.ensures in
     laws_account (Ok taken) e s c.take.new.area sound
     (step_laws c.neighbours_stay_of_link.ensures c.elections_come_about.ensures c.repeats_are_quiet.ensures c.area_stays_sound.ensures (Ok taken) e s c.take.new.area c.requires is.sender
@@ -24,21 +24,21 @@ returns-clause-step c =
 
 pub returns-clause-laws : goal.returns-clause-laws
 returns-clause-laws c =
-    let taken : Taken = record { out = c.end.new.out; dropped = c.in_ok-dropped.dropped } in
+    let taken : StepResult = record { out = c.end.new.out; dropped = c.in_ok-dropped.dropped } in
     step_laws c.neighbours_stay_of_link.ensures c.elections_come_about.ensures c.repeats_are_quiet.ensures c.area_stays_sound.ensures (Ok taken) (happening c.args.event) c.args.area.now c.end.new.area
     c.requires c.in_ok-dropped.ensures.sender (returns-clause-step c)
 
 pub returns-clause-accounts : goal.returns-clause-accounts
 returns-clause-accounts c sound =
-    let taken : Taken = record { out = c.end.new.out; dropped = c.in_ok-dropped.dropped } in
+    let taken : StepResult = record { out = c.end.new.out; dropped = c.in_ok-dropped.dropped } in
     laws_account (Ok taken) (happening c.args.event) c.args.area.now c.end.new.area sound (returns-clause-laws c)
 
 pub returns-clause-sound : goal.returns-clause-sound
 returns-clause-sound c sound =
-    let taken : Taken = record { out = c.end.new.out; dropped = c.in_ok-dropped.dropped } in
+    let taken : StepResult = record { out = c.end.new.out; dropped = c.in_ok-dropped.dropped } in
     laws_sound (Ok taken) (happening c.args.event) c.args.area.now c.end.new.area sound (returns-clause-laws c)
 
 pub returns-clause-same : goal.returns-clause-same
 returns-clause-same c =
-    let taken : Taken = record { out = c.end.new.out; dropped = c.in_ok-dropped.dropped } in
+    let taken : StepResult = record { out = c.end.new.out; dropped = c.in_ok-dropped.dropped } in
     step_same (Ok taken) (happening c.args.event) c.args.area.now c.end.new.area (returns-clause-step c)

@@ -1,6 +1,6 @@
 use Rattle.std.proofs.Common.{◌∙◌, ap, length, sym, subst}
 use Rattle.ospf_udp.proofs.Planned.{as_many_configs}
-use Rattle.ospf_udp.specs.Plans.{ShareRouter}
+use Rattle.ospf_config.specs.Configs.{ShareRouter}
 use Rattle.ospf_udp.proofs.plan.plan_of.Goals as goal
 
 pub first_portless-requires : goal.first_portless-requires

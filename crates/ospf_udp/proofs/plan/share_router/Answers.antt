@@ -1,7 +1,8 @@
 use Rattle.std.proofs.Common.{◌≡◌, ◌<◌, ◌∙◌, length, refl, sym, arith, false, true}
 use Rattle.std.proofs.lemmas.Option.{slice_get_within}
 use Rattle.ospf_udp.proofs.Planned.{at_item, front_at, twins_more}
-use Rattle.ospf_udp.specs.Plans.{IsAmong, ShareRouter}
+use Rattle.ospf_config.specs.Configs.{ShareRouter}
+use Rattle.ospf_udp.specs.Plans.{IsAmong}
 use Rattle.ospf_udp.proofs.plan.share_router.Goals as goal
 
 pub returns-then-is_among : goal.returns-then-is_among

@@ -15,6 +15,6 @@ returns-clause-sent c =
     let waiting : c.deref.result.now ≡ link.delayed = c.deref.ensures.value ∙ ap (λ (l : LinkValue). l.delayed) c.link.view_is in
     c.in_ok-send_all.ensures
     ∙ ap (and_sends c.args.out.now)
-    (acks_posted c.args.own c.args.number 0 flooding_address link (state.Link.the_view c.link.inside) c.deref.result.now c.flooding_address-to.result
+    (acks_posted c.args.own c.args.number 0 flooding_address link (state.AreaLink.the_view c.link.inside) c.deref.result.now c.flooding_address-to.result
     c.new-post.result c.send_acks.new.post c.link.view_is c.new-post.ensures c.flooding_address-to.ensures c.in_ok-send_acks.ensures
     ∙ ap (λ (hs : List LsaHeader). acks_out c.args.own (way_out c.args.number link.iface (flooding_address link.iface)) link.settings.mtu hs) waiting)

@@ -11,6 +11,6 @@ pub returns : goal.returns
 returns c =
     on_ok_weaker c.send_all.result
     (λ e. e ∙ ap (and_sends c.args.out.now)
-    (first_posted c.args.own c.args.from c.args.number c.args.own.tick c.args.link.now (state.Link.the_view c.link.inside) (body_meant c.description_body-body.result) c.beginning-first.result c.new.result.items
+    (first_posted c.args.own c.args.from c.args.number c.args.own.tick c.args.link.now (state.AreaLink.the_view c.link.inside) (body_meant c.description_body-body.result) c.beginning-first.result c.new.result.items
     c.to_address.result c.new-post.result c.put.new.self c.link.view_is c.beginning-first.ensures c.new.ensures.items c.description_body-body.ensures c.to_address.ensures c.new-post.ensures c.in_ok-put.ensures.sent))
     c.send_all.ensures

@@ -1,6 +1,6 @@
 use Rattle.std.proofs.Common.{arith, ◌≡◌, [], ◌∷◌, ◌++◌, refl, sym, ◌∙◌, ap}
 use Rattle.ospf_index.proofs.Steps.{adds_moves, told}
-use Rattle.ospf_index.specs.declared.rule.Event.TheVariants.{Added}
+use Rattle.ospf_index.specs.declared.rule.ListEvent.TheVariants.{Added}
 use Rattle.ospf_index.proofs.Events.{after_added}
 use Rattle.ospf_index.proofs.gate.Opened.added.Goals as goal
 

@@ -3,7 +3,7 @@ use Rattle.std.proofs.Common.{suc}
 use Rattle.logbook.specs.Pages.{nib, may_write}
 use Rattle.ospf_index.specs.Rule.{opens}
 use Rattle.ospf_index.proofs.Steps.{closes_moves, told}
-use Rattle.ospf_index.specs.declared.rule.Event.TheVariants.{Closed}
+use Rattle.ospf_index.specs.declared.rule.ListEvent.TheVariants.{Closed}
 use Rattle.ospf_index.proofs.Events.{after_closed}
 use Rattle.ospf_index.proofs.gate.Opened.close.Goals as goal
 

@@ -1,7 +1,7 @@
 use Rattle.std.proofs.Common.{◌↔◌, ap, subst, IsTrue, nat_le, List}
 use Rattle.std.specs.Bool.{OnFalse}
 use mathlib.Core.List.{IsPrefix}
-use Rattle.ospf_index.specs.declared.rule.Event.{Event}
+use Rattle.ospf_index.specs.declared.rule.ListEvent.{ListEvent}
 use Rattle.ospf_index.specs.Rule.{tables_of}
 use Rattle.ospf_index.proofs.Events.{tables_prefix}
 use Rattle.ospf_index.proofs.Prefixes.{lengths_tell}
@@ -13,7 +13,7 @@ told : (c : goal.After-drop-both) →
     × OnFalse (nat_le c.self.inside.count c.other.inside.count) (IsPrefix c.args.other.now.tables c.args.self.now.tables)
 told c =
     let both = c.learn.new.self.log in
-    let own : IsPrefix c.self.inside.seen.log both = subst (λ (l : List Event). IsPrefix l both) (ap (λ s. s.log) c.again-both.ensures) c.learn.ensures.2 in
+    let own : IsPrefix c.self.inside.seen.log both = subst (λ (l : List ListEvent). IsPrefix l both) (ap (λ s. s.log) c.again-both.ensures) c.learn.ensures.2 in
     rw (← c.self.view_is, ← c.other.view_is)
     (lengths_tell (tables_of c.self.inside.seen.log) (tables_of c.other.inside.seen.log) (tables_of both) c.self.inside.count c.other.inside.count (tables_prefix c.self.inside.seen.log both own) (tables_prefix c.other.inside.seen.log both c.learn.ensures.3) c.self.invariant c.other.invariant)
 

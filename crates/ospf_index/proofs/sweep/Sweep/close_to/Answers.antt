@@ -1,6 +1,6 @@
 use Rattle.std.proofs.Common.{subst, ◌≡◌, ◌-◌, ℕ, length, take, get_or, vec_len, vec_capacity, ap, ◌∙◌, arith}
 use Rattle.std.proofs.lemmas.List.{length-take-le}
-use Rattle.ospf_index.specs.Sweep.{IsBegun, blocks_of, top}
+use Rattle.ospf_index.specs.Sweep.{IsRangeBegun, blocks_of, top}
 use Rattle.ospf_index.proofs.BlockLemmas.{table_nested}
 use Rattle.ospf_index.proofs.SweepLemmas.{ends_one}
 use Rattle.ospf_index.proofs.sweep.Sweep.close_to.Goals as goal
@@ -20,9 +20,9 @@ loop-end-preserved c =
     let places = before.ranges.places.items in
     let last = c.begin_range.new.self.ranges in
     let place : c.innermost-place.result ≡ top b.count fewer = c.innermost-place.ensures in
-    let begun : IsBegun starts places (b.end (get_or opened (length opened - 1) 0)) (top b.count fewer) last.starts.items last.places.items =
-    subst (λ (n : ℕ). IsBegun starts places n (top b.count fewer) last.starts.items last.places.items) end
-    (subst (λ (n : ℕ). IsBegun starts places c.in-Some.end n last.starts.items last.places.items) place c.begin_range.ensures.begun) in
+    let begun : IsRangeBegun starts places (b.end (get_or opened (length opened - 1) 0)) (top b.count fewer) last.starts.items last.places.items =
+    subst (λ (n : ℕ). IsRangeBegun starts places n (top b.count fewer) last.starts.items last.places.items) end
+    (subst (λ (n : ℕ). IsRangeBegun starts places c.in-Some.end n last.starts.items last.places.items) place c.begin_range.ensures.begun) in
     let next = ends_one b (table_nested routes c.requires.order) c.args.begun opened starts places c.loop-end.invariant.0
     c.args.limit fewer last.starts.items last.places.items some is (omega (arith, end, c.in-Some.ensures.1)) c.requires.ahead begun in
     let still = ap (λ v. v.items) c.begin_range.ensures.opened in

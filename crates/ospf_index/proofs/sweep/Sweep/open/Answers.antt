@@ -1,5 +1,5 @@
 use Rattle.std.proofs.Common.{subst, ℕ, sym, ap, ◌∙◌, arith}
-use Rattle.ospf_index.specs.Sweep.{IsBegun, blocks_of}
+use Rattle.ospf_index.specs.Sweep.{IsRangeBegun, blocks_of}
 use Rattle.ospf_index.proofs.BlockLemmas.{first_is, table_nested}
 use Rattle.ospf_index.proofs.SweepLemmas.{begins_one}
 use Rattle.ospf_index.proofs.sweep.Sweep.open.Goals as goal
@@ -19,8 +19,8 @@ returns-clause-swept c =
     let last = c.begin_range.new.self.ranges in
     let starts = after.ranges.starts.items in
     let places = after.ranges.places.items in
-    let begun : IsBegun starts places (b.first c.args.place) c.args.place last.starts.items last.places.items =
-    subst (λ (n : ℕ). IsBegun starts places n c.args.place last.starts.items last.places.items) (sym first) c.begin_range.ensures.begun in
+    let begun : IsRangeBegun starts places (b.first c.args.place) c.args.place last.starts.items last.places.items =
+    subst (λ (n : ℕ). IsRangeBegun starts places n c.args.place last.starts.items last.places.items) (sym first) c.begin_range.ensures.begun in
     let next = begins_one b (table_nested routes c.requires.order) c.args.place after.opened.items starts places c.close_to.ensures.swept
     last.starts.items last.places.items c.requires.within (λ some. omega (arith, first, c.close_to.ensures.open some)) begun in
     let opened = ap (λ v. v.items) c.begin_range.ensures.opened ∙ c.in-Ok.ensures.items in

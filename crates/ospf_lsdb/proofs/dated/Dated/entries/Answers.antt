@@ -1,7 +1,7 @@
 use Rattle.std.proofs.Common.{List, map, ap, subst, sym, ◌∙◌}
 use Rattle.std.specs.List.{AllByRecursion}
 use Rattle.ospf_lsdb.specs.Database.{Held, IsDatabase}
-use Rattle.ospf_lsdb.specs.Entries.{entry_at, AgeFits}
+use Rattle.ospf_lsdb.specs.Entries.{entry_now, AgeFits}
 use Rattle.ospf_lsdb.specs.declared.dated.Stored.{Stored}
 use Rattle.ospf_lsdb.proofs.TimerLemmas.{IsDatabase-stored}
 use Rattle.ospf_lsdb.proofs.WalkLemmas.{young_values, map_values}
@@ -14,7 +14,7 @@ new-requires c =
 
 pub returns-clause-entries : goal.returns-clause-entries
 returns-clause-entries c =
-    c.new.ensures ∙ ap (λ (ss : List Stored). map (entry_at c.self.inside.clock) ss) c.values.ensures.rest
+    c.new.ensures ∙ ap (λ (ss : List Stored). map (entry_now c.self.inside.clock) ss) c.values.ensures.rest
     ∙ map_values c.self.inside.clock c.self.inside.due c.self.inside.entries.entries
     ∙ ap (λ (db : List Held). map (λ h. h.entry) db) c.self.view_is
 

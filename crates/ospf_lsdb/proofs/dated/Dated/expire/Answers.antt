@@ -1,8 +1,8 @@
 use Rattle.std.proofs.Common.{◌≡◌, ◌≤◌, ◌<◌, ◌&&◌, Bool, not, ℕ, ap, subst, sym, ◌∙◌, Option, None, Some, true, false, option_map, List, map, arith}
-use Rattle.ospf_lsdb.specs.declared.moments.Due.{Due}
+use Rattle.ospf_lsdb.specs.declared.moments.AgeDue.{AgeDue}
 use Rattle.ospf_lsdb.specs.Database.{Held, held_of, expired, is_fresh, is_some_and}
-use Rattle.ospf_lsdb.specs.Moments.{ahead, has, same_due, is_coming}
-use Rattle.ospf_lsdb.specs.Timers.{IsKept, held_at}
+use Rattle.ospf_lsdb.specs.Moments.{ahead, has_due, same_due, is_coming}
+use Rattle.ospf_lsdb.specs.Timers.{AreKeptEntries, held_at}
 use Rattle.ospf_lsdb.proofs.MapLemmas.{Puts-words, Puts-same}
 use Rattle.ospf_lsdb.proofs.ExpireLemmas.{parted, expires_kept, expires_put, held_aged, held_none, fresh_not}
 use Rattle.ospf_lsdb.proofs.IdleLemmas.{idle_fewer}
@@ -12,17 +12,17 @@ use Rattle.ospf_lsdb.proofs.dated.Dated.expire.Goals as goal
 use Rattle.ospf_lsdb.proofs.dated.Dated.expire.Goals.{After-remove_coming, In-Some, In_default}
 
 -- what is due afterwards
-ops : (c : After-remove_coming) (q : Due) → has c.remove_coming.new.self q ≡ (not (is_coming c.self.inside.clock c.in-Some.age c.args.key.now q) && (not (same_due (record { moment = c.self.inside.clock; age = c.in-Some.age; key = c.args.key.now }) q) && has c.self.inside.due q))
+ops : (c : After-remove_coming) (q : AgeDue) → has_due c.remove_coming.new.self q ≡ (not (is_coming c.self.inside.clock c.in-Some.age c.args.key.now q) && (not (same_due (record { moment = c.self.inside.clock; age = c.in-Some.age; key = c.args.key.now }) q) && has_due c.self.inside.due q))
 ops c q = c.remove_coming.ensures q ∙ ap (λ (b : Bool). not (is_coming c.self.inside.clock c.in-Some.age c.args.key.now q) && b) (c.remove_reached.ensures.gone q)
 
-kept : (c : After-remove_coming) → IsKept c.self.inside.clock c.stop.new.entries.entries c.remove_coming.new.self
+kept : (c : After-remove_coming) → AreKeptEntries c.self.inside.clock c.stop.new.entries.entries c.remove_coming.new.self
 kept c = expires_kept c.self.inside.clock c.in-Some.age c.args.key.now c.self.inside.entries c.stop.new.entries c.self.inside.due c.remove_coming.new.self c.self.invariant.kept c.stop.ensures.ordered (sym c.in-Some.ensures) c.stop.ensures.entry (ops c)
 
 pub invariant_of-self : goal.invariant_of-self
 invariant_of-self c = record {
   kept = kept c;
   quiet = idle_fewer c.self.inside.clock (ahead c.self.inside.clock c.self.inside.next) c.self.inside.due c.remove_coming.new.self c.self.invariant.quiet
-      (λ q there. (parted (is_coming c.self.inside.clock c.in-Some.age c.args.key.now q) (same_due (record { moment = c.self.inside.clock; age = c.in-Some.age; key = c.args.key.now }) q) (has c.self.inside.due q) (sym (ops c q) ∙ there)).2);
+      (λ q there. (parted (is_coming c.self.inside.clock c.in-Some.age c.args.key.now q) (same_due (record { moment = c.self.inside.clock; age = c.in-Some.age; key = c.args.key.now }) q) (has_due c.self.inside.due q) (sym (ops c q) ∙ there)).2);
 }
 
 none : (c : In_default) → held_of c.args.self.now c.args.key.now ≡ None

@@ -3,10 +3,10 @@ use Rattle.ospf_base.specs.declared.ids.LsaKey.{LsaKey}
 use Rattle.ospf_lsdb.specs.declared.dated.Stored.{Stored}
 use Rattle.ospf_lsdb.specs.Database.{Held, held_of, removed, is_expired, is_some_and}
 use Rattle.ospf_base.specs.Keys.{same_key}
-use Rattle.ospf_lsdb.specs.Timers.{IsKept, held_at, stored_of, age_of}
+use Rattle.ospf_lsdb.specs.Timers.{AreKeptEntries, held_at, stored_of, age_of}
 use Rattle.ospf_lsdb.proofs.EntryLemmas.{removed-young, removed-old, is_expired-young, is_expired-old}
 use Rattle.ospf_lsdb.proofs.MapLemmas.{Puts-words, Puts-same}
-use Rattle.ospf_lsdb.specs.Moments.{ahead, has, same_due}
+use Rattle.ospf_lsdb.specs.Moments.{ahead, has_due, same_due}
 use Rattle.ospf_lsdb.proofs.IdleLemmas.{idle_fewer}
 use Rattle.ospf_lsdb.proofs.MomentLemmas.{and_right}
 use Rattle.ospf_lsdb.proofs.TimerLemmas.{stored_updated}
@@ -53,14 +53,14 @@ old_of c =
 put : (c : After-remove_reached) (q : LsaKey) → stored_of c.remove.new.self.entries q ≡ (if same_key c.args.key.now q then None else stored_of c.self.inside.entries.entries q)
 put c q = stored_updated c.self.inside.entries c.remove.new.self c.args.key.now None c.remove.ensures.updates q
 
-kept : (c : After-remove_reached) → IsKept c.self.inside.clock c.remove.new.self.entries c.remove_reached.new.self
+kept : (c : After-remove_reached) → AreKeptEntries c.self.inside.clock c.remove.new.self.entries c.remove_reached.new.self
 kept c = removes_kept c.self.inside.clock c.args.key.now c.self.inside.entries c.remove.new.self c.self.inside.due c.remove_reached.new.self c.self.invariant.kept c.remove.ensures.ordered (old_of c) (put c) c.remove_reached.ensures.gone
 
 pub invariant_of-self : goal.invariant_of-self
 invariant_of-self c = record {
   kept = kept (goal.at.invariant_of-self c).After-remove_reached;
   quiet = idle_fewer c.self.inside.clock (ahead c.self.inside.clock c.self.inside.next) c.self.inside.due c.remove_reached.new.self c.self.invariant.quiet
-      (λ q there. and_right (not (same_due (record { moment = c.self.inside.clock; age = 3600; key = c.args.key.now }) q)) (has c.self.inside.due q) (sym (c.remove_reached.ensures.gone q) ∙ there));
+      (λ q there. and_right (not (same_due (record { moment = c.self.inside.clock; age = 3600; key = c.args.key.now }) q)) (has_due c.self.inside.due q) (sym (c.remove_reached.ensures.gone q) ∙ there));
 }
 
 pub returns-clause-entry : goal.returns-clause-entry

@@ -3,7 +3,7 @@ use Rattle.ospf_base.specs.declared.ids.RouterId.{RouterId}
 use Rattle.ospf_edges.specs.Listed.{advertisements_of}
 use Rattle.ospf_lsa.specs.Listing.{IsListing}
 use Rattle.ospf_lsdb.specs.Database.{IsDatabase, listed}
-use Rattle.ospf_router.specs.Kept.{IsGrownFrom, IsServed, lsas_in}
+use Rattle.ospf_router.specs.Kept.{IsGrownFrom, IsServed, kept_lsas_in}
 use Rattle.ospf_router.specs.Listings.{ListsAs, ListsBut}
 use Rattle.ospf_router.specs.Routes.{AreRoutes, RoutesValue}
 use Rattle.ospf_router.specs.declared.followed.Grown.{Grown}
@@ -15,7 +15,7 @@ use Rattle.ospf_router.specs.Growing.{GrowingValue}
 
 pub followed-requires : goal.followed-requires
 followed-requires c =
-    let e = sym (ap (λ (r : RoutesValue). r.listing) c.self.view_is) ∙ ap lsas_in (sym c.take.ensures.value ∙ c.in-Some.is) in
+    let e = sym (ap (λ (r : RoutesValue). r.listing) c.self.view_is) ∙ ap kept_lsas_in (sym c.take.ensures.value ∙ c.in-Some.is) in
     subst (λ (l : List (List ℕ)). ListsBut c.args.out.now c.args.database.now l) e c.requires
 
 module _ (c : In-Some-2) where

@@ -1,6 +1,6 @@
 use Rattle.std.proofs.Common.{ℕ, List, Option, Some, ap, map, subst, sym, ◌∙◌}
 use Rattle.ospf_base.specs.Sums.{contents}
-use Rattle.ospf_router.specs.Kept.{IsServed, lsas_in}
+use Rattle.ospf_router.specs.Kept.{IsServed, kept_lsas_in}
 use Rattle.ospf_router.specs.Listings.{ListsAs}
 use Rattle.ospf_router.specs.Routes.{AreRoutes, RoutesValue}
 use Rattle.ospf_router.proofs.ServedLemmas.{routes_of}
@@ -19,4 +19,4 @@ returns-in-Some-clause-routes c = λ t.
 pub returns-in-Some-clause-listing : goal.returns-in-Some-clause-listing
 returns-in-Some-clause-listing c = λ t.
     c.lists_as.ensures.same t ∙ ap (λ (l : List (List ℕ)). map contents l) c.listing.ensures
-    ∙ ap (λ (o : Option GrowingValue). map contents (lsas_in o)) (sym c.in-Some.is) ∙ ap (λ (r : RoutesValue). map contents r.listing) c.self.view_is
+    ∙ ap (λ (o : Option GrowingValue). map contents (kept_lsas_in o)) (sym c.in-Some.is) ∙ ap (λ (r : RoutesValue). map contents r.listing) c.self.view_is

@@ -1,6 +1,6 @@
 use Rattle.std.proofs.Common.{◌≡◌, ℕ, List, Option, Some, ap, subst, sym, ◌∙◌}
 use Rattle.ospf_base.specs.declared.ids.LsaKey.{LsaKey}
-use Rattle.ospf_router.specs.Kept.{IsServed, lsas_in}
+use Rattle.ospf_router.specs.Kept.{IsServed, kept_lsas_in}
 use Rattle.ospf_router.specs.Listings.{AreListedAt, ListsAs, ListsBut}
 use Rattle.ospf_router.specs.Routes.{AreRoutes, RoutesValue}
 use Rattle.ospf_router.proofs.KeepLemmas.{listing_all, lists_all}
@@ -11,7 +11,7 @@ use Rattle.ospf_router.proofs.routes.KeptRoutes.is_still.Goals.{Then-brings_none
 use Rattle.ospf_router.specs.Growing.{GrowingValue}
 
 kept_is : (c : Then-brings_none) → c.args.self.now.listing ≡ c.in-Some.tree.listing
-kept_is c = sym (ap (λ (r : RoutesValue). r.listing) c.self.view_is) ∙ ap lsas_in c.in-Some.is
+kept_is c = sym (ap (λ (r : RoutesValue). r.listing) c.self.view_is) ∙ ap kept_lsas_in c.in-Some.is
 
 all_listed : (c : Then-brings_none) (key : LsaKey) → AreListedAt c.args.database.now key c.in-Some.tree.listing
 all_listed c =

@@ -1,12 +1,12 @@
 use Rattle.std.proofs.Common.{◌↔◌, Contains}
 use Rattle.ospf_graph.specs.declared.route.Route.{Route}
-use Rattle.ospf_spf.specs.Changes.{IsNew}
+use Rattle.ospf_spf.specs.Changes.{IsNewRoute}
 use Rattle.ospf_spf.specs.declared.changes.Change.TheVariants.{Put}
 use Rattle.ospf_spf.proofs.ChangeLemmas.{puts_hops}
 use Rattle.ospf_spf.proofs.table.RouteTable.changes.Goals as goal
 use Rattle.ospf_spf.proofs.table.RouteTable.changes.Goals.{In_ok-changes}
 
-puts : (c : In_ok-changes) → (route : Route) → Contains c.in_ok-changes.changes.items (Put route) ↔ IsNew c.args.self.now c.args.to.now route
+puts : (c : In_ok-changes) → (route : Route) → Contains c.in_ok-changes.changes.items (Put route) ↔ IsNewRoute c.args.self.now c.args.to.now route
 puts c route = rw (← c.routes.ensures.routes, ← c.routes-2.ensures.routes) (c.in_ok-changes.ensures.puts route)
 
 pub returns-clause-puts : goal.returns-clause-puts

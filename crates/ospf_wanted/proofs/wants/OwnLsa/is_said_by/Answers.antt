@@ -2,7 +2,7 @@ use Rattle.std.proofs.Common.{List, ℕ, ap, ◌∙◌}
 use Rattle.std.specs.Str.{bytes_eq}
 use Rattle.ospf_base.specs.Sums.{contents}
 use Rattle.ospf_wanted.specs.Made.{aside, says}
-use Rattle.ospf_wanted.specs.Own.{value_of}
+use Rattle.ospf_wanted.specs.Own.{wanted_value}
 use Rattle.ospf_wanted.proofs.MadeLemmas.{aside_made}
 use Rattle.ospf_wanted.proofs.wants.OwnLsa.is_said_by.Goals as goal
 
@@ -11,4 +11,4 @@ unfolding says
 returns-clause-ok c =
     c.same_aside.ensures
     ∙ ap (λ (l : List ℕ). bytes_eq (aside (contents c.args.copy.now)) (aside (contents l))) c.view.ensures.same
-    ∙ ap (λ (said : List ℕ). bytes_eq (aside (contents c.args.copy.now)) said) (aside_made _ (value_of c.args.self.now) c.in_ok-lsa.lsa c.in_ok-lsa.ensures.ok)
+    ∙ ap (λ (said : List ℕ). bytes_eq (aside (contents c.args.copy.now)) said) (aside_made _ (wanted_value c.args.self.now) c.in_ok-lsa.lsa c.in_ok-lsa.ensures.ok)

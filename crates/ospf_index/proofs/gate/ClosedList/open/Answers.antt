@@ -1,8 +1,8 @@
 use Rattle.std.proofs.Common.{◌≡◌, [], ◌∷◌, ◌++◌, refl, sym, ◌∙◌, ap}
 use Rattle.ospf_index.proofs.Steps.{opens_moves}
-use Rattle.ospf_index.specs.declared.rule.Event.TheVariants.{Opened}
+use Rattle.ospf_index.specs.declared.rule.ListEvent.TheVariants.{Opened}
 use Rattle.ospf_index.proofs.Events.{after_opened}
-use Rattle.ospf_index.proofs.gate.Sole.open.Goals as goal
+use Rattle.ospf_index.proofs.gate.ClosedList.open.Goals as goal
 
 pub compare_exchange-requires : goal.compare_exchange-requires
 compare_exchange-requires c =

@@ -1,5 +1,5 @@
 use Rattle.std.proofs.Common.{◌≤◌, length}
-use Rattle.ospf_index.proofs.numbering.Numbering.find.Given as goal
+use Rattle.ospf_index.proofs.numbering.SetNumbers.find.Given as goal
 
 -- the sets behind this one in the chain have other hops
 abbrev pub invariant-loop-link : goal.invariant-loop-link
