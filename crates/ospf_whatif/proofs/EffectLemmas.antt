@@ -14,18 +14,18 @@ use Rattle.ospf_graph.specs.Advertisements.{Advertisement}
 use Rattle.ospf_graph.specs.Routes.{IsRouteBefore, IsTable}
 use Rattle.ospf_graph.proofs.ListLemmas.{member_cases, member_head, member_later}
 use Rattle.ospf_graph.proofs.TableLemmas.{head_before, pairs_tail}
-use Rattle.ospf_spf.specs.Changes.{IsChangeBefore, IsGone, IsNew, Reaches, prefix_of}
+use Rattle.ospf_spf.specs.Changes.{IsChangeBefore, IsGone, IsNewRoute, Reaches, prefix_of}
 use Rattle.ospf_spf.specs.declared.changes.Change.{Change}
 use Rattle.ospf_spf.specs.declared.changes.Change.TheVariants as change
 use Rattle.ospf_spf.proofs.PrefixOrder.{prefix_cmp, prefixes_told}
 use Rattle.ospf_spf.proofs.SameRoute.{route_same}
 use Rattle.ospf_whatif.specs.Effect.{IsChangeBy, IsEffectIn, IsLoss, IsRouteChangeBefore, TakesAway}
 use Rattle.ospf_whatif.specs.Failure.{without}
-use Rattle.ospf_whatif.specs.Told.{IsTold, place_of}
+use Rattle.ospf_whatif.specs.Told.{IsAdvertised, prefix_place}
 use Rattle.ospf_whatif.specs.declared.effect.Loss.{Loss}
 use Rattle.ospf_whatif.specs.declared.effect.Loss.TheVariants.{Cut, Dearer, Gone, Moved}
 use Rattle.ospf_whatif.specs.declared.effect.RouteChange.{RouteChange}
-use Rattle.ospf_whatif.specs.declared.failure.Failure.{Failure}
+use Rattle.ospf_whatif.specs.declared.failure.AreaFailure.{AreaFailure}
 use Rattle.ospf_whatif.proofs.LessLemmas.{failures_take_away}
 
 -- ---- lists that go side by side
@@ -104,12 +104,12 @@ reach_or_not (x ∷ xs) p =
 -- ---- changes after a failure
 
 -- what a failure leaves takes away
-pub takes_away : (f : Failure) (A : List Advertisement) (root : RouterId) (before : List Route) → IsTable A root before → TakesAway (without f A) root before
+pub takes_away : (f : AreaFailure) (A : List Advertisement) (root : RouterId) (before : List Route) → IsTable A root before → TakesAway (without f A) root before
 takes_away f A root before is_before = λ after is_after route there. failures_take_away f A root before after is_before is_after route there
 
 module _ (left : List Advertisement) (root : RouterId) (before after : List Route) (order_before : AllPairs IsRouteBefore before) (less : TakesAway left root before)
     (is_after : IsTable left root after) (changes : List Change)
-    (puts : (route : Route) → Contains changes (change.Put route) ↔ IsNew before after route)
+    (puts : (route : Route) → Contains changes (change.Put route) ↔ IsNewRoute before after route)
     (gone : (prefix : Prefix) → Contains changes (change.Gone prefix) ↔ IsGone before after prefix) where
   -- each is about a prefix that was reached
   pub all_reached : (c : Change) → Contains changes c → Reaches before (prefix_of c)
@@ -125,7 +125,7 @@ module _ (left : List Advertisement) (root : RouterId) (before after : List Rout
       omega arith
   left_out route (Moved new) h m = h.3 (ap (λ r. r.hops) (one_route after is_after.in_order new route h.0 m h.1))
 
-  module _ (told : List ℕ) (told_are : (p : Prefix) → Contains told (place_of p) ↔ (Contains changes (change.Gone p) × IsTold left p)) where
+  module _ (told : List ℕ) (told_are : (p : Prefix) → Contains told (prefix_place p) ↔ (Contains changes (change.Gone p) × IsAdvertised left p)) where
     loss_is : (c : Change) → Contains changes c → (here : RouteChange) → IsChangeBy before told c here → IsLoss left after here.before here.loss
     loss_is (change.Put route) m here is =
         let new = (puts route).0 m in
@@ -143,9 +143,9 @@ module _ (left : List Advertisement) (root : RouterId) (before after : List Rout
         let lost = (gone prefix).0 m in
         let none : Reaches after here.before.prefix → ⊥ = λ r. lost.1 (subst (λ q. Reaches after q) is.prefix_is r) in
         elim is.loss_is [
-          | inl cut ↦ subst (λ l. IsLoss left after here.before l) (sym cut.1) (none, subst (λ q. IsTold left q) (sym is.prefix_is) ((told_are prefix).0 cut.0).1)
+          | inl cut ↦ subst (λ l. IsLoss left after here.before l) (sym cut.1) (none, subst (λ q. IsAdvertised left q) (sym is.prefix_is) ((told_are prefix).0 cut.0).1)
           | inr away ↦ subst (λ l. IsLoss left after here.before l) (sym away.1)
-              (none, (λ t. away.0 ((told_are prefix).1 (m, subst (λ q. IsTold left q) is.prefix_is t))))
+              (none, (λ t. away.0 ((told_are prefix).1 (m, subst (λ q. IsAdvertised left q) is.prefix_is t))))
         ]
 
     module _ (effect : List RouteChange) (zip : AllZip (IsChangeBy before told) changes effect) where

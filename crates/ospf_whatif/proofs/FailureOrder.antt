@@ -11,11 +11,11 @@ use Rattle.ospf_base.specs.declared.prefix.Prefix.{Prefix}
 use Rattle.ospf_base.specs.Prefixes.{IsPrefixBefore}
 use Rattle.ospf_spf.proofs.PrefixOrder.{prefix_cmp, prefixes_told}
 use Rattle.ospf_whatif.specs.Single.{IsFailureBefore}
-use Rattle.ospf_whatif.specs.declared.failure.Failure.{Failure}
-use Rattle.ospf_whatif.specs.declared.failure.Failure.TheVariants.{Attachment, Link, Links, Network, Router}
-use Rattle.ospf_whatif.specs.contracts.failure.FailureOrd.TheImpl.{ghosts}
-use Rattle.ospf_whatif.specs.contracts.failure.FailureOrd.TheImpl.Laws.{matches_eq-law}
-use Rattle.ospf_whatif.specs.contracts.failure.FailurePartialEq.TheImpl as failures
+use Rattle.ospf_whatif.specs.declared.failure.AreaFailure.{AreaFailure}
+use Rattle.ospf_whatif.specs.declared.failure.AreaFailure.TheVariants.{Attachment, Link, Links, Network, Router}
+use Rattle.ospf_whatif.specs.contracts.failure.AreaFailureOrd.TheImpl.{ghosts}
+use Rattle.ospf_whatif.specs.contracts.failure.AreaFailureOrd.TheImpl.Laws.{matches_eq-law}
+use Rattle.ospf_whatif.specs.contracts.failure.AreaFailurePartialEq.TheImpl as failures
 
 -- what the answer o says of two numbers
 abbrev Tells : ℕ → ℕ → Ordering → Type 0
@@ -25,7 +25,7 @@ tells : (a b : ℕ) → Tells a b (nat_cmp a b)
 tells a b = ranked a b _ refl
 
 -- and of two failures
-abbrev Ranks : Failure → Failure → Ordering → Type 0
+abbrev Ranks : AreaFailure → AreaFailure → Ordering → Type 0
 Ranks f g o = MatchOrdering o (IsFailureBefore f g) (f ≡ g) (IsFailureBefore g f)
 
 router : (a b : RouterId) → a.0 ≡ b.0 → a ≡ b
@@ -66,7 +66,7 @@ routers_of r s Equal t = ap (λ k. Router k) (router r s t)
 routers_of r s Greater t = t
 
 -- `cmp` tells the order
-failures_rank : (f g : Failure) → Ranks f g (ghosts.cmp f g)
+failures_rank : (f g : AreaFailure) → Ranks f g (ghosts.cmp f g)
 failures_rank (Link a b p) (Link c d q) =
     links_of a c b d p q (nat_cmp a.0 c.0) (nat_cmp b.0 d.0) (prefix_cmp p q) (tells a.0 c.0) (tells b.0 d.0) (prefixes_told.ranks p q)
 failures_rank (Links a b) (Links c d) = all_links_of a c b d (nat_cmp a.0 c.0) (nat_cmp b.0 d.0) (tells a.0 c.0) (tells b.0 d.0)
@@ -75,26 +75,26 @@ failures_rank (Network n) (Network m) = networks_of n m (nat_cmp n m) (tells n m
 failures_rank (Router r) (Router s) = routers_of r s (nat_cmp r.0 s.0) (tells r.0 s.0)
 failures_rank f g = omega arith
 
-before_less : (f g : Failure) (o : Ordering) → Ranks f g o → o ≡ Less → IsFailureBefore f g
+before_less : (f g : AreaFailure) (o : Ordering) → Ranks f g o → o ≡ Less → IsFailureBefore f g
 before_less f g Less r e = r
 before_less f g Equal r e = cc
 before_less f g Greater r e = cc
 
-all_before : (f : Failure) (gs : List Failure) → AllByRecursion (λ g. ghosts.cmp f g ≡ Less) gs → AllByRecursion (λ g. IsFailureBefore f g) gs
+all_before : (f : AreaFailure) (gs : List AreaFailure) → AllByRecursion (λ g. ghosts.cmp f g ≡ Less) gs → AllByRecursion (λ g. IsFailureBefore f g) gs
 all_before f [] all = tt
 all_before f (g ∷ gs) all = (before_less f g _ (failures_rank f g) all.0, all_before f gs all.1)
 
 -- what is sorted, each once, is in order
-pub failures_rise : (fs : List Failure) → IsStrictlySortedBy ghosts.cmp fs → AllPairs IsFailureBefore fs
+pub failures_rise : (fs : List AreaFailure) → IsStrictlySortedBy ghosts.cmp fs → AllPairs IsFailureBefore fs
 unfolding IsStrictlySortedBy
 failures_rise [] sorted = λ i j d less lt. absurd (omega arith)
 failures_rise (f ∷ fs) sorted = AllPairs-cons IsFailureBefore f fs (All-from_recursion (IsFailureBefore f) fs (all_before f fs sorted.0)) (failures_rise fs sorted.1)
 
-of_equal : (f g : Failure) (o : Ordering) → Ranks f g o → is_eq o ≡ true → f ≡ g
+of_equal : (f g : AreaFailure) (o : Ordering) → Ranks f g o → is_eq o ≡ true → f ≡ g
 of_equal f g Less r e = cc
 of_equal f g Equal r e = r
 of_equal f g Greater r e = cc
 
 -- when `==` says that two failures are one
-pub failure_same : (f g : Failure) → failures.eq-value.it f g ≡ true → f ≡ g
+pub failure_same : (f g : AreaFailure) → failures.eq-value.it f g ≡ true → f ≡ g
 failure_same f g e = of_equal f g _ (failures_rank f g) (rw (← matches_eq-law f g) e)

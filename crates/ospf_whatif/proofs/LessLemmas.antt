@@ -21,14 +21,14 @@ use Rattle.ospf_graph.specs.declared.paths.Settled.{Settled}
 use Rattle.ospf_graph.specs.declared.paths.VertexStart.{VertexStart}
 use Rattle.ospf_graph.proofs.ListLemmas.{bool_cases, member_cases, member_later, member_of_map, member_to_map}
 use Rattle.ospf_graph.proofs.TreeLemmas.{IsPath-map, at_end}
-use Rattle.ospf_whatif.specs.Failure.{kept, kept_links, takes, without}
-use Rattle.ospf_whatif.specs.Laws.{IsSlack}
-use Rattle.ospf_whatif.specs.declared.failure.Failure.{Failure}
-use Rattle.ospf_whatif.specs.declared.failure.Failure.TheVariants as fails
+use Rattle.ospf_whatif.specs.Failure.{left_of_lsa, kept_links, takes, without}
+use Rattle.ospf_whatif.specs.Laws.{IsOffLeastPaths}
+use Rattle.ospf_whatif.specs.declared.failure.AreaFailure.{AreaFailure}
+use Rattle.ospf_whatif.specs.declared.failure.AreaFailure.TheVariants as fails
 
 -- ---- links of a router to one network: a failure takes all of them or none
 
-transit_taken : (f : Failure) (r : RouterId) (n id link_data metric : ℕ) (k : LinkKind)
+transit_taken : (f : AreaFailure) (r : RouterId) (n id link_data metric : ℕ) (k : LinkKind)
     → is_transit_to n (record { id = id; link_data = link_data; kind = k; metric = metric }) ≡ true
     → takes f r (record { id = id; link_data = link_data; kind = k; metric = metric }) ≡ takes f r (record { id = n; link_data = 0; kind = kind.Transit; metric = 0 })
 transit_taken f r n id link_data metric kind.PointToPoint is = absurd (cc)
@@ -40,7 +40,7 @@ transit_taken (fails.Attachment q m) r n id link_data metric kind.Transit is = l
 transit_taken (fails.Network m) r n id link_data metric kind.Transit is = let same : id ≡ n = eqb-true id n is in rw same refl
 transit_taken (fails.Router q) r n id link_data metric kind.Transit is = refl
 
-module _ (f : Failure) (r : RouterId) (n : ℕ) where
+module _ (f : AreaFailure) (r : RouterId) (n : ℕ) where
   abbrev On : Bool
   On = takes f r (record { id = n; link_data = 0; kind = kind.Transit; metric = 0 })
 
@@ -85,15 +85,15 @@ filter_of p (y ∷ ys) x h =
 
 -- ---- an area and what a failure leaves of it
 
-module _ (f : Failure) (A : List Advertisement) where
+module _ (f : AreaFailure) (A : List Advertisement) where
   abbrev B : List Advertisement
-  B = map (kept f) A
+  B = map (left_of_lsa f) A
 
   router_back : (r : RouterId) (links : List Link) → Contains B (router_lsa r links)
       → (all : List Link) × Contains A (router_lsa r all) × (kept_links f r all ≡ links)
-  router_back r links h = let m = member_of_map (kept f) A _ h in router_is m.0 m.1 m.2
+  router_back r links h = let m = member_of_map (left_of_lsa f) A _ h in router_is m.0 m.1 m.2
     where
-      router_is : (x : Advertisement) → Contains A x → kept f x ≡ router_lsa r links → (all : List Link) × Contains A (router_lsa r all) × (kept_links f r all ≡ links)
+      router_is : (x : Advertisement) → Contains A x → left_of_lsa f x ≡ router_lsa r links → (all : List Link) × Contains A (router_lsa r all) × (kept_links f r all ≡ links)
       router_is (router_lsa q all) m e =
           let same : q ≡ r = cc in
           let left : kept_links f q all ≡ links = cc in
@@ -101,14 +101,14 @@ module _ (f : Failure) (A : List Advertisement) where
       router_is (network_lsa n q mask attached) m e = cc
 
   network_back : (n : ℕ) (r : RouterId) (mask : ℕ) (attached : List RouterId) → Contains B (network_lsa n r mask attached) → Contains A (network_lsa n r mask attached)
-  network_back n r mask attached h = let m = member_of_map (kept f) A _ h in network_is m.0 m.1 m.2
+  network_back n r mask attached h = let m = member_of_map (left_of_lsa f) A _ h in network_is m.0 m.1 m.2
     where
-      network_is : (x : Advertisement) → Contains A x → kept f x ≡ network_lsa n r mask attached → Contains A (network_lsa n r mask attached)
+      network_is : (x : Advertisement) → Contains A x → left_of_lsa f x ≡ network_lsa n r mask attached → Contains A (network_lsa n r mask attached)
       network_is (router_lsa q all) m e = cc
       network_is (network_lsa k q other names) m e = rw (← e) m
 
   network_to : (n : ℕ) (r : RouterId) (mask : ℕ) (attached : List RouterId) → Contains A (network_lsa n r mask attached) → Contains B (network_lsa n r mask attached)
-  network_to n r mask attached h = member_to_map (kept f) A (network_lsa n r mask attached) h
+  network_to n r mask attached h = member_to_map (left_of_lsa f) A (network_lsa n r mask attached) h
 
   listed_from : (r : RouterId) → IsListed B r → IsListed A r
   listed_from r h = let x = router_back r h.0 h.1 in (x.0, x.1)
@@ -175,19 +175,19 @@ module _ (f : Failure) (A : List Advertisement) where
       let cost : found.0.cost ≤ route.cost = omega (arith, low, v.1, w.1, old.cost_is, exact.cost_is) in
       (found.0, found.1, found.2, cost)
 
-pub failures_take_away : (f : Failure) (A : List Advertisement) (root : RouterId) (before after : List Route) → IsTable A root before → IsTable (without f A) root after
+pub failures_take_away : (f : AreaFailure) (A : List Advertisement) (root : RouterId) (before after : List Route) → IsTable A root before → IsTable (without f A) root after
     → (route : Route) → Contains after route → (old : Route) × Contains before old × (old.prefix ≡ route.prefix) × (old.cost ≤ route.cost)
 unfolding without
 failures_take_away f A root before after is_before is_after route m = kept_less f A root before after is_before is_after route m
 
-pub failures_make_no_edge : (f : Failure) (A : List Advertisement) (e : Edge) → IsEdge (without f A) e → IsEdge A e
+pub failures_make_no_edge : (f : AreaFailure) (A : List Advertisement) (e : Edge) → IsEdge (without f A) e → IsEdge A e
 unfolding without
 failures_make_no_edge f A e is = edge_from f A e.from e.to e.cost e.link_data is
 
 -- ---- a tree whose least paths all stay
 
 module _ (P Q : Edge → Type 0) (root : Vertex) (At : Vertex → ℕ → Type 0) (Starts : Vertex → Start → Type 0) (t : IsTree P root At Starts)
-    (less : (e : Edge) → Q e → P e) (each : (e : Edge) → P e → Q e ⊎ IsSlack At e) where
+    (less : (e : Edge) → Q e → P e) (each : (e : Edge) → P e → Q e ⊎ IsOffLeastPaths At e) where
   stays : (path : List Edge) (u w : Vertex) (d : ℕ) → IsPath P u path w → At u d → At w (d + path_cost path) → IsPath Q u path w
   stays [] u w d leads at end = leads
   stays (e ∷ rest) u w d leads at end =
@@ -213,8 +213,8 @@ module _ (P Q : Edge → Type 0) (root : Vertex) (At : Vertex → ℕ → Type 0
         spread = λ e d x is at end has. t.spread e d x (less e is) at end has;
       }
 
-pub trees_stay : (f : Failure) (A : List Advertisement) (root : Vertex) (settled : List Settled) (starts : List VertexStart)
+pub trees_stay : (f : AreaFailure) (A : List Advertisement) (root : Vertex) (settled : List Settled) (starts : List VertexStart)
     → IsTree (IsEdge A) root (AtIn settled) (StartsIn starts)
-    → ((e : Edge) → IsEdge A e → IsEdge (without f A) e ⊎ IsSlack (AtIn settled) e) → IsTree (IsEdge (without f A)) root (AtIn settled) (StartsIn starts)
+    → ((e : Edge) → IsEdge A e → IsEdge (without f A) e ⊎ IsOffLeastPaths (AtIn settled) e) → IsTree (IsEdge (without f A)) root (AtIn settled) (StartsIn starts)
 trees_stay f A root settled starts t each =
     tree_stays (IsEdge A) (IsEdge (without f A)) root (AtIn settled) (StartsIn starts) t (failures_make_no_edge f A) each

@@ -5,3 +5,4 @@ pub mod ToldLemmas
 pub mod EffectLemmas
 pub mod NameLemmas
 pub mod FailureOrder
+pub mod SortedLemmas

@@ -16,17 +16,17 @@ use Rattle.std.proofs.lemmas.List.{get_or_default}
 use Rattle.ospf_edges.specs.Given.{Adds, IsEdgesOf, IsEndsOf}
 use Rattle.ospf_edges.proofs.AddsLemmas.{adds_next}
 use Rattle.ospf_whatif.specs.Single.{AttachmentGiven, EdgeGiven, GivenBy, HasLonger, HasWire, IsFailure, IsOn, IsShared, IsSharedIn, IsWire, IsWireBetween, LinksGiven, NetworkGiven, RouterGiven, WireGiven}
-use Rattle.ospf_whatif.specs.declared.failure.Failure.{Failure}
-use Rattle.ospf_whatif.specs.declared.failure.Failure.TheVariants.{Attachment, Link, Links, Network, Router}
+use Rattle.ospf_whatif.specs.declared.failure.AreaFailure.{AreaFailure}
+use Rattle.ospf_whatif.specs.declared.failure.AreaFailure.TheVariants.{Attachment, Link, Links, Network, Router}
 
-pub one_attachment : (e : Edge) (r : RouterId) (n : ℕ) → e.from ≡ vertex.Router r → e.to ≡ vertex.Network n → (f : Failure)
+pub one_attachment : (e : Edge) (r : RouterId) (n : ℕ) → e.from ≡ vertex.Router r → e.to ≡ vertex.Network n → (f : AreaFailure)
     → (f ≡ Attachment r n) ↔ AttachmentGiven e f
 one_attachment e r n from to f = (
   λ is. (r, n, from, to, is),
   λ g. let a = g.2 in let b = g.3 in let d = g.4 in cc,
 )
 
-pub one_network : (e : Edge) (r : RouterId) (n : ℕ) → e.from ≡ vertex.Router r → e.to ≡ vertex.Network n → (f : Failure)
+pub one_network : (e : Edge) (r : RouterId) (n : ℕ) → e.from ≡ vertex.Router r → e.to ≡ vertex.Network n → (f : AreaFailure)
     → (f ≡ Network n) ↔ NetworkGiven e f
 one_network e r n from to f = (
   λ is. (r, n, from, to, is),
@@ -34,7 +34,7 @@ one_network e r n from to f = (
 )
 
 -- one more that is no link of the two routers
-pub wires_more : (wires : List Failure) (i : ℕ) (x : Failure) (a b : RouterId) → i < length wires → (HasWire (take i wires) a b → ⊥)
+pub wires_more : (wires : List AreaFailure) (i : ℕ) (x : AreaFailure) (a b : RouterId) → i < length wires → (HasWire (take i wires) a b → ⊥)
     → (((subnet : Prefix) × (get_or wires i x ≡ Link a b subnet)) → ⊥) → HasWire (take (i + 1) wires) a b → ⊥
 wires_more wires i x a b within none not h =
     elim ((more_members wires i x within (Link a b h.0)).0 h.1) [
@@ -42,16 +42,16 @@ wires_more wires i x a b within none not h =
       | inr here ↦ not (h.0, here)
     ]
 
-pub one_links : (wires : List Failure) (e : Edge) (a b : RouterId) → e.from ≡ vertex.Router a → e.to ≡ vertex.Router b → a.0 < b.0 → (HasWire wires a b → ⊥)
-    → (f : Failure) → (f ≡ Links a b) ↔ LinksGiven wires e f
+pub one_links : (wires : List AreaFailure) (e : Edge) (a b : RouterId) → e.from ≡ vertex.Router a → e.to ≡ vertex.Router b → a.0 < b.0 → (HasWire wires a b → ⊥)
+    → (f : AreaFailure) → (f ≡ Links a b) ↔ LinksGiven wires e f
 one_links wires e a b from to less none f = (
   λ is. (a, b, from, to, less, none, is),
   λ g. let d = g.2 in let h = g.3 in let k = g.6 in cc,
 )
 
 -- none where there is a link in a subnet, or the second router is the smaller
-pub no_links : (wires : List Failure) (e : Edge) (a b : RouterId) → e.from ≡ vertex.Router a → e.to ≡ vertex.Router b → ((a.0 < b.0) → (HasWire wires a b → ⊥) → ⊥)
-    → (f : Failure) → LinksGiven wires e f → ⊥
+pub no_links : (wires : List AreaFailure) (e : Edge) (a b : RouterId) → e.from ≡ vertex.Router a → e.to ≡ vertex.Router b → ((a.0 < b.0) → (HasWire wires a b → ⊥) → ⊥)
+    → (f : AreaFailure) → LinksGiven wires e f → ⊥
 no_links wires e a b from to not f g =
     let d = g.2 in
     let h = g.3 in
@@ -187,8 +187,8 @@ module _ (A : List Advertisement) (edges : List Edge) (ends : List End) (edges_a
         (a, b, refl, refl, (w.smaller, t.1, none), refl),
       )
 
-  module _ (wires : List Failure) (wires_are : Adds (GivenBy (λ e. GivenBy (WireGiven edges ends e) ends) edges) [] wires) where
-    wire_sound : (f : Failure) → Contains wires f → IsFailure A f
+  module _ (wires : List AreaFailure) (wires_are : Adds (GivenBy (λ e. GivenBy (WireGiven edges ends e) ends) edges) [] wires) where
+    wire_sound : (f : AreaFailure) → Contains wires f → IsFailure A f
     wire_sound f m = elim ((wires_are f).0 m) [
       | inl none ↦ absurd (let low = none.1 in omega arith)
       | inr g ↦
@@ -201,7 +201,7 @@ module _ (A : List Advertisement) (edges : List Edge) (ends : List End) (edges_a
     wire_complete : (a b : RouterId) (subnet : Prefix) → IsWire A a b subnet → Contains wires (Link a b subnet)
     wire_complete a b subnet w = let g = wire_to a b subnet w in (wires_are (Link a b subnet)).1 (inr (g.0, g.1, (g.2, g.3, g.4)))
 
-    edge_sound : (f : Failure) (e : Edge) → Contains edges e → EdgeGiven wires e f → IsFailure A f
+    edge_sound : (f : AreaFailure) (e : Edge) → Contains edges e → EdgeGiven wires e f → IsFailure A f
     edge_sound f e m (inl (inl g)) =
         let is : f ≡ Links g.0 g.1 = g.6 in
         subst (λ x. IsFailure A x) (sym is) (
@@ -221,7 +221,7 @@ module _ (A : List Advertisement) (edges : List Edge) (ends : List End) (edges_a
         (record { to = vertex.Network n; from = vertex.Router router; cost = h.0; link_data = h.1 }, edge_in (vertex.Router router) (vertex.Network n) h.0 h.1 h.2, refl, refl)
 
     -- a failure of each kind but the last is among what the edges give
-    edge_complete : (f : Failure) → IsFailure A f → ((r : RouterId) → f ≡ Router r → ⊥) → Contains wires f ⊎ GivenBy (EdgeGiven wires) edges f
+    edge_complete : (f : AreaFailure) → IsFailure A f → ((r : RouterId) → f ≡ Router r → ⊥) → Contains wires f ⊎ GivenBy (EdgeGiven wires) edges f
     edge_complete (Link a b subnet) h not = inl (wire_complete a b subnet h)
     edge_complete (Links a b) h not =
         let e : Edge = record { to = vertex.Router b; from = vertex.Router a; cost = h.1.0; link_data = h.1.1 } in
@@ -232,8 +232,8 @@ module _ (A : List Advertisement) (edges : List Edge) (ends : List End) (edges_a
     edge_complete (Router r) h not = absurd (not r refl)
 
 pub single_sound : (lsas : List (List ℕ)) (edges : List Edge) (ends : List End) → IsEdgesOf (advertisements_of lsas) edges → IsEndsOf (advertisements_of lsas) ends
-    → (wires mid all : List Failure) → Adds (GivenBy (λ e. GivenBy (WireGiven edges ends e) ends) edges) [] wires → Adds (GivenBy (EdgeGiven wires) edges) wires mid
-    → Adds (GivenBy (λ lsa. RouterGiven (advertisement_of lsa)) lsas) mid all → (f : Failure) → Contains all f → IsFailure (advertisements_of lsas) f
+    → (wires mid all : List AreaFailure) → Adds (GivenBy (λ e. GivenBy (WireGiven edges ends e) ends) edges) [] wires → Adds (GivenBy (EdgeGiven wires) edges) wires mid
+    → Adds (GivenBy (λ lsa. RouterGiven (advertisement_of lsa)) lsas) mid all → (f : AreaFailure) → Contains all f → IsFailure (advertisements_of lsas) f
 unfolding advertisements_of
 single_sound lsas edges ends edges_are ends_are wires mid all wires_are mid_are all_are f m =
     let A = map advertisement_of lsas in
@@ -250,22 +250,22 @@ single_sound lsas edges ends edges_are ends_are wires mid all wires_are mid_are 
     listed_router (network_lsa n r mask attached) at is = absurd is
 
 pub single_complete : (lsas : List (List ℕ)) (edges : List Edge) (ends : List End) → IsEdgesOf (advertisements_of lsas) edges → IsEndsOf (advertisements_of lsas) ends
-    → (wires mid all : List Failure) → Adds (GivenBy (λ e. GivenBy (WireGiven edges ends e) ends) edges) [] wires → Adds (GivenBy (EdgeGiven wires) edges) wires mid
-    → Adds (GivenBy (λ lsa. RouterGiven (advertisement_of lsa)) lsas) mid all → (f : Failure) → IsFailure (advertisements_of lsas) f → Contains all f
+    → (wires mid all : List AreaFailure) → Adds (GivenBy (λ e. GivenBy (WireGiven edges ends e) ends) edges) [] wires → Adds (GivenBy (EdgeGiven wires) edges) wires mid
+    → Adds (GivenBy (λ lsa. RouterGiven (advertisement_of lsa)) lsas) mid all → (f : AreaFailure) → IsFailure (advertisements_of lsas) f → Contains all f
 unfolding advertisements_of
 single_complete lsas edges ends edges_are ends_are wires mid all wires_are mid_are all_are f h = by_kind f h
   where
     A : List Advertisement
     A = map advertisement_of lsas
 
-    others : (g : Failure) → IsFailure (map advertisement_of lsas) g → ((r : RouterId) → g ≡ Router r → ⊥) → Contains all g
+    others : (g : AreaFailure) → IsFailure (map advertisement_of lsas) g → ((r : RouterId) → g ≡ Router r → ⊥) → Contains all g
     others g is not =
         elim (edge_complete (map advertisement_of lsas) edges ends edges_are ends_are wires wires_are g is not) [
           | inl in_wires ↦ (all_are g).1 (inl ((mid_are g).1 (inl in_wires)))
           | inr given ↦ (all_are g).1 (inl ((mid_are g).1 (inr given)))
         ]
 
-    by_kind : (g : Failure) → IsFailure (map advertisement_of lsas) g → Contains all g
+    by_kind : (g : AreaFailure) → IsFailure (map advertisement_of lsas) g → Contains all g
     by_kind (Link a b subnet) is = others (Link a b subnet) is (λ r e. cc)
     by_kind (Links a b) is = others (Links a b) is (λ r e. cc)
     by_kind (Attachment router n) is = others (Attachment router n) is (λ r e. cc)

@@ -1,51 +1,38 @@
 -- An area without what a failure takes.
-use Rattle.std.proofs.Common.{◌≡◌, ◌+◌, ◌*◌, ◌<◌, ◌≤◌, ℕ, ℤ, suc, Bool, true, false, cond, inl, inr, arith, filter, List, [], ◌∷◌, ◌++◌, map, take, drop, length, get_or, slice_index, refl, sym, ap, ◌∙◌, subst, append-nil, not, Result, Ok, Err, IfOk, IfErr}
-use Rattle.std.specs.List.{AllByRecursion, Contains}
+use Rattle.std.proofs.Common.{◌≡◌, ◌+◌, ◌*◌, ◌<◌, ◌≤◌, ℕ, ℤ, suc, Bool, true, false, cond, inl, inr, arith, filter, List, [], ◌∷◌, ◌++◌, map, take, drop, length, get_or, slice_index, refl, sym, ap, ◌∙◌, subst, not, Result, Ok, Err, IfOk, IfErr}
+use Rattle.std.specs.List.{Contains}
 use Rattle.std.proofs.lemmas.List.Elements.{filter-append}
 use Rattle.std.proofs.lemmas.List.{drop_more, take_more, take-append-drop, map-append}
+use Rattle.std.proofs.lemmas.List.Sums.{count_by-le-length, fold_more, length-filter}
 use Rattle.ospf_base.specs.declared.ids.LsaKey.{LsaKey}
 use Rattle.ospf_base.specs.declared.ids.RouterId.{RouterId}
 use Rattle.ospf_base.specs.Keys.{Precedes}
-use Rattle.ospf_base.proofs.KeyOrder.{Precedes-trans, Precedes-irrefl}
 use Rattle.ospf_base.specs.Bytes.{number_at}
 use Rattle.ospf_lsa.specs.Lsa.{IsLsa, IsRouterLsa, IsNetworkLsa, key_of, kind_of, links_of}
 use Rattle.ospf_lsa.specs.Link.{LinkEntry, entries_in, plain}
 use Rattle.ospf_lsa.specs.Listing as listings
 use Rattle.ospf_lsa.specs.declared.fault.LsaFault.TheVariants as fault
-use Rattle.ospf_lsa.proofs.ListingLemmas.{AllBefore, all_back, before_it}
+use Rattle.ospf_lsa.proofs.ListingLemmas.{AllBefore, before_it}
 use Rattle.ospf_lsa.specs.Value.{IsMade, IsUnmade, RouterNeeds, router_value, LsaValue, router_body}
 use Rattle.ospf_lsa.specs.declared.link.Link.{Link}
-use Rattle.ospf_graph.specs.Advertisements.{router_lsa}
+use Rattle.ospf_graph.specs.Advertisements.{Advertisement, network_lsa, router_lsa}
 use Rattle.ospf_edges.specs.Listed.{advertisement_of}
-use Rattle.ospf_graph.proofs.ListLemmas.{member_to_map}
+use Rattle.ospf_graph.proofs.ListLemmas.{member_of_map, member_to_map}
 use Rattle.ospf_edges.proofs.ListedLemmas.{router_of, network_of}
-use Rattle.ospf_whatif.specs.Failure.{HasLarge, IsLarge, kept, kept_links, takes}
-use Rattle.ospf_whatif.specs.declared.failure.Failure.{Failure}
+use Rattle.ospf_whatif.specs.Failure.{HasLarge, IsLarge, left_of_lsa, kept_links, takes, without, without_all}
+use Rattle.ospf_whatif.specs.declared.failure.AreaFailure.{AreaFailure}
 
-pub kept_links-append : (f : Failure) (r : RouterId) (xs ys : List Link) → kept_links f r (xs ++ ys) ≡ kept_links f r xs ++ kept_links f r ys
+pub kept_links-append : (f : AreaFailure) (r : RouterId) (xs ys : List Link) → kept_links f r (xs ++ ys) ≡ kept_links f r xs ++ kept_links f r ys
 kept_links-append f r xs ys = filter-append (λ l. not (takes f r l)) xs ys
 
 -- a link that is not taken is kept
-pub kept_one : (f : Failure) (r : RouterId) (l : Link) → takes f r l ≡ false → kept_links f r (l ∷ []) ≡ l ∷ []
+pub kept_one : (f : AreaFailure) (r : RouterId) (l : Link) → takes f r l ≡ false → kept_links f r (l ∷ []) ≡ l ∷ []
 kept_one f r l stays = rw stays refl
 
-pub taken_one : (f : Failure) (r : RouterId) (l : Link) → takes f r l ≡ true → kept_links f r (l ∷ []) ≡ []
+pub taken_one : (f : AreaFailure) (r : RouterId) (l : Link) → takes f r l ≡ true → kept_links f r (l ∷ []) ≡ []
 taken_one f r l goes = rw goes refl
 
 -- ---- an LSA behind all others
-
--- nothing stands behind what all others stand before
-behind_last : (lsa : List ℕ) (xs ys : List (List ℕ)) → listings.IsRising (xs ++ lsa ∷ ys) → AllByRecursion (λ l. Precedes (key_of l) (key_of lsa)) ys → ys ≡ []
-behind_last lsa [] [] rises below = refl
-behind_last lsa [] (y ∷ ys) rises below = absurd (Precedes-irrefl (key_of lsa) (Precedes-trans (key_of lsa) (key_of y) (key_of lsa) rises.0.0 below.0))
-behind_last lsa (x ∷ xs) ys rises below = behind_last lsa xs ys rises.1 below
-
--- an LSA that stands behind all others is put in at the end
-pub inserted_last : (lsa : List ℕ) (old new : List (List ℕ)) → listings.IsInserted lsa old new → listings.IsRising new → AllByRecursion (λ l. Precedes (key_of l) (key_of lsa)) old → new ≡ old ++ lsa ∷ []
-inserted_last lsa old new put rises below =
-    let none : put.after ≡ [] = behind_last lsa put.before put.after (subst (λ (l : List (List ℕ)). listings.IsRising l) put.new_is rises) (all_back (λ l. Precedes (key_of l) (key_of lsa)) put.before put.after (subst (λ (l : List (List ℕ)). AllByRecursion (λ o. Precedes (key_of o) (key_of lsa)) l) put.old_is below)) in
-    let front : old ≡ put.before = put.old_is ∙ ap (λ (t : List (List ℕ)). put.before ++ t) none ∙ append-nil put.before in
-    put.new_is ∙ ap (λ (t : List (List ℕ)). put.before ++ lsa ∷ t) none ∙ ap (λ (t : List (List ℕ)). t ++ lsa ∷ []) (sym front)
 
 -- ---- a router-LSA that is made
 
@@ -84,20 +71,20 @@ module _ (r : RouterId) (number : ℤ) (links : List Link) (left : List ℕ) (ma
       let routers : (let named : RouterId = record { 0 = number_at 8 4 left } in named) ≡ record { 0 = number_at 8 4 lsa } = names ∙ same in
       λ i. record { kind = kinds i; id = ids i; router = routers i }
 
-  pub made_kept : (f : Failure) (lsa : List ℕ) → IsRouterLsa lsa → r ≡ record { 0 = number_at 8 4 lsa } → links ≡ kept_links f r (links_of lsa)
-      → advertisement_of left ≡ kept f (advertisement_of lsa)
+  pub made_kept : (f : AreaFailure) (lsa : List ℕ) → IsRouterLsa lsa → r ≡ record { 0 = number_at 8 4 lsa } → links ≡ kept_links f r (links_of lsa)
+      → advertisement_of left ≡ left_of_lsa f (advertisement_of lsa)
   made_kept f lsa is same are =
-      made_says ∙ ap (λ ls. router_lsa r ls) are ∙ ap (λ (x : RouterId). router_lsa x (kept_links f x (links_of lsa))) same ∙ sym (ap (kept f) (router_of lsa is))
+      made_says ∙ ap (λ ls. router_lsa r ls) are ∙ ap (λ (x : RouterId). router_lsa x (kept_links f x (links_of lsa))) same ∙ sym (ap (left_of_lsa f) (router_of lsa is))
 
 -- ---- an LSA that stays
 
-pub router_kept : (f : Failure) (lsa : List ℕ) → IsRouterLsa lsa → kept_links f (record { 0 = number_at 8 4 lsa }) (links_of lsa) ≡ links_of lsa
-    → advertisement_of lsa ≡ kept f (advertisement_of lsa)
+pub router_kept : (f : AreaFailure) (lsa : List ℕ) → IsRouterLsa lsa → kept_links f (record { 0 = number_at 8 4 lsa }) (links_of lsa) ≡ links_of lsa
+    → advertisement_of lsa ≡ left_of_lsa f (advertisement_of lsa)
 router_kept f lsa is all =
-    router_of lsa is ∙ ap (λ ls. router_lsa (record { 0 = number_at 8 4 lsa }) ls) (sym all) ∙ sym (ap (kept f) (router_of lsa is))
+    router_of lsa is ∙ ap (λ ls. router_lsa (record { 0 = number_at 8 4 lsa }) ls) (sym all) ∙ sym (ap (left_of_lsa f) (router_of lsa is))
 
-pub network_kept : (f : Failure) (lsa : List ℕ) → IsNetworkLsa lsa → advertisement_of lsa ≡ kept f (advertisement_of lsa)
-network_kept f lsa is = network_of lsa is ∙ sym (ap (kept f) (network_of lsa is))
+pub network_kept : (f : AreaFailure) (lsa : List ℕ) → IsNetworkLsa lsa → advertisement_of lsa ≡ left_of_lsa f (advertisement_of lsa)
+network_kept f lsa is = network_of lsa is ∙ sym (ap (left_of_lsa f) (network_of lsa is))
 
 pub IfOk-map : {X E : Type 0} (r : Result X E) (P Q : X → Type 0) → IfOk r P → ((x : X) → P x → Q x) → IfOk r Q
 IfOk-map (Ok x) P Q p to = to x p
@@ -134,11 +121,11 @@ module _ (lsas : List (List ℕ)) (i : ℕ) (x : List ℕ) (within : i < length 
   keys_next left new same key =
       map-append key_of left (new ∷ []) ∙ (λ j. same j ++ key j ∷ []) ∙ sym (ap (map key_of) next ∙ map-append key_of (take i lsas) (x ∷ []))
 
-  pub told_next : (f : Failure) (left : List (List ℕ)) (new : List ℕ) → map advertisement_of left ≡ map (kept f) (map advertisement_of (take i lsas))
-      → advertisement_of new ≡ kept f (advertisement_of x) → map advertisement_of (left ++ new ∷ []) ≡ map (kept f) (map advertisement_of (take (i + 1) lsas))
+  pub told_next : (f : AreaFailure) (left : List (List ℕ)) (new : List ℕ) → map advertisement_of left ≡ map (left_of_lsa f) (map advertisement_of (take i lsas))
+      → advertisement_of new ≡ left_of_lsa f (advertisement_of x) → map advertisement_of (left ++ new ∷ []) ≡ map (left_of_lsa f) (map advertisement_of (take (i + 1) lsas))
   told_next f left new same told =
       map-append advertisement_of left (new ∷ []) ∙ (λ j. same j ++ told j ∷ [])
-      ∙ sym (ap (λ l. map (kept f) (map advertisement_of l)) next ∙ ap (map (kept f)) (map-append advertisement_of (take i lsas) (x ∷ [])) ∙ map-append (kept f) (map advertisement_of (take i lsas)) (advertisement_of x ∷ []))
+      ∙ sym (ap (λ l. map (left_of_lsa f) (map advertisement_of l)) next ∙ ap (map (left_of_lsa f)) (map-append advertisement_of (take i lsas) (x ∷ [])) ∙ map-append (left_of_lsa f) (map advertisement_of (take i lsas)) (advertisement_of x ∷ []))
 
 -- ---- what cannot be made anew
 
@@ -152,7 +139,7 @@ kept_length p (x ∷ xs) = go (p x) (kept_length p xs)
     go false h = omega arith
 
 -- a router-LSA that keeps too many has too many
-pub large_before : (f : Failure) (r : RouterId) (number : ℤ) (links : List Link) (lsa : List ℕ) → IsRouterLsa lsa → links ≡ kept_links f r (links_of lsa)
+pub large_before : (f : AreaFailure) (r : RouterId) (number : ℤ) (links : List Link) (lsa : List ℕ) → IsRouterLsa lsa → links ≡ kept_links f r (links_of lsa)
     → IsUnmade (RouterNeeds number links) fault.Length → IsLarge (advertisement_of lsa)
 large_before f r number links lsa is are (inl memory) = let e : fault.Length ≡ fault.Memory = memory.0 in cc
 large_before f r number links lsa is are (inr first) =
@@ -168,3 +155,26 @@ large_before f r number links lsa is are (inr first) =
 pub large_in : (items listing : List (List ℕ)) (lsa : List ℕ) → items ≡ listing → Contains items lsa → IsLarge (advertisement_of lsa) → HasLarge (map advertisement_of listing)
 large_in items listing lsa same here large =
     (advertisement_of lsa, member_to_map advertisement_of listing lsa (subst (λ (l : List (List ℕ)). Contains l lsa) same here), large)
+
+-- ---- a router has no more links than before
+
+kept_few : (f : AreaFailure) (advert : Advertisement) → IsLarge (left_of_lsa f advert) → IsLarge advert
+kept_few f (router_lsa router links) large =
+    let kept_is = length-filter (λ (l : Link). not (takes f router l)) links in
+    let few = count_by-le-length (λ (l : Link). not (takes f router l)) links in
+    omega arith
+kept_few f (network_lsa n router mask attached) large = absurd large
+
+pub small_without : (f : AreaFailure) (adverts : List Advertisement) → (HasLarge adverts → ⊥) → HasLarge (without f adverts) → ⊥
+unfolding without
+small_without f adverts small large =
+    let m = member_of_map (left_of_lsa f) adverts large.0 large.1 in
+    small (m.0, m.1, kept_few f m.0 (subst IsLarge (sym m.2) large.2))
+
+-- ---- one failure more
+
+pub left_more : (failures : List AreaFailure) (i : ℕ) (x : AreaFailure) (adverts old new : List Advertisement) → i < length failures → x ≡ get_or failures i x
+    → old ≡ without_all (take i failures) adverts → new ≡ without x old → new ≡ without_all (take (i + 1) failures) adverts
+left_more failures i x adverts old new within is before now =
+    now ∙ ap (without x) before ∙ ap (λ (f : AreaFailure). without f (without_all (take i failures) adverts)) is
+    ∙ sym (fold_more (λ (left : List Advertisement) (f : AreaFailure). without f left) adverts failures i x within)

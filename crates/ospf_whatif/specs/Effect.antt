@@ -8,17 +8,17 @@ use Rattle.ospf_spf.specs.Changes.{Reaches, prefix_of}
 use Rattle.ospf_spf.specs.declared.changes.Change.{Change}
 use Rattle.ospf_spf.specs.declared.changes.Change.TheVariants as change
 use Rattle.ospf_whatif.specs.Failure.{without}
-use Rattle.ospf_whatif.specs.Told.{IsTold, place_of}
+use Rattle.ospf_whatif.specs.Told.{IsAdvertised, prefix_place}
 use Rattle.ospf_whatif.specs.declared.effect.Loss.{Loss}
 use Rattle.ospf_whatif.specs.declared.effect.Loss.TheVariants.{Cut, Dearer, Gone, Moved}
 use Rattle.ospf_whatif.specs.declared.effect.RouteChange.{RouteChange}
-use Rattle.ospf_whatif.specs.declared.failure.Failure.{Failure}
+use Rattle.ospf_whatif.specs.declared.failure.AreaFailure.{AreaFailure}
 
 -- what becomes of a route where the area is left as `left`, and the table as `after`: no route to its prefix, which nobody tells or somebody does; or one that
 -- costs more, or the same over other next hops
 abbrev pub IsLoss : List Advertisement → List Route → Route → Loss → Type 0
-IsLoss left after route Gone = (Reaches after route.prefix → ⊥) × (IsTold left route.prefix → ⊥)
-IsLoss left after route Cut = (Reaches after route.prefix → ⊥) × IsTold left route.prefix
+IsLoss left after route Gone = (Reaches after route.prefix → ⊥) × (IsAdvertised left route.prefix → ⊥)
+IsLoss left after route Cut = (Reaches after route.prefix → ⊥) × IsAdvertised left route.prefix
 IsLoss left after route (Dearer new) = Contains after new × (new.prefix ≡ route.prefix) × (route.cost < new.cost)
 IsLoss left after route (Moved new) = Contains after new × (new.prefix ≡ route.prefix) × (new.cost ≡ route.cost) × (new.hops ≡ route.hops → ⊥)
 
@@ -35,7 +35,7 @@ pub record IsEffectIn (left : List Advertisement) (root : RouterId) (before : Li
   pub losses : All (λ c. IsLoss left after c.before c.loss) effect
 
 -- what becomes of them where something fails
-abbrev pub IsEffect : List Advertisement → RouterId → Failure → List Route → List RouteChange → Type 0
+abbrev pub IsEffect : List Advertisement → RouterId → AreaFailure → List Route → List RouteChange → Type 0
 IsEffect adverts root failure before effect = IsEffectIn (without failure adverts) root before effect
 
 -- each prefix that a router reaches in what is left had a route in its table, at no higher cost
@@ -49,7 +49,7 @@ TakesAway left root before =
 -- what becomes of a route where the change is at its prefix, and these are the places of the prefixes that are lost and told
 abbrev pub IsLossBy : List ℕ → Route → Change → Loss → Type 0
 IsLossBy told route (change.Put new) loss = ((route.cost < new.cost) × (loss ≡ Dearer new)) ⊎ ((new.cost ≤ route.cost) × (loss ≡ Moved new))
-IsLossBy told route (change.Gone prefix) loss = (Contains told (place_of prefix) × (loss ≡ Cut)) ⊎ ((Contains told (place_of prefix) → ⊥) × (loss ≡ Gone))
+IsLossBy told route (change.Gone prefix) loss = (Contains told (prefix_place prefix) × (loss ≡ Cut)) ⊎ ((Contains told (prefix_place prefix) → ⊥) × (loss ≡ Gone))
 
 -- the route at its prefix, and what becomes of it
 pub record IsChangeBy (routes : List Route) (told : List ℕ) (c : Change) (here : RouteChange) : Type 0 where

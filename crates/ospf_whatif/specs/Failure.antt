@@ -1,5 +1,6 @@
 -- What an area comes to after a failure (RFC 2328, sections 12.4.1 and 16.1).
 use Rattle.std.specs.Prelude.{◌==◌, ◌&&◌, ◌||◌, ◌<◌, ℕ, Bool, false, not, Contains, List, length, map, filter, bit_and}
+use Rattle.std.specs.List.{fold}
 use Rattle.ospf_base.specs.Masks.{mask_of}
 use Rattle.ospf_base.specs.declared.ids.RouterId.{RouterId}
 use Rattle.ospf_base.specs.declared.prefix.Prefix.{Prefix}
@@ -7,9 +8,9 @@ use Rattle.ospf_lsa.specs.declared.link.Link.{Link}
 use Rattle.ospf_lsa.specs.declared.link.LinkKind.{LinkKind}
 use Rattle.ospf_lsa.specs.declared.link.LinkKind.TheVariants as kind
 use Rattle.ospf_graph.specs.Advertisements.{Advertisement, router_lsa, network_lsa}
-use Rattle.ospf_whatif.specs.declared.failure.Failure as failure
-use Rattle.ospf_whatif.specs.declared.failure.Failure.TheVariants.{Attachment, Links, Network, Router}
-use Rattle.ospf_whatif.specs.declared.failure.Failure.TheVariants as fails
+use Rattle.ospf_whatif.specs.declared.failure.AreaFailure as failure
+use Rattle.ospf_whatif.specs.declared.failure.AreaFailure.TheVariants.{Attachment, Links, Network, Router}
+use Rattle.ospf_whatif.specs.declared.failure.AreaFailure.TheVariants as fails
 
 -- ---- links
 
@@ -49,7 +50,7 @@ is_wire_end l router subnet = (is_link_to l router && is_on l subnet) || is_stub
 
 -- the links that the router-LSA of a router has lost once its routers have told of the failure: an interface that is down makes no link, and one that is
 -- up makes none to a router that it hears no more (section 12.4.1)
-abbrev pub takes : failure.Failure → RouterId → Link → Bool
+abbrev pub takes : failure.AreaFailure → RouterId → Link → Bool
 takes (fails.Link a b subnet) router l = ((router.0 == a.0) && is_wire_end l b subnet) || ((router.0 == b.0) && is_wire_end l a subnet)
 takes (Links a b) router l = ((router.0 == a.0) && is_link_to l b) || ((router.0 == b.0) && is_link_to l a)
 takes (Attachment attached network) router l = (router.0 == attached.0) && is_transit_of l network
@@ -59,17 +60,21 @@ takes (Router gone) router l = (router.0 == gone.0) || is_link_to l gone
 -- ---- the area after it
 
 -- those that it keeps
-abbrev pub kept_links : failure.Failure → RouterId → List Link → List Link
+abbrev pub kept_links : failure.AreaFailure → RouterId → List Link → List Link
 kept_links f router links = filter (λ l. not (takes f router l)) links
 
 -- network-LSAs stay as they are: a router without a link to the network is not on it, whatever the network-LSA names (section 16.1)
-abbrev pub kept : failure.Failure → Advertisement → Advertisement
-kept f (router_lsa router links) = router_lsa router (kept_links f router links)
-kept f (network_lsa n router mask attached) = network_lsa n router mask attached
+abbrev pub left_of_lsa : failure.AreaFailure → Advertisement → Advertisement
+left_of_lsa f (router_lsa router links) = router_lsa router (kept_links f router links)
+left_of_lsa f (network_lsa n router mask attached) = network_lsa n router mask attached
 
 -- the LSAs of the area after the failure
-unfoldable pub without : failure.Failure → List Advertisement → List Advertisement
-without f adverts = map (kept f) adverts
+unfoldable pub without : failure.AreaFailure → List Advertisement → List Advertisement
+without f adverts = map (left_of_lsa f) adverts
+
+-- after several failures, one after the other
+abbrev pub without_all : List failure.AreaFailure → List Advertisement → List Advertisement
+without_all failures adverts = fold (λ left f. without f left) adverts failures
 
 -- ---- what cannot be made anew
 

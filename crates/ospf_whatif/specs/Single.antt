@@ -9,9 +9,9 @@ use Rattle.ospf_graph.specs.Advertisements.{Advertisement, IsListed, router_lsa,
 use Rattle.ospf_graph.specs.Graph.{IsEdgeBetween}
 use Rattle.ospf_graph.specs.Routes.{IsEnd}
 use Rattle.ospf_edges.specs.declared.end.End.{End}
-use Rattle.ospf_whatif.specs.declared.failure.Failure as failure
-use Rattle.ospf_whatif.specs.declared.failure.Failure.TheVariants.{Attachment, Links, Network, Router}
-use Rattle.ospf_whatif.specs.declared.failure.Failure.TheVariants as fails
+use Rattle.ospf_whatif.specs.declared.failure.AreaFailure as failure
+use Rattle.ospf_whatif.specs.declared.failure.AreaFailure.TheVariants.{Attachment, Links, Network, Router}
+use Rattle.ospf_whatif.specs.declared.failure.AreaFailure.TheVariants as fails
 
 -- a prefix that both routers tell by a type 3 link, which holds this address of the first and an address out of which an edge leads back
 pub record IsShared (adverts : List Advertisement) (a b : RouterId) (address : ℕ) (prefix : Prefix) : Type 0 where
@@ -44,7 +44,7 @@ abbrev pub IsOn : List Advertisement → RouterId → ℕ → Type 0
 IsOn adverts router n = (cost address : ℕ) × IsEdgeBetween adverts (vertex.Router router) (vertex.Network n) cost address
 
 -- what may fail
-abbrev pub IsFailure : List Advertisement → failure.Failure → Type 0
+abbrev pub IsFailure : List Advertisement → failure.AreaFailure → Type 0
 IsFailure adverts (fails.Link a b subnet) = IsWire adverts a b subnet
 IsFailure adverts (Links a b) =
     (a.0 < b.0) × ((cost address : ℕ) × IsEdgeBetween adverts (vertex.Router a) (vertex.Router b) cost address) × ShareNone adverts a b
@@ -53,11 +53,11 @@ IsFailure adverts (Network n) = (router : RouterId) × IsOn adverts router n
 IsFailure adverts (Router router) = IsListed adverts router
 
 -- exactly what may fail is listed
-abbrev pub AreFailures : List Advertisement → List failure.Failure → Type 0
-AreFailures adverts fs = (f : failure.Failure) → Contains fs f ↔ IsFailure adverts f
+abbrev pub AreFailures : List Advertisement → List failure.AreaFailure → Type 0
+AreFailures adverts fs = (f : failure.AreaFailure) → Contains fs f ↔ IsFailure adverts f
 
 -- the place of a failure's kind: links with a subnet, other links, attachments, networks, routers
-abbrev pub kind_place : failure.Failure → ℕ
+abbrev pub kind_place : failure.AreaFailure → ℕ
 kind_place (fails.Link a b subnet) = 0
 kind_place (Links a b) = 1
 kind_place (Attachment router n) = 2
@@ -65,7 +65,7 @@ kind_place (Network n) = 3
 kind_place (Router router) = 4
 
 -- the order of failures: by kind, then by routers, subnet or network
-abbrev pub IsFailureBefore : failure.Failure → failure.Failure → Type 0
+abbrev pub IsFailureBefore : failure.AreaFailure → failure.AreaFailure → Type 0
 IsFailureBefore (fails.Link a b p) (fails.Link c d q) = (a.0 < c.0) ⊎ ((a.0 ≡ c.0) × ((b.0 < d.0) ⊎ ((b.0 ≡ d.0) × IsPrefixBefore p q)))
 IsFailureBefore (Links a b) (Links c d) = (a.0 < c.0) ⊎ ((a.0 ≡ c.0) × (b.0 < d.0))
 IsFailureBefore (Attachment r n) (Attachment s m) = (r.0 < s.0) ⊎ ((r.0 ≡ s.0) × (n < m))
@@ -98,28 +98,28 @@ abbrev pub IsWireBetween : List Edge → List End → Edge → End → RouterId 
 IsWireBetween edges ends edge end a b =
     (a.0 < b.0) × IsSharedIn edges ends edge a b end × (HasLonger edges ends edge a b end.prefix.length ends → ⊥)
 
-abbrev pub WireGiven : List Edge → List End → Edge → End → failure.Failure → Type 0
+abbrev pub WireGiven : List Edge → List End → Edge → End → failure.AreaFailure → Type 0
 WireGiven edges ends edge end f =
     (a b : RouterId) × (edge.from ≡ vertex.Router a) × (edge.to ≡ vertex.Router b) × IsWireBetween edges ends edge end a b × (f ≡ fails.Link a b end.prefix)
 
 -- a link of two routers in some subnet is among these
-abbrev pub HasWire : List failure.Failure → RouterId → RouterId → Type 0
+abbrev pub HasWire : List failure.AreaFailure → RouterId → RouterId → Type 0
 HasWire wires a b = (subnet : Prefix) × Contains wires (fails.Link a b subnet)
 
-abbrev pub LinksGiven : List failure.Failure → Edge → failure.Failure → Type 0
+abbrev pub LinksGiven : List failure.AreaFailure → Edge → failure.AreaFailure → Type 0
 LinksGiven wires edge f =
     (a b : RouterId) × (edge.from ≡ vertex.Router a) × (edge.to ≡ vertex.Router b) × (a.0 < b.0) × (HasWire wires a b → ⊥) × (f ≡ Links a b)
 
-abbrev pub AttachmentGiven : Edge → failure.Failure → Type 0
+abbrev pub AttachmentGiven : Edge → failure.AreaFailure → Type 0
 AttachmentGiven edge f = (router : RouterId) × (n : ℕ) × (edge.from ≡ vertex.Router router) × (edge.to ≡ vertex.Network n) × (f ≡ Attachment router n)
 
-abbrev pub NetworkGiven : Edge → failure.Failure → Type 0
+abbrev pub NetworkGiven : Edge → failure.AreaFailure → Type 0
 NetworkGiven edge f = (router : RouterId) × (n : ℕ) × (edge.from ≡ vertex.Router router) × (edge.to ≡ vertex.Network n) × (f ≡ Network n)
 
-abbrev pub EdgeGiven : List failure.Failure → Edge → failure.Failure → Type 0
+abbrev pub EdgeGiven : List failure.AreaFailure → Edge → failure.AreaFailure → Type 0
 EdgeGiven wires edge f = (LinksGiven wires edge f ⊎ AttachmentGiven edge f) ⊎ NetworkGiven edge f
 
-abbrev pub RouterGiven : Advertisement → failure.Failure → Type 0
+abbrev pub RouterGiven : Advertisement → failure.AreaFailure → Type 0
 RouterGiven (router_lsa r links) f = f ≡ Router r
 RouterGiven (network_lsa n r mask attached) f = ⊥
 

@@ -18,19 +18,19 @@ IsLive adverts (Router r) = ⊤
 IsLive adverts (Network n) = (e : Edge) × IsEdge adverts e × (e.from ≡ Network n)
 
 -- the prefix stands at one of those
-abbrev pub IsTold : List Advertisement → Prefix → Type 0
-IsTold adverts prefix = (v : Vertex) × (cost : ℕ) × IsEnd adverts prefix v cost × IsLive adverts v
+abbrev pub IsAdvertised : List Advertisement → Prefix → Type 0
+IsAdvertised adverts prefix = (v : Vertex) × (cost : ℕ) × IsEnd adverts prefix v cost × IsLive adverts v
 
 -- ---- by places of prefixes and networks
 
 -- the place of a prefix in the order of prefixes
-abbrev pub place_of : Prefix → ℕ
-place_of prefix = pair_code prefix.address.0 prefix.length
+abbrev pub prefix_place : Prefix → ℕ
+prefix_place prefix = pair_code prefix.address.0 prefix.length
 
 -- the prefix of a change that leaves no route to it
 abbrev pub LostGiven : Change → ℕ → Type 0
 LostGiven (Put route) n = ⊥
-LostGiven (Gone prefix) n = n ≡ place_of prefix
+LostGiven (Gone prefix) n = n ≡ prefix_place prefix
 
 -- the network that an edge leaves
 abbrev pub LiveGiven : Edge → ℕ → Type 0
@@ -43,4 +43,4 @@ IsLiveAmong live (Network n) = Contains live (pair_code n 0)
 
 -- the prefix of an end that is lost, and stands at one of those
 abbrev pub ToldGiven : List ℕ → List ℕ → End → ℕ → Type 0
-ToldGiven lost live end n = Contains lost (place_of end.prefix) × IsLiveAmong live end.vertex × (n ≡ place_of end.prefix)
+ToldGiven lost live end n = Contains lost (prefix_place end.prefix) × IsLiveAmong live end.vertex × (n ≡ prefix_place end.prefix)

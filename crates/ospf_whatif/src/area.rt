@@ -1,15 +1,13 @@
 //! The listing of an area after a failure.
 
-ghost use Rattle.std.specs.Prelude.{◌≡◌, ◌≤◌, ◌++◌, ◌<◌, ◌∷◌, [], Err, IfOk, IfErr, OnOk, IsTrue};
-ghost use Rattle.std.specs.List.{AllByRecursion};
-ghost use Rattle.ospf_base.specs.Keys.{Precedes};
+ghost use Rattle.std.specs.Prelude.{◌≡◌, ◌++◌, ◌<◌, ◌∷◌, [], Err, IfOk, OnOk, IsTrue};
 ghost use Rattle.ospf_lsa.specs.Header.{header_of};
-ghost use Rattle.ospf_lsa.specs.Lsa.{key_of, IsRouterLsa, links_of};
-ghost use Rattle.ospf_lsa.specs.Listing.{IsListed};
+ghost use Rattle.ospf_lsa.specs.Lsa.{key_of, IsRouterLsa};
+ghost use Rattle.ospf_lsa.specs.Listing.{IsListable};
 ghost use Rattle.ospf_edges.specs.Listed.{advertisement_of, advertisements_of};
-ghost use Rattle.ospf_whatif.specs.Failure.{HasLarge, IsLarge, kept, kept_links, takes, without};
+ghost use Rattle.ospf_whatif.specs.Failure.{HasLarge, IsLarge, left_of_lsa, kept_links, takes, without, without_all};
 
-use crate::failure::Failure;
+use crate::failure::AreaFailure;
 use ospf_base::{Kind, RouterId};
 use ospf_lsa::{Link, Links, Listing, Lsa, LsaFault, LsaView};
 use std::alloc::{AllocError, Global};
@@ -54,7 +52,11 @@ impl From<LsaFault> for WithoutFault {
 ///
 /// `Links` where a changed router-LSA keeps more links than can be told in one of `LARGEST_LSA` bytes, which are 1,361; else
 /// `Memory`.
-pub fn without(alloc: Global, listing: &Listing, failure: &Failure) -> Result<Listing, WithoutFault>
+pub fn without(
+    alloc: Global,
+    listing: &Listing,
+    failure: &AreaFailure,
+) -> Result<Listing, WithoutFault>
     ensures left { IfOk result (λ left. advertisements_of left
         ≡ without failure.now (advertisements_of listing.now)) }
     ensures large { result ≡ Err WithoutFault.Links → HasLarge (advertisements_of listing.now) }
@@ -62,17 +64,53 @@ pub fn without(alloc: Global, listing: &Listing, failure: &Failure) -> Result<Li
     let mut left = Listing::new(alloc);
     for lsa in listing.lsas() {
         let kept = lsa_without(alloc, failure, &lsa.view())?;
-        append(&mut left, kept)?;
+        left.append(kept)?;
     }
     Ok(left)
 }
 
+/// The LSAs of an area after failures, one after the other.
+///
+/// `AllocError` where memory runs out.
+pub fn without_all(
+    alloc: Global,
+    listing: Listing,
+    failures: &[AreaFailure],
+) -> Result<Listing, AllocError>
+    requires { HasLarge (advertisements_of listing) → ⊥ }
+    ensures { IfOk result (λ left. advertisements_of left
+        ≡ without_all failures.now (advertisements_of listing)) }
+{
+    let mut left = listing;
+    for failure in failures {
+        left = without_small(alloc, &left, failure)?;
+    }
+    Ok(left)
+}
+
+// The LSAs of an area without large router-LSAs, after a failure.
+fn without_small(
+    alloc: Global,
+    listing: &Listing,
+    failure: &AreaFailure,
+) -> Result<Listing, AllocError>
+    requires { HasLarge (advertisements_of listing.now) → ⊥ }
+    ensures { IfOk result (λ left. advertisements_of left
+        ≡ without failure.now (advertisements_of listing.now)) }
+{
+    match without(alloc, listing, failure) {
+        Ok(left) => Ok(left),
+        Err(WithoutFault::Memory) => Err(AllocError),
+        Err(WithoutFault::Links) => unreachable!(),
+    }
+}
+
 // An LSA after the failure.
-fn lsa_without(alloc: Global, failure: &Failure, lsa: &LsaView) -> Result<Lsa, LsaFault>
-    requires listed { IsListed lsa.now }
+fn lsa_without(alloc: Global, failure: &AreaFailure, lsa: &LsaView) -> Result<Lsa, LsaFault>
+    requires listed { IsListable lsa.now }
     // The LSA has what the failure leaves of it, under the same key, and is below the greatest age.
     ensures advertisement { IfOk result (λ left. advertisement_of left
-        ≡ kept failure.now (advertisement_of lsa.now)) }
+        ≡ left_of_lsa failure.now (advertisement_of lsa.now)) }
     ensures key { IfOk result (λ left. key_of left ≡ key_of lsa.now) }
     ensures young { IfOk result (λ left. (header_of left).age < 3600) }
     // It can be too long only where it has more links than one of the largest size.
@@ -85,12 +123,12 @@ fn lsa_without(alloc: Global, failure: &Failure, lsa: &LsaView) -> Result<Lsa, L
 }
 
 // A router-LSA after the failure: the same where it keeps all links.
-fn router_without(alloc: Global, failure: &Failure, lsa: &LsaView) -> Result<Lsa, LsaFault>
+fn router_without(alloc: Global, failure: &AreaFailure, lsa: &LsaView) -> Result<Lsa, LsaFault>
     requires router { IsRouterLsa lsa.now }
-    requires listed { IsListed lsa.now }
+    requires listed { IsListable lsa.now }
     // The LSA has what the failure leaves of it, under the same key, and is below the greatest age.
     ensures advertisement { IfOk result (λ left. advertisement_of left
-        ≡ kept failure.now (advertisement_of lsa.now)) }
+        ≡ left_of_lsa failure.now (advertisement_of lsa.now)) }
     ensures key { IfOk result (λ left. key_of left ≡ key_of lsa.now) }
     ensures young { IfOk result (λ left. (header_of left).age < 3600) }
     // It can be too long only where it has more links than one of the largest size.
@@ -107,7 +145,7 @@ fn router_without(alloc: Global, failure: &Failure, lsa: &LsaView) -> Result<Lsa
 }
 
 // Whether a router keeps all links.
-fn keeps_all(failure: &Failure, router: RouterId, links: Links) -> bool
+fn keeps_all(failure: &AreaFailure, router: RouterId, links: Links) -> bool
     ensures { IsTrue result → kept_links failure.now router links.entry ≡ links.entry }
 {
     for link in links {
@@ -121,11 +159,12 @@ fn keeps_all(failure: &Failure, router: RouterId, links: Links) -> bool
 // The links that a router keeps.
 fn kept_links(
     alloc: Global,
-    failure: &Failure,
+    failure: &AreaFailure,
     router: RouterId,
     links: Links,
 ) -> Result<Vec<Link>, AllocError>
-    ensures { IfOk result (λ kept. kept.items ≡ kept_links failure.now router links.entry) }
+    ensures { IfOk result (λ kept. kept.items
+        ≡ kept_links failure.now router links.entry) }
 {
     let mut kept = Vec::new(alloc);
     for link in links {
@@ -136,7 +175,7 @@ fn kept_links(
 
 // Adds a link, if the router keeps it.
 fn push_kept(
-    failure: &Failure,
+    failure: &AreaFailure,
     router: RouterId,
     link: Link,
     kept: &mut Vec<Link>,
@@ -147,18 +186,5 @@ fn push_kept(
     if !failure.takes(router, link) {
         kept.push(link)?;
     }
-    Ok(())
-}
-
-// Adds an LSA below `MAX_AGE` whose key stands behind those of a listing.
-fn append(listing: &mut Listing, lsa: Lsa) -> Result<(), AllocError>
-    requires last { AllByRecursion (λ other. Precedes (key_of other) (key_of lsa)) listing.old }
-    ensures { OnOk result (listing.new ≡ listing.old ++ lsa ∷ []) }
-{
-    let Ok(_added) = listing.add(lsa) else {
-        return Err(AllocError);
-    };
-    // For the proof.
-    let _in_order = listing.lsas();
     Ok(())
 }

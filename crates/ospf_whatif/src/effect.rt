@@ -10,7 +10,7 @@ ghost use Rattle.ospf_whatif.specs.Effect.{IsChangeBy, IsEffect, IsLossBy};
 ghost use Rattle.ospf_whatif.specs.Failure.{HasLarge};
 
 use crate::area::WithoutFault;
-use crate::failure::Failure;
+use crate::failure::AreaFailure;
 use crate::left::Left;
 use crate::told::is_among;
 use ospf_base::{Prefix, RouterId};
@@ -49,7 +49,7 @@ pub fn effect_of(
     listing: &Listing,
     root: RouterId,
     table: &RouteTable,
-    failure: &Failure,
+    failure: &AreaFailure,
 ) -> Result<Vec<RouteChange>, WithoutFault>
     requires { IsTable (advertisements_of listing.now) root table.now }
     ensures effect { IfOk result (λ effect. IsEffect (advertisements_of listing.now) root

@@ -10,7 +10,7 @@ use ospf_lsa::{Link, LinkKind};
 ///
 /// Failures are in the order of their variants, and those of a variant in that of its fields, the first first.
 #[derive(Clone, Copy, Debug, PartialEq, Eq, PartialOrd, Ord)]
-pub enum Failure {
+pub enum AreaFailure {
     /// A point-to-point link: that of two routers in one subnet. The interfaces at both ends go down.
     Link {
         a: RouterId,
@@ -33,7 +33,7 @@ pub enum Failure {
     Router(RouterId),
 }
 
-impl Failure {
+impl AreaFailure {
     ghost use Rattle.std.specs.Prelude.{◌≡◌};
     ghost use Rattle.ospf_whatif.specs.Failure.{takes};
 
@@ -42,19 +42,19 @@ impl Failure {
         ensures { result ≡ takes self.now router link }
     {
         match *self {
-            Failure::Link { a, b, subnet } => {
+            AreaFailure::Link { a, b, subnet } => {
                 (router.0 == a.0 && is_wire_end(link, b, subnet))
                     || (router.0 == b.0 && is_wire_end(link, a, subnet))
             }
-            Failure::Links { a, b } => {
+            AreaFailure::Links { a, b } => {
                 (router.0 == a.0 && is_link_to(link, b)) || (router.0 == b.0 && is_link_to(link, a))
             }
-            Failure::Attachment {
+            AreaFailure::Attachment {
                 router: attached,
                 network,
             } => router.0 == attached.0 && is_transit_of(link, network),
-            Failure::Network(network) => is_transit_of(link, network),
-            Failure::Router(gone) => router.0 == gone.0 || is_link_to(link, gone),
+            AreaFailure::Network(network) => is_transit_of(link, network),
+            AreaFailure::Router(gone) => router.0 == gone.0 || is_link_to(link, gone),
         }
     }
 }

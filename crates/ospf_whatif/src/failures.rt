@@ -9,20 +9,20 @@ ghost use Rattle.ospf_edges.specs.declared.end.End.{End};
 ghost use Rattle.ospf_edges.specs.Given.{Adds};
 ghost use Rattle.ospf_edges.specs.Listed.{advertisement_of, advertisements_of};
 ghost use Rattle.ospf_whatif.specs.Single.{AreFailures, AttachmentGiven, EdgeGiven, GivenBy, HasLonger, HasWire, IsFailureBefore, IsSharedIn, IsWireBetween, LeadsBack, LinksGiven, NetworkGiven, RouterGiven, StandsAt, WireGiven};
-ghost use Rattle.ospf_whatif.specs.declared.failure.Failure.{Failure};
+ghost use Rattle.ospf_whatif.specs.declared.failure.AreaFailure.{AreaFailure};
 
-use crate::failure::Failure;
+use crate::failure::AreaFailure;
 use ospf_base::{Addr, Kind, Prefix, RouterId};
 use ospf_edges::{End, edges_of, ends_of};
 use ospf_graph::{Edge, Vertex};
 use ospf_lsa::{Listing, Lsa};
 use std::alloc::{AllocError, Global};
 
-/// What may fail in an area, each once, in the order of `Failure`: links with a subnet, other links, attachments,
+/// What may fail in an area, each once, in the order of `AreaFailure`: links with a subnet, other links, attachments,
 /// networks and routers, each by its routers, its subnet or its network.
 ///
 /// `AllocError` where memory runs out.
-pub fn single_failures(alloc: Global, listing: &Listing) -> Result<Vec<Failure>, AllocError>
+pub fn single_failures(alloc: Global, listing: &Listing) -> Result<Vec<AreaFailure>, AllocError>
     ensures all { IfOk result (λ all. AreFailures (advertisements_of listing.now) all.items) }
     ensures in_order { IfOk result (λ all. AllPairs IsFailureBefore all.items) }
 {
@@ -37,9 +37,10 @@ pub fn single_failures(alloc: Global, listing: &Listing) -> Result<Vec<Failure>,
 }
 
 // The links between two routers in subnets that both tell.
-fn wires_of(alloc: Global, edges: &[Edge], ends: &[End]) -> Result<Vec<Failure>, AllocError>
+fn wires_of(alloc: Global, edges: &[Edge], ends: &[End]) -> Result<Vec<AreaFailure>, AllocError>
     ensures { IfOk result (λ wires. Adds
-        (GivenBy (λ e. GivenBy (WireGiven edges.now ends.now e) ends.now) edges.now) [] wires.items) }
+        (GivenBy (λ e. GivenBy (WireGiven edges.now ends.now e) ends.now) edges.now) []
+        wires.items) }
 {
     let mut wires = Vec::new(alloc);
     for edge in edges {
@@ -53,7 +54,7 @@ fn add_edge_wires(
     edges: &[Edge],
     ends: &[End],
     edge: &Edge,
-    failures: &mut Vec<Failure>,
+    failures: &mut Vec<AreaFailure>,
 ) -> Result<(), AllocError>
     ensures { OnOk result (Adds (GivenBy (WireGiven edges.now ends.now edge.now) ends.now)
         failures.old.items failures.new.items) }
@@ -70,7 +71,7 @@ fn add_wire(
     ends: &[End],
     edge: &Edge,
     end: &End,
-    failures: &mut Vec<Failure>,
+    failures: &mut Vec<AreaFailure>,
 ) -> Result<(), AllocError>
     ensures { OnOk result (Adds (WireGiven edges.now ends.now edge.now end.now) failures.old.items
         failures.new.items) }
@@ -85,18 +86,19 @@ fn add_wire(
 }
 
 // The link of an edge between two routers in the subnet of an end.
-fn wire_of(edges: &[Edge], ends: &[End], edge: &Edge, end: &End) -> Option<Failure>
+fn wire_of(edges: &[Edge], ends: &[End], edge: &Edge, end: &End) -> Option<AreaFailure>
     ensures some { IfSome result (λ failure. WireGiven edges.now ends.now edge.now end.now
         failure) }
-    ensures only { IfSome result (λ failure. (f : Failure) →
+    ensures only { IfSome result (λ failure. (f : AreaFailure) →
         WireGiven edges.now ends.now edge.now end.now f → f ≡ failure) }
-    ensures none { IfNone result ((f : Failure) → WireGiven edges.now ends.now edge.now end.now f →
+    ensures none { IfNone result ((f : AreaFailure) →
+        WireGiven edges.now ends.now edge.now end.now f →
         ⊥) }
 {
     match (edge.from, edge.to) {
         (Vertex::Router(a), Vertex::Router(b)) => {
             if is_wire(edges, ends, edge, end, a, b) {
-                Some(Failure::Link {
+                Some(AreaFailure::Link {
                     a,
                     b,
                     subnet: end.prefix,
@@ -226,7 +228,7 @@ fn is_longer(
 }
 
 // Adds a failure.
-fn add_failure(failures: &mut Vec<Failure>, failure: Failure) -> Result<(), AllocError>
+fn add_failure(failures: &mut Vec<AreaFailure>, failure: AreaFailure) -> Result<(), AllocError>
     ensures { OnOk result (Adds (λ f. f ≡ failure) failures.old.items failures.new.items) }
 {
     failures.push(failure)?;
@@ -235,9 +237,9 @@ fn add_failure(failures: &mut Vec<Failure>, failure: Failure) -> Result<(), Allo
 
 // Adds what edges give beside links in subnets.
 fn add_edges(
-    wires: &[Failure],
+    wires: &[AreaFailure],
     edges: &[Edge],
-    failures: &mut Vec<Failure>,
+    failures: &mut Vec<AreaFailure>,
 ) -> Result<(), AllocError>
     ensures { OnOk result (Adds (GivenBy (EdgeGiven wires.now) edges.now) failures.old.items
         failures.new.items) }
@@ -249,7 +251,11 @@ fn add_edges(
 }
 
 // Adds what an edge gives beside links in subnets.
-fn add_edge(wires: &[Failure], edge: &Edge, failures: &mut Vec<Failure>) -> Result<(), AllocError>
+fn add_edge(
+    wires: &[AreaFailure],
+    edge: &Edge,
+    failures: &mut Vec<AreaFailure>,
+) -> Result<(), AllocError>
     ensures { OnOk result (Adds (EdgeGiven wires.now edge.now) failures.old.items
         failures.new.items) }
 {
@@ -260,14 +266,18 @@ fn add_edge(wires: &[Failure], edge: &Edge, failures: &mut Vec<Failure>) -> Resu
 }
 
 // Adds the links between two routers that have none in a subnet.
-fn add_links(wires: &[Failure], edge: &Edge, failures: &mut Vec<Failure>) -> Result<(), AllocError>
+fn add_links(
+    wires: &[AreaFailure],
+    edge: &Edge,
+    failures: &mut Vec<AreaFailure>,
+) -> Result<(), AllocError>
     ensures { OnOk result (Adds (LinksGiven wires.now edge.now) failures.old.items
         failures.new.items) }
 {
     match (edge.from, edge.to) {
         (Vertex::Router(a), Vertex::Router(b)) => {
             if a.0 < b.0 && !has_wire(wires, a, b) {
-                add_failure(failures, Failure::Links { a, b })?;
+                add_failure(failures, AreaFailure::Links { a, b })?;
             }
             Ok(())
         }
@@ -278,7 +288,7 @@ fn add_links(wires: &[Failure], edge: &Edge, failures: &mut Vec<Failure>) -> Res
 }
 
 // Whether one of these is.
-fn has_wire(wires: &[Failure], first: RouterId, second: RouterId) -> bool
+fn has_wire(wires: &[AreaFailure], first: RouterId, second: RouterId) -> bool
     ensures { IsTrue result ↔ HasWire wires.now first second }
 {
     for wire in wires {
@@ -290,16 +300,16 @@ fn has_wire(wires: &[Failure], first: RouterId, second: RouterId) -> bool
 }
 
 // Whether a failure is a link between two routers in some subnet.
-fn is_wire_of(failure: &Failure, first: RouterId, second: RouterId) -> bool
+fn is_wire_of(failure: &AreaFailure, first: RouterId, second: RouterId) -> bool
     ensures { IsTrue result ↔ ((subnet : Prefix)
-        × (failure.now ≡ Failure.Link first second subnet)) }
+        × (failure.now ≡ AreaFailure.Link first second subnet)) }
 {
     match *failure {
-        Failure::Link { a, b, .. } => are(a, b, first, second),
-        Failure::Links { .. } => false,
-        Failure::Attachment { .. } => false,
-        Failure::Network(_) => false,
-        Failure::Router(_) => false,
+        AreaFailure::Link { a, b, .. } => are(a, b, first, second),
+        AreaFailure::Links { .. } => false,
+        AreaFailure::Attachment { .. } => false,
+        AreaFailure::Network(_) => false,
+        AreaFailure::Router(_) => false,
     }
 }
 
@@ -311,12 +321,12 @@ fn are(a: RouterId, b: RouterId, first: RouterId, second: RouterId) -> bool
 }
 
 // Adds the attachment of an edge from a router to a network.
-fn add_attachment(edge: &Edge, failures: &mut Vec<Failure>) -> Result<(), AllocError>
+fn add_attachment(edge: &Edge, failures: &mut Vec<AreaFailure>) -> Result<(), AllocError>
     ensures { OnOk result (Adds (AttachmentGiven edge.now) failures.old.items failures.new.items) }
 {
     match (edge.from, edge.to) {
         (Vertex::Router(router), Vertex::Network(network)) => {
-            add_failure(failures, Failure::Attachment { router, network })?;
+            add_failure(failures, AreaFailure::Attachment { router, network })?;
             Ok(())
         }
         (Vertex::Router(_), Vertex::Router(_)) => Ok(()),
@@ -326,12 +336,12 @@ fn add_attachment(edge: &Edge, failures: &mut Vec<Failure>) -> Result<(), AllocE
 }
 
 // Adds the network of an edge from a router.
-fn add_network(edge: &Edge, failures: &mut Vec<Failure>) -> Result<(), AllocError>
+fn add_network(edge: &Edge, failures: &mut Vec<AreaFailure>) -> Result<(), AllocError>
     ensures { OnOk result (Adds (NetworkGiven edge.now) failures.old.items failures.new.items) }
 {
     match (edge.from, edge.to) {
         (Vertex::Router(_), Vertex::Network(network)) => {
-            add_failure(failures, Failure::Network(network))?;
+            add_failure(failures, AreaFailure::Network(network))?;
             Ok(())
         }
         (Vertex::Router(_), Vertex::Router(_)) => Ok(()),
@@ -341,7 +351,7 @@ fn add_network(edge: &Edge, failures: &mut Vec<Failure>) -> Result<(), AllocErro
 }
 
 // Adds the routers of a listing.
-fn add_routers(listing: &Listing, failures: &mut Vec<Failure>) -> Result<(), AllocError>
+fn add_routers(listing: &Listing, failures: &mut Vec<AreaFailure>) -> Result<(), AllocError>
     ensures { OnOk result (Adds (GivenBy (λ lsa. RouterGiven (advertisement_of lsa)) listing.now)
         failures.old.items failures.new.items) }
 {
@@ -352,7 +362,7 @@ fn add_routers(listing: &Listing, failures: &mut Vec<Failure>) -> Result<(), All
 }
 
 // Adds the router of an LSA.
-fn add_router(lsa: &Lsa, failures: &mut Vec<Failure>) -> Result<(), AllocError>
+fn add_router(lsa: &Lsa, failures: &mut Vec<AreaFailure>) -> Result<(), AllocError>
     ensures { OnOk result (Adds (RouterGiven (advertisement_of lsa.now)) failures.old.items
         failures.new.items) }
 {
@@ -360,7 +370,7 @@ fn add_router(lsa: &Lsa, failures: &mut Vec<Failure>) -> Result<(), AllocError>
     let key = view.key();
     match view.kind() {
         Kind::Router => {
-            add_failure(failures, Failure::Router(key.router))?;
+            add_failure(failures, AreaFailure::Router(key.router))?;
             Ok(())
         }
         Kind::Network => Ok(()),
@@ -368,8 +378,9 @@ fn add_router(lsa: &Lsa, failures: &mut Vec<Failure>) -> Result<(), AllocError>
 }
 
 // Puts failures in order, each once.
-fn put_in_order(failures: &mut Vec<Failure>)
-    ensures same { (f : Failure) → Contains failures.new.items f ↔ Contains failures.old.items f }
+fn put_in_order(failures: &mut Vec<AreaFailure>)
+    ensures same { (f : AreaFailure) → Contains failures.new.items f
+        ↔ Contains failures.old.items f }
     ensures in_order { AllPairs IsFailureBefore failures.new.items }
 {
     failures.sort_unstable();

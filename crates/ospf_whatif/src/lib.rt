@@ -12,9 +12,9 @@ mod name;
 mod same;
 mod told;
 
-pub use crate::area::{WithoutFault, without};
+pub use crate::area::{WithoutFault, without, without_all};
 pub use crate::effect::{Loss, RouteChange, effect_of};
-pub use crate::failure::Failure;
+pub use crate::failure::AreaFailure;
 pub use crate::failures::single_failures;
 pub use crate::laws::{failures_make_no_edge, failures_take_away, trees_stay};
 pub use crate::left::Left;

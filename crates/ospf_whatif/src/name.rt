@@ -1,10 +1,10 @@
 //! Names of failures, one word each.
 
 ghost use Rattle.std.specs.Prelude.{◌≡◌, ◌↔◌, false, Contains, IsTrue, IfOk, IfSome, IfNone};
-ghost use Rattle.ospf_whatif.specs.declared.failure.Failure.{Failure};
-ghost use Rattle.ospf_whatif.specs.Name.{HasName, HasOther, IsIn, IsNamed, IsOnlyIn, failure_text};
+ghost use Rattle.ospf_whatif.specs.declared.failure.AreaFailure.{AreaFailure};
+ghost use Rattle.ospf_whatif.specs.Name.{HasName, HasOther, IsLinkInSubnet, IsNamed, IsOnlyIn, area_failure_text};
 
-use crate::failure::Failure;
+use crate::failure::AreaFailure;
 use crate::same::is_same;
 use ospf_base::Addr;
 use std::alloc::{AllocError, Global};
@@ -13,19 +13,19 @@ use std::fmt::{self, Display, Formatter, Write};
 /// As `1.1.1.1-2.2.2.2@10.0.0.0/30` a link, `1.1.1.1-2.2.2.2` all links between two routers of which no subnet is known,
 /// `3.3.3.3@10.1.0.3` a router's interface to the network of that Link State ID, `@10.1.0.3` that network, `3.3.3.3` a
 /// router.
-impl Display for Failure {
+impl Display for AreaFailure {
     ghost use Rattle.std.specs.Prelude.{Some};
-    ghost use Rattle.ospf_whatif.specs.Name.{failure_text};
+    ghost use Rattle.ospf_whatif.specs.Name.{area_failure_text};
 
-    ghost output = { λ failure. Some (failure_text failure) };
+    ghost output = { λ failure. Some (area_failure_text failure) };
 
     fn fmt<W: Write>(&self, f: &mut Formatter<W>) -> fmt::Result {
         match self {
-            Failure::Link { a, b, subnet } => write!(f, "{a}-{b}@{subnet}"),
-            Failure::Links { a, b } => write!(f, "{a}-{b}"),
-            Failure::Attachment { router, network } => write!(f, "{router}@{}", Addr(*network)),
-            Failure::Network(network) => write!(f, "@{}", Addr(*network)),
-            Failure::Router(router) => write!(f, "{router}"),
+            AreaFailure::Link { a, b, subnet } => write!(f, "{a}-{b}@{subnet}"),
+            AreaFailure::Links { a, b } => write!(f, "{a}-{b}"),
+            AreaFailure::Attachment { router, network } => write!(f, "{router}@{}", Addr(*network)),
+            AreaFailure::Network(network) => write!(f, "@{}", Addr(*network)),
+            AreaFailure::Router(router) => write!(f, "{router}"),
         }
     }
 }
@@ -36,12 +36,12 @@ impl Display for Failure {
 /// `AllocError` where memory runs out.
 pub fn find_failure(
     alloc: Global,
-    failures: &[Failure],
+    failures: &[AreaFailure],
     word: &str,
-) -> Result<Option<Failure>, AllocError>
+) -> Result<Option<AreaFailure>, AllocError>
     ensures some { IfOk result (λ found. IfSome found (IsNamed failures.now word.now)) }
     ensures none { IfOk result (λ found. IfNone found
-        ((failure : Failure) → IsNamed failures.now word.now failure → ⊥)) }
+        ((failure : AreaFailure) → IsNamed failures.now word.now failure → ⊥)) }
 {
     match by_name(alloc, failures, word)? {
         Some(failure) => Ok(Some(failure)),
@@ -50,10 +50,14 @@ pub fn find_failure(
 }
 
 // The failure whose name a word is.
-fn by_name(alloc: Global, failures: &[Failure], word: &str) -> Result<Option<Failure>, AllocError>
+fn by_name(
+    alloc: Global,
+    failures: &[AreaFailure],
+    word: &str,
+) -> Result<Option<AreaFailure>, AllocError>
     ensures some { IfOk result (λ found. IfSome found (HasName failures.now word.now)) }
     ensures none { IfOk result (λ found. IfNone found
-        ((failure : Failure) → HasName failures.now word.now failure → ⊥)) }
+        ((failure : AreaFailure) → HasName failures.now word.now failure → ⊥)) }
 {
     for failure in failures {
         if has_name(alloc, failure, word)? {
@@ -64,18 +68,22 @@ fn by_name(alloc: Global, failures: &[Failure], word: &str) -> Result<Option<Fai
 }
 
 // Whether a word is the name of a failure.
-fn has_name(alloc: Global, failure: &Failure, word: &str) -> Result<bool, AllocError>
-    ensures { IfOk result (λ has. IsTrue has ↔ (failure_text failure.now ≡ word.now)) }
+fn has_name(alloc: Global, failure: &AreaFailure, word: &str) -> Result<bool, AllocError>
+    ensures { IfOk result (λ has. IsTrue has ↔ (area_failure_text failure.now ≡ word.now)) }
 {
     let name = format!(in alloc; "{failure}")?;
     Ok(name.as_str() == word)
 }
 
 // The only link in the subnet that a word is.
-fn by_subnet(alloc: Global, failures: &[Failure], word: &str) -> Result<Option<Failure>, AllocError>
+fn by_subnet(
+    alloc: Global,
+    failures: &[AreaFailure],
+    word: &str,
+) -> Result<Option<AreaFailure>, AllocError>
     ensures some { IfOk result (λ found. IfSome found (IsOnlyIn failures.now word.now)) }
     ensures none { IfOk result (λ found. IfNone found
-        ((failure : Failure) → IsOnlyIn failures.now word.now failure → ⊥)) }
+        ((failure : AreaFailure) → IsOnlyIn failures.now word.now failure → ⊥)) }
 {
     let Some(first) = first_in(alloc, failures, word)? else {
         return Ok(None);
@@ -88,11 +96,16 @@ fn by_subnet(alloc: Global, failures: &[Failure], word: &str) -> Result<Option<F
 }
 
 // The first link in the subnet that a word is.
-fn first_in(alloc: Global, failures: &[Failure], word: &str) -> Result<Option<Failure>, AllocError>
+fn first_in(
+    alloc: Global,
+    failures: &[AreaFailure],
+    word: &str,
+) -> Result<Option<AreaFailure>, AllocError>
     ensures some { IfOk result (λ found. IfSome found
-        (λ failure. Contains failures.now failure × IsIn word.now failure)) }
+        (λ failure. Contains failures.now failure × IsLinkInSubnet word.now failure)) }
     ensures none { IfOk result (λ found. IfNone found
-        ((failure : Failure) → Contains failures.now failure → IsIn word.now failure → ⊥)) }
+        ((failure : AreaFailure) → Contains failures.now failure → IsLinkInSubnet word.now failure →
+        ⊥)) }
 {
     for failure in failures {
         if is_in(alloc, failure, word)? {
@@ -103,30 +116,30 @@ fn first_in(alloc: Global, failures: &[Failure], word: &str) -> Result<Option<Fa
 }
 
 // Whether a failure is a link in the subnet that a word is.
-fn is_in(alloc: Global, failure: &Failure, word: &str) -> Result<bool, AllocError>
-    ensures { IfOk result (λ is. IsTrue is ↔ IsIn word.now failure.now) }
+fn is_in(alloc: Global, failure: &AreaFailure, word: &str) -> Result<bool, AllocError>
+    ensures { IfOk result (λ is. IsTrue is ↔ IsLinkInSubnet word.now failure.now) }
 {
     match failure {
-        Failure::Link { subnet, .. } => {
+        AreaFailure::Link { subnet, .. } => {
             let text = format!(in alloc; "{subnet}")?;
             Ok(text.as_str() == word)
         }
-        Failure::Links { .. }
-        | Failure::Attachment { .. }
-        | Failure::Network(_)
-        | Failure::Router(_) => Ok(false),
+        AreaFailure::Links { .. }
+        | AreaFailure::Attachment { .. }
+        | AreaFailure::Network(_)
+        | AreaFailure::Router(_) => Ok(false),
     }
 }
 
 // Whether there is no other link in the subnet that a word is.
 fn is_alone(
     alloc: Global,
-    failures: &[Failure],
+    failures: &[AreaFailure],
     word: &str,
-    first: &Failure,
+    first: &AreaFailure,
 ) -> Result<bool, AllocError>
-    ensures alone { IfOk result (λ alone. IsTrue alone → (other : Failure) →
-        Contains failures.now other → IsIn word.now other → other ≡ first.now) }
+    ensures alone { IfOk result (λ alone. IsTrue alone → (other : AreaFailure) →
+        Contains failures.now other → IsLinkInSubnet word.now other → other ≡ first.now) }
     ensures other { IfOk result (λ alone. alone ≡ false →
         HasOther failures.now word.now first.now) }
 {

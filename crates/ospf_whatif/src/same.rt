@@ -2,41 +2,41 @@
 
 ghost use Rattle.std.specs.Prelude.{◌≡◌, ◌↔◌, IsTrue};
 ghost use Rattle.ospf_base.specs.declared.prefix.Prefix.{Prefix};
-ghost use Rattle.ospf_whatif.specs.declared.failure.Failure.{Failure};
+ghost use Rattle.ospf_whatif.specs.declared.failure.AreaFailure.{AreaFailure};
 
-use crate::failure::Failure;
+use crate::failure::AreaFailure;
 use ospf_base::{Prefix, RouterId};
 
 // Whether two failures are one.
-pub(crate) fn is_same(a: &Failure, b: &Failure) -> bool
+pub(crate) fn is_same(a: &AreaFailure, b: &AreaFailure) -> bool
     ensures { IsTrue result ↔ (a.now ≡ b.now) }
 {
     match *b {
-        Failure::Link {
+        AreaFailure::Link {
             a: first,
             b: second,
             subnet,
         } => is_link(a, first, second, subnet),
-        Failure::Links {
+        AreaFailure::Links {
             a: first,
             b: second,
         } => is_links(a, first, second),
-        Failure::Attachment { router, network } => is_attachment(a, router, network),
-        Failure::Network(network) => is_network(a, network),
-        Failure::Router(router) => is_router(a, router),
+        AreaFailure::Attachment { router, network } => is_attachment(a, router, network),
+        AreaFailure::Network(network) => is_network(a, network),
+        AreaFailure::Router(router) => is_router(a, router),
     }
 }
 
 // Whether a failure is that of a link between two routers in a subnet.
-fn is_link(failure: &Failure, first: RouterId, second: RouterId, prefix: Prefix) -> bool
-    ensures { IsTrue result ↔ (failure.now ≡ Failure.Link first second prefix) }
+fn is_link(failure: &AreaFailure, first: RouterId, second: RouterId, prefix: Prefix) -> bool
+    ensures { IsTrue result ↔ (failure.now ≡ AreaFailure.Link first second prefix) }
 {
     match *failure {
-        Failure::Link { a, b, subnet } => are(a, b, first, second) && is_prefix(subnet, prefix),
-        Failure::Links { .. } => false,
-        Failure::Attachment { .. } => false,
-        Failure::Network(_) => false,
-        Failure::Router(_) => false,
+        AreaFailure::Link { a, b, subnet } => are(a, b, first, second) && is_prefix(subnet, prefix),
+        AreaFailure::Links { .. } => false,
+        AreaFailure::Attachment { .. } => false,
+        AreaFailure::Network(_) => false,
+        AreaFailure::Router(_) => false,
     }
 }
 
@@ -55,53 +55,53 @@ fn is_prefix(a: Prefix, b: Prefix) -> bool
 }
 
 // Whether it is that of all links between two routers.
-fn is_links(failure: &Failure, first: RouterId, second: RouterId) -> bool
-    ensures { IsTrue result ↔ (failure.now ≡ Failure.Links first second) }
+fn is_links(failure: &AreaFailure, first: RouterId, second: RouterId) -> bool
+    ensures { IsTrue result ↔ (failure.now ≡ AreaFailure.Links first second) }
 {
     match *failure {
-        Failure::Links { a, b } => a == first && b == second,
-        Failure::Link { .. } => false,
-        Failure::Attachment { .. } => false,
-        Failure::Network(_) => false,
-        Failure::Router(_) => false,
+        AreaFailure::Links { a, b } => a == first && b == second,
+        AreaFailure::Link { .. } => false,
+        AreaFailure::Attachment { .. } => false,
+        AreaFailure::Network(_) => false,
+        AreaFailure::Router(_) => false,
     }
 }
 
 // Whether it is that of a router's attachment to a network.
-fn is_attachment(failure: &Failure, attached: RouterId, id: u32) -> bool
-    ensures { IsTrue result ↔ (failure.now ≡ Failure.Attachment attached id) }
+fn is_attachment(failure: &AreaFailure, attached: RouterId, id: u32) -> bool
+    ensures { IsTrue result ↔ (failure.now ≡ AreaFailure.Attachment attached id) }
 {
     match *failure {
-        Failure::Attachment { router, network } => router == attached && network == id,
-        Failure::Link { .. } => false,
-        Failure::Links { .. } => false,
-        Failure::Network(_) => false,
-        Failure::Router(_) => false,
+        AreaFailure::Attachment { router, network } => router == attached && network == id,
+        AreaFailure::Link { .. } => false,
+        AreaFailure::Links { .. } => false,
+        AreaFailure::Network(_) => false,
+        AreaFailure::Router(_) => false,
     }
 }
 
 // Whether it is that of a network.
-fn is_network(failure: &Failure, id: u32) -> bool
-    ensures { IsTrue result ↔ (failure.now ≡ Failure.Network id) }
+fn is_network(failure: &AreaFailure, id: u32) -> bool
+    ensures { IsTrue result ↔ (failure.now ≡ AreaFailure.Network id) }
 {
     match *failure {
-        Failure::Network(network) => network == id,
-        Failure::Link { .. } => false,
-        Failure::Links { .. } => false,
-        Failure::Attachment { .. } => false,
-        Failure::Router(_) => false,
+        AreaFailure::Network(network) => network == id,
+        AreaFailure::Link { .. } => false,
+        AreaFailure::Links { .. } => false,
+        AreaFailure::Attachment { .. } => false,
+        AreaFailure::Router(_) => false,
     }
 }
 
 // Whether it is that of a router.
-fn is_router(failure: &Failure, id: RouterId) -> bool
-    ensures { IsTrue result ↔ (failure.now ≡ Failure.Router id) }
+fn is_router(failure: &AreaFailure, id: RouterId) -> bool
+    ensures { IsTrue result ↔ (failure.now ≡ AreaFailure.Router id) }
 {
     match *failure {
-        Failure::Router(router) => router == id,
-        Failure::Link { .. } => false,
-        Failure::Links { .. } => false,
-        Failure::Attachment { .. } => false,
-        Failure::Network(_) => false,
+        AreaFailure::Router(router) => router == id,
+        AreaFailure::Link { .. } => false,
+        AreaFailure::Links { .. } => false,
+        AreaFailure::Attachment { .. } => false,
+        AreaFailure::Network(_) => false,
     }
 }

@@ -7,7 +7,7 @@ ghost use Rattle.ospf_edges.specs.Given.{Adds, IsEdgesOf, IsEndsOf};
 ghost use Rattle.ospf_spf.specs.declared.changes.Change.{Change};
 ghost use Rattle.ospf_whatif.specs.Single.{GivenBy};
 ghost use Rattle.ospf_whatif.specs.Told as spec;
-ghost use Rattle.ospf_whatif.specs.Told.{IsLiveAmong, IsTold, LiveGiven, LostGiven, ToldGiven};
+ghost use Rattle.ospf_whatif.specs.Told.{IsLiveAmong, IsAdvertised, LiveGiven, LostGiven, ToldGiven};
 
 use ospf_base::Prefix;
 use ospf_edges::End;
@@ -17,7 +17,7 @@ use std::alloc::{AllocError, Global};
 
 /// Whether a prefix is among these.
 pub(crate) fn is_among(prefixes: &Pairs, prefix: Prefix) -> bool
-    ensures { IsTrue result ↔ Contains prefixes.now (spec.place_of prefix) }
+    ensures { IsTrue result ↔ Contains prefixes.now (spec.prefix_place prefix) }
 {
     prefixes.has(prefix.address.0, prefix.length as u32)
 }
@@ -31,8 +31,8 @@ pub(crate) fn told_of(
     changes: &[Change],
 ) -> Result<Pairs, AllocError>
     ensures { IfOk result (λ told. (adverts : List Advertisement) → IsEdgesOf adverts edges.now →
-        IsEndsOf adverts ends.now → (p : Prefix) → Contains told (spec.place_of p)
-        ↔ (Contains changes.now (Change.Gone p) × IsTold adverts p)) }
+        IsEndsOf adverts ends.now → (p : Prefix) → Contains told (spec.prefix_place p)
+        ↔ (Contains changes.now (Change.Gone p) × IsAdvertised adverts p)) }
 {
     let lost = lost_in(alloc, changes)?;
     if lost.is_empty() {
@@ -68,7 +68,7 @@ fn add_lost(change: &Change, lost: &mut Vec<u64>) -> Result<(), AllocError>
 
 // The place of a prefix in the order of prefixes.
 fn place_of(prefix: Prefix) -> u64
-    ensures { result ≡ spec.place_of prefix }
+    ensures { result ≡ spec.prefix_place prefix }
 {
     pair_order(prefix.address.0, prefix.length as u32)
 }
@@ -81,8 +81,8 @@ fn told_among(
     lost: &Pairs,
 ) -> Result<Pairs, AllocError>
     ensures { IfOk result (λ told. (adverts : List Advertisement) → IsEdgesOf adverts edges.now →
-        IsEndsOf adverts ends.now → (p : Prefix) → Contains told (spec.place_of p)
-        ↔ (Contains lost.now (spec.place_of p) × IsTold adverts p)) }
+        IsEndsOf adverts ends.now → (p : Prefix) → Contains told (spec.prefix_place p)
+        ↔ (Contains lost.now (spec.prefix_place p) × IsAdvertised adverts p)) }
 {
     let live = live_in(alloc, edges)?;
     let told = told_in(alloc, lost, &live, ends)?;

@@ -3,7 +3,7 @@ use Rattle.std.proofs.lemmas.List.{take_all}
 use Rattle.ospf_lsa.specs.Lsa.{key_of}
 use Rattle.ospf_lsa.specs.Listing.{IsRising}
 use Rattle.ospf_edges.specs.Listed.{advertisement_of, advertisements_of}
-use Rattle.ospf_whatif.specs.Failure.{IsLarge, kept, without}
+use Rattle.ospf_whatif.specs.Failure.{IsLarge, left_of_lsa, without}
 use Rattle.std.specs.List.{Contains}
 use Rattle.ospf_whatif.proofs.WithoutLemmas.{keys_before, keys_next, large_in, told_next}
 use Rattle.ospf_whatif.proofs.area.without.Goals as goal
@@ -16,6 +16,7 @@ append-requires c =
       last =
           keys_before items c.loop-lsa.lsa-index c.lsa-item.result c.loop-lsa-test.true c.lsa-item.is rises c.loop-lsa.left c.in_ok-kept.kept c.loop-lsa.invariant.keys
           (c.in_ok-kept.ensures.key ∙ ap key_of c.view.ensures.same);
+      young = c.in_ok-kept.ensures.young;
     }
 
 pub loop-lsa-preserved : goal.loop-lsa-preserved
@@ -24,12 +25,12 @@ loop-lsa-preserved c =
     let i = c.loop-lsa.lsa-index in
     let x = c.lsa-item.result in
     let told = told_next items i x c.loop-lsa-test.true c.lsa-item.is c.args.failure.now c.loop-lsa.left c.in_ok-kept.kept c.loop-lsa.invariant.told
-    (c.in_ok-kept.ensures.advertisement ∙ ap (λ l. kept c.args.failure.now (advertisement_of l)) c.view.ensures.same) in
+    (c.in_ok-kept.ensures.advertisement ∙ ap (λ l. left_of_lsa c.args.failure.now (advertisement_of l)) c.view.ensures.same) in
     let keys = keys_next items i x c.loop-lsa-test.true c.lsa-item.is c.loop-lsa.left c.in_ok-kept.kept c.loop-lsa.invariant.keys
     (c.in_ok-kept.ensures.key ∙ ap key_of c.view.ensures.same) in
     record {
-      told = ap (map advertisement_of) c.in_ok-append.ensures ∙ told;
-      keys = ap (map key_of) c.in_ok-append.ensures ∙ keys;
+      told = ap (map advertisement_of) c.in_ok-append.ensures.ok ∙ told;
+      keys = ap (map key_of) c.in_ok-append.ensures.ok ∙ keys;
     }
 
 pub returns-clause-left : goal.returns-clause-left
@@ -38,7 +39,7 @@ returns-clause-left c =
     let items = c.lsas-lsa-items.result.now in
     let end : length items ≤ c.loop-lsa.lsa-index = omega (arith, c.loop-lsa-test.false) in
     let all : take c.loop-lsa.lsa-index items ≡ c.args.listing.now = take_all c.loop-lsa.lsa-index items end ∙ c.lsas-lsa-items.ensures.lsas in
-    c.loop-lsa.invariant.told ∙ ap (λ l. map (kept c.args.failure.now) (map advertisement_of l)) all
+    c.loop-lsa.invariant.told ∙ ap (λ l. map (left_of_lsa c.args.failure.now) (map advertisement_of l)) all
 
 pub returns-in_err-kept-clause-large : goal.returns-in_err-kept-clause-large
 unfolding advertisements_of

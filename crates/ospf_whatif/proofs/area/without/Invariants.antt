@@ -1,11 +1,11 @@
 use Rattle.std.proofs.Common.{◌≡◌, map, take}
 use Rattle.ospf_lsa.specs.Lsa.{key_of}
 use Rattle.ospf_edges.specs.Listed.{advertisement_of}
-use Rattle.ospf_whatif.specs.Failure.{kept}
+use Rattle.ospf_whatif.specs.Failure.{left_of_lsa}
 use Rattle.ospf_whatif.proofs.area.without.Given as goal
 
 abbrev pub invariant-loop-lsa : goal.invariant-loop-lsa
 invariant-loop-lsa l = record {
-  told : map advertisement_of l.left ≡ map (kept l.failure) (map advertisement_of (take l.lsa-index l.lsa-items));
+  told : map advertisement_of l.left ≡ map (left_of_lsa l.failure) (map advertisement_of (take l.lsa-index l.lsa-items));
   keys : map key_of l.left ≡ map key_of (take l.lsa-index l.lsa-items);
 }

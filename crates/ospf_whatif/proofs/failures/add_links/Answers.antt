@@ -1,6 +1,6 @@
 use Rattle.std.proofs.Common.{◌≡◌, arith}
 use Rattle.ospf_whatif.specs.Single.{LinksGiven}
-use Rattle.ospf_whatif.specs.declared.failure.Failure.TheVariants.{Links}
+use Rattle.ospf_whatif.specs.declared.failure.AreaFailure.TheVariants.{Links}
 use Rattle.ospf_edges.proofs.AddsLemmas.{adds_as, adds_none}
 use Rattle.ospf_whatif.proofs.SingleLemmas.{no_links, one_links}
 use Rattle.ospf_whatif.proofs.failures.add_links.Goals as goal

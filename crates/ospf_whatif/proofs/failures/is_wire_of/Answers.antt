@@ -1,5 +1,5 @@
 use Rattle.std.proofs.Common.{◌≡◌, sym, ◌∙◌}
-use Rattle.ospf_whatif.specs.declared.failure.Failure.TheVariants.{Link}
+use Rattle.ospf_whatif.specs.declared.failure.AreaFailure.TheVariants.{Link}
 use Rattle.ospf_whatif.proofs.failures.is_wire_of.Goals as goal
 
 pub returns-in-Link : goal.returns-in-Link

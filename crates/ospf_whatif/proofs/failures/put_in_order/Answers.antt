@@ -1,8 +1,8 @@
 use Rattle.std.proofs.lemmas.List.Filters.{dedup_is}
 use Rattle.std.proofs.lemmas.List.Kept.{Contains-dedup, Contains-from_dedup, IsStrictlySortedBy-dedup}
 use Rattle.std.proofs.lemmas.List.Sorted.{Contains-permutation, IsPermutation-sym}
-use Rattle.ospf_whatif.specs.contracts.failure.FailureEq.TheImpl.Laws.{laws-law}
-use Rattle.ospf_whatif.specs.contracts.failure.FailureOrd.TheImpl.Laws.{matches_eq-law, total-law}
+use Rattle.ospf_whatif.specs.contracts.failure.AreaFailureEq.TheImpl.Laws.{laws-law}
+use Rattle.ospf_whatif.specs.contracts.failure.AreaFailureOrd.TheImpl.Laws.{matches_eq-law, total-law}
 use Rattle.ospf_whatif.proofs.FailureOrder.{failure_same, failures_rise}
 use Rattle.ospf_whatif.proofs.failures.put_in_order.Goals as goal
 

@@ -9,7 +9,7 @@ use Rattle.ospf_edges.specs.declared.end.End.{End}
 use Rattle.ospf_spf.specs.Changes.{Reaches, prefix_of}
 use Rattle.ospf_spf.specs.declared.changes.Change.{Change}
 use Rattle.ospf_whatif.specs.Effect.{IsChangeBy}
-use Rattle.ospf_whatif.specs.Told.{IsTold, place_of}
+use Rattle.ospf_whatif.specs.Told.{IsAdvertised, prefix_place}
 use Rattle.ospf_whatif.proofs.EffectLemmas.{all_reached, effect_is}
 use Rattle.ospf_whatif.proofs.left.Left.effect.Goals as goal
 
@@ -29,8 +29,8 @@ returns c =
     let edges_are : IsEdgesOf A c.deref.result.now = subst (λ (l : List Edge). IsEdgesOf A l) (sym c.deref.ensures.value) c.self.invariant.edges_are in
     let ends_are : IsEndsOf A c.deref-2.result.now = subst (λ (l : List End). IsEndsOf A l) (sym c.deref-2.ensures.value) c.self.invariant.ends_are in
     effect_is c.args.self.now c.args.root c.args.table.now c.in_ok-after.after c.routes.ensures.in_order c.requires c.in_ok-after.ensures changes gave.puts gave.gone told
-    (λ p. subst (λ (a : List Advertisement). Contains told (place_of p) ↔ (Contains changes (Change.Gone p) × IsTold a p)) c.self.view_is
-    (subst (λ (l : List Change). Contains told (place_of p) ↔ (Contains l (Change.Gone p) × IsTold A p)) c.deref-3.ensures.value (c.in_ok-told.ensures A edges_are ends_are p)))
+    (λ p. subst (λ (a : List Advertisement). Contains told (prefix_place p) ↔ (Contains changes (Change.Gone p) × IsAdvertised a p)) c.self.view_is
+    (subst (λ (l : List Change). Contains told (prefix_place p) ↔ (Contains l (Change.Gone p) × IsAdvertised A p)) c.deref-3.ensures.value (c.in_ok-told.ensures A edges_are ends_are p)))
     c.in_ok-effect.effect.items
     (subst (λ (l : List Route). AllZip (IsChangeBy l told) changes c.in_ok-effect.effect.items) c.routes.ensures.routes
     (subst (λ (l : List Change). AllZip (IsChangeBy c.routes.result.now told) l c.in_ok-effect.effect.items) c.deref-4.ensures.value c.in_ok-effect.ensures))

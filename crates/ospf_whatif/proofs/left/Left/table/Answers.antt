@@ -3,7 +3,7 @@ use Rattle.std.specs.List.{Contains}
 use Rattle.ospf_graph.specs.Advertisements.{Advertisement}
 use Rattle.ospf_graph.specs.Graph.{IsEdge}
 use Rattle.ospf_graph.specs.Routes.{IsTable}
-use Rattle.ospf_graph.specs.Search.{AtIn, IsFit, StartsIn}
+use Rattle.ospf_graph.specs.Search.{AtIn, AreFitEdges, StartsIn}
 use Rattle.ospf_graph.specs.Tree.{IsTree}
 use Rattle.ospf_graph.specs.declared.graph.Edge.{Edge}
 use Rattle.ospf_graph.specs.declared.graph.Vertex.TheVariants.{Router}
@@ -17,7 +17,7 @@ use Rattle.ospf_whatif.proofs.left.Left.table.Goals as goal
 use Rattle.ospf_whatif.proofs.left.Left.table.Goals.{In_ok-routes}
 
 pub shortest_paths-requires-clause-fit : goal.shortest_paths-requires-clause-fit
-shortest_paths-requires-clause-fit c = subst (λ (es : List Edge). IsFit es) (sym c.deref.ensures.value) c.self.invariant.fit
+shortest_paths-requires-clause-fit c = subst (λ (es : List Edge). AreFitEdges es) (sym c.deref.ensures.value) c.self.invariant.fit
 
 exact : (c : In_ok-routes) → IsTable (advertisements_of c.self.inside.listing) c.args.root c.in_ok-routes.routes.items
 exact c =
