@@ -12,19 +12,19 @@ use Rattle.ospf_files.specs.declared.streams.FailedStreams.{FailedStreams}
 use Rattle.ospf_table.proofs.Lines.{map_some}
 use Rattle.ospf_table.specs.Line.{Reads}
 use Rattle.ospf_whatif.specs.Failure.{HasLarge}
-use Rattle.ospf_failures.specs.Answer.{EndsBy, IsAnswerBegun, IsAnswerOf, IsAnswered, IsCutShort, IsEnding, IsFault, IsRefusal, IsRefusalBegun, IsRefusalOf, IsRefusalTold, IsSaid, IsUnserved, IsWarningBegun, IsEndBy, IsWhole, SaysOf, WarnsOf, end_by, in_answer, in_refusal, in_warning, is_answered, is_refused, names_of, of_name, root_of}
+use Rattle.ospf_failures.specs.Answer.{FailuresEndsBy, IsFailuresAnswerBegun, IsFailuresAnswerOf, IsFailuresAnswered, IsFailuresCutShort, IsFailuresEnding, IsUnreported, IsFailuresRefusal, IsFailuresRefusalBegun, IsRefusalOf, IsFailuresRefusalTold, IsFailuresSaid, IsUnserved, IsFailuresWarningBegun, IsEndBy, IsAllPrinted, SaysOf, WarnsOf, end_by, in_answer, in_refusal, in_warning, is_answered, is_refused, names_of, of_name, root_of}
 use Rattle.ospf_failures.specs.Without.{IsFaultOfNames, IsFirstUnnamed}
-use Rattle.ospf_failures.specs.declared.answer.Answer.{Answer}
+use Rattle.ospf_failures.specs.declared.answer.FailuresAnswer.{FailuresAnswer}
 use Rattle.ospf_failures.specs.declared.answer.FailuresJob.{FailuresJob}
 use Rattle.ospf_failures.specs.declared.answer.FailuresStatus.{FailuresStatus}
 use Rattle.ospf_failures.specs.declared.answer.FailuresStatus.TheVariants.{CutOff, Ended}
-use Rattle.ospf_failures.specs.declared.answer.Fault.{Fault}
-use Rattle.ospf_failures.specs.declared.answer.Fault.TheVariants as fault
+use Rattle.ospf_failures.specs.declared.answer.Unreported.{Unreported}
+use Rattle.ospf_failures.specs.declared.answer.Unreported.TheVariants as fault
 
 -- ---- an answer
 
 -- how it ends
-pub whole_end : (strict cut : Bool) → IsWhole (end_by strict cut)
+pub whole_end : (strict cut : Bool) → IsAllPrinted (end_by strict cut)
 whole_end true true = inr refl
 whole_end true false = inl refl
 whole_end false true = inl refl
@@ -36,18 +36,18 @@ end_is P true false is = (refl, λ e p. let t : false ≡ true = is.1 p in cc)
 end_is P false true is = (refl, λ e p. cc)
 end_is P false false is = (refl, λ e p. cc)
 
-pub answer_made : (input : Option (List ℕ)) (job : FailuresJob) (answer : Answer) (listing : List (List ℕ)) → IfSome input (λ bytes. Reads bytes [] listing)
+pub answer_made : (input : Option (List ℕ)) (job : FailuresJob) (answer : FailuresAnswer) (listing : List (List ℕ)) → IfSome input (λ bytes. Reads bytes [] listing)
     → (HasLarge (advertisements_of listing) → ⊥) → WarnsOf (root_of job) listing (string_bytes answer.warning)
-    → SaysOf job (advertisements_of listing) (string_bytes answer.said.text) answer.said.end → IfSome input (IsAnswerOf job answer)
+    → SaysOf job (advertisements_of listing) (string_bytes answer.said.text) answer.said.end → IfSome input (IsFailuresAnswerOf job answer)
 answer_made input job answer listing reads small warned says =
-    map_some input (λ bytes. Reads bytes [] listing) (IsAnswerOf job answer)
+    map_some input (λ bytes. Reads bytes [] listing) (IsFailuresAnswerOf job answer)
     (λ bytes read. record { listing = listing; reads = read; small = small; warned = warned; says = says }) reads
 
-module _ (input : Option (List ℕ)) (job : FailuresJob) (answer : Answer) (is : IfSome input (IsAnswerOf job answer)) where
-  pub answer_said : (a b x y : Option (List ℕ)) (warning text : List ℕ) → IsWhole answer.said.end → warning ≡ string_bytes answer.warning
-      → text ≡ string_bytes answer.said.text → Appends x y warning → Appends a b text → IsSaid input job a b x y answer.said.end
+module _ (input : Option (List ℕ)) (job : FailuresJob) (answer : FailuresAnswer) (is : IfSome input (IsFailuresAnswerOf job answer)) where
+  pub answer_said : (a b x y : Option (List ℕ)) (warning text : List ℕ) → IsAllPrinted answer.said.end → warning ≡ string_bytes answer.warning
+      → text ≡ string_bytes answer.said.text → Appends x y warning → Appends a b text → IsFailuresSaid input job a b x y answer.said.end
   answer_said a b x y warning text whole warning_is text_is err out =
-      is_answered whole (map_some input (IsAnswerOf job answer) (IsAnswered job answer.said.end a b x y) (λ bytes of_it. record {
+      is_answered whole (map_some input (IsFailuresAnswerOf job answer) (IsFailuresAnswered job answer.said.end a b x y) (λ bytes of_it. record {
         text = string_bytes answer.said.text;
         warning = string_bytes answer.warning;
         is = of_it;
@@ -56,9 +56,9 @@ module _ (input : Option (List ℕ)) (job : FailuresJob) (answer : Answer) (is :
       }) is)
 
   pub warning_cut : (f : Failure) (before failed : FailedStreams) (a x y : Option (List ℕ)) (warning : List ℕ) → (f ≡ failure.Memory) ⊎ (f ≡ failure.Error)
-      → failed ≡ with_error before → warning ≡ string_bytes answer.warning → IsBegun x y warning → EndsBy input job failed a a x y f
+      → failed ≡ with_error before → warning ≡ string_bytes answer.warning → IsBegun x y warning → FailuresEndsBy input job failed a a x y f
   warning_cut f before failed a x y warning why failed_is warning_is begun =
-      in_warning why (ap (λ (s : FailedStreams). s.error) failed_is) refl (map_some input (IsAnswerOf job answer) (IsWarningBegun job x y) (λ bytes of_it. record {
+      in_warning why (ap (λ (s : FailedStreams). s.error) failed_is) refl (map_some input (IsFailuresAnswerOf job answer) (IsFailuresWarningBegun job x y) (λ bytes of_it. record {
         end = answer.said.end;
         text = string_bytes answer.said.text;
         warning = string_bytes answer.warning;
@@ -68,9 +68,9 @@ module _ (input : Option (List ℕ)) (job : FailuresJob) (answer : Answer) (is :
 
   pub answer_cut : (f : Failure) (before failed : FailedStreams) (a b x y : Option (List ℕ)) (warning text : List ℕ) → (f ≡ failure.Memory) ⊎ (f ≡ failure.Output)
       → failed ≡ with_output before → warning ≡ string_bytes answer.warning → text ≡ string_bytes answer.said.text → Appends x y warning → IsBegun a b text
-      → EndsBy input job failed a b x y f
+      → FailuresEndsBy input job failed a b x y f
   answer_cut f before failed a b x y warning text why failed_is warning_is text_is err begun =
-      in_answer why (ap (λ (s : FailedStreams). s.output) failed_is) (map_some input (IsAnswerOf job answer) (IsAnswerBegun job a b x y) (λ bytes of_it. record {
+      in_answer why (ap (λ (s : FailedStreams). s.output) failed_is) (map_some input (IsFailuresAnswerOf job answer) (IsFailuresAnswerBegun job a b x y) (λ bytes of_it. record {
         end = answer.said.end;
         text = string_bytes answer.said.text;
         warning = string_bytes answer.warning;
@@ -82,31 +82,31 @@ module _ (input : Option (List ℕ)) (job : FailuresJob) (answer : Answer) (is :
 -- ---- a refusal
 
 pub refusal_said : (input : Option (List ℕ)) (job : FailuresJob) (s : Status) (a x y : Option (List ℕ)) (text : List ℕ) → IsRefusalOf input job text s
-    → Appends x y text → IsSaid input job a a x y (Ended s)
+    → Appends x y text → IsFailuresSaid input job a a x y (Ended s)
 refusal_said input job status.Refused a x y text is told =
     is_refused (inl refl) (λ e. absurd (cc e)) refl
-    (map_some input (λ bytes. IsRefusal job bytes text status.Refused) (IsRefusalTold job status.Refused x y) (λ bytes refusal. record { text = text; is = refusal; told = told }) is)
+    (map_some input (λ bytes. IsFailuresRefusal job bytes text status.Refused) (IsFailuresRefusalTold job status.Refused x y) (λ bytes refusal. record { text = text; is = refusal; told = told }) is)
 refusal_said input job status.Words a x y text is told =
     is_refused (inr refl) (λ e. is.0) refl
-    (map_some input (λ bytes. IsRefusal job bytes text status.Words) (IsRefusalTold job status.Words x y) (λ bytes refusal. record { text = text; is = refusal; told = told }) is.1)
+    (map_some input (λ bytes. IsFailuresRefusal job bytes text status.Words) (IsFailuresRefusalTold job status.Words x y) (λ bytes refusal. record { text = text; is = refusal; told = told }) is.1)
 refusal_said input job status.Done a x y text is told = absurd is
 refusal_said input job status.Memory a x y text is told = absurd is
 refusal_said input job status.Stream a x y text is told = absurd is
 
 refused_begun : (input : Option (List ℕ)) (job : FailuresJob) (s : Status) (x y : Option (List ℕ)) (text : List ℕ) → IsRefusalOf input job text s → IsBegun x y text
-    → IfSome input (IsRefusalBegun job x y)
+    → IfSome input (IsFailuresRefusalBegun job x y)
 refused_begun input job status.Refused x y text is begun =
-    map_some input (λ bytes. IsRefusal job bytes text status.Refused) (IsRefusalBegun job x y)
+    map_some input (λ bytes. IsFailuresRefusal job bytes text status.Refused) (IsFailuresRefusalBegun job x y)
     (λ bytes refusal. record { s = status.Refused; text = text; is = refusal; begun = begun }) is
 refused_begun input job status.Words x y text is begun =
-    map_some input (λ bytes. IsRefusal job bytes text status.Words) (IsRefusalBegun job x y)
+    map_some input (λ bytes. IsFailuresRefusal job bytes text status.Words) (IsFailuresRefusalBegun job x y)
     (λ bytes refusal. record { s = status.Words; text = text; is = refusal; begun = begun }) is.1
 refused_begun input job status.Done x y text is begun = absurd is
 refused_begun input job status.Memory x y text is begun = absurd is
 refused_begun input job status.Stream x y text is begun = absurd is
 
 pub refusal_cut : (input : Option (List ℕ)) (job : FailuresJob) (s : Status) (f : Failure) (before failed : FailedStreams) (a x y : Option (List ℕ)) (text : List ℕ)
-    → IsRefusalOf input job text s → (f ≡ failure.Memory) ⊎ (f ≡ failure.Error) → failed ≡ with_error before → IsBegun x y text → EndsBy input job failed a a x y f
+    → IsRefusalOf input job text s → (f ≡ failure.Memory) ⊎ (f ≡ failure.Error) → failed ≡ with_error before → IsBegun x y text → FailuresEndsBy input job failed a a x y f
 refusal_cut input job s f before failed a x y text is why failed_is begun =
     in_refusal why (ap (λ (s : FailedStreams). s.error) failed_is) refl (refused_begun input job s x y text is begun)
 
@@ -115,12 +115,12 @@ some_name : {A : Type 0} (xs ys : List A) (x : A) → xs ++ x ∷ ys ≡ [] → 
 some_name [] ys x e = cc e
 some_name (y ∷ xs) ys x e = cc e
 
-pub names_refused : (input : Option (List ℕ)) (job : FailuresJob) (listing : List (List ℕ)) (f : Fault) → IfSome input (λ bytes. Reads bytes [] listing)
-    → (HasLarge (advertisements_of listing) → ⊥) → IsFaultOfNames (IsFirstUnnamed (advertisements_of listing) (names_of job)) f → IsFault input job f
+pub names_refused : (input : Option (List ℕ)) (job : FailuresJob) (listing : List (List ℕ)) (f : Unreported) → IfSome input (λ bytes. Reads bytes [] listing)
+    → (HasLarge (advertisements_of listing) → ⊥) → IsFaultOfNames (IsFirstUnnamed (advertisements_of listing) (names_of job)) f → IsUnreported input job f
 names_refused input job listing (fault.Refused text) reads small is = absurd is
 names_refused input job listing (fault.Unnamed text) reads small is = (
   λ none. some_name is.1.first.before is.1.first.after is.0 (sym is.1.first.names_are ∙ none),
-  map_some input (λ bytes. Reads bytes [] listing) (λ bytes. IsRefusal job bytes (string_bytes text) status.Words)
+  map_some input (λ bytes. Reads bytes [] listing) (λ bytes. IsFailuresRefusal job bytes (string_bytes text) status.Words)
       (λ bytes read. of_name listing is.0 read small is.1 is.2) reads,
 )
 names_refused input job listing (fault.Failure f) reads small is = tt
@@ -128,7 +128,7 @@ names_refused input job listing (fault.Failure f) reads small is = tt
 -- ---- the end
 
 pub ended_early : (input : Option (List ℕ)) (job : FailuresJob) (f : Failure) (failed_then failed : FailedStreams) (a b x y z : Option (List ℕ)) (s : Status)
-    → EndsBy input job failed_then a b x y f → IsTold failed_then failed y z (failure_line f) → s ≡ failure_status f → IsEnding input job failed a b x z (Ended s)
+    → FailuresEndsBy input job failed_then a b x y f → IsTold failed_then failed y z (failure_line f) → s ≡ failure_status f → IsFailuresEnding input job failed a b x z (Ended s)
 ended_early input job f failed_then failed a b x y z s ends last is =
     inr (record { cause = f; failed_then = failed_then; err_then = y; ends = ends; last = last; end_is = ap Ended is })
 
@@ -154,13 +154,13 @@ not_stream s (inr w) e = cc (w, e)
 
 module _ (input : Option (List ℕ)) (job : FailuresJob) (failed : FailedStreams) (a b x y : Option (List ℕ)) where
   -- ended early it is neither whole nor refused
-  not_early : (end : FailuresStatus) (s : Status) → IsCutShort input job failed a b x y end → end ≡ Ended s → (s ≡ status.Memory) ⊎ (s ≡ status.Stream)
+  not_early : (end : FailuresStatus) (s : Status) → IsFailuresCutShort input job failed a b x y end → end ≡ Ended s → (s ≡ status.Memory) ⊎ (s ≡ status.Stream)
   not_early end s cut is =
       let same : Ended s ≡ Ended (failure_status cut.cause) = sym is ∙ cut.end_is in
       let status_is : s ≡ failure_status cut.cause = cc in
       elim (early cut.cause) [ inl m ↦ inl (status_is ∙ m) | inr t ↦ inr (status_is ∙ t) ]
 
-  pub whole_answered : (end : FailuresStatus) → IsEnding input job failed a b x y end → IsWhole end → IfSome input (IsAnswered job end a b x y)
+  pub whole_answered : (end : FailuresStatus) → IsFailuresEnding input job failed a b x y end → IsAllPrinted end → IfSome input (IsFailuresAnswered job end a b x y)
   whole_answered end (inl (is_answered w h)) whole = h
   whole_answered _ (inl (is_refused {s = s} unserved names same told)) (inl e) = let is : s ≡ status.Done = cc e in absurd (not_done s unserved is)
   whole_answered _ (inl (is_refused unserved names same told)) (inr e) = absurd (cc e)
@@ -168,26 +168,26 @@ module _ (input : Option (List ℕ)) (job : FailuresJob) (failed : FailedStreams
   whole_answered end (inr cut) (inr e) = let same : CutOff ≡ Ended (failure_status cut.cause) = sym e ∙ cut.end_is in absurd (cc same)
 
   -- whole, it is not refused
-  whole_served : (end : FailuresStatus) (s : Status) → IsWhole end → IsUnserved s → end ≡ Ended s → ⊥
+  whole_served : (end : FailuresStatus) (s : Status) → IsAllPrinted end → IsUnserved s → end ≡ Ended s → ⊥
   whole_served end s (inl w) unserved e = let same : Ended s ≡ Ended status.Done = sym e ∙ w in let is : s ≡ status.Done = cc same in not_done s unserved is
   whole_served end s (inr w) unserved e = let same : Ended s ≡ CutOff = sym e ∙ w in cc same
 
-  early_served : (end : FailuresStatus) (s : Status) → IsCutShort input job failed a b x y end → IsUnserved s → end ≡ Ended s → ⊥
+  early_served : (end : FailuresStatus) (s : Status) → IsFailuresCutShort input job failed a b x y end → IsUnserved s → end ≡ Ended s → ⊥
   early_served end s cut unserved e = elim (not_early end s cut e) [ inl m ↦ not_memory s unserved m | inr t ↦ not_stream s unserved t ]
 
-  pub refused_told : (end : FailuresStatus) → IsEnding input job failed a b x y end → (s : Status) → IsUnserved s → end ≡ Ended s → IfSome input (IsRefusalTold job s x y)
+  pub refused_told : (end : FailuresStatus) → IsFailuresEnding input job failed a b x y end → (s : Status) → IsUnserved s → end ≡ Ended s → IfSome input (IsFailuresRefusalTold job s x y)
   refused_told end (inl (is_answered w h)) s unserved e = absurd (whole_served end s w unserved e)
   refused_told _ (inl (is_refused {s = t} of_it names same told)) s unserved e =
-      let is : t ≡ s = cc e in subst (λ (u : Status). IfSome input (IsRefusalTold job u x y)) is told
+      let is : t ≡ s = cc e in subst (λ (u : Status). IfSome input (IsFailuresRefusalTold job u x y)) is told
   refused_told end (inr cut) s unserved e = absurd (early_served end s cut unserved e)
 
-  pub refused_unwritten : (end : FailuresStatus) → IsEnding input job failed a b x y end → (s : Status) → IsUnserved s → end ≡ Ended s → b ≡ a
+  pub refused_unwritten : (end : FailuresStatus) → IsFailuresEnding input job failed a b x y end → (s : Status) → IsUnserved s → end ≡ Ended s → b ≡ a
   refused_unwritten end (inl (is_answered w h)) s unserved e = absurd (whole_served end s w unserved e)
   refused_unwritten _ (inl (is_refused of_it names same told)) s unserved e = same
   refused_unwritten end (inr cut) s unserved e = absurd (early_served end s cut unserved e)
 
-  pub early_cut : (end : FailuresStatus) → IsEnding input job failed a b x y end → (end ≡ Ended status.Memory) ⊎ (end ≡ Ended status.Stream)
-      → IsCutShort input job failed a b x y end
+  pub early_cut : (end : FailuresStatus) → IsFailuresEnding input job failed a b x y end → (end ≡ Ended status.Memory) ⊎ (end ≡ Ended status.Stream)
+      → IsFailuresCutShort input job failed a b x y end
   early_cut end (inl (is_answered (inl w) h)) (inl e) = absurd (cc (w, e))
   early_cut end (inl (is_answered (inl w) h)) (inr e) = absurd (cc (w, e))
   early_cut end (inl (is_answered (inr w) h)) (inl e) = absurd (cc (w, e))
@@ -196,7 +196,7 @@ module _ (input : Option (List ℕ)) (job : FailuresJob) (failed : FailedStreams
   early_cut _ (inl (is_refused {s = s} unserved names same told)) (inr e) = let is : s ≡ status.Stream = cc e in absurd (not_stream s unserved is)
   early_cut end (inr cut) e = cut
 
-  pub not_words : (end : FailuresStatus) → IsEnding input job failed a b x y end → names_of job ≡ [] → end ≢ Ended status.Words
+  pub not_words : (end : FailuresStatus) → IsFailuresEnding input job failed a b x y end → names_of job ≡ [] → end ≢ Ended status.Words
   not_words end (inl (is_answered w h)) none e = whole_served end status.Words w (inr refl) e
   not_words _ (inl (is_refused {s = s} unserved names same told)) none e = let is : s ≡ status.Words = cc e in names is none
   not_words end (inr cut) none e = early_served end status.Words cut (inr refl) e

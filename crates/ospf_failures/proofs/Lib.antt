@@ -3,4 +3,5 @@ pub mod AnswerLemmas
 pub mod FoundLemmas
 pub mod LargeLemmas
 pub mod OverallLemmas
+pub mod JsonLemmas
 pub mod WithoutLemmas

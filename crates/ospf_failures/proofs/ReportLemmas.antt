@@ -1,15 +1,14 @@
 -- Reports of failures, one after the other.
-use Rattle.std.proofs.Common.{◌≡◌, ◌∙◌, ◌+◌, ◌<◌, ◌↔◌, ◌⊎◌, ◌==◌, ℕ, Bool, true, false, cond, not, List, [], ◌∷◌, ◌++◌, map, filter, take, length, get_or, ap, sym, refl, subst, inl, inr, arith, eq-eqb, eqb-true, All}
-use Rattle.std.proofs.lemmas.List.{take_more}
+use Rattle.std.proofs.Common.{◌≡◌, ◌∙◌, ◌↔◌, ◌⊎◌, ◌==◌, ℕ, Bool, true, false, cond, not, List, [], ◌∷◌, map, filter, ap, sym, refl, subst, inl, inr, arith, eq-eqb, eqb-true, All}
 use Rattle.std.proofs.lemmas.List.Kept.{AllPairs-filter}
 use Rattle.std.specs.List.{AllPairs, Contains}
 use Rattle.ospf_base.specs.declared.ids.RouterId.{RouterId}
 use Rattle.ospf_graph.specs.Advertisements.{Advertisement}
 use Rattle.ospf_graph.proofs.ListLemmas.{member_cases, member_head, member_later}
 use Rattle.ospf_whatif.specs.Single.{IsFailure, IsFailureBefore}
-use Rattle.ospf_whatif.specs.declared.failure.Failure.{Failure}
-use Rattle.ospf_whatif.specs.declared.failure.Failure.TheVariants.{Attachment, Link, Links, Network, Router}
-use Rattle.ospf_failures.specs.Reports.{AreReports, IsOther, ReportValue, is_of}
+use Rattle.ospf_whatif.specs.declared.failure.AreaFailure.{AreaFailure}
+use Rattle.ospf_whatif.specs.declared.failure.AreaFailure.TheVariants.{Attachment, Link, Links, Network, Router}
+use Rattle.ospf_failures.specs.Reports.{AreReports, IsOtherFailure, ReportValue, is_of}
 use Rattle.ospf_graph.specs.declared.route.Route.{Route}
 use Rattle.ospf_whatif.specs.Effect.{IsEffect}
 
@@ -38,17 +37,17 @@ of_kept p (y ∷ xs) x c t = go (p y) refl (member_cases y xs x c) (λ rest. of_
 
 -- ---- failures but that of the root
 
-abbrev pub is_other : RouterId → Failure → Bool
+abbrev pub is_other : RouterId → AreaFailure → Bool
 is_other root f = not (is_of root f)
 
-pub other_to : (root : RouterId) (f : Failure) → is_other root f ≡ true → f ≡ Router root → ⊥
+pub other_to : (root : RouterId) (f : AreaFailure) → is_other root f ≡ true → f ≡ Router root → ⊥
 other_to root f e is =
     let same : (root.0 == root.0) ≡ true = eq-eqb root.0 root.0 refl in
-    let here : is_other root (Router root) ≡ true = subst (λ (g : Failure). is_other root g ≡ true) is e in
+    let here : is_other root (Router root) ≡ true = subst (λ (g : AreaFailure). is_other root g ≡ true) is e in
     let wrong : not true ≡ true = subst (λ (b : Bool). not b ≡ true) same here in
     cc
 
-pub other_from : (root : RouterId) (f : Failure) → (f ≡ Router root → ⊥) → is_other root f ≡ true
+pub other_from : (root : RouterId) (f : AreaFailure) → (f ≡ Router root → ⊥) → is_other root f ≡ true
 other_from root (Link a b subnet) differs = refl
 other_from root (Links a b) differs = refl
 other_from root (Attachment router network) differs = refl
@@ -59,34 +58,23 @@ other_from root (Router gone) differs = go (gone.0 == root.0) refl
     go false e = refl
     go true e = absurd (differs (ap (λ (n : ℕ). let r : RouterId = record { 0 = n } in Router r) (eqb-true gone.0 root.0 e)))
 
-pub others_are : (adverts : List Advertisement) (root : RouterId) (all kept : List Failure) → kept ≡ filter (λ f. not (is_of root f)) all
-    → ((f : Failure) → Contains all f ↔ IsFailure adverts f) → (f : Failure) → Contains kept f ↔ IsOther adverts root f
+pub others_are : (adverts : List Advertisement) (root : RouterId) (all kept : List AreaFailure) → kept ≡ filter (λ f. not (is_of root f)) all
+    → ((f : AreaFailure) → Contains all f ↔ IsFailure adverts f) → (f : AreaFailure) → Contains kept f ↔ IsOtherFailure adverts root f
 others_are adverts root all kept is are f = (
-  λ m. let k = kept_of (is_other root) all f (subst (λ (l : List Failure). Contains l f) is m) in ((are f).0 k.0, other_to root f k.1),
-  λ o. subst (λ (l : List Failure). Contains l f) (sym is) (of_kept (is_other root) all f ((are f).1 o.0) (other_from root f o.1)),
+  λ m. let k = kept_of (is_other root) all f (subst (λ (l : List AreaFailure). Contains l f) is m) in ((are f).0 k.0, other_to root f k.1),
+  λ o. subst (λ (l : List AreaFailure). Contains l f) (sym is) (of_kept (is_other root) all f ((are f).1 o.0) (other_from root f o.1)),
 )
 
-pub others_rise : (root : RouterId) (all kept : List Failure) → kept ≡ filter (λ f. not (is_of root f)) all → AllPairs IsFailureBefore all → AllPairs IsFailureBefore kept
+pub others_rise : (root : RouterId) (all kept : List AreaFailure) → kept ≡ filter (λ f. not (is_of root f)) all → AllPairs IsFailureBefore all → AllPairs IsFailureBefore kept
 others_rise root all kept is rise = subst (AllPairs IsFailureBefore) (sym is) (AllPairs-filter IsFailureBefore (is_other root) all rise)
-
--- ---- one report more
-
-pub report_more : (failures : List Failure) (i : ℕ) (x : Failure) (reports : List ReportValue) (r : ReportValue) → i < length failures → x ≡ get_or failures i x → r.0 ≡ x
-    → map (λ r. r.0) reports ≡ take i failures → map (λ r. r.0) (reports ++ r ∷ []) ≡ take (i + 1) failures
-report_more failures i x reports r within is of_it before =
-    go reports ∙ ap (λ (l : List Failure). l ++ r.0 ∷ []) before ∙ ap (λ (f : Failure). take i failures ++ f ∷ []) (of_it ∙ is) ∙ sym (take_more failures i x within)
-  where
-    go : (rs : List ReportValue) → map (λ r. r.0) (rs ++ r ∷ []) ≡ map (λ r. r.0) rs ++ r.0 ∷ []
-    go [] = refl
-    go (q ∷ rs) = ap (λ (l : List Failure). q.0 ∷ l) (go rs)
 
 -- ---- all reports
 
-pub reports_are : (adverts : List Advertisement) (root : RouterId) (table : List Route) (failures : List Failure) (reports : List ReportValue)
-    → map (λ r. r.0) reports ≡ failures → ((f : Failure) → Contains failures f ↔ IsOther adverts root f) → AllPairs IsFailureBefore failures
+pub reports_are : (adverts : List Advertisement) (root : RouterId) (table : List Route) (failures : List AreaFailure) (reports : List ReportValue)
+    → map (λ r. r.0) reports ≡ failures → ((f : AreaFailure) → Contains failures f ↔ IsOtherFailure adverts root f) → AllPairs IsFailureBefore failures
     → All (λ r. IsEffect adverts root r.0 table r.1) reports → AreReports adverts root table reports
 reports_are adverts root table failures reports named all rising changed = record {
-  whole = subst (λ (l : List Failure). (f : Failure) → Contains l f ↔ IsOther adverts root f) (sym named) all;
+  whole = subst (λ (l : List AreaFailure). (f : AreaFailure) → Contains l f ↔ IsOtherFailure adverts root f) (sym named) all;
   rising = subst (AllPairs IsFailureBefore) (sym named) rising;
   changed = changed;
 }

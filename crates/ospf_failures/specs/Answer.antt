@@ -1,5 +1,5 @@
 -- What is printed of the failures of the area whose LSAs are the lines of an input, and how that ends.
-use Rattle.std.specs.Prelude.{◌≡◌, ◌≢◌, ◌⊎◌, ◌&&◌, ℕ, Bool, true, List, [], ◌∷◌, ◌++◌, IfSome, Option, None, Some, String, if◌then◌else◌, codes, string_bytes, vec_items}
+use Rattle.std.specs.Prelude.{◌≡◌, ◌≢◌, ◌⊎◌, ◌&&◌, ℕ, Bool, true, false, List, [], ◌∷◌, ◌++◌, IfSome, Option, None, Some, String, if◌then◌else◌, codes, string_bytes, vec_items}
 use Rattle.std.specs.Io.KnownBytes.{Appends}
 use Rattle.std.specs.declared.alloc.Global.{Global}
 use Rattle.ospf_base.specs.Text.{number_text}
@@ -21,16 +21,21 @@ use Rattle.ospf_table.specs.Output.{IsWarning}
 use Rattle.ospf_table.specs.Refusal.{refusal_line}
 use Rattle.ospf_table.specs.declared.table.EntryFault.{EntryFault}
 use Rattle.ospf_whatif.specs.Failure.{HasLarge, IsLarge}
+use Rattle.ospf_failures.specs.Json.{overalls_json, reports_json}
 use Rattle.ospf_failures.specs.Overall.{AreOveralls, CutsSomewhere, overalls_text}
 use Rattle.ospf_failures.specs.Reports.{HasCut, IsReported, ReportValue, reports_text}
 use Rattle.ospf_failures.specs.Without.{IsFirstUnnamed, IsTableWithout, unnamed_line}
-use Rattle.ospf_failures.specs.declared.answer.Answer.{Answer}
-use Rattle.ospf_failures.specs.declared.answer.Fault.{Fault}
-use Rattle.ospf_failures.specs.declared.answer.Fault.TheVariants as fault
+use Rattle.ospf_failures.specs.declared.answer.FailuresAnswer.{FailuresAnswer}
+use Rattle.ospf_failures.specs.declared.answer.Unreported.{Unreported}
+use Rattle.ospf_failures.specs.declared.answer.Unreported.TheVariants as fault
+use Rattle.ospf_failures.specs.declared.answer.FailuresForm.{FailuresForm}
+use Rattle.ospf_failures.specs.declared.answer.FailuresForm.TheVariants as form
 use Rattle.ospf_failures.specs.declared.answer.FailuresJob.{FailuresJob}
 use Rattle.ospf_failures.specs.declared.answer.FailuresJob.TheVariants.{All, Root, Without}
 use Rattle.ospf_failures.specs.declared.answer.FailuresStatus.{FailuresStatus}
 use Rattle.ospf_failures.specs.declared.answer.FailuresStatus.TheVariants.{CutOff, Ended}
+use Rattle.ospf_failures.specs.declared.overall.Detail.{Detail}
+use Rattle.ospf_failures.specs.declared.overall.Detail.TheVariants as detail
 use Rattle.ospf_failures.specs.declared.overall.Overall.{Overall}
 
 -- ---- statuses
@@ -45,28 +50,28 @@ IsEndBy strict P (Ended s) = (s ≡ status.Done) × ((strict ≡ true) → P →
 IsEndBy strict P CutOff = (strict ≡ true) × P
 
 -- that a prefix is cut off is
-abbrev pub IsEnd : Bool → List ReportValue → FailuresStatus → Type 0
-IsEnd strict printed end = IsEndBy strict (HasCut printed) end
+abbrev pub IsFailuresEnd : Bool → List ReportValue → FailuresStatus → Type 0
+IsFailuresEnd strict printed end = IsEndBy strict (HasCut printed) end
 
 abbrev pub end_by : Bool → Bool → FailuresStatus
 end_by strict cut = if strict && cut then CutOff else Ended status.Done
 
 -- all is printed
-abbrev pub IsWhole : FailuresStatus → Type 0
-IsWhole end = (end ≡ Ended status.Done) ⊎ (end ≡ CutOff)
+abbrev pub IsAllPrinted : FailuresStatus → Type 0
+IsAllPrinted end = (end ≡ Ended status.Done) ⊎ (end ≡ CutOff)
 
 -- ---- what is asked
 
 -- the router that is asked of
 abbrev pub root_of : FailuresJob → Option RouterId
-root_of (Root root each strict) = Some root
-root_of (All each strict) = None
+root_of (Root root each strict form) = Some root
+root_of (All each strict form) = None
 root_of (Without root names addresses) = Some root
 
 -- the names of parts that are to be left out
 abbrev pub names_of : FailuresJob → List (String Global)
-names_of (Root root each strict) = []
-names_of (All each strict) = []
+names_of (Root root each strict form) = []
+names_of (All each strict form) = []
 names_of (Without root names addresses) = vec_items names
 
 -- ---- what is refused
@@ -87,12 +92,12 @@ large_line router = number_text router.0 ++ codes ": more than 1361 links\n"
 
 -- what is said of an input that is refused, of its first line that is, or else of its first router of too many links; and of words that are refused,
 -- of the first name of nothing in the area
-pub data IsRefusal (job : FailuresJob) (input : List ℕ) (text : List ℕ) : Status → Type 0 where
-  of_line : (number : ℕ) (fault : EntryFault) → Refuses input [] number fault → text ≡ refusal_line number fault → IsRefusal job input text status.Refused
+pub data IsFailuresRefusal (job : FailuresJob) (input : List ℕ) (text : List ℕ) : Status → Type 0 where
+  of_line : (number : ℕ) (fault : EntryFault) → Refuses input [] number fault → text ≡ refusal_line number fault → IsFailuresRefusal job input text status.Refused
   of_router : (listing : List (List ℕ)) (router : RouterId) → Reads input [] listing → IsFirstLarge listing router → text ≡ large_line router
-      → IsRefusal job input text status.Refused
+      → IsFailuresRefusal job input text status.Refused
   of_name : (listing : List (List ℕ)) (name : String Global) → Reads input [] listing → (HasLarge (advertisements_of listing) → ⊥)
-      → IsFirstUnnamed (advertisements_of listing) (names_of job) name → text ≡ unnamed_line name → IsRefusal job input text status.Words
+      → IsFirstUnnamed (advertisements_of listing) (names_of job) name → text ≡ unnamed_line name → IsFailuresRefusal job input text status.Words
 
 -- the input or the words are refused
 abbrev pub IsUnserved : Status → Type 0
@@ -100,26 +105,42 @@ IsUnserved s = (s ≡ status.Refused) ⊎ (s ≡ status.Words)
 
 -- ---- what is printed
 
--- the reports of the area at the root, as text
-pub record SaysChanges (adverts : List Advertisement) (root : RouterId) (each strict : Bool) (text : List ℕ) (end : FailuresStatus) : Type 0 where
+-- reports in a form
+abbrev pub changes_text : FailuresForm → Bool → RouterId → List ReportValue → List ℕ
+changes_text form.Text each root printed = reports_text each printed
+changes_text form.Json each root printed = reports_json each root printed
+
+-- the reports of the area at the root, in a form
+pub record SaysChanges (adverts : List Advertisement) (root : RouterId) (each strict : Bool) (form : FailuresForm) (text : List ℕ) (end : FailuresStatus) : Type 0 where
   pub table : List Route
   pub is_table : IsTable adverts root table
   pub printed : List ReportValue
   pub reported : IsReported adverts root table printed
-  pub text_is : text ≡ reports_text each printed
-  pub ends : IsEnd strict printed end
+  pub text_is : text ≡ changes_text form each root printed
+  pub ends : IsFailuresEnd strict printed end
 
--- what each failure changes at all routers, as text
-pub record SaysOverall (adverts : List Advertisement) (each strict : Bool) (text : List ℕ) (end : FailuresStatus) : Type 0 where
+-- what is kept of the routes that change, where each is to be told
+abbrev pub detail_of : Bool → FailuresForm → Detail
+detail_of true form.Text = detail.Lines
+detail_of true form.Json = detail.Routes
+detail_of false form = detail.Sums
+
+-- what is told over all routers, in a form
+abbrev pub added_text : FailuresForm → Bool → List Overall → List ℕ
+added_text form.Text each printed = overalls_text printed
+added_text form.Json each printed = overalls_json each printed
+
+-- what each failure changes at all routers, in a form
+pub record SaysOverall (adverts : List Advertisement) (each strict : Bool) (form : FailuresForm) (text : List ℕ) (end : FailuresStatus) : Type 0 where
   pub printed : List Overall
-  pub are : AreOveralls adverts each printed
-  pub text_is : text ≡ overalls_text printed
+  pub are : AreOveralls adverts (detail_of each form) printed
+  pub text_is : text ≡ added_text form each printed
   pub ends : IsEndBy strict (CutsSomewhere printed) end
 
 -- what is asked of the area, and the status that it ends with
 abbrev pub SaysOf : FailuresJob → List Advertisement → List ℕ → FailuresStatus → Type 0
-SaysOf (Root root each strict) adverts text end = SaysChanges adverts root each strict text end
-SaysOf (All each strict) adverts text end = SaysOverall adverts each strict text end
+SaysOf (Root root each strict form) adverts text end = SaysChanges adverts root each strict form text end
+SaysOf (All each strict form) adverts text end = SaysOverall adverts each strict form text end
 SaysOf (Without root names addresses) adverts text end = IsTableWithout adverts (vec_items names) root (vec_items addresses) text × (end ≡ Ended status.Done)
 
 -- what is said of the root, if there is one
@@ -128,7 +149,7 @@ WarnsOf (Some root) listing text = IsWarning listing root text
 WarnsOf None listing text = text ≡ []
 
 -- the answer of the area whose LSAs the lines of the input are; and the warning of the root
-pub record IsAnswer (job : FailuresJob) (end : FailuresStatus) (input text warning : List ℕ) : Type 0 where
+pub record IsFailuresAnswer (job : FailuresJob) (end : FailuresStatus) (input text warning : List ℕ) : Type 0 where
   pub listing : List (List ℕ)
   pub reads : Reads input [] listing
   pub small : HasLarge (advertisements_of listing) → ⊥
@@ -136,61 +157,61 @@ pub record IsAnswer (job : FailuresJob) (end : FailuresStatus) (input text warni
   pub says : SaysOf job (advertisements_of listing) text end
 
 -- the answer stands on standard output, its warning on standard error, and the status is that of the answer
-pub record IsAnswered (job : FailuresJob) (end : FailuresStatus) (out_old out_new err_old err_new : Option (List ℕ)) (input : List ℕ) : Type 0 where
+pub record IsFailuresAnswered (job : FailuresJob) (end : FailuresStatus) (out_old out_new err_old err_new : Option (List ℕ)) (input : List ℕ) : Type 0 where
   pub text : List ℕ
   pub warning : List ℕ
-  pub is : IsAnswer job end input text warning
+  pub is : IsFailuresAnswer job end input text warning
   pub out : Appends out_old out_new text
   pub err : Appends err_old err_new warning
 
 -- the refusal stands on standard error
-pub record IsRefusalTold (job : FailuresJob) (s : Status) (err_old err_new : Option (List ℕ)) (input : List ℕ) : Type 0 where
+pub record IsFailuresRefusalTold (job : FailuresJob) (s : Status) (err_old err_new : Option (List ℕ)) (input : List ℕ) : Type 0 where
   pub text : List ℕ
-  pub is : IsRefusal job input text s
+  pub is : IsFailuresRefusal job input text s
   pub told : Appends err_old err_new text
 
 -- ---- what stands written where it ends early
 
 -- a beginning of the refusal
-pub record IsRefusalBegun (job : FailuresJob) (err_old err_new : Option (List ℕ)) (input : List ℕ) : Type 0 where
+pub record IsFailuresRefusalBegun (job : FailuresJob) (err_old err_new : Option (List ℕ)) (input : List ℕ) : Type 0 where
   pub s : Status
   pub text : List ℕ
-  pub is : IsRefusal job input text s
+  pub is : IsFailuresRefusal job input text s
   pub begun : IsBegun err_old err_new text
 
 -- a beginning of the warning
-pub record IsWarningBegun (job : FailuresJob) (err_old err_new : Option (List ℕ)) (input : List ℕ) : Type 0 where
+pub record IsFailuresWarningBegun (job : FailuresJob) (err_old err_new : Option (List ℕ)) (input : List ℕ) : Type 0 where
   pub end : FailuresStatus
   pub text : List ℕ
   pub warning : List ℕ
-  pub is : IsAnswer job end input text warning
+  pub is : IsFailuresAnswer job end input text warning
   pub begun : IsBegun err_old err_new warning
 
 -- the warning, and a beginning of the answer
-pub record IsAnswerBegun (job : FailuresJob) (out_old out_new err_old err_new : Option (List ℕ)) (input : List ℕ) : Type 0 where
+pub record IsFailuresAnswerBegun (job : FailuresJob) (out_old out_new err_old err_new : Option (List ℕ)) (input : List ℕ) : Type 0 where
   pub end : FailuresStatus
   pub text : List ℕ
   pub warning : List ℕ
-  pub is : IsAnswer job end input text warning
+  pub is : IsFailuresAnswer job end input text warning
   pub err : Appends err_old err_new warning
   pub begun : IsBegun out_old out_new text
 
 -- it ended by a failure: before anything was written; at the refusal; at the warning; or at the answer
-pub data EndsBy (input : Option (List ℕ)) (job : FailuresJob) (failed : FailedStreams) (out_old out_new err_old err_new : Option (List ℕ)) : Failure → Type 0 where
-  unwritten : {f : Failure} → out_new ≡ out_old → err_new ≡ err_old → EndsBy input job failed out_old out_new err_old err_new f
-  in_refusal : {f : Failure} → (f ≡ failure.Memory) ⊎ (f ≡ failure.Error) → IsErrorFailed failed → out_new ≡ out_old → IfSome input (IsRefusalBegun job err_old err_new)
-      → EndsBy input job failed out_old out_new err_old err_new f
-  in_warning : {f : Failure} → (f ≡ failure.Memory) ⊎ (f ≡ failure.Error) → IsErrorFailed failed → out_new ≡ out_old → IfSome input (IsWarningBegun job err_old err_new)
-      → EndsBy input job failed out_old out_new err_old err_new f
-  in_answer : {f : Failure} → (f ≡ failure.Memory) ⊎ (f ≡ failure.Output) → IsOutputFailed failed → IfSome input (IsAnswerBegun job out_old out_new err_old err_new)
-      → EndsBy input job failed out_old out_new err_old err_new f
+pub data FailuresEndsBy (input : Option (List ℕ)) (job : FailuresJob) (failed : FailedStreams) (out_old out_new err_old err_new : Option (List ℕ)) : Failure → Type 0 where
+  unwritten : {f : Failure} → out_new ≡ out_old → err_new ≡ err_old → FailuresEndsBy input job failed out_old out_new err_old err_new f
+  in_refusal : {f : Failure} → (f ≡ failure.Memory) ⊎ (f ≡ failure.Error) → IsErrorFailed failed → out_new ≡ out_old → IfSome input (IsFailuresRefusalBegun job err_old err_new)
+      → FailuresEndsBy input job failed out_old out_new err_old err_new f
+  in_warning : {f : Failure} → (f ≡ failure.Memory) ⊎ (f ≡ failure.Error) → IsErrorFailed failed → out_new ≡ out_old → IfSome input (IsFailuresWarningBegun job err_old err_new)
+      → FailuresEndsBy input job failed out_old out_new err_old err_new f
+  in_answer : {f : Failure} → (f ≡ failure.Memory) ⊎ (f ≡ failure.Output) → IsOutputFailed failed → IfSome input (IsFailuresAnswerBegun job out_old out_new err_old err_new)
+      → FailuresEndsBy input job failed out_old out_new err_old err_new f
 
 -- it ended by a failure, which was told last, as far as that could be written
-pub record IsCutShort (input : Option (List ℕ)) (job : FailuresJob) (failed : FailedStreams) (out_old out_new err_old err_new : Option (List ℕ)) (end : FailuresStatus) : Type 0 where
+pub record IsFailuresCutShort (input : Option (List ℕ)) (job : FailuresJob) (failed : FailedStreams) (out_old out_new err_old err_new : Option (List ℕ)) (end : FailuresStatus) : Type 0 where
   pub cause : Failure
   pub failed_then : FailedStreams
   pub err_then : Option (List ℕ)
-  pub ends : EndsBy input job failed_then out_old out_new err_old err_then cause
+  pub ends : FailuresEndsBy input job failed_then out_old out_new err_old err_then cause
   pub last : IsTold failed_then failed err_then err_new (failure_line cause)
   pub end_is : end ≡ Ended (failure_status cause)
 
@@ -198,28 +219,28 @@ pub record IsCutShort (input : Option (List ℕ)) (job : FailuresJob) (failed : 
 
 -- what is to be said of a refusal that ends with this status
 abbrev pub IsRefusalOf : Option (List ℕ) → FailuresJob → List ℕ → Status → Type 0
-IsRefusalOf input job text status.Refused = IfSome input (λ bytes. IsRefusal job bytes text status.Refused)
-IsRefusalOf input job text status.Words = (names_of job ≢ []) × IfSome input (λ bytes. IsRefusal job bytes text status.Words)
+IsRefusalOf input job text status.Refused = IfSome input (λ bytes. IsFailuresRefusal job bytes text status.Refused)
+IsRefusalOf input job text status.Words = (names_of job ≢ []) × IfSome input (λ bytes. IsFailuresRefusal job bytes text status.Words)
 IsRefusalOf input job text _ = ⊥
 
 -- why there is no answer
-abbrev pub IsFault : Option (List ℕ) → FailuresJob → Fault → Type 0
-IsFault input job (fault.Refused text) = IsRefusalOf input job (string_bytes text) status.Refused
-IsFault input job (fault.Unnamed text) = IsRefusalOf input job (string_bytes text) status.Words
-IsFault input job (fault.Failure f) = Unit {0}
+abbrev pub IsUnreported : Option (List ℕ) → FailuresJob → Unreported → Type 0
+IsUnreported input job (fault.Refused text) = IsRefusalOf input job (string_bytes text) status.Refused
+IsUnreported input job (fault.Unnamed text) = IsRefusalOf input job (string_bytes text) status.Words
+IsUnreported input job (fault.Failure f) = Unit {0}
 
 -- the answer for the input
-abbrev pub IsAnswerOf : FailuresJob → Answer → List ℕ → Type 0
-IsAnswerOf job answer input = IsAnswer job answer.said.end input (string_bytes answer.said.text) (string_bytes answer.warning)
+abbrev pub IsFailuresAnswerOf : FailuresJob → FailuresAnswer → List ℕ → Type 0
+IsFailuresAnswerOf job answer input = IsFailuresAnswer job answer.said.end input (string_bytes answer.said.text) (string_bytes answer.warning)
 
 -- the answer is printed, or the refusal is told
-pub data IsSaid (input : Option (List ℕ)) (job : FailuresJob) (out_old out_new err_old err_new : Option (List ℕ)) : FailuresStatus → Type 0 where
-  is_answered : {end : FailuresStatus} → IsWhole end → IfSome input (IsAnswered job end out_old out_new err_old err_new)
-      → IsSaid input job out_old out_new err_old err_new end
-  is_refused : {s : Status} → IsUnserved s → (s ≡ status.Words → names_of job ≢ []) → out_new ≡ out_old → IfSome input (IsRefusalTold job s err_old err_new)
-      → IsSaid input job out_old out_new err_old err_new (Ended s)
+pub data IsFailuresSaid (input : Option (List ℕ)) (job : FailuresJob) (out_old out_new err_old err_new : Option (List ℕ)) : FailuresStatus → Type 0 where
+  is_answered : {end : FailuresStatus} → IsAllPrinted end → IfSome input (IsFailuresAnswered job end out_old out_new err_old err_new)
+      → IsFailuresSaid input job out_old out_new err_old err_new end
+  is_refused : {s : Status} → IsUnserved s → (s ≡ status.Words → names_of job ≢ []) → out_new ≡ out_old → IfSome input (IsFailuresRefusalTold job s err_old err_new)
+      → IsFailuresSaid input job out_old out_new err_old err_new (Ended s)
 
 -- one of these, or it ended early
-abbrev pub IsEnding : Option (List ℕ) → FailuresJob → FailedStreams → Option (List ℕ) → Option (List ℕ) → Option (List ℕ) → Option (List ℕ) → FailuresStatus → Type 0
-IsEnding input job failed out_old out_new err_old err_new end =
-    IsSaid input job out_old out_new err_old err_new end ⊎ IsCutShort input job failed out_old out_new err_old err_new end
+abbrev pub IsFailuresEnding : Option (List ℕ) → FailuresJob → FailedStreams → Option (List ℕ) → Option (List ℕ) → Option (List ℕ) → Option (List ℕ) → FailuresStatus → Type 0
+IsFailuresEnding input job failed out_old out_new err_old err_new end =
+    IsFailuresSaid input job out_old out_new err_old err_new end ⊎ IsFailuresCutShort input job failed out_old out_new err_old err_new end

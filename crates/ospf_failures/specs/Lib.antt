@@ -1,5 +1,5 @@
-pub mod Lines
 pub mod Reports
 pub mod Overall
+pub mod Json
 pub mod Without
 pub mod Answer

@@ -1,5 +1,5 @@
 -- What each failure of an area changes in the tables of all its routers.
-use Rattle.std.specs.Prelude.{◌≡◌, ◌↔◌, ◌<◌, ◌+◌, ◌*◌, ◌^◌, ℕ, Bool, true, false, List, [], ◌∷◌, ◌++◌, ◌⊎◌, All, AllPairs, Any, Contains, Err, IfOk, IsPermutation, codes, count_by, decimal, filter, flat_map, if◌then◌else◌, length, map, not, string_bytes, sum_by}
+use Rattle.std.specs.Prelude.{◌≡◌, ◌↔◌, ◌<◌, ◌+◌, ◌*◌, ◌^◌, ℕ, Bool, true, false, List, [], ◌∷◌, ◌++◌, ◌⊎◌, All, AllPairs, Any, Contains, IsPermutation, codes, count_by, decimal, filter, flat_map, if◌then◌else◌, length, map, not, string_bytes, sum_by}
 use Rattle.std.specs.Cmp.Lexicographic.{slice_cmp}
 use Rattle.std.specs.List.Sorted.{IsSorted}
 use Rattle.std.specs.Ordering.{nat_cmp, ordering_then}
@@ -12,34 +12,31 @@ use Rattle.ospf_graph.specs.Advertisements.{Advertisement, IsListed}
 use Rattle.ospf_graph.specs.Routes.{IsTable}
 use Rattle.ospf_graph.specs.declared.route.Route.{Route}
 use Rattle.ospf_whatif.specs.Effect.{IsEffect, IsEffectIn}
-use Rattle.ospf_whatif.specs.Failure.{HasLarge, without}
-use Rattle.ospf_whatif.specs.Name.{failure_text}
+use Rattle.ospf_whatif.specs.Failure.{without}
+use Rattle.ospf_whatif.specs.Name.{area_failure_text}
 use Rattle.ospf_whatif.specs.Single.{IsFailure, IsFailureBefore}
 use Rattle.ospf_whatif.specs.declared.area.WithoutFault.{WithoutFault}
-use Rattle.ospf_whatif.specs.declared.area.WithoutFault.TheVariants.{Links}
 use Rattle.ospf_whatif.specs.declared.effect.RouteChange.{RouteChange}
-use Rattle.ospf_whatif.specs.declared.failure.Failure.{Failure}
-use Rattle.ospf_whatif.specs.declared.failure.Failure.TheVariants.{Router}
-use Rattle.ospf_failures.specs.Lines.{change_line, totals_of}
-use Rattle.ospf_failures.specs.Reports.{is_of, place_of}
+use Rattle.ospf_whatif.specs.declared.failure.AreaFailure.{AreaFailure}
+use Rattle.ospf_whatif.specs.declared.failure.AreaFailure.TheVariants.{Router}
+use Rattle.ospf_table.specs.Changes.{change_line, totals_of}
+use Rattle.ospf_failures.specs.Reports.{IsFailureFound, SightValue, is_of, failure_place}
 use Rattle.ospf_failures.specs.declared.overall.Before.{Before}
+use Rattle.ospf_failures.specs.declared.overall.Detail.{Detail}
+use Rattle.ospf_failures.specs.declared.overall.Detail.TheVariants as detail
 use Rattle.ospf_failures.specs.declared.overall.Overall.{Overall}
 use Rattle.ospf_failures.specs.declared.sums.Sums.{Sums}
 
 -- ---- at each router
 
--- a router, and what a failure changes in its table
-abbrev pub SightValue : Type 0
-SightValue = RouterId × List RouteChange
-
 -- what the failure changes in the table of the router
-pub record IsSight (adverts : List Advertisement) (failure : Failure) (sight : SightValue) : Type 0 where
+pub record IsSight (adverts : List Advertisement) (failure : AreaFailure) (sight : SightValue) : Type 0 where
   pub table : List Route
   pub is_table : IsTable adverts sight.0 table
   pub effect : IsEffect adverts sight.0 failure table sight.1
 
 -- what it changes in the table of each router of the area but the one that fails, in the order of Router IDs
-pub record AreSights (adverts : List Advertisement) (failure : Failure) (sights : List SightValue) : Type 0 where
+pub record AreSights (adverts : List Advertisement) (failure : AreaFailure) (sights : List SightValue) : Type 0 where
   pub whole : (router : RouterId) → Contains (map (λ s. s.0) sights) router ↔ (IsListed adverts router × (failure ≡ Router router → ⊥))
   pub rising : AllPairs (λ r s. r.0 < s.0) (map (λ s. s.0) sights)
   pub seen : All (IsSight adverts failure) sights
@@ -65,19 +62,30 @@ sums_text s =
     codes "cut " ++ decimal s.cut ++ codes " gone " ++ decimal s.gone ++ codes " cost " ++ decimal s.cost ++ codes " hops " ++ decimal s.hops ++ codes " routers "
     ++ decimal s.routers
 
-abbrev pub sums_line : Failure → Sums → List ℕ
-sums_line failure s = failure_text failure ++ codes " " ++ sums_text s ++ codes "\n"
+abbrev pub sums_line : AreaFailure → Sums → List ℕ
+sums_line failure s = area_failure_text failure ++ codes " " ++ sums_text s ++ codes "\n"
 
 -- a line for each route that changes at a router, which begins with the router
-abbrev pub sight_lines : Failure → SightValue → List ℕ
+abbrev pub sight_lines : AreaFailure → SightValue → List ℕ
 sight_lines failure sight = flat_map (λ c. number_text sight.0.0 ++ codes " " ++ change_line failure c) sight.1
 
--- what is told of a failure, of which the lines stand there where they are wanted
-pub record IsOverall (adverts : List Advertisement) (each : Bool) (o : Overall) : Type 0 where
+-- the lines, where these are wanted
+abbrev pub lines_kept : Detail → AreaFailure → List SightValue → List ℕ
+lines_kept detail.Lines failure sights = flat_map (sight_lines failure) sights
+lines_kept _ failure sights = []
+
+-- the routes, where these are
+abbrev pub sights_kept : Detail → List SightValue → List SightValue
+sights_kept detail.Routes sights = sights
+sights_kept _ sights = []
+
+-- what is told of a failure, with the lines or the routes where they are wanted
+pub record IsOverall (adverts : List Advertisement) (wanted : Detail) (o : Overall) : Type 0 where
   pub sights : List SightValue
   pub are_sights : AreSights adverts o.failure sights
   pub sums_are : o.sums ≡ sums_of sights
-  pub lines_are : string_bytes o.lines ≡ (if each then flat_map (sight_lines o.failure) sights else [])
+  pub lines_are : string_bytes o.lines ≡ lines_kept wanted o.failure sights
+  pub sights_are : o.sights.items ≡ sights_kept wanted sights
 
 -- ---- in order
 
@@ -87,18 +95,18 @@ sum_counts s = s.cut ∷ s.gone ∷ s.cost ∷ s.hops ∷ []
 -- as for one root
 abbrev pub overall_cmp : Overall → Overall → Ordering
 overall_cmp a b =
-    ordering_then (slice_cmp nat_cmp (sum_counts b.sums) (sum_counts a.sums)) (slice_cmp nat_cmp (place_of a.failure) (place_of b.failure))
+    ordering_then (slice_cmp nat_cmp (sum_counts b.sums) (sum_counts a.sums)) (slice_cmp nat_cmp (failure_place a.failure) (failure_place b.failure))
 
 -- the numbers that it is put in order by
 abbrev pub overall_rank : Overall → Reverse (List ℕ) × List ℕ
-overall_rank o = (record { 0 = sum_counts o.sums }, place_of o.failure)
+overall_rank o = (record { 0 = sum_counts o.sums }, failure_place o.failure)
 
 -- what is printed over all roots: of each failure of the area what it changes, in order
-pub record AreOveralls (adverts : List Advertisement) (each : Bool) (printed : List Overall) : Type 0 where
+pub record AreOveralls (adverts : List Advertisement) (wanted : Detail) (printed : List Overall) : Type 0 where
   pub overalls : List Overall
-  pub whole : (failure : Failure) → Contains (map (λ o. o.failure) overalls) failure ↔ IsFailure adverts failure
+  pub whole : (failure : AreaFailure) → Contains (map (λ o. o.failure) overalls) failure ↔ IsFailure adverts failure
   pub rising : AllPairs IsFailureBefore (map (λ o. o.failure) overalls)
-  pub seen : All (IsOverall adverts each) overalls
+  pub seen : All (IsOverall adverts wanted) overalls
   pub permuted : IsPermutation overalls printed
   pub in_order : IsSorted overall_cmp printed
 
@@ -113,35 +121,35 @@ CutsSomewhere printed = Any (λ o. 0 < o.sums.cut) printed
 -- ---- on the way
 
 -- the router that fails
-abbrev pub failing_router : Failure → List RouterId
+abbrev pub failing_router : AreaFailure → List RouterId
 failing_router (Router router) = router ∷ []
 failing_router f = []
 
 -- the routers of an area, by its failures
-abbrev pub roots_in : List Failure → List RouterId
+abbrev pub roots_in : List AreaFailure → List RouterId
 roots_in failures = flat_map failing_router failures
 
 -- a router with its table
-abbrev pub IsBefore : List Advertisement → Before → Type 0
-IsBefore adverts b = IsTable adverts b.root b.table
+abbrev pub IsTableBefore : List Advertisement → Before → Type 0
+IsTableBefore adverts b = IsTable adverts b.root b.table
 
 -- what a failure that leaves this of the area changes in the table of one of these routers
 abbrev pub IsSightFrom : List Advertisement → List Before → SightValue → Type 0
 IsSightFrom left befores sight = (b : Before) × Contains befores b × (b.root ≡ sight.0) × IsEffectIn left b.root b.table sight.1
 
 -- what is told so far, of some routers
-pub record IsSoFar (left : List Advertisement) (befores : List Before) (each : Bool) (roots : List RouterId) (o : Overall) : Type 0 where
+pub record IsSoFar (left : List Advertisement) (befores : List Before) (wanted : Detail) (roots : List RouterId) (o : Overall) : Type 0 where
   pub sights : List SightValue
   pub routers : map (λ s. s.0) sights ≡ filter (λ r. not (is_of r o.failure)) roots
   pub seen : All (IsSightFrom left befores) sights
   pub sums_are : o.sums ≡ sums_of sights
-  pub lines_are : string_bytes o.lines ≡ (if each then flat_map (sight_lines o.failure) sights else [])
+  pub lines_are : string_bytes o.lines ≡ lines_kept wanted o.failure sights
+  pub sights_are : o.sights.items ≡ sights_kept wanted sights
 
 -- what is found of one failure: what is told of all routers, or why not
-pub record IsFound (adverts : List Advertisement) (befores : List Before) (each : Bool) (failure : Failure) (found : Result Overall WithoutFault) : Type 0 where
-  pub same : IfOk found (λ o. o.failure ≡ failure)
-  pub large : found ≡ Err Links → HasLarge adverts
-  pub seen : IfOk found (IsSoFar (without failure adverts) befores each (map (λ b. b.root) befores))
+abbrev pub IsOverallFound : List Advertisement → List Before → Detail → AreaFailure → Result Overall WithoutFault → Type 0
+IsOverallFound adverts befores wanted failure found =
+    IsFailureFound adverts (λ o. o.failure) (λ f o. IsSoFar (without f adverts) befores wanted (map (λ b. b.root) befores) o) failure found
 
 abbrev pub one_if : Bool → ℕ
 one_if b = if b then 1 else 0
@@ -156,22 +164,30 @@ sums_plus s changes = record {
   routers = s.routers + one_if (has_changes changes);
 }
 
+-- what is kept of one router more
+pub record KeepsMore (wanted : Detail) (sight : SightValue) (old new : Overall) : Type 0 where
+  pub same : new.failure ≡ old.failure
+  pub sums_are : new.sums ≡ old.sums
+  pub lines_are : string_bytes new.lines ≡ string_bytes old.lines ++ lines_kept wanted old.failure (sight ∷ [])
+  pub sights_are : new.sights.items ≡ old.sights.items ++ sights_kept wanted (sight ∷ [])
+
 -- one router more, which does not fail
-pub record SeesMore (left : List Advertisement) (before : Before) (each : Bool) (old new : Overall) : Type 0 where
+pub record SeesMore (left : List Advertisement) (before : Before) (wanted : Detail) (old new : Overall) : Type 0 where
   pub changes : List RouteChange
   pub few : length changes < 2 ^ 64
   pub effect : IsEffectIn left before.root before.table changes
   pub other : is_of before.root old.failure ≡ false
   pub same : new.failure ≡ old.failure
   pub sums_are : new.sums ≡ sums_plus old.sums changes
-  pub lines_are : string_bytes new.lines ≡ string_bytes old.lines ++ (if each then sight_lines old.failure (before.root, changes) else [])
+  pub lines_are : string_bytes new.lines ≡ string_bytes old.lines ++ lines_kept wanted old.failure ((before.root, changes) ∷ [])
+  pub sights_are : new.sights.items ≡ old.sights.items ++ sights_kept wanted ((before.root, changes) ∷ [])
 
 -- one router more, which may be what fails
-abbrev pub Sees : List Advertisement → Before → Bool → Overall → Overall → Type 0
-Sees left before each old new = ((is_of before.root old.failure ≡ true) × (new ≡ old)) ⊎ SeesMore left before each old new
+abbrev pub Sees : List Advertisement → Before → Detail → Overall → Overall → Type 0
+Sees left before wanted old new = ((is_of before.root old.failure ≡ true) × (new ≡ old)) ⊎ SeesMore left before wanted old new
 
 -- so many more can be added
-pub record HasRoom (n : ℕ) (s : Sums) : Type 0 where
+pub record HasSumRoom (n : ℕ) (s : Sums) : Type 0 where
   pub cut : s.cut + 2 ^ 64 * n < 2 ^ 128
   pub gone : s.gone + 2 ^ 64 * n < 2 ^ 128
   pub cost : s.cost + 2 ^ 64 * n < 2 ^ 128

@@ -1,29 +1,37 @@
 -- What each failure of an area changes in a router's table, and the order in which that is printed.
-use Rattle.std.specs.Prelude.{◌≡◌, ◌↔◌, ◌<◌, ◌==◌, ℕ, Bool, false, List, [], ◌∷◌, All, AllPairs, Any, Contains, IsPermutation, flat_map, map}
+use Rattle.std.specs.Prelude.{◌≡◌, ◌↔◌, ◌<◌, ◌==◌, ℕ, Bool, false, List, [], ◌∷◌, All, AllPairs, Any, Contains, Err, IfOk, IsPermutation, flat_map, map}
 use Rattle.std.specs.Cmp.Lexicographic.{slice_cmp}
 use Rattle.std.specs.List.Sorted.{IsSorted}
 use Rattle.std.specs.Ordering.{nat_cmp, ordering_then}
 use Rattle.std.specs.declared.cmp.Ordering.{Ordering}
 use Rattle.std.specs.declared.cmp.Reverse.{Reverse}
+use Rattle.std.specs.declared.result.Result.{Result}
 use Rattle.ospf_base.specs.declared.ids.RouterId.{RouterId}
 use Rattle.ospf_graph.specs.Advertisements.{Advertisement}
 use Rattle.ospf_graph.specs.declared.route.Route.{Route}
 use Rattle.ospf_whatif.specs.Effect.{IsEffect}
+use Rattle.ospf_whatif.specs.Failure.{HasLarge}
 use Rattle.ospf_whatif.specs.Single.{IsFailure, IsFailureBefore}
-use Rattle.ospf_whatif.specs.declared.failure.Failure.{Failure}
-use Rattle.ospf_whatif.specs.declared.failure.Failure.TheVariants.{Attachment, Link, Links, Network, Router}
+use Rattle.ospf_whatif.specs.declared.area.WithoutFault.{WithoutFault}
+use Rattle.ospf_whatif.specs.declared.area.WithoutFault.TheVariants as cause
+use Rattle.ospf_whatif.specs.declared.failure.AreaFailure.{AreaFailure}
+use Rattle.ospf_whatif.specs.declared.failure.AreaFailure.TheVariants.{Attachment, Link, Links, Network, Router}
 use Rattle.ospf_whatif.specs.declared.effect.RouteChange.{RouteChange}
-use Rattle.ospf_failures.specs.Lines.{failure_lines, totals_of}
-use Rattle.ospf_failures.specs.declared.totals.Totals.{Totals}
+use Rattle.ospf_table.specs.Changes.{failure_lines, totals_of}
+use Rattle.ospf_table.specs.declared.totals.Totals.{Totals}
 
 -- a failure, and what it changes
 abbrev pub ReportValue : Type 0
-ReportValue = Failure × List RouteChange
+ReportValue = AreaFailure × List RouteChange
+
+-- a router, and what a failure changes in its table
+abbrev pub SightValue : Type 0
+SightValue = RouterId × List RouteChange
 
 -- ---- all of an area
 
 -- that of the router
-abbrev pub is_of : RouterId → Failure → Bool
+abbrev pub is_of : RouterId → AreaFailure → Bool
 is_of router (Router gone) = gone.0 == router.0
 is_of router (Link a b subnet) = false
 is_of router (Links a b) = false
@@ -31,12 +39,12 @@ is_of router (Attachment attached network) = false
 is_of router (Network network) = false
 
 -- a failure of the area, which is not the root's own
-abbrev pub IsOther : List Advertisement → RouterId → Failure → Type 0
-IsOther adverts root failure = IsFailure adverts failure × (failure ≡ Router root → ⊥)
+abbrev pub IsOtherFailure : List Advertisement → RouterId → AreaFailure → Type 0
+IsOtherFailure adverts root failure = IsFailure adverts failure × (failure ≡ Router root → ⊥)
 
 -- each of these once, in their order, with what it changes in the root's table
 pub record AreReports (adverts : List Advertisement) (root : RouterId) (table : List Route) (reports : List ReportValue) : Type 0 where
-  pub whole : (failure : Failure) → Contains (map (λ r. r.0) reports) failure ↔ IsOther adverts root failure
+  pub whole : (failure : AreaFailure) → Contains (map (λ r. r.0) reports) failure ↔ IsOtherFailure adverts root failure
   pub rising : AllPairs IsFailureBefore (map (λ r. r.0) reports)
   pub changed : All (λ r. IsEffect adverts root r.0 table r.1) reports
 
@@ -46,21 +54,21 @@ abbrev pub counts_of : Totals → List ℕ
 counts_of t = t.cut ∷ t.gone ∷ t.cost ∷ t.hops ∷ []
 
 -- links in subnets, other links, attachments, networks, routers; those of one kind by Router IDs, and then by address
-abbrev pub place_of : Failure → List ℕ
-place_of (Link a b subnet) = 0 ∷ a.0 ∷ b.0 ∷ subnet.address.0 ∷ subnet.length ∷ []
-place_of (Links a b) = 1 ∷ a.0 ∷ b.0 ∷ 0 ∷ 0 ∷ []
-place_of (Attachment router network) = 2 ∷ router.0 ∷ network ∷ 0 ∷ 0 ∷ []
-place_of (Network network) = 3 ∷ network ∷ 0 ∷ 0 ∷ 0 ∷ []
-place_of (Router router) = 4 ∷ router.0 ∷ 0 ∷ 0 ∷ 0 ∷ []
+abbrev pub failure_place : AreaFailure → List ℕ
+failure_place (Link a b subnet) = 0 ∷ a.0 ∷ b.0 ∷ subnet.address.0 ∷ subnet.length ∷ []
+failure_place (Links a b) = 1 ∷ a.0 ∷ b.0 ∷ 0 ∷ 0 ∷ []
+failure_place (Attachment router network) = 2 ∷ router.0 ∷ network ∷ 0 ∷ 0 ∷ []
+failure_place (Network network) = 3 ∷ network ∷ 0 ∷ 0 ∷ 0 ∷ []
+failure_place (Router router) = 4 ∷ router.0 ∷ 0 ∷ 0 ∷ 0 ∷ []
 
 -- first what cuts off most, then what takes most with it, then what makes most dearer, then what moves most; where all these are equal, by the failure's place
 abbrev pub report_cmp : ReportValue → ReportValue → Ordering
 report_cmp a b =
-    ordering_then (slice_cmp nat_cmp (counts_of (totals_of b.1)) (counts_of (totals_of a.1))) (slice_cmp nat_cmp (place_of a.0) (place_of b.0))
+    ordering_then (slice_cmp nat_cmp (counts_of (totals_of b.1)) (counts_of (totals_of a.1))) (slice_cmp nat_cmp (failure_place a.0) (failure_place b.0))
 
 -- the numbers that a report is put in order by
 abbrev pub rank_of : ReportValue → Reverse (List ℕ) × List ℕ
-rank_of r = (record { 0 = counts_of (totals_of r.1) }, place_of r.0)
+rank_of r = (record { 0 = counts_of (totals_of r.1) }, failure_place r.0)
 
 -- what is printed for the root: of each other failure of the area what it changes, in order
 pub record IsReported (adverts : List Advertisement) (root : RouterId) (table : List Route) (printed : List ReportValue) : Type 0 where
@@ -76,3 +84,15 @@ reports_text each reports = flat_map (λ r. failure_lines each r.0 r.1) reports
 -- some failure cuts a prefix off
 abbrev pub HasCut : List ReportValue → Type 0
 HasCut reports = Any (λ r. 0 < (totals_of r.1).cut) reports
+
+-- ---- on the way
+
+-- what is found of one failure: what is told of it, which P says, or why not
+pub record IsFailureFound {X : Type 0} (adverts : List Advertisement) (failure_of : X → AreaFailure) (P : AreaFailure → X → Type 0) (failure : AreaFailure) (found : Result X WithoutFault) : Type 0 where
+  pub same : IfOk found (λ x. failure_of x ≡ failure)
+  pub large : found ≡ Err cause.Links → HasLarge adverts
+  pub seen : IfOk found (P failure)
+
+-- what it changes in the root's table
+abbrev pub IsReportFound : List Advertisement → RouterId → List Route → AreaFailure → Result ReportValue WithoutFault → Type 0
+IsReportFound adverts root table failure found = IsFailureFound adverts (λ r. r.0) (λ f r. IsEffect adverts root f table r.1) failure found

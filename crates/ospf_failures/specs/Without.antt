@@ -1,6 +1,6 @@
 -- An area without several of its parts, and the table of a router in it.
 use Rattle.std.specs.Prelude.{◌≡◌, ℕ, List, ◌++◌, ◌∷◌, String, codes, string_bytes}
-use Rattle.std.specs.List.{AllZip, fold}
+use Rattle.std.specs.List.{AllZip}
 use Rattle.std.specs.declared.alloc.Global.{Global}
 use Rattle.ospf_base.specs.declared.ids.Addr.{Addr}
 use Rattle.ospf_base.specs.declared.ids.RouterId.{RouterId}
@@ -9,45 +9,41 @@ use Rattle.ospf_graph.specs.Routes.{IsTable}
 use Rattle.ospf_graph.specs.declared.route.Route.{Route}
 use Rattle.ospf_files.specs.declared.status.Failure.TheVariants as failure
 use Rattle.ospf_table.specs.Output.{IsOutput}
-use Rattle.ospf_whatif.specs.Failure.{without}
+use Rattle.ospf_whatif.specs.Failure.{without_all}
 use Rattle.ospf_whatif.specs.Name.{IsNamed}
 use Rattle.ospf_whatif.specs.Single.{AreFailures}
-use Rattle.ospf_whatif.specs.declared.failure.Failure.{Failure}
-use Rattle.ospf_failures.specs.declared.answer.Fault.{Fault}
-use Rattle.ospf_failures.specs.declared.answer.Fault.TheVariants as fault
-
--- the area without these, one after the other
-abbrev pub without_all : List Failure → List Advertisement → List Advertisement
-without_all failures adverts = fold (λ left f. without f left) adverts failures
+use Rattle.ospf_whatif.specs.declared.failure.AreaFailure.{AreaFailure}
+use Rattle.ospf_failures.specs.declared.answer.Unreported.{Unreported}
+use Rattle.ospf_failures.specs.declared.answer.Unreported.TheVariants as fault
 
 -- ---- by names
 
 -- a name is that of one of these
-abbrev pub IsNamedBy : List Failure → String Global → Failure → Type 0
+abbrev pub IsNamedBy : List AreaFailure → String Global → AreaFailure → Type 0
 IsNamedBy single name f = IsNamed single (string_bytes name) f
 
 -- the names are those of these, each of which may fail in the area
-pub record AreNamed (adverts : List Advertisement) (names : List (String Global)) (failures : List Failure) : Type 0 where
-  pub single : List Failure
+pub record AreNamed (adverts : List Advertisement) (names : List (String Global)) (failures : List AreaFailure) : Type 0 where
+  pub single : List AreaFailure
   pub are_single : AreFailures adverts single
   pub named : AllZip (IsNamedBy single) names failures
 
 -- a name that is that of none of these
-abbrev pub IsUnnamedHere : List Failure → String Global → String Global → Type 0
-IsUnnamedHere single name other = (other ≡ name) × ((f : Failure) → IsNamedBy single name f → ⊥)
+abbrev pub IsUnnamedHere : List AreaFailure → String Global → String Global → Type 0
+IsUnnamedHere single name other = (other ≡ name) × ((f : AreaFailure) → IsNamedBy single name f → ⊥)
 
 -- the first name that is that of none of these
-pub record IsFirstAmong (single : List Failure) (names : List (String Global)) (name : String Global) : Type 0 where
+pub record IsFirstAmong (single : List AreaFailure) (names : List (String Global)) (name : String Global) : Type 0 where
   pub before : List (String Global)
   pub after : List (String Global)
   pub names_are : names ≡ before ++ name ∷ after
-  pub failures : List Failure
+  pub failures : List AreaFailure
   pub named : AllZip (IsNamedBy single) before failures
-  pub unnamed : (f : Failure) → IsNamedBy single name f → ⊥
+  pub unnamed : (f : AreaFailure) → IsNamedBy single name f → ⊥
 
 -- the first name of nothing that may fail in the area
 pub record IsFirstUnnamed (adverts : List Advertisement) (names : List (String Global)) (name : String Global) : Type 0 where
-  pub single : List Failure
+  pub single : List AreaFailure
   pub are_single : AreFailures adverts single
   pub first : IsFirstAmong single names name
 
@@ -56,7 +52,7 @@ abbrev pub unnamed_line : String Global → List ℕ
 unnamed_line name = string_bytes name ++ codes ": no such element\n"
 
 -- why there is no table: memory ran out, or of the first name that names nothing this is to be said
-abbrev pub IsFaultOfNames : (String Global → Type 0) → Fault → Type 0
+abbrev pub IsFaultOfNames : (String Global → Type 0) → Unreported → Type 0
 IsFaultOfNames IsFirst (fault.Refused text) = ⊥
 IsFaultOfNames IsFirst (fault.Unnamed text) = (name : String Global) × IsFirst name × (string_bytes text ≡ unnamed_line name)
 IsFaultOfNames IsFirst (fault.Failure f) = f ≡ failure.Memory
@@ -71,6 +67,6 @@ pub record SaysTableOfLeft (left : List Advertisement) (root : RouterId) (addres
 
 -- that of the area without the parts that are named
 pub record IsTableWithout (adverts : List Advertisement) (names : List (String Global)) (root : RouterId) (addresses : List Addr) (text : List ℕ) : Type 0 where
-  pub failures : List Failure
+  pub failures : List AreaFailure
   pub are_named : AreNamed adverts names failures
   pub says : SaysTableOfLeft (without_all failures adverts) root addresses text

@@ -7,15 +7,15 @@ ghost use Rattle.ospf_files.specs.declared.streams.FailedStreams.{FailedStreams}
 ghost use Rattle.ospf_table.specs.Line.{Reads, Refuses};
 ghost use Rattle.ospf_table.specs.Output.{IsWarning};
 ghost use Rattle.ospf_whatif.specs.Failure.{HasLarge, IsLarge};
-ghost use Rattle.ospf_failures.specs.Answer.{EndsBy, IsAnswerOf, IsAnswered, IsCutShort, IsEnding, IsFault, IsFirstLarge, IsRefusalOf, IsRefusalTold, IsSaid, IsUnserved, IsWhole, SaysChanges, SaysOf, SaysOverall, WarnsOf, end_by, names_of};
+ghost use Rattle.ospf_failures.specs.Answer.{FailuresEndsBy, IsFailuresAnswerOf, IsFailuresAnswered, IsFailuresCutShort, IsFailuresEnding, IsUnreported, IsFirstLarge, IsRefusalOf, IsFailuresRefusalTold, IsFailuresSaid, IsUnserved, IsAllPrinted, SaysChanges, SaysOf, SaysOverall, WarnsOf, added_text, changes_text, detail_of, end_by, names_of};
 ghost use Rattle.ospf_failures.specs.declared.answer.FailuresJob.{FailuresJob};
 ghost use Rattle.ospf_graph.specs.Routes.{IsTable};
 ghost use Rattle.ospf_graph.specs.declared.route.Route.{Route};
 ghost use Rattle.ospf_failures.specs.Reports.{IsReported};
 ghost use Rattle.ospf_failures.specs.Without.{IsFaultOfNames, IsFirstUnnamed};
 
-use crate::overall::{cuts_somewhere, overalls, overalls_text};
-use crate::report::{Report, has_cut, reports, reports_text};
+use crate::overall::{Detail, Overall, cuts_somewhere, overalls, overalls_json, overalls_text};
+use crate::report::{Report, has_cut, reports, reports_json, reports_text};
 use crate::without::text_without;
 use ospf_base::{Addr, Kind, RouterId};
 use ospf_files::{FailedStreams, Failure, Status};
@@ -31,23 +31,36 @@ use std::thread::Threads;
 // The most links of a router-LSA that can be made anew: one of `ospf_base::LARGEST_LSA` bytes.
 const MOST_LINKS: usize = 1361;
 
+/// How what failures change is printed.
+#[derive(Clone, Copy, Debug, PartialEq, Eq)]
+pub enum FailuresForm {
+    /// In lines of text.
+    Text,
+    /// As one value of JSON, on a line.
+    Json,
+}
+
 /// What is asked of the failures of an area.
 #[derive(Debug, Drop)]
 pub enum FailuresJob {
     /// What each failure but its own changes in a router's table.
     Root {
         root: RouterId,
-        /// Whether each changed prefix has a line.
+        /// Whether each changed prefix is told.
         each: bool,
         /// Whether a prefix that is cut off is told by the status.
         strict: bool,
+        /// How it is printed.
+        form: FailuresForm,
     },
     /// What each failure changes in the tables of all routers but the one that fails.
     All {
-        /// Whether each changed prefix of a router has a line.
+        /// Whether each changed prefix of a router is told.
         each: bool,
         /// Whether a prefix that is cut off from a router is told by the status.
         strict: bool,
+        /// How it is printed.
+        form: FailuresForm,
     },
     /// The routing table of a router in the area without some of its parts.
     Without {
@@ -102,21 +115,21 @@ impl FailuresStatus {
 // Why nothing is to be printed: the input is refused, or a name is that of nothing in the area, and this is said of it; or
 // something failed.
 #[derive(Drop)]
-pub(crate) enum Fault {
+pub(crate) enum Unreported {
     Refused(String),
     Unnamed(String),
     Failure(Failure),
 }
 
-impl From<AllocError> for Fault {
+impl From<AllocError> for Unreported {
     ghost use Rattle.std.specs.Prelude.{◌≡◌};
     ghost use Rattle.ospf_files.specs.declared.status.Failure.TheVariants as failure;
-    ghost use Rattle.ospf_failures.specs.declared.answer.Fault.TheVariants as fault;
+    ghost use Rattle.ospf_failures.specs.declared.answer.Unreported.TheVariants as fault;
 
     ghost from_gives = { λ _ f. f ≡ fault.Failure failure.Memory };
 
-    fn from(_error: AllocError) -> Fault {
-        Fault::Failure(Failure::Memory)
+    fn from(_error: AllocError) -> Unreported {
+        Unreported::Failure(Failure::Memory)
     }
 }
 
@@ -135,8 +148,9 @@ impl From<FailuresStatus> for ExitCode {
 /// Reads LSAs, one a line in hexadecimal as `ospf_table::table_text` does, and prints what is asked of the failures of
 /// their area. For a root it is what each single failure but its own changes in the root's routing table: with `each` a
 /// line a prefix that it changes, then a line of how many there are; those that cut off most prefixes come first. Over all
-/// routers it is the same, added up, and a line of a prefix begins with the router in whose table it changes. Or it is the
-/// root's routing table in the area without the parts that are named, with lookups, as `table_text` prints it.
+/// routers it is the same, added up, and a line of a prefix begins with the router in whose table it changes. Both are lines or
+/// JSON, as `reports_json` and `overalls_json` have it. Or it is the root's routing table in the area without the parts that
+/// are named, with lookups, as `table_text` prints it.
 ///
 /// Where LSAs are listed and the root's router-LSA is not among them, `err` says so. The status is `Ended(Done)`, or with
 /// `strict` `CutOff` where some failure cuts a prefix off. The first line that is refused is told on `err`, or where none
@@ -153,19 +167,21 @@ pub fn failures_text<R: BufRead + Drop, O: Write, E: Write>(
     err: &mut E,
 ) -> FailuresStatus
     // All is printed; or the refusal is told, and nothing is printed.
-    ensures answered { IsWhole result → IfSome (R.remaining input)
-        (IsAnswered job.now result (O.contents out.old) (O.contents out.new) (E.contents err.old)
+    ensures answered { IsAllPrinted result → IfSome (R.remaining input)
+        (IsFailuresAnswered job.now result (O.contents out.old) (O.contents out.new) (E.contents
+        err.old)
         (E.contents err.new)) }
     ensures refused { (s : Status) → IsUnserved s → result ≡ FailuresStatus.Ended s →
         IfSome (R.remaining input)
-        (IsRefusalTold job.now s (E.contents err.old) (E.contents err.new)) }
+        (IsFailuresRefusalTold job.now s (E.contents err.old) (E.contents err.new)) }
     ensures unwritten { (s : Status) → IsUnserved s → result ≡ FailuresStatus.Ended s →
         O.contents out.new ≡ O.contents out.old }
     // Or memory or a stream failed, which is told last, as far as it can be; there is no other end.
     ensures cut { (result ≡ FailuresStatus.Ended Status.Memory)
         ⊎ (result ≡ FailuresStatus.Ended Status.Stream) →
         (failed : FailedStreams)
-        × IsCutShort (R.remaining input) job.now failed (O.contents out.old) (O.contents out.new)
+        × IsFailuresCutShort (R.remaining input) job.now failed (O.contents out.old) (O.contents
+        out.new)
         (E.contents err.old) (E.contents err.new) result }
     ensures not_words { names_of job.now ≡ [] → result ≢ FailuresStatus.Ended Status.Words }
 {
@@ -174,16 +190,16 @@ pub fn failures_text<R: BufRead + Drop, O: Write, E: Write>(
 
 // What is printed on standard output, and the status to end with.
 #[derive(Drop)]
-struct Said {
+struct PrintedText {
     text: String,
     end: FailuresStatus,
 }
 
 // What is to be printed.
 #[derive(Drop)]
-struct Answer {
+struct FailuresAnswer {
     warning: String,
-    said: Said,
+    said: PrintedText,
 }
 
 // Prints what is asked, as `failures_text`, and notes which streams fail.
@@ -196,7 +212,7 @@ fn failures_noted<R: BufRead + Drop, O: Write, E: Write>(
     err: &mut E,
     streams: &mut FailedStreams,
 ) -> FailuresStatus
-    ensures { IsEnding (R.remaining input) job.now streams.new (O.contents out.old)
+    ensures { IsFailuresEnding (R.remaining input) job.now streams.new (O.contents out.old)
         (O.contents out.new) (E.contents err.old) (E.contents err.new) result }
 {
     match answer_or_refuse(alloc, rt, job, input, out, err, streams) {
@@ -215,16 +231,17 @@ fn answer_or_refuse<R: BufRead + Drop, O: Write, E: Write>(
     err: &mut E,
     streams: &mut FailedStreams,
 ) -> Result<FailuresStatus, Failure>
-    ensures said { IfOk result (IsSaid (R.remaining input) job.now (O.contents out.old)
+    ensures said { IfOk result (IsFailuresSaid (R.remaining input) job.now (O.contents out.old)
         (O.contents out.new) (E.contents err.old) (E.contents err.new)) }
-    ensures cut { IfErr result (EndsBy (R.remaining input) job.now streams.new (O.contents out.old)
+    ensures cut { IfErr result (FailuresEndsBy (R.remaining input) job.now streams.new (O.contents
+        out.old)
         (O.contents out.new) (E.contents err.old) (E.contents err.new)) }
 {
     match answer_of(alloc, rt, job, input) {
         Ok(answer) => print(&answer, out, err, streams),
-        Err(Fault::Refused(text)) => refuse(&text, Status::Refused, err, streams),
-        Err(Fault::Unnamed(text)) => refuse(&text, Status::Words, err, streams),
-        Err(Fault::Failure(failure)) => Err(failure),
+        Err(Unreported::Refused(text)) => refuse(&text, Status::Refused, err, streams),
+        Err(Unreported::Unnamed(text)) => refuse(&text, Status::Words, err, streams),
+        Err(Unreported::Failure(failure)) => Err(failure),
     }
 }
 
@@ -234,16 +251,16 @@ fn answer_of<R: BufRead + Drop>(
     rt: &(impl Threads + Sync),
     job: &FailuresJob,
     input: R,
-) -> Result<Answer, Fault>
+) -> Result<FailuresAnswer, Unreported>
     ensures answer { IfOk result (λ answer. IfSome (R.remaining input)
-        (IsAnswerOf job.now answer)) }
-    ensures whole { IfOk result (λ answer. IsWhole answer.said.end) }
-    ensures fault { IfErr result (IsFault (R.remaining input) job.now) }
+        (IsFailuresAnswerOf job.now answer)) }
+    ensures whole { IfOk result (λ answer. IsAllPrinted answer.said.end) }
+    ensures fault { IfErr result (IsUnreported (R.remaining input) job.now) }
 {
     let listing = listing_of(alloc, job, input)?;
     let warning = warning_of(alloc, &listing, job.root())?;
     match said_of(alloc, rt, job, listing) {
-        Ok(said) => Ok(Answer { warning, said }),
+        Ok(said) => Ok(FailuresAnswer { warning, said }),
         Err(fault) => Err(fault),
     }
 }
@@ -253,18 +270,18 @@ fn listing_of<R: BufRead + Drop>(
     alloc: Global,
     job: &FailuresJob,
     input: R,
-) -> Result<Listing, Fault>
+) -> Result<Listing, Unreported>
     ensures whole { IfOk result (λ listing. IfSome (R.remaining input)
         (λ bytes. Reads bytes [] listing)) }
     ensures small { IfOk result (λ listing. HasLarge (advertisements_of listing) → ⊥) }
-    ensures fault { IfErr result (IsFault (R.remaining input) job.now) }
+    ensures fault { IfErr result (IsUnreported (R.remaining input) job.now) }
 {
     let listing = match read_listing(alloc, input) {
         Ok(listing) => listing,
         Err(TableFault::Entry { number, fault }) => {
             return Err(line_refused(alloc, number, fault));
         }
-        Err(TableFault::Failure(failure)) => return Err(Fault::Failure(failure)),
+        Err(TableFault::Failure(failure)) => return Err(Unreported::Failure(failure)),
     };
     match first_large(&listing) {
         Some(router) => Err(router_refused(alloc, router)),
@@ -273,13 +290,13 @@ fn listing_of<R: BufRead + Drop>(
 }
 
 // The refusal of a line.
-fn line_refused(alloc: Global, number: u64, fault: EntryFault) -> Fault
+fn line_refused(alloc: Global, number: u64, fault: EntryFault) -> Unreported
     ensures { (input : Option (List ℕ)) (job : FailuresJob) →
-        IfSome input (λ bytes. Refuses bytes [] number fault) → IsFault input job result }
+        IfSome input (λ bytes. Refuses bytes [] number fault) → IsUnreported input job result }
 {
     match format!(in alloc; "line {number}: {}\n", fault.text()) {
-        Ok(text) => Fault::Refused(text),
-        Err(error) => Fault::from(error),
+        Ok(text) => Unreported::Refused(text),
+        Err(error) => Unreported::from(error),
     }
 }
 
@@ -324,14 +341,14 @@ fn are_more(links: Links, most: usize) -> bool
 }
 
 // The refusal of a router of too many links.
-fn router_refused(alloc: Global, router: RouterId) -> Fault
+fn router_refused(alloc: Global, router: RouterId) -> Unreported
     ensures { (input : Option (List ℕ)) (job : FailuresJob) (listing : List (List ℕ)) →
         IfSome input (λ bytes. Reads bytes [] listing) → IsFirstLarge listing router →
-        IsFault input job result }
+        IsUnreported input job result }
 {
     match format!(in alloc; "{router}: more than 1361 links\n") {
-        Ok(text) => Fault::Refused(text),
-        Err(error) => Fault::from(error),
+        Ok(text) => Unreported::Refused(text),
+        Err(error) => Unreported::from(error),
     }
 }
 
@@ -367,21 +384,26 @@ fn said_of(
     rt: &(impl Threads + Sync),
     job: &FailuresJob,
     listing: Listing,
-) -> Result<Said, Fault>
+) -> Result<PrintedText, Unreported>
     requires { HasLarge (advertisements_of listing) → ⊥ }
     ensures said { IfOk result (λ said. SaysOf job.now (advertisements_of listing)
         (string_bytes said.text) said.end) }
-    ensures whole { IfOk result (λ said. IsWhole said.end) }
+    ensures whole { IfOk result (λ said. IsAllPrinted said.end) }
     ensures fault { IfErr result (IsFaultOfNames
         (IsFirstUnnamed (advertisements_of listing) (names_of job.now))) }
 {
     match job {
-        FailuresJob::Root { root, each, strict } => {
-            let said = changes_said(alloc, &listing, *root, *each, *strict)?;
+        FailuresJob::Root {
+            root,
+            each,
+            strict,
+            form,
+        } => {
+            let said = changes_said(alloc, rt, &listing, *root, *each, *strict, *form)?;
             Ok(said)
         }
-        FailuresJob::All { each, strict } => {
-            let said = overalls_said(alloc, rt, &listing, *each, *strict)?;
+        FailuresJob::All { each, strict, form } => {
+            let said = overalls_said(alloc, rt, &listing, *each, *strict, *form)?;
             Ok(said)
         }
         FailuresJob::Without {
@@ -389,7 +411,7 @@ fn said_of(
             names,
             addresses,
         } => match text_without(alloc, listing, *root, names, addresses) {
-            Ok(text) => Ok(Said {
+            Ok(text) => Ok(PrintedText {
                 text,
                 end: FailuresStatus::Ended(Status::Done),
             }),
@@ -401,31 +423,38 @@ fn said_of(
 // What each failure changes at a root.
 fn changes_said(
     alloc: Global,
+    rt: &(impl Threads + Sync),
     listing: &Listing,
     root: RouterId,
     each: bool,
     strict: bool,
-) -> Result<Said, AllocError>
+    form: FailuresForm,
+) -> Result<PrintedText, AllocError>
     requires { HasLarge (advertisements_of listing.now) → ⊥ }
     ensures said { IfOk result (λ said. SaysChanges (advertisements_of listing.now) root each strict
-        (string_bytes said.text) said.end) }
-    ensures whole { IfOk result (λ said. IsWhole said.end) }
+        form (string_bytes said.text) said.end) }
+    ensures whole { IfOk result (λ said. IsAllPrinted said.end) }
 {
-    let printed = reports_at(alloc, listing, root)?;
-    let text = reports_text(alloc, &printed, each)?;
+    let printed = reports_at(alloc, rt, listing, root)?;
+    let text = changes_text(alloc, &printed, root, each, form)?;
     let end = end_of(strict, has_cut(&printed));
-    Ok(Said { text, end })
+    Ok(PrintedText { text, end })
 }
 
 // The reports of a listing none of whose routers has too many links.
-fn reports_at(alloc: Global, listing: &Listing, root: RouterId) -> Result<Vec<Report>, AllocError>
+fn reports_at(
+    alloc: Global,
+    rt: &(impl Threads + Sync),
+    listing: &Listing,
+    root: RouterId,
+) -> Result<Vec<Report>, AllocError>
     requires { HasLarge (advertisements_of listing.now) → ⊥ }
     ensures { IfOk result (λ printed. (table : List Route)
         × IsTable (advertisements_of listing.now) root table
         × IsReported (advertisements_of listing.now) root table printed.items) }
 {
     let table = RouteTable::of(alloc, listing, root)?;
-    match reports(alloc, listing, root, &table) {
+    match reports(alloc, rt, listing, root, &table) {
         Ok(printed) => Ok(printed),
         Err(WithoutFault::Memory) => Err(AllocError),
         Err(WithoutFault::Links) => unreachable!(),
@@ -439,20 +468,65 @@ fn overalls_said(
     listing: &Listing,
     each: bool,
     strict: bool,
-) -> Result<Said, AllocError>
+    form: FailuresForm,
+) -> Result<PrintedText, AllocError>
     requires { HasLarge (advertisements_of listing.now) → ⊥ }
-    ensures said { IfOk result (λ said. SaysOverall (advertisements_of listing.now) each strict
+    ensures said { IfOk result (λ said. SaysOverall (advertisements_of listing.now) each strict form
         (string_bytes said.text) said.end) }
-    ensures whole { IfOk result (λ said. IsWhole said.end) }
+    ensures whole { IfOk result (λ said. IsAllPrinted said.end) }
 {
-    let printed = match overalls(alloc, rt, listing, each) {
+    let printed = match overalls(alloc, rt, listing, detail_of(each, form)) {
         Ok(printed) => printed,
         Err(WithoutFault::Memory) => return Err(AllocError),
         Err(WithoutFault::Links) => unreachable!(),
     };
-    let text = overalls_text(alloc, &printed)?;
+    let text = added_text(alloc, &printed, each, form)?;
     let end = end_of(strict, cuts_somewhere(&printed));
-    Ok(Said { text, end })
+    Ok(PrintedText { text, end })
+}
+
+// Reports in a form.
+fn changes_text(
+    alloc: Global,
+    printed: &[Report],
+    root: RouterId,
+    each: bool,
+    form: FailuresForm,
+) -> Result<String, AllocError>
+    ensures { IfOk result (λ text. string_bytes text ≡ changes_text form each root printed.now) }
+{
+    match form {
+        FailuresForm::Text => reports_text(alloc, printed, each),
+        FailuresForm::Json => reports_json(alloc, printed, root, each),
+    }
+}
+
+// What is told over all routers in a form.
+fn added_text(
+    alloc: Global,
+    printed: &[Overall],
+    each: bool,
+    form: FailuresForm,
+) -> Result<String, AllocError>
+    ensures { IfOk result (λ text. string_bytes text ≡ added_text form each printed.now) }
+{
+    match form {
+        FailuresForm::Text => overalls_text(alloc, printed),
+        FailuresForm::Json => overalls_json(alloc, printed, each),
+    }
+}
+
+// What has to be kept of the routes that change.
+fn detail_of(each: bool, form: FailuresForm) -> Detail
+    ensures { result ≡ detail_of each form }
+{
+    if !each {
+        return Detail::Sums;
+    }
+    match form {
+        FailuresForm::Text => Detail::Lines,
+        FailuresForm::Json => Detail::Routes,
+    }
 }
 
 // How it ends where all is printed.
@@ -468,19 +542,19 @@ fn end_of(strict: bool, has_cut: bool) -> FailuresStatus
 
 // Prints an answer, behind its warning.
 fn print<O: Write, E: Write>(
-    answer: &Answer,
+    answer: &FailuresAnswer,
     out: &mut O,
     err: &mut E,
     streams: &mut FailedStreams,
 ) -> Result<FailuresStatus, Failure>
-    requires { IsWhole answer.now.said.end }
+    requires { IsAllPrinted answer.now.said.end }
     ensures said { (input : Option (List ℕ)) (job : FailuresJob) →
-        IfSome input (IsAnswerOf job answer.now) →
-        IfOk result (IsSaid input job (O.contents out.old) (O.contents out.new)
+        IfSome input (IsFailuresAnswerOf job answer.now) →
+        IfOk result (IsFailuresSaid input job (O.contents out.old) (O.contents out.new)
         (E.contents err.old) (E.contents err.new)) }
     ensures cut { (input : Option (List ℕ)) (job : FailuresJob) →
-        IfSome input (IsAnswerOf job answer.now) →
-        IfErr result (EndsBy input job streams.new (O.contents out.old) (O.contents out.new)
+        IfSome input (IsFailuresAnswerOf job answer.now) →
+        IfErr result (FailuresEndsBy input job streams.new (O.contents out.old) (O.contents out.new)
         (E.contents err.old) (E.contents err.new)) }
 {
     match streams.tell(err, &answer.warning) {
@@ -502,10 +576,10 @@ fn refuse<E: Write>(
 ) -> Result<FailuresStatus, Failure>
     ensures said { (input : Option (List ℕ)) (job : FailuresJob) (out : Option (List ℕ)) →
         IsRefusalOf input job text.now status →
-        IfOk result (IsSaid input job out out (E.contents err.old) (E.contents err.new)) }
+        IfOk result (IsFailuresSaid input job out out (E.contents err.old) (E.contents err.new)) }
     ensures cut { (input : Option (List ℕ)) (job : FailuresJob) (out : Option (List ℕ)) →
         IsRefusalOf input job text.now status →
-        IfErr result (EndsBy input job streams.new out out (E.contents err.old)
+        IfErr result (FailuresEndsBy input job streams.new out out (E.contents err.old)
         (E.contents err.new)) }
 {
     match streams.tell(err, text) {

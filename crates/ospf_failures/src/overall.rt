@@ -1,52 +1,84 @@
 //! What each failure of an area changes in the tables of all its routers.
 
-ghost use Rattle.std.specs.Prelude.{◌≡◌, ◌↔◌, ◌++◌, [], All, Err, IfOk, IsPermutation, IsTrue, OnOk, codes, map, string_bytes};
+ghost use Rattle.std.specs.Prelude.{◌≡◌, ◌↔◌, ◌++◌, [], All, Err, IfOk, IsPermutation, IsTrue, OnOk, codes, flat_map, map, string_bytes};
 ghost use Rattle.std.specs.List.Sorted.{IsSorted};
 ghost use Rattle.ospf_base.specs.Text.{number_text};
 ghost use Rattle.ospf_edges.specs.Listed.{advertisements_of};
 ghost use Rattle.ospf_whatif.specs.Effect.{TakesAway};
 ghost use Rattle.ospf_whatif.specs.Failure.{HasLarge, without};
-ghost use Rattle.ospf_failures.specs.Lines.{change_line};
-ghost use Rattle.ospf_failures.specs.Overall.{AreOveralls, CutsSomewhere, HasRoom, IsBefore, IsFound, IsSoFar, Sees, failing_router, overall_cmp, overall_rank, overalls_text, roots_in, sight_lines, sums_of};
+ghost use Rattle.ospf_table.specs.Changes.{change_line};
+ghost use Rattle.serde_json.specs.Data.{array};
+ghost use Rattle.serde_json.specs.View.{items_of, view};
+ghost use Rattle.ospf_failures.specs.Json.{overall_data, overalls_json, sight_data};
+ghost use Rattle.ospf_failures.specs.Overall.{AreOveralls, CutsSomewhere, HasSumRoom, IsTableBefore, IsOverallFound, IsSoFar, KeepsMore, Sees, failing_router, overall_cmp, overall_rank, overalls_text, roots_in, sight_lines, sums_of};
 
-use crate::lines::change_line;
 use crate::report::{is_of, place_of};
 use crate::sums::{Sums, sums_line};
 use ospf_base::RouterId;
 use ospf_lsa::Listing;
 use ospf_spf::RouteTable;
-use ospf_whatif::{Failure, Left, RouteChange, WithoutFault, single_failures};
+use ospf_table::{add_changes, change_line, counted_members, objects_line};
+use ospf_whatif::{AreaFailure, Left, RouteChange, WithoutFault, single_failures};
 use rayon::prelude::*;
+use serde_json::{Value, put};
 use std::alloc::{AllocError, Global};
 use std::cmp::Reverse;
+use std::marker::Model;
 use std::thread::Threads;
+
+/// What is kept of the routes that a failure changes, beside how many they are.
+#[derive(Clone, Copy, Debug, PartialEq, Eq)]
+pub enum Detail {
+    /// Nothing.
+    Sums,
+    /// A line for each.
+    Lines,
+    /// Each, with its router.
+    Routes,
+}
+
+// A router, and what a failure changes in its table.
+#[derive(Drop)]
+pub(crate) struct Sight {
+    root: RouterId,
+    changes: Vec<RouteChange>,
+}
+
+impl Model for Sight {
+    ghost use Rattle.ospf_failures.specs.Reports.{SightValue};
+
+    ghost Value = { SightValue };
+
+    ghost view = { λ s. (s.root, s.changes.items) };
+}
 
 /// A failure, and what it changes in the tables of all routers.
 #[derive(Drop)]
 pub struct Overall {
-    failure: Failure,
+    failure: AreaFailure,
     sums: Sums,
     lines: String,
+    sights: Vec<Sight>,
 }
 
 /// What each failure of an area changes in the tables of all its routers but the one that fails, in the order in which it is
-/// printed: as `reports` has it for one root, by the sums over the routers. With `each` it has a line for each route of a
-/// router that changes.
+/// printed: as `reports` has it for one root, by the sums over the routers. What it has of the routes that change, the detail
+/// tells.
 ///
 /// `Links` or `Memory` as `Left::of` has it.
 pub fn overalls(
     alloc: Global,
     rt: &(impl Threads + Sync),
     listing: &Listing,
-    each: bool,
+    detail: Detail,
 ) -> Result<Vec<Overall>, WithoutFault>
-    ensures printed { IfOk result (λ printed. AreOveralls (advertisements_of listing.now) each
+    ensures printed { IfOk result (λ printed. AreOveralls (advertisements_of listing.now) detail
         printed.items) }
     ensures large { result ≡ Err WithoutFault.Links → HasLarge (advertisements_of listing.now) }
 {
     let failures = single_failures(alloc, listing)?;
     let befores = befores_of(alloc, listing, &failures)?;
-    let mut overalls = overalls_of(alloc, rt, listing, &failures, &befores, each)?;
+    let mut overalls = overalls_of(alloc, rt, listing, &failures, &befores, detail)?;
     sort(&mut overalls);
     Ok(overalls)
 }
@@ -63,6 +95,21 @@ pub fn overalls_text(alloc: Global, overalls: &[Overall]) -> Result<String, Allo
         text.push_str(&sums_line(alloc, &overall.failure, overall.sums)?)?;
     }
     Ok(text)
+}
+
+/// What is told of all failures as one value of JSON on a line, as `reports_json` has it: the numbers are added up over the
+/// routers, and `routers` is at how many of them anything changes. With `each` it has `routes`, which are those that were
+/// kept.
+///
+/// `AllocError` where memory runs out.
+pub fn overalls_json(alloc: Global, overalls: &[Overall], each: bool) -> Result<String, AllocError>
+    ensures { IfOk result (λ text. string_bytes text ≡ overalls_json each overalls.now) }
+{
+    let mut objects = Vec::new(alloc);
+    for overall in overalls {
+        objects.push(overall.value(alloc, each)?)?;
+    }
+    objects_line(alloc, objects)
 }
 
 /// Whether some failure cuts a prefix off, at some router.
@@ -83,11 +130,11 @@ pub(crate) struct Before {
 fn befores_of(
     alloc: Global,
     listing: &Listing,
-    failures: &[Failure],
+    failures: &[AreaFailure],
 ) -> Result<Vec<Before>, AllocError>
     ensures roots { IfOk result (λ befores. map (λ b. b.root) befores.items
         ≡ roots_in failures.now) }
-    ensures tables { IfOk result (λ befores. All (IsBefore (advertisements_of listing.now))
+    ensures tables { IfOk result (λ befores. All (IsTableBefore (advertisements_of listing.now))
         befores.items) }
 {
     let mut befores = Vec::new(alloc);
@@ -101,24 +148,25 @@ fn befores_of(
 fn add_before(
     alloc: Global,
     listing: &Listing,
-    failure: &Failure,
+    failure: &AreaFailure,
     befores: &mut Vec<Before>,
 ) -> Result<(), AllocError>
     ensures roots { OnOk result (map (λ b. b.root) befores.new.items
         ≡ map (λ b. b.root) befores.old.items ++ failing_router failure.now) }
-    ensures tables { OnOk result (All (IsBefore (advertisements_of listing.now)) befores.old.items →
-        All (IsBefore (advertisements_of listing.now)) befores.new.items) }
+    ensures tables { OnOk result (All (IsTableBefore (advertisements_of listing.now))
+        befores.old.items →
+        All (IsTableBefore (advertisements_of listing.now)) befores.new.items) }
 {
     match *failure {
-        Failure::Router(root) => {
+        AreaFailure::Router(root) => {
             let table = RouteTable::of(alloc, listing, root)?;
             befores.push(Before { root, table })?;
             Ok(())
         }
-        Failure::Link { .. } => Ok(()),
-        Failure::Links { .. } => Ok(()),
-        Failure::Attachment { .. } => Ok(()),
-        Failure::Network(_) => Ok(()),
+        AreaFailure::Link { .. } => Ok(()),
+        AreaFailure::Links { .. } => Ok(()),
+        AreaFailure::Attachment { .. } => Ok(()),
+        AreaFailure::Network(_) => Ok(()),
     }
 }
 
@@ -127,27 +175,28 @@ fn overalls_of(
     alloc: Global,
     rt: &(impl Threads + Sync),
     listing: &Listing,
-    failures: &[Failure],
+    failures: &[AreaFailure],
     befores: &[Before],
-    each: bool,
+    detail: Detail,
 ) -> Result<Vec<Overall>, WithoutFault>
-    requires { All (IsBefore (advertisements_of listing.now)) befores.now }
+    requires { All (IsTableBefore (advertisements_of listing.now)) befores.now }
     ensures failures { IfOk result (λ overalls. map (λ o. o.failure) overalls.items
         ≡ failures.now) }
     ensures large { result ≡ Err WithoutFault.Links → HasLarge (advertisements_of listing.now) }
     ensures seen { IfOk result (λ overalls. All
-        (λ o. IsSoFar (without o.failure (advertisements_of listing.now)) befores.now each
+        (λ o. IsSoFar (without o.failure (advertisements_of listing.now)) befores.now detail
         (map (λ b. b.root) befores.now) o) overalls.items) }
 {
     failures
         .par_iter()
         .with_min_len(1)
         .map(
-            |failure: &Failure| -> Result<Overall, WithoutFault>
-                requires { All (IsBefore (advertisements_of listing.now)) befores.now }
-                ensures { IsFound (advertisements_of listing.entry.now) befores.entry.now each
+            |failure: &AreaFailure| -> Result<Overall, WithoutFault>
+                requires { All (IsTableBefore (advertisements_of listing.now)) befores.now }
+                ensures { IsOverallFound (advertisements_of listing.entry.now) befores.entry.now
+                    detail
                     failure.now result }
-            { overall_of(alloc, listing, failure, befores, each) },
+            { overall_of(alloc, listing, failure, befores, detail) },
         )
         .collect::<Result<Vec<Overall>, WithoutFault>>(rt, alloc)?
 }
@@ -156,15 +205,15 @@ fn overalls_of(
 fn overall_of(
     alloc: Global,
     listing: &Listing,
-    failure: &Failure,
+    failure: &AreaFailure,
     befores: &[Before],
-    each: bool,
+    detail: Detail,
 ) -> Result<Overall, WithoutFault>
-    requires { All (IsBefore (advertisements_of listing.now)) befores.now }
-    ensures { IsFound (advertisements_of listing.now) befores.now each failure.now result }
+    requires { All (IsTableBefore (advertisements_of listing.now)) befores.now }
+    ensures { IsOverallFound (advertisements_of listing.now) befores.now detail failure.now result }
 {
     let left = Left::of(alloc, listing, failure)?;
-    let overall = overall_in(alloc, &left, *failure, befores, each)?;
+    let overall = overall_in(alloc, &left, *failure, befores, detail)?;
     Ok(overall)
 }
 
@@ -172,28 +221,29 @@ fn overall_of(
 fn overall_in(
     alloc: Global,
     left: &Left,
-    failure: Failure,
+    failure: AreaFailure,
     befores: &[Before],
-    each: bool,
+    detail: Detail,
 ) -> Result<Overall, AllocError>
     requires { All (λ b. TakesAway left.now b.root b.table) befores.now }
     ensures failure { IfOk result (λ overall. overall.failure ≡ failure) }
-    ensures seen { IfOk result (IsSoFar left.now befores.now each
+    ensures seen { IfOk result (IsSoFar left.now befores.now detail
         (map (λ b. b.root) befores.now)) }
 {
     let mut overall = Overall::none(alloc, failure);
     for before in befores {
-        overall.see(alloc, left, before, each)?;
+        overall.see(alloc, left, before, detail)?;
     }
     Ok(overall)
 }
 
 impl Overall {
     // A failure of which nothing is told yet.
-    fn none(alloc: Global, failure: Failure) -> Overall
+    fn none(alloc: Global, failure: AreaFailure) -> Overall
         ensures failure { result.failure ≡ failure }
         ensures sums { result.sums ≡ sums_of [] }
         ensures lines { string_bytes result.lines ≡ [] }
+        ensures sights { result.sights.items ≡ [] }
     {
         let sums = Sums {
             cut: 0,
@@ -206,6 +256,7 @@ impl Overall {
             failure,
             sums,
             lines: String::new(alloc),
+            sights: Vec::new(alloc),
         }
     }
 
@@ -215,22 +266,63 @@ impl Overall {
         alloc: Global,
         left: &Left,
         before: &Before,
-        each: bool,
+        detail: Detail,
     ) -> Result<(), AllocError>
         requires away { TakesAway left.now before.now.root before.now.table }
-        requires room { HasRoom 1 self.old.sums }
-        ensures { OnOk result (Sees left.now before.now each self.old self.new) }
+        requires room { HasSumRoom 1 self.old.sums }
+        ensures { OnOk result (Sees left.now before.now detail self.old self.new) }
     {
         if is_of(&self.failure, before.root) {
             return Ok(());
         }
         let changes = left.effect(alloc, before.root, &before.table)?;
-        if each {
-            let lines = sight_lines(alloc, &self.failure, before.root, &changes)?;
-            self.lines.push_str(&lines)?;
-        }
         self.sums = self.sums.plus(&changes);
-        Ok(())
+        self.keep(alloc, before.root, changes, detail)
+    }
+
+    // Keeps what is wanted of the routes that change at a router.
+    fn keep(
+        &mut self,
+        alloc: Global,
+        root: RouterId,
+        changes: Vec<RouteChange>,
+        detail: Detail,
+    ) -> Result<(), AllocError>
+        ensures { OnOk result (KeepsMore detail (root, changes.items) self.old self.new) }
+    {
+        match detail {
+            Detail::Sums => Ok(()),
+            Detail::Lines => {
+                let lines = sight_lines(alloc, &self.failure, root, &changes)?;
+                self.lines.push_str(&lines)?;
+                Ok(())
+            }
+            Detail::Routes => {
+                self.sights.push(Sight { root, changes })?;
+                Ok(())
+            }
+        }
+    }
+
+    // What is told of it as an object.
+    fn value(&self, alloc: Global, each: bool) -> Result<Value, AllocError>
+        ensures { IfOk result (λ value. view value ≡ overall_data each self.now) }
+    {
+        let Sums {
+            cut,
+            gone,
+            cost,
+            hops,
+            routers,
+        } = self.sums;
+        let mut members = counted_members(alloc, &self.failure, cut, gone, cost, hops)?;
+        put(&mut members, alloc, "routers", Value::from(routers))?;
+        if !each {
+            return Ok(Value::Object(members));
+        }
+        let routes = routes_value(alloc, &self.sights)?;
+        put(&mut members, alloc, "routes", routes)?;
+        Ok(Value::Object(members))
     }
 
     // What it is ordered by.
@@ -254,7 +346,7 @@ type Rank = (Reverse<[u128; 4]>, [u32; 5]);
 // A line for each route that changes at a router.
 fn sight_lines(
     alloc: Global,
-    failure: &Failure,
+    failure: &AreaFailure,
     root: RouterId,
     changes: &[RouteChange],
 ) -> Result<String, AllocError>
@@ -272,7 +364,7 @@ fn sight_lines(
 // The line of a route that changes at a router.
 fn sight_line(
     alloc: Global,
-    failure: &Failure,
+    failure: &AreaFailure,
     root: RouterId,
     change: &RouteChange,
 ) -> Result<String, AllocError>
@@ -282,6 +374,18 @@ fn sight_line(
     let mut line = format!(in alloc; "{root} ")?;
     line.push_str(&change_line(alloc, failure, change)?)?;
     Ok(line)
+}
+
+// The routes that change at routers as an array.
+fn routes_value(alloc: Global, sights: &[Sight]) -> Result<Value, AllocError>
+    ensures { IfOk result (λ value. view value
+        ≡ array (items_of (flat_map sight_data sights.now))) }
+{
+    let mut routes = Vec::new(alloc);
+    for sight in sights {
+        add_changes(alloc, sight.root, &sight.changes, &mut routes)?;
+    }
+    Ok(Value::Array(routes))
 }
 
 // Puts them into order.

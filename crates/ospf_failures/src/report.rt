@@ -7,30 +7,33 @@ ghost use Rattle.ospf_edges.specs.Listed.{advertisements_of};
 ghost use Rattle.ospf_whatif.specs.Effect.{IsEffect};
 ghost use Rattle.ospf_whatif.specs.Failure.{HasLarge};
 ghost use Rattle.ospf_whatif.specs.Single.{IsFailureBefore};
-ghost use Rattle.ospf_whatif.specs.declared.failure.Failure.{Failure};
-ghost use Rattle.ospf_failures.specs.Reports.{HasCut, IsOther, IsReported, is_of, place_of, report_cmp, reports_text};
+ghost use Rattle.ospf_whatif.specs.declared.failure.AreaFailure.{AreaFailure};
+ghost use Rattle.ospf_failures.specs.Json.{reports_json};
+ghost use Rattle.ospf_failures.specs.Reports.{HasCut, IsOtherFailure, IsReportFound, IsReported, is_of, failure_place, report_cmp, reports_text};
 
-use crate::lines::failure_lines;
-use crate::totals::Totals;
 use ospf_base::RouterId;
 use ospf_lsa::Listing;
 use ospf_spf::RouteTable;
-use ospf_whatif::{Failure, RouteChange, WithoutFault, effect_of, single_failures};
+use ospf_table::{Totals, add_changes, counted_members, failure_lines, objects_line};
+use ospf_whatif::{AreaFailure, RouteChange, WithoutFault, effect_of, single_failures};
+use rayon::prelude::*;
+use serde_json::{Value, put};
 use std::alloc::{AllocError, Global};
 use std::cmp::Reverse;
 use std::marker::Model;
+use std::thread::Threads;
 
 /// A failure, and what it changes in a router's table.
 #[derive(Debug, Drop)]
 pub struct Report {
-    failure: Failure,
+    failure: AreaFailure,
     changes: Vec<RouteChange>,
     totals: Totals,
 }
 
 impl Model for Report {
     ghost use Rattle.std.specs.Prelude.{◌≡◌};
-    ghost use Rattle.ospf_failures.specs.Lines.{totals_of};
+    ghost use Rattle.ospf_table.specs.Changes.{totals_of};
     ghost use Rattle.ospf_failures.specs.Reports.{ReportValue};
 
     ghost Value = { ReportValue };
@@ -42,12 +45,14 @@ impl Model for Report {
 
 impl Report {
     ghost use Rattle.std.specs.Prelude.{◌≡◌, IfOk, string_bytes};
-    ghost use Rattle.ospf_whatif.specs.declared.failure.Failure.{Failure};
-    ghost use Rattle.ospf_failures.specs.Lines.{failure_lines, totals_of};
+    ghost use Rattle.ospf_whatif.specs.declared.failure.AreaFailure.{AreaFailure};
+    ghost use Rattle.ospf_table.specs.Changes.{failure_lines, totals_of};
+    ghost use Rattle.serde_json.specs.View.{view};
+    ghost use Rattle.ospf_failures.specs.Json.{report_data};
     ghost use Rattle.ospf_failures.specs.Reports.{rank_of};
 
     /// The report of a failure that makes these changes.
-    pub fn of(failure: Failure, changes: Vec<RouteChange>) -> Report
+    pub fn of(failure: AreaFailure, changes: Vec<RouteChange>) -> Report
         ensures { result ≡ (failure, changes.items) }
     {
         let totals = Totals::of(&changes);
@@ -75,6 +80,33 @@ impl Report {
         failure_lines(alloc, &self.failure, &self.changes, self.totals, each)
     }
 
+    // What is told of it at a root as an object.
+    fn value(&self, alloc: Global, root: RouterId, each: bool) -> Result<Value, AllocError>
+        ensures { IfOk result (λ value. view value ≡ report_data each root self.now) }
+    {
+        let Totals {
+            cut,
+            gone,
+            cost,
+            hops,
+        } = self.totals;
+        let mut members = counted_members(
+            alloc,
+            &self.failure,
+            cut as u128,
+            gone as u128,
+            cost as u128,
+            hops as u128,
+        )?;
+        if !each {
+            return Ok(Value::Object(members));
+        }
+        let mut routes = Vec::new(alloc);
+        add_changes(alloc, root, &self.changes, &mut routes)?;
+        put(&mut members, alloc, "routes", Value::Array(routes))?;
+        Ok(Value::Object(members))
+    }
+
     // What it is ordered by.
     fn rank(&self) -> Rank
         ensures { result ≡ rank_of self.now }
@@ -96,6 +128,7 @@ impl Report {
 /// `Links` or `Memory` as `effect_of` has it.
 pub fn reports(
     alloc: Global,
+    rt: &(impl Threads + Sync),
     listing: &Listing,
     root: RouterId,
     table: &RouteTable,
@@ -106,7 +139,7 @@ pub fn reports(
     ensures large { result ≡ Err WithoutFault.Links → HasLarge (advertisements_of listing.now) }
 {
     let failures = other_failures(alloc, listing, root)?;
-    let mut reports = reports_of(alloc, listing, root, table, &failures)?;
+    let mut reports = reports_of(alloc, rt, listing, root, table, &failures)?;
     sort(&mut reports);
     Ok(reports)
 }
@@ -124,6 +157,27 @@ pub fn reports_text(alloc: Global, reports: &[Report], each: bool) -> Result<Str
     Ok(text)
 }
 
+/// Reports for a root as one value of JSON on a line: an array, in their order, of an object each, with the name of the
+/// `failure`, its `kind`, and how many prefixes it changes, as `cut`, `gone`, `cost` and `hops`. With `each` it has
+/// `routes`, an array of an object a route that changes: the `router` in whose table it is, its `prefix`, the `loss` by one
+/// of these four words, and its cost and hops `before` and, where there are any, `after`.
+///
+/// `AllocError` where memory runs out.
+pub fn reports_json(
+    alloc: Global,
+    reports: &[Report],
+    root: RouterId,
+    each: bool,
+) -> Result<String, AllocError>
+    ensures { IfOk result (λ text. string_bytes text ≡ reports_json each root reports.now) }
+{
+    let mut objects = Vec::new(alloc);
+    for report in reports {
+        objects.push(report.value(alloc, root, each)?)?;
+    }
+    objects_line(alloc, objects)
+}
+
 /// Whether some failure cuts a prefix off.
 pub fn has_cut(reports: &[Report]) -> bool
     ensures { IsTrue result ↔ HasCut reports.now }
@@ -135,17 +189,17 @@ pub fn has_cut(reports: &[Report]) -> bool
 type Rank = (Reverse<[usize; 4]>, [u32; 5]);
 
 // What decides between failures that change equally many.
-pub(crate) fn place_of(failure: Failure) -> [u32; 5]
-    ensures { result ≡ place_of failure }
+pub(crate) fn place_of(failure: AreaFailure) -> [u32; 5]
+    ensures { result ≡ failure_place failure }
 {
     match failure {
-        Failure::Link { a, b, subnet } => {
+        AreaFailure::Link { a, b, subnet } => {
             [0, a.0, b.0, subnet.address.0, u32::from(subnet.length)]
         }
-        Failure::Links { a, b } => [1, a.0, b.0, 0, 0],
-        Failure::Attachment { router, network } => [2, router.0, network, 0, 0],
-        Failure::Network(network) => [3, network, 0, 0, 0],
-        Failure::Router(router) => [4, router.0, 0, 0, 0],
+        AreaFailure::Links { a, b } => [1, a.0, b.0, 0, 0],
+        AreaFailure::Attachment { router, network } => [2, router.0, network, 0, 0],
+        AreaFailure::Network(network) => [3, network, 0, 0, 0],
+        AreaFailure::Router(router) => [4, router.0, 0, 0, 0],
     }
 }
 
@@ -154,9 +208,9 @@ fn other_failures(
     alloc: Global,
     listing: &Listing,
     root: RouterId,
-) -> Result<Vec<Failure>, AllocError>
-    ensures all { IfOk result (λ failures. (f : Failure) →
-        Contains failures.items f ↔ IsOther (advertisements_of listing.now) root f) }
+) -> Result<Vec<AreaFailure>, AllocError>
+    ensures all { IfOk result (λ failures. (f : AreaFailure) →
+        Contains failures.items f ↔ IsOtherFailure (advertisements_of listing.now) root f) }
     ensures rising { IfOk result (λ failures. AllPairs IsFailureBefore failures.items) }
 {
     let mut failures = single_failures(alloc, listing)?;
@@ -165,25 +219,26 @@ fn other_failures(
 }
 
 // Whether a failure is that of a router.
-pub(crate) fn is_of(failure: &Failure, router: RouterId) -> bool
+pub(crate) fn is_of(failure: &AreaFailure, router: RouterId) -> bool
     ensures { result ≡ is_of router failure.now }
 {
     match *failure {
-        Failure::Router(gone) => gone.0 == router.0,
-        Failure::Link { .. } => false,
-        Failure::Links { .. } => false,
-        Failure::Attachment { .. } => false,
-        Failure::Network(_) => false,
+        AreaFailure::Router(gone) => gone.0 == router.0,
+        AreaFailure::Link { .. } => false,
+        AreaFailure::Links { .. } => false,
+        AreaFailure::Attachment { .. } => false,
+        AreaFailure::Network(_) => false,
     }
 }
 
 // What each of these failures changes in the root's table.
 fn reports_of(
     alloc: Global,
+    rt: &(impl Threads + Sync),
     listing: &Listing,
     root: RouterId,
     table: &RouteTable,
-    failures: &[Failure],
+    failures: &[AreaFailure],
 ) -> Result<Vec<Report>, WithoutFault>
     requires { IsTable (advertisements_of listing.now) root table.now }
     ensures failures { IfOk result (λ reports. map (λ r. r.0) reports.items ≡ failures.now) }
@@ -191,14 +246,32 @@ fn reports_of(
     ensures changed { IfOk result (λ reports. All
         (λ r. IsEffect (advertisements_of listing.now) root r.0 table.now r.1) reports.items) }
 {
-    let mut reports = Vec::new(alloc);
-    for failure in failures {
-        let changes = effect_of(alloc, listing, root, table, failure)?;
-        reports
-            .push(Report::of(*failure, changes))
-            .map_err(AllocError::from)?;
-    }
-    Ok(reports)
+    failures
+        .par_iter()
+        .with_min_len(1)
+        .map(
+            |failure: &AreaFailure| -> Result<Report, WithoutFault>
+                requires { IsTable (advertisements_of listing.now) root table.now }
+                ensures { IsReportFound (advertisements_of listing.entry.now) root table.entry.now
+                    failure.now result }
+            { report_of(alloc, listing, root, table, failure) },
+        )
+        .collect::<Result<Vec<Report>, WithoutFault>>(rt, alloc)?
+}
+
+// What a failure changes in the root's table.
+fn report_of(
+    alloc: Global,
+    listing: &Listing,
+    root: RouterId,
+    table: &RouteTable,
+    failure: &AreaFailure,
+) -> Result<Report, WithoutFault>
+    requires { IsTable (advertisements_of listing.now) root table.now }
+    ensures { IsReportFound (advertisements_of listing.now) root table.now failure.now result }
+{
+    let changes = effect_of(alloc, listing, root, table, failure)?;
+    Ok(Report::of(*failure, changes))
 }
 
 // Puts reports into order.

@@ -3,8 +3,8 @@
 ghost use Rattle.std.specs.Prelude.{◌≡◌, IfOk, string_bytes};
 ghost use Rattle.ospf_failures.specs.Overall.{sums_line};
 
-use crate::totals::Totals;
-use ospf_whatif::{Failure, RouteChange};
+use ospf_table::Totals;
+use ospf_whatif::{AreaFailure, RouteChange};
 use std::alloc::{AllocError, Global};
 use std::fmt::{self, Display, Formatter, Write};
 
@@ -25,11 +25,11 @@ pub struct Sums {
 
 impl Sums {
     ghost use Rattle.std.specs.Prelude.{◌≡◌};
-    ghost use Rattle.ospf_failures.specs.Overall.{HasRoom, sums_plus};
+    ghost use Rattle.ospf_failures.specs.Overall.{HasSumRoom, sums_plus};
 
     // With what changes at one router more.
     pub(crate) fn plus(self, changes: &[RouteChange]) -> Sums
-        requires { HasRoom 1 self }
+        requires { HasSumRoom 1 self }
         ensures { result ≡ sums_plus self changes.now }
     {
         let totals = Totals::of(changes);
@@ -59,7 +59,11 @@ impl Display for Sums {
 }
 
 // The line of a failure's sums.
-pub(crate) fn sums_line(alloc: Global, failure: &Failure, sums: Sums) -> Result<String, AllocError>
+pub(crate) fn sums_line(
+    alloc: Global,
+    failure: &AreaFailure,
+    sums: Sums,
+) -> Result<String, AllocError>
     ensures { IfOk result (λ line. string_bytes line ≡ sums_line failure.now sums) }
 {
     let line = format!(in alloc; "{failure} {sums}\n")?;

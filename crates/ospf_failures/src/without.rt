@@ -3,15 +3,15 @@
 ghost use Rattle.std.specs.Prelude.{◌≡◌, IfErr, IfOk, string_bytes};
 ghost use Rattle.std.specs.List.{AllZip};
 ghost use Rattle.ospf_edges.specs.Listed.{advertisements_of};
-ghost use Rattle.ospf_whatif.specs.Failure.{HasLarge, without};
-ghost use Rattle.ospf_failures.specs.Without.{AreNamed, IsFaultOfNames, IsFirstAmong, IsFirstUnnamed, IsNamedBy, IsTableWithout, IsUnnamedHere, SaysTableOfLeft, without_all};
+ghost use Rattle.ospf_whatif.specs.Failure.{HasLarge, without_all};
+ghost use Rattle.ospf_failures.specs.Without.{AreNamed, IsFaultOfNames, IsFirstAmong, IsFirstUnnamed, IsNamedBy, IsTableWithout, IsUnnamedHere, SaysTableOfLeft};
 
-use crate::answer::Fault;
+use crate::answer::Unreported;
 use ospf_base::{Addr, RouterId};
 use ospf_lsa::Listing;
 use ospf_spf::RouteTable;
 use ospf_table::output_text;
-use ospf_whatif::{Failure, WithoutFault, find_failure, single_failures, without};
+use ospf_whatif::{AreaFailure, find_failure, single_failures, without_all};
 use std::alloc::{AllocError, Global};
 
 // What is printed of the table of a router in the area of a listing, without the parts that are named, and of addresses
@@ -22,7 +22,7 @@ pub(crate) fn text_without(
     root: RouterId,
     names: &[String],
     addresses: &[Addr],
-) -> Result<String, Fault>
+) -> Result<String, Unreported>
     requires { HasLarge (advertisements_of listing) → ⊥ }
     ensures text { IfOk result (λ text. IsTableWithout (advertisements_of listing) names.now root
         addresses.now (string_bytes text)) }
@@ -39,7 +39,11 @@ pub(crate) fn text_without(
 }
 
 // The parts of an area that are named.
-fn failures_of(alloc: Global, listing: &Listing, names: &[String]) -> Result<Vec<Failure>, Fault>
+fn failures_of(
+    alloc: Global,
+    listing: &Listing,
+    names: &[String],
+) -> Result<Vec<AreaFailure>, Unreported>
     ensures named { IfOk result (λ failures. AreNamed (advertisements_of listing.now) names.now
         failures.items) }
     ensures fault { IfErr result (IsFaultOfNames
@@ -53,7 +57,11 @@ fn failures_of(alloc: Global, listing: &Listing, names: &[String]) -> Result<Vec
 }
 
 // Those of some that are named.
-fn named_among(alloc: Global, single: &[Failure], names: &[String]) -> Result<Vec<Failure>, Fault>
+fn named_among(
+    alloc: Global,
+    single: &[AreaFailure],
+    names: &[String],
+) -> Result<Vec<AreaFailure>, Unreported>
     ensures named { IfOk result (λ failures. AllZip (IsNamedBy single.now) names.now
         failures.items) }
     ensures fault { IfErr result (IsFaultOfNames (IsFirstAmong single.now names.now)) }
@@ -69,7 +77,11 @@ fn named_among(alloc: Global, single: &[Failure], names: &[String]) -> Result<Ve
 }
 
 // That of some which is named.
-fn named_one(alloc: Global, single: &[Failure], name: &String) -> Result<Failure, Fault>
+fn named_one(
+    alloc: Global,
+    single: &[AreaFailure],
+    name: &String,
+) -> Result<AreaFailure, Unreported>
     ensures named { IfOk result (IsNamedBy single.now name.now) }
     ensures fault { IfErr result (IsFaultOfNames (IsUnnamedHere single.now name.now)) }
 {
@@ -80,12 +92,12 @@ fn named_one(alloc: Global, single: &[Failure], name: &String) -> Result<Failure
 }
 
 // What is to be said of a name that names nothing.
-fn unnamed(alloc: Global, name: &String) -> Fault
+fn unnamed(alloc: Global, name: &String) -> Unreported
     ensures { IsFaultOfNames (λ n. n ≡ name.now) result }
 {
     match format!(in alloc; "{name}: no such element\n") {
-        Ok(text) => Fault::Unnamed(text),
-        Err(error) => Fault::from(error),
+        Ok(text) => Unreported::Unnamed(text),
+        Err(error) => Unreported::from(error),
     }
 }
 
@@ -95,7 +107,7 @@ fn table_without(
     alloc: Global,
     listing: Listing,
     root: RouterId,
-    failures: &[Failure],
+    failures: &[AreaFailure],
     addresses: &[Addr],
 ) -> Result<String, AllocError>
     requires { HasLarge (advertisements_of listing) → ⊥ }
@@ -103,34 +115,8 @@ fn table_without(
         (without_all failures.now (advertisements_of listing)) root addresses.now
         (string_bytes text)) }
 {
-    let left = left_of(alloc, listing, failures)?;
+    let left = without_all(alloc, listing, failures)?;
     let table = RouteTable::of(alloc, &left, root)?;
     let text = output_text(alloc, &table, addresses)?;
     Ok(text)
-}
-
-// The listing of an area without parts of it.
-fn left_of(alloc: Global, listing: Listing, failures: &[Failure]) -> Result<Listing, AllocError>
-    requires { HasLarge (advertisements_of listing) → ⊥ }
-    ensures { IfOk result (λ left. advertisements_of left
-        ≡ without_all failures.now (advertisements_of listing)) }
-{
-    let mut left = listing;
-    for failure in failures {
-        left = left_by(alloc, &left, failure)?;
-    }
-    Ok(left)
-}
-
-// The listing of an area without a part of it.
-fn left_by(alloc: Global, listing: &Listing, failure: &Failure) -> Result<Listing, AllocError>
-    requires { HasLarge (advertisements_of listing.now) → ⊥ }
-    ensures { IfOk result (λ left. advertisements_of left
-        ≡ without failure.now (advertisements_of listing.now)) }
-{
-    match without(alloc, listing, failure) {
-        Ok(left) => Ok(left),
-        Err(WithoutFault::Memory) => Err(AllocError),
-        Err(WithoutFault::Links) => unreachable!(),
-    }
 }

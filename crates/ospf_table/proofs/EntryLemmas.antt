@@ -1,5 +1,5 @@
 -- LSAs in a map, and the listing of them.
-use Rattle.std.proofs.Common.{◌≡◌, ◌⊎◌, inl, inr, true, false, ℕ, zero, suc, List, [], ◌∷◌, ◌++◌, Option, None, Some, is_some, IsTrue, ◌↔◌, refl, ap, sym, ◌∙◌, subst, arith}
+use Rattle.std.proofs.Common.{◌≡◌, ◌<◌, ◌⊎◌, inl, inr, Bool, true, false, ℕ, zero, suc, List, [], ◌∷◌, ◌++◌, Option, None, Some, is_some, IsTrue, ◌↔◌, refl, ap, sym, ◌∙◌, subst, arith}
 use Rattle.std.specs.List.{Any, AllByRecursion}
 use Rattle.std.specs.List.Sorted.{IsStrictlySortedBy}
 use Rattle.std.specs.Map.{lookup, keys_of, values_of}
@@ -7,15 +7,18 @@ use Rattle.std.specs.BTreeMap.{insert_entry, is_at}
 use Rattle.std.specs.Ordering.{is_eq, match_ordering}
 use Rattle.std.specs.declared.cmp.Ordering.{Ordering}
 use Rattle.std.specs.declared.cmp.Ordering.TheVariants.{Less, Equal, Greater}
-use Rattle.ospf_base.specs.Keys.{Precedes, same_key}
+use Rattle.ospf_base.specs.Keys.{Precedes, same_key, key_cmp}
 use Rattle.ospf_base.specs.declared.ids.LsaKey.{LsaKey}
 use Rattle.ospf_base.proofs.SameKeys.{same_key-refl, same_key-eq}
+use Rattle.ospf_lsa.specs.Header.{header_of}
 use Rattle.ospf_lsa.specs.Lsa.{key_of}
 use Rattle.ospf_lsa.specs.Listing.{HasKey, IsInserted}
-use Rattle.ospf_lsdb.specs.Moments.{key_cmp}
-use Rattle.ospf_lsdb.proofs.MapLemmas.{bool_cases}
-use Rattle.ospf_lsdb.proofs.OrderLemmas.{is_eq-key_cmp, key_cmp-less}
+use Rattle.ospf_base.proofs.KeyMaps.{is_eq-key_cmp, key_cmp-less}
 use Rattle.ospf_table.specs.Entries.{IsKeyed, AreKeyed}
+
+bool_cases : (b : Bool) → (b ≡ true) ⊎ (b ≡ false)
+bool_cases true = inl refl
+bool_cases false = inr refl
 
 abbrev pub Entry : Type 0
 Entry = LsaKey × List ℕ
@@ -133,3 +136,10 @@ before_it (e ∷ es) keyed rises (d ∷ ds) lsa rest is =
     let left : values_of es ≡ ds ++ lsa ∷ rest = cc in
     let less = stands_before e.0 es (rises_here e.0 (keys_of es) rises) keyed.1 ds lsa rest left in
     (subst (λ (k : LsaKey). Precedes k (key_of lsa)) (sym keyed.0.key ∙ ap key_of first) less, before_it es keyed.1 (rises_behind e.0 (keys_of es) rises) ds lsa rest left)
+
+-- each of the values is below MaxAge
+pub young_it : (es : List Entry) → AreKeyed es → (done : List (List ℕ)) (lsa : List ℕ) (rest : List (List ℕ)) → values_of es ≡ done ++ lsa ∷ rest → (header_of lsa).age < 3600
+young_it [] keyed [] lsa rest is = absurd (cc)
+young_it [] keyed (d ∷ ds) lsa rest is = absurd (cc)
+young_it (e ∷ es) keyed [] lsa rest is = let this : e.1 ≡ lsa = cc in subst (λ (l : List ℕ). (header_of l).age < 3600) this keyed.0.young
+young_it (e ∷ es) keyed (d ∷ ds) lsa rest is = let left : values_of es ≡ ds ++ lsa ∷ rest = cc in young_it es keyed.1 ds lsa rest left

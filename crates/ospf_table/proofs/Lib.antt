@@ -2,4 +2,5 @@ pub mod EntryLemmas
 pub mod HexText
 pub mod Lines
 pub mod Written
+pub mod FloatLemmas
 mod Looked

@@ -4,8 +4,8 @@ use Rattle.std.specs.Io.BufRead.{take_through, drop_through, DropsThrough}
 use Rattle.std.specs.Io.KnownBytes.{IsAtEnd}
 use Rattle.ospf_lsa.specs.declared.fault.LsaFault.TheVariants as lsa_fault
 use Rattle.ospf_lsa.specs.declared.listing.ListingFault.TheVariants as listing_fault
-use Rattle.ospf_table.specs.Fault.{IsMemoryFault, IsRefusal}
-use Rattle.ospf_table.specs.Line.{HasFault, IsTaken, Reads, at_end, at_line, Refuses, here, later, text_of, first_text}
+use Rattle.ospf_table.specs.Fault.{IsMemoryFault, IsLineRefusal}
+use Rattle.ospf_table.specs.Line.{HasLineFault, IsTaken, Reads, at_end, at_line, Refuses, here, later, text_of, first_text}
 use Rattle.ospf_table.specs.declared.line.LineFault.TheVariants.{NotHex, Lsa}
 use Rattle.ospf_table.specs.declared.table.EntryFault.{EntryFault}
 use Rattle.ospf_table.specs.declared.table.EntryFault.TheVariants.{Line, Listing}
@@ -71,17 +71,17 @@ ends_reads start rest listing number led done = map_some start _ _ (λ whole lea
     leads.reads listing (subst (λ (l : List ℕ). Reads l listing listing) (sym nil) at_end)) led
 
 pub refused_here : (start rest : Option (List ℕ)) (listing : List (List ℕ)) (number n : ℕ) (line text : List ℕ) (fault f : EntryFault)
-    → IfSome start (λ whole. LeadsTo whole rest listing number) → IsRead rest line text → HasFault text listing fault
+    → IfSome start (λ whole. LeadsTo whole rest listing number) → IsRead rest line text → HasLineFault text listing fault
     → number ≡ n → fault ≡ f → IfSome start (λ whole. Refuses whole [] n f)
 refused_here start rest listing number n line text fault f led r h same_number same_fault = map_some start _ _ (λ whole leads.
     let at = text_here rest leads.left line text r leads.rest_is in
-    let fault_is : HasFault (first_text leads.left) listing fault = subst (λ (t : List ℕ). HasFault t listing fault) at.0 h in
+    let fault_is : HasLineFault (first_text leads.left) listing fault = subst (λ (t : List ℕ). HasLineFault t listing fault) at.0 h in
     let P : ℕ → Type 0 = λ k. Refuses whole [] k fault in
     let Q : EntryFault → Type 0 = λ k. Refuses whole [] n k in
     subst Q same_fault (subst P (omega arith) (leads.refuses 0 fault (here at.1 fault_is)))) led
 
 -- want of memory is no fault of a text
-pub not_memory : (text : List ℕ) (listing : List (List ℕ)) (fault : EntryFault) → HasFault text listing fault → IsMemoryFault fault → ⊥
+pub not_memory : (text : List ℕ) (listing : List (List ℕ)) (fault : EntryFault) → HasLineFault text listing fault → IsMemoryFault fault → ⊥
 not_memory text listing (Line NotHex) h m = m
 not_memory text listing (Line (Lsa lsa_fault.Short)) h m = m
 not_memory text listing (Line (Lsa lsa_fault.Length)) h m = m
@@ -98,6 +98,6 @@ not_memory text listing (Listing listing_fault.MaxAge) h m = m
 not_memory text listing (Listing listing_fault.Memory) h m = let e : listing_fault.Memory ≡ listing_fault.Twice = h.1.0 in cc
 
 -- a refusal is of a line, for a fault
-pub refusal_of : (fault : TableFault) → IsRefusal fault → (number : ℕ) × (entry : EntryFault) × (fault ≡ Entry number entry)
+pub refusal_of : (fault : TableFault) → IsLineRefusal fault → (number : ℕ) × (entry : EntryFault) × (fault ≡ Entry number entry)
 refusal_of (Entry number entry) is = (number, entry, refl)
 refusal_of (Failure failure) is = absurd is

@@ -12,7 +12,7 @@ use Rattle.ospf_files.specs.Shown.{routes_text}
 use Rattle.ospf_files.proofs.Written.{both_written, front_begun, kept_written, nothing_written, rest_begun, whole_begun}
 use Rattle.ospf_files.specs.Streams.{IsBegun}
 use Rattle.ospf_table.specs.Cut.{AreLookupsBegun, IsOutputBegun, IsWarned}
-use Rattle.ospf_table.specs.Output.{IsLookupLine, AreLookups, IsAnswered, IsOutput, IsWarning, no_more, one_more}
+use Rattle.ospf_table.specs.Output.{IsLookupLine, AreLookups, IsTableAnswered, IsOutput, IsWarning, no_more, one_more}
 
 -- the line of one address more
 pub more_lookups : (table : List Route) (addresses : List Addr) (lines : List ℕ) (address : Addr) (line : List ℕ) → AreLookups table addresses lines
@@ -121,7 +121,7 @@ output_written a b c d table routes addresses same h lookups flushed =
 -- the answer, and the warning of the root
 pub answered : (a b x y : Option (List ℕ)) (input : List ℕ) (listing : List (List ℕ)) (root : RouterId) (table : List Route) (addresses : List Addr)
     → Reads input [] listing → ((warning : List ℕ) × IsWarning listing root warning × Appends x y warning) → IsTable (advertisements_of listing) root table
-    → ((text : List ℕ) × IsOutput table addresses text × Appends a b text) → IsAnswered input root addresses a b x y
+    → ((text : List ℕ) × IsOutput table addresses text × Appends a b text) → IsTableAnswered input root addresses a b x y
 answered a b x y input listing root table addresses reads warned is_table written = record {
   text = written.0;
   warning = warned.0;

@@ -44,14 +44,14 @@ abbrev pub Makes : Option (List ℕ) → List (List ℕ) → Type 0
 Makes input listing = IfSome input (λ bytes. Reads bytes [] listing)
 
 -- a line of the input is refused, and a beginning of what is told of it was written
-pub record IsRefusalBegun (input old new : Option (List ℕ)) : Type 0 where
+pub record IsLineRefusalBegun (input old new : Option (List ℕ)) : Type 0 where
   pub number : ℕ
   pub fault : EntryFault
   pub refused : IfSome input (λ bytes. Refuses bytes [] number fault)
   pub begun : IsBegun old new (refusal_line number fault)
 
 -- a beginning of the warning of the root was written
-pub record IsWarningBegun (listing : List (List ℕ)) (root : RouterId) (old new : Option (List ℕ)) : Type 0 where
+pub record IsTableWarningBegun (listing : List (List ℕ)) (root : RouterId) (old new : Option (List ℕ)) : Type 0 where
   pub warning : List ℕ
   pub warned : IsWarning listing root warning
   pub begun : IsBegun old new warning
@@ -64,7 +64,7 @@ pub record IsWarned (listing : List (List ℕ)) (root : RouterId) (old new : Opt
 
 -- the table of a listing is cut: its warning, or it is want of memory before the output begins, or the output
 pub data IsTableCut (listing : List (List ℕ)) (root : RouterId) (addresses : List Addr) (failed : FailedStreams) (out_old out_new err_old err_new : Option (List ℕ)) : Failure → Type 0 where
-  in_warning : {f : Failure} → IsErrorCut failed f → IsWarningBegun listing root err_old err_new → out_new ≡ out_old
+  in_warning : {f : Failure} → IsErrorCut failed f → IsTableWarningBegun listing root err_old err_new → out_new ≡ out_old
       → IsTableCut listing root addresses failed out_old out_new err_old err_new f
   no_table : IsWarned listing root err_old err_new → out_new ≡ out_old
       → IsTableCut listing root addresses failed out_old out_new err_old err_new failure.Memory
@@ -73,18 +73,18 @@ pub data IsTableCut (listing : List (List ℕ)) (root : RouterId) (addresses : L
       → IsTableCut listing root addresses failed out_old out_new err_old err_new f
 
 -- the answer is cut: the input was not read, or what is told of a line that is refused, or the table
-pub data IsAnswerCut (input : Option (List ℕ)) (root : RouterId) (addresses : List Addr) (failed : FailedStreams) (out_old out_new err_old err_new : Option (List ℕ)) (f : Failure) : Type 0 where
-  in_input : IsOfInput f → out_new ≡ out_old → err_new ≡ err_old → IsAnswerCut input root addresses failed out_old out_new err_old err_new f
-  in_refusal : IsErrorCut failed f → IsRefusalBegun input err_old err_new → out_new ≡ out_old
-      → IsAnswerCut input root addresses failed out_old out_new err_old err_new f
+pub data IsTableAnswerCut (input : Option (List ℕ)) (root : RouterId) (addresses : List Addr) (failed : FailedStreams) (out_old out_new err_old err_new : Option (List ℕ)) (f : Failure) : Type 0 where
+  in_input : IsOfInput f → out_new ≡ out_old → err_new ≡ err_old → IsTableAnswerCut input root addresses failed out_old out_new err_old err_new f
+  in_refusal : IsErrorCut failed f → IsLineRefusalBegun input err_old err_new → out_new ≡ out_old
+      → IsTableAnswerCut input root addresses failed out_old out_new err_old err_new f
   in_table : (listing : List (List ℕ)) → Makes input listing → IsTableCut listing root addresses failed out_old out_new err_old err_new f
-      → IsAnswerCut input root addresses failed out_old out_new err_old err_new f
+      → IsTableAnswerCut input root addresses failed out_old out_new err_old err_new f
 
 -- the answer was cut by a failure, which was told last, as far as it could be, and of which the status is
-pub record IsCutShort (input : Option (List ℕ)) (root : RouterId) (addresses : List Addr) (failed : FailedStreams) (out_old out_new err_old err_new : Option (List ℕ)) (status : Status) : Type 0 where
+pub record IsTableCutShort (input : Option (List ℕ)) (root : RouterId) (addresses : List Addr) (failed : FailedStreams) (out_old out_new err_old err_new : Option (List ℕ)) (status : Status) : Type 0 where
   pub cause : Failure
   pub failed_then : FailedStreams
   pub err_then : Option (List ℕ)
-  pub cut : IsAnswerCut input root addresses failed_then out_old out_new err_old err_then cause
+  pub cut : IsTableAnswerCut input root addresses failed_then out_old out_new err_old err_then cause
   pub last : IsTold failed_then failed err_then err_new (failure_line cause)
   pub status_is : status ≡ failure_status cause

@@ -1,16 +1,16 @@
 -- LSAs by their keys.
-use Rattle.std.specs.Prelude.{◌≡◌, ◌≢◌, ℕ, List}
+use Rattle.std.specs.Prelude.{◌≡◌, ◌<◌, ℕ, List}
 use Rattle.std.specs.BTreeMap.{BTreeMap, IsOrdered}
 use Rattle.std.specs.List.{AllByRecursion}
 use Rattle.ospf_base.specs.declared.ids.LsaKey.{LsaKey}
 use Rattle.ospf_lsa.specs.Header.{header_of}
 use Rattle.ospf_lsa.specs.Lsa.{key_of}
-use Rattle.ospf_lsdb.specs.Moments.{key_cmp}
+use Rattle.ospf_base.specs.Keys.{key_cmp}
 
 -- an LSA below MaxAge, under its own key
 pub record IsKeyed (e : LsaKey × List ℕ) : Type 0 where
   pub key : key_of e.1 ≡ e.0
-  pub young : (header_of e.1).age ≢ 3600
+  pub young : (header_of e.1).age < 3600
 
 abbrev pub AreKeyed : List (LsaKey × List ℕ) → Type 0
 AreKeyed es = AllByRecursion IsKeyed es

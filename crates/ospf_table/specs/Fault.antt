@@ -15,6 +15,6 @@ IsMemoryFault (Listing listing_fault.Memory) = ⊤
 IsMemoryFault _ = ⊥
 
 -- a line was refused
-abbrev pub IsRefusal : TableFault → Type 0
-IsRefusal (Entry number fault) = ⊤
-IsRefusal _ = ⊥
+abbrev pub IsLineRefusal : TableFault → Type 0
+IsLineRefusal (Entry number fault) = ⊤
+IsLineRefusal _ = ⊥

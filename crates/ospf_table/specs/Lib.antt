@@ -4,3 +4,5 @@ pub mod Fault
 pub mod Refusal
 pub mod Output
 pub mod Cut
+pub mod Changes
+pub mod Objects

@@ -1,9 +1,9 @@
 -- LSAs as lines of text.
 use Rattle.std.specs.Prelude.{◌≡◌, ◌≢◌, ◌⊎◌, ℕ, suc, List, [], Result, Ok, IsErr, if◌then◌else◌}
-use Rattle.std.specs.List.{All}
 use Rattle.std.specs.Io.BufRead.{take_through, drop_through, ends_with_byte, strip_last}
 use Rattle.hex.specs.Hex.{decode_of}
 use Rattle.hex.specs.declared.error.FromHexError.{FromHexError}
+use Rattle.ospf_base.specs.Text.{IsBlank}
 use Rattle.ospf_lsa.specs.Header.{header_of}
 use Rattle.ospf_lsa.specs.Lsa.{IsLsa, IsFirstFault, key_of}
 use Rattle.ospf_lsa.specs.Listing.{IsInserted, HasKey}
@@ -21,12 +21,8 @@ HasFirstFault decoded f = (bytes : List ℕ) × (decoded ≡ Ok bytes) × IsFirs
 abbrev pub text_of : List ℕ → List ℕ
 text_of line = if ends_with_byte 10 line then strip_last 13 (strip_last 10 line) else line
 
--- spaces alone, or nothing
-abbrev pub IsBlank : List ℕ → Type 0
-IsBlank = All (λ byte. byte ≡ 32)
-
 -- the text spells an LSA, and the new listing is the old one with that LSA, unless its age is MaxAge
-pub record IsListed (text : List ℕ) (old new : List (List ℕ)) : Type 0 where
+pub record IsLineListed (text : List ℕ) (old new : List (List ℕ)) : Type 0 where
   pub lsa : List ℕ
   pub decoded : decode_of text ≡ Ok lsa
   pub is_lsa : IsLsa lsa
@@ -34,7 +30,7 @@ pub record IsListed (text : List ℕ) (old new : List (List ℕ)) : Type 0 where
 
 -- what a text makes of a listing
 abbrev pub IsTaken : List ℕ → List (List ℕ) → List (List ℕ) → Type 0
-IsTaken text old new = (IsBlank text × (new ≡ old)) ⊎ ((IsBlank text → ⊥) × IsListed text old new)
+IsTaken text old new = (IsBlank text × (new ≡ old)) ⊎ ((IsBlank text → ⊥) × IsLineListed text old new)
 
 -- the text spells an LSA below age MaxAge, and one of its key is listed
 pub record IsSecond (text : List ℕ) (listing : List (List ℕ)) : Type 0 where
@@ -51,8 +47,8 @@ HasEntryFault text listing (Line (Lsa f)) = HasFirstFault (decode_of text) f
 HasEntryFault text listing (Listing f) = (f ≡ listing_fault.Twice) × IsSecond text listing
 
 -- why a text is refused
-abbrev pub HasFault : List ℕ → List (List ℕ) → EntryFault → Type 0
-HasFault text listing f = (IsBlank text → ⊥) × HasEntryFault text listing f
+abbrev pub HasLineFault : List ℕ → List (List ℕ) → EntryFault → Type 0
+HasLineFault text listing f = (IsBlank text → ⊥) × HasEntryFault text listing f
 
 -- the text of the first line
 abbrev pub first_text : List ℕ → List ℕ
@@ -67,11 +63,11 @@ pub data Reads : List ℕ → List (List ℕ) → List (List ℕ) → Type 0 whe
 -- the line of this number is the first that is refused, for this fault
 pub data Refuses : List ℕ → List (List ℕ) → ℕ → EntryFault → Type 0 where
   here : {input : List ℕ} {listing : List (List ℕ)} {fault : EntryFault} → input ≢ []
-      → HasFault (first_text input) listing fault → Refuses input listing 1 fault
+      → HasLineFault (first_text input) listing fault → Refuses input listing 1 fault
   later : {input : List ℕ} {old next : List (List ℕ)} {number : ℕ} {fault : EntryFault} → input ≢ []
       → IsTaken (first_text input) old next → Refuses (drop_through 10 input) next number fault
       → Refuses input old (suc number) fault
 
 -- the lines make some listing
-abbrev pub IsWhole : List ℕ → Type 0
-IsWhole input = (listing : List (List ℕ)) × Reads input [] listing
+abbrev pub MakesListing : List ℕ → Type 0
+MakesListing input = (listing : List (List ℕ)) × Reads input [] listing

@@ -9,7 +9,7 @@ use Rattle.ospf_graph.specs.Walk.{IsBest}
 use Rattle.ospf_graph.specs.declared.hop.NextHop.{NextHop}
 use Rattle.ospf_graph.specs.declared.route.Route.{Route}
 use Rattle.ospf_fib.specs.Found.{found_text}
-use Rattle.ospf_files.specs.Shown.{no_route_line, routes_text}
+use Rattle.ospf_files.specs.Shown.{lookup_none_line, routes_text}
 use Rattle.ospf_spf.specs.Listed.{advertisements_of}
 use Rattle.ospf_table.specs.Line.{Reads}
 use Rattle.ospf_base.specs.declared.ids.Kind.TheVariants.{Router}
@@ -20,7 +20,7 @@ use Rattle.std.specs.Io.KnownBytes.{Appends}
 -- no route's prefix holds the address, and the line says so
 pub record IsNoRouteLine (table : List Route) (address : ℕ) (line : List ℕ) : Type 0 where
   pub none : (route : Route) → Contains table route → Holds route.prefix address → ⊥
-  pub line_is : line ≡ no_route_line address
+  pub line_is : line ≡ lookup_none_line address
 
 -- the line has the route of longest prefix that holds the address (RFC 2328, section 11.1), and the first of its hops
 pub record IsBestLine (table : List Route) (address : ℕ) (line : List ℕ) : Type 0 where
@@ -65,7 +65,7 @@ IsWarning listing root text =
     (IsUnlisted listing root × (text ≡ unlisted_line root)) ⊎ ((IsUnlisted listing root → ⊥) × (text ≡ []))
 
 -- what is printed for an input: the routing table of the root over its LSAs, and the lookups in it; and the warning of the root
-pub record IsAnswer (input : List ℕ) (root : RouterId) (addresses : List Addr) (text warning : List ℕ) : Type 0 where
+pub record IsTableAnswer (input : List ℕ) (root : RouterId) (addresses : List Addr) (text warning : List ℕ) : Type 0 where
   pub listing : List (List ℕ)
   pub reads : Reads input [] listing
   pub warned : IsWarning listing root warning
@@ -74,9 +74,9 @@ pub record IsAnswer (input : List ℕ) (root : RouterId) (addresses : List Addr)
   pub output : IsOutput table addresses text
 
 -- the answer for an input stands on standard output, and its warning on standard error
-pub record IsAnswered (input : List ℕ) (root : RouterId) (addresses : List Addr) (out_old out_new err_old err_new : Option (List ℕ)) : Type 0 where
+pub record IsTableAnswered (input : List ℕ) (root : RouterId) (addresses : List Addr) (out_old out_new err_old err_new : Option (List ℕ)) : Type 0 where
   pub text : List ℕ
   pub warning : List ℕ
-  pub is : IsAnswer input root addresses text warning
+  pub is : IsTableAnswer input root addresses text warning
   pub out : Appends out_old out_new text
   pub err : Appends err_old err_new warning

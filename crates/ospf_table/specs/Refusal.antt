@@ -23,7 +23,7 @@ abbrev pub refusal_line : ℕ → EntryFault → List ℕ
 refusal_line number fault = codes "line " ++ (decimal number ++ (codes ": " ++ (entry_fault_text fault ++ codes "\n")))
 
 -- a line of the input is the first that is refused, and that is told of it
-pub record IsRefusalTold (input : List ℕ) (old new : Option (List ℕ)) : Type 0 where
+pub record IsLineRefusalTold (input : List ℕ) (old new : Option (List ℕ)) : Type 0 where
   pub number : ℕ
   pub fault : EntryFault
   pub refused : Refuses input [] number fault

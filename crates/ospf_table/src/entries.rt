@@ -1,13 +1,11 @@
 //! The LSAs of lines, of which a listing is made.
 
-ghost use Rattle.std.specs.Prelude.{◌≡◌, ◌≢◌, ◌↔◌, ◌++◌, List, ℕ, [], ◌∷◌, Err, IsTrue, IfOk, OnOk, OnErr};
+ghost use Rattle.std.specs.Prelude.{◌≡◌, ◌↔◌, List, ℕ, [], Err, IsTrue, IfOk, OnOk, OnErr};
 ghost use Rattle.std.specs.BTreeMap.{IsOrdered, insert_entry};
-ghost use Rattle.std.specs.List.{AllByRecursion};
-ghost use Rattle.ospf_base.specs.Keys.{Precedes};
+ghost use Rattle.ospf_base.specs.Keys.{key_cmp};
 ghost use Rattle.ospf_lsa.specs.Header.{header_of};
 ghost use Rattle.ospf_lsa.specs.Lsa.{key_of};
 ghost use Rattle.ospf_lsa.specs.Listing.{HasKey, IsInserted};
-ghost use Rattle.ospf_lsdb.specs.Moments.{key_cmp};
 ghost use Rattle.ospf_lsa.specs.declared.listing.ListingFault.TheVariants as fault;
 
 use ospf_base::{LsaKey, MAX_AGE};
@@ -19,11 +17,11 @@ use std::marker::Model;
 // LSAs below age `MAX_AGE` that came in any order, at most one a key. A listing moves all that stands behind an LSA that
 // is put in; a map does not.
 #[derive(Drop)]
-pub(crate) struct Entries {
+pub(crate) struct LineEntries {
     lsas: BTreeMap<LsaKey, Lsa>,
 }
 
-impl Model for Entries {
+impl Model for LineEntries {
     ghost use Rattle.std.specs.Prelude.{ℕ, List};
     ghost use Rattle.std.specs.BTreeMap.{values};
     ghost use Rattle.ospf_table.specs.Entries.{IsGathered};
@@ -35,11 +33,11 @@ impl Model for Entries {
     ghost invariant = { λ e. IsGathered e.lsas };
 }
 
-impl Entries {
-    pub(crate) fn new(alloc: Global) -> Entries
+impl LineEntries {
+    pub(crate) fn new(alloc: Global) -> LineEntries
         ensures { result ≡ [] }
     {
-        Entries {
+        LineEntries {
             lsas: BTreeMap::new(alloc),
         }
     }
@@ -72,7 +70,7 @@ impl Entries {
     {
         let mut listing = Listing::new(alloc);
         for lsa in self.lsas.into_values() {
-            append(&mut listing, lsa)?;
+            listing.append(lsa)?;
         }
         Ok(listing)
     }
@@ -94,19 +92,5 @@ fn put(lsas: &mut BTreeMap<LsaKey, Lsa>, key: LsaKey, lsa: Lsa) -> Result<(), Al
     if lsas.insert(key, lsa).is_err() {
         return Err(AllocError);
     }
-    Ok(())
-}
-
-// Adds an LSA below `MAX_AGE` whose key stands behind those of a listing.
-fn append(listing: &mut Listing, lsa: Lsa) -> Result<(), AllocError>
-    requires last { AllByRecursion (λ other. Precedes (key_of other) (key_of lsa)) listing.old }
-    ensures { OnOk result (listing.new ≡ listing.old ++ lsa ∷ []) }
-{
-    // The key is new and the age below `MAX_AGE`, so what `add` refuses it refuses for memory.
-    let Ok(_added) = listing.add(lsa) else {
-        return Err(AllocError);
-    };
-    // For the proof.
-    let _in_order = listing.lsas();
     Ok(())
 }

@@ -1,14 +1,21 @@
-//! Routing tables of LSAs that are read as lines of text, and lookups in them.
+//! Routing tables of LSAs that are read as lines of text, and lookups in them; and what a failure changes in a table, as
+//! lines and as JSON.
 //!
 //! `table_text` is the whole: it reads, calculates, publishes, writes and looks up.
 #![tactic(auto)]
 
+mod changes;
 mod entries;
 mod line;
 mod lookup;
+mod objects;
 mod output;
 mod table;
+mod totals;
 
+pub use crate::changes::{change_line, failure_lines};
 pub use crate::line::{LineFault, lsa_line};
+pub use crate::objects::{add_changes, counted_members, objects_line};
 pub use crate::output::output_text;
 pub use crate::table::{EntryFault, TableFault, TableJob, is_unlisted, read_listing, table_text};
+pub use crate::totals::Totals;

@@ -45,7 +45,8 @@ pub(crate) fn print_lookups<W: Wait + Drop, O: Write>(
         OnOk result ((lines : List ℕ) × AreLookups table addresses.now lines
         × Appends (O.contents out.old) (O.contents out.new) lines) }
     ensures begun { (table : List Route) → writer.old.tables ≡ opening ++ table ∷ [] →
-        OnErr result (AreLookupsBegun table addresses.now (O.contents out.old) (O.contents out.new)) }
+        OnErr result (AreLookupsBegun table addresses.now (O.contents out.old) (O.contents
+        out.new)) }
     ensures cut { IfErr result (IsLookupCut streams.new) }
 {
     for address in addresses {

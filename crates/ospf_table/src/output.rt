@@ -2,7 +2,7 @@
 
 ghost use Rattle.std.specs.Prelude.{◌≡◌, ◌<◌, IfOk, Some, length, slice_get, string_bytes};
 ghost use Rattle.ospf_graph.specs.Walk.{IsBest};
-ghost use Rattle.ospf_files.specs.Shown.{no_route_line, routes_text};
+ghost use Rattle.ospf_files.specs.Shown.{lookup_none_line, routes_text};
 ghost use Rattle.ospf_table.specs.Output.{AreLookups, IsBestLine, IsLookupLine, IsOutput};
 
 use ospf_base::{Addr, Prefix};
@@ -71,7 +71,7 @@ fn found_line(
     requires hop { 0 < length route.now.hops }
     ensures { IfOk result (λ line. IsBestLine table.now address.0 (string_bytes line)) }
 {
-    let taken = Taken {
+    let taken = LookupLine {
         address,
         prefix: route.prefix,
         cost: route.cost,
@@ -83,21 +83,21 @@ fn found_line(
 
 // An address, with the prefix and the cost of the route that it takes, and the first of its hops.
 #[derive(Clone, Copy)]
-struct Taken {
+struct LookupLine {
     address: Addr,
     prefix: Prefix,
     cost: u64,
     hop: NextHop,
 }
 
-impl Display for Taken {
+impl Display for LookupLine {
     ghost use Rattle.std.specs.Prelude.{Some};
     ghost use Rattle.ospf_fib.specs.Found.{found_text};
 
     ghost output = { λ t. Some (found_text t.address.0 t.prefix t.cost t.hop) };
 
     fn fmt<W: Write>(&self, f: &mut Formatter<W>) -> fmt::Result {
-        let Taken {
+        let LookupLine {
             address,
             prefix,
             cost,
@@ -117,7 +117,7 @@ fn first_hop(route: &Route) -> NextHop
 
 // The line of an address that no route leads to.
 fn none_line(alloc: Global, address: Addr) -> Result<String, AllocError>
-    ensures { IfOk result (λ line. string_bytes line ≡ no_route_line address.0) }
+    ensures { IfOk result (λ line. string_bytes line ≡ lookup_none_line address.0) }
 {
     let line = format!(in alloc; "lookup {address} none\n")?;
     Ok(line)

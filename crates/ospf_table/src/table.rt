@@ -6,14 +6,14 @@ ghost use Rattle.ospf_files.specs.Streams.{IsBegun, IsErrorCut, IsOfInput};
 ghost use Rattle.ospf_files.specs.declared.status.Failure.{Failure};
 ghost use Rattle.ospf_files.specs.declared.streams.FailedStreams.{FailedStreams};
 ghost use Rattle.ospf_index.specs.Known.{opening};
-ghost use Rattle.ospf_table.specs.Cut.{IsAnswerCut, IsCutShort, IsLookupCut, IsOutputBegun, IsTableCut, IsWarningBegun};
-ghost use Rattle.ospf_table.specs.Fault.{IsMemoryFault, IsRefusal};
+ghost use Rattle.ospf_table.specs.Cut.{IsTableAnswerCut, IsTableCutShort, IsLookupCut, IsOutputBegun, IsTableCut, IsTableWarningBegun};
+ghost use Rattle.ospf_table.specs.Fault.{IsMemoryFault, IsLineRefusal};
 ghost use Rattle.ospf_table.specs.declared.table.EntryFault.{EntryFault};
-ghost use Rattle.ospf_table.specs.Output.{IsAnswered, IsOutput, IsUnlisted, IsWarning};
-ghost use Rattle.ospf_table.specs.Line.{IsTaken, HasFault, Reads, Refuses};
-ghost use Rattle.ospf_table.specs.Refusal.{IsRefusalTold, refusal_line};
+ghost use Rattle.ospf_table.specs.Output.{IsTableAnswered, IsOutput, IsUnlisted, IsWarning};
+ghost use Rattle.ospf_table.specs.Line.{IsTaken, HasLineFault, Reads, Refuses};
+ghost use Rattle.ospf_table.specs.Refusal.{IsLineRefusalTold, refusal_line};
 
-use crate::entries::Entries;
+use crate::entries::LineEntries;
 use crate::line::{LineFault, is_blank, lsa_of_line, without_end};
 use crate::lookup::{print_lookups, publish_once};
 use ospf_base::{Addr, Kind, LsaKey, MAX_AGE, RouterId};
@@ -71,7 +71,7 @@ impl TableFault {
     ghost use Rattle.std.specs.Prelude.{◌≡◌};
     ghost use Rattle.ospf_files.specs.Streams.{IsOfInput};
     ghost use Rattle.ospf_files.specs.declared.status.Failure.{Failure};
-    ghost use Rattle.ospf_table.specs.Fault.{IsMemoryFault, IsRefusal};
+    ghost use Rattle.ospf_table.specs.Fault.{IsMemoryFault, IsLineRefusal};
 
     // The fault of a line, which is no fault of the line where memory ran out.
     fn of_entry(number: u64, fault: EntryFault) -> TableFault
@@ -88,7 +88,7 @@ impl TableFault {
 
     // Why there is no table where reading the input failed.
     fn of_reading(error: io::Error) -> TableFault
-        ensures refusal { IsRefusal result → ⊥ }
+        ensures refusal { IsLineRefusal result → ⊥ }
         ensures failure { (f : Failure) → result ≡ TableFault.Failure f → IsOfInput f }
     {
         TableFault::Failure(Failure::of(&error, Failure::Input))
@@ -169,16 +169,16 @@ pub fn table_text<W: Wait + Drop, R: BufRead + Drop, O: Write, E: Write>(
     // All is printed; or the line that is refused is told, and nothing is printed.
     ensures done { result ≡ Status.Done →
         IfSome (R.remaining input)
-        (λ bytes. IsAnswered bytes job.now.root job.now.addresses.items (O.contents out.old)
+        (λ bytes. IsTableAnswered bytes job.now.root job.now.addresses.items (O.contents out.old)
         (O.contents out.new) (E.contents err.old) (E.contents err.new)) }
     ensures refused { result ≡ Status.Refused →
         IfSome (R.remaining input)
-        (λ bytes. IsRefusalTold bytes (E.contents err.old) (E.contents err.new)) }
+        (λ bytes. IsLineRefusalTold bytes (E.contents err.old) (E.contents err.new)) }
     ensures unwritten { result ≡ Status.Refused → O.contents out.new ≡ O.contents out.old }
     // Or a failure cuts it short, and is told last, as far as it can be; there is no other end.
     ensures cut { (result ≡ Status.Memory) ⊎ (result ≡ Status.Stream) →
         (failed : FailedStreams)
-        × IsCutShort (R.remaining input) job.now.root job.now.addresses.items failed
+        × IsTableCutShort (R.remaining input) job.now.root job.now.addresses.items failed
         (O.contents out.old) (O.contents out.new) (E.contents err.old) (E.contents err.new) result }
     ensures not_words { result ≢ Status.Words }
 {
@@ -186,14 +186,14 @@ pub fn table_text<W: Wait + Drop, R: BufRead + Drop, O: Write, E: Write>(
 }
 
 // The LSAs of the lines up to the end of the input.
-fn read_entries<R: BufRead + Drop>(alloc: Global, mut input: R) -> Result<Entries, TableFault>
+fn read_entries<R: BufRead + Drop>(alloc: Global, mut input: R) -> Result<LineEntries, TableFault>
     ensures whole { IfOk result (λ entries. IfSome (R.remaining input)
         (λ bytes. Reads bytes [] entries)) }
     ensures refused { (n : ℕ) (f : EntryFault) → result ≡ Err (TableFault.Entry n f) →
         IfSome (R.remaining input) (λ bytes. Refuses bytes [] n f) }
     ensures unread { (f : Failure) → result ≡ Err (TableFault.Failure f) → IsOfInput f }
 {
-    let mut entries = Entries::new(alloc);
+    let mut entries = LineEntries::new(alloc);
     let mut line = Vec::new(alloc);
     for number in 1..u64::MAX {
         line.clear();
@@ -210,10 +210,10 @@ fn read_entries<R: BufRead + Drop>(alloc: Global, mut input: R) -> Result<Entrie
 }
 
 // Takes the LSA of a text, unless the text is blank or the LSA is at `MAX_AGE`.
-fn take_entry(alloc: Global, entries: &mut Entries, text: &[u8]) -> Result<(), EntryFault>
+fn take_entry(alloc: Global, entries: &mut LineEntries, text: &[u8]) -> Result<(), EntryFault>
     ensures ok { OnOk result (IsTaken text.now entries.old entries.new) }
     ensures err { OnErr result (entries.new ≡ entries.old) }
-    ensures fault { IfErr result (λ e. IsMemoryFault e ⊎ HasFault text.now entries.old e) }
+    ensures fault { IfErr result (λ e. IsMemoryFault e ⊎ HasLineFault text.now entries.old e) }
 {
     if is_blank(text) {
         return Ok(());
@@ -244,15 +244,15 @@ fn table_noted<W: Wait + Drop, R: BufRead + Drop, O: Write, E: Write>(
     // All is printed; or the line that is refused is told, and nothing is printed.
     ensures done { result ≡ Status.Done →
         IfSome (R.remaining input)
-        (λ bytes. IsAnswered bytes job.now.root job.now.addresses.items (O.contents out.old)
+        (λ bytes. IsTableAnswered bytes job.now.root job.now.addresses.items (O.contents out.old)
         (O.contents out.new) (E.contents err.old) (E.contents err.new)) }
     ensures refused { result ≡ Status.Refused →
         IfSome (R.remaining input)
-        (λ bytes. IsRefusalTold bytes (E.contents err.old) (E.contents err.new)) }
+        (λ bytes. IsLineRefusalTold bytes (E.contents err.old) (E.contents err.new)) }
     ensures unwritten { result ≡ Status.Refused → O.contents out.new ≡ O.contents out.old }
     // Or a failure cuts it short, and is told last, as far as it can be; there is no other end.
     ensures cut { (result ≡ Status.Memory) ⊎ (result ≡ Status.Stream) →
-        IsCutShort (R.remaining input) job.now.root job.now.addresses.items streams.new
+        IsTableCutShort (R.remaining input) job.now.root job.now.addresses.items streams.new
         (O.contents out.old) (O.contents out.new) (E.contents err.old) (E.contents err.new) result }
     ensures not_words { result ≢ Status.Words }
 {
@@ -275,15 +275,16 @@ fn answer_or_refuse<W: Wait + Drop, R: BufRead + Drop, O: Write, E: Write>(
     // All is printed; or the line that is refused is told, and nothing is printed.
     ensures done { result ≡ Ok Status.Done →
         IfSome (R.remaining input)
-        (λ bytes. IsAnswered bytes job.now.root job.now.addresses.items (O.contents out.old)
+        (λ bytes. IsTableAnswered bytes job.now.root job.now.addresses.items (O.contents out.old)
         (O.contents out.new) (E.contents err.old) (E.contents err.new)) }
     ensures refused { result ≡ Ok Status.Refused →
         IfSome (R.remaining input)
-        (λ bytes. IsRefusalTold bytes (E.contents err.old) (E.contents err.new)) }
+        (λ bytes. IsLineRefusalTold bytes (E.contents err.old) (E.contents err.new)) }
     ensures unwritten { result ≡ Ok Status.Refused → O.contents out.new ≡ O.contents out.old }
     // There is no other status, and a failure cuts short what is printed or told.
     ensures ended { IfOk result (λ status. (status ≡ Status.Done) ⊎ (status ≡ Status.Refused)) }
-    ensures cut { IfErr result (IsAnswerCut (R.remaining input) job.now.root job.now.addresses.items
+    ensures cut { IfErr result (IsTableAnswerCut (R.remaining input) job.now.root
+        job.now.addresses.items
         streams.new (O.contents out.old) (O.contents out.new) (E.contents err.old)
         (E.contents err.new)) }
 {
@@ -309,7 +310,7 @@ fn answer<W: Wait + Drop, R: BufRead + Drop, O: Write, E: Write>(
 ) -> Result<(), TableFault>
     // All is printed; or it is known which line is refused, and nothing is printed or told.
     ensures answer { OnOk result (IfSome (R.remaining input)
-        (λ bytes. IsAnswered bytes job.now.root job.now.addresses.items (O.contents out.old)
+        (λ bytes. IsTableAnswered bytes job.now.root job.now.addresses.items (O.contents out.old)
         (O.contents out.new) (E.contents err.old) (E.contents err.new))) }
     ensures refused { (n : ℕ) (f : EntryFault) → result ≡ Err (TableFault.Entry n f) →
         IfSome (R.remaining input) (λ bytes. Refuses bytes [] n f) }
@@ -319,7 +320,7 @@ fn answer<W: Wait + Drop, R: BufRead + Drop, O: Write, E: Write>(
         E.contents err.new ≡ E.contents err.old }
     // Or a failure cuts short what is printed or told.
     ensures cut { (f : Failure) → result ≡ Err (TableFault.Failure f) →
-        IsAnswerCut (R.remaining input) job.now.root job.now.addresses.items streams.new
+        IsTableAnswerCut (R.remaining input) job.now.root job.now.addresses.items streams.new
         (O.contents out.old) (O.contents out.new) (E.contents err.old) (E.contents err.new) f }
 {
     let listing = read_listing(alloc, input)?;
@@ -338,7 +339,7 @@ fn answer_of<W: Wait + Drop, O: Write, E: Write>(
     streams: &mut FailedStreams,
 ) -> Result<(), Failure>
     ensures answer { (bytes : List ℕ) → Reads bytes [] listing.now →
-        OnOk result (IsAnswered bytes job.now.root job.now.addresses.items (O.contents out.old)
+        OnOk result (IsTableAnswered bytes job.now.root job.now.addresses.items (O.contents out.old)
         (O.contents out.new) (E.contents err.old) (E.contents err.new)) }
     ensures cut { IfErr result (IsTableCut listing.now job.now.root job.now.addresses.items
         streams.new (O.contents out.old) (O.contents out.new) (E.contents err.old)
@@ -359,7 +360,7 @@ fn warn<E: Write>(
 ) -> Result<(), Failure>
     ensures told { OnOk result ((text : List ℕ) × IsWarning listing.now root text
         × Appends (E.contents err.old) (E.contents err.new) text) }
-    ensures begun { OnErr result (IsWarningBegun listing.now root (E.contents err.old)
+    ensures begun { OnErr result (IsTableWarningBegun listing.now root (E.contents err.old)
         (E.contents err.new)) }
     ensures cut { IfErr result (IsErrorCut streams.new) }
 {

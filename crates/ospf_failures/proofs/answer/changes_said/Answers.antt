@@ -1,12 +1,12 @@
 use Rattle.std.proofs.Common.{◌↔◌, ◌∙◌, List, IsTrue, ap, subst, sym}
-use Rattle.ospf_failures.specs.Answer.{IsEndBy, IsWhole}
-use Rattle.ospf_failures.specs.Reports.{HasCut, ReportValue, reports_text}
+use Rattle.ospf_failures.specs.Answer.{IsEndBy, IsAllPrinted, changes_text}
+use Rattle.ospf_failures.specs.Reports.{HasCut, ReportValue}
 use Rattle.ospf_failures.specs.declared.answer.FailuresStatus.{FailuresStatus}
 use Rattle.ospf_failures.proofs.AnswerLemmas.{end_is, whole_end}
 use Rattle.ospf_failures.proofs.answer.changes_said.Goals as goal
 
 pub returns-clause-said : goal.returns-clause-said
-returns-clause-said c =
+returns-clause-said g c =
     let printed = c.in_ok-printed.printed.items in
     let cuts : IsTrue c.has_cut.result ↔ HasCut printed = subst (λ (l : List ReportValue). IsTrue c.has_cut.result ↔ HasCut l) c.deref-2.ensures.value c.has_cut.ensures in
     record {
@@ -14,9 +14,9 @@ returns-clause-said c =
       is_table = c.in_ok-printed.ensures.1;
       printed = printed;
       reported = c.in_ok-printed.ensures.2;
-      text_is = c.in_ok-text.ensures ∙ ap (λ (l : List ReportValue). reports_text c.args.each l) c.deref.ensures.value;
+      text_is = c.in_ok-text.ensures ∙ ap (λ (l : List ReportValue). changes_text c.args.form c.args.each c.args.root l) c.deref.ensures.value;
       ends = subst (λ (e : FailuresStatus). IsEndBy c.args.strict (HasCut printed) e) (sym c.end_of-end.ensures) (end_is (HasCut printed) c.args.strict c.has_cut.result cuts);
     }
 
 pub returns-clause-whole : goal.returns-clause-whole
-returns-clause-whole c = subst IsWhole (sym c.end_of-end.ensures) (whole_end c.args.strict c.has_cut.result)
+returns-clause-whole g c = subst IsAllPrinted (sym c.end_of-end.ensures) (whole_end c.args.strict c.has_cut.result)

@@ -6,5 +6,5 @@ use Rattle.ospf_failures.proofs.overall.cuts_somewhere.Goals as goal
 pub returns : goal.returns
 returns c =
     let os = c.args.overalls.now in
-    cuts_by c.any.result os (cases_from_any _ _ _ (λ o. 0 < o.sums.cut) (λ o. o.sums.cut ≤ 0) c.any.ensures.ran (YieldsList-from_slice os cc)
+    cuts_by (λ o. o.sums.cut) c.any.result os (cases_from_any _ _ _ (λ o. 0 < o.sums.cut) (λ o. o.sums.cut ≤ 0) c.any.ensures.ran (YieldsList-from_slice os cc)
     (λ x q k. search (rules, tests)) (λ x q k. search (rules, tests)))

@@ -14,6 +14,6 @@ returns c = record {
   same = c.in_ok-overall.ensures.failure;
   large = λ is. cc;
   seen =
-      subst (λ (l : List Advertisement). IsSoFar l c.args.befores.now c.args.each (roots_of c.args.befores.now) c.in_ok-overall.overall) c.in_ok-left.ensures.left
+      subst (λ (l : List Advertisement). IsSoFar l c.args.befores.now c.args.detail (roots_of c.args.befores.now) c.in_ok-overall.overall) c.in_ok-left.ensures.left
       c.in_ok-overall.ensures.seen;
 }

@@ -4,7 +4,7 @@ use Rattle.ospf_failures.proofs.ReportLemmas.{reports_are}
 use Rattle.ospf_failures.proofs.report.reports.Goals as goal
 
 pub returns-clause-reported : goal.returns-clause-reported
-returns-clause-reported c = record {
+returns-clause-reported g c = record {
   reports = c.in_ok-reports.reports.items;
   are_reports =
       reports_are (advertisements_of c.args.listing.now) c.args.root c.args.table.now c.in_ok-failures.failures.items c.in_ok-reports.reports.items

@@ -3,7 +3,7 @@ use Rattle.std.specs.Io.KnownBytes.{Appends}
 use Rattle.ospf_files.specs.Streams.{IsBegun, IsErrorCut, no_text}
 use Rattle.ospf_files.proofs.Cut.{err_then, for_memory, ok_then}
 use Rattle.ospf_files.proofs.Written.{nothing_begun, nothing_written, whatever}
-use Rattle.ospf_table.specs.Cut.{IsWarningBegun}
+use Rattle.ospf_table.specs.Cut.{IsTableWarningBegun}
 use Rattle.ospf_table.specs.Output.{IsUnlisted, unlisted_line}
 use Rattle.ospf_table.proofs.table.warn.Goals as goal
 
@@ -14,7 +14,7 @@ returns-then-not-is_unlisted-clause-told g c =
 pub returns-in_err-line-clause-begun : goal.returns-in_err-line-clause-begun
 returns-in_err-line-clause-begun g c =
     let unlisted : IsUnlisted c.args.listing.now c.args.root = c.is_unlisted.ensures.0 c.if-not-is_unlisted.false in
-    let begun : IsWarningBegun c.args.listing.now c.args.root (g.E.Write.contents c.args.err.now) (g.E.Write.contents c.args.err.now) = record {
+    let begun : IsTableWarningBegun c.args.listing.now c.args.root (g.E.Write.contents c.args.err.now) (g.E.Write.contents c.args.err.now) = record {
       warning = unlisted_line c.args.root;
       warned = inl (unlisted, refl);
       begun = nothing_begun _ _;

@@ -1,7 +1,7 @@
 use Rattle.std.proofs.Common.{◌↔◌, List, ℕ, IsTrue, subst}
 use Rattle.ospf_lsa.specs.Listing.{HasKey}
 use Rattle.ospf_table.proofs.EntryLemmas.{finds}
-use Rattle.ospf_table.proofs.entries.Entries.has.Goals as goal
+use Rattle.ospf_table.proofs.entries.LineEntries.has.Goals as goal
 
 pub returns : goal.returns
 returns c =

@@ -1,11 +1,11 @@
 use Rattle.std.specs.Map.{values_of}
-use Rattle.std.proofs.Common.{◌≡◌, ◌≢◌, ◌<◌, arith, ℕ, List, refl, ap, sym, subst, ◌∙◌}
+use Rattle.std.proofs.Common.{◌≡◌, ◌<◌, arith, ℕ, List, refl, ap, sym, subst, ◌∙◌}
 use Rattle.ospf_lsa.specs.Header.{header_of}
 use Rattle.ospf_lsa.specs.declared.header.LsaHeader.{LsaHeader}
 use Rattle.ospf_lsa.specs.Listing.{HasKey, IsInserted}
 use Rattle.ospf_lsa.specs.Lsa.{key_of}
 use Rattle.ospf_table.proofs.EntryLemmas.{none_found, put_in, keyed_in}
-use Rattle.ospf_table.proofs.entries.Entries.add.Goals as goal
+use Rattle.ospf_table.proofs.entries.LineEntries.add.Goals as goal
 
 pub invariant_of-self-2 : goal.invariant_of-self-2
 invariant_of-self-2 c =
@@ -14,8 +14,7 @@ invariant_of-self-2 c =
     let age : c.header.result.age ≡ (header_of c.args.lsa).age = ap (λ (h : LsaHeader). h.age) (c.header.ensures.value ∙ ap header_of c.view-2.ensures.same) in
     let below : c.ticks.result < 3600 = omega (arith, c.ticks.ensures.at_most, c.if-ticks-eq-MAX_AGE.false) in
     let less : (header_of c.args.lsa).age < 3600 = rw (← age, ← c.ticks.ensures.value) below in
-    let young : (header_of c.args.lsa).age ≢ 3600 = λ e. absurd (omega (arith, less, e)) in
-    let more = keyed_in c.args.lsa es c.self.invariant.keyed (record { key = refl; young = young }) in
+    let more = keyed_in c.args.lsa es c.self.invariant.keyed (record { key = refl; young = less }) in
     record {
       keyed = rw (c.in-Ok.ensures.ok, key) more;
       ordered = c.put.ensures.ordered;

@@ -1,6 +1,6 @@
 use Rattle.std.proofs.Common.{◌≡◌, flat_map, string_bytes, take}
-use Rattle.ospf_failures.specs.Lines.{change_line}
-use Rattle.ospf_failures.proofs.lines.change_lines.Given as goal
+use Rattle.ospf_table.specs.Changes.{change_line}
+use Rattle.ospf_table.proofs.changes.change_lines.Given as goal
 
 -- the lines of the changes so far
 abbrev pub invariant-loop-change : goal.invariant-loop-change

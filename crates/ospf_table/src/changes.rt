@@ -1,13 +1,13 @@
-//! The lines of a failure.
+//! Lines of what a failure changes in a table.
 
 ghost use Rattle.std.specs.Prelude.{◌≡◌, ◌++◌, IfOk, flat_map, string_bytes};
-ghost use Rattle.ospf_whatif.specs.Name.{failure_text};
+ghost use Rattle.ospf_whatif.specs.Name.{area_failure_text};
 ghost use Rattle.ospf_whatif.specs.declared.effect.Loss.{Loss};
-ghost use Rattle.ospf_failures.specs.Lines.{change_line, failure_lines, loss_line, totals_of};
+ghost use Rattle.ospf_table.specs.Changes.{change_line, failure_lines, loss_line, totals_of};
 
 use crate::totals::{Totals, totals_line};
 use ospf_graph::Route;
-use ospf_whatif::{Failure, Loss, RouteChange};
+use ospf_whatif::{AreaFailure, Loss, RouteChange};
 use std::alloc::{AllocError, Global};
 use std::fmt::{self, Display, Formatter, Write};
 
@@ -18,7 +18,7 @@ use std::fmt::{self, Display, Formatter, Write};
 /// `AllocError` where memory runs out.
 pub fn failure_lines(
     alloc: Global,
-    failure: &Failure,
+    failure: &AreaFailure,
     changes: &[RouteChange],
     totals: Totals,
     each: bool,
@@ -45,7 +45,7 @@ struct Costs {
 
 impl Display for Costs {
     ghost use Rattle.std.specs.Prelude.{Some};
-    ghost use Rattle.ospf_failures.specs.Lines.{costs_text};
+    ghost use Rattle.ospf_table.specs.Changes.{costs_text};
 
     ghost output = { λ costs. Some (costs_text costs.before costs.after) };
 
@@ -57,7 +57,7 @@ impl Display for Costs {
 // A line for each route that a failure changes.
 fn change_lines(
     alloc: Global,
-    failure: &Failure,
+    failure: &AreaFailure,
     changes: &[RouteChange],
 ) -> Result<String, AllocError>
     ensures { IfOk result (λ lines. string_bytes lines
@@ -70,10 +70,12 @@ fn change_lines(
     Ok(lines)
 }
 
-// The line of a route that a failure changes.
-pub(crate) fn change_line(
+/// The line of a route that a failure changes, as `failure_lines` has it.
+///
+/// `AllocError` where memory runs out.
+pub fn change_line(
     alloc: Global,
-    failure: &Failure,
+    failure: &AreaFailure,
     change: &RouteChange,
 ) -> Result<String, AllocError>
     ensures { IfOk result (λ line. string_bytes line ≡ change_line failure.now change.now) }
@@ -88,8 +90,8 @@ pub(crate) fn change_line(
 }
 
 // The line of a prefix that is gone.
-fn gone_line(alloc: Global, failure: &Failure, before: &Route) -> Result<String, AllocError>
-    ensures { IfOk result (λ line. string_bytes line ≡ failure_text failure.now
+fn gone_line(alloc: Global, failure: &AreaFailure, before: &Route) -> Result<String, AllocError>
+    ensures { IfOk result (λ line. string_bytes line ≡ area_failure_text failure.now
         ++ loss_line before.now Loss.Gone) }
 {
     let line = format!(in alloc; "{failure} gone {}\n", before.prefix)?;
@@ -97,8 +99,8 @@ fn gone_line(alloc: Global, failure: &Failure, before: &Route) -> Result<String,
 }
 
 // The line of a prefix that is cut off.
-fn cut_line(alloc: Global, failure: &Failure, before: &Route) -> Result<String, AllocError>
-    ensures { IfOk result (λ line. string_bytes line ≡ failure_text failure.now
+fn cut_line(alloc: Global, failure: &AreaFailure, before: &Route) -> Result<String, AllocError>
+    ensures { IfOk result (λ line. string_bytes line ≡ area_failure_text failure.now
         ++ loss_line before.now Loss.Cut) }
 {
     let line = format!(in alloc; "{failure} cut {}\n", before.prefix)?;
@@ -108,11 +110,11 @@ fn cut_line(alloc: Global, failure: &Failure, before: &Route) -> Result<String, 
 // The line of a prefix that costs more.
 fn dearer_line(
     alloc: Global,
-    failure: &Failure,
+    failure: &AreaFailure,
     before: &Route,
     after: &Route,
 ) -> Result<String, AllocError>
-    ensures { IfOk result (λ line. string_bytes line ≡ failure_text failure.now
+    ensures { IfOk result (λ line. string_bytes line ≡ area_failure_text failure.now
         ++ loss_line before.now (Loss.Dearer after.now)) }
 {
     let costs = Costs {
@@ -126,11 +128,11 @@ fn dearer_line(
 // The line of a prefix that is reached over other hops.
 fn moved_line(
     alloc: Global,
-    failure: &Failure,
+    failure: &AreaFailure,
     before: &Route,
     after: &Route,
 ) -> Result<String, AllocError>
-    ensures { IfOk result (λ line. string_bytes line ≡ failure_text failure.now
+    ensures { IfOk result (λ line. string_bytes line ≡ area_failure_text failure.now
         ++ loss_line before.now (Loss.Moved after.now)) }
 {
     let line = format!(in alloc;

@@ -3,12 +3,12 @@ use Rattle.std.specs.Prelude.{ℕ, Bool, true, false, List, [], ◌++◌, codes,
 use Rattle.ospf_base.specs.Text.{prefix_text}
 use Rattle.ospf_graph.specs.Text.{hops_text}
 use Rattle.ospf_graph.specs.declared.route.Route.{Route}
-use Rattle.ospf_whatif.specs.Name.{failure_text}
-use Rattle.ospf_whatif.specs.declared.failure.Failure.{Failure}
+use Rattle.ospf_whatif.specs.Name.{area_failure_text}
+use Rattle.ospf_whatif.specs.declared.failure.AreaFailure.{AreaFailure}
 use Rattle.ospf_whatif.specs.declared.effect.RouteChange.{RouteChange}
 use Rattle.ospf_whatif.specs.declared.effect.Loss.{Loss}
 use Rattle.ospf_whatif.specs.declared.effect.Loss.TheVariants.{Gone, Cut, Dearer, Moved}
-use Rattle.ospf_failures.specs.declared.totals.Totals.{Totals}
+use Rattle.ospf_table.specs.declared.totals.Totals.{Totals}
 
 -- ---- a route that a failure changes
 
@@ -25,8 +25,8 @@ loss_line before (Dearer after) =
 loss_line before (Moved after) = codes " hops " ++ prefix_text before.prefix ++ codes " " ++ decimal after.cost ++ codes " " ++ hops_text after.hops ++ codes "\n"
 
 -- the failure, and what it does to the route
-abbrev pub change_line : Failure → RouteChange → List ℕ
-change_line failure change = failure_text failure ++ loss_line change.before change.loss
+abbrev pub change_line : AreaFailure → RouteChange → List ℕ
+change_line failure change = area_failure_text failure ++ loss_line change.before change.loss
 
 -- ---- how many
 
@@ -56,11 +56,11 @@ totals_of changes = record { cut = count_of is_cut changes; gone = count_of is_g
 abbrev pub totals_text : Totals → List ℕ
 totals_text t = codes "cut " ++ decimal t.cut ++ codes " gone " ++ decimal t.gone ++ codes " cost " ++ decimal t.cost ++ codes " hops " ++ decimal t.hops
 
-abbrev pub totals_line : Failure → Totals → List ℕ
-totals_line failure t = failure_text failure ++ codes " " ++ totals_text t ++ codes "\n"
+abbrev pub totals_line : AreaFailure → Totals → List ℕ
+totals_line failure t = area_failure_text failure ++ codes " " ++ totals_text t ++ codes "\n"
 
 -- ---- all of a failure
 
 -- a line for each change where that is wanted, and behind them the totals
-abbrev pub failure_lines : Bool → Failure → List RouteChange → List ℕ
+abbrev pub failure_lines : Bool → AreaFailure → List RouteChange → List ℕ
 failure_lines each failure changes = (if each then flat_map (change_line failure) changes else []) ++ totals_line failure (totals_of changes)

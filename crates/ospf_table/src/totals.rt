@@ -1,9 +1,9 @@
-//! How many prefixes a failure changes.
+//! How many prefixes of a table a failure changes.
 
 ghost use Rattle.std.specs.Prelude.{◌≡◌, IfOk, string_bytes};
-ghost use Rattle.ospf_failures.specs.Lines.{count_of, is_cut, is_dearer, is_gone, is_moved, totals_line};
+ghost use Rattle.ospf_table.specs.Changes.{count_of, is_cut, is_dearer, is_gone, is_moved, totals_line};
 
-use ospf_whatif::{Failure, Loss, RouteChange};
+use ospf_whatif::{AreaFailure, Loss, RouteChange};
 use std::alloc::{AllocError, Global};
 use std::fmt::{self, Display, Formatter, Write};
 
@@ -22,7 +22,7 @@ pub struct Totals {
 
 impl Totals {
     ghost use Rattle.std.specs.Prelude.{◌≡◌};
-    ghost use Rattle.ospf_failures.specs.Lines.{totals_of};
+    ghost use Rattle.ospf_table.specs.Changes.{totals_of};
 
     /// The totals of changes.
     pub fn of(changes: &[RouteChange]) -> Totals
@@ -40,7 +40,7 @@ impl Totals {
 /// As `cut 1 gone 0 cost 2 hops 0`.
 impl Display for Totals {
     ghost use Rattle.std.specs.Prelude.{Some};
-    ghost use Rattle.ospf_failures.specs.Lines.{totals_text};
+    ghost use Rattle.ospf_table.specs.Changes.{totals_text};
 
     ghost output = { λ totals. Some (totals_text totals) };
 
@@ -56,7 +56,7 @@ impl Display for Totals {
 // The line of a failure's totals.
 pub(crate) fn totals_line(
     alloc: Global,
-    failure: &Failure,
+    failure: &AreaFailure,
     totals: Totals,
 ) -> Result<String, AllocError>
     ensures { IfOk result (λ line. string_bytes line ≡ totals_line failure.now totals) }
