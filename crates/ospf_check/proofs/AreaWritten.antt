@@ -17,7 +17,7 @@ use Rattle.ospf_plan.specs.Parts.{AreFindings}
 use Rattle.ospf_files.specs.declared.streams.FailedStreams.{FailedStreams}
 use Rattle.ospf_plan.specs.Shown.{is_note}
 use Rattle.ospf_plan.specs.declared.finding.Finding.{Finding}
-use Rattle.ospf_check.specs.Area.{EndsAt, IsAreaCut, IsAreaTold, IsCutAt, IsFindingsWritten, at_error, at_one, at_output, fault_lines, is_fault, note_lines}
+use Rattle.ospf_check.specs.Area.{EndsAtFinding, IsAreaCut, IsAreaTold, IsCutAtFinding, IsFindingsWritten, at_error, at_one, at_output, fault_lines, is_fault, note_lines}
 
 pub no_findings : (explain : Bool) (files : List NamedFile) (out err : Option (List ℕ)) → IsFindingsWritten explain files [] true out out err err
 no_findings explain files out err = record { sound_is = refl; out_written = nothing_written out; err_written = nothing_written err }
@@ -42,7 +42,7 @@ finding_written explain files a b c x y z fs i f sound within at so_far notes fa
 
 -- the telling ended at a finding, behind findings that were told
 pub cut_at : (explain : Bool) (files : List NamedFile) (a b c x y z : Option (List ℕ)) (fs : List Finding) (i : ℕ) (f : Finding) (sound : Bool) (failed : FailedStreams) (cause : Failure) → i < length fs
-    → f ≡ get_or fs i f → IsFindingsWritten explain files (take i fs) sound a b x y → EndsAt explain files failed f b c y z cause → IsCutAt explain files fs failed a c x z cause
+    → f ≡ get_or fs i f → IsFindingsWritten explain files (take i fs) sound a b x y → EndsAtFinding explain files failed f b c y z cause → IsCutAtFinding explain files fs failed a c x z cause
 cut_at explain files a b c x y z fs i f sound failed cause within at so_far ends = record {
   before = take i fs;
   finding = f;
@@ -58,7 +58,7 @@ cut_at explain files a b c x y z fs i f sound failed cause within at so_far ends
 -- standard output failed at a note
 pub output_ended : (explain : Bool) (files : List NamedFile) (f : Finding) (before failed : FailedStreams) (a b x : Option (List ℕ)) (text : List ℕ) (r : Result ⊤ Failure)
     → IfErr r (λ why. (why ≡ failure.Memory) ⊎ (why ≡ failure.Output)) → OnErr r (failed ≡ with_output before) → OnErr r (IsBegun a b text) → text ≡ note_lines explain files f
-    → IfErr r (EndsAt explain files failed f a b x x)
+    → IfErr r (EndsAtFinding explain files failed f a b x x)
 output_ended explain files f before failed a b x text (Ok done) why failed_is begun is = tt
 output_ended explain files f before failed a b x text (Err e) why failed_is begun is =
     at_output e why (ap (λ (s : FailedStreams). s.output) failed_is) (subst (IsBegun a b) is begun) refl
@@ -66,14 +66,14 @@ output_ended explain files f before failed a b x text (Err e) why failed_is begu
 -- standard error failed at a fault
 pub error_ended : (explain : Bool) (files : List NamedFile) (f : Finding) (before failed : FailedStreams) (a x y : Option (List ℕ)) (text : List ℕ) (r : Result ⊤ Failure)
     → IfErr r (λ why. (why ≡ failure.Memory) ⊎ (why ≡ failure.Error)) → OnErr r (failed ≡ with_error before) → OnErr r (IsBegun x y text) → text ≡ fault_lines explain files f
-    → IfErr r (EndsAt explain files failed f a a x y)
+    → IfErr r (EndsAtFinding explain files failed f a a x y)
 error_ended explain files f before failed a x y text (Ok done) why failed_is begun is = tt
 error_ended explain files f before failed a x y text (Err e) why failed_is begun is =
     at_error e why (ap (λ (s : FailedStreams). s.error) failed_is) refl (subst (IsBegun x y) is begun)
 
 -- the telling ended at one of the findings of the configurations
 pub area_ended : (explain : Bool) (files : List NamedFile) (configs : List Config) (failed : FailedStreams) (a b x y : Option (List ℕ)) (fs : List Finding) (r : Result Bool Failure)
-    → AreFindings configs fs → IfErr r (IsCutAt explain files fs failed a b x y) → IfErr r (IsAreaCut explain files configs failed a b x y)
+    → AreFindings configs fs → IfErr r (IsCutAtFinding explain files fs failed a b x y) → IfErr r (IsAreaCut explain files configs failed a b x y)
 area_ended explain files configs failed a b x y fs (Ok sound) are cut = tt
 area_ended explain files configs failed a b x y fs (Err e) are cut = at_one fs are cut
 

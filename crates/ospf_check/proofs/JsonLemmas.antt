@@ -15,7 +15,7 @@ use Rattle.ospf_files.specs.declared.status.Failure.{Failure}
 use Rattle.ospf_files.specs.declared.streams.FailedStreams.{FailedStreams}
 use Rattle.ospf_plan.specs.Parts.{AreFindings}
 use Rattle.ospf_plan.specs.Shown.{is_note}
-use Rattle.ospf_plan.specs.declared.ends.End.{End}
+use Rattle.ospf_plan.specs.declared.ends.LinkEnd.{LinkEnd}
 use Rattle.ospf_plan.specs.declared.fault.AreaFault.{AreaFault}
 use Rattle.ospf_plan.specs.declared.fault.AreaFault.TheVariants as fault
 use Rattle.ospf_plan.specs.declared.finding.Finding.{Finding}
@@ -37,7 +37,7 @@ port_plain : (port : Option Port) → has_float (port_data port) ≡ false
 port_plain None = refl
 port_plain (Some port) = refl
 
-side_plain : (f : AreaFault) (e : End) (name : List ℕ) → has_float (side_data f e name) ≡ false
+side_plain : (f : AreaFault) (e : LinkEnd) (name : List ℕ) → has_float (side_data f e name) ≡ false
 side_plain fault.SameRouter e name = refl
 side_plain fault.SameAddress e name = refl
 side_plain fault.Area e name = refl
@@ -57,7 +57,7 @@ side_plain fault.Astray e name = rw (port_plain e.port) refl
 side_plain (fault.Nowhere peer) e name = refl
 side_plain fault.Apart e name = refl
 
-other_plain : (f : AreaFault) (e : End) (name : List ℕ) → has_float (other_data f e name) ≡ false
+other_plain : (f : AreaFault) (e : LinkEnd) (name : List ℕ) → has_float (other_data f e name) ≡ false
 other_plain fault.SameRouter e name = side_plain fault.SameRouter e name
 other_plain fault.SameAddress e name = side_plain fault.SameAddress e name
 other_plain fault.Area e name = side_plain fault.Area e name

@@ -1,4 +1,3 @@
-mod PlaceLists
 pub mod Written
 mod AreaWritten
 mod Numbered

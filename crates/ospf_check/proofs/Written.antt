@@ -1,7 +1,9 @@
 -- What is told of files, one after the other.
 use Rattle.std.proofs.Common.{◌≡◌, ◌∙◌, ◌&&◌, Bool, true, false, ap, sym, subst, ◌+◌, ◌<◌, ℕ, suc, List, [], ◌∷◌, ◌++◌, length, take, drop, get_or, flat_map, Option, Some, ◌⊎◌, inl, append_assoc, append-nil, refl}
 use Rattle.std.proofs.lemmas.List.{take_more, flat_map_more}
-use Rattle.ospf_check.specs.declared.explained.Explained.{Explained}
+use Rattle.ospf_files.specs.AllFaults.{explains}
+use Rattle.ospf_files.specs.declared.explained.Explained.{Explained}
+use Rattle.ospf_files.specs.declared.telling.Telling.{Telling}
 use Rattle.ospf_files.proofs.Listed.{config_read, files_split}
 use Rattle.ospf_files.proofs.Written.{both_written, nothing_written}
 use Rattle.ospf_config.specs.declared.config.Config.{Config}
@@ -14,7 +16,7 @@ use Rattle.std.specs.Io.KnownBytes.{Appends}
 use Rattle.ospf_files.specs.declared.streams.FailedStreams.{FailedStreams}
 use Rattle.ospf_check.specs.declared.check.CheckFault.{CheckFault}
 use Rattle.ospf_check.specs.declared.check.CheckFault.TheVariants as fault
-use Rattle.ospf_check.specs.Checked.{AreAllKept, AreTold, EndsIn, IsCutIn, IsExplanation, IsTold, IsWritten, IsWrittenOf, KeepsIf, accepted_line, accepted_told, no_error, no_file, no_output, one_file, place_line, refused_told, warnings}
+use Rattle.ospf_check.specs.Checked.{AreAllKept, AreTold, EndsIn, IsCutIn, IsExplanation, IsFileTold, IsWritten, IsWrittenOf, KeepsIf, accepted_line, accepted_told, no_error, no_file, no_output, one_file, place_line, refused_told, warnings}
 use Rattle.ospf_files.specs.declared.files.NamedFile.{NamedFile}
 
 and_assoc : (a b c : Bool) → ((a && b) && c) ≡ (a && (b && c))
@@ -26,25 +28,25 @@ and_true true = refl
 and_true false = refl
 
 -- one more file
-more_told : (explain : Bool) (files : List NamedFile) (all : Bool) (outs errs : List ℕ) (file : NamedFile) (accepted : Bool) (out err : List ℕ) → AreTold explain files all outs errs
-    → IsTold explain file accepted out err → AreTold explain (files ++ file ∷ []) (all && accepted) (outs ++ out) (errs ++ err)
-more_told explain _ _ _ _ file accepted out err no_file is = rw (sym (append-nil out), sym (append-nil err), sym (and_true accepted)) (one_file is no_file)
-more_told explain _ _ _ _ file accepted out err (one_file {accepted = a} {all = all} {out = o} {outs = outs} {err = e} {errs = errs} first rest) is =
-    rw (and_assoc a all accepted, append_assoc o outs out, append_assoc e errs err) (one_file first (more_told explain _ all outs errs file accepted out err rest is))
+more_told : (how : Telling) (files : List NamedFile) (all : Bool) (outs errs : List ℕ) (file : NamedFile) (accepted : Bool) (out err : List ℕ) → AreTold how files all outs errs
+    → IsFileTold how file accepted out err → AreTold how (files ++ file ∷ []) (all && accepted) (outs ++ out) (errs ++ err)
+more_told how _ _ _ _ file accepted out err no_file is = rw (sym (append-nil out), sym (append-nil err), sym (and_true accepted)) (one_file is no_file)
+more_told how _ _ _ _ file accepted out err (one_file {accepted = a} {all = all} {out = o} {outs = outs} {err = e} {errs = errs} first rest) is =
+    rw (and_assoc a all accepted, append_assoc o outs out, append_assoc e errs err) (one_file first (more_told how _ all outs errs file accepted out err rest is))
 
-pub no_files : (explain : Bool) (out err : Option (List ℕ)) → IsWritten explain [] true out out err err
-no_files explain out err = record { out = []; err = []; told = no_file; out_written = nothing_written out; err_written = nothing_written err }
+pub no_files : (how : Telling) (out err : Option (List ℕ)) → IsWritten how [] true out out err err
+no_files how out err = record { out = []; err = []; told = no_file; out_written = nothing_written out; err_written = nothing_written err }
 
-pub file_written : (explain : Bool) (a b c x y z : Option (List ℕ)) (files : List NamedFile) (i : ℕ) (file : NamedFile) (all accepted : Bool) → i < length files
-    → file ≡ get_or files i file → IsWritten explain (take i files) all a b x y → IsWrittenOf explain file accepted b c y z
-    → IsWritten explain (take (i + 1) files) (all && accepted) a c x z
-file_written explain a b c x y z files i file all accepted within at so_far next =
+pub file_written : (how : Telling) (a b c x y z : Option (List ℕ)) (files : List NamedFile) (i : ℕ) (file : NamedFile) (all accepted : Bool) → i < length files
+    → file ≡ get_or files i file → IsWritten how (take i files) all a b x y → IsWrittenOf how file accepted b c y z
+    → IsWritten how (take (i + 1) files) (all && accepted) a c x z
+file_written how a b c x y z files i file all accepted within at so_far next =
     let more = ap (λ last. take i files ++ last ∷ []) at ∙ sym (take_more files i file within) in
     record {
       out = so_far.out ++ next.out;
       err = so_far.err ++ next.err;
-      told = subst (λ front. AreTold explain front (all && accepted) (so_far.out ++ next.out) (so_far.err ++ next.err)) more
-          (more_told explain (take i files) all so_far.out so_far.err file accepted next.out next.err so_far.told next.told);
+      told = subst (λ front. AreTold how front (all && accepted) (so_far.out ++ next.out) (so_far.err ++ next.err)) more
+          (more_told how (take i files) all so_far.out so_far.err file accepted next.out next.err so_far.told next.told);
       out_written = both_written a b c so_far.out next.out so_far.out_written next.out_written;
       err_written = both_written x y z so_far.err next.err so_far.err_written next.err_written;
     }
@@ -57,9 +59,9 @@ lines_more places i place line so_far lines within is shown front all =
     ∙ flat_map_more place_line [] (take i places) (get_or places i place) ∙ ap (flat_map place_line) (sym (take_more places i place within))
 
 -- a check that ended in a file, behind files that were told
-pub cut_in : (explain : Bool) (a b c x y z : Option (List ℕ)) (files : List NamedFile) (i : ℕ) (file : NamedFile) (all : Bool) (failed : FailedStreams) (cause : CheckFault) → i < length files
-    → file ≡ get_or files i file → IsWritten explain (take i files) all a b x y → EndsIn explain file failed b c y z cause → IsCutIn explain files failed a c x z cause
-cut_in explain a b c x y z files i file all failed cause within at so_far ends = record {
+pub cut_in : (how : Telling) (a b c x y z : Option (List ℕ)) (files : List NamedFile) (i : ℕ) (file : NamedFile) (all : Bool) (failed : FailedStreams) (cause : CheckFault) → i < length files
+    → file ≡ get_or files i file → IsWritten how (take i files) all a b x y → EndsIn how file failed b c y z cause → IsCutIn how files failed a c x z cause
+cut_in how a b c x y z files i file all failed cause within at so_far ends = record {
   before = take i files;
   file = file;
   after = drop (suc i) files;
@@ -76,9 +78,9 @@ cut_in explain a b c x y z files i file all failed cause within at so_far ends =
 }
 
 -- an accepted file
-pub accepted_verdict : (explain : Bool) (file : NamedFile) (bytes lines : List ℕ) (config : Config) → bytes_of file ≡ Some bytes → IsConfigIn bytes config
-    → lines ≡ accepted_line file ++ warnings explain config → IsTold explain file true lines []
-accepted_verdict explain file bytes lines config held is text = subst (λ t. IsTold explain file true t []) (sym text) (accepted_told bytes config held is)
+pub accepted_verdict : (how : Telling) (file : NamedFile) (bytes lines : List ℕ) (config : Config) → bytes_of file ≡ Some bytes → IsConfigIn bytes config
+    → lines ≡ accepted_line file ++ warnings (explains how) config → IsFileTold how file true lines []
+accepted_verdict how file bytes lines config held is text = subst (λ t. IsFileTold how file true t []) (sym text) (accepted_told bytes config held is)
 
 -- the configuration of one file more
 pub kept_more : (files : List NamedFile) (i : ℕ) (file : NamedFile) (old new : List Config) (all accepted : Bool) → i < length files → file ≡ get_or files i file
@@ -88,32 +90,32 @@ kept_more files i file old new true false within at are kept = tt
 kept_more files i file old new false accepted within at are kept = tt
 
 -- a refused file
-pub refused_verdict : (explain : Bool) (file : NamedFile) (bytes : List ℕ) (fault : ConfigFault) (lines more : List ℕ) → bytes_of file ≡ Some bytes → IsRefusedFor bytes fault → IsExplanation explain bytes fault more
-    → lines ≡ refused_line file fault ++ more → IsTold explain file false [] lines
-refused_verdict explain file bytes fault lines more held is because text = subst (λ t. IsTold explain file false [] t) (sym text) (refused_told bytes fault more held is because)
+pub refused_verdict : (how : Telling) (file : NamedFile) (bytes : List ℕ) (fault : ConfigFault) (lines more : List ℕ) → bytes_of file ≡ Some bytes → IsRefusedFor bytes fault → IsExplanation how bytes fault more
+    → lines ≡ refused_line file fault ++ more → IsFileTold how file false [] lines
+refused_verdict how file bytes fault lines more held is because text = subst (λ t. IsFileTold how file false [] t) (sym text) (refused_told bytes fault more held is because)
 
 -- standard output failed at the line of an accepted file
-pub output_ends : (explain : Bool) (file : NamedFile) (before failed : FailedStreams) (a b x : Option (List ℕ)) (f : Failure) (line text : List ℕ)
-    → IsTold explain file true line [] → text ≡ line → (f ≡ failure.Memory) ⊎ (f ≡ failure.Output) → failed ≡ with_output before → IsBegun a b text
-    → EndsIn explain file failed a b x x (fault.Failure f)
-output_ends explain file before failed a b x f line text told is why failed_is begun =
+pub output_ends : (how : Telling) (file : NamedFile) (before failed : FailedStreams) (a b x : Option (List ℕ)) (f : Failure) (line text : List ℕ)
+    → IsFileTold how file true line [] → text ≡ line → (f ≡ failure.Memory) ⊎ (f ≡ failure.Output) → failed ≡ with_output before → IsBegun a b text
+    → EndsIn how file failed a b x x (fault.Failure f)
+output_ends how file before failed a b x f line text told is why failed_is begun =
     no_output f line why (ap (λ (s : FailedStreams). s.output) failed_is) told (subst (IsBegun a b) is begun) refl
 
 -- standard error failed at the lines of a refused file
-pub error_ends : (explain : Bool) (file : NamedFile) (before failed : FailedStreams) (a x y : Option (List ℕ)) (f : Failure) (lines text : List ℕ)
-    → IsTold explain file false [] lines → text ≡ lines → (f ≡ failure.Memory) ⊎ (f ≡ failure.Error) → failed ≡ with_error before → IsBegun x y text
-    → EndsIn explain file failed a a x y (fault.Failure f)
-error_ends explain file before failed a x y f lines text told is why failed_is begun =
+pub error_ends : (how : Telling) (file : NamedFile) (before failed : FailedStreams) (a x y : Option (List ℕ)) (f : Failure) (lines text : List ℕ)
+    → IsFileTold how file false [] lines → text ≡ lines → (f ≡ failure.Memory) ⊎ (f ≡ failure.Error) → failed ≡ with_error before → IsBegun x y text
+    → EndsIn how file failed a a x y (fault.Failure f)
+error_ends how file before failed a x y f lines text told is why failed_is begun =
     no_error f lines why (ap (λ (s : FailedStreams). s.error) failed_is) (inl told) refl (subst (IsBegun x y) is begun)
 
 -- the line of an accepted file is written
-pub accepted_written : (explain : Bool) (file : NamedFile) (a b x : Option (List ℕ)) (line text : List ℕ) → IsTold explain file true line [] → text ≡ line
-    → Appends a b text → IsWrittenOf explain file true a b x x
-accepted_written explain file a b x line text told is written =
+pub accepted_written : (how : Telling) (file : NamedFile) (a b x : Option (List ℕ)) (line text : List ℕ) → IsFileTold how file true line [] → text ≡ line
+    → Appends a b text → IsWrittenOf how file true a b x x
+accepted_written how file a b x line text told is written =
     record { out = line; err = []; told = told; out_written = subst (Appends a b) is written; err_written = nothing_written x }
 
 -- the lines of a refused file are written
-pub refused_written : (explain : Bool) (file : NamedFile) (a x y : Option (List ℕ)) (lines text : List ℕ) → IsTold explain file false [] lines → text ≡ lines
-    → Appends x y text → IsWrittenOf explain file false a a x y
-refused_written explain file a x y lines text told is written =
+pub refused_written : (how : Telling) (file : NamedFile) (a x y : Option (List ℕ)) (lines text : List ℕ) → IsFileTold how file false [] lines → text ≡ lines
+    → Appends x y text → IsWrittenOf how file false a a x y
+refused_written how file a x y lines text told is written =
     record { out = []; err = lines; told = told; out_written = nothing_written a; err_written = subst (Appends x y) is written }

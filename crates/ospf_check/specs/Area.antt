@@ -14,7 +14,9 @@ use Rattle.ospf_files.specs.declared.streams.FailedStreams.{FailedStreams}
 use Rattle.ospf_plan.specs.Shown.{finding_text, is_note, meaning_text}
 use Rattle.ospf_plan.specs.Parts.{AreFindings}
 use Rattle.ospf_plan.specs.declared.finding.Finding.{Finding}
-use Rattle.ospf_check.specs.Checked.{IsCutShort, IsWritten, said_line}
+use Rattle.ospf_files.specs.AllFaults.{explains}
+use Rattle.ospf_files.specs.declared.telling.Telling.{Telling}
+use Rattle.ospf_check.specs.Checked.{IsCheckCutShort, IsWritten, indented_line}
 
 -- ---- what is told of a finding
 
@@ -28,7 +30,7 @@ line_of files f = finding_text f (name_at files f.here.file) (name_at files f.ot
 
 -- its line, and a line of what follows from it where that is wanted
 abbrev pub finding_lines : Bool → List NamedFile → Finding → List ℕ
-finding_lines explain files f = (line_of files f ++ codes "\n") ++ (if explain then said_line (meaning_text f.fault) else [])
+finding_lines explain files f = (line_of files f ++ codes "\n") ++ (if explain then indented_line (meaning_text f.fault) else [])
 
 -- what is told of a finding on standard output: of a note, where it is to be explained
 abbrev pub note_lines : Bool → List NamedFile → Finding → List ℕ
@@ -58,22 +60,22 @@ pub record IsAreaTold (explain : Bool) (files : List NamedFile) (sound : Bool) (
   pub told : IsFindingsWritten explain files findings sound out_old out_new err_old err_new
 
 -- the files are told of one by one, and where all are accepted what is wrong between them
-pub data IsChecked (explain : Bool) (files : List NamedFile) : Bool → (out_old out_new err_old err_new : Option (List ℕ)) → Type 0 where
-  one_by_one : {a b x y : Option (List ℕ)} → IsWritten explain files false a b x y → IsChecked explain files false a b x y
-  together : {sound : Bool} {a b c x y z : Option (List ℕ)} → IsWritten explain files true a b x y → IsAreaTold explain files sound b c y z → IsChecked explain files sound a c x z
+pub data IsChecked (how : Telling) (files : List NamedFile) : Bool → (out_old out_new err_old err_new : Option (List ℕ)) → Type 0 where
+  one_by_one : {a b x y : Option (List ℕ)} → IsWritten how files false a b x y → IsChecked how files false a b x y
+  together : {sound : Bool} {a b c x y z : Option (List ℕ)} → IsWritten how files true a b x y → IsAreaTold (explains how) files sound b c y z → IsChecked how files sound a c x z
 
 -- ---- where it ends early
 
 -- the telling ended at a finding: what of it was written until then, and which stream failed
-pub data EndsAt (explain : Bool) (files : List NamedFile) (failed : FailedStreams) (f : Finding) (out_old out_new err_old err_new : Option (List ℕ)) : Failure → Type 0 where
-  at_memory : out_new ≡ out_old → err_new ≡ err_old → EndsAt explain files failed f out_old out_new err_old err_new failure.Memory
+pub data EndsAtFinding (explain : Bool) (files : List NamedFile) (failed : FailedStreams) (f : Finding) (out_old out_new err_old err_new : Option (List ℕ)) : Failure → Type 0 where
+  at_memory : out_new ≡ out_old → err_new ≡ err_old → EndsAtFinding explain files failed f out_old out_new err_old err_new failure.Memory
   at_output : (x : Failure) → (x ≡ failure.Memory) ⊎ (x ≡ failure.Output) → IsOutputFailed failed → IsBegun out_old out_new (note_lines explain files f) → err_new ≡ err_old
-      → EndsAt explain files failed f out_old out_new err_old err_new x
+      → EndsAtFinding explain files failed f out_old out_new err_old err_new x
   at_error : (x : Failure) → (x ≡ failure.Memory) ⊎ (x ≡ failure.Error) → IsErrorFailed failed → out_new ≡ out_old → IsBegun err_old err_new (fault_lines explain files f)
-      → EndsAt explain files failed f out_old out_new err_old err_new x
+      → EndsAtFinding explain files failed f out_old out_new err_old err_new x
 
 -- it ended at one of the findings; of those before it all was told
-pub record IsCutAt (explain : Bool) (files : List NamedFile) (findings : List Finding) (failed : FailedStreams) (out_old out_new err_old err_new : Option (List ℕ)) (x : Failure) : Type 0 where
+pub record IsCutAtFinding (explain : Bool) (files : List NamedFile) (findings : List Finding) (failed : FailedStreams) (out_old out_new err_old err_new : Option (List ℕ)) (x : Failure) : Type 0 where
   pub before : List Finding
   pub finding : Finding
   pub after : List Finding
@@ -82,12 +84,12 @@ pub record IsCutAt (explain : Bool) (files : List NamedFile) (findings : List Fi
   pub out_then : Option (List ℕ)
   pub err_then : Option (List ℕ)
   pub told : IsFindingsWritten explain files before sound out_old out_then err_old err_then
-  pub ends : EndsAt explain files failed finding out_then out_new err_then err_new x
+  pub ends : EndsAtFinding explain files failed finding out_then out_new err_then err_new x
 
 -- memory ran out before anything was told of the configurations, or it ended at a finding
 pub data IsAreaCut (explain : Bool) (files : List NamedFile) (configs : List Config) (failed : FailedStreams) (out_old out_new err_old err_new : Option (List ℕ)) : Failure → Type 0 where
   at_none : out_new ≡ out_old → err_new ≡ err_old → IsAreaCut explain files configs failed out_old out_new err_old err_new failure.Memory
-  at_one : {x : Failure} (findings : List Finding) → AreFindings configs findings → IsCutAt explain files findings failed out_old out_new err_old err_new x
+  at_one : {x : Failure} (findings : List Finding) → AreFindings configs findings → IsCutAtFinding explain files findings failed out_old out_new err_old err_new x
       → IsAreaCut explain files configs failed out_old out_new err_old err_new x
 
 -- all files were told of, and the telling of what is between them ended; and last what failed, as far as that could be told
@@ -100,7 +102,7 @@ pub record IsAreaCutShort (explain : Bool) (files : List NamedFile) (configs : L
   pub status_is : status ≡ failure_status cause
 
 -- the check ended in one of the files, or behind them
-pub data IsCheckCut (explain : Bool) (files : List NamedFile) (failed : FailedStreams) : (out_old out_new err_old err_new : Option (List ℕ)) → Status → Type 0 where
-  in_a_file : {a b x y : Option (List ℕ)} {status : Status} → IsCutShort explain files failed a b x y status → IsCheckCut explain files failed a b x y status
-  behind_them : {a b c x y z : Option (List ℕ)} {status : Status} (configs : List Config) → IsWritten explain files true a b x y → AreConfigs files configs
-      → IsAreaCutShort explain files configs failed b c y z status → IsCheckCut explain files failed a c x z status
+pub data IsCheckCut (how : Telling) (files : List NamedFile) (failed : FailedStreams) : (out_old out_new err_old err_new : Option (List ℕ)) → Status → Type 0 where
+  in_a_file : {a b x y : Option (List ℕ)} {status : Status} → IsCheckCutShort how files failed a b x y status → IsCheckCut how files failed a b x y status
+  behind_them : {a b c x y z : Option (List ℕ)} {status : Status} (configs : List Config) → IsWritten how files true a b x y → AreConfigs files configs
+      → IsAreaCutShort (explains how) files configs failed b c y z status → IsCheckCut how files failed a c x z status

@@ -17,13 +17,14 @@ use Rattle.ospf_files.specs.declared.status.Failure.{Failure}
 use Rattle.ospf_files.specs.declared.status.Status.{Status}
 use Rattle.ospf_files.specs.declared.streams.FailedStreams.{FailedStreams}
 use Rattle.ospf_plan.specs.Parts.{AreFindings}
-use Rattle.ospf_plan.specs.Shown.{fault_text, is_note, meaning_text}
-use Rattle.ospf_plan.specs.declared.ends.End.{End}
+use Rattle.ospf_plan.specs.Shown.{area_fault_text, is_note, meaning_text}
+use Rattle.ospf_plan.specs.declared.ends.LinkEnd.{LinkEnd}
 use Rattle.ospf_plan.specs.declared.fault.AreaFault.{AreaFault}
 use Rattle.ospf_plan.specs.declared.fault.AreaFault.TheVariants as fault
 use Rattle.ospf_plan.specs.declared.finding.Finding.{Finding}
+use Rattle.ospf_files.specs.declared.telling.Telling.TheVariants as telling
 use Rattle.ospf_check.specs.Area.{is_fault, name_at}
-use Rattle.ospf_check.specs.Checked.{IsCutShort, IsWritten}
+use Rattle.ospf_check.specs.Checked.{IsCheckCutShort, IsWritten}
 
 -- ---- a finding
 
@@ -51,11 +52,11 @@ port_data None = null
 port_data (Some port) = number (unsigned port.number)
 
 -- its address, and the length of its prefix
-abbrev pub prefix_data : End → Data
+abbrev pub prefix_data : LinkEnd → Data
 prefix_data e = string (number_text e.address.address.0 ++ codes "/" ++ decimal e.address.length)
 
 -- what an interface has at this key
-abbrev pub value_data : AreaFault → End → Data
+abbrev pub value_data : AreaFault → LinkEnd → Data
 value_data fault.SameRouter e = string (number_text e.router.0)
 value_data fault.Apart e = string (number_text e.router.0)
 value_data fault.Area e = string (number_text e.area.0)
@@ -73,18 +74,18 @@ value_data (fault.Nowhere peer) e = number (unsigned peer)
 value_data _ e = prefix_data e
 
 -- the number of the interface, where the key is one of an interface
-abbrev pub place_data : AreaFault → End → Data
+abbrev pub place_data : AreaFault → LinkEnd → Data
 place_data fault.SameRouter e = null
 place_data fault.Apart e = null
 place_data _ e = number (unsigned e.link)
 
 -- what an interface has, and where, by the name of its file
-abbrev pub side_data : AreaFault → End → List ℕ → Data
+abbrev pub side_data : AreaFault → LinkEnd → List ℕ → Data
 side_data f e name =
     object (member (codes "file") (string name) (member (codes "interface") (place_data f e) (member (codes "key") (string (key_text f)) (member (codes "value") (value_data f e) no_members))))
 
 -- what the other interface has, where there is one
-abbrev pub other_data : AreaFault → End → List ℕ → Data
+abbrev pub other_data : AreaFault → LinkEnd → List ℕ → Data
 other_data fault.Alone e name = null
 other_data (fault.Nowhere peer) e name = null
 other_data f e name = side_data f e name
@@ -92,7 +93,7 @@ other_data f e name = side_data f e name
 -- the number and the name of the fault, what follows from it, whether it is a note, and the interfaces
 abbrev pub told_data : AreaFault → Data → Data → Data
 told_data f here other =
-    object (member (codes "code") (string (fault_text f)) (member (codes "here") here (member (codes "meaning") (string (meaning_text f)) (member (codes "note") (boolean (is_note f))
+    object (member (codes "code") (string (area_fault_text f)) (member (codes "here") here (member (codes "meaning") (string (meaning_text f)) (member (codes "note") (boolean (is_note f))
     (member (codes "other") other no_members)))))
 
 abbrev pub finding_data : List NamedFile → Finding → Data
@@ -121,8 +122,8 @@ pub record IsAreaPrinted (files : List NamedFile) (sound : Bool) (out_old out_ne
 -- files that are refused are told of on standard error; where all are accepted it is printed what is wrong between them. What is said
 -- of those that are accepted goes to another stream
 pub data IsJson (files : List NamedFile) : Bool → (out_old out_new err_old err_new : Option (List ℕ)) → Type 0 where
-  one_by_one : {a x y b c : Option (List ℕ)} → IsWritten false files false b c x y → IsJson files false a a x y
-  together : {sound : Bool} {a z x y w b c : Option (List ℕ)} → IsWritten false files true b c x y → IsAreaPrinted files sound a z → w ≡ y → IsJson files sound a z x w
+  one_by_one : {a x y b c : Option (List ℕ)} → IsWritten telling.Verdict files false b c x y → IsJson files false a a x y
+  together : {sound : Bool} {a z x y w b c : Option (List ℕ)} → IsWritten telling.Verdict files true b c x y → IsAreaPrinted files sound a z → w ≡ y → IsJson files sound a z x w
 
 -- ---- where it ends early
 
@@ -142,6 +143,6 @@ pub record IsPrintCutShort (files : List NamedFile) (configs : List Config) (fai
 
 -- it ended in one of the files, or behind them
 pub data IsJsonCut (files : List NamedFile) (failed : FailedStreams) : (out_old out_new err_old err_new : Option (List ℕ)) → Status → Type 0 where
-  in_a_file : {a x y b c : Option (List ℕ)} {status : Status} → IsCutShort false files failed b c x y status → IsJsonCut files failed a a x y status
-  behind_them : {a z x y w b c : Option (List ℕ)} {status : Status} (configs : List Config) → IsWritten false files true b c x y → AreConfigs files configs
+  in_a_file : {a x y b c : Option (List ℕ)} {status : Status} → IsCheckCutShort telling.Verdict files failed b c x y status → IsJsonCut files failed a a x y status
+  behind_them : {a z x y w b c : Option (List ℕ)} {status : Status} (configs : List Config) → IsWritten telling.Verdict files true b c x y → AreConfigs files configs
       → IsPrintCutShort files configs failed a z y w status → IsJsonCut files failed a z x w status

@@ -1,5 +1,3 @@
-pub mod Explained
-pub mod Rows
 pub mod Checked
 pub mod Area
 pub mod Json

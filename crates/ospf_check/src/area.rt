@@ -5,17 +5,18 @@ ghost use Rattle.std.specs.Io.KnownBytes.{Appends};
 ghost use Rattle.ospf_files.specs.Listed.{AreConfigs};
 ghost use Rattle.ospf_files.specs.declared.status.Status.{Status};
 ghost use Rattle.ospf_files.specs.declared.streams.FailedStreams.{FailedStreams};
-ghost use Rattle.ospf_check.specs.Area.{EndsAt, IsAreaCut, IsAreaCutShort, IsAreaTold, IsCheckCut, IsChecked, IsCutAt, IsFindingsWritten, fault_lines, finding_lines, line_of, name_at, note_lines};
+ghost use Rattle.ospf_check.specs.Area.{EndsAtFinding, IsAreaCut, IsAreaCutShort, IsAreaTold, IsCheckCut, IsChecked, IsCutAtFinding, IsFindingsWritten, fault_lines, finding_lines, line_of, name_at, note_lines};
 
 use crate::check::{check_files, tell_last};
 use ospf_config::Config;
-use ospf_files::{FailedStreams, Failure, NamedFile, Status};
-use ospf_plan::{Finding, Told, findings};
+use ospf_files::{FailedStreams, Failure, NamedFile, Status, Telling};
+use ospf_plan::{Finding, NamedFinding, findings};
 use std::alloc::{AllocError, Global};
 use std::io::Write;
 
 /// Checks the configurations of one area: each as `check_text` does, and where all are accepted what is wrong between
-/// them. Faults go to `err`; with `explain` notes go to `out`, and behind each fault and note a line of what follows.
+/// them. Faults go to `err`; where more than a verdict is asked for notes go to `out`, and behind each fault and note a line of
+/// what follows.
 ///
 /// The status is `Refused` where a file was refused or a fault was told, and `Done` where there are none but notes. The check
 /// ends early as `check_text` does, with status `Stream` or `Memory`: then all is written of the files before, and where
@@ -23,47 +24,55 @@ use std::io::Write;
 pub fn check_area_text<O: Write, E: Write>(
     alloc: Global,
     files: &[NamedFile],
-    explain: bool,
+    how: Telling,
     out: &mut O,
     err: &mut E,
 ) -> Status
     ensures done { result ≡ Status.Done →
-        IsChecked explain files.now true (O.contents out.old) (O.contents out.new)
+        IsChecked how files.now true (O.contents out.old) (O.contents out.new)
         (E.contents err.old) (E.contents err.new) }
     ensures refused { result ≡ Status.Refused →
-        IsChecked explain files.now false (O.contents out.old) (O.contents out.new)
+        IsChecked how files.now false (O.contents out.old) (O.contents out.new)
         (E.contents err.old) (E.contents err.new) }
     ensures cut { (result ≡ Status.Memory) ⊎ (result ≡ Status.Stream) →
         (failed : FailedStreams)
-        × IsCheckCut explain files.now failed (O.contents out.old) (O.contents out.new)
+        × IsCheckCut how files.now failed (O.contents out.old) (O.contents out.new)
         (E.contents err.old) (E.contents err.new) result }
     ensures not_words { result ≢ Status.Words }
 {
-    check_area_noted(alloc, files, explain, out, err, &mut FailedStreams::none())
+    check_area_noted(alloc, files, how, out, err, &mut FailedStreams::none())
 }
 
 // Checks the configurations of one area, as `check_area_text`, and notes which streams fail.
 fn check_area_noted<O: Write, E: Write>(
     alloc: Global,
     files: &[NamedFile],
-    explain: bool,
+    how: Telling,
     out: &mut O,
     err: &mut E,
     streams: &mut FailedStreams,
 ) -> Status
     ensures done { result ≡ Status.Done →
-        IsChecked explain files.now true (O.contents out.old) (O.contents out.new)
+        IsChecked how files.now true (O.contents out.old) (O.contents out.new)
         (E.contents err.old) (E.contents err.new) }
     ensures refused { result ≡ Status.Refused →
-        IsChecked explain files.now false (O.contents out.old) (O.contents out.new)
+        IsChecked how files.now false (O.contents out.old) (O.contents out.new)
         (E.contents err.old) (E.contents err.new) }
     ensures cut { (result ≡ Status.Memory) ⊎ (result ≡ Status.Stream) →
-        IsCheckCut explain files.now streams.new (O.contents out.old) (O.contents out.new)
+        IsCheckCut how files.now streams.new (O.contents out.old) (O.contents out.new)
         (E.contents err.old) (E.contents err.new) result }
     ensures not_words { result ≢ Status.Words }
 {
-    match check_files(alloc, files, explain, out, err, streams) {
-        Ok(Some(configs)) => check_together(alloc, files, &configs, explain, out, err, streams),
+    match check_files(alloc, files, how, out, err, streams) {
+        Ok(Some(configs)) => check_together(
+            alloc,
+            files,
+            &configs,
+            how.explains(),
+            out,
+            err,
+            streams,
+        ),
         Ok(None) => Status::Refused,
         Err(cause) => tell_last(cause, err, streams),
     }
@@ -131,7 +140,7 @@ fn tell_findings<O: Write, E: Write>(
 ) -> Result<bool, Failure>
     ensures told { IfOk result (λ sound. IsFindingsWritten explain files.now findings.now sound
         (O.contents out.old) (O.contents out.new) (E.contents err.old) (E.contents err.new)) }
-    ensures cut { IfErr result (IsCutAt explain files.now findings.now streams.new
+    ensures cut { IfErr result (IsCutAtFinding explain files.now findings.now streams.new
         (O.contents out.old) (O.contents out.new) (E.contents err.old) (E.contents err.new)) }
 {
     let mut sound = true;
@@ -159,7 +168,7 @@ fn tell_finding<O: Write, E: Write>(
         (note_lines explain files.now finding.now)) }
     ensures err { OnOk result (Appends (E.contents err.old) (E.contents err.new)
         (fault_lines explain files.now finding.now)) }
-    ensures ended { IfErr result (EndsAt explain files.now streams.new finding.now
+    ensures ended { IfErr result (EndsAtFinding explain files.now streams.new finding.now
         (O.contents out.old) (O.contents out.new) (E.contents err.old) (E.contents err.new)) }
 {
     let is_note = finding.fault.is_note();
@@ -200,7 +209,7 @@ fn finding_lines(
 fn line_of(alloc: Global, files: &[NamedFile], finding: &Finding) -> Result<String, AllocError>
     ensures { IfOk result (λ text. string_bytes text ≡ line_of files.now finding.now) }
 {
-    let told = Told {
+    let told = NamedFinding {
         finding: *finding,
         here: name_at(files, finding.here.file),
         other: name_at(files, finding.other.file),

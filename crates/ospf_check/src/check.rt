@@ -4,13 +4,16 @@ ghost use Rattle.std.specs.Prelude.{◌≡◌, ◌≢◌, ◌⊎◌, ◌++◌, �
 ghost use Rattle.ospf_config.specs.declared.fault.ConfigFault.{ConfigFault};
 ghost use Rattle.ospf_files.specs.Files.{IsRefusedFor, bytes_of, refused_line};
 ghost use Rattle.ospf_files.specs.declared.streams.FailedStreams.{FailedStreams};
-ghost use Rattle.ospf_check.specs.Checked.{EndsIn, HoldConfigs, IsCutIn, IsCutShort, IsExplanation, IsLastTold, IsSaid, IsVerdict, IsWritten, IsWrittenOf, KeepsBy, KeepsIf, accepted_line, can_lead, delay_line, leaf_line, place_line, status_of, warning_line, warnings};
+ghost use Rattle.ospf_files.specs.declared.telling.Telling.{Telling};
+ghost use Rattle.ospf_check.specs.Checked.{AreFaultsSaid, EndsIn, HoldConfigs, IsCutIn, IsCheckCutShort, IsExplanation, IsLastTold, IsFaultSaid, IsVerdict, IsWritten, IsWrittenOf, KeepsBy, KeepsIf, accepted_line, can_lead, delay_line, fault_told, faulty_place_line, leaf_line, place_line, status_of, warning_line, warnings};
 
-use crate::explained::{Explained, explain};
 use crate::warning::{DelayShown, LeafShown};
 use ospf_base::InterfaceKind;
 use ospf_config::{Config, ConfigFault, Interface};
-use ospf_files::{FailedStreams, Failure, NamedFile, Status, config_in};
+use ospf_files::{
+    Explained, FailedStreams, Failure, FaultExplained, NamedFile, Status, Telling, config_in,
+    explain, explain_all,
+};
 use ospf_plan::is_slow;
 use std::alloc::{AllocError, Global};
 use std::io::Write;
@@ -23,8 +26,8 @@ pub(crate) enum CheckFault {
 }
 
 /// Checks configurations, and tells of each file in order: on `out` that it is accepted, or on `err`
-/// the fault of least number that it has; with `explain`, what to do about it too, and at an accepted one of what it is
-/// warned, in lines behind two spaces.
+/// the fault of least number that it has; behind that, in lines behind two spaces, as `how` asks: nothing more, or what to do
+/// about that fault, or about each fault that it has, and at an accepted one of what it is warned.
 ///
 /// A file that is not UTF-8 is no TOML. The status is `Refused` where a file was refused. The check ends
 /// at a file that could not be read, which is told on `err`, and where a write fails, with status
@@ -33,45 +36,45 @@ pub(crate) enum CheckFault {
 pub fn check_text<O: Write, E: Write>(
     alloc: Global,
     files: &[NamedFile],
-    explain: bool,
+    how: Telling,
     out: &mut O,
     err: &mut E,
 ) -> Status
     ensures done { result ≡ Status.Done →
-        IsWritten explain files.now true (O.contents out.old) (O.contents out.new)
+        IsWritten how files.now true (O.contents out.old) (O.contents out.new)
         (E.contents err.old) (E.contents err.new) }
     ensures refused { result ≡ Status.Refused →
-        IsWritten explain files.now false (O.contents out.old) (O.contents out.new)
+        IsWritten how files.now false (O.contents out.old) (O.contents out.new)
         (E.contents err.old) (E.contents err.new) }
     ensures cut { (result ≡ Status.Memory) ⊎ (result ≡ Status.Stream) →
         (failed : FailedStreams)
-        × IsCutShort explain files.now failed (O.contents out.old) (O.contents out.new)
+        × IsCheckCutShort how files.now failed (O.contents out.old) (O.contents out.new)
         (E.contents err.old) (E.contents err.new) result }
     ensures not_words { result ≢ Status.Words }
 {
-    check_noted(alloc, files, explain, out, err, &mut FailedStreams::none())
+    check_noted(alloc, files, how, out, err, &mut FailedStreams::none())
 }
 
 // Tells of files in order. The answer is the configurations in them, where all are accepted.
 pub(crate) fn check_files<O: Write, E: Write>(
     alloc: Global,
     files: &[NamedFile],
-    explain: bool,
+    how: Telling,
     out: &mut O,
     err: &mut E,
     streams: &mut FailedStreams,
 ) -> Result<Option<Vec<Config>>, CheckFault>
-    ensures told { IfOk result (λ found. IsWritten explain files.now (is_some found)
+    ensures told { IfOk result (λ found. IsWritten how files.now (is_some found)
         (O.contents out.old) (O.contents out.new) (E.contents err.old) (E.contents err.new)) }
     ensures configs { IfOk result (λ found. HoldConfigs files.now
         (option_map (λ configs. configs.items) found)) }
-    ensures cut { IfErr result (IsCutIn explain files.now streams.new (O.contents out.old)
+    ensures cut { IfErr result (IsCutIn how files.now streams.new (O.contents out.old)
         (O.contents out.new) (E.contents err.old) (E.contents err.new)) }
 {
     let mut configs = Vec::new(alloc);
     let mut all = true;
     for file in files {
-        match check_file(alloc, file, explain, &mut configs, out, err, streams) {
+        match check_file(alloc, file, how, &mut configs, out, err, streams) {
             Ok(accepted) => all &= accepted,
             Err(cause) => return Err(cause),
         }
@@ -106,23 +109,23 @@ enum Verdict {
 fn check_noted<O: Write, E: Write>(
     alloc: Global,
     files: &[NamedFile],
-    explain: bool,
+    how: Telling,
     out: &mut O,
     err: &mut E,
     streams: &mut FailedStreams,
 ) -> Status
     ensures done { result ≡ Status.Done →
-        IsWritten explain files.now true (O.contents out.old) (O.contents out.new)
+        IsWritten how files.now true (O.contents out.old) (O.contents out.new)
         (E.contents err.old) (E.contents err.new) }
     ensures refused { result ≡ Status.Refused →
-        IsWritten explain files.now false (O.contents out.old) (O.contents out.new)
+        IsWritten how files.now false (O.contents out.old) (O.contents out.new)
         (E.contents err.old) (E.contents err.new) }
     ensures cut { (result ≡ Status.Memory) ⊎ (result ≡ Status.Stream) →
-        IsCutShort explain files.now streams.new (O.contents out.old) (O.contents out.new)
+        IsCheckCutShort how files.now streams.new (O.contents out.old) (O.contents out.new)
         (E.contents err.old) (E.contents err.new) result }
     ensures not_words { result ≢ Status.Words }
 {
-    match check_files(alloc, files, explain, out, err, streams) {
+    match check_files(alloc, files, how, out, err, streams) {
         Ok(Some(_)) => Status::Done,
         Ok(None) => Status::Refused,
         Err(cause) => tell_last(cause, err, streams),
@@ -133,24 +136,24 @@ fn check_noted<O: Write, E: Write>(
 fn check_file<O: Write, E: Write>(
     alloc: Global,
     file: &NamedFile,
-    explain: bool,
+    how: Telling,
     configs: &mut Vec<Config>,
     out: &mut O,
     err: &mut E,
     streams: &mut FailedStreams,
 ) -> Result<bool, CheckFault>
     ensures told { IfOk result (λ accepted. (streams.new ≡ streams.old)
-        × IsWrittenOf explain file.now accepted (O.contents out.old) (O.contents out.new)
+        × IsWrittenOf how file.now accepted (O.contents out.old) (O.contents out.new)
         (E.contents err.old) (E.contents err.new)) }
     ensures kept { IfOk result (λ accepted. KeepsIf accepted file.now configs.old.items
         configs.new.items) }
-    ensures ended { IfErr result (EndsIn explain file.now streams.new (O.contents out.old)
+    ensures ended { IfErr result (EndsIn how file.now streams.new (O.contents out.old)
         (O.contents out.new) (E.contents err.old) (E.contents err.new)) }
 {
     let Some(bytes) = &file.bytes else {
         return Err(tell_unread(alloc, file, err, streams));
     };
-    match judge(alloc, file, bytes, explain, configs) {
+    match judge(alloc, file, bytes, how, configs) {
         Ok(Verdict::Accepted(lines)) => match streams.print(out, &lines) {
             Ok(()) => Ok(true),
             Err(failure) => Err(CheckFault::Failure(failure)),
@@ -170,8 +173,9 @@ fn tell_unread<E: Write>(
     err: &mut E,
     streams: &mut FailedStreams,
 ) -> CheckFault
-    ensures { (explain : Bool) (out : Option (List ℕ)) → bytes_of file.now ≡ None →
-        EndsIn explain file.now streams.new out out (E.contents err.old) (E.contents err.new) result }
+    ensures { (how : Telling) (out : Option (List ℕ)) → bytes_of file.now ≡ None →
+        EndsIn how file.now streams.new out out (E.contents err.old) (E.contents err.new)
+        result }
 {
     let Ok(line) = format!(in alloc; "{}: not read\n", file.name) else {
         return CheckFault::Failure(Failure::Memory);
@@ -187,23 +191,23 @@ fn judge(
     alloc: Global,
     file: &NamedFile,
     bytes: &[u8],
-    explain: bool,
+    how: Telling,
     configs: &mut Vec<Config>,
 ) -> Result<Verdict, AllocError>
     ensures verdict { bytes_of file.now ≡ Some bytes.now →
-        IfOk result (IsVerdict explain file.now) }
+        IfOk result (IsVerdict how file.now) }
     ensures kept { bytes_of file.now ≡ Some bytes.now →
         IfOk result (λ verdict. KeepsBy verdict file.now configs.old.items configs.new.items) }
 {
     match config_in(alloc, bytes) {
         Ok(config) => {
-            let lines = acceptance(alloc, file, &config, explain)?;
+            let lines = acceptance(alloc, file, &config, how.explains())?;
             configs.push(config).map_err(AllocError::from)?;
             Ok(Verdict::Accepted(lines))
         }
         Err(ConfigFault::Memory) => Err(AllocError),
         Err(fault) => {
-            let lines = refusal(alloc, file, bytes, fault, explain)?;
+            let lines = refusal(alloc, file, bytes, fault, how)?;
             Ok(Verdict::Refused(lines))
         }
     }
@@ -306,31 +310,40 @@ fn can_lead(passes_over: bool, interface: &Interface) -> bool
     passes_over && is_broadcast && interface.priority > 0
 }
 
-// The lines of a file that is refused: the fault, and what to do about it where that is wanted.
+// The lines of a file that is refused: the fault, and what to do about it as far as that is wanted.
 fn refusal(
     alloc: Global,
     file: &NamedFile,
     bytes: &[u8],
     fault: ConfigFault,
-    explain: bool,
+    how: Telling,
 ) -> Result<String, AllocError>
     ensures { IsRefusedFor bytes.now fault →
-        IfOk result (λ lines. (more : List ℕ) × IsExplanation explain bytes.now fault more
+        IfOk result (λ lines. (more : List ℕ) × IsExplanation how bytes.now fault more
         × (string_bytes lines ≡ refused_line file.now fault ++ more)) }
 {
     let mut lines = format!(in alloc; "{}: {}\n", file.name, fault.text())?;
-    if !explain {
-        return Ok(lines);
-    }
-    let more = explanation(alloc, bytes)?;
+    let more = explanation(alloc, bytes, how)?;
     lines.push_str(&more)?;
     Ok(lines)
 }
 
-// What to do about bytes that are refused, in lines.
-fn explanation(alloc: Global, bytes: &[u8]) -> Result<String, AllocError>
+// What to do about bytes that are refused, in lines, as far as that is wanted.
+fn explanation(alloc: Global, bytes: &[u8], how: Telling) -> Result<String, AllocError>
     ensures { (fault : ConfigFault) → IsRefusedFor bytes.now fault →
-        IfOk result (λ lines. IsSaid bytes.now fault (string_bytes lines)) }
+        IfOk result (λ lines. IsExplanation how bytes.now fault (string_bytes lines)) }
+{
+    match how {
+        Telling::Verdict => Ok(String::new(alloc)),
+        Telling::Explained => fault_said(alloc, bytes),
+        Telling::AllExplained => faults_said(alloc, bytes),
+    }
+}
+
+// What to do about the fault of least number of bytes that are refused, in lines.
+fn fault_said(alloc: Global, bytes: &[u8]) -> Result<String, AllocError>
+    ensures { (fault : ConfigFault) → IsRefusedFor bytes.now fault →
+        IfOk result (λ lines. IsFaultSaid bytes.now fault (string_bytes lines)) }
 {
     match str::from_utf8(bytes) {
         Ok(text) => {
@@ -338,6 +351,19 @@ fn explanation(alloc: Global, bytes: &[u8]) -> Result<String, AllocError>
             lines_of(alloc, &places)
         }
         Err(_) => String::from_str(alloc, "  the file is not UTF-8\n"),
+    }
+}
+
+// What to do about all faults of bytes, in lines.
+fn faults_said(alloc: Global, bytes: &[u8]) -> Result<String, AllocError>
+    ensures { IfOk result (λ lines. AreFaultsSaid bytes.now (string_bytes lines)) }
+{
+    match str::from_utf8(bytes) {
+        Ok(text) => {
+            let faults = explain_all(alloc, text)?;
+            lines_of_all(alloc, &faults)
+        }
+        Err(_) => String::from_str(alloc, "  C1 NotToml: the file is not UTF-8\n"),
     }
 }
 
@@ -350,4 +376,31 @@ fn lines_of(alloc: Global, places: &[Explained]) -> Result<String, AllocError>
         lines.push_str(&format!(in alloc; "  {place}\n")?)?;
     }
     Ok(lines)
+}
+
+// What to do about all faults, in lines.
+fn lines_of_all(alloc: Global, faults: &[FaultExplained]) -> Result<String, AllocError>
+    ensures { IfOk result (λ lines. string_bytes lines ≡ flat_map fault_told faults.now) }
+{
+    let mut lines = String::new(alloc);
+    for told in faults {
+        push_fault(alloc, &mut lines, told.fault, &told.places)?;
+    }
+    Ok(lines)
+}
+
+// Adds a line for each place of a fault.
+fn push_fault(
+    alloc: Global,
+    lines: &mut String,
+    fault: ConfigFault,
+    places: &[Explained],
+) -> Result<(), AllocError>
+    ensures { OnOk result (string_bytes lines.new ≡ string_bytes lines.old
+        ++ flat_map (faulty_place_line fault) places.now) }
+{
+    for place in places {
+        lines.push_str(&format!(in alloc; "  {fault}: {place}\n")?)?;
+    }
+    Ok(())
 }

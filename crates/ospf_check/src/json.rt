@@ -19,8 +19,8 @@ use crate::area::name_at;
 use crate::check::{check_files, tell_last};
 use ospf_base::{Addr, InterfaceKind};
 use ospf_config::{Config, Port};
-use ospf_files::{FailedStreams, Failure, NamedFile, Status};
-use ospf_plan::{AreaFault, End, Finding, findings};
+use ospf_files::{FailedStreams, Failure, NamedFile, Status, Telling};
+use ospf_plan::{AreaFault, Finding, LinkEnd, findings};
 use serde_json::{Value, json};
 use std::alloc::{AllocError, Global};
 use std::io::{self, Write};
@@ -70,7 +70,14 @@ fn check_json_noted<O: Write, E: Write>(
         (E.contents err.old) (E.contents err.new) result }
     ensures not_words { result ≢ Status.Words }
 {
-    match check_files(alloc, files, false, &mut io::sink(), err, streams) {
+    match check_files(
+        alloc,
+        files,
+        Telling::Verdict,
+        &mut io::sink(),
+        err,
+        streams,
+    ) {
         Ok(Some(configs)) => print_together(alloc, files, &configs, out, err, streams),
         Ok(None) => Status::Refused,
         Err(cause) => tell_last(cause, err, streams),
@@ -236,7 +243,12 @@ fn told_value(
 }
 
 // What the other interface has, if there is one.
-fn other_value(alloc: Global, fault: AreaFault, end: &End, name: &str) -> Result<Value, AllocError>
+fn other_value(
+    alloc: Global,
+    fault: AreaFault,
+    end: &LinkEnd,
+    name: &str,
+) -> Result<Value, AllocError>
     ensures { IfOk result (λ value. view value ≡ other_data fault end.now name.now) }
 {
     match fault {
@@ -246,7 +258,12 @@ fn other_value(alloc: Global, fault: AreaFault, end: &End, name: &str) -> Result
 }
 
 // What an interface has, and where, as an object.
-fn side_value(alloc: Global, fault: AreaFault, end: &End, name: &str) -> Result<Value, AllocError>
+fn side_value(
+    alloc: Global,
+    fault: AreaFault,
+    end: &LinkEnd,
+    name: &str,
+) -> Result<Value, AllocError>
     ensures { IfOk result (λ value. view value ≡ side_data fault end.now name.now) }
 {
     let (interface, key) = (place_value(fault, end), key_text(fault));
@@ -255,7 +272,7 @@ fn side_value(alloc: Global, fault: AreaFault, end: &End, name: &str) -> Result<
 }
 
 // The number of the interface that has the value.
-fn place_value(fault: AreaFault, end: &End) -> Value
+fn place_value(fault: AreaFault, end: &LinkEnd) -> Value
     ensures { view result ≡ place_data fault end.now }
 {
     match fault {
@@ -285,7 +302,7 @@ fn key_text(fault: AreaFault) -> &'static str
 }
 
 // What an interface has at this key.
-fn value_at(alloc: Global, fault: AreaFault, end: &End) -> Result<Value, AllocError>
+fn value_at(alloc: Global, fault: AreaFault, end: &LinkEnd) -> Result<Value, AllocError>
     ensures { IfOk result (λ value. view value ≡ value_data fault end.now) }
 {
     match fault {
@@ -313,7 +330,7 @@ fn dotted_value(alloc: Global, number: u32) -> Result<Value, AllocError>
 }
 
 // The address of an interface, and the length of its prefix.
-fn prefix_value(alloc: Global, end: &End) -> Result<Value, AllocError>
+fn prefix_value(alloc: Global, end: &LinkEnd) -> Result<Value, AllocError>
     ensures { IfOk result (λ value. view value ≡ prefix_data end.now) }
 {
     let text = format!(in alloc; "{}/{}", end.address.address, end.address.length)?;

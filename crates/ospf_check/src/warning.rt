@@ -2,7 +2,7 @@
 
 ghost use Rattle.std.specs.Prelude.{◌≡◌};
 ghost use Rattle.std.specs.Fmt.{WritesOnOk};
-ghost use Rattle.ospf_check.specs.Checked.{delay_meaning, leaf_meaning, link_text, priority_text, value_text};
+ghost use Rattle.ospf_check.specs.Checked.{delay_meaning, leaf_meaning, link_text, priority_text, transmit_delay_text};
 
 use std::fmt::{self, Display, Formatter, Write};
 
@@ -57,7 +57,7 @@ fn write_link<W: Write>(f: &mut Formatter<W>, link: usize) -> fmt::Result
 
 // Writes a value, with its key.
 fn write_delay<W: Write>(f: &mut Formatter<W>, delay: u16) -> fmt::Result
-    ensures { WritesOnOk W.Write.write_str_gives f.old result (value_text delay) f.new }
+    ensures { WritesOnOk W.Write.write_str_gives f.old result (transmit_delay_text delay) f.new }
 {
     write!(f, "transmit_delay {delay}: ")
 }

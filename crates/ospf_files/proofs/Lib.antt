@@ -2,3 +2,7 @@ mod Routes
 pub mod Written
 pub mod Listed
 pub mod Cut
+pub mod TextLines
+mod PlaceLists
+mod KeyFaults
+mod FaultsTold

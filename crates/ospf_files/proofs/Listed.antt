@@ -5,7 +5,7 @@ use Rattle.std.proofs.lemmas.List.{take_more, take-append-drop}
 use Rattle.std.proofs.Math.Seq.{drop-cons}
 use Rattle.ospf_config.specs.declared.config.Config.{Config}
 use Rattle.ospf_files.specs.Files.{IsConfigIn, IsRead, refused_line, text_in}
-use Rattle.ospf_files.specs.Listed.{AreConfigs, AreRead, ConfigComes, IsRefusalTold}
+use Rattle.ospf_files.specs.Listed.{AreConfigs, AreFilesRead, ConfigComes, IsRefusalTold}
 use Rattle.ospf_files.specs.declared.files.NamedFile.{NamedFile}
 
 -- the files before one, that one, and those behind it
@@ -29,16 +29,16 @@ config_read files i file configs more config within is are holds more_is =
     subst (λ cs. AreConfigs (take (i + 1) files) cs) (sym more_is)
     (subst (λ fs. AreConfigs fs (configs ++ config ∷ [])) (sym front) (more_configs (take i files) configs file config are holds))
 
-more_read : (files : List NamedFile) (file : NamedFile) → AreRead files → IsRead file → AreRead (files ++ file ∷ [])
+more_read : (files : List NamedFile) (file : NamedFile) → AreFilesRead files → IsRead file → AreFilesRead (files ++ file ∷ [])
 more_read [] file all is = (is, tt)
 more_read (f ∷ fs) file all is = (all.0, more_read fs file all.1 is)
 
 -- one file more
-pub file_read : (files : List NamedFile) (i : ℕ) (file : NamedFile) → i < length files → file ≡ get_or files i file → AreRead (take i files) → IsRead file
-    → AreRead (take (i + 1) files)
+pub file_read : (files : List NamedFile) (i : ℕ) (file : NamedFile) → i < length files → file ≡ get_or files i file → AreFilesRead (take i files) → IsRead file
+    → AreFilesRead (take (i + 1) files)
 file_read files i file within is all read =
     let front : take (i + 1) files ≡ take i files ++ file ∷ [] = take_more files i file within ∙ ap (λ last. take i files ++ last ∷ []) (sym is) in
-    subst (λ fs. AreRead fs) (sym front) (more_read (take i files) file all read)
+    subst (λ fs. AreFilesRead fs) (sym front) (more_read (take i files) file all read)
 
 pub config_found : (file : NamedFile) (found : Option Config) (config : Config) (y z : Option (List ℕ)) → found ≡ Some config → ConfigComes file found y z
     → IsConfigIn (text_in file) config × (z ≡ y)

@@ -1,5 +1,5 @@
 -- Lists of files, and the configurations that they hold.
-use Rattle.std.specs.Prelude.{◌≡◌, ℕ, List, [], ◌∷◌, ◌++◌, Option, None, Some, ⊤}
+use Rattle.std.specs.Prelude.{◌≡◌, ℕ, List, [], ◌∷◌, ◌++◌, Option, None, Some, codes, ⊤}
 use Rattle.std.specs.Io.KnownBytes.{Appends}
 use Rattle.ospf_config.specs.declared.config.Config.{Config}
 use Rattle.ospf_config.specs.declared.fault.ConfigFault.{ConfigFault}
@@ -7,16 +7,16 @@ use Rattle.ospf_files.specs.Files.{IsConfigIn, IsRead, IsRefusedFor, refused_lin
 use Rattle.ospf_files.specs.declared.files.NamedFile.{NamedFile}
 
 -- all files could be read
-abbrev pub AreRead : List NamedFile → Type 0
-AreRead [] = ⊤
-AreRead (file ∷ files) = IsRead file × AreRead files
+abbrev pub AreFilesRead : List NamedFile → Type 0
+AreFilesRead [] = ⊤
+AreFilesRead (file ∷ files) = IsRead file × AreFilesRead files
 
 -- this file could not be read, and those before it could
 pub record IsFirstUnread (file : NamedFile) (files : List NamedFile) : Type 0 where
   pub before : List NamedFile
   pub after : List NamedFile
   pub files_are : files ≡ before ++ file ∷ after
-  pub read : AreRead before
+  pub read : AreFilesRead before
   pub unread : IsRead file → ⊥
 
 -- each file holds the configuration at its place
@@ -50,3 +50,7 @@ pub record IsRefusalTold (files : List NamedFile) (old new : Option (List ℕ)) 
 abbrev pub ConfigsCome : List NamedFile → Option (List Config) → Option (List ℕ) → Option (List ℕ) → Type 0
 ConfigsCome files (Some configs) old new = AreConfigs files configs × (new ≡ old)
 ConfigsCome files None old new = IsRefusalTold files old new
+
+-- what is told of two files of one Router ID
+abbrev pub same_router_line : List ℕ
+same_router_line = codes "W7 SameRouter\n"

@@ -15,10 +15,10 @@ abbrev pub routes_text : List Route → List ℕ
 routes_text = flat_map route_line
 
 -- the line of an address that no route leads to
-abbrev pub no_route_line : ℕ → List ℕ
-no_route_line address = codes "lookup " ++ number_text address ++ codes " none\n"
+abbrev pub lookup_none_line : ℕ → List ℕ
+lookup_none_line address = codes "lookup " ++ number_text address ++ codes " none\n"
 
 -- the line of an address and what a lookup found for it
 abbrev pub lookup_line : ℕ → Option Answer → List ℕ
-lookup_line address None = no_route_line address
+lookup_line address None = lookup_none_line address
 lookup_line address (Some a) = found_text address a.prefix a.cost a.hop ++ codes "\n"

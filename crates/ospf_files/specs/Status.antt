@@ -18,13 +18,13 @@ failure_status failure.Memory = Memory
 failure_status _ = Stream
 
 -- a failure as it is told
-abbrev pub failure_text : Failure → List ℕ
-failure_text failure.Memory = codes "out of memory"
-failure_text failure.Input = codes "standard input: not read"
-failure_text failure.Output = codes "standard output: not written"
-failure_text failure.Error = codes "standard error: not written"
-failure_text failure.Closed = codes "the published table is closed"
+abbrev pub program_failure_text : Failure → List ℕ
+program_failure_text failure.Memory = codes "out of memory"
+program_failure_text failure.Input = codes "standard input: not read"
+program_failure_text failure.Output = codes "standard output: not written"
+program_failure_text failure.Error = codes "standard error: not written"
+program_failure_text failure.Closed = codes "the published table is closed"
 
 -- the line of a failure
 abbrev pub failure_line : Failure → List ℕ
-failure_line failure = failure_text failure ++ codes "\n"
+failure_line failure = program_failure_text failure ++ codes "\n"

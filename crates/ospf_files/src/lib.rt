@@ -1,24 +1,37 @@
-//! What the programs have in common: files that were named, the configurations in them, lines of routes, and how a
-//! program ends.
+//! What the programs have in common: files that were named, the configurations in them and what is wrong with one, lines
+//! of texts and of routes, and how a program ends.
 //!
 //! `read_files` and `write_file` read and write files whole, and `config_in` finds the configuration in a file's
-//! bytes. `print_routes` and `print_lookup` print a table and what a lookup found (RFC 2328, section 11), as
-//! `specs/Shown` has it. `FailedStreams` notes which stream failed, and `Failure::tell` tells why a program ends early
-//! (`specs/Status`).
+//! bytes. `explain` tells the places of the fault of least number of a text that holds none, and `explain_all` those of each
+//! fault that holds (`specs/Explained`, `specs/AllFaults`). `lines` gives the lines of a text, with their numbers and without
+//! comments. `print_routes` and `print_lookup` print a table and what a lookup found (RFC 2328, section 11), as `specs/Shown`
+//! has it. `FailedStreams` notes which stream failed, and `Failure::tell` tells why a program ends early (`specs/Status`).
 #![tactic(auto)]
 
+mod all;
+mod byte;
 mod configs;
 mod disk;
+mod explained;
 mod files;
+mod line;
+mod places;
+mod rows;
 mod shown;
 mod status;
 mod streams;
+mod telling;
 mod told;
 
+pub use crate::all::{FaultExplained, explain_all};
+pub use crate::byte::place_of;
 pub use crate::configs::first_unread;
 pub use crate::disk::{read_file, read_files, tell_unwritten, write_file};
+pub use crate::explained::{Explained, KeyExplained, explain};
 pub use crate::files::{NamedFile, config_in};
+pub use crate::line::{Line, first_line, lines};
 pub use crate::shown::{print_lookup, print_routes};
 pub use crate::status::{Failure, Status};
 pub use crate::streams::{FailedStreams, write_line, write_text};
+pub use crate::telling::Telling;
 pub use crate::told::{tell_refused, tell_unread};

@@ -57,7 +57,7 @@ impl Failure {
     ghost use Rattle.std.specs.Prelude.{◌≡◌, ◌≢◌, ◌++◌, codes};
     ghost use Rattle.std.specs.IoError.{error_kind};
     ghost use Rattle.std.specs.declared.io.ErrorKind.TheVariants as kind;
-    ghost use Rattle.ospf_files.specs.Status.{failure_line, failure_status, failure_text};
+    ghost use Rattle.ospf_files.specs.Status.{failure_line, failure_status, program_failure_text};
     ghost use Rattle.ospf_files.specs.Streams.{IsTold};
 
     /// What an error of a stream is: want of memory, or else this failure of the stream.
@@ -84,7 +84,7 @@ impl Failure {
 
     /// The failure as it is told.
     pub fn text(self) -> &'static str
-        ensures { result.now ≡ failure_text self }
+        ensures { result.now ≡ program_failure_text self }
     {
         match self {
             Failure::Memory => "out of memory",

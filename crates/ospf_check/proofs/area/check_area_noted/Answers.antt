@@ -7,19 +7,22 @@ pub returns-in-Ok-Some-clause-done : goal.returns-in-Ok-Some-clause-done
 returns-in-Ok-Some-clause-done g c is =
     let checked = rw c.in-Ok-Some.field-0-is at c.in-Ok-Some.ensures in
     let are = subst (AreConfigs c.args.files.now) (sym c.deref.ensures.value) checked.configs in
-    together checked.told (c.check_together.ensures.done are is)
+    let told = c.check_together.ensures.done are is in
+    together checked.told (rw c.explains.ensures at told)
 
 pub returns-in-Ok-Some-clause-refused : goal.returns-in-Ok-Some-clause-refused
 returns-in-Ok-Some-clause-refused g c is =
     let checked = rw c.in-Ok-Some.field-0-is at c.in-Ok-Some.ensures in
     let are = subst (AreConfigs c.args.files.now) (sym c.deref.ensures.value) checked.configs in
-    together checked.told (c.check_together.ensures.refused are is)
+    let told = c.check_together.ensures.refused are is in
+    together checked.told (rw c.explains.ensures at told)
 
 pub returns-in-Ok-Some-clause-cut : goal.returns-in-Ok-Some-clause-cut
 returns-in-Ok-Some-clause-cut g c is =
     let checked = rw c.in-Ok-Some.field-0-is at c.in-Ok-Some.ensures in
     let are = subst (AreConfigs c.args.files.now) (sym c.deref.ensures.value) checked.configs in
-    behind_them c.deref.result.now checked.told are (c.check_together.ensures.cut is)
+    let cut = c.check_together.ensures.cut is in
+    behind_them c.deref.result.now checked.told are (rw c.explains.ensures at cut)
 
 pub returns-in-Ok-None-clause-refused : goal.returns-in-Ok-None-clause-refused
 returns-in-Ok-None-clause-refused g c is =

@@ -5,7 +5,9 @@ use Rattle.ospf_check.proofs.Written.{accepted_verdict, refused_verdict}
 use Rattle.ospf_check.proofs.check.judge.Goals as goal
 
 pub returns-in_ok-map_err-in-Ok-clause-verdict : goal.returns-in_ok-map_err-in-Ok-clause-verdict
-returns-in_ok-map_err-in-Ok-clause-verdict c held = accepted_verdict _ _ _ _ c.in-Ok.config held c.in-Ok.ensures.ok c.in_ok-lines-in-Ok.ensures
+returns-in_ok-map_err-in-Ok-clause-verdict c held =
+    let lines = c.in_ok-lines-in-Ok.ensures in
+    accepted_verdict _ _ _ _ c.in-Ok.config held c.in-Ok.ensures.ok (rw c.explains.ensures at lines)
 
 pub returns-in_ok-map_err-in-Ok-clause-kept : goal.returns-in_ok-map_err-in-Ok-clause-kept
 returns-in_ok-map_err-in-Ok-clause-kept c held =

@@ -1,0 +1,223 @@
+-- What is said of a text that is refused: the places that have its fault, in order.
+use Rattle.std.specs.Prelude.{◌≡◌, ◌==◌, ℕ, ◌+◌, ◌≤◌, List, [], ◌∷◌, ◌++◌, length, take, count_by, Any, Option, Some, None, option_map, IfSome, Ok, Err, String, codes, decimal, string_bytes}
+use Rattle.std.specs.declared.alloc.Global.{Global}
+use Rattle.std.specs.Fmt.{signed_decimal, debug_str}
+use Rattle.toml.specs.Data.{Data, string, integer, array, Items, no_items, item, Members, get_member, type_name}
+use Rattle.toml.specs.Parse.{parse_document}
+use Rattle.ospf_config.specs.declared.address.InterfaceAddress.{InterfaceAddress}
+use Rattle.ospf_files.specs.declared.explained.Explained.{Explained}
+use Rattle.ospf_files.specs.declared.explained.Explained.TheVariants as said
+use Rattle.ospf_files.specs.declared.explained.KeyExplained.{KeyExplained}
+use Rattle.ospf_config.specs.declared.fault.ConfigFault.{ConfigFault}
+use Rattle.ospf_config.specs.declared.fault.ConfigFault.TheVariants as fault
+use Rattle.ospf_config.specs.Conflicts.{Conflict}
+use Rattle.ospf_config.specs.Keys.{ReadsOwnRouterId, ReadsArea, ReadsStubRouter, ReadsOtherLsas, ReadsKind, ReadsInterfaceAddress, ReadsCost, ReadsPriority, ReadsHello, ReadsDead, ReadsRetransmit, ReadsTransmitDelay, ReadsMtu, ReadsPort, ReadsPeers}
+use Rattle.ospf_config.specs.Tables.{ReadsInterfaces, IsDeadNotOverHello, IsOtherKey, interface_tables, keys_of, top_keys, interface_keys}
+
+-- ---- the keys
+
+pub data KnownKey : Type 0 where
+  router_id_key : KnownKey
+  area_key : KnownKey
+  stub_router_key : KnownKey
+  other_lsas_key : KnownKey
+  interface_key : KnownKey
+  kind_key : KnownKey
+  address_key : KnownKey
+  cost_key : KnownKey
+  priority_key : KnownKey
+  hello_key : KnownKey
+  dead_key : KnownKey
+  retransmit_key : KnownKey
+  transmit_delay_key : KnownKey
+  mtu_key : KnownKey
+  port_key : KnownKey
+  peers_key : KnownKey
+
+-- the keys at the top, in the order in which they are told
+abbrev pub keys_at_top : List KnownKey
+keys_at_top = router_id_key ∷ area_key ∷ stub_router_key ∷ other_lsas_key ∷ interface_key ∷ []
+
+-- the keys of an interface, in the order in which they are told
+abbrev pub keys_of_interface : List KnownKey
+keys_of_interface =
+    kind_key ∷ address_key ∷ cost_key ∷ priority_key ∷ hello_key ∷ dead_key ∷ retransmit_key ∷ transmit_delay_key ∷ mtu_key
+    ∷ port_key ∷ peers_key ∷ []
+
+abbrev pub key_name : KnownKey → List ℕ
+key_name router_id_key = codes "router_id"
+key_name area_key = codes "area"
+key_name stub_router_key = codes "stub_router"
+key_name other_lsas_key = codes "other_lsas"
+key_name interface_key = codes "interface"
+key_name kind_key = codes "kind"
+key_name address_key = codes "address"
+key_name cost_key = codes "cost"
+key_name priority_key = codes "priority"
+key_name hello_key = codes "hello"
+key_name dead_key = codes "dead"
+key_name retransmit_key = codes "retransmit"
+key_name transmit_delay_key = codes "transmit_delay"
+key_name mtu_key = codes "mtu"
+key_name port_key = codes "port"
+key_name peers_key = codes "peers"
+
+-- what belongs at the key, in words
+abbrev pub wanted_at : KnownKey → List ℕ
+wanted_at router_id_key = codes "a dotted text, as \"10.0.0.1\", other than \"0.0.0.0\","
+wanted_at area_key = codes "a dotted text, as \"0.0.0.1\","
+wanted_at stub_router_key = codes "true or false"
+wanted_at other_lsas_key = codes "\"refuse\" or \"pass over\""
+wanted_at interface_key = codes "1 to 32 tables [[interface]]"
+wanted_at kind_key = codes "\"point-to-point\" or \"broadcast\""
+wanted_at address_key = codes "a host's address with the length of its prefix, 1 to 30, as \"10.0.0.1/30\","
+wanted_at cost_key = codes "1 to 65535"
+wanted_at priority_key = codes "0 to 255"
+wanted_at hello_key = codes "1 to 65535"
+wanted_at dead_key = codes "1 to 65535"
+wanted_at retransmit_key = codes "1 to 65535"
+wanted_at transmit_delay_key = codes "1 to 3600"
+wanted_at mtu_key = codes "576 to 9000"
+wanted_at port_key = codes "0, or 1024 to 65535,"
+wanted_at peers_key = codes "a list of at most 32 numbers, each 1024 to 65535,"
+
+-- the key of the table has the fault
+abbrev pub KeyHas : Members → ConfigFault → KnownKey → Type 0
+KeyHas t f router_id_key = ReadsOwnRouterId t (Err f)
+KeyHas t f area_key = ReadsArea t (Err f)
+KeyHas t f stub_router_key = ReadsStubRouter t (Err f)
+KeyHas t f other_lsas_key = ReadsOtherLsas t (Err f)
+KeyHas t f interface_key = ReadsInterfaces t (Err f)
+KeyHas t f kind_key = ReadsKind t (Err f)
+KeyHas t f address_key = ReadsInterfaceAddress t (Err f)
+KeyHas t f cost_key = ReadsCost t (Err f)
+KeyHas t f priority_key = ReadsPriority t (Err f)
+KeyHas t f hello_key = ReadsHello t (Err f)
+KeyHas t f dead_key = ReadsDead t (Err f)
+KeyHas t f retransmit_key = ReadsRetransmit t (Err f)
+KeyHas t f transmit_delay_key = ReadsTransmitDelay t (Err f)
+KeyHas t f mtu_key = ReadsMtu t (Err f)
+KeyHas t f port_key = ReadsPort t (Err f)
+KeyHas t f peers_key = ReadsPeers t (Err f)
+
+-- ---- one place
+
+abbrev pub item_number : Items → ℕ
+item_number no_items = 0
+item_number (item d ds) = 1 + item_number ds
+
+-- the value in words; of a text past ASCII no more than that there are some
+abbrev pub IsValueText : Data → List ℕ → Type 0
+IsValueText (integer z) text = text ≡ signed_decimal z
+IsValueText (string s) text = IfSome (debug_str s) (λ quoted. text ≡ quoted)
+IsValueText (array ds) text = text ≡ codes "a list of " ++ decimal (item_number ds)
+IsValueText d text = text ≡ codes "a " ++ type_name d
+
+-- what stood there in words, and none where nothing did
+abbrev pub IsFoundText : Option Data → Option (List ℕ) → Type 0
+IsFoundText None found = found ≡ None
+IsFoundText (Some d) None = ⊥
+IsFoundText (Some d) (Some text) = IsValueText d text
+
+-- the place of a key: the number of its interface, if any, what belongs there and what stood there
+pub record IsKeyPlace (number : Option ℕ) (t : Members) (key wanted : List ℕ) (e : Explained) : Type 0 where
+  pub place : KeyExplained
+  pub is_key : e ≡ said.Key place
+  pub number_is : place.interface ≡ number
+  pub key_is : string_bytes place.key ≡ key
+  pub wanted_is : place.wanted.now ≡ wanted
+  pub found_is : IsFoundText (get_member key t) (option_map (λ text. string_bytes text) place.found)
+
+-- the place of a key that the configuration knows
+abbrev pub IsKnownPlace : Option ℕ → Members → KnownKey → Explained → Type 0
+IsKnownPlace number t k e = IsKeyPlace number t (key_name k) (wanted_at k) e
+
+-- the place of a key that it does not know
+abbrev pub IsUnknownPlace : Option ℕ → Members → List ℕ → Explained → Type 0
+IsUnknownPlace number t key e = IsKeyPlace number t key (codes "a known key") e
+
+-- ---- the places of a table
+
+-- the places of those keys for which the fact holds, in order
+pub data ArePlacesOf {K : Type 0} (Has : K → Type 0) (IsPlace : K → Explained → Type 0) : List K → List Explained → Type 0 where
+  no_key : ArePlacesOf Has IsPlace [] []
+  taken : {k : K} {ks : List K} {e : Explained} {es : List Explained} → Has k → IsPlace k e → ArePlacesOf Has IsPlace ks es → ArePlacesOf Has IsPlace (k ∷ ks) (e ∷ es)
+  passed : {k : K} {ks : List K} {es : List Explained} → (Has k → ⊥) → ArePlacesOf Has IsPlace ks es → ArePlacesOf Has IsPlace (k ∷ ks) es
+
+-- one place where the fact holds, and none where it does not
+pub data IsPlaceWhere (Fact : Type 0) (IsPlace : Explained → Type 0) : List Explained → Type 0 where
+  told : {e : Explained} → Fact → IsPlace e → IsPlaceWhere Fact IsPlace (e ∷ [])
+  not_told : (Fact → ⊥) → IsPlaceWhere Fact IsPlace []
+
+-- the places at the top
+abbrev pub AreTopPlaces : Members → ConfigFault → List Explained → Type 0
+AreTopPlaces t fault.Unknown es = ArePlacesOf (IsOtherKey top_keys) (IsUnknownPlace None t) (keys_of t) es
+AreTopPlaces t f es = ArePlacesOf (KeyHas t f) (IsKnownPlace None t) keys_at_top es
+
+-- both interfaces have an address, and these are in conflict
+pub record AreInConflict (first second : Members) : Type 0 where
+  pub a : InterfaceAddress
+  pub b : InterfaceAddress
+  pub first_address : ReadsInterfaceAddress first (Ok a)
+  pub second_address : ReadsInterfaceAddress second (Ok b)
+  pub conflict : Conflict a b
+
+-- the places of the interface of this number, where the interfaces before it have these tables
+abbrev pub AreInterfacePlaces : ℕ → List Members → Members → ConfigFault → List Explained → Type 0
+AreInterfacePlaces n before t fault.SamePrefix es =
+    IsPlaceWhere (Any (λ first. AreInConflict first t) before) (IsKeyPlace (Some n) t (codes "address") (codes "a prefix and an address that no interface before has")) es
+AreInterfacePlaces n before t fault.DeadNotOverHello es = IsPlaceWhere (IsDeadNotOverHello t) (IsKeyPlace (Some n) t (codes "dead") (codes "more than `hello`")) es
+AreInterfacePlaces n before t fault.Unknown es = ArePlacesOf (IsOtherKey interface_keys) (IsUnknownPlace (Some n) t) (keys_of t) es
+AreInterfacePlaces n before t f es = ArePlacesOf (KeyHas t f) (IsKnownPlace (Some n) t) keys_of_interface es
+
+-- the places of the interfaces of these tables, one interface after the other
+pub data AreAllPlaces (f : ConfigFault) : List Members → List Explained → Type 0 where
+  no_interface : AreAllPlaces f [] []
+  one_more : {before : List Members} (t : Members) (own : List Explained) {es : List Explained} → AreAllPlaces f before es → AreInterfacePlaces (length before) before t f own
+      → AreAllPlaces f (before ++ t ∷ []) (es ++ own)
+
+-- the places of a table: those at the top, and then those of its interfaces
+pub record AreTablePlaces (t : Members) (f : ConfigFault) (es : List Explained) : Type 0 where
+  pub at_top : List Explained
+  pub of_interfaces : List Explained
+  pub top : AreTopPlaces t f at_top
+  pub interfaces : AreAllPlaces f (interface_tables t) of_interfaces
+  pub all : es ≡ at_top ++ of_interfaces
+
+-- ---- the places of a text
+
+-- the number of the line, from 1, of a place in the text
+pub record IsLineIn (text : List ℕ) (line : ℕ) : Type 0 where
+  pub place : ℕ
+  pub within : place ≤ length text
+  pub counted : line ≡ 1 + count_by (λ byte. byte == 10) (take place text)
+
+-- one place, the line where a text is no TOML
+pub record IsLinePlace (text : List ℕ) (es : List Explained) : Type 0 where
+  pub line : ℕ
+  pub is_line : es ≡ said.Line line ∷ []
+  pub line_is : IsLineIn text line
+
+-- the places of a text that have the fault
+abbrev pub IsExplained : List ℕ → ConfigFault → List Explained → Type 0
+IsExplained text fault.NotToml es = IsLinePlace text es
+IsExplained text f es = (t : Members) × (parse_document text ≡ Some t) × AreTablePlaces t f es
+
+-- ---- what is printed
+
+abbrev pub found_here_text : Option (String Global) → List ℕ
+found_here_text None = codes "nothing found"
+found_here_text (Some text) = string_bytes text ++ codes " found"
+
+abbrev pub interface_text : Option ℕ → List ℕ
+interface_text None = []
+interface_text (Some n) = codes "interface " ++ decimal n ++ codes ": "
+
+-- as `interface 0: mtu: 576 to 9000 wanted, 100 found`
+abbrev pub key_explained_text : KeyExplained → List ℕ
+key_explained_text p = interface_text p.interface ++ (string_bytes p.key ++ codes ": " ++ p.wanted.now ++ codes " wanted, ") ++ found_here_text p.found
+
+-- what is printed of a place
+abbrev pub explained_text : Explained → List ℕ
+explained_text (said.Line n) = codes "line " ++ decimal n ++ codes ": no TOML"
+explained_text (said.Key p) = key_explained_text p

@@ -1,0 +1,21 @@
+-- Lines of a text, with their numbers: a line ends with a line feed, before which a carriage return may stand, or with the text.
+use Rattle.std.specs.Prelude.{◌==◌, ℕ, List, map, take}
+use Rattle.std.specs.List.{enumerate_from, position_or_len}
+use Rattle.std.specs.Str.Lines as std
+use Rattle.ospf_files.specs.declared.line.Line.{Line}
+
+-- the lines of a text without their ends
+abbrev pub lines_of : List ℕ → List (List ℕ)
+lines_of text = std.lines text
+
+-- the number and the text of a line
+abbrev pub numbered_line : Line → ℕ × List ℕ
+numbered_line line = (line.number, line.text.now)
+
+-- a line without its comment: that stands from the first # on
+abbrev pub uncommented : List ℕ → List ℕ
+uncommented line = take (position_or_len (λ b. b == 35) line) line
+
+-- the lines without their comments, with their numbers, from this one on
+abbrev pub numbered_from : ℕ → List ℕ → List (ℕ × List ℕ)
+numbered_from number text = enumerate_from number (map uncommented (lines_of text))

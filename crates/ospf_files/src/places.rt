@@ -1,0 +1,242 @@
+//! The places that have a fault.
+
+ghost use Rattle.std.specs.Prelude.{◌≡◌, ◌↔◌, IsTrue, IsSome, Some, IfOk, OnOk, All, Any, map, string_bytes};
+ghost use Rattle.toml.specs.Data.{as_table};
+ghost use Rattle.toml.specs.View.{view, table_view, items_view};
+ghost use Rattle.ospf_files.specs.Explained.{ArePlacesOf, IsKeyPlace, IsUnknownPlace, IsValueText, IsPlaceWhere, AreTopPlaces, AreInterfacePlaces, AreAllPlaces, AreTablePlaces, AreInConflict};
+ghost use Rattle.ospf_files.specs.Rows.{AddsRows};
+ghost use Rattle.ospf_config.specs.Tables.{IsOtherKey, IsTableWith, keys_of, tables_among};
+
+use crate::explained::{Explained, KeyExplained};
+use crate::rows::{Row, interface_rows, top_rows};
+use ospf_config::{
+    ConfigFault, address_at, interface_names, interface_values, is_dead_not_over_hello, is_other,
+    table_in, top_names, value_at,
+};
+use std::alloc::{AllocError, Global};
+use toml::{Table, Value};
+
+// The places of a table that have this fault.
+pub(crate) fn table_explained(
+    alloc: Global,
+    table: &Table,
+    fault: ConfigFault,
+) -> Result<Vec<Explained>, AllocError>
+    ensures { IfOk result (λ places. AreTablePlaces (table_view table.now) fault places.items) }
+{
+    let mut out = Vec::new(alloc);
+    add_top(alloc, &mut out, table, fault)?;
+    add_interfaces(alloc, &mut out, interface_values(table), fault)?;
+    Ok(out)
+}
+
+// Adds what the top has of this fault.
+fn add_top(
+    alloc: Global,
+    out: &mut Vec<Explained>,
+    table: &Table,
+    fault: ConfigFault,
+) -> Result<(), AllocError>
+    ensures { OnOk result (AddsRows (AreTopPlaces (table_view table.now) fault) out.old.items
+        out.new.items) }
+{
+    match fault {
+        ConfigFault::Unknown => add_unknown(alloc, out, None, table, &top_names()),
+        fault => add_rows(alloc, out, None, table, &top_rows(table), fault),
+    }
+}
+
+// Adds the keys of a table that are none of these.
+fn add_unknown(
+    alloc: Global,
+    out: &mut Vec<Explained>,
+    interface: Option<usize>,
+    table: &Table,
+    known: &[&str],
+) -> Result<(), AllocError>
+    ensures { OnOk result (AddsRows (ArePlacesOf (IsOtherKey (map (λ k. k.now) known.now))
+        (IsUnknownPlace interface (table_view table.now)) (keys_of (table_view table.now)))
+        out.old.items out.new.items) }
+{
+    for key in table.keys() {
+        let name = key.as_str();
+        let holds = is_other(name, known);
+        add_where(alloc, out, interface, table, name, "a known key", holds)?;
+    }
+    Ok(())
+}
+
+// Adds a key of a table where that is so.
+fn add_where(
+    alloc: Global,
+    out: &mut Vec<Explained>,
+    interface: Option<usize>,
+    table: &Table,
+    key: &str,
+    wanted: &'static str,
+    holds: bool,
+) -> Result<(), AllocError>
+    ensures { OnOk result (AddsRows (IsPlaceWhere (IsTrue holds)
+        (IsKeyPlace interface (table_view table.now) key.now wanted.now)) out.old.items
+        out.new.items) }
+{
+    if holds {
+        out.push(key_of(alloc, interface, table, key, wanted)?)?;
+    }
+    Ok(())
+}
+
+// The place of a key.
+fn key_of(
+    alloc: Global,
+    interface: Option<usize>,
+    table: &Table,
+    key: &str,
+    wanted: &'static str,
+) -> Result<Explained, AllocError>
+    ensures { IfOk result (IsKeyPlace interface (table_view table.now) key.now wanted.now) }
+{
+    let found = match value_at(table, key) {
+        None => None,
+        Some(value) => Some(found_in(alloc, value)?),
+    };
+    let key = String::from_str(alloc, key)?;
+    Ok(Explained::Key(KeyExplained {
+        interface,
+        key,
+        wanted,
+        found,
+    }))
+}
+
+// What stands at a key, in words.
+fn found_in(alloc: Global, value: &Value) -> Result<String, AllocError>
+    ensures { IfOk result (λ text. IsValueText (view value.now) (string_bytes text)) }
+{
+    if let Some(number) = value.as_integer() {
+        return format!(in alloc; "{number}");
+    }
+    if let Some(text) = value.as_str() {
+        return format!(in alloc; "{text:?}");
+    }
+    if let Some(values) = value.as_array() {
+        return format!(in alloc; "a list of {}", values.len());
+    }
+    format!(in alloc; "a {}", value.type_str())
+}
+
+// Adds the keys of a table that have this fault.
+fn add_rows(
+    alloc: Global,
+    out: &mut Vec<Explained>,
+    interface: Option<usize>,
+    table: &Table,
+    rows: &[Row],
+    fault: ConfigFault,
+) -> Result<(), AllocError>
+    ensures { OnOk result (AddsRows (ArePlacesOf (λ row. row.fault ≡ Some fault)
+        (λ row. IsKeyPlace interface (table_view table.now) row.key.now row.wanted.now) rows.now)
+        out.old.items out.new.items) }
+{
+    for row in rows {
+        let holds = has_fault(row, fault);
+        add_where(alloc, out, interface, table, row.key, row.wanted, holds)?;
+    }
+    Ok(())
+}
+
+// Whether a key has this fault.
+fn has_fault(row: &Row, fault: ConfigFault) -> bool
+    ensures { IsTrue result ↔ (row.now.fault ≡ Some fault) }
+{
+    match row.fault {
+        None => false,
+        Some(found) => found == fault,
+    }
+}
+
+// Adds what the interfaces have of this fault.
+fn add_interfaces(
+    alloc: Global,
+    out: &mut Vec<Explained>,
+    values: &[Value],
+    fault: ConfigFault,
+) -> Result<(), AllocError>
+    requires { All (λ v. IsSome (as_table (view v))) values.now }
+    ensures { OnOk result (AddsRows (AreAllPlaces fault (tables_among (items_view values.now)))
+        out.old.items out.new.items) }
+{
+    for (interface, value) in values.iter().enumerate() {
+        let before = &values[..interface];
+        add_interface(alloc, out, interface, before, table_in(value), fault)?;
+    }
+    Ok(())
+}
+
+// Adds what an interface has of this fault.
+fn add_interface(
+    alloc: Global,
+    out: &mut Vec<Explained>,
+    interface: usize,
+    before: &[Value],
+    table: &Table,
+    fault: ConfigFault,
+) -> Result<(), AllocError>
+    ensures { OnOk result (AddsRows (AreInterfacePlaces interface (tables_among
+        (items_view before.now))
+        (table_view table.now) fault) out.old.items out.new.items) }
+{
+    let number = Some(interface);
+    match fault {
+        ConfigFault::SamePrefix => {
+            let wanted = "a prefix and an address that no interface before has";
+            let holds = is_any_in_conflict(before, table);
+            add_where(alloc, out, number, table, "address", wanted, holds)
+        }
+        ConfigFault::DeadNotOverHello => {
+            let holds = is_dead_not_over_hello(table);
+            add_where(
+                alloc,
+                out,
+                number,
+                table,
+                "dead",
+                "more than `hello`",
+                holds,
+            )
+        }
+        ConfigFault::Unknown => add_unknown(alloc, out, number, table, &interface_names()),
+        fault => add_rows(alloc, out, number, table, &interface_rows(table), fault),
+    }
+}
+
+// Whether one of the interfaces before has the prefix or the address of this one.
+fn is_any_in_conflict(before: &[Value], table: &Table) -> bool
+    ensures { IsTrue result ↔ Any (λ v. IsTableWith (λ t. AreInConflict t (table_view table.now))
+        (view v)) before.now }
+{
+    before
+        .iter()
+        .any(|value| is_value_in_conflict(value, table))
+}
+
+// Whether a value is the table of an interface that is in conflict with this one.
+fn is_value_in_conflict(value: &Value, table: &Table) -> bool
+    ensures { IsTrue result ↔ IsTableWith (λ t. AreInConflict t (table_view table.now))
+        (view value.now) }
+{
+    match value.as_table() {
+        None => false,
+        Some(first) => are_in_conflict(first, table),
+    }
+}
+
+// Whether the addresses of two interfaces are in conflict.
+fn are_in_conflict(first: &Table, second: &Table) -> bool
+    ensures { IsTrue result ↔ AreInConflict (table_view first.now) (table_view second.now) }
+{
+    match (address_at(first), address_at(second)) {
+        (Ok(one), Ok(other)) => one.conflicts_with(&other),
+        _ => false,
+    }
+}
