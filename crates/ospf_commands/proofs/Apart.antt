@@ -4,12 +4,12 @@ use Rattle.ospf_base.specs.declared.ids.RouterId.{RouterId}
 use Rattle.ospf_headline.specs.World.{Running}
 use Rattle.ospf_router.specs.Routers.{RouterValue}
 use Rattle.ospf_world.specs.Worlds.{IsLent}
-use Rattle.ospf_commands.specs.Judged.{AreApart, IsFirstOther, ListsIfRuns, all_list, both, none_runs, one_lists_otherwise, one_runs}
+use Rattle.ospf_commands.specs.Judged.{AreFirstToDiffer, IsFirstOther, ListsIfRuns, all_list, both, none_runs, one_lists_otherwise, one_runs}
 use Rattle.ospf_commands.specs.Settling.{area_listed}
 use Rattle.ospf_commands.specs.Worlds.{SlotValue}
 
 -- a router that does not run is passed over
-pub pass_stopped : (s : SlotValue) (slots : List SlotValue) (found : Option (RouterId × RouterId)) → s.running ≡ None → AreApart slots found → AreApart (s ∷ slots) found
+pub pass_stopped : (s : SlotValue) (slots : List SlotValue) (found : Option (RouterId × RouterId)) → s.running ≡ None → AreFirstToDiffer slots found → AreFirstToDiffer (s ∷ slots) found
 pass_stopped s slots found stopped (none_runs none) = none_runs (stopped, none)
 pass_stopped s slots found stopped (one_runs before after t x other is none runs first) =
     one_runs (s ∷ before) after t x other (ap (λ rest. s ∷ rest) is) (stopped, none) runs first
@@ -31,7 +31,7 @@ lists_same lsas here s router lent are same x runs =
 
 -- the first that runs, and what comes of those behind it
 pub first_runs : (slots rest : List SlotValue) (s : SlotValue) (router : RouterValue) (lsas given : List ℕ) (other : Option RouterId) → slots ≡ s ∷ rest
-    → IsLent s.running router → given ≡ lsas → lsas ≡ area_listed router.area → IsFirstOther given rest other → AreApart slots (both s.config.router_id other)
+    → IsLent s.running router → given ≡ lsas → lsas ≡ area_listed router.area → IsFirstOther given rest other → AreFirstToDiffer slots (both s.config.router_id other)
 first_runs slots rest s router lsas given other is lent same are first =
     one_runs [] rest s lent.x other is tt lent.runs (subst (λ (l : List ℕ). IsFirstOther l rest other) (same ∙ are ∙ ap area_listed lent.area) first)
 
@@ -41,7 +41,7 @@ lists_otherwise slots rest s router lsas here is lent are other =
     one_lists_otherwise [] rest s lent.x is tt lent.runs (λ same. other (are ∙ ap area_listed lent.area ∙ same))
 
 -- none is left
-pub none_left_runs : (slots : List SlotValue) → length slots ≡ 0 → AreApart slots None
+pub none_left_runs : (slots : List SlotValue) → length slots ≡ 0 → AreFirstToDiffer slots None
 none_left_runs [] h = none_runs tt
 none_left_runs (s ∷ slots) h = absurd (omega (arith, h))
 

@@ -3,7 +3,7 @@ use Rattle.std.proofs.Common.{◌≡◌, sym, subst, refl, ◌+◌, ◌-◌, ◌
 use Rattle.ospf_world.specs.Draws.{drawn_past, words_from}
 use Rattle.ospf_headline.specs.declared.event.WorldFault.{WorldFault}
 use Rattle.ospf_commands.specs.Simulations.{Answer}
-use Rattle.ospf_world.specs.Random.{GoesOn, IsRandom}
+use Rattle.ospf_world.specs.Random.{GoesOnWith, IsRandom}
 use Rattle.ospf_world.specs.Worlds.{WorldValue}
 use Rattle.rand_pcg.specs.Lcg.{Lcg}
 
@@ -13,21 +13,21 @@ in_two : (part rest : ℕ) (g : Lcg) (w mid w' : WorldValue) (answer : Answer) �
 in_two zero rest g w mid w' answer first more =
     let same : mid ≡ w = first.0 in
     subst (λ (n : ℕ). IsRandom n g w answer w') (omega arith) (subst (λ (x : WorldValue). IsRandom rest g x answer w') same more)
-in_two (suc part) rest g w mid w' answer (GoesOn.Further next once first) more =
-    let all : IsRandom (suc (part + rest)) g w answer w' = GoesOn.Further next once (in_two part rest (words_from g).1 next mid w' answer first more) in
+in_two (suc part) rest g w mid w' answer (GoesOnWith.Further next once first) more =
+    let all : IsRandom (suc (part + rest)) g w answer w' = GoesOnWith.Further next once (in_two part rest (words_from g).1 next mid w' answer first more) in
     let sum : suc (part + rest) ≡ suc part + rest = omega arith in
     subst (λ (n : ℕ). IsRandom n g w answer w') sum all
-in_two (suc part) rest g w mid w' answer (GoesOn.Ended f once is) more = absurd (cc)
+in_two (suc part) rest g w mid w' answer (GoesOnWith.Ended f once is) more = absurd (cc)
 
 -- some, at which memory runs out
 refused : (part rest : ℕ) (g : Lcg) (w mid : WorldValue) (fault : WorldFault) → IsRandom part g w (Err fault) mid → IsRandom (part + rest) g w (Err fault) mid
 refused zero rest g w mid fault first = absurd (let no : Err fault ≡ Ok tt = first.1 in cc)
-refused (suc part) rest g w mid fault (GoesOn.Further next once first) =
-    let all : IsRandom (suc (part + rest)) g w (Err fault) mid = GoesOn.Further next once (refused part rest (words_from g).1 next mid fault first) in
+refused (suc part) rest g w mid fault (GoesOnWith.Further next once first) =
+    let all : IsRandom (suc (part + rest)) g w (Err fault) mid = GoesOnWith.Further next once (refused part rest (words_from g).1 next mid fault first) in
     let sum : suc (part + rest) ≡ suc part + rest = omega arith in
     subst (λ (n : ℕ). IsRandom n g w (Err fault) mid) sum all
-refused (suc part) rest g w mid fault (GoesOn.Ended f once is) =
-    let all : IsRandom (suc (part + rest)) g w (Err fault) mid = GoesOn.Ended f once is in
+refused (suc part) rest g w mid fault (GoesOnWith.Ended f once is) =
+    let all : IsRandom (suc (part + rest)) g w (Err fault) mid = GoesOnWith.Ended f once is in
     let sum : suc (part + rest) ≡ suc part + rest = omega arith in
     subst (λ (n : ℕ). IsRandom n g w (Err fault) mid) sum all
 

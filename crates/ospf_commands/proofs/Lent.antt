@@ -9,8 +9,8 @@ use Rattle.ospf_headline.specs.declared.event.WorldFault.{WorldFault}
 use Rattle.ospf_headline.specs.declared.event.WorldFault.TheVariants as fault
 use Rattle.ospf_router.specs.Routers.{RouterValue}
 use Rattle.ospf_files.proofs.Written.{nothing_begun}
-use Rattle.ospf_commands.specs.Asked.{IsExplained, is_explained, is_on_no_link}
-use Rattle.ospf_commands.specs.Drops.{why_lines}
+use Rattle.ospf_commands.specs.Asked.{IsWhyAnswered, is_explained, is_on_no_link}
+use Rattle.ospf_views.specs.Offered.{why_lines}
 use Rattle.ospf_commands.specs.Printed.{IsPrintedBegun}
 use Rattle.ospf_commands.specs.Worlds.{IsNotLent, LendsRouter, WorldValue}
 use Rattle.ospf_commands.specs.declared.simulation.Simulation.{Simulation}
@@ -38,10 +38,10 @@ not_lent w r f (NotRunning m is stopped same) =
 
 -- what a link waits for is known before it is written
 pub why_not_begun : (s : Simulation) (r : RouterId) (link : ℕ) (neighbour : Option RouterId) (x : RouterValue) (o : Option (List ℕ)) → LendsRouter s.world r x
-    → IsPrintedBegun (IsExplained r link neighbour s) o o
+    → IsPrintedBegun (IsWhyAnswered r link neighbour s) o o
 why_not_begun s r link neighbour x o lent = go (why_lines s.world r link neighbour x.area) refl
   where
-    go : (found : Option (List ℕ)) → why_lines s.world r link neighbour x.area ≡ found → IsPrintedBegun (IsExplained r link neighbour s) o o
+    go : (found : Option (List ℕ)) → why_lines s.world r link neighbour x.area ≡ found → IsPrintedBegun (IsWhyAnswered r link neighbour s) o o
     go None is = record { answer = Err fault.NoLink; text = []; is_so = is_on_no_link x lent is refl refl; begun = nothing_begun o [] }
     go (Some text) is = record { answer = Ok tt; text = text; is_so = is_explained x lent is refl; begun = nothing_begun o text }
 

@@ -1,5 +1,4 @@
 pub mod Enumerated
-pub mod LastDrops
 pub mod Chances
 pub mod Done
 pub mod Lent

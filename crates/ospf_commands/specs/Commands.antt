@@ -5,7 +5,7 @@ use Rattle.ospf_script.specs.Words.{Text}
 use Rattle.ospf_script.specs.declared.command.Command.{Command}
 use Rattle.ospf_script.specs.declared.command.Command.TheVariants as command
 use Rattle.ospf_script.specs.declared.command.Many.{Many}
-use Rattle.ospf_commands.specs.Asked.{IsExplained, IsSaid, IsShown, IsWalked}
+use Rattle.ospf_commands.specs.Asked.{AreDatagramsShown, IsTextSaid, IsViewShown, IsWalked, IsWhyAnswered}
 use Rattle.ospf_commands.specs.Judged.{JudgedSo}
 use Rattle.ospf_commands.specs.Losses.{losses_of}
 use Rattle.ospf_commands.specs.Many.{ComesAbout}
@@ -13,12 +13,12 @@ use Rattle.ospf_commands.specs.Printed.{IsPrinted, IsPrintedBegun}
 use Rattle.ospf_commands.specs.Rounds.{AreRounds, most_of}
 use Rattle.ospf_commands.specs.Settling.{Settles}
 use Rattle.ospf_commands.specs.Simulations.{Answer, moved}
-use Rattle.ospf_commands.specs.Worlds.{EventDoes, IsRandom, WorldValue}
+use Rattle.ospf_commands.specs.Worlds.{EventDoes, IsRandomRun, WorldValue}
 use Rattle.ospf_commands.specs.declared.simulation.Simulation.{Simulation}
 
 -- an event comes about
-abbrev pub Happens : WorldEvent → Simulation → Answer → Simulation → Type 0
-Happens e s answer s' = (w : WorldValue) × EventDoes e s.world answer w × (s' ≡ moved s w)
+abbrev pub EventComesAbout : WorldEvent → Simulation → Answer → Simulation → Type 0
+EventComesAbout e s answer s' = (w : WorldValue) × EventDoes e s.world answer w × (s' ≡ moved s w)
 
 -- events at many routers
 abbrev pub ManyHappen : Many → Simulation → Answer → Simulation → Type 0
@@ -26,28 +26,29 @@ ManyHappen many s answer s' = (w : WorldValue) × ComesAbout many s.world answer
 
 -- events by chance, drawn by this number
 abbrev pub SomeHappen : (number count : ℕ) → Simulation → Answer → Simulation → Type 0
-SomeHappen number count s answer s' = (w : WorldValue) × IsRandom number count s.world answer w × (s' ≡ moved s w)
+SomeHappen number count s answer s' = (w : WorldValue) × IsRandomRun number count s.world answer w × (s' ≡ moved s w)
 
 -- what a command does to a simulation, what is answered, and what is printed
-abbrev pub Does : Command → Simulation → Answer → Text → Simulation → Type 0
-Does (command.Event e) s answer text s' = Happens e s answer s' × (text ≡ [])
-Does (command.Many many) s answer text s' = ManyHappen many s answer s' × (text ≡ [])
-Does (command.Round count most) s answer text s' = AreRounds (most_of most) count s answer s' × (text ≡ [])
-Does (command.Random number count) s answer text s' = SomeHappen number count s answer s' × (text ≡ [])
-Does (command.Settle most) s answer text s' = Settles most (record s { is_settled = false }) answer text s'
-Does (command.Show view r) s answer text s' = IsShown view r s answer text × (s' ≡ s)
-Does (command.Walk from address choices) s answer text s' = IsWalked from address choices.items s s' answer text
-Does (command.Say said) s answer text s' = IsSaid said answer text × (s' ≡ s)
-Does (command.Why r link neighbour) s answer text s' = IsExplained r link neighbour s answer text × (s' ≡ s)
-Does (command.Loss percent number network) s answer text s' =
+abbrev pub DoesCommand : Command → Simulation → Answer → Text → Simulation → Type 0
+DoesCommand (command.Event e) s answer text s' = EventComesAbout e s answer s' × (text ≡ [])
+DoesCommand (command.Many many) s answer text s' = ManyHappen many s answer s' × (text ≡ [])
+DoesCommand (command.Round count most) s answer text s' = AreRounds (most_of most) count s answer s' × (text ≡ [])
+DoesCommand (command.Random number count) s answer text s' = SomeHappen number count s answer s' × (text ≡ [])
+DoesCommand (command.Settle most) s answer text s' = Settles most (record s { is_settled = false }) answer text s'
+DoesCommand (command.Show view r) s answer text s' = IsViewShown view r s answer text × (s' ≡ s)
+DoesCommand (command.Walk from address choices) s answer text s' = IsWalked from address choices.items s s' answer text
+DoesCommand (command.Say said) s answer text s' = IsTextSaid said answer text × (s' ≡ s)
+DoesCommand (command.Why r link neighbour) s answer text s' = IsWhyAnswered r link neighbour s answer text × (s' ≡ s)
+DoesCommand (command.Datagrams r most) s answer text s' = AreDatagramsShown r most s answer text × (s' ≡ s)
+DoesCommand (command.Loss percent number network) s answer text s' =
     (answer ≡ Ok tt) × (text ≡ []) × (s' ≡ record s { losses = Some (losses_of percent number network) })
-Does (command.Expect e) s answer text s' = JudgedSo e s s' answer text
-Does (command.Label is_on) s answer text s' = (answer ≡ Ok tt) × (text ≡ []) × (s' ≡ record s { is_labelled = is_on })
+DoesCommand (command.Expect e) s answer text s' = JudgedSo e s s' answer text
+DoesCommand (command.Label is_on) s answer text s' = (answer ≡ Ok tt) × (text ≡ []) × (s' ≡ record s { is_labelled = is_on })
 
 -- what the command prints is what was written
 abbrev pub IsDone : Command → Simulation → Answer → Simulation → (out_old out_new : Option (List ℕ)) → Type 0
-IsDone c s answer s' out_old out_new = IsPrinted (λ given text. Does c s given text s') answer out_old out_new
+IsDone c s answer s' out_old out_new = IsPrinted (λ given text. DoesCommand c s given text s') answer out_old out_new
 
 -- a beginning of what it prints was written
 abbrev pub IsDoneBegun : Command → Simulation → Simulation → (out_old out_new : Option (List ℕ)) → Type 0
-IsDoneBegun c s s' out_old out_new = IsPrintedBegun (λ given text. Does c s given text s') out_old out_new
+IsDoneBegun c s s' out_old out_new = IsPrintedBegun (λ given text. DoesCommand c s given text s') out_old out_new

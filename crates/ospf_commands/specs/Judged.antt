@@ -40,13 +40,13 @@ is_arrived end.Arrived = true
 is_arrived _ = false
 
 -- at this cost, where one is given
-abbrev pub is_at : Option ℕ → ℕ → Bool
-is_at None cost = true
-is_at (Some wanted) cost = cost == wanted
+abbrev pub is_at_cost : Option ℕ → ℕ → Bool
+is_at_cost None cost = true
+is_at_cost (Some wanted) cost = cost == wanted
 
 -- it arrives, at this cost
 abbrev pub arrives : Option ℕ → Walk → Bool
-arrives cost walk = is_arrived walk.end && is_at cost walk.cost
+arrives cost walk = is_arrived walk.end && is_at_cost cost walk.cost
 
 -- the walk by first hops arrives; or it does not so, and that is printed with the walk; or there is none, and it is said why
 pub data IsOfWalk (e : Expected) (from : RouterId) (address : Addr) (cost : Option ℕ) (w : WorldValue) (answer : Answer) (text : Text) (unmet : Bool) : Type 0 where
@@ -86,11 +86,11 @@ both r None = None
 both r (Some o) = Some (r, o)
 
 -- the first router that runs, and the first behind it that lists otherwise, if there is one
-pub data AreApart (slots : List SlotValue) : Option (RouterId × RouterId) → Type 0 where
-  none_runs : NoneRuns slots → AreApart slots None
+pub data AreFirstToDiffer (slots : List SlotValue) : Option (RouterId × RouterId) → Type 0 where
+  none_runs : NoneRuns slots → AreFirstToDiffer slots None
   one_runs : (before after : List SlotValue) (s : SlotValue) (x : Running) (other : Option RouterId) → slots ≡ before ++ s ∷ after
       → NoneRuns before → s.running ≡ Some x → IsFirstOther (area_listed (Some x.state)) after other
-      → AreApart slots (both s.config.router_id other)
+      → AreFirstToDiffer slots (both s.config.router_id other)
 
 -- two routers
 abbrev pub two_text : RouterId × RouterId → Text
@@ -102,9 +102,9 @@ apart_line two = two_text two ++ codes " list otherwise\n"
 
 -- all routers that run list the same; or there is no room to know; or two do not, and that is printed
 pub data IsOfAll (w : WorldValue) (answer : Answer) (text : Text) (unmet : Bool) : Type 0 where
-  they_agree : AreApart w.slots None → answer ≡ Ok tt → text ≡ [] → unmet ≡ false → IsOfAll w answer text unmet
+  they_agree : AreFirstToDiffer w.slots None → answer ≡ Ok tt → text ≡ [] → unmet ≡ false → IsOfAll w answer text unmet
   no_room : answer ≡ Err (fault.Memory false) → text ≡ [] → unmet ≡ true → IsOfAll w answer text unmet
-  they_differ : (two : RouterId × RouterId) → AreApart w.slots (Some two) → answer ≡ Ok tt
+  they_differ : (two : RouterId × RouterId) → AreFirstToDiffer w.slots (Some two) → answer ≡ Ok tt
       → text ≡ unmet_line expected.Agree ++ apart_line two → unmet ≡ true → IsOfAll w answer text unmet
 
 -- ---- whatever is expected

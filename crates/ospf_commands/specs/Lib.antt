@@ -6,7 +6,6 @@ pub mod Rounds
 pub mod Many
 pub mod Settling
 pub mod Shown
-pub mod Drops
 pub mod Asked
 pub mod Judged
 pub mod Commands

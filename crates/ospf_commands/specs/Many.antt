@@ -42,15 +42,15 @@ abbrev pub many_of : Many → SlotValue → List WorldEvent
 many_of what s = config_events what s.config
 
 -- at all routers, in the order of the configurations
-abbrev pub events_of : Many → WorldValue → List WorldEvent
-events_of what w = flat_map (many_of what) w.slots
+abbrev pub many_events : Many → WorldValue → List WorldEvent
+many_events what w = flat_map (many_of what) w.slots
 
 -- it comes about at each router, in the order of the configurations: what is refused is passed over, and memory that runs out
 -- ends it, that for the list of events before anything is done. It is refused where nothing is meant
 pub data ComesAbout (what : Many) (w : WorldValue) (answer : Result (Unit {0}) WorldFault) (w' : WorldValue) : Type 0 where
   no_room : answer ≡ Err (fault.Memory false) → w' ≡ w → ComesAbout what w answer w'
-  none_meant : events_of what w ≡ [] → answer ≡ Err fault.NoLink → w' ≡ w → ComesAbout what w answer w'
-  all_gone_over : (refused : ℕ) → events_of what w ≢ [] → IsRun EventDoes (events_of what w) w (Ok refused) w' → answer ≡ Ok tt
+  none_meant : many_events what w ≡ [] → answer ≡ Err fault.NoLink → w' ≡ w → ComesAbout what w answer w'
+  all_gone_over : (refused : ℕ) → many_events what w ≢ [] → IsRun EventDoes (many_events what w) w (Ok refused) w' → answer ≡ Ok tt
       → ComesAbout what w answer w'
-  memory_ends : (f : WorldFault) → events_of what w ≢ [] → IsRun EventDoes (events_of what w) w (Err f) w' → answer ≡ Err f
+  memory_ends : (f : WorldFault) → many_events what w ≢ [] → IsRun EventDoes (many_events what w) w (Err f) w' → answer ≡ Err f
       → ComesAbout what w answer w'

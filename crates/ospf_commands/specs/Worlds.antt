@@ -20,8 +20,8 @@ abbrev pub EventDoes : WorldEvent → WorldValue → Result (Unit {0}) WorldFaul
 EventDoes = Does
 
 -- so many events come by chance, drawn by the generator of this number
-abbrev pub IsRandom : ℕ → ℕ → WorldValue → Result (Unit {0}) WorldFault → WorldValue → Type 0
-IsRandom number count w answer w' =
+abbrev pub IsRandomRun : ℕ → ℕ → WorldValue → Result (Unit {0}) WorldFault → WorldValue → Type 0
+IsRandomRun number count w answer w' =
     random.IsRandom count (started 64 multiplier_64 number (increment_of 64 0)) w answer w'
 
 -- the walk from a router towards an address by these choices, or why there is none

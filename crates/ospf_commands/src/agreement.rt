@@ -1,7 +1,7 @@
 //! Whether all routers that run list the same.
 
 ghost use Rattle.std.specs.Prelude.{◌≡◌, IfOk};
-ghost use Rattle.ospf_commands.specs.Judged.{AreApart, IsFirstOther, both};
+ghost use Rattle.ospf_commands.specs.Judged.{AreFirstToDiffer, IsFirstOther, both};
 
 use crate::sight::listed_by;
 use ospf_base::RouterId;
@@ -13,7 +13,7 @@ pub(crate) fn apart(
     slots: &[Slot],
     alloc: Global,
 ) -> Result<Option<(RouterId, RouterId)>, AllocError>
-    ensures { IfOk result (AreApart slots.now) }
+    ensures { IfOk result (AreFirstToDiffer slots.now) }
 {
     let mut rest = slots;
     while let Some((slot, behind)) = rest.split_first() {

@@ -2,19 +2,21 @@
 
 ghost use Rattle.std.specs.Prelude.{IfErr, IfOk, OnErr};
 ghost use Rattle.ospf_files.specs.Streams.{IsOutputCut};
-ghost use Rattle.ospf_commands.specs.Asked.{IsExplained, IsSaid, IsShown, IsWalked};
+ghost use Rattle.ospf_commands.specs.Asked.{AreDatagramsShown, IsTextSaid, IsViewShown, IsWalked, IsWhyAnswered};
 ghost use Rattle.ospf_commands.specs.Printed.{IsPrinted, IsPrintedBegun};
 
-use crate::drops::why_lines;
 use crate::show::{said_line, write_walked};
 use crate::simulation::Simulation;
 use ospf_base::{Addr, RouterId};
 use ospf_files::{FailedStreams, Failure};
 use ospf_script::View;
-use ospf_views::write_shown;
+use ospf_views::{datagram_lines, why_lines, write_shown};
 use ospf_world::WorldFault;
 use std::alloc::Global;
 use std::io::Write;
+
+// How many datagrams are shown where it is not said.
+const MOST_DATAGRAMS: u64 = 16;
 
 // Prints a text. Where that fails, a beginning of it was written.
 pub(crate) fn say<O: Write>(
@@ -23,10 +25,10 @@ pub(crate) fn say<O: Write>(
     alloc: Global,
     streams: &mut FailedStreams,
 ) -> Result<Result<(), WorldFault>, Failure>
-    ensures said { IfOk result (λ answer. IsPrinted (IsSaid text.now) answer
+    ensures said { IfOk result (λ answer. IsPrinted (IsTextSaid text.now) answer
         (O.contents out.old) (O.contents out.new)) }
     ensures begun { OnErr result
-        (IsPrintedBegun (IsSaid text.now) (O.contents out.old) (O.contents out.new)) }
+        (IsPrintedBegun (IsTextSaid text.now) (O.contents out.old) (O.contents out.new)) }
     ensures cut { IfErr result (IsOutputCut streams.new) }
 {
     let line = said_line(alloc, text)?;
@@ -43,9 +45,9 @@ pub(crate) fn show_router<O: Write>(
     alloc: Global,
     streams: &mut FailedStreams,
 ) -> Result<Result<(), WorldFault>, Failure>
-    ensures shown { IfOk result (λ answer. IsPrinted (IsShown view router simulation.now) answer
+    ensures shown { IfOk result (λ answer. IsPrinted (IsViewShown view router simulation.now) answer
         (O.contents out.old) (O.contents out.new)) }
-    ensures begun { OnErr result (IsPrintedBegun (IsShown view router simulation.now)
+    ensures begun { OnErr result (IsPrintedBegun (IsViewShown view router simulation.now)
         (O.contents out.old) (O.contents out.new)) }
     ensures cut { IfErr result (IsOutputCut streams.new) }
 {
@@ -98,10 +100,10 @@ pub(crate) fn show_why<O: Write>(
     streams: &mut FailedStreams,
 ) -> Result<Result<(), WorldFault>, Failure>
     ensures explained { IfOk result (λ answer. IsPrinted
-        (IsExplained place.0 place.1 neighbour simulation.now) answer
+        (IsWhyAnswered place.0 place.1 neighbour simulation.now) answer
         (O.contents out.old) (O.contents out.new)) }
     ensures begun { OnErr result (IsPrintedBegun
-        (IsExplained place.0 place.1 neighbour simulation.now)
+        (IsWhyAnswered place.0 place.1 neighbour simulation.now)
         (O.contents out.old) (O.contents out.new)) }
     ensures cut { IfErr result (IsOutputCut streams.new) }
 {
@@ -116,4 +118,30 @@ pub(crate) fn show_why<O: Write>(
         }
         None => Ok(Err(WorldFault::NoLink)),
     }
+}
+
+// Prints what a round offers to a router that runs, the last so many of it. Where that fails, a beginning of it was written.
+pub(crate) fn show_datagrams<O: Write>(
+    simulation: &Simulation,
+    router: RouterId,
+    most: Option<u64>,
+    out: &mut O,
+    alloc: Global,
+    streams: &mut FailedStreams,
+) -> Result<Result<(), WorldFault>, Failure>
+    ensures shown { IfOk result (λ answer. IsPrinted
+        (AreDatagramsShown router most simulation.now) answer
+        (O.contents out.old) (O.contents out.new)) }
+    ensures begun { OnErr result (IsPrintedBegun (AreDatagramsShown router most simulation.now)
+        (O.contents out.old) (O.contents out.new)) }
+    ensures cut { IfErr result (IsOutputCut streams.new) }
+{
+    let lent = match simulation.world.router(router) {
+        Ok(lent) => lent,
+        Err(fault) => return Ok(Err(fault)),
+    };
+    let most = most.unwrap_or(MOST_DATAGRAMS);
+    let lines = datagram_lines(&simulation.world, lent, router, most, alloc)?;
+    streams.write(out, &lines)?;
+    Ok(Ok(()))
 }

@@ -1,10 +1,10 @@
 //! Commands that are done.
 
-ghost use Rattle.std.specs.Prelude.{◌≡◌, IfErr, IfOk, Ok, OnErr};
+ghost use Rattle.std.specs.Prelude.{◌≡◌, IfErr, IfOk, Ok, OnErr, Some};
 ghost use Rattle.ospf_files.specs.Streams.{IsOutputCut};
-ghost use Rattle.ospf_commands.specs.Commands.{Happens, IsDone, IsDoneBegun, ManyHappen};
+ghost use Rattle.ospf_commands.specs.Commands.{EventComesAbout, IsDone, IsDoneBegun, ManyHappen};
 
-use crate::asked::{say, show_router, show_walk, show_why};
+use crate::asked::{say, show_datagrams, show_router, show_walk, show_why};
 use crate::judge::judge;
 use crate::losses::Losses;
 use crate::many::run_many;
@@ -33,7 +33,8 @@ pub fn run_command<O: Write, V: Watch>(
     ensures done { IfOk result (λ answer. IsDone command.now simulation.old answer simulation.new
         (O.contents out.old) (O.contents out.new)) }
     ensures begun { OnErr result
-        (IsDoneBegun command.now simulation.old simulation.new (O.contents out.old) (O.contents out.new)) }
+        (IsDoneBegun command.now simulation.old simulation.new (O.contents out.old)
+        (O.contents out.new)) }
     ensures cut { IfErr result (IsOutputCut streams.new) }
 {
     match command {
@@ -63,14 +64,14 @@ pub fn run_command<O: Write, V: Watch>(
             let place = (*router, *link);
             show_why(simulation, place, *neighbour, out, alloc, streams)
         }
+        Command::Datagrams { router, most } => {
+            show_datagrams(simulation, *router, *most, out, alloc, streams)
+        }
         Command::Loss {
             percent,
             number,
             network,
-        } => {
-            simulation.losses = Some(Losses::new(*percent, *number, *network));
-            Ok(Ok(()))
-        }
+        } => Ok(lose(simulation, Losses::new(*percent, *number, *network))),
         Command::Expect { expected } => judge(simulation, expected, out, alloc, streams),
         Command::Label { is_on } => Ok(label(simulation, *is_on)),
     }
@@ -83,7 +84,7 @@ fn run_event<V: Watch>(
     watch: &mut V,
     alloc: Global,
 ) -> Result<(), WorldFault>
-    ensures { Happens event simulation.old result simulation.new }
+    ensures { EventComesAbout event simulation.old result simulation.new }
 {
     simulation.is_settled = false;
     simulation.world.step_watched(event, watch, alloc)
@@ -100,6 +101,15 @@ fn run_at_many<V: Watch>(
 {
     simulation.is_settled = false;
     run_many(&mut simulation.world, many, watch, alloc)
+}
+
+// Has these losses from here on.
+fn lose(simulation: &mut Simulation, losses: Losses) -> Result<(), WorldFault>
+    ensures answer { result ≡ Ok tt }
+    ensures losses { simulation.new ≡ record simulation.old { losses = Some losses } }
+{
+    simulation.losses = Some(losses);
+    Ok(())
 }
 
 // Asks for labels, or for none.

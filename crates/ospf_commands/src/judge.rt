@@ -1,7 +1,7 @@
 //! Whether something is as it is expected to be.
 
 ghost use Rattle.std.specs.Prelude.{◌≡◌, ◌++◌, IfErr, IfOk, OnErr, Some, string_bytes};
-ghost use Rattle.ospf_commands.specs.Judged.{JudgedSo, apart_line, arrives, is_arrived, is_at};
+ghost use Rattle.ospf_commands.specs.Judged.{JudgedSo, apart_line, arrives, is_arrived, is_at_cost};
 ghost use Rattle.ospf_commands.specs.Printed.{IsPrinted, IsPrintedBegun};
 ghost use Rattle.ospf_commands.specs.Shown.{walk_line};
 ghost use Rattle.ospf_files.specs.Streams.{IsOutputCut};
@@ -200,7 +200,7 @@ fn is_arrived(end: WalkEnd) -> bool
 }
 
 fn is_at(wanted: Option<u64>, cost: u128) -> bool
-    ensures { result ≡ is_at wanted cost }
+    ensures { result ≡ is_at_cost wanted cost }
 {
     match wanted {
         Some(wanted) => cost == u128::from(wanted),

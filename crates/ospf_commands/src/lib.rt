@@ -7,7 +7,6 @@
 mod agreement;
 mod asked;
 mod commands;
-mod drops;
 mod judge;
 mod losing;
 mod losses;

@@ -68,7 +68,8 @@ fn push_events(events: &mut Vec<WorldEvent>, many: Many, config: &Config) -> Res
 // Adds those at its links.
 fn push_links(events: &mut Vec<WorldEvent>, many: Many, config: &Config) -> Result<(), AllocError>
     ensures { OnOk result (events.new.items ≡ events.old.items
-        ++ flat_map (events_on many config.now.router_id) (enumerate_from 0 config.now.interfaces.items)) }
+        ++ flat_map (events_on many config.now.router_id) (enumerate_from 0
+        config.now.interfaces.items)) }
 {
     for (link, interface) in config.interfaces.iter().enumerate() {
         push_link(events, many, config.router_id, link, interface)?;

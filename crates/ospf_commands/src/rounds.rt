@@ -3,7 +3,7 @@
 ghost use Rattle.std.specs.Prelude.{◌≡◌};
 ghost use Rattle.ospf_commands.specs.Commands.{SomeHappen};
 ghost use Rattle.ospf_commands.specs.Rounds.{AreRounds, IsOneRound, most_of};
-ghost use Rattle.ospf_commands.specs.Worlds.{IsRandom};
+ghost use Rattle.ospf_commands.specs.Worlds.{IsRandomRun};
 
 use crate::losing::round_losing;
 use crate::simulation::Simulation;
@@ -83,7 +83,7 @@ fn draw<V: Watch>(
     alloc: Global,
     watch: &mut V,
 ) -> Result<(), WorldFault>
-    ensures { IsRandom number count world.old result world.new }
+    ensures { IsRandomRun number count world.old result world.new }
 {
     let mut generator = Lcg64Xsh32::new(number, 0);
     let mut done = 0;

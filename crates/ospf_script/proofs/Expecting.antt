@@ -7,7 +7,7 @@ use Rattle.ospf_base.specs.declared.ids.RouterId.{RouterId}
 use Rattle.ospf_script.specs.Commands.{BeginsWalk}
 use Rattle.ospf_script.specs.Expected.{BeginsRoute, IsArrival, IsExpected, IsLongRoute, IsNeighbour, IsOfRoute}
 use Rattle.ospf_script.specs.Laws.{IsOneExpected}
-use Rattle.ospf_script.specs.Values.{AreManySpelled, AreSomeSpelled, AreSpelled, IsDecimal, IsHop, IsPrefix, IsRouter}
+use Rattle.ospf_script.specs.Values.{AreManySpelled, AreSomeSpelled, AreSpelled, IsDecimal, IsHopWord, IsPrefix, IsRouterWord}
 use Rattle.ospf_script.specs.Words.{Text}
 use Rattle.ospf_script.specs.declared.expected.Expected.{Expected}
 use Rattle.ospf_script.specs.declared.expected.Expected.TheVariants.{Router, Walk, Agree, Settled}
@@ -73,7 +73,7 @@ neighbour_is_not_route word is other = elim is [
 ]
 
 -- behind `route`
-pub only_route : (ws : List Text) → ((router : RouterId) (prefix : Prefix) (cost : ℕ) (rest : List Text) → BeginsRoute ws router prefix cost rest → AreSomeSpelled IsHop rest → ⊥)
+pub only_route : (ws : List Text) → ((router : RouterId) (prefix : Prefix) (cost : ℕ) (rest : List Text) → BeginsRoute ws router prefix cost rest → AreSomeSpelled IsHopWord rest → ⊥)
     → (e : Expected) → IsExpected (codes "route" ∷ ws) e → ⊥
 unfolding kind kind_of
 only_route ws none (Router router (Route prefix cost hops)) h = none router prefix cost h.1 h.2 (hops.items, h.3)
@@ -87,7 +87,7 @@ route_begins_one (a ∷ b ∷ c ∷ ws) r s p q m n us vs h k =
 route_begins_one _ r s p q m n us vs h k = absurd h
 
 -- with next hops behind it
-pub long_route : (ws : List Text) (r : RouterId) (p : Prefix) (m : ℕ) (rest : List Text) → BeginsRoute ws r p m rest → AreManySpelled IsHop rest → IsLongRoute (codes "route" ∷ ws)
+pub long_route : (ws : List Text) (r : RouterId) (p : Prefix) (m : ℕ) (rest : List Text) → BeginsRoute ws r p m rest → AreManySpelled IsHopWord rest → IsLongRoute (codes "route" ∷ ws)
 long_route ws r p m rest begins many = (refl, r, p, m, rest, begins, many)
 
 -- the second word of a route is its prefix
@@ -104,8 +104,8 @@ nothing_expected (Router router (NoRoute prefix)) h = h
 nothing_expected e h = h
 
 -- behind `no`
-pub only_absent : (w a b : Text) → ((router : RouterId) (prefix : Prefix) → w ≡ codes "route" → IsRouter a router → IsPrefix b prefix → ⊥)
-    → ((router : RouterId) (link : ℕ) → IsNeighbour w → IsRouter a router → IsDecimal 64 b link → ⊥) → (e : Expected) → IsExpected (codes "no" ∷ w ∷ a ∷ b ∷ []) e → ⊥
+pub only_absent : (w a b : Text) → ((router : RouterId) (prefix : Prefix) → w ≡ codes "route" → IsRouterWord a router → IsPrefix b prefix → ⊥)
+    → ((router : RouterId) (link : ℕ) → IsNeighbour w → IsRouterWord a router → IsDecimal 64 b link → ⊥) → (e : Expected) → IsExpected (codes "no" ∷ w ∷ a ∷ b ∷ []) e → ⊥
 unfolding kind kind_of
 only_absent w a b route neighbour (Router router (NoRoute prefix)) h = route router prefix h.1 h.2 h.3
 only_absent w a b route neighbour (Router router (NoNeighbour link)) h = neighbour router link h.1 h.2 h.3
@@ -186,8 +186,8 @@ one_of (Router r (NoNeighbour m)) (Router s (NoNeighbour n)) (v ∷ w ∷ a ∷ 
     (router_one a r s h.2 k.2, ap NoNeighbour (decimal_one 64 b m n h.3 k.3))
 one_of (Router r (Route p m hs)) (Router s (Route q n ks)) (w ∷ ws) h k =
     let all = route_begins_one ws r s p q m n h.1 k.1 h.2 k.2 in
-    let there : AreSpelled IsHop k.1 hs.items = rw all.3 at h.3 in
-    (all.0, (all.1, all.2, spelled_one IsHop hop_one k.1 hs.items ks.items there k.3))
+    let there : AreSpelled IsHopWord k.1 hs.items = rw all.3 at h.3 in
+    (all.0, (all.1, all.2, spelled_one IsHopWord hop_one k.1 hs.items ks.items there k.3))
 one_of (Router r (NoRoute p)) (Router s (NoRoute q)) (v ∷ w ∷ a ∷ b ∷ []) h k =
     (router_one a r s h.2 k.2, ap NoRoute (prefix_spelled_one b p q h.3 k.3))
 one_of (Router r (NoNeighbour m)) (Router s (NoRoute q)) (v ∷ w ∷ a ∷ b ∷ []) h k = absurd (neighbour_is_not_route w h.1 k.1)

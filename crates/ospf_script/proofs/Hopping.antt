@@ -17,7 +17,7 @@ use Rattle.ospf_base.specs.declared.ids.RouterId.{RouterId}
 use Rattle.ospf_graph.specs.Text.{hop_text}
 use Rattle.ospf_graph.specs.declared.hop.NextHop.{NextHop}
 use Rattle.ospf_graph.specs.declared.hop.NextHop.TheVariants.{Attached, PointToPoint, Lan}
-use Rattle.ospf_script.specs.Values.{IsAddress, IsDotted32, IsHop, IsRouter}
+use Rattle.ospf_script.specs.Values.{IsAddress, IsDotted32, IsHopWord, IsRouterWord}
 use Rattle.ospf_script.specs.Words.{Text}
 use Rattle.ospf_script.proofs.OneValue.{address_one, router_one}
 
@@ -130,17 +130,17 @@ text_across l r a =
 -- what stands before and behind the first `>` of a hop
 abbrev pub IsAround : Text → Text → NextHop → Type 0
 IsAround front behind Attached = ⊥
-IsAround front behind (PointToPoint local router) = IsAddress front local × IsRouter behind router × HasNo 64 behind
+IsAround front behind (PointToPoint local router) = IsAddress front local × IsRouterWord behind router × HasNo 64 behind
 IsAround front behind (Lan local router address) =
     IsAddress front local × (behind ≡ number_text router.0 ++ 64 ∷ number_text address.0) × (router.0 < 2 ^ 32) × (address.0 < 2 ^ 32)
 
-pub parts_are : (word : Text) (hop : NextHop) (front behind : Text) → IsHop word hop → (word ≡ codes "attached" → ⊥) → word ≡ front ++ 62 ∷ behind → HasNo 62 front
+pub parts_are : (word : Text) (hop : NextHop) (front behind : Text) → IsHopWord word hop → (word ≡ codes "attached" → ⊥) → word ≡ front ++ 62 ∷ behind → HasNo 62 front
     → IsAround front behind hop
 parts_are word Attached front behind h other is free = absurd (other h.0)
 parts_are word (PointToPoint l r) front behind h other is free =
     let cut = one_cut 62 front behind (number_text l.0) (number_text r.0) free (number_has_no_greater l.0) (sym is ∙ h.0 ∙ text_over l r) in (
       subst (λ (t : Text). IsAddress t l) (sym cut.0) (printed_spells l.0 h.1.0),
-      subst (λ (t : Text). IsRouter t r) (sym cut.1) (printed_spells r.0 h.1.1),
+      subst (λ (t : Text). IsRouterWord t r) (sym cut.1) (printed_spells r.0 h.1.1),
       subst (HasNo 64) (sym cut.1) (number_has_no_at r.0),
     )
 parts_are word (Lan l r a) front behind h other is free =
@@ -148,7 +148,7 @@ parts_are word (Lan l r a) front behind h other is free =
     (subst (λ (t : Text). IsAddress t l) (sym cut.0) (printed_spells l.0 h.1.0), cut.1, h.1.1, h.1.2)
 
 -- where there is no `>`, there is none
-pub no_parts : (word : Text) (hop : NextHop) → IsHop word hop → (word ≡ codes "attached" → ⊥) → HasNo 62 word → ⊥
+pub no_parts : (word : Text) (hop : NextHop) → IsHopWord word hop → (word ≡ codes "attached" → ⊥) → HasNo 62 word → ⊥
 no_parts word Attached h other free = other h.0
 no_parts word (PointToPoint l r) h other free = has_it 62 (number_text l.0) (number_text r.0) word (h.0 ∙ text_over l r) free
 no_parts word (Lan l r a) h other free = has_it 62 (number_text l.0) (number_text r.0 ++ 64 ∷ number_text a.0) word (h.0 ∙ text_across l r a) free
@@ -160,30 +160,30 @@ no_front front behind (PointToPoint l r) h none = none l h.0
 no_front front behind (Lan l r a) h none = none l h.0
 
 -- where there is no `@` behind it, a Router ID stands there
-pub no_behind : (front behind : Text) (hop : NextHop) → IsAround front behind hop → HasNo 64 behind → ((router : RouterId) → IsRouter behind router → ⊥) → ⊥
+pub no_behind : (front behind : Text) (hop : NextHop) → IsAround front behind hop → HasNo 64 behind → ((router : RouterId) → IsRouterWord behind router → ⊥) → ⊥
 no_behind front behind Attached h free none = h
 no_behind front behind (PointToPoint l r) h free none = none r h.1
 no_behind front behind (Lan l r a) h free none = has_it 64 (number_text r.0) (number_text a.0) behind h.1 free
 
 -- where there is, a Router ID and an address stand around it
 pub at_parts : (front behind x y : Text) (hop : NextHop) → IsAround front behind hop → behind ≡ x ++ 64 ∷ y → HasNo 64 x
-    → ((router : RouterId) (address : Addr) → IsRouter x router → IsAddress y address → ⊥) → ⊥
+    → ((router : RouterId) (address : Addr) → IsRouterWord x router → IsAddress y address → ⊥) → ⊥
 at_parts front behind x y Attached h is free none = h
 at_parts front behind x y (PointToPoint l r) h is free none = has_it 64 x y behind is h.2
 at_parts front behind x y (Lan l r a) h is free none =
     let cut = one_cut 64 x y (number_text r.0) (number_text a.0) free (number_has_no_at r.0) (sym is ∙ h.1) in
-    none r a (subst (λ (t : Text). IsRouter t r) (sym cut.0) (printed_spells r.0 h.2)) (subst (λ (t : Text). IsAddress t a) (sym cut.1) (printed_spells a.0 h.3))
+    none r a (subst (λ (t : Text). IsRouterWord t r) (sym cut.0) (printed_spells r.0 h.2)) (subst (λ (t : Text). IsAddress t a) (sym cut.1) (printed_spells a.0 h.3))
 
 -- ---- what is read
 
-pub hop_over : (word front behind : Text) (l : Addr) (r : RouterId) → word ≡ front ++ 62 ∷ behind → IsAddress front l → IsRouter behind r → IsHop word (PointToPoint l r)
+pub hop_over : (word front behind : Text) (l : Addr) (r : RouterId) → word ≡ front ++ 62 ∷ behind → IsAddress front l → IsRouterWord behind r → IsHopWord word (PointToPoint l r)
 hop_over word front behind l r is first second =
     let one = spelled_is_printed front l.0 first in
     let two = spelled_is_printed behind r.0 second in
     (is ∙ ap (λ (t : Text). t ++ 62 ∷ behind) one ∙ ap (λ (t : Text). number_text l.0 ++ 62 ∷ t) two ∙ sym (text_over l r), (first.1, second.1))
 
-pub hop_across : (word front behind x y : Text) (l : Addr) (r : RouterId) (a : Addr) → word ≡ front ++ 62 ∷ behind → behind ≡ x ++ 64 ∷ y → IsAddress front l → IsRouter x r
-    → IsAddress y a → IsHop word (Lan l r a)
+pub hop_across : (word front behind x y : Text) (l : Addr) (r : RouterId) (a : Addr) → word ≡ front ++ 62 ∷ behind → behind ≡ x ++ 64 ∷ y → IsAddress front l → IsRouterWord x r
+    → IsAddress y a → IsHopWord word (Lan l r a)
 hop_across word front behind x y l r a is at first second third =
     let one = spelled_is_printed front l.0 first in
     let two = spelled_is_printed x r.0 second in
@@ -201,7 +201,7 @@ around_one f b (PointToPoint l r) (PointToPoint m s) h k =
 around_one f b (Lan l r a) (Lan m s c) h k =
     let cut = one_cut 64 (number_text r.0) (number_text a.0) (number_text s.0) (number_text c.0) (number_has_no_at r.0) (number_has_no_at s.0) (sym h.1 ∙ k.1) in
     let one = address_one f l m h.0 k.0 in
-    let two = router_one (number_text r.0) r s (printed_spells r.0 h.2) (subst (λ (t : Text). IsRouter t s) (sym cut.0) (printed_spells s.0 k.2)) in
+    let two = router_one (number_text r.0) r s (printed_spells r.0 h.2) (subst (λ (t : Text). IsRouterWord t s) (sym cut.0) (printed_spells s.0 k.2)) in
     let three = address_one (number_text a.0) a c (printed_spells a.0 h.3) (subst (λ (t : Text). IsAddress t c) (sym cut.1) (printed_spells c.0 k.3)) in
     cc
 around_one f b (PointToPoint l r) (Lan m s c) h k = absurd (has_it 64 (number_text s.0) (number_text c.0) b k.1 h.2)
@@ -210,7 +210,7 @@ around_one f b Attached q h k = absurd h
 around_one f b (PointToPoint l r) Attached h k = absurd k
 around_one f b (Lan l r a) Attached h k = absurd k
 
-pub hop_one : (word : Text) (p q : NextHop) → IsHop word p → IsHop word q → p ≡ q
+pub hop_one : (word : Text) (p q : NextHop) → IsHopWord word p → IsHopWord word q → p ≡ q
 hop_one word Attached Attached h k = refl
 hop_one word Attached (PointToPoint l r) h k = absurd (not_attached word (number_text l.0) (number_text r.0) (k.0 ∙ text_over l r) h.0)
 hop_one word Attached (Lan l r a) h k = absurd (not_attached word (number_text l.0) (number_text r.0 ++ 64 ∷ number_text a.0) (k.0 ∙ text_across l r a) h.0)

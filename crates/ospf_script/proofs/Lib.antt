@@ -4,7 +4,6 @@ pub mod Leading
 pub mod Hopping
 pub mod NoEvent
 pub mod Unspelled
-pub mod TextLines
 pub mod Zeros
 pub mod OneValue
 pub mod Prefixes

@@ -3,7 +3,7 @@ use Rattle.std.proofs.Common.{◌≡◌, refl, ap, inl, inr, ◌||◌, ◌⊎◌
 use Rattle.std.specs.List.{find}
 use Rattle.std.specs.Str.{bytes_eq}
 use Rattle.std.proofs.lemmas.Slice.Eq.{bytes_eq-Decides}
-use Rattle.ospf_script.specs.Names.{IsWordOf, all_names, is_word_of, name_in, name_text}
+use Rattle.ospf_script.specs.Names.{IsWordOf, all_names, is_word_of, name_in, command_name_text}
 use Rattle.ospf_script.specs.Words.{Text}
 use Rattle.ospf_script.specs.declared.command.View.TheVariants as view
 use Rattle.ospf_script.specs.declared.name.Name.{Name}
@@ -27,7 +27,7 @@ tested word (name.Show view.Neighbours) h = elim (either_is (bytes_eq word (code
   | inl british ↦ inl (is_its_word word (codes "neighbours") british)
   | inr american ↦ inr (is_its_word word (codes "neighbors") american)
 ]
-tested word n h = is_its_word word (name_text n) h
+tested word n h = is_its_word word (command_name_text n) h
 
 passed_by : (test : Bool) (n : Name) (rest : Option Name) → (test ≡ true → ⊥) → rest ≡ None → cond test (Some n) rest ≡ None
 passed_by true n rest not h = absurd (not refl)

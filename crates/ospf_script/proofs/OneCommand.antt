@@ -5,9 +5,9 @@ use Rattle.ospf_base.specs.declared.ids.Addr.{Addr}
 use Rattle.ospf_base.specs.declared.ids.RouterId.{RouterId}
 use Rattle.ospf_headline.specs.declared.event.WorldEvent.{WorldEvent}
 use Rattle.ospf_headline.specs.declared.event.WorldEvent.TheVariants as event
-use Rattle.ospf_script.specs.Commands.{AreNumbers, AreRounds, BeginsWalk, IsAddressAlone, IsAll, IsCountAlone, IsDelivery, IsLoss, IsRouterAlone, IsRouterAndLink, IsStart, IsSwitch, IsWalk, IsWhy, Takes, TakesEvent, TakesMany, name_of, name_of_event, name_of_many, no_floor}
+use Rattle.ospf_script.specs.Commands.{AreDatagramWords, AreNumbers, AreRoundWords, BeginsWalk, IsAddressAlone, IsAll, IsCountAlone, IsDelivery, IsLossWords, IsRouterAlone, IsRouterAndLink, IsStart, IsSwitch, IsWalkWords, IsWhy, TakesWords, TakesEventWords, TakesMany, name_of_command, name_of_event, name_of_many, no_floor}
 use Rattle.ospf_script.specs.Laws.{IsOneCommand, WordsSpellOneCommand}
-use Rattle.ospf_script.specs.Values.{AreSpelled, IsDecimal, IsFloor, IsRouter}
+use Rattle.ospf_script.specs.Values.{AreSpelled, IsDecimal, IsFloor, IsRouterWord}
 use Rattle.ospf_script.specs.Words.{Text}
 use Rattle.ospf_script.specs.declared.command.Command.{Command}
 use Rattle.ospf_script.specs.declared.command.Command.TheVariants as command
@@ -40,7 +40,7 @@ numbers_one : (ws : List Text) (m n i j : ℕ) → AreNumbers ws m i → AreNumb
 numbers_one (a ∷ b ∷ []) m n i j h k = (decimal_one 64 a m n h.0 k.0, decimal_one 64 b i j h.1 k.1)
 numbers_one ws m n i j h k = absurd h
 
-rounds_one : (ws : List Text) (m n : ℕ) (i j : Option ℕ) → AreRounds ws m i → AreRounds ws n j → (m ≡ n) × (i ≡ j)
+rounds_one : (ws : List Text) (m n : ℕ) (i j : Option ℕ) → AreRoundWords ws m i → AreRoundWords ws n j → (m ≡ n) × (i ≡ j)
 rounds_one ws m n None None h k = (count_one ws m n h k, refl)
 rounds_one ws m n (Some i) (Some j) h k =
     let all = numbers_one ws m n i j h k in
@@ -65,7 +65,16 @@ why_one (a ∷ b ∷ []) r s m n (Some i) None h k = absurd h
 why_one ws r s m n (Some i) None h k = absurd k
 why_one ws r s m n (Some i) (Some j) h k = absurd h
 
-loss_one : (ws : List Text) (p q m n : ℕ) (i j : Option Addr) → IsLoss ws p m i → IsLoss ws q n j → (p ≡ q) × (m ≡ n) × (i ≡ j)
+datagrams_one : (ws : List Text) (r s : RouterId) (i j : Option ℕ) → AreDatagramWords ws r i → AreDatagramWords ws s j → (r ≡ s) × (i ≡ j)
+datagrams_one (a ∷ []) r s None None h k = (router_one a r s h k, refl)
+datagrams_one (a ∷ b ∷ []) r s (Some i) (Some j) h k = (router_one a r s h.0 k.0, ap (λ most. Some most) (decimal_one 64 b i j h.1 k.1))
+datagrams_one (a ∷ []) r s None (Some j) h k = absurd k
+datagrams_one ws r s None (Some j) h k = absurd h
+datagrams_one (a ∷ []) r s (Some i) None h k = absurd h
+datagrams_one ws r s (Some i) None h k = absurd k
+datagrams_one ws r s i j h k = absurd h
+
+loss_one : (ws : List Text) (p q m n : ℕ) (i j : Option Addr) → IsLossWords ws p m i → IsLossWords ws q n j → (p ≡ q) × (m ≡ n) × (i ≡ j)
 loss_one (a ∷ b ∷ []) p q m n None None h k = (percent_one a p q h.0 k.0, decimal_one 64 b m n h.1 k.1, refl)
 loss_one (a ∷ b ∷ c ∷ []) p q m n (Some i) (Some j) h k = (percent_one a p q h.0 k.0, decimal_one 64 b m n h.1 k.1, ap (λ x. Some x) (address_one c i j h.2 k.2))
 loss_one (a ∷ b ∷ []) p q m n None (Some j) h k = absurd k
@@ -76,8 +85,8 @@ loss_one ws p q m n i j h k = absurd h
 
 -- a start by the number of its words
 StartOf : List Text → RouterId → ℕ → ℤ → Type 0
-StartOf (a ∷ b ∷ []) r n f = IsRouter a r × IsDecimal 32 b n × (f ≡ no_floor)
-StartOf (a ∷ b ∷ c ∷ []) r n f = IsRouter a r × IsDecimal 32 b n × IsFloor c f
+StartOf (a ∷ b ∷ []) r n f = IsRouterWord a r × IsDecimal 32 b n × (f ≡ no_floor)
+StartOf (a ∷ b ∷ c ∷ []) r n f = IsRouterWord a r × IsDecimal 32 b n × IsFloor c f
 StartOf _ r n f = ⊥
 
 start_of : (ws : List Text) (r : RouterId) (n : ℕ) (f : ℤ) → IsStart ws r n f → StartOf ws r n f
@@ -96,7 +105,7 @@ ends_one : (ws : List Text) (r s : RouterId) (a b : Addr) (us vs : List Text) �
 ends_one (x ∷ y ∷ ws) r s a b us vs h k = (router_one x r s h.0 k.0, address_one y a b h.1 k.1, sym h.2 ∙ k.2)
 ends_one _ r s a b us vs h k = absurd h
 
-walk_one : (ws : List Text) (r s : RouterId) (a b : Addr) (cs ds : List ℕ) → IsWalk ws r a cs → IsWalk ws s b ds → (r ≡ s) × (a ≡ b) × (cs ≡ ds)
+walk_one : (ws : List Text) (r s : RouterId) (a b : Addr) (cs ds : List ℕ) → IsWalkWords ws r a cs → IsWalkWords ws s b ds → (r ≡ s) × (a ≡ b) × (cs ≡ ds)
 walk_one ws r s a b cs ds h k =
     let ends = ends_one ws r s a b h.0 k.0 h.1 k.1 in
     let there : AreSpelled (IsDecimal 32) k.0 cs = rw ends.2 at h.2 in
@@ -124,7 +133,7 @@ switch_one ws false true h k = absurd (on_is_not_off ws k h)
 
 -- ---- events
 
-event_one : (ws : List Text) (c d : WorldEvent) → name_of_event c ≡ name_of_event d → TakesEvent c ws → TakesEvent d ws → c ≡ d
+event_one : (ws : List Text) (c d : WorldEvent) → name_of_event c ≡ name_of_event d → TakesEventWords c ws → TakesEventWords d ws → c ≡ d
 event_one ws (event.Start r m f) (event.Start s n g) e h k =
     let all = start_one ws r s m n f g (start_of ws r m f h) (start_of ws s n g k) in
     let one = all.0 in let two = all.1 in let three = all.2 in cc
@@ -167,7 +176,7 @@ is_of_many (many.Cut network) = tt
 is_of_many (many.Mend network) = tt
 
 -- an event is none at many routers
-event_not_many : (ws : List Text) (c : WorldEvent) (d : Many) → name_of_event c ≡ name_of_many d → TakesEvent c ws → TakesMany d ws → ⊥
+event_not_many : (ws : List Text) (c : WorldEvent) (d : Many) → name_of_event c ≡ name_of_many d → TakesEventWords c ws → TakesMany d ws → ⊥
 unfolding IsOfMany
 event_not_many ws (event.Start r m f) many.Start e h k = start_not_all ws r m f h k
 event_not_many ws (event.LinkUp r m) many.Up e h k = link_not_all ws r m h k
@@ -179,7 +188,7 @@ event_not_many ws c d e h k = subst IsOfMany (sym e) (is_of_many d)
 
 -- ---- commands
 
-takes_one : (ws : List Text) (c d : Command) → name_of c ≡ name_of d → Takes c ws → Takes d ws → IsOneCommand c d
+takes_one : (ws : List Text) (c d : Command) → name_of_command c ≡ name_of_command d → TakesWords c ws → TakesWords d ws → IsOneCommand c d
 takes_one ws (command.Event c) (command.Event d) e h k = ap command.Event (event_one ws c d e h k)
 takes_one ws (command.Event c) (command.Many d) e h k = absurd (event_not_many ws c d e h k)
 takes_one ws (command.Many c) (command.Many d) e h k = ap command.Many (many_one ws c d e h k)
@@ -198,6 +207,9 @@ takes_one ws (command.Say text) (command.Say other) e h k = h ∙ sym k
 takes_one ws (command.Why r m i) (command.Why s n j) e h k =
     let all = why_one ws r s m n i j h k in
     let one = all.0 in let two = all.1 in let three = all.2 in cc
+takes_one ws (command.Datagrams r i) (command.Datagrams s j) e h k =
+    let all = datagrams_one ws r s i j h k in
+    let one = all.0 in let two = all.1 in cc
 takes_one ws (command.Loss p m i) (command.Loss q n j) e h k =
     let all = loss_one ws p q m n i j h k in
     let one = all.0 in let two = all.1 in let three = all.2 in cc
@@ -211,4 +223,4 @@ takes_one ws c d e h k = let none : ⊥ = cc in absurd none
 
 pub one_command : WordsSpellOneCommand
 one_command [] c d h k = absurd h
-one_command (a ∷ ws) c d h k = takes_one ws c d (word_is_one a (name_of c) (name_of d) h.0 k.0) h.1 k.1
+one_command (a ∷ ws) c d h k = takes_one ws c d (word_is_one a (name_of_command c) (name_of_command d) h.0 k.0) h.1 k.1

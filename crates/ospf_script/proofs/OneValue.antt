@@ -6,7 +6,7 @@ use Rattle.std.proofs.NetLemmas.Theorems.{IsIpv4Text_unique}
 use Rattle.std.proofs.lemmas.Nat.{from_be_bytes-to_be_bytes_4}
 use Rattle.ospf_base.specs.declared.ids.Addr.{Addr}
 use Rattle.ospf_base.specs.declared.ids.RouterId.{RouterId}
-use Rattle.ospf_script.specs.Values.{IsAddress, IsDecimal, IsDotted32, IsFloor, IsPercent, IsRouter}
+use Rattle.ospf_script.specs.Values.{IsAddress, IsDecimal, IsDotted32, IsFloor, IsPercent, IsRouterWord}
 use Rattle.ospf_script.specs.Words.{Text}
 
 pub dotted_one : (word : Text) (m n : ℕ) → IsDotted32 word m → IsDotted32 word n → m ≡ n
@@ -19,7 +19,7 @@ dotted_one word m n h k =
 router_with : ℕ → RouterId
 router_with n = record { 0 = n }
 
-pub router_one : (word : Text) (r s : RouterId) → IsRouter word r → IsRouter word s → r ≡ s
+pub router_one : (word : Text) (r s : RouterId) → IsRouterWord word r → IsRouterWord word s → r ≡ s
 unfolding router_with
 router_one word r s h k = ap router_with (dotted_one word r.0 s.0 h k)
 

@@ -6,7 +6,8 @@ use Rattle.std.proofs.lemmas.List.Elements.{All-head, All-tail}
 use Rattle.std.proofs.lemmas.List.Splits.{slice_split_first, slice_split_none}
 use Rattle.std.proofs.lemmas.List.Sums.{fails_before_first, passes_at_first, prefix_len_stops, prefix_len_passes, prefix_len-le-length}
 use Rattle.std.proofs.lemmas.Grind.{common_steps}
-use Rattle.ospf_script.specs.Words.{IsBlank, Text, is_space, is_word, words}
+use Rattle.ospf_base.specs.Text.{IsBlank}
+use Rattle.ospf_script.specs.Words.{Text, is_space, is_word, line_words}
 
 pub position-le : (text : Text) → position_or_len is_space text ≤ length text
 position-le text = prefix_len-le-length (λ b. not (is_space b)) text
@@ -18,15 +19,15 @@ after_one : (b : ℕ) (bs : Text) (n : ℕ) → drop (1 + n) (b ∷ bs) ≡ drop
 after_one b bs n = grind (arith, common_steps)
 
 -- a space in front belongs to no word
-words-space : (b : ℕ) (bs : Text) → is_space b ≡ true → words (b ∷ bs) ≡ words bs
+words-space : (b : ℕ) (bs : Text) → is_space b ≡ true → line_words (b ∷ bs) ≡ line_words bs
 words-space b bs e = ap (λ s. filter is_word (cond s ([] ∷ slice_split is_space bs) (onto_first b (slice_split is_space bs)))) e
 
 -- nor do several
-pub words-after_spaces : (text : Text) → words (drop (prefix_len is_space text) text) ≡ words text
+pub words-after_spaces : (text : Text) → line_words (drop (prefix_len is_space text) text) ≡ line_words text
 words-after_spaces [] = refl
 words-after_spaces (b ∷ bs) =
-    elim (is_space b) as (λ s. is_space b ≡ s → words (drop (cond s (1 + prefix_len is_space bs) 0) (b ∷ bs)) ≡ words (b ∷ bs)) [
-      | true ↦ λ e. ap words (after_one b bs (prefix_len is_space bs)) ∙ words-after_spaces bs ∙ sym (words-space b bs e)
+    elim (is_space b) as (λ s. is_space b ≡ s → line_words (drop (cond s (1 + prefix_len is_space bs) 0) (b ∷ bs)) ≡ line_words (b ∷ bs)) [
+      | true ↦ λ e. ap line_words (after_one b bs (prefix_len is_space bs)) ∙ words-after_spaces bs ∙ sym (words-space b bs e)
       | false ↦ λ e. refl
     ] refl
 
@@ -53,7 +54,7 @@ filter-word (b ∷ bs) parts h = ap (λ t. cond (not t) ((b ∷ bs) ∷ filter i
 
 -- the first word, and those of what stands behind it
 pub words-first : (text : Text) → 0 < position_or_len is_space text
-    → words text ≡ take (position_or_len is_space text) text ∷ words (drop (position_or_len is_space text) text)
+    → line_words text ≡ take (position_or_len is_space text) text ∷ line_words (drop (position_or_len is_space text) text)
 words-first text h =
     let n : ℕ = position_or_len is_space text in
     elim (cases_lt n (length text)) [
@@ -62,7 +63,7 @@ words-first text h =
           let long : 0 < length (take n text) = grind (arith, common_steps) in
           let space : is_space (get_or text n 0) ≡ true = passes_at_first is_space text 0 l in
           let behind : drop n text ≡ get_or text n 0 ∷ drop (n + 1) text = grind (arith, common_steps) in
-          let others : words (drop n text) ≡ words (drop (n + 1) text) = ap words behind ∙ words-space _ (drop (n + 1) text) space in
+          let others : line_words (drop n text) ≡ line_words (drop (n + 1) text) = ap line_words behind ∙ words-space _ (drop (n + 1) text) space in
           ap (filter is_word) cut ∙ filter-word (take n text) (slice_split is_space (drop (n + 1) text)) long ∙ ap (λ (ws : List Text). take n text ∷ ws) (sym others)
       | inr m ↦
           let none : All (λ b. is_space b ≡ false) text = λ k d l. fails_before_first is_space text k d (omega arith) in
@@ -72,7 +73,7 @@ words-first text h =
     ]
 
 -- a blank text has no words
-pub words-blank : (text : Text) → IsBlank text → words text ≡ []
+pub words-blank : (text : Text) → IsBlank text → line_words text ≡ []
 words-blank [] h = refl
 words-blank (b ∷ bs) h =
     let space : is_space b ≡ true = eq-eqb b 32 (All-head (λ x. x ≡ 32) b bs h) in

@@ -9,7 +9,7 @@ use Rattle.std.proofs.lemmas.Fmt.{IsAscii-decimal}
 use Rattle.std.proofs.lemmas.Str.{IsAscii-append, IsUtf8-from_ascii}
 use Rattle.std.proofs.lemmas.Str.Ascii.{IsAscii-nil, IsAscii-cons}
 use Rattle.ospf_base.specs.Text.{IsDottedNumber}
-use Rattle.ospf_script.specs.Names.{IsWordOf, name_text}
+use Rattle.ospf_script.specs.Names.{IsWordOf, command_name_text}
 use Rattle.ospf_script.specs.Words.{Finds, Text}
 use Rattle.ospf_script.specs.declared.command.View.TheVariants as view
 use Rattle.ospf_script.specs.declared.name.Name.{Name}
@@ -64,7 +64,7 @@ eight_digits_fit ds digits eight =
     subst P eight below
 
 -- the names of commands are text
-pub names_are_text : (name : Name) → IsUtf8 (name_text name)
+pub names_are_text : (name : Name) → IsUtf8 (command_name_text name)
 names_are_text (name.Show view.Neighbours) = search rules
 names_are_text (name.Show view.Listing) = search rules
 names_are_text (name.Show view.Table) = search rules

@@ -6,9 +6,10 @@ use Rattle.ospf_base.specs.declared.ids.Addr.{Addr}
 use Rattle.ospf_base.specs.declared.ids.RouterId.{RouterId}
 use Rattle.ospf_headline.specs.declared.event.WorldEvent.{WorldEvent}
 use Rattle.ospf_headline.specs.declared.event.WorldEvent.TheVariants as event
-use Rattle.ospf_script.specs.Commands.{AreNumbers, AreRounds, IsLoss, IsOf, IsRouterAlone, IsRouterAndLink, IsUnreadable, IsWalk, IsWhy, Spells, Takes, name_of, name_of_event, name_of_many, spaced}
+use Rattle.ospf_script.specs.Commands.{AreDatagramWords, AreNumbers, AreRoundWords, IsLossWords, IsNamedCommand, IsRouterAlone, IsRouterAndLink, IsUnreadable, IsWalkWords, IsWhy, SpellsCommand, TakesWords, name_of_command, name_of_event, name_of_many, spaced}
 use Rattle.ospf_script.specs.Names.{IsWordOf}
-use Rattle.ospf_script.specs.Words.{IsBlank, Text, words}
+use Rattle.ospf_base.specs.Text.{IsBlank}
+use Rattle.ospf_script.specs.Words.{Text, line_words}
 use Rattle.ospf_script.proofs.Parts.{words-blank}
 use Rattle.ospf_script.specs.declared.command.Command.{Command}
 use Rattle.ospf_script.specs.declared.command.Command.TheVariants as command
@@ -21,7 +22,7 @@ use Rattle.ospf_script.specs.declared.name.Name.TheVariants as names
 
 -- the words spell no command of this name
 abbrev pub IsNone : Name → List Text → Type 0
-IsNone name ws = (c : Command) → IsOf name ws c → ⊥
+IsNone name ws = (c : Command) → IsNamedCommand name ws c → ⊥
 
 -- ---- names of events
 
@@ -54,7 +55,7 @@ many_name (many.Mend network) = tt
 
 -- ---- no command
 
-pub no_walk : (ws : List Text) → ((from : RouterId) (address : Addr) (choices : List ℕ) → IsWalk ws from address choices → ⊥) → IsNone names.Walk ws
+pub no_walk : (ws : List Text) → ((from : RouterId) (address : Addr) (choices : List ℕ) → IsWalkWords ws from address choices → ⊥) → IsNone names.Walk ws
 no_walk ws h (command.Event e) is = subst IsOfEvents is.0 (event_name e)
 no_walk ws h (command.Many m) is = subst IsOfEvents is.0 (many_name m)
 no_walk ws h (command.Walk from address choices) is = h from address choices.items is.1
@@ -78,7 +79,7 @@ no_view ws view h (command.Many m) is = subst IsOfEvents is.0 (many_name m)
 no_view ws view h (command.Show other router) is = h router is.1
 no_view ws view h c is = let e = is.0 in cc
 
-pub no_round : (ws : List Text) → ((found : ℕ × Option ℕ) → AreRounds ws found.0 found.1 → ⊥) → IsNone names.Round ws
+pub no_round : (ws : List Text) → ((found : ℕ × Option ℕ) → AreRoundWords ws found.0 found.1 → ⊥) → IsNone names.Round ws
 no_round ws h (command.Event e) is = subst IsOfEvents is.0 (event_name e)
 no_round ws h (command.Many m) is = subst IsOfEvents is.0 (many_name m)
 no_round ws h (command.Round count most) is = h (count, most) is.1
@@ -90,7 +91,13 @@ no_why ws h (command.Many m) is = subst IsOfEvents is.0 (many_name m)
 no_why ws h (command.Why router link neighbour) is = h (router, link, neighbour) is.1
 no_why ws h c is = let e = is.0 in cc
 
-pub no_loss : (ws : List Text) → ((found : ℕ × ℕ × Option Addr) → IsLoss ws found.0 found.1 found.2 → ⊥) → IsNone names.Loss ws
+pub no_datagrams : (ws : List Text) → ((found : RouterId × Option ℕ) → AreDatagramWords ws found.0 found.1 → ⊥) → IsNone names.Datagrams ws
+no_datagrams ws h (command.Event e) is = subst IsOfEvents is.0 (event_name e)
+no_datagrams ws h (command.Many m) is = subst IsOfEvents is.0 (many_name m)
+no_datagrams ws h (command.Datagrams router most) is = h (router, most) is.1
+no_datagrams ws h c is = let e = is.0 in cc
+
+pub no_loss : (ws : List Text) → ((found : ℕ × ℕ × Option Addr) → IsLossWords ws found.0 found.1 found.2 → ⊥) → IsNone names.Loss ws
 no_loss ws h (command.Event e) is = subst IsOfEvents is.0 (event_name e)
 no_loss ws h (command.Many m) is = subst IsOfEvents is.0 (many_name m)
 no_loss ws h (command.Loss percent number network) is = h (percent, number, network) is.1
@@ -99,10 +106,18 @@ no_loss ws h c is = let e = is.0 in cc
 -- ---- shapes
 
 -- no word alone, and not two numbers
-pub not_rounds : (ws : List Text) → ((a : Text) → ws ≡ a ∷ [] → ⊥) → ((found : ℕ × ℕ) → AreNumbers ws found.0 found.1 → ⊥) → (count : ℕ) (most : Option ℕ) → AreRounds ws count most → ⊥
+pub not_rounds : (ws : List Text) → ((a : Text) → ws ≡ a ∷ [] → ⊥) → ((found : ℕ × ℕ) → AreNumbers ws found.0 found.1 → ⊥) → (count : ℕ) (most : Option ℕ) → AreRoundWords ws count most → ⊥
 not_rounds (a ∷ []) one two count None h = one a refl
 not_rounds ws one two count None h = h
 not_rounds ws one two count (Some most) h = two (count, most) h
+
+-- no word alone, and not two words
+pub not_datagrams : (ws : List Text) → ((a : Text) → ws ≡ a ∷ [] → ⊥) → ((a b : Text) → ws ≡ a ∷ b ∷ [] → ⊥) → (router : RouterId) (most : Option ℕ)
+    → AreDatagramWords ws router most → ⊥
+not_datagrams (a ∷ []) one two router None h = one a refl
+not_datagrams ws one two router None h = h
+not_datagrams (a ∷ b ∷ []) one two router (Some most) h = two a b refl
+not_datagrams ws one two router (Some most) h = h
 
 -- not three words, and no Router ID with a link
 pub not_why : (ws : List Text) → ((found : RouterId × ℕ) → IsRouterAndLink ws found.0 found.1 → ⊥) → ((a b c : Text) → ws ≡ a ∷ b ∷ c ∷ [] → ⊥)
@@ -137,6 +152,7 @@ by_key n =
     if n == 1143 then names.Walk else
     if n == 883 then names.Say else
     if n == 887 then names.Why else
+    if n == 2404 then names.Datagrams else
     if n == 1132 then names.Loss else
     if n == 1637 then names.Expect else
     if n == 2414 then (names.Show view.Neighbours) else
@@ -163,6 +179,7 @@ found_by_key word names.Walk is = ap (λ text. by_key (key text)) is
 found_by_key word (names.Show view.Floor) is = ap (λ text. by_key (key text)) is
 found_by_key word names.Say is = ap (λ text. by_key (key text)) is
 found_by_key word names.Why is = ap (λ text. by_key (key text)) is
+found_by_key word names.Datagrams is = ap (λ text. by_key (key text)) is
 found_by_key word names.Loss is = ap (λ text. by_key (key text)) is
 found_by_key word names.Expect is = ap (λ text. by_key (key text)) is
 found_by_key word (names.Show view.Neighbours) is = elim is [ inl british ↦ ap (λ text. by_key (key text)) british | inr american ↦ ap (λ text. by_key (key text)) american ]
@@ -173,24 +190,24 @@ word_is_one word a b is other = sym (found_by_key word a is) ∙ found_by_key wo
 
 -- ---- lines
 
-pub not_blank : (line word : Text) (ws : List Text) → words line ≡ word ∷ ws → IsBlank line → ⊥
+pub not_blank : (line word : Text) (ws : List Text) → line_words line ≡ word ∷ ws → IsBlank line → ⊥
 not_blank line word ws is blank =
-    let none : words line ≡ [] = words-blank line blank in
+    let none : line_words line ≡ [] = words-blank line blank in
     let both : [] ≡ word ∷ ws = sym none ∙ is in
     cc
 
 -- the words behind the first spell no command of its name
-pub unreadable : (line word : Text) (ws : List Text) → words line ≡ word ∷ ws → ((c : Command) → IsWordOf word (name_of c) → Takes c ws → ⊥) → IsUnreadable line
+pub unreadable : (line word : Text) (ws : List Text) → line_words line ≡ word ∷ ws → ((c : Command) → IsWordOf word (name_of_command c) → TakesWords c ws → ⊥) → IsUnreadable line
 unreadable line word ws is none = record {
   some = not_blank line word ws is;
-  none = λ c spelled. let h : Spells (word ∷ ws) c = rw is at spelled in none c h.0 h.1;
+  none = λ c spelled. let h : SpellsCommand (word ∷ ws) c = rw is at spelled in none c h.0 h.1;
 }
 
-pub unreadable_of : (line word : Text) (ws : List Text) (name : Name) → words line ≡ word ∷ ws → IsWordOf word name → IsNone name ws → IsUnreadable line
+pub unreadable_of : (line word : Text) (ws : List Text) (name : Name) → line_words line ≡ word ∷ ws → IsWordOf word name → IsNone name ws → IsUnreadable line
 unreadable_of line word ws name is named none =
-    unreadable line word ws is (λ c own takes. none c (word_is_one word (name_of c) name own named, takes))
+    unreadable line word ws is (λ c own takes. none c (word_is_one word (name_of_command c) name own named, takes))
 
-pub spelled : (line word : Text) (ws : List Text) (name : Name) (c : Command) → words line ≡ word ∷ ws → IsWordOf word name → IsOf name ws c → Spells (words line) c
+pub spelled : (line word : Text) (ws : List Text) (name : Name) (c : Command) → line_words line ≡ word ∷ ws → IsWordOf word name → IsNamedCommand name ws c → SpellsCommand (line_words line) c
 spelled line word ws name c is named of =
-    let here : Spells (word ∷ ws) c = (subst (IsWordOf word) (sym of.0) named, of.1) in
+    let here : SpellsCommand (word ∷ ws) c = (subst (IsWordOf word) (sym of.0) named, of.1) in
     rw is here

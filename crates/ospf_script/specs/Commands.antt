@@ -6,9 +6,10 @@ use Rattle.ospf_base.specs.declared.ids.RouterId.{RouterId}
 use Rattle.ospf_headline.specs.declared.event.WorldEvent.{WorldEvent}
 use Rattle.ospf_headline.specs.declared.event.WorldEvent.TheVariants as event
 use Rattle.ospf_script.specs.Expected.{IsExpected, IsLongRoute}
-use Rattle.ospf_script.specs.Names.{IsWordOf, name_text}
-use Rattle.ospf_script.specs.Values.{AreManySpelled, AreSpelled, IsAddress, IsDecimal, IsFloor, IsPercent, IsRouter}
-use Rattle.ospf_script.specs.Words.{IsBlank, Text, words}
+use Rattle.ospf_script.specs.Names.{IsWordOf, command_name_text}
+use Rattle.ospf_script.specs.Values.{AreManySpelled, AreSpelled, IsAddress, IsDecimal, IsFloor, IsPercent, IsRouterWord}
+use Rattle.ospf_base.specs.Text.{IsBlank}
+use Rattle.ospf_script.specs.Words.{Text, line_words}
 use Rattle.ospf_script.specs.declared.command.Command.{Command}
 use Rattle.ospf_script.specs.declared.command.Command.TheVariants as command
 use Rattle.ospf_script.specs.declared.command.Many.{Many}
@@ -36,7 +37,7 @@ IsThree P _ = ⊥
 -- ---- the words behind a command's name
 
 abbrev pub IsRouterAlone : List Text → RouterId → Type 0
-IsRouterAlone ws router = IsOne (λ a. IsRouter a router) ws
+IsRouterAlone ws router = IsOne (λ a. IsRouterWord a router) ws
 
 abbrev pub IsAddressAlone : List Text → Addr → Type 0
 IsAddressAlone ws address = IsOne (λ a. IsAddress a address) ws
@@ -45,28 +46,33 @@ abbrev pub IsCountAlone : List Text → ℕ → Type 0
 IsCountAlone ws count = IsOne (λ a. IsDecimal 64 a count) ws
 
 abbrev pub IsRouterAndLink : List Text → RouterId → ℕ → Type 0
-IsRouterAndLink ws router link = IsTwo (λ a b. IsRouter a router × IsDecimal 64 b link) ws
+IsRouterAndLink ws router link = IsTwo (λ a b. IsRouterWord a router × IsDecimal 64 b link) ws
 
 abbrev pub AreNumbers : List Text → ℕ → ℕ → Type 0
 AreNumbers ws number count = IsTwo (λ a b. IsDecimal 64 a number × IsDecimal 64 b count) ws
 
 -- a count of rounds, and how many datagrams each offers at most, where that is given
-abbrev pub AreRounds : List Text → ℕ → Option ℕ → Type 0
-AreRounds ws count None = IsCountAlone ws count
-AreRounds ws count (Some most) = AreNumbers ws count most
+abbrev pub AreRoundWords : List Text → ℕ → Option ℕ → Type 0
+AreRoundWords ws count None = IsCountAlone ws count
+AreRoundWords ws count (Some most) = AreNumbers ws count most
+
+-- a Router ID, and how many datagrams at most, where that is given
+abbrev pub AreDatagramWords : List Text → RouterId → Option ℕ → Type 0
+AreDatagramWords ws router None = IsRouterAlone ws router
+AreDatagramWords ws router (Some most) = IsTwo (λ a b. IsRouterWord a router × IsDecimal 64 b most) ws
 
 abbrev pub IsDelivery : List Text → ℕ → RouterId → ℕ → Type 0
-IsDelivery ws datagram router link = IsThree (λ a b c. IsDecimal 64 a datagram × IsRouter b router × IsDecimal 64 c link) ws
+IsDelivery ws datagram router link = IsThree (λ a b c. IsDecimal 64 a datagram × IsRouterWord b router × IsDecimal 64 c link) ws
 
 -- a Router ID and a link, and the Router ID of a neighbour, where that is given
 abbrev pub IsWhy : List Text → RouterId → ℕ → Option RouterId → Type 0
 IsWhy ws router link None = IsRouterAndLink ws router link
-IsWhy ws router link (Some neighbour) = IsThree (λ a b c. IsRouter a router × IsDecimal 64 b link × IsRouter c neighbour) ws
+IsWhy ws router link (Some neighbour) = IsThree (λ a b c. IsRouterWord a router × IsDecimal 64 b link × IsRouterWord c neighbour) ws
 
 -- how many of a hundred deliveries are lost, the number of a generator, and an address in the one network where that is, if it is given
-abbrev pub IsLoss : List Text → ℕ → ℕ → Option Addr → Type 0
-IsLoss ws percent number None = IsTwo (λ a b. IsPercent a percent × IsDecimal 64 b number) ws
-IsLoss ws percent number (Some address) = IsThree (λ a b c. IsPercent a percent × IsDecimal 64 b number × IsAddress c address) ws
+abbrev pub IsLossWords : List Text → ℕ → ℕ → Option Addr → Type 0
+IsLossWords ws percent number None = IsTwo (λ a b. IsPercent a percent × IsDecimal 64 b number) ws
+IsLossWords ws percent number (Some address) = IsThree (λ a b c. IsPercent a percent × IsDecimal 64 b number × IsAddress c address) ws
 
 -- the floor that is none: each LS sequence number is above it (RFC 2328, section 12.1.6)
 abbrev pub no_floor : ℤ
@@ -75,16 +81,16 @@ no_floor = cast_signed w32 0x80000000
 -- with no floor, or with one
 abbrev pub IsStart : List Text → RouterId → ℕ → ℤ → Type 0
 IsStart ws router dd_start floor =
-    IsTwo (λ a b. IsRouter a router × IsDecimal 32 b dd_start × (floor ≡ no_floor)) ws
-    ⊎ IsThree (λ a b c. IsRouter a router × IsDecimal 32 b dd_start × IsFloor c floor) ws
+    IsTwo (λ a b. IsRouterWord a router × IsDecimal 32 b dd_start × (floor ≡ no_floor)) ws
+    ⊎ IsThree (λ a b c. IsRouterWord a router × IsDecimal 32 b dd_start × IsFloor c floor) ws
 
 -- a Router ID and an address, and then other words
 abbrev pub BeginsWalk : List Text → RouterId → Addr → List Text → Type 0
-BeginsWalk (a ∷ b ∷ ws) from address rest = IsRouter a from × IsAddress b address × (ws ≡ rest)
+BeginsWalk (a ∷ b ∷ ws) from address rest = IsRouterWord a from × IsAddress b address × (ws ≡ rest)
 BeginsWalk _ from address rest = ⊥
 
-abbrev pub IsWalk : List Text → RouterId → Addr → List ℕ → Type 0
-IsWalk ws from address choices = (rest : List Text) × BeginsWalk ws from address rest × AreSpelled (IsDecimal 32) rest choices
+abbrev pub IsWalkWords : List Text → RouterId → Addr → List ℕ → Type 0
+IsWalkWords ws from address choices = (rest : List Text) × BeginsWalk ws from address rest × AreSpelled (IsDecimal 32) rest choices
 
 -- a walk with a choice or more
 abbrev pub IsLongWalk : List Text → Type 0
@@ -115,17 +121,17 @@ name_of_event (event.LinkDown router link) = name.Down
 name_of_event (event.Deliver datagram router link) = name.Deliver
 
 -- the words behind the name of an event
-abbrev pub TakesEvent : WorldEvent → List Text → Type 0
-TakesEvent (event.Start router dd_start floor) ws = IsStart ws router dd_start floor
-TakesEvent (event.Stop router) ws = IsRouterAlone ws router
-TakesEvent (event.Tick router) ws = IsRouterAlone ws router
-TakesEvent (event.LinkUp router link) ws = IsRouterAndLink ws router link
-TakesEvent (event.LinkDown router link) ws = IsRouterAndLink ws router link
-TakesEvent (event.Deliver datagram router link) ws = IsDelivery ws datagram router link
+abbrev pub TakesEventWords : WorldEvent → List Text → Type 0
+TakesEventWords (event.Start router dd_start floor) ws = IsStart ws router dd_start floor
+TakesEventWords (event.Stop router) ws = IsRouterAlone ws router
+TakesEventWords (event.Tick router) ws = IsRouterAlone ws router
+TakesEventWords (event.LinkUp router link) ws = IsRouterAndLink ws router link
+TakesEventWords (event.LinkDown router link) ws = IsRouterAndLink ws router link
+TakesEventWords (event.Deliver datagram router link) ws = IsDelivery ws datagram router link
 
 -- the event has this name, and takes the words
 abbrev pub IsEventOf : Name → List Text → WorldEvent → Type 0
-IsEventOf name ws event = (name_of_event event ≡ name) × TakesEvent event ws
+IsEventOf name ws event = (name_of_event event ≡ name) × TakesEventWords event ws
 
 abbrev pub name_of_many : Many → Name
 name_of_many many.Start = name.Start
@@ -146,69 +152,72 @@ AreEventsOf name ws many = (name_of_many many ≡ name) × TakesMany many ws
 
 -- ---- commands
 
-abbrev pub name_of : Command → Name
-name_of (command.Event event) = name_of_event event
-name_of (command.Many many) = name_of_many many
-name_of (command.Round count most) = name.Round
-name_of (command.Random number count) = name.Random
-name_of (command.Settle most) = name.Settle
-name_of (command.Show view router) = name.Show view
-name_of (command.Walk from address choices) = name.Walk
-name_of (command.Say text) = name.Say
-name_of (command.Why router link neighbour) = name.Why
-name_of (command.Loss percent number network) = name.Loss
-name_of (command.Expect expected) = name.Expect
-name_of (command.Label is_on) = name.Label
+abbrev pub name_of_command : Command → Name
+name_of_command (command.Event event) = name_of_event event
+name_of_command (command.Many many) = name_of_many many
+name_of_command (command.Round count most) = name.Round
+name_of_command (command.Random number count) = name.Random
+name_of_command (command.Settle most) = name.Settle
+name_of_command (command.Show view router) = name.Show view
+name_of_command (command.Walk from address choices) = name.Walk
+name_of_command (command.Say text) = name.Say
+name_of_command (command.Why router link neighbour) = name.Why
+name_of_command (command.Datagrams router most) = name.Datagrams
+name_of_command (command.Loss percent number network) = name.Loss
+name_of_command (command.Expect expected) = name.Expect
+name_of_command (command.Label is_on) = name.Label
 
 -- the words behind its name
-abbrev pub Takes : Command → List Text → Type 0
-Takes (command.Event event) ws = TakesEvent event ws
-Takes (command.Many many) ws = TakesMany many ws
-Takes (command.Round count most) ws = AreRounds ws count most
-Takes (command.Random number count) ws = AreNumbers ws number count
-Takes (command.Settle most) ws = IsCountAlone ws most
-Takes (command.Show view router) ws = IsRouterAlone ws router
-Takes (command.Walk from address choices) ws = IsWalk ws from address choices.items
-Takes (command.Say text) ws = string_bytes text ≡ spaced ws
-Takes (command.Why router link neighbour) ws = IsWhy ws router link neighbour
-Takes (command.Loss percent number network) ws = IsLoss ws percent number network
-Takes (command.Expect expected) ws = IsExpected ws expected
-Takes (command.Label is_on) ws = IsSwitch ws is_on
+abbrev pub TakesWords : Command → List Text → Type 0
+TakesWords (command.Event event) ws = TakesEventWords event ws
+TakesWords (command.Many many) ws = TakesMany many ws
+TakesWords (command.Round count most) ws = AreRoundWords ws count most
+TakesWords (command.Random number count) ws = AreNumbers ws number count
+TakesWords (command.Settle most) ws = IsCountAlone ws most
+TakesWords (command.Show view router) ws = IsRouterAlone ws router
+TakesWords (command.Walk from address choices) ws = IsWalkWords ws from address choices.items
+TakesWords (command.Say text) ws = string_bytes text ≡ spaced ws
+TakesWords (command.Why router link neighbour) ws = IsWhy ws router link neighbour
+TakesWords (command.Datagrams router most) ws = AreDatagramWords ws router most
+TakesWords (command.Loss percent number network) ws = IsLossWords ws percent number network
+TakesWords (command.Expect expected) ws = IsExpected ws expected
+TakesWords (command.Label is_on) ws = IsSwitch ws is_on
 
 -- the command has this name, and takes the words
-abbrev pub IsOf : Name → List Text → Command → Type 0
-IsOf name ws c = (name_of c ≡ name) × Takes c ws
+abbrev pub IsNamedCommand : Name → List Text → Command → Type 0
+IsNamedCommand name ws c = (name_of_command c ≡ name) × TakesWords c ws
 
 -- the names of commands whose last word may be left out, but for events and what is expected
 abbrev pub HasForms : Name → Type 0
 HasForms name.Round = ⊤
 HasForms name.Why = ⊤
+HasForms name.Datagrams = ⊤
 HasForms name.Loss = ⊤
 HasForms _ = ⊥
 
 -- the words spell the command: its name, and what it takes
-abbrev pub Spells : List Text → Command → Type 0
-Spells [] c = ⊥
-Spells (a ∷ ws) c = IsWordOf a (name_of c) × Takes c ws
+abbrev pub SpellsCommand : List Text → Command → Type 0
+SpellsCommand [] c = ⊥
+SpellsCommand (a ∷ ws) c = IsWordOf a (name_of_command c) × TakesWords c ws
 
 -- ---- lines
 
 -- the line is not blank, and spells no command
 pub record IsUnreadable (line : Text) : Type 0 where
   pub some : IsBlank line → ⊥
-  pub none : (c : Command) → Spells (words line) c → ⊥
+  pub none : (c : Command) → SpellsCommand (line_words line) c → ⊥
 
 -- the words spell a walk with a choice or more
 abbrev pub SpellsLongWalk : List Text → Type 0
-SpellsLongWalk ws = (rest : List Text) × (ws ≡ name_text name.Walk ∷ rest) × IsLongWalk rest
+SpellsLongWalk ws = (rest : List Text) × (ws ≡ command_name_text name.Walk ∷ rest) × IsLongWalk rest
 
 -- the words spell a text to be printed
 abbrev pub SpellsText : List Text → Type 0
-SpellsText ws = (rest : List Text) × (ws ≡ name_text name.Say ∷ rest)
+SpellsText ws = (rest : List Text) × (ws ≡ command_name_text name.Say ∷ rest)
 
 -- the words spell a route that is expected, with next hops
 abbrev pub SpellsLongRoute : List Text → Type 0
-SpellsLongRoute ws = (rest : List Text) × (ws ≡ name_text name.Expect ∷ rest) × IsLongRoute rest
+SpellsLongRoute ws = (rest : List Text) × (ws ≡ command_name_text name.Expect ∷ rest) × IsLongRoute rest
 
 -- they spell a command that needs room: for the choices of a walk, for a text, or for next hops
 abbrev pub NeedsRoom : List Text → Type 0

@@ -1,6 +1,6 @@
 -- No words spell two commands.
 use Rattle.std.specs.Prelude.{◌≡◌, List, string_bytes}
-use Rattle.ospf_script.specs.Commands.{Spells}
+use Rattle.ospf_script.specs.Commands.{SpellsCommand}
 use Rattle.ospf_script.specs.Words.{Text}
 use Rattle.ospf_script.specs.declared.command.Command.{Command}
 use Rattle.ospf_script.specs.declared.command.Command.TheVariants.{Expect, Say, Walk}
@@ -27,4 +27,4 @@ IsOneCommand (Expect e) (Expect f) = IsOneExpected e f
 IsOneCommand c d = c ≡ d
 
 abbrev pub WordsSpellOneCommand : Type 0
-WordsSpellOneCommand = (ws : List Text) (c d : Command) → Spells ws c → Spells ws d → IsOneCommand c d
+WordsSpellOneCommand = (ws : List Text) (c d : Command) → SpellsCommand ws c → SpellsCommand ws d → IsOneCommand c d

@@ -1,6 +1,5 @@
 pub mod Words
 pub mod Values
-pub mod Lines
 pub mod Faults
 pub mod Names
 pub mod Expected

@@ -34,8 +34,8 @@ abbrev pub choices_text : List ℕ → Text
 choices_text choices = flat_map (λ choice. codes " " ++ decimal choice) choices
 
 -- each next hop behind a space
-abbrev pub hops_text : List NextHop → Text
-hops_text hops = flat_map (λ hop. codes " " ++ hop_text hop) hops
+abbrev pub spaced_hops_text : List NextHop → Text
+spaced_hops_text hops = flat_map (λ hop. codes " " ++ hop_text hop) hops
 
 -- a value, where one is given, behind a space
 abbrev pub given_text : {A : Type 0} → (A → Text) → Option A → Text
@@ -47,7 +47,7 @@ abbrev pub wanted_text : RouterId → Wanted → Text
 wanted_text router (Full other) = codes "expect full " ++ number_text router.0 ++ codes " " ++ number_text other.0
 wanted_text router (NoNeighbour link) = codes "expect no neighbour " ++ number_text router.0 ++ codes " " ++ decimal link
 wanted_text router (Route prefix cost hops) =
-    codes "expect route " ++ number_text router.0 ++ codes " " ++ prefix_text prefix ++ codes " " ++ decimal cost ++ hops_text hops.items
+    codes "expect route " ++ number_text router.0 ++ codes " " ++ prefix_text prefix ++ codes " " ++ decimal cost ++ spaced_hops_text hops.items
 wanted_text router (NoRoute prefix) = codes "expect no route " ++ number_text router.0 ++ codes " " ++ prefix_text prefix
 
 -- what is expected, with the name of its command
@@ -93,6 +93,7 @@ command_text (command.Walk from address choices) =
 command_text (command.Say text) = codes "say " ++ string_bytes text
 command_text (command.Why router link neighbour) =
     codes "why " ++ number_text router.0 ++ codes " " ++ decimal link ++ given_text (λ (r : RouterId). number_text r.0) neighbour
+command_text (command.Datagrams router most) = codes "datagrams " ++ number_text router.0 ++ given_text decimal most
 command_text (command.Loss percent number network) =
     codes "loss " ++ decimal percent ++ codes " " ++ decimal number ++ given_text (λ (address : Addr). number_text address.0) network
 command_text (command.Expect expected) = expected_text expected

@@ -31,8 +31,8 @@ pub record IsFloor (word : Text) (floor : ℤ) : Type 0 where
 abbrev pub IsDotted32 : Text → ℕ → Type 0
 IsDotted32 word n = IsDottedNumber word n × (n < 2 ^ 32)
 
-abbrev pub IsRouter : Text → RouterId → Type 0
-IsRouter word router = IsDotted32 word router.0
+abbrev pub IsRouterWord : Text → RouterId → Type 0
+IsRouterWord word router = IsDotted32 word router.0
 
 abbrev pub IsAddress : Text → Addr → Type 0
 IsAddress word address = IsDotted32 word address.0
@@ -54,8 +54,8 @@ FitsHop (PointToPoint local router) = (local.0 < 2 ^ 32) × (router.0 < 2 ^ 32)
 FitsHop (Lan local router address) = (local.0 < 2 ^ 32) × (router.0 < 2 ^ 32) × (address.0 < 2 ^ 32)
 
 -- a next hop, as a routing table is printed with it
-abbrev pub IsHop : Text → NextHop → Type 0
-IsHop word hop = (word ≡ hop_text hop) × FitsHop hop
+abbrev pub IsHopWord : Text → NextHop → Type 0
+IsHopWord word hop = (word ≡ hop_text hop) × FitsHop hop
 
 -- each word spells the value at its place
 abbrev pub AreSpelled : {A : Type 0} → (Text → A → Type 0) → List Text → List A → Type 0

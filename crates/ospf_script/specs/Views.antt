@@ -4,6 +4,6 @@ use Rattle.ospf_base.specs.declared.ids.Kind.{Kind}
 use Rattle.ospf_base.specs.declared.ids.Kind.TheVariants.{Router, Network}
 use Rattle.ospf_script.specs.Words.{Text}
 
-abbrev pub kind_text : Kind → Text
-kind_text Router = codes "router"
-kind_text Network = codes "network"
+abbrev pub lsa_kind_text : Kind → Text
+lsa_kind_text Router = codes "router"
+lsa_kind_text Network = codes "network"

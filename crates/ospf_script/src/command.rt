@@ -52,6 +52,12 @@ pub enum Command {
         link: usize,
         neighbour: Option<RouterId>,
     },
+    /// `datagrams R [MOST]`: the last datagrams that a round offers to the router are printed, at most so many where that
+    /// is given, each as the line that delivers it.
+    Datagrams {
+        router: RouterId,
+        most: Option<u64>,
+    },
     /// `loss PERCENT NUMBER [ADDRESS]`: of a hundred deliveries so many are lost from here on, by chance, by the
     /// generator of this number; on the network that holds the address alone where one is given.
     Loss {

@@ -1,7 +1,7 @@
 //! The events of scripts.
 
 ghost use Rattle.ospf_script.specs.Commands.{AreEventsOf, IsEventOf, IsStart};
-ghost use Rattle.ospf_script.specs.Words.{Finds, words};
+ghost use Rattle.ospf_script.specs.Words.{Finds, line_words};
 
 use crate::command::Many;
 use crate::name::Name;
@@ -17,7 +17,7 @@ const NO_FLOOR: i32 = i32::MIN;
 
 // The event of a name, and of the words behind it.
 pub(crate) fn event_in(name: Name, text: &[u8]) -> Option<WorldEvent>
-    ensures { Finds result (IsEventOf name (words text.now)) }
+    ensures { Finds result (IsEventOf name (line_words text.now)) }
 {
     match name {
         Name::Start => {
@@ -56,7 +56,7 @@ pub(crate) fn event_in(name: Name, text: &[u8]) -> Option<WorldEvent>
 
 // The events at many routers of a name, and of the words behind it.
 pub(crate) fn many_in(name: Name, text: &[u8]) -> Option<Many>
-    ensures { Finds result (AreEventsOf name (words text.now)) }
+    ensures { Finds result (AreEventsOf name (line_words text.now)) }
 {
     match name {
         Name::Start if is_alone(text, "all") => Some(Many::Start),
@@ -74,7 +74,7 @@ pub(crate) fn many_in(name: Name, text: &[u8]) -> Option<Many>
 
 // A Router ID, a first DD sequence number and a floor, or no floor.
 fn start_in(text: &[u8]) -> Option<(RouterId, u32, i32)>
-    ensures { Finds result (λ found. IsStart (words text.now) found.0 found.1 found.2) }
+    ensures { Finds result (λ found. IsStart (line_words text.now) found.0 found.1 found.2) }
 {
     if let Some((router, dd_start)) = two_words(text) {
         return Some((router_of(router)?, u32::of_word(dd_start)?, NO_FLOOR));

@@ -4,11 +4,11 @@ ghost use Rattle.std.specs.Prelude.{◌≡◌, ◌∷◌, ℕ, List, codes, IfEr
 ghost use Rattle.ospf_base.specs.declared.ids.RouterId.{RouterId};
 ghost use Rattle.ospf_base.specs.declared.prefix.Prefix.{Prefix};
 ghost use Rattle.ospf_script.specs.Expected.{BeginsRoute, IsArrival, IsExpected, IsLongRoute, IsOfRoute};
-ghost use Rattle.ospf_script.specs.Words.{Finds, Text, words};
+ghost use Rattle.ospf_script.specs.Words.{Finds, Text, line_words};
 ghost use Rattle.ospf_script.specs.declared.expected.Expected.{Expected};
 
 use crate::expected::{Expected, Wanted};
-use crate::fault::LineFault;
+use crate::fault::CommandFault;
 use crate::spelled::values_in;
 use crate::values::{number_of, prefix_of, router_of, text_of};
 use crate::walk::ends_in;
@@ -17,23 +17,25 @@ use ospf_base::{Prefix, RouterId};
 use std::alloc::Global;
 
 // What the words of a text expect. Memory is told to be missing only where they spell a route with next hops.
-pub(crate) fn expected_in(alloc: Global, text: &[u8]) -> Result<Expected, LineFault>
-    ensures ok { IfOk result (IsExpected (words text.now)) }
-    ensures not_expected { IfErr result (λ e. e ≡ LineFault.NotACommand → (expected : Expected) →
-        IsExpected (words text.now) expected → ⊥) }
-    ensures memory { IfErr result (λ e. e ≡ LineFault.Memory → IsLongRoute (words text.now)) }
+pub(crate) fn expected_in(alloc: Global, text: &[u8]) -> Result<Expected, CommandFault>
+    ensures ok { IfOk result (IsExpected (line_words text.now)) }
+    ensures not_expected { IfErr result (λ e. e ≡ CommandFault.NotACommand → (expected : Expected) →
+        IsExpected (line_words text.now) expected → ⊥) }
+    ensures memory { IfErr result (λ e. e ≡ CommandFault.Memory →
+        IsLongRoute (line_words text.now)) }
 {
     match first_word(text) {
         Some((word, rest)) if word == b"route".as_slice() => route_in(alloc, rest),
-        _ => plain_in(text).ok_or(LineFault::NotACommand),
+        _ => plain_in(text).ok_or(CommandFault::NotACommand),
     }
 }
 
 // What the words of a text expect that is no route of a router.
 fn plain_in(text: &[u8]) -> Option<Expected>
-    ensures some { IfSome result (IsExpected (words text.now)) }
-    ensures none { IfNone result ((expected : Expected) → IsExpected (words text.now) expected →
-        IsOfRoute (words text.now)) }
+    ensures some { IfSome result (IsExpected (line_words text.now)) }
+    ensures none { IfNone result ((expected : Expected) →
+        IsExpected (line_words text.now) expected →
+        IsOfRoute (line_words text.now)) }
 {
     if is_alone(text, "agree") {
         return Some(Expected::Agree);
@@ -52,7 +54,7 @@ fn plain_in(text: &[u8]) -> Option<Expected>
 
 // What `full` and the words behind it expect.
 fn full_in(text: &[u8]) -> Option<Expected>
-    ensures { Finds result (IsExpected (codes "full" ∷ words text.now)) }
+    ensures { Finds result (IsExpected (codes "full" ∷ line_words text.now)) }
 {
     let (router, other) = two_words(text)?;
     let (router, other) = (router_of(router)?, router_of(other)?);
@@ -61,14 +63,14 @@ fn full_in(text: &[u8]) -> Option<Expected>
 }
 
 // What `route` and the words behind it expect.
-fn route_in(alloc: Global, text: &[u8]) -> Result<Expected, LineFault>
-    ensures ok { IfOk result (IsExpected (codes "route" ∷ words text.now)) }
-    ensures not_expected { IfErr result (λ e. e ≡ LineFault.NotACommand → (expected : Expected) →
-        IsExpected (codes "route" ∷ words text.now) expected → ⊥) }
-    ensures memory { IfErr result (λ e. e ≡ LineFault.Memory →
-        IsLongRoute (codes "route" ∷ words text.now)) }
+fn route_in(alloc: Global, text: &[u8]) -> Result<Expected, CommandFault>
+    ensures ok { IfOk result (IsExpected (codes "route" ∷ line_words text.now)) }
+    ensures not_expected { IfErr result (λ e. e ≡ CommandFault.NotACommand → (expected : Expected) →
+        IsExpected (codes "route" ∷ line_words text.now) expected → ⊥) }
+    ensures memory { IfErr result (λ e. e ≡ CommandFault.Memory →
+        IsLongRoute (codes "route" ∷ line_words text.now)) }
 {
-    let (router, prefix, cost, rest) = cost_of_route_in(text).ok_or(LineFault::NotACommand)?;
+    let (router, prefix, cost, rest) = cost_of_route_in(text).ok_or(CommandFault::NotACommand)?;
     let hops = values_in(alloc, rest)?;
     let wanted = Wanted::Route { prefix, cost, hops };
     Ok(Expected::Router { router, wanted })
@@ -76,10 +78,10 @@ fn route_in(alloc: Global, text: &[u8]) -> Result<Expected, LineFault>
 
 // A Router ID, a prefix and a cost, and what stands behind them.
 fn cost_of_route_in(text: &[u8]) -> Option<(RouterId, Prefix, u64, &[u8])>
-    ensures some { IfSome result (λ found. BeginsRoute (words text.now) found.0 found.1 found.2
-        (words found.3.now)) }
+    ensures some { IfSome result (λ found. BeginsRoute (line_words text.now) found.0 found.1 found.2
+        (line_words found.3.now)) }
     ensures none { IfNone result ((router : RouterId) (prefix : Prefix) (cost : ℕ)
-        (rest : List Text) → BeginsRoute (words text.now) router prefix cost rest → ⊥) }
+        (rest : List Text) → BeginsRoute (line_words text.now) router prefix cost rest → ⊥) }
 {
     let (router, rest) = first_word(text)?;
     let (prefix, rest) = first_word(rest)?;
@@ -90,7 +92,7 @@ fn cost_of_route_in(text: &[u8]) -> Option<(RouterId, Prefix, u64, &[u8])>
 
 // What `no` and the words behind it expect.
 fn absent_in(text: &[u8]) -> Option<Expected>
-    ensures { Finds result (IsExpected (codes "no" ∷ words text.now)) }
+    ensures { Finds result (IsExpected (codes "no" ∷ line_words text.now)) }
 {
     let (word, router, other) = three_words(text)?;
     let router = router_of(router)?;
@@ -109,7 +111,7 @@ fn absent_in(text: &[u8]) -> Option<Expected>
 
 // What `walk` and the words behind it expect.
 fn arrival_in(text: &[u8]) -> Option<Expected>
-    ensures { Finds result (IsExpected (codes "walk" ∷ words text.now)) }
+    ensures { Finds result (IsExpected (codes "walk" ∷ line_words text.now)) }
 {
     let (from, address, rest) = ends_in(text)?;
     let cost = cost_in(rest)?;
@@ -122,7 +124,7 @@ fn arrival_in(text: &[u8]) -> Option<Expected>
 
 // The word `arrived`, and a cost where one is given.
 fn cost_in(text: &[u8]) -> Option<Option<u64>>
-    ensures { Finds result (IsArrival (words text.now)) }
+    ensures { Finds result (IsArrival (line_words text.now)) }
 {
     if is_alone(text, "arrived") {
         return Some(None);

@@ -6,47 +6,47 @@ use thiserror::Error;
 
 /// Why a line was not read.
 #[derive(Clone, Copy, Debug, PartialEq, Eq, Error)]
-pub enum LineFault {
+pub enum CommandFault {
     /// The line is not blank, and its words spell no command.
     NotACommand,
     /// Memory ran out.
     Memory,
 }
 
-impl LineFault {
+impl CommandFault {
     ghost use Rattle.std.specs.Prelude.{◌≡◌};
-    ghost use Rattle.ospf_script.specs.Faults.{fault_text};
+    ghost use Rattle.ospf_script.specs.Faults.{command_fault_text};
 
     /// The fault as it is printed.
     pub fn text(self) -> &'static str
-        ensures { result.now ≡ fault_text self }
+        ensures { result.now ≡ command_fault_text self }
     {
         match self {
-            LineFault::NotACommand => "not a command",
-            LineFault::Memory => "Memory",
+            CommandFault::NotACommand => "not a command",
+            CommandFault::Memory => "Memory",
         }
     }
 }
 
 /// As in `not a command`.
-impl Display for LineFault {
+impl Display for CommandFault {
     ghost use Rattle.std.specs.Prelude.{Some};
-    ghost use Rattle.ospf_script.specs.Faults.{fault_text};
+    ghost use Rattle.ospf_script.specs.Faults.{command_fault_text};
 
-    ghost output = { λ fault. Some (fault_text fault) };
+    ghost output = { λ fault. Some (command_fault_text fault) };
 
     fn fmt<W: Write>(&self, f: &mut Formatter<W>) -> fmt::Result {
         f.write_str(self.text())
     }
 }
 
-impl From<AllocError> for LineFault {
+impl From<AllocError> for CommandFault {
     ghost use Rattle.std.specs.Prelude.{◌≡◌};
-    ghost use Rattle.ospf_script.specs.declared.fault.LineFault.TheVariants.{Memory};
+    ghost use Rattle.ospf_script.specs.declared.fault.CommandFault.TheVariants.{Memory};
 
     ghost from_gives = { λ _ fault. fault ≡ Memory };
 
-    fn from(_error: AllocError) -> LineFault {
-        LineFault::Memory
+    fn from(_error: AllocError) -> CommandFault {
+        CommandFault::Memory
     }
 }

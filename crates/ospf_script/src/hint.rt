@@ -3,7 +3,7 @@
 ghost use Rattle.std.specs.Prelude.{◌≡◌, None};
 ghost use Rattle.std.specs.Fmt.{WritesOnOk};
 ghost use Rattle.ospf_script.specs.Hints.{byte_text, form_text, hint_of, hint_text, word_text};
-ghost use Rattle.ospf_script.specs.Words.{words};
+ghost use Rattle.ospf_script.specs.Words.{line_words};
 
 use crate::command::View;
 use crate::name::Name;
@@ -19,9 +19,9 @@ pub struct Hint<'a>(pub &'a [u8]);
 impl Display for Hint<'_> {
     ghost use Rattle.std.specs.Prelude.{Some};
     ghost use Rattle.ospf_script.specs.Hints.{hint_text};
-    ghost use Rattle.ospf_script.specs.Words.{words};
+    ghost use Rattle.ospf_script.specs.Words.{line_words};
 
-    ghost output = { λ hint. Some (hint_text (words hint.0.now)) };
+    ghost output = { λ hint. Some (hint_text (line_words hint.0.now)) };
 
     fn fmt<W: Write>(&self, f: &mut Formatter<W>) -> fmt::Result {
         write_hint(f, self.0)
@@ -30,7 +30,8 @@ impl Display for Hint<'_> {
 
 // The hint of a line.
 fn write_hint<W: Write>(f: &mut Formatter<W>, line: &[u8]) -> fmt::Result
-    ensures { WritesOnOk W.Write.write_str_gives f.old result (hint_text (words line.now)) f.new }
+    ensures { WritesOnOk W.Write.write_str_gives f.old result (hint_text (line_words line.now))
+        f.new }
 {
     let Some((word, _)) = first_word(line) else {
         return Ok(());
@@ -47,7 +48,7 @@ fn write_names<W: Write>(f: &mut Formatter<W>, word: &[u8]) -> fmt::Result
 {
     write_word(f, word)?;
     f.write_str(
-        ": no command; there are start, stop, tick, up, down, deliver, cut, mend, round, random, settle, neighbours, listing, table, walk, floor, say, why, loss, expect, label",
+        ": no command; there are start, stop, tick, up, down, deliver, cut, mend, round, random, settle, neighbours, listing, table, walk, floor, say, why, datagrams, loss, expect, label",
     )
 }
 
@@ -95,6 +96,7 @@ fn form_of(name: Name) -> &'static str
         Name::Walk => "walk R ADDRESS CHOICE..",
         Name::Say => "say WORD..",
         Name::Why => "why R LINK [NEIGHBOUR]",
+        Name::Datagrams => "datagrams R [MOST]",
         Name::Loss => "loss PERCENT NUMBER [ADDRESS]",
         Name::Expect =>
             "expect full R S, expect no neighbour R LINK, expect route R PREFIX COST [HOP..], expect no route R PREFIX, expect walk R ADDRESS arrived [COST], expect agree, or expect settled",

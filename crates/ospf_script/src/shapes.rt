@@ -1,7 +1,7 @@
 //! The words behind the names of commands.
 
-ghost use Rattle.ospf_script.specs.Commands.{AreNumbers, AreRounds, IsAddressAlone, IsLoss, IsRouterAlone, IsRouterAndLink, IsSwitch, IsWhy};
-ghost use Rattle.ospf_script.specs.Words.{Finds, words};
+ghost use Rattle.ospf_script.specs.Commands.{AreDatagramWords, AreNumbers, AreRoundWords, IsAddressAlone, IsLossWords, IsRouterAlone, IsRouterAndLink, IsSwitch, IsWhy};
+ghost use Rattle.ospf_script.specs.Words.{Finds, line_words};
 
 use crate::values::{address_of, number_of, percent_of, router_of};
 use crate::words::{is_alone, one_word, three_words, two_words};
@@ -9,21 +9,21 @@ use ospf_base::{Addr, RouterId};
 
 // A Router ID alone.
 pub(crate) fn router_in(text: &[u8]) -> Option<RouterId>
-    ensures { Finds result (IsRouterAlone (words text.now)) }
+    ensures { Finds result (IsRouterAlone (line_words text.now)) }
 {
     router_of(one_word(text)?)
 }
 
 // An address alone.
 pub(crate) fn address_in(text: &[u8]) -> Option<Addr>
-    ensures { Finds result (IsAddressAlone (words text.now)) }
+    ensures { Finds result (IsAddressAlone (line_words text.now)) }
 {
     address_of(one_word(text)?)
 }
 
 // A count, and how many datagrams at most, where that is given.
 pub(crate) fn rounds_in(text: &[u8]) -> Option<(u64, Option<u64>)>
-    ensures { Finds result (λ found. AreRounds (words text.now) found.0 found.1) }
+    ensures { Finds result (λ found. AreRoundWords (line_words text.now) found.0 found.1) }
 {
     if let Some(count) = one_word(text) {
         return Some((number_of(count)?, None));
@@ -34,7 +34,7 @@ pub(crate) fn rounds_in(text: &[u8]) -> Option<(u64, Option<u64>)>
 
 // A Router ID and a link.
 pub(crate) fn router_and_link_in(text: &[u8]) -> Option<(RouterId, usize)>
-    ensures { Finds result (λ found. IsRouterAndLink (words text.now) found.0 found.1) }
+    ensures { Finds result (λ found. IsRouterAndLink (line_words text.now) found.0 found.1) }
 {
     let (router, link) = two_words(text)?;
     Some((router_of(router)?, number_of(link)? as usize))
@@ -42,7 +42,7 @@ pub(crate) fn router_and_link_in(text: &[u8]) -> Option<(RouterId, usize)>
 
 // Two numbers.
 pub(crate) fn numbers_in(text: &[u8]) -> Option<(u64, u64)>
-    ensures { Finds result (λ found. AreNumbers (words text.now) found.0 found.1) }
+    ensures { Finds result (λ found. AreNumbers (line_words text.now) found.0 found.1) }
 {
     let (number, count) = two_words(text)?;
     Some((number_of(number)?, number_of(count)?))
@@ -50,7 +50,7 @@ pub(crate) fn numbers_in(text: &[u8]) -> Option<(u64, u64)>
 
 // A Router ID and a link, and a neighbour where one is given.
 pub(crate) fn why_in(text: &[u8]) -> Option<(RouterId, usize, Option<RouterId>)>
-    ensures { Finds result (λ found. IsWhy (words text.now) found.0 found.1 found.2) }
+    ensures { Finds result (λ found. IsWhy (line_words text.now) found.0 found.1 found.2) }
 {
     if let Some((router, link)) = router_and_link_in(text) {
         return Some((router, link, None));
@@ -61,9 +61,21 @@ pub(crate) fn why_in(text: &[u8]) -> Option<(RouterId, usize, Option<RouterId>)>
     Some((router, link, Some(router_of(neighbour)?)))
 }
 
+// A Router ID, and how many datagrams at most, where that is given.
+pub(crate) fn datagrams_in(text: &[u8]) -> Option<(RouterId, Option<u64>)>
+    ensures { Finds result (λ found. AreDatagramWords (line_words text.now) found.0 found.1) }
+{
+    if let Some(router) = one_word(text) {
+        return Some((router_of(router)?, None));
+    }
+    let (router, most) = two_words(text)?;
+    let router = router_of(router)?;
+    Some((router, Some(number_of(most)?)))
+}
+
 // A percentage and a number, and an address where one is given.
 pub(crate) fn loss_in(text: &[u8]) -> Option<(u8, u64, Option<Addr>)>
-    ensures { Finds result (λ found. IsLoss (words text.now) found.0 found.1 found.2) }
+    ensures { Finds result (λ found. IsLossWords (line_words text.now) found.0 found.1 found.2) }
 {
     if let Some((percent, number)) = two_words(text) {
         return Some((percent_of(percent)?, number_of(number)?, None));
@@ -75,7 +87,7 @@ pub(crate) fn loss_in(text: &[u8]) -> Option<(u8, u64, Option<Addr>)>
 
 // Whether the word `on` or the word `off` stands there alone.
 pub(crate) fn switch_in(text: &[u8]) -> Option<bool>
-    ensures { Finds result (IsSwitch (words text.now)) }
+    ensures { Finds result (IsSwitch (line_words text.now)) }
 {
     if is_alone(text, "on") {
         return Some(true);

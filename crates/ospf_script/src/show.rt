@@ -2,7 +2,7 @@
 
 ghost use Rattle.std.specs.Fmt.{WritesOnOk};
 ghost use Rattle.std.specs.Prelude.{◌≡◌};
-ghost use Rattle.ospf_script.specs.Texts.{choices_text, event_text, hops_text, many_text, view_text};
+ghost use Rattle.ospf_script.specs.Texts.{choices_text, event_text, spaced_hops_text, many_text, view_text};
 
 use crate::command::{Command, Many, View};
 use crate::expected::{Expected, Wanted};
@@ -57,6 +57,9 @@ impl Display for Command {
                 link,
                 neighbour,
             } => write!(f, "why {router} {link}{}", Given(*neighbour)),
+            Command::Datagrams { router, most } => {
+                write!(f, "datagrams {router}{}", Given(*most))
+            }
             Command::Loss {
                 percent,
                 number,
@@ -188,7 +191,7 @@ fn view_of(view: View) -> &'static str
 
 // Next hops, each behind a space.
 fn write_hops<W: Write>(f: &mut Formatter<W>, hops: &[NextHop]) -> fmt::Result
-    ensures { WritesOnOk W.Write.write_str_gives f.old result (hops_text hops.now) f.new }
+    ensures { WritesOnOk W.Write.write_str_gives f.old result (spaced_hops_text hops.now) f.new }
 {
     for hop in hops {
         write!(f, " {hop}")?;

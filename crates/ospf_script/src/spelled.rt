@@ -1,10 +1,10 @@
 //! Words that spell a value each.
 
 ghost use Rattle.std.specs.Prelude.{◌≡◌, ◌↔◌, IfOk, IfErr, IsTrue};
-ghost use Rattle.ospf_script.specs.Values.{AreManySpelled, AreSomeSpelled, AreSpelled, IsDecimal, IsHop};
-ghost use Rattle.ospf_script.specs.Words.{Finds, Text, words};
+ghost use Rattle.ospf_script.specs.Values.{AreManySpelled, AreSomeSpelled, AreSpelled, IsDecimal, IsHopWord};
+ghost use Rattle.ospf_script.specs.Words.{Finds, Text, line_words};
 
-use crate::fault::LineFault;
+use crate::fault::CommandFault;
 use crate::values::{address_of, number_up_to, parts_at, router_of};
 use crate::words::first_word;
 use ospf_graph::NextHop;
@@ -30,7 +30,7 @@ impl Spelled for u32 {
 
 // A next hop.
 impl Spelled for NextHop {
-    ghost is_spelled = { IsHop };
+    ghost is_spelled = { IsHopWord };
 
     fn of_word(word: &[u8]) -> Option<NextHop> {
         if word == b"attached".as_slice() {
@@ -52,22 +52,23 @@ impl Spelled for NextHop {
 }
 
 // The values that the words of a text spell. Memory is told to be missing only where each word spells one.
-pub(crate) fn values_in<V: Spelled>(alloc: Global, text: &[u8]) -> Result<Vec<V>, LineFault>
-    ensures ok { IfOk result (λ values. AreSpelled V.is_spelled (words text.now) values.items) }
-    ensures not_values { IfErr result (λ e. e ≡ LineFault.NotACommand →
-        AreSomeSpelled V.is_spelled (words text.now) → ⊥) }
-    ensures memory { IfErr result (λ e. e ≡ LineFault.Memory →
-        AreManySpelled V.is_spelled (words text.now)) }
+pub(crate) fn values_in<V: Spelled>(alloc: Global, text: &[u8]) -> Result<Vec<V>, CommandFault>
+    ensures ok { IfOk result (λ values. AreSpelled V.is_spelled (line_words text.now)
+        values.items) }
+    ensures not_values { IfErr result (λ e. e ≡ CommandFault.NotACommand →
+        AreSomeSpelled V.is_spelled (line_words text.now) → ⊥) }
+    ensures memory { IfErr result (λ e. e ≡ CommandFault.Memory →
+        AreManySpelled V.is_spelled (line_words text.now)) }
 {
     let mut values = Vec::new(alloc);
     let mut rest = text;
     while let Some((word, behind)) = first_word(rest) {
-        let value = V::of_word(word).ok_or(LineFault::NotACommand)?;
+        let value = V::of_word(word).ok_or(CommandFault::NotACommand)?;
         if values.push(value).is_err() {
             if are_spelled::<V>(behind) {
-                return Err(LineFault::Memory);
+                return Err(CommandFault::Memory);
             }
-            return Err(LineFault::NotACommand);
+            return Err(CommandFault::NotACommand);
         }
         rest = behind;
     }
@@ -76,7 +77,7 @@ pub(crate) fn values_in<V: Spelled>(alloc: Global, text: &[u8]) -> Result<Vec<V>
 
 // Whether each word of a text spells a value.
 fn are_spelled<V: Spelled>(text: &[u8]) -> bool
-    ensures { IsTrue result ↔ AreSomeSpelled V.is_spelled (words text.now) }
+    ensures { IsTrue result ↔ AreSomeSpelled V.is_spelled (line_words text.now) }
 {
     let mut rest = text;
     while let Some((word, behind)) = first_word(rest) {

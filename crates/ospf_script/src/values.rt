@@ -4,11 +4,11 @@ ghost use Rattle.std.specs.Net.Grammar.{IsNumber};
 ghost use Rattle.std.specs.List.{All};
 ghost use Rattle.std.specs.Prelude.{◌≡◌, ◌≢◌, ◌≤◌, ◌↔◌, ◌∷◌, ◌++◌, ℤ, IfSome, IfNone, IsTrue, slice_index};
 ghost use Rattle.std.specs.Str.{IsUtf8};
-ghost use Rattle.ospf_script.specs.Values.{IsAddress, IsDecimal, IsFloor, IsPercent, IsPrefix, IsRouter};
+ghost use Rattle.ospf_script.specs.Values.{IsAddress, IsDecimal, IsFloor, IsPercent, IsPrefix, IsRouterWord};
 ghost use Rattle.ospf_script.specs.Words.{Finds};
 
-use crate::places::place_of;
 use ospf_base::{Addr, Prefix, RouterId, mask_of};
+use ospf_files::place_of;
 
 // How many digits a floor has, and their radix.
 const FLOOR_DIGITS: usize = 8;
@@ -36,7 +36,7 @@ pub fn floor_of(word: &[u8]) -> Option<i32>
 
 // The Router ID that a word spells.
 pub(crate) fn router_of(word: &[u8]) -> Option<RouterId>
-    ensures { Finds result (IsRouter word.now) }
+    ensures { Finds result (IsRouterWord word.now) }
 {
     Some(RouterId(address_of(word)?.0))
 }

@@ -2,16 +2,18 @@
 
 ghost use Rattle.std.specs.Prelude.{◌≡◌, ◌<◌, ◌↔◌, ◌∷◌, [], length, IfSome, IfNone, IsTrue};
 ghost use Rattle.std.specs.List.{prefix_len};
-ghost use Rattle.ospf_script.specs.Words.{IsBlank, Text, is_space, words};
+ghost use Rattle.ospf_base.specs.Text.{IsBlank};
+ghost use Rattle.ospf_script.specs.Words.{Text, is_space, line_words};
 
-use crate::places::place_of;
+use ospf_files::place_of;
 
 // The first word of a text, and what stands behind it; `None` of a blank text.
 pub(crate) fn first_word(text: &[u8]) -> Option<(&[u8], &[u8])>
-    ensures word { IfSome result (λ found. words text.now ≡ found.0.now ∷ words found.1.now) }
+    ensures word { IfSome result (λ found. line_words text.now ≡ found.0.now
+        ∷ line_words found.1.now) }
     ensures shorter { IfSome result (λ found. length found.1.now < length text.now) }
     ensures blank { IfNone result (IsBlank text.now) }
-    ensures none { IfNone result (words text.now ≡ []) }
+    ensures none { IfNone result (line_words text.now ≡ []) }
 {
     let (_, from) = text.split_at(leading_spaces(text));
     let length = place_of(from, b' ');
@@ -23,8 +25,8 @@ pub(crate) fn first_word(text: &[u8]) -> Option<(&[u8], &[u8])>
 
 // The word of a text that has one alone.
 pub(crate) fn one_word(text: &[u8]) -> Option<&[u8]>
-    ensures some { IfSome result (λ word. words text.now ≡ word.now ∷ []) }
-    ensures none { IfNone result ((word : Text) → words text.now ≡ word ∷ [] → ⊥) }
+    ensures some { IfSome result (λ word. line_words text.now ≡ word.now ∷ []) }
+    ensures none { IfNone result ((word : Text) → line_words text.now ≡ word ∷ [] → ⊥) }
 {
     let (word, rest) = first_word(text)?;
     first_word(rest).is_none().then_some(word)
@@ -32,15 +34,16 @@ pub(crate) fn one_word(text: &[u8]) -> Option<&[u8]>
 
 // Whether a text has this word alone.
 pub(crate) fn is_alone(text: &[u8], word: &str) -> bool
-    ensures { IsTrue result ↔ (words text.now ≡ word.now ∷ []) }
+    ensures { IsTrue result ↔ (line_words text.now ≡ word.now ∷ []) }
 {
     one_word(text) == Some(word.as_bytes())
 }
 
 // The words of a text that has two.
 pub(crate) fn two_words(text: &[u8]) -> Option<(&[u8], &[u8])>
-    ensures some { IfSome result (λ found. words text.now ≡ found.0.now ∷ found.1.now ∷ []) }
-    ensures none { IfNone result ((first second : Text) → words text.now ≡ first ∷ second ∷ [] →
+    ensures some { IfSome result (λ found. line_words text.now ≡ found.0.now ∷ found.1.now ∷ []) }
+    ensures none { IfNone result ((first second : Text) → line_words text.now ≡ first ∷ second
+        ∷ [] →
         ⊥) }
 {
     let (first, rest) = first_word(text)?;
@@ -50,10 +53,10 @@ pub(crate) fn two_words(text: &[u8]) -> Option<(&[u8], &[u8])>
 
 // The words of a text that has three.
 pub(crate) fn three_words(text: &[u8]) -> Option<(&[u8], &[u8], &[u8])>
-    ensures some { IfSome result (λ found. words text.now
+    ensures some { IfSome result (λ found. line_words text.now
         ≡ found.0.now ∷ found.1.now ∷ found.2.now ∷ []) }
     ensures none { IfNone result ((first second third : Text) →
-        words text.now ≡ first ∷ second ∷ third ∷ [] → ⊥) }
+        line_words text.now ≡ first ∷ second ∷ third ∷ [] → ⊥) }
 {
     let (first, rest) = first_word(text)?;
     let (second, third) = two_words(rest)?;

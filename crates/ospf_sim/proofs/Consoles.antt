@@ -5,7 +5,7 @@ use Rattle.ospf_commands.specs.Simulations.{begun_in}
 use Rattle.ospf_commands.specs.Worlds.{WorldValue}
 use Rattle.ospf_commands.specs.declared.simulation.Simulation.{Simulation}
 use Rattle.ospf_files.specs.Files.{unread_line}
-use Rattle.ospf_files.specs.Listed.{AreRead, IsFirstUnread}
+use Rattle.ospf_files.specs.Listed.{AreFilesRead, IsFirstUnread}
 use Rattle.ospf_files.specs.declared.files.NamedFile.{NamedFile}
 use Rattle.ospf_files.specs.declared.status.Failure.{Failure}
 use Rattle.ospf_files.specs.declared.status.Status.TheVariants as status
@@ -31,7 +31,7 @@ console_unread input prompt files s failed a b x y not told (inr stream) = is_un
 
 -- all lines are answered, in a world of the configurations
 pub consoled : (found : Option WorldValue) (start : WorldValue) (input : Option (List ℕ)) (prompt : Text) (files : List NamedFile) (s end : Simulation) (simulated : Simulated) (a b x y z : Option (List ℕ))
-    → found ≡ Some start → WorldComes files found x y → AreRead files → s ≡ begun_in start → simulated.left ≡ Some end → IsAllAnswered input prompt s end a b y z
+    → found ≡ Some start → WorldComes files found x y → AreFilesRead files → s ≡ begun_in start → simulated.left ≡ Some end → IsAllAnswered input prompt s end a b y z
     → IsConsoled input prompt files simulated a b x z
 consoled None start input prompt files s end simulated a b x y z is comes read begins left all = absurd (cc is)
 consoled (Some w) start input prompt files s end simulated a b x y z is comes read begins left all =
@@ -49,7 +49,7 @@ consoled (Some w) start input prompt files s end simulated a b x y z is comes re
 
 -- a session is cut, in a world of the configurations in files
 pub session_cut : (found : Option WorldValue) (start : WorldValue) (input : Option (List ℕ)) (prompt : Text) (files : List NamedFile) (s : Simulation) (failed : FailedStreams) (a b x y z : Option (List ℕ)) (f : Failure)
-    → found ≡ Some start → WorldComes files found x y → AreRead files → s ≡ begun_in start → IsSessionCut input prompt s failed a b y z f → IsConsoleCut input prompt files failed a b x z f
+    → found ≡ Some start → WorldComes files found x y → AreFilesRead files → s ≡ begun_in start → IsSessionCut input prompt s failed a b y z f → IsConsoleCut input prompt files failed a b x z f
 session_cut None start input prompt files s failed a b x y z f is comes read begins cut = absurd (cc is)
 session_cut (Some w) start input prompt files s failed a b x y z f is comes read begins cut =
     let one : w ≡ start = cc is in

@@ -5,20 +5,20 @@ use Rattle.ospf_config.specs.declared.config.Config.{Config}
 use Rattle.ospf_files.proofs.Listed.{files_split}
 use Rattle.ospf_files.proofs.Written.{kept_written, nothing_written}
 use Rattle.ospf_files.specs.Files.{refused_line, text_in}
-use Rattle.ospf_files.specs.Listed.{AreConfigs, AreRead, ConfigsCome}
+use Rattle.ospf_files.specs.Listed.{AreConfigs, AreFilesRead, ConfigsCome}
 use Rattle.ospf_files.specs.Streams.{IsBegun}
 use Rattle.ospf_files.specs.declared.files.NamedFile.{NamedFile}
 use Rattle.ospf_files.specs.declared.status.Failure.{Failure}
 use Rattle.ospf_files.specs.declared.streams.FailedStreams.{FailedStreams}
-use Rattle.ospf_script.specs.Commands.{Spells}
-use Rattle.ospf_script.specs.Lines.{entry_of, numbered_from}
-use Rattle.ospf_script.specs.Words.{Text, words}
+use Rattle.ospf_script.specs.Commands.{SpellsCommand}
+use Rattle.ospf_files.specs.Lines.{numbered_line, numbered_from}
+use Rattle.ospf_script.specs.Words.{Text, line_words}
 use Rattle.ospf_script.specs.declared.command.Command.{Command}
-use Rattle.ospf_script.specs.declared.script.Line.{Line}
-use Rattle.ospf_sim.specs.Begun.{IsAnswerCut, IsCut, IsCutAt, IsFileCut, IsLineCut, IsOpeningCut, IsScriptCut, IsTellingCut, IsWorldCut, in_fault, in_file, in_refusal, in_same_router, in_script, in_twins, in_unreadable, no_config, no_room, no_world}
-use Rattle.ospf_commands.specs.Commands.{Does, IsDone}
+use Rattle.ospf_files.specs.declared.line.Line.{Line}
+use Rattle.ospf_sim.specs.Begun.{IsEventAnswerCut, IsSimulationCut, IsCutAtLine, IsFileCut, IsLineCut, IsOpeningCut, IsScriptCut, IsTellingCut, IsWorldCut, in_fault, in_file, in_refusal, in_same_router, in_script, in_twins, in_unreadable, no_config, no_room, no_world}
+use Rattle.ospf_commands.specs.Commands.{DoesCommand, IsDone}
 use Rattle.ospf_commands.specs.Simulations.{Answer, begun_in}
-use Rattle.ospf_sim.specs.Scripts.{EndsAt, IsRun, unreadable_line}
+use Rattle.ospf_sim.specs.Scripts.{EndsAtLine, IsScriptRun, unreadable_line}
 use Rattle.ospf_sim.specs.Simulations.{WorldComes}
 use Rattle.ospf_commands.specs.Worlds.{WorldValue}
 use Rattle.ospf_commands.specs.declared.simulation.Simulation.{Simulation}
@@ -29,8 +29,8 @@ pub flushed : (a b : Option (List ℕ)) → Keeps a b → Appends a b []
 flushed a b kept = kept_written a a b [] (nothing_written a) kept
 
 -- a command that is done, and whose refusal is not told whole
-pub refusal_cut : (number : ℕ) (line : Text) (c : Command) (w w' : Simulation) (answer : Answer) (failed : FailedStreams) (a b z x y : Option (List ℕ)) (f : Failure) → Spells (words line) c
-    → IsDone c w answer w' a b → IsAnswerCut number answer failed b z x y f → IsLineCut number line w failed a z x y f
+pub refusal_cut : (number : ℕ) (line : Text) (c : Command) (w w' : Simulation) (answer : Answer) (failed : FailedStreams) (a b z x y : Option (List ℕ)) (f : Failure) → SpellsCommand (line_words line) c
+    → IsDone c w answer w' a b → IsEventAnswerCut number answer failed b z x y f → IsLineCut number line w failed a z x y f
 refusal_cut number line c w w' answer failed a b z x y f spelled done cut =
     in_refusal (record {
       command = c;
@@ -38,7 +38,7 @@ refusal_cut number line c w w' answer failed a b z x y f spelled done cut =
       spelled = spelled;
       fault = cut.fault;
       text = done.text;
-      does = subst (λ (given : Answer). Does c w given done.text w') cut.refused done.is_so;
+      does = subst (λ (given : Answer). DoesCommand c w given done.text w') cut.refused done.is_so;
       out_then = b;
       printed = done.written;
       told = cut.told;
@@ -46,15 +46,15 @@ refusal_cut number line c w w' answer failed a b z x y f spelled done cut =
 
 -- a line is cut, and those before it have run
 pub line_cut : (lines : List Line) (i : ℕ) (d : Line) (w mid : Simulation) (failed : FailedStreams) (a b c x y z : Option (List ℕ)) (f : Failure) → i < length lines
-    → IsRun (map entry_of (take i lines)) w mid a b x y → IsLineCut (get_or lines i d).number (get_or lines i d).text.now mid failed b c y z f
-    → IsCutAt (map entry_of lines) w failed a c x z f
+    → IsScriptRun (map numbered_line (take i lines)) w mid a b x y → IsLineCut (get_or lines i d).number (get_or lines i d).text.now mid failed b c y z f
+    → IsCutAtLine (map numbered_line lines) w failed a c x z f
 line_cut lines i d w mid failed a b c x y z f within so_far cut =
     let line = get_or lines i d in
     record {
-      before = map entry_of (take i lines);
+      before = map numbered_line (take i lines);
       number = line.number;
       line = line.text.now;
-      after = map entry_of (drop (suc i) lines);
+      after = map numbered_line (drop (suc i) lines);
       lines_are = entries_split lines i d within;
       mid = mid;
       out_then = b;
@@ -64,8 +64,8 @@ line_cut lines i d w mid failed a b c x y z f within so_far cut =
     }
 
 -- of a line that cannot be read that is not told whole, and those before it have run
-pub early_cut : (lines : List Line) (number : ℕ) (line script : Text) (w w' : Simulation) (failed : FailedStreams) (a b c x y z : Option (List ℕ)) (f : Failure) → map entry_of lines ≡ numbered_from 1 script
-    → EndsAt (map entry_of lines) number line w w' a b x y → IsTellingCut (unreadable_line number line) failed b c y z f → IsCutAt (numbered_from 1 script) w failed a c x z f
+pub early_cut : (lines : List Line) (number : ℕ) (line script : Text) (w w' : Simulation) (failed : FailedStreams) (a b c x y z : Option (List ℕ)) (f : Failure) → map numbered_line lines ≡ numbered_from 1 script
+    → EndsAtLine (map numbered_line lines) number line w w' a b x y → IsTellingCut (unreadable_line number line) failed b c y z f → IsCutAtLine (numbered_from 1 script) w failed a c x z f
 early_cut lines number line script w w' failed a b c x y z f same ends cut = record {
   before = ends.before;
   number = number;
@@ -104,7 +104,7 @@ opening_cut (Some cs) configs files failed x y z f is comes cut =
 
 -- a script is cut, in a world of the configurations in files
 pub script_cut : (found : Option WorldValue) (start : WorldValue) (script : NamedFile) (files : List NamedFile) (failed : FailedStreams) (a b x y z : Option (List ℕ)) (f : Failure)
-    → found ≡ Some start → WorldComes files found x y → AreRead (script ∷ files) → IsScriptCut (text_in script) (begun_in start) failed a b y z f → IsCut script files failed a b x z f
+    → found ≡ Some start → WorldComes files found x y → AreFilesRead (script ∷ files) → IsScriptCut (text_in script) (begun_in start) failed a b y z f → IsSimulationCut script files failed a b x z f
 script_cut None start script files failed a b x y z f is comes read cut = absurd (cc is)
 script_cut (Some w) start script files failed a b x y z f is comes read cut =
     let one : w ≡ start = cc is in

@@ -5,19 +5,19 @@ use Rattle.ospf_files.specs.Files.{unread_line}
 use Rattle.ospf_files.specs.declared.status.Failure.{Failure}
 use Rattle.ospf_files.specs.declared.status.Status.TheVariants as status
 use Rattle.ospf_files.specs.declared.streams.FailedStreams.{FailedStreams}
-use Rattle.ospf_sim.specs.Stopped.{IsStopped, IsUnreadTold, is_unread}
+use Rattle.ospf_sim.specs.Stopped.{IsStopped, IsScriptUnreadTold, is_unread}
 use Rattle.ospf_sim.specs.declared.text.Simulated.{Simulated}
 use Rattle.ospf_files.specs.Files.{IsRead}
-use Rattle.ospf_files.specs.Listed.{AreRead, IsFirstUnread}
+use Rattle.ospf_files.specs.Listed.{AreFilesRead, IsFirstUnread}
 use Rattle.ospf_files.specs.declared.files.NamedFile.{NamedFile}
 
-read_of : (before : List NamedFile) (file : NamedFile) (after : List NamedFile) → AreRead (before ++ file ∷ after) → IsRead file
+read_of : (before : List NamedFile) (file : NamedFile) (after : List NamedFile) → AreFilesRead (before ++ file ∷ after) → IsRead file
 read_of [] file after all = all.0
 read_of (f ∷ before) file after all = read_of before file after all.1
 
 -- where all could be read, there is no first that could not
-pub none_unread : (files : List NamedFile) (file : NamedFile) → AreRead files → IsFirstUnread file files → ⊥
-none_unread files file all first = first.unread (read_of first.before file first.after (subst AreRead first.files_are all))
+pub none_unread : (files : List NamedFile) (file : NamedFile) → AreFilesRead files → IsFirstUnread file files → ⊥
+none_unread files file all first = first.unread (read_of first.before file first.after (subst AreFilesRead first.files_are all))
 
 -- those behind one that could be read
 pub unread_behind : (script file : NamedFile) (files : List NamedFile) → IsRead script → IsFirstUnread file files → IsFirstUnread file (script ∷ files)
@@ -40,7 +40,7 @@ map_none (Some a) P Q f h = h
 -- the first file that could not be read is told
 pub unread_told : (script : NamedFile) (files : List NamedFile) (file : NamedFile) (result : Result Simulated Failure) (a b x y : Option (List ℕ))
     → IsFirstUnread file (script ∷ files) → b ≡ a → IfOk result (λ s. s.left ≡ None) → OnOk result (Appends x y (unread_line file))
-    → IfOk result (λ s. s.status ≡ status.Stream → IsUnreadTold script files s.left a b x y)
+    → IfOk result (λ s. s.status ≡ status.Stream → IsScriptUnreadTold script files s.left a b x y)
 unread_told script files file (Err failure) a b x y first same none told = tt
 unread_told script files file (Ok s) a b x y first same none told = λ _. record { file = file; first = first; told = told; none = none; same_out = same }
 
@@ -53,14 +53,14 @@ not_memory (Ok s) (inr refused) = λ is. absurd (cc (refused, is))
 
 pub ended_well : (script : NamedFile) (files : List NamedFile) (result : Result Simulated Failure) (a b x y : Option (List ℕ))
     → IfOk result (λ s. (s.status ≡ status.Done) ⊎ (s.status ≡ status.Refused))
-    → IfOk result (λ s. s.status ≡ status.Stream → IsUnreadTold script files s.left a b x y)
+    → IfOk result (λ s. s.status ≡ status.Stream → IsScriptUnreadTold script files s.left a b x y)
 ended_well script files (Err failure) a b x y ended = tt
 ended_well script files (Ok s) a b x y (inl done) = λ is. absurd (cc (done, is))
 ended_well script files (Ok s) a b x y (inr refused) = λ is. absurd (cc (refused, is))
 
 -- a simulation that ends with status Stream, and that no failure ended, ended for a file
 pub stopped_unread : (script : NamedFile) (files : List NamedFile) (s : Simulated) (failed : FailedStreams) (a b x y : Option (List ℕ))
-    → s.status ≢ status.Memory → (s.status ≡ status.Stream → IsUnreadTold script files s.left a b x y)
+    → s.status ≢ status.Memory → (s.status ≡ status.Stream → IsScriptUnreadTold script files s.left a b x y)
     → (s.status ≡ status.Memory) ⊎ (s.status ≡ status.Stream) → IsStopped script files s.left failed s.status a b x y
 stopped_unread script files s failed a b x y not told (inl memory) = absurd (not memory)
 stopped_unread script files s failed a b x y not told (inr stream) = is_unread stream (told stream)

@@ -3,16 +3,16 @@ use Rattle.std.proofs.Common.{◌≡◌, ◌∙◌, ap, sym, subst, refl, ◌+�
 use Rattle.std.proofs.lemmas.List.{take_all, take_more, take-append-drop, map-append}
 use Rattle.std.proofs.Math.Seq.{drop-cons}
 use Rattle.std.specs.Io.KnownBytes.{Appends, Keeps}
-use Rattle.ospf_script.specs.Lines.{entry_of, numbered_from}
-use Rattle.ospf_script.specs.Commands.{Spells}
-use Rattle.ospf_script.specs.Words.{Text, words}
+use Rattle.ospf_files.specs.Lines.{numbered_line, numbered_from}
+use Rattle.ospf_script.specs.Commands.{SpellsCommand}
+use Rattle.ospf_script.specs.Words.{Text, line_words}
 use Rattle.ospf_script.specs.declared.command.Command.{Command}
-use Rattle.ospf_script.specs.declared.script.Line.{Line}
+use Rattle.ospf_files.specs.declared.line.Line.{Line}
 use Rattle.ospf_commands.specs.declared.simulation.Simulation.{Simulation}
 use Rattle.ospf_files.proofs.Written.{both_written, kept_written, nothing_written}
 use Rattle.ospf_commands.specs.Commands.{IsDone}
 use Rattle.ospf_commands.specs.Simulations.{Answer}
-use Rattle.ospf_sim.specs.Scripts.{EndsAt, IsRun, IsRunLine, LineComes, EndsEarly, RunsLine, RunsLines, is_taken, no_line, one_line, told_of, unreadable_line}
+use Rattle.ospf_sim.specs.Scripts.{EndsAtLine, IsScriptRun, IsRunLine, LineComes, EndsEarly, RunsLine, RunsLines, is_taken, no_line, one_line, told_of, unreadable_line}
 
 -- one line more
 more_lines : (lines : List (ℕ × Text)) (number : ℕ) (line : Text) (w mid w' : Simulation) (outs out errs err : Text) → RunsLines lines w mid outs errs
@@ -21,17 +21,17 @@ more_lines _ number line w mid w' _ out _ err no_line last = rw (sym (append-nil
 more_lines _ number line w mid w' _ out _ err (one_line {lines = lines} {mid = first} {out = o} {outs = outs} {err = e} {errs = errs} head rest) last =
     rw (append_assoc o outs out, append_assoc e errs err) (one_line head (more_lines lines number line first mid w' outs out errs err rest last))
 
-pub no_lines : (w : Simulation) (out err : Option (List ℕ)) → IsRun [] w w out out err err
+pub no_lines : (w : Simulation) (out err : Option (List ℕ)) → IsScriptRun [] w w out out err err
 no_lines w out err = record { out = []; err = []; runs = no_line; out_written = nothing_written out; err_written = nothing_written err }
 
 -- the entries of one line more
 entries_more : (lines : List Line) (i : ℕ) (d : Line) → i < length lines
-    → map entry_of (take (i + 1) lines) ≡ map entry_of (take i lines) ++ entry_of (get_or lines i d) ∷ []
-entries_more lines i d within = ap (map entry_of) (take_more lines i d within) ∙ map-append entry_of (take i lines) (get_or lines i d ∷ [])
+    → map numbered_line (take (i + 1) lines) ≡ map numbered_line (take i lines) ++ numbered_line (get_or lines i d) ∷ []
+entries_more lines i d within = ap (map numbered_line) (take_more lines i d within) ∙ map-append numbered_line (take i lines) (get_or lines i d ∷ [])
 
 pub line_run : (lines : List Line) (i : ℕ) (d : Line) (w mid w' : Simulation) (a b c x y z : Option (List ℕ)) (read : Bool) → i < length lines → read ≡ true
-    → IsRun (map entry_of (take i lines)) w mid a b x y → LineComes read (get_or lines i d) mid w' b c y z
-    → IsRun (map entry_of (take (i + 1) lines)) w w' a c x z
+    → IsScriptRun (map numbered_line (take i lines)) w mid a b x y → LineComes read (get_or lines i d) mid w' b c y z
+    → IsScriptRun (map numbered_line (take (i + 1) lines)) w w' a c x z
 line_run lines i d w mid w' a b c x y z false within is so_far next = absurd (cc is)
 line_run lines i d w mid w' a b c x y z true within is so_far next =
     let line = get_or lines i d in
@@ -40,37 +40,37 @@ line_run lines i d w mid w' a b c x y z true within is so_far next =
       out = so_far.out ++ next.out;
       err = so_far.err ++ next.err;
       runs = subst (λ front. RunsLines front w w' (so_far.out ++ next.out) (so_far.err ++ next.err)) entries
-          (more_lines (map entry_of (take i lines)) line.number line.text.now w mid w' so_far.out next.out so_far.err next.err so_far.runs next.runs);
+          (more_lines (map numbered_line (take i lines)) line.number line.text.now w mid w' so_far.out next.out so_far.err next.err so_far.runs next.runs);
       out_written = both_written a b c so_far.out next.out so_far.out_written next.out_written;
       err_written = both_written x y z so_far.err next.err so_far.err_written next.err_written;
     }
 
 -- the lines before one, that one, and those behind it
 pub entries_split : (lines : List Line) (i : ℕ) (d : Line) → i < length lines
-    → map entry_of lines ≡ map entry_of (take i lines) ++ entry_of (get_or lines i d) ∷ map entry_of (drop (suc i) lines)
+    → map numbered_line lines ≡ map numbered_line (take i lines) ++ numbered_line (get_or lines i d) ∷ map numbered_line (drop (suc i) lines)
 entries_split lines i d within =
     let split : take i lines ++ get_or lines i d ∷ drop (suc i) lines ≡ lines =
     ap (λ rest. take i lines ++ rest) (sym (drop-cons lines i d within)) ∙ take-append-drop i lines in
-    ap (map entry_of) (sym split) ∙ map-append entry_of (take i lines) (get_or lines i d ∷ drop (suc i) lines)
+    ap (map numbered_line) (sym split) ∙ map-append numbered_line (take i lines) (get_or lines i d ∷ drop (suc i) lines)
 
 pub line_ends : (lines : List Line) (i : ℕ) (d : Line) (w mid w' : Simulation) (a b c x y z : Option (List ℕ)) (read : Bool) → i < length lines → read ≡ false
-    → IsRun (map entry_of (take i lines)) w mid a b x y → LineComes read (get_or lines i d) mid w' b c y z
-    → EndsAt (map entry_of lines) (get_or lines i d).number (get_or lines i d).text.now w w' a c x z
+    → IsScriptRun (map numbered_line (take i lines)) w mid a b x y → LineComes read (get_or lines i d) mid w' b c y z
+    → EndsAtLine (map numbered_line lines) (get_or lines i d).number (get_or lines i d).text.now w w' a c x z
 line_ends lines i d w mid w' a b c x y z true within is so_far last = absurd (cc is)
 line_ends lines i d w mid w' a b c x y z false within is so_far last =
     let line = get_or lines i d in
     record {
-      before = map entry_of (take i lines);
-      after = map entry_of (drop (suc i) lines);
+      before = map numbered_line (take i lines);
+      after = map numbered_line (drop (suc i) lines);
       lines_are = entries_split lines i d within;
       unreadable = last.unreadable;
-      run = subst (λ err. IsRun (map entry_of (take i lines)) w w' a c x err) (sym last.same_err)
-          (subst (λ out. IsRun (map entry_of (take i lines)) w w' a out x y) (sym last.same_out)
-          (subst (λ end. IsRun (map entry_of (take i lines)) w end a b x y) (sym last.same_world) so_far));
+      run = subst (λ err. IsScriptRun (map numbered_line (take i lines)) w w' a c x err) (sym last.same_err)
+          (subst (λ out. IsScriptRun (map numbered_line (take i lines)) w w' a out x y) (sym last.same_out)
+          (subst (λ end. IsScriptRun (map numbered_line (take i lines)) w end a b x y) (sym last.same_world) so_far));
     }
 
 -- a command that is done, and told of
-pub line_taken : (number : ℕ) (line : Text) (c : Command) (w w' : Simulation) (answer : Answer) (a b z x y : Option (List ℕ)) → Spells (words line) c → IsDone c w answer w' a b
+pub line_taken : (number : ℕ) (line : Text) (c : Command) (w w' : Simulation) (answer : Answer) (a b z x y : Option (List ℕ)) → SpellsCommand (line_words line) c → IsDone c w answer w' a b
     → Appends b z [] → Appends x y (told_of number answer) → IsRunLine number line w w' a z x y
 line_taken number line c w w' answer a b z x y spelled done out err = record {
   out = done.text;
@@ -81,10 +81,10 @@ line_taken number line c w w' answer a b z x y spelled done out err = record {
 }
 
 -- lines that have all run
-pub whole_at : (lines : List Line) (i : ℕ) (script : Text) (w w' : Simulation) (a b c x y : Option (List ℕ)) → length lines ≤ i → map entry_of lines ≡ numbered_from 1 script
-    → IsRun (map entry_of (take i lines)) w w' a b x y → Keeps b c → IsRun (numbered_from 1 script) w w' a c x y
+pub whole_at : (lines : List Line) (i : ℕ) (script : Text) (w w' : Simulation) (a b c x y : Option (List ℕ)) → length lines ≤ i → map numbered_line lines ≡ numbered_from 1 script
+    → IsScriptRun (map numbered_line (take i lines)) w w' a b x y → Keeps b c → IsScriptRun (numbered_from 1 script) w w' a c x y
 whole_at lines i script w w' a b c x y past same run kept =
-    let all : IsRun (map entry_of lines) w w' a b x y = subst (λ (ls : List Line). IsRun (map entry_of ls) w w' a b x y) (take_all i lines past) run in
+    let all : IsScriptRun (map numbered_line lines) w w' a b x y = subst (λ (ls : List Line). IsScriptRun (map numbered_line ls) w w' a b x y) (take_all i lines past) run in
     record {
       out = all.out;
       err = all.err;
@@ -94,8 +94,8 @@ whole_at lines i script w w' a b c x y past same run kept =
     }
 
 -- and those up to one that cannot be read, of which it is told
-pub early_at : (lines : List Line) (number : ℕ) (line script : Text) (w w' : Simulation) (a b c x y z : Option (List ℕ)) → map entry_of lines ≡ numbered_from 1 script
-    → EndsAt (map entry_of lines) number line w w' a b x y → Appends b c [] → Appends y z (unreadable_line number line) → EndsEarly script w w' a c x z
+pub early_at : (lines : List Line) (number : ℕ) (line script : Text) (w w' : Simulation) (a b c x y z : Option (List ℕ)) → map numbered_line lines ≡ numbered_from 1 script
+    → EndsAtLine (map numbered_line lines) number line w w' a b x y → Appends b c [] → Appends y z (unreadable_line number line) → EndsEarly script w w' a c x z
 early_at lines number line script w w' a b c x y z same ends kept told = record {
   number = number;
   before = ends.before;

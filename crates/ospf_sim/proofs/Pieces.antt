@@ -10,10 +10,10 @@ use Rattle.std.proofs.lemmas.List.{length-map, map-append, take_all, take_more}
 use Rattle.std.proofs.lemmas.List.Elements.{All-append}
 use Rattle.std.proofs.lemmas.List.FromFn.{length-enumerate_from}
 use Rattle.std.proofs.lemmas.List.Splits.{length-slice_split, slice_split_at, slice_split_none, slice_split-cons_yes, slice_split-cons_no}
-use Rattle.ospf_script.proofs.TextLines.{is_end}
-use Rattle.ospf_script.specs.Lines.{entry_of, numbered_from, uncommented}
+use Rattle.ospf_files.proofs.TextLines.{is_end}
+use Rattle.ospf_files.specs.Lines.{numbered_line, numbered_from, uncommented}
 use Rattle.ospf_script.specs.Words.{Text}
-use Rattle.ospf_script.specs.declared.script.Line.{Line}
+use Rattle.ospf_files.specs.declared.line.Line.{Line}
 
 -- a line feed ends the text, or it is empty
 abbrev pub IsClosed : List ℕ → Type 0
@@ -158,24 +158,24 @@ numbered_more text piece number line closed count one =
     ∙ ap (λ n. numbered_from 1 text ++ numbered_from n piece) there
     ∙ ap (λ l. numbered_from 1 text ++ l) one
 
-one_entry : (number : ℕ) (texts : List Text) (found : List Line) (d : Line) → length texts ≡ 1 → map entry_of found ≡ enumerate_from 1 texts
+one_entry : (number : ℕ) (texts : List Text) (found : List Line) (d : Line) → length texts ≡ 1 → map numbered_line found ≡ enumerate_from 1 texts
     → enumerate_from number texts ≡ (number, (get_or found 0 d).text.now) ∷ []
 one_entry number [] found d one same = absurd (omega arith)
 one_entry number (text ∷ next ∷ more) found d one same = absurd (omega arith)
 one_entry number (text ∷ []) [] d one same = absurd (cc same)
 one_entry number (text ∷ []) (line ∷ rest) d one same =
-    let entry : entry_of line ≡ (1, text) = cc same in
+    let entry : numbered_line line ≡ (1, text) = cc same in
     ap (λ (p : ℕ × Text). (number, p.1) ∷ []) (sym entry)
 
 -- the one line of a piece, of whatever number
-pub numbered_one : (number : ℕ) (piece : Text) (found : List Line) (line : Line) → 0 < length piece → StopsAt piece 10 → map entry_of found ≡ numbered_from 1 piece
+pub numbered_one : (number : ℕ) (piece : Text) (found : List Line) (line : Line) → 0 < length piece → StopsAt piece 10 → map numbered_line found ≡ numbered_from 1 piece
     → line ≡ get_or found 0 line → numbered_from number piece ≡ (number, line.text.now) ∷ []
 numbered_one number piece found line some stops same at =
     let one : length (map uncommented (lines piece)) ≡ 1 = length-map (lines piece) uncommented ∙ one_line piece some stops in
     one_entry number (map uncommented (lines piece)) found line one same ∙ ap (λ (l : Line). (number, l.text.now) ∷ []) (sym at)
 
 -- a piece has a line
-pub some_lines : (piece : Text) (found : List Line) → 0 < length piece → StopsAt piece 10 → map entry_of found ≡ numbered_from 1 piece → 0 < length found
+pub some_lines : (piece : Text) (found : List Line) → 0 < length piece → StopsAt piece 10 → map numbered_line found ≡ numbered_from 1 piece → 0 < length found
 some_lines piece found some stops same =
-    let as_many : length (map entry_of found) ≡ length (numbered_from 1 piece) = ap length same in
-    omega (arith, length-map found entry_of, as_many, length-enumerate_from 1 (map uncommented (lines piece)), length-map (lines piece) uncommented, one_line piece some stops)
+    let as_many : length (map numbered_line found) ≡ length (numbered_from 1 piece) = ap length same in
+    omega (arith, length-map found numbered_line, as_many, length-enumerate_from 1 (map uncommented (lines piece)), length-map (lines piece) uncommented, one_line piece some stops)

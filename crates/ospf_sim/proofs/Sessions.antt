@@ -8,11 +8,11 @@ use Rattle.ospf_files.proofs.Written.{both_written, nothing_written}
 use Rattle.ospf_files.specs.Streams.{IsBegun, IsOfInput, IsOfOutput, IsOutputCut, no_output, with_output}
 use Rattle.ospf_files.specs.declared.status.Failure.{Failure}
 use Rattle.ospf_files.specs.declared.streams.FailedStreams.{FailedStreams}
-use Rattle.ospf_script.specs.Lines.{numbered_from}
+use Rattle.ospf_files.specs.Lines.{numbered_from}
 use Rattle.ospf_script.specs.Words.{Text}
-use Rattle.ospf_script.specs.declared.script.Line.{Line}
+use Rattle.ospf_files.specs.declared.line.Line.{Line}
 use Rattle.ospf_sim.proofs.Pieces.{IsClosed, closed_append, ends_closed, numbered_more, one_line}
-use Rattle.ospf_sim.specs.Consoles.{AnswersLine, AnswersLines, AreAnswered, IsAllAnswered, IsAnswered, IsPiece, IsPieceRead, IsReadOf, IsSessionCut, IsTurnCut, at_end, in_line, in_prompt, in_reading, is_run, is_unreadable, one_line as one_answer}
+use Rattle.ospf_sim.specs.Consoles.{AnswersLine, AnswersLines, AreAnswered, IsAllAnswered, IsLineAnswered, IsPiece, IsPieceRead, IsReadOf, IsSessionCut, IsTurnCut, at_end, in_line, in_prompt, in_reading, is_run, is_unreadable, one_line as one_answer}
 use Rattle.ospf_sim.specs.Begun.{IsLineCut, IsTellingCut, in_unreadable}
 use Rattle.ospf_sim.specs.Scripts.{LineComes, unreadable_line}
 
@@ -20,7 +20,7 @@ use Rattle.ospf_sim.specs.Scripts.{LineComes, unreadable_line}
 
 -- a line that is run
 pub run_answered : (line : Line) (read : Bool) (w w' : Simulation) (a b x y : Option (List ℕ)) → read ≡ true → LineComes read line w w' a b x y
-    → IsAnswered line.number line.text.now w w' a b x y
+    → IsLineAnswered line.number line.text.now w w' a b x y
 run_answered line false w w' a b x y is run = absurd (cc is)
 run_answered line true w w' a b x y is run = record {
   out = run.out;
@@ -32,7 +32,7 @@ run_answered line true w w' a b x y is run = record {
 
 -- a line that cannot be read, of which that is told
 pub told_answered : {T : Type 0} (r : Result T Failure) (line : Line) (read : Bool) (w w' : Simulation) (a b c x y z : Option (List ℕ)) → read ≡ false → LineComes read line w w' a b x y
-    → OnOk r (Appends b c []) → OnOk r (Appends y z (unreadable_line line.number line.text.now)) → OnOk r (IsAnswered line.number line.text.now w w' a c x z)
+    → OnOk r (Appends b c []) → OnOk r (Appends y z (unreadable_line line.number line.text.now)) → OnOk r (IsLineAnswered line.number line.text.now w w' a c x z)
 told_answered (Err f) line read w w' a b c x y z is not_read kept told = tt
 told_answered (Ok done) line true w w' a b c x y z is not_read kept told = absurd (cc is)
 told_answered (Ok done) line false w w' a b c x y z is not_read kept told = record {
@@ -70,7 +70,7 @@ none_answered prompt w a b x written = record { out = prompt; err = []; answers 
 
 -- one line more, and the prompt behind it
 more_answered : (prompt : Text) (before : List (ℕ × Text)) (number : ℕ) (line : Text) (w mid w' : Simulation) (a b c d x y z : Option (List ℕ)) → AreAnswered prompt before w mid a b x y
-    → IsAnswered number line mid w' b c y z → Appends c d prompt → AreAnswered prompt (before ++ (number, line) ∷ []) w w' a d x z
+    → IsLineAnswered number line mid w' b c y z → Appends c d prompt → AreAnswered prompt (before ++ (number, line) ∷ []) w w' a d x z
 more_answered prompt before number line w mid w' a b c d x y z so_far next written = record {
   out = so_far.out ++ next.out ++ prompt;
   err = so_far.err ++ next.err;
@@ -147,7 +147,7 @@ closed_more text piece closed (inr ends) = inr (text ++ ends.0, ap (λ l. text +
 -- its line is answered, and the prompt is behind it
 answered_more : (prompt : Text) (start now later : Option (List ℕ)) (number : ℕ) (piece : Text) (line : Text) (w mid w' : Simulation) (a b c e x y z : Option (List ℕ))
     → (so_far : IsSoFar prompt start now number w mid a b x y) → IsPieceRead piece now later → numbered_from number piece ≡ (number, line) ∷ []
-    → IsAnswered number line mid w' b c y z → Appends c e prompt → AreAnswered prompt (numbered_from 1 (so_far.text ++ piece)) w w' a e x z
+    → IsLineAnswered number line mid w' b c y z → Appends c e prompt → AreAnswered prompt (numbered_from 1 (so_far.text ++ piece)) w w' a e x z
 answered_more prompt start now later number piece line w mid w' a b c e x y z so_far read one next written =
     subst (λ (ls : List (ℕ × Text)). AreAnswered prompt ls w w' a e x z) (sym (lines_more prompt start now later number piece line w mid a b x y so_far read one))
     (more_answered prompt (numbered_from 1 so_far.text) number line w mid w' a b c e x y z so_far.answered next written)
@@ -155,7 +155,7 @@ answered_more prompt start now later number piece line w mid w' a b c e x y z so
 -- a piece that a line feed ends
 pub goes_on : (prompt : Text) (start now later : Option (List ℕ)) (number : ℕ) (piece : Text) (line : Text) (w mid w' : Simulation) (a b c e x y z : Option (List ℕ))
     → IsSoFar prompt start now number w mid a b x y → IsPieceRead piece now later → numbered_from number piece ≡ (number, line) ∷ []
-    → IsAnswered number line mid w' b c y z → Appends c e prompt → ends_with_byte 10 piece ≡ true → IsSoFar prompt start later (number + 1) w w' a e x z
+    → IsLineAnswered number line mid w' b c y z → Appends c e prompt → ends_with_byte 10 piece ≡ true → IsSoFar prompt start later (number + 1) w w' a e x z
 goes_on prompt start now later number piece line w mid w' a b c e x y z so_far read one next written ends =
     let longer : length (lines (so_far.text ++ piece)) ≡ length (lines so_far.text) + length (lines piece) =
     ap length (closed_append so_far.text piece so_far.closed) ∙ length-append (lines so_far.text) (lines piece) in
@@ -170,7 +170,7 @@ goes_on prompt start now later number piece line w mid w' a b c e x y z so_far r
 -- a piece that the end of the input ends
 pub ends_here : (prompt : Text) (start now later : Option (List ℕ)) (number : ℕ) (piece : Text) (line : Text) (w mid w' : Simulation) (a b c e x y z : Option (List ℕ))
     → IsSoFar prompt start now number w mid a b x y → IsPieceRead piece now later → numbered_from number piece ≡ (number, line) ∷ []
-    → IsAnswered number line mid w' b c y z → Appends c e prompt → ends_with_byte 10 piece ≡ false → IsAllAnswered start prompt w w' a e x z
+    → IsLineAnswered number line mid w' b c y z → Appends c e prompt → ends_with_byte 10 piece ≡ false → IsAllAnswered start prompt w w' a e x z
 ends_here prompt start now later number piece line w mid w' a b c e x y z so_far read one next written ends = record {
   text = so_far.text ++ piece;
   whole = taken_last start now so_far.text piece so_far.taken (read.ends ends);
@@ -211,7 +211,7 @@ turn_cut prompt start now later number piece line w mid failed a b c x y z f so_
       cut = cut;
     })
 
-pub prompt_cut : (prompt : Text) (number : ℕ) (line : Text) (w end : Simulation) (failed : FailedStreams) (a b c x y : Option (List ℕ)) (f : Failure) → IsAnswered number line w end a b x y
+pub prompt_cut : (prompt : Text) (number : ℕ) (line : Text) (w end : Simulation) (failed : FailedStreams) (a b c x y : Option (List ℕ)) (f : Failure) → IsLineAnswered number line w end a b x y
     → IsBegun b c prompt → IsOutputCut failed f → IsTurnCut prompt number line w failed a c x y f
 prompt_cut prompt number line w end failed a b c x y f answered begun cut = in_prompt (record { end = end; out_then = b; answered = answered; begun = begun; cut = cut })
 

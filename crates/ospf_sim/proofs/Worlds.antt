@@ -2,7 +2,7 @@
 use Rattle.std.proofs.Common.{ap, suc, length, [], ◌≡◌, ◌∙◌, sym, subst, refl, inr, ℕ, List, ◌∷◌, Bool, true, false, Option, None, Some, Result, Ok, Err, IfOk}
 use Rattle.ospf_config.specs.declared.config.Config.{Config}
 use Rattle.ospf_files.specs.Files.{text_in}
-use Rattle.ospf_files.specs.Listed.{AreConfigs, AreRead, ConfigsCome}
+use Rattle.ospf_files.specs.Listed.{AreConfigs, AreFilesRead, ConfigsCome}
 use Rattle.ospf_files.specs.declared.files.NamedFile.{NamedFile}
 use Rattle.ospf_files.specs.declared.status.Failure.{Failure}
 use Rattle.ospf_files.specs.declared.status.Status.{Status}
@@ -12,7 +12,7 @@ use Rattle.ospf_commands.specs.Worlds.{WorldValue}
 use Rattle.ospf_sim.specs.Scripts.{ScriptComes}
 use Rattle.ospf_commands.specs.declared.simulation.Simulation.{Simulation}
 use Rattle.ospf_sim.specs.declared.text.Simulated.{Simulated}
-use Rattle.ospf_sim.specs.Simulations.{Comes, IsNoWorld, IsNewOf, Opens, RunsTo, WorldComes, same_router, status_for}
+use Rattle.ospf_sim.specs.Simulations.{ComesOfScript, IsNoWorld, IsNewOf, OpensWorld, ScriptRunsTo, WorldComes, same_router, status_of_script}
 use Rattle.ospf_commands.specs.Simulations.{begun_in}
 use Rattle.ospf_headline.specs.declared.event.WorldFault.{WorldFault}
 use Rattle.ospf_world.specs.Worlds as worlds
@@ -20,7 +20,7 @@ use Rattle.ospf_world.specs.Worlds.{Begins, NoMemory, SameRouter, new_world}
 use Rattle.ospf_sim.specs.Twins.{AreTwinsTold}
 
 pub world_comes : (found : Option (List Config)) (configs : List Config) (files : List NamedFile) (result : Result (Option WorldValue) Failure) (x y z : Option (List ℕ))
-    → found ≡ Some configs → ConfigsCome files found x y → IfOk result (λ world. Opens files configs world y z) → IfOk result (λ world. WorldComes files world x z)
+    → found ≡ Some configs → ConfigsCome files found x y → IfOk result (λ world. OpensWorld files configs world y z) → IfOk result (λ world. WorldComes files world x z)
 world_comes None configs files result x y z is comes opens = absurd (cc is)
 world_comes (Some cs) configs files (Err failure) x y z is comes opens = opens
 world_comes (Some cs) configs files (Ok None) x y z is comes opens =
@@ -47,17 +47,17 @@ no_world_told None files x y is comes = comes
 no_world_told (Some w) files x y is comes = absurd (cc is)
 
 pub runs_to : (whole : Bool) (script : NamedFile) (text : Text) (w : WorldValue) (s end : Simulation) (simulated : Simulated) (a b x y : Option (List ℕ))
-    → simulated.status ≡ status_for whole → s ≡ begun_in w → text ≡ text_in script → simulated.left ≡ Some end → ScriptComes whole text s end a b x y
-    → RunsTo simulated.status script w simulated a b x y
+    → simulated.status ≡ status_of_script whole → s ≡ begun_in w → text ≡ text_in script → simulated.left ≡ Some end → ScriptComes whole text s end a b x y
+    → ScriptRunsTo simulated.status script w simulated a b x y
 runs_to true script text w s end simulated a b x y is begins same left comes =
-    subst (λ status. RunsTo status script w simulated a b x y) (sym is)
+    subst (λ status. ScriptRunsTo status script w simulated a b x y) (sym is)
     (record { end = end; left = left; comes = subst (λ t. ScriptComes true t (begun_in w) end a b x y) same (subst (λ v. ScriptComes true text v end a b x y) begins comes) })
 runs_to false script text w s end simulated a b x y is begins same left comes =
-    subst (λ status. RunsTo status script w simulated a b x y) (sym is)
+    subst (λ status. ScriptRunsTo status script w simulated a b x y) (sym is)
     (record { end = end; left = left; comes = subst (λ t. ScriptComes false t (begun_in w) end a b x y) same (subst (λ v. ScriptComes false text v end a b x y) begins comes) })
 
 run_comes : (status : Status) (start : WorldValue) (script : NamedFile) (files : List NamedFile) (simulated : Simulated) (a b x y z : Option (List ℕ))
-    → WorldComes files (Some start) x y → AreRead (script ∷ files) → RunsTo status script start simulated a b y z → Comes status script files simulated a b x z
+    → WorldComes files (Some start) x y → AreFilesRead (script ∷ files) → ScriptRunsTo status script start simulated a b y z → ComesOfScript status script files simulated a b x z
 run_comes Done start script files simulated a b x y z comes read run = record {
   read = read;
   start = start;
@@ -79,7 +79,7 @@ run_comes Memory start script files simulated a b x y z comes read run = tt
 run_comes Stream start script files simulated a b x y z comes read run = tt
 
 pub found_runs : (found : Option WorldValue) (start : WorldValue) (status : Status) (script : NamedFile) (files : List NamedFile) (simulated : Simulated) (a b x y z : Option (List ℕ))
-    → found ≡ Some start → WorldComes files found x y → AreRead (script ∷ files) → RunsTo status script start simulated a b y z → Comes status script files simulated a b x z
+    → found ≡ Some start → WorldComes files found x y → AreFilesRead (script ∷ files) → ScriptRunsTo status script start simulated a b y z → ComesOfScript status script files simulated a b x z
 found_runs None start status script files simulated a b x y z is comes read run = absurd (cc is)
 found_runs (Some w) start status script files simulated a b x y z is comes read run =
     let one : w ≡ start = cc is in

@@ -4,22 +4,22 @@ use Rattle.std.specs.Io.KnownBytes.{Appends}
 use Rattle.ospf_config.specs.declared.config.Config.{Config}
 use Rattle.ospf_config.specs.declared.fault.ConfigFault.{ConfigFault}
 use Rattle.ospf_files.specs.Files.{IsRefusedFor, refused_line, text_in, unread_line}
-use Rattle.ospf_files.specs.Listed.{AreConfigs, AreRead, IsFirstRefused, IsFirstUnread}
+use Rattle.ospf_files.specs.Listed.{AreConfigs, AreFilesRead, IsFirstRefused, IsFirstUnread}
 use Rattle.ospf_files.specs.Streams.{IsBegun, IsErrorCut, IsOutputCut}
 use Rattle.ospf_files.specs.declared.files.NamedFile.{NamedFile}
 use Rattle.ospf_files.specs.declared.status.Failure.{Failure}
 use Rattle.ospf_files.specs.declared.status.Failure.TheVariants as failure
 use Rattle.ospf_files.specs.declared.streams.FailedStreams.{FailedStreams}
 use Rattle.ospf_headline.specs.declared.event.WorldFault.{WorldFault}
-use Rattle.ospf_script.specs.Commands.{IsUnreadable, NeedsRoom, Spells}
-use Rattle.ospf_script.specs.Lines.{numbered_from}
-use Rattle.ospf_script.specs.Words.{Text, words}
+use Rattle.ospf_script.specs.Commands.{IsUnreadable, NeedsRoom, SpellsCommand}
+use Rattle.ospf_files.specs.Lines.{numbered_from}
+use Rattle.ospf_script.specs.Words.{Text, line_words}
 use Rattle.ospf_script.specs.declared.command.Command.{Command}
-use Rattle.ospf_commands.specs.Commands.{Does, IsDoneBegun}
+use Rattle.ospf_commands.specs.Commands.{DoesCommand, IsDoneBegun}
 use Rattle.ospf_commands.specs.Simulations.{Answer, begun_in}
 use Rattle.ospf_commands.specs.Worlds.{WorldValue}
 use Rattle.ospf_commands.specs.declared.simulation.Simulation.{Simulation}
-use Rattle.ospf_sim.specs.Scripts.{IsRun, refusal_line, unreadable_line}
+use Rattle.ospf_sim.specs.Scripts.{IsScriptRun, world_refusal_line, unreadable_line}
 use Rattle.ospf_sim.specs.Simulations.{IsWorldOf}
 use Rattle.ospf_sim.specs.Twins.{SharesRouter}
 
@@ -29,7 +29,7 @@ use Rattle.ospf_sim.specs.Twins.{SharesRouter}
 pub record IsPrintBegun (line : Text) (w : Simulation) (out_old out_new : Option (List ℕ)) : Type 0 where
   pub command : Command
   pub end : Simulation
-  pub spelled : Spells (words line) command
+  pub spelled : SpellsCommand (line_words line) command
   pub done : IsDoneBegun command w end out_old out_new
 
 -- a text is not told whole: what was printed before it was not flushed, and it is not begun, or a beginning of it was written
@@ -40,27 +40,27 @@ pub data IsTellingCut (text : Text) (failed : FailedStreams) (out_old out_new er
       → IsTellingCut text failed out_old out_new err_old err_new f
 
 -- an answer is a refusal, and that is not told whole
-pub record IsAnswerCut (number : ℕ) (answer : Answer) (failed : FailedStreams) (out_old out_new err_old err_new : Option (List ℕ)) (f : Failure) : Type 0 where
+pub record IsEventAnswerCut (number : ℕ) (answer : Answer) (failed : FailedStreams) (out_old out_new err_old err_new : Option (List ℕ)) (f : Failure) : Type 0 where
   pub fault : WorldFault
   pub refused : answer ≡ Err fault
-  pub told : IsTellingCut (refusal_line number fault) failed out_old out_new err_old err_new f
+  pub told : IsTellingCut (world_refusal_line number fault) failed out_old out_new err_old err_new f
 
 -- a line is refused, what it prints was written, and its refusal is not told whole
 pub record IsRefusalCut (number : ℕ) (line : Text) (w : Simulation) (failed : FailedStreams) (out_old out_new err_old err_new : Option (List ℕ)) (f : Failure) : Type 0 where
   pub command : Command
   pub end : Simulation
-  pub spelled : Spells (words line) command
+  pub spelled : SpellsCommand (line_words line) command
   pub fault : WorldFault
   pub text : Text
-  pub does : Does command w (Err fault) text end
+  pub does : DoesCommand command w (Err fault) text end
   pub out_then : Option (List ℕ)
   pub printed : Appends out_old out_then text
-  pub told : IsTellingCut (refusal_line number fault) failed out_then out_new err_old err_new f
+  pub told : IsTellingCut (world_refusal_line number fault) failed out_then out_new err_old err_new f
 
 -- a line is cut: before it does anything, where there is no room for the choices of a walk or for a text; in what it prints; in its refusal;
 -- or where it cannot be read, and that is not told whole
 pub data IsLineCut (number : ℕ) (line : Text) (w : Simulation) (failed : FailedStreams) (out_old out_new err_old err_new : Option (List ℕ)) : Failure → Type 0 where
-  no_room_for : NeedsRoom (words line) → out_new ≡ out_old → err_new ≡ err_old
+  no_room_for : NeedsRoom (line_words line) → out_new ≡ out_old → err_new ≡ err_old
       → IsLineCut number line w failed out_old out_new err_old err_new failure.Memory
   in_print : {f : Failure} → IsOutputCut failed f → IsPrintBegun line w out_old out_new → err_new ≡ err_old
       → IsLineCut number line w failed out_old out_new err_old err_new f
@@ -72,7 +72,7 @@ pub data IsLineCut (number : ℕ) (line : Text) (w : Simulation) (failed : Faile
 -- ---- a script
 
 -- a line is cut, and those before it have run: what they write was written
-pub record IsCutAt (lines : List (ℕ × Text)) (w : Simulation) (failed : FailedStreams) (out_old out_new err_old err_new : Option (List ℕ)) (f : Failure) : Type 0 where
+pub record IsCutAtLine (lines : List (ℕ × Text)) (w : Simulation) (failed : FailedStreams) (out_old out_new err_old err_new : Option (List ℕ)) (f : Failure) : Type 0 where
   pub before : List (ℕ × Text)
   pub number : ℕ
   pub line : Text
@@ -81,15 +81,15 @@ pub record IsCutAt (lines : List (ℕ × Text)) (w : Simulation) (failed : Faile
   pub mid : Simulation
   pub out_then : Option (List ℕ)
   pub err_then : Option (List ℕ)
-  pub run : IsRun before w mid out_old out_then err_old err_then
+  pub run : IsScriptRun before w mid out_old out_then err_old err_then
   pub cut : IsLineCut number line mid failed out_then out_new err_then err_new f
 
 -- a script is cut: before its first line, for want of memory; at a line; or behind its last, where what it printed is not flushed
 pub data IsScriptCut (script : Text) (w : Simulation) (failed : FailedStreams) (out_old out_new err_old err_new : Option (List ℕ)) : Failure → Type 0 where
   no_lines : out_new ≡ out_old → err_new ≡ err_old → IsScriptCut script w failed out_old out_new err_old err_new failure.Memory
-  in_line : {f : Failure} → IsCutAt (numbered_from 1 script) w failed out_old out_new err_old err_new f
+  in_line : {f : Failure} → IsCutAtLine (numbered_from 1 script) w failed out_old out_new err_old err_new f
       → IsScriptCut script w failed out_old out_new err_old err_new f
-  behind_lines : {f : Failure} (end : Simulation) → IsOutputCut failed f → IsRun (numbered_from 1 script) w end out_old out_new err_old err_new
+  behind_lines : {f : Failure} (end : Simulation) → IsOutputCut failed f → IsScriptRun (numbered_from 1 script) w end out_old out_new err_old err_new
       → IsScriptCut script w failed out_old out_new err_old err_new f
 
 -- ---- a simulation
@@ -116,10 +116,10 @@ pub data IsWorldCut (files : List NamedFile) (failed : FailedStreams) (err_old e
       → IsBegun err_old err_new text → IsWorldCut files failed err_old err_new f
 
 -- a simulation is cut: at the first file that could not be read, before there is a world, or in its script
-pub data IsCut (script : NamedFile) (files : List NamedFile) (failed : FailedStreams) (out_old out_new err_old err_new : Option (List ℕ)) : Failure → Type 0 where
+pub data IsSimulationCut (script : NamedFile) (files : List NamedFile) (failed : FailedStreams) (out_old out_new err_old err_new : Option (List ℕ)) : Failure → Type 0 where
   in_unread : {f : Failure} (file : NamedFile) → IsErrorCut failed f → IsFirstUnread file (script ∷ files)
-      → IsBegun err_old err_new (unread_line file) → out_new ≡ out_old → IsCut script files failed out_old out_new err_old err_new f
-  in_world : {f : Failure} → AreRead (script ∷ files) → IsWorldCut files failed err_old err_new f → out_new ≡ out_old
-      → IsCut script files failed out_old out_new err_old err_new f
-  in_script : {f : Failure} (start : WorldValue) → AreRead (script ∷ files) → IsWorldOf files start
-      → IsScriptCut (text_in script) (begun_in start) failed out_old out_new err_old err_new f → IsCut script files failed out_old out_new err_old err_new f
+      → IsBegun err_old err_new (unread_line file) → out_new ≡ out_old → IsSimulationCut script files failed out_old out_new err_old err_new f
+  in_world : {f : Failure} → AreFilesRead (script ∷ files) → IsWorldCut files failed err_old err_new f → out_new ≡ out_old
+      → IsSimulationCut script files failed out_old out_new err_old err_new f
+  in_script : {f : Failure} (start : WorldValue) → AreFilesRead (script ∷ files) → IsWorldOf files start
+      → IsScriptCut (text_in script) (begun_in start) failed out_old out_new err_old err_new f → IsSimulationCut script files failed out_old out_new err_old err_new f

@@ -4,7 +4,7 @@ use Rattle.std.specs.Io.{StopsAt}
 use Rattle.std.specs.Io.BufRead.{ends_with_byte}
 use Rattle.std.specs.Io.KnownBytes.{Appends, Consumes, IsAtEnd}
 use Rattle.ospf_files.specs.Files.{unread_line}
-use Rattle.ospf_files.specs.Listed.{AreRead, IsFirstUnread}
+use Rattle.ospf_files.specs.Listed.{AreFilesRead, IsFirstUnread}
 use Rattle.ospf_files.specs.Status.{failure_line, failure_status}
 use Rattle.ospf_files.specs.Streams.{IsBegun, IsErrorCut, IsOfInput, IsOutputCut, IsTold}
 use Rattle.ospf_files.specs.declared.files.NamedFile.{NamedFile}
@@ -13,7 +13,7 @@ use Rattle.ospf_files.specs.declared.status.Status.{Status}
 use Rattle.ospf_files.specs.declared.status.Status.TheVariants as status
 use Rattle.ospf_files.specs.declared.streams.FailedStreams.{FailedStreams}
 use Rattle.ospf_script.specs.Commands.{IsUnreadable}
-use Rattle.ospf_script.specs.Lines.{numbered_from}
+use Rattle.ospf_files.specs.Lines.{numbered_from}
 use Rattle.ospf_script.specs.Words.{Text}
 use Rattle.ospf_commands.specs.Simulations.{begun_in}
 use Rattle.ospf_commands.specs.Worlds.{WorldValue}
@@ -38,7 +38,7 @@ pub data AnswersLines (prompt : Text) : List (ℕ × Text) → Simulation → Si
       → AnswersLines prompt ((number, line) ∷ lines) w w' (prompt ++ out ++ outs) (err ++ errs)
 
 -- what a line comes to is what was written
-pub record IsAnswered (number : ℕ) (line : Text) (w w' : Simulation) (out_old out_new err_old err_new : Option (List ℕ)) : Type 0 where
+pub record IsLineAnswered (number : ℕ) (line : Text) (w w' : Simulation) (out_old out_new err_old err_new : Option (List ℕ)) : Type 0 where
   pub out : Text
   pub err : Text
   pub answers : AnswersLine number line w w' out err
@@ -78,7 +78,7 @@ pub record IsAllAnswered (input : Option (List ℕ)) (prompt : Text) (w w' : Sim
 pub record IsPromptCut (prompt : Text) (number : ℕ) (line : Text) (w : Simulation) (failed : FailedStreams) (out_old out_new err_old err_new : Option (List ℕ)) (f : Failure) : Type 0 where
   pub end : Simulation
   pub out_then : Option (List ℕ)
-  pub answered : IsAnswered number line w end out_old out_then err_old err_new
+  pub answered : IsLineAnswered number line w end out_old out_then err_old err_new
   pub begun : IsBegun out_then out_new prompt
   pub cut : IsOutputCut failed f
 
@@ -118,7 +118,7 @@ pub data IsSessionCut (input : Option (List ℕ)) (prompt : Text) (w : Simulatio
 
 -- all lines of the input are answered, in a world of the configurations
 pub record IsConsoled (input : Option (List ℕ)) (prompt : Text) (files : List NamedFile) (simulated : Simulated) (out_old out_new err_old err_new : Option (List ℕ)) : Type 0 where
-  pub read : AreRead files
+  pub read : AreFilesRead files
   pub start : WorldValue
   pub end : Simulation
   pub starts : IsWorldOf files start
@@ -127,7 +127,7 @@ pub record IsConsoled (input : Option (List ℕ)) (prompt : Text) (files : List 
 
 -- no line is answered, since there is no world of the configurations, of which it is told why
 pub record IsNoConsole (files : List NamedFile) (simulated : Simulated) (out_old out_new err_old err_new : Option (List ℕ)) : Type 0 where
-  pub read : AreRead files
+  pub read : AreFilesRead files
   pub no_world : IsNoWorld files err_old err_new
   pub none : simulated.left ≡ None
   pub same_out : out_new ≡ out_old
@@ -150,9 +150,9 @@ pub record IsUnreadOf (files : List NamedFile) (left : Option Simulation) (out_o
 pub data IsConsoleCut (input : Option (List ℕ)) (prompt : Text) (files : List NamedFile) (failed : FailedStreams) (out_old out_new err_old err_new : Option (List ℕ)) : Failure → Type 0 where
   in_unread : {f : Failure} (file : NamedFile) → IsErrorCut failed f → IsFirstUnread file files
       → IsBegun err_old err_new (unread_line file) → out_new ≡ out_old → IsConsoleCut input prompt files failed out_old out_new err_old err_new f
-  in_world : {f : Failure} → AreRead files → IsWorldCut files failed err_old err_new f → out_new ≡ out_old
+  in_world : {f : Failure} → AreFilesRead files → IsWorldCut files failed err_old err_new f → out_new ≡ out_old
       → IsConsoleCut input prompt files failed out_old out_new err_old err_new f
-  in_session : {f : Failure} (start : WorldValue) → AreRead files → IsWorldOf files start
+  in_session : {f : Failure} (start : WorldValue) → AreFilesRead files → IsWorldOf files start
       → IsSessionCut input prompt (begun_in start) failed out_old out_new err_old err_new f
       → IsConsoleCut input prompt files failed out_old out_new err_old err_new f
 

@@ -3,19 +3,20 @@ use Rattle.std.specs.Prelude.{◌≡◌, ℕ, Bool, true, false, List, [], ◌�
 use Rattle.std.specs.Io.KnownBytes.{Appends}
 use Rattle.ospf_headline.specs.Text.{world_fault_text}
 use Rattle.ospf_headline.specs.declared.event.WorldFault.{WorldFault}
-use Rattle.ospf_script.specs.Commands.{IsUnreadable, Spells}
+use Rattle.ospf_script.specs.Commands.{IsUnreadable, SpellsCommand}
 use Rattle.ospf_script.specs.Hints.{hint_text}
-use Rattle.ospf_script.specs.Lines.{numbered_from}
-use Rattle.ospf_script.specs.Words.{IsBlank, Text, words}
+use Rattle.ospf_files.specs.Lines.{numbered_from}
+use Rattle.ospf_base.specs.Text.{IsBlank}
+use Rattle.ospf_script.specs.Words.{Text, line_words}
 use Rattle.ospf_script.specs.declared.command.Command.{Command}
-use Rattle.ospf_script.specs.declared.script.Line.{Line}
-use Rattle.ospf_commands.specs.Commands.{Does}
+use Rattle.ospf_files.specs.declared.line.Line.{Line}
+use Rattle.ospf_commands.specs.Commands.{DoesCommand}
 use Rattle.ospf_commands.specs.Simulations.{Answer}
 use Rattle.ospf_commands.specs.declared.simulation.Simulation.{Simulation}
 
 -- a line that is refused, and why
-abbrev pub refusal_line : ℕ → WorldFault → Text
-refusal_line number fault = codes "line " ++ decimal number ++ codes ": " ++ world_fault_text fault ++ codes "\n"
+abbrev pub world_refusal_line : ℕ → WorldFault → Text
+world_refusal_line number fault = codes "line " ++ decimal number ++ codes ": " ++ world_fault_text fault ++ codes "\n"
 
 -- a line that cannot be read
 abbrev pub not_a_command_line : ℕ → Text
@@ -23,7 +24,7 @@ not_a_command_line number = codes "line " ++ decimal number ++ codes ": not a co
 
 -- what helps with it
 abbrev pub hint_line : Text → Text
-hint_line line = codes "  " ++ hint_text (words line) ++ codes "\n"
+hint_line line = codes "  " ++ hint_text (line_words line) ++ codes "\n"
 
 -- a line that cannot be read, and behind it what helps with it
 abbrev pub unreadable_line : ℕ → Text → Text
@@ -32,12 +33,12 @@ unreadable_line number line = not_a_command_line number ++ hint_line line
 -- what is told on standard error of what was answered to a line
 abbrev pub told_of : ℕ → Answer → Text
 told_of number (Ok done) = []
-told_of number (Err fault) = refusal_line number fault
+told_of number (Err fault) = world_refusal_line number fault
 
 -- what a line of this number comes to: the simulation after it, and what is written on standard output and on standard error
 pub data RunsLine (number : ℕ) (line : Text) (w w' : Simulation) (out err : Text) : Type 0 where
   is_passed_over : IsBlank line → w' ≡ w → out ≡ [] → err ≡ [] → RunsLine number line w w' out err
-  is_taken : (c : Command) (answer : Answer) → Spells (words line) c → Does c w answer out w' → err ≡ told_of number answer
+  is_taken : (c : Command) (answer : Answer) → SpellsCommand (line_words line) c → DoesCommand c w answer out w' → err ≡ told_of number answer
       → RunsLine number line w w' out err
 
 -- lines with their numbers, one after another: a refused one ends nothing
@@ -48,7 +49,7 @@ pub data RunsLines : List (ℕ × Text) → Simulation → Simulation → Text �
       → RunsLines ((number, line) ∷ lines) w w' (out ++ outs) (err ++ errs)
 
 -- what lines write is what was written
-pub record IsRun (lines : List (ℕ × Text)) (w w' : Simulation) (out_old out_new err_old err_new : Option (List ℕ)) : Type 0 where
+pub record IsScriptRun (lines : List (ℕ × Text)) (w w' : Simulation) (out_old out_new err_old err_new : Option (List ℕ)) : Type 0 where
   pub out : Text
   pub err : Text
   pub runs : RunsLines lines w w' out err
@@ -56,12 +57,12 @@ pub record IsRun (lines : List (ℕ × Text)) (w w' : Simulation) (out_old out_n
   pub err_written : Appends err_old err_new err
 
 -- the line of this number is the first that cannot be read, and those before it have run
-pub record EndsAt (lines : List (ℕ × Text)) (number : ℕ) (line : Text) (w w' : Simulation) (out_old out_new err_old err_new : Option (List ℕ)) : Type 0 where
+pub record EndsAtLine (lines : List (ℕ × Text)) (number : ℕ) (line : Text) (w w' : Simulation) (out_old out_new err_old err_new : Option (List ℕ)) : Type 0 where
   pub before : List (ℕ × Text)
   pub after : List (ℕ × Text)
   pub lines_are : lines ≡ before ++ (number, line) ∷ after
   pub unreadable : IsUnreadable line
-  pub run : IsRun before w w' out_old out_new err_old err_new
+  pub run : IsScriptRun before w w' out_old out_new err_old err_new
 
 -- what a line writes is what was written
 pub record IsRunLine (number : ℕ) (line : Text) (w w' : Simulation) (out_old out_new err_old err_new : Option (List ℕ)) : Type 0 where
@@ -98,5 +99,5 @@ pub record EndsEarly (script : Text) (w w' : Simulation) (out_old out_new err_ol
 
 -- a whole script, or up to a line that cannot be read
 abbrev pub ScriptComes : Bool → Text → Simulation → Simulation → Option (List ℕ) → Option (List ℕ) → Option (List ℕ) → Option (List ℕ) → Type 0
-ScriptComes true script = IsRun (numbered_from 1 script)
+ScriptComes true script = IsScriptRun (numbered_from 1 script)
 ScriptComes false script = EndsEarly script

@@ -2,17 +2,18 @@
 use Rattle.std.specs.Prelude.{◌≡◌, ◌⊎◌, ℕ, List, ◌∷◌, Option, None, Some, Bool, true, false, ⊤}
 use Rattle.ospf_config.specs.declared.config.Config.{Config}
 use Rattle.ospf_files.specs.Files.{text_in}
-use Rattle.ospf_files.specs.Listed.{AreConfigs, AreRead, IsRefusalTold}
+use Rattle.ospf_files.specs.Listed.{AreConfigs, AreFilesRead, IsRefusalTold}
 use Rattle.ospf_files.specs.declared.files.NamedFile.{NamedFile}
 use Rattle.ospf_files.specs.declared.status.Status.{Status}
 use Rattle.ospf_files.specs.declared.status.Status.TheVariants as status
-use Rattle.ospf_script.specs.Lines.{numbered_from}
+use Rattle.ospf_files.specs.Lines.{numbered_from}
 use Rattle.ospf_sim.specs.Twins.{AreTwinsTold}
-use Rattle.ospf_sim.specs.Scripts.{EndsEarly, IsRun, ScriptComes}
+use Rattle.ospf_sim.specs.Scripts.{EndsEarly, IsScriptRun, ScriptComes}
 use Rattle.ospf_commands.specs.Simulations.{begun_in}
 use Rattle.ospf_commands.specs.Worlds.{WorldValue}
 use Rattle.ospf_commands.specs.declared.simulation.Simulation.{Simulation}
-use Rattle.ospf_world.specs.Worlds.{ShareRouter, new_world}
+use Rattle.ospf_config.specs.Configs.{ShareRouter}
+use Rattle.ospf_world.specs.Worlds.{new_world}
 use Rattle.ospf_sim.specs.declared.text.Simulated.{Simulated}
 
 -- ---- worlds
@@ -33,9 +34,9 @@ pub data IsNoWorld (files : List NamedFile) (old new : Option (List ℕ)) : Type
   same_router : (configs : List Config) → AreConfigs files configs → AreTwinsTold files configs old new → IsNoWorld files old new
 
 -- a new world of configurations, or it is told that two of them are of one router
-abbrev pub Opens : List NamedFile → List Config → Option WorldValue → Option (List ℕ) → Option (List ℕ) → Type 0
-Opens files configs (Some w) old new = IsNewOf configs w × (new ≡ old)
-Opens files configs None old new = AreTwinsTold files configs old new
+abbrev pub OpensWorld : List NamedFile → List Config → Option WorldValue → Option (List ℕ) → Option (List ℕ) → Type 0
+OpensWorld files configs (Some w) old new = IsNewOf configs w × (new ≡ old)
+OpensWorld files configs None old new = AreTwinsTold files configs old new
 
 abbrev pub WorldComes : List NamedFile → Option WorldValue → Option (List ℕ) → Option (List ℕ) → Type 0
 WorldComes files (Some w) old new = IsWorldOf files w × (new ≡ old)
@@ -44,9 +45,9 @@ WorldComes files None old new = IsNoWorld files old new
 -- ---- simulations
 
 -- the status of a script whose lines could all be read, or not
-abbrev pub status_for : Bool → Status
-status_for true = status.Done
-status_for false = status.Refused
+abbrev pub status_of_script : Bool → Status
+status_of_script true = status.Done
+status_of_script false = status.Refused
 
 -- a script runs from this world, whole or up to a line that cannot be read, as the status says
 pub record RunsWhole (script : NamedFile) (start : WorldValue) (simulated : Simulated) (whole : Bool) (out_old out_new err_old err_new : Option (List ℕ)) : Type 0 where
@@ -54,23 +55,23 @@ pub record RunsWhole (script : NamedFile) (start : WorldValue) (simulated : Simu
   pub left : simulated.left ≡ Some end
   pub comes : ScriptComes whole (text_in script) (begun_in start) end out_old out_new err_old err_new
 
-abbrev pub RunsTo : Status → NamedFile → WorldValue → Simulated → Option (List ℕ) → Option (List ℕ) → Option (List ℕ) → Option (List ℕ) → Type 0
-RunsTo status.Done script start simulated = RunsWhole script start simulated true
-RunsTo status.Refused script start simulated = RunsWhole script start simulated false
-RunsTo _ script start simulated = λ out_old out_new err_old err_new. ⊥
+abbrev pub ScriptRunsTo : Status → NamedFile → WorldValue → Simulated → Option (List ℕ) → Option (List ℕ) → Option (List ℕ) → Option (List ℕ) → Type 0
+ScriptRunsTo status.Done script start simulated = RunsWhole script start simulated true
+ScriptRunsTo status.Refused script start simulated = RunsWhole script start simulated false
+ScriptRunsTo _ script start simulated = λ out_old out_new err_old err_new. ⊥
 
 -- the whole script has run, in a world of the configurations
 pub record IsSimulated (script : NamedFile) (files : List NamedFile) (simulated : Simulated) (out_old out_new err_old err_new : Option (List ℕ)) : Type 0 where
-  pub read : AreRead (script ∷ files)
+  pub read : AreFilesRead (script ∷ files)
   pub start : WorldValue
   pub end : Simulation
   pub starts : IsWorldOf files start
   pub left : simulated.left ≡ Some end
-  pub run : IsRun (numbered_from 1 (text_in script)) (begun_in start) end out_old out_new err_old err_new
+  pub run : IsScriptRun (numbered_from 1 (text_in script)) (begun_in start) end out_old out_new err_old err_new
 
 -- the script has run up to a line that cannot be read, of which that is told
-pub record IsCutShort (script : NamedFile) (files : List NamedFile) (simulated : Simulated) (out_old out_new err_old err_new : Option (List ℕ)) : Type 0 where
-  pub read : AreRead (script ∷ files)
+pub record IsScriptCutShort (script : NamedFile) (files : List NamedFile) (simulated : Simulated) (out_old out_new err_old err_new : Option (List ℕ)) : Type 0 where
+  pub read : AreFilesRead (script ∷ files)
   pub start : WorldValue
   pub end : Simulation
   pub starts : IsWorldOf files start
@@ -79,18 +80,18 @@ pub record IsCutShort (script : NamedFile) (files : List NamedFile) (simulated :
 
 -- no line has run, since there is no world of the configurations, of which it is told why
 pub record IsNotBegun (script : NamedFile) (files : List NamedFile) (simulated : Simulated) (out_old out_new err_old err_new : Option (List ℕ)) : Type 0 where
-  pub read : AreRead (script ∷ files)
+  pub read : AreFilesRead (script ∷ files)
   pub no_world : IsNoWorld files err_old err_new
   pub none : simulated.left ≡ None
   pub same_out : out_new ≡ out_old
 
 -- what is refused: the configurations, or a line
-abbrev pub IsRefused : NamedFile → List NamedFile → Simulated → Option (List ℕ) → Option (List ℕ) → Option (List ℕ) → Option (List ℕ) → Type 0
-IsRefused script files simulated out_old out_new err_old err_new =
-    IsNotBegun script files simulated out_old out_new err_old err_new ⊎ IsCutShort script files simulated out_old out_new err_old err_new
+abbrev pub IsScriptRefused : NamedFile → List NamedFile → Simulated → Option (List ℕ) → Option (List ℕ) → Option (List ℕ) → Option (List ℕ) → Type 0
+IsScriptRefused script files simulated out_old out_new err_old err_new =
+    IsNotBegun script files simulated out_old out_new err_old err_new ⊎ IsScriptCutShort script files simulated out_old out_new err_old err_new
 
 -- what comes of a simulation, by its status
-abbrev pub Comes : Status → NamedFile → List NamedFile → Simulated → Option (List ℕ) → Option (List ℕ) → Option (List ℕ) → Option (List ℕ) → Type 0
-Comes status.Done = IsSimulated
-Comes status.Refused = IsRefused
-Comes _ = λ script files simulated out_old out_new err_old err_new. ⊤
+abbrev pub ComesOfScript : Status → NamedFile → List NamedFile → Simulated → Option (List ℕ) → Option (List ℕ) → Option (List ℕ) → Option (List ℕ) → Type 0
+ComesOfScript status.Done = IsSimulated
+ComesOfScript status.Refused = IsScriptRefused
+ComesOfScript _ = λ script files simulated out_old out_new err_old err_new. ⊤

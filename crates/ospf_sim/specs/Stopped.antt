@@ -10,11 +10,11 @@ use Rattle.ospf_files.specs.declared.status.Failure.{Failure}
 use Rattle.ospf_files.specs.declared.status.Status.{Status}
 use Rattle.ospf_files.specs.declared.status.Status.TheVariants as status
 use Rattle.ospf_files.specs.declared.streams.FailedStreams.{FailedStreams}
-use Rattle.ospf_sim.specs.Begun.{IsCut}
+use Rattle.ospf_sim.specs.Begun.{IsSimulationCut}
 use Rattle.ospf_commands.specs.declared.simulation.Simulation.{Simulation}
 
 -- the first file that could not be read is told, the script's before the configurations', and no line has run
-pub record IsUnreadTold (script : NamedFile) (files : List NamedFile) (left : Option Simulation) (out_old out_new err_old err_new : Option (List ℕ)) : Type 0 where
+pub record IsScriptUnreadTold (script : NamedFile) (files : List NamedFile) (left : Option Simulation) (out_old out_new err_old err_new : Option (List ℕ)) : Type 0 where
   pub file : NamedFile
   pub first : IsFirstUnread file (script ∷ files)
   pub told : Appends err_old err_new (unread_line file)
@@ -26,13 +26,13 @@ pub record IsFailureLast (script : NamedFile) (files : List NamedFile) (failed :
   pub cause : Failure
   pub failed_then : FailedStreams
   pub err_then : Option (List ℕ)
-  pub cut : IsCut script files failed_then out_old out_new err_old err_then cause
+  pub cut : IsSimulationCut script files failed_then out_old out_new err_old err_then cause
   pub last : IsTold failed_then failed err_then err_new (failure_line cause)
   pub status_is : end ≡ failure_status cause
 
 -- a file could not be read, or a failure cut the simulation
 pub data IsStopped (script : NamedFile) (files : List NamedFile) (left : Option Simulation) (failed : FailedStreams) (end : Status) (out_old out_new err_old err_new : Option (List ℕ)) : Type 0 where
-  is_unread : end ≡ status.Stream → IsUnreadTold script files left out_old out_new err_old err_new
+  is_unread : end ≡ status.Stream → IsScriptUnreadTold script files left out_old out_new err_old err_new
       → IsStopped script files left failed end out_old out_new err_old err_new
   is_failure : left ≡ None → IsFailureLast script files failed end out_old out_new err_old err_new
       → IsStopped script files left failed end out_old out_new err_old err_new

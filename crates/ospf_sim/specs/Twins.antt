@@ -3,6 +3,7 @@ use Rattle.std.specs.Prelude.{◌≡◌, ◌<◌, ◌++◌, ℕ, List, Option, c
 use Rattle.std.specs.Io.KnownBytes.{Appends}
 use Rattle.ospf_base.specs.Text.{number_text}
 use Rattle.ospf_base.specs.declared.ids.RouterId.{RouterId}
+use Rattle.ospf_files.specs.Listed.{same_router_line}
 use Rattle.ospf_config.specs.declared.config.Config.{Config}
 use Rattle.ospf_files.specs.declared.files.NamedFile.{NamedFile}
 use Rattle.ospf_script.specs.Words.{Text}
@@ -22,11 +23,7 @@ pub record AreFirstTwins (configs : List Config) (i j : ℕ) : Type 0 where
   pub twins : HasTwinBefore configs j i
   pub first : (k l : ℕ) → l < j → HasTwinBefore configs l k → ⊥
 
--- the line of the fault
-abbrev pub same_router_line : Text
-same_router_line = codes "W7 SameRouter\n"
-
--- and behind it the Router ID and the files
+-- the fault, and behind it the Router ID and the files
 abbrev pub same_router_lines : RouterId → NamedFile → NamedFile → Text
 same_router_lines router one other =
     same_router_line ++ (codes "  " ++ number_text router.0 ++ codes ": ") ++ string_bytes one.name ++ codes ", " ++ string_bytes other.name

@@ -7,13 +7,12 @@ ghost use Rattle.ospf_files.specs.declared.streams.FailedStreams.{FailedStreams}
 ghost use Rattle.ospf_files.specs.Listed.{IsFirstUnread};
 ghost use Rattle.ospf_files.specs.Streams.{IsOfInput};
 ghost use Rattle.ospf_sim.specs.Begun.{IsLineCut};
-ghost use Rattle.ospf_sim.specs.Consoles.{ConsoleComes, IsAnswered, IsConsoleCut, IsConsoleStopped, IsConsoled, IsNoConsole, IsPiece, IsAllAnswered, IsSessionCut, IsUnreadOf};
+ghost use Rattle.ospf_sim.specs.Consoles.{ConsoleComes, IsLineAnswered, IsConsoleCut, IsConsoleStopped, IsConsoled, IsNoConsole, IsPiece, IsAllAnswered, IsSessionCut, IsUnreadOf};
 
 use crate::script::{run_line, tell_unreadable};
 use crate::text::{Simulated, end_failed, end_unread, left_of, new_world};
 use ospf_commands::{Simulation, Watch};
-use ospf_files::{FailedStreams, Failure, NamedFile, Status, first_unread};
-use ospf_script::{Line, lines};
+use ospf_files::{FailedStreams, Failure, Line, NamedFile, Status, first_unread, lines};
 use std::alloc::Global;
 use std::io::{BufRead, Write};
 
@@ -60,7 +59,8 @@ pub fn console_text<R: BufRead + Drop, O: Write, E: Write, V: Watch>(
     // It stops at such a file or at a failure; there is no other end.
     ensures stopped { (result.status ≡ Status.Memory) ⊎ (result.status ≡ Status.Stream) →
         (failed : FailedStreams)
-        × IsConsoleStopped (R.remaining console.entry.input) console.entry.prompt.now files.now result.left
+        × IsConsoleStopped (R.remaining console.entry.input) console.entry.prompt.now files.now
+        result.left
         failed result.status (O.contents out.old) (O.contents out.new) (E.contents err.old)
         (E.contents err.new) }
     ensures not_words { result.status ≢ Status.Words }
@@ -185,10 +185,11 @@ fn answer_line<O: Write, E: Write, V: Watch>(
     streams: &mut FailedStreams,
 ) -> Result<(), Failure>
     ensures answered { OnOk result
-        (IsAnswered line.now.number line.now.text.now simulation.old simulation.new
+        (IsLineAnswered line.now.number line.now.text.now simulation.old simulation.new
         (O.contents out.old) (O.contents out.new) (E.contents err.old) (E.contents err.new)) }
     ensures cut { IfErr result (IsLineCut line.now.number line.now.text.now simulation.old
-        streams.new (O.contents out.old) (O.contents out.new) (E.contents err.old) (E.contents err.new)) }
+        streams.new (O.contents out.old) (O.contents out.new) (E.contents err.old)
+        (E.contents err.new)) }
 {
     if run_line(simulation, line, out, err, alloc, watch, streams)? {
         Ok(())

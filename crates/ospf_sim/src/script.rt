@@ -2,13 +2,13 @@
 
 ghost use Rattle.std.specs.Prelude.{◌≡◌, [], IfErr, IfOk, OnOk, map, string_bytes};
 ghost use Rattle.std.specs.Io.KnownBytes.{Appends};
-ghost use Rattle.ospf_script.specs.Lines.{entry_of};
-ghost use Rattle.ospf_sim.specs.Begun.{IsAnswerCut, IsCutAt, IsLineCut, IsScriptCut, IsTellingCut};
-ghost use Rattle.ospf_sim.specs.Scripts.{LineComes, ScriptComes, hint_line, not_a_command_line, refusal_line, told_of, unreadable_line};
+ghost use Rattle.ospf_files.specs.Lines.{numbered_line};
+ghost use Rattle.ospf_sim.specs.Begun.{IsEventAnswerCut, IsCutAtLine, IsLineCut, IsScriptCut, IsTellingCut};
+ghost use Rattle.ospf_sim.specs.Scripts.{LineComes, ScriptComes, hint_line, not_a_command_line, world_refusal_line, told_of, unreadable_line};
 
 use ospf_commands::{Simulation, Watch, run_command};
-use ospf_files::{FailedStreams, Failure};
-use ospf_script::{Command, Hint, Line, LineFault, lines};
+use ospf_files::{FailedStreams, Failure, Line, lines};
+use ospf_script::{Command, CommandFault, Hint};
 use ospf_views::RefusalShown;
 use ospf_world::WorldFault;
 use std::alloc::{AllocError, Global};
@@ -56,7 +56,8 @@ pub(crate) fn run_line<O: Write, E: Write, V: Watch>(
     ensures comes { IfOk result (λ read. LineComes read line.now simulation.old simulation.new
         (O.contents out.old) (O.contents out.new) (E.contents err.old) (E.contents err.new)) }
     ensures cut { IfErr result (IsLineCut line.now.number line.now.text.now simulation.old
-        streams.new (O.contents out.old) (O.contents out.new) (E.contents err.old) (E.contents err.new)) }
+        streams.new (O.contents out.old) (O.contents out.new) (E.contents err.old)
+        (E.contents err.new)) }
 {
     match Command::read(alloc, line.text) {
         Ok(None) => Ok(true),
@@ -66,8 +67,8 @@ pub(crate) fn run_line<O: Write, E: Write, V: Watch>(
             tell_answer(alloc, line.number, answer, out, err, streams)?;
             Ok(true)
         }
-        Err(LineFault::NotACommand) => Ok(false),
-        Err(LineFault::Memory) => Err(Failure::Memory),
+        Err(CommandFault::NotACommand) => Ok(false),
+        Err(CommandFault::Memory) => Err(Failure::Memory),
     }
 }
 
@@ -83,7 +84,7 @@ fn tell_answer<O: Write, E: Write>(
     ensures out { OnOk result (Appends (O.contents out.old) (O.contents out.new) []) }
     ensures err { OnOk result (Appends (E.contents err.old) (E.contents err.new)
         (told_of number answer)) }
-    ensures cut { IfErr result (IsAnswerCut number answer streams.new
+    ensures cut { IfErr result (IsEventAnswerCut number answer streams.new
         (O.contents out.old) (O.contents out.new) (E.contents err.old) (E.contents err.new)) }
 {
     match answer {
@@ -103,8 +104,8 @@ fn tell_refusal<O: Write, E: Write>(
 ) -> Result<(), Failure>
     ensures out { OnOk result (Appends (O.contents out.old) (O.contents out.new) []) }
     ensures err { OnOk result
-        (Appends (E.contents err.old) (E.contents err.new) (refusal_line number fault)) }
-    ensures cut { IfErr result (IsTellingCut (refusal_line number fault) streams.new
+        (Appends (E.contents err.old) (E.contents err.new) (world_refusal_line number fault)) }
+    ensures cut { IfErr result (IsTellingCut (world_refusal_line number fault) streams.new
         (O.contents out.old) (O.contents out.new) (E.contents err.old) (E.contents err.new)) }
 {
     let line = refusal_line(alloc, number, fault)?;
@@ -113,7 +114,7 @@ fn tell_refusal<O: Write, E: Write>(
 
 // The line of a refusal.
 fn refusal_line(alloc: Global, number: u64, fault: WorldFault) -> Result<String, AllocError>
-    ensures { IfOk result (λ line. string_bytes line ≡ refusal_line number fault) }
+    ensures { IfOk result (λ line. string_bytes line ≡ world_refusal_line number fault) }
 {
     let shown = RefusalShown {
         number,
@@ -171,7 +172,7 @@ fn unreadable_line(alloc: Global, number: u64, text: &[u8]) -> Result<String, Al
 fn not_a_command_line(alloc: Global, number: u64) -> Result<String, AllocError>
     ensures { IfOk result (λ line. string_bytes line ≡ not_a_command_line number) }
 {
-    format!(in alloc; "line {number}: {}\n", LineFault::NotACommand)
+    format!(in alloc; "line {number}: {}\n", CommandFault::NotACommand)
 }
 
 // What helps with it.

@@ -5,12 +5,12 @@ ghost use Rattle.std.specs.Io.KnownBytes.{Appends};
 ghost use Rattle.ospf_files.specs.Files.{text_in, unread_line};
 ghost use Rattle.ospf_files.specs.declared.files.NamedFile.{NamedFile};
 ghost use Rattle.ospf_files.specs.declared.streams.FailedStreams.{FailedStreams};
-ghost use Rattle.ospf_files.specs.Listed.{AreRead, IsFirstUnread};
+ghost use Rattle.ospf_files.specs.Listed.{AreFilesRead, IsFirstUnread};
 ghost use Rattle.ospf_files.specs.Status.{failure_line, failure_status};
 ghost use Rattle.ospf_files.specs.Streams.{IsBegun, IsErrorCut, IsTold};
-ghost use Rattle.ospf_sim.specs.Begun.{IsCut, IsOpeningCut, IsScriptCut, IsWorldCut};
-ghost use Rattle.ospf_sim.specs.Simulations.{Comes, IsRefused, IsSimulated, Opens, RunsTo, WorldComes, status_for};
-ghost use Rattle.ospf_sim.specs.Stopped.{IsStopped, IsUnreadTold};
+ghost use Rattle.ospf_sim.specs.Begun.{IsSimulationCut, IsOpeningCut, IsScriptCut, IsWorldCut};
+ghost use Rattle.ospf_sim.specs.Simulations.{ComesOfScript, IsScriptRefused, IsSimulated, OpensWorld, ScriptRunsTo, WorldComes, status_of_script};
+ghost use Rattle.ospf_sim.specs.Stopped.{IsStopped, IsScriptUnreadTold};
 ghost use Rattle.ospf_sim.specs.Twins.{AreFirstTwins, AreTwinsTold};
 
 use crate::configs::read_configs;
@@ -68,7 +68,7 @@ pub fn sim_text<O: Write, E: Write, V: Watch>(
         IsSimulated script.now files.now result (O.contents out.old) (O.contents out.new)
         (E.contents err.old) (E.contents err.new) }
     ensures refused { result.status ≡ Status.Refused →
-        IsRefused script.now files.now result (O.contents out.old) (O.contents out.new)
+        IsScriptRefused script.now files.now result (O.contents out.old) (O.contents out.new)
         (E.contents err.old) (E.contents err.new) }
     // Where a file could not be read, that or memory ends it, and nothing is printed.
     ensures unread { (file : NamedFile) → IsFirstUnread file (script.now ∷ files.now) →
@@ -100,20 +100,20 @@ fn simulate<O: Write, E: Write, V: Watch>(
     streams: &mut FailedStreams,
 ) -> Result<Simulated, Failure>
     // The whole script has run, or what is refused is told; no status says that memory ran out.
-    ensures comes { IfOk result (λ s. Comes s.status script.now files.now s
+    ensures comes { IfOk result (λ s. ComesOfScript s.status script.now files.now s
         (O.contents out.old) (O.contents out.new) (E.contents err.old) (E.contents err.new)) }
     ensures not_words { IfOk result (λ s. s.status ≢ Status.Words) }
     ensures not_memory { IfOk result (λ s. s.status ≢ Status.Memory) }
     // Where a file could not be read, the first such is told, and nothing is printed.
     ensures stream { IfOk result (λ s. s.status ≡ Status.Stream →
-        IsUnreadTold script.now files.now s.left (O.contents out.old) (O.contents out.new)
+        IsScriptUnreadTold script.now files.now s.left (O.contents out.old) (O.contents out.new)
         (E.contents err.old) (E.contents err.new)) }
     ensures unread { (file : NamedFile) → IsFirstUnread file (script.now ∷ files.now) →
         IfOk result (λ s. s.status ≡ Status.Stream) }
     ensures unwritten { (file : NamedFile) → IsFirstUnread file (script.now ∷ files.now) →
         O.contents out.new ≡ O.contents out.old }
     // A failure cuts it, and what is written is a beginning.
-    ensures cut { IfErr result (IsCut script.now files.now streams.new
+    ensures cut { IfErr result (IsSimulationCut script.now files.now streams.new
         (O.contents out.old) (O.contents out.new) (E.contents err.old) (E.contents err.new)) }
 {
     if let Some(file) = unread_of(script, files) {
@@ -132,7 +132,7 @@ fn simulate<O: Write, E: Write, V: Watch>(
 // The first file that could not be read, the script's before the configurations'.
 fn unread_of<'a>(script: &'a NamedFile, files: &'a [NamedFile]) -> Option<&'a NamedFile>
     ensures some { IfSome result (λ file. IsFirstUnread file.now (script.now ∷ files.now)) }
-    ensures none { IfNone result (AreRead (script.now ∷ files.now)) }
+    ensures none { IfNone result (AreFilesRead (script.now ∷ files.now)) }
 {
     if !script.is_read() {
         return Some(script);
@@ -190,8 +190,8 @@ fn open_world<E: Write>(
     streams: &mut FailedStreams,
 ) -> Result<Option<World>, Failure>
     requires { length files.now ≡ length configs.items }
-    ensures opens { IfOk result (λ world. Opens files.now configs.items world (E.contents err.old)
-        (E.contents err.new)) }
+    ensures opens { IfOk result (λ world. OpensWorld files.now configs.items world
+        (E.contents err.old) (E.contents err.new)) }
     ensures cut { IfErr result (IsOpeningCut files.now configs.items streams.new
         (E.contents err.old) (E.contents err.new)) }
 {
@@ -228,7 +228,7 @@ fn tell_twins<E: Write>(
 // What a simulation has left whose lines could all be read, or not.
 pub(crate) fn left_of(simulation: Simulation, whole: bool) -> Simulated
     ensures left { result.left ≡ Some simulation }
-    ensures status { result.status ≡ status_for whole }
+    ensures status { result.status ≡ status_of_script whole }
 {
     let status = if whole { Status::Done } else { Status::Refused };
     Simulated {

@@ -2,7 +2,8 @@
 
 ghost use Rattle.std.specs.Prelude.{◌≡◌, ◌++◌, ◌<◌, ℕ, codes, IfNone, IfOk, IfSome, length, string_bytes};
 ghost use Rattle.ospf_base.specs.Text.{number_text};
-ghost use Rattle.ospf_sim.specs.Twins.{AreFirstTwins, HasTwinBefore, SharesRouter, same_router_line, same_router_lines};
+ghost use Rattle.ospf_files.specs.Listed.{same_router_line};
+ghost use Rattle.ospf_sim.specs.Twins.{AreFirstTwins, HasTwinBefore, SharesRouter, same_router_lines};
 
 use ospf_base::RouterId;
 use ospf_config::Config;

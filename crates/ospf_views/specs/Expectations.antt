@@ -22,13 +22,13 @@ use Rattle.ospf_script.specs.declared.command.View.TheVariants as view
 
 -- ---- whether it is so
 
-abbrev pub is_full : NeighbourState → Bool
-is_full state.Full = true
-is_full _ = false
+abbrev pub is_state_full : NeighbourState → Bool
+is_state_full state.Full = true
+is_state_full _ = false
 
 -- a neighbour is this router, in Full (RFC 2328, section 10.1)
 abbrev pub is_full_with : RouterId → NeighbourValue → Bool
-is_full_with other n = n.router.0 == other.0 && is_full n.state
+is_full_with other n = n.router.0 == other.0 && is_state_full n.state
 
 -- on a link
 abbrev pub is_full_on : RouterId → LinkValue → Bool

@@ -4,3 +4,5 @@ pub mod Waits
 pub mod Details
 pub mod Drops
 pub mod Expectations
+pub mod Offered
+pub mod Datagrams

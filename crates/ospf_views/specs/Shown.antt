@@ -5,8 +5,7 @@ use Rattle.ospf_base.specs.Text.{number_text}
 use Rattle.ospf_base.specs.declared.ids.RouterId.{RouterId}
 use Rattle.ospf_lsa.specs.Lsa.{instance_of}
 use Rattle.ospf_neighbour.specs.Neighbour.{NeighbourValue}
-use Rattle.ospf_neighbour.specs.declared.machine.NeighbourState.{NeighbourState}
-use Rattle.ospf_neighbour.specs.declared.machine.NeighbourState.TheVariants as state
+use Rattle.ospf_neighbour.specs.Text.{state_text}
 use Rattle.ospf_router.specs.Routers.{RouterValue, greatest_in, listing_of, neighbours_on}
 use Rattle.ospf_script.specs.Texts.{floor_text}
 use Rattle.ospf_views.specs.Texts.{listed_text}
@@ -15,29 +14,19 @@ use Rattle.ospf_files.specs.Shown.{routes_text}
 use Rattle.ospf_script.specs.declared.command.View.{View}
 use Rattle.ospf_script.specs.declared.command.View.TheVariants as view
 
--- the name of a neighbour's state (RFC 2328, section 10.1)
-abbrev pub state_text : NeighbourState → Text
-state_text state.Down = codes "Down"
-state_text state.Init = codes "Init"
-state_text state.TwoWay = codes "2-Way"
-state_text state.ExStart = codes "ExStart"
-state_text state.Exchange = codes "Exchange"
-state_text state.Loading = codes "Loading"
-state_text state.Full = codes "Full"
-
 -- a neighbour: the number of the link, its Router ID, its state
 abbrev pub neighbour_line : ℕ → NeighbourValue → Text
 neighbour_line link n =
     decimal link ++ codes " " ++ number_text n.router.0 ++ codes " " ++ state_text n.state ++ codes "\n"
 
 -- the neighbours of a link, a line each
-abbrev pub link_lines : ℕ → List NeighbourValue → Text
-link_lines link neighbours = flat_map (neighbour_line link) neighbours
+abbrev pub link_neighbour_lines : ℕ → List NeighbourValue → Text
+link_neighbour_lines link neighbours = flat_map (neighbour_line link) neighbours
 
 -- those of the first so many links
 unfoldable pub links_lines : ℕ → Option AreaValue → Text
 links_lines zero area = []
-links_lines (suc link) area = links_lines link area ++ link_lines link (neighbours_on area link)
+links_lines (suc link) area = links_lines link area ++ link_neighbour_lines link (neighbours_on area link)
 
 -- those of all links, of which a configuration has at most 32, by link and Router ID
 abbrev pub neighbours_lines : RouterValue → Text
@@ -51,19 +40,19 @@ abbrev pub listing_lines : RouterValue → Text
 listing_lines x = flat_map listed_line (listing_of x.area)
 
 -- the routing table, a line a route
-abbrev pub table_lines : RouterValue → Text
-table_lines x = routes_text x.table
+abbrev pub table_view_lines : RouterValue → Text
+table_view_lines x = routes_text x.table
 
 -- the greatest of the floor of the start and all numbers of the router's own LSAs since
-abbrev pub floor_line : RouterValue → Text
-floor_line x = floor_text (greatest_in x.floor x.area) ++ codes "\n"
+abbrev pub floor_alone_line : RouterValue → Text
+floor_alone_line x = floor_text (greatest_in x.floor x.area) ++ codes "\n"
 
 -- what is shown of a router
 abbrev pub view_lines : View → RouterValue → Text
 view_lines view.Neighbours = neighbours_lines
 view_lines view.Listing = listing_lines
-view_lines view.Table = table_lines
-view_lines view.Floor = floor_line
+view_lines view.Table = table_view_lines
+view_lines view.Floor = floor_alone_line
 
 -- the line above it: what it is, of which router, and what stands in a line
 abbrev pub heading : View → RouterId → Text

@@ -3,8 +3,9 @@ use Rattle.std.specs.Prelude.{List, ◌++◌, codes, decimal, flat_map}
 use Rattle.ospf_base.specs.Text.{number_text}
 use Rattle.ospf_base.specs.declared.ids.Instance.{Instance}
 use Rattle.ospf_base.specs.declared.ids.RouterId.{RouterId}
+use Rattle.ospf_neighbour.specs.Text.{state_text}
 use Rattle.ospf_script.specs.Texts.{floor_text, hexadecimal}
-use Rattle.ospf_script.specs.Views.{kind_text}
+use Rattle.ospf_script.specs.Views.{lsa_kind_text}
 use Rattle.ospf_script.specs.Words.{Text}
 use Rattle.ospf_views.specs.declared.shown.NeighbourShown.{NeighbourShown}
 use Rattle.ospf_views.specs.declared.shown.RefusalShown.{RefusalShown}
@@ -14,12 +15,12 @@ abbrev pub refusal_text : RefusalShown → Text
 refusal_text refusal = codes "line " ++ decimal refusal.number ++ codes ": " ++ refusal.fault.now
 
 abbrev pub neighbour_text : NeighbourShown → Text
-neighbour_text neighbour = decimal neighbour.link ++ codes " " ++ number_text neighbour.router.0 ++ codes " " ++ neighbour.state.now
+neighbour_text neighbour = decimal neighbour.link ++ codes " " ++ number_text neighbour.router.0 ++ codes " " ++ state_text neighbour.state
 
 -- the kind, the Link State ID, the Advertising Router, the sequence number in eight hexadecimal digits and the checksum in four
 abbrev pub listed_text : Instance → Text
 listed_text i =
-    kind_text i.key.kind ++ codes " " ++ number_text i.key.id ++ codes " " ++ number_text i.key.router.0 ++ codes " "
+    lsa_kind_text i.key.kind ++ codes " " ++ number_text i.key.id ++ codes " " ++ number_text i.key.router.0 ++ codes " "
     ++ floor_text i.number ++ codes " " ++ hexadecimal 4 i.sum
 
 -- each Router ID before a space

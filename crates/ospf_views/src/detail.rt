@@ -6,7 +6,7 @@ ghost use Rattle.ospf_packet.specs.Said.{body_said};
 ghost use Rattle.ospf_views.specs.Details.{body_detail, detail_on, hello_detail, mtu_detail, packet_detail};
 
 use ospf_adjacency::is_broadcast;
-use ospf_area::Link;
+use ospf_area::AreaLink;
 use ospf_base::Addr;
 use ospf_iface::{Iface, OPTIONS};
 use ospf_packet::{Body, Description, Hello, Packet};
@@ -53,9 +53,8 @@ impl Display for Detail {
     }
 }
 
-/// Of what a datagram says that comes on a link of a router, the first field that does not fit: of a Hello those in which it
-/// has to agree with the interface (RFC 2328, section 10.5), of a Database Description its MTU (section 10.6). `None` where
-/// all fit, and where there is no such link or no packet. No memory is taken.
+/// Of a datagram that comes on a link of a router, the first field that does not fit: of a Hello those in which it has to agree
+/// (RFC 2328, section 10.5), of a Database Description its MTU (section 10.6); else `None`. No memory is taken.
 pub fn detail_of(router: &Router, link: usize, bytes: &[u8]) -> Option<Detail>
     ensures { result ≡ detail_on router.now.area link (packet_of bytes.now) }
 {
@@ -65,7 +64,7 @@ pub fn detail_of(router: &Router, link: usize, bytes: &[u8]) -> Option<Detail>
 }
 
 // On a link that is there.
-fn detail_at(link: &Link, bytes: &[u8]) -> Option<Detail>
+fn detail_at(link: &AreaLink, bytes: &[u8]) -> Option<Detail>
     ensures { result ≡ packet_detail link.now (packet_of bytes.now) }
 {
     match Packet::read(bytes) {
@@ -75,7 +74,7 @@ fn detail_at(link: &Link, bytes: &[u8]) -> Option<Detail>
 }
 
 // By what the packet says.
-fn body_detail(link: &Link, body: &Body<'_>) -> Option<Detail>
+fn body_detail(link: &AreaLink, body: &Body<'_>) -> Option<Detail>
     ensures { result ≡ body_detail link.now (body_said body.now) }
 {
     match body {

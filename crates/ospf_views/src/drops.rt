@@ -36,8 +36,7 @@ impl Display for DropShown {
     }
 }
 
-/// Why a router would drop a datagram that comes on a link now, as its step does, a line: the cause, and the field of it that
-/// does not fit. Nothing where it would take it.
+/// Why a router would drop a datagram that comes on a link now, a line: the cause, and the field that does not fit; or nothing.
 ///
 /// `AllocError` where memory runs out.
 pub fn drop_reason(

@@ -4,10 +4,10 @@ ghost use Rattle.std.specs.Prelude.{◌≡◌, ◌↔◌, Any, IfErr, IfOk, IsTr
 ghost use Rattle.std.specs.List.{list_any};
 ghost use Rattle.std.specs.Io.KnownBytes.{Appends};
 ghost use Rattle.ospf_files.specs.Streams.{IsBegun, IsOutputCut};
-ghost use Rattle.ospf_views.specs.Expectations.{AreAmong, HasHops, IsAmong, IsMet, IsRouteAt, has_full, is_full, is_full_on, is_full_with, is_route_to, unmet_line, unmet_lines, view_for, wanted_line};
+ghost use Rattle.ospf_views.specs.Expectations.{AreAmong, HasHops, IsAmong, IsMet, IsRouteAt, has_full, is_state_full, is_full_on, is_full_with, is_route_to, unmet_line, unmet_lines, view_for, wanted_line};
 
 use crate::views::write_view;
-use ospf_area::Link;
+use ospf_area::AreaLink;
 use ospf_base::{Prefix, RouterId};
 use ospf_files::{FailedStreams, Failure};
 use ospf_graph::{NextHop, Route};
@@ -72,14 +72,14 @@ fn has_full(router: &Router, other: RouterId) -> bool
 }
 
 // Whether it is one on some of these links.
-fn is_full_on_some(links: &[Link], other: RouterId) -> bool
+fn is_full_on_some(links: &[AreaLink], other: RouterId) -> bool
     ensures { result ≡ list_any (is_full_on other) links.now }
 {
     links.iter().any(|link| is_full_on(link, other))
 }
 
 // Whether it is among the neighbours of a link, in Full.
-fn is_full_on(link: &Link, other: RouterId) -> bool
+fn is_full_on(link: &AreaLink, other: RouterId) -> bool
     ensures { result ≡ is_full_on other link.now }
 {
     link.neighbours.all().iter().any(|n| is_full_with(n, other))
@@ -93,7 +93,7 @@ fn is_full_with(neighbour: &Neighbour, other: RouterId) -> bool
 }
 
 fn is_full(state: NeighbourState) -> bool
-    ensures { result ≡ is_full state }
+    ensures { result ≡ is_state_full state }
 {
     match state {
         NeighbourState::Full => true,

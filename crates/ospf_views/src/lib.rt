@@ -1,22 +1,25 @@
 //! Lines that show a router: its neighbours, what it lists, its routes and its floor, and why it stands as it does.
 //!
-//! `write_view` writes what `ospfd sim` and `ospfd run` print. `why` says what a link, or a neighbour on it, waits for
-//! (`specs/Waits`), `drop_reason` why a datagram is dropped (`specs/Drops`), with the field that does not fit (`specs/Details`), and
-//! `is_met` whether a router is as it is expected to be (`specs/Expectations`).
+//! `write_view` writes what `ospfd sim` and `ospfd run` print, `why` what a link or a neighbour waits for, `drop_reason` why a
+//! datagram is dropped; `is_met` says whether a router is as it is expected to be, `datagram_lines` what a round offers to it.
 #![tactic(auto)]
 
+mod datagrams;
 mod detail;
 mod drops;
 mod expectations;
 mod headed;
+mod offered;
 mod shown;
 mod views;
 mod waits;
 
+pub use crate::datagrams::datagram_lines;
 pub use crate::detail::{Detail, detail_of};
 pub use crate::drops::drop_reason;
 pub use crate::expectations::{is_met, unmet_line, write_unmet};
 pub use crate::headed::write_shown;
+pub use crate::offered::why_lines;
 pub use crate::shown::{ListedShown, NeighbourShown, RefusalShown, WalkShown};
 pub use crate::views::{add_view, heading, write_view};
 pub use crate::waits::{WhyLink, WhyRouter, why};

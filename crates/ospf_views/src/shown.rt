@@ -4,6 +4,7 @@ ghost use Rattle.std.specs.Fmt.{WritesOnOk};
 ghost use Rattle.ospf_views.specs.Texts.{routers_text};
 
 use ospf_base::{Instance, Kind, RouterId};
+use ospf_neighbour::NeighbourState;
 use ospf_script::FloorShown;
 use std::fmt::{self, Display, Formatter, Write};
 
@@ -26,16 +27,16 @@ impl Display for RefusalShown<'_> {
     }
 }
 
-/// A neighbour: the number of its link, its Router ID, and the name of its state.
+/// A neighbour: the number of its link, its Router ID, and its state.
 #[derive(Clone, Copy, Debug, PartialEq, Eq)]
-pub struct NeighbourShown<'a> {
+pub struct NeighbourShown {
     pub link: usize,
     pub router: RouterId,
-    pub state: &'a str,
+    pub state: NeighbourState,
 }
 
 /// As `0 2.2.2.2 Full`.
-impl Display for NeighbourShown<'_> {
+impl Display for NeighbourShown {
     ghost use Rattle.std.specs.Prelude.{Some};
     ghost use Rattle.ospf_views.specs.Texts.{neighbour_text};
 

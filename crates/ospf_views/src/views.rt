@@ -3,13 +3,13 @@
 ghost use Rattle.std.specs.Prelude.{◌≡◌, ◌++◌, IfErr, IfOk, OnErr, OnOk, flat_map, string_bytes};
 ghost use Rattle.std.specs.Io.KnownBytes.{Appends};
 ghost use Rattle.ospf_files.specs.Streams.{IsBegun, IsOutputCut};
-ghost use Rattle.ospf_views.specs.Shown.{floor_line, heading, link_lines, listed_line, listing_lines, neighbour_line, neighbours_lines, state_text, view_lines};
+ghost use Rattle.ospf_views.specs.Shown.{floor_alone_line, heading, link_neighbour_lines, listed_line, listing_lines, neighbour_line, neighbours_lines, view_lines};
 
 use crate::shown::{ListedShown, NeighbourShown};
 use ospf_base::RouterId;
 use ospf_files::{FailedStreams, Failure, print_routes};
 use ospf_lsa::Lsa;
-use ospf_neighbour::{Neighbour, NeighbourState};
+use ospf_neighbour::Neighbour;
 use ospf_router::Router;
 use ospf_script::{FloorShown, View};
 use std::alloc::{AllocError, Global};
@@ -104,9 +104,11 @@ fn write_link<O: Write>(
     streams: &mut FailedStreams,
 ) -> Result<(), Failure>
     ensures written { OnOk result
-        (Appends (O.contents out.old) (O.contents out.new) (link_lines link neighbours.now)) }
+        (Appends (O.contents out.old) (O.contents out.new) (link_neighbour_lines link
+        neighbours.now)) }
     ensures begun { OnErr result
-        (IsBegun (O.contents out.old) (O.contents out.new) (link_lines link neighbours.now)) }
+        (IsBegun (O.contents out.old) (O.contents out.new) (link_neighbour_lines link
+        neighbours.now)) }
     ensures cut { IfErr result (IsOutputCut streams.new) }
 {
     for neighbour in neighbours {
@@ -140,24 +142,9 @@ fn neighbour_line(alloc: Global, link: usize, neighbour: &Neighbour) -> Result<S
     let shown = NeighbourShown {
         link,
         router: neighbour.router(),
-        state: state_text(neighbour.state()),
+        state: neighbour.state(),
     };
     format!(in alloc; "{shown}\n")
-}
-
-// The name of a neighbour's state (RFC 2328, section 10.1).
-fn state_text(state: NeighbourState) -> &'static str
-    ensures { result.now ≡ state_text state }
-{
-    match state {
-        NeighbourState::Down => "Down",
-        NeighbourState::Init => "Init",
-        NeighbourState::TwoWay => "2-Way",
-        NeighbourState::ExStart => "ExStart",
-        NeighbourState::Exchange => "Exchange",
-        NeighbourState::Loading => "Loading",
-        NeighbourState::Full => "Full",
-    }
 }
 
 // Writes the LSAs that a router lists.
@@ -229,9 +216,9 @@ fn write_floor<O: Write>(
     streams: &mut FailedStreams,
 ) -> Result<(), Failure>
     ensures written { OnOk result
-        (Appends (O.contents out.old) (O.contents out.new) (floor_line router.now)) }
+        (Appends (O.contents out.old) (O.contents out.new) (floor_alone_line router.now)) }
     ensures begun { OnErr result
-        (IsBegun (O.contents out.old) (O.contents out.new) (floor_line router.now)) }
+        (IsBegun (O.contents out.old) (O.contents out.new) (floor_alone_line router.now)) }
     ensures cut { IfErr result (IsOutputCut streams.new) }
 {
     let line = floor_line(alloc, router)?;
@@ -240,7 +227,7 @@ fn write_floor<O: Write>(
 
 // The line of the floor of a router's numbers.
 fn floor_line(alloc: Global, router: &Router) -> Result<String, AllocError>
-    ensures { IfOk result (λ line. string_bytes line ≡ floor_line router.now) }
+    ensures { IfOk result (λ line. string_bytes line ≡ floor_alone_line router.now) }
 {
     let shown = FloorShown(router.floor());
     format!(in alloc; "{shown}\n")

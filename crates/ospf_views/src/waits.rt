@@ -5,7 +5,7 @@ ghost use Rattle.std.specs.Prelude.{◌≡◌, IfOk, flat_map, option_map, strin
 ghost use Rattle.ospf_views.specs.Waits.{asked_text, acknowledgement_waits, acknowledgements_line, alone_waits, exchange_waits, full_waits, interface_line, neighbour_why, neighbours_why, request_line, request_waits, requested_text, requests_line, retransmission_line, stands_line, state_waits, two_way_waits, type_text, why_of, why_text};
 
 use crate::shown::ListedShown;
-use ospf_area::Link;
+use ospf_area::AreaLink;
 use ospf_base::RouterId;
 use ospf_iface::{Iface, IfaceState};
 use ospf_journal::iface_text;
@@ -23,8 +23,7 @@ const ROUTER_TYPE: u8 = 1;
 
 const NETWORK_TYPE: u8 = 2;
 
-/// What a link of a router waits for, or a Router ID on it, a line each; `None` where the router has no such link, or has
-/// stopped.
+/// What a link of a router waits for, or a Router ID on it, a line each; `None` where there is no such link, or no more.
 ///
 /// `AllocError` where memory runs out.
 pub fn why(
@@ -48,7 +47,7 @@ pub fn why(
 // Of a link that is there.
 fn why_on(
     number: usize,
-    link: &Link,
+    link: &AreaLink,
     neighbour: Option<RouterId>,
     alloc: Global,
 ) -> Result<String, AllocError>
@@ -74,7 +73,7 @@ fn why_on(
 #[derive(Clone, Copy)]
 pub struct WhyLink<'a> {
     pub number: usize,
-    pub link: &'a Link,
+    pub link: &'a AreaLink,
 }
 
 /// A line of its interface, and then of each neighbour what it waits for.
@@ -95,7 +94,7 @@ impl Display for WhyLink<'_> {
 #[derive(Clone, Copy)]
 pub struct WhyRouter<'a> {
     pub number: usize,
-    pub link: &'a Link,
+    pub link: &'a AreaLink,
     pub router: RouterId,
 }
 

@@ -1,6 +1,6 @@
 use Rattle.std.proofs.Common.{[], Ok, refl}
 use Rattle.ospf_files.proofs.Written.{nothing_written, whatever}
-use Rattle.ospf_commands.specs.Asked.{IsShown, is_not_shown, is_shown}
+use Rattle.ospf_commands.specs.Asked.{IsViewShown, is_not_shown, is_shown}
 use Rattle.ospf_commands.specs.Printed.{IsPrintedBegun}
 use Rattle.ospf_views.specs.Shown.{shown_lines}
 use Rattle.ospf_commands.proofs.Lent.{lent, not_lent}
@@ -8,7 +8,7 @@ use Rattle.ospf_commands.proofs.asked.show_router.Goals as goal
 
 pub returns-in_err-write_shown-in-Ok-clause-begun : goal.returns-in_err-write_shown-in-Ok-clause-begun
 returns-in_err-write_shown-in-Ok-clause-begun g c =
-    let begun : IsPrintedBegun (IsShown c.args.view c.args.router c.args.simulation.now) (g.O.Write.contents c.args.out.now) (g.O.Write.contents c.write_shown.new.out) = record {
+    let begun : IsPrintedBegun (IsViewShown c.args.view c.args.router c.args.simulation.now) (g.O.Write.contents c.args.out.now) (g.O.Write.contents c.write_shown.new.out) = record {
       answer = Ok tt;
       text = shown_lines c.args.simulation.now.is_labelled c.args.view c.args.router c.in-Ok.lent.now;
       is_so = is_shown c.in-Ok.lent.now (lent c.args.simulation.now.world c.args.router c.in-Ok.lent c.in-Ok.ensures) refl refl;

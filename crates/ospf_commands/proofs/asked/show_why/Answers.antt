@@ -2,8 +2,8 @@ use Rattle.std.proofs.Common.{◌≡◌, [], Ok, Some, refl}
 use Rattle.ospf_files.proofs.Cut.{for_memory}
 use Rattle.ospf_files.proofs.Written.{nothing_written, whatever}
 use Rattle.ospf_files.specs.Streams.{IsOutputCut, no_room}
-use Rattle.ospf_commands.specs.Asked.{IsExplained, is_explained, is_not_explained, is_on_no_link}
-use Rattle.ospf_commands.specs.Drops.{why_lines}
+use Rattle.ospf_commands.specs.Asked.{IsWhyAnswered, is_explained, is_not_explained, is_on_no_link}
+use Rattle.ospf_views.specs.Offered.{why_lines}
 use Rattle.ospf_commands.specs.Printed.{IsPrintedBegun}
 use Rattle.ospf_commands.proofs.Lent.{lent, not_lent, why_not_begun, why_said, why_unsaid}
 use Rattle.ospf_commands.proofs.asked.show_why.Goals as goal
@@ -27,7 +27,7 @@ pub returns-in_err-write-in-Some-clause-begun : goal.returns-in_err-write-in-Som
 returns-in_err-write-in-Some-clause-begun g c =
     let said : why_lines c.args.simulation.now.world c.args.place.0 c.args.place.1 c.args.neighbour c.in-Ok.lent.now.area ≡ Some c.deref.result.now =
     rw c.deref.ensures (why_said c.in_ok-lines.field-0 c.in-Some.lines _ c.in-Some.is c.in_ok-lines.ensures) in
-    let begun : IsPrintedBegun (IsExplained c.args.place.0 c.args.place.1 c.args.neighbour c.args.simulation.now) (g.O.Write.contents c.args.out.now) (g.O.Write.contents c.write.new.out) = record {
+    let begun : IsPrintedBegun (IsWhyAnswered c.args.place.0 c.args.place.1 c.args.neighbour c.args.simulation.now) (g.O.Write.contents c.args.out.now) (g.O.Write.contents c.write.new.out) = record {
       answer = Ok tt;
       text = c.deref.result.now;
       is_so = is_explained c.in-Ok.lent.now (lent c.args.simulation.now.world c.args.place.0 c.in-Ok.lent c.in-Ok.ensures) said refl;

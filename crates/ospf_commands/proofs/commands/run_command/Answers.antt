@@ -1,5 +1,5 @@
 use Rattle.ospf_script.specs.declared.command.Command.TheVariants as command
-use Rattle.ospf_commands.specs.Asked.{IsExplained, IsShown}
+use Rattle.ospf_commands.specs.Asked.{AreDatagramsShown, IsViewShown, IsWhyAnswered}
 use Rattle.ospf_commands.proofs.Done.{asked_begun, asked_done, begun_as, done_as}
 use Rattle.ospf_commands.proofs.commands.run_command.Goals as goal
 
@@ -12,12 +12,12 @@ returns-in-Settle-clause-begun g c = begun_as _ (command.Settle c.in-Settle.most
 pub returns-in-Show-clause-done : goal.returns-in-Show-clause-done
 returns-in-Show-clause-done g c =
     done_as _ (command.Show c.in-Show.view c.in-Show.router) _ _ _ _ _ c.in-Show.is
-    (asked_done (IsShown c.in-Show.view c.in-Show.router) _ _ _ _ c.show_router.ensures.shown)
+    (asked_done (IsViewShown c.in-Show.view c.in-Show.router) _ _ _ _ c.show_router.ensures.shown)
 
 pub returns-in-Show-clause-begun : goal.returns-in-Show-clause-begun
 returns-in-Show-clause-begun g c =
     begun_as _ (command.Show c.in-Show.view c.in-Show.router) _ _ _ _ _ c.in-Show.is
-    (asked_begun (IsShown c.in-Show.view c.in-Show.router) _ _ _ _ c.show_router.ensures.begun)
+    (asked_begun (IsViewShown c.in-Show.view c.in-Show.router) _ _ _ _ c.show_router.ensures.begun)
 
 pub returns-in-Walk-clause-done : goal.returns-in-Walk-clause-done
 returns-in-Walk-clause-done g c =
@@ -34,9 +34,19 @@ returns-in-Walk-clause-begun g c =
 pub returns-in-Why-clause-done : goal.returns-in-Why-clause-done
 returns-in-Why-clause-done g c =
     done_as _ (command.Why c.in-Why.router c.in-Why.link c.in-Why.neighbour) _ _ _ _ _ c.in-Why.is
-    (asked_done (IsExplained c.in-Why.router c.in-Why.link c.in-Why.neighbour) _ _ _ _ c.show_why.ensures.explained)
+    (asked_done (IsWhyAnswered c.in-Why.router c.in-Why.link c.in-Why.neighbour) _ _ _ _ c.show_why.ensures.explained)
 
 pub returns-in-Why-clause-begun : goal.returns-in-Why-clause-begun
 returns-in-Why-clause-begun g c =
     begun_as _ (command.Why c.in-Why.router c.in-Why.link c.in-Why.neighbour) _ _ _ _ _ c.in-Why.is
-    (asked_begun (IsExplained c.in-Why.router c.in-Why.link c.in-Why.neighbour) _ _ _ _ c.show_why.ensures.begun)
+    (asked_begun (IsWhyAnswered c.in-Why.router c.in-Why.link c.in-Why.neighbour) _ _ _ _ c.show_why.ensures.begun)
+
+pub returns-in-Datagrams-clause-done : goal.returns-in-Datagrams-clause-done
+returns-in-Datagrams-clause-done g c =
+    done_as _ (command.Datagrams c.in-Datagrams.router c.in-Datagrams.most) _ _ _ _ _ c.in-Datagrams.is
+    (asked_done (AreDatagramsShown c.in-Datagrams.router c.in-Datagrams.most) _ _ _ _ c.show_datagrams.ensures.shown)
+
+pub returns-in-Datagrams-clause-begun : goal.returns-in-Datagrams-clause-begun
+returns-in-Datagrams-clause-begun g c =
+    begun_as _ (command.Datagrams c.in-Datagrams.router c.in-Datagrams.most) _ _ _ _ _ c.in-Datagrams.is
+    (asked_begun (AreDatagramsShown c.in-Datagrams.router c.in-Datagrams.most) _ _ _ _ c.show_datagrams.ensures.begun)

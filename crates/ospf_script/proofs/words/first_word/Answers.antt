@@ -1,6 +1,6 @@
 use Rattle.std.proofs.Common.{◌≡◌, ◌∙◌, sym, ap, arith, drop}
 use Rattle.std.proofs.lemmas.List.Sums.{prefix_len-le-length}
-use Rattle.ospf_script.specs.Words.{is_space, words}
+use Rattle.ospf_script.specs.Words.{is_space, line_words}
 use Rattle.ospf_script.proofs.Parts.{position-le, blank_behind, words-first, words-after_spaces, words-blank}
 use Rattle.ospf_script.proofs.words.first_word.Goals as goal
 
@@ -17,7 +17,7 @@ split_at-requires-2 c = omega (arith, c.place_of-length.ensures, position-le c.s
 pub returns-clause-word : goal.returns-clause-word
 returns-clause-word c =
     let from = c.split_at.result.1.now in
-    let same : words from ≡ words c.args.text.now = ap words (c.split_at.ensures.back ∙ ap (λ n. drop n c.args.text.now) c.leading_spaces.ensures) ∙ words-after_spaces c.args.text.now in
+    let same : line_words from ≡ line_words c.args.text.now = ap line_words (c.split_at.ensures.back ∙ ap (λ n. drop n c.args.text.now) c.leading_spaces.ensures) ∙ words-after_spaces c.args.text.now in
     rw (c.split_at-2.ensures.front, c.split_at-2.ensures.back, c.place_of-length.ensures)
     (sym same ∙ words-first from (omega (arith, c.place_of-length.ensures, c.if-length-eq0.false)))
 

@@ -1,7 +1,7 @@
 use Rattle.std.proofs.Common.{◌≡◌, ◌∙◌, ap, sym, refl, inl, inr, arith, map, true, false, [], ◌∷◌}
 use Rattle.std.specs.Io.BufRead.{ends_with_byte}
 use Rattle.ospf_files.proofs.Cut.{for_failure, for_memory}
-use Rattle.ospf_script.specs.Lines.{entry_of, numbered_from}
+use Rattle.ospf_files.specs.Lines.{numbered_line, numbered_from}
 use Rattle.ospf_sim.specs.Consoles.{IsSessionCut, in_answer, in_first_prompt}
 use Rattle.ospf_sim.proofs.Pieces.{numbered_one, some_lines}
 use Rattle.ospf_sim.proofs.Sessions.{begins, end_there, ends_before, ends_here, goes_on, output_cut, piece_there, prompt_cut, reading_cut, turn_cut}
@@ -36,13 +36,13 @@ returns-in_err-lines-clause-cut g c =
 pub index-requires : goal.index-requires
 index-requires g c =
     let read = piece_there c.in_ok-read_piece.field-0 c.read_piece.new.piece.items (g.R.Read.remaining c.loop-number.input) (g.R.Read.remaining c.read_piece.new.input) c.if-not-branch.false c.in_ok-read_piece.ensures.read in
-    let entries : map entry_of c.in_ok-lines.lines.items ≡ numbered_from 1 c.read_piece.new.piece.items = c.in_ok-lines.ensures ∙ ap (numbered_from 1) c.deref.ensures.value in
+    let entries : map numbered_line c.in_ok-lines.lines.items ≡ numbered_from 1 c.read_piece.new.piece.items = c.in_ok-lines.ensures ∙ ap (numbered_from 1) c.deref.ensures.value in
     omega (arith, c.in_ok-lines.lines.ok.0, some_lines c.read_piece.new.piece.items c.in_ok-lines.lines.items read.some read.stops entries)
 
 pub returns-in_err-answer_line-clause-cut : goal.returns-in_err-answer_line-clause-cut
 returns-in_err-answer_line-clause-cut g c =
     let read = piece_there c.in_ok-read_piece.field-0 c.read_piece.new.piece.items (g.R.Read.remaining c.loop-number.input) (g.R.Read.remaining c.read_piece.new.input) c.if-not-branch.false c.in_ok-read_piece.ensures.read in
-    let entries : map entry_of c.in_ok-lines.lines.items ≡ numbered_from 1 c.read_piece.new.piece.items = c.in_ok-lines.ensures ∙ ap (numbered_from 1) c.deref.ensures.value in
+    let entries : map numbered_line c.in_ok-lines.lines.items ≡ numbered_from 1 c.read_piece.new.piece.items = c.in_ok-lines.ensures ∙ ap (numbered_from 1) c.deref.ensures.value in
     let one : numbered_from c.loop-number.number c.read_piece.new.piece.items ≡ (c.loop-number.number, c.index.result.now.text.now) ∷ [] =
     numbered_one c.loop-number.number c.read_piece.new.piece.items c.in_ok-lines.lines.items c.index.result.now read.some read.stops entries c.index.ensures in
     for_failure c.from_residual-in_err-answer_line.result c.in_err-answer_line.field-0.0
@@ -53,7 +53,7 @@ returns-in_err-answer_line-clause-cut g c =
 pub returns-in_err-print-2-clause-cut : goal.returns-in_err-print-2-clause-cut
 returns-in_err-print-2-clause-cut g c =
     let read = piece_there c.in_ok-read_piece.field-0 c.read_piece.new.piece.items (g.R.Read.remaining c.loop-number.input) (g.R.Read.remaining c.read_piece.new.input) c.if-not-branch.false c.in_ok-read_piece.ensures.read in
-    let entries : map entry_of c.in_ok-lines.lines.items ≡ numbered_from 1 c.read_piece.new.piece.items = c.in_ok-lines.ensures ∙ ap (numbered_from 1) c.deref.ensures.value in
+    let entries : map numbered_line c.in_ok-lines.lines.items ≡ numbered_from 1 c.read_piece.new.piece.items = c.in_ok-lines.ensures ∙ ap (numbered_from 1) c.deref.ensures.value in
     let one : numbered_from c.loop-number.number c.read_piece.new.piece.items ≡ (c.loop-number.number, c.index.result.now.text.now) ∷ [] =
     numbered_one c.loop-number.number c.read_piece.new.piece.items c.in_ok-lines.lines.items c.index.result.now read.some read.stops entries c.index.ensures in
     for_failure c.from_residual-in_err-print-2.result c.in_err-print-2.field-0.0
@@ -66,7 +66,7 @@ returns-in_err-print-2-clause-cut g c =
 pub returns-then-not-is_ended-clause-answered : goal.returns-then-not-is_ended-clause-answered
 returns-then-not-is_ended-clause-answered g c =
     let read = piece_there c.in_ok-read_piece.field-0 c.read_piece.new.piece.items (g.R.Read.remaining c.loop-number.input) (g.R.Read.remaining c.read_piece.new.input) c.if-not-branch.false c.in_ok-read_piece.ensures.read in
-    let entries : map entry_of c.in_ok-lines.lines.items ≡ numbered_from 1 c.read_piece.new.piece.items = c.in_ok-lines.ensures ∙ ap (numbered_from 1) c.deref.ensures.value in
+    let entries : map numbered_line c.in_ok-lines.lines.items ≡ numbered_from 1 c.read_piece.new.piece.items = c.in_ok-lines.ensures ∙ ap (numbered_from 1) c.deref.ensures.value in
     let one : numbered_from c.loop-number.number c.read_piece.new.piece.items ≡ (c.loop-number.number, c.index.result.now.text.now) ∷ [] =
     numbered_one c.loop-number.number c.read_piece.new.piece.items c.in_ok-lines.lines.items c.index.result.now read.some read.stops entries c.index.ensures in
     let unended : ends_with_byte 10 c.read_piece.new.piece.items ≡ false =
@@ -76,7 +76,7 @@ returns-then-not-is_ended-clause-answered g c =
 pub loop-number-preserved : goal.loop-number-preserved
 loop-number-preserved g c =
     let read = piece_there c.in_ok-read_piece.field-0 c.read_piece.new.piece.items (g.R.Read.remaining c.loop-number.input) (g.R.Read.remaining c.read_piece.new.input) c.if-not-branch.false c.in_ok-read_piece.ensures.read in
-    let entries : map entry_of c.in_ok-lines.lines.items ≡ numbered_from 1 c.read_piece.new.piece.items = c.in_ok-lines.ensures ∙ ap (numbered_from 1) c.deref.ensures.value in
+    let entries : map numbered_line c.in_ok-lines.lines.items ≡ numbered_from 1 c.read_piece.new.piece.items = c.in_ok-lines.ensures ∙ ap (numbered_from 1) c.deref.ensures.value in
     let one : numbered_from c.loop-number.number c.read_piece.new.piece.items ≡ (c.loop-number.number, c.index.result.now.text.now) ∷ [] =
     numbered_one c.loop-number.number c.read_piece.new.piece.items c.in_ok-lines.lines.items c.index.result.now read.some read.stops entries c.index.ensures in
     let ended : ends_with_byte 10 c.read_piece.new.piece.items ≡ true =

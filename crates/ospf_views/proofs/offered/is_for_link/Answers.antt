@@ -1,9 +1,9 @@
 use Rattle.std.proofs.Common.{◌∙◌, ap, sym}
 use Rattle.std.specs.List.{list_any}
 use Rattle.std.specs.Prelude.{◌&&◌}
-use Rattle.ospf_commands.specs.Drops.{is_delivery_to}
+use Rattle.ospf_views.specs.Offered.{is_delivery_to}
 use Rattle.ospf_world.specs.Rounds.{offers_of}
-use Rattle.ospf_commands.proofs.drops.is_for_link.Goals as goal
+use Rattle.ospf_views.proofs.offered.is_for_link.Goals as goal
 
 pub returns : goal.returns
 returns c =

@@ -1,8 +1,8 @@
 use Rattle.std.proofs.Common.{◌≡◌, ◌∙◌, ap, sym, subst, string_bytes}
 use Rattle.std.specs.Prelude.{IfOk}
-use Rattle.ospf_commands.specs.Drops.{drop_in, is_for_link}
-use Rattle.ospf_commands.proofs.LastDrops.{is_before, is_last}
-use Rattle.ospf_commands.proofs.drops.last_drop.Goals as goal
+use Rattle.ospf_views.specs.Offered.{drop_in, is_for_link}
+use Rattle.ospf_views.proofs.LastDrops.{is_before, is_last}
+use Rattle.ospf_views.proofs.offered.last_drop.Goals as goal
 
 pub returns-then-branch : goal.returns-then-branch
 returns-then-branch c =

@@ -1,8 +1,8 @@
 use Rattle.std.proofs.Common.{◌≡◌, length}
 use Rattle.std.specs.Prelude.{find, reverse}
 use Rattle.std.specs.List.{enumerate_from}
-use Rattle.ospf_commands.specs.Drops.{is_for_link, last_to}
-use Rattle.ospf_commands.proofs.drops.last_drop.Given as goal
+use Rattle.ospf_views.specs.Offered.{is_for_link, last_to}
+use Rattle.ospf_views.proofs.offered.last_drop.Given as goal
 
 -- the last one is among those that are left
 abbrev pub invariant-loop-datagram : goal.invariant-loop-datagram

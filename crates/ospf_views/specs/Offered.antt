@@ -10,7 +10,7 @@ use Rattle.ospf_script.specs.Words.{Text}
 use Rattle.ospf_views.specs.Drops.{drop_reason}
 use Rattle.ospf_views.specs.Waits.{why_of}
 use Rattle.ospf_world.specs.Rounds.{offers_of}
-use Rattle.ospf_commands.specs.Worlds.{WorldValue}
+use Rattle.ospf_world.specs.Worlds.{WorldValue}
 
 -- the datagram is of this router, where one is asked for
 abbrev pub is_sent_by : Option RouterId → Datagram → Bool

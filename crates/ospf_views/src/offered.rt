@@ -2,17 +2,20 @@
 
 ghost use Rattle.std.specs.Prelude.{◌≡◌, IfOk, option_map, string_bytes};
 ghost use Rattle.std.specs.List.{list_any};
-ghost use Rattle.ospf_commands.specs.Drops.{is_for_link, is_sent_by, is_delivery_to, last_drop, why_lines};
+ghost use Rattle.ospf_views.specs.Offered.{is_for_link, is_sent_by, is_delivery_to, last_drop, why_lines};
 
+use crate::drops::drop_reason;
+use crate::waits::why;
 use ospf_base::RouterId;
 use ospf_headline::Datagram;
 use ospf_router::Router;
-use ospf_views::{drop_reason, why};
 use ospf_world::{World, WorldEvent};
 use std::alloc::{AllocError, Global};
 
-// What a link waits for, or a router on it, and why it would drop what was sent to it last; `None` where there is no such link.
-pub(crate) fn why_lines(
+/// What a link waits for, or a router on it, and why it would drop what was sent to it last; `None` where there is no link.
+///
+/// `AllocError` where memory runs out.
+pub fn why_lines(
     world: &World,
     router: &Router,
     place: (RouterId, usize),
@@ -32,8 +35,7 @@ pub(crate) fn why_lines(
     }
 }
 
-// Why the router would drop the last datagram that a round offers to a link, of one router where it is given; nothing where it
-// would take it, and where there is none.
+// Why the router would drop the last datagram that a round offers to a link, of one router where it is given; else nothing.
 fn last_drop(
     world: &World,
     router: &Router,
