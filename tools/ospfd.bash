@@ -15,9 +15,9 @@ _ospfd() {
     esac
     case $command in
     table) options="--without --json --help" ;;
-    failures) options="--each --strict --help" ;;
+    failures) options="--each --strict --json --help" ;;
     lsas) options="--dot --json --help" ;;
-    check) options="--explain --area --json --help" files=yes ;;
+    check) options="--explain --all --area --json --help" files=yes ;;
     sim) options="--dot --pcap --log --json --help" files=yes ;;
     run) options="--tick --lookup --floor --neighbours --listing --drops --every --until-eof --pcap --log --json --help" files=yes ;;
     help) options=$commands ;;

@@ -2,7 +2,7 @@
 
 use crate::journal::Journal;
 use ospf_base::RouterId;
-use ospf_journal::{Change, DroppedAt, Seen, dropped_of};
+use ospf_journal::{DroppedAt, RouterChange, Seen, dropped_of};
 use ospf_world::{EventWatch, World, WorldEvent, WorldFault};
 use std::alloc::{AllocError, Global};
 use std::collections::BTreeMap;
@@ -55,7 +55,7 @@ impl<F: Write + Drop> Events<F> {
         world: &World,
         event: &WorldEvent,
         answer: &Result<(), WorldFault>,
-    ) -> Result<Vec<Change>, AllocError> {
+    ) -> Result<Vec<RouterChange>, AllocError> {
         let (alloc, dropped) = (self.alloc, self.dropped.take());
         let followed = self.followed(router_of(event))?;
         let dropped = match answer {

@@ -1,7 +1,7 @@
 //! Journals in files.
 
 use ospf_base::RouterId;
-use ospf_journal::{Change, Line, Object};
+use ospf_journal::{JournalLine, Object, RouterChange};
 use std::alloc::{AllocError, Global};
 use std::io::Write;
 
@@ -34,7 +34,7 @@ impl<F: Write + Drop> Journal<F> {
         alloc: Global,
         tick: u64,
         router: RouterId,
-        changes: Result<Vec<Change>, AllocError>,
+        changes: Result<Vec<RouterChange>, AllocError>,
     ) {
         let Ok(changes) = changes else {
             self.is_written = false;
@@ -49,7 +49,7 @@ impl<F: Write + Drop> Journal<F> {
     }
 
     // Writes one line.
-    fn write_line(&mut self, alloc: Global, tick: u64, router: RouterId, change: &Change) {
+    fn write_line(&mut self, alloc: Global, tick: u64, router: RouterId, change: &RouterChange) {
         let line = if self.is_json {
             object_text(alloc, tick, router, change)
         } else {
@@ -67,9 +67,9 @@ fn line_text(
     alloc: Global,
     tick: u64,
     router: RouterId,
-    change: &Change,
+    change: &RouterChange,
 ) -> Result<String, AllocError> {
-    let line = Line {
+    let line = JournalLine {
         tick,
         router,
         change,
@@ -82,7 +82,7 @@ fn object_text(
     alloc: Global,
     tick: u64,
     router: RouterId,
-    change: &Change,
+    change: &RouterChange,
 ) -> Result<String, AllocError> {
     let object = Object {
         tick,

@@ -2,7 +2,8 @@
 //!
 //! `Notes` is a tap of `ospf_run`: it writes what the routers send into a capture, whose packets are those of `ospf_records`;
 //! prints their tables from time to time, each as `ospf_run` prints it; counts what they drop; and tells on standard error how far
-//! the run has come, where that is a terminal, and which neighbours describe LSAs that their router refuses. What they write
+//! the run has come, where that is a terminal, and which neighbours describe LSAs that their router refuses. `Events` and
+//! `Recording` write the journal and the capture of a simulation as it goes. What they write
 //! goes to files and a terminal under one lock, of which no contract can say anything; that they give back to the run, and
 //! that nothing wraps, is proved.
 #![tactic(auto)]
@@ -13,10 +14,12 @@ mod journal;
 mod line;
 mod notes;
 mod others;
+mod recording;
 mod tables;
 
 pub use crate::events::Events;
 pub use crate::journal::Journal;
-pub use crate::line::Line;
+pub use crate::line::StatusLine;
 pub use crate::notes::{Noted, Notes};
+pub use crate::recording::Recording;
 pub use crate::tables::Tables;

@@ -9,7 +9,7 @@ const BETWEEN_LINES: u64 = 200;
 /// Standard error. On a terminal each line of how far something has come is written over the last. What is not written is
 /// lost.
 #[derive(Drop)]
-pub struct Line<T: Write + Drop> {
+pub struct StatusLine<T: Write + Drop> {
     stream: T,
     is_terminal: bool,
     // When the next is due; `None` before the first is asked for.
@@ -17,10 +17,10 @@ pub struct Line<T: Write + Drop> {
     is_shown: bool,
 }
 
-impl<T: Write + Drop> Line<T> {
+impl<T: Write + Drop> StatusLine<T> {
     /// No line yet. Where the stream is no terminal there never is one.
-    pub fn new(stream: T, is_terminal: bool) -> Line<T> {
-        Line {
+    pub fn new(stream: T, is_terminal: bool) -> StatusLine<T> {
+        StatusLine {
             stream,
             is_terminal,
             next: None,

@@ -3,7 +3,7 @@
 
 use crate::dropped::{Counts, Heard, dropped_in};
 use crate::journal::Journal;
-use crate::line::Line;
+use crate::line::StatusLine;
 use crate::others::{Described, Others};
 use crate::tables::Tables;
 use ospf_base::{Addr, RouterId};
@@ -28,7 +28,7 @@ pub struct Noted<F: Write + Drop, T: Write + Drop, O: Write + Drop> {
     /// Where what is sent is captured, if it is.
     pub capture: Option<F>,
     /// Where messages go, and how far the run has come.
-    pub line: Line<T>,
+    pub line: StatusLine<T>,
     /// Where tables are printed while the routers run, if they are.
     pub tables: Option<Tables<O>>,
     /// Whether it is counted what the routers drop.
@@ -285,7 +285,7 @@ struct Shared<F: Write + Drop, T: Write + Drop, O: Write + Drop> {
     journal: Option<Journal<F>>,
     // Why tables are printed no more, or some drops are not kept.
     failure: Option<Failure>,
-    line: Line<T>,
+    line: StatusLine<T>,
     // What routers have dropped that have ended.
     drops: Vec<Drops>,
     // The most ticks that a router has taken.

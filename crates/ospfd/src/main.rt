@@ -10,7 +10,7 @@ use ospf_files::{
     FailedStreams, Failure, NamedFile, Status, read_file, read_files, tell_unwritten,
 };
 use ospf_inspect::inspect_text;
-use ospf_notes::{Events, Journal, Line, Noted, Notes, Tables};
+use ospf_notes::{Events, Journal, Noted, Notes, Recording, StatusLine, Tables};
 use ospf_records::write_records;
 use ospf_run::{Ending, Settings, run_text};
 use ospf_sim::{Console, Simulated, Watch, console_text, sim_text};
@@ -64,7 +64,7 @@ fn run_check<R: Runtime + AllocGlobal, O: Write, E: Write>(
 ) -> io::Result<Status> {
     let CheckJob {
         files,
-        explain,
+        how,
         area,
         json,
     } = job;
@@ -72,9 +72,9 @@ fn run_check<R: Runtime + AllocGlobal, O: Write, E: Write>(
     if json {
         Ok(check_area_json(rt.alloc(), &files, out, err))
     } else if area {
-        Ok(check_area_text(rt.alloc(), &files, explain, out, err))
+        Ok(check_area_text(rt.alloc(), &files, how, out, err))
     } else {
-        Ok(check_text(rt.alloc(), &files, explain, out, err))
+        Ok(check_text(rt.alloc(), &files, how, out, err))
     }
 }
 
@@ -85,7 +85,7 @@ fn run_sim<R: Runtime + AllocGlobal + Clock + Copy + Drop, O: Write, E: Write, T
     job: SimJob,
     out: &mut O,
     err: &mut E,
-    line: Line<T>,
+    line: StatusLine<T>,
     is_typed: bool,
 ) -> io::Result<ExitCode> {
     let SimJob {
@@ -101,7 +101,9 @@ fn run_sim<R: Runtime + AllocGlobal + Clock + Copy + Drop, O: Write, E: Write, T
     let Some(journal) = open_journal(rt, log.as_deref(), json, err)? else {
         return Ok(ExitCode::from(Status::Stream));
     };
-    let mut screen = Screen::new(*rt, line, Events::new(rt.alloc(), journal));
+    let events = Events::new(rt.alloc(), journal);
+    let recording = Recording::new(*rt, rt.alloc(), name_of(rt.alloc(), pcap.as_deref())?);
+    let mut screen = Screen::new(*rt, line, events, recording);
     let Simulated { status, left } = match script {
         Some(script) => sim_text(rt.alloc(), &script, &files, out, err, &mut screen),
         None => run_console(rt, &files, out, err, &mut screen, is_typed)?,
@@ -120,6 +122,14 @@ fn run_sim<R: Runtime + AllocGlobal + Clock + Copy + Drop, O: Write, E: Write, T
         return Ok(ExitCode::from(Status::Stream));
     }
     Ok(code_of(status, left.is_unmet))
+}
+
+// The name of a file, once more.
+fn name_of(alloc: Global, name: Option<&str>) -> io::Result<Option<String>> {
+    match name {
+        Some(name) => Ok(Some(String::from_str(alloc, name)?)),
+        None => Ok(None),
+    }
 }
 
 // The script in the file of this name; `None` for standard input.
@@ -207,7 +217,7 @@ const NOTHING_WRITTEN: Written<'static> = Written {
 
 // The files that a run writes.
 #[derive(Drop)]
-struct Opened<F: Write + Drop> {
+struct OutputFiles<F: Write + Drop> {
     capture: Option<F>,
     journal: Option<Journal<F>>,
 }
@@ -218,7 +228,7 @@ fn open_written<R: Runtime, E: Write>(
     written: Written<'_>,
     json: bool,
     err: &mut E,
-) -> io::Result<Option<Opened<R::File>>> {
+) -> io::Result<Option<OutputFiles<R::File>>> {
     let capture = match written.pcap {
         Some(name) => match open_capture(rt, name, err)? {
             Some(file) => Some(file),
@@ -227,7 +237,7 @@ fn open_written<R: Runtime, E: Write>(
         None => None,
     };
     match open_journal(rt, written.log, json, err)? {
-        Some(journal) => Ok(Some(Opened { capture, journal })),
+        Some(journal) => Ok(Some(OutputFiles { capture, journal })),
         None => Ok(None),
     }
 }
@@ -361,7 +371,7 @@ fn run_routers<
     mut job: RunJob,
     out: &mut O,
     err: &mut E,
-    line: Line<T>,
+    line: StatusLine<T>,
     console: (P, I),
 ) -> io::Result<Status>
 where
@@ -379,7 +389,7 @@ where
     } else {
         NOTHING_WRITTEN
     };
-    let Some(Opened { capture, journal }) = open_written(rt, written, json, err)? else {
+    let Some(OutputFiles { capture, journal }) = open_written(rt, written, json, err)? else {
         return Ok(Status::Stream);
     };
     let noted = Noted {
@@ -401,7 +411,7 @@ fn run<
     T: Write + Send + Drop + 'static,
     P: Write + Send + Drop + 'static,
     I: Read + IsTerminal + Send + Drop + 'static,
->(rt: &R, err: &mut E, line: Line<T>, console: (P, I)) -> io::Result<ExitCode>
+>(rt: &R, err: &mut E, line: StatusLine<T>, console: (P, I)) -> io::Result<ExitCode>
 where
     R::File: Send + 'static,
 {
@@ -438,7 +448,7 @@ fn main(rt: HostRuntime) -> ExitCode {
     match run(
         &rt,
         &mut rt.stderr(),
-        Line::new(err, is_terminal),
+        StatusLine::new(err, is_terminal),
         (rt.stdout(), rt.stdin()),
     ) {
         Ok(code) => code,

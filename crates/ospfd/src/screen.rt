@@ -1,25 +1,34 @@
 //! How far a simulation has come, on a terminal.
 
-use ospf_notes::{Events, Line};
+use ospf_notes::{Events, Recording, StatusLine};
 use ospf_sim::{EventWatch, Watch, World, WorldEvent, WorldFault};
 use std::io::Write;
+use std::rt::Runtime;
 use std::time::Clock;
 
-/// Tells on a terminal how far the rounds, or the events by chance, of a simulation have come, and writes its journal.
+/// Tells on a terminal how far the rounds, or the events by chance, of a simulation have come, and writes its journal and its
+/// capture.
 #[derive(Drop)]
-pub(crate) struct Screen<C: Clock + Drop, T: Write + Drop, F: Write + Drop> {
-    clock: C,
-    line: Line<T>,
+pub(crate) struct Screen<R: Runtime + Clock + Drop, T: Write + Drop, F: Write + Drop> {
+    rt: R,
+    line: StatusLine<T>,
     events: Events<F>,
+    recording: Recording<R>,
 }
 
-impl<C: Clock + Drop, T: Write + Drop, F: Write + Drop> Screen<C, T, F> {
+impl<R: Runtime + Clock + Drop, T: Write + Drop, F: Write + Drop> Screen<R, T, F> {
     /// Tells nothing where the line is on no terminal.
-    pub(crate) fn new(clock: C, line: Line<T>, events: Events<F>) -> Screen<C, T, F> {
+    pub(crate) fn new(
+        rt: R,
+        line: StatusLine<T>,
+        events: Events<F>,
+        recording: Recording<R>,
+    ) -> Screen<R, T, F> {
         Screen {
-            clock,
+            rt,
             line,
             events,
+            recording,
         }
     }
 
@@ -29,30 +38,32 @@ impl<C: Clock + Drop, T: Write + Drop, F: Write + Drop> Screen<C, T, F> {
     }
 }
 
-impl<C: Clock + Drop, T: Write + Drop, F: Write + Drop> EventWatch for Screen<C, T, F> {
+impl<R: Runtime + Clock + Drop, T: Write + Drop, F: Write + Drop> EventWatch for Screen<R, T, F> {
     fn comes(&mut self, world: &World, event: &WorldEvent) {
         self.events.comes(world, event);
     }
 
     fn came(&mut self, world: &World, event: &WorldEvent, answer: &Result<(), WorldFault>) {
         self.events.came(world, event, answer);
+        self.recording.came(world);
     }
 }
 
-impl<C: Clock + Drop, T: Write + Drop, F: Write + Drop> Watch for Screen<C, T, F> {
+impl<R: Runtime + Clock + Drop, T: Write + Drop, F: Write + Drop> Watch for Screen<R, T, F> {
     fn begins_round(&mut self, done: u64, count: u64) {
-        if let Some(terminal) = self.line.begin(&self.clock) {
+        if let Some(terminal) = self.line.begin(&self.rt) {
             let _ = write!(terminal, "\r\x1b[K{done} of {count} rounds");
         }
     }
 
     fn draws_events(&mut self, done: u64, count: u64) {
-        if let Some(terminal) = self.line.begin(&self.clock) {
+        if let Some(terminal) = self.line.begin(&self.rt) {
             let _ = write!(terminal, "\r\x1b[K{done} of {count} events by chance");
         }
     }
 
     fn ends_line(&mut self) {
         self.line.erase();
+        self.recording.ends_line();
     }
 }
