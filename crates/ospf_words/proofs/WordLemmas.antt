@@ -11,8 +11,10 @@ use Rattle.ospf_base.specs.Text.{IsDottedNumber, ReadsAddress, ReadsRouterId}
 use Rattle.ospf_base.specs.declared.ids.RouterId.{RouterId}
 use Rattle.ospf_base.specs.declared.ids.Addr.{Addr}
 use Rattle.ospf_words.specs.Job.{IsFaultOfNoValue, IsFaultOfValue, IsFaultOfWords}
-use Rattle.ospf_words.specs.Unasked.{IsFirstWrong, IsJobIfAny, IsMoreInJson, IsNoAddress, IsNoJob, IsNoNumber, IsUncounted, IsWrongValue, LacksInPath, LacksInRun}
-use Rattle.ospf_words.specs.Words.{AreChoices, IsFlag, IsInspectJob, IsNumber, IsNumberIfAny, IsRunWith, Spell, command_app, lsas_asked}
+use Rattle.ospf_words.specs.Unasked.{IsAllInJson, IsFirstWrong, IsJobIfAny, IsMoreInJson, IsNoAddress, IsNoJob, IsNoNumber, IsUncounted, IsWrongValue, LacksInPath, LacksInRun}
+use Rattle.ospf_words.specs.Words.{AreChoices, IsFailuresForm, IsFlag, IsInspectJob, IsNumber, IsNumberIfAny, IsRunWith, IsTelling, Spell, command_app, failures_form, lsas_asked, telling_of}
+use Rattle.ospf_files.specs.declared.telling.Telling.TheVariants as telling
+use Rattle.ospf_failures.specs.declared.answer.FailuresForm.{FailuresForm}
 use Rattle.ospf_inspect.specs.declared.answer.Form.TheVariants as form
 use Rattle.ospf_inspect.specs.declared.answer.InspectJob.{InspectJob}
 use Rattle.ospf_inspect.specs.declared.answer.InspectJob.TheVariants.{Drawing, Lsas}
@@ -297,17 +299,32 @@ no_way rows lacks = record {
   no_run = λ others same. other (codes "path") (codes "run") rows others (λ (e : 112 ≡ 114). omega (arith, e)) same;
 }
 
--- `check` without files
-pub no_files : (rows : List Row) → all_of (codes "files") rows ≡ None → IsNoJob (Some (codes "check", rows))
-no_files rows none = record {
+-- `check` without files, or with both flags
+pub no_check_job : (rows : List Row) → (all_of (codes "files") rows ≡ None) ⊎ IsAllInJson rows → IsNoJob (Some (codes "check", rows))
+no_check_job rows none = record {
   no_table = λ others same. other (codes "check") (codes "table") rows others (λ (e : 99 ≡ 116). omega (arith, e)) same;
   no_failures = λ others same. other (codes "check") (codes "failures") rows others (λ (e : 99 ≡ 102). omega (arith, e)) same;
   no_lsas = λ others same. other (codes "check") (codes "lsas") rows others (λ (e : 99 ≡ 108). omega (arith, e)) same;
   no_path = λ others same. other (codes "check") (codes "path") rows others (λ (e : 99 ≡ 112). omega (arith, e)) same;
-  no_check = λ others same. ap (all_of (codes "files")) (sym (same_rows (codes "check") rows others same)) ∙ none;
+  no_check = λ others same. subst (λ rs. (all_of (codes "files") rs ≡ None) ⊎ IsAllInJson rs) (same_rows (codes "check") rows others same) none;
   no_sim = λ others same. other (codes "check") (codes "sim") rows others (λ (e : 99 ≡ 115). omega (arith, e)) same;
   no_run = λ others same. other (codes "check") (codes "run") rows others (λ (e : 99 ≡ 114). omega (arith, e)) same;
 }
+
+-- how much the flags of `check` ask for
+pub is_telling : (rows : List Row) (explain all : Bool) → IsFlag (one_of (codes "explain") rows) explain → IsFlag (one_of (codes "all") rows) all
+    → IsTelling (one_of (codes "explain") rows) (one_of (codes "all") rows) (telling_of explain all)
+is_telling rows true true e a = a
+is_telling rows false true e a = a
+is_telling rows true false e a = (a, e)
+is_telling rows false false e a = (a, e)
+
+-- with `--all` there is no `--json`
+pub all_apart : (explain all json : Bool) → (all ≡ false) ⊎ (json ≡ false) → telling_of explain all ≡ telling.AllExplained → json ≡ false
+all_apart explain true json (inl none) is = absurd (let same : true ≡ false = none in cc)
+all_apart explain true json (inr none) is = none
+all_apart true false json apart is = absurd (let same : telling.Explained ≡ telling.AllExplained = is in cc)
+all_apart false false json apart is = absurd (let same : telling.Verdict ≡ telling.AllExplained = is in cc)
 
 -- `sim` without a script, or without files
 pub no_simulation : (rows : List Row) → (first_of (codes "script") rows ≡ None) ⊎ (all_of (codes "files") rows ≡ None) → IsNoJob (Some (codes "sim", rows))
@@ -389,3 +406,11 @@ pub no_job_refused : (words : List (List ℕ)) (f : JobFault) → fault_of comma
 no_job_refused words (fault.Words e) none no_job is = inr (none, no_job)
 no_job_refused words (fault.Address w) none no_job is = absurd is
 no_job_refused words fault.Memory none no_job is = tt
+
+-- in which form failures are, by their flag
+pub told_by : (text : Option (List ℕ)) (json : Bool) (f : FailuresForm) → f ≡ failures_form json → IsFlag text json → IsFailuresForm text f
+told_by text json f is flag = subst (IsFailuresForm text) (sym is) (go json flag)
+  where
+    go : (b : Bool) → IsFlag text b → IsFailuresForm text (failures_form b)
+    go true flag = flag
+    go false flag = flag

@@ -78,13 +78,17 @@ abbrev pub IsMoreInJson : List Row → Type 0
 IsMoreInJson rows =
     IsFlag (one_of (codes "json") rows) true × ((unwrap_or (all_of (codes "addresses") rows) [] ≢ []) ⊎ (unwrap_or (all_of (codes "without") rows) [] ≢ []))
 
--- what the words enter is no `table` with a root, but one with `--json` and more, no `failures` with a root, no `lsas` but one with both flags, no `path` with both ends and choices, no `check` with files, no `sim` with both, and no `run` with numbers and files
+-- all faults are to be told, and as JSON
+abbrev pub IsAllInJson : List Row → Type 0
+IsAllInJson rows = IsFlag (one_of (codes "all") rows) true × IsFlag (one_of (codes "json") rows) true
+
+-- what the words enter is no `table` with a root, but one with `--json` and more, no `failures` with a root, no `lsas` but one with both flags, no `path` with both ends and choices, no `check` with files but one with `--all` and `--json`, no `sim` with both, and no `run` with numbers and files
 pub record IsNoJob (entered : Option (Text × List Row)) : Type 0 where
   pub no_table : (rows : List Row) → entered ≡ Some (codes "table", rows) → (first_of (codes "root") rows ≡ None) ⊎ IsMoreInJson rows
   pub no_failures : (rows : List Row) → entered ≡ Some (codes "failures", rows) → first_of (codes "root") rows ≡ None
   pub no_lsas : (rows : List Row) → entered ≡ Some (codes "lsas", rows) → IsFlag (one_of (codes "dot") rows) true × IsFlag (one_of (codes "json") rows) true
   pub no_path : (rows : List Row) → entered ≡ Some (codes "path", rows) → LacksInPath rows
-  pub no_check : (rows : List Row) → entered ≡ Some (codes "check", rows) → all_of (codes "files") rows ≡ None
+  pub no_check : (rows : List Row) → entered ≡ Some (codes "check", rows) → (all_of (codes "files") rows ≡ None) ⊎ IsAllInJson rows
   pub no_sim : (rows : List Row) → entered ≡ Some (codes "sim", rows) → (first_of (codes "script") rows ≡ None) ⊎ (all_of (codes "files") rows ≡ None)
   pub no_run : (rows : List Row) → entered ≡ Some (codes "run", rows)
       → IsNoNumber (one_of (codes "ticks") rows) ⊎ LacksInRun rows

@@ -11,6 +11,10 @@ use Rattle.clap.specs.declared.builder.action.ArgAction.TheVariants.{Append, Set
 use Rattle.clap.specs.declared.builder.value_parser.ValueParser.TheVariants.{Unsigned}
 use Rattle.ospf_words.specs.declared.jobs.CheckJob.{CheckJob}
 use Rattle.ospf_base.specs.declared.ids.RouterId.{RouterId}
+use Rattle.ospf_files.specs.declared.telling.Telling.{Telling}
+use Rattle.ospf_files.specs.declared.telling.Telling.TheVariants as telling
+use Rattle.ospf_failures.specs.declared.answer.FailuresForm.{FailuresForm}
+use Rattle.ospf_failures.specs.declared.answer.FailuresForm.TheVariants as told
 use Rattle.ospf_failures.specs.declared.answer.FailuresJob.{FailuresJob}
 use Rattle.ospf_failures.specs.declared.answer.FailuresJob.TheVariants.{All, Root, Without}
 use Rattle.ospf_inspect.specs.declared.answer.Form.{Form}
@@ -59,14 +63,16 @@ files_rule = record (new_rule (codes "files")) {
   value_names = 1;
 }
 
--- the command `check`: three flags, and files
+-- the command `check`: four flags, and files
 abbrev pub check_app : App
 check_app =
-    with_rule (with_rule (with_rule (with_rule (new_app (codes "check")) (flag_rule (codes "explain"))) (flag_rule (codes "area"))) (flag_rule (codes "json"))) files_rule
+    with_rule (with_rule (with_rule (with_rule (with_rule (new_app (codes "check")) (flag_rule (codes "explain"))) (flag_rule (codes "all"))) (flag_rule (codes "area")))
+    (flag_rule (codes "json"))) files_rule
 
--- the command `failures`: a root, and two flags
+-- the command `failures`: a root, and three flags
 abbrev pub failures_app : App
-failures_app = with_rule (with_rule (with_rule (new_app (codes "failures")) root_rule) (flag_rule (codes "each"))) (flag_rule (codes "strict"))
+failures_app =
+    with_rule (with_rule (with_rule (with_rule (new_app (codes "failures")) root_rule) (flag_rule (codes "each"))) (flag_rule (codes "strict"))) (flag_rule (codes "json"))
 
 abbrev pub script_rule : Rule
 script_rule = one_rule (codes "script")
@@ -184,24 +190,36 @@ abbrev pub IsForm : Option Text → Form → Type 0
 IsForm text form.Text = IsFlag text false
 IsForm text form.Json = IsFlag text true
 
+-- in which form failures are
+abbrev pub IsFailuresForm : Option Text → FailuresForm → Type 0
+IsFailuresForm text told.Text = IsFlag text false
+IsFailuresForm text told.Json = IsFlag text true
+
+-- by its flag
+abbrev pub failures_form : Bool → FailuresForm
+failures_form true = told.Json
+failures_form false = told.Text
+
 -- the root that `clap` reads after `failures`, and the flags
-pub record IsRootJob (rows : List Row) (root : RouterId) (each strict : Bool) : Type 0 where
+pub record IsRootJob (rows : List Row) (root : RouterId) (each strict : Bool) (f : FailuresForm) : Type 0 where
   pub text : Text
   pub has_root : first_of (codes "root") rows ≡ Some text
   pub root_is : ReadsRouterId text (Ok root)
   pub each_is : IsFlag (one_of (codes "each") rows) each
   pub strict_is : IsFlag (one_of (codes "strict") rows) strict
+  pub form_is : IsFailuresForm (one_of (codes "json") rows) f
 
 -- the flags that `clap` reads after `failures`, and `all` as its root
-pub record IsAllJob (rows : List Row) (each strict : Bool) : Type 0 where
+pub record IsAllJob (rows : List Row) (each strict : Bool) (f : FailuresForm) : Type 0 where
   pub has_all : first_of (codes "root") rows ≡ Some (codes "all")
   pub each_is : IsFlag (one_of (codes "each") rows) each
   pub strict_is : IsFlag (one_of (codes "strict") rows) strict
+  pub form_is : IsFailuresForm (one_of (codes "json") rows) f
 
 -- what is asked of failures: by `failures` at a root, or with `all` as its root at all routers, and by `table` the table without what is named
 abbrev pub IsFailuresJob : Option (Text × List Row) → FailuresJob → Type 0
-IsFailuresJob entered (Root root each strict) = (rows : List Row) × (entered ≡ Some (codes "failures", rows)) × IsRootJob rows root each strict
-IsFailuresJob entered (All each strict) = (rows : List Row) × (entered ≡ Some (codes "failures", rows)) × IsAllJob rows each strict
+IsFailuresJob entered (Root root each strict f) = (rows : List Row) × (entered ≡ Some (codes "failures", rows)) × IsRootJob rows root each strict f
+IsFailuresJob entered (All each strict f) = (rows : List Row) × (entered ≡ Some (codes "failures", rows)) × IsAllJob rows each strict f
 IsFailuresJob entered (Without root names addresses) =
     (rows : List Row) × (entered ≡ Some (codes "table", rows)) × IsWithoutJob rows root (vec_items names) (vec_items addresses)
 
@@ -246,14 +264,27 @@ lsas_asked true false = Some Drawing
 lsas_asked false true = Some (Lsas form.Json)
 lsas_asked false false = Some (Lsas form.Text)
 
--- the files that `clap` reads after `check`, and the flags
+-- how much is to be told of files: of all faults with `--all`, of the first with `--explain` alone
+abbrev pub telling_of : Bool → Bool → Telling
+telling_of explain true = telling.AllExplained
+telling_of true false = telling.Explained
+telling_of false false = telling.Verdict
+
+-- what the flags ask for, with the texts that `clap` reads of each
+abbrev pub IsTelling : Option Text → Option Text → Telling → Type 0
+IsTelling explain all telling.AllExplained = IsFlag all true
+IsTelling explain all telling.Explained = IsFlag all false × IsFlag explain true
+IsTelling explain all telling.Verdict = IsFlag all false × IsFlag explain false
+
+-- the files that `clap` reads after `check`, and the flags; all faults are not told as JSON
 pub record IsCheckJob (rows : List Row) (c : CheckJob) : Type 0 where
   pub texts : List Text
   pub has_files : all_of (codes "files") rows ≡ Some texts
   pub files : map string_bytes c.files.items ≡ texts
-  pub explain : IsFlag (one_of (codes "explain") rows) c.explain
+  pub how : IsTelling (one_of (codes "explain") rows) (one_of (codes "all") rows) c.how
   pub area : IsFlag (one_of (codes "area") rows) c.area
   pub json : IsFlag (one_of (codes "json") rows) c.json
+  pub apart : c.how ≡ telling.AllExplained → c.json ≡ false
 
 -- the script, the files, and the files to be written that `clap` reads after `sim`
 pub record IsSimJob (rows : List Row) (s : SimJob) : Type 0 where

@@ -121,7 +121,8 @@ fn with_failures<'a>(program: Command<'a>, alloc: Global) -> Result<Command<'a>,
         .after_help(FAILURES_HELP)
         .arg(root_arg(alloc))?
         .arg(each_arg(alloc))?
-        .arg(strict_arg(alloc))?;
+        .arg(strict_arg(alloc))?
+        .arg(value_arg(alloc))?;
     program.subcommand(failures)
 }
 
@@ -226,6 +227,7 @@ fn with_check<'a>(program: Command<'a>, alloc: Global) -> Result<Command<'a>, Al
         .about("Checks configurations in TOML")
         .after_help(CHECK_HELP)
         .arg(explain_arg(alloc))?
+        .arg(all_arg(alloc))?
         .arg(area_arg(alloc))?
         .arg(value_arg(alloc))?
         .arg(files_arg(alloc))?;
@@ -241,6 +243,17 @@ fn explain_arg<'a>(alloc: Global) -> Arg<'a>
         .long("explain")
         .action(ArgAction::SetTrue)
         .help("Says of each refused file which key is wrong, and what belongs there")
+}
+
+// Whether that is said of all faults.
+fn all_arg<'a>(alloc: Global) -> Arg<'a>
+    ensures rule { rule_of result ≡ flag_rule (codes "all") }
+    ensures local { result.global ≡ false }
+{
+    Arg::new(alloc, "all")
+        .long("all")
+        .action(ArgAction::SetTrue)
+        .help("Says that of each fault of a file, not of the first alone; not with --json")
 }
 
 // Whether the files are judged together.

@@ -104,6 +104,7 @@ pub(crate) const FAILURES_HELP: &str = "Output:
   FAILURE hops PREFIX COST HOPS
 Where ROOT is `all` these are added up over all routers, ` routers N` says at how many
 of them anything changes, and a line of a route begins with its router.
+With --json it is one array: an object a failure.
 A failure is one of
   R-S@SUBNET                  the link of two routers
   R-S                         all links of two routers that name no subnet
@@ -128,7 +129,8 @@ Examples:
 pub(crate) const CHECK_HELP: &str = "Output:
   FILE: ok                    on standard output
   FILE: C5 ZeroCost           on standard error: the fault of least number; with
-                              --explain, further lines say what to do about it
+                              --explain, further lines say what to do about it,
+                              with --all about each fault that the file has
   FILE: not read              on standard error, where the check ends
 With --json the files are judged together, as with --area, and what is wrong between
 them is one array on standard output: an object a fault or note.

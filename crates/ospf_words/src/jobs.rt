@@ -7,7 +7,7 @@ ghost use Rattle.ospf_words.specs.Job.{address_line};
 use clap::error::ErrorKind;
 use ospf_base::Addr;
 use ospf_failures::FailuresJob;
-use ospf_files::{FailedStreams, Failure, Status};
+use ospf_files::{FailedStreams, Failure, Status, Telling};
 use ospf_inspect::InspectJob;
 use ospf_table::TableJob;
 use std::alloc::AllocError;
@@ -36,8 +36,8 @@ pub enum Job {
 pub struct CheckJob {
     /// The names of their files.
     pub files: Vec<String>,
-    /// Whether it is said what to do about what is told.
-    pub explain: bool,
+    /// How much is told of each.
+    pub how: Telling,
     /// Whether they are of one area, and are judged together.
     pub area: bool,
     /// Whether that is printed as JSON.

@@ -5,14 +5,15 @@ ghost use Rattle.std.specs.Prelude.{OnOk, true, false, [], ◌≡◌, ◌≢◌,
 ghost use Rattle.clap.specs.Words.{all_of, found_of, one_of, rows_of, subcommand_rows_of, subcommand_of};
 ghost use Rattle.ospf_words.specs.Job.{IsFaultOfNoValue, IsFaultOfValue, IsHelp};
 ghost use Rattle.ospf_words.specs.Unasked.{IsFirstWrong, IsJobIfAny, IsNoAddress, IsUnasked, HasNoChoice, IsWrongValue, IsUncounted, LacksInRun};
-ghost use Rattle.ospf_words.specs.Words.{AreChoices, IsAddressIfAny, IsAsked, IsFlag, Spell, command_app, lsas_asked, HasTicks, IsAccepted, IsEndless, IsEndlessIn, IsEndlessJob, IsJobOf, IsRunWith, endless_app};
+ghost use Rattle.ospf_words.specs.Words.{AreChoices, IsAddressIfAny, IsAsked, IsFlag, Spell, command_app, failures_form, lsas_asked, telling_of, HasTicks, IsAccepted, IsEndless, IsEndlessIn, IsEndlessJob, IsJobOf, IsRunWith, endless_app};
 
 use crate::commands::{any_ticks_arg, command, ticks_arg};
 use crate::jobs::{CheckJob, Job, JobFault, RunJob, SimJob};
 use clap::error::ErrorKind;
 use clap::{ArgMatches, Command};
 use ospf_base::Addr;
-use ospf_failures::FailuresJob;
+use ospf_failures::{FailuresForm, FailuresJob};
+use ospf_files::Telling;
 use ospf_inspect::{Form, InspectJob};
 use ospf_table::TableJob;
 use std::alloc::{AllocError, Global};
@@ -25,7 +26,7 @@ const ALL: &str = "all";
 const FOREVER: &str = "forever";
 
 // What is said of `--json` beside words that it does not go with.
-const ALONE: &str = "--json goes with no ADDRESS, no --without and no --dot";
+const ALONE: &str = "--json goes with no ADDRESS, no --without, no --dot and no --all";
 
 /// The fault of words of which one is not UTF-8: `Words`, or `Memory` where memory ran out.
 pub fn not_text(alloc: Global) -> JobFault
@@ -263,11 +264,28 @@ fn failures_job(alloc: Global, values: &ArgMatches<'_>) -> Result<Option<Job>, J
     };
     let each = values.get_flag("each");
     let strict = values.get_flag("strict");
+    let form = failures_form(values.get_flag("json"));
     if word == ALL {
-        return Ok(Some(Job::Failures(FailuresJob::All { each, strict })));
+        return Ok(Some(Job::Failures(FailuresJob::All { each, strict, form })));
     }
     let root = parsed(alloc, word)?;
-    Ok(Some(Job::Failures(FailuresJob::Root { root, each, strict })))
+    Ok(Some(Job::Failures(FailuresJob::Root {
+        root,
+        each,
+        strict,
+        form,
+    })))
+}
+
+// In which form failures are printed.
+fn failures_form(json: bool) -> FailuresForm
+    ensures { result ≡ failures_form json }
+{
+    if json {
+        FailuresForm::Json
+    } else {
+        FailuresForm::Text
+    }
 }
 
 // The values of `path`: its job, if they have both ends, and all choices are read.
@@ -336,23 +354,42 @@ fn lsas_asked(drawn: bool, json: bool) -> Option<InspectJob>
     }
 }
 
-// The values of `check`: its job, if they have files.
+// The values of `check`: its job, if they have files and not both flags that do not go together.
 fn check_job(alloc: Global, values: &ArgMatches<'_>) -> Result<Option<Job>, AllocError>
     ensures { IfOk result (IsJobIfAny (Some (codes "check", rows_of (found_of values.now)))) }
 {
     let Some(files) = values.get_strs("files") else {
         return Ok(None);
     };
+    let all = values.get_flag("all");
+    let json = values.get_flag("json");
+    if all && json {
+        return Ok(None);
+    }
     let files = owned(alloc, files)?;
     let explain = values.get_flag("explain");
     let area = values.get_flag("area");
-    let json = values.get_flag("json");
+    let how = telling_of(explain, all);
     Ok(Some(Job::Check(CheckJob {
         files,
-        explain,
+        how,
         area,
         json,
     })))
+}
+
+// How much the flags of `check` ask for.
+fn telling_of(explain: bool, all: bool) -> Telling
+    ensures { result ≡ telling_of explain all }
+{
+    if all {
+        return Telling::AllExplained;
+    }
+    if explain {
+        Telling::Explained
+    } else {
+        Telling::Verdict
+    }
 }
 
 // The texts of words.

@@ -4,7 +4,7 @@ use Rattle.clap.specs.Words.{first_of, found_of, rows_of}
 use Rattle.clap.proofs.WalkLemmas.{first_value-rows, one_text-rows}
 use Rattle.ospf_words.specs.Job.{IsFaultOfValue}
 use Rattle.ospf_words.specs.Unasked.{IsWrongValue}
-use Rattle.ospf_words.proofs.WordLemmas.{err_kept, named, no_failing_root, value_weaker, wrong_failing_root}
+use Rattle.ospf_words.proofs.WordLemmas.{err_kept, named, no_failing_root, told_by, value_weaker, wrong_failing_root}
 use Rattle.ospf_words.proofs.words.failures_job.Goals as goal
 
 pub returns-in_default-clause-ok : goal.returns-in_default-clause-ok
@@ -40,6 +40,11 @@ returns-then-eq-clause-ok c =
           set = λ e. c.get_flag-strict.ensures.value (one_text-rows found (codes "strict") ∙ e);
           unset = λ e. c.get_flag-strict.ensures.other (one_text-rows found (codes "strict") ∙ e);
         };
+        form_is = told_by _ c.get_flag.result c.failures_form-form.result c.failures_form-form.ensures (record {
+          none = λ e. c.get_flag.ensures.none (one_text-rows found (codes "json") ∙ e);
+          set = λ e. c.get_flag.ensures.value (one_text-rows found (codes "json") ∙ e);
+          unset = λ e. c.get_flag.ensures.other (one_text-rows found (codes "json") ∙ e);
+        });
       },
     )
 
@@ -62,5 +67,10 @@ returns-clause-ok c =
           set = λ e. c.get_flag-strict.ensures.value (one_text-rows found (codes "strict") ∙ e);
           unset = λ e. c.get_flag-strict.ensures.other (one_text-rows found (codes "strict") ∙ e);
         };
+        form_is = told_by _ c.get_flag.result c.failures_form-form.result c.failures_form-form.ensures (record {
+          none = λ e. c.get_flag.ensures.none (one_text-rows found (codes "json") ∙ e);
+          set = λ e. c.get_flag.ensures.value (one_text-rows found (codes "json") ∙ e);
+          unset = λ e. c.get_flag.ensures.other (one_text-rows found (codes "json") ∙ e);
+        });
       },
     )
