@@ -3,7 +3,7 @@
 use super::made::require;
 use super::wired::{area_of, neighbour, waiting};
 use ospf_area::{
-    Area, Change, Link, LinkSettings, OnLink, Origin, Outputs, Post, acknowledge_by, answer_at,
+    Area, AdjacencyChange, AreaLink, LinkSettings, OnLink, Origin, Outputs, Post, acknowledge_by, answer_at,
     change_at, count_number, delay_at, flood, is_awaited, is_numbered, is_own, is_requested,
     is_self_originated, is_taken, mark, origin_of, own_of, release, send_request, sent_lsa,
     some_link_loading, to_address, turn_requests, was_sent,
@@ -41,7 +41,7 @@ fn link(
     state: IfaceState,
     others: &[u32],
     described: &[LsaHeader],
-) -> Result<Link, Fail> {
+) -> Result<AreaLink, Fail> {
     let mut neighbours = Neighbours::new(alloc);
     for router in others {
         let other = neighbour(alloc, *router, described)?;
@@ -49,7 +49,7 @@ fn link(
             neighbours.add(other)?;
         }
     }
-    Ok(Link {
+    Ok(AreaLink {
         iface: Iface {
             settings: IfaceSettings {
                 router: OWN,
@@ -212,7 +212,7 @@ fn the_backup_floods_what_came_elsewhere(rt: HostRuntime) -> Result<(), Fail> {
 }
 
 // In tick 8.
-fn change(area: &mut Area, from: Origin, change: Change) {
+fn change(area: &mut Area, from: Origin, change: AdjacencyChange) {
     change_at(&mut area.links, from, change, 8);
 }
 
@@ -234,11 +234,11 @@ fn beginning(area: &Area, from: Origin) -> Result<(bool, u32), Fail> {
 
 // One neighbour acknowledges, and the other is sent it again.
 fn acknowledged_and_sent_again(area: &mut Area, instance: Instance) -> Result<(), Fail> {
-    change(area, FROM_DR, Change::Acknowledges(instance));
+    change(area, FROM_DR, AdjacencyChange::Acknowledges(instance));
     require(waiting(area, FROM_DR) == 0 && waiting(area, FROM_OTHER) == 1)?;
-    change(area, FROM_OTHER, Change::IsSent(instance));
+    change(area, FROM_OTHER, AdjacencyChange::IsSent(instance));
     require(first_sent_at(area, FROM_OTHER)? == 8)?;
-    change(area, FROM_OTHER, Change::Restarts(300));
+    change(area, FROM_OTHER, AdjacencyChange::Restarts(300));
     require(beginning(area, FROM_OTHER)? == (true, 300))
 }
 
@@ -451,13 +451,13 @@ fn numbers_and_marks(rt: HostRuntime) -> Result<(), Fail> {
 }
 
 // The age of router 7's LSA as it is sent out of the link.
-fn sent_age(link: &Link, alloc: Global) -> Result<u16, Fail> {
+fn sent_age(link: &AreaLink, alloc: Global) -> Result<u16, Fail> {
     let aged = sent_lsa(link.settings, &lsa_of(alloc, FIRST)?.view(), alloc)?;
     Ok(aged.view().header().age.ticks())
 }
 
 // Sends neighbour 2 a Request.
-fn request_sent(area: &Area, link: &Link, alloc: Global) -> Result<Outputs, Fail> {
+fn request_sent(area: &Area, link: &AreaLink, alloc: Global) -> Result<Outputs, Fail> {
     let mut out = Outputs::new(alloc);
     let other = origin_of(&area.links, FROM_OTHER).ok_or("no neighbour")?;
     let mut post = Post::new(0, alloc);

@@ -2,7 +2,7 @@
 
 use super::failing::Failing;
 use ospf_check::{check_area_json, check_text};
-use ospf_files::{NamedFile, Status};
+use ospf_files::{NamedFile, Status, Telling};
 use std::alloc::{AllocError, Global};
 use std::test::Fail;
 
@@ -128,13 +128,13 @@ fn named(alloc: Global, name: &str, bytes: Option<&[u8]>) -> Result<NamedFile, A
 }
 
 fn outcome_of(alloc: Global, files: &[(&str, Option<&[u8]>)]) -> Result<Outcome, AllocError> {
-    told_of(alloc, files, false)
+    told_of(alloc, files, Telling::Verdict)
 }
 
 fn told_of(
     alloc: Global,
     files: &[(&str, Option<&[u8]>)],
-    explain: bool,
+    how: Telling,
 ) -> Result<Outcome, AllocError> {
     let mut named_files = Vec::new(alloc);
     for (name, bytes) in files {
@@ -142,7 +142,7 @@ fn told_of(
     }
     let mut out = Vec::new(alloc);
     let mut err = Vec::new(alloc);
-    let status = check_text(alloc, &named_files, explain, &mut out, &mut err);
+    let status = check_text(alloc, &named_files, how, &mut out, &mut err);
     Ok(Outcome { out, err, status })
 }
 
@@ -247,12 +247,67 @@ fn explains_refused_files(rt: HostRuntime) -> Result<(), Fail> {
         ("c.toml", Some(b"\xff".as_slice())),
         ("d.toml", Some(b"router_id = 1.1".as_slice())),
     ];
-    let told = told_of(rt.alloc(), &files, true)?;
+    let told = told_of(rt.alloc(), &files, Telling::Explained)?;
     assert_eq!(rt; told.status, Status::Refused);
     assert_eq!(rt; told.out.as_slice(), b"a.toml: ok\n".as_slice());
     assert_eq!(rt;
         told.err.as_slice(),
         b"b.toml: C5 ZeroCost\n  interface 0: cost: 1 to 65535 wanted, 0 found\nc.toml: C1 NotToml\n  the file is not UTF-8\nd.toml: C2 Missing\n  area: a dotted text, as \"0.0.0.1\", wanted, nothing found\n  interface: 1 to 32 tables [[interface]] wanted, nothing found\n".as_slice()
+    );
+    Ok(())
+}
+
+// A configuration with each fault but that it is no TOML, most of them at several places.
+const EACH: &str =
+    "area = \"0.0.0.0\"\nstub_router = 1\ncolour = \"red\"\n\n[[interface]]\nkind = \"point-to-point\"\naddress = \"10.0.0.1/30\"\ncost = 0\n\n[[interface]]\nkind = \"broadcast\"\naddress = \"10.0.0.2/30\"\npriority = \"high\"\ndead = 10\nmtu = 100\nport = 5\ncolour = 1\n";
+
+// A configuration with a value out of its range, a cost of zero and a key that is not known.
+const THREE: &str =
+    "router_id = \"1.1.1.1\"\narea = \"0.0.0.0\"\n\n[[interface]]\nkind = \"point-to-point\"\naddress = \"10.0.0.1/30\"\ncost = 0\nmtu = 100\ncolour = \"red\"\n";
+
+#[test]
+fn explains_all_faults(rt: HostRuntime) -> Result<(), Fail> {
+    let files = [
+        ("a.toml", Some(THREE.as_bytes())),
+        ("b.toml", Some(GOOD.as_bytes())),
+        ("c.toml", Some(EACH.as_bytes())),
+    ];
+    let told = told_of(rt.alloc(), &files, Telling::AllExplained)?;
+    assert_eq!(rt; told.status, Status::Refused);
+    assert_eq!(rt; told.out.as_slice(), b"b.toml: ok\n".as_slice());
+    let wanted = "a.toml: C4 Range\n\
+        \x20 C4 Range: interface 0: mtu: 576 to 9000 wanted, 100 found\n\
+        \x20 C5 ZeroCost: interface 0: cost: 1 to 65535 wanted, 0 found\n\
+        \x20 C8 Unknown: interface 0: colour: a known key wanted, \"red\" found\n\
+        c.toml: C2 Missing\n\
+        \x20 C2 Missing: router_id: a dotted text, as \"10.0.0.1\", other than \"0.0.0.0\", wanted, nothing found\n\
+        \x20 C2 Missing: interface 1: cost: 1 to 65535 wanted, nothing found\n\
+        \x20 C3 Type: stub_router: true or false wanted, 1 found\n\
+        \x20 C3 Type: interface 1: priority: 0 to 255 wanted, \"high\" found\n\
+        \x20 C4 Range: interface 1: mtu: 576 to 9000 wanted, 100 found\n\
+        \x20 C4 Range: interface 1: port: 0, or 1024 to 65535, wanted, 5 found\n\
+        \x20 C5 ZeroCost: interface 0: cost: 1 to 65535 wanted, 0 found\n\
+        \x20 C6 SamePrefix: interface 1: address: a prefix and an address that no interface before has wanted, \"10.0.0.2/30\" found\n\
+        \x20 C7 DeadNotOverHello: interface 1: dead: more than `hello` wanted, 10 found\n\
+        \x20 C8 Unknown: colour: a known key wanted, \"red\" found\n\
+        \x20 C8 Unknown: interface 1: colour: a known key wanted, 1 found\n";
+    assert!(rt; told.err.as_slice() == wanted.as_bytes());
+    Ok(())
+}
+
+#[test]
+fn explains_one_fault_or_no_toml_alone(rt: HostRuntime) -> Result<(), Fail> {
+    let files = [
+        ("a.toml", Some(BAD.as_bytes())),
+        ("b.toml", Some(b"router_id = 1\nmtu 7\n".as_slice())),
+        ("c.toml", Some(b"\xff".as_slice())),
+    ];
+    let told = told_of(rt.alloc(), &files, Telling::AllExplained)?;
+    assert_eq!(rt; told.status, Status::Refused);
+    assert!(rt; told.out.is_empty());
+    assert_eq!(rt;
+        told.err.as_slice(),
+        b"a.toml: C5 ZeroCost\n  C5 ZeroCost: interface 0: cost: 1 to 65535 wanted, 0 found\nb.toml: C1 NotToml\n  C1 NotToml: line 2: no TOML\nc.toml: C1 NotToml\n  C1 NotToml: the file is not UTF-8\n".as_slice()
     );
     Ok(())
 }
@@ -265,12 +320,12 @@ fn tells_of_failed_writes(rt: HostRuntime) -> Result<(), Fail> {
         for left in 0..2 {
             let mut out = Failing { left };
             let mut err = Failing { left };
-            let failed = check_text(alloc, &files, false, &mut out, &mut err);
+            let failed = check_text(alloc, &files, Telling::Verdict, &mut out, &mut err);
             assert_eq!(rt; failed, Status::Stream, "{left}");
         }
         let mut out = Failing { left: 20 };
         let mut err = Failing { left: 20 };
-        let written = check_text(alloc, &files, false, &mut out, &mut err);
+        let written = check_text(alloc, &files, Telling::Verdict, &mut out, &mut err);
         assert_eq!(rt; written, status);
     }
     Ok(())

@@ -1,8 +1,8 @@
 //! Configurations that are accepted, and the least fault of others.
 
 use ospf_base::{Addr, AreaId, InterfaceKind, RouterId};
-use ospf_check::explain;
 use ospf_config::{Config, ConfigFault};
+use ospf_files::{explain, explain_all};
 use std::alloc::Global;
 use std::process::Abort;
 use std::test::Fail;
@@ -427,6 +427,36 @@ fn explains_keys(rt: HostRuntime) -> Result<(), Fail> {
     ];
     for (third, told) in rows.iter() {
         assert_eq!(rt; explained(alloc, TOP, INTERFACE, third)?.as_str(), *told);
+    }
+    Ok(())
+}
+
+// All faults of texts, and the places of each.
+#[test]
+fn explains_all_faults_in_order(rt: HostRuntime) -> Result<(), Fail> {
+    let alloc = rt.alloc();
+    let rows = [
+        ("", ""),
+        ("dead = 10\n", "C7 DeadNotOverHello: interface 0: dead: more than `hello` wanted, 10 found\n"),
+        (
+            "mtu = \"big\"\ncolour = 1\nport = 7\n",
+            "C3 Type: interface 0: mtu: 576 to 9000 wanted, \"big\" found\n\
+            C4 Range: interface 0: port: 0, or 1024 to 65535, wanted, 7 found\n\
+            C8 Unknown: interface 0: colour: a known key wanted, 1 found\n",
+        ),
+        ("mtu = 100\nmtu 7\n", "C1 NotToml: line 9: no TOML\n"),
+    ];
+    for (third, told) in rows.iter() {
+        let text = joined(alloc, TOP, INTERFACE, third)?;
+        let faults = explain_all(alloc, text.as_str())?;
+        let mut lines = String::new(alloc);
+        for fault in faults.iter() {
+            for place in fault.places.iter() {
+                let line = format!(in alloc; "{}: {place}\n", fault.fault)?;
+                lines.push_str(line.as_str())?;
+            }
+        }
+        assert_eq!(rt; lines.as_str(), *told);
     }
     Ok(())
 }

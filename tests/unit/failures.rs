@@ -3,10 +3,10 @@
 use super::failing::Failing;
 use super::made::{FIRST, FIRST_NUMBER, SECOND, THIRD, link, stub, to};
 use ospf_base::{Addr, RouterId, lsa_sum};
-use ospf_failures::{FailuresJob, FailuresStatus, failures_text};
+use ospf_failures::{FailuresForm, FailuresJob, FailuresStatus, failures_text};
 use ospf_files::Status;
 use ospf_lsa::{Link, LinkKind, Listing, Lsa};
-use ospf_whatif::{Failure, find_failure, single_failures};
+use ospf_whatif::{AreaFailure, find_failure, single_failures};
 use std::alloc::Global;
 use std::process::{Abort, ExitCode};
 use std::test::Fail;
@@ -160,6 +160,7 @@ fn expect(rt: &(impl Abort + Threads + Sync), alloc: Global, case: &Case<'_>) ->
         root: case.root,
         each: case.each,
         strict: case.strict,
+        form: FailuresForm::Text,
     };
     expect_of(rt, alloc, &job, case)
 }
@@ -404,6 +405,7 @@ fn failures_over_all_routers(rt: HostRuntime) -> Result<(), Fail> {
     let job = FailuresJob::All {
         each: false,
         strict: true,
+        form: FailuresForm::Text,
     };
     expect_all(&rt, alloc, &lsas, job, DONE, sums)?;
     let each = "1.1.1.1 2.2.2.2-3.3.3.3@10.0.0.4/30 gone 10.0.0.4/30\n\
@@ -438,8 +440,94 @@ fn failures_over_all_routers(rt: HostRuntime) -> Result<(), Fail> {
     let job = FailuresJob::All {
         each: true,
         strict: false,
+        form: FailuresForm::Text,
     };
     expect_all(&rt, alloc, &lsas, job, DONE, each)
+}
+
+// What is wanted of a job for the first router as JSON.
+fn expect_json(
+    rt: &(impl Abort + Threads + Sync),
+    alloc: Global,
+    lsas: &[Lsa],
+    each: bool,
+    out: &str,
+) -> Result<(), Fail> {
+    let job = FailuresJob::Root {
+        root: FIRST,
+        each,
+        strict: true,
+        form: FailuresForm::Json,
+    };
+    expect_all(rt, alloc, lsas, job, DONE, out)
+}
+
+#[test]
+fn failures_are_told_as_json(rt: HostRuntime) -> Result<(), Fail> {
+    let alloc = rt.alloc();
+    let lsas = pair(alloc)?;
+    let totals = "[{\"cost\":0,\"cut\":0,\"failure\":\"@10.1.0.2\",\"gone\":1,\"hops\":1,\"kind\":\"network\"},\
+        {\"cost\":0,\"cut\":0,\"failure\":\"2.2.2.2\",\"gone\":1,\"hops\":0,\"kind\":\"router\"},\
+        {\"cost\":1,\"cut\":0,\"failure\":\"1.1.1.1@10.1.0.2\",\"gone\":0,\"hops\":1,\"kind\":\"attachment\"},\
+        {\"cost\":0,\"cut\":0,\"failure\":\"1.1.1.1-2.2.2.2\",\"gone\":0,\"hops\":1,\"kind\":\"links\"},\
+        {\"cost\":0,\"cut\":0,\"failure\":\"2.2.2.2@10.1.0.2\",\"gone\":0,\"hops\":1,\"kind\":\"attachment\"}]\n";
+    expect_json(&rt, alloc, &lsas, false, totals)?;
+    let each = "[{\"cost\":0,\"cut\":0,\"failure\":\"@10.1.0.2\",\"gone\":1,\"hops\":1,\"kind\":\"network\",\"routes\":[\
+        {\"before\":{\"cost\":10,\"hops\":[\"attached\"]},\
+        \"loss\":\"gone\",\"prefix\":\"10.1.0.0/24\",\"router\":\"1.1.1.1\"},\
+        {\"after\":{\"cost\":15,\"hops\":[\"10.0.0.1>2.2.2.2\"]},\
+        \"before\":{\"cost\":15,\"hops\":[\"10.0.0.1>2.2.2.2\",\"10.1.0.1>2.2.2.2@10.1.0.2\"]},\
+        \"loss\":\"hops\",\"prefix\":\"192.168.2.0/24\",\"router\":\"1.1.1.1\"}]},\
+        {\"cost\":0,\"cut\":0,\"failure\":\"2.2.2.2\",\"gone\":1,\"hops\":0,\"kind\":\"router\",\"routes\":[\
+        {\"before\":{\"cost\":15,\"hops\":[\"10.0.0.1>2.2.2.2\",\"10.1.0.1>2.2.2.2@10.1.0.2\"]},\
+        \"loss\":\"gone\",\"prefix\":\"192.168.2.0/24\",\"router\":\"1.1.1.1\"}]},\
+        {\"cost\":1,\"cut\":0,\"failure\":\"1.1.1.1@10.1.0.2\",\"gone\":0,\"hops\":1,\"kind\":\"attachment\",\"routes\":[\
+        {\"after\":{\"cost\":20,\"hops\":[\"10.0.0.1>2.2.2.2\"]},\
+        \"before\":{\"cost\":10,\"hops\":[\"attached\"]},\
+        \"loss\":\"cost\",\"prefix\":\"10.1.0.0/24\",\"router\":\"1.1.1.1\"},\
+        {\"after\":{\"cost\":15,\"hops\":[\"10.0.0.1>2.2.2.2\"]},\
+        \"before\":{\"cost\":15,\"hops\":[\"10.0.0.1>2.2.2.2\",\"10.1.0.1>2.2.2.2@10.1.0.2\"]},\
+        \"loss\":\"hops\",\"prefix\":\"192.168.2.0/24\",\"router\":\"1.1.1.1\"}]},\
+        {\"cost\":0,\"cut\":0,\"failure\":\"1.1.1.1-2.2.2.2\",\"gone\":0,\"hops\":1,\"kind\":\"links\",\"routes\":[\
+        {\"after\":{\"cost\":15,\"hops\":[\"10.1.0.1>2.2.2.2@10.1.0.2\"]},\
+        \"before\":{\"cost\":15,\"hops\":[\"10.0.0.1>2.2.2.2\",\"10.1.0.1>2.2.2.2@10.1.0.2\"]},\
+        \"loss\":\"hops\",\"prefix\":\"192.168.2.0/24\",\"router\":\"1.1.1.1\"}]},\
+        {\"cost\":0,\"cut\":0,\"failure\":\"2.2.2.2@10.1.0.2\",\"gone\":0,\"hops\":1,\"kind\":\"attachment\",\"routes\":[\
+        {\"after\":{\"cost\":15,\"hops\":[\"10.0.0.1>2.2.2.2\"]},\
+        \"before\":{\"cost\":15,\"hops\":[\"10.0.0.1>2.2.2.2\",\"10.1.0.1>2.2.2.2@10.1.0.2\"]},\
+        \"loss\":\"hops\",\"prefix\":\"192.168.2.0/24\",\"router\":\"1.1.1.1\"}]}]\n";
+    expect_json(&rt, alloc, &lsas, true, each)
+}
+
+#[test]
+fn failures_over_all_routers_are_told_as_json(rt: HostRuntime) -> Result<(), Fail> {
+    let alloc = rt.alloc();
+    let lsas = chain(alloc)?;
+    let sums = "[{\"cost\":0,\"cut\":1,\"failure\":\"1.1.1.1-2.2.2.2@10.0.0.0/30\",\
+        \"gone\":2,\"hops\":0,\"kind\":\"link\",\"routers\":2},\
+        {\"cost\":0,\"cut\":0,\"failure\":\"2.2.2.2\",\"gone\":1,\"hops\":0,\"kind\":\"router\",\"routers\":1},\
+        {\"cost\":0,\"cut\":0,\"failure\":\"1.1.1.1\",\"gone\":0,\"hops\":0,\"kind\":\"router\",\"routers\":0}]\n";
+    let each = "[{\"cost\":0,\"cut\":1,\"failure\":\"1.1.1.1-2.2.2.2@10.0.0.0/30\",\
+        \"gone\":2,\"hops\":0,\"kind\":\"link\",\"routers\":2,\"routes\":[\
+        {\"before\":{\"cost\":10,\"hops\":[\"attached\"]},\
+        \"loss\":\"gone\",\"prefix\":\"10.0.0.0/30\",\"router\":\"1.1.1.1\"},\
+        {\"before\":{\"cost\":15,\"hops\":[\"10.0.0.1>2.2.2.2\"]},\
+        \"loss\":\"cut\",\"prefix\":\"192.168.2.0/24\",\"router\":\"1.1.1.1\"},\
+        {\"before\":{\"cost\":10,\"hops\":[\"attached\"]},\
+        \"loss\":\"gone\",\"prefix\":\"10.0.0.0/30\",\"router\":\"2.2.2.2\"}]},\
+        {\"cost\":0,\"cut\":0,\"failure\":\"2.2.2.2\",\"gone\":1,\"hops\":0,\"kind\":\"router\",\"routers\":1,\"routes\":[\
+        {\"before\":{\"cost\":15,\"hops\":[\"10.0.0.1>2.2.2.2\"]},\
+        \"loss\":\"gone\",\"prefix\":\"192.168.2.0/24\",\"router\":\"1.1.1.1\"}]},\
+        {\"cost\":0,\"cut\":0,\"failure\":\"1.1.1.1\",\"gone\":0,\"hops\":0,\"kind\":\"router\",\"routers\":0,\"routes\":[]}]\n";
+    for (wants_each, out) in [(false, sums), (true, each)] {
+        let job = FailuresJob::All {
+            each: wants_each,
+            strict: true,
+            form: FailuresForm::Json,
+        };
+        expect_all(&rt, alloc, &lsas, job, FailuresStatus::CutOff, out)?;
+    }
+    Ok(())
 }
 
 // What is wanted of the table of the first router without parts of the ring.
@@ -500,6 +588,7 @@ fn failed_stream_is_told(rt: HostRuntime) -> Result<(), Fail> {
         root: FIRST,
         each: false,
         strict: true,
+        form: FailuresForm::Text,
     };
     let mut err = Vec::new(alloc);
     let mut out = Failing { left: 0 };
@@ -522,23 +611,23 @@ fn statuses_are_exit_statuses(rt: HostRuntime) -> Result<(), Fail> {
 fn failures_are_found_by_name(rt: HostRuntime) -> Result<(), Fail> {
     let alloc = rt.alloc();
     let failures = single_failures(alloc, &listing(alloc, pair(alloc)?)?)?;
-    let found: [(&str, Option<Failure>); 6] = [
+    let found: [(&str, Option<AreaFailure>); 6] = [
         (
             "1.1.1.1-2.2.2.2",
-            Some(Failure::Links {
+            Some(AreaFailure::Links {
                 a: FIRST,
                 b: SECOND,
             }),
         ),
         (
             "1.1.1.1@10.1.0.2",
-            Some(Failure::Attachment {
+            Some(AreaFailure::Attachment {
                 router: FIRST,
                 network: 0x0a01_0002,
             }),
         ),
-        ("@10.1.0.2", Some(Failure::Network(0x0a01_0002))),
-        ("2.2.2.2", Some(Failure::Router(SECOND))),
+        ("@10.1.0.2", Some(AreaFailure::Network(0x0a01_0002))),
+        ("2.2.2.2", Some(AreaFailure::Router(SECOND))),
         ("10.0.0.0/30", None),
         ("2.2.2.2-1.1.1.1", None),
     ];

@@ -6,7 +6,7 @@ use super::given::{CONFIG, FIRST};
 use super::program::Nobody;
 use ospf_base::Addr;
 use ospf_check::check_text;
-use ospf_files::{NamedFile, Status};
+use ospf_files::{NamedFile, Status, Telling};
 use ospf_router::{Router, Sent, Step};
 use ospf_run::{Config, Drops, Settings, Tap, run_text};
 use ospf_sim::sim_text;
@@ -112,7 +112,7 @@ fn check<O: Write, E: Write>(
         Given::Refused => "x",
     };
     let files = [file(alloc, "a.toml", text)?];
-    Ok(check_text(alloc, &files, false, out, err))
+    Ok(check_text(alloc, &files, Telling::Verdict, out, err))
 }
 
 // A router that runs for a tick, or a floor that is none.

@@ -4,7 +4,7 @@ use super::made::{FIRST_NUMBER, stub, to};
 use ospf_base::{Addr, RouterId};
 use ospf_index::IndexedTable;
 use ospf_index::counts::most_hops;
-use ospf_index::numbering::{Numbering, numbers_of};
+use ospf_index::numbering::{SetNumbers, numbers_of};
 use ospf_lsa::{Link, Listing, Lsa};
 use ospf_spf::RouteTable;
 use std::alloc::Global;
@@ -167,7 +167,7 @@ fn each_set_of_hops_stands_once(rt: HostRuntime) -> Result<(), Fail> {
         assert_eq!(rt; found.cost, route.cost);
         assert!(rt; found.hops == route.hops.as_slice());
     }
-    let numbering = Numbering::with_room(alloc, routes.len(), most_hops(routes, &[])?)?;
+    let numbering = SetNumbers::with_room(alloc, routes.len(), most_hops(routes, &[])?)?;
     let numbers = Vec::with_capacity(alloc, routes.len())?;
     let (sets, numbers) = numbers_of(numbering, numbers, routes);
     assert_eq!(rt; sets.sets.len(), 5);

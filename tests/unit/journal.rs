@@ -5,7 +5,7 @@ use super::worlds::{start, two_on_a_link};
 use ospf_base::{Addr, Kind, LsaKey, Prefix, RouterId};
 use ospf_graph::{Hops, NextHop, Route};
 use ospf_iface::IfaceState;
-use ospf_journal::{Change, Dropped, DroppedAt, Line, Object, Seen, SeenIface, dropped_of};
+use ospf_journal::{Dropped, DroppedAt, JournalLine, Object, RouterChange, Seen, SeenIface, dropped_of};
 use ospf_neighbour::NeighbourState;
 use ospf_world::{World, WorldEvent};
 use std::alloc::Global;
@@ -15,10 +15,10 @@ const HERE: Addr = Addr(0x0a00_0001);
 const THERE: Addr = Addr(0x0a00_0002);
 
 // The lines of changes at a tick of the first router.
-fn lines(tick: u64, changes: &[Change], alloc: Global) -> Result<String, Fail> {
+fn lines(tick: u64, changes: &[RouterChange], alloc: Global) -> Result<String, Fail> {
     let mut text = String::new(alloc);
     for change in changes {
-        let line = Line {
+        let line = JournalLine {
             tick,
             router: FIRST,
             change,
@@ -29,9 +29,9 @@ fn lines(tick: u64, changes: &[Change], alloc: Global) -> Result<String, Fail> {
 }
 
 // The line and the object of a change, at tick 1204 of the first router.
-fn both(change: &Change, alloc: Global) -> Result<String, Fail> {
+fn both(change: &RouterChange, alloc: Global) -> Result<String, Fail> {
     let router = FIRST;
-    let line = Line {
+    let line = JournalLine {
         tick: 1204,
         router,
         change,
@@ -55,20 +55,20 @@ fn network() -> LsaKey {
 #[test]
 fn each_change_is_printed(rt: HostRuntime) -> Result<(), Fail> {
     let alloc = rt.alloc();
-    let dropped = Change::Dropped(DroppedAt {
+    let dropped = RouterChange::Dropped(DroppedAt {
         link: 0,
         source: THERE,
         cause: Dropped::OwnPacket,
     });
     assert_eq!(rt; both(&dropped, alloc)?.as_str(), "1204 1.1.1.1 link 0 dropped R3 OwnPacket 10.0.0.2\n{\"tick\":1204,\"router\":\"1.1.1.1\",\"event\":\"dropped\",\"link\":0,\"cause\":\"R3 OwnPacket\",\"source\":\"10.0.0.2\"}");
-    let neighbour = Change::Neighbour {
+    let neighbour = RouterChange::Neighbour {
         link: 0,
         router: SECOND,
         before: NeighbourState::Exchange,
         now: NeighbourState::Loading,
     };
     assert_eq!(rt; both(&neighbour, alloc)?.as_str(), "1204 1.1.1.1 link 0 neighbour 2.2.2.2 Exchange Loading\n{\"tick\":1204,\"router\":\"1.1.1.1\",\"event\":\"neighbour\",\"link\":0,\"neighbour\":\"2.2.2.2\",\"before\":\"Exchange\",\"now\":\"Loading\"}");
-    let interface = Change::Interface {
+    let interface = RouterChange::Interface {
         link: 1,
         before: IfaceState::Waiting,
         now: SeenIface {
@@ -84,17 +84,17 @@ fn each_change_is_printed(rt: HostRuntime) -> Result<(), Fail> {
 #[test]
 fn each_change_of_lsas_and_routes_is_printed(rt: HostRuntime) -> Result<(), Fail> {
     let alloc = rt.alloc();
-    let issued = Change::Issued {
+    let issued = RouterChange::Issued {
         key: key_of(FIRST.0),
         number: -0x7fff_fffd,
     };
     assert_eq!(rt; both(&issued, alloc)?.as_str(), "1204 1.1.1.1 issued router 1.1.1.1 80000003\n{\"tick\":1204,\"router\":\"1.1.1.1\",\"event\":\"issued\",\"lsa\":\"router\",\"id\":\"1.1.1.1\",\"number\":\"80000003\"}");
-    let flushed = Change::Flushed {
+    let flushed = RouterChange::Flushed {
         key: network(),
         number: -0x7fff_fffe,
     };
     assert_eq!(rt; both(&flushed, alloc)?.as_str(), "1204 1.1.1.1 flushed network 10.0.0.1 80000002\n{\"tick\":1204,\"router\":\"1.1.1.1\",\"event\":\"flushed\",\"lsa\":\"network\",\"id\":\"10.0.0.1\",\"number\":\"80000002\"}");
-    let removed = Change::Removed { key: network() };
+    let removed = RouterChange::Removed { key: network() };
     assert_eq!(rt; both(&removed, alloc)?.as_str(), "1204 1.1.1.1 removed network 10.0.0.1\n{\"tick\":1204,\"router\":\"1.1.1.1\",\"event\":\"removed\",\"lsa\":\"network\",\"id\":\"10.0.0.1\"}");
     let mut hops = Hops::new(alloc);
     hops.insert(NextHop::Attached)?;
@@ -103,13 +103,13 @@ fn each_change_of_lsas_and_routes_is_printed(rt: HostRuntime) -> Result<(), Fail
         router: SECOND,
     })?;
     let prefix = Prefix::under(HERE, 0xffff_fffc).ok_or("no prefix")?;
-    let route = Change::Route(Route {
+    let route = RouterChange::Route(Route {
         prefix,
         cost: 10,
         hops,
     });
     assert_eq!(rt; both(&route, alloc)?.as_str(), "1204 1.1.1.1 route 10.0.0.0/30 10 attached,10.0.0.1>2.2.2.2\n{\"tick\":1204,\"router\":\"1.1.1.1\",\"event\":\"route\",\"prefix\":\"10.0.0.0/30\",\"cost\":10,\"hops\":\"attached,10.0.0.1>2.2.2.2\"}");
-    let gone = Change::NoRoute(prefix);
+    let gone = RouterChange::NoRoute(prefix);
     assert_eq!(rt; both(&gone, alloc)?.as_str(), "1204 1.1.1.1 no route 10.0.0.0/30\n{\"tick\":1204,\"router\":\"1.1.1.1\",\"event\":\"no route\",\"prefix\":\"10.0.0.0/30\"}");
     Ok(())
 }

@@ -3,7 +3,7 @@
 use super::made::{FIRST, FIRST_NUMBER, SECOND};
 use super::wired::area_of;
 use super::written::bytes_of;
-use ospf_area::{Area, Link, LinkSettings, Origin, Outputs, Sent, origin_of, own_of};
+use ospf_area::{Area, AreaLink, LinkSettings, Origin, Outputs, Sent, origin_of, own_of};
 use ospf_base::{Addr, AreaId, InterfaceKind, RouterId};
 use ospf_iface::{Iface, IfaceSettings, IfaceState};
 use ospf_links::{
@@ -40,7 +40,7 @@ fn router_of(
     mtu: u16,
     next_dd: u32,
 ) -> Result<Router, Fail> {
-    let link = Link {
+    let link = AreaLink {
         iface: Iface {
             settings,
             state: IfaceState::Down,

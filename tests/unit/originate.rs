@@ -1,6 +1,6 @@
 //! The numbers and contents of own LSAs over an area, against sums that were computed elsewhere.
 
-use ospf_area::{Area, Link as AreaLink, LinkSettings, Origin, Outputs};
+use ospf_area::{Area, AreaLink, LinkSettings, Origin, Outputs};
 use ospf_base::{Addr, AreaId, Instance, InterfaceKind, Kind, LsaKey, MAX_AGE, RouterId, is_mask};
 use ospf_iface::{Iface, IfaceSettings, IfaceState};
 use ospf_lsa::{LinkKind, Lsa, LsaView};

@@ -3,8 +3,8 @@
 use super::failing::Failing;
 use ospf_check::{check_area_text, check_text};
 use ospf_config::Config;
-use ospf_files::{NamedFile, Status};
-use ospf_plan::{AreaFault, Told, findings, is_slow};
+use ospf_files::{NamedFile, Status, Telling};
+use ospf_plan::{AreaFault, NamedFinding, findings, is_slow};
 use std::alloc::{AllocError, Global};
 use std::test::Fail;
 
@@ -327,10 +327,10 @@ fn files_of(alloc: Global, routers: &[Router]) -> Result<Vec<NamedFile>, AllocEr
     Ok(files)
 }
 
-fn told_of(alloc: Global, files: &[NamedFile], explain: bool) -> Outcome {
+fn told_of(alloc: Global, files: &[NamedFile], how: Telling) -> Outcome {
     let mut out = Vec::new(alloc);
     let mut err = Vec::new(alloc);
-    let status = check_area_text(alloc, files, explain, &mut out, &mut err);
+    let status = check_area_text(alloc, files, how, &mut out, &mut err);
     Outcome { out, err, status }
 }
 
@@ -339,7 +339,7 @@ fn tells_each_fault(rt: HostRuntime) -> Result<(), Fail> {
     for case in &CASES {
         let name = case.name;
         let files = files_of(rt.alloc(), case.routers)?;
-        let told = told_of(rt.alloc(), &files, false);
+        let told = told_of(rt.alloc(), &files, Telling::Verdict);
         let status = if case.faults.is_empty() {
             Status::Done
         } else {
@@ -357,10 +357,10 @@ fn tells_notes_where_it_explains(rt: HostRuntime) -> Result<(), Fail> {
     for case in &CASES {
         let name = case.name;
         let files = files_of(rt.alloc(), case.routers)?;
-        let told = told_of(rt.alloc(), &files, true);
+        let told = told_of(rt.alloc(), &files, Telling::Explained);
         let mut alone = Vec::new(rt.alloc());
         let mut none = Vec::new(rt.alloc());
-        check_text(rt.alloc(), &files, true, &mut alone, &mut none);
+        check_text(rt.alloc(), &files, Telling::Explained, &mut alone, &mut none);
         alone.extend_from_slice(case.notes.as_bytes())?;
         assert_eq!(rt; told.out.as_slice(), alone.as_slice(), "{name}");
         assert_eq!(rt; told.err.is_empty(), case.faults.is_empty(), "{name}");
@@ -405,7 +405,7 @@ static MANY: [Router; 3] = [
 #[test]
 fn tells_in_order(rt: HostRuntime) -> Result<(), Fail> {
     let files = files_of(rt.alloc(), &MANY)?;
-    let told = told_of(rt.alloc(), &files, false);
+    let told = told_of(rt.alloc(), &files, Telling::Verdict);
     assert_eq!(rt;
         told.err.as_slice(),
         b"a.toml: A10 NoDr: interface 1: priority 0, b.toml: interface 0: priority 0\nb.toml: A5 Hello: interface 1: hello 5, a.toml: interface 0: hello 10\nb.toml: A7 Mtu: interface 1: mtu 1400, a.toml: interface 0: mtu 1500\nc.toml: A1 SameRouter: router_id 1.1.1.1, a.toml: router_id 1.1.1.1\nc.toml: A2 SameAddress: interface 0: address 10.1.0.2/25, b.toml: interface 0: address 10.1.0.2/24\nc.toml: A8 Mask: interface 0: address 10.1.0.2/25, a.toml: interface 1: address 10.1.0.1/24\na.toml: A11 OneSided: interface 0: port 5001, b.toml: interface 1: port 5002\nc.toml: A18 Apart: router_id 1.1.1.1, a.toml: router_id 1.1.1.1\n".as_slice()
@@ -425,7 +425,7 @@ fn tells_nothing_more_where_a_file_is_refused(rt: HostRuntime) -> Result<(), Fai
         named(alloc, "b.toml", Some("x"))?,
         named(alloc, "c.toml", good)?,
     ];
-    let told = told_of(alloc, &files, false);
+    let told = told_of(alloc, &files, Telling::Verdict);
     assert_eq!(rt; told.out.as_slice(), b"a.toml: ok\nc.toml: ok\n".as_slice());
     assert_eq!(rt; told.err.as_slice(), b"b.toml: C1 NotToml\n".as_slice());
     assert_eq!(rt; told.status, Status::Refused);
@@ -434,7 +434,7 @@ fn tells_nothing_more_where_a_file_is_refused(rt: HostRuntime) -> Result<(), Fai
         named(alloc, "b.toml", None)?,
         named(alloc, "c.toml", good)?,
     ];
-    let told = told_of(alloc, &files, false);
+    let told = told_of(alloc, &files, Telling::Verdict);
     assert_eq!(rt; told.out.as_slice(), b"a.toml: ok\n".as_slice());
     assert_eq!(rt; told.err.as_slice(), b"b.toml: not read\n".as_slice());
     assert_eq!(rt; told.status, Status::Stream);
@@ -454,7 +454,7 @@ fn explains_a_fault(rt: HostRuntime) -> Result<(), Fail> {
             },
         ],
     )?;
-    let told = told_of(rt.alloc(), &files, true);
+    let told = told_of(rt.alloc(), &files, Telling::Explained);
     assert_eq!(rt;
         told.err.as_slice(),
         b"b.toml: A5 Hello: interface 0: hello 5, a.toml: interface 0: hello 10\n  each drops the other's Hellos: they never become neighbours (section 10.5)\nb.toml: A18 Apart: router_id 2.2.2.2, a.toml: router_id 1.1.1.1\n  the area falls apart: what is here has no route there\n".as_slice()
@@ -469,10 +469,11 @@ fn warns_of_a_delay_over_900(rt: HostRuntime) -> Result<(), Fail> {
     for (delay, lines) in [(900, 1), (901, 2), (3600, 2)] {
         let text = format!(in alloc; "router_id = \"1.1.1.1\"\narea = \"0.0.0.0\"\n[[interface]]\n{ONE}transmit_delay = {delay}\n")?;
         let files = [named(alloc, "a.toml", Some(text.as_str()))?];
-        for explain in [false, true] {
+        for how in [Telling::Verdict, Telling::Explained, Telling::AllExplained] {
+            let explain = how != Telling::Verdict;
             let mut out = Vec::new(alloc);
             let mut err = Vec::new(alloc);
-            let status = check_text(alloc, &files, explain, &mut out, &mut err);
+            let status = check_text(alloc, &files, how, &mut out, &mut err);
             let ends = out.iter().filter(|byte| **byte == b'\n').count();
             let warning =
                 format!(in alloc; "a.toml: ok\n  interface 0: transmit_delay {delay}: over 900")?;
@@ -501,7 +502,7 @@ fn warns_of_leaves_that_can_lead(rt: HostRuntime) -> Result<(), Fail> {
         let files = [named(alloc, "a.toml", Some(text.as_str()))?];
         let mut out = Vec::new(alloc);
         let mut err = Vec::new(alloc);
-        let status = check_text(alloc, &files, true, &mut out, &mut err);
+        let status = check_text(alloc, &files, Telling::Explained, &mut out, &mut err);
         let told = if is_warned { line } else { "" };
         let wanted = format!(in alloc; "a.toml: ok\n{told}")?;
         assert!(rt; out.as_slice() == wanted.as_bytes());
@@ -529,7 +530,7 @@ fn tells_of_failed_writes(rt: HostRuntime) -> Result<(), Fail> {
     for left in 0..2 {
         let mut out = Vec::new(alloc);
         let mut err = Failing { left };
-        let failed = check_area_text(alloc, &files, false, &mut out, &mut err);
+        let failed = check_area_text(alloc, &files, Telling::Verdict, &mut out, &mut err);
         assert_eq!(rt; failed, Status::Stream, "{left}");
         assert_eq!(rt; out.as_slice(), b"a.toml: ok\nb.toml: ok\n".as_slice(), "{left}");
     }
@@ -537,13 +538,13 @@ fn tells_of_failed_writes(rt: HostRuntime) -> Result<(), Fail> {
     for left in 0..4 {
         let mut out = Failing { left };
         let mut err = Vec::new(alloc);
-        let failed = check_area_text(alloc, &files, true, &mut out, &mut err);
+        let failed = check_area_text(alloc, &files, Telling::Explained, &mut out, &mut err);
         assert_eq!(rt; failed, Status::Stream, "{left}");
         assert_eq!(rt; err.as_slice(), b"standard output: not written\n".as_slice(), "{left}");
     }
     let mut out = Failing { left: 4 };
     let mut err = Vec::new(alloc);
-    let written = check_area_text(alloc, &files, true, &mut out, &mut err);
+    let written = check_area_text(alloc, &files, Telling::Explained, &mut out, &mut err);
     assert_eq!(rt; written, Status::Done);
     Ok(())
 }
@@ -573,7 +574,7 @@ fn finds_and_shows(rt: HostRuntime) -> Result<(), Fail> {
     assert_eq!(rt; finding.fault, AreaFault::Dead);
     assert_eq!(rt; (finding.here.file, finding.here.link), (1, 0));
     assert_eq!(rt; (finding.other.file, finding.other.link), (0, 0));
-    let told = Told {
+    let told = NamedFinding {
         finding,
         here: "here",
         other: "there",

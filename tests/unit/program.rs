@@ -4,7 +4,7 @@ use super::failing::Failing;
 use ospf_base::Addr;
 use ospf_check::{check_area_json, check_area_text, check_text};
 use ospf_failures::failures_text;
-use ospf_files::{FailedStreams, Failure, NamedFile, Status};
+use ospf_files::{FailedStreams, Failure, NamedFile, Status, Telling};
 use ospf_inspect::inspect_text;
 use ospf_sim::{EventWatch, Watch, World, WorldEvent, WorldFault, sim_text};
 use ospf_table::table_text;
@@ -356,7 +356,7 @@ fn status_of<R: Threads + Wait + Sync, O: Write, E: Write>(
         Ok(Job::Check(check)) => {
             let CheckJob {
                 files,
-                explain,
+                how,
                 area,
                 json,
             } = check;
@@ -364,9 +364,9 @@ fn status_of<R: Threads + Wait + Sync, O: Write, E: Write>(
             if json {
                 check_area_json(alloc, &files, out, err)
             } else if area {
-                check_area_text(alloc, &files, explain, out, err)
+                check_area_text(alloc, &files, how, out, err)
             } else {
-                check_text(alloc, &files, explain, out, err)
+                check_text(alloc, &files, how, out, err)
             }
         }
         Ok(Job::Sim(sim)) => {
@@ -421,7 +421,7 @@ fn refuses(rt: HostRuntime) -> Result<(), Fail> {
 }
 
 // Words by name, the exit status, and how standard output and standard error begin.
-static WORDS: [(&str, &str, u8, &str, &str); 37] = [
+static WORDS: [(&str, &str, u8, &str, &str); 40] = [
     ("help", "--help", 0, "OSPF version 2 for one area\n", ""),
     ("help word", "help", 0, "OSPF version 2 for one area\n", ""),
     ("help of table", "table --help", 0, "Computes a routing", ""),
@@ -477,6 +477,9 @@ static WORDS: [(&str, &str, u8, &str, &str); 37] = [
     ("a lookup as JSON", "table --json 1.1.1.1 10.0.0.1", 2, "", "error: --json goes with no"),
     ("what is left out as JSON", "table --json 1.1.1.1 --without 2.2.2.2", 2, "", "error: --json goes with no"),
     ("unread file as JSON", "check --json a.toml", 5, "", "a.toml: not read\n"),
+    ("unread file with all faults", "check --all a.toml", 5, "", "a.toml: not read\n"),
+    ("all faults of no file", "check --all", 2, "", "error: "),
+    ("all faults as JSON", "check --all --json a.toml", 2, "", "error: --json goes with no"),
     ("help of sim", "sim --help", 0, "Simulates an area", ""),
     ("help of run", "run --help", 0, "Runs a router", ""),
     ("no configuration of a run", "run 60", 2, "", "error: "),
@@ -525,7 +528,7 @@ static WORDS: [(&str, &str, u8, &str, &str); 37] = [
     ),
     (
         "unknown option of check",
-        "check --all",
+        "check --each",
         2,
         "",
         "error: unexpected argument",
@@ -766,12 +769,21 @@ fn names_files(rt: HostRuntime) -> Result<(), Fail> {
     assert_eq!(rt; check.files.len(), 2);
     assert_eq!(rt; check.files[0].as_str(), "a.toml");
     assert_eq!(rt; check.files[1].as_str(), "b c.toml");
-    assert!(rt; !check.explain);
+    assert_eq!(rt; check.how, Telling::Verdict);
     let Ok(Job::Check(explained)) = job(rt.alloc(), &["check", "--explain", "a.toml"]) else {
         return Err(Fail::from("words"));
     };
     assert_eq!(rt; explained.files.len(), 1);
-    assert!(rt; explained.explain);
+    assert_eq!(rt; explained.how, Telling::Explained);
+    let Ok(Job::Check(all)) = job(rt.alloc(), &["check", "--all", "--area", "a.toml"]) else {
+        return Err(Fail::from("words"));
+    };
+    assert_eq!(rt; all.how, Telling::AllExplained);
+    assert!(rt; all.area && !all.json);
+    let Ok(Job::Check(both)) = job(rt.alloc(), &["check", "--all", "--explain", "a.toml"]) else {
+        return Err(Fail::from("words"));
+    };
+    assert_eq!(rt; both.how, Telling::AllExplained);
     Ok(())
 }
 

@@ -1,9 +1,11 @@
 //! Lines that are read, lines that are not, and what is printed.
 
 use ospf_base::{Addr, Instance, Kind, LsaKey, Prefix, RouterId};
+use ospf_files::{first_line, lines};
 use ospf_graph::NextHop;
+use ospf_neighbour::NeighbourState;
 use ospf_script::{
-    Command, Expected, FloorShown, Hint, LineFault, Many, View, Wanted, WorldEvent, first_line, lines,
+    Command, CommandFault, Expected, FloorShown, Hint, Many, View, Wanted, WorldEvent,
     words_spell_one_command,
 };
 use ospf_views::{ListedShown, NeighbourShown, RefusalShown, WalkShown};
@@ -22,7 +24,7 @@ fn spells(
     line: &str,
     command: &Command,
     printed: &str,
-) -> Result<(), LineFault> {
+) -> Result<(), CommandFault> {
     let read = Command::read(alloc, line.as_bytes())?;
     assert_eq!(rt; read.as_ref(), Some(command), "{line}");
     assert_eq!(rt; format!(in alloc; "{command}")?.as_str(), printed);
@@ -36,7 +38,7 @@ fn happens(
     line: &str,
     event: WorldEvent,
     printed: &str,
-) -> Result<(), LineFault> {
+) -> Result<(), CommandFault> {
     spells(rt, alloc, line, &Command::Event { event }, printed)
 }
 
@@ -122,7 +124,7 @@ fn printing(rt: HostRuntime) -> Result<(), Fail> {
     }
     spells(&rt, alloc, " label  on", &Command::Label { is_on: true }, "label on")?;
     spells(&rt, alloc, "label off ", &Command::Label { is_on: false }, "label off")?;
-    let said = |text: &str| Ok::<_, LineFault>(Command::Say {
+    let said = |text: &str| Ok::<_, CommandFault>(Command::Say {
         text: String::from_str(alloc, text)?,
     });
     spells(&rt, alloc, "say", &said("")?, "say ")?;
@@ -170,6 +172,9 @@ fn asking(rt: HostRuntime) -> Result<(), Fail> {
     spells(&rt, alloc, "loss 0 7", &loss(0, None), "loss 0 7")?;
     let there = loss(100, Some(Addr(0x0a00_0001)));
     spells(&rt, alloc, "loss 100 7 10.0.0.1", &there, "loss 100 7 10.0.0.1")?;
+    let sent = |most: Option<u64>| Command::Datagrams { router: ONE, most };
+    spells(&rt, alloc, "datagrams 1.1.1.1", &sent(None), "datagrams 1.1.1.1")?;
+    spells(&rt, alloc, "datagrams  1.1.1.1 05", &sent(Some(5)), "datagrams 1.1.1.1 5")?;
     Ok(())
 }
 
@@ -180,7 +185,7 @@ fn expects(
     line: &str,
     expected: Expected,
     printed: &str,
-) -> Result<(), LineFault> {
+) -> Result<(), CommandFault> {
     assert_eq!(rt; format!(in alloc; "{expected}")?.as_str(), printed);
     spells(rt, alloc, line, &Command::Expect { expected }, printed)
 }
@@ -193,7 +198,7 @@ fn routes(
     prefix: Prefix,
     hops: &[NextHop],
     printed: &str,
-) -> Result<(), LineFault> {
+) -> Result<(), CommandFault> {
     let hops = Vec::from_slice(alloc, hops)?;
     let route = wants(Wanted::Route { prefix, cost: 12, hops });
     expects(rt, alloc, line, route, printed)
@@ -283,7 +288,7 @@ fn expecting_of_all(rt: HostRuntime) -> Result<(), Fail> {
 }
 
 // Each is refused for one reason.
-const UNREADABLE: [&[u8]; 92] = [
+const UNREADABLE: [&[u8]; 96] = [
     b"cut",
     b"cut all",
     b"cut 10.0.0",
@@ -312,6 +317,10 @@ const UNREADABLE: [&[u8]; 92] = [
     b"why 1.1.1.1 x",
     b"why 1.1.1.1 0 2.2.2",
     b"why 1.1.1.1 0 2.2.2.2 3.3.3.3",
+    b"datagrams",
+    b"datagrams all",
+    b"datagrams 1.1.1.1 few",
+    b"datagrams 1.1.1.1 1 2",
     b"loss 30",
     b"loss 101 7",
     b"loss 30 x",
@@ -383,23 +392,24 @@ fn unreadable(rt: HostRuntime) {
     for line in UNREADABLE {
         assert_eq!(rt;
             Command::read(rt.alloc(), line),
-            Err(LineFault::NotACommand)
+            Err(CommandFault::NotACommand)
         );
     }
 }
 
-const NAMES: &str = "start, stop, tick, up, down, deliver, cut, mend, round, random, settle, neighbours, listing, table, walk, floor, say, why, loss, expect, label";
+const NAMES: &str = "start, stop, tick, up, down, deliver, cut, mend, round, random, settle, neighbours, listing, table, walk, floor, say, why, datagrams, loss, expect, label";
 
 #[test]
 fn hints(rt: HostRuntime) -> Result<(), Fail> {
     let alloc = rt.alloc();
-    let forms: [(&[u8], &str); 15] = [
+    let forms: [(&[u8], &str); 16] = [
         (b"cut all", "cut ADDRESS"),
         (b"mend", "mend ADDRESS"),
         (b"settle x", "settle MAX"),
         (b"label", "label on, or label off"),
         (b"up all 0", "up R LINK, or up all"),
         (b"why", "why R LINK [NEIGHBOUR]"),
+        (b"datagrams", "datagrams R [MOST]"),
         (b"loss 101 7", "loss PERCENT NUMBER [ADDRESS]"),
         (
             b"expect fully",
@@ -443,9 +453,9 @@ fn law() {
 #[test]
 fn faults(rt: HostRuntime) -> Result<(), Fail> {
     let alloc = rt.alloc();
-    let fault = LineFault::NotACommand;
+    let fault = CommandFault::NotACommand;
     assert_eq!(rt; format!(in alloc; "{fault}")?.as_str(), "not a command");
-    let fault = LineFault::Memory;
+    let fault = CommandFault::Memory;
     assert_eq!(rt; format!(in alloc; "{fault}")?.as_str(), "Memory");
     Ok(())
 }
@@ -493,7 +503,7 @@ fn printed(rt: HostRuntime) -> Result<(), Fail> {
     let neighbour = NeighbourShown {
         link: 0,
         router: RouterId(0x0202_0202),
-        state: "Full",
+        state: NeighbourState::Full,
     };
     assert_eq!(rt;
         format!(in alloc; "{neighbour}")?.as_str(),

@@ -2,7 +2,7 @@
 
 use super::made::lsa_of;
 use super::wired::{area_of, neighbour, waiting};
-use ospf_area::{Area, Link, LinkSettings, Origin, Outputs};
+use ospf_area::{Area, AreaLink, LinkSettings, Origin, Outputs};
 use ospf_base::{Addr, AreaId, InterfaceKind, RouterId};
 use ospf_iface::{Iface, IfaceSettings, IfaceState};
 use ospf_lsa::{Lsa, LsaHeader};
@@ -88,8 +88,8 @@ fn iface(address: Addr, kind: InterfaceKind, state: IfaceState) -> Iface {
     }
 }
 
-fn link(alloc: Global, iface: Iface, neighbours: Neighbours) -> Link {
-    Link {
+fn link(alloc: Global, iface: Iface, neighbours: Neighbours) -> AreaLink {
+    AreaLink {
         iface,
         settings: LinkSettings {
             cost: 10,
@@ -104,7 +104,7 @@ fn link(alloc: Global, iface: Iface, neighbours: Neighbours) -> Link {
 }
 
 // A broadcast link to the neighbours 1 and 2, and a point-to-point link to neighbour 3.
-fn links(alloc: Global, state: IfaceState, described: &[LsaHeader]) -> Result<Vec<Link>, Fail> {
+fn links(alloc: Global, state: IfaceState, described: &[LsaHeader]) -> Result<Vec<AreaLink>, Fail> {
     let broadcast = iface(Addr(101), InterfaceKind::Broadcast, state);
     let other = iface(
         Addr(102),

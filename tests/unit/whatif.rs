@@ -5,7 +5,7 @@ use ospf_base::{Addr, Prefix, RouterId};
 use ospf_graph::{NextHop, Route};
 use ospf_lsa::{Link, Listing, Lsa};
 use ospf_spf::RouteTable;
-use ospf_whatif::{Failure, Loss, RouteChange, effect_of, single_failures, without};
+use ospf_whatif::{AreaFailure, Loss, RouteChange, effect_of, single_failures, without};
 use std::alloc::Global;
 use std::test::Fail;
 
@@ -60,8 +60,8 @@ fn listing(alloc: Global) -> Result<Listing, Fail> {
     Ok(listing)
 }
 
-fn link(a: RouterId, b: RouterId, address: u32) -> Result<Failure, Fail> {
-    Ok(Failure::Link {
+fn link(a: RouterId, b: RouterId, address: u32) -> Result<AreaFailure, Fail> {
+    Ok(AreaFailure::Link {
         a,
         b,
         subnet: prefix(address, 0xffff_fffc)?,
@@ -69,7 +69,7 @@ fn link(a: RouterId, b: RouterId, address: u32) -> Result<Failure, Fail> {
 }
 
 // What becomes of the routes of the first router.
-fn effect(alloc: Global, failure: &Failure) -> Result<Vec<RouteChange>, Fail> {
+fn effect(alloc: Global, failure: &AreaFailure) -> Result<Vec<RouteChange>, Fail> {
     let listing = listing(alloc)?;
     let table = RouteTable::of(alloc, &listing, FIRST)?;
     Ok(effect_of(alloc, &listing, FIRST, &table, failure)?)
@@ -88,10 +88,10 @@ fn failures_stand_in_order(rt: HostRuntime) -> Result<(), Fail> {
         link(FIRST, THIRD, 0x0a00_0004)?,
         link(SECOND, THIRD, 0x0a00_0008)?,
         link(THIRD, LAST, 0x0a00_000c)?,
-        Failure::Router(FIRST),
-        Failure::Router(SECOND),
-        Failure::Router(THIRD),
-        Failure::Router(LAST),
+        AreaFailure::Router(FIRST),
+        AreaFailure::Router(SECOND),
+        AreaFailure::Router(THIRD),
+        AreaFailure::Router(LAST),
     ];
     assert!(rt; failures.as_slice() == wanted.as_slice());
     Ok(())
@@ -124,7 +124,7 @@ fn link_of_a_triangle(rt: HostRuntime) -> Result<(), Fail> {
 
 #[test]
 fn router_that_others_are_behind(rt: HostRuntime) -> Result<(), Fail> {
-    let effect = effect(rt.alloc(), &Failure::Router(THIRD))?;
+    let effect = effect(rt.alloc(), &AreaFailure::Router(THIRD))?;
     assert!(rt; effect.len() == 4);
     assert!(rt; is_to(&effect[0].before, 0x0a00_0008, 0xffff_fffc, 20)?);
     assert!(rt; matches!(&effect[0].loss, Loss::Moved(_)));

@@ -1,6 +1,6 @@
 //! Interfaces, neighbours and areas, for the tests of what goes on in an area.
 
-use ospf_area::{Area, Link, Origin, Outputs, origin_of};
+use ospf_area::{Area, AreaLink, Origin, Outputs, origin_of};
 use ospf_base::{Addr, AreaId, InterfaceKind, RouterId};
 use ospf_exchange::Local;
 use ospf_iface::{Iface, IfaceSettings, IfaceState};
@@ -89,7 +89,7 @@ pub(crate) fn neighbour(
 pub(crate) fn area_of(
     alloc: Global,
     router: RouterId,
-    links: Vec<Link>,
+    links: Vec<AreaLink>,
     tick: u64,
     next_dd: u32,
 ) -> Area {

@@ -1,7 +1,7 @@
 //! Two routers in `drive_all`, over wires of which neither hands over anything before the other was asked too.
 
 use super::arrivals::{Out, Side, driven, two_sides};
-use ospf_drive::{Arrival, Job, LONGEST, MemoryWire, Wire, WireFault, drive_all};
+use ospf_drive::{Arrival, DriverJob, LONGEST, MemoryWire, Wire, WireFault, drive_all};
 use ospf_fib::Fib;
 use ospf_router::Sent;
 use std::alloc::{AllocError, Global};
@@ -100,7 +100,7 @@ fn job_of<R: Wait + Copy + Drop>(
     side: &Side,
     own: usize,
     shared: &Arc<Shared>,
-) -> Result<Job<Beside<R>, R>, Fail> {
+) -> Result<DriverJob<Beside<R>, R>, Fail> {
     let (writer, _seats) = Fib::open(alloc, rt, 1)?;
     let wire = Beside {
         rt,

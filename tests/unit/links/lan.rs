@@ -5,7 +5,7 @@ use super::{
     Router, Says, describes, goes_up, hears, iface_state, is_in, router_of, sends, sends_to, stands,
     ticks,
 };
-use ospf_area::{Link, Origin};
+use ospf_area::{AreaLink, Origin};
 use ospf_base::{Addr, AreaId, InterfaceKind, RouterId};
 use ospf_iface::{IfaceSettings, IfaceState};
 use ospf_links::elect;
@@ -48,7 +48,7 @@ fn origin_at(place: usize) -> Origin {
 }
 
 // Whether an election can come about on a link.
-fn is_ready(link: &Link) -> bool {
+fn is_ready(link: &AreaLink) -> bool {
     let own = link.iface.settings.router;
     let others = link.neighbours.all().iter().all(|n| n.router().0 != own.0);
     others
@@ -59,7 +59,7 @@ fn is_ready(link: &Link) -> bool {
 }
 
 // Whether a router has one link, and an election can come about there.
-fn are_ready(links: &[Link]) -> bool {
+fn are_ready(links: &[AreaLink]) -> bool {
     match links {
         [link] => is_ready(link),
         _ => false,

@@ -2,7 +2,7 @@
 
 use super::super::made::lsa_of;
 use super::{FIRST, FROM_FIRST, SECOND, all_waiting, area, header_of, headers_in, stores};
-use ospf_area::{Link, Outputs, Own, Post, own_of};
+use ospf_area::{AreaLink, Outputs, Own, Post, own_of};
 use ospf_base::{Addr, RouterId};
 use ospf_iface::IfaceState;
 use ospf_lsa::LsaHeader;
@@ -72,7 +72,7 @@ fn packed(headers: &[LsaHeader], alloc: Global) -> Result<Outputs, Fail> {
     packed_on(link, own_of(&area), headers, alloc)
 }
 
-fn packed_on(link: &Link, own: Own, headers: &[LsaHeader], alloc: Global) -> Result<Outputs, Fail> {
+fn packed_on(link: &AreaLink, own: Own, headers: &[LsaHeader], alloc: Global) -> Result<Outputs, Fail> {
     let mut out = Outputs::new(alloc);
     let mut post = Post::new(0, alloc);
     send_acks(headers, link.settings, Addr(2), &mut post)?;
