@@ -59,19 +59,19 @@ fn one_list_in_two_places(rt: HostRuntime) -> Result<(), Fail> {
     // A table is added only where nothing was added meanwhile.
     assert!(rt; opened.added(&counter, &table).is_none());
     assert!(rt; opened.close(&counter).is_none());
-    let sole = more.close(&counter).ok_or("closed")?;
+    let list = more.close(&counter).ok_or("closed")?;
     // Once it is closed nobody adds.
     assert!(rt; more.copy().added(&counter, &table).is_none());
-    let here = sole.known();
+    let here = list.known();
     assert!(rt; there.begins(&here) && !here.begins(&there));
     there.take_later(&here);
     assert!(rt; there.count() == 2);
     assert!(rt; here.begins(&there.copy()));
-    let Ok(opened) = sole.open(&counter) else {
+    let Ok(opened) = list.open(&counter) else {
         return Err("opened".into());
     };
     assert!(rt; opened.count() == 2);
-    let mut sole = opened.close(&counter).ok_or("closed again")?;
-    sole.covers(&counter, &there);
+    let mut list = opened.close(&counter).ok_or("closed again")?;
+    list.covers(&counter, &there);
     Ok(())
 }

@@ -9,7 +9,7 @@ ghost use Rattle.ospf_fib.specs.Rule.{IsKnownBook};
 ghost use Rattle.ospf_fib.specs.Writing.{IsListShown, shown_end};
 
 use crate::changes::Changes;
-use crate::desk::{Copies, Publisher, closed, show};
+use crate::publisher::{Copies, Publisher, closed, show};
 use crate::rule::Tells;
 use crate::seat::Seat;
 use crate::shown::{HandedOver, ShownTable, Tries};
@@ -50,17 +50,17 @@ impl Fib {
         let tries = Arc::new(alloc, tries)?;
         let mut copies = opening_copies(alloc, &rt, &opened, &tries, seats)?;
         let known = opened.known();
-        let sole = closed(&rt, &opened, &tries.counter);
+        let list = closed(&rt, &opened, &tries.counter);
         let made = seats_of(alloc, &mut copies, &known, seats);
         // Where a seat was refused, the writer's end takes the copies.
-        let desk = Publisher {
+        let publisher = Publisher {
             copies,
-            sole,
+            list,
             handed: RouteTable::empty(alloc),
             tries,
             alloc,
         };
-        let writer = Writer { desk, rt };
+        let writer = Writer { publisher, rt };
         Ok((writer, made?))
     }
 }

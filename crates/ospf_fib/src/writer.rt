@@ -4,7 +4,7 @@ ghost use Rattle.std.specs.Prelude.{◌≡◌, ◌∷◌, ◌++◌, [], IfOk, On
 ghost use mathlib.Core.List.{IsPrefix};
 ghost use Rattle.ospf_fib.specs.Versions.{EndsWith};
 
-use crate::desk::Publisher;
+use crate::publisher::Publisher;
 use crate::seat::{Seat, Told};
 use core::mem::replace_with;
 use ospf_index::IndexedTable;
@@ -16,7 +16,7 @@ use std::sync::Wait;
 /// The one that publishes tables. Proofs see the list of those that it has published: while no publish runs,
 /// readers find the last of them. Its end closes the forwarding table, and waits for lookups that are under way.
 pub struct Writer<R: Wait + Drop> {
-    pub(crate) desk: Publisher,
+    pub(crate) publisher: Publisher,
     pub(crate) rt: R,
 }
 
@@ -25,19 +25,19 @@ impl<R: Wait + Drop> Model for Writer<R> {
 
     ghost Value = { Known };
 
-    ghost view = { λ w. w.desk };
+    ghost view = { λ w. w.publisher };
 }
 
 impl<R: Wait + Drop> Drop for Writer<R> {
     fn drop(self) {
-        let Self { desk, rt } = self;
+        let Self { publisher, rt } = self;
         let Publisher {
             copies,
-            sole: _,
+            list: _,
             handed: _,
             tries: _,
             alloc: _,
-        } = desk;
+        } = publisher;
         drop(copies.take(&rt));
     }
 }
@@ -53,8 +53,8 @@ impl<R: Wait + Drop> Writer<R> {
         ensures told { IfOk result (λ told. told ≡ self.new) }
         ensures refused { OnErr result (self.new.tables ≡ self.old.tables) }
     {
-        replace_with(&mut self.desk, (&self.rt, table), |desk, asked| {
-            desk.publish(asked.0, asked.1)
+        replace_with(&mut self.publisher, (&self.rt, table), |publisher, asked| {
+            publisher.publish(asked.0, asked.1)
         })
     }
 
@@ -62,7 +62,7 @@ impl<R: Wait + Drop> Writer<R> {
     pub fn shown(&self) -> &IndexedTable
         ensures { EndsWith self.now.tables result.now }
     {
-        self.desk.shown()
+        self.publisher.shown()
     }
 
     /// All that a seat knows to be published was published by this writer. The seat is of the same `Fib::open`.
@@ -71,7 +71,9 @@ impl<R: Wait + Drop> Writer<R> {
         ensures same { self.new ≡ self.old }
         ensures covers { IsPrefix seat.now.tables self.new.tables }
     {
-        self.desk.sole.covers(&self.desk.tries.counter, &seat.known);
+        self.publisher
+            .list
+            .covers(&self.publisher.tries.counter, &seat.known);
     }
 
     /// All that a publish told was published by this writer. What was told is of the same `Fib::open`.
@@ -80,6 +82,8 @@ impl<R: Wait + Drop> Writer<R> {
         ensures same { self.new ≡ self.old }
         ensures covers { IsPrefix told.now.tables self.new.tables }
     {
-        self.desk.sole.covers(&self.desk.tries.counter, &told.known);
+        self.publisher
+            .list
+            .covers(&self.publisher.tries.counter, &told.known);
     }
 }

@@ -113,7 +113,7 @@ impl Opened {
     /// meanwhile, or 2^64 - 1 steps were made.
     pub fn close(&self, counter: &Counter) -> Option<ClosedList>
         requires { counter.now ≡ counter_of self.now.fib }
-        ensures { IfSome result (λ sole. sole ≡ self.now) }
+        ensures { IfSome result (λ list. list ≡ self.now) }
     {
         if self.events == u64::MAX {
             return None;
@@ -167,7 +167,7 @@ impl ClosedList {
     pub fn open(self, counter: &Counter) -> Result<Opened, ClosedList>
         requires { counter.now ≡ counter_of self.fib }
         ensures opened { IfOk result (λ opened. opened ≡ self) }
-        ensures full { IfErr result (λ sole. sole ≡ self) }
+        ensures full { IfErr result (λ list. list ≡ self) }
     {
         if self.events > LAST_OPENING {
             return Err(self);

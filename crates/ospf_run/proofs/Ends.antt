@@ -8,7 +8,7 @@ use Rattle.ospf_drive.specs.Moments.{Moment, tables_published}
 use Rattle.ospf_index.specs.Known.{Known, Table, opening}
 use Rattle.ospf_router.specs.Routers.{RouterValue}
 use Rattle.ospf_run.proofs.Known.{both_begin, prefix_trans}
-use Rattle.ospf_run.specs.Lookers.{Follows}
+use Rattle.ospf_run.specs.Lookups.{Follows}
 use Rattle.ospf_run.specs.Runs.{IsPublishTold, Ran}
 use Rattle.ospf_run.specs.declared.look.RouterSeat.{RouterSeat}
 
@@ -48,14 +48,14 @@ all_known (Some t) writer began learned looked first is own told more covers =
     (prefix_trans writer.tables learned.tables looked.tables (subst (λ (k : Known). IsPrefix k.tables learned.tables) is told) more)
 
 -- a driver that came to its end
-pub to_end : (a : Moment) (driven : Driven) (looker : RouterSeat) (d : RouterValue × Known × Option Known) → driven ≡ Ok d → Ran a driven looker → DrivesToEnd a d.0 d.1 d.2
-to_end a driven looker d is ran = subst (λ (x : Driven). IsDriven a x) is ran.ended
+pub to_end : (a : Moment) (driven : Driven) (router_seat : RouterSeat) (d : RouterValue × Known × Option Known) → driven ≡ Ok d → Ran a driven router_seat → DrivesToEnd a d.0 d.1 d.2
+to_end a driven router_seat d is ran = subst (λ (x : Driven). IsDriven a x) is ran.ended
 
 -- its seat is still at its table
-pub seat_fib : (a : Moment) (driven : Driven) (looker : RouterSeat) (d : RouterValue × Known × Option Known) (seat : Known) → driven ≡ Ok d → Ran a driven looker → Follows a.known seat
+pub seat_fib : (a : Moment) (driven : Driven) (router_seat : RouterSeat) (d : RouterValue × Known × Option Known) (seat : Known) → driven ≡ Ok d → Ran a driven router_seat → Follows a.known seat
     → seat.fib ≡ d.1.fib
-seat_fib a driven looker d seat is ran follows = follows.fib ∙ sym (fib_at_end a d.0 d.1 d.2 (to_end a driven looker d is ran))
+seat_fib a driven router_seat d seat is ran follows = follows.fib ∙ sym (fib_at_end a d.0 d.1 d.2 (to_end a driven router_seat d is ran))
 
 -- and knows the opening table
-pub seat_began : (a : Moment) (driven : Driven) (looker : RouterSeat) (seat : Known) → Ran a driven looker → Follows a.known seat → IsPrefix opening seat.tables
-seat_began a driven looker seat ran follows = subst (λ (tables : List Table). IsPrefix tables seat.tables) ran.opened follows.tables
+pub seat_began : (a : Moment) (driven : Driven) (router_seat : RouterSeat) (seat : Known) → Ran a driven router_seat → Follows a.known seat → IsPrefix opening seat.tables
+seat_began a driven router_seat seat ran follows = subst (λ (tables : List Table). IsPrefix tables seat.tables) ran.opened follows.tables

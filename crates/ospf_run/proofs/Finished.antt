@@ -7,14 +7,14 @@ use Rattle.ospf_drive.specs.Driven.{IsDriven, Outcome as Driven}
 use Rattle.ospf_drive.specs.Moments.{Moment}
 use Rattle.ospf_files.specs.declared.files.NamedFile.{NamedFile}
 use Rattle.ospf_run.proofs.Lists.{HasFirst, taken_off}
-use Rattle.ospf_run.specs.Lookers.{IsFrom}
-use Rattle.ospf_run.specs.Runs.{AreOutcomes, Came, IsOutcome, Ran, Terms, Trios}
+use Rattle.ospf_run.specs.Lookups.{IsFrom}
+use Rattle.ospf_run.specs.Runs.{AreOutcomes, Came, IsOutcome, Ran, RoutersRan, Terms}
 use Rattle.ospf_run.specs.declared.outcome.Outcome.{Outcome}
 use Rattle.ospf_run.specs.declared.look.RouterSeat.{RouterSeat}
 
 -- the first of those that are left has run
 pub ran_first : (terms : Terms) (config : Config) (configs : List Config) (ds : List Driven) (ls : List RouterSeat) (h : HasFirst terms config configs ds ls) (d : Driven) (l : RouterSeat)
-    → d ≡ h.driven → l ≡ h.looker → Ran h.first.a d l
+    → d ≡ h.driven → l ≡ h.router_seat → Ran h.first.a d l
 ran_first terms config configs ds ls h d l d_is l_is = record {
   opened = h.first.begins.opened;
   ended = subst (λ (x : Driven). IsDriven h.first.a x) (sym d_is) h.first.ended;
@@ -23,9 +23,9 @@ ran_first terms config configs ds ls h d l d_is l_is = record {
 
 -- the others are left
 pub others_left : (terms : Terms) (config : Config) (configs : List Config) (ds : List Driven) (ls : List RouterSeat) (h : HasFirst terms config configs ds ls) (ds' : List Driven) (ls' : List RouterSeat)
-    → ds' ≡ h.later_drivens → ls' ≡ h.later_lookers → Trios terms configs ds' ls'
+    → ds' ≡ h.later_drivens → ls' ≡ h.later_seats → RoutersRan terms configs ds' ls'
 others_left terms config configs ds ls h ds' ls' ds_are ls_are =
-    subst (λ (xs : List Driven). Trios terms configs xs ls') (sym ds_are) (subst (λ (ys : List RouterSeat). Trios terms configs h.later_drivens ys) (sym ls_are) h.later)
+    subst (λ (xs : List Driven). RoutersRan terms configs xs ls') (sym ds_are) (subst (λ (ys : List RouterSeat). RoutersRan terms configs h.later_drivens ys) (sym ls_are) h.later)
 
 -- there is one to take
 pub some_left : {A : Type 0} (xs ys : List A) (x : A) → xs ≡ x ∷ ys → 0 < length xs
@@ -33,12 +33,12 @@ some_left [] ys x is = absurd (cc is)
 some_left (z ∷ zs) ys x is = omega arith
 
 -- the others are left, once the first is taken
-pub trios_on : (terms : Terms) (config : Config) (configs : List Config) (ds : List Driven) (ls : List RouterSeat) (h : HasFirst terms config configs ds ls)
+pub routers_ran_on : (terms : Terms) (config : Config) (configs : List Config) (ds : List Driven) (ls : List RouterSeat) (h : HasFirst terms config configs ds ls)
     (d : Driven) (l : RouterSeat) (ds' : List Driven) (ls' : List RouterSeat)
-    → d ≡ get_or ds 0 d → ds' ≡ take 0 ds ++ drop (0 + 1) ds → l ≡ get_or ls 0 l → ls' ≡ take 0 ls ++ drop (0 + 1) ls → Trios terms configs ds' ls'
-trios_on terms config configs ds ls h d l ds' ls' d_is ds_are l_is ls_are =
+    → d ≡ get_or ds 0 d → ds' ≡ take 0 ds ++ drop (0 + 1) ds → l ≡ get_or ls 0 l → ls' ≡ take 0 ls ++ drop (0 + 1) ls → RoutersRan terms configs ds' ls'
+routers_ran_on terms config configs ds ls h d l ds' ls' d_is ds_are l_is ls_are =
     others_left terms config configs ds ls h ds' ls' (taken_off ds h.driven d h.later_drivens ds' h.drivens_are d_is ds_are).1
-    (taken_off ls h.looker l h.later_lookers ls' h.lookers_are l_is ls_are).1
+    (taken_off ls h.router_seat l h.later_seats ls' h.seats_are l_is ls_are).1
 
 -- and the first of them has run
 pub ran_taken : (terms : Terms) (config : Config) (configs : List Config) (ds : List Driven) (ls : List RouterSeat) (h : HasFirst terms config configs ds ls)
@@ -46,7 +46,7 @@ pub ran_taken : (terms : Terms) (config : Config) (configs : List Config) (ds : 
     → d ≡ get_or ds 0 d → ds' ≡ take 0 ds ++ drop (0 + 1) ds → l ≡ get_or ls 0 l → ls' ≡ take 0 ls ++ drop (0 + 1) ls → Ran h.first.a d l
 ran_taken terms config configs ds ls h d l ds' ls' d_is ds_are l_is ls_are =
     ran_first terms config configs ds ls h d l (taken_off ds h.driven d h.later_drivens ds' h.drivens_are d_is ds_are).0
-    (taken_off ls h.looker l h.later_lookers ls' h.lookers_are l_is ls_are).0
+    (taken_off ls h.router_seat l h.later_seats ls' h.seats_are l_is ls_are).0
 
 -- what came of the first of them
 pub outcome_of : (lookup : Option Addr) (terms : Terms) (file : NamedFile) (config : Config) (configs : List Config) (ds : List Driven) (ls : List RouterSeat)

@@ -2,7 +2,7 @@
 use Rattle.std.proofs.Common.{◌≡◌, refl, sym, subst, ◌∙◌, List, [], ◌∷◌, Result, Ok, Err, IfOk, OnErr}
 use mathlib.Core.List.{IsPrefix}
 use Rattle.ospf_index.specs.Known.{Known, Table}
-use Rattle.ospf_run.specs.Lookers.{Follows}
+use Rattle.ospf_run.specs.Lookups.{Follows}
 use Rattle.ospf_index.proofs.Prefixes.{prefix_self}
 
 -- a beginning of a beginning

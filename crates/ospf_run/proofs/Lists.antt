@@ -13,8 +13,8 @@ use Rattle.ospf_drive.proofs.Joined.{pairs_then}
 use Rattle.ospf_base.specs.declared.ids.Addr.{Addr}
 use Rattle.ospf_files.specs.declared.files.NamedFile.{NamedFile}
 use Rattle.ospf_index.specs.Known.{Known}
-use Rattle.ospf_run.specs.Lookers.{IsFrom}
-use Rattle.ospf_run.specs.Runs.{AreOutcomes, BeginsRun, IsOutcome, Terms, Trio, Trios}
+use Rattle.ospf_run.specs.Lookups.{IsFrom}
+use Rattle.ospf_run.specs.Runs.{AreOutcomes, BeginsRun, IsOutcome, RouterRan, RoutersRan, Terms}
 use Rattle.ospf_run.specs.declared.outcome.Outcome.{Outcome}
 use Rattle.ospf_run.specs.declared.look.RouterSeat.{RouterSeat}
 
@@ -78,45 +78,45 @@ all_over {J} {W} f P jobs wires over all = go jobs (subst (λ (ws : List W). All
     go (j ∷ js) h = All-cons (λ job. P (f job)) j js (of_first P (f j ∷ map f js) (f j) refl (omega (arith)) h) (go js (of_later P (f j ∷ map f js) (map f js) refl h))
 
 -- what began and what came of it, router by router
-pub trios_of : {J : Type 0} (begins : J → Moment) (terms : Terms) (configs : List Config) (jobs : List J) (drivens : List Driven) (seats : List Known) (lookers : List RouterSeat)
+pub routers_ran_of : {J : Type 0} (begins : J → Moment) (terms : Terms) (configs : List Config) (jobs : List J) (drivens : List Driven) (seats : List Known) (router_seats : List RouterSeat)
     → Pairs (λ config job. BeginsRun terms.floor config (begins job).router (begins job).known) configs jobs → All (λ job. (begins job).traffic ≡ Ticks 0 terms.span) jobs → Pairs (λ job driven. IsDriven (begins job) driven) jobs drivens
-    → Pairs (λ job seat. seat ≡ (begins job).known) jobs seats → Pairs IsFrom seats lookers → Trios terms configs drivens lookers
-trios_of begins terms [] [] [] [] [] p n q r s = tt
-trios_of begins terms [] [] [] [] (l ∷ ls) p n q r s = absurd s
-trios_of begins terms [] [] [] (k ∷ ks) ls p n q r s = absurd r
-trios_of begins terms [] [] (d ∷ ds) ks ls p n q r s = absurd q
-trios_of begins terms [] (j ∷ js) ds ks ls p n q r s = absurd p
-trios_of begins terms (c ∷ cs) [] ds ks ls p n q r s = absurd p
-trios_of begins terms (c ∷ cs) (j ∷ js) [] ks ls p n q r s = absurd q
-trios_of begins terms (c ∷ cs) (j ∷ js) (d ∷ ds) [] ls p n q r s = absurd r
-trios_of begins terms (c ∷ cs) (j ∷ js) (d ∷ ds) (k ∷ ks) [] p n q r s = absurd s
-trios_of begins terms (c ∷ cs) (j ∷ js) (d ∷ ds) (k ∷ ks) (l ∷ ls) p n q r s =
-    (record { a = begins j; begins = p.0; counted = of_first (λ job. (begins job).traffic ≡ Ticks 0 terms.span) (j ∷ js) j refl (omega (arith)) n; ended = q.0; looks = subst (λ (known : Known). IsFrom known l) r.0 s.0 }, trios_of begins terms cs js ds ks ls p.1 (of_later (λ job. (begins job).traffic ≡ Ticks 0 terms.span) (j ∷ js) js refl n) q.1 r.1 s.1)
+    → Pairs (λ job seat. seat ≡ (begins job).known) jobs seats → Pairs IsFrom seats router_seats → RoutersRan terms configs drivens router_seats
+routers_ran_of begins terms [] [] [] [] [] p n q r s = tt
+routers_ran_of begins terms [] [] [] [] (l ∷ ls) p n q r s = absurd s
+routers_ran_of begins terms [] [] [] (k ∷ ks) ls p n q r s = absurd r
+routers_ran_of begins terms [] [] (d ∷ ds) ks ls p n q r s = absurd q
+routers_ran_of begins terms [] (j ∷ js) ds ks ls p n q r s = absurd p
+routers_ran_of begins terms (c ∷ cs) [] ds ks ls p n q r s = absurd p
+routers_ran_of begins terms (c ∷ cs) (j ∷ js) [] ks ls p n q r s = absurd q
+routers_ran_of begins terms (c ∷ cs) (j ∷ js) (d ∷ ds) [] ls p n q r s = absurd r
+routers_ran_of begins terms (c ∷ cs) (j ∷ js) (d ∷ ds) (k ∷ ks) [] p n q r s = absurd s
+routers_ran_of begins terms (c ∷ cs) (j ∷ js) (d ∷ ds) (k ∷ ks) (l ∷ ls) p n q r s =
+    (record { a = begins j; begins = p.0; counted = of_first (λ job. (begins job).traffic ≡ Ticks 0 terms.span) (j ∷ js) j refl (omega (arith)) n; ended = q.0; looks = subst (λ (known : Known). IsFrom known l) r.0 s.0 }, routers_ran_of begins terms cs js ds ks ls p.1 (of_later (λ job. (begins job).traffic ≡ Ticks 0 terms.span) (j ∷ js) js refl n) q.1 r.1 s.1)
 
 -- the first of those that are left
-pub record HasFirst (terms : Terms) (config : Config) (configs : List Config) (drivens : List Driven) (lookers : List RouterSeat) : Type 0 where
+pub record HasFirst (terms : Terms) (config : Config) (configs : List Config) (drivens : List Driven) (router_seats : List RouterSeat) : Type 0 where
   pub driven : Driven
-  pub looker : RouterSeat
+  pub router_seat : RouterSeat
   pub later_drivens : List Driven
-  pub later_lookers : List RouterSeat
+  pub later_seats : List RouterSeat
   pub drivens_are : drivens ≡ driven ∷ later_drivens
-  pub lookers_are : lookers ≡ looker ∷ later_lookers
-  pub first : Trio terms config driven looker
-  pub later : Trios terms configs later_drivens later_lookers
+  pub seats_are : router_seats ≡ router_seat ∷ later_seats
+  pub first : RouterRan terms config driven router_seat
+  pub later : RoutersRan terms configs later_drivens later_seats
 
-first_of : (terms : Terms) (config : Config) (configs : List Config) (drivens : List Driven) (lookers : List RouterSeat) → Trios terms (config ∷ configs) drivens lookers
-    → HasFirst terms config configs drivens lookers
-first_of terms config configs [] ls trios = absurd trios
-first_of terms config configs (d ∷ ds) [] trios = absurd trios
-first_of terms config configs (d ∷ ds) (l ∷ ls) trios =
-    record { driven = d; looker = l; later_drivens = ds; later_lookers = ls; drivens_are = refl; lookers_are = refl; first = trios.0; later = trios.1 }
+first_of : (terms : Terms) (config : Config) (configs : List Config) (drivens : List Driven) (router_seats : List RouterSeat) → RoutersRan terms (config ∷ configs) drivens router_seats
+    → HasFirst terms config configs drivens router_seats
+first_of terms config configs [] ls all_ran = absurd all_ran
+first_of terms config configs (d ∷ ds) [] all_ran = absurd all_ran
+first_of terms config configs (d ∷ ds) (l ∷ ls) all_ran =
+    record { driven = d; router_seat = l; later_drivens = ds; later_seats = ls; drivens_are = refl; seats_are = refl; first = all_ran.0; later = all_ran.1 }
 
-pub first_left : (terms : Terms) (configs : List Config) (i : ℕ) (config : Config) (drivens : List Driven) (lookers : List RouterSeat) → i < length configs
-    → config ≡ get_or configs i config → Trios terms (drop i configs) drivens lookers → HasFirst terms config (drop (i + 1) configs) drivens lookers
-first_left terms configs i config ds ls within is trios =
+pub first_left : (terms : Terms) (configs : List Config) (i : ℕ) (config : Config) (drivens : List Driven) (router_seats : List RouterSeat) → i < length configs
+    → config ≡ get_or configs i config → RoutersRan terms (drop i configs) drivens router_seats → HasFirst terms config (drop (i + 1) configs) drivens router_seats
+first_left terms configs i config ds ls within is all_ran =
     let split : drop i configs ≡ config ∷ drop (i + 1) configs =
     drop-cons configs i config within ∙ ap (λ x. x ∷ drop (suc i) configs) (sym is) ∙ ap (λ n. config ∷ drop n configs) (sym (add-one i)) in
-    first_of terms config (drop (i + 1) configs) ds ls (subst (λ (cs : List Config). Trios terms cs ds ls) split trios)
+    first_of terms config (drop (i + 1) configs) ds ls (subst (λ (cs : List Config). RoutersRan terms cs ds ls) split all_ran)
 
 -- what is taken off a list, and what is left
 pub taken_off : {A : Type 0} (xs : List A) (x y : A) (ys rest : List A) → xs ≡ x ∷ ys → y ≡ get_or xs 0 y → rest ≡ take 0 xs ++ drop (0 + 1) xs → (y ≡ x) × (rest ≡ ys)

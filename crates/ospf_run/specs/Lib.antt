@@ -1,5 +1,5 @@
 pub mod Printed
-pub mod Lookers
+pub mod Lookups
 pub mod Runs
 pub mod Wires
 pub mod Cut

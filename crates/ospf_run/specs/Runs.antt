@@ -15,7 +15,7 @@ use Rattle.ospf_files.specs.declared.files.NamedFile.{NamedFile}
 use Rattle.ospf_index.specs.Known.{Known, Table, opening}
 use Rattle.ospf_router.specs.Routers.{RouterValue}
 use Rattle.ospf_router.specs.Starts.{IsStarted}
-use Rattle.ospf_run.specs.Lookers.{IsFrom}
+use Rattle.ospf_run.specs.Lookups.{IsFrom}
 use Rattle.ospf_udp.specs.Plans.{IsPlan, IsPlanRefused, IsPlanUnreadTold}
 use Rattle.ospf_run.specs.Printed.{AreOutcomesReported}
 use Rattle.ospf_run.specs.Wires.{IsSocketTold}
@@ -122,23 +122,23 @@ IsPublishTold known None = known.tables ≡ opening
 IsPublishTold known (Some told) = told ≡ known
 
 -- a driver that began there has ended, and what looks up beside it has
-pub record Ran (a : Moment) (driven : Driven) (looker : RouterSeat) : Type 0 where
+pub record Ran (a : Moment) (driven : Driven) (router_seat : RouterSeat) : Type 0 where
   pub opened : a.known.tables ≡ opening
   pub ended : IsDriven a driven
-  pub looks : IsFrom a.known looker
+  pub looks : IsFrom a.known router_seat
 
 -- the router of a configuration began, and this came of its driver and of what looks up beside it
-pub record Trio (terms : Terms) (config : Config) (driven : Driven) (looker : RouterSeat) : Type 0 where
+pub record RouterRan (terms : Terms) (config : Config) (driven : Driven) (router_seat : RouterSeat) : Type 0 where
   pub a : Moment
   pub begins : BeginsRun terms.floor config a.router a.known
   pub counted : a.traffic ≡ Ticks 0 terms.span
   pub ended : IsDriven a driven
-  pub looks : IsFrom a.known looker
+  pub looks : IsFrom a.known router_seat
 
-abbrev pub Trios : Terms → List Config → List Driven → List RouterSeat → Type 0
-Trios terms [] [] [] = ⊤
-Trios terms (config ∷ configs) (driven ∷ drivens) (looker ∷ lookers) = Trio terms config driven looker × Trios terms configs drivens lookers
-Trios terms _ _ _ = ⊥
+abbrev pub RoutersRan : Terms → List Config → List Driven → List RouterSeat → Type 0
+RoutersRan terms [] [] [] = ⊤
+RoutersRan terms (config ∷ configs) (driven ∷ drivens) (router_seat ∷ router_seats) = RouterRan terms config driven router_seat × RoutersRan terms configs drivens router_seats
+RoutersRan terms _ _ _ = ⊥
 
 -- what came of the routers of a plan is printed and told, with what is asked for beside it
 pub record Reports (asked : Asked) (terms : Terms) (files : List NamedFile) (configs : List Config) (status : Status) (out_old out_new err_old err_new : Option (List ℕ)) : Type 0 where

@@ -6,7 +6,7 @@ ghost use Rattle.ospf_drive.specs.Moments.{Moment};
 ghost use Rattle.ospf_fib.specs.Answers.{IsAnswerOfLast};
 ghost use Rattle.ospf_index.specs.Known.{opening};
 ghost use Rattle.ospf_udp.specs.Obstacles.{FailsPlan};
-ghost use Rattle.ospf_run.specs.Runs.{AreOutcomes, Came, IsLookedUp, IsPublishTold, Ran, Terms, Trios};
+ghost use Rattle.ospf_run.specs.Runs.{AreOutcomes, Came, IsLookedUp, IsPublishTold, Ran, RoutersRan, Terms};
 
 use crate::look::RouterSeat;
 use crate::outcome::{Looked, Outcome, RouterShown};
@@ -27,20 +27,20 @@ pub(crate) fn finish_all<'a, R: Wait + Drop, S: Threads>(
     files: &'a [NamedFile],
     configs: &[Config],
     mut driven: Vec<Driven<R>>,
-    mut lookers: Vec<RouterSeat>,
+    mut seats: Vec<RouterSeat>,
     lookup: Option<Addr>,
 ) -> Result<Vec<Outcome<'a>>, Failure>
     requires files { length files.now ≡ length configs.now }
-    requires ended { (terms : Terms) × Trios terms configs.now driven.items lookers.items }
-    ensures outcomes { (terms : Terms) → Trios terms configs.now driven.items lookers.items
+    requires ended { (terms : Terms) × RoutersRan terms configs.now driven.items seats.items }
+    ensures outcomes { (terms : Terms) → RoutersRan terms configs.now driven.items seats.items
         → IfOk result (λ all. AreOutcomes lookup terms files.now configs.now all.items) }
     ensures early { IfErr result (FailsPlan files.now) }
 {
     let mut outcomes = Vec::with_capacity(alloc, configs.len())?;
     for (place, config) in configs.iter().enumerate() {
         let ended = driven.remove(0);
-        let looker = lookers.remove(0);
-        let Ok(came) = finish(rt, ended, looker, lookup) else {
+        let router_seat = seats.remove(0);
+        let Ok(came) = finish(rt, ended, router_seat, lookup) else {
             return Err(Failure::Closed);
         };
         let outcome = outcome_of(&files[place], config, came);
@@ -53,11 +53,11 @@ pub(crate) fn finish_all<'a, R: Wait + Drop, S: Threads>(
 fn finish<R: Wait + Drop, S: Threads>(
     rt: &S,
     driven: Driven<R>,
-    looker: RouterSeat,
+    router_seat: RouterSeat,
     lookup: Option<Addr>,
 ) -> Result<Result<RouterShown, DriveFault>, Closed>
-    requires { (a : Moment) × Ran a driven looker }
-    ensures { (a : Moment) → Ran a driven looker → IfOk result (Came lookup a) }
+    requires { (a : Moment) × Ran a driven router_seat }
+    ensures { (a : Moment) → Ran a driven router_seat → IfOk result (Came lookup a) }
 {
     // For the proof.
     all_ticks_are_taken();
@@ -65,7 +65,7 @@ fn finish<R: Wait + Drop, S: Threads>(
         Ok(driven) => driven,
         Err(fault) => return Ok(Err(fault)),
     };
-    let Some(seat) = looker.into_seat(rt) else {
+    let Some(seat) = router_seat.into_seat(rt) else {
         return Ok(Err(DriveFault::Thread));
     };
     match look_if_asked(writer, seat, told, lookup) {

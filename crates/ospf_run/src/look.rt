@@ -2,7 +2,7 @@
 
 ghost use Rattle.std.specs.Prelude.{IfSome};
 ghost use Rattle.ospf_index.specs.Known.{Known};
-ghost use Rattle.ospf_run.specs.Lookers.{IsFrom, Follows};
+ghost use Rattle.ospf_run.specs.Lookups.{IsFrom, Follows};
 
 use ospf_base::Addr;
 use ospf_fib::Seat;
@@ -59,7 +59,7 @@ impl RouterSeat {
 }
 
 /// Starts a thread that looks the address up from the seat, until it is done, if there is an address.
-pub(crate) fn start_looker<S: Threads + Wait + Clock + Copy + Send + 'static>(
+pub(crate) fn start_lookup<S: Threads + Wait + Clock + Copy + Send + 'static>(
     rt: S,
     seat: Seat,
     lookup: Option<Addr>,

@@ -5,14 +5,14 @@ ghost use Rattle.ospf_config.specs.declared.config.Config.{Config};
 ghost use Rattle.ospf_drive.specs.Driven.{IsDriven, Pairs};
 ghost use Rattle.ospf_drive.specs.Moments.{at};
 ghost use Rattle.ospf_flood.specs.Rules.{max_sequence_number};
-ghost use Rattle.ospf_run.specs.Lookers.{IsFrom};
+ghost use Rattle.ospf_run.specs.Lookups.{IsFrom};
 ghost use Rattle.ospf_udp.specs.Obstacles.{FailsPlan};
-ghost use Rattle.ospf_run.specs.Runs.{BeginsRun, ComeOf, Terms, Trios, span_of};
+ghost use Rattle.ospf_run.specs.Runs.{BeginsRun, ComeOf, RoutersRan, Terms, span_of};
 ghost use Rattle.ospf_drive.specs.Traffic.Carried.{Ticks};
 
 use crate::begin::begin_all;
 use crate::finish::finish_all;
-use crate::look::{Done, RouterSeat, start_looker};
+use crate::look::{Done, RouterSeat, start_lookup};
 use crate::outcome::Outcome;
 use crate::settings::Settings;
 use ospf_base::Addr;
@@ -48,14 +48,14 @@ pub(crate) fn run_over<
     ensures early { IfErr result (FailsPlan files.now) }
 {
     let (jobs, seats) = begin_all(*rt, alloc, &plan.configs, plan.floor, wires)?;
-    let (driven, lookers) = drive_and_look(rt, alloc, jobs, seats, settings.lookup)?;
+    let (driven, router_seats) = drive_and_look(rt, alloc, jobs, seats, settings.lookup)?;
     finish_all(
         rt,
         alloc,
         files,
         &plan.configs,
         driven,
-        lookers,
+        router_seats,
         settings.lookup,
     )
 }
@@ -76,31 +76,31 @@ fn drive_and_look<
         Pairs (λ config job. BeginsRun terms.floor config job.0 job.2) configs jobs.items →
         All (λ job. W.traffic job.1 ≡ Ticks 0 terms.span) jobs.items →
         Pairs (λ job seat. seat ≡ job.2) jobs.items seats.items →
-        IfOk result (λ ended. Trios terms configs ended.0.items ended.1.items) }
+        IfOk result (λ ended. RoutersRan terms configs ended.0.items ended.1.items) }
 {
     let done = Arc::new(alloc, AtomicBool::new(false)).map_err(AllocError::from)?;
-    let mut lookers = Vec::with_capacity(alloc, seats.len())?;
-    start_lookers(*rt, seats, lookup, &done, &mut lookers);
+    let mut router_seats = Vec::with_capacity(alloc, seats.len())?;
+    start_lookups(*rt, seats, lookup, &done, &mut router_seats);
     let driven = drive_to_end(rt, alloc, jobs, &done)?;
-    Ok((driven, lookers))
+    Ok((driven, router_seats))
 }
 
 // Starts to look the address up from the seats, in order.
-fn start_lookers<S: Threads + Wait + Clock + Copy + Send + 'static>(
+fn start_lookups<S: Threads + Wait + Clock + Copy + Send + 'static>(
     rt: S,
     mut seats: Vec<Seat>,
     lookup: Option<Addr>,
     done: &Done,
-    lookers: &mut Vec<RouterSeat>,
+    router_seats: &mut Vec<RouterSeat>,
 )
-    requires none { lookers.old.items ≡ [] }
-    requires room { vec_len seats ≤ vec_capacity lookers.old }
-    ensures { Pairs IsFrom seats.items lookers.new.items }
+    requires none { router_seats.old.items ≡ [] }
+    requires room { vec_len seats ≤ vec_capacity router_seats.old }
+    ensures { Pairs IsFrom seats.items router_seats.new.items }
 {
     while !seats.is_empty() {
         let seat = seats.remove(0);
-        let looker = start_looker(rt, seat, lookup, done);
-        let Ok(()) = lookers.push(looker) else {
+        let router_seat = start_lookup(rt, seat, lookup, done);
+        let Ok(()) = router_seats.push(router_seat) else {
             unreachable!()
         };
     }

@@ -1,4 +1,4 @@
-use Rattle.ospf_run.specs.Lookers.{Follows}
+use Rattle.ospf_run.specs.Lookups.{Follows}
 use Rattle.ospf_run.proofs.look.look_until.Given as goal
 
 -- the seat knows no less than it did

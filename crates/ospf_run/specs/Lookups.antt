@@ -3,7 +3,7 @@ use Rattle.std.specs.Prelude.{◌≡◌, ⊤}
 use mathlib.Core.List.{IsPrefix}
 use Rattle.ospf_index.specs.Known.{Known}
 use Rattle.ospf_run.specs.declared.look.RouterSeat.{RouterSeat}
-use Rattle.ospf_run.specs.declared.look.RouterSeat.TheVariants as looker
+use Rattle.ospf_run.specs.declared.look.RouterSeat.TheVariants as router_seat
 
 -- what a seat knows after another: of the same table, and no less
 pub record Follows (old new : Known) : Type 0 where
@@ -12,6 +12,6 @@ pub record Follows (old new : Known) : Type 0 where
 
 -- a seat that knew this before anything was looked up there
 abbrev pub IsFrom : Known → RouterSeat → Type 0
-IsFrom known (looker.Idle seat) = seat ≡ known
-IsFrom known (looker.Looking began) = began ≡ known
-IsFrom known looker.NotStarted = ⊤
+IsFrom known (router_seat.Idle seat) = seat ≡ known
+IsFrom known (router_seat.Looking began) = began ≡ known
+IsFrom known router_seat.NotStarted = ⊤

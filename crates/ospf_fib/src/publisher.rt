@@ -25,7 +25,7 @@ pub(crate) type Copies = left_right::writer::Writer<ShownTable, HandedOver, Know
 
 pub(crate) struct Publisher {
     pub copies: Copies,
-    pub sole: ClosedList,
+    pub list: ClosedList,
     // What readers will find once all that was handed over is shown.
     pub handed: RouteTable,
     pub tries: Arc<Tries>,
@@ -43,12 +43,12 @@ impl Model for Publisher {
 
     ghost Value = { Known };
 
-    ghost view = { λ d. d.sole };
+    ghost view = { λ d. d.list };
 
-    ghost invariant = { λ d. IsKnownBook (view_of d.copies.desk.place) d.sole.fib
-        × IsListShown d.copies.desk.shown.value d.sole
+    ghost invariant = { λ d. IsKnownBook (view_of d.copies.desk.place) d.list.fib
+        × IsListShown d.copies.desk.shown.value d.list
         × ((shown_end d.copies.desk.shown.value (drop d.copies.behind d.copies.log.items)).table ≡ d.handed)
-        × ((arc_value d.tries).counter ≡ counter_of d.sole.fib) };
+        × ((arc_value d.tries).counter ≡ counter_of d.list.fib) };
 }
 
 impl Publisher {
@@ -75,12 +75,12 @@ impl Publisher {
         };
         let Publisher {
             copies,
-            sole,
+            list,
             handed,
             tries,
             alloc,
         } = self;
-        match sole.open(&tries.counter) {
+        match list.open(&tries.counter) {
             Ok(opened) => {
                 let open = OpenPublisher {
                     copies,
@@ -91,15 +91,15 @@ impl Publisher {
                 };
                 open.publish(rt, plan)
             }
-            Err(sole) => {
-                let desk = Publisher {
+            Err(list) => {
+                let publisher = Publisher {
                     copies,
-                    sole,
+                    list,
                     handed,
                     tries,
                     alloc,
                 };
-                (desk, Err(AllocError))
+                (publisher, Err(AllocError))
             }
         }
     }
@@ -109,7 +109,7 @@ impl Publisher {
         ensures { result ≡ self.now }
     {
         Told {
-            known: self.sole.known(),
+            known: self.list.known(),
         }
     }
 }
@@ -119,8 +119,8 @@ pub(crate) fn closed<R: Wait>(rt: &R, opened: &Opened, counter: &Counter) -> Clo
     requires { counter.now ≡ counter_of opened.now.fib }
     ensures { result ≡ opened.now }
 {
-    if let Some(sole) = opened.close(counter) {
-        return sole;
+    if let Some(list) = opened.close(counter) {
+        return list;
     }
     wait_forever(rt);
     unreachable!()
@@ -154,7 +154,7 @@ struct HandOver {
     number: u64,
 }
 
-/// The desk while the list is open, which is within a publish alone.
+/// The publisher while the list is open, which is within a publish alone.
 struct OpenPublisher {
     copies: Copies,
     opened: Opened,
@@ -193,10 +193,10 @@ impl OpenPublisher {
             tries,
             alloc,
         } = self;
-        let sole = closed(rt, &opened, &tries.counter);
+        let list = closed(rt, &opened, &tries.counter);
         Publisher {
             copies,
-            sole,
+            list,
             handed,
             tries,
             alloc,
@@ -270,18 +270,18 @@ impl OpenPublisher {
             alloc,
         } = self;
         let (copies, done) = show(copies, rt);
-        let sole = match done {
+        let list = match done {
             Ok(()) => closed_shown(rt, copies.published(), &tries.counter),
             Err(_) => closed(rt, &opened, &tries.counter),
         };
-        let desk = Publisher {
+        let publisher = Publisher {
             copies,
-            sole,
+            list,
             handed,
             tries,
             alloc,
         };
-        (desk, done)
+        (publisher, done)
     }
 
     // Publishes the table that the changes lead to.
@@ -301,13 +301,13 @@ impl OpenPublisher {
         if let Err(error) = handed {
             return (open.close(rt), Err(error));
         }
-        let (desk, shown) = open.show(rt);
+        let (publisher, shown) = open.show(rt);
         match shown {
             Ok(()) => {
-                let told = desk.told();
-                (desk, Ok(told))
+                let told = publisher.told();
+                (publisher, Ok(told))
             }
-            Err(error) => (desk, Err(error)),
+            Err(error) => (publisher, Err(error)),
         }
     }
 }

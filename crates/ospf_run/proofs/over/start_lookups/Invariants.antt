@@ -1,13 +1,13 @@
 use Rattle.std.proofs.Common.{◌≡◌, ◌+◌, ◌≤◌, ◌++◌, List, vec_len, vec_capacity}
 use Rattle.ospf_drive.specs.Driven.{Pairs}
-use Rattle.ospf_run.specs.Lookers.{IsFrom}
-use Rattle.ospf_run.proofs.over.start_lookers.Given as goal
+use Rattle.ospf_run.specs.Lookups.{IsFrom}
+use Rattle.ospf_run.proofs.over.start_lookups.Given as goal
 
 -- each seat that is gone has what looks up there, and there is room for those of the seats that are left
 abbrev pub invariant-loop-rt : goal.invariant-loop-rt
 invariant-loop-rt g l = record {
-  room : vec_len l.lookers + vec_len l.seats ≤ vec_capacity l.lookers;
-  started : (gone : List _) × (l.fn.seats.items ≡ gone ++ l.seats.items) × Pairs IsFrom gone l.lookers.items;
+  room : vec_len l.router_seats + vec_len l.seats ≤ vec_capacity l.router_seats;
+  started : (gone : List _) × (l.fn.seats.items ≡ gone ++ l.seats.items) × Pairs IsFrom gone l.router_seats.items;
 }
 
 abbrev pub decreases-loop-rt : goal.decreases-loop-rt

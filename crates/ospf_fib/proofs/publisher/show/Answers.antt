@@ -2,7 +2,7 @@ use Rattle.std.proofs.Common.{ap, ◌∙◌}
 use Rattle.left_right.specs.Sides.{view}
 use Rattle.ospf_index.specs.Rule.{counter_of}
 use Rattle.ospf_fib.proofs.Kept.{swaps}
-use Rattle.ospf_fib.proofs.desk.show.Goals as goal
+use Rattle.ospf_fib.proofs.publisher.show.Goals as goal
 
 pub publish_as-requires : goal.publish_as-requires
 publish_as-requires g c next is =

@@ -1,7 +1,7 @@
 use Rattle.std.proofs.Common.{◌≡◌, ◌-◌, length, Some, slice_get, ap, sym, ◌∙◌, subst}
 use Rattle.ospf_fib.specs.Versions.{found_of}
 use Rattle.ospf_fib.proofs.Lists.{ends_with}
-use Rattle.ospf_fib.proofs.desk.Publisher.shown.Goals as goal
+use Rattle.ospf_fib.proofs.publisher.Publisher.shown.Goals as goal
 
 pub returns : goal.returns
 returns c =
