@@ -3,7 +3,7 @@
 ghost use Rattle.std.specs.Prelude.{◌≡◌, not, IfOk, OnOk};
 ghost use Rattle.ospf_exchange.specs.Exchange.{dd_answer};
 ghost use Rattle.ospf_exchange.specs.Laws.{is_not_taken};
-ghost use Rattle.ospf_adjacency.specs.Descriptions.{is_init, dd_dropped, touched, dd_turn, event_turn, greeted_turn, answered_turn, exchange_turn, description_turn};
+ghost use Rattle.ospf_adjacency.specs.Descriptions.{is_init, dd_dropped, touched, dd_turn, greeted_turn, exchange_turn, description_turn};
 ghost use Rattle.ospf_area.specs.Turns.{turn, request_turn};
 
 use crate::adjacency::{take_event, wants_adjacency};

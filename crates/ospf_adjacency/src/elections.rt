@@ -5,7 +5,7 @@ ghost use Rattle.ospf_election.specs.Election.{AreDistinct};
 ghost use Rattle.ospf_election.specs.declared.candidate.Candidate.{Candidate};
 ghost use Rattle.ospf_iface.specs.declared.machine.IfaceChange.{IfaceChange};
 ghost use Rattle.ospf_iface.specs.Machine.{own_candidate, Elects};
-ghost use Rattle.ospf_adjacency.specs.Elections.{AreOfLink, ElectsOn, elects_in, candidate_of, candidates_of, taking_part, adjusted, number_after, first_dds};
+ghost use Rattle.ospf_adjacency.specs.Elections.{AreOfLink, ElectsOn, elects_in, candidate_of, candidates_of, adjusted, number_after, first_dds};
 ghost use Rattle.ospf_area.specs.Packets.{Parcel};
 
 use crate::adjacency::{take_event, wants_adjacency};

@@ -6,7 +6,7 @@ ghost use Rattle.ospf_neighbour.specs.Neighbours.{AreNeighboursRising};
 ghost use Rattle.ospf_area.specs.Turns.{turn};
 ghost use Rattle.std.specs.Prelude.{if◌then◌else◌};
 ghost use Rattle.ospf_adjacency.specs.Adjacency.{wants_adjacency};
-ghost use Rattle.ospf_adjacency.specs.Heard.{names, with_declared, heard, naming_event, hello_turn, bearing_of, is_neighbor_change, is_backup_seen, is_settled, is_waiting, elects_by_hello, place_for, neighbourhood, hello_on};
+ghost use Rattle.ospf_adjacency.specs.Heard.{names, heard, naming_event, hello_turn, bearing_of, is_neighbor_change, is_backup_seen, is_settled, is_waiting, elects_by_hello, place_for, neighbourhood, hello_on};
 
 use crate::adjacency::{is_broadcast, take_event, wants_adjacency};
 use ospf_area::{OnLink, Post};

@@ -4,7 +4,7 @@ ghost use Rattle.std.specs.Prelude.{◌≡◌, ◌&&◌, [], true, false, map, f
 ghost use Rattle.std.specs.List.{list_any};
 ghost use Rattle.ospf_neighbour.specs.Machine.{is_two_way};
 ghost use Rattle.ospf_iface.specs.Machine.{is_down};
-ghost use Rattle.ospf_adjacency.specs.Links.{is_inactive, inactivity_ticked, timed, up, down, wait_ticked, is_wait_over, elects_by_timers};
+ghost use Rattle.ospf_adjacency.specs.Links.{is_inactive, inactivity_ticked, timed, up, down, wait_ticked, elects_by_timers};
 
 use crate::heard::{is_settled, is_waiting};
 use ospf_iface::{Iface, IfaceEvent};

@@ -3,7 +3,7 @@
 ghost use Rattle.std.specs.Prelude.{◌≡◌, ◌∷◌, [], map, IfOk, OnOk};
 ghost use Rattle.ospf_area.specs.Packets.{parcel_if};
 ghost use Rattle.ospf_area.specs.Posting.{and_parcels};
-ghost use Rattle.ospf_adjacency.specs.Links.{own_hello, hello_parcel, hello_ticked, is_hello_due};
+ghost use Rattle.ospf_adjacency.specs.Links.{hello_parcel, hello_ticked, is_hello_due};
 
 use ospf_area::Post;
 use ospf_base::{ALL_SPF_ROUTERS, RouterId};

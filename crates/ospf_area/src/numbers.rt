@@ -3,7 +3,6 @@
 ghost use Rattle.std.specs.Prelude.{◌≡◌, OnOk, map};
 ghost use Rattle.std.specs.Int.{int_max};
 ghost use Rattle.std.specs.List.{list_any};
-ghost use Rattle.ospf_base.specs.Keys.{same_key};
 ghost use Rattle.ospf_area.specs.Numbers.{is_numbering_of, counted_one, counted, is_own, counts, greatest_after, is_network, has_that_address, is_self_originated, unmarked, marked};
 ghost use Rattle.ospf_area.specs.State.{was_sent};
 

@@ -2,7 +2,7 @@
 use Rattle.std.proofs.Common.{◌≡◌, false, None, [], codes}
 use Rattle.toml.specs.Data.{Members, get_member, as_str, as_bool, as_integer}
 use Rattle.ospf_config.specs.Reading.{IsNumberIn, as_integers}
-use Rattle.ospf_config.specs.Texts.{IsRouterIdText, IsAreaText, IsOtherLsasText, other_lsas_text, IsKindText, IsAddressText}
+use Rattle.ospf_config.specs.Texts.{IsRouterIdText, IsAreaText, IsOtherLsasText, IsKindText, IsAddressText}
 use Rattle.ospf_config.specs.Keys.{ReadsOwnRouterId, ReadsArea, ReadsStubRouter, ReadsOtherLsas, ReadsKind, ReadsInterfaceAddress, ReadsCost, ReadsPriority, ReadsHello, ReadsDead, ReadsRetransmit, ReadsTransmitDelay, ReadsMtu, ReadsPort, ReadsPeers, IsPortNumber, ArePortNumbers}
 use Rattle.ospf_config.specs.Tables.{ReadsInterfaces, AreInterfaceTables, as_tables}
 use Rattle.ospf_config.proofs.Least.{IsSingle, required_single, optional_single, cost_single}

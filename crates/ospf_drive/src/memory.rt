@@ -6,7 +6,7 @@ ghost use Rattle.ospf_drive.specs.Scripts.{new_wire, scripted};
 
 use crate::wire::{Arrival, LONGEST, Wire, WireFault};
 use ospf_base::Addr;
-use ospf_router::{Router, Sent};
+use ospf_router::Sent;
 use std::alloc::{AllocError, Global};
 use std::marker::Model;
 

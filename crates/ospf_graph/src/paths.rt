@@ -9,7 +9,7 @@ ghost use Rattle.ospf_graph.specs.declared.graph.Start.TheVariants.{Here};
 ghost use Rattle.ospf_graph.specs.Paths.{AreSettledInOrder, AreStartsInOrder};
 ghost use Rattle.ospf_graph.specs.Reached.{ArePlaces, settled_of, starts_at, starts_of};
 ghost use Rattle.ospf_graph.specs.Tree.{extend, AreLeast, IsTree};
-ghost use Rattle.ospf_graph.specs.Search.{AddsStart, AtIn, BringsStarts, AreFitEdges, Joins, StartsIn, TakesCandidate, vertex_code, vertex_id, AreEdgesInOrder, HaveSameFrom, candidates_from, vertex_eq};
+ghost use Rattle.ospf_graph.specs.Search.{AtIn, AreFitEdges, Joins, StartsIn, TakesCandidate, vertex_code, vertex_id, AreEdgesInOrder, HaveSameFrom, candidates_from, vertex_eq};
 
 use crate::candidates::{Candidates, SpfCandidate};
 use crate::graph::{Edge, Start, Vertex, vertex_order};

@@ -7,7 +7,7 @@ use Rattle.ospf_config.specs.declared.config.Config.{Config}
 use Rattle.ospf_base.specs.declared.ids.RouterId.{RouterId}
 use Rattle.ospf_flood.specs.Rules.{max_sequence_number}
 use Rattle.ospf_headline.specs.World as world
-use Rattle.ospf_headline.specs.World.{Member, Running}
+use Rattle.ospf_headline.specs.World.{Running}
 use Rattle.ospf_headline.specs.declared.event.WorldEvent.{WorldEvent}
 use Rattle.ospf_headline.specs.declared.event.WorldEvent.TheVariants.{Start, Stop, Deliver}
 use Rattle.ospf_headline.specs.declared.event.WorldFault.{WorldFault}

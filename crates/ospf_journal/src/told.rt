@@ -3,7 +3,7 @@
 ghost use Rattle.ospf_spf.specs.Changes.{IsChangeBefore, PutsHops, edited};
 ghost use Rattle.std.specs.Prelude.{◌≡◌, ◌++◌, All, AllPairs, IfOk, OnErr, OnOk, flat_map, length, map, max};
 ghost use Rattle.std.specs.Option.{option_copied};
-ghost use Rattle.ospf_journal.specs.Changes.{LeadsAlong, change_of_own, drop_change, flush_change, flushed_before, gone_change, held_before, iface_change, iface_on, iface_place, ifaces_changes, is_issued, is_same_iface, issue_change, issued_before, link_changes, links_changes, own_as, own_change, own_changes, removal_change, route_change, seen_as, seen_on, seen_state, standing_change, state_change, state_place};
+ghost use Rattle.ospf_journal.specs.Changes.{LeadsAlong, change_of_own, drop_change, flushed_before, gone_change, held_before, iface_change, iface_on, iface_place, ifaces_changes, is_issued, is_same_iface, issued_before, link_changes, links_changes, own_as, own_changes, route_change, seen_as, seen_on, seen_state, standing_change, state_change, state_place};
 
 use crate::change::{DroppedAt, RouterChange};
 use crate::seen::{SeenIface, SeenLink, SeenNeighbour, SeenOwn};

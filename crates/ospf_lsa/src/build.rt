@@ -5,7 +5,7 @@ ghost use Rattle.std.specs.List.{flat_map, AllByRecursion};
 ghost use Rattle.ospf_base.specs.Constants.{largest_lsa};
 ghost use Rattle.ospf_base.specs.Sums.{IsChecksum, with_checksum};
 ghost use Rattle.ospf_lsa.specs.Link.{link_bytes, LinkFits};
-ghost use Rattle.ospf_lsa.specs.Lsa.{IsLsa, HasMask, HasCost};
+ghost use Rattle.ospf_lsa.specs.Lsa.{HasMask, HasCost};
 ghost use Rattle.ospf_lsa.specs.Attached.{routers_bytes, RouterFits};
 ghost use Rattle.ospf_lsa.specs.Value.{router_value, network_value, lsa_bytes, IsMade, ValueFits, RouterNeeds, NetworkNeeds, HasAll, IsUnmade, network_lsa_length, router_lsa_length};
 

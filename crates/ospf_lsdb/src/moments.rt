@@ -3,8 +3,7 @@
 ghost use Rattle.std.specs.Prelude.{◌≡◌, ◌==◌, ◌&&◌, ◌||◌, ◌⊎◌, ◌+◌, ◌-◌, ◌%◌, ◌^◌, ◌<◌, ◌≤◌, min, not, length, ℕ, [], OnOk, OnErr, IfOk, IfSome, IfNone, true, false};
 ghost use Rattle.std.specs.List.Sorted.{IsStrictlySortedBy};
 ghost use Rattle.ospf_base.specs.Constants.{max_age};
-ghost use Rattle.ospf_lsdb.specs.Database.{is_told, ls_refresh_time};
-ghost use Rattle.ospf_base.specs.Keys.{same_key};
+ghost use Rattle.ospf_lsdb.specs.Database.{ls_refresh_time};
 ghost use Rattle.ospf_lsdb.specs.Moments.{ahead, due_at, due_cmp, ring, same_due, has_due, IsIdleUntil, ComesIn, coming, is_coming, is_due_at, keys_at};
 ghost use Rattle.ospf_lsdb.specs.declared.moments.AgeDue.{AgeDue};
 

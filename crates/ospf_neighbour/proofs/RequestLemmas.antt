@@ -5,7 +5,6 @@ use Rattle.std.proofs.lemmas.Bool.{false≢true, eqb-true}
 use Rattle.std.proofs.lemmas.List.{take_more}
 use Rattle.std.proofs.lemmas.List.Quantifiers.{position-Some}
 use Rattle.std.proofs.lemmas.Iterator.Adapters.{position_from-zero}
-use Rattle.ospf_base.specs.declared.ids.RouterId.{RouterId}
 use Rattle.ospf_lsa.specs.declared.header.LsaHeader.{LsaHeader}
 use Rattle.ospf_neighbour.specs.Lists.{request_put, requests_put}
 use Rattle.ospf_neighbour.specs.OneAKey.{is_of_one_lsa, AsksOnce}

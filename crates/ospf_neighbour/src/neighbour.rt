@@ -74,7 +74,7 @@ impl Model for Neighbour {
 impl Neighbour {
     ghost use Rattle.std.specs.Prelude.{◌≡◌, ◌≤◌, ◌-◌, ◌∷◌, ◌++◌, ◌↔◌, [], IsTrue, OnOk, OnErr, drop, length, take};
     ghost use Rattle.ospf_neighbour.specs.Machine.{is_exchanging, transition, LeavesNone};
-    ghost use Rattle.ospf_neighbour.specs.Neighbour.{IsSoundNeighbour, is_empty, new_neighbour, effected, emptied, negotiated};
+    ghost use Rattle.ospf_neighbour.specs.Neighbour.{IsSoundNeighbour, is_empty, new_neighbour, effected, negotiated};
     ghost use Rattle.ospf_neighbour.specs.Lists.{request_of, requesting, unrequested, is_listed, is_key_listed, unlisted, key_unlisted, relisted, resent};
     ghost use Rattle.ospf_neighbour.specs.OneAKey.{IsAloneOfKeys};
 

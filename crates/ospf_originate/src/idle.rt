@@ -2,7 +2,6 @@
 
 ghost use Rattle.std.specs.Prelude.{◌≡◌, ◌||◌, ◌↔◌, IsTrue, [], is_some, not, option_copied};
 ghost use Rattle.std.specs.List.{flat_map, list_all, list_any};
-ghost use Rattle.ospf_base.specs.Keys.{same_key};
 ghost use Rattle.ospf_base.specs.declared.ids.LsaKey.{LsaKey};
 ghost use Rattle.ospf_area.specs.State.{kept_number};
 ghost use Rattle.ospf_originate.specs.Actions.{is_due, next_action};
@@ -10,7 +9,7 @@ ghost use Rattle.ospf_originate.specs.Idle.{IsIdle, is_left, is_quiet, key_left,
 ghost use Rattle.ospf_originate.specs.Numbers.{waits};
 ghost use Rattle.ospf_originate.specs.Sound.{IsSound};
 ghost use Rattle.ospf_originate.specs.Steps.{wants};
-ghost use Rattle.ospf_wanted.specs.Wanted.{links_at, networks_at, network_of, wanted, wanted_key, wanted_of};
+ghost use Rattle.ospf_wanted.specs.Wanted.{networks_at, network_of, wanted_key, wanted_of};
 ghost use Rattle.ospf_wanted.specs.Wanted.WantedValue.{RouterLsa};
 
 use crate::action::{OwnAction, is_fresh, next_action};

@@ -7,7 +7,7 @@ ghost use Rattle.ospf_packet.specs.Fields.{hello_fields};
 ghost use Rattle.ospf_base.specs.Sums.{packet_checksum};
 ghost use Rattle.ospf_lsa.specs.Attached.{routers_bytes, RouterFits};
 ghost use Rattle.ospf_packet.specs.Headers.{aged_bytes, AgedFits};
-ghost use Rattle.ospf_packet.specs.Meaning.{packet_body_type, packet_body_bytes, bytes_with_sum, head_bytes, no_authentication, with_packet_sum, packet_bytes, PacketBodyFits, CountFits, MeaningFits};
+ghost use Rattle.ospf_packet.specs.Meaning.{packet_body_type, packet_body_bytes, head_bytes, no_authentication, with_packet_sum, packet_bytes, PacketBodyFits, CountFits, MeaningFits};
 ghost use Rattle.ospf_packet.specs.PacketOf.{packet_of};
 ghost use Rattle.ospf_packet.specs.Requests.{request_entry_bytes, RequestEntryFits};
 ghost use Rattle.ospf_packet.specs.Said.{body_meant, meant};

@@ -5,7 +5,7 @@ ghost use Rattle.std.specs.Option.{option_to_list};
 ghost use Rattle.std.specs.List.{filter_map};
 ghost use Rattle.ospf_base.specs.declared.interface.InterfaceKind.TheVariants as kind;
 ghost use Rattle.ospf_plan.specs.Ends.{AreMaps, is_found, is_same};
-ghost use Rattle.ospf_plan.specs.Findings.{every_fault, found, found_at, found_in, is_wrong, other_of, same_kind};
+ghost use Rattle.ospf_plan.specs.Findings.{every_fault, found, found_in, is_wrong, other_of, same_kind};
 ghost use Rattle.ospf_plan.specs.Parts.{AreFindings};
 ghost use Rattle.ospf_plan.specs.declared.ends.LinkEnd.{LinkEnd};
 

@@ -7,7 +7,7 @@ use Rattle.ospf_graph.specs.Advertisements.{Advertisement, IsListed}
 use Rattle.ospf_graph.specs.Graph.{IsEdge}
 use Rattle.ospf_graph.specs.Routes.{IsEnd, IsRoute, Way}
 use Rattle.ospf_graph.specs.Search.{AtIn, StartsIn}
-use Rattle.ospf_graph.specs.Tree.{IsTree, hop_of_start}
+use Rattle.ospf_graph.specs.Tree.{IsTree}
 use Rattle.ospf_graph.specs.declared.graph.Start.{Start}
 use Rattle.ospf_graph.specs.declared.graph.Vertex.{Vertex}
 use Rattle.ospf_graph.specs.declared.graph.Vertex.TheVariants.{Network, Router}

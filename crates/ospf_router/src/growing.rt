@@ -3,7 +3,6 @@
 ghost use Rattle.std.specs.Prelude.{◌≡◌, ◌≢◌, ◌↔◌, ◌⊎◌, ℕ, List, [], Contains, Err, IfErr, IfNone, IfOk, IfSome, IsTrue, OnOk};
 ghost use Rattle.ospf_base.specs.declared.prefix.Prefix.{Prefix};
 ghost use Rattle.ospf_edges.specs.Listed.{advertisement_of, advertisements_of};
-ghost use Rattle.ospf_graph.specs.Advertisements.{IsListed};
 ghost use Rattle.ospf_graph.specs.Elsewhere.{vertex_of};
 ghost use Rattle.ospf_graph.specs.Routes.{IsEnd, IsTable};
 ghost use Rattle.ospf_graph.specs.Search.{AtIn};

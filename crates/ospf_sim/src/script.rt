@@ -2,8 +2,7 @@
 
 ghost use Rattle.std.specs.Prelude.{◌≡◌, [], IfErr, IfOk, OnOk, map, string_bytes};
 ghost use Rattle.std.specs.Io.KnownBytes.{Appends};
-ghost use Rattle.ospf_files.specs.Lines.{numbered_line};
-ghost use Rattle.ospf_sim.specs.Begun.{IsEventAnswerCut, IsCutAtLine, IsLineCut, IsScriptCut, IsTellingCut};
+ghost use Rattle.ospf_sim.specs.Begun.{IsEventAnswerCut, IsLineCut, IsScriptCut, IsTellingCut};
 ghost use Rattle.ospf_sim.specs.Scripts.{LineComes, ScriptComes, hint_line, not_a_command_line, world_refusal_line, told_of, unreadable_line};
 
 use ospf_commands::{Simulation, Watch, run_command};

@@ -2,14 +2,14 @@
 
 ghost use Rattle.std.specs.Prelude.{◌≡◌, ◌≢◌, ◌⊎◌, ◌∷◌, IfErr, IfOk, IfSome, IfNone, None, OnErr, OnOk, length};
 ghost use Rattle.std.specs.Io.KnownBytes.{Appends};
-ghost use Rattle.ospf_files.specs.Files.{text_in, unread_line};
+ghost use Rattle.ospf_files.specs.Files.{unread_line};
 ghost use Rattle.ospf_files.specs.declared.files.NamedFile.{NamedFile};
 ghost use Rattle.ospf_files.specs.declared.streams.FailedStreams.{FailedStreams};
 ghost use Rattle.ospf_files.specs.Listed.{AreFilesRead, IsFirstUnread};
 ghost use Rattle.ospf_files.specs.Status.{failure_line, failure_status};
 ghost use Rattle.ospf_files.specs.Streams.{IsBegun, IsErrorCut, IsTold};
-ghost use Rattle.ospf_sim.specs.Begun.{IsSimulationCut, IsOpeningCut, IsScriptCut, IsWorldCut};
-ghost use Rattle.ospf_sim.specs.Simulations.{ComesOfScript, IsScriptRefused, IsSimulated, OpensWorld, ScriptRunsTo, WorldComes, status_of_script};
+ghost use Rattle.ospf_sim.specs.Begun.{IsSimulationCut, IsOpeningCut, IsWorldCut};
+ghost use Rattle.ospf_sim.specs.Simulations.{ComesOfScript, IsScriptRefused, IsSimulated, OpensWorld, WorldComes, status_of_script};
 ghost use Rattle.ospf_sim.specs.Stopped.{IsStopped, IsScriptUnreadTold};
 ghost use Rattle.ospf_sim.specs.Twins.{AreFirstTwins, AreTwinsTold};
 

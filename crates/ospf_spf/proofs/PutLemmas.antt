@@ -12,7 +12,6 @@ use Rattle.ospf_graph.specs.declared.route.Route.{Route}
 use Rattle.ospf_spf.proofs.ChangeLemmas.{from_place, to_place}
 use Rattle.ospf_spf.proofs.EditLemmas.{changed_at}
 use Rattle.ospf_spf.proofs.Groups.{code_before, code_same}
-use Rattle.ospf_spf.proofs.PrefixOrder.{prefixes_told}
 use Rattle.ospf_spf.specs.Changes.{changed, prefix_of, put_of}
 use Rattle.ospf_spf.specs.Reach.{prefix_code}
 use Rattle.ospf_spf.specs.declared.changes.Change.{Change}

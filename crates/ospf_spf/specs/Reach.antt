@@ -5,7 +5,7 @@ use Rattle.ospf_base.specs.declared.prefix.Prefix.{Prefix}
 use Rattle.ospf_graph.specs.Advertisements.{Advertisement}
 use Rattle.ospf_graph.specs.Hops.{IsHopBefore}
 use Rattle.ospf_graph.specs.Routes.{IsEnd}
-use Rattle.ospf_graph.specs.Search.{AtIn, vertex_code}
+use Rattle.ospf_graph.specs.Search.{AtIn}
 use Rattle.ospf_graph.specs.Tree.{hop_of_start}
 use Rattle.ospf_graph.specs.declared.graph.Start.{Start}
 use Rattle.ospf_graph.specs.declared.graph.Vertex.{Vertex}

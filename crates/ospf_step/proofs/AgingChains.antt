@@ -7,7 +7,7 @@ use Rattle.ospf_base.specs.declared.ids.LsaKey.{LsaKey}
 use Rattle.ospf_lsa.specs.Header.{header_of}
 use Rattle.ospf_lsa.specs.Lsa.{key_of}
 use Rattle.ospf_lsdb.specs.Database as lsdb
-use Rattle.ospf_lsdb.specs.Database.{Entry, Held, IsDatabase, lsa_of, key_at, key_in, reached_at, entries}
+use Rattle.ospf_lsdb.specs.Database.{Entry, IsDatabase, lsa_of, key_at, key_in, reached_at, entries}
 use Rattle.ospf_base.proofs.SameKeys.{same_key-eq, same_key-refl}
 use Rattle.ospf_exchange.proofs.LawLemmas.{of_copy}
 use Rattle.ospf_update.specs.Aging.{TickAges, Flushes, turn_out, noted, copy_flooded_by, copy_flooded, copy_flood_out_by, copy_flood_out, copy_sent, copy_out, copies_sent, copies_out}

@@ -14,7 +14,7 @@ use Rattle.ospf_lsa.specs.declared.header.LsaHeader.{LsaHeader}
 use Rattle.ospf_lsa.specs.declared.recency.Recency.{Recency}
 use Rattle.ospf_lsa.specs.declared.recency.Recency.TheVariants.{Newer, Older, Same}
 use Rattle.ospf_lsdb.specs.Database as lsdb
-use Rattle.ospf_lsdb.specs.Database.{Entry, Held, lsa_of, key_in, instance_at, header_at}
+use Rattle.ospf_lsdb.specs.Database.{Entry, lsa_of, instance_at, header_at}
 use Rattle.ospf_exchange.specs.Headers as exchange
 use Rattle.ospf_flood.specs.Rules.{is_sent_back, lsa_rule, rule_over, came_just_now}
 use Rattle.ospf_flood.specs.declared.acknowledgement.Acknowledgement.{Acknowledgement}
@@ -25,7 +25,7 @@ use Rattle.ospf_packet.specs.Meaning.{BodyMeaning, hello, description, request, 
 use Rattle.ospf_neighbour.specs.Neighbour.{NeighbourValue}
 use Rattle.ospf_area.specs.Changes.{changed_on, delayed_on}
 use Rattle.ospf_update.specs.Meets as meets
-use Rattle.ospf_update.specs.Meets.{Stores, store_updates, rule_met, MeetsRule, MeetsLsa, Admits, AnswersExpired, RestartsExchange, AcknowledgesDuplicate, Replies, reply_of, reply_to, reply_out, lsa_out, lsa_out_on, heard_by, first_dd_on, restarted, replied, named_as, named_by, header_met, taken_off}
+use Rattle.ospf_update.specs.Meets.{Stores, MeetsRule, MeetsLsa, Admits, AnswersExpired, RestartsExchange, AcknowledgesDuplicate, Replies, reply_of, reply_to, reply_out, lsa_out, lsa_out_on, heard_by, first_dd_on, restarted, replied, named_as, named_by, taken_off}
 use Rattle.ospf_area.specs.Sending.{own_of, and_sends, packet_of, sent_lsa}
 use Rattle.ospf_area.specs.Numbers.{is_self_originated}
 use Rattle.ospf_area.specs.Outputs.{OutputsValue, SentValue, no_outputs, AreReadAsSent}

@@ -1,7 +1,6 @@
 //! Laws: each holds of all parts of a step, and of all steps.
 
 ghost use Rattle.std.specs.Prelude.{◌≡◌, [], Bool, false, Option};
-ghost use Rattle.ospf_packet.specs.Meaning.{Meaning};
 ghost use Rattle.ospf_area.specs.Outputs.{OutputsValue, then_outputs};
 ghost use Rattle.ospf_area.specs.State.{AreaValue};
 ghost use Rattle.ospf_step.specs.Packets.{Received};

@@ -1,7 +1,6 @@
 //! Laws: what is done on links is a part of a step of the router.
 
 ghost use Rattle.std.specs.Prelude.{◌≡◌, List, Option, ℕ};
-ghost use Rattle.ospf_packet.specs.Meaning.{Meaning};
 ghost use Rattle.ospf_area.specs.Outputs.{AreReadAsSent, OutputsValue, SentValue, sends};
 ghost use Rattle.ospf_area.specs.State.{AreaValue, LinkValue};
 ghost use Rattle.ospf_step.specs.Packets.{Received};

@@ -1,7 +1,6 @@
 //! A step.
 
 ghost use Rattle.std.specs.Prelude.{◌≡◌, ◌≢◌, None, IfOk, OnErr, OnOk, slice_get};
-ghost use Rattle.ospf_area.specs.Outputs.{no_outputs};
 ghost use Rattle.ospf_area.specs.Sending.{own_of};
 ghost use Rattle.ospf_step.specs.Accounts.{Accounts};
 ghost use Rattle.ospf_step.specs.Step.{StepLaws, heard_in};
@@ -13,7 +12,7 @@ ghost use Rattle.ospf_step.specs.Events.{happening};
 ghost use Rattle.ospf_step.specs.Fit.{IsFitRouter};
 ghost use Rattle.ospf_step.specs.Ready.{IsReadyFor};
 ghost use Rattle.ospf_step.specs.Same.{IsSameRouter};
-ghost use Rattle.ospf_step.specs.Steps.{StepsArea, Takes};
+ghost use Rattle.ospf_step.specs.Steps.{StepsArea};
 ghost use Rattle.ospf_step.specs.Takes.{BecomesState, TakesEvent};
 
 use crate::datagrams::take_datagram;

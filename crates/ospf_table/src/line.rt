@@ -3,7 +3,7 @@
 ghost use Rattle.std.specs.Prelude.{◌≡◌, ◌⊎◌, ◌↔◌, Ok, IsErr, IfOk, IfErr, IsTrue};
 ghost use Rattle.hex.specs.Hex.{decode_of};
 ghost use Rattle.ospf_base.specs.Text.{IsBlank};
-ghost use Rattle.ospf_lsa.specs.Lsa.{IsLsa, IsFirstFault};
+ghost use Rattle.ospf_lsa.specs.Lsa.{IsLsa};
 ghost use Rattle.ospf_lsa.specs.declared.fault.LsaFault.{LsaFault};
 ghost use Rattle.ospf_lsa.specs.declared.fault.LsaFault.TheVariants as fault;
 ghost use Rattle.ospf_table.specs.Line.{HasFirstFault, text_of};

@@ -1,6 +1,5 @@
 -- Why a wire is not opened.
 use Rattle.std.specs.Prelude.{⊤, ◌≡◌, ◌++◌, List, ℕ, Contains, Option, None, Some, codes, decimal}
-use Rattle.ospf_config.specs.declared.config.Config.{Config}
 use Rattle.ospf_config.specs.declared.interface.Interface.{Interface}
 use Rattle.ospf_config.specs.declared.interface.Port.{Port}
 use Rattle.ospf_udp.specs.declared.fault.NoSocket.{NoSocket}

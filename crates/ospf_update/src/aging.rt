@@ -4,7 +4,7 @@ ghost use Rattle.std.specs.Prelude.{◌≡◌, None, List, OnOk, IfOk, option_ma
 ghost use Rattle.ospf_base.specs.Constants.{max_age};
 ghost use Rattle.ospf_lsdb.specs.Database.{Puts, expired, held_of, reached_at};
 ghost use Rattle.ospf_area.specs.Outputs.{SentValue};
-ghost use Rattle.ospf_update.specs.Aging.{turned_area, turn_out, noted, copy_flooded_by, copy_flooded, copy_flood_out_by, copy_flood_out, copy_sent, copy_out, copies_sent, copies_out, AgesRise, TickAges, Flushes};
+ghost use Rattle.ospf_update.specs.Aging.{turned_area, turn_out, noted, copy_flooded, copy_flood_out, copy_sent, copy_out, copies_sent, copies_out, AgesRise, TickAges, Flushes};
 ghost use Rattle.ospf_area.specs.Flooding.{flooding_updates, goes_anywhere};
 ghost use Rattle.ospf_area.specs.Sending.{and_sends, own_of};
 ghost use Rattle.ospf_area.specs.State.{copy_of};

@@ -5,13 +5,12 @@ ghost use Rattle.ospf_base.specs.Constants.{max_age};
 ghost use Rattle.ospf_exchange.specs.Headers.{copy_in_database};
 ghost use Rattle.ospf_lsa.specs.Header.{key_of_header};
 ghost use Rattle.ospf_lsa.specs.Header.{header_of};
-ghost use Rattle.ospf_lsa.specs.Lsa.{key_of, instance_of};
+ghost use Rattle.ospf_lsa.specs.Lsa.{key_of};
 ghost use Rattle.ospf_area.specs.Flooding.{flooded_back, released};
 ghost use Rattle.ospf_area.specs.Numbers.{marked};
 ghost use Rattle.ospf_update.specs.Meets.{InstallsIn, store_updates, Stores, rule_met, heard_by, Admits, AnswersExpired, RestartsExchange, first_dd_on, duplicated, reply_to, lsa_out_on, Replies, MeetsRule, MeetsLsa, named_by, header_met};
 ghost use Rattle.ospf_area.specs.Outputs.{and_takes};
 ghost use Rattle.ospf_area.specs.Sending.{and_sends, own_of};
-ghost use Rattle.ospf_area.specs.State.{database_entry};
 
 use ospf_area::{
     AdjacencyChange, Area, AreaLink, Flooded, Origin, Outputs, Own, Post, acknowledge_by,

@@ -1,9 +1,8 @@
 //! LSAs that leave the database.
 
 ghost use Rattle.std.specs.Prelude.{◌≡◌, IfOk, OnOk, map, filter, if◌then◌else◌};
-ghost use Rattle.ospf_lsdb.specs.Database.{Puts, entries, held_of, removed};
+ghost use Rattle.ospf_lsdb.specs.Database.{entries};
 ghost use Rattle.ospf_update.specs.Removal.{some_awaits_on, some_awaits, is_leaving, key_of_entry, leaving, is_last, ends_run, reset_one, reset, and_ends, RemovesOne, RemovesAll, Removes};
-ghost use Rattle.ospf_area.specs.State.{database_entry};
 
 use ospf_area::{Area, AreaLink, Numbering, Outputs, is_numbered, is_own, some_link_loading};
 use ospf_base::{Instance, LsaKey, MAX_AGE};

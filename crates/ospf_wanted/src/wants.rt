@@ -7,7 +7,7 @@ ghost use Rattle.ospf_wanted.specs.Own.{wanted_value};
 
 use ospf_area::AreaLink;
 use ospf_base::{InterfaceKind, Kind, LsaKey, RouterId};
-use ospf_iface::{Iface, IfaceState};
+use ospf_iface::IfaceState;
 use ospf_lsa::{Link, LinkKind};
 use ospf_neighbour::{Neighbour, NeighbourState};
 use std::alloc::{AllocError, Global};

@@ -2,14 +2,13 @@
 
 ghost use Rattle.std.specs.Prelude.{◌≡◌, ◌≢◌, ◌↔◌, ◌<◌, ◌%◌, ℕ, None, Some, IfOk, IsTrue, drop, is_some, length, slice_get};
 ghost use Rattle.ospf_edges.specs.Listed.{advertisements_of};
-ghost use Rattle.ospf_graph.specs.Walk.{HasLinkFor, IsLinkCost, IsNext};
+ghost use Rattle.ospf_graph.specs.Walk.{HasLinkFor, IsNext};
 ghost use Rattle.ospf_graph.specs.declared.hop.NextHop.TheVariants as hops;
 ghost use Rattle.ospf_headline.specs.Sound.{NoCollision};
 ghost use Rattle.ospf_headline.specs.Walks.{AllListedAgree, WorldWalk, choice_of};
 ghost use Rattle.ospf_headline.specs.World.{Running, member, router_at};
 ghost use Rattle.ospf_headline.specs.declared.walk.WalkEnd.TheVariants as ends;
 ghost use Rattle.ospf_router.specs.Routers.{listing_of};
-ghost use Rattle.ospf_router.specs.Steps.{is_dropped};
 ghost use Rattle.ospf_world.specs.Walks.{IsLeg, LegsOver, Walks};
 ghost use Rattle.ospf_world.specs.Worlds.{world_of};
 

@@ -5,7 +5,7 @@ use Rattle.ospf_index.specs.Known.{Known, Table}
 use Rattle.ospf_spf.specs.declared.changes.Change.{Change}
 use Rattle.ospf_fib.specs.Rule.{IsKnownBook}
 use Rattle.ospf_fib.specs.Versions.{after_of, edited_by, shown_tables}
-use Rattle.ospf_fib.specs.Writing.{IsListShown, shown_after, common_of, shown_end}
+use Rattle.ospf_fib.specs.Writing.{IsListShown, common_of, shown_end}
 use Rattle.ospf_fib.specs.declared.rule.Knows.{Knows}
 use Rattle.ospf_fib.specs.declared.shown.Common.{Common}
 use Rattle.ospf_fib.specs.declared.shown.HandedOver.{HandedOver}

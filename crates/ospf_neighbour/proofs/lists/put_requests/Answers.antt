@@ -1,7 +1,5 @@
 use Rattle.std.proofs.Common.{◌∙◌, ◌∷◌, [], ◌++◌, List, ap, sym, arith}
 use Rattle.std.proofs.lemmas.List.{take_more}
-use Rattle.ospf_lsa.specs.declared.header.LsaHeader.{LsaHeader}
-use Rattle.ospf_neighbour.specs.Lists.{request_put, requests_put}
 use Rattle.ospf_neighbour.proofs.RequestLemmas.{put_more}
 use Rattle.ospf_neighbour.proofs.lists.put_requests.Goals as goal
 

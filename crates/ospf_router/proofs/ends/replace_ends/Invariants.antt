@@ -1,6 +1,5 @@
 use Rattle.std.proofs.Common.{◌≡◌, ◌≢◌, ◌↔◌, ◌⊎◌, take}
 use Rattle.std.specs.List.{Contains}
-use Rattle.ospf_edges.specs.declared.end.End.{End}
 use Rattle.ospf_router.specs.Ends.{AreEndsInOrder, ReplacesEnds}
 use Rattle.ospf_router.proofs.ends.replace_ends.Given as goal
 

@@ -1,12 +1,8 @@
 use Rattle.std.proofs.Common.{◌≤◌, ℕ, List, length, refl, subst, sym, inl, inr}
 use Rattle.std.specs.List.{Contains}
 use Rattle.std.proofs.lemmas.List.{take_all}
-use Rattle.ospf_base.specs.declared.prefix.Prefix.{Prefix}
-use Rattle.ospf_edges.specs.Listed.{advertisements_of}
 use Rattle.ospf_edges.specs.declared.end.End.{End}
 use Rattle.ospf_graph.proofs.ListLemmas.{more_members}
-use Rattle.ospf_graph.specs.Routes.{IsEnd}
-use Rattle.ospf_graph.specs.declared.graph.Vertex.{Vertex}
 use Rattle.ospf_router.specs.Growing.{HasEndOf}
 use Rattle.ospf_router.proofs.growing.touch_changed.Goals as goal
 

@@ -1,12 +1,10 @@
 use Rattle.std.proofs.Common.{◌≡◌, ◌∙◌, true, List, ap, refl, subst, sym}
 use Rattle.ospf_base.specs.declared.prefix.Prefix.{Prefix}
-use Rattle.ospf_edges.specs.Given.{IsEndsOf}
 use Rattle.ospf_edges.specs.Listed.{advertisements_of}
 use Rattle.ospf_edges.specs.declared.end.End.{End}
-use Rattle.ospf_router.specs.Ends.{AreEndsInOrder, HoldsPrefixes, ReplacesEnds}
 use Rattle.std.specs.List.{Contains}
 use Rattle.ospf_graph.specs.declared.graph.Vertex.{Vertex}
-use Rattle.ospf_router.specs.Growing.{HasEndOf, IsGrownOver, IsUntouched}
+use Rattle.ospf_router.specs.Growing.{HasEndOf, IsUntouched}
 use Rattle.ospf_router.proofs.GrowingLemmas.{edges_turn, ends_stay, ends_turn, spared, tree_over, without_ends}
 use Rattle.ospf_router.proofs.growing.turned.Goals as goal
 use Rattle.ospf_router.proofs.growing.turned.Goals.{then-is_same_answer+in_ok-touch_turn, else-is_same_answer+in_ok-touch+in_ok-touch-2, then-not-are_same_ends+in_ok-replace_ends, else-not-are_same_ends}

@@ -1,6 +1,6 @@
 use Rattle.std.proofs.Common.{List, sym, subst}
 use Rattle.std.specs.List.{Contains}
-use Rattle.ospf_spf.specs.Reach.{AddsHops, HasHopOf, IsBestCost}
+use Rattle.ospf_spf.specs.Reach.{IsBestCost}
 use Rattle.ospf_spf.specs.declared.routes.Reach.{Reach}
 use Rattle.ospf_spf.proofs.routes.route_by.Goals as goal
 

@@ -2,7 +2,6 @@ use Rattle.std.proofs.Common.{◌≡◌, ◌∙◌, List, ap, sym, subst, length
 use Rattle.std.proofs.lemmas.List.{take_at, length-map}
 use Rattle.ospf_neighbour.specs.Lists.{sent_again}
 use Rattle.ospf_neighbour.specs.OneAKey.{IsAloneOfKeys}
-use Rattle.ospf_neighbour.specs.declared.neighbour.Listed.{Listed}
 use Rattle.ospf_neighbour.proofs.LawLemmas.{alone_sent}
 use Rattle.ospf_neighbour.proofs.neighbour.Neighbour.resend.Goals as goal
 

@@ -1,5 +1,4 @@
 use Rattle.std.proofs.Common.{List, ℕ, subst, sym}
-use Rattle.ospf_base.specs.declared.ids.RouterId.{RouterId}
 use Rattle.ospf_edges.specs.Listed.{advertisements_of}
 use Rattle.ospf_graph.specs.Elsewhere.{AreSameBut}
 use Rattle.ospf_graph.specs.declared.graph.Vertex.{Vertex}
