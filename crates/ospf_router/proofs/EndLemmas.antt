@@ -10,32 +10,7 @@ use Rattle.ospf_graph.specs.Search.{vertex_eq}
 use Rattle.ospf_graph.specs.declared.graph.Vertex.{Vertex}
 use Rattle.ospf_router.specs.Ends.{HoldsPrefixes, ReplacesEnds}
 use Rattle.ospf_router.specs.Growing.{HasEndOf}
-
-module _ {X : Type 0} (p : X → Bool) where
-  filter_from : (xs : List X) (x : X) → Contains (filter p xs) x → Contains xs x × (p x ≡ true)
-  filter_from [] x m = absurd (let low = m.1 in omega arith)
-  filter_from (y ∷ ys) x m = by (p y) refl m (filter_from ys x)
-    where
-      by : (b : Bool) → p y ≡ b → Contains (cond b (y ∷ filter p ys) (filter p ys)) x → (Contains (filter p ys) x → Contains ys x × (p x ≡ true)) → Contains (y ∷ ys) x × (p x ≡ true)
-      by true is m rest = elim (member_cases y (filter p ys) x m) [
-        | inl same ↦ (subst (λ z. Contains (y ∷ ys) z) same (member_head y ys), ap p (sym same) ∙ is)
-        | inr later ↦ (let r = rest later in (member_later y ys x r.0, r.1))
-      ]
-      by false is m rest = let r = rest m in (member_later y ys x r.0, r.1)
-
-  filter_to : (xs : List X) (x : X) → Contains xs x → p x ≡ true → Contains (filter p xs) x
-  filter_to [] x m is = absurd (let low = m.1 in omega arith)
-  filter_to (y ∷ ys) x m is = by (p y) refl (λ later. filter_to ys x later is)
-    where
-      by : (b : Bool) → p y ≡ b → (Contains ys x → Contains (filter p ys) x) → Contains (cond b (y ∷ filter p ys) (filter p ys)) x
-      by true at rest = elim (member_cases y ys x m) [
-        | inl same ↦ subst (λ z. Contains (y ∷ filter p ys) z) same (member_head y (filter p ys))
-        | inr later ↦ member_later y (filter p ys) x (rest later)
-      ]
-      by false at rest = elim (member_cases y ys x m) [
-        | inl same ↦ absurd (let no : p x ≡ false = ap p (sym same) ∙ at in cc)
-        | inr later ↦ rest later
-      ]
+use Rattle.ospf_spf.proofs.TurnLemmas.{filter_from, filter_to}
 
 pub replaced_start : (v : Vertex) (old : List End) → ReplacesEnds v [] old (filter (λ e. not (vertex_eq e.vertex v)) old)
 replaced_start v old e = (

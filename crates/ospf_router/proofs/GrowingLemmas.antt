@@ -29,10 +29,11 @@ use Rattle.ospf_graph.proofs.ElsewhereLemmas.{edges_elsewhere, touching_or_not}
 use Rattle.ospf_graph.proofs.CandidateLemmas.{same_or_other}
 use Rattle.ospf_graph.proofs.ListLemmas.{member_of_map, member_to_map}
 use Rattle.ospf_graph.proofs.TreeLemmas.{IsTree-map}
-use Rattle.ospf_router.specs.Ends.{IsSparedPrefix, ReplacesEnds}
+use Rattle.ospf_router.specs.Ends.{ReplacesEnds}
+use Rattle.ospf_spf.specs.Spared.{IsSparedPrefix}
 use Rattle.ospf_router.specs.Growing.{AreGone, HasEndOf, IsGrownOver, IsTurn, IsUntouched}
 use Rattle.ospf_router.specs.declared.growing.Turn.{Turn}
-use Rattle.ospf_router.proofs.RouteFrame.{IsKeptHere, kept_routes}
+use Rattle.ospf_spf.proofs.RouteFrame.{IsKeptHere, kept_routes}
 
 -- ---- the LSA that is put
 

@@ -7,8 +7,6 @@ mod ListingFacts
 pub mod StartLemmas
 mod SettledLemmas
 mod TouchedChains
-mod TurnLemmas
 mod SameEnds
 mod EndLemmas
-mod RouteFrame
 mod GrowingLemmas

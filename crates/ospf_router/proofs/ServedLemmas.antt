@@ -14,7 +14,7 @@ use Rattle.ospf_router.specs.declared.followed.Grown.{Grown}
 use Rattle.ospf_router.specs.Listings.{ListsAs}
 use Rattle.ospf_router.specs.Routes.{AreRoutes}
 use Rattle.ospf_router.proofs.ListLemmas.{same_told}
-use Rattle.ospf_router.specs.Ends.{IsSparedPrefix}
+use Rattle.ospf_spf.specs.Spared.{IsSparedPrefix}
 use Rattle.ospf_router.specs.Growing.{GrowingValue}
 
 -- the table of a listing is that of the database

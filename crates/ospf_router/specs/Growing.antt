@@ -15,7 +15,7 @@ use Rattle.ospf_graph.specs.declared.graph.Vertex.{Vertex}
 use Rattle.ospf_graph.specs.declared.graph.Vertex.TheVariants.{Router}
 use Rattle.ospf_graph.specs.declared.paths.Settled.{Settled}
 use Rattle.ospf_edges.specs.declared.end.End.{End}
-use Rattle.ospf_router.specs.Ends.{AreEndsInOrder}
+use Rattle.ospf_spf.specs.Spared.{AreEndsInOrder}
 use Rattle.ospf_router.specs.declared.growing.Around.{Around}
 use Rattle.ospf_router.specs.declared.growing.Turn.{Turn}
 

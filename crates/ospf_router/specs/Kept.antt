@@ -6,7 +6,8 @@ use Rattle.ospf_edges.specs.Listed.{advertisements_of}
 use Rattle.ospf_graph.specs.Routes.{IsTable}
 use Rattle.ospf_graph.specs.declared.route.Route.{Route}
 use Rattle.ospf_router.specs.declared.followed.Grown.{Grown}
-use Rattle.ospf_router.specs.Ends.{HoldsPrefixes, SparesBut}
+use Rattle.ospf_router.specs.Ends.{HoldsPrefixes}
+use Rattle.ospf_spf.specs.Spared.{SparesBut}
 use Rattle.ospf_router.specs.Growing.{GrowingValue}
 
 -- the LSAs of the tree that is kept, if one is

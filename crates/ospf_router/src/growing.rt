@@ -11,17 +11,18 @@ ghost use Rattle.ospf_lsa.specs.Header.{header_of};
 ghost use Rattle.ospf_lsa.specs.Listing.{IsPut};
 ghost use Rattle.ospf_lsa.specs.declared.listing.ListingFault.TheVariants as fault;
 ghost use Rattle.ospf_spf.specs.Changes.{PutsHops, prefix_of};
-ghost use Rattle.ospf_router.specs.Ends.{HoldsPrefixes, IsRight, SparesBut};
+ghost use Rattle.ospf_router.specs.Ends.{HoldsPrefixes};
+ghost use Rattle.ospf_spf.specs.Spared.{IsRight, SparesBut};
 ghost use Rattle.ospf_graph.specs.declared.graph.Vertex.{Vertex};
 ghost use Rattle.ospf_router.specs.Growing.{AreGone, HasEndOf, HasSameEnds, IsAround, IsTurn, IsUntouched};
 
-use crate::ends::{ends_in_order, ends_to, replace_ends};
+use crate::ends::replace_ends;
 use ospf_base::{Kind, Prefix, RouterId};
 use ospf_edges::{End, edges_at, edges_of, ends_at, is_listed};
 use ospf_graph::{Edge, Vertex};
 use ospf_incremental::KeptPaths;
 use ospf_lsa::{Listing, ListingFault, Lsa};
-use ospf_spf::{Change, RouteTable, route_by, table_of};
+use ospf_spf::{Change, RouteTable, ends_in_order, ends_to, route_by, table_of};
 use std::alloc::{AllocError, Global};
 use std::marker::Model;
 

@@ -8,7 +8,7 @@ ghost use Rattle.ospf_lsa.specs.Listing.{IsListing};
 ghost use Rattle.ospf_lsdb.specs.Database.{IsDatabase, listed};
 ghost use Rattle.ospf_router.specs.Listings.{ListsAs, ListsBut};
 ghost use Rattle.ospf_router.specs.Routes.{AreRoutes};
-ghost use Rattle.ospf_router.specs.Ends.{SparesBut};
+ghost use Rattle.ospf_spf.specs.Spared.{SparesBut};
 
 use crate::followed::{Grown, followed, lists_as_many};
 use crate::growing::GrowingTree;

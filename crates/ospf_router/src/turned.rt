@@ -4,7 +4,7 @@ ghost use Rattle.std.specs.Prelude.{◌≢◌, ◌↔◌, List, IfOk, IsTrue, On
 ghost use Rattle.ospf_edges.specs.Listed.{advertisements_of};
 ghost use Rattle.ospf_graph.specs.Advertisements.{Advertisement};
 ghost use Rattle.ospf_graph.specs.Routes.{IsTable};
-ghost use Rattle.ospf_router.specs.Ends.{SparesBut};
+ghost use Rattle.ospf_spf.specs.Spared.{SparesBut};
 
 use crate::growing::GrowingTree;
 use ospf_base::Prefix;

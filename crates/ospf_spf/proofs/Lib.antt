@@ -13,3 +13,5 @@ pub mod EditLemmas
 pub mod ChangeLemmas
 pub mod PutLemmas
 pub mod OrderLemmas
+pub mod RouteFrame
+pub mod TurnLemmas

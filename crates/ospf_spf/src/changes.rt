@@ -152,8 +152,8 @@ fn step_at(old: Prefix, new: Prefix) -> MergeStep
     }
 }
 
-// Whether two routes to one prefix are the same.
-pub(crate) fn is_same_route(a: &Route, b: &Route) -> bool
+/// Whether two routes to one prefix are the same.
+pub fn is_same_route(a: &Route, b: &Route) -> bool
     requires { a.now.prefix ≡ b.now.prefix }
     ensures { IsTrue result ↔ (a.now ≡ b.now) }
 {

@@ -1,5 +1,5 @@
 -- A failure only takes away: edges and ends of the area after it are edges and ends of the area before it.
-use Rattle.std.proofs.Common.{◌≡◌, ◌+◌, ◌≤◌, ℕ, ◌⊎◌, Bool, true, eqb-true, List, [], ◌∷◌, map, not, None, Some, refl, sym, ◌∙◌, ap, subst, inl, inr, arith}
+use Rattle.std.proofs.Common.{◌≡◌, ◌↔◌, ◌+◌, ◌≤◌, ℕ, ◌⊎◌, Bool, true, eqb-true, List, [], ◌∷◌, map, not, None, Some, refl, sym, ◌∙◌, ap, subst, inl, inr, arith}
 use Rattle.std.specs.List.{Contains, filter}
 use Rattle.std.proofs.lemmas.List.Elements.{All-contains}
 use Rattle.ospf_base.specs.declared.ids.RouterId.{RouterId}
@@ -113,6 +113,9 @@ module _ (f : AreaFailure) (A : List Advertisement) where
   listed_from : (r : RouterId) → IsListed B r → IsListed A r
   listed_from r h = let x = router_back r h.0 h.1 in (x.0, x.1)
 
+  listed_to : (r : RouterId) → IsListed A r → IsListed B r
+  listed_to r h = (kept_links f r h.0, member_to_map (left_of_lsa f) A (router_lsa r h.0) h.1)
+
   link_from : (r : RouterId) (k : LinkKind) (id link_data metric : ℕ) → HasLink B r k id link_data metric → HasLink A r k id link_data metric
   link_from r k id link_data metric h =
       let x = router_back r h.links h.listed in
@@ -179,6 +182,14 @@ pub failures_take_away : (f : AreaFailure) (A : List Advertisement) (root : Rout
     → (route : Route) → Contains after route → (old : Route) × Contains before old × (old.prefix ≡ route.prefix) × (old.cost ≤ route.cost)
 unfolding without
 failures_take_away f A root before after is_before is_after route m = kept_less f A root before after is_before is_after route m
+
+pub failures_leave_listed : (f : AreaFailure) (A : List Advertisement) (r : RouterId) → IsListed A r ↔ IsListed (without f A) r
+unfolding without
+failures_leave_listed f A r = (listed_to f A r, listed_from f A r)
+
+pub failures_make_no_end : (f : AreaFailure) (A : List Advertisement) (prefix : Prefix) (v : Vertex) (cost : ℕ) → IsEnd (without f A) prefix v cost → IsEnd A prefix v cost
+unfolding without
+failures_make_no_end f A prefix v cost is = end_from f A prefix v cost is
 
 pub failures_make_no_edge : (f : AreaFailure) (A : List Advertisement) (e : Edge) → IsEdge (without f A) e → IsEdge A e
 unfolding without

@@ -61,8 +61,10 @@ pub fn effect_of(
     Ok(effect)
 }
 
-// What becomes of each route at whose prefix something changes.
-pub(crate) fn changes_by(
+/// What becomes of each route at whose prefix something changes, given the places of the prefixes that are lost and told.
+///
+/// `AllocError` where memory runs out.
+pub fn changes_by(
     alloc: Global,
     routes: &[Route],
     changes: &[Change],
@@ -101,8 +103,8 @@ fn change_by(
     Ok(RouteChange { before, loss })
 }
 
-// The route to a prefix.
-fn route_to(routes: &[Route], prefix: Prefix) -> Option<&Route>
+/// The route to a prefix, of routes in the order of tables.
+pub fn route_to(routes: &[Route], prefix: Prefix) -> Option<&Route>
     requires { AllPairs IsRouteBefore routes.now }
     ensures some { IfSome result (λ r. Contains routes.now r.now × (r.now.prefix ≡ prefix)) }
     ensures none { IfNone result (Reaches routes.now prefix → ⊥) }

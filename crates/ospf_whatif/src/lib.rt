@@ -13,7 +13,7 @@ mod same;
 mod told;
 
 pub use crate::area::{WithoutFault, without, without_all};
-pub use crate::effect::{Loss, RouteChange, effect_of};
+pub use crate::effect::{Loss, RouteChange, changes_by, effect_of, route_to};
 pub use crate::failure::AreaFailure;
 pub use crate::failures::single_failures;
 pub use crate::laws::{failures_make_no_edge, failures_take_away, trees_stay};

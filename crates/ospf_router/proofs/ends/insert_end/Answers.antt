@@ -3,7 +3,7 @@ use Rattle.std.proofs.lemmas.List.Sorted.{IsNonDecreasingBy-insert, IsPartitionP
 use Rattle.ospf_edges.specs.declared.end.End.{End}
 use Rattle.ospf_graph.proofs.Runs.{not_upto}
 use Rattle.ospf_incremental.proofs.KeptGrowth.{inserted}
-use Rattle.ospf_router.specs.Ends.{AreEndsInOrder}
+use Rattle.ospf_spf.specs.Spared.{AreEndsInOrder}
 use Rattle.ospf_spf.specs.Reach.{prefix_code}
 use Rattle.ospf_router.proofs.ends.insert_end.Goals as goal
 

@@ -3,7 +3,8 @@ use Rattle.std.proofs.lemmas.List.{take_all}
 use Rattle.std.proofs.lemmas.List.Kept.{IsNonDecreasingBy-filter}
 use Rattle.ospf_edges.specs.declared.end.End.{End}
 use Rattle.ospf_graph.specs.Search.{vertex_eq}
-use Rattle.ospf_router.specs.Ends.{AreEndsInOrder, ReplacesEnds}
+use Rattle.ospf_router.specs.Ends.{ReplacesEnds}
+use Rattle.ospf_spf.specs.Spared.{AreEndsInOrder}
 use Rattle.ospf_spf.specs.Reach.{prefix_code}
 use Rattle.ospf_router.proofs.EndLemmas.{replaced_more, replaced_start}
 use Rattle.ospf_router.proofs.ends.replace_ends.Goals as goal

@@ -1,6 +1,7 @@
 use Rattle.std.proofs.Common.{◌≡◌, ◌≢◌, ◌↔◌, ◌⊎◌, take}
 use Rattle.std.specs.List.{Contains}
-use Rattle.ospf_router.specs.Ends.{AreEndsInOrder, ReplacesEnds}
+use Rattle.ospf_router.specs.Ends.{ReplacesEnds}
+use Rattle.ospf_spf.specs.Spared.{AreEndsInOrder}
 use Rattle.ospf_router.proofs.ends.replace_ends.Given as goal
 
 abbrev pub invariant-loop-end : goal.invariant-loop-end

@@ -1,6 +1,6 @@
 use Rattle.std.proofs.Common.{take}
 use Rattle.ospf_edges.specs.Listed.{advertisements_of}
-use Rattle.ospf_router.proofs.TurnLemmas.{IsTurned}
+use Rattle.ospf_spf.proofs.TurnLemmas.{IsTurned}
 use Rattle.ospf_router.proofs.turned.turn_table.Given as goal
 
 abbrev pub invariant-loop-prefix : goal.invariant-loop-prefix

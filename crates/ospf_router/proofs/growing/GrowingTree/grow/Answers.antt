@@ -3,7 +3,7 @@ use Rattle.ospf_edges.specs.Listed.{advertisements_of}
 use Rattle.ospf_graph.specs.Elsewhere.{AreSameBut}
 use Rattle.ospf_graph.specs.declared.graph.Vertex.{Vertex}
 use Rattle.ospf_lsa.specs.Listing.{IsPut}
-use Rattle.ospf_router.specs.Ends.{SparesBut}
+use Rattle.ospf_spf.specs.Spared.{SparesBut}
 use Rattle.ospf_router.specs.Growing.{GrowingValue, IsTurn}
 use Rattle.ospf_router.specs.declared.growing.Turn.{Turn}
 use Rattle.ospf_router.proofs.GrowingLemmas.{put_same_but}

@@ -10,7 +10,7 @@ use Rattle.ospf_router.specs.declared.followed.Grown.{Grown}
 use Rattle.ospf_router.proofs.ServedLemmas.{routes_of}
 use Rattle.ospf_router.proofs.routes.KeptRoutes.grow.Goals as goal
 use Rattle.ospf_router.proofs.routes.KeptRoutes.grow.Goals.{In-Some-2}
-use Rattle.ospf_router.specs.Ends.{SparesBut}
+use Rattle.ospf_spf.specs.Spared.{SparesBut}
 use Rattle.ospf_router.specs.Growing.{GrowingValue}
 
 pub followed-requires : goal.followed-requires

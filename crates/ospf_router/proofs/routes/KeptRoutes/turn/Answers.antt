@@ -6,7 +6,7 @@ use Rattle.ospf_edges.specs.Listed.{advertisements_of}
 use Rattle.ospf_graph.specs.Routes.{IsTable}
 use Rattle.ospf_graph.specs.declared.route.Route.{Route}
 use Rattle.ospf_router.specs.Routes.{RoutesValue}
-use Rattle.ospf_router.specs.Ends.{SparesBut}
+use Rattle.ospf_spf.specs.Spared.{SparesBut}
 use Rattle.ospf_router.proofs.routes.KeptRoutes.turn.Goals as goal
 
 pub returns-then-len-all-clause-changed : goal.returns-then-len-all-clause-changed

@@ -3,7 +3,7 @@ use Rattle.std.proofs.lemmas.List.Sorted.{IsPartitionPoint-from_clause, IsPartit
 use Rattle.ospf_edges.specs.declared.end.End.{End}
 use Rattle.ospf_graph.proofs.Runs.{in_run, of_run, run_of_points}
 use Rattle.ospf_spf.specs.Reach.{prefix_code}
-use Rattle.ospf_router.proofs.ends.ends_to.Goals as goal
+use Rattle.ospf_spf.proofs.ends.ends_to.Goals as goal
 
 pub returns-then-from-to-clause-part : goal.returns-then-from-to-clause-part
 returns-then-from-to-clause-part c = λ e m.

@@ -1,5 +1,5 @@
 -- A table that is made that of other LSAs, prefix by prefix.
-use Rattle.std.proofs.Common.{◌≡◌, ◌≢◌, ◌⊎◌, ◌↔◌, ◌++◌, ◌∷◌, ℕ, zero, suc, Bool, true, false, List, [], Option, IsTrue, length, refl, sym, ap, subst, ◌∙◌, inl, inr, arith}
+use Rattle.std.proofs.Common.{◌≡◌, ◌≢◌, ◌⊎◌, ◌↔◌, ◌++◌, ◌∷◌, ℕ, zero, suc, Bool, true, false, List, [], Option, IsTrue, cond, length, refl, sym, ap, subst, ◌∙◌, inl, inr, arith}
 use Rattle.std.specs.List.{All, AllPairs, Contains, filter}
 use Rattle.std.proofs.lemmas.List.Elements.{All-contains, Contains-append_cases, Contains-append_left, Contains-append_right, Contains-get_or, Contains-push_cases}
 use Rattle.ospf_base.specs.declared.ids.RouterId.{RouterId}
@@ -10,27 +10,53 @@ use Rattle.ospf_graph.proofs.TableLemmas.{same_route, sorted_unique}
 use Rattle.ospf_graph.specs.Advertisements.{Advertisement}
 use Rattle.ospf_graph.specs.Routes.{IsRoute, IsRouteBefore, IsTable, Way}
 use Rattle.ospf_graph.specs.declared.route.Route.{Route}
-use Rattle.ospf_step.proofs.StateFacts.{Contains-filter, Contains-filter_cases}
 use Rattle.ospf_spf.proofs.EditLemmas.{told}
 use Rattle.ospf_spf.proofs.OrderLemmas.{changed_table, put_at, three_orders}
 use Rattle.ospf_spf.proofs.PrefixOrder.{prefixes_told}
 use Rattle.ospf_spf.specs.Changes.{PutsHops, Reaches, changed, prefix_of, put_of, stands_before}
-use Rattle.ospf_router.specs.Ends.{IsRight, SparesBut}
+use Rattle.ospf_spf.specs.Spared.{IsRight, SparesBut}
 use Rattle.ospf_spf.specs.Table.{IsInOrder}
 use Rattle.ospf_spf.specs.declared.changes.Change.{Change}
 use Rattle.ospf_spf.specs.declared.changes.Change.TheVariants.{Put, Gone}
 
-before_self : (p q : Prefix) → p ≡ q → IsPrefixBefore p q → ⊥
+-- what a filter keeps
+module _ {X : Type 0} (p : X → Bool) where
+  pub filter_from : (xs : List X) (x : X) → Contains (filter p xs) x → Contains xs x × (p x ≡ true)
+  filter_from [] x m = absurd (let low = m.1 in omega arith)
+  filter_from (y ∷ ys) x m = by (p y) refl m (filter_from ys x)
+    where
+      by : (b : Bool) → p y ≡ b → Contains (cond b (y ∷ filter p ys) (filter p ys)) x → (Contains (filter p ys) x → Contains ys x × (p x ≡ true)) → Contains (y ∷ ys) x × (p x ≡ true)
+      by true is m rest = elim (member_cases y (filter p ys) x m) [
+        | inl same ↦ (subst (λ z. Contains (y ∷ ys) z) same (member_head y ys), ap p (sym same) ∙ is)
+        | inr later ↦ (let r = rest later in (member_later y ys x r.0, r.1))
+      ]
+      by false is m rest = let r = rest m in (member_later y ys x r.0, r.1)
+
+  pub filter_to : (xs : List X) (x : X) → Contains xs x → p x ≡ true → Contains (filter p xs) x
+  filter_to [] x m is = absurd (let low = m.1 in omega arith)
+  filter_to (y ∷ ys) x m is = by (p y) refl (λ later. filter_to ys x later is)
+    where
+      by : (b : Bool) → p y ≡ b → (Contains ys x → Contains (filter p ys) x) → Contains (cond b (y ∷ filter p ys) (filter p ys)) x
+      by true at rest = elim (member_cases y ys x m) [
+        | inl same ↦ subst (λ z. Contains (y ∷ filter p ys) z) same (member_head y (filter p ys))
+        | inr later ↦ member_later y (filter p ys) x (rest later)
+      ]
+      by false at rest = elim (member_cases y ys x m) [
+        | inl same ↦ absurd (let no : p x ≡ false = ap p (sym same) ∙ at in cc)
+        | inr later ↦ rest later
+      ]
+
+pub before_self : (p q : Prefix) → p ≡ q → IsPrefixBefore p q → ⊥
 before_self p q same before = prefixes_told.irrefl q (subst (λ (x : Prefix). IsPrefixBefore x q) same before)
 
-behind_self : (p q : Prefix) → p ≡ q → IsPrefixBefore q p → ⊥
+pub behind_self : (p q : Prefix) → p ≡ q → IsPrefixBefore q p → ⊥
 behind_self p q same before = prefixes_told.irrefl q (subst (λ (x : Prefix). IsPrefixBefore q x) same before)
 
 asym : (p q : Route) → IsRouteBefore p q → IsRouteBefore q p → ⊥
 asym p q a b = prefixes_told.irrefl p.prefix (prefixes_told.trans p.prefix q.prefix p.prefix a b)
 
 -- a prefix is among these, or not
-among_or_not : (ps : List Prefix) (p : Prefix) → Contains ps p ⊎ (Contains ps p → ⊥)
+pub among_or_not : (ps : List Prefix) (p : Prefix) → Contains ps p ⊎ (Contains ps p → ⊥)
 among_or_not [] p = inr (λ m. let low = m.1 in omega arith)
 among_or_not (q ∷ qs) p = elim (three_orders q p) [
   | inl less ↦ later (among_or_not qs p) (λ same. before_self q p same less)
@@ -58,10 +84,10 @@ module _ (routes : List Route) (c : Change) where
   pub changed_has : (x : Route) → Contains (changed routes c) x → Contains (put_of c) x ⊎ (Contains routes x × (x.prefix ≢ prefix_of c))
   unfolding changed front back
   changed_has x m = elim (Contains-append_cases (filter front routes) (put_of c ++ filter back routes) x m) [
-    | inl f ↦ (let is = Contains-filter_cases front routes x f in inr (is.0, λ same. before_self x.prefix (prefix_of c) same ((told x.prefix (prefix_of c)).0 is.1)))
+    | inl f ↦ (let is = filter_from front routes x f in inr (is.0, λ same. before_self x.prefix (prefix_of c) same ((told x.prefix (prefix_of c)).0 is.1)))
     | inr rest ↦ elim (Contains-append_cases (put_of c) (filter back routes) x rest) [
       | inl p ↦ inl p
-      | inr b ↦ (let is = Contains-filter_cases back routes x b in inr (is.0, λ same. behind_self x.prefix (prefix_of c) same ((told (prefix_of c) x.prefix).0 is.1)))
+      | inr b ↦ (let is = filter_from back routes x b in inr (is.0, λ same. behind_self x.prefix (prefix_of c) same ((told (prefix_of c) x.prefix).0 is.1)))
     ]
   ]
 
@@ -72,12 +98,12 @@ module _ (routes : List Route) (c : Change) where
   pub changed_keeps : (x : Route) → Contains routes x → x.prefix ≢ prefix_of c → Contains (changed routes c) x
   unfolding changed front back
   changed_keeps x m other = elim (three_orders x.prefix (prefix_of c)) [
-    | inl less ↦ Contains-append_left (filter front routes) (put_of c ++ filter back routes) x (Contains-filter front routes x m ((told x.prefix (prefix_of c)).1 less))
+    | inl less ↦ Contains-append_left (filter front routes) (put_of c ++ filter back routes) x (filter_to front routes x m ((told x.prefix (prefix_of c)).1 less))
     | inr rest ↦ elim rest [
       | inl same ↦ absurd (other same)
       | inr more ↦
           Contains-append_right (filter front routes) (put_of c ++ filter back routes) x
-          (Contains-append_right (put_of c) (filter back routes) x (Contains-filter back routes x m ((told (prefix_of c) x.prefix).1 more)))
+          (Contains-append_right (put_of c) (filter back routes) x (filter_to back routes x m ((told (prefix_of c) x.prefix).1 more)))
     ]
   ]
 
@@ -152,28 +178,38 @@ module _ (A : List Advertisement) (root : RouterId) (first : List Route) where
   IsApart = ((r : Route) × IsRoute A root r × (Contains first r → ⊥)) ⊎ ((r : Route) × Contains first r × (IsRoute A root r → ⊥))
 
   -- the table once it is right at the first prefixes
-  pub record IsTurned (now : List Route) (done : List Prefix) (other : Bool) : Type 0 where
+  pub record IsTurnedAt (now : List Route) (done : List Prefix) : Type 0 where
     pub in_order : IsInOrder now
     pub from : (x : Route) → Contains now x → Contains first x ⊎ IsRoute A root x
     pub kept : (x : Route) → Contains first x → IsRoute A root x → Contains now x
     pub right : (p : Prefix) (x : Route) → Contains done p → Contains now x → x.prefix ≡ p → IsRoute A root x
     pub ways : (p : Prefix) → Contains done p → Way A root p → Reaches now p
+
+  -- and whether it is another one then
+  pub record IsTurned (now : List Route) (done : List Prefix) (other : Bool) : Type 0 where
+    pub at : IsTurnedAt now done
     pub same : other ≡ false → now ≡ first
     pub apart : other ≡ true → IsApart
 
-  pub turned_start : IsInOrder first → IsTurned first [] false
-  turned_start order =
+  pub turned_at_start : IsInOrder first → IsTurnedAt first []
+  turned_at_start order =
       record {
         in_order = order;
         from = λ x m. inl m;
         kept = λ x m is. m;
         right = λ p x m. absurd (let low = m.1 in omega arith);
         ways = λ p m. absurd (let low = m.1 in omega arith);
+      }
+
+  pub turned_start : IsInOrder first → IsTurned first [] false
+  turned_start order =
+      record {
+        at = turned_at_start order;
         same = λ _. refl;
         apart = λ is. absurd (cc);
       }
 
-  module _ (now : List Route) (done : List Prefix) (other : Bool) (t : IsTurned now done other) (c : Change) (right : IsRight A root c) (hops : PutsHops c) where
+  module _ (now : List Route) (done : List Prefix) (t : IsTurnedAt now done) (c : Change) (right : IsRight A root c) (hops : PutsHops c) where
     from_next : (d : Change) → d ≡ c → (x : Route) → Contains (changed now d) x → Contains first x ⊎ IsRoute A root x
     from_next (Put r) is x m = elim (changed_has now (Put r) x m) [
       | inl put ↦ inr (subst (λ (y : Route). IsRoute A root y) (sym (one_put r x put)) (subst (λ (e : Change). IsRight A root e) (sym is) right))
@@ -238,6 +274,9 @@ module _ (A : List Advertisement) (root : RouterId) (first : List Route) where
         at_prefix : p ≡ prefix_of c → Reaches (changed now c) p
         at_prefix at = subst (λ (q : Prefix). Reaches (changed now c) q) (sym at) (way_there c refl (subst (λ (q : Prefix). Way A root q) at w))
 
+    pub turned_at_next : IsTurnedAt (changed now c) (done ++ prefix_of c ∷ [])
+    turned_at_next = record { in_order = changed_table now c t.in_order hops; from = from_next c refl; kept = kept_next; right = right_next; ways = ways_next }
+
     -- a change that makes another table tells it from the first one
     apart_by : (d : Change) → d ≡ c → (changed now d ≢ now) → IsApart
     apart_by (Put r) is differs =
@@ -252,21 +291,18 @@ module _ (A : List Advertisement) (root : RouterId) (first : List Route) where
       | inr none ↦ absurd (differs (gone_none now t.in_order p none))
     ]
 
+  module _ (now : List Route) (done : List Prefix) (other : Bool) (t : IsTurned now done other) (c : Change) (right : IsRight A root c) (hops : PutsHops c) where
     pub turned_next : (next : Bool) → (next ≡ false → (other ≡ false) × (changed now c ≡ now)) → (next ≡ true → (other ≡ true) ⊎ (changed now c ≢ now))
         → IsTurned (changed now c) (done ++ prefix_of c ∷ []) next
     turned_next next still differs =
         record {
-          in_order = changed_table now c t.in_order hops;
-          from = from_next c refl;
-          kept = kept_next;
-          right = right_next;
-          ways = ways_next;
+          at = turned_at_next now done t.at c right hops;
           same = λ is. let s = still is in s.1 ∙ t.same s.0;
-          apart = λ is. elim (differs is) [ inl before ↦ t.apart before | inr new ↦ apart_by c refl new ];
+          apart = λ is. elim (differs is) [ inl before ↦ t.apart before | inr new ↦ apart_by now done t.at c right hops c refl new ];
         }
 
   -- right at all prefixes that differ, it is the table of A
-  module _ (B : List Advertisement) (now : List Route) (touched : List Prefix) (other : Bool) (t : IsTurned now touched other) (was : IsTable B root first) (spares : SparesBut touched B A root) where
+  module _ (B : List Advertisement) (now : List Route) (touched : List Prefix) (t : IsTurnedAt now touched) (was : IsTable B root first) (spares : SparesBut touched B A root) where
     all_right : (x : Route) → Contains now x → IsRoute A root x
     all_right x m = elim (among_or_not touched x.prefix) [
       | inl in_touched ↦ t.right x.prefix x in_touched m refl
@@ -285,8 +321,8 @@ module _ (A : List Advertisement) (root : RouterId) (first : List Route) where
           (r.0, t.kept r.0 r.1 (s.routes r.0 r.2 (All-contains (IsRoute B root) first r.0 was.sound r.1)), r.2)
     ]
 
-    pub turned_table : IsTable A root now
-    turned_table = record { in_order = t.in_order.in_order; complete = all_ways; sound = λ k d lt. all_right _ (Contains-get_or now k d lt) }
+    pub turned_at_table : IsTable A root now
+    turned_at_table = record { in_order = t.in_order.in_order; complete = all_ways; sound = λ k d lt. all_right _ (Contains-get_or now k d lt) }
 
     not_apart : IsApart → now ≡ first → ⊥
     not_apart (inl (r, route, new)) same =
@@ -295,9 +331,13 @@ module _ (A : List Advertisement) (root : RouterId) (first : List Route) where
         new (subst (λ (rs : List Route). Contains rs r) same (subst (λ (x : Route). Contains now x) one there.1))
     not_apart (inr (r, old, wrong)) same = wrong (all_right r (subst (λ (rs : List Route). Contains rs r) (sym same) old))
 
+  module _ (B : List Advertisement) (now : List Route) (touched : List Prefix) (other : Bool) (t : IsTurned now touched other) (was : IsTable B root first) (spares : SparesBut touched B A root) where
+    pub turned_table : IsTable A root now
+    turned_table = turned_at_table B now touched t.at was spares
+
     pub turned_changed : IsTrue other ↔ (now ≢ first)
     turned_changed = (
-      (λ is same. not_apart (t.apart is) same),
+      (λ is same. not_apart B now touched t.at was spares (t.apart is) same),
       (λ differs. by other refl differs),
     )
       where

@@ -14,7 +14,7 @@ use Rattle.ospf_graph.specs.declared.graph.Vertex.TheVariants.{Network, Router}
 use Rattle.ospf_graph.specs.declared.route.Route.{Route}
 use Rattle.ospf_incremental.specs.Kept.{KeptTree}
 use Rattle.ospf_spf.proofs.RouteLemmas.{IsReach, reach_of_way, route_exact, route_reached, way_of_reach}
-use Rattle.ospf_router.specs.Ends.{IsSparedPrefix}
+use Rattle.ospf_spf.specs.Spared.{IsSparedPrefix}
 use Rattle.ospf_spf.specs.Reach.{IsReachedRoute}
 
 -- what is reached of the prefix's ends is the same
