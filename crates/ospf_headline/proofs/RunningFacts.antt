@@ -9,7 +9,9 @@ use Rattle.ospf_edges.specs.Listed.{advertisements_of}
 use Rattle.ospf_graph.specs.Routes.{IsTable}
 use Rattle.ospf_headline.specs.World.{HasItsTable, Running, RunsGoOn, run_of}
 use Rattle.ospf_headline.specs.declared.logs.Run.{Run}
+use Rattle.ospf_step.specs.Counts.{with_dropped}
 use Rattle.ospf_step.specs.Step.{Event}
+use Rattle.ospf_step.specs.declared.counts.DropCounts.{DropCounts}
 use Rattle.ospf_lsdb.specs.Database.{listed}
 use Rattle.ospf_lsdb.specs.Moments.{among}
 use Rattle.ospf_router.specs.Routers.{RouterValue}
@@ -52,14 +54,16 @@ fed_from r e before mid after out logs logs' g s = record {
   is = ap (λ (r : RouterValue). r.area) s.router ∙ g.is;
   dropped = g.dropped;
   lawful = g.lawful;
+  drops = s.drops ∙ g.drops;
   table = same_table mid after g.next s.router g.table;
   takes = subst (λ f. LogsTake logs logs' r f before.later out) g.first (subst (λ l. LogsTake logs logs' r mid.first l out) g.later s.takes);
   runs = goes_on r e before mid after out logs logs' g s;
 }
 
 -- a step of the router
-pub goes : (e : Event) (r r' : RouterValue) (first : Run) (later : List (LsaKey × Run)) (t : Step) → Steps e r t r' → TakesStep e (record { router = r; first = first; later = later }) t.out (record { router = r'; first = first; later = later })
-goes e r r' first later t s = record {
+pub goes : (e : Event) (r r' : RouterValue) (first : Run) (later : List (LsaKey × Run)) (drops drops' : List DropCounts) (t : Step) → Steps e r t r' → drops' ≡ with_dropped e t.dropped drops →
+    TakesStep e (record { router = r; first = first; later = later; drops = drops }) t.out (record { router = r'; first = first; later = later; drops = drops' })
+goes e r r' first later drops drops' t s count = record {
   area = s.area;
   next = s.next;
   was = s.runs;
@@ -69,4 +73,5 @@ goes e r r' first later t s = record {
   table = record { is_database = s.routes.database; is_listing = s.routes.listing; is_table = s.routes.routes };
   first = refl;
   later = refl;
+  drops = count;
 }

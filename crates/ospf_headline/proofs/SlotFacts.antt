@@ -14,10 +14,11 @@ use Rattle.ospf_headline.specs.declared.event.WorldFault.{WorldFault}
 use Rattle.ospf_headline.specs.declared.event.WorldFault.TheVariants as fault
 use Rattle.ospf_headline.specs.declared.logs.Datagram.{Datagram}
 use Rattle.ospf_headline.specs.declared.logs.Issued.{Issued}
+use Rattle.ospf_step.specs.Counts.{with_dropped}
 use Rattle.ospf_step.specs.Step.{Event}
 use Rattle.ospf_headline.specs.Logs.{LogsValue}
 use Rattle.ospf_headline.specs.Running.{Begins, Fed, RunningValue, delivery, running_of, runs_in}
-use Rattle.ospf_headline.specs.Slots.{DeliversOn, Feeds, FeedsOn, IsSlot, SlotSteps, SlotTakes, SlotValue, StartsSlot, StopsSlot, fed_by, member_of, refused_by, slot_of, with_running}
+use Rattle.ospf_headline.specs.Slots.{DeliversOn, Feeds, FeedsOn, IsSlot, SlotSteps, SlotTakes, SlotValue, StartsSlot, StopsSlot, drops_in, fed_by, member_of, refused_by, slot_of, with_running}
 
 -- what is at a place that is read, where there is something
 pub at_place : {A : Type 0} (P : A → Type 0) (xs : List A) (k : ℕ) (d : A) → d ≡ get_or xs k d → P d → IfSome (slice_get xs k) P
@@ -32,15 +33,17 @@ at_place {A = A} P xs k d is p = go (slice_get xs k) refl
 -- the router of a slot was taken out and stepped, and that was concluded
 pub feeds : {S : Type 0} (e : Event) (config : Config) (o mid : Option RunningValue) (v : RunningValue) (after : SlotValue) (logs logs' : LogsValue) (stepped : Result RunningValue S) (result : Result (Unit {0}) WorldFault) →
     o ≡ Some v → mid ≡ None → IsSlot o → IfOk stepped (λ x. Fed config.router_id e v logs x logs') → OnErr stepped (logs' ≡ logs) →
-    IfOk stepped (λ x. (result ≡ Ok tt) × (after ≡ with_running (slot_of config mid) (running_of x))) → OnErr stepped ((result ≡ Err (fault.Memory true)) × (after ≡ slot_of config mid)) →
+    IfOk stepped (λ x. (result ≡ Ok tt) × (after ≡ with_running (slot_of config mid) (running_of x) x.drops)) → OnErr stepped ((result ≡ Err (fault.Memory true)) × (after ≡ slot_of config mid)) →
     Feeds e (slot_of config o) logs result after logs'
 feeds e config o mid v after logs logs' (Ok x) result is none slot fed same ok err = Feeds.Goes ok.0 (record {
   x = runs_in v fed.area;
   x' = runs_in x fed.next;
   out = fed.out;
   was = ap (option_and_then running_of) is ∙ ap (option_map (runs_in v)) fed.was;
-  is = ok.1 ∙ ap (with_running (slot_of config o)) (ap (option_map (runs_in x)) fed.is);
   dropped = fed.dropped;
+  is =
+      ok.1 ∙ ap (λ o. with_running (slot_of config None) o x.drops) (ap (option_map (runs_in x)) fed.is)
+      ∙ ap (with_running (slot_of config None) (Some (runs_in x fed.next))) (fed.drops ∙ ap (λ o. with_dropped e fed.dropped (drops_in o)) (sym is));
   lawful = fed.lawful;
   table = fed.table;
   takes = fed.takes;
@@ -53,7 +56,7 @@ feeds e config o mid v after logs logs' (Err s) result is none slot fed same ok 
 -- with a datagram that may have been sent
 pub hands : {S : Type 0} (l : ℕ) (sent : Option Datagram) (config : Config) (o mid : Option RunningValue) (v : RunningValue) (after : SlotValue) (logs logs' : LogsValue) (stepped : Result RunningValue S) (result : Result (Unit {0}) WorldFault) →
     o ≡ Some v → mid ≡ None → IsSlot o → IfOk stepped (λ x. IfSome sent (λ g. Fed config.router_id (delivery l g) v logs x logs')) → OnErr stepped (logs' ≡ logs) →
-    IfOk stepped (λ x. (result ≡ Ok tt) × (after ≡ with_running (slot_of config mid) (running_of x))) → OnErr stepped ((result ≡ Err (fault.Memory true)) × (after ≡ slot_of config mid)) →
+    IfOk stepped (λ x. (result ≡ Ok tt) × (after ≡ with_running (slot_of config mid) (running_of x) x.drops)) → OnErr stepped ((result ≡ Err (fault.Memory true)) × (after ≡ slot_of config mid)) →
     IfSome sent (λ g. Feeds (delivery l g) (slot_of config o) logs result after logs')
 hands l None config o mid v after logs logs' stepped result is none slot fed same ok err = tt
 hands l (Some g) config o mid v after logs logs' stepped result is none slot fed same ok err = feeds (delivery l g) config o mid v after logs logs' stepped result is none slot fed same ok err
@@ -90,7 +93,8 @@ runs_already log dd_start floor s is = let (x, runs) = running_is s.running is i
 pub starts : (log : List Issued) (dd_start issued : ℕ) (floor : ℤ) (config : Config) (o : Option RunningValue) (v : RunningValue) → issued ≡ length log → is_some (slot_of config o).running ≡ false → floor ≢ max_sequence_number → Begins config dd_start issued floor v →
     StartsSlot log dd_start floor (slot_of config o) (Ok tt) (slot_of config (Some v))
 starts log dd_start issued floor config o v is none above b =
-    StartsSlot.Begins (stopped_is _ none) (not_equal floor max_sequence_number above) (runs_in v b.area) refl (ap (with_running (slot_of config o)) (ap (option_map (runs_in v)) b.runs)) (b.started log (sym is))
+    StartsSlot.Begins (stopped_is _ none) (not_equal floor max_sequence_number above) (runs_in v b.area) refl
+    (ap (λ x. with_running (slot_of config o) x v.drops) (ap (option_map (runs_in v)) b.runs) ∙ ap (with_running (slot_of config o) (Some (runs_in v b.area))) b.drops) (b.started log (sym is))
 
 -- one that runs stops
 pub stops : (config : Config) (o : Option RunningValue) → is_some (slot_of config o).running ≡ true → StopsSlot (slot_of config o) (Ok tt) (slot_of config None)

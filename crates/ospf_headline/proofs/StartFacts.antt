@@ -9,7 +9,9 @@ use Rattle.ospf_headline.specs.World.{IsRunningStarted}
 use Rattle.ospf_headline.specs.declared.logs.Issued.{Issued}
 use Rattle.ospf_headline.specs.declared.logs.Run.{Run}
 use Rattle.ospf_step.proofs.StateFacts.{Contains-nil}
+use Rattle.ospf_step.specs.Counts.{none_dropped_on}
 use Rattle.ospf_step.specs.Headers.{Lists}
+use Rattle.ospf_step.specs.declared.counts.DropCounts.{DropCounts}
 use Rattle.ospf_step.specs.Words.{Asks, CanName, delayed_in, list_in}
 use Rattle.ospf_lsa.specs.declared.header.LsaHeader.{LsaHeader}
 use Rattle.ospf_neighbour.specs.Neighbour.{NeighbourValue}
@@ -73,8 +75,10 @@ started_now config dd floor links are log first is = record {
 }
 
 -- a router that starts begins a run
-pub begins : (config : Config) (dd : ℕ) (floor : ℤ) (issued : ℕ) (r : RouterValue) → router.IsStarted config dd floor r → Begins config dd issued floor (record { router = r; first = record { name = issued; base = floor }; later = [] })
-begins config dd floor issued r s = record {
+pub begins : (config : Config) (dd : ℕ) (floor : ℤ) (issued : ℕ) (r : RouterValue) (drops : List DropCounts) → router.IsStarted config dd floor r → drops ≡ none_dropped_on config.interfaces.items →
+    Begins config dd issued floor (record { router = r; first = record { name = issued; base = floor }; later = []; drops = drops })
+begins config dd floor issued r drops s none = record {
+  drops = none;
   area = s.area;
   runs = s.runs;
   started = λ log is. record {

@@ -9,18 +9,22 @@ use Rattle.ospf_headline.specs.World.{HasItsTable, IsRunningStarted, Running, Ru
 use Rattle.ospf_headline.specs.declared.logs.Datagram.{Datagram}
 use Rattle.ospf_headline.specs.declared.logs.Issued.{Issued}
 use Rattle.ospf_headline.specs.declared.logs.Run.{Run}
+use Rattle.ospf_step.specs.Counts.{with_dropped, none_dropped_on}
 use Rattle.ospf_step.specs.Step.{Event}
+use Rattle.ospf_step.specs.declared.counts.DropCounts.{DropCounts}
 use Rattle.ospf_step.specs.declared.dropped.Dropped.{Dropped}
 use Rattle.ospf_router.specs.Routers.{RouterValue}
 use Rattle.ospf_router.specs.Starts.{IsAreaOf}
 use Rattle.ospf_router.specs.Steps.{IsLawful}
 use Rattle.ospf_headline.specs.Logs.{BeginAgain, LogsTake, LogsValue}
 
--- a router, the run of its keys since its start, and the later runs of single keys, the latest first
+-- a router, the run of its keys since its start, the later runs of single keys, the latest first, and what it dropped since its
+-- start, by links
 pub record RunningValue : Type 0 where
   pub router : RouterValue
   pub first : Run
   pub later : List (LsaKey × Run)
+  pub drops : List DropCounts
 
 -- how it runs, in this area
 abbrev pub runs_in : RunningValue → AreaValue → Running
@@ -46,8 +50,9 @@ pub record Begins (config : Config) (dd_start issued : ℕ) (floor : ℤ) (v : R
   pub area : AreaValue
   pub runs : v.router.area ≡ Some area
   pub started : (log : List Issued) → length log ≡ issued → StartsAs config dd_start floor log (runs_in v area)
+  pub drops : v.drops ≡ none_dropped_on config.interfaces.items
 
--- the router takes the exact step of the event, dropped for this cause if it is dropped; its runs are as before
+-- the router takes the exact step of the event, dropped for this cause if it is dropped, which is counted; its runs are as before
 pub record TakesStep (e : Event) (before : RunningValue) (out : OutputsValue) (after : RunningValue) : Type 0 where
   pub area : AreaValue
   pub next : AreaValue
@@ -58,6 +63,7 @@ pub record TakesStep (e : Event) (before : RunningValue) (out : OutputsValue) (a
   pub table : HasItsTable (runs_in after next)
   pub first : after.first ≡ before.first
   pub later : after.later ≡ before.later
+  pub drops : after.drops ≡ with_dropped e dropped before.drops
 
 -- the logs grow by exactly these outputs, and the runs that have ended begin again
 pub record SettlesLogs (r : RouterId) (before : RunningValue) (out : OutputsValue) (logs : LogsValue) (after : RunningValue) (logs' : LogsValue) : Type 0 where
@@ -65,8 +71,9 @@ pub record SettlesLogs (r : RouterId) (before : RunningValue) (out : OutputsValu
   pub first : after.first ≡ before.first
   pub takes : LogsTake logs logs' r before.first before.later out
   pub again : BeginAgain (length logs'.issued) out.ended before.later after.later
+  pub drops : after.drops ≡ before.drops
 
--- a running router takes the exact step of the event, and the logs grow by exactly its outputs
+-- a running router takes the exact step of the event, and the logs grow by exactly its outputs; that it is dropped is counted
 pub record Fed (r : RouterId) (e : Event) (before : RunningValue) (logs : LogsValue) (after : RunningValue) (logs' : LogsValue) : Type 0 where
   pub area : AreaValue
   pub next : AreaValue
@@ -78,6 +85,7 @@ pub record Fed (r : RouterId) (e : Event) (before : RunningValue) (logs : LogsVa
   pub table : HasItsTable (runs_in after next)
   pub takes : LogsTake logs logs' r before.first before.later out
   pub runs : RunsGoOn logs'.issued out.ended (runs_in before area) (runs_in after next)
+  pub drops : after.drops ≡ with_dropped e dropped before.drops
 
 -- what a datagram that was sent steps a router with
 abbrev pub delivery : ℕ → Datagram → Event

@@ -1,5 +1,5 @@
 -- A router's place in a world, and what a world event comes to there.
-use Rattle.std.specs.Prelude.{⊤, ◌≡◌, ℕ, ℤ, List, Option, None, Some, Result, Ok, Err, true, false, nat_lt, slice_get, option_and_then, option_map, vec_len}
+use Rattle.std.specs.Prelude.{⊤, ◌≡◌, ℕ, ℤ, List, [], Option, None, Some, Result, Ok, Err, true, false, nat_lt, slice_get, option_and_then, option_map, vec_len}
 use Rattle.std.specs.Ordering.{int_eq}
 use Rattle.ospf_area.specs.Outputs.{OutputsValue}
 use Rattle.ospf_base.specs.declared.ids.RouterId.{RouterId}
@@ -13,20 +13,28 @@ use Rattle.ospf_headline.specs.declared.event.WorldEvent.{WorldEvent}
 use Rattle.ospf_headline.specs.declared.event.WorldFault.{WorldFault}
 use Rattle.ospf_headline.specs.declared.event.WorldEvent.TheVariants.{Start, Stop, Tick, LinkUp, LinkDown, Deliver}
 use Rattle.ospf_headline.specs.declared.event.WorldFault.TheVariants as fault
+use Rattle.ospf_step.specs.Counts.{with_dropped, none_dropped_on}
 use Rattle.ospf_step.specs.Step.{Event}
+use Rattle.ospf_step.specs.declared.counts.DropCounts.{DropCounts}
 use Rattle.ospf_step.specs.declared.dropped.Dropped.{Dropped}
 use Rattle.ospf_router.specs.Routers.{RouterValue}
 use Rattle.ospf_router.specs.Steps.{IsLawful}
 use Rattle.ospf_headline.specs.Logs.{LogsTake, LogsValue}
 use Rattle.ospf_headline.specs.Running.{Lives, RunningValue, StartsAs, delivery, running_of}
 
--- how a router is configured, and how it runs, if it does
+-- how a router is configured, how it runs, if it does, and what it dropped since it started, by links
 pub record SlotValue : Type 0 where
   pub config : Config
   pub running : Option Running
+  pub drops : List DropCounts
+
+-- what it dropped, if it runs
+abbrev pub drops_in : Option RunningValue → List DropCounts
+drops_in None = []
+drops_in (Some v) = v.drops
 
 abbrev pub slot_of : Config → Option RunningValue → SlotValue
-slot_of config v = record { config = config; running = option_and_then running_of v }
+slot_of config v = record { config = config; running = option_and_then running_of v; drops = drops_in v }
 
 -- what is in a slot has not stopped
 abbrev pub IsSlot : Option RunningValue → Type 0
@@ -37,8 +45,9 @@ IsSlot (Some v) = Lives v
 abbrev pub member_of : SlotValue → Member
 member_of s = record { router = s.config.router_id; links = vec_len s.config.interfaces; running = s.running }
 
-abbrev pub with_running : SlotValue → Option Running → SlotValue
-with_running s x = record { config = s.config; running = x }
+-- the router runs so, and has dropped this
+abbrev pub with_running : SlotValue → Option Running → List DropCounts → SlotValue
+with_running s x drops = record { config = s.config; running = x; drops = drops }
 
 -- the router that runs so
 pub record IsLent (running : Option Running) (r : RouterValue) : Type 0 where
@@ -76,15 +85,15 @@ fed_by sent (LinkUp r l) = Some (Event.LinkUp l)
 fed_by sent (LinkDown r l) = Some (Event.LinkDown l)
 fed_by sent (Deliver d r l) = option_map (delivery l) (slice_get sent d)
 
--- the slot's router takes the exact step of the event, dropped for this cause if it is dropped, and the logs grow by exactly its
--- outputs
+-- the slot's router takes the exact step of the event, dropped for this cause if it is dropped, which is counted, and the logs grow
+-- by exactly its outputs
 pub record SlotGoesOn (e : Event) (before : SlotValue) (logs : LogsValue) (after : SlotValue) (logs' : LogsValue) : Type 0 where
   pub x : Running
   pub x' : Running
   pub out : OutputsValue
   pub was : before.running ≡ Some x
-  pub is : after ≡ with_running before (Some x')
   pub dropped : Option Dropped
+  pub is : after ≡ with_running before (Some x') (with_dropped e dropped before.drops)
   pub lawful : IsLawful e x.state dropped out x'.state
   pub table : HasItsTable x'
   pub takes : LogsTake logs logs' before.config.router_id x.first x.later out
@@ -94,7 +103,7 @@ pub record SlotGoesOn (e : Event) (before : SlotValue) (logs : LogsValue) (after
 pub data Feeds (e : Event) (before : SlotValue) (logs : LogsValue) (result : Result (Unit {0}) WorldFault) (after : SlotValue) (logs' : LogsValue) : Type 0 where
   NotRunning : before.running ≡ None → result ≡ Err fault.NotRunning → after ≡ before → logs' ≡ logs → Feeds e before logs result after logs'
   Goes : result ≡ Ok tt → SlotGoesOn e before logs after logs' → Feeds e before logs result after logs'
-  MemoryStops : (x : Running) → before.running ≡ Some x → result ≡ Err (fault.Memory true) → after ≡ with_running before None → logs' ≡ logs → Feeds e before logs result after logs'
+  MemoryStops : (x : Running) → before.running ≡ Some x → result ≡ Err (fault.Memory true) → after ≡ with_running before None [] → logs' ≡ logs → Feeds e before logs result after logs'
 
 -- the same on a link, if the router has it
 pub data FeedsOn (l : ℕ) (e : Event) (before : SlotValue) (logs : LogsValue) (result : Result (Unit {0}) WorldFault) (after : SlotValue) (logs' : LogsValue) : Type 0 where
@@ -112,20 +121,20 @@ pub data StartsSlot (issued : List Issued) (dd_start : ℕ) (floor : ℤ) (befor
   IsRunning : (x : Running) → before.running ≡ Some x → result ≡ Err fault.Running → after ≡ before → StartsSlot issued dd_start floor before result after
   AtFloor : before.running ≡ None → floor ≡ max_sequence_number → result ≡ Err fault.Floor → after ≡ before → StartsSlot issued dd_start floor before result after
   NotDone : before.running ≡ None → int_eq floor max_sequence_number ≡ false → result ≡ Err (fault.Memory false) → after ≡ before → StartsSlot issued dd_start floor before result after
-  Begins : before.running ≡ None → int_eq floor max_sequence_number ≡ false → (x : Running) → result ≡ Ok tt → after ≡ with_running before (Some x) → StartsAs before.config dd_start floor issued x → StartsSlot issued dd_start floor before result after
+  Begins : before.running ≡ None → int_eq floor max_sequence_number ≡ false → (x : Running) → result ≡ Ok tt → after ≡ with_running before (Some x) (none_dropped_on before.config.interfaces.items) → StartsAs before.config dd_start floor issued x → StartsSlot issued dd_start floor before result after
 
 -- its router is to stop
 pub data StopsSlot (before : SlotValue) (result : Result (Unit {0}) WorldFault) (after : SlotValue) : Type 0 where
   IsStopped : before.running ≡ None → result ≡ Err fault.NotRunning → after ≡ before → StopsSlot before result after
-  Ends : (x : Running) → before.running ≡ Some x → result ≡ Ok tt → after ≡ with_running before None → StopsSlot before result after
+  Ends : (x : Running) → before.running ≡ Some x → result ≡ Ok tt → after ≡ with_running before None [] → StopsSlot before result after
 
 -- what an event that is not refused comes to: memory is wanting, before anything is done or so that the router stops; or
 -- the router starts exactly as it is configured, stops, or takes the exact step of what the event feeds it
 pub data SlotTakes (event : WorldEvent) (before : SlotValue) (logs : LogsValue) (result : Result (Unit {0}) WorldFault) (after : SlotValue) (logs' : LogsValue) : Type 0 where
   NotDone : result ≡ Err (fault.Memory false) → after ≡ before → logs' ≡ logs → SlotTakes event before logs result after logs'
-  MemoryStops : (e : Event) → fed_by logs.datagrams event ≡ Some e → result ≡ Err (fault.Memory true) → after ≡ with_running before None → logs' ≡ logs → SlotTakes event before logs result after logs'
-  Starts : (r : RouterId) (dd_start : ℕ) (floor : ℤ) (x : Running) → event ≡ Start r dd_start floor → result ≡ Ok tt → before.running ≡ None → after ≡ with_running before (Some x) → StartsAs before.config dd_start floor logs.issued x → logs' ≡ logs → SlotTakes event before logs result after logs'
-  Stops : (r : RouterId) → event ≡ Stop r → result ≡ Ok tt → after ≡ with_running before None → logs' ≡ logs → SlotTakes event before logs result after logs'
+  MemoryStops : (e : Event) → fed_by logs.datagrams event ≡ Some e → result ≡ Err (fault.Memory true) → after ≡ with_running before None [] → logs' ≡ logs → SlotTakes event before logs result after logs'
+  Starts : (r : RouterId) (dd_start : ℕ) (floor : ℤ) (x : Running) → event ≡ Start r dd_start floor → result ≡ Ok tt → before.running ≡ None → after ≡ with_running before (Some x) (none_dropped_on before.config.interfaces.items) → StartsAs before.config dd_start floor logs.issued x → logs' ≡ logs → SlotTakes event before logs result after logs'
+  Stops : (r : RouterId) → event ≡ Stop r → result ≡ Ok tt → after ≡ with_running before None [] → logs' ≡ logs → SlotTakes event before logs result after logs'
   Stepped : (e : Event) → fed_by logs.datagrams event ≡ Some e → result ≡ Ok tt → SlotGoesOn e before logs after logs' → SlotTakes event before logs result after logs'
 
 -- what an event comes to at its router's slot: it is refused, with the first fault that holds, exactly where one does

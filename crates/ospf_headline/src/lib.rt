@@ -4,6 +4,7 @@
 //! are all that was sent, issued and held.
 #![tactic(auto)]
 
+mod drops;
 mod event;
 mod laws;
 mod logs;

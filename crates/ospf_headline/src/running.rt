@@ -6,20 +6,24 @@ ghost use Rattle.ospf_router.specs.declared.fault.StartFault.TheVariants as faul
 ghost use Rattle.ospf_headline.specs.Running.{Begins, Fed, SettlesLogs, delivery};
 ghost use Rattle.ospf_router.specs.Steps.{happening};
 
+use crate::drops::RouterDrops;
 use crate::logs::{Datagram, Logs, Run};
 use ospf_area::Outputs;
 use ospf_base::{LsaKey, RouterId};
 use ospf_config::Config;
 use ospf_router::{Event, Router, StartFault, Step, Stopped};
+use ospf_step::DropCounts;
 use std::alloc::Global;
 use std::marker::Model;
 
-/// A running router, the run of its keys since its start, and the later runs of single keys, the latest first.
+/// A running router, the run of its keys since its start, the later runs of single keys, the latest first, and what it dropped
+/// since its start, by links.
 #[derive(Drop)]
 pub(crate) struct RunningRouter {
     router: Router,
     first: Run,
     later: Vec<(LsaKey, Run)>,
+    drops: RouterDrops,
 }
 
 impl Model for RunningRouter {
@@ -27,7 +31,7 @@ impl Model for RunningRouter {
 
     ghost Value = { RunningValue };
 
-    ghost view = { λ x. record { router = x.router; first = x.first; later = x.later.items } };
+    ghost view = { λ x. record { router = x.router; first = x.first; later = x.later.items; drops = x.drops } };
 }
 
 impl RunningRouter {
@@ -48,10 +52,14 @@ impl RunningRouter {
     {
         let base = *floor;
         let router = Router::start(config, dd_start, base, alloc)?;
+        let Ok(drops) = RouterDrops::none(config, alloc) else {
+            return Err(StartFault::Memory);
+        };
         Ok(RunningRouter {
             router,
             first: Run { name: issued, base },
             later: Vec::new(alloc),
+            drops,
         })
     }
 
@@ -60,6 +68,13 @@ impl RunningRouter {
         ensures { result.now ≡ self.now.router }
     {
         &self.router
+    }
+
+    /// What it dropped since its start, by links.
+    pub(crate) fn drops(&self) -> &[DropCounts]
+        ensures { result.now ≡ self.now.drops }
+    {
+        self.drops.links()
     }
 
     /// A step of the router, by which the logs grow.
@@ -76,7 +91,9 @@ impl RunningRouter {
             logs.new) }
         ensures none { OnErr result (logs.new ≡ logs.old) }
     {
-        let Step { out, .. } = self.router.step(event, alloc)?;
+        let link = event.comes_on();
+        let Step { out, dropped, .. } = self.router.step(event, alloc)?;
+        self.drops.count(link, dropped);
         self.settle(out, logs, router)
     }
 
@@ -97,7 +114,13 @@ impl RunningRouter {
         ensures none { OnErr result (logs.new ≡ logs.old) }
     {
         let event = arrival(&logs.datagrams()[place], link);
-        let Step { out: outputs, .. } = self.router.step(event, alloc)?;
+        let link = event.comes_on();
+        let Step {
+            out: outputs,
+            dropped,
+            ..
+        } = self.router.step(event, alloc)?;
+        self.drops.count(link, dropped);
         self.settle(outputs, logs, router)
     }
 

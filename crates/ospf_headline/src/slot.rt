@@ -1,6 +1,6 @@
 //! A router's place in a world.
 
-ghost use Rattle.std.specs.Prelude.{◌≡◌, ◌<◌, None, Some, Ok, Err, IfOk, IfSome, OnErr, is_some, length, slice_get, true};
+ghost use Rattle.std.specs.Prelude.{◌≡◌, ◌<◌, [], None, Some, Ok, Err, IfOk, IfSome, OnErr, is_some, length, slice_get, true};
 ghost use Rattle.ospf_headline.specs.declared.event.WorldFault.TheVariants as fault;
 ghost use Rattle.ospf_headline.specs.Running.{Lives, delivery, running_of};
 ghost use Rattle.ospf_headline.specs.Slots.{DeliversOn, Feeds, FeedsOn, IsLent, SlotSteps, StartsSlot, StopsSlot, with_running};
@@ -11,6 +11,7 @@ use crate::logs::Logs;
 use crate::running::RunningRouter;
 use ospf_config::Config;
 use ospf_router::{Event, Router, StartFault, Stopped};
+use ospf_step::DropCounts;
 use std::alloc::Global;
 use std::marker::Model;
 
@@ -34,7 +35,7 @@ impl Model for Slot {
 impl Slot {
     /// A router that does not run.
     pub fn new(config: Config) -> Slot
-        ensures { result ≡ record { config = config; running = None } }
+        ensures { result ≡ record { config = config; running = None; drops = [] } }
     {
         Slot {
             config,
@@ -64,6 +65,16 @@ impl Slot {
         match &self.running {
             Some(running) => Some(running.router()),
             None => None,
+        }
+    }
+
+    /// What the router dropped since it started, by links; nothing where it does not run.
+    pub fn drops(&self) -> &[DropCounts]
+        ensures { result.now ≡ self.now.drops }
+    {
+        match &self.running {
+            Some(running) => running.drops(),
+            None => &[],
         }
     }
 
@@ -148,7 +159,7 @@ impl Slot {
     fn conclude(&mut self, stepped: Result<RunningRouter, Stopped>) -> Result<(), WorldFault>
         requires { IfOk stepped Lives }
         ensures ok { IfOk stepped (λ v. (result ≡ Ok tt)
-            × (self.new ≡ with_running self.old (running_of v))) }
+            × (self.new ≡ with_running self.old (running_of v) v.drops)) }
         ensures err { OnErr stepped ((result ≡ Err (fault.Memory true)) × (self.new ≡ self.old)) }
     {
         match stepped {

@@ -15,6 +15,7 @@ pub mod Text
 pub mod Senders
 pub mod Events
 pub mod Drops
+pub mod Counts
 pub mod Takes
 pub mod Ends
 pub mod Steps

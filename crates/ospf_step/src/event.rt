@@ -23,3 +23,21 @@ pub enum Event<'a> {
         link: usize,
     },
 }
+
+impl Event<'_> {
+    ghost use Rattle.std.specs.Prelude.{◌≡◌};
+    ghost use Rattle.ospf_step.specs.Counts.{comes_on};
+    ghost use Rattle.ospf_step.specs.Events.{happening};
+
+    /// The link that a datagram comes on; nothing where the event is none.
+    pub fn comes_on(self) -> Option<usize>
+        ensures { result ≡ comes_on (happening self.entry) }
+    {
+        match self {
+            Event::Datagram { link, .. } => Some(link),
+            Event::Tick => None,
+            Event::LinkUp { .. } => None,
+            Event::LinkDown { .. } => None,
+        }
+    }
+}

@@ -11,6 +11,7 @@
 #![tactic(auto)]
 
 mod account_laws;
+mod counts;
 mod datagrams;
 mod dropped;
 mod drops;
@@ -30,6 +31,7 @@ mod ticks;
 pub use crate::account_laws::{
     accounts_add_up, quiet_parts_account, some_state_ticks, steps_account,
 };
+pub use crate::counts::{DropCounts, count_dropped, none_dropped_on};
 pub use crate::dropped::Dropped;
 pub use crate::drops::receive;
 pub use crate::each_link_laws::{links_go, one_link_goes};

@@ -13,7 +13,9 @@ use Rattle.ospf_headline.specs.declared.logs.Datagram.{Datagram}
 use Rattle.ospf_headline.specs.declared.logs.Run.{Run}
 use Rattle.ospf_headline.specs.declared.event.WorldEvent.TheVariants.{Start, Tick, LinkUp}
 use Rattle.ospf_adjacency.specs.Links.{own_hello, up}
+use Rattle.ospf_step.specs.Counts.{none_dropped_on}
 use Rattle.ospf_step.specs.Step.{Event}
+use Rattle.ospf_step.specs.declared.counts.DropCounts.{DropCounts}
 use Rattle.ospf_links.specs.Parts.{link_up}
 use Rattle.ospf_lsdb.specs.Database.{entry_from, key_in}
 use Rattle.ospf_packet.proofs.RoundTrip.{read_again}
@@ -41,8 +43,12 @@ first_run = record { name = 0; base = lowest_number }
 abbrev runs_at : AreaValue → Running
 runs_at s = record { state = s; table = []; first = first_run; later = [] }
 
+abbrev drops_of : Option Running → List DropCounts
+drops_of None = []
+drops_of (Some x) = none_dropped_on config.interfaces.items
+
 abbrev slot : Option Running → SlotValue
-slot o = record { config = config; running = o }
+slot o = record { config = config; running = o; drops = drops_of o }
 
 abbrev logs_after : LogsValue → OutputsValue → LogsValue
 logs_after logs out = record {
@@ -82,7 +88,7 @@ is_started = record { area = begun; runs = refl; is = is_area; table = refl; lin
 
 starts_as : StartsAs config 1 lowest_number [] (runs_at begun)
 starts_as =
-    let b = begins config 1 lowest_number 0 router_value is_started in
+    let b = begins config 1 lowest_number 0 router_value (none_dropped_on config.interfaces.items) is_started refl in
     subst (λ (s : AreaValue). StartsAs config 1 lowest_number [] (runs_at s)) (sym (same_Some begun b.area b.runs)) (b.started [] refl)
 
 does_start : Does (Start it 1 lowest_number) (new_world (config ∷ [])) (Ok tt) has_started

@@ -62,7 +62,7 @@ AreSlotPlaces places slots = (r : ℕ) → place_in places r ≡ place_of slots 
 
 -- a router that does not run
 abbrev pub stopped_slot : Config → SlotValue
-stopped_slot config = record { config = config; running = None }
+stopped_slot config = record { config = config; running = None; drops = [] }
 
 abbrev pub no_logs : LogsValue
 no_logs = record { datagrams = []; issued = []; held = [] }

@@ -1,10 +1,10 @@
 //! Many routers and their logs, before anything is said of what led there.
 
-ghost use Rattle.std.specs.Prelude.{◌≡◌, ◌<◌, ◌+◌, ◌++◌, IfOk, length};
+ghost use Rattle.std.specs.Prelude.{◌≡◌, ◌<◌, ◌+◌, ◌++◌, IfOk, IfSome, None, Some, find, length};
 ghost use Rattle.ospf_headline.specs.Slots.{router_in};
 ghost use Rattle.ospf_world.specs.Does.{Does};
 ghost use Rattle.ospf_world.specs.Rounds.{offers_of, sender_in};
-ghost use Rattle.ospf_world.specs.Worlds.{AddsConfig, Lends, LendsSlot, Opens, place_in, world_of};
+ghost use Rattle.ospf_world.specs.Worlds.{AddsConfig, Lends, LendsSlot, Opens, is_slot_of, place_in, world_of};
 
 use crate::networks::{Networks, links_at, network_of, networks_of};
 use crate::offers::{address_of, offers_at};
@@ -75,6 +75,17 @@ impl Parts {
         match place(&self.places, router) {
             Some(place) => running(&self.slots[place]),
             None => Err(WorldFault::NoRouter),
+        }
+    }
+
+    /// The slot of a router.
+    pub(crate) fn slot(&self, router: RouterId) -> Option<&Slot>
+        ensures some { IfSome result (λ s. find (is_slot_of router.0) self.now.slots ≡ Some s.now) }
+        ensures none { result ≡ None → find (is_slot_of router.0) self.now.slots ≡ None }
+    {
+        match place(&self.places, router) {
+            Some(place) => Some(&self.slots[place]),
+            None => None,
         }
     }
 

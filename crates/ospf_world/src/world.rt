@@ -1,6 +1,6 @@
 //! Worlds.
 
-ghost use Rattle.std.specs.Prelude.{◌≡◌, ◌<◌, ◌+◌, ◌++◌, IfOk, length};
+ghost use Rattle.std.specs.Prelude.{◌≡◌, ◌<◌, ◌+◌, ◌++◌, IfOk, IfSome, None, Some, find, length};
 ghost use Rattle.ospf_headline.specs.Headline.{Headline, IsReached};
 ghost use Rattle.ospf_headline.specs.Runs.{IsRun, is_memory};
 ghost use Rattle.ospf_headline.specs.Sound.{IsSoundAcknowledgement};
@@ -10,7 +10,7 @@ ghost use Rattle.ospf_world.specs.Does.{Does};
 ghost use Rattle.ospf_world.specs.Rounds.{offers_of, sender_in};
 ghost use Rattle.ospf_world.specs.Sounds.{IsSoundBetween};
 ghost use Rattle.ospf_world.specs.Ticks.{TicksOn, ticked_by};
-ghost use Rattle.ospf_world.specs.Worlds.{Lends, Opens, SameSettings, world_of};
+ghost use Rattle.ospf_world.specs.Worlds.{Lends, Opens, SameSettings, is_slot_of, world_of};
 
 use crate::parts::Parts;
 use crate::ticks::Ticked;
@@ -101,6 +101,14 @@ impl World {
         ensures { Lends (world_of self.now) router result }
     {
         self.parts.router(router)
+    }
+
+    /// The router of a Router ID, running or not, if there is one. No memory is taken.
+    pub fn slot(&self, router: RouterId) -> Option<&Slot>
+        ensures some { IfSome result (λ s. find (is_slot_of router.0) self.now.slots ≡ Some s.now) }
+        ensures none { result ≡ None → find (is_slot_of router.0) self.now.slots ≡ None }
+    {
+        self.parts.slot(router)
     }
 
     /// The routers, running or not, in the order of their configurations. No memory is taken.
