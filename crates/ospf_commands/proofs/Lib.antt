@@ -9,3 +9,5 @@ pub mod Leading
 pub mod Settling
 pub mod Apart
 pub mod Same
+pub mod Headers
+pub mod Agreed

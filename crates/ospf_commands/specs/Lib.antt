@@ -8,4 +8,5 @@ pub mod Settling
 pub mod Shown
 pub mod Asked
 pub mod Judged
+pub mod Agreement
 pub mod Commands

@@ -1,13 +1,15 @@
 //! What the commands of a script do in a network of routers, and what they print.
 //!
 //! `run_command` runs one on a `Simulation`: what each does stands in `specs/Commands`, what it prints in `specs/Shown` and
-//! `specs/Judged`. `round_losing` is a round of a world but for what `Losses` lose, which is not delivered (`specs/Losses`).
+//! `specs/Judged`. `round_losing` is a round of a world but for what `Losses` lose, which is not delivered (`specs/Losses`). `agreement_law` says what
+//! it comes to that routers agree (`specs/Agreement`).
 #![tactic(auto)]
 
 mod agreement;
 mod asked;
 mod commands;
 mod judge;
+mod laws;
 mod losing;
 mod losses;
 mod many;
@@ -19,6 +21,7 @@ mod simulation;
 mod watch;
 
 pub use crate::commands::run_command;
+pub use crate::laws::agreement_law;
 pub use crate::losing::round_losing;
 pub use crate::losses::Losses;
 pub use crate::simulation::Simulation;
