@@ -372,6 +372,26 @@ fn prints_what_is_wrong_in_an_area_as_json(rt: HostRuntime) -> Result<(), Fail> 
     Ok(())
 }
 
+// The two ends of a link, with ports of which neither names the other.
+const MUTE: [&str; 2] = [
+    "router_id = \"1.1.1.1\"\narea = \"0.0.0.0\"\n\n[[interface]]\nkind = \"point-to-point\"\naddress = \"10.0.0.1/30\"\ncost = 10\nport = 5001\n",
+    "router_id = \"2.2.2.2\"\narea = \"0.0.0.0\"\n\n[[interface]]\nkind = \"point-to-point\"\naddress = \"10.0.0.2/30\"\ncost = 10\nport = 5002\n",
+];
+
+#[test]
+fn prints_ports_as_json(rt: HostRuntime) -> Result<(), Fail> {
+    let files = [("a.toml", Some(MUTE[0].as_bytes())), ("b.toml", Some(MUTE[1].as_bytes()))];
+    let outcome = json_of(rt.alloc(), &files)?;
+    assert_eq!(rt; outcome.status, Status::Refused);
+    assert_eq!(rt;
+        str::from_utf8(&outcome.out)?,
+        "[{\"code\":\"A19 Unheard\",\"here\":{\"file\":\"b.toml\",\"interface\":0,\"key\":\"port\",\"value\":5002},\
+        \"meaning\":\"in `run` they never become neighbours (section 10.5)\",\"note\":false,\
+        \"other\":{\"file\":\"a.toml\",\"interface\":0,\"key\":\"port\",\"value\":5001}}]\n"
+    );
+    Ok(())
+}
+
 #[test]
 fn prints_no_json_where_a_file_is_refused(rt: HostRuntime) -> Result<(), Fail> {
     let files = [("a.toml", Some(GOOD.as_bytes())), ("b.toml", Some(BAD.as_bytes()))];

@@ -52,7 +52,7 @@ const FIRST: Router = Router {
     interfaces: &[(ONE, "")],
 };
 
-static CASES: [Case; 28] = [
+static CASES: [Case; 38] = [
     Case {
         name: "nothing wrong",
         routers: &[FIRST, Router { id: "2.2.2.2", area: BACKBONE, interfaces: &[(TWO, "")] }],
@@ -253,6 +253,103 @@ static CASES: [Case; 28] = [
         ],
         faults: "",
         notes: "a.toml: A17 Nowhere: interface 0: peers 5009\n  no router of these files hears what is sent there\n",
+    },
+    Case {
+        name: "A19 of a point-to-point network",
+        routers: &[
+            Router { id: "1.1.1.1", area: BACKBONE, interfaces: &[(ONE, "port = 5001\n")] },
+            Router { id: "2.2.2.2", area: BACKBONE, interfaces: &[(TWO, "port = 5002\n")] },
+        ],
+        faults: "b.toml: A19 Unheard: interface 0: port 5002, a.toml: interface 0: port 5001\n",
+        notes: "",
+    },
+    Case {
+        name: "A19 of each interface once, with the first",
+        routers: &[
+            Router { id: "1.1.1.1", area: BACKBONE, interfaces: &[(LAN_ONE, "port = 5001\n")] },
+            Router { id: "2.2.2.2", area: BACKBONE, interfaces: &[(LAN_TWO, "port = 5002\n")] },
+            Router { id: "3.3.3.3", area: BACKBONE, interfaces: &[(LAN_THREE, "port = 5003\n")] },
+        ],
+        faults: "b.toml: A19 Unheard: interface 0: port 5002, a.toml: interface 0: port 5001\nc.toml: A19 Unheard: interface 0: port 5003, a.toml: interface 0: port 5001\n",
+        notes: "",
+    },
+    Case {
+        name: "A19 of the second and the third, which the first hears",
+        routers: &[
+            Router { id: "1.1.1.1", area: BACKBONE, interfaces: &[(LAN_ONE, "port = 5001\npeers = [5002, 5003]\n")] },
+            Router { id: "2.2.2.2", area: BACKBONE, interfaces: &[(LAN_TWO, "port = 5002\npeers = [5001]\n")] },
+            Router { id: "3.3.3.3", area: BACKBONE, interfaces: &[(LAN_THREE, "port = 5003\npeers = [5001]\n")] },
+        ],
+        faults: "c.toml: A19 Unheard: interface 0: port 5003, b.toml: interface 0: port 5002\n",
+        notes: "",
+    },
+    Case {
+        name: "no A19 where one names the other: that is A11",
+        routers: &[
+            Router { id: "1.1.1.1", area: BACKBONE, interfaces: &[(LAN_ONE, "port = 5001\npeers = [5002, 5003]\n")] },
+            Router { id: "2.2.2.2", area: BACKBONE, interfaces: &[(LAN_TWO, "port = 5002\npeers = [5001]\n")] },
+            Router { id: "3.3.3.3", area: BACKBONE, interfaces: &[(LAN_THREE, "port = 5003\npeers = [5001, 5002]\n")] },
+        ],
+        faults: "c.toml: A11 OneSided: interface 0: port 5003, b.toml: interface 0: port 5002\n",
+        notes: "",
+    },
+    Case {
+        name: "no A19 of an interface without a port",
+        routers: &[
+            Router { id: "1.1.1.1", area: BACKBONE, interfaces: &[(LAN_ONE, "port = 5001\npeers = [5003]\n")] },
+            Router { id: "2.2.2.2", area: BACKBONE, interfaces: &[(LAN_TWO, "")] },
+            Router { id: "3.3.3.3", area: BACKBONE, interfaces: &[(LAN_THREE, "port = 5003\npeers = [5001]\n")] },
+        ],
+        faults: "",
+        notes: "",
+    },
+    Case {
+        name: "no A19 of two networks",
+        routers: &[
+            Router { id: "1.1.1.1", area: BACKBONE, interfaces: &[(ONE, "port = 5001\npeers = [5002]\n"), (LAN_ONE, "port = 5003\n")] },
+            Router { id: "2.2.2.2", area: BACKBONE, interfaces: &[(TWO, "port = 5002\npeers = [5001]\n"), (STUB, "port = 5004\n")] },
+        ],
+        faults: "",
+        notes: "a.toml: A13 Alone: interface 1: address 10.1.0.1/24\n  the network is a stub\nb.toml: A13 Alone: interface 1: address 192.168.3.1/24\n  the network is a stub\n",
+    },
+    Case {
+        name: "no A19 of two that may hear each other by bridges",
+        routers: &[
+            Router { id: "1.1.1.1", area: BACKBONE, interfaces: &[(ONE, "port = 5001\npeers = [6001]\n")] },
+            Router { id: "2.2.2.2", area: BACKBONE, interfaces: &[(TWO, "port = 5002\npeers = [6002]\n")] },
+        ],
+        faults: "",
+        notes: "a.toml: A17 Nowhere: interface 0: peers 6001\n  no router of these files hears what is sent there\nb.toml: A17 Nowhere: interface 0: peers 6002\n  no router of these files hears what is sent there\n",
+    },
+    Case {
+        name: "A19 where one of two has no bridge",
+        routers: &[
+            Router { id: "1.1.1.1", area: BACKBONE, interfaces: &[(LAN_ONE, "port = 5001\npeers = [6001]\n")] },
+            Router { id: "2.2.2.2", area: BACKBONE, interfaces: &[(LAN_TWO, "port = 5002\npeers = [6002]\n")] },
+            Router { id: "3.3.3.3", area: BACKBONE, interfaces: &[(LAN_THREE, "port = 5003\n")] },
+        ],
+        faults: "c.toml: A19 Unheard: interface 0: port 5003, a.toml: interface 0: port 5001\n",
+        notes: "a.toml: A17 Nowhere: interface 0: peers 6001\n  no router of these files hears what is sent there\nb.toml: A17 Nowhere: interface 0: peers 6002\n  no router of these files hears what is sent there\n",
+    },
+    Case {
+        name: "A19 of one with a bridge, with an earlier one that has none",
+        routers: &[
+            Router { id: "1.1.1.1", area: BACKBONE, interfaces: &[(LAN_ONE, "port = 5001\npeers = [6001]\n")] },
+            Router { id: "2.2.2.2", area: BACKBONE, interfaces: &[(LAN_TWO, "port = 5002\npeers = [5001]\n")] },
+            Router { id: "3.3.3.3", area: BACKBONE, interfaces: &[(LAN_THREE, "port = 5003\npeers = [6003]\n")] },
+        ],
+        faults: "b.toml: A11 OneSided: interface 0: port 5002, a.toml: interface 0: port 5001\nc.toml: A19 Unheard: interface 0: port 5003, b.toml: interface 0: port 5002\n",
+        notes: "a.toml: A17 Nowhere: interface 0: peers 6001\n  no router of these files hears what is sent there\nc.toml: A17 Nowhere: interface 0: peers 6003\n  no router of these files hears what is sent there\n",
+    },
+    Case {
+        name: "no A19 of an interface with the port of an earlier one, and A18 last",
+        routers: &[
+            Router { id: "1.1.1.1", area: BACKBONE, interfaces: &[(LAN_ONE, "port = 5001\n")] },
+            Router { id: "2.2.2.2", area: BACKBONE, interfaces: &[(LAN_TWO, "port = 5001\n")] },
+            Router { id: "3.3.3.3", area: BACKBONE, interfaces: &[(LAN_THREE, "hello = 5\nport = 5003\n")] },
+        ],
+        faults: "b.toml: A15 SamePort: interface 0: port 5001, a.toml: interface 0: port 5001\nc.toml: A5 Hello: interface 0: hello 5, a.toml: interface 0: hello 10\nc.toml: A19 Unheard: interface 0: port 5003, a.toml: interface 0: port 5001\nc.toml: A18 Apart: router_id 3.3.3.3, a.toml: router_id 1.1.1.1\n",
+        notes: "",
     },
     Case {
         name: "A18",

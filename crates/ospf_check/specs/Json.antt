@@ -43,6 +43,7 @@ key_text fault.Cost = codes "cost"
 key_text fault.Delay = codes "transmit_delay"
 key_text fault.SamePort = codes "port"
 key_text fault.Astray = codes "port"
+key_text fault.Unheard = codes "port"
 key_text (fault.Nowhere peer) = codes "peers"
 key_text _ = codes "address"
 
@@ -70,6 +71,7 @@ value_data fault.Cost e = number (unsigned e.cost)
 value_data fault.Delay e = number (unsigned e.transmit_delay)
 value_data fault.SamePort e = port_data e.port
 value_data fault.Astray e = port_data e.port
+value_data fault.Unheard e = port_data e.port
 value_data (fault.Nowhere peer) e = number (unsigned peer)
 value_data _ e = prefix_data e
 

@@ -35,6 +35,7 @@ all_told a d e fault.SamePort wrong = (13, omega arith, refl)
 all_told a d e fault.Astray wrong = absurd (never wrong)
 all_told a d e (fault.Nowhere peer) wrong = absurd (never wrong)
 all_told a d e fault.Apart wrong = absurd (never wrong)
+all_told a d e fault.Unheard wrong = absurd (never wrong)
 
 -- ---- the finding of a fault at an interface
 

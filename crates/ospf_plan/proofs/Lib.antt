@@ -4,5 +4,6 @@ mod FindingLemmas
 mod Order
 mod WireLemmas
 mod WireOrder
+mod UnheardLemmas
 mod Reach
 mod PartLemmas

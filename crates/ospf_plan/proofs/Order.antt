@@ -1,7 +1,7 @@
 -- The order in which findings are told.
-use Rattle.std.proofs.Common.{rules, ◌≡◌, ◌<◌, ◌≤◌, ◌+◌, ◌&&◌, ℕ, zero, Bool, true, false, nat_lt, List, [], ◌∷◌, ◌++◌, map, ◌∙◌, ap, sym, subst, refl, inl, inr, arith, Option, Some, None}
+use Rattle.std.proofs.Common.{rules, ◌≡◌, ◌<◌, ◌≤◌, ◌+◌, ◌&&◌, ◌⊎◌, ℕ, zero, Bool, true, false, nat_lt, List, [], ◌∷◌, ◌++◌, map, ◌∙◌, ap, sym, subst, refl, inl, inr, arith, Option, Some, None, cond, filter}
 use Rattle.std.proofs.lemmas.List.Elements.{Contains-append_cases}
-use Rattle.std.specs.List.{Contains, cons_option, enumerate_from, filter_map, flat_map}
+use Rattle.std.specs.List.{Contains, cons_option, enumerate_from, filter_map, find, flat_map}
 use Rattle.ospf_config.specs.declared.config.Config.{Config}
 use Rattle.ospf_config.specs.declared.interface.Interface.{Interface}
 use Rattle.ospf_plan.specs.declared.ends.LinkEnd.{LinkEnd}
@@ -9,7 +9,7 @@ use Rattle.ospf_plan.specs.declared.fault.AreaFault.{AreaFault}
 use Rattle.ospf_plan.specs.Ends.{link_end_of, ends_at, ends_of}
 use Rattle.ospf_plan.specs.Findings.{around_of, every_fault, found, found_at, found_in}
 use Rattle.ospf_plan.specs.Laws.{IsAhead, IsFindingBefore, IsRisingBy, area_fault_number}
-use Rattle.ospf_plan.proofs.Members.{flat_from, in_cases, later_in, none_in_nil, some_from}
+use Rattle.ospf_plan.proofs.Members.{filter_from, flat_from, in_cases, later_in, none_in_nil, some_from}
 use Rattle.ospf_plan.proofs.FindingLemmas.{says}
 
 -- ---- lists that rise
@@ -46,6 +46,29 @@ map_from f (x ∷ xs) y h = elim (in_cases (f x) (map f xs) y h)
 pub rising_map : {X Y : Type 0} (R : X → X → Type 0) (S : Y → Y → Type 0) (f : X → Y) (xs : List X) → IsRisingBy R xs → ((x z : X) → R x z → S (f x) (f z)) → IsRisingBy S (map f xs)
 rising_map R S f [] up keeps = up
 rising_map R S f (x ∷ xs) up keeps = ((λ b at. let (z, among, is) = map_from f xs b at in subst (λ y. S (f x) y) is (keeps x z (up.0 z among))), rising_map R S f xs up.1 keeps)
+
+rising_kept : {X : Type 0} (R : X → X → Type 0) (p : X → Bool) (x : X) (xs : List X) (b : Bool) → IsRisingBy R (x ∷ xs) → IsRisingBy R (filter p xs)
+    → IsRisingBy R (cond b (x ∷ filter p xs) (filter p xs))
+rising_kept R p x xs false up rest = rest
+rising_kept R p x xs true up rest = ((λ y at. up.0 y (filter_from p xs y at).0), rest)
+
+pub rising_filter : {X : Type 0} (R : X → X → Type 0) (p : X → Bool) (xs : List X) → IsRisingBy R xs → IsRisingBy R (filter p xs)
+rising_filter R p [] up = up
+rising_filter R p (x ∷ xs) up = rising_kept R p x xs (p x) up (rising_filter R p xs up.1)
+
+not_both : true ≡ false → ⊥
+not_both e = search rules
+
+first_or : {X : Type 0} (R : X → X → Type 0) (p : X → Bool) (z : X) (zs : List X) (x : X) (b : Bool) → p z ≡ b → IsRisingBy R (z ∷ zs) → Contains (z ∷ zs) x → p x ≡ true
+    → (Contains zs x → (y : X) × (find p zs ≡ Some y) × ((y ≡ x) ⊎ R y x)) → (y : X) × (cond b (Some z) (find p zs) ≡ Some y) × ((y ≡ x) ⊎ R y x)
+first_or R p z zs x true e up at is rest = (z, refl, elim (in_cases z zs x at) [ inl same ↦ inl same | inr later ↦ inr (up.0 x later) ])
+first_or R p z zs x false e up at is rest = elim (in_cases z zs x at) [ inl same ↦ absurd (not_both (sym is ∙ ap p (sym same) ∙ e)) | inr later ↦ rest later ]
+
+-- what is found is that which was looked for, or before it
+pub finds_first : {X : Type 0} (R : X → X → Type 0) (p : X → Bool) (xs : List X) (x : X) → IsRisingBy R xs → Contains xs x → p x ≡ true
+    → (y : X) × (find p xs ≡ Some y) × ((y ≡ x) ⊎ R y x)
+finds_first R p [] x up at is = absurd (none_in_nil x at)
+finds_first R p (z ∷ zs) x up at is = first_or R p z zs x (p z) refl up at is (λ later. finds_first R p zs x up.1 later is)
 
 -- ---- numbered lists
 

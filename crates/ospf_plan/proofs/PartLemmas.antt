@@ -17,11 +17,13 @@ use Rattle.ospf_plan.specs.Findings.{found_in}
 use Rattle.ospf_plan.specs.Joins.{IsJoined, back, forth, itself}
 use Rattle.ospf_plan.specs.Parts.{AreFindings, AreReached, IsWay, LinkKey, apart, apart_in, cross, first_linked, first_of_all, is_apart, join_at, joins_of, link_cmp, link_of, same_link, stay}
 use Rattle.ospf_plan.specs.Wires.{wire_faults_in, wires_of}
-use Rattle.ospf_plan.specs.Laws.{FindingHolds, HoldsApart, HoldsOfWire, IsAhead, IsRisingBy}
+use Rattle.ospf_plan.specs.Unheard.{unheard_in}
+use Rattle.ospf_plan.specs.Laws.{FindingHolds, HoldsApart, HoldsOfWire, HoldsUnheard, IsAhead, IsRisingBy}
 use Rattle.ospf_plan.proofs.Members.{finds, head_in, later_in, some_from, some_to}
 use Rattle.ospf_plan.proofs.FindingLemmas.{held_told, none_is_some, told_holds}
 use Rattle.ospf_plan.proofs.Order.{ends_rise, rising_some}
 use Rattle.ospf_plan.proofs.WireLemmas.{wire_holds, wire_told}
+use Rattle.ospf_plan.proofs.UnheardLemmas.{unheard_holds, unheard_told}
 
 never : false ≡ true → ⊥
 never e = search rules
@@ -222,23 +224,31 @@ apart_told ends reached f are h =
     some_to (apart reached (first_of_all ends)) ends f f.here h.here (made ∙ ap (λ x. Some (record { fault = x; other = f.other; here = f.here })) (sym h.fault))
 
 pub tells_exactly : (configs : List Config) (fs : List Finding) (f : Finding) → AreFindings configs fs
-    → Contains fs f ↔ ((FindingHolds (ends_of configs) f ⊎ HoldsOfWire (ends_of configs) (wires_of configs) f) ⊎ HoldsApart (ends_of configs) f)
+    → Contains fs f ↔ (((FindingHolds (ends_of configs) f ⊎ HoldsOfWire (ends_of configs) (wires_of configs) f) ⊎ HoldsUnheard (ends_of configs) (wires_of configs) f)
+    ⊎ HoldsApart (ends_of configs) f)
 tells_exactly configs fs f are =
     let ends = ends_of configs in
     let wires = wires_of configs in
     let ones = found_in ends in
     let twos = wire_faults_in ends wires in
-    let threes = apart_in are.reached ends in (
-      (λ told. elim (Contains-append_cases (ones ++ twos) threes f (subst (λ l. Contains l f) are.told told)) [
-        | inl front ↦ inl (elim (Contains-append_cases ones twos f front) [ inl a ↦ inl (told_holds ends f a) | inr b ↦ inr (wire_holds ends wires f b) ])
-        | inr c ↦ inr (apart_holds ends are.reached f are.are_reached c)
+    let threes = unheard_in ends wires in
+    let fours = apart_in are.reached ends in (
+      (λ told. elim (Contains-append_cases ((ones ++ twos) ++ threes) fours f (subst (λ l. Contains l f) are.told told)) [
+        | inl front ↦ inl (elim (Contains-append_cases (ones ++ twos) threes f front) [
+          | inl head ↦ inl (elim (Contains-append_cases ones twos f head) [ inl a ↦ inl (told_holds ends f a) | inr b ↦ inr (wire_holds ends wires f b) ])
+          | inr c ↦ inr (unheard_holds configs f c)
+        ])
+        | inr d ↦ inr (apart_holds ends are.reached f are.are_reached d)
       ]),
       (λ h. subst (λ l. Contains l f) (sym are.told) (elim h [
-        | inl front ↦ Contains-append_left (ones ++ twos) threes f (elim front [
-          | inl a ↦ Contains-append_left ones twos f (held_told ends f a)
-          | inr b ↦ Contains-append_right ones twos f (wire_told ends wires f b)
+        | inl front ↦ Contains-append_left ((ones ++ twos) ++ threes) fours f (elim front [
+          | inl head ↦ Contains-append_left (ones ++ twos) threes f (elim head [
+            | inl a ↦ Contains-append_left ones twos f (held_told ends f a)
+            | inr b ↦ Contains-append_right ones twos f (wire_told ends wires f b)
+          ])
+          | inr c ↦ Contains-append_right (ones ++ twos) threes f (unheard_told configs f c)
         ])
-        | inr c ↦ Contains-append_right (ones ++ twos) threes f (apart_told ends are.reached f are.are_reached c)
+        | inr d ↦ Contains-append_right ((ones ++ twos) ++ threes) fours f (apart_told ends are.reached f are.are_reached d)
       ])),
     )
 

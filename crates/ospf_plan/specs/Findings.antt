@@ -65,6 +65,7 @@ is_wrong fault.OneSided a d e = false
 is_wrong fault.Astray a d e = false
 is_wrong (fault.Nowhere peer) a d e = false
 is_wrong fault.Apart a d e = false
+is_wrong fault.Unheard a d e = false
 is_wrong fault.Cost a d e = same_kind e.kind PointToPoint && not (d.cost == e.cost)
 is_wrong fault.Alone a d e = not (is_some a.second)
 is_wrong fault.Delay a d e = is_slow_end e && not (is_same d e)

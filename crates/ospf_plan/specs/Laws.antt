@@ -1,5 +1,5 @@
 -- Laws of findings.
-use Rattle.std.specs.Prelude.{◌≡◌, ◌↔◌, ◌⊎◌, ◌<◌, ⊤, ℕ, Bool, true, false, List, [], ◌∷◌, Contains, None, Some}
+use Rattle.std.specs.Prelude.{◌≡◌, ◌↔◌, ◌⊎◌, ◌&&◌, ◌<◌, ⊤, ℕ, Bool, true, false, List, [], ◌∷◌, Contains, None, Some}
 use Rattle.ospf_base.specs.Masks.{mask_of}
 use Rattle.ospf_packet.specs.declared.body.Hello.{Hello}
 use Rattle.ospf_iface.specs.Hello.{Agrees, AreFieldsOf}
@@ -12,6 +12,7 @@ use Rattle.ospf_config.specs.declared.config.Config.{Config}
 use Rattle.ospf_plan.specs.declared.wires.PeerWire.{PeerWire}
 use Rattle.ospf_plan.specs.Ends.{ends_of, first_at_port, network_of, port_of}
 use Rattle.ospf_plan.specs.Wires.{is_beside, is_wired, wire_key, wire_faults_in, wires_of}
+use Rattle.ospf_plan.specs.Unheard.{are_silent, is_outward, is_plugged, unheard_in}
 use Rattle.ospf_plan.specs.Parts.{AreFindings, IsWay, apart_in, first_of_all}
 use Rattle.ospf_plan.specs.Findings.{around_of, found_in, is_wrong, other_of}
 
@@ -35,6 +36,27 @@ pub record HoldsOfWire (ends : List LinkEnd) (wires : List PeerWire) (f : Findin
   pub here : f.here ≡ wire.end
   pub holds : IsFaultOfWire ends wires wire f.fault f.other
 
+-- in an earlier configuration, or in the same and earlier
+abbrev pub IsAhead : LinkEnd → LinkEnd → Type 0
+IsAhead d e = (d.file < e.file) ⊎ ((d.file ≡ e.file) × (d.link < e.link))
+
+-- d is an earlier interface of the network of e, each is the first with its port, and neither sends to the other; nor do both send outward
+pub record IsUnheard (ends : List LinkEnd) (wires : List PeerWire) (d e : LinkEnd) : Type 0 where
+  pub here : Contains ends e
+  pub other : Contains ends d
+  pub plugged_here : is_plugged (first_at_port ends) e ≡ true
+  pub plugged_other : is_plugged (first_at_port ends) d ≡ true
+  pub ahead : IsAhead d e
+  pub beside : is_beside d e ≡ true
+  pub hearing : (is_outward (first_at_port ends) wires d && is_outward (first_at_port ends) wires e) ≡ false
+  pub silent : are_silent (is_wired wires) d e ≡ true
+
+-- the finding holds of two interfaces, and its other is the first that it holds of
+pub record HoldsUnheard (ends : List LinkEnd) (wires : List PeerWire) (f : Finding) : Type 0 where
+  pub fault : f.fault ≡ fault.Unheard
+  pub unheard : IsUnheard ends wires f.other f.here
+  pub first : (d : LinkEnd) → IsUnheard ends wires d f.here → (f.other ≡ d) ⊎ IsAhead f.other d
+
 -- the finding holds of a file: no way leads there from the first, and its interface is the first of it
 pub record HoldsApart (ends : List LinkEnd) (f : Finding) : Type 0 where
   pub fault : f.fault ≡ fault.Apart
@@ -43,11 +65,18 @@ pub record HoldsApart (ends : List LinkEnd) (f : Finding) : Type 0 where
   pub other : first_of_all ends ≡ Some f.other
   pub apart : IsWay ends 0 f.here.file → ⊥
 
--- what is told of configurations is what holds of their interfaces, of who sends to whom, and of the parts of the area
+-- what is told of configurations is what holds of their interfaces, of who sends to whom, of who does not hear whom, and of the parts of the area
 abbrev pub TellsExactly : Type 0
 TellsExactly =
     (configs : List Config) (fs : List Finding) (f : Finding) → AreFindings configs fs
-    → Contains fs f ↔ ((FindingHolds (ends_of configs) f ⊎ HoldsOfWire (ends_of configs) (wires_of configs) f) ⊎ HoldsApart (ends_of configs) f)
+    → Contains fs f ↔ (((FindingHolds (ends_of configs) f ⊎ HoldsOfWire (ends_of configs) (wires_of configs) f) ⊎ HoldsUnheard (ends_of configs) (wires_of configs) f)
+    ⊎ HoldsApart (ends_of configs) f)
+
+-- of each two of which neither hears the other the later one is told
+abbrev pub TellsEachUnheard : Type 0
+TellsEachUnheard =
+    (configs : List Config) (d e : LinkEnd) → IsUnheard (ends_of configs) (wires_of configs) d e
+    → (f : Finding) × Contains (unheard_in (ends_of configs) (wires_of configs)) f × (f.here ≡ e)
 
 -- ---- the order in which it is told
 
@@ -55,10 +84,6 @@ TellsExactly =
 abbrev pub IsRisingBy : {X : Type 0} → (X → X → Type 0) → List X → Type 0
 IsRisingBy R [] = ⊤
 IsRisingBy {X} R (x ∷ xs) = ((y : X) → Contains xs y → R x y) × IsRisingBy R xs
-
--- in an earlier configuration, or in the same and earlier
-abbrev pub IsAhead : LinkEnd → LinkEnd → Type 0
-IsAhead d e = (d.file < e.file) ⊎ ((d.file ≡ e.file) × (d.link < e.link))
 
 abbrev pub area_fault_number : AreaFault → ℕ
 area_fault_number fault.SameRouter = 1
@@ -79,6 +104,7 @@ area_fault_number fault.SamePort = 15
 area_fault_number fault.Astray = 16
 area_fault_number (fault.Nowhere peer) = 17
 area_fault_number fault.Apart = 18
+area_fault_number fault.Unheard = 19
 
 -- of an earlier interface, or of the same and of a fault of lesser number
 abbrev pub IsFindingBefore : Finding → Finding → Type 0
@@ -95,6 +121,10 @@ IsNotBehind f g = IsAhead f.here g.here ⊎ (f.here ≡ g.here)
 -- what is told of who sends to whom is told in the order of the interfaces
 abbrev pub TellsWiresInOrder : Type 0
 TellsWiresInOrder = (configs : List Config) → IsRisingBy IsNotBehind (wire_faults_in (ends_of configs) (wires_of configs))
+
+-- what is told of who does not hear whom is told in the order of the interfaces, and so once
+abbrev pub TellsUnheardInOrder : Type 0
+TellsUnheardInOrder = (configs : List Config) → IsRisingBy (λ (f g : Finding). IsAhead f.here g.here) (unheard_in (ends_of configs) (wires_of configs))
 
 -- what is told of the parts of the area is told in the order of the files, and so once
 abbrev pub TellsPartsInOrder : Type 0

@@ -15,6 +15,7 @@ use Rattle.ospf_plan.specs.declared.joins.Join.{Join}
 use Rattle.ospf_plan.specs.Ends.{ends_of}
 use Rattle.ospf_plan.specs.Findings.{found_in}
 use Rattle.ospf_plan.specs.Wires.{wire_faults_in, wires_of}
+use Rattle.ospf_plan.specs.Unheard.{unheard_in}
 
 -- ---- links
 
@@ -57,11 +58,13 @@ apart reached first e = option_and_then (λ d. if is_apart reached e then Some (
 abbrev pub apart_in : (ℕ → Bool) → List LinkEnd → List Finding
 apart_in reached ends = filter_map (apart reached (first_of_all ends)) ends
 
--- what is wrong between configurations: of their interfaces in order, then of who sends to whom, and then of the parts of the area
+-- what is wrong between configurations: of their interfaces in order, then of who sends to whom, then of interfaces that do not hear each other,
+-- and then of the parts of the area
 pub record AreFindings (configs : List Config) (fs : List Finding) : Type 0 where
   pub reached : ℕ → Bool
   pub are_reached : AreReached (ends_of configs) reached
-  pub told : fs ≡ (found_in (ends_of configs) ++ wire_faults_in (ends_of configs) (wires_of configs)) ++ apart_in reached (ends_of configs)
+  pub told : fs ≡
+      ((found_in (ends_of configs) ++ wire_faults_in (ends_of configs) (wires_of configs)) ++ unheard_in (ends_of configs) (wires_of configs)) ++ apart_in reached (ends_of configs)
 
 -- ---- how it is found
 

@@ -29,6 +29,7 @@ area_fault_text fault.SamePort = codes "A15 SamePort"
 area_fault_text fault.Astray = codes "A16 Astray"
 area_fault_text (fault.Nowhere peer) = codes "A17 Nowhere"
 area_fault_text fault.Apart = codes "A18 Apart"
+area_fault_text fault.Unheard = codes "A19 Unheard"
 
 -- what is a note, and no fault
 abbrev pub is_note : AreaFault → Bool
@@ -57,6 +58,7 @@ meaning_text fault.SamePort = codes "a port is opened once: `run` ends where it 
 meaning_text fault.Astray = codes "in `run` packets of another network are dropped (section 8.2)"
 meaning_text (fault.Nowhere peer) = codes "no router of these files hears what is sent there"
 meaning_text fault.Apart = codes "the area falls apart: what is here has no route there"
+meaning_text fault.Unheard = codes "in `run` they never become neighbours (section 10.5)"
 
 -- the port of an interface, if it has one
 abbrev pub port_text : Option Port → List ℕ
@@ -78,6 +80,7 @@ value_text fault.Cost e = codes "cost " ++ decimal e.cost
 value_text fault.Delay e = codes "transmit_delay " ++ decimal e.transmit_delay
 value_text fault.SamePort e = port_text e.port
 value_text fault.Astray e = port_text e.port
+value_text fault.Unheard e = port_text e.port
 value_text (fault.Nowhere peer) e = codes "peers " ++ decimal peer
 value_text _ e = codes "address " ++ number_text e.address.address.0 ++ codes "/" ++ decimal e.address.length
 

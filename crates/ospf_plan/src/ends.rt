@@ -75,12 +75,8 @@ pub(crate) fn ends_of(alloc: Global, configs: &[Config]) -> Result<Vec<LinkEnd>,
 pub(crate) fn electors(alloc: Global, ends: &[LinkEnd]) -> Result<Vec<LinkEnd>, AllocError>
     ensures { IfOk result (λ some. some.items ≡ filter can_be_elected ends.now) }
 {
-    let mut some = Vec::new(alloc);
-    for end in ends {
-        if end.priority > 0 {
-            some.push(*end)?;
-        }
-    }
+    let mut some = Vec::from_slice(alloc, ends)?;
+    some.retain(|end| end.priority > 0);
     Ok(some)
 }
 
@@ -98,12 +94,8 @@ pub(crate) fn port_of(end: &LinkEnd) -> u16
 pub(crate) fn slow_ends(alloc: Global, ends: &[LinkEnd]) -> Result<Vec<LinkEnd>, AllocError>
     ensures { IfOk result (λ some. some.items ≡ filter is_slow_end ends.now) }
 {
-    let mut some = Vec::new(alloc);
-    for end in ends {
-        if is_slow(end.transmit_delay) {
-            some.push(*end)?;
-        }
-    }
+    let mut some = Vec::from_slice(alloc, ends)?;
+    some.retain(|end| is_slow(end.transmit_delay));
     Ok(some)
 }
 

@@ -44,6 +44,8 @@ pub enum AreaFault {
     Nowhere(u16),
     /// No way of links on which interfaces agree leads to the router from the first.
     Apart,
+    /// Two interfaces of a network have UDP ports, and neither sends to that of the other (`peers`).
+    Unheard,
 }
 
 impl AreaFault {
@@ -73,6 +75,7 @@ impl AreaFault {
             AreaFault::Astray => "A16 Astray",
             AreaFault::Nowhere(_) => "A17 Nowhere",
             AreaFault::Apart => "A18 Apart",
+            AreaFault::Unheard => "A19 Unheard",
         }
     }
 
@@ -128,6 +131,7 @@ impl AreaFault {
             AreaFault::Astray => "in `run` packets of another network are dropped (section 8.2)",
             AreaFault::Nowhere(_) => "no router of these files hears what is sent there",
             AreaFault::Apart => "the area falls apart: what is here has no route there",
+            AreaFault::Unheard => "in `run` they never become neighbours (section 10.5)",
         }
     }
 }

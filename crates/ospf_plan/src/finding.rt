@@ -4,16 +4,18 @@ ghost use Rattle.std.specs.Prelude.{◌≡◌, ◌++◌, List, IfOk, OnOk};
 ghost use Rattle.std.specs.Option.{option_to_list};
 ghost use Rattle.std.specs.List.{filter_map};
 ghost use Rattle.ospf_base.specs.declared.interface.InterfaceKind.TheVariants as kind;
-ghost use Rattle.ospf_plan.specs.Ends.{AreMaps, is_found, is_same};
+ghost use Rattle.ospf_plan.specs.Ends.{AreMaps, is_same};
 ghost use Rattle.ospf_plan.specs.Findings.{every_fault, found, found_in, is_wrong, other_of, same_kind};
 ghost use Rattle.ospf_plan.specs.Parts.{AreFindings};
 ghost use Rattle.ospf_plan.specs.declared.ends.LinkEnd.{LinkEnd};
 
 use crate::ends::{LinkEnd, ends_of, is_slow};
 use crate::fault::{AreaFault, every_fault};
+use crate::index::is_found;
 use crate::maps::{Maps, maps_of};
 use crate::parts::push_apart;
-use crate::wires::{push_wire_faults, wires_of};
+use crate::unheard::push_unheard;
+use crate::wires::{heard, push_wire_faults, wires_of};
 use ospf_base::InterfaceKind;
 use ospf_config::Config;
 use std::alloc::{AllocError, Global};
@@ -49,8 +51,8 @@ pub(crate) struct Surroundings {
 }
 
 /// What is wrong between the configurations of one area: in the order of the configurations and of their interfaces, and
-/// for each interface in the order of the faults; then, in the same order, of who sends to whom; and then which routers
-/// are not reached from the first.
+/// for each interface in the order of the faults; then, in the same order, of who sends to whom, and which interfaces do
+/// not hear each other; and then which routers are not reached from the first.
 ///
 /// `AllocError` where memory runs out.
 pub fn findings(alloc: Global, configs: &[Config]) -> Result<Vec<Finding>, AllocError>
@@ -59,8 +61,10 @@ pub fn findings(alloc: Global, configs: &[Config]) -> Result<Vec<Finding>, Alloc
     let ends = ends_of(alloc, configs)?;
     let maps = maps_of(alloc, &ends)?;
     let wires = wires_of(alloc, configs)?;
+    let wired = heard(alloc, &wires)?;
     let mut findings = found_in(alloc, &ends, &maps)?;
-    push_wire_faults(alloc, &mut findings, &maps.ports, &wires)?;
+    push_wire_faults(&mut findings, &maps.ports, &wired, &wires)?;
+    push_unheard(alloc, &mut findings, &ends, &maps.ports, &wired, &wires)?;
     push_apart(alloc, &mut findings, &ends)?;
     Ok(findings)
 }
@@ -161,14 +165,15 @@ fn is_wrong(fault: AreaFault, around: &Surroundings, other: &LinkEnd, here: &Lin
         AreaFault::Mtu => other.mtu != here.mtu,
         AreaFault::Mask => true,
         AreaFault::Crowded => {
-            is_first(around, here) && same_kind(here.kind, InterfaceKind::PointToPoint)
+            is_found(around.first, here) && same_kind(here.kind, InterfaceKind::PointToPoint)
         }
         AreaFault::NoDr => {
-            is_first(around, here)
+            is_found(around.first, here)
                 && same_kind(here.kind, InterfaceKind::Broadcast)
                 && around.elector.is_none()
         }
-        AreaFault::OneSided | AreaFault::Astray | AreaFault::Nowhere(_) | AreaFault::Apart => false,
+        AreaFault::OneSided | AreaFault::Astray | AreaFault::Nowhere(_) => false,
+        AreaFault::Apart | AreaFault::Unheard => false,
         AreaFault::Cost => {
             same_kind(here.kind, InterfaceKind::PointToPoint) && other.cost != here.cost
         }
@@ -193,15 +198,5 @@ fn same_kind(one: InterfaceKind, other: InterfaceKind) -> bool
         (InterfaceKind::PointToPoint, InterfaceKind::PointToPoint) => true,
         (InterfaceKind::Broadcast, InterfaceKind::Broadcast) => true,
         (_, _) => false,
-    }
-}
-
-// Whether an interface is the first on its network.
-fn is_first(around: &Surroundings, here: &LinkEnd) -> bool
-    ensures { result ≡ is_found around.now.first here.now }
-{
-    match &around.first {
-        None => false,
-        Some(first) => is_same(first, here),
     }
 }

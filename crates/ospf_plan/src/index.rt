@@ -90,13 +90,8 @@ pub(crate) fn others(
     requires { AreFirsts firsts.now ends.now }
     ensures { IfOk result (λ rest. rest.items ≡ others ends.now) }
 {
-    let mut rest = Vec::new(alloc);
-    for end in ends {
-        let first = end_in(firsts, network_of(&end.address));
-        if !is_found(first, end) {
-            rest.push(*end)?;
-        }
-    }
+    let mut rest = Vec::from_slice(alloc, ends)?;
+    rest.retain(|end| !is_found(end_in(firsts, network_of(&end.address)), end));
     Ok(rest)
 }
 
@@ -139,7 +134,7 @@ fn add_holder(
 }
 
 // Whether an interface is the one that was found.
-fn is_found(found: Option<LinkEnd>, end: &LinkEnd) -> bool
+pub(crate) fn is_found(found: Option<LinkEnd>, end: &LinkEnd) -> bool
     ensures { result ≡ is_found found end.now }
 {
     match found {

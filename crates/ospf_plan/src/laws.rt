@@ -1,6 +1,6 @@
 //! Laws: each holds of all interfaces and findings.
 
-ghost use Rattle.ospf_plan.specs.Laws.{OthersTake, TellsExactly, TellsInOrder, TellsPartsInOrder, TellsWiresInOrder, ToldRefuse};
+ghost use Rattle.ospf_plan.specs.Laws.{OthersTake, TellsEachUnheard, TellsExactly, TellsInOrder, TellsPartsInOrder, TellsUnheardInOrder, TellsWiresInOrder, ToldRefuse};
 
 /// What `findings` tells is exactly what holds.
 pub fn tells_exactly()
@@ -16,6 +16,12 @@ pub fn tells_in_order()
 /// What `findings` tells of who sends to whom stands in the order of the interfaces.
 pub fn tells_wires_in_order()
     ensures { TellsWiresInOrder }
+{}
+
+/// `findings` tells the later of each two interfaces of which neither hears the other, in order, each once.
+pub fn tells_unheard()
+    ensures each { TellsEachUnheard }
+    ensures in_order { TellsUnheardInOrder }
 {}
 
 /// What `findings` tells of the parts of the area stands in the order of the configurations, each once.

@@ -10,13 +10,14 @@ mod laws;
 mod maps;
 mod parts;
 mod told;
+mod unheard;
 mod wires;
 
 pub use crate::ends::{LinkEnd, is_slow};
 pub use crate::fault::AreaFault;
 pub use crate::finding::{Finding, findings};
 pub use crate::laws::{
-    others_take, tells_exactly, tells_in_order, tells_parts_in_order, tells_wires_in_order,
-    told_refuse,
+    others_take, tells_exactly, tells_in_order, tells_parts_in_order, tells_unheard,
+    tells_wires_in_order, told_refuse,
 };
 pub use crate::told::NamedFinding;

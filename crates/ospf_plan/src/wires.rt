@@ -2,9 +2,8 @@
 
 ghost use Rattle.std.specs.Prelude.{◌≡◌, ◌||◌, ◌++◌, List, ℕ, IfOk, OnOk};
 ghost use Rattle.std.specs.List.{filter_map};
-ghost use Rattle.ospf_plan.specs.Ends.{ArePorts, holder_in};
-ghost use Rattle.ospf_plan.specs.Wires.{AreHeard, fault_between, has_wire, is_beside, wire_key, same_wire, wire_fault, wire_faults_in, wires_at, wires_from, wires_of};
-ghost use Rattle.ospf_plan.specs.declared.ends.LinkEnd.{LinkEnd};
+ghost use Rattle.ospf_plan.specs.Ends.{holder_in};
+ghost use Rattle.ospf_plan.specs.Wires.{AreHeard, fault_between, has_wire, is_beside, wire_key, same_wire, wire_fault, wires_at, wires_from, wires_of};
 
 use crate::ends::{LinkEnd, end_of, port_of};
 use crate::fault::AreaFault;
@@ -32,22 +31,8 @@ pub(crate) fn wires_of(alloc: Global, configs: &[Config]) -> Result<Vec<PeerWire
     Ok(wires)
 }
 
-// Adds what is wrong with the wires, in their order.
-pub(crate) fn push_wire_faults(
-    alloc: Global,
-    findings: &mut Vec<Finding>,
-    ports: &BTreeMap<u32, LinkEnd>,
-    wires: &[PeerWire],
-) -> Result<(), AllocError>
-    ensures { (ends : List LinkEnd) → ArePorts ports.now ends →
-        OnOk result (findings.new.items ≡ findings.old.items ++ wire_faults_in ends wires.now) }
-{
-    let heard = heard(alloc, wires)?;
-    push_each(findings, ports, &heard, wires)
-}
-
 // What tells wires apart: the interface by its numbers, and the port.
-type WireKey = (usize, usize, u16);
+pub(crate) type WireKey = (usize, usize, u16);
 
 // Adds what the interfaces of a configuration send to.
 fn push_all_wires(wires: &mut Vec<PeerWire>, file: usize, config: &Config) -> Result<(), AllocError>
@@ -78,7 +63,7 @@ fn push_wires(
 }
 
 // The wires, to be looked up.
-fn heard(alloc: Global, wires: &[PeerWire]) -> Result<BTreeSet<WireKey>, AllocError>
+pub(crate) fn heard(alloc: Global, wires: &[PeerWire]) -> Result<BTreeSet<WireKey>, AllocError>
     ensures { IfOk result (λ set. AreHeard set wires.now) }
 {
     let mut set = BTreeSet::new(alloc);
@@ -100,14 +85,14 @@ fn add_wire(set: &mut BTreeSet<WireKey>, key: WireKey) -> Result<(), AllocError>
 }
 
 // What tells a wire apart.
-fn key_of(end: &LinkEnd, peer: u16) -> WireKey
+pub(crate) fn key_of(end: &LinkEnd, peer: u16) -> WireKey
     ensures { result ≡ wire_key end.now peer }
 {
     (end.file, end.link, peer)
 }
 
-// Adds what is wrong with some wires.
-fn push_each(
+// Adds what is wrong with the wires, in their order.
+pub(crate) fn push_wire_faults(
     findings: &mut Vec<Finding>,
     ports: &BTreeMap<u32, LinkEnd>,
     heard: &BTreeSet<WireKey>,

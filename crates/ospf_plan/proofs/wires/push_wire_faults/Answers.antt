@@ -4,7 +4,7 @@ use Rattle.std.specs.List.{filter_map}
 use Rattle.ospf_plan.specs.Ends.{holder_in}
 use Rattle.ospf_plan.specs.Wires.{has_wire, wire_fault}
 use Rattle.ospf_plan.proofs.Steps.{filter_map_more}
-use Rattle.ospf_plan.proofs.wires.push_each.Goals as goal
+use Rattle.ospf_plan.proofs.wires.push_wire_faults.Goals as goal
 
 pub loop-wire-preserved : goal.loop-wire-preserved
 loop-wire-preserved c =
