@@ -6,3 +6,4 @@ pub mod EffectLemmas
 pub mod NameLemmas
 pub mod FailureOrder
 pub mod SortedLemmas
+pub mod DownLemmas

@@ -5,3 +5,4 @@ pub mod Laws
 pub mod Told
 pub mod Name
 pub mod Left
+pub mod Wanted

@@ -1,5 +1,8 @@
 //! What an area comes to without a link, an attachment, a network or a router of it: the LSAs that its routers would
 //! have after the failure, and what changes in a routing table (RFC 2328, sections 12.4.1 and 16.1).
+//!
+//! That what routers then want to list is what is left here is a law (`links_go_down`, `interfaces_go_down`,
+//! `routers_stop`).
 #![tactic(auto)]
 
 mod area;
@@ -9,6 +12,7 @@ mod failures;
 mod laws;
 mod left;
 mod name;
+mod router_laws;
 mod same;
 mod told;
 
@@ -19,3 +23,4 @@ pub use crate::failures::single_failures;
 pub use crate::laws::{failures_make_no_edge, failures_take_away, trees_stay};
 pub use crate::left::Left;
 pub use crate::name::find_failure;
+pub use crate::router_laws::{interfaces_go_down, links_go_down, routers_stop};

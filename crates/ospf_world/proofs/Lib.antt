@@ -12,7 +12,6 @@ pub mod RoundFacts
 pub mod LegFacts
 pub mod WalkFacts
 pub mod Config
-pub mod DownLemmas
 pub mod States
 pub mod Steps
 pub mod Works

@@ -9,4 +9,3 @@ pub mod Random
 pub mod Rounds
 pub mod Walks
 pub mod Works
-pub mod Wanted

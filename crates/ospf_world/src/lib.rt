@@ -6,13 +6,11 @@
 //! along next hops. An `EventWatch` is told of each event. What an event does stands in `specs/Does`, whom a datagram
 //! is offered to in `specs/Offers`, and what chance draws in `specs/Draws`.
 //!
-//! Two laws stand here that need whole routers: that there are networks of which the laws speak (`some_router_works`),
-//! of which one is shown event by event, and that what routers want to list after a failure is what `ospf_whatif`
-//! leaves of an area (`links_go_down`, `interfaces_go_down`, `routers_stop`).
+//! A law stands here that needs whole routers: that there are networks of which the laws speak (`some_router_works`),
+//! of which one is shown event by event.
 #![tactic(auto)]
 
 mod chance;
-mod failure_laws;
 mod networks;
 mod offers;
 mod parts;
@@ -26,7 +24,6 @@ mod work_laws;
 mod world;
 
 pub use crate::chance::{Words, chosen, draw, drawn_at};
-pub use crate::failure_laws::{interfaces_go_down, links_go_down, routers_stop};
 pub use crate::networks::network_of;
 pub use crate::rounds::{MOST_OFFERS, ticks_of};
 pub use crate::ticks::Ticked;

@@ -1,6 +1,6 @@
 //! Laws: each holds of all routers and their interfaces.
 
-ghost use Rattle.ospf_world.specs.Wanted.{InterfacesGoDown, LinksGoDown, RoutersStop};
+ghost use Rattle.ospf_whatif.specs.Wanted.{InterfacesGoDown, LinksGoDown, RoutersStop};
 
 /// Where the interface of a point-to-point link goes down, the router wants exactly the links that `Failure::Link` leaves
 /// (RFC 2328, section 12.4.1).

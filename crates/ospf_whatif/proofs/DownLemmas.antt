@@ -17,7 +17,7 @@ use Rattle.ospf_whatif.specs.Failure.{kept_links, takes}
 use Rattle.ospf_whatif.specs.declared.failure.AreaFailure.{AreaFailure}
 use Rattle.ospf_whatif.specs.declared.failure.AreaFailure.TheVariants as fails
 use Rattle.ospf_whatif.proofs.WithoutLemmas.{kept_links-append}
-use Rattle.ospf_world.specs.Wanted.{AreSpared, IsLeft, IsNetworkFailure, IsWireUp, wanted_links}
+use Rattle.ospf_whatif.specs.Wanted.{AreSpared, IsLeft, IsNetworkFailure, IsWireUp, wanted_links}
 use Rattle.ospf_wanted.proofs.SaidLemmas.{up_is}
 
 -- ---- links that are all kept, or all taken

@@ -1,5 +1,0 @@
-use Rattle.ospf_world.proofs.DownLemmas.{interfaces_go_down}
-use Rattle.ospf_world.proofs.failure_laws.interfaces_go_down.Goals as goal
-
-pub returns : goal.returns
-returns c = interfaces_go_down

@@ -1,5 +1,0 @@
-use Rattle.ospf_world.proofs.DownLemmas.{links_go_down}
-use Rattle.ospf_world.proofs.failure_laws.links_go_down.Goals as goal
-
-pub returns : goal.returns
-returns c = links_go_down
