@@ -9,7 +9,7 @@ use Rattle.ospf_config.specs.declared.address.InterfaceAddress.{InterfaceAddress
 use Rattle.ospf_headline.specs.Slots.{SlotValue}
 use Rattle.ospf_world.specs.Does.{Does}
 use Rattle.ospf_commands.specs.Losses.{AreNextKept, AreOfferedBut, IsLosingRound, LosesMore, LosesNext, kept_from, offers_kept}
-use Rattle.ospf_world.specs.Rounds.{offers_of, passed, sender_in, ticks}
+use Rattle.ospf_world.specs.Rounds.{offers_of, passed, sending_address, ticks}
 use Rattle.ospf_world.specs.Worlds.{WorldValue, world_of}
 use Rattle.ospf_commands.specs.declared.losses.Losses.{Losses}
 use Rattle.ospf_world.proofs.ListFacts.{none_left, one_left}
@@ -48,13 +48,13 @@ pub kept_none : (w : WorldValue) (losses : Losses) (ds : List Datagram) (place :
 kept_none w losses ds place log at all =
     AreNextKept.NoneNext (ap (λ (n : ℕ). slice_get w.logs.datagrams n) (sym at) ∙ ap (λ (xs : List Datagram). slice_get xs place) (sym log) ∙ past ds place all) refl refl
 
-offers_are : (slots : List SlotValue) (d : ℕ) (g : Datagram) (losses losses' : Losses) (from : Option InterfaceAddress) (offers events : List WorldEvent) → from ≡ sender_in slots g → offers ≡ offers_of slots d g → (events, losses') ≡ kept_from losses from offers → (events, losses') ≡ offers_kept slots d g losses
+offers_are : (slots : List SlotValue) (d : ℕ) (g : Datagram) (losses losses' : Losses) (from : Option InterfaceAddress) (offers events : List WorldEvent) → from ≡ sending_address slots g → offers ≡ offers_of slots d g → (events, losses') ≡ kept_from losses from offers → (events, losses') ≡ offers_kept slots d g losses
 unfolding offers_kept
 offers_are slots d g losses losses' from offers events from_is offered is =
-    is ∙ ap (λ (f : Option InterfaceAddress). kept_from losses f offers) from_is ∙ ap (λ (os : List WorldEvent). kept_from losses (sender_in slots g) os) offered
+    is ∙ ap (λ (f : Option InterfaceAddress). kept_from losses f offers) from_is ∙ ap (λ (os : List WorldEvent). kept_from losses (sending_address slots g) os) offered
 
 pub kept_some : (w : WorldValue) (losses losses' : Losses) (ds : List Datagram) (place : ℕ) (g : Datagram) (from : Option InterfaceAddress) (offers events : List WorldEvent) → ds ≡ w.logs.datagrams → place ≡ w.offered → place < length ds → g ≡ get_or ds place g →
-    from ≡ sender_in w.slots g → offers ≡ offers_of w.slots place g → (events, losses') ≡ kept_from losses from offers → AreNextKept w losses (Some events) losses'
+    from ≡ sending_address w.slots g → offers ≡ offers_of w.slots place g → (events, losses') ≡ kept_from losses from offers → AreNextKept w losses (Some events) losses'
 kept_some w losses losses' ds place g from offers events log at within is from_is offers_is kept =
     let here : slice_get ds place ≡ Some g = slice_get-get_or ds place g within ∙ ap (λ (d : Datagram). Some d) (sym is) in
     let there : slice_get w.logs.datagrams w.offered ≡ Some g = ap (λ (n : ℕ). slice_get w.logs.datagrams n) (sym at) ∙ ap (λ (xs : List Datagram). slice_get xs place) (sym log) ∙ here in

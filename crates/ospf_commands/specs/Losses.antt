@@ -13,7 +13,7 @@ use Rattle.ospf_headline.specs.declared.event.WorldFault.TheVariants as fault
 use Rattle.ospf_headline.specs.declared.logs.Datagram.{Datagram}
 use Rattle.ospf_headline.specs.Slots.{SlotValue}
 use Rattle.ospf_world.specs.Does.{Does}
-use Rattle.ospf_world.specs.Rounds.{offers_of, passed, sender_in, ticks}
+use Rattle.ospf_world.specs.Rounds.{offers_of, passed, sending_address, ticks}
 use Rattle.ospf_world.specs.Worlds.{WorldValue}
 use Rattle.ospf_commands.specs.declared.losses.Losses.{Losses}
 
@@ -59,7 +59,7 @@ kept_from losses from offers = if loses_on losses.network from then judged losse
 
 -- of the offers of datagram d those that are kept, and the losses from then on
 unfoldable pub offers_kept : List SlotValue → ℕ → Datagram → Losses → List WorldEvent × Losses
-offers_kept slots d g losses = kept_from losses (sender_in slots g) (offers_of slots d g)
+offers_kept slots d g losses = kept_from losses (sending_address slots g) (offers_of slots d g)
 
 -- ---- what comes of them
 

@@ -9,14 +9,14 @@ use Rattle.ospf_router.specs.Routers.{RouterValue}
 use Rattle.ospf_router.specs.Steps.{Steps}
 use Rattle.ospf_router.specs.declared.router.Step.{Step}
 use Rattle.ospf_drive.specs.Drives.{DriverGoesOn, FailsToSend, FailsToPublish, last_told}
-use Rattle.ospf_drive.specs.Moments.{at, Done, event_of, events_of, is_end, table_of}
+use Rattle.ospf_drive.specs.Moments.{at, Done, event_of, events_of, is_heard_end, table_of}
 use Rattle.ospf_drive.specs.Traffic.{Heard, Carried, heard_from, and_hears, and_sent, and_goes, tick_in}
 use Rattle.ospf_drive.specs.Traffic.Carried.{Full, Ticks, Untold}
 use Rattle.ospf_drive.specs.declared.wire.Arrival.{Arrival}
 use Rattle.ospf_drive.specs.declared.wire.Arrival.TheVariants as arrival
 
 -- what is no end is heard as none
-pub is_end-heard : (a : Arrival) (buffer : List ℕ) → (a ≡ arrival.End → ⊥) → is_end (heard_from a buffer) ≡ false
+pub is_end-heard : (a : Arrival) (buffer : List ℕ) → (a ≡ arrival.End → ⊥) → is_heard_end (heard_from a buffer) ≡ false
 is_end-heard (arrival.Datagram link source destination length) buffer not = refl
 is_end-heard arrival.Tick buffer not = refl
 is_end-heard (arrival.LinkUp link) buffer not = refl
@@ -40,7 +40,7 @@ events_of-none : (links : ℕ) (h : Heard) → event_of links h ≡ None → eve
 events_of-none links h e = rw (e, events_of)
 
 -- an arrival of an event is no end
-pub not_end-of : (links : ℕ) (h : Heard) (e : Event) → event_of links h ≡ Some e → is_end h ≡ false
+pub not_end-of : (links : ℕ) (h : Heard) (e : Event) → event_of links h ≡ Some e → is_heard_end h ≡ false
 not_end-of links (Heard.Datagram link source destination length bytes) e some = refl
 not_end-of links Heard.Tick e some = refl
 not_end-of links (Heard.LinkUp link) e some = refl
@@ -51,7 +51,7 @@ not_end-of links Heard.End e some = cc
 pub events_of-some : (links : ℕ) (h : Heard) (e : Event) → event_of links h ≡ Some e → events_of links (h ∷ []) ≡ e ∷ []
 events_of-some links h e is = rw (is, events_of)
 
-pub passed_over : (h : Heard) {r : RouterValue} {t t' : Carried} {f f' : ℕ} {k : Known} → is_end h ≡ false → event_of r.links h ≡ None → t' ≡ and_hears h t → f' ≡ f → DriverGoesOn (at r t f k) (at r t' f' k) None
+pub passed_over : (h : Heard) {r : RouterValue} {t t' : Carried} {f f' : ℕ} {k : Known} → is_heard_end h ≡ false → event_of r.links h ≡ None → t' ≡ and_hears h t → f' ≡ f → DriverGoesOn (at r t f k) (at r t' f' k) None
 passed_over h {r} {t} {t'} {f} {f'} {k} not none took same = record {
   taken = h ∷ [];
   steps = [];
@@ -67,7 +67,7 @@ passed_over h {r} {t} {t'} {f} {f'} {k} not none took same = record {
   tells = refl;
 }
 
-pub stepped : (h : Heard) (e : Event) (g : Step) {r r' : RouterValue} {t t₁ t₂ : Carried} {f f' : ℕ} {k k' : Known} {told : Option Known} → is_end h ≡ false → event_of r.links h ≡ Some e → t₁ ≡ and_hears h t → Steps e r g r' → t₂ ≡ and_sent g.out.sent t₁ → f' ≡ f → k'.fib ≡ k.fib → k'.tables ≡ k.tables ++ table_of (record { event = e; gives = g; after = r' }) → told ≡ last_told (table_of (record { event = e; gives = g; after = r' })) k' → DriverGoesOn (at r t f k) (at r' t₂ f' k') told
+pub stepped : (h : Heard) (e : Event) (g : Step) {r r' : RouterValue} {t t₁ t₂ : Carried} {f f' : ℕ} {k k' : Known} {told : Option Known} → is_heard_end h ≡ false → event_of r.links h ≡ Some e → t₁ ≡ and_hears h t → Steps e r g r' → t₂ ≡ and_sent g.out.sent t₁ → f' ≡ f → k'.fib ≡ k.fib → k'.tables ≡ k.tables ++ table_of (record { event = e; gives = g; after = r' }) → told ≡ last_told (table_of (record { event = e; gives = g; after = r' })) k' → DriverGoesOn (at r t f k) (at r' t₂ f' k') told
 stepped h e g {r} {r'} {t} {t₁} {t₂} {f} {f'} {k} {k'} {told} not some took steps sent same fib tables tells =
     let d : Done = record { event = e; gives = g; after = r' } in
     record {
@@ -113,7 +113,7 @@ failed_to_publish h e g {r} {r'} {t} {t₁} {t₂} {f} {f'} {k} {k'} some took s
 }
 
 -- a step that left the table as it was
-pub stepped_quietly : (h : Heard) (e : Event) (g : Step) {r r' : RouterValue} {t t₁ t₂ : Carried} {f f₁ f' : ℕ} {k : Known} → is_end h ≡ false → event_of r.links h ≡ Some e → t₁ ≡ and_hears h t → Steps e r g r' → t₂ ≡ and_sent g.out.sent t₁ → f₁ ≡ f → f' ≡ f₁ → g.table_changed ≡ false → DriverGoesOn (at r t f k) (at r' t₂ f' k) None
+pub stepped_quietly : (h : Heard) (e : Event) (g : Step) {r r' : RouterValue} {t t₁ t₂ : Carried} {f f₁ f' : ℕ} {k : Known} → is_heard_end h ≡ false → event_of r.links h ≡ Some e → t₁ ≡ and_hears h t → Steps e r g r' → t₂ ≡ and_sent g.out.sent t₁ → f₁ ≡ f → f' ≡ f₁ → g.table_changed ≡ false → DriverGoesOn (at r t f k) (at r' t₂ f' k) None
 stepped_quietly h e g {r} {r'} {t} {t₁} {t₂} {f} {f₁} {f'} {k} not some took steps sent heard_same sent_same changed =
     let none : table_of (record { event = e; gives = g; after = r' }) ≡ [] = rw changed in
     stepped h e g not some took steps sent (sent_same ∙ heard_same) refl
@@ -121,7 +121,7 @@ stepped_quietly h e g {r} {r'} {t} {t₁} {t₂} {f} {f₁} {f'} {k} not some to
     (ap (λ s. last_told s k) (sym none))
 
 -- a step whose table was published
-pub stepped_published : (h : Heard) (e : Event) (g : Step) {r r' : RouterValue} {t t₁ t₂ : Carried} {f f₁ f' : ℕ} {k k' told : Known} {table : Table} → is_end h ≡ false → event_of r.links h ≡ Some e → t₁ ≡ and_hears h t → Steps e r g r' → t₂ ≡ and_sent g.out.sent t₁ → f₁ ≡ f → f' ≡ f₁ → g.table_changed ≡ true → table ≡ r'.table → k'.fib ≡ k.fib → k'.tables ≡ k.tables ++ table ∷ [] → told ≡ k' → DriverGoesOn (at r t f k) (at r' t₂ f' k') (Some told)
+pub stepped_published : (h : Heard) (e : Event) (g : Step) {r r' : RouterValue} {t t₁ t₂ : Carried} {f f₁ f' : ℕ} {k k' told : Known} {table : Table} → is_heard_end h ≡ false → event_of r.links h ≡ Some e → t₁ ≡ and_hears h t → Steps e r g r' → t₂ ≡ and_sent g.out.sent t₁ → f₁ ≡ f → f' ≡ f₁ → g.table_changed ≡ true → table ≡ r'.table → k'.fib ≡ k.fib → k'.tables ≡ k.tables ++ table ∷ [] → told ≡ k' → DriverGoesOn (at r t f k) (at r' t₂ f' k') (Some told)
 stepped_published h e g {r} {r'} {t} {t₁} {t₂} {f} {f₁} {f'} {k} {k'} {told} {table} not some took steps sent heard_same sent_same changed same_table fib tables tells =
     let one : table_of (record { event = e; gives = g; after = r' }) ≡ r'.table ∷ [] = rw changed in
     stepped h e g not some took steps sent (sent_same ∙ heard_same) fib

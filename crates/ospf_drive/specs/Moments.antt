@@ -36,13 +36,13 @@ events_of links [] = []
 events_of links (h ∷ hs) = elim (event_of links h) [ None ↦ events_of links hs | Some e ↦ e ∷ events_of links hs ]
 
 -- no arrival is an end
-abbrev pub is_end : Heard → Bool
-is_end End = true
-is_end _ = false
+abbrev pub is_heard_end : Heard → Bool
+is_heard_end End = true
+is_heard_end _ = false
 
 abbrev pub HasNoEnd : List Heard → Type 0
 HasNoEnd [] = Unit {0}
-HasNoEnd (h ∷ hs) = (is_end h ≡ false) × HasNoEnd hs
+HasNoEnd (h ∷ hs) = (is_heard_end h ≡ false) × HasNoEnd hs
 
 -- a step that was made: the event, what it gave, and the router after it
 pub record Done : Type 0 where

@@ -8,7 +8,7 @@ use Rattle.ospf_plan.specs.declared.fault.AreaFault.{AreaFault}
 use Rattle.ospf_plan.specs.declared.fault.AreaFault.TheVariants as fault
 use Rattle.ospf_plan.specs.declared.finding.Finding.{Finding}
 use Rattle.ospf_plan.specs.declared.finding.Surroundings.{Surroundings}
-use Rattle.ospf_plan.specs.Ends.{first_on, network_of, same_network}
+use Rattle.ospf_plan.specs.Ends.{first_on, network_key, same_network}
 use Rattle.ospf_plan.specs.Findings.{around_of, every_fault, found, found_at, found_in, is_wrong, other_of}
 use Rattle.ospf_plan.specs.Laws.{FindingHolds, IsOfHellos, NoneTold, RefusesHellos, TakesHellos}
 use Rattle.ospf_plan.proofs.Members.{finds, flat_from, flat_to, some_from, some_to}
@@ -120,17 +120,17 @@ itself : (k : ℕ × ℕ) → same_network k k ≡ true
 itself k = grind arith
 
 -- the first on the network, of which the intervals of an interface there are no other where nothing is told
-as_first : (ends : List LinkEnd) (e d : LinkEnd) (q : ℕ × ℕ) → Contains ends e → network_of e.address ≡ q → first_on ends q ≡ Some d → NoneTold ends q → (d.hello ≡ e.hello) × (d.dead ≡ e.dead)
+as_first : (ends : List LinkEnd) (e d : LinkEnd) (q : ℕ × ℕ) → Contains ends e → network_key e.address ≡ q → first_on ends q ≡ Some d → NoneTold ends q → (d.hello ≡ e.hello) × (d.dead ≡ e.dead)
 as_first ends e d q at on first none =
-    let at_e : first_on ends (network_of e.address) ≡ Some d = ap (λ k. first_on ends k) on ∙ first in (
+    let at_e : first_on ends (network_key e.address) ≡ Some d = ap (λ k. first_on ends k) on ∙ first in (
       one_by d.hello e.hello (λ ne. none (record { fault = fault.Hello; other = d; here = e }) (held_told ends _ (record { here = at; other = at_e; wrong = ne })) (inl refl) on),
       one_by d.dead e.dead (λ ne. none (record { fault = fault.Dead; other = d; here = e }) (held_told ends _ (record { here = at; other = at_e; wrong = ne })) (inr refl) on),
     )
 
-pub others_take : (ends : List LinkEnd) (d e : LinkEnd) → Contains ends d → Contains ends e → network_of d.address ≡ network_of e.address → NoneTold ends (network_of e.address) → TakesHellos d e
+pub others_take : (ends : List LinkEnd) (d e : LinkEnd) → Contains ends d → Contains ends e → network_key d.address ≡ network_key e.address → NoneTold ends (network_key e.address) → TakesHellos d e
 others_take ends d e at_d at_e on none i j h of_i of_j fields =
-    let q = network_of e.address in
-    let (first, is) = finds (λ x. same_network (network_of x.address) q) ends e at_e (itself q) in
+    let q = network_key e.address in
+    let (first, is) = finds (λ x. same_network (network_key x.address) q) ends e at_e (itself q) in
     let of_d = as_first ends d first q at_d on is none in
     let of_e = as_first ends e first q at_e refl is none in
     let bits : d.address.length ≡ e.address.length = ap (λ (k : ℕ × ℕ). k.0) on in

@@ -7,9 +7,9 @@ use Rattle.ospf_plan.specs.declared.ends.LinkEnd.{LinkEnd}
 use Rattle.ospf_plan.specs.declared.fault.AreaFault.TheVariants as fault
 use Rattle.ospf_plan.specs.declared.finding.Finding.{Finding}
 use Rattle.ospf_plan.specs.declared.unheard.Near.{Near}
-use Rattle.ospf_plan.specs.Ends.{ends_of, first_at_port, network_of}
+use Rattle.ospf_plan.specs.Ends.{ends_of, first_at_port, network_key}
 use Rattle.ospf_plan.specs.Wires.{is_beside, is_wired, wires_of}
-use Rattle.ospf_plan.specs.Unheard.{AreNear, are_silent, is_ahead, is_outward, is_plugged, members_in, near_in, to_hear, unheard, unheard_in}
+use Rattle.ospf_plan.specs.Unheard.{IsNearOf, are_silent, is_ahead, is_outward, is_plugged, members_in, near_in, to_hear, unheard, unheard_in}
 use Rattle.ospf_plan.specs.Laws.{HoldsUnheard, IsAhead, IsRisingBy, IsUnheard}
 use Rattle.ospf_plan.proofs.Members.{filter_from, filter_to, found_from, some_from, some_to}
 use Rattle.ospf_plan.proofs.FindingLemmas.{none_is_some}
@@ -19,15 +19,15 @@ use Rattle.ospf_plan.proofs.Order.{ends_rise, finds_first, rising_filter, rising
 pub one_function : {X Y : Type 0} (f g : X → Y) → ((x : X) → f x ≡ g x) → f ≡ g
 one_function f g same = λ i x. same x i
 
-module _ (n : Near) (o : LinkEnd → Bool) (es : List LinkEnd) (are : AreNear n o es) where
+module _ (n : Near) (o : LinkEnd → Bool) (es : List LinkEnd) (are : IsNearOf n o es) where
   by_flag : (e : LinkEnd) (b : Bool)
-      → members_in (if b then n.inward else n.all) (network_of e.address) ≡ filter (λ d. is_beside d e) (if b then filter (λ d. not (o d)) es else es)
-  by_flag e true = are.inward_are (network_of e.address)
-  by_flag e false = are.all_are (network_of e.address)
+      → members_in (if b then n.inward else n.all) (network_key e.address) ≡ filter (λ d. is_beside d e) (if b then filter (λ d. not (o d)) es else es)
+  by_flag e true = are.inward_are (network_key e.address)
+  by_flag e false = are.all_are (network_key e.address)
 
   pub near_is : near_in n ≡ to_hear o es
   near_is = one_function (near_in n) (to_hear o es)
-      (λ e. ap (λ b. members_in (if b then n.inward else n.all) (network_of e.address)) (are.outward_are e) ∙ by_flag e (o e))
+      (λ e. ap (λ b. members_in (if b then n.inward else n.all) (network_key e.address)) (are.outward_are e) ∙ by_flag e (o e))
 
 -- ---- earlier interfaces
 

@@ -64,8 +64,8 @@ port_of e = elim e.port [ None ↦ 0 | Some p ↦ p.number ]
 -- ---- the networks: a length, and the address without the bits behind so many
 
 -- the network of an interface
-abbrev pub network_of : InterfaceAddress → ℕ × ℕ
-network_of a = (a.length, network_part a)
+abbrev pub network_key : InterfaceAddress → ℕ × ℕ
+network_key a = (a.length, network_part a)
 
 -- the two are one network
 abbrev pub same_network : ℕ × ℕ → ℕ × ℕ → Bool
@@ -73,7 +73,7 @@ same_network k q = (k.0 == q.0) && (k.1 == q.1)
 
 -- the first of the interfaces on the network
 abbrev pub first_on : List LinkEnd → ℕ × ℕ → Option LinkEnd
-first_on ends q = find (λ e. same_network (network_of e.address) q) ends
+first_on ends q = find (λ e. same_network (network_key e.address) q) ends
 
 -- the first of the interfaces with the address
 abbrev pub first_at : List LinkEnd → ℕ → Option LinkEnd
@@ -103,7 +103,7 @@ is_found (Some d) e = is_same d e
 
 -- those that are not the first on their networks
 abbrev pub others : List LinkEnd → List LinkEnd
-others ends = filter (λ e. not (is_found (first_on ends (network_of e.address)) e)) ends
+others ends = filter (λ e. not (is_found (first_on ends (network_key e.address)) e)) ends
 
 -- ---- maps of them
 

@@ -8,7 +8,7 @@ use Rattle.ospf_plan.specs.declared.fault.AreaFault.{AreaFault}
 use Rattle.ospf_plan.specs.declared.fault.AreaFault.TheVariants as fault
 use Rattle.ospf_plan.specs.declared.finding.Finding.{Finding}
 use Rattle.ospf_plan.specs.declared.finding.Surroundings.{Surroundings}
-use Rattle.ospf_plan.specs.Ends.{can_be_elected, first_around, first_at, first_at_port, first_of, first_on, is_found, is_same, is_slow_end, network_of, others, port_of}
+use Rattle.ospf_plan.specs.Ends.{can_be_elected, first_around, first_at, first_at_port, first_of, first_on, is_found, is_same, is_slow_end, network_key, others, port_of}
 
 -- the faults that are looked for at each interface, in the order in which they are told
 abbrev pub every_fault : List AreaFault
@@ -20,7 +20,7 @@ every_fault =
 -- first that can be elected and that is slow, the first on the shortest network of fewer bits that holds its address, and the first with its port
 abbrev pub around_of : List LinkEnd → LinkEnd → Surroundings
 around_of ends e =
-    let q = network_of e.address in
+    let q = network_key e.address in
     record {
       router = first_of ends e.router.0;
       holder = first_at ends e.address.address.0;

@@ -10,7 +10,7 @@ use Rattle.ospf_plan.specs.declared.fault.AreaFault.TheVariants as fault
 use Rattle.ospf_plan.specs.declared.finding.Finding.{Finding}
 use Rattle.ospf_config.specs.declared.config.Config.{Config}
 use Rattle.ospf_plan.specs.declared.wires.PeerWire.{PeerWire}
-use Rattle.ospf_plan.specs.Ends.{ends_of, first_at_port, network_of, port_of}
+use Rattle.ospf_plan.specs.Ends.{ends_of, first_at_port, network_key, port_of}
 use Rattle.ospf_plan.specs.Wires.{is_beside, is_wired, wire_key, wire_faults_in, wires_of}
 use Rattle.ospf_plan.specs.Unheard.{are_silent, is_outward, is_plugged, unheard_in}
 use Rattle.ospf_plan.specs.Parts.{AreFindings, IsWay, apart_in, first_of_all}
@@ -157,9 +157,9 @@ ToldRefuse = (ends : List LinkEnd) (f : Finding) → Contains (found_in ends) f 
 
 -- no fault of Hellos is told of an interface on the network
 abbrev pub NoneTold : List LinkEnd → ℕ × ℕ → Type 0
-NoneTold ends q = (f : Finding) → Contains (found_in ends) f → IsOfHellos f.fault → network_of f.here.address ≡ q → ⊥
+NoneTold ends q = (f : Finding) → Contains (found_in ends) f → IsOfHellos f.fault → network_key f.here.address ≡ q → ⊥
 
 -- of a network of which none is told, each two interfaces take each other's Hellos
 abbrev pub OthersTake : Type 0
-OthersTake = (ends : List LinkEnd) (d e : LinkEnd) → Contains ends d → Contains ends e → network_of d.address ≡ network_of e.address → NoneTold ends (network_of e.address)
+OthersTake = (ends : List LinkEnd) (d e : LinkEnd) → Contains ends d → Contains ends e → network_key d.address ≡ network_key e.address → NoneTold ends (network_key e.address)
     → TakesHellos d e

@@ -9,7 +9,7 @@ use Rattle.ospf_plan.specs.declared.wires.PeerWire.{PeerWire}
 use Rattle.ospf_plan.specs.declared.fault.AreaFault.TheVariants as fault
 use Rattle.ospf_plan.specs.declared.finding.Finding.{Finding}
 use Rattle.ospf_plan.specs.declared.unheard.Near.{Near}
-use Rattle.ospf_plan.specs.Ends.{first_at_port, is_found, network_of, port_of, same_network}
+use Rattle.ospf_plan.specs.Ends.{first_at_port, is_found, network_key, port_of, same_network}
 use Rattle.ospf_plan.specs.Wires.{has_wire, is_beside, is_wired, wire_key}
 
 -- it has a port, and is the first that has it
@@ -63,15 +63,15 @@ abbrev pub members_in : tree.BTreeMap (ℕ × ℕ) (Vec LinkEnd) → ℕ × ℕ 
 members_in m q = ends_in (tree.get (λ (k q : ℕ × ℕ). ordering_then (nat_cmp k.0 q.0) (nat_cmp k.1 q.1)) m q)
 
 -- the map has the interfaces of each network, in order
-abbrev pub AreMembers : tree.BTreeMap (ℕ × ℕ) (Vec LinkEnd) → List LinkEnd → Type 0
-AreMembers m ends = (q : ℕ × ℕ) → members_in m q ≡ filter (λ e. same_network (network_of e.address) q) ends
+abbrev pub AreByNetwork : tree.BTreeMap (ℕ × ℕ) (Vec LinkEnd) → List LinkEnd → Type 0
+AreByNetwork m ends = (q : ℕ × ℕ) → members_in m q ≡ filter (λ e. same_network (network_key e.address) q) ends
 
 -- whom an interface has to hear
 abbrev pub near_in : Near → LinkEnd → List LinkEnd
-near_in n e = members_in (if has_wire n.outward (wire_key e 0) then n.inward else n.all) (network_of e.address)
+near_in n e = members_in (if has_wire n.outward (wire_key e 0) then n.inward else n.all) (network_key e.address)
 
 -- it is so of these interfaces, of which those are outward
-pub record AreNear (n : Near) (outward : LinkEnd → Bool) (ends : List LinkEnd) : Type 0 where
+pub record IsNearOf (n : Near) (outward : LinkEnd → Bool) (ends : List LinkEnd) : Type 0 where
   pub outward_are : (e : LinkEnd) → has_wire n.outward (wire_key e 0) ≡ outward e
-  pub all_are : AreMembers n.all ends
-  pub inward_are : AreMembers n.inward (filter (λ e. not (outward e)) ends)
+  pub all_are : AreByNetwork n.all ends
+  pub inward_are : AreByNetwork n.inward (filter (λ e. not (outward e)) ends)

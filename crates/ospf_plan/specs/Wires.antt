@@ -11,7 +11,7 @@ use Rattle.ospf_plan.specs.declared.wires.PeerWire.{PeerWire}
 use Rattle.ospf_plan.specs.declared.fault.AreaFault.{AreaFault}
 use Rattle.ospf_plan.specs.declared.fault.AreaFault.TheVariants as fault
 use Rattle.ospf_plan.specs.declared.finding.Finding.{Finding}
-use Rattle.ospf_plan.specs.Ends.{link_end_of, first_at_port, network_of, port_of, same_network}
+use Rattle.ospf_plan.specs.Ends.{link_end_of, first_at_port, network_key, port_of, same_network}
 
 -- what an interface sends to
 abbrev pub wires_from : LinkEnd → Interface → List PeerWire
@@ -37,7 +37,7 @@ abbrev pub is_wired : List PeerWire → ℕ × ℕ × ℕ → Bool
 is_wired wires q = list_any (λ w. same_wire (wire_key w.end w.peer) q) wires
 
 abbrev pub is_beside : LinkEnd → LinkEnd → Bool
-is_beside d e = same_network (network_of d.address) (network_of e.address)
+is_beside d e = same_network (network_key d.address) (network_key e.address)
 
 -- what is wrong where an interface sends to the interface d: that one is not on its network, or does not send to it
 abbrev pub fault_between : (ℕ × ℕ × ℕ → Bool) → LinkEnd → LinkEnd → Option AreaFault

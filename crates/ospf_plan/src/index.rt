@@ -2,7 +2,7 @@
 
 ghost use Rattle.std.specs.Prelude.{◌≡◌, ◌==◌, not, ℕ, IfOk, OnOk, Some, None, cond, filter};
 ghost use Rattle.std.specs.Option.{option_or};
-ghost use Rattle.ospf_plan.specs.Ends.{AreFirsts, AreHolders, ArePorts, AreRouters, end_in, holder_in, network_of, others, same_network, is_found};
+ghost use Rattle.ospf_plan.specs.Ends.{AreFirsts, AreHolders, ArePorts, AreRouters, end_in, holder_in, network_key, others, same_network, is_found};
 
 use crate::ends::{LinkEnd, port_of};
 use ospf_base::mask_of;
@@ -15,7 +15,7 @@ pub(crate) type Network = (u8, u32);
 
 // The network of an interface.
 pub(crate) fn network_of(address: &InterfaceAddress) -> Network
-    ensures { result ≡ network_of address.now }
+    ensures { result ≡ network_key address.now }
 {
     (address.length, address.address.0 & mask_of(address.length))
 }

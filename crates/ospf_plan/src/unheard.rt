@@ -4,7 +4,7 @@ ghost use Rattle.std.specs.Prelude.{◌≡◌, ◌++◌, ◌∷◌, [], ℕ, IfO
 ghost use Rattle.std.specs.List.{filter_map, find};
 ghost use Rattle.ospf_plan.specs.Ends.{holder_in, same_network};
 ghost use Rattle.ospf_plan.specs.Wires.{has_wire, is_wired, wire_key};
-ghost use Rattle.ospf_plan.specs.Unheard.{AreMembers, AreNear, are_silent, is_ahead, is_plugged, members_in, near_in, outward_wire, unheard, unheard_by};
+ghost use Rattle.ospf_plan.specs.Unheard.{AreByNetwork, IsNearOf, are_silent, is_ahead, is_plugged, members_in, near_in, outward_wire, unheard, unheard_by};
 
 use crate::ends::{LinkEnd, port_of};
 use crate::fault::AreaFault;
@@ -76,7 +76,7 @@ fn outward(
 
 // Whom these have to hear, by the wires that lead outward.
 fn gather(alloc: Global, ends: &[LinkEnd], wires: &[PeerWire]) -> Result<Near, AllocError>
-    ensures { IfOk result (λ n. AreNear n (λ e. is_wired wires.now (wire_key e 0)) ends.now) }
+    ensures { IfOk result (λ n. IsNearOf n (λ e. is_wired wires.now (wire_key e 0)) ends.now) }
 {
     let outward = heard(alloc, wires)?;
     let mut rest = Vec::from_slice(alloc, ends)?;
@@ -91,7 +91,7 @@ fn gather(alloc: Global, ends: &[LinkEnd], wires: &[PeerWire]) -> Result<Near, A
 
 // The interfaces of each network.
 fn members(alloc: Global, ends: &[LinkEnd]) -> Result<Members, AllocError>
-    ensures { IfOk result (λ m. AreMembers m ends.now) }
+    ensures { IfOk result (λ m. AreByNetwork m ends.now) }
 {
     let mut map = BTreeMap::new(alloc);
     for end in ends {

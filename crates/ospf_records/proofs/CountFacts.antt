@@ -6,18 +6,18 @@ use Rattle.std.specs.List.{AllByRecursion}
 use Rattle.std.proofs.lemmas.Bool.Decides.{nat_tests}
 use Rattle.std.proofs.lemmas.List.Sums.{count_by_more_no, count_by_more_yes, take_while-cons}
 use Rattle.ospf_records.specs.Captures.{is_by}
-use Rattle.ospf_records.specs.Counts.{IsOneMoreOf, capped, count_in, one_more}
+use Rattle.ospf_records.specs.Counts.{IsOneMoreOf, capped, count_in, counted_more}
 use Rattle.ospf_world.specs.declared.ticks.Ticked.{Ticked}
 
-capped_more : (n : ℕ) → one_more (capped n) ≡ capped (n + 1)
-unfolding capped one_more
+capped_more : (n : ℕ) → counted_more (capped n) ≡ capped (n + 1)
+unfolding capped counted_more
 capped_more n = grind (arith, nat_tests)
 
 count_more : {X : Type 0} (p : X → Bool) (xs : List X) (i : ℕ) (d : X) → i < length xs →
-    (if p (get_or xs i d) then one_more (capped (count_by p (take i xs))) else capped (count_by p (take i xs))) ≡ capped (count_by p (take (i + 1) xs))
+    (if p (get_or xs i d) then counted_more (capped (count_by p (take i xs))) else capped (count_by p (take i xs))) ≡ capped (count_by p (take (i + 1) xs))
 count_more p xs i d within = by (p (get_or xs i d)) refl
   where
-    by : (b : Bool) → p (get_or xs i d) ≡ b → (if b then one_more (capped (count_by p (take i xs))) else capped (count_by p (take i xs))) ≡ capped (count_by p (take (i + 1) xs))
+    by : (b : Bool) → p (get_or xs i d) ≡ b → (if b then counted_more (capped (count_by p (take i xs))) else capped (count_by p (take i xs))) ≡ capped (count_by p (take (i + 1) xs))
     by true is = capped_more (count_by p (take i xs)) ∙ ap capped (sym (count_by_more_yes p xs i d within is))
     by false is = ap capped (sym (count_by_more_no p xs i d within is))
 
@@ -25,7 +25,7 @@ count_more p xs i d within = by (p (get_or xs i d)) refl
 pub counts_more : {X : Type 0} (key : X → ℕ) (xs : List X) (i : ℕ) (d : X) (before after : tree.BTreeMap ℕ ℕ) → i < length xs → IsOneMoreOf (key (get_or xs i d)) before after →
     ((k : ℕ) → count_in before k ≡ capped (count_by (λ x. key x == k) (take i xs))) → (k : ℕ) → count_in after k ≡ capped (count_by (λ x. key x == k) (take (i + 1) xs))
 counts_more key xs i d before after within counted counts k =
-    counted k ∙ ap (λ (n : ℕ). if key (get_or xs i d) == k then one_more n else n) (counts k) ∙ count_more (λ x. key x == k) xs i d within
+    counted k ∙ ap (λ (n : ℕ). if key (get_or xs i d) == k then counted_more n else n) (counts k) ∙ count_more (λ x. key x == k) xs i d within
 
 all_suc : {X : Type 0} (P : X → Type 0) (xs : List X) (i : ℕ) (d : X) → i < length xs → AllByRecursion P (take i xs) → P (get_or xs i d) → AllByRecursion P (take (suc i) xs)
 all_suc P [] i d within all one = absurd (omega (arith, within))

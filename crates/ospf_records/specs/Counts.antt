@@ -12,8 +12,8 @@ unfoldable pub capped : ℕ → ℕ
 capped n = if nat_lt n largest then n else largest
 
 -- one more, up to the largest
-unfoldable pub one_more : ℕ → ℕ
-one_more n = if nat_lt n largest then n + 1 else n
+unfoldable pub counted_more : ℕ → ℕ
+counted_more n = if nat_lt n largest then n + 1 else n
 
 -- how often a key was counted
 abbrev pub count_in : tree.BTreeMap ℕ ℕ → ℕ → ℕ
@@ -21,4 +21,4 @@ count_in counts key = unwrap_or (tree.get nat_cmp counts key) 0
 
 -- one more of a key
 abbrev pub IsOneMoreOf : ℕ → tree.BTreeMap ℕ ℕ → tree.BTreeMap ℕ ℕ → Type 0
-IsOneMoreOf key before after = (k : ℕ) → count_in after k ≡ (if key == k then one_more (count_in before k) else count_in before k)
+IsOneMoreOf key before after = (k : ℕ) → count_in after k ≡ (if key == k then counted_more (count_in before k) else count_in before k)

@@ -14,7 +14,7 @@ pub(crate) fn count(counts: &BTreeMap<u32, u32>, key: u32) -> u32
 }
 
 /// Counts a key once more.
-#[tactic(auto, unfolding(crate::specs::Counts::one_more))]
+#[tactic(auto, unfolding(crate::specs::Counts::counted_more))]
 pub(crate) fn count_one(counts: &mut BTreeMap<u32, u32>, key: u32) -> Result<(), AllocError>
     ensures { OnOk result (IsOneMoreOf key counts.old counts.new) }
 {

@@ -14,7 +14,7 @@ use Rattle.ospf_files.specs.declared.status.Failure.TheVariants as failure
 use Rattle.ospf_udp.specs.Obstacles.{IsReadAs}
 use Rattle.ospf_udp.specs.declared.stop.Stop.{Stop}
 use Rattle.ospf_udp.specs.declared.stop.Stop.TheVariants as stop
-use Rattle.ospf_udp.specs.Plans.{IsAmong}
+use Rattle.ospf_udp.specs.Plans.{IsConfigured}
 
 pub at_item : {A : Type 0} (xs : List A) (i : ℕ) (x : A) → i < length xs → x ≡ get_or xs i x → slice_get xs i ≡ Some x
 at_item xs i x within is = slice_get_read xs (length xs) i x refl within is
@@ -59,7 +59,7 @@ other_router a b other same = let number : (a.0 == a.0) ≡ false = subst (λ (r
 -- one more, of whose router none before it is
 pub twins_more : (configs : List Config) (later : ℕ) (config : Config) → slice_get configs later ≡ Some config
     → ((k j : ℕ) (one other : Config) → k < j → j < later → slice_get configs k ≡ Some one → slice_get configs j ≡ Some other → one.router_id ≡ other.router_id → ⊥)
-    → (IsAmong (take later configs) config.router_id → ⊥)
+    → (IsConfigured (take later configs) config.router_id → ⊥)
     → (k j : ℕ) (one other : Config) → k < j → j < later + 1 → slice_get configs k ≡ Some one → slice_get configs j ≡ Some other → one.router_id ≡ other.router_id → ⊥
 twins_more configs later config here before none k j one other less below at_k at_j same =
     below_more (λ i. (o : Config) → k < i → slice_get configs i ≡ Some o → one.router_id ≡ o.router_id → ⊥) later

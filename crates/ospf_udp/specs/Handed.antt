@@ -11,14 +11,14 @@ HasMore (Some ticks) taken = taken < ticks
 HasMore None taken = ⊤
 
 -- how many ticks an arrival is
-abbrev pub tick_of : Arrival → ℕ
-tick_of arrival.Tick = 1
-tick_of _ = 0
+abbrev pub arrival_ticks : Arrival → ℕ
+arrival_ticks arrival.Tick = 1
+arrival_ticks _ = 0
 
 -- and what is next, if it is anything
 abbrev pub tick_next : Option Arrival → ℕ
 tick_next None = 0
-tick_next (Some a) = tick_of a
+tick_next (Some a) = arrival_ticks a
 
 -- an arrival from outside: no tick and no end
 abbrev pub IsFromOutside : Arrival → Type 0

@@ -38,7 +38,7 @@ pub data IsFloorRefused (text : Option (List ℕ)) (old new : Option (List ℕ))
 -- ---- the configurations
 
 -- one of the configurations is of this router
-pub record IsAmong (configs : List Config) (router : RouterId) : Type 0 where
+pub record IsConfigured (configs : List Config) (router : RouterId) : Type 0 where
   pub place : ℕ
   pub config : Config
   pub at : slice_get configs place ≡ Some config

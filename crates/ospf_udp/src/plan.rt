@@ -4,7 +4,7 @@ ghost use Rattle.std.specs.Prelude.{◌≡◌, ◌↔◌, All, ℤ, IfOk, IfErr,
 ghost use Rattle.ospf_files.specs.Listed.{AreConfigs, AreFilesRead};
 ghost use Rattle.ospf_udp.specs.Obstacles.{IsReadAs, IsStop, IsStopOfConfigs};
 ghost use Rattle.ospf_config.specs.Configs.{ShareRouter};
-ghost use Rattle.ospf_udp.specs.Plans.{HasPorts, HasFloor, IsAmong, IsFirstPortless, IsFloorOf, IsPlanAt};
+ghost use Rattle.ospf_udp.specs.Plans.{HasPorts, HasFloor, IsConfigured, IsFirstPortless, IsFloorOf, IsPlanAt};
 
 use crate::list::put;
 use crate::stop::{Obstacle, Stop};
@@ -155,7 +155,7 @@ fn share_router(configs: &[Config]) -> bool
 
 // Whether one of the configurations is of this router.
 fn is_among(configs: &[Config], router: RouterId) -> bool
-    ensures { IsTrue result ↔ IsAmong configs.now router }
+    ensures { IsTrue result ↔ IsConfigured configs.now router }
 {
     for config in configs {
         if config.router_id == router {

@@ -4,7 +4,7 @@ ghost use Rattle.std.specs.Prelude.{◌≡◌, ◌+◌, IfErr, IfOk, IfSome, OnE
 ghost use Rattle.ospf_drive.specs.Traffic.{MayEndAfter};
 ghost use Rattle.ospf_drive.specs.declared.wire.Arrival.TheVariants as arrivals;
 ghost use Rattle.ospf_udp.specs.Faults.{IsRefusedAt, IsUnopened, IsUnopenedAt};
-ghost use Rattle.ospf_udp.specs.Handed.{AreFromOutside, IsFromOutside, tick_next, tick_of};
+ghost use Rattle.ospf_udp.specs.Handed.{AreFromOutside, IsFromOutside, tick_next, arrival_ticks};
 
 use crate::fault::{NoSocket, OpenFault, SocketCause};
 use crate::frame::{Frame, read_frame, write_frame};
@@ -71,7 +71,7 @@ impl<C: Clock + Drop> Sockets<C> {
     /// where the ending was told.
     pub(crate) fn next_arrival(&mut self, buffer: &mut [u8; LONGEST]) -> io::Result<Arrival>
         ensures handed { IfOk result (λ arrival. self.new.ticks.taken
-            ≡ self.old.ticks.taken + tick_of arrival) }
+            ≡ self.old.ticks.taken + arrival_ticks arrival) }
         ensures over { IfOk result (λ arrival. arrival ≡ arrivals.End →
             MayEndAfter self.new.ticks.most (is_some self.new.ticks.ending) self.new.ticks.taken) }
         ensures most { self.new.ticks.most ≡ self.old.ticks.most }

@@ -15,7 +15,7 @@ use Rattle.ospf_headline.specs.declared.logs.Datagram.{Datagram}
 use Rattle.ospf_headline.specs.Slots.{SlotValue}
 use Rattle.ospf_world.specs.Networks.{AreNetworks, places_on_network, links_from, links_on, router_links}
 use Rattle.ospf_world.specs.Offers.{address_at, is_for, is_offered, offers_to}
-use Rattle.ospf_world.specs.Rounds.{is_offered_to, is_sender, offer_at, offer_on, offered_to, offers_at, offers_by, offers_of, sender_in}
+use Rattle.ospf_world.specs.Rounds.{is_offered_to, is_sender, offer_at, offer_on, offered_to, offers_at, offers_by, offers_of, sending_address}
 use Rattle.ospf_world.specs.Worlds.{config_of, place_of}
 use Rattle.ospf_world.specs.declared.networks.LinkPlace.{LinkPlace}
 use Rattle.ospf_world.proofs.PlaceFacts.{not_placed, placed, slot_at}
@@ -134,7 +134,7 @@ at_no_slot d from g slots at xs past = nothing_more xs (offer_at d from g slots 
 
 -- of a datagram that went out of this interface, by the interfaces that the index has on its network
 pub offers_near : (w_places : tree.BTreeMap ℕ (Vec LinkPlace)) (slots : List SlotValue) (d network : ℕ) (from : InterfaceAddress) (g : Datagram) (links : List LinkPlace) (events : List WorldEvent) (source : Option InterfaceAddress)
-    → AreNetworks w_places (map config_of slots) → source ≡ sender_in slots g → source ≡ Some from → network ≡ network_part from → links ≡ places_on_network w_places network
+    → AreNetworks w_places (map config_of slots) → source ≡ sending_address slots g → source ≡ Some from → network ≡ network_part from → links ≡ places_on_network w_places network
     → events ≡ flat_map (offer_at d from g slots) links → events ≡ offers_of slots d g
 offers_near networks slots d network from g links events source are is found number near offers =
     offers ∙ ap (λ (ls : List LinkPlace). flat_map (offer_at d from g slots) ls) (near ∙ ap (places_on_network networks) number ∙ are (network_part from))
@@ -143,15 +143,15 @@ offers_near networks slots d network from g links events source are is found num
 
 -- of one that went out of none
 pub offers_nowhere : (slots : List SlotValue) (d : ℕ) (g : Datagram) (events : List WorldEvent) (source : Option InterfaceAddress)
-    → source ≡ sender_in slots g → source ≡ None → events ≡ [] → events ≡ offers_of slots d g
+    → source ≡ sending_address slots g → source ≡ None → events ≡ [] → events ≡ offers_of slots d g
 offers_nowhere slots d g events source is none no_events = no_events ∙ ap (offers_by d g slots) (sym none ∙ is)
 
 -- the router at a place sent it
-pub source_at : (slots : List SlotValue) (g : Datagram) (k : ℕ) (s : SlotValue) → place_of slots g.router.0 ≡ Some k → slice_get slots k ≡ Some s → address_at s.config g.sent.link ≡ sender_in slots g
-unfolding sender_in
+pub source_at : (slots : List SlotValue) (g : Datagram) (k : ℕ) (s : SlotValue) → place_of slots g.router.0 ≡ Some k → slice_get slots k ≡ Some s → address_at s.config g.sent.link ≡ sending_address slots g
+unfolding sending_address
 source_at slots g k s at stands = sym (ap (λ (o : Option SlotValue). option_and_then (λ (t : SlotValue). address_at t.config g.sent.link) o) (slot_at slots g.router.0 k s (placed slots g.router.0 k at) stands).0)
 
 -- no router of the world did
-pub source_nowhere : (slots : List SlotValue) (g : Datagram) → place_of slots g.router.0 ≡ None → None ≡ sender_in slots g
-unfolding sender_in
+pub source_nowhere : (slots : List SlotValue) (g : Datagram) → place_of slots g.router.0 ≡ None → None ≡ sending_address slots g
+unfolding sending_address
 source_nowhere slots g none = sym (ap (λ (o : Option SlotValue). option_and_then (λ (t : SlotValue). address_at t.config g.sent.link) o) (not_placed slots g.router.0 0 none))

@@ -17,20 +17,20 @@ use Rattle.ospf_world.specs.declared.networks.LinkPlace.{LinkPlace}
 -- ---- which events
 
 -- the tick of a router that runs
-unfoldable pub tick_of : SlotValue → List WorldEvent
-tick_of s = if is_some s.running then Tick s.config.router_id ∷ [] else []
+unfoldable pub slot_ticks : SlotValue → List WorldEvent
+slot_ticks s = if is_some s.running then Tick s.config.router_id ∷ [] else []
 
 -- the ticks of a round, in the order of the configurations
 abbrev pub ticks : List SlotValue → List WorldEvent
-ticks slots = flat_map tick_of slots
+ticks slots = flat_map slot_ticks slots
 
 -- the router sent the datagram
 abbrev pub is_sender : Datagram → SlotValue → Bool
 is_sender g s = s.config.router_id.0 == g.router.0
 
 -- the address of the interface that a datagram went out of
-unfoldable pub sender_in : List SlotValue → Datagram → Option InterfaceAddress
-sender_in slots g = option_and_then (λ s. address_at s.config g.sent.link) (find (is_sender g) slots)
+unfoldable pub sending_address : List SlotValue → Datagram → Option InterfaceAddress
+sending_address slots g = option_and_then (λ s. address_at s.config g.sent.link) (find (is_sender g) slots)
 
 -- what a router is offered of a datagram that another one sent, where it runs
 unfoldable pub offers_at : ℕ → InterfaceAddress → Datagram → SlotValue → List WorldEvent
@@ -60,7 +60,7 @@ offer_at d from g slots at = offer_on d from g at.link (slice_get slots at.place
 
 -- the offers of datagram d, in the order of the configurations
 abbrev pub offers_of : List SlotValue → ℕ → Datagram → List WorldEvent
-offers_of slots d g = offers_by d g slots (sender_in slots g)
+offers_of slots d g = offers_by d g slots (sending_address slots g)
 
 -- the offers of the next datagram, if there is one
 pub data AreNextOffers (w : WorldValue) (next : Option (List WorldEvent)) : Type 0 where

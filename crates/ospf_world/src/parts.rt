@@ -3,7 +3,7 @@
 ghost use Rattle.std.specs.Prelude.{◌≡◌, ◌<◌, ◌+◌, ◌++◌, IfOk, IfSome, None, Some, find, length};
 ghost use Rattle.ospf_headline.specs.Slots.{router_in};
 ghost use Rattle.ospf_world.specs.Does.{Does};
-ghost use Rattle.ospf_world.specs.Rounds.{offers_of, sender_in};
+ghost use Rattle.ospf_world.specs.Rounds.{offers_of, sending_address};
 ghost use Rattle.ospf_world.specs.Worlds.{AddsConfig, Lends, LendsSlot, Opens, is_slot_of, place_in, world_of};
 
 use crate::networks::{Networks, links_at, network_of, networks_of};
@@ -124,7 +124,7 @@ impl Parts {
 
     /// The address of the interface that a datagram went out of.
     pub(crate) fn source_of(&self, sent: &Datagram) -> Option<InterfaceAddress>
-        ensures { result ≡ sender_in self.now.slots sent.now }
+        ensures { result ≡ sending_address self.now.slots sent.now }
     {
         let place = place(&self.places, sent.router)?;
         address_of(self.slots[place].config(), sent.sent.link)

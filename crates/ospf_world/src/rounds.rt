@@ -3,7 +3,7 @@
 ghost use Rattle.std.specs.Prelude.{◌≡◌, ◌++◌, IfOk, OnOk, option_map};
 ghost use Rattle.ospf_headline.specs.Headline.{Headline, IsReached};
 ghost use Rattle.ospf_router.specs.Steps.{is_dropped};
-ghost use Rattle.ospf_world.specs.Rounds.{AreNextOffers, AreOffered, IsRound, IsRoundOf, OffersNext, tick_of, ticks};
+ghost use Rattle.ospf_world.specs.Rounds.{AreNextOffers, AreOffered, IsRound, IsRoundOf, OffersNext, slot_ticks, ticks};
 ghost use Rattle.ospf_world.specs.Sounds.{IsSoundBetween};
 ghost use Rattle.ospf_world.specs.Ticks.{TicksOn};
 ghost use Rattle.ospf_world.specs.Worlds.{world_of};
@@ -155,9 +155,9 @@ pub fn ticks_of(slots: &[Slot], alloc: Global) -> Result<Vec<WorldEvent>, AllocE
 }
 
 // Adds the tick of a router that runs.
-#[tactic(auto, unfolding(crate::specs::Rounds::tick_of))]
+#[tactic(auto, unfolding(crate::specs::Rounds::slot_ticks))]
 fn push_tick(events: &mut Vec<WorldEvent>, slot: &Slot) -> Result<(), AllocError>
-    ensures { OnOk result (events.new.items ≡ events.old.items ++ tick_of slot.now) }
+    ensures { OnOk result (events.new.items ≡ events.old.items ++ slot_ticks slot.now) }
 {
     if slot.runs() {
         let router = slot.config().router_id;

@@ -7,7 +7,7 @@ ghost use Rattle.ospf_headline.specs.Sound.{IsSoundAcknowledgement};
 ghost use Rattle.ospf_headline.specs.World.{Comes};
 ghost use Rattle.ospf_router.specs.Steps.{is_dropped};
 ghost use Rattle.ospf_world.specs.Does.{Does};
-ghost use Rattle.ospf_world.specs.Rounds.{offers_of, sender_in};
+ghost use Rattle.ospf_world.specs.Rounds.{offers_of, sending_address};
 ghost use Rattle.ospf_world.specs.Sounds.{IsSoundBetween};
 ghost use Rattle.ospf_world.specs.Ticks.{TicksOn, ticked_by};
 ghost use Rattle.ospf_world.specs.Worlds.{Lends, Opens, SameSettings, is_slot_of, world_of};
@@ -176,7 +176,7 @@ impl World {
 
     /// The address of the interface that a datagram went out of.
     pub fn source_of(&self, sent: &Datagram) -> Option<InterfaceAddress>
-        ensures { result ≡ sender_in self.now.slots sent.now }
+        ensures { result ≡ sending_address self.now.slots sent.now }
     {
         self.parts.source_of(sent)
     }

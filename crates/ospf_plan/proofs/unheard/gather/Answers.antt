@@ -1,7 +1,7 @@
 use Rattle.std.proofs.Common.{rules, ◌≡◌, ◌∙◌, ap, subst, not, filter}
 use Rattle.std.proofs.lemmas.Fn.{filter_same}
 use Rattle.ospf_plan.specs.declared.ends.LinkEnd.{LinkEnd}
-use Rattle.ospf_plan.specs.Unheard.{AreMembers}
+use Rattle.ospf_plan.specs.Unheard.{AreByNetwork}
 use Rattle.ospf_plan.specs.Wires.{has_wire, is_wired, wire_key}
 use Rattle.ospf_plan.proofs.UnheardLemmas.{one_function}
 use Rattle.ospf_plan.proofs.unheard.gather.Goals as goal
@@ -17,6 +17,6 @@ returns c =
     record {
       outward_are = λ e. c.in_ok-outward.ensures (wire_key e 0);
       all_are = c.in_ok-all.ensures;
-      inward_are = subst (AreMembers c.in_ok-inward.inward)
+      inward_are = subst (AreByNetwork c.in_ok-inward.inward)
           (c.deref.ensures.value ∙ kept ∙ ap (λ has. filter (λ (e : LinkEnd). not (has (wire_key e 0))) ends) are) c.in_ok-inward.ensures;
     }

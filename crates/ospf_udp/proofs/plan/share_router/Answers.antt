@@ -2,13 +2,13 @@ use Rattle.std.proofs.Common.{◌≡◌, ◌<◌, ◌∙◌, length, refl, sym, 
 use Rattle.std.proofs.lemmas.Option.{slice_get_within}
 use Rattle.ospf_udp.proofs.Planned.{at_item, front_at, twins_more}
 use Rattle.ospf_config.specs.Configs.{ShareRouter}
-use Rattle.ospf_udp.specs.Plans.{IsAmong}
+use Rattle.ospf_udp.specs.Plans.{IsConfigured}
 use Rattle.ospf_udp.proofs.plan.share_router.Goals as goal
 
 pub returns-then-is_among : goal.returns-then-is_among
 returns-then-is_among c = (
   λ _.
-      let among : IsAmong _ _ = c.is_among.ensures.0 c.if-is_among.true in
+      let among : IsConfigured _ _ = c.is_among.ensures.0 c.if-is_among.true in
       let front = front_at c.args.configs.now c.loop-later.later among.place among.config among.at in
       record {
         place = among.place;
