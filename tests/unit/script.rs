@@ -174,6 +174,7 @@ fn asking(rt: HostRuntime) -> Result<(), Fail> {
     spells(&rt, alloc, "loss 100 7 10.0.0.1", &there, "loss 100 7 10.0.0.1")?;
     let sent = |most: Option<u64>| Command::Datagrams { router: ONE, most };
     spells(&rt, alloc, "datagrams 1.1.1.1", &sent(None), "datagrams 1.1.1.1")?;
+    spells(&rt, alloc, " drops 1.1.1.1", &Command::Drops { router: ONE }, "drops 1.1.1.1")?;
     spells(&rt, alloc, "datagrams  1.1.1.1 05", &sent(Some(5)), "datagrams 1.1.1.1 5")?;
     Ok(())
 }
@@ -288,7 +289,7 @@ fn expecting_of_all(rt: HostRuntime) -> Result<(), Fail> {
 }
 
 // Each is refused for one reason.
-const UNREADABLE: [&[u8]; 96] = [
+const UNREADABLE: [&[u8]; 99] = [
     b"cut",
     b"cut all",
     b"cut 10.0.0",
@@ -321,6 +322,9 @@ const UNREADABLE: [&[u8]; 96] = [
     b"datagrams all",
     b"datagrams 1.1.1.1 few",
     b"datagrams 1.1.1.1 1 2",
+    b"drops",
+    b"drops all",
+    b"drops 1.1.1.1 0",
     b"loss 30",
     b"loss 101 7",
     b"loss 30 x",
@@ -397,12 +401,12 @@ fn unreadable(rt: HostRuntime) {
     }
 }
 
-const NAMES: &str = "start, stop, tick, up, down, deliver, cut, mend, round, random, settle, neighbours, listing, table, walk, floor, say, why, datagrams, loss, expect, label";
+const NAMES: &str = "start, stop, tick, up, down, deliver, cut, mend, round, random, settle, neighbours, listing, table, walk, floor, say, why, datagrams, drops, loss, expect, label";
 
 #[test]
 fn hints(rt: HostRuntime) -> Result<(), Fail> {
     let alloc = rt.alloc();
-    let forms: [(&[u8], &str); 16] = [
+    let forms: [(&[u8], &str); 17] = [
         (b"cut all", "cut ADDRESS"),
         (b"mend", "mend ADDRESS"),
         (b"settle x", "settle MAX"),
@@ -410,6 +414,7 @@ fn hints(rt: HostRuntime) -> Result<(), Fail> {
         (b"up all 0", "up R LINK, or up all"),
         (b"why", "why R LINK [NEIGHBOUR]"),
         (b"datagrams", "datagrams R [MOST]"),
+        (b"drops 1.1.1.1 0", "drops R"),
         (b"loss 101 7", "loss PERCENT NUMBER [ADDRESS]"),
         (
             b"expect fully",

@@ -1,4 +1,3 @@
-pub mod Enumerated
 pub mod Chances
 pub mod Done
 pub mod Lent

@@ -1,20 +1,23 @@
 -- What is printed of a router, of a walk, and of what a link waits for.
-use Rattle.std.specs.Prelude.{◌≡◌, ℕ, List, [], Ok, Err, Option, None, Some, String, unwrap_or}
+use Rattle.std.specs.Prelude.{◌≡◌, ℕ, List, [], Ok, Err, Option, None, Some, String, false, is_some, true, unwrap_or}
+use Rattle.std.specs.List.{find}
 use Rattle.std.specs.declared.alloc.Global.{Global}
 use Rattle.ospf_base.specs.declared.ids.Addr.{Addr}
 use Rattle.ospf_base.specs.declared.ids.RouterId.{RouterId}
 use Rattle.ospf_headline.specs.declared.event.WorldFault.{WorldFault}
 use Rattle.ospf_headline.specs.declared.event.WorldFault.TheVariants as fault
+use Rattle.ospf_journal.specs.Counted.{drop_lines}
 use Rattle.ospf_router.specs.Routers.{RouterValue}
 use Rattle.ospf_script.specs.Words.{Text}
 use Rattle.ospf_script.specs.declared.command.View.{View}
 use Rattle.ospf_views.specs.Shown.{shown_lines}
+use Rattle.ospf_world.specs.Worlds.{is_slot_of}
 use Rattle.ospf_world.specs.declared.walk.Walk.{Walk}
 use Rattle.ospf_views.specs.Datagrams.{datagram_lines}
 use Rattle.ospf_views.specs.Offered.{why_lines}
 use Rattle.ospf_commands.specs.Shown.{said_line, walked_lines}
 use Rattle.ospf_commands.specs.Simulations.{Answer}
-use Rattle.ospf_commands.specs.Worlds.{IsNotLent, IsWalkFrom, LendsRouter}
+use Rattle.ospf_commands.specs.Worlds.{IsNotLent, IsWalkFrom, LendsRouter, SlotValue, WorldValue}
 use Rattle.ospf_commands.specs.declared.simulation.Simulation.{Simulation}
 
 -- a text is printed
@@ -52,3 +55,15 @@ pub data AreDatagramsShown (r : RouterId) (most : Option ℕ) (s : Simulation) (
   are_shown : (x : RouterValue) → LendsRouter s.world r x → answer ≡ Ok tt → text ≡ datagram_lines s.world r (most_shown most) x.area
       → AreDatagramsShown r most s answer text
   are_not_shown : (f : WorldFault) → IsNotLent s.world r f → answer ≡ Err f → text ≡ [] → AreDatagramsShown r most s answer text
+
+-- the router of a Router ID, running or not, if there is one
+abbrev pub slot_at : WorldValue → RouterId → Option SlotValue
+slot_at w r = find (is_slot_of r.0) w.slots
+
+-- what a router that runs dropped since it started is printed; or it is said why it cannot be asked
+pub data AreDropsShown (r : RouterId) (s : Simulation) (answer : Answer) (text : Text) : Type 0 where
+  drops_are_shown : (x : SlotValue) → slot_at s.world r ≡ Some x → is_some x.running ≡ true → answer ≡ Ok tt → text ≡ drop_lines x.drops
+      → AreDropsShown r s answer text
+  of_one_stopped : (x : SlotValue) → slot_at s.world r ≡ Some x → is_some x.running ≡ false → answer ≡ Err fault.NotRunning → text ≡ []
+      → AreDropsShown r s answer text
+  of_nobody : slot_at s.world r ≡ None → answer ≡ Err fault.NoRouter → text ≡ [] → AreDropsShown r s answer text

@@ -5,7 +5,7 @@ use Rattle.ospf_script.specs.Words.{Text}
 use Rattle.ospf_script.specs.declared.command.Command.{Command}
 use Rattle.ospf_script.specs.declared.command.Command.TheVariants as command
 use Rattle.ospf_script.specs.declared.command.Many.{Many}
-use Rattle.ospf_commands.specs.Asked.{AreDatagramsShown, IsTextSaid, IsViewShown, IsWalked, IsWhyAnswered}
+use Rattle.ospf_commands.specs.Asked.{AreDatagramsShown, AreDropsShown, IsTextSaid, IsViewShown, IsWalked, IsWhyAnswered}
 use Rattle.ospf_commands.specs.Judged.{JudgedSo}
 use Rattle.ospf_commands.specs.Losses.{losses_of}
 use Rattle.ospf_commands.specs.Many.{ComesAbout}
@@ -40,6 +40,7 @@ DoesCommand (command.Walk from address choices) s answer text s' = IsWalked from
 DoesCommand (command.Say said) s answer text s' = IsTextSaid said answer text × (s' ≡ s)
 DoesCommand (command.Why r link neighbour) s answer text s' = IsWhyAnswered r link neighbour s answer text × (s' ≡ s)
 DoesCommand (command.Datagrams r most) s answer text s' = AreDatagramsShown r most s answer text × (s' ≡ s)
+DoesCommand (command.Drops r) s answer text s' = AreDropsShown r s answer text × (s' ≡ s)
 DoesCommand (command.Loss percent number network) s answer text s' =
     (answer ≡ Ok tt) × (text ≡ []) × (s' ≡ record s { losses = Some (losses_of percent number network) })
 DoesCommand (command.Expect e) s answer text s' = JudgedSo e s s' answer text

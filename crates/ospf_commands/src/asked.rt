@@ -2,13 +2,14 @@
 
 ghost use Rattle.std.specs.Prelude.{IfErr, IfOk, OnErr};
 ghost use Rattle.ospf_files.specs.Streams.{IsOutputCut};
-ghost use Rattle.ospf_commands.specs.Asked.{AreDatagramsShown, IsTextSaid, IsViewShown, IsWalked, IsWhyAnswered};
+ghost use Rattle.ospf_commands.specs.Asked.{AreDatagramsShown, AreDropsShown, IsTextSaid, IsViewShown, IsWalked, IsWhyAnswered};
 ghost use Rattle.ospf_commands.specs.Printed.{IsPrinted, IsPrintedBegun};
 
 use crate::show::{said_line, write_walked};
 use crate::simulation::Simulation;
 use ospf_base::{Addr, RouterId};
 use ospf_files::{FailedStreams, Failure};
+use ospf_journal::drop_lines;
 use ospf_script::View;
 use ospf_views::{datagram_lines, why_lines, write_shown};
 use ospf_world::WorldFault;
@@ -90,7 +91,8 @@ pub(crate) fn show_walk<O: Write>(
     }
 }
 
-// Prints what a link waits for, or a router on it, and why it would drop what came last, if there is such a link. Where that fails, a beginning of it was written.
+// Prints what a link waits for, or a router on it, and why it would drop what came last, if there is such a link. Where that fails,
+// a beginning of it was written.
 pub(crate) fn show_why<O: Write>(
     simulation: &Simulation,
     place: (RouterId, usize),
@@ -142,6 +144,32 @@ pub(crate) fn show_datagrams<O: Write>(
     };
     let most = most.unwrap_or(MOST_DATAGRAMS);
     let lines = datagram_lines(&simulation.world, lent, router, most, alloc)?;
+    streams.write(out, &lines)?;
+    Ok(Ok(()))
+}
+
+// Prints what a router dropped since it started, if it runs. Where that fails, a beginning of it was written.
+pub(crate) fn show_drops<O: Write>(
+    simulation: &Simulation,
+    router: RouterId,
+    out: &mut O,
+    alloc: Global,
+    streams: &mut FailedStreams,
+) -> Result<Result<(), WorldFault>, Failure>
+    ensures shown { IfOk result (λ answer. IsPrinted (AreDropsShown router simulation.now) answer
+        (O.contents out.old) (O.contents out.new)) }
+    ensures begun { OnErr result (IsPrintedBegun (AreDropsShown router simulation.now)
+        (O.contents out.old) (O.contents out.new)) }
+    ensures cut { IfErr result (IsOutputCut streams.new) }
+{
+    let slot = match simulation.world.slot(router) {
+        Some(slot) => slot,
+        None => return Ok(Err(WorldFault::NoRouter)),
+    };
+    if !slot.runs() {
+        return Ok(Err(WorldFault::NotRunning));
+    }
+    let lines = drop_lines(alloc, slot.drops())?;
     streams.write(out, &lines)?;
     Ok(Ok(()))
 }

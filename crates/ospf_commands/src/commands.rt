@@ -4,7 +4,7 @@ ghost use Rattle.std.specs.Prelude.{◌≡◌, IfErr, IfOk, Ok, OnErr, Some};
 ghost use Rattle.ospf_files.specs.Streams.{IsOutputCut};
 ghost use Rattle.ospf_commands.specs.Commands.{EventComesAbout, IsDone, IsDoneBegun, ManyHappen};
 
-use crate::asked::{say, show_datagrams, show_router, show_walk, show_why};
+use crate::asked::{say, show_datagrams, show_drops, show_router, show_walk, show_why};
 use crate::judge::judge;
 use crate::losses::Losses;
 use crate::many::run_many;
@@ -67,6 +67,7 @@ pub fn run_command<O: Write, V: Watch>(
         Command::Datagrams { router, most } => {
             show_datagrams(simulation, *router, *most, out, alloc, streams)
         }
+        Command::Drops { router } => show_drops(simulation, *router, out, alloc, streams),
         Command::Loss {
             percent,
             number,

@@ -1,1 +1,3 @@
 mod IfaceFacts
+pub mod Enumerated
+pub mod CountedLemmas

@@ -3,3 +3,4 @@ pub mod Changes
 pub mod Lines
 pub mod Objects
 pub mod Causes
+pub mod Counted

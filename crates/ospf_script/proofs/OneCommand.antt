@@ -210,6 +210,7 @@ takes_one ws (command.Why r m i) (command.Why s n j) e h k =
 takes_one ws (command.Datagrams r i) (command.Datagrams s j) e h k =
     let all = datagrams_one ws r s i j h k in
     let one = all.0 in let two = all.1 in cc
+takes_one ws (command.Drops r) (command.Drops s) e h k = ap command.Drops (router_alone_one ws r s h k)
 takes_one ws (command.Loss p m i) (command.Loss q n j) e h k =
     let all = loss_one ws p q m n i j h k in
     let one = all.0 in let two = all.1 in let three = all.2 in cc

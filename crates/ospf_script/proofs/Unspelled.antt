@@ -97,6 +97,12 @@ no_datagrams ws h (command.Many m) is = subst IsOfEvents is.0 (many_name m)
 no_datagrams ws h (command.Datagrams router most) is = h (router, most) is.1
 no_datagrams ws h c is = let e = is.0 in cc
 
+pub no_drops : (ws : List Text) → ((router : RouterId) → IsRouterAlone ws router → ⊥) → IsNone names.Drops ws
+no_drops ws h (command.Event e) is = subst IsOfEvents is.0 (event_name e)
+no_drops ws h (command.Many m) is = subst IsOfEvents is.0 (many_name m)
+no_drops ws h (command.Drops router) is = h router is.1
+no_drops ws h c is = let e = is.0 in cc
+
 pub no_loss : (ws : List Text) → ((found : ℕ × ℕ × Option Addr) → IsLossWords ws found.0 found.1 found.2 → ⊥) → IsNone names.Loss ws
 no_loss ws h (command.Event e) is = subst IsOfEvents is.0 (event_name e)
 no_loss ws h (command.Many m) is = subst IsOfEvents is.0 (many_name m)
@@ -153,6 +159,7 @@ by_key n =
     if n == 883 then names.Say else
     if n == 887 then names.Why else
     if n == 2404 then names.Datagrams else
+    if n == 1380 then names.Drops else
     if n == 1132 then names.Loss else
     if n == 1637 then names.Expect else
     if n == 2414 then (names.Show view.Neighbours) else
@@ -180,6 +187,7 @@ found_by_key word (names.Show view.Floor) is = ap (λ text. by_key (key text)) i
 found_by_key word names.Say is = ap (λ text. by_key (key text)) is
 found_by_key word names.Why is = ap (λ text. by_key (key text)) is
 found_by_key word names.Datagrams is = ap (λ text. by_key (key text)) is
+found_by_key word names.Drops is = ap (λ text. by_key (key text)) is
 found_by_key word names.Loss is = ap (λ text. by_key (key text)) is
 found_by_key word names.Expect is = ap (λ text. by_key (key text)) is
 found_by_key word (names.Show view.Neighbours) is = elim is [ inl british ↦ ap (λ text. by_key (key text)) british | inr american ↦ ap (λ text. by_key (key text)) american ]

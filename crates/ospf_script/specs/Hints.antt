@@ -36,6 +36,7 @@ form_text (name.Show view.Floor) = codes "floor R"
 form_text name.Say = codes "say WORD.."
 form_text name.Why = codes "why R LINK [NEIGHBOUR]"
 form_text name.Datagrams = codes "datagrams R [MOST]"
+form_text name.Drops = codes "drops R"
 form_text name.Loss = codes "loss PERCENT NUMBER [ADDRESS]"
 form_text name.Expect =
     codes "expect full R S, expect no neighbour R LINK, expect route R PREFIX COST [HOP..], expect no route R PREFIX, expect walk R ADDRESS arrived [COST], expect agree, or expect settled"
@@ -44,7 +45,7 @@ form_text name.Label = codes "label on, or label off"
 -- behind a first word that is no name, which names there are; else the form of the command
 abbrev pub hint_of : Text → Option Name → Text
 hint_of word None =
-    word_text word ++ codes ": no command; there are start, stop, tick, up, down, deliver, cut, mend, round, random, settle, neighbours, listing, table, walk, floor, say, why, datagrams, loss, expect, label"
+    word_text word ++ codes ": no command; there are start, stop, tick, up, down, deliver, cut, mend, round, random, settle, neighbours, listing, table, walk, floor, say, why, datagrams, drops, loss, expect, label"
 hint_of word (Some n) = form_text n
 
 -- of the words of a line

@@ -27,6 +27,7 @@ command_name_text name.Walk = codes "walk"
 command_name_text name.Say = codes "say"
 command_name_text name.Why = codes "why"
 command_name_text name.Datagrams = codes "datagrams"
+command_name_text name.Drops = codes "drops"
 command_name_text name.Loss = codes "loss"
 command_name_text name.Expect = codes "expect"
 command_name_text name.Label = codes "label"
@@ -44,7 +45,7 @@ abbrev pub all_names : List Name
 all_names =
     name.Start ∷ name.Stop ∷ name.Tick ∷ name.Up ∷ name.Down ∷ name.Deliver ∷ name.Cut ∷ name.Mend ∷ name.Round ∷ name.Random
     ∷ name.Settle ∷ name.Show view.Neighbours ∷ name.Show view.Listing ∷ name.Show view.Table ∷ name.Show view.Floor ∷ name.Walk
-    ∷ name.Say ∷ name.Why ∷ name.Datagrams ∷ name.Loss ∷ name.Expect ∷ name.Label ∷ []
+    ∷ name.Say ∷ name.Why ∷ name.Datagrams ∷ name.Drops ∷ name.Loss ∷ name.Expect ∷ name.Label ∷ []
 
 -- the name that a word is, if it is one
 abbrev pub name_in : Text → Option Name

@@ -94,6 +94,7 @@ command_text (command.Say text) = codes "say " ++ string_bytes text
 command_text (command.Why router link neighbour) =
     codes "why " ++ number_text router.0 ++ codes " " ++ decimal link ++ given_text (λ (r : RouterId). number_text r.0) neighbour
 command_text (command.Datagrams router most) = codes "datagrams " ++ number_text router.0 ++ given_text decimal most
+command_text (command.Drops router) = codes "drops " ++ number_text router.0
 command_text (command.Loss percent number network) =
     codes "loss " ++ decimal percent ++ codes " " ++ decimal number ++ given_text (λ (address : Addr). number_text address.0) network
 command_text (command.Expect expected) = expected_text expected

@@ -58,6 +58,10 @@ pub enum Command {
         router: RouterId,
         most: Option<u64>,
     },
+    /// `drops R`: how many datagrams the router dropped since it started is printed, by link and cause.
+    Drops {
+        router: RouterId,
+    },
     /// `loss PERCENT NUMBER [ADDRESS]`: of a hundred deliveries so many are lost from here on, by chance, by the
     /// generator of this number; on the network that holds the address alone where one is given.
     Loss {

@@ -48,7 +48,7 @@ fn write_names<W: Write>(f: &mut Formatter<W>, word: &[u8]) -> fmt::Result
 {
     write_word(f, word)?;
     f.write_str(
-        ": no command; there are start, stop, tick, up, down, deliver, cut, mend, round, random, settle, neighbours, listing, table, walk, floor, say, why, datagrams, loss, expect, label",
+        ": no command; there are start, stop, tick, up, down, deliver, cut, mend, round, random, settle, neighbours, listing, table, walk, floor, say, why, datagrams, drops, loss, expect, label",
     )
 }
 
@@ -97,6 +97,7 @@ fn form_of(name: Name) -> &'static str
         Name::Say => "say WORD..",
         Name::Why => "why R LINK [NEIGHBOUR]",
         Name::Datagrams => "datagrams R [MOST]",
+        Name::Drops => "drops R",
         Name::Loss => "loss PERCENT NUMBER [ADDRESS]",
         Name::Expect =>
             "expect full R S, expect no neighbour R LINK, expect route R PREFIX COST [HOP..], expect no route R PREFIX, expect walk R ADDRESS arrived [COST], expect agree, or expect settled",

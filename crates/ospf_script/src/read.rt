@@ -103,6 +103,9 @@ fn of_name(name: Name, text: &[u8]) -> Option<Command>
             let router = router_in(text)?;
             Some(Command::Show { view, router })
         }
+        Name::Drops => Some(Command::Drops {
+            router: router_in(text)?,
+        }),
         Name::Label => Some(Command::Label {
             is_on: switch_in(text)?,
         }),

@@ -60,6 +60,7 @@ impl Display for Command {
             Command::Datagrams { router, most } => {
                 write!(f, "datagrams {router}{}", Given(*most))
             }
+            Command::Drops { router } => write!(f, "drops {router}"),
             Command::Loss {
                 percent,
                 number,

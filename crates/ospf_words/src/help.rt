@@ -166,6 +166,8 @@ pub(crate) const SIM_HELP: &str = "Lines of a script:
   neighbours R, listing R, table R, floor R
                               what the router knows is printed
   why R LINK [NEIGHBOUR]      what a link waits for is printed
+  datagrams R [MOST]          the last datagrams that a round offers to it
+  drops R                     how many it has dropped, by link and cause
   walk R ADDRESS CHOICE..     the walk from R to ADDRESS is printed
   label on, label off         whether a line above it says what is printed
   expect full R S, expect no neighbour R LINK,

@@ -1,5 +1,5 @@
 use Rattle.ospf_script.specs.declared.command.Command.TheVariants as command
-use Rattle.ospf_commands.specs.Asked.{AreDatagramsShown, IsViewShown, IsWhyAnswered}
+use Rattle.ospf_commands.specs.Asked.{AreDatagramsShown, AreDropsShown, IsViewShown, IsWhyAnswered}
 use Rattle.ospf_commands.proofs.Done.{asked_begun, asked_done, begun_as, done_as}
 use Rattle.ospf_commands.proofs.commands.run_command.Goals as goal
 
@@ -50,3 +50,13 @@ pub returns-in-Datagrams-clause-begun : goal.returns-in-Datagrams-clause-begun
 returns-in-Datagrams-clause-begun g c =
     begun_as _ (command.Datagrams c.in-Datagrams.router c.in-Datagrams.most) _ _ _ _ _ c.in-Datagrams.is
     (asked_begun (AreDatagramsShown c.in-Datagrams.router c.in-Datagrams.most) _ _ _ _ c.show_datagrams.ensures.begun)
+
+pub returns-in-Drops-clause-done : goal.returns-in-Drops-clause-done
+returns-in-Drops-clause-done g c =
+    done_as _ (command.Drops c.in-Drops.router) _ _ _ _ _ c.in-Drops.is
+    (asked_done (AreDropsShown c.in-Drops.router) _ _ _ _ c.show_drops.ensures.shown)
+
+pub returns-in-Drops-clause-begun : goal.returns-in-Drops-clause-begun
+returns-in-Drops-clause-begun g c =
+    begun_as _ (command.Drops c.in-Drops.router) _ _ _ _ _ c.in-Drops.is
+    (asked_begun (AreDropsShown c.in-Drops.router) _ _ _ _ c.show_drops.ensures.begun)

@@ -3,7 +3,7 @@ use Rattle.std.specs.List.{enumerate_from}
 use Rattle.std.proofs.lemmas.List.{append_assoc}
 use Rattle.ospf_config.specs.declared.interface.Interface.{Interface}
 use Rattle.ospf_commands.specs.Many.{events_on}
-use Rattle.ospf_commands.proofs.Enumerated.{all_there, one_more}
+use Rattle.ospf_journal.proofs.Enumerated.{all_there, one_more}
 use Rattle.ospf_commands.proofs.many.push_links.Goals as goal
 
 pub loop-link-preserved : goal.loop-link-preserved

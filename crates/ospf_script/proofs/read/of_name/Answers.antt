@@ -1,5 +1,5 @@
 use Rattle.ospf_script.proofs.Plain.{if_none}
-use Rattle.ospf_script.proofs.Unspelled.{no_random, no_view}
+use Rattle.ospf_script.proofs.Unspelled.{no_drops, no_random, no_view}
 use Rattle.ospf_script.proofs.read.of_name.Goals as goal
 
 pub returns-in_err-number-in-Random-clause-none : goal.returns-in_err-number-in-Random-clause-none
@@ -11,3 +11,8 @@ pub returns-in_err-router-in-Show-clause-none : goal.returns-in_err-router-in-Sh
 returns-in_err-router-in-Show-clause-none c =
     let none = rw c.in_err-router-in-Show.was at c.router_in.ensures in
     if_none c.from_residual-in_err-router-in-Show.result _ (λ walk say expect. rw c.in-Show.is (no_view _ _ none))
+
+pub returns-in_err-router_in-in-Drops-clause-none : goal.returns-in_err-router_in-in-Drops-clause-none
+returns-in_err-router_in-in-Drops-clause-none c =
+    let none = rw c.in_err-router_in-in-Drops.was at c.router_in-in-Drops.ensures in
+    if_none c.from_residual-in_err-router_in-in-Drops.result _ (λ walk say expect. rw c.in-Drops.is (no_drops _ none))
