@@ -1,19 +1,22 @@
 //! What is kept and shown of routers while they run: a capture of what they send, their tables from time to time, what they
 //! drop, a line on a terminal, and messages of neighbours whose LSAs a router refuses.
 
-use crate::dropped::{Counts, Heard, dropped_in};
+use crate::dropped::{Heard, dropped_in};
 use crate::journal::Journal;
 use crate::line::StatusLine;
 use crate::others::{Described, Others};
 use crate::tables::Tables;
 use ospf_base::{Addr, RouterId};
+use ospf_config::Interface;
 use ospf_files::{Failure, NamedFile};
 use ospf_journal::{DroppedAt, Seen};
 use ospf_neighbour::NeighbourState;
 use ospf_records::{CaptureFault, Moment, write_datagram, write_header};
 use ospf_run::{Config, Drops, Router, Sent, Step, Tap};
+use ospf_step::{DropCounts, count_dropped, none_dropped_on};
 use std::alloc::{AllocError, Global};
 use std::io::{self, ErrorKind, Write};
+use std::mem;
 use std::sync::{Arc, Mutex, Wait};
 use std::time::Clock;
 
@@ -54,8 +57,8 @@ pub struct Notes<R: Wait + Clock + Copy + Drop, F: Write + Drop, T: Write + Drop
     full: usize,
     // The packet that came in last, until a step has been made.
     heard: Option<Heard>,
-    // What the router dropped, if that is counted.
-    counts: Option<Counts>,
+    // What the router dropped on its links, if that is counted.
+    counts: Option<Vec<DropCounts>>,
     // What was seen of the router, if a journal is written.
     seen: Option<Seen>,
     teller: Teller,
@@ -111,7 +114,7 @@ impl<R: Wait + Clock + Copy + Drop, F: Write + Drop, T: Write + Drop, O: Write +
             has_ticked: false,
             full: 0,
             heard: None,
-            counts: Counts::if_wanted(drops, alloc),
+            counts: first_counts(drops, &[], alloc)?,
             seen: first_seen(logs, alloc),
             teller: Teller::none(alloc),
         })
@@ -139,8 +142,8 @@ impl<R: Wait + Clock + Copy + Drop, F: Write + Drop, T: Write + Drop, O: Write +
     fn follow(&mut self, router: &Router, step: &Step) {
         self.tell_others(router);
         let dropped = dropped_in(step, self.heard.take());
-        if let (Some(counts), Some(dropped)) = (&mut self.counts, dropped) {
-            counts.count(self.teller.router, dropped);
+        if let (Some(counts), Some(at)) = (&mut self.counts, dropped) {
+            count_dropped(counts, Some(at.link), Some(at.cause));
         }
         self.log(router, dropped);
         if self.has_ticked {
@@ -206,6 +209,7 @@ impl<R: Wait + Clock + Copy + Drop, F: Write + Drop, T: Write + Drop, O: Write +
     for Notes<R, F, T, O> {
     fn another(&self, file: &NamedFile, config: &Config) -> Result<Notes<R, F, T, O>, AllocError> {
         let teller = Teller::new(self.alloc, file, config)?;
+        let counts = first_counts(self.counts.is_some(), &config.interfaces, self.alloc)?;
         let shared = Arc::try_clone(&self.shared)?;
         {
             let mut all = shared.lock(&self.rt);
@@ -223,7 +227,7 @@ impl<R: Wait + Clock + Copy + Drop, F: Write + Drop, T: Write + Drop, O: Write +
             has_ticked: false,
             full: 0,
             heard: None,
-            counts: Counts::if_wanted(self.counts.is_some(), self.alloc),
+            counts,
             seen: first_seen(self.seen.is_some(), self.alloc),
             teller,
         })
@@ -255,21 +259,15 @@ impl<R: Wait + Clock + Copy + Drop, F: Write + Drop, T: Write + Drop, O: Write +
     }
 
     fn ends(&mut self) {
-        let counted = match &mut self.counts {
-            Some(counts) => counts.take(self.alloc),
-            None => Ok(Vec::new(self.alloc)),
-        };
         let mut all = self.shared.lock(&self.rt);
-        all.keep(counted);
+        if let Some(links) = self.counts.take() {
+            all.keep(self.teller.router, links);
+        }
         all.end();
     }
 
     fn drops(&self, alloc: Global) -> Result<Vec<Drops>, AllocError> {
-        let all = self.shared.lock(&self.rt);
-        if let Some(Failure::Memory) = all.failure {
-            return Err(AllocError);
-        }
-        all.drops.to_vec(alloc)
+        self.shared.lock(&self.rt).take_drops(alloc)
     }
 }
 
@@ -346,13 +344,17 @@ impl<F: Write + Drop, T: Write + Drop, O: Write + Drop> Shared<F, T, O> {
     }
 
     // Keeps what a router has dropped that ends.
-    fn keep(&mut self, counted: Result<Vec<Drops>, AllocError>) {
-        let kept = match counted {
-            Ok(counted) => self.drops.extend_from_slice(&counted),
-            Err(error) => Err(error),
-        };
-        if kept.is_err() {
+    fn keep(&mut self, router: RouterId, links: Vec<DropCounts>) {
+        if self.drops.push(Drops { router, links }).is_err() {
             self.failure = Some(Failure::Memory);
+        }
+    }
+
+    // What is kept of that, once.
+    fn take_drops(&mut self, alloc: Global) -> Result<Vec<Drops>, AllocError> {
+        match self.failure {
+            Some(Failure::Memory) => Err(AllocError),
+            _ => Ok(mem::replace(&mut self.drops, Vec::new(alloc))),
         }
     }
 
@@ -418,6 +420,19 @@ fn capture_head(alloc: Global) -> Result<Vec<u8>, AllocError> {
     let mut head = Vec::new(alloc);
     write_header(&mut head)?;
     Ok(head)
+}
+
+// What a router of these interfaces has dropped at first, if it is counted.
+fn first_counts(
+    is_counted: bool,
+    interfaces: &[Interface],
+    alloc: Global,
+) -> Result<Option<Vec<DropCounts>>, AllocError> {
+    if is_counted {
+        Ok(Some(none_dropped_on(interfaces, alloc)?))
+    } else {
+        Ok(None)
+    }
 }
 
 // What is seen of a router before its first step, if a journal is written.

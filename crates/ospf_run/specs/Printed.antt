@@ -12,11 +12,11 @@ use Rattle.ospf_files.specs.Streams.{IsBegun, IsErrorCut, IsOutputCut}
 use Rattle.ospf_files.specs.declared.status.Failure.{Failure}
 use Rattle.ospf_files.specs.declared.status.Status.{Status}
 use Rattle.ospf_files.specs.declared.status.Status.TheVariants as status
+use Rattle.ospf_journal.specs.Counted.{drop_lines}
 use Rattle.ospf_router.specs.Routers.{RouterValue, greatest_in}
 use Rattle.ospf_script.specs.Texts.{floor_text}
 use Rattle.ospf_files.specs.Shown.{lookup_line, routes_text}
 use Rattle.ospf_files.specs.declared.streams.FailedStreams.{FailedStreams}
-use Rattle.ospf_step.specs.Text.{dropped_text}
 use Rattle.ospf_views.specs.Shown.{view_lines}
 use Rattle.ospf_script.specs.declared.command.View.{View}
 use Rattle.ospf_script.specs.declared.command.View.TheVariants as view
@@ -47,14 +47,9 @@ abbrev pub viewed_lines : Bool → View → RouterValue → List ℕ
 viewed_lines false view router = []
 viewed_lines true view router = view_lines view router
 
--- how many packets were dropped on a link, for one cause
-abbrev pub drop_line : Drops → List ℕ
-drop_line drops =
-    codes "drops " ++ decimal drops.link ++ codes " " ++ dropped_text drops.cause ++ codes " " ++ decimal drops.count ++ codes "\n"
-
--- if it is this router that dropped them
+-- what was dropped, if it is this router that did
 abbrev pub drops_of : RouterId → Drops → List ℕ
-drops_of router drops = if drops.router.0 == router.0 then drop_line drops else []
+drops_of router drops = if drops.router.0 == router.0 then drop_lines drops.links.items else []
 
 -- the extras of a router, behind its table and a lookup: its neighbours, what it lists, what it dropped, the floor of its numbers
 abbrev pub extra_lines : Extras → RouterId → RouterValue → List ℕ

@@ -3,11 +3,12 @@
 ghost use Rattle.std.specs.Prelude.{◌≡◌, IfErr, IfOk, OnErr, OnOk, flat_map, string_bytes};
 ghost use Rattle.std.specs.Io.KnownBytes.{Appends};
 ghost use Rattle.ospf_files.specs.Streams.{IsBegun, IsOutputCut};
-ghost use Rattle.ospf_run.specs.Printed.{drop_line, drops_of, extra_lines, floor_line, floor_lines, viewed_lines};
+ghost use Rattle.ospf_run.specs.Printed.{drops_of, extra_lines, floor_line, floor_lines, viewed_lines};
 
 use crate::outcome::{Drops, Extras};
 use ospf_base::RouterId;
 use ospf_files::{FailedStreams, Failure};
+use ospf_journal::drop_lines;
 use ospf_router::Router;
 use ospf_script::{FloorShown, View};
 use ospf_views::write_view;
@@ -103,22 +104,8 @@ fn print_drop<O: Write>(
     if drops.router != router {
         return Ok(());
     }
-    let line = drop_line(alloc, drops)?;
-    streams.write(out, &line)
-}
-
-// The line of what was dropped on a link for one cause.
-fn drop_line(alloc: Global, drops: &Drops) -> Result<String, AllocError>
-    ensures { IfOk result (λ line. string_bytes line ≡ drop_line drops.now) }
-{
-    let Drops {
-        link,
-        cause,
-        count,
-        ..
-    } = drops;
-    let line = format!(in alloc; "drops {link} {cause} {count}\n")?;
-    Ok(line)
+    let lines = drop_lines(alloc, &drops.links)?;
+    streams.write(out, &lines)
 }
 
 // Prints the floor of a router's numbers, if it is wanted.

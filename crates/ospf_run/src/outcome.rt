@@ -4,7 +4,8 @@ use ospf_base::{Addr, RouterId};
 use ospf_drive::DriveFault;
 use ospf_fib::Answer;
 use ospf_files::NamedFile;
-use ospf_router::{Dropped, Router};
+use ospf_router::Router;
+use ospf_step::DropCounts;
 
 /// An address, and what a lookup found for it.
 #[derive(Clone, Copy)]
@@ -28,13 +29,11 @@ pub struct Outcome<'a> {
     pub came: Result<RouterShown, DriveFault>,
 }
 
-/// How many packets a router dropped that came in on a link, for one cause.
-#[derive(Clone, Copy, Debug, PartialEq, Eq)]
+/// How many packets a router dropped, by link and cause.
+#[derive(Debug, Drop)]
 pub struct Drops {
     pub router: RouterId,
-    pub link: usize,
-    pub cause: Dropped,
-    pub count: u64,
+    pub links: Vec<DropCounts>,
 }
 
 /// What is printed of each router beside its table and a lookup.

@@ -35,8 +35,8 @@ pub trait Tap {
     /// The router's wire has come to its end, or failed: its driver ends.
     fn ends(&mut self);
 
-    /// How many packets the routers dropped, of which this tap's and those made of it were told, by link and cause; none where
-    /// nobody counts.
+    /// How many packets each of the routers dropped, of which this tap's and those made of it were told, if they are counted.
+    /// What is told once is not told again.
     ///
     /// `AllocError` where memory runs out.
     fn drops(&self, alloc: Global) -> Result<Vec<Drops>, AllocError>;
