@@ -2,12 +2,13 @@
 
 use super::failing::Failing;
 use super::made::{FIRST, FIRST_NUMBER, SECOND, THIRD, link, stub, to};
+use super::program::Nobody;
 use ospf_base::{Addr, RouterId, lsa_sum};
-use ospf_failures::{FailuresForm, FailuresJob, FailuresStatus, failures_text};
+use ospf_failures::{FailuresForm, FailuresJob, FailuresStatus, Progress, failures_text};
 use ospf_files::Status;
 use ospf_lsa::{Link, LinkKind, Listing, Lsa};
 use ospf_whatif::{AreaFailure, find_failure, single_failures};
-use std::alloc::Global;
+use std::alloc::{AllocGlobal, Global};
 use std::process::{Abort, ExitCode};
 use std::test::Fail;
 use std::thread::Threads;
@@ -155,7 +156,7 @@ impl<'a> Case<'a> {
     }
 }
 
-fn expect(rt: &(impl Abort + Threads + Sync), alloc: Global, case: &Case<'_>) -> Result<(), Fail> {
+fn expect(rt: &(impl Abort + AllocGlobal + Threads + Sync), alloc: Global, case: &Case<'_>) -> Result<(), Fail> {
     let job = FailuresJob::Root {
         root: case.root,
         each: case.each,
@@ -167,13 +168,13 @@ fn expect(rt: &(impl Abort + Threads + Sync), alloc: Global, case: &Case<'_>) ->
 
 // What is wanted of another job than that of the case.
 fn expect_of(
-    rt: &(impl Abort + Threads + Sync),
+    rt: &(impl Abort + AllocGlobal + Threads + Sync),
     alloc: Global,
     job: &FailuresJob,
     case: &Case<'_>,
 ) -> Result<(), Fail> {
     let (mut out, mut err) = (Vec::new(alloc), Vec::new(alloc));
-    let status = failures_text(alloc, rt, job, case.input.as_bytes(), &mut out, &mut err);
+    let status = failures_text(rt, job, case.input.as_bytes(), &mut out, &mut err, &mut Nobody);
     assert_eq!(rt; str::from_utf8(&out)?, case.out);
     assert_eq!(rt; str::from_utf8(&err)?, case.err);
     assert_eq!(rt; status, case.status);
@@ -381,7 +382,7 @@ fn router_of_too_many_links_is_refused(rt: HostRuntime) -> Result<(), Fail> {
 
 // What is wanted over all routers.
 fn expect_all(
-    rt: &(impl Abort + Threads + Sync),
+    rt: &(impl Abort + AllocGlobal + Threads + Sync),
     alloc: Global,
     lsas: &[Lsa],
     job: FailuresJob,
@@ -447,7 +448,7 @@ fn failures_over_all_routers(rt: HostRuntime) -> Result<(), Fail> {
 
 // What is wanted of a job for the first router as JSON.
 fn expect_json(
-    rt: &(impl Abort + Threads + Sync),
+    rt: &(impl Abort + AllocGlobal + Threads + Sync),
     alloc: Global,
     lsas: &[Lsa],
     each: bool,
@@ -532,7 +533,7 @@ fn failures_over_all_routers_are_told_as_json(rt: HostRuntime) -> Result<(), Fai
 
 // What is wanted of the table of the first router without parts of the ring.
 fn expect_without(
-    rt: &(impl Abort + Threads + Sync),
+    rt: &(impl Abort + AllocGlobal + Threads + Sync),
     alloc: Global,
     names: &[&str],
     status: FailuresStatus,
@@ -592,7 +593,7 @@ fn failed_stream_is_told(rt: HostRuntime) -> Result<(), Fail> {
     };
     let mut err = Vec::new(alloc);
     let mut out = Failing { left: 0 };
-    let status = failures_text(alloc, &rt, &job, input.as_bytes(), &mut out, &mut err);
+    let status = failures_text(&rt, &job, input.as_bytes(), &mut out, &mut err, &mut Nobody);
     assert_eq!(rt; status, FailuresStatus::Ended(Status::Stream));
     assert_eq!(rt; str::from_utf8(&err)?, "standard output: not written\n");
     Ok(())
@@ -645,5 +646,37 @@ fn links_are_found_by_subnet(rt: HostRuntime) -> Result<(), Fail> {
     assert!(rt; by_name.is_some());
     assert!(rt; find_failure(alloc, &failures, "10.0.0.8/30")? == by_name);
     assert!(rt; find_failure(alloc, &failures, "10.0.0.8/29")?.is_none());
+    Ok(())
+}
+
+// How far the failures have come, as it is told.
+#[derive(Drop)]
+struct Told {
+    parts: Vec<(usize, usize)>,
+}
+
+impl Progress for Told {
+    fn comes(&mut self, done: usize, count: usize) {
+        let _ = self.parts.push((done, count));
+    }
+}
+
+// Of a link between two routers: it fails, and each of them.
+#[test]
+fn each_part_is_told(rt: HostRuntime) -> Result<(), Fail> {
+    let alloc = rt.alloc();
+    let input = lines(alloc, &chain(alloc)?)?;
+    let job = FailuresJob::All {
+        each: false,
+        strict: false,
+        form: FailuresForm::Text,
+    };
+    let (mut out, mut err) = (Vec::new(alloc), Vec::new(alloc));
+    let mut told = Told {
+        parts: Vec::new(alloc),
+    };
+    let status = failures_text(&rt, &job, input.as_bytes(), &mut out, &mut err, &mut told);
+    assert_eq!(rt; status, DONE);
+    assert_eq!(rt; told.parts.as_slice(), [(1, 3), (2, 3), (3, 3)].as_slice());
     Ok(())
 }

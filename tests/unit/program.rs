@@ -3,13 +3,13 @@
 use super::failing::Failing;
 use ospf_base::Addr;
 use ospf_check::{check_area_json, check_area_text, check_text};
-use ospf_failures::failures_text;
+use ospf_failures::{Progress, failures_text};
 use ospf_files::{FailedStreams, Failure, NamedFile, Status, Telling};
 use ospf_inspect::inspect_text;
 use ospf_sim::{EventWatch, Watch, World, WorldEvent, WorldFault, sim_text};
 use ospf_table::table_text;
 use ospf_words::{CheckJob, Job, JobFault, RunJob, job, not_text};
-use std::alloc::{AllocError, Global};
+use std::alloc::{AllocError, AllocGlobal, Global};
 use std::io::{self, BufReader, BufWriter, ErrorKind, Read, Write};
 use std::sync::Wait;
 use std::test::Fail;
@@ -319,9 +319,13 @@ fn unread(alloc: Global, names: Vec<String>) -> Result<Vec<NamedFile>, AllocErro
     Ok(files)
 }
 
-// Nobody is told how far a simulation has come.
+// Nobody is told how far a simulation has come, or the failures of an area.
 #[derive(Drop)]
 pub(crate) struct Nobody;
+
+impl Progress for Nobody {
+    fn comes(&mut self, _done: usize, _count: usize) {}
+}
 
 impl EventWatch for Nobody {
     fn comes(&mut self, _world: &World, _event: &WorldEvent) {}
@@ -338,7 +342,7 @@ impl Watch for Nobody {
 }
 
 // Does what words say, where no file can be read.
-fn status_of<R: Threads + Wait + Sync, O: Write, E: Write>(
+fn status_of<R: AllocGlobal + Threads + Wait + Sync, O: Write, E: Write>(
     rt: &R,
     alloc: Global,
     words: &str,
@@ -350,7 +354,7 @@ fn status_of<R: Threads + Wait + Sync, O: Write, E: Write>(
     let status = match job(alloc, &words) {
         Ok(Job::Table(table)) => table_text(alloc, rt, &table, input, out, err),
         Ok(Job::Failures(failures)) => {
-            return Ok(failures_text(alloc, rt, &failures, input, out, err).code());
+            return Ok(failures_text(rt, &failures, input, out, err, &mut Nobody).code());
         }
         Ok(Job::Inspect(inspect)) => inspect_text(alloc, &inspect, input, out, err),
         Ok(Job::Check(check)) => {
@@ -380,7 +384,7 @@ fn status_of<R: Threads + Wait + Sync, O: Write, E: Write>(
     Ok(status.code())
 }
 
-fn outcome_of<R: Threads + Wait + Sync>(
+fn outcome_of<R: AllocGlobal + Threads + Wait + Sync>(
     rt: &R,
     alloc: Global,
     words: &str,
@@ -631,7 +635,7 @@ impl Read for Broken {
 }
 
 // What is told of standard output that takes so many writes, and holds what it is given until it is flushed.
-fn told_of_output<R: Threads + Wait + Sync>(
+fn told_of_output<R: AllocGlobal + Threads + Wait + Sync>(
     rt: &R,
     alloc: Global,
     left: usize,
@@ -704,7 +708,7 @@ fn tells_each_failure(rt: HostRuntime) -> Result<(), Fail> {
 }
 
 // The status where both writers take so many writes.
-fn status_after<R: Threads + Wait + Sync>(
+fn status_after<R: AllocGlobal + Threads + Wait + Sync>(
     rt: &R,
     alloc: Global,
     left: usize,

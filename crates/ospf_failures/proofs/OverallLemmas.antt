@@ -3,7 +3,7 @@ use Rattle.std.proofs.Common.{◌≡◌, ◌∙◌, ◌+◌, ◌<◌, ◌≤◌,
 use Rattle.std.specs.List.{AllPairs, AllWithin, Any, Contains, HoldsAt}
 use Rattle.std.specs.List.Sorted.{IsSorted}
 use Rattle.std.specs.Prelude.{IsPermutation, IsTrue, MatchBool, count_by}
-use Rattle.std.proofs.lemmas.List.{append-nil, map_push, take_more}
+use Rattle.std.proofs.lemmas.List.{append-nil, append_assoc, map-append, map_push, take_more}
 use Rattle.std.proofs.lemmas.List.Concat.{flat_map-append}
 use Rattle.std.proofs.lemmas.List.Elements.{All-contains, All-push, Contains-get_or, filter-append}
 use Rattle.std.proofs.lemmas.List.Kept.{AllPairs-cons, AllPairs-filter}
@@ -294,3 +294,13 @@ pub cuts_by : {X : Type 0} (f : X → ℕ) (r : Bool) (xs : List X) → MatchBoo
 cuts_by f true [] h = absurd (let low = h.1 in omega arith)
 cuts_by f true (x ∷ xs) h = let here = Contains-get_or (x ∷ xs) h.0 x h.1 in ((λ yes. (here.0, get_or (x ∷ xs) h.0 x, here.1, here.2, h.2 x)), (λ some. refl))
 cuts_by f false xs h = ((λ no. cc), (λ some. absurd (let none = subst (λ y. f y ≤ 0) some.3 (h some.0 some.1 (omega arith) some.2) in omega (arith, none, some.4))))
+
+-- what was found of some failures, and of a part of the rest
+pub more_failures : {X : Type 0} (failure_of : X → AreaFailure) (all rest part behind : List AreaFailure) (before found : List X)
+    → map failure_of before ++ rest ≡ all → rest ≡ part ++ behind → map failure_of found ≡ part
+    → map failure_of (before ++ found) ++ behind ≡ all
+more_failures failure_of all rest part behind before found h split is =
+    ap (λ fs. fs ++ behind) (map-append failure_of before found)
+    ∙ append_assoc (map failure_of before) (map failure_of found) behind
+    ∙ ap (λ fs. map failure_of before ++ (fs ++ behind)) is
+    ∙ ap (λ fs. map failure_of before ++ fs) (sym split) ∙ h

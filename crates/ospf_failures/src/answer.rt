@@ -15,6 +15,7 @@ ghost use Rattle.ospf_failures.specs.Reports.{IsReported};
 ghost use Rattle.ospf_failures.specs.Without.{IsFaultOfNames, IsFirstUnnamed};
 
 use crate::overall::{Detail, Overall, cuts_somewhere, overalls, overalls_json, overalls_text};
+use crate::progress::Progress;
 use crate::report::{Report, has_cut, reports, reports_json, reports_text};
 use crate::without::text_without;
 use ospf_base::{Addr, Kind, RouterId};
@@ -157,14 +158,14 @@ impl From<FailuresStatus> for ExitCode {
 /// is the first router whose router-LSA has more than 1,361 links; then nothing is printed, with status
 /// `Ended(Refused)`. Then the first name of nothing in the area is, with status `Ended(Words)`. Status `Ended(Memory)`
 /// says that memory ran out, and `Ended(Stream)` that a read or a write failed; what it was is told on `err`, as far as
-/// that can be written. Then no more than a beginning is printed.
-pub fn failures_text<R: BufRead + Drop, O: Write, E: Write>(
-    alloc: Global,
-    rt: &(impl Threads + Sync),
+/// that can be written. Then no more than a beginning is printed. Over all routers it is told how far the failures have come.
+pub fn failures_text<R: BufRead + Drop, O: Write, E: Write, P: Progress>(
+    rt: &(impl AllocGlobal + Threads + Sync),
     job: &FailuresJob,
     input: R,
     out: &mut O,
     err: &mut E,
+    progress: &mut P,
 ) -> FailuresStatus
     // All is printed; or the refusal is told, and nothing is printed.
     ensures answered { IsAllPrinted result → IfSome (R.remaining input)
@@ -185,7 +186,8 @@ pub fn failures_text<R: BufRead + Drop, O: Write, E: Write>(
         (E.contents err.old) (E.contents err.new) result }
     ensures not_words { names_of job.now ≡ [] → result ≢ FailuresStatus.Ended Status.Words }
 {
-    failures_noted(alloc, rt, job, input, out, err, &mut FailedStreams::none())
+    let mut streams = FailedStreams::none();
+    failures_noted(rt, job, input, out, err, &mut streams, progress)
 }
 
 // What is printed on standard output, and the status to end with.
@@ -203,33 +205,33 @@ struct FailuresAnswer {
 }
 
 // Prints what is asked, as `failures_text`, and notes which streams fail.
-fn failures_noted<R: BufRead + Drop, O: Write, E: Write>(
-    alloc: Global,
-    rt: &(impl Threads + Sync),
+fn failures_noted<R: BufRead + Drop, O: Write, E: Write, P: Progress>(
+    rt: &(impl AllocGlobal + Threads + Sync),
     job: &FailuresJob,
     input: R,
     out: &mut O,
     err: &mut E,
     streams: &mut FailedStreams,
+    progress: &mut P,
 ) -> FailuresStatus
     ensures { IsFailuresEnding (R.remaining input) job.now streams.new (O.contents out.old)
         (O.contents out.new) (E.contents err.old) (E.contents err.new) result }
 {
-    match answer_or_refuse(alloc, rt, job, input, out, err, streams) {
+    match answer_or_refuse(rt, job, input, out, err, streams, progress) {
         Ok(status) => status,
         Err(failure) => FailuresStatus::Ended(failure.tell(err, streams)),
     }
 }
 
 // Prints the answer, or tells what is refused. The answer is the status to end with.
-fn answer_or_refuse<R: BufRead + Drop, O: Write, E: Write>(
-    alloc: Global,
-    rt: &(impl Threads + Sync),
+fn answer_or_refuse<R: BufRead + Drop, O: Write, E: Write, P: Progress>(
+    rt: &(impl AllocGlobal + Threads + Sync),
     job: &FailuresJob,
     input: R,
     out: &mut O,
     err: &mut E,
     streams: &mut FailedStreams,
+    progress: &mut P,
 ) -> Result<FailuresStatus, Failure>
     ensures said { IfOk result (IsFailuresSaid (R.remaining input) job.now (O.contents out.old)
         (O.contents out.new) (E.contents err.old) (E.contents err.new)) }
@@ -237,7 +239,7 @@ fn answer_or_refuse<R: BufRead + Drop, O: Write, E: Write>(
         out.old)
         (O.contents out.new) (E.contents err.old) (E.contents err.new)) }
 {
-    match answer_of(alloc, rt, job, input) {
+    match answer_of(rt.alloc(), rt, job, input, progress) {
         Ok(answer) => print(&answer, out, err, streams),
         Err(Unreported::Refused(text)) => refuse(&text, Status::Refused, err, streams),
         Err(Unreported::Unnamed(text)) => refuse(&text, Status::Words, err, streams),
@@ -246,11 +248,12 @@ fn answer_or_refuse<R: BufRead + Drop, O: Write, E: Write>(
 }
 
 // What is to be printed of the failures of the area whose LSAs the lines of an input are.
-fn answer_of<R: BufRead + Drop>(
+fn answer_of<R: BufRead + Drop, P: Progress>(
     alloc: Global,
     rt: &(impl Threads + Sync),
     job: &FailuresJob,
     input: R,
+    progress: &mut P,
 ) -> Result<FailuresAnswer, Unreported>
     ensures answer { IfOk result (λ answer. IfSome (R.remaining input)
         (IsFailuresAnswerOf job.now answer)) }
@@ -259,7 +262,7 @@ fn answer_of<R: BufRead + Drop>(
 {
     let listing = listing_of(alloc, job, input)?;
     let warning = warning_of(alloc, &listing, job.root())?;
-    match said_of(alloc, rt, job, listing) {
+    match said_of(alloc, rt, job, listing, progress) {
         Ok(said) => Ok(FailuresAnswer { warning, said }),
         Err(fault) => Err(fault),
     }
@@ -379,11 +382,12 @@ fn unlisted_text(alloc: Global, listing: &Listing, root: RouterId) -> Result<Str
 }
 
 // What is asked of a listing none of whose routers has too many links.
-fn said_of(
+fn said_of<P: Progress>(
     alloc: Global,
     rt: &(impl Threads + Sync),
     job: &FailuresJob,
     listing: Listing,
+    progress: &mut P,
 ) -> Result<PrintedText, Unreported>
     requires { HasLarge (advertisements_of listing) → ⊥ }
     ensures said { IfOk result (λ said. SaysOf job.now (advertisements_of listing)
@@ -403,7 +407,7 @@ fn said_of(
             Ok(said)
         }
         FailuresJob::All { each, strict, form } => {
-            let said = overalls_said(alloc, rt, &listing, *each, *strict, *form)?;
+            let said = overalls_said(alloc, rt, &listing, *each, *strict, *form, progress)?;
             Ok(said)
         }
         FailuresJob::Without {
@@ -462,20 +466,21 @@ fn reports_at(
 }
 
 // What each failure changes at all routers.
-fn overalls_said(
+fn overalls_said<P: Progress>(
     alloc: Global,
     rt: &(impl Threads + Sync),
     listing: &Listing,
     each: bool,
     strict: bool,
     form: FailuresForm,
+    progress: &mut P,
 ) -> Result<PrintedText, AllocError>
     requires { HasLarge (advertisements_of listing.now) → ⊥ }
     ensures said { IfOk result (λ said. SaysOverall (advertisements_of listing.now) each strict form
         (string_bytes said.text) said.end) }
     ensures whole { IfOk result (λ said. IsAllPrinted said.end) }
 {
-    let printed = match overalls(alloc, rt, listing, detail_of(each, form)) {
+    let printed = match overalls(alloc, rt, listing, detail_of(each, form), progress) {
         Ok(printed) => printed,
         Err(WithoutFault::Memory) => return Err(AllocError),
         Err(WithoutFault::Links) => unreachable!(),

@@ -10,8 +10,9 @@ ghost use Rattle.ospf_table.specs.Changes.{change_line};
 ghost use Rattle.serde_json.specs.Data.{array};
 ghost use Rattle.serde_json.specs.View.{items_of, view};
 ghost use Rattle.ospf_failures.specs.Json.{overall_data, overalls_json, sight_data};
-ghost use Rattle.ospf_failures.specs.Overall.{AreOveralls, CutsSomewhere, HasSumRoom, IsTableBefore, IsOverallFound, IsSoFar, KeepsMore, Sees, failing_router, overall_cmp, overall_rank, overalls_text, roots_in, sight_lines, sums_of};
+ghost use Rattle.ospf_failures.specs.Overall.{AreOveralls, AreOverallsFound, CutsSomewhere, HasSumRoom, IsTableBefore, IsOverallFound, IsSoFar, KeepsMore, Sees, failing_router, overall_cmp, overall_rank, overalls_text, roots_in, sight_lines, sums_of};
 
+use crate::progress::Progress;
 use crate::report::{is_of, place_of};
 use crate::sums::{Sums, sums_line};
 use ospf_base::RouterId;
@@ -25,6 +26,9 @@ use std::alloc::{AllocError, Global};
 use std::cmp::Reverse;
 use std::marker::Model;
 use std::thread::Threads;
+
+// In so many parts failures are gone through, behind each of which it is told how far they have come.
+const PARTS: usize = 16;
 
 /// What is kept of the routes that a failure changes, beside how many they are.
 #[derive(Clone, Copy, Debug, PartialEq, Eq)]
@@ -63,14 +67,15 @@ pub struct Overall {
 
 /// What each failure of an area changes in the tables of all its routers but the one that fails, in the order in which it is
 /// printed: as `reports` has it for one root, by the sums over the routers. What it has of the routes that change, the detail
-/// tells.
+/// tells. Somebody is told how far the failures have come.
 ///
 /// `Links` or `Memory` as `Left::of` has it.
-pub fn overalls(
+pub fn overalls<P: Progress>(
     alloc: Global,
     rt: &(impl Threads + Sync),
     listing: &Listing,
     detail: Detail,
+    progress: &mut P,
 ) -> Result<Vec<Overall>, WithoutFault>
     ensures printed { IfOk result (λ printed. AreOveralls (advertisements_of listing.now) detail
         printed.items) }
@@ -78,7 +83,7 @@ pub fn overalls(
 {
     let failures = single_failures(alloc, listing)?;
     let befores = befores_of(alloc, listing, &failures)?;
-    let mut overalls = overalls_of(alloc, rt, listing, &failures, &befores, detail)?;
+    let mut overalls = overalls_of(alloc, rt, listing, &failures, &befores, detail, progress)?;
     sort(&mut overalls);
     Ok(overalls)
 }
@@ -170,8 +175,35 @@ fn add_before(
     }
 }
 
-// What each of these failures changes in the tables of all routers.
-fn overalls_of(
+// What each of these failures changes in the tables of all routers, part by part.
+fn overalls_of<P: Progress>(
+    alloc: Global,
+    rt: &(impl Threads + Sync),
+    listing: &Listing,
+    failures: &[AreaFailure],
+    befores: &[Before],
+    detail: Detail,
+    progress: &mut P,
+) -> Result<Vec<Overall>, WithoutFault>
+    requires { All (IsTableBefore (advertisements_of listing.now)) befores.now }
+    ensures { AreOverallsFound (advertisements_of listing.now) befores.now detail failures.now
+        result }
+{
+    let most = failures.len() / PARTS + 1;
+    let mut overalls = Vec::new(alloc);
+    let mut rest = failures;
+    while !rest.is_empty() {
+        let (part, behind) = rest.split_at(most.min(rest.len()));
+        let mut found = part_of(alloc, rt, listing, part, befores, detail)?;
+        overalls.append(&mut found)?;
+        progress.comes(overalls.len(), failures.len());
+        rest = behind;
+    }
+    Ok(overalls)
+}
+
+// What each failure of a part changes in the tables of all routers.
+fn part_of(
     alloc: Global,
     rt: &(impl Threads + Sync),
     listing: &Listing,
@@ -180,12 +212,8 @@ fn overalls_of(
     detail: Detail,
 ) -> Result<Vec<Overall>, WithoutFault>
     requires { All (IsTableBefore (advertisements_of listing.now)) befores.now }
-    ensures failures { IfOk result (λ overalls. map (λ o. o.failure) overalls.items
-        ≡ failures.now) }
-    ensures large { result ≡ Err WithoutFault.Links → HasLarge (advertisements_of listing.now) }
-    ensures seen { IfOk result (λ overalls. All
-        (λ o. IsSoFar (without o.failure (advertisements_of listing.now)) befores.now detail
-        (map (λ b. b.root) befores.now) o) overalls.items) }
+    ensures { AreOverallsFound (advertisements_of listing.now) befores.now detail failures.now
+        result }
 {
     failures
         .par_iter()
@@ -308,15 +336,9 @@ impl Overall {
     fn value(&self, alloc: Global, each: bool) -> Result<Value, AllocError>
         ensures { IfOk result (λ value. view value ≡ overall_data each self.now) }
     {
-        let Sums {
-            cut,
-            gone,
-            cost,
-            hops,
-            routers,
-        } = self.sums;
-        let mut members = counted_members(alloc, &self.failure, cut, gone, cost, hops)?;
-        put(&mut members, alloc, "routers", Value::from(routers))?;
+        let s = self.sums;
+        let mut members = counted_members(alloc, &self.failure, s.cut, s.gone, s.cost, s.hops)?;
+        put(&mut members, alloc, "routers", Value::from(s.routers))?;
         if !each {
             return Ok(Value::Object(members));
         }
@@ -329,14 +351,9 @@ impl Overall {
     fn rank(&self) -> Rank
         ensures { result ≡ overall_rank self.now }
     {
-        let Sums {
-            cut,
-            gone,
-            cost,
-            hops,
-            ..
-        } = self.sums;
-        (Reverse([cut, gone, cost, hops]), place_of(self.failure))
+        let s = self.sums;
+        let numbers = [s.cut, s.gone, s.cost, s.hops];
+        (Reverse(numbers), place_of(self.failure))
     }
 }
 

@@ -84,19 +84,14 @@ impl Report {
     fn value(&self, alloc: Global, root: RouterId, each: bool) -> Result<Value, AllocError>
         ensures { IfOk result (λ value. view value ≡ report_data each root self.now) }
     {
-        let Totals {
-            cut,
-            gone,
-            cost,
-            hops,
-        } = self.totals;
+        let t = self.totals;
         let mut members = counted_members(
             alloc,
             &self.failure,
-            cut as u128,
-            gone as u128,
-            cost as u128,
-            hops as u128,
+            t.cut as u128,
+            t.gone as u128,
+            t.cost as u128,
+            t.hops as u128,
         )?;
         if !each {
             return Ok(Value::Object(members));
@@ -111,13 +106,9 @@ impl Report {
     fn rank(&self) -> Rank
         ensures { result ≡ rank_of self.now }
     {
-        let Totals {
-            cut,
-            gone,
-            cost,
-            hops,
-        } = self.totals;
-        (Reverse([cut, gone, cost, hops]), place_of(self.failure))
+        let t = self.totals;
+        let numbers = [t.cut, t.gone, t.cost, t.hops];
+        (Reverse(numbers), place_of(self.failure))
     }
 }
 

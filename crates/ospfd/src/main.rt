@@ -3,7 +3,7 @@
 
 mod screen;
 
-use crate::screen::Screen;
+use crate::screen::{FailuresLine, Screen};
 use ospf_check::{check_area_json, check_area_text, check_text};
 use ospf_failures::failures_text;
 use ospf_files::{
@@ -424,7 +424,8 @@ where
         }
         Ok(Job::Failures(failures)) => {
             let input = BufReader::new(alloc, rt.reader())?;
-            let status = failures_text(alloc, rt, &failures, input, &mut out, err);
+            let mut progress = FailuresLine::new(*rt, line);
+            let status = failures_text(rt, &failures, input, &mut out, err, &mut progress);
             return Ok(ExitCode::from(status));
         }
         Ok(Job::Inspect(inspect)) => {

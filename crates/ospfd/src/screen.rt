@@ -1,5 +1,6 @@
-//! How far a simulation has come, on a terminal.
+//! How far a simulation, or the failures of an area, have come, on a terminal.
 
+use ospf_failures::Progress;
 use ospf_notes::{Events, Recording, StatusLine};
 use ospf_sim::{EventWatch, Watch, World, WorldEvent, WorldFault};
 use std::io::Write;
@@ -65,5 +66,29 @@ impl<R: Runtime + Clock + Drop, T: Write + Drop, F: Write + Drop> Watch for Scre
     fn ends_line(&mut self) {
         self.line.erase();
         self.recording.ends_line();
+    }
+}
+
+/// Tells on a terminal how far the failures of an area have come.
+#[derive(Drop)]
+pub(crate) struct FailuresLine<R: Clock + Drop, T: Write + Drop> {
+    rt: R,
+    line: StatusLine<T>,
+}
+
+impl<R: Clock + Drop, T: Write + Drop> FailuresLine<R, T> {
+    /// Tells nothing where the line is on no terminal.
+    pub(crate) fn new(rt: R, line: StatusLine<T>) -> FailuresLine<R, T> {
+        FailuresLine { rt, line }
+    }
+}
+
+impl<R: Clock + Drop, T: Write + Drop> Progress for FailuresLine<R, T> {
+    fn comes(&mut self, done: usize, count: usize) {
+        if done == count {
+            self.line.erase();
+        } else if let Some(terminal) = self.line.begin(&self.rt) {
+            let _ = write!(terminal, "\r\x1b[K{done} of {count} failures");
+        }
     }
 }

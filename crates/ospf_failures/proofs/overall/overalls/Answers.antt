@@ -13,6 +13,6 @@ returns-clause-printed g c =
     let overalls = c.in_ok-overalls.overalls.items in
     let befores = c.in_ok-befores.befores.items in
     overalls_are A c.args.detail c.in_ok-failures.failures.items befores overalls c.sort.new.overalls.items c.in_ok-failures.ensures.all c.in_ok-failures.ensures.in_order
-    (c.in_ok-befores.ensures.roots ∙ ap roots_in c.deref.ensures.value) c.in_ok-befores.ensures.tables (c.in_ok-overalls.ensures.failures ∙ c.deref-2.ensures.value)
+    (c.in_ok-befores.ensures.roots ∙ ap roots_in c.deref.ensures.value) c.in_ok-befores.ensures.tables (c.in_ok-overalls.ensures.failures_are ∙ c.deref-2.ensures.value)
     (subst (λ (l : List Before). All (λ o. IsSoFar (without o.failure A) l c.args.detail (roots_of l) o) overalls) c.deref-3.ensures.value c.in_ok-overalls.ensures.seen)
     c.sort.ensures.same c.sort.ensures.in_order

@@ -1,20 +1,28 @@
-use Rattle.std.proofs.Common.{◌∙◌, ap, map}
-use Rattle.rayon.proofs.ToStd.{slice-AllZip}
+use Rattle.std.proofs.Common.{◌≡◌, ◌++◌, ◌∙◌, List, ap, map, subst, sym}
+use Rattle.std.proofs.lemmas.List.{take-append-drop}
+use Rattle.std.proofs.lemmas.List.Elements.{All-append}
+use Rattle.std.specs.List.{All}
 use Rattle.ospf_edges.specs.Listed.{advertisements_of}
 use Rattle.ospf_whatif.specs.Failure.{without}
-use Rattle.ospf_failures.specs.Overall.{IsOverallFound, IsSoFar}
-use Rattle.ospf_failures.proofs.FoundLemmas.{all_found}
+use Rattle.ospf_failures.specs.Overall.{IsSoFar}
+use Rattle.ospf_failures.specs.declared.overall.Overall.{Overall}
+use Rattle.ospf_failures.proofs.OverallLemmas.{more_failures}
 use Rattle.ospf_failures.proofs.overall.overalls_of.Goals as goal
 
-pub collect-requires-clause-ready : goal.collect-requires-clause-ready
-collect-requires-clause-ready g c κs within = rw c.map.ensures.f (λ k d lt x is. (c.requires, λ y post. tt))
-
-pub returns : goal.returns
-returns g c =
-    let A = advertisements_of c.args.listing.now in
-    let slice = ap (λ it. it.slice.now) (ap (λ m. m.base) c.map.ensures.base ∙ c.with_min_len.ensures.base) ∙ c.par_iter.ensures in
-    let chain = rw c.map.ensures.f at c.in_ok-collect.ensures in
-    let each_found = slice-AllZip chain.1.0 c.args.failures.now (chain.1.1 ∙ slice) (IsOverallFound A c.args.befores.now c.args.detail) chain.0 chain.1.2 in
-    let found = all_found A (λ o. o.failure) (λ f o. IsSoFar (without f A) c.args.befores.now c.args.detail (map (λ b. b.root) c.args.befores.now) o) c.args.failures.now chain.0
-    c.in_ok-collect.field-0 each_found chain.2 in
-    record { failures = found.0; large = found.1; seen = found.2 }
+pub loop-rest-preserved : goal.loop-rest-preserved
+loop-rest-preserved g c =
+    let P = λ (o : Overall). IsSoFar (without o.failure (advertisements_of c.args.listing.now)) c.args.befores.now c.args.detail (map (λ b. b.root) c.args.befores.now) o in
+    let before = c.loop-rest.overalls.items in
+    let found = c.in_ok-found.found.items in
+    let part = c.split_at.result.0.now in
+    let behind = c.split_at.result.1.now in
+    let all : c.append.new.self.items ≡ before ++ found = c.in_ok-append.ensures.items in
+    let cut : part ++ behind ≡ c.loop-rest.rest.now =
+    (λ i. c.split_at.ensures.front i ++ c.split_at.ensures.back i) ∙ take-append-drop c.min.result c.loop-rest.rest.now in
+    record {
+      failures =
+          ap (λ (os : List Overall). map (λ o. o.failure) os ++ behind) all
+          ∙ more_failures (λ (o : Overall). o.failure) c.args.failures.now c.loop-rest.rest.now part behind before found c.loop-rest.invariant.failures (sym cut)
+          c.in_ok-found.ensures.failures_are;
+      seen = subst (All P) (sym all) (All-append P before found c.loop-rest.invariant.seen c.in_ok-found.ensures.seen);
+    }
