@@ -246,6 +246,30 @@ fn shrinking_is_a_search_of_what_is_left(rt: HostRuntime) -> Result<(), Fail> {
 }
 
 #[test]
+fn a_copy_stays_where_the_paths_shrink(rt: HostRuntime) -> Result<(), Fail> {
+    let alloc = rt.alloc();
+    for seed in 0..12 {
+        let mut chance = Pcg32::new(seed, 5);
+        let mut edges = Vec::new(alloc);
+        for _ in 0..100 {
+            edges.push(drawn_edge(&mut chance))?;
+        }
+        let whole = shortest_paths(alloc, &edges, ROOT)?;
+        let kept = KeptPaths::of(alloc, &edges, ROOT)?;
+        let mut changed = Vec::new(alloc);
+        for _ in 0..10 {
+            let less = chosen_edges(alloc, &mut chance, &edges)?;
+            let left = kept.copy(alloc)?.shrink(alloc, &less, &mut changed)?;
+            let mut others = Vec::from_slice(alloc, &edges)?;
+            others.retain(|edge| !less.contains(edge));
+            assert!(rt; is_same(alloc, &left, &shortest_paths(alloc, &others, ROOT)?)?);
+            assert!(rt; is_same(alloc, &kept, &whole)?);
+        }
+    }
+    Ok(())
+}
+
+#[test]
 fn a_change_is_a_search_of_the_edges_then(rt: HostRuntime) -> Result<(), Fail> {
     let alloc = rt.alloc();
     let mut stayed = 0;

@@ -1,18 +1,19 @@
 -- What an edge that is taken does to what is reached, and which edges wait then.
-use Rattle.std.proofs.Common.{◌≡◌, ◌+◌, ◌<◌, ◌⊎◌, ◌↔◌, ◌≢◌, ◌^◌, ℕ, Option, Some, None, List, [], ◌∷◌, ◌++◌, length, take, drop, get_or, set, sym, ◌∙◌, ap, subst, inl, inr, ⊎_elim, arith}
+use Rattle.std.proofs.Common.{◌≡◌, ◌+◌, ◌<◌, ◌⊎◌, ◌↔◌, ◌≢◌, ◌^◌, ℕ, Option, Some, None, List, [], ◌∷◌, ◌++◌, length, take, drop, get_or, set, refl, sym, ◌∙◌, ap, subst, inl, inr, ⊎_elim, arith, append_assoc, append-nil}
 use Rattle.std.specs.List.{All, Contains}
 use Rattle.std.specs.List.Sorted.{IsPermutation}
 use Rattle.std.proofs.lemmas.Bool.{cases_eq}
-use Rattle.std.proofs.lemmas.List.{get_or_default, get_or-set_same, get_or-set_other, length-set, take_more, take-append-drop}
+use Rattle.std.proofs.lemmas.List.{get_or_default, get_or-map, get_or-set_same, get_or-set_other, length-map, length-set, map-append, take_more, take-append-drop}
 use Rattle.std.proofs.lemmas.List.Elements.{All-contains, Contains-append_left, Contains-append_right, Contains-append_cases, Contains-push, Contains-push_cases}
 use Rattle.std.proofs.lemmas.List.Sorted.{IsPermutation-sym, Contains-permutation}
 use Rattle.ospf_graph.specs.declared.candidates.SpfCandidate.{SpfCandidate}
 use Rattle.ospf_graph.specs.declared.graph.Edge.{Edge}
 use Rattle.ospf_graph.specs.declared.graph.Start.{Start}
 use Rattle.ospf_graph.specs.declared.graph.Vertex.{Vertex}
+use Rattle.ospf_graph.specs.declared.paths.Settled.{Settled}
 use Rattle.ospf_graph.specs.declared.reached.Reached.{Reached}
 use Rattle.ospf_incremental.specs.Growth.{AreNear, IsAt, HasEdge, Improves, IsRelaxed, IsResetAt, Offers, PaysFor, Spares, HasStart}
-use Rattle.ospf_graph.specs.Reached.{ArePlaces, settled_of, starts_of}
+use Rattle.ospf_graph.specs.Reached.{ArePlaces, settled_of, starts_at, starts_of}
 use Rattle.ospf_graph.specs.Search.{BringsStarts, candidates_from, vertex_code}
 use Rattle.ospf_graph.specs.Tree.{extend}
 use Rattle.ospf_graph.proofs.CandidateLemmas.{candidates_from-has, candidates_from-is, code_injective}
@@ -357,4 +358,35 @@ spares_better changed e d old new i =
       at_out = λ v j no m. i.at_out v j (other v no) m;
       starts_in = λ v x no m. i.starts_in v x (other v no) m;
       starts_out = λ v x no m. i.starts_out v x (other v no) m;
+    }
+
+-- one more is copied
+settled_push : (rs : List Reached) (r : Reached) → settled_of (rs ++ r ∷ []) ≡ settled_of rs ++ record { vertex = r.vertex; distance = r.distance } ∷ []
+settled_push rs r = map-append (λ (s : Reached). record { vertex = s.vertex; distance = s.distance }) rs (r ∷ [])
+
+starts_push : (rs : List Reached) (r : Reached) → starts_of (rs ++ r ∷ []) ≡ starts_of rs ++ starts_at r.vertex r.starts.items
+starts_push [] r = append-nil (starts_at r.vertex r.starts.items)
+starts_push (s ∷ rest) r =
+    ap (λ l. starts_at s.vertex s.starts.items ++ l) (starts_push rest r) ∙ sym (append_assoc (starts_at s.vertex s.starts.items) (starts_of rest) (starts_at r.vertex r.starts.items))
+
+module _ (rs ks ks' : List Reached) (i : ℕ) (x r : Reached) (lt : i < length rs) (grows : ks' ≡ ks ++ r ∷ []) (vertex : r.vertex ≡ (get_or rs i x).vertex) where
+  pub settled_copied : settled_of ks ≡ settled_of (take i rs) → r.distance ≡ (get_or rs i x).distance → settled_of ks' ≡ settled_of (take (i + 1) rs)
+  settled_copied same far =
+      ap settled_of grows ∙ settled_push ks r ∙ rw (same, vertex, far, take_more rs i x lt, settled_push (take i rs) (get_or rs i x)) refl
+
+  pub starts_copied : starts_of ks ≡ starts_of (take i rs) → r.starts.items ≡ (get_or rs i x).starts.items → starts_of ks' ≡ starts_of (take (i + 1) rs)
+  starts_copied same has =
+      ap starts_of grows ∙ starts_push ks r ∙ rw (same, vertex, has, take_more rs i x lt, starts_push (take i rs) (get_or rs i x)) refl
+
+-- a copy has the same places
+pub places_copied : (place : ℕ → Option ℕ) (rs ks : List Reached) → settled_of ks ≡ settled_of rs → ArePlaces place rs → ArePlaces place ks
+places_copied place rs ks same are =
+    let seen : Reached → Settled = λ r. record { vertex = r.vertex; distance = r.distance } in
+    let long : length ks ≡ length rs = sym (length-map ks seen) ∙ ap (λ l. length l) same ∙ length-map rs seen in
+    let stands_at : (k : ℕ) (d : Reached) → k < length rs → (get_or ks k d).vertex ≡ (get_or rs k d).vertex =
+    λ k d lt.
+    ap (λ s. s.vertex) (sym (get_or-map seen ks k d (seen d) (omega arith)) ∙ ap (λ l. get_or l k (seen d)) same ∙ get_or-map seen rs k d (seen d) lt) in
+    record {
+      found = λ q k some. (let f = are.found q k some in (omega arith, λ d. ap vertex_code (stands_at k d f.0) ∙ f.1 d));
+      known = λ k d lt. (let lt' : k < length rs = omega arith in ap (λ v. place (vertex_code v)) (stands_at k d lt') ∙ are.known k d lt');
     }

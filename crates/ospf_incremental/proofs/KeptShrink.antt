@@ -1,5 +1,5 @@
 -- Shortest paths that are kept with their edges, and edges that go.
-use Rattle.std.proofs.Common.{◌≡◌, ◌++◌, ◌<◌, ◌^◌, ℕ, get_or, length, nat_eq, Bool, true, Option, List, [], subst, inl, inr, arith}
+use Rattle.std.proofs.Common.{◌≡◌, ◌++◌, ◌<◌, ◌^◌, ℕ, get_or, length, nat_eq, Bool, true, List, [], subst, inl, inr, arith}
 use Rattle.std.specs.List.{All, Contains}
 use Rattle.std.proofs.lemmas.List.{get_or_default}
 use Rattle.std.proofs.lemmas.List.Elements.{All-contains}
@@ -12,12 +12,12 @@ use Rattle.ospf_incremental.specs.Growth.{AreNear, HasEdge, HasStart, HoldsAll, 
 use Rattle.ospf_incremental.specs.Kept.{AddsEdges, ChangesEdges, IsSameBut, KeptTree, vertices_of}
 use Rattle.ospf_graph.specs.Reached.{settled_of, starts_of}
 use Rattle.ospf_graph.specs.Search.{AreFitEdges}
-use Rattle.ospf_incremental.specs.Shrinking.{ClosesAt, IsClosed, IsMarked, Leaves, OpensEdges, TakesEdges}
+use Rattle.ospf_incremental.specs.Shrinking.{IsClosed, LeadsTo, Leaves, OpensEdges, TakesEdges}
 use Rattle.ospf_graph.specs.Tree.{IsTree}
 use Rattle.ospf_incremental.proofs.GrowthSteps.{none_waits}
 use Rattle.ospf_incremental.proofs.KeptGrowth.{reached_named}
 use Rattle.ospf_incremental.proofs.ShrinkLemmas.{left}
-use Rattle.ospf_incremental.proofs.ShrinkSteps.{marked_or_not}
+use Rattle.ospf_incremental.proofs.ShrinkSteps.{gone_or_not}
 
 pub fit_less : (less old new : List Edge) → TakesEdges less old new → AreFitEdges old → AreFitEdges new
 fit_less less old new takes a =
@@ -27,33 +27,34 @@ fit_less less old new takes a =
       id_fits = λ e is. a.id_fits e ((takes e).0 is).0;
     }
 
-module _ (less old new : List Edge) (root : Vertex) (f : FoundPaths) (marks : ℕ → Option ℕ) (ks : List Reached)
+module _ (less old new : List Edge) (root : Vertex) (f : FoundPaths) (gone : List Vertex) (ks : List Reached)
     (t : IsTree (Contains old) root (IsAt f.reached.items) (HasStart f.reached.items)) (takes : TakesEdges less old new)
-    (l : Leaves (IsMarked marks) (IsAt f.reached.items) (IsAt ks) (HasStart f.reached.items) (HasStart ks)) where
-  closed : (IsMarked marks root → ⊥) → All (ClosesAt f less marks) old → IsClosed (Contains old) (Contains new) root (IsAt f.reached.items) (IsMarked marks)
-  closed free all =
+    (l : Leaves (Contains gone) (IsAt f.reached.items) (IsAt ks) (HasStart f.reached.items) (HasStart ks)) where
+  closed : (Contains gone root → ⊥) → All (LeadsTo gone f) less → ((e : Edge) → Contains old e → Contains gone e.from → LeadsTo gone f e)
+      → IsClosed (Contains old) (Contains new) root (IsAt f.reached.items) (Contains gone)
+  closed free lead from_gone =
       record {
         stays = free;
-        went = λ e d was from to. elim (All-contains (ClosesAt f less marks) old e all was d from to).0 [
-          | inl stays ↦ inl ((takes e).1 (was, stays))
-          | inr mark ↦ inr mark
+        went = λ e d was from to. elim (gone_or_not gone e.to) [
+          | inl there ↦ inr there
+          | inr other ↦ inl ((takes e).1 (was, λ m. other (All-contains (LeadsTo gone f) less e lead m d from to)))
         ];
-        spreads = λ e d was from to mark. (All-contains (ClosesAt f less marks) old e all was d from to).1 mark;
+        spreads = λ e d was from to mark. from_gone e was mark d from to;
       }
 
   -- what is left grows to a tree of the edges that are left
-  pub tree_shrunk : (IsMarked marks root → ⊥) → All (ClosesAt f less marks) old → (some seen : List Edge) (rs : List Reached) (none waits : List SpfCandidate) → none ≡ []
-      → some ≡ new → OpensEdges some (IsAt ks) none waits → seen ≡ new
+  pub tree_shrunk : (Contains gone root → ⊥) → All (LeadsTo gone f) less → ((e : Edge) → Contains old e → Contains gone e.from → LeadsTo gone f e) → (some seen : List Edge) (rs : List Reached) (none waits : List SpfCandidate) → none ≡ []
+      → some ≡ new → OpensEdges gone some (IsAt ks) none waits → seen ≡ new
       → ((v : Vertex) → IsGrowing (Contains seen) v (IsAt ks) (HasStart ks) (HasEdge waits) → IsTree (Contains seen) v (IsAt rs) (HasStart rs))
       → IsTree (Contains new) root (IsAt rs) (HasStart rs)
-  tree_shrunk free all some seen rs none waits empty same_some o same settles =
-      let opens = subst (λ s. OpensEdges s (IsAt ks) none waits) same_some o in
+  tree_shrunk free lead from_gone some seen rs none waits empty same_some o same settles =
+      let opens = subst (λ s. OpensEdges gone s (IsAt ks) none waits) same_some o in
       let settles' = subst (λ s. (v : Vertex) → IsGrowing (Contains s) v (IsAt ks) (HasStart ks) (HasEdge waits) → IsTree (Contains s) v (IsAt rs) (HasStart rs)) same settles in
       settles' root
-      (left (Contains old) (Contains new) root (IsAt f.reached.items) (HasStart f.reached.items) t (IsMarked marks) (closed free all) (IsAt ks) (HasStart ks) (HasEdge waits) l
-      (λ e is. ((takes e).0 is).0) (marked_or_not marks)
+      (left (Contains old) (Contains new) root (IsAt f.reached.items) (HasStart f.reached.items) t (Contains gone) (closed free lead from_gone) (IsAt ks) (HasStart ks) (HasEdge waits) l
+      (λ e is. ((takes e).0 is).0) (gone_or_not gone)
       (λ e w. elim (opens.only e w) [ inl h ↦ absurd (none_waits none empty e h) | inr m ↦ m ])
-      (λ e d is at gone. opens.waits e d is at (λ k there. (l.at_out e.to k there).0 gone)))
+      (λ e d is at to. opens.waits e d is at to (λ k there. (l.at_out e.to k there).0 to)))
 
   pub near_left : AreNear f.reached.items → AreNear ks
   near_left near k x within =
@@ -61,17 +62,17 @@ module _ (less old new : List Edge) (root : Vertex) (f : FoundPaths) (marks : �
       All-contains (λ y. y.distance < 2 ^ 63) (settled_of f.reached.items) (record { vertex = s.vertex; distance = s.distance }) near
       (l.at_out s.vertex s.distance (k, within, get_or_default (settled_of ks) k _ x within)).1
 
-  module _ (rs : List Reached) (changed : List Vertex) (s : Spares changed ks rs) (named : (v : Vertex) (d : ℕ) → IsMarked marks v → IsAt f.reached.items v d → Contains changed v) where
+  module _ (rs : List Reached) (changed : List Vertex) (s : Spares changed ks rs) (named : (v : Vertex) (d : ℕ) → Contains gone v → IsAt f.reached.items v d → Contains changed v) where
     pub same_shrunk : IsSameBut changed (record { root = root; edges = old; settled = settled_of f.reached.items; starts = starts_of f.reached.items })
         (record { root = root; edges = new; settled = settled_of rs; starts = starts_of rs })
     same_shrunk =
         record {
           distance = λ v d other. (
-            λ at. elim (marked_or_not marks v) [ inl mark ↦ absurd (other (named v d mark at)) | inr free ↦ s.at_in v d other (l.at_in v d free at) ],
+            λ at. elim (gone_or_not gone v) [ inl mark ↦ absurd (other (named v d mark at)) | inr free ↦ s.at_in v d other (l.at_in v d free at) ],
             λ at. (l.at_out v d (s.at_out v d other at)).1,
           );
           starts = λ v x other. (
-            λ has. elim (marked_or_not marks v) [
+            λ has. elim (gone_or_not gone v) [
               | inl mark ↦ absurd (let p = t.path_with v x has in other (named v _ mark p.2))
               | inr free ↦ s.starts_in v x other (l.starts_in v x free has)
             ],
@@ -82,7 +83,7 @@ module _ (less old new : List Edge) (root : Vertex) (f : FoundPaths) (marks : �
     -- what was reached is marked, or reached still
     pub none_missed : (v : Vertex) (d : ℕ) → (Contains (changed ++ vertices_of rs) v → ⊥) → (Contains changed v → ⊥) → IsAt f.reached.items v d → ⊥
     none_missed v d never other at =
-        elim (marked_or_not marks v) [
+        elim (gone_or_not gone v) [
           | inl mark ↦ other (named v d mark at)
           | inr free ↦ never (reached_named rs changed v d (s.at_in v d other (l.at_in v d free at)))
         ]

@@ -8,8 +8,8 @@ ghost use Rattle.ospf_graph.specs.Search.{AreEdgesInOrder, AtIn, AreFitEdges, St
 ghost use Rattle.ospf_incremental.specs.Shrinking.{TakesEdges};
 ghost use Rattle.ospf_graph.specs.declared.graph.Start.{Start};
 
-use crate::grow::{FoundPaths, distance_of, offer_all, settle, starts_of};
-use crate::shrink::{is_closed, leave, left_of, mark, offer_open};
+use crate::grow::{FoundPaths, copied, distance_of, offer_all, settle, starts_of};
+use crate::shrink::{behind, is_closed, leave, left_of, offer_to};
 use ospf_graph::{
     Candidates, Edge, Reached, ShortestPaths, Start, Vertex, listed, search, sorted_edges,
     vertex_order,
@@ -52,6 +52,19 @@ impl KeptPaths {
     {
         let sorted = sorted_edges(alloc, edges)?;
         anew(alloc, sorted, root)
+    }
+
+    /// The paths, once more. `AllocError` where memory runs out.
+    pub fn copy(&self, alloc: Global) -> Result<KeptPaths, AllocError>
+        ensures { IfOk result (λ k. k ≡ self.now) }
+    {
+        let edges = Vec::from_slice(alloc, &self.edges)?;
+        let found = copied(alloc, &self.found)?;
+        Ok(KeptPaths {
+            root: self.root,
+            edges,
+            found,
+        })
     }
 
     /// The distance of a vertex from the root, if some path reaches it.
@@ -151,27 +164,23 @@ impl KeptPaths {
     {
         let root = self.root;
         let whole = self.edges;
-        let found = self.found;
-        let marks = mark(alloc, &whole, less, &found)?;
+        let mut found = self.found;
+        let gone = behind(alloc, &whole, less, &found)?;
         let edges = left_of(alloc, &whole, less)?;
-        if !is_closed(&found, &whole, less, &marks, root) {
+        if !is_closed(&found, &whole, less, &gone, root) {
             push_vertices(&found.reached, changed)?;
             let paths = anew(alloc, edges, root)?;
             return Ok(paths);
         }
-        let mut left = leave(alloc, found, &marks, changed)?;
+        leave(&gone, &mut found, changed)?;
         let mut waits = Candidates::new(alloc);
-        offer_open(&edges, &left, &mut waits)?;
+        offer_to(&gone, &edges, &found, &mut waits)?;
         // As many as there are edges, and the look that finds none waiting.
         let most = edges.len() as u64 + 1;
-        if settle(alloc, &edges, most, &mut left, &mut waits, changed)? {
-            return Ok(KeptPaths {
-                root,
-                edges,
-                found: left,
-            });
+        if settle(alloc, &edges, most, &mut found, &mut waits, changed)? {
+            return Ok(KeptPaths { root, edges, found });
         }
-        push_vertices(&left.reached, changed)?;
+        push_vertices(&found.reached, changed)?;
         let paths = anew(alloc, edges, root)?;
         Ok(paths)
     }

@@ -1,15 +1,15 @@
 //! Shortest paths from which edges go: what is behind them goes too, and grows again from what is left.
 
-ghost use Rattle.std.specs.Prelude.{◌≡◌, ◌++◌, ◌↔◌, ◌∷◌, [], All, Contains, IsFalse, IsTrue, IfOk, OnOk, None, nat_eq};
-ghost use Rattle.std.specs.HashMap.{get};
-ghost use Rattle.ospf_incremental.specs.Growth.{AreNear, HasPlaces, HoldsAll, found_place};
+ghost use Rattle.std.specs.Prelude.{◌≡◌, ◌↔◌, ◌∷◌, [], All, Contains, IsFalse, IsTrue, IfOk, OnOk};
+ghost use Rattle.ospf_incremental.specs.Growth.{AreNear, HasPlaces, HoldsAll};
 ghost use Rattle.ospf_graph.specs.Search.{AreEdgesInOrder};
-ghost use Rattle.ospf_incremental.specs.Shrinking.{ClosesAt, HoldsMarked, IsMarked, IsSlack, LeavesIn, OpensIn, TakesEdges};
+ghost use Rattle.ospf_graph.specs.declared.graph.Edge.{Edge};
+ghost use Rattle.ospf_incremental.specs.Shrinking.{AreVerticesInOrder, IsSlack, LeadsTo, LeavesIn, OpensIn, TakesEdges};
 
 use crate::grow::{FoundPaths, distance_of, offer};
-use ospf_graph::{Candidates, Edge, Reached, Vertex, edges_from, is_same, vertex_order};
+use ospf_graph::{Candidates, Edge, Vertex, edges_from, is_same, place_of, vertex_order};
 use std::alloc::{AllocError, Global};
-use std::collections::HashMap;
+use std::collections::HashSet;
 
 /// The edges without these, in their order.
 pub(crate) fn left_of(alloc: Global, edges: &[Edge], less: &[Edge]) -> Result<Vec<Edge>, AllocError>
@@ -26,98 +26,79 @@ pub(crate) fn left_of(alloc: Global, edges: &[Edge], less: &[Edge]) -> Result<Ve
     Ok(left)
 }
 
-/// Marks the vertices behind edges that go: those that some least path reaches over one. Nothing is promised of
-/// the marks, since `is_closed` tests what is needed of them.
-pub(crate) fn mark(
+/// The vertices behind edges that go, in their order: those that some least path reaches over one. Nothing is promised of
+/// them but the order, since `is_closed` tests what is needed.
+pub(crate) fn behind(
     alloc: Global,
     edges: &[Edge],
     less: &[Edge],
     found: &FoundPaths,
-) -> Result<HashMap<u64, usize>, AllocError>
+) -> Result<Vec<Vertex>, AllocError>
     requires in_order { AreEdgesInOrder edges.now }
     requires places { HasPlaces found.now }
     requires near { AreNear found.now.reached.items }
+    ensures { IfOk result (λ gone. AreVerticesInOrder gone.items) }
 {
-    let mut marks = HashMap::new(alloc);
-    let mut ends = Vec::new(alloc);
-    mark_ends(less, found, &mut marks, &mut ends)?;
-    for _ in 0..found.reached.len() {
-        let Some(vertex) = ends.pop() else {
-            return Ok(marks);
-        };
-        mark_ends(edges_from(edges, vertex), found, &mut marks, &mut ends)?;
-    }
-    Ok(marks)
+    let mut gone = ends_behind(alloc, edges, less, found)?;
+    gone.sort_unstable_by_key(|vertex| vertex_order(*vertex));
+    Ok(gone)
 }
 
-/// Whether the marked vertices are closed: all that is behind an edge that goes, or behind a marked vertex, is
-/// marked, and the root is not.
+/// Whether these vertices are closed: all that is behind an edge that goes, or behind one of them, is among
+/// them, and the root is not.
 pub(crate) fn is_closed(
     found: &FoundPaths,
     edges: &[Edge],
     less: &[Edge],
-    marks: &HashMap<u64, usize>,
+    gone: &[Vertex],
     root: Vertex,
 ) -> bool
+    requires edges { AreEdgesInOrder edges.now }
     requires places { HasPlaces found.now }
     requires near { AreNear found.now.reached.items }
-    ensures root { IsTrue result → IsMarked (get nat_eq marks.now) root → ⊥ }
-    ensures edges { IsTrue result → All (ClosesAt found.now less.now (get nat_eq marks.now))
-        edges.now }
+    requires gone { AreVerticesInOrder gone.now }
+    ensures root { IsTrue result → Contains gone.now root → ⊥ }
+    ensures less { IsTrue result → All (LeadsTo gone.now found.now) less.now }
+    ensures from { IsTrue result → (e : Edge) → Contains edges.now e → Contains gone.now e.from →
+        LeadsTo gone.now found.now e }
 {
-    if is_marked(marks, root) {
-        return false;
-    }
-    for edge in edges {
-        if !closes(found, *edge, less, marks) {
-            return false;
-        }
-    }
-    true
+    !is_among(gone, root) && lead_to(gone, found, less) && all_lead_to(gone, found, edges)
 }
 
-/// What is reached without the marked vertices. These are put behind `changed`.
+/// Takes these vertices out of what is found, and puts them behind `changed`.
 pub(crate) fn leave(
-    alloc: Global,
-    found: FoundPaths,
-    marks: &HashMap<u64, usize>,
+    gone: &[Vertex],
+    found: &mut FoundPaths,
     changed: &mut Vec<Vertex>,
-) -> Result<FoundPaths, AllocError>
-    requires { HasPlaces found }
-    // The marked vertices are gone, and all others are found as they were, in their places.
-    ensures places { IfOk result (λ left. HasPlaces left) }
-    ensures left { IfOk result (λ left. LeavesIn (get nat_eq marks.now) found left) }
-    // What is marked and was found is put behind `changed`.
+) -> Result<(), AllocError>
+    requires { HasPlaces found.old }
+    // They are gone, and all others are found as they were, in their places.
+    ensures places { OnOk result (HasPlaces found.new) }
+    ensures left { OnOk result (LeavesIn gone.now found.old found.new) }
+    // They are put behind `changed`.
     ensures changed { OnOk result (HoldsAll changed.old.items changed.new.items) }
-    ensures marked { OnOk result (HoldsMarked (get nat_eq marks.now) found changed.new.items) }
+    ensures gone { OnOk result (HoldsAll gone.now changed.new.items) }
 {
-    let mut reached = found.reached;
-    let mut left = FoundPaths {
-        reached: Vec::new(alloc),
-        places: HashMap::new(alloc),
-    };
-    while let Some(one) = reached.pop() {
-        if is_marked(marks, one.vertex) {
-            changed.push(one.vertex)?;
-        } else {
-            keep(one, &mut left)?;
-        }
+    for vertex in gone {
+        take_out(*vertex, found)?;
     }
-    Ok(left)
+    changed.extend_from_slice(gone)
 }
 
-/// Offers those of some edges whose ends are not reached.
-pub(crate) fn offer_open(
+/// Offers those of some edges that end at one of these vertices.
+pub(crate) fn offer_to(
+    gone: &[Vertex],
     some: &[Edge],
     found: &FoundPaths,
     waits: &mut Candidates,
 ) -> Result<(), AllocError>
+    requires gone { AreVerticesInOrder gone.now }
     requires places { HasPlaces found.now }
     requires near { AreNear found.now.reached.items }
-    ensures { OnOk result (OpensIn found.now some.now waits.old waits.new) }
+    ensures { OnOk result (OpensIn gone.now some.now found.now waits.old waits.new) }
 {
     for edge in some {
-        offer_open_one(*edge, found, waits)?;
+        offer_one_to(gone, *edge, found, waits)?;
     }
     Ok(())
 }
@@ -141,19 +122,41 @@ fn is_same_edge(a: Edge, b: Edge) -> bool
     is_same(a.to, b.to) && is_same(a.from, b.from) && a.cost == b.cost && a.link_data == b.link_data
 }
 
-// Marks the ends of those of some edges that are tight.
-fn mark_ends(
+// The vertices behind edges that go, each once, those first that such an edge leads to.
+fn ends_behind(
+    alloc: Global,
+    edges: &[Edge],
+    less: &[Edge],
+    found: &FoundPaths,
+) -> Result<Vec<Vertex>, AllocError>
+    requires in_order { AreEdgesInOrder edges.now }
+    requires places { HasPlaces found.now }
+    requires near { AreNear found.now.reached.items }
+{
+    let mut seen = HashSet::new(alloc);
+    let mut gone = Vec::new(alloc);
+    add_ends(less, found, &mut seen, &mut gone)?;
+    for place in 0..found.reached.len() {
+        if place >= gone.len() {
+            return Ok(gone);
+        }
+        add_ends(edges_from(edges, gone[place]), found, &mut seen, &mut gone)?;
+    }
+    Ok(gone)
+}
+
+// Adds the ends of those of some edges that are tight, each once.
+fn add_ends(
     some: &[Edge],
     found: &FoundPaths,
-    marks: &mut HashMap<u64, usize>,
+    seen: &mut HashSet<u64>,
     ends: &mut Vec<Vertex>,
 ) -> Result<(), AllocError>
     requires places { HasPlaces found.now }
     requires near { AreNear found.now.reached.items }
 {
     for edge in some {
-        if is_tight(found, *edge) && !is_marked(marks, edge.to) {
-            marks.insert(vertex_order(edge.to), ends.len())?;
+        if is_tight(found, *edge) && seen.insert(vertex_order(edge.to))? {
             ends.push(edge.to)?;
         }
     }
@@ -175,45 +178,89 @@ fn is_tight(found: &FoundPaths, edge: Edge) -> bool
     from + edge.cost as u64 == to
 }
 
-// Whether a vertex is marked.
-fn is_marked(marks: &HashMap<u64, usize>, vertex: Vertex) -> bool
-    ensures { IsTrue result ↔ IsMarked (get nat_eq marks.now) vertex }
+// Whether a vertex is among these.
+fn is_among(vertices: &[Vertex], vertex: Vertex) -> bool
+    requires { AreVerticesInOrder vertices.now }
+    ensures { IsTrue result ↔ Contains vertices.now vertex }
 {
-    marks.contains_key(&vertex_order(vertex))
+    let order = vertex_order(vertex);
+    let place = vertices.partition_point(|v| vertex_order(*v) < order);
+    place < vertices.len() && is_same(vertices[place], vertex)
 }
 
-// Whether an edge leads to a marked vertex, or is not tight, or stays and begins at a vertex that is not marked.
-fn closes(found: &FoundPaths, edge: Edge, less: &[Edge], marks: &HashMap<u64, usize>) -> bool
+// Whether each edge that leaves one of these vertices leads to one of them, or is not tight.
+fn all_lead_to(gone: &[Vertex], found: &FoundPaths, edges: &[Edge]) -> bool
+    requires edges { AreEdgesInOrder edges.now }
     requires places { HasPlaces found.now }
     requires near { AreNear found.now.reached.items }
-    ensures { IsTrue result → ClosesAt found.now less.now (get nat_eq marks.now) edge }
+    requires gone { AreVerticesInOrder gone.now }
+    ensures { IsTrue result → (e : Edge) → Contains edges.now e → Contains gone.now e.from →
+        LeadsTo gone.now found.now e }
 {
-    if !is_tight(found, edge) || is_marked(marks, edge.to) {
-        return true;
+    for vertex in gone {
+        if !lead_to(gone, found, edges_from(edges, *vertex)) {
+            return false;
+        }
     }
-    !is_marked(marks, edge.from) && !has_edge(less, edge)
+    true
 }
 
-// Puts one that is reached behind others.
-fn keep(one: Reached, found: &mut FoundPaths) -> Result<(), AllocError>
-    requires fresh { found_place found.old one.vertex ≡ None }
-    requires places { HasPlaces found.old }
-    ensures reached { OnOk result (found.new.reached.items ≡ found.old.reached.items ++ one ∷ []) }
-    ensures places { OnOk result (HasPlaces found.new) }
+// Whether each of some edges leads to one of these vertices, or is not tight.
+fn lead_to(gone: &[Vertex], found: &FoundPaths, some: &[Edge]) -> bool
+    requires places { HasPlaces found.now }
+    requires near { AreNear found.now.reached.items }
+    requires gone { AreVerticesInOrder gone.now }
+    ensures { IsTrue result → All (LeadsTo gone.now found.now) some.now }
 {
-    let place = found.reached.len();
-    found.places.insert(vertex_order(one.vertex), place)?;
-    found.reached.push(one)?;
+    for edge in some {
+        if !leads_to(gone, found, *edge) {
+            return false;
+        }
+    }
+    true
+}
+
+// Whether an edge leads to one of these vertices, or is not tight.
+fn leads_to(gone: &[Vertex], found: &FoundPaths, edge: Edge) -> bool
+    requires places { HasPlaces found.now }
+    requires near { AreNear found.now.reached.items }
+    requires gone { AreVerticesInOrder gone.now }
+    ensures { IsTrue result → LeadsTo gone.now found.now edge }
+{
+    !is_tight(found, edge) || is_among(gone, edge.to)
+}
+
+// Takes a vertex out of what is found, if it is there. The last one takes its place.
+fn take_out(vertex: Vertex, found: &mut FoundPaths) -> Result<(), AllocError>
+    requires { HasPlaces found.old }
+    ensures places { OnOk result (HasPlaces found.new) }
+    ensures left { OnOk result (LeavesIn (vertex ∷ []) found.old found.new) }
+{
+    let Some(place) = place_of(&found.places, vertex) else {
+        return Ok(());
+    };
+    found.places.remove(&vertex_order(vertex));
+    found.reached.swap_remove(place);
+    if place < found.reached.len() {
+        let moved = vertex_order(found.reached[place].vertex);
+        found.places.insert(moved, place)?;
+    }
     Ok(())
 }
 
-// Offers an edge whose end is not reached.
-fn offer_open_one(edge: Edge, found: &FoundPaths, waits: &mut Candidates) -> Result<(), AllocError>
+// Offers an edge, if it ends at one of these vertices.
+fn offer_one_to(
+    gone: &[Vertex],
+    edge: Edge,
+    found: &FoundPaths,
+    waits: &mut Candidates,
+) -> Result<(), AllocError>
+    requires gone { AreVerticesInOrder gone.now }
     requires places { HasPlaces found.now }
     requires near { AreNear found.now.reached.items }
-    ensures { OnOk result (OpensIn found.now (edge ∷ []) waits.old waits.new) }
+    ensures { OnOk result (OpensIn gone.now (edge ∷ []) found.now waits.old waits.new) }
 {
-    if distance_of(found, edge.to).is_none() {
+    if is_among(gone, edge.to) {
         offer(edge, found, waits)?;
     }
     Ok(())
