@@ -5,7 +5,9 @@ use ospf_base::{Addr, Prefix, RouterId};
 use ospf_graph::{NextHop, Route};
 use ospf_lsa::{Link, Listing, Lsa};
 use ospf_spf::RouteTable;
-use ospf_whatif::{AreaFailure, Loss, RouteChange, effect_of, single_failures, without};
+use ospf_whatif::{
+    AreaFailure, AreaGraph, KeptRoot, Loss, Outage, RouteChange, single_failures, without,
+};
 use std::alloc::Global;
 use std::test::Fail;
 
@@ -72,7 +74,10 @@ fn link(a: RouterId, b: RouterId, address: u32) -> Result<AreaFailure, Fail> {
 fn effect(alloc: Global, failure: &AreaFailure) -> Result<Vec<RouteChange>, Fail> {
     let listing = listing(alloc)?;
     let table = RouteTable::of(alloc, &listing, FIRST)?;
-    Ok(effect_of(alloc, &listing, FIRST, &table, failure)?)
+    let area = AreaGraph::of(alloc, &listing)?;
+    let outage = Outage::of(alloc, &listing, &area, failure)?;
+    let kept = KeptRoot::of(alloc, &area, FIRST)?;
+    Ok(kept.effect(alloc, &listing, &area, &outage, &table)?)
 }
 
 fn is_to(route: &Route, address: u32, mask: u32, cost: u64) -> Result<bool, Fail> {

@@ -1,8 +1,10 @@
 -- What is found of each failure, and of all of them.
-use Rattle.std.proofs.Common.{◌≡◌, ◌∙◌, Global, List, [], ◌∷◌, ap, map, refl, subst, sym}
+use Rattle.std.proofs.Common.{◌≡◌, ◌∙◌, ◌+◌, ◌++◌, ◌<◌, ℕ, Global, List, [], ◌∷◌, ap, get_or, length, map, refl, subst, sym, take}
 use Rattle.std.specs.List.{All, AllZip, Contains}
 use Rattle.std.specs.Prelude.{Err, IfOk, MatchResult, Ok, Vec}
 use Rattle.std.specs.declared.result.Result.{Result}
+use Rattle.std.proofs.lemmas.List.{take_more}
+use Rattle.std.proofs.lemmas.Slice.Zip.{all_zipped_more}
 use Rattle.std.proofs.lemmas.List.Elements.{All-cons, All-contains, All-nil}
 use Rattle.ospf_graph.specs.Advertisements.{Advertisement}
 use Rattle.ospf_whatif.specs.Failure.{HasLarge}
@@ -10,6 +12,11 @@ use Rattle.ospf_whatif.specs.declared.area.WithoutFault.{WithoutFault}
 use Rattle.ospf_whatif.specs.declared.area.WithoutFault.TheVariants.{Links}
 use Rattle.ospf_whatif.specs.declared.failure.AreaFailure.{AreaFailure}
 use Rattle.ospf_failures.specs.Reports.{IsFailureFound}
+
+-- one of each more
+pub zip_more : {X Y : Type 0} (R : X → Y → Type 0) (xs : List X) (i : ℕ) (x : X) (ys : List Y) (y : Y) → i < length xs → x ≡ get_or xs i x → AllZip R (take i xs) ys → R x y
+    → AllZip R (take (i + 1) xs) (ys ++ y ∷ [])
+zip_more R xs i x ys y lt is zip r = rw (take_more xs i x lt, ← is) (all_zipped_more R (take i xs) ys x y zip r)
 
 module _ {X : Type 0} (A : List Advertisement) (failure_of : X → AreaFailure) (P : AreaFailure → X → Type 0) where
   same_failures : (fs : List AreaFailure) (xs : List X) → AllZip (IsFailureFound A failure_of P) fs (map Ok xs) → map failure_of xs ≡ fs

@@ -14,21 +14,21 @@ use Rattle.ospf_graph.proofs.ListLemmas.{member_cases, member_head, member_later
 use Rattle.ospf_graph.proofs.TableLemmas.{head_before, pairs_tail}
 use Rattle.ospf_graph.specs.Advertisements.{Advertisement, IsListed}
 use Rattle.ospf_graph.specs.Routes.{IsTable}
-use Rattle.ospf_whatif.proofs.EffectLemmas.{takes_away}
-use Rattle.ospf_whatif.specs.Effect.{IsEffectIn, TakesAway}
+use Rattle.ospf_whatif.specs.Effect.{IsEffectIn}
 use Rattle.ospf_whatif.specs.Failure.{without}
 use Rattle.ospf_whatif.specs.Single.{AreFailures, IsFailure, IsFailureBefore}
 use Rattle.ospf_whatif.specs.declared.effect.RouteChange.{RouteChange}
 use Rattle.ospf_whatif.specs.declared.failure.AreaFailure.{AreaFailure}
 use Rattle.ospf_whatif.specs.declared.failure.AreaFailure.TheVariants.{Attachment, Link, Links, Network, Router}
 use Rattle.ospf_failures.proofs.ReportLemmas.{kept_of, of_kept, other_from, other_to}
-use Rattle.ospf_failures.specs.Overall.{AreOveralls, HasSumRoom, IsTableBefore, IsOverall, IsSight, IsSightFrom, IsSoFar, Sees, SeesMore, failing_router, has_changes, lines_kept, one_if, overall_cmp, roots_in, sight_lines, sights_kept, sums_of, sums_plus}
+use Rattle.ospf_failures.specs.Overall.{AreOveralls, IsTableBefore, IsOverall, IsSight, IsSightFrom, IsSoFar, Sees, SeesMore, failing_router, lines_kept, overall_cmp, roots_in, sight_lines, sights_kept, sums_of}
+use Rattle.ospf_table.specs.Sums.{HasSumRoom, has_changes, one_if, sums_plus}
 use Rattle.ospf_failures.specs.Reports.{SightValue, is_of}
 use Rattle.ospf_failures.specs.declared.overall.Before.{Before}
 use Rattle.ospf_failures.specs.declared.overall.Detail.{Detail}
 use Rattle.ospf_failures.specs.declared.overall.Detail.TheVariants as detail
 use Rattle.ospf_failures.specs.declared.overall.Overall.{Overall}
-use Rattle.ospf_failures.specs.declared.sums.Sums.{Sums}
+use Rattle.ospf_table.specs.declared.sums.Sums.{Sums}
 
 -- ---- the routers of an area, by its failures
 
@@ -98,7 +98,7 @@ module _ (A : List Advertisement) (fs : List AreaFailure) (all : AreFailures A f
   sight_is : (s : SightValue) → IsSightFrom (without o.failure A) befores s → IsSight A o.failure s
   sight_is s from = record {
     table = from.0.table;
-    is_table = subst (λ (r : RouterId). IsTable A r from.0.table) from.2 (All-contains (IsTableBefore A) befores from.0 tables from.1);
+    is_table = subst (λ (r : RouterId). IsTable A r from.0.table) from.2 (All-contains (IsTableBefore A) befores from.0 tables from.1).table;
     effect = subst (λ (r : RouterId). IsEffectIn (without o.failure A) r from.0.table s.1) from.2 from.3;
   }
 
@@ -270,14 +270,8 @@ none_yet left befores wanted o sums lines sights = record {
 pub room_at_start : (n : ℕ) (s : Sums) → n < 2 ^ 64 → s ≡ sums_of [] → HasSumRoom n s
 room_at_start n s few is = subst (HasSumRoom n) (sym is) (record { cut = omega arith; gone = omega arith; cost = omega arith; hops = omega arith; routers = omega arith })
 
--- every table loses
-pub all_lose : (f : AreaFailure) (A left : List Advertisement) (befores : List Before) → left ≡ without f A → All (IsTableBefore A) befores → All (λ b. TakesAway left b.root b.table) befores
-all_lose f A left befores is tables = λ k d lt.
-    let b = get_or befores k d in
-    subst (λ (l : List Advertisement). TakesAway l b.root b.table) (sym is) (takes_away f A b.root b.table (tables k d lt))
-
 -- a table more
-pub table_more : (A : List Advertisement) (old new : List Before) (b : Before) → new ≡ old ++ b ∷ [] → IsTable A b.root b.table → All (IsTableBefore A) old → All (IsTableBefore A) new
+pub table_more : (A : List Advertisement) (old new : List Before) (b : Before) → new ≡ old ++ b ∷ [] → IsTableBefore A b → All (IsTableBefore A) old → All (IsTableBefore A) new
 table_more A old new b is table all = subst (All (IsTableBefore A)) (sym is) (All-push (IsTableBefore A) old b all table)
 
 -- ---- in order

@@ -9,7 +9,7 @@ use Rattle.ospf_table.specs.declared.totals.Totals.{Totals}
 use Rattle.ospf_whatif.specs.declared.failure.AreaFailure.{AreaFailure}
 use Rattle.ospf_failures.specs.Reports.{ReportValue, SightValue}
 use Rattle.ospf_failures.specs.declared.overall.Overall.{Overall}
-use Rattle.ospf_failures.specs.declared.sums.Sums.{Sums}
+use Rattle.ospf_table.specs.declared.sums.Sums.{Sums}
 
 -- the routes that change, where each is told
 abbrev pub routes_member : Bool → List Data → Members

@@ -15,6 +15,7 @@ use Rattle.ospf_graph.specs.declared.route.Route.{Route}
 use Rattle.ospf_whatif.specs.Effect.{IsEffect, IsEffectIn}
 use Rattle.ospf_whatif.specs.Failure.{HasLarge, without}
 use Rattle.ospf_whatif.specs.Name.{area_failure_text}
+use Rattle.ospf_whatif.specs.Outage.{IsKeptRoot}
 use Rattle.ospf_whatif.specs.Single.{IsFailure, IsFailureBefore}
 use Rattle.ospf_whatif.specs.declared.area.WithoutFault.{WithoutFault}
 use Rattle.ospf_whatif.specs.declared.area.WithoutFault.TheVariants.{Links}
@@ -22,12 +23,13 @@ use Rattle.ospf_whatif.specs.declared.effect.RouteChange.{RouteChange}
 use Rattle.ospf_whatif.specs.declared.failure.AreaFailure.{AreaFailure}
 use Rattle.ospf_whatif.specs.declared.failure.AreaFailure.TheVariants.{Router}
 use Rattle.ospf_table.specs.Changes.{change_line, totals_of}
+use Rattle.ospf_table.specs.Sums.{has_changes, sums_line, sums_plus}
+use Rattle.ospf_table.specs.declared.sums.Sums.{Sums}
 use Rattle.ospf_failures.specs.Reports.{IsFailureFound, SightValue, is_of, failure_place}
 use Rattle.ospf_failures.specs.declared.overall.Before.{Before}
 use Rattle.ospf_failures.specs.declared.overall.Detail.{Detail}
 use Rattle.ospf_failures.specs.declared.overall.Detail.TheVariants as detail
 use Rattle.ospf_failures.specs.declared.overall.Overall.{Overall}
-use Rattle.ospf_failures.specs.declared.sums.Sums.{Sums}
 
 -- ---- at each router
 
@@ -45,10 +47,6 @@ pub record AreSights (adverts : List Advertisement) (failure : AreaFailure) (sig
 
 -- ---- over all routers
 
-abbrev pub has_changes : List RouteChange → Bool
-has_changes [] = false
-has_changes (change ∷ changes) = true
-
 -- what is told of the failure at each router, added up; and at how many of them something changes
 abbrev pub sums_of : List SightValue → Sums
 sums_of sights = record {
@@ -58,14 +56,6 @@ sums_of sights = record {
   hops = sum_by (λ s. (totals_of s.1).hops) sights;
   routers = count_by (λ s. has_changes s.1) sights;
 }
-
-abbrev pub sums_text : Sums → List ℕ
-sums_text s =
-    codes "cut " ++ decimal s.cut ++ codes " gone " ++ decimal s.gone ++ codes " cost " ++ decimal s.cost ++ codes " hops " ++ decimal s.hops ++ codes " routers "
-    ++ decimal s.routers
-
-abbrev pub sums_line : AreaFailure → Sums → List ℕ
-sums_line failure s = area_failure_text failure ++ codes " " ++ sums_text s ++ codes "\n"
 
 -- a line for each route that changes at a router, which begins with the router
 abbrev pub sight_lines : AreaFailure → SightValue → List ℕ
@@ -131,9 +121,11 @@ failing_router f = []
 abbrev pub roots_in : List AreaFailure → List RouterId
 roots_in failures = flat_map failing_router failures
 
--- a router with its table
-abbrev pub IsTableBefore : List Advertisement → Before → Type 0
-IsTableBefore adverts b = IsTable adverts b.root b.table
+-- a router with its table and its paths
+pub record IsTableBefore (adverts : List Advertisement) (b : Before) : Type 0 where
+  pub table : IsTable adverts b.root b.table
+  pub kept : IsKeptRoot adverts b.kept
+  pub root_is : b.kept.root ≡ b.root
 
 -- what a failure that leaves this of the area changes in the table of one of these routers
 abbrev pub IsSightFrom : List Advertisement → List Before → SightValue → Type 0
@@ -159,19 +151,6 @@ pub record AreOverallsFound (adverts : List Advertisement) (befores : List Befor
   pub large : found ≡ Err Links → HasLarge adverts
   pub seen : IfOk found (λ overalls. All (λ o. IsSoFar (without o.failure adverts) befores wanted (map (λ b. b.root) befores) o) overalls.items)
 
-abbrev pub one_if : Bool → ℕ
-one_if b = if b then 1 else 0
-
--- with the changes at one router more
-abbrev pub sums_plus : Sums → List RouteChange → Sums
-sums_plus s changes = record {
-  cut = s.cut + (totals_of changes).cut;
-  gone = s.gone + (totals_of changes).gone;
-  cost = s.cost + (totals_of changes).cost;
-  hops = s.hops + (totals_of changes).hops;
-  routers = s.routers + one_if (has_changes changes);
-}
-
 -- what is kept of one router more
 pub record KeepsMore (wanted : Detail) (sight : SightValue) (old new : Overall) : Type 0 where
   pub same : new.failure ≡ old.failure
@@ -193,11 +172,3 @@ pub record SeesMore (left : List Advertisement) (before : Before) (wanted : Deta
 -- one router more, which may be what fails
 abbrev pub Sees : List Advertisement → Before → Detail → Overall → Overall → Type 0
 Sees left before wanted old new = ((is_of before.root old.failure ≡ true) × (new ≡ old)) ⊎ SeesMore left before wanted old new
-
--- so many more can be added
-pub record HasSumRoom (n : ℕ) (s : Sums) : Type 0 where
-  pub cut : s.cut + 2 ^ 64 * n < 2 ^ 128
-  pub gone : s.gone + 2 ^ 64 * n < 2 ^ 128
-  pub cost : s.cost + 2 ^ 64 * n < 2 ^ 128
-  pub hops : s.hops + 2 ^ 64 * n < 2 ^ 128
-  pub routers : s.routers + n < 2 ^ 64

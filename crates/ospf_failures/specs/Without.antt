@@ -10,7 +10,7 @@ use Rattle.ospf_graph.specs.declared.route.Route.{Route}
 use Rattle.ospf_files.specs.declared.status.Failure.TheVariants as failure
 use Rattle.ospf_table.specs.Output.{IsOutput}
 use Rattle.ospf_whatif.specs.Failure.{without_all}
-use Rattle.ospf_whatif.specs.Name.{IsNamed}
+use Rattle.ospf_table.specs.Named.{IsNamed}
 use Rattle.ospf_whatif.specs.Single.{AreFailures}
 use Rattle.ospf_whatif.specs.declared.failure.AreaFailure.{AreaFailure}
 use Rattle.ospf_failures.specs.declared.answer.Unreported.{Unreported}

@@ -66,7 +66,7 @@ pub enum FailuresJob {
     /// The routing table of a router in the area without some of its parts.
     Without {
         root: RouterId,
-        /// The names of the parts, as `ospf_whatif::find_failure` takes them.
+        /// The names of the parts, as `ospf_table::find_failure` takes them.
         names: Vec<String>,
         /// The addresses to look up in the table.
         addresses: Vec<Addr>,

@@ -8,11 +8,10 @@ mod answer;
 mod overall;
 mod progress;
 mod report;
-mod sums;
 mod without;
 
 pub use crate::answer::{FailuresForm, FailuresJob, FailuresStatus, failures_text};
 pub use crate::overall::{Detail, Overall, cuts_somewhere, overalls, overalls_json, overalls_text};
 pub use crate::progress::Progress;
 pub use crate::report::{Report, has_cut, reports, reports_json, reports_text};
-pub use crate::sums::Sums;
+pub use ospf_table::Sums;

@@ -4,22 +4,25 @@ ghost use Rattle.std.specs.Prelude.{◌≡◌, ◌↔◌, ◌++◌, [], All, Err
 ghost use Rattle.std.specs.List.Sorted.{IsSorted};
 ghost use Rattle.ospf_base.specs.Text.{number_text};
 ghost use Rattle.ospf_edges.specs.Listed.{advertisements_of};
-ghost use Rattle.ospf_whatif.specs.Effect.{TakesAway};
+ghost use Rattle.ospf_whatif.specs.Effect.{IsEffectIn};
 ghost use Rattle.ospf_whatif.specs.Failure.{HasLarge, without};
+ghost use Rattle.ospf_whatif.specs.Outage.{IsAreaGraph, IsOutage};
 ghost use Rattle.ospf_table.specs.Changes.{change_line};
 ghost use Rattle.serde_json.specs.Data.{array};
 ghost use Rattle.serde_json.specs.View.{items_of, view};
 ghost use Rattle.ospf_failures.specs.Json.{overall_data, overalls_json, sight_data};
-ghost use Rattle.ospf_failures.specs.Overall.{AreOveralls, AreOverallsFound, CutsSomewhere, HasSumRoom, IsTableBefore, IsOverallFound, IsSoFar, KeepsMore, Sees, failing_router, overall_cmp, overall_rank, overalls_text, roots_in, sight_lines, sums_of};
+ghost use Rattle.ospf_failures.specs.Overall.{AreOveralls, AreOverallsFound, CutsSomewhere, IsTableBefore, IsOverallFound, IsSoFar, KeepsMore, Sees, failing_router, overall_cmp, overall_rank, overalls_text, roots_in, sight_lines, sums_of};
+ghost use Rattle.ospf_table.specs.Sums.{HasSumRoom};
 
 use crate::progress::Progress;
 use crate::report::{is_of, place_of};
-use crate::sums::{Sums, sums_line};
 use ospf_base::RouterId;
 use ospf_lsa::Listing;
 use ospf_spf::RouteTable;
-use ospf_table::{add_changes, change_line, counted_members, objects_line};
-use ospf_whatif::{AreaFailure, Left, RouteChange, WithoutFault, single_failures};
+use ospf_table::{Sums, add_changes, change_line, counted_members, objects_line, sums_line};
+use ospf_whatif::{
+    AreaFailure, AreaGraph, KeptRoot, Outage, RouteChange, WithoutFault, single_failures,
+};
 use rayon::prelude::*;
 use serde_json::{Value, put};
 use std::alloc::{AllocError, Global};
@@ -69,7 +72,7 @@ pub struct Overall {
 /// printed: as `reports` has it for one root, by the sums over the routers. What it has of the routes that change, the detail
 /// tells. Somebody is told how far the failures have come.
 ///
-/// `Links` or `Memory` as `Left::of` has it.
+/// `Links` or `Memory` as `Outage::of` has it.
 pub fn overalls<P: Progress>(
     alloc: Global,
     rt: &(impl Threads + Sync),
@@ -82,8 +85,10 @@ pub fn overalls<P: Progress>(
     ensures large { result ≡ Err WithoutFault.Links → HasLarge (advertisements_of listing.now) }
 {
     let failures = single_failures(alloc, listing)?;
-    let befores = befores_of(alloc, listing, &failures)?;
-    let mut overalls = overalls_of(alloc, rt, listing, &failures, &befores, detail, progress)?;
+    let area = AreaGraph::of(alloc, listing)?;
+    let befores = befores_of(alloc, listing, &area, &failures)?;
+    let at = (listing, &area);
+    let mut overalls = overalls_of(alloc, rt, at, &failures, &befores, detail, progress)?;
     sort(&mut overalls);
     Ok(overalls)
 }
@@ -124,19 +129,22 @@ pub fn cuts_somewhere(overalls: &[Overall]) -> bool
     overalls.iter().any(|overall| overall.sums.cut > 0)
 }
 
-// A router, and its table before anything fails.
+// A router, its table and its shortest paths before anything fails.
 #[derive(Drop)]
 pub(crate) struct Before {
     root: RouterId,
     table: RouteTable,
+    kept: KeptRoot,
 }
 
-// The tables of all routers.
+// All routers, with their tables.
 fn befores_of(
     alloc: Global,
     listing: &Listing,
+    area: &AreaGraph,
     failures: &[AreaFailure],
 ) -> Result<Vec<Before>, AllocError>
+    requires { IsAreaGraph (advertisements_of listing.now) area.now }
     ensures roots { IfOk result (λ befores. map (λ b. b.root) befores.items
         ≡ roots_in failures.now) }
     ensures tables { IfOk result (λ befores. All (IsTableBefore (advertisements_of listing.now))
@@ -144,18 +152,20 @@ fn befores_of(
 {
     let mut befores = Vec::new(alloc);
     for failure in failures {
-        add_before(alloc, listing, failure, &mut befores)?;
+        add_before(alloc, listing, area, failure, &mut befores)?;
     }
     Ok(befores)
 }
 
-// Adds the table of the router that fails.
+// Adds the router that fails.
 fn add_before(
     alloc: Global,
     listing: &Listing,
+    area: &AreaGraph,
     failure: &AreaFailure,
     befores: &mut Vec<Before>,
 ) -> Result<(), AllocError>
+    requires { IsAreaGraph (advertisements_of listing.now) area.now }
     ensures roots { OnOk result (map (λ b. b.root) befores.new.items
         ≡ map (λ b. b.root) befores.old.items ++ failing_router failure.now) }
     ensures tables { OnOk result (All (IsTableBefore (advertisements_of listing.now))
@@ -165,7 +175,8 @@ fn add_before(
     match *failure {
         AreaFailure::Router(root) => {
             let table = RouteTable::of(alloc, listing, root)?;
-            befores.push(Before { root, table })?;
+            let kept = KeptRoot::of(alloc, area, root)?;
+            befores.push(Before { root, table, kept })?;
             Ok(())
         }
         AreaFailure::Link { .. } => Ok(()),
@@ -179,14 +190,15 @@ fn add_before(
 fn overalls_of<P: Progress>(
     alloc: Global,
     rt: &(impl Threads + Sync),
-    listing: &Listing,
+    at: (&Listing, &AreaGraph),
     failures: &[AreaFailure],
     befores: &[Before],
     detail: Detail,
     progress: &mut P,
 ) -> Result<Vec<Overall>, WithoutFault>
-    requires { All (IsTableBefore (advertisements_of listing.now)) befores.now }
-    ensures { AreOverallsFound (advertisements_of listing.now) befores.now detail failures.now
+    requires graph { IsAreaGraph (advertisements_of at.0.now) at.1.now }
+    requires tables { All (IsTableBefore (advertisements_of at.0.now)) befores.now }
+    ensures { AreOverallsFound (advertisements_of at.entry.0.now) befores.now detail failures.now
         result }
 {
     let most = failures.len() / PARTS + 1;
@@ -194,7 +206,7 @@ fn overalls_of<P: Progress>(
     let mut rest = failures;
     while !rest.is_empty() {
         let (part, behind) = rest.split_at(most.min(rest.len()));
-        let mut found = part_of(alloc, rt, listing, part, befores, detail)?;
+        let mut found = part_of(alloc, rt, at.0, at.1, part, befores, detail)?;
         overalls.append(&mut found)?;
         progress.comes(overalls.len(), failures.len());
         rest = behind;
@@ -207,11 +219,13 @@ fn part_of(
     alloc: Global,
     rt: &(impl Threads + Sync),
     listing: &Listing,
+    area: &AreaGraph,
     failures: &[AreaFailure],
     befores: &[Before],
     detail: Detail,
 ) -> Result<Vec<Overall>, WithoutFault>
-    requires { All (IsTableBefore (advertisements_of listing.now)) befores.now }
+    requires graph { IsAreaGraph (advertisements_of listing.now) area.now }
+    requires tables { All (IsTableBefore (advertisements_of listing.now)) befores.now }
     ensures { AreOverallsFound (advertisements_of listing.now) befores.now detail failures.now
         result }
 {
@@ -220,11 +234,12 @@ fn part_of(
         .with_min_len(1)
         .map(
             |failure: &AreaFailure| -> Result<Overall, WithoutFault>
-                requires { All (IsTableBefore (advertisements_of listing.now)) befores.now }
+                requires graph { IsAreaGraph (advertisements_of listing.now) area.now }
+                requires tables { All (IsTableBefore (advertisements_of listing.now)) befores.now }
                 ensures { IsOverallFound (advertisements_of listing.entry.now) befores.entry.now
                     detail
                     failure.now result }
-            { overall_of(alloc, listing, failure, befores, detail) },
+            { overall_of(alloc, listing, area, failure, befores, detail) },
         )
         .collect::<Result<Vec<Overall>, WithoutFault>>(rt, alloc)?
 }
@@ -233,36 +248,63 @@ fn part_of(
 fn overall_of(
     alloc: Global,
     listing: &Listing,
+    area: &AreaGraph,
     failure: &AreaFailure,
     befores: &[Before],
     detail: Detail,
 ) -> Result<Overall, WithoutFault>
-    requires { All (IsTableBefore (advertisements_of listing.now)) befores.now }
+    requires graph { IsAreaGraph (advertisements_of listing.now) area.now }
+    requires tables { All (IsTableBefore (advertisements_of listing.now)) befores.now }
     ensures { IsOverallFound (advertisements_of listing.now) befores.now detail failure.now result }
 {
-    let left = Left::of(alloc, listing, failure)?;
-    let overall = overall_in(alloc, &left, *failure, befores, detail)?;
+    let outage = Outage::of(alloc, listing, area, failure)?;
+    let overall = overall_in(alloc, listing, area, &outage, *failure, befores, detail)?;
     Ok(overall)
 }
 
-// What a failure changes in the tables of all routers, where this is left of the area.
+// What a failure that takes this changes in the tables of all routers.
 fn overall_in(
     alloc: Global,
-    left: &Left,
+    listing: &Listing,
+    area: &AreaGraph,
+    outage: &Outage,
     failure: AreaFailure,
     befores: &[Before],
     detail: Detail,
 ) -> Result<Overall, AllocError>
-    requires { All (λ b. TakesAway left.now b.root b.table) befores.now }
+    requires graph { IsAreaGraph (advertisements_of listing.now) area.now }
+    requires outage { IsOutage (advertisements_of listing.now) outage.now }
+    requires failure { outage.now.failure ≡ failure }
+    requires tables { All (IsTableBefore (advertisements_of listing.now)) befores.now }
     ensures failure { IfOk result (λ overall. overall.failure ≡ failure) }
-    ensures seen { IfOk result (IsSoFar left.now befores.now detail
-        (map (λ b. b.root) befores.now)) }
+    ensures seen { IfOk result (IsSoFar (without failure (advertisements_of listing.now))
+        befores.now detail (map (λ b. b.root) befores.now)) }
 {
     let mut overall = Overall::none(alloc, failure);
     for before in befores {
-        overall.see(alloc, left, before, detail)?;
+        overall.see(alloc, listing, area, outage, before, detail)?;
     }
     Ok(overall)
+}
+
+// What a failure that takes this changes in the table of a router.
+fn effect_at(
+    alloc: Global,
+    listing: &Listing,
+    area: &AreaGraph,
+    outage: &Outage,
+    before: &Before,
+) -> Result<Vec<RouteChange>, AllocError>
+    requires graph { IsAreaGraph (advertisements_of listing.now) area.now }
+    requires outage { IsOutage (advertisements_of listing.now) outage.now }
+    requires before { IsTableBefore (advertisements_of listing.now) before.now }
+    ensures { IfOk result (λ changes. IsEffectIn
+        (without outage.now.failure (advertisements_of listing.now)) before.now.root
+        before.now.table changes.items) }
+{
+    before
+        .kept
+        .effect(alloc, listing, area, outage, &before.table)
 }
 
 impl Overall {
@@ -292,18 +334,23 @@ impl Overall {
     fn see(
         &mut self,
         alloc: Global,
-        left: &Left,
+        listing: &Listing,
+        area: &AreaGraph,
+        outage: &Outage,
         before: &Before,
         detail: Detail,
     ) -> Result<(), AllocError>
-        requires away { TakesAway left.now before.now.root before.now.table }
+        requires graph { IsAreaGraph (advertisements_of listing.now) area.now }
+        requires outage { IsOutage (advertisements_of listing.now) outage.now }
+        requires before { IsTableBefore (advertisements_of listing.now) before.now }
         requires room { HasSumRoom 1 self.old.sums }
-        ensures { OnOk result (Sees left.now before.now detail self.old self.new) }
+        ensures { OnOk result (Sees (without outage.now.failure (advertisements_of listing.now))
+            before.now detail self.old self.new) }
     {
         if is_of(&self.failure, before.root) {
             return Ok(());
         }
-        let changes = left.effect(alloc, before.root, &before.table)?;
+        let changes = effect_at(alloc, listing, area, outage, before)?;
         self.sums = self.sums.plus(&changes);
         self.keep(alloc, before.root, changes, detail)
     }

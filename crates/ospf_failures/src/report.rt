@@ -6,6 +6,7 @@ ghost use Rattle.ospf_graph.specs.Routes.{IsTable};
 ghost use Rattle.ospf_edges.specs.Listed.{advertisements_of};
 ghost use Rattle.ospf_whatif.specs.Effect.{IsEffect};
 ghost use Rattle.ospf_whatif.specs.Failure.{HasLarge};
+ghost use Rattle.ospf_whatif.specs.Outage.{IsAreaGraph, IsKeptRoot};
 ghost use Rattle.ospf_whatif.specs.Single.{IsFailureBefore};
 ghost use Rattle.ospf_whatif.specs.declared.failure.AreaFailure.{AreaFailure};
 ghost use Rattle.ospf_failures.specs.Json.{reports_json};
@@ -15,7 +16,9 @@ use ospf_base::RouterId;
 use ospf_lsa::Listing;
 use ospf_spf::RouteTable;
 use ospf_table::{Totals, add_changes, counted_members, failure_lines, objects_line};
-use ospf_whatif::{AreaFailure, RouteChange, WithoutFault, effect_of, single_failures};
+use ospf_whatif::{
+    AreaFailure, AreaGraph, KeptRoot, Outage, RouteChange, WithoutFault, single_failures,
+};
 use rayon::prelude::*;
 use serde_json::{Value, put};
 use std::alloc::{AllocError, Global};
@@ -116,7 +119,7 @@ impl Report {
 /// what cuts off most, then what takes most with it, then what makes most dearer, then what moves most; where these are
 /// equal, links in subnets, other links, attachments, networks and routers, each by Router IDs and addresses.
 ///
-/// `Links` or `Memory` as `effect_of` has it.
+/// `Links` or `Memory` as `Outage::of` has it.
 pub fn reports(
     alloc: Global,
     rt: &(impl Threads + Sync),
@@ -130,7 +133,9 @@ pub fn reports(
     ensures large { result ≡ Err WithoutFault.Links → HasLarge (advertisements_of listing.now) }
 {
     let failures = other_failures(alloc, listing, root)?;
-    let mut reports = reports_of(alloc, rt, listing, root, table, &failures)?;
+    let area = AreaGraph::of(alloc, listing)?;
+    let kept = KeptRoot::of(alloc, &area, root)?;
+    let mut reports = reports_of(alloc, rt, listing, &area, &kept, table, &failures)?;
     sort(&mut reports);
     Ok(reports)
 }
@@ -227,25 +232,30 @@ fn reports_of(
     alloc: Global,
     rt: &(impl Threads + Sync),
     listing: &Listing,
-    root: RouterId,
+    area: &AreaGraph,
+    kept: &KeptRoot,
     table: &RouteTable,
     failures: &[AreaFailure],
 ) -> Result<Vec<Report>, WithoutFault>
-    requires { IsTable (advertisements_of listing.now) root table.now }
+    requires graph { IsAreaGraph (advertisements_of listing.now) area.now }
+    requires kept { IsKeptRoot (advertisements_of listing.now) kept.now }
+    requires table { IsTable (advertisements_of listing.now) kept.now.root table.now }
     ensures failures { IfOk result (λ reports. map (λ r. r.0) reports.items ≡ failures.now) }
     ensures large { result ≡ Err WithoutFault.Links → HasLarge (advertisements_of listing.now) }
-    ensures changed { IfOk result (λ reports. All
-        (λ r. IsEffect (advertisements_of listing.now) root r.0 table.now r.1) reports.items) }
+    ensures changed { IfOk result (λ reports. All (λ r. IsEffect (advertisements_of listing.now)
+        kept.now.root r.0 table.now r.1) reports.items) }
 {
     failures
         .par_iter()
         .with_min_len(1)
         .map(
             |failure: &AreaFailure| -> Result<Report, WithoutFault>
-                requires { IsTable (advertisements_of listing.now) root table.now }
-                ensures { IsReportFound (advertisements_of listing.entry.now) root table.entry.now
-                    failure.now result }
-            { report_of(alloc, listing, root, table, failure) },
+                requires graph { IsAreaGraph (advertisements_of listing.now) area.now }
+                requires kept { IsKeptRoot (advertisements_of listing.now) kept.now }
+                requires table { IsTable (advertisements_of listing.now) kept.now.root table.now }
+                ensures { IsReportFound (advertisements_of listing.entry.now) kept.entry.now.root
+                    table.entry.now failure.now result }
+            { report_of(alloc, listing, area, kept, table, failure) },
         )
         .collect::<Result<Vec<Report>, WithoutFault>>(rt, alloc)?
 }
@@ -254,14 +264,19 @@ fn reports_of(
 fn report_of(
     alloc: Global,
     listing: &Listing,
-    root: RouterId,
+    area: &AreaGraph,
+    kept: &KeptRoot,
     table: &RouteTable,
     failure: &AreaFailure,
 ) -> Result<Report, WithoutFault>
-    requires { IsTable (advertisements_of listing.now) root table.now }
-    ensures { IsReportFound (advertisements_of listing.now) root table.now failure.now result }
+    requires graph { IsAreaGraph (advertisements_of listing.now) area.now }
+    requires kept { IsKeptRoot (advertisements_of listing.now) kept.now }
+    requires table { IsTable (advertisements_of listing.now) kept.now.root table.now }
+    ensures { IsReportFound (advertisements_of listing.now) kept.now.root table.now failure.now
+        result }
 {
-    let changes = effect_of(alloc, listing, root, table, failure)?;
+    let outage = Outage::of(alloc, listing, area, failure)?;
+    let changes = kept.effect(alloc, listing, area, &outage, table)?;
     Ok(Report::of(*failure, changes))
 }
 

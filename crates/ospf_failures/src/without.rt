@@ -10,8 +10,8 @@ use crate::answer::Unreported;
 use ospf_base::{Addr, RouterId};
 use ospf_lsa::Listing;
 use ospf_spf::RouteTable;
-use ospf_table::output_text;
-use ospf_whatif::{AreaFailure, find_failure, single_failures, without_all};
+use ospf_table::{find_failure, output_text};
+use ospf_whatif::{AreaFailure, single_failures, without_all};
 use std::alloc::{AllocError, Global};
 
 // What is printed of the table of a router in the area of a listing, without the parts that are named, and of addresses

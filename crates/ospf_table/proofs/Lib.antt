@@ -4,3 +4,4 @@ pub mod Lines
 pub mod Written
 pub mod FloatLemmas
 mod Looked
+mod NameLemmas

@@ -6,3 +6,5 @@ pub mod Output
 pub mod Cut
 pub mod Changes
 pub mod Objects
+pub mod Named
+pub mod Sums

@@ -195,6 +195,20 @@ pub failures_make_no_edge : (f : AreaFailure) (A : List Advertisement) (e : Edge
 unfolding without
 failures_make_no_edge f A e is = edge_from f A e.from e.to e.cost e.link_data is
 
+pub failures_make_no_way : (f : AreaFailure) (A : List Advertisement) (root : RouterId) (prefix : Prefix) → Way (without f A) root prefix → Way A root prefix
+unfolding without
+failures_make_no_way f A root prefix w = (way_from f A root prefix w).0
+
+-- no route costs less after a failure
+pub failures_bring_nothing_nearer : (f : AreaFailure) (A : List Advertisement) (root : RouterId) (old new : Route) → IsRoute A root old → IsRoute (without f A) root new
+    → old.prefix ≡ new.prefix → old.cost ≤ new.cost
+unfolding without
+failures_bring_nothing_nearer f A root old new was is same =
+    let w = way_from f A root new.prefix is.way in
+    let v = under f A root old.prefix new.prefix same w.0 in
+    let low = was.least v.0 in
+    omega (arith, low, v.1, w.1, was.cost_is, is.cost_is)
+
 -- ---- a tree whose least paths all stay
 
 module _ (P Q : Edge → Type 0) (root : Vertex) (At : Vertex → ℕ → Type 0) (Starts : Vertex → Start → Type 0) (t : IsTree P root At Starts)

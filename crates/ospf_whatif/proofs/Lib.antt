@@ -1,9 +1,9 @@
 pub mod WithoutLemmas
 pub mod LessLemmas
 pub mod SingleLemmas
-pub mod ToldLemmas
+pub mod OutageLemmas
 pub mod EffectLemmas
-pub mod NameLemmas
 pub mod FailureOrder
 pub mod SortedLemmas
 pub mod DownLemmas
+pub mod SameStarts

@@ -1,14 +1,12 @@
 -- What a failure changes in a routing table.
-use Rattle.std.specs.Prelude.{◌≡◌, ◌<◌, ◌≤◌, ◌↔◌, ◌⊎◌, ℕ, List, All, AllPairs, Contains}
+use Rattle.std.specs.Prelude.{◌≡◌, ◌<◌, ◌↔◌, List, All, AllPairs, Contains}
 use Rattle.ospf_base.specs.declared.ids.RouterId.{RouterId}
 use Rattle.ospf_graph.specs.Advertisements.{Advertisement}
 use Rattle.ospf_graph.specs.Routes.{IsRouteBefore, IsTable}
 use Rattle.ospf_graph.specs.declared.route.Route.{Route}
-use Rattle.ospf_spf.specs.Changes.{Reaches, prefix_of}
-use Rattle.ospf_spf.specs.declared.changes.Change.{Change}
-use Rattle.ospf_spf.specs.declared.changes.Change.TheVariants as change
+use Rattle.ospf_spf.specs.Changes.{Reaches}
 use Rattle.ospf_whatif.specs.Failure.{without}
-use Rattle.ospf_whatif.specs.Told.{IsAdvertised, prefix_place}
+use Rattle.ospf_whatif.specs.Told.{IsAdvertised}
 use Rattle.ospf_whatif.specs.declared.effect.Loss.{Loss}
 use Rattle.ospf_whatif.specs.declared.effect.Loss.TheVariants.{Cut, Dearer, Gone, Moved}
 use Rattle.ospf_whatif.specs.declared.effect.RouteChange.{RouteChange}
@@ -37,22 +35,3 @@ pub record IsEffectIn (left : List Advertisement) (root : RouterId) (before : Li
 -- what becomes of them where something fails
 abbrev pub IsEffect : List Advertisement → RouterId → AreaFailure → List Route → List RouteChange → Type 0
 IsEffect adverts root failure before effect = IsEffectIn (without failure adverts) root before effect
-
--- each prefix that a router reaches in what is left had a route in its table, at no higher cost
-abbrev pub TakesAway : List Advertisement → RouterId → List Route → Type 0
-TakesAway left root before =
-    (after : List Route) → IsTable left root after → (route : Route) → Contains after route →
-    (old : Route) × Contains before old × (old.prefix ≡ route.prefix) × (old.cost ≤ route.cost)
-
--- ---- by the change at a prefix
-
--- what becomes of a route where the change is at its prefix, and these are the places of the prefixes that are lost and told
-abbrev pub IsLossBy : List ℕ → Route → Change → Loss → Type 0
-IsLossBy told route (change.Put new) loss = ((route.cost < new.cost) × (loss ≡ Dearer new)) ⊎ ((new.cost ≤ route.cost) × (loss ≡ Moved new))
-IsLossBy told route (change.Gone prefix) loss = (Contains told (prefix_place prefix) × (loss ≡ Cut)) ⊎ ((Contains told (prefix_place prefix) → ⊥) × (loss ≡ Gone))
-
--- the route at its prefix, and what becomes of it
-pub record IsChangeBy (routes : List Route) (told : List ℕ) (c : Change) (here : RouteChange) : Type 0 where
-  pub before_in : Contains routes here.before
-  pub prefix_is : here.before.prefix ≡ prefix_of c
-  pub loss_is : IsLossBy told here.before c here.loss

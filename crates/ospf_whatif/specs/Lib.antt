@@ -4,5 +4,5 @@ pub mod Single
 pub mod Laws
 pub mod Told
 pub mod Name
-pub mod Left
+pub mod Outage
 pub mod Wanted

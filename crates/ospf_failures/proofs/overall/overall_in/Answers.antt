@@ -1,7 +1,9 @@
 use Rattle.std.proofs.Common.{◌∙◌, ◌≤◌, List, arith, length, subst, sym}
 use Rattle.std.proofs.lemmas.List.{take_all}
-use Rattle.ospf_whatif.specs.Effect.{TakesAway}
-use Rattle.ospf_failures.specs.Overall.{IsSoFar}
+use Rattle.ospf_edges.specs.Listed.{advertisements_of}
+use Rattle.ospf_whatif.specs.Failure.{without}
+use Rattle.ospf_whatif.specs.declared.failure.AreaFailure.{AreaFailure}
+use Rattle.ospf_failures.specs.Overall.{IsSoFar, IsTableBefore, Sees}
 use Rattle.ospf_failures.specs.declared.overall.Before.{Before}
 use Rattle.ospf_failures.proofs.OverallLemmas.{none_yet, room_after, room_at_start, room_for_one, roots_of, sees_on, still_it}
 use Rattle.ospf_failures.proofs.overall.overall_in.Goals as goal
@@ -9,31 +11,33 @@ use Rattle.ospf_failures.proofs.overall.overall_in.Goals as goal
 pub loop-before-init : goal.loop-before-init
 loop-before-init c = record {
   failure = c.none-overall.ensures.failure;
-  so_far = none_yet c.args.left.now c.args.befores.now c.args.detail c.none-overall.result c.none-overall.ensures.sums c.none-overall.ensures.lines
-      c.none-overall.ensures.sights;
+  so_far = none_yet (without c.args.failure (advertisements_of c.args.listing.now)) c.args.befores.now c.args.detail c.none-overall.result c.none-overall.ensures.sums
+      c.none-overall.ensures.lines c.none-overall.ensures.sights;
   room = room_at_start _ c.none-overall.result.sums (omega arith) c.none-overall.ensures.sums;
 }
 
-pub see-requires : goal.see-requires
-see-requires c = record {
-  away = subst (λ (b : Before). TakesAway c.args.left.now b.root b.table) (sym c.before-item.is)
-      (c.requires c.loop-before.before-index c.before-item.result c.loop-before-test.true);
-  room = room_for_one _ c.loop-before.overall.sums (omega arith) c.loop-before.invariant.room;
-}
+pub see-requires-clause-before : goal.see-requires-clause-before
+see-requires-clause-before c =
+    subst (IsTableBefore (advertisements_of c.args.listing.now)) (sym c.before-item.is) (c.requires.tables c.loop-before.before-index c.before-item.result c.loop-before-test.true)
+
+pub see-requires-clause-room : goal.see-requires-clause-room
+see-requires-clause-room c = room_for_one _ c.loop-before.overall.sums (omega arith) c.loop-before.invariant.room
 
 pub loop-before-preserved : goal.loop-before-preserved
-loop-before-preserved c = record {
-  failure = still_it c.args.left.now c.args.befores.now c.args.detail c.loop-before.before-index c.before-item.result c.loop-before-test.true c.before-item.is c.loop-before.overall
-      c.see.new.self c.loop-before.invariant.so_far c.in_ok-see.ensures ∙ c.loop-before.invariant.failure;
-  so_far =
-      sees_on c.args.left.now c.args.befores.now c.args.detail c.loop-before.before-index c.before-item.result c.loop-before-test.true c.before-item.is c.loop-before.overall
-      c.see.new.self c.loop-before.invariant.so_far c.in_ok-see.ensures;
-  room =
-      room_after c.args.left.now c.before-item.result c.args.detail c.loop-before.overall c.see.new.self _ _ c.in_ok-see.ensures (omega arith) c.loop-before.invariant.room;
-}
+loop-before-preserved c =
+    let A = advertisements_of c.args.listing.now in
+    let left = without c.args.failure A in
+    let sees = subst (λ (f : AreaFailure). Sees (without f A) c.before-item.result c.args.detail c.loop-before.overall c.see.new.self) c.requires.failure c.in_ok-see.ensures in
+    record {
+      failure = still_it left c.args.befores.now c.args.detail c.loop-before.before-index c.before-item.result c.loop-before-test.true c.before-item.is c.loop-before.overall
+          c.see.new.self c.loop-before.invariant.so_far sees ∙ c.loop-before.invariant.failure;
+      so_far = sees_on left c.args.befores.now c.args.detail c.loop-before.before-index c.before-item.result c.loop-before-test.true c.before-item.is c.loop-before.overall
+          c.see.new.self c.loop-before.invariant.so_far sees;
+      room = room_after left c.before-item.result c.args.detail c.loop-before.overall c.see.new.self _ _ sees (omega arith) c.loop-before.invariant.room;
+    }
 
 pub returns-clause-seen : goal.returns-clause-seen
 returns-clause-seen c =
     let end : length c.args.befores.now ≤ c.loop-before.before-index = omega (arith, c.loop-before-test.false) in
-    subst (λ (l : List Before). IsSoFar c.args.left.now c.args.befores.now c.args.detail (roots_of l) c.loop-before.overall) (take_all c.loop-before.before-index c.args.befores.now end)
-    c.loop-before.invariant.so_far
+    subst (λ (l : List Before). IsSoFar (without c.args.failure (advertisements_of c.args.listing.now)) c.args.befores.now c.args.detail (roots_of l) c.loop-before.overall)
+    (take_all c.loop-before.before-index c.args.befores.now end) c.loop-before.invariant.so_far

@@ -11,7 +11,7 @@ use Rattle.ospf_failures.proofs.overall.overalls_of.Goals as goal
 
 pub loop-rest-preserved : goal.loop-rest-preserved
 loop-rest-preserved g c =
-    let P = λ (o : Overall). IsSoFar (without o.failure (advertisements_of c.args.listing.now)) c.args.befores.now c.args.detail (map (λ b. b.root) c.args.befores.now) o in
+    let P = λ (o : Overall). IsSoFar (without o.failure (advertisements_of c.args.at.0.now)) c.args.befores.now c.args.detail (map (λ b. b.root) c.args.befores.now) o in
     let before = c.loop-rest.overalls.items in
     let found = c.in_ok-found.found.items in
     let part = c.split_at.result.0.now in

@@ -9,7 +9,7 @@ use Rattle.ospf_failures.proofs.overall.overalls_of.Given as goal
 abbrev pub invariant-loop-rest : goal.invariant-loop-rest
 invariant-loop-rest g l = record {
   failures : map (λ o. o.failure) l.overalls.items ++ l.rest ≡ l.failures;
-  seen : All (λ o. IsSoFar (without o.failure (advertisements_of l.listing)) l.befores l.detail (map (λ b. b.root) l.befores) o) l.overalls.items;
+  seen : All (λ o. IsSoFar (without o.failure (advertisements_of l.at.0.now)) l.befores l.detail (map (λ b. b.root) l.befores) o) l.overalls.items;
 }
 
 abbrev pub decreases-loop-rest : goal.decreases-loop-rest

@@ -7,7 +7,7 @@ use Rattle.ospf_failures.proofs.FoundLemmas.{all_found}
 use Rattle.ospf_failures.proofs.overall.part_of.Goals as goal
 
 pub collect-requires-clause-ready : goal.collect-requires-clause-ready
-collect-requires-clause-ready g c κs within = rw c.map.ensures.f (λ k d lt x is. (c.requires, λ y post. tt))
+collect-requires-clause-ready g c κs within = rw c.map.ensures.f (λ k d lt x is. ((c.requires.graph, c.requires.tables), λ y post. tt))
 
 pub returns : goal.returns
 returns g c =

@@ -7,13 +7,13 @@ use Rattle.ospf_failures.proofs.FoundLemmas.{all_found}
 use Rattle.ospf_failures.proofs.report.reports_of.Goals as goal
 
 pub collect-requires-clause-ready : goal.collect-requires-clause-ready
-collect-requires-clause-ready g c κs within = rw c.map.ensures.f (λ k d lt x is. (c.requires, λ y post. tt))
+collect-requires-clause-ready g c κs within = rw c.map.ensures.f (λ k d lt x is. ((c.requires.graph, (c.requires.kept, c.requires.table)), λ y post. tt))
 
 pub returns : goal.returns
 returns g c =
     let A = advertisements_of c.args.listing.now in
     let slice = ap (λ it. it.slice.now) (ap (λ m. m.base) c.map.ensures.base ∙ c.with_min_len.ensures.base) ∙ c.par_iter.ensures in
     let chain = rw c.map.ensures.f at c.in_ok-collect.ensures in
-    let each_found = slice-AllZip chain.1.0 c.args.failures.now (chain.1.1 ∙ slice) (IsReportFound A c.args.root c.args.table.now) chain.0 chain.1.2 in
-    let found = all_found A (λ r. r.0) (λ f r. IsEffect A c.args.root f c.args.table.now r.1) c.args.failures.now chain.0 c.in_ok-collect.field-0 each_found chain.2 in
+    let each_found = slice-AllZip chain.1.0 c.args.failures.now (chain.1.1 ∙ slice) (IsReportFound A c.args.kept.now.root c.args.table.now) chain.0 chain.1.2 in
+    let found = all_found A (λ r. r.0) (λ f r. IsEffect A c.args.kept.now.root f c.args.table.now r.1) c.args.failures.now chain.0 c.in_ok-collect.field-0 each_found chain.2 in
     record { failures = found.0; large = found.1; changed = found.2 }

@@ -1,5 +1,5 @@
 use Rattle.std.proofs.Common.{◌≡◌, ℕ, List, subst, sym}
-use Rattle.ospf_whatif.specs.Name.{IsNamed}
+use Rattle.ospf_table.specs.Named.{IsNamed}
 use Rattle.ospf_failures.proofs.WithoutLemmas.{fault_weaker}
 use Rattle.ospf_failures.specs.Without.{IsUnnamedHere}
 use Rattle.ospf_failures.proofs.without.named_one.Goals as goal

@@ -1,0 +1,193 @@
+-- What a failure takes from the graph of an area, and which routes stay.
+use Rattle.std.proofs.Common.{◌≡◌, ◌↔◌, ◌+◌, ◌++◌, ◌∷◌, ◌<◌, ℕ, Bool, true, false, List, [], IsTrue, Some, length, take, get_or, refl, sym, ap, subst, ◌∙◌, inl, inr, arith}
+use Rattle.std.specs.List.{All, Contains}
+use Rattle.std.proofs.lemmas.List.{take_more}
+use Rattle.std.proofs.lemmas.List.Elements.{All-push, Contains-append_left, Contains-push, Contains-push_cases}
+use Rattle.ospf_base.specs.declared.ids.RouterId.{RouterId}
+use Rattle.ospf_base.specs.declared.prefix.Prefix.{Prefix}
+use Rattle.ospf_edges.specs.declared.end.End.{End}
+use Rattle.ospf_graph.specs.Advertisements.{Advertisement}
+use Rattle.ospf_graph.specs.Graph.{IsEdge}
+use Rattle.ospf_graph.specs.Routes.{IsEnd, IsRoute}
+use Rattle.ospf_graph.specs.Search.{AtIn, HaveSameFrom, StartsIn}
+use Rattle.ospf_graph.specs.Tree.{IsTree}
+use Rattle.ospf_graph.specs.declared.candidates.SpfCandidate.{SpfCandidate}
+use Rattle.ospf_graph.specs.declared.graph.Edge.{Edge}
+use Rattle.ospf_graph.specs.declared.graph.Vertex.{Vertex}
+use Rattle.ospf_graph.specs.declared.graph.Vertex.TheVariants.{Network, Router}
+use Rattle.ospf_graph.specs.declared.route.Route.{Route}
+use Rattle.ospf_graph.proofs.CandidateLemmas.{candidates_from-has, candidates_from-is}
+use Rattle.ospf_graph.proofs.ListLemmas.{more_members}
+use Rattle.ospf_graph.proofs.TreeLemmas.{IsTree-map}
+use Rattle.ospf_incremental.specs.Kept.{IsKeptTree, IsSameBut, KeptTree}
+use Rattle.ospf_incremental.specs.Shrinking.{TakesEdges}
+use Rattle.ospf_edges.specs.Given.{IsEdgesOf}
+use Rattle.ospf_spf.proofs.RouteFrame.{IsKeptHere, kept_routes}
+use Rattle.ospf_whatif.specs.Failure.{without}
+use Rattle.ospf_whatif.specs.Laws.{IsOffLeastPaths}
+use Rattle.ospf_whatif.specs.Outage.{AreMissing, HasOtherFrom, IsAreaGraph, IsLeftOver, IsOutage, IsToldBy, MayChange, StandsIn, left_of_area}
+use Rattle.ospf_whatif.specs.Told.{IsAdvertised, IsLive}
+use Rattle.ospf_whatif.specs.declared.failure.AreaFailure.{AreaFailure}
+use Rattle.ospf_whatif.specs.declared.outage.AreaGraph.{AreaGraph}
+use Rattle.ospf_whatif.specs.declared.outage.Outage.{Outage}
+use Rattle.ospf_whatif.proofs.LessLemmas.{failures_leave_listed, failures_make_no_edge, failures_make_no_end, trees_stay}
+
+-- ---- lists
+
+pub missing_start : {X : Type 0} (after : List X) → AreMissing [] after []
+missing_start after = record { within = λ x m. absurd (let low = m.1 in omega arith); all = λ x m. absurd (let low = m.1 in omega arith) }
+
+module _ {X : Type 0} (before after : List X) (i : ℕ) (x : X) (lt : i < length before) (missing : List X) (are : AreMissing (take i before) after missing) where
+  pub missing_none : Contains after (get_or before i x) → AreMissing (take (i + 1) before) after missing
+  missing_none there = record {
+    within = λ y m. let w = are.within y m in ((more_members before i x lt y).1 (inl w.0), w.1);
+    all = λ y m. elim ((more_members before i x lt y).0 m) [ inl earlier ↦ are.all y earlier | inr same ↦ inr (subst (λ z. Contains after z) same there) ];
+  }
+
+  pub missing_more : (Contains after (get_or before i x) → ⊥) → AreMissing (take (i + 1) before) after (missing ++ get_or before i x ∷ [])
+  missing_more not = record {
+    within = λ y m. elim (Contains-push_cases missing (get_or before i x) y m) [
+      | inl old ↦ (let w = are.within y old in ((more_members before i x lt y).1 (inl w.0), w.1))
+      | inr same ↦ ((more_members before i x lt y).1 (inr same), subst (λ z. Contains after z → ⊥) same not)
+    ];
+    all = λ y m. elim ((more_members before i x lt y).0 m) [
+      | inl earlier ↦ elim (are.all y earlier) [ inl old ↦ inl (Contains-append_left missing (get_or before i x ∷ []) y old) | inr there ↦ inr there ]
+      | inr same ↦ inl (subst (λ z. Contains (missing ++ get_or before i x ∷ []) z) same (Contains-push missing (get_or before i x)))
+    ];
+  }
+
+module _ {X : Type 0} (before after : List X) (i : ℕ) (x : X) (lt : i < length before) (is : x ≡ get_or before i x) (missing : List X) (are : AreMissing (take i before) after missing) where
+  pub missing_none_at : Contains after x → AreMissing (take (i + 1) before) after missing
+  missing_none_at there = missing_none before after i x lt missing are (subst (λ z. Contains after z) is there)
+
+  pub missing_more_at : (Contains after x → ⊥) → AreMissing (take (i + 1) before) after (missing ++ x ∷ [])
+  missing_more_at not =
+      subst (λ z. AreMissing (take (i + 1) before) after (missing ++ z ∷ [])) (sym is) (missing_more before after i x lt missing are (subst (λ z. Contains after z → ⊥) is not))
+
+-- of the edges in order all are found that leave a vertex
+pub from_all : (v : Vertex) (edges some : List Edge) → HaveSameFrom v edges some → (e : Edge) → Contains edges e → e.from ≡ v → Contains some e
+from_all v edges some same e m at =
+    (candidates_from-is v 0 some e (0 + e.cost)
+    (subst (λ (cs : List SpfCandidate). Contains cs (record { edge = e; distance = 0 + e.cost })) (same 0) (candidates_from-has v 0 edges e m at))).0
+
+-- ---- what a failure takes
+
+pub outage_is : (f : AreaFailure) (A B : List Advertisement) → B ≡ without f A → (before after : AreaGraph) → IsAreaGraph A before → IsAreaGraph B after → (o : Outage)
+    → o.failure ≡ f → AreMissing before.edges.items after.edges.items o.edges.items → AreMissing before.ends.items after.ends.items o.ends.items → IsOutage A o
+outage_is f A B left before after was is o of edges ends =
+    let same : B ≡ left_of_area A o = left ∙ ap (λ (g : AreaFailure). without g A) (sym of) in
+    record {
+      edges_gone = λ e m. let w = edges.within e m in
+          ((was.edges_are e).0 w.0, (λ there. w.1 ((is.edges_are e).1 (subst (λ (l : List Advertisement). IsEdge l e) (sym same) there))));
+      edges_or = λ e there. elim (edges.all e ((was.edges_are e).1 there)) [
+        | inl gone ↦ inl gone
+        | inr stays ↦ inr (subst (λ (l : List Advertisement). IsEdge l e) same ((is.edges_are e).0 stays))
+      ];
+      ends_gone = λ e m there. (ends.within e m).1 ((is.ends_are e).1 (subst (λ (l : List Advertisement). StandsIn l e) (sym same) there));
+      ends_or = λ e there. elim (ends.all e ((was.ends_are e).1 there)) [
+        | inl gone ↦ inl gone
+        | inr stays ↦ inr (subst (λ (l : List Advertisement). StandsIn l e) same ((is.ends_are e).0 stays))
+      ];
+    }
+
+-- the tree over the edges of an area
+pub tree_over : (A : List Advertisement) (root : RouterId) (k : KeptTree) → k.root ≡ Router root → IsEdgesOf A k.edges → IsKeptTree k
+    → IsTree (IsEdge A) (Router root) (AtIn k.settled) (StartsIn k.starts)
+tree_over A root k root_is edges_are tree =
+    subst (λ (r : Vertex). IsTree (IsEdge A) r (AtIn k.settled) (StartsIn k.starts)) root_is
+    (IsTree-map (Contains k.edges) (IsEdge A) (λ e. (edges_are e).0) (λ e. (edges_are e).1) k.root (AtIn k.settled) (StartsIn k.starts) tree)
+
+module _ (A : List Advertisement) (o : Outage) (is : IsOutage A o) where
+  abbrev B : List Advertisement
+  B = left_of_area A o
+
+  end_from : (p : Prefix) (v : Vertex) (k : ℕ) → IsEnd B p v k → IsEnd A p v k
+  end_from p v k e = failures_make_no_end o.failure A p v k e
+
+  edge_from : (e : Edge) → IsEdge B e → IsEdge A e
+  edge_from e there = failures_make_no_edge o.failure A e there
+
+  -- ---- ends of a prefix
+
+  module _ (area : AreaGraph) (graph : IsAreaGraph A area) where
+    module _ (p : Prefix) (part ends : List End) (part_in : (e : End) → Contains part e → Contains area.ends.items e)
+        (part_all : (e : End) → Contains area.ends.items e → e.prefix ≡ p → Contains part e) (missing : AreMissing part o.ends.items ends) where
+      pub ends_here : (v : Vertex) (k : ℕ) → Contains ends (record { prefix = p; vertex = v; cost = k }) ↔ IsEnd B p v k
+      ends_here v k =
+          let e : End = record { prefix = p; vertex = v; cost = k } in (
+            (λ m.
+                let w = missing.within e m in
+                elim (is.ends_or e ((graph.ends_are e).0 (part_in e w.0))) [ inl gone ↦ absurd (w.1 gone) | inr left ↦ left ]),
+            (λ left. elim (missing.all e (part_all e ((graph.ends_are e).1 (end_from p v k left)) refl)) [ inl there ↦ there | inr gone ↦ absurd (is.ends_gone e gone left) ]),
+          )
+
+      pub told_here : (r : Bool) → IsTrue r ↔ IsToldBy B ends p → IsTrue r ↔ IsAdvertised B p
+      told_here r both = (
+        (λ t. let h = both.0 t in
+            let e : End = record { prefix = p; vertex = h.0.vertex; cost = h.0.cost } in
+            let same : h.0 ≡ e = (λ i. record { prefix = h.2 i; vertex = h.0.vertex; cost = h.0.cost }) in
+            (h.0.vertex, h.0.cost, (ends_here h.0.vertex h.0.cost).0 (subst (λ (x : End). Contains ends x) same h.1), h.3)),
+        (λ h. both.1 (record { prefix = p; vertex = h.0; cost = h.1 }, (ends_here h.0 h.1).1 h.2, refl, h.3)),
+      )
+
+    -- ---- networks
+
+    module _ (n : ℕ) (part : List Edge) (part_in : (e : Edge) → Contains part e → Contains area.edges.items e) (same : HaveSameFrom (Network n) area.edges.items part) where
+      pub live_here : (r : Bool) → IsTrue r ↔ HasOtherFrom part o.edges.items (Network n) → IsTrue r ↔ IsLive B (Network n)
+      live_here r both = (
+        (λ t. let h = both.0 t in elim (is.edges_or h.0 ((graph.edges_are h.0).0 (part_in h.0 h.1))) [ inl gone ↦ absurd (h.3 gone) | inr left ↦ (h.0, left, h.2) ]),
+        (λ h. both.1 (h.0, from_all (Network n) area.edges.items part same h.0 ((graph.edges_are h.0).1 (edge_from h.0 h.1)) h.2, h.2, (λ gone. (is.edges_gone h.0 gone).1 h.1))),
+      )
+
+  -- ---- trees
+
+  -- of a root whose least paths go over none of the edges
+  pub tree_unused : (root : Vertex) (k : KeptTree) → IsTree (IsEdge A) root (AtIn k.settled) (StartsIn k.starts)
+      → ((e : Edge) → Contains o.edges.items e → IsOffLeastPaths (AtIn k.settled) e) → IsTree (IsEdge B) root (AtIn k.settled) (StartsIn k.starts)
+  tree_unused root k tree unused =
+      trees_stay o.failure A root k.settled k.starts tree (λ e there. elim (is.edges_or e there) [ inl gone ↦ inr (unused e gone) | inr left ↦ inl left ])
+
+  -- of the paths that are left without the edges
+  pub tree_left : (root : RouterId) (before after : KeptTree) → IsEdgesOf A before.edges → TakesEdges o.edges.items before.edges after.edges → after.root ≡ Router root → IsKeptTree after
+      → IsTree (IsEdge B) (Router root) (AtIn after.settled) (StartsIn after.starts)
+  tree_left root before after edges_are takes root_is tree =
+      tree_over B root after root_is
+      (λ e. (
+        (λ m. let t = (takes e).0 m in elim (is.edges_or e ((edges_are e).0 t.0)) [ inl gone ↦ absurd (t.1 gone) | inr left ↦ left ]),
+        (λ left. (takes e).1 ((edges_are e).1 (edge_from e left), (λ gone. (is.edges_gone e gone).1 left))),
+      ))
+      tree
+
+  -- ---- routes that stay
+
+  module _ (root : RouterId) (changed : List Vertex) (before after : KeptTree) (over : IsLeftOver A o root changed before after) (p : Prefix) (free : MayChange A o.ends.items changed p → ⊥) where
+    kept_here : IsKeptHere A B before after p
+    kept_here = record {
+      to = λ w d k at there. (
+        (over.same.distance w d (λ m. free (inr (w, k, m, there)))).0 at,
+        elim (is.ends_or (record { prefix = p; vertex = w; cost = k }) there) [
+          | inl gone ↦ absurd (free (inl (record { prefix = p; vertex = w; cost = k }, gone, refl)))
+          | inr left ↦ left
+        ],
+      );
+      from = λ w d k at left. ((over.same.distance w d (λ m. free (inr (w, k, m, end_from p w k left)))).1 at, end_from p w k left);
+      starts = λ w d k x at there. over.same.starts w x (λ m. free (inr (w, k, m, there)));
+    }
+
+    pub stays_here : (r : Route) → r.prefix ≡ p → IsRoute A root r → IsRoute B root r
+    stays_here r of route =
+        let both = failures_leave_listed o.failure A root in
+        (kept_routes A B root before after over.was over.now both.0 both.1 p kept_here).routes r of route
+
+-- paths that stay
+pub same_as_before : (changed : List Vertex) (k : KeptTree) → IsSameBut changed k k
+same_as_before changed k = record { distance = λ v d free. ((λ m. m), (λ m. m)); starts = λ v x free. ((λ m. m), (λ m. m)) }
+
+pub false_true : (b : Bool) → b ≡ false → b ≡ true → ⊥
+false_true b f t = (let both : false ≡ true = sym f ∙ t in cc)
+
+pub some_one : (a b : ℕ) → Some a ≡ Some b → a ≡ b
+some_one a b is = cc
+
+pub all_more : {X : Type 0} (P : X → Type 0) (xs : List X) (i : ℕ) (x : X) → i < length xs → All P (take i xs) → P (get_or xs i x) → All P (take (i + 1) xs)
+all_more P xs i x lt first last = rw (take_more xs i x lt) (All-push P (take i xs) (get_or xs i x) first last)

@@ -1,9 +1,0 @@
-use Rattle.std.proofs.Common.{◌≡◌, take}
-use Rattle.std.specs.List.{Contains}
-use Rattle.ospf_whatif.specs.Name.{IsLinkInSubnet}
-use Rattle.ospf_whatif.specs.declared.failure.AreaFailure.{AreaFailure}
-use Rattle.ospf_whatif.proofs.name.is_alone.Given as goal
-
--- no other before is a link in the subnet
-abbrev pub invariant-loop-failure : goal.invariant-loop-failure
-invariant-loop-failure l = (other : AreaFailure) → Contains (take l.failure-index l.failures) other → IsLinkInSubnet l.word other → other ≡ l.first
