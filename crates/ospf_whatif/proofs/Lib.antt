@@ -7,3 +7,7 @@ pub mod FailureOrder
 pub mod SortedLemmas
 pub mod DownLemmas
 pub mod SameStarts
+pub mod MatchingLemmas
+pub mod RenamedLemmas
+pub mod LinksBackLemmas
+pub mod TakeOverLemmas

@@ -6,3 +6,5 @@ pub mod Told
 pub mod Name
 pub mod Outage
 pub mod Wanted
+pub mod LinksBack
+pub mod Renamed

@@ -1,5 +1,5 @@
 -- What routers want after a failure (RFC 2328, section 12.4.1).
-use Rattle.std.specs.Prelude.{◌≡◌, ◌≢◌, ◌++◌, ◌∷◌, [], ℕ, Bool, true, false, List}
+use Rattle.std.specs.Prelude.{◌≡◌, ◌≢◌, ◌++◌, ◌∷◌, [], ℕ, Bool, true, false, List, map}
 use Rattle.std.specs.List.{AllByRecursion, flat_map}
 use Rattle.ospf_base.specs.Prefixes.{IsPrefixOf}
 use Rattle.ospf_base.specs.declared.ids.RouterId.{RouterId}
@@ -10,6 +10,7 @@ use Rattle.ospf_area.specs.State.{LinkValue}
 use Rattle.ospf_iface.specs.Machine.{is_down}
 use Rattle.ospf_wanted.specs.Wanted.{is_transit, links_at}
 use Rattle.ospf_whatif.specs.Failure.{kept_links, takes}
+use Rattle.ospf_whatif.specs.Renamed.{renamed_link}
 use Rattle.ospf_whatif.specs.declared.failure.AreaFailure.{AreaFailure}
 use Rattle.ospf_whatif.specs.declared.failure.AreaFailure.TheVariants as fails
 
@@ -64,3 +65,26 @@ RoutersStop =
     router.0 ≢ gone.0 → IsWireUp before gone subnet → after.iface ≡ before.iface → after.settings ≡ before.settings → after.neighbours ≡ [] →
     AreSpared (fails.Router gone) router stub_router front → AreSpared (fails.Router gone) router stub_router back →
     IsLeft (fails.Router gone) router stub_router front before after back
+
+-- an interface that is up, on a transit network
+pub record IsOnTransit (l : LinkValue) : Type 0 where
+  pub up : is_down l.iface.state ≡ false
+  pub kind_is : l.iface.settings.kind ≡ kind.Broadcast
+  pub transit : is_transit l ≡ true
+
+-- the new names change none of the links that these interfaces make
+abbrev pub KeepTheirNames : (ℕ → ℕ) → Bool → List LinkValue → Type 0
+KeepTheirNames name stub_router links =
+    AllByRecursion (λ l. renamed_link name l ≡ l) (wanted_links stub_router links)
+
+-- another router becomes the Designated Router of a network, and the interface stays on the network: the router wants the
+-- links of before, under the network's new name
+abbrev pub DesignatedRoutersChange : Type 0
+DesignatedRoutersChange =
+    (name : ℕ → ℕ) (stub_router : Bool) (front back : List LinkValue) (before after : LinkValue) →
+    IsOnTransit before → IsOnTransit after →
+    after.iface.settings ≡ before.iface.settings → after.settings ≡ before.settings →
+    after.iface.dr.0 ≡ name before.iface.dr.0 →
+    KeepTheirNames name stub_router front → KeepTheirNames name stub_router back →
+    wanted_links stub_router (front ++ after ∷ back) ≡
+    map (renamed_link name) (wanted_links stub_router (front ++ before ∷ back))

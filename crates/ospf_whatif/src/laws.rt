@@ -1,6 +1,8 @@
 //! Laws: each holds of all areas and failures.
 
 ghost use Rattle.ospf_whatif.specs.Laws.{FailuresMakeNoEdge, FailuresTakeAway, TreesStay};
+ghost use Rattle.ospf_whatif.specs.LinksBack.{OnlyLinksBackCount};
+ghost use Rattle.ospf_whatif.specs.Renamed.{NetworksAreButNames};
 
 /// After a failure no prefix is reached that was not reached before, and none at a lower cost.
 pub fn failures_take_away()
@@ -16,4 +18,16 @@ pub fn failures_make_no_edge()
 /// as it is.
 pub fn trees_stay()
     ensures { TreesStay }
+{}
+
+/// Routing tables depend on the Link State IDs and the Advertising Routers of transit networks in nothing but the order
+/// of the networks of one prefix.
+pub fn networks_are_but_names()
+    ensures { NetworksAreButNames }
+{}
+
+/// Of network-LSAs nothing counts for routing tables but the masks, and which attached routers link back
+/// (RFC 2328, section 16.1, step 2b).
+pub fn only_links_back_count()
+    ensures { OnlyLinksBackCount }
 {}

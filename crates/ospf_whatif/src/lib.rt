@@ -2,7 +2,8 @@
 //! have after the failure, and what changes in a routing table (RFC 2328, sections 12.4.1 and 16.1).
 //!
 //! That what routers then want to list is what is left here is a law (`links_go_down`, `interfaces_go_down`,
-//! `routers_stop`).
+//! `routers_stop`). Those on a network with another Designated Router list it under another name
+//! (`designated_routers_change`), which changes no routing table (`networks_are_but_names`, `only_links_back_count`).
 #![tactic(auto)]
 
 mod area;
@@ -19,7 +20,12 @@ pub use crate::area::{WithoutFault, without, without_all};
 pub use crate::effect::{Loss, RouteChange};
 pub use crate::failure::AreaFailure;
 pub use crate::failures::single_failures;
-pub use crate::laws::{failures_make_no_edge, failures_take_away, trees_stay};
+pub use crate::laws::{
+    failures_make_no_edge, failures_take_away, networks_are_but_names, only_links_back_count,
+    trees_stay,
+};
 pub use crate::outage::{AreaGraph, Outage};
 pub use crate::root::KeptRoot;
-pub use crate::router_laws::{interfaces_go_down, links_go_down, routers_stop};
+pub use crate::router_laws::{
+    designated_routers_change, interfaces_go_down, links_go_down, routers_stop,
+};

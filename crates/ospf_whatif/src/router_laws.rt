@@ -1,6 +1,6 @@
 //! Laws: each holds of all routers and their interfaces.
 
-ghost use Rattle.ospf_whatif.specs.Wanted.{InterfacesGoDown, LinksGoDown, RoutersStop};
+ghost use Rattle.ospf_whatif.specs.Wanted.{DesignatedRoutersChange, InterfacesGoDown, LinksGoDown, RoutersStop};
 
 /// Where the interface of a point-to-point link goes down, the router wants exactly the links that `Failure::Link` leaves
 /// (RFC 2328, section 12.4.1).
@@ -18,4 +18,10 @@ pub fn interfaces_go_down()
 /// leaves.
 pub fn routers_stop()
     ensures { RoutersStop }
+{}
+
+/// Where another router becomes the Designated Router of a transit network, a router that stays on it wants exactly the
+/// links of before, under the new name of the network.
+pub fn designated_routers_change()
+    ensures { DesignatedRoutersChange }
 {}
