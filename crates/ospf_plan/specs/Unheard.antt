@@ -1,4 +1,4 @@
--- Interfaces of one network of which neither sends to the other.
+-- Interfaces of one network of which neither sends to the other: none hears a Hello of the other (RFC 2328, section 10.5).
 use Rattle.std.specs.Prelude.{◌≡◌, ◌==◌, ◌&&◌, ◌||◌, not, ℕ, Bool, List, [], filter, Option, None, Some, is_some, nat_lt, if◌then◌else◌, option_and_then}
 use Rattle.std.specs.List.{filter_map, find}
 use Rattle.std.specs.BTreeMap as tree

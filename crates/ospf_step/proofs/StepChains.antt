@@ -6,6 +6,7 @@ use Rattle.ospf_area.specs.Outputs.{AreReadAsSent, OutputsValue, SentValue}
 use Rattle.ospf_area.specs.Sending.{and_sends, own_of}
 use Rattle.ospf_area.specs.State.{AreaValue}
 use Rattle.ospf_update.specs.Aging.{TickAges}
+use Rattle.ospf_step.specs.Begins.{BeginsChain, BeginsWork, IsArrival}
 use Rattle.ospf_step.specs.Puts.{PutsOut, headers_met}
 use Rattle.ospf_step.specs.Step.{Chain, Event, IsPart, Part, first_parts, parts_of_datagram, parts_of_packet, last_parts}
 use Rattle.ospf_step.specs.Step.Part.{Acknowledgements, Ages, Hellos, Repeats, Timers, DdComes, HelloComes, LinkChanges, RequestComes}
@@ -98,6 +99,41 @@ module _ (link : ℕ) (source destination : Addr) (bytes : List ℕ) (p : Meanin
     pub acknowledgment_chain : (headers : List LsaHeader) → p.body ≡ acknowledgment headers → t ≡ headers_met (origin_of link source p) headers s → mid_out ≡ out → PutsOut (λ o. Chain (first_parts (Event.Datagram link source destination bytes) ++ rest) s o u) out out'
     acknowledgment_chain headers says state same =
         of_packet (acknowledgment headers) says (headers_put (origin_of link source p) headers rest s t u out out' state (subst (λ o. PutsOut (λ x. Chain rest t x u) o out') same next))
+
+-- ---- what comes in on a link
+
+module _ (e : Event) (link : ℕ) (source : Addr) (p : Meaning) (is : IsArrival e link source p) where
+  -- of the datagram that it is
+  as_datagram : (s : AreaValue) (out : OutputsValue) (t : AreaValue) (mid_out : OutputsValue)
+      → BeginsChain (Event.Datagram link source is.0 is.1) s out t mid_out → BeginsChain e s out t mid_out
+  as_datagram s out t mid_out begins = subst (λ (x : Event). BeginsChain x s out t mid_out) (sym is.2) begins
+
+  pub arrival_hello : (h : Hello) (heard : List RouterId) (named : Bool) → p.body ≡ hello h heard → (s : AreaValue) (out : OutputsValue)
+      → BeginsWork e (hello_part (own_of s) (origin_of link source p) h named s.next_dd) link s out
+  arrival_hello h heard named says s out =
+      as_datagram s out _ _ (λ rest u out' read next. hello_chain link source is.0 is.1 p is.3 rest s _ u out _ out' read next h heard named says refl refl)
+
+  pub arrival_description : (d : Description) (headers : List LsaHeader) → p.body ≡ description d headers → (s : AreaValue) (out : OutputsValue)
+      → IsDatabase s.database → NoneWaitsBelow s link p.router
+      → BeginsWork e (description_part (own_of s) (origin_of link source p) d headers s.database s.next_dd) link s out
+  arrival_description d headers says s out db below =
+      as_datagram s out _ _ (λ rest u out' read next. description_chain link source is.0 is.1 p is.3 rest s _ u out _ out' read next d headers db below says refl refl)
+
+  pub arrival_request : (entries : List RequestEntry) (marks : List LsaKey) → p.body ≡ request entries → (s : AreaValue) (out : OutputsValue) → IsDatabase s.database
+      → let part = request_part (own_of s) (origin_of link source p) s.database entries s.next_dd in
+      BeginsChain e s out (record (worked part link s) { sent = marks }) (and_sends out (work_sent part (own_of s) link s.links))
+  arrival_request entries marks says s out db =
+      as_datagram s out _ _ (λ rest u out' read next. request_chain link source is.0 is.1 p is.3 rest s _ u out _ out' read next entries marks db says refl refl)
+
+  pub arrival_update : (lsas : List (List ℕ)) → p.body ≡ update lsas → (s t : AreaValue) (out mid_out : OutputsValue) → TakesUpdate (origin_of link source p) lsas s out mid_out t
+      → BeginsChain e s out t mid_out
+  arrival_update lsas says s t out mid_out takes =
+      as_datagram s out t mid_out (λ rest u out' read next. update_chain link source is.0 is.1 p is.3 rest s t u out mid_out out' read next lsas says takes)
+
+  pub arrival_acknowledgment : (headers : List LsaHeader) → p.body ≡ acknowledgment headers → (s : AreaValue) (out : OutputsValue)
+      → BeginsChain e s out (headers_met (origin_of link source p) headers s) out
+  arrival_acknowledgment headers says s out =
+      as_datagram s out _ out (λ rest u out' read next. acknowledgment_chain link source is.0 is.1 p is.3 rest s _ u out out out' read next headers says refl refl)
 
 -- ---- links that go up and down
 

@@ -1,4 +1,4 @@
--- How many datagrams a router dropped, by link and cause.
+-- How many datagrams a router dropped, by link and cause (RFC 2328, sections 8.2 and 10.5).
 use Rattle.std.specs.Prelude.{◌==◌, ◌+◌, ◌-◌, ◌^◌, ℕ, List, Option, None, Some, get_or, if◌then◌else◌, length, map, nat_lt, set}
 use Rattle.ospf_step.specs.Step.{Event}
 use Rattle.ospf_step.specs.Step.Event.{Datagram, LinkDown, LinkUp, Tick}

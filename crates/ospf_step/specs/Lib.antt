@@ -8,6 +8,7 @@ pub mod Parts
 pub mod Step
 pub mod Links
 pub mod Puts
+pub mod Begins
 pub mod Invariants
 pub mod Ticks
 pub mod Receipt

@@ -1,6 +1,6 @@
 //! Laws: what a tick does on all links is a part put behind the outputs so far, and the whole tick is the chain of its parts.
 
-ghost use Rattle.std.specs.Prelude.{◌≡◌, ◌++◌, List, map};
+ghost use Rattle.std.specs.Prelude.{◌≡◌, List, map};
 ghost use Rattle.ospf_base.specs.declared.ids.LsaKey.{LsaKey};
 ghost use Rattle.ospf_lsdb.specs.Database.{IsDatabase};
 ghost use Rattle.ospf_area.specs.Outputs.{AreReadAsSent, OutputsValue, SentValue};
@@ -10,8 +10,9 @@ ghost use Rattle.ospf_area.specs.State.{AreaValue};
 ghost use Rattle.ospf_update.specs.Aging.{TickAges};
 ghost use Rattle.ospf_links.specs.Parts.{hello_out, hello_sent, link_timed};
 ghost use Rattle.ospf_links.specs.Repeats.{all_repeats, repeated_links};
+ghost use Rattle.ospf_step.specs.Begins.{BeginsChain};
 ghost use Rattle.ospf_step.specs.Puts.{PutsOut};
-ghost use Rattle.ospf_step.specs.Step.{Chain, Event, IsPart, Part, first_parts};
+ghost use Rattle.ospf_step.specs.Step.{Chain, Event, IsPart, Part};
 ghost use Rattle.ospf_step.specs.Invariants.{AreRising};
 ghost use Rattle.ospf_step.specs.Ticks.{tick_out, ticked_area};
 
@@ -39,20 +40,15 @@ pub fn repeats_put_out()
         PutsOut (λ o. IsPart Part.Repeats s o t) out out' }
 {}
 
-/// All of a tick, and then what follows: only the ages and the last links and marks are not told by what was before.
+/// All of a tick: only the ages and the last links and marks are not told by what was before.
 pub fn ticks_are_chains()
-    ensures { (rest : List Part) (marks : List LsaKey) (s aged t u : AreaValue)
-        (expired : List SentValue) (out mid_out out' : OutputsValue) →
-        AreRising aged.links → AreRising (ticked_area aged).links → IsDatabase aged.database →
-        AreReadAsSent out'.sent → TickAges s expired aged →
-        t ≡ record (ticked_area aged) {
-          links = repeated_links (own_of aged) aged.database
-              (ticked_area aged).links;
-          sent = marks;
-        } →
-        mid_out ≡ tick_out aged (and_sends out expired) →
-        PutsOut (λ o. Chain rest t o u) mid_out out' →
-        PutsOut (λ o. Chain (first_parts Event.Tick ++ rest) s o u) out out' }
+    ensures { (marks : List LsaKey) (s aged : AreaValue) (expired : List SentValue)
+        (out : OutputsValue) → AreRising aged.links → AreRising (ticked_area aged).links →
+        IsDatabase aged.database → TickAges s expired aged →
+        let repeated = repeated_links (own_of aged) aged.database (ticked_area aged).links in
+        BeginsChain Event.Tick s out
+        (record (ticked_area aged) { links = repeated; sent = marks })
+        (tick_out aged (and_sends out expired)) }
 {}
 
 /// What is read once a part was put out, was read before.
