@@ -1,5 +1,5 @@
 -- Ends of which those at a vertex are replaced, and prefixes that are gathered.
-use Rattle.std.specs.Prelude.{◌≢◌, ◌↔◌, ◌⊎◌, List, Contains}
+use Rattle.std.specs.Prelude.{◌≡◌, ◌≢◌, ◌↔◌, ◌⊎◌, List, Contains}
 use Rattle.ospf_base.specs.declared.prefix.Prefix.{Prefix}
 use Rattle.ospf_edges.specs.declared.end.End.{End}
 use Rattle.ospf_graph.specs.declared.graph.Vertex.{Vertex}
@@ -7,6 +7,19 @@ use Rattle.ospf_graph.specs.declared.graph.Vertex.{Vertex}
 -- the ends at a vertex are others, and all else is as it was
 abbrev pub ReplacesEnds : Vertex → List End → List End → List End → Type 0
 ReplacesEnds v at old new = (e : End) → Contains new e ↔ ((Contains old e × (e.vertex ≢ v)) ⊎ Contains at e)
+
+-- all ends at a vertex are among these
+abbrev pub HoldsEndsAt : Vertex → List End → List End → Type 0
+HoldsEndsAt v were ends = (e : End) → Contains ends e → e.vertex ≡ v → Contains were e
+
+-- what is left of ends are all that stand elsewhere, and at a vertex none but some of these
+pub record LeavesEnds (v : Vertex) (at old new : List End) : Type 0 where
+  pub kept : (e : End) → Contains old e → e.vertex ≢ v → Contains new e
+  pub only : (e : End) → Contains new e → Contains old e × ((e.vertex ≢ v) ⊎ Contains at e)
+
+-- some ends come
+abbrev pub AddsEnds : List End → List End → List End → Type 0
+AddsEnds more old new = (e : End) → Contains new e ↔ (Contains old e ⊎ Contains more e)
 
 -- all of the one list are in the other
 abbrev pub HoldsPrefixes : List Prefix → List Prefix → Type 0

@@ -229,7 +229,7 @@ fn turned(
         touch(&turn.after.ends, touched)?;
     }
     if !are_same_ends(&turn.before.ends, &turn.after.ends) {
-        replace_ends(&mut ends, turn.vertex, &turn.after.ends)?;
+        replace_ends(&mut ends, turn.vertex, &turn.before.ends, &turn.after.ends)?;
     }
     Ok(GrowingTree {
         root,

@@ -9,6 +9,11 @@ use Rattle.ospf_router.proofs.GrowingLemmas.{edges_turn, ends_stay, ends_turn, s
 use Rattle.ospf_router.proofs.growing.turned.Goals as goal
 use Rattle.ospf_router.proofs.growing.turned.Goals.{then-is_same_answer+in_ok-touch_turn, else-is_same_answer+in_ok-touch+in_ok-touch-2, then-not-are_same_ends+in_ok-replace_ends, else-not-are_same_ends}
 
+pub replace_ends-requires-clause-were : goal.replace_ends-requires-clause-were
+replace_ends-requires-clause-were c = λ e m here.
+    let turn = c.requires in
+    subst (λ (es : List End). Contains es e) (sym c.deref-then-not-are_same_ends.ensures.value) ((turn.1.before_is.ends e).1 ((turn.1.over.ends_are e).0 m, here))
+
 pub invariant_of-result : goal.invariant_of-result
 invariant_of-result c =
     let turn = c.requires in
@@ -21,7 +26,7 @@ invariant_of-result c =
       tree = g.ensures.tree;
       ends_are = elim c.if-not-are_same_ends.branch [
         | then-not-are_same_ends+in_ok-replace_ends w ↦ rw w.ends-is (ends_turn turn.0 c.args.listing c.args.root c.args.paths c.args.ends.items c.args.turn turn.1 _
-            (rw w.deref-then-not-are_same_ends.ensures.value at w.in_ok-replace_ends.ensures.members))
+            (rw w.deref-then-not-are_same_ends-2.ensures.value at w.in_ok-replace_ends.ensures.members))
         | else-not-are_same_ends w ↦ rw w.ends-is (ends_stay turn.0 c.args.listing c.args.root c.args.paths c.args.ends.items c.args.turn turn.1
             (sym c.deref-5.ensures.value ∙ c.are_same_ends.ensures w.if-not-are_same_ends.false ∙ c.deref-6.ensures.value))
       ];
