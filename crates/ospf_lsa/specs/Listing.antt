@@ -1,5 +1,5 @@
 -- The LSAs that a database lists (RFC 2328, section 12.2; those of age MaxAge take no part, section 14).
-use Rattle.std.specs.Prelude.{◌≡◌, ◌≢◌, ◌↔◌, ◌⊎◌, ℕ, ◌<◌, ◌≤◌, List, [], ◌∷◌, ◌++◌, length, take, drop, slice_index_or}
+use Rattle.std.specs.Prelude.{◌≡◌, ◌≢◌, ◌↔◌, ◌⊎◌, ℕ, ◌<◌, ◌≤◌, List, [], ◌∷◌, ◌++◌, length, map, take, drop, slice_index_or}
 use Rattle.std.specs.List.{Any, AllByRecursion, Contains}
 use Rattle.ospf_base.specs.Bytes.{number_at}
 use Rattle.ospf_base.specs.declared.ids.LsaKey.{LsaKey}
@@ -20,6 +20,15 @@ IsListable lsa = IsLsa lsa × HeaderFits (header_of lsa) × ((header_of lsa).age
 pub record IsListing (lsas : List (List ℕ)) : Type 0 where
   pub rising : IsRising lsas
   pub listed : AllByRecursion IsListable lsas
+
+-- the keys are those of the LSAs, place by place
+abbrev pub AreKeysOf : List LsaKey → List (List ℕ) → Type 0
+AreKeysOf keys lsas = keys ≡ map key_of lsas
+
+-- a listing with its keys
+pub record IsKeyed (keys : List LsaKey) (lsas : List (List ℕ)) : Type 0 where
+  pub listing : IsListing lsas
+  pub keys_are : AreKeysOf keys lsas
 
 -- an LSA of this key is listed
 abbrev pub HasKey : List (List ℕ) → LsaKey → Type 0

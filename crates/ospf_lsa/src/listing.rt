@@ -1,11 +1,11 @@
 //! The LSAs that a database lists.
 
-ghost use Rattle.std.specs.Prelude.{◌≡◌, ◌<◌, ◌↔◌, ◌⊎◌, ◌∷◌, ◌++◌, ℕ, List, [], IsTrue, OnOk, OnErr, Err, IfOk, IfErr, IfSome, IfNone, Contains, length, slice_index_or};
-ghost use Rattle.std.specs.List.{AllByRecursion};
+ghost use Rattle.std.specs.Prelude.{◌≡◌, ◌<◌, ◌↔◌, ◌⊎◌, ◌∷◌, ◌++◌, ◌≤◌, ℕ, List, [], IsTrue, OnOk, OnErr, Err, IfOk, IfErr, IfSome, IfNone, Contains, length, slice_index_or};
+ghost use Rattle.std.specs.List.{AllByRecursion, insert};
 ghost use Rattle.ospf_base.specs.Keys.{Precedes};
 ghost use Rattle.ospf_lsa.specs.Header.{header_of};
 ghost use Rattle.ospf_lsa.specs.Lsa.{key_of};
-ghost use Rattle.ospf_lsa.specs.Listing.{IsListing, IsListable, IsRising, HasKey, IsPlace, IsInserted, IsPut, IsCount, IsNetworkOf, IsOfNetwork};
+ghost use Rattle.ospf_lsa.specs.Listing.{AreKeysOf, IsKeyed, IsListing, IsListable, IsRising, HasKey, IsPlace, IsInserted, IsPut, IsCount, IsNetworkOf, IsOfNetwork};
 ghost use Rattle.ospf_lsa.specs.declared.listing.ListingFault.TheVariants as fault;
 
 use crate::lsa::Lsa;
@@ -55,8 +55,11 @@ impl Display for ListingFault {
 }
 
 /// LSAs below age `MAX_AGE`, at most one a key, in the order of their keys.
+///
+/// Their keys stand beside them, so that a search reads no LSA.
 #[derive(Drop)]
 pub struct Listing {
+    keys: Vec<LsaKey>,
     lsas: Vec<Lsa>,
 }
 
@@ -65,11 +68,11 @@ impl Model for Listing {
 
     ghost Value = { List (List ℕ) };
 
-    ghost use Rattle.ospf_lsa.specs.Listing.{IsListing};
+    ghost use Rattle.ospf_lsa.specs.Listing.{IsKeyed};
 
     ghost view = { λ l. l.lsas.items };
 
-    ghost invariant = { λ l. IsListing l.lsas.items };
+    ghost invariant = { λ l. IsKeyed l.keys.items l.lsas.items };
 }
 
 impl Listing {
@@ -77,6 +80,7 @@ impl Listing {
         ensures { result ≡ [] }
     {
         Listing {
+            keys: Vec::new(alloc),
             lsas: Vec::new(alloc),
         }
     }
@@ -96,7 +100,7 @@ impl Listing {
         ensures none { IfNone result (HasKey self.now key.now → ⊥) }
         ensures listing { IsListing self.now }
     {
-        match search(&self.lsas, key) {
+        match search(&self.keys, &self.lsas, key) {
             Ok(at) => Some(&self.lsas[at]),
             Err(_) => None,
         }
@@ -109,7 +113,7 @@ impl Listing {
             ⊥) }
         ensures listing { IsListing self.now }
     {
-        last_network(&self.lsas, id)
+        last_network(&self.keys, &self.lsas, id)
     }
 
     /// Puts an LSA in where its key belongs (RFC 2328, section 12.2).
@@ -124,13 +128,13 @@ impl Listing {
             ↔ (((header_of lsa).age ≡ 3600) × (HasKey self.old (key_of lsa) → ⊥)) }
     {
         let key = lsa.view().key();
-        let Some(at) = place_of(&self.lsas, &key) else {
+        let Some(at) = place_of(&self.keys, &self.lsas, &key) else {
             return Err(ListingFault::Twice);
         };
         if lsa.view().header().age.ticks() == MAX_AGE {
             return Err(ListingFault::MaxAge);
         }
-        if self.lsas.insert(at, lsa).is_err() {
+        if insert_at(&mut self.keys, &mut self.lsas, at, lsa).is_err() {
             return Err(ListingFault::Memory);
         }
         Ok(())
@@ -150,8 +154,8 @@ impl Listing {
         // For the proof: the bytes are an LSA, and the header fits.
         let view = lsa.view();
         let (_lsa, _fits) = (view.as_bytes(), view.header());
-        self.lsas.push(lsa)?;
-        Ok(())
+        let end = self.lsas.len();
+        insert_at(&mut self.keys, &mut self.lsas, end, lsa)
     }
 
     /// Puts an LSA in the place of the one of its key, or in where its key belongs if none is
@@ -172,7 +176,7 @@ impl Listing {
         if age.ticks() == MAX_AGE {
             return Err(ListingFault::MaxAge);
         }
-        if put_in(&mut self.lsas, lsa).is_err() {
+        if put_in(&mut self.keys, &mut self.lsas, lsa).is_err() {
             return Err(ListingFault::Memory);
         }
         Ok(())
@@ -180,33 +184,35 @@ impl Listing {
 }
 
 // The place of the LSA of a key, or else where one belongs.
-fn search(lsas: &[Lsa], key: &LsaKey) -> Result<usize, usize>
-    requires { IsRising lsas.now }
+fn search(keys: &[LsaKey], lsas: &[Lsa], key: &LsaKey) -> Result<usize, usize>
+    requires rising { IsRising lsas.now }
+    requires keys { AreKeysOf keys.now lsas.now }
     ensures found { IfOk result (λ at. (at < length lsas.now)
         × ((d : List ℕ) → key_of (slice_index_or lsas.now at d) ≡ key.now)) }
     ensures place { IfErr result (λ at. IsPlace lsas.now key.now at) }
 {
-    let at = count_through(lsas, key);
+    let at = count_through(keys, lsas, key);
     if at == 0 {
         return Err(0);
     }
     // What does not stand behind the key, nor before it, bears it.
-    if lsas[at - 1].view().key().precedes(key) {
+    if keys[at - 1].precedes(key) {
         return Err(at);
     }
     Ok(at - 1)
 }
 
 // How many LSAs have keys that do not stand after this one.
-fn count_through(lsas: &[Lsa], key: &LsaKey) -> usize
-    requires { IsRising lsas.now }
+fn count_through(keys: &[LsaKey], lsas: &[Lsa], key: &LsaKey) -> usize
+    requires rising { IsRising lsas.now }
+    requires keys { AreKeysOf keys.now lsas.now }
     ensures { IsCount lsas.now key.now result }
 {
     let mut low = 0;
     let mut high = lsas.len();
     while low < high {
         let middle = low + (high - low) / 2;
-        if key.precedes(&lsas[middle].view().key()) {
+        if key.precedes(&keys[middle]) {
             high = middle;
         } else {
             low = middle + 1;
@@ -216,8 +222,8 @@ fn count_through(lsas: &[Lsa], key: &LsaKey) -> usize
 }
 
 // The last network-LSA of a Link State ID.
-fn last_network(lsas: &[Lsa], id: u32) -> Option<&Lsa>
-    requires { IsListing lsas.now }
+fn last_network<'a>(keys: &[LsaKey], lsas: &'a [Lsa], id: u32) -> Option<&'a Lsa>
+    requires { IsKeyed keys.now lsas.now }
     ensures found { IfSome result (λ lsa. IsNetworkOf lsas.now id lsa.now) }
     ensures none { IfNone result ((lsa : List ℕ) → Contains lsas.now lsa → IsOfNetwork id lsa → ⊥) }
 {
@@ -226,7 +232,7 @@ fn last_network(lsas: &[Lsa], id: u32) -> Option<&Lsa>
         id,
         router: RouterId(u32::MAX),
     };
-    let at = count_through(lsas, &greatest);
+    let at = count_through(keys, lsas, &greatest);
     if at == 0 {
         return None;
     }
@@ -249,37 +255,58 @@ fn is_of_network(lsa: &Lsa, id: u32) -> bool
 }
 
 // Where an LSA of this key belongs, unless one is there.
-fn place_of(lsas: &[Lsa], key: &LsaKey) -> Option<usize>
-    requires { IsRising lsas.now }
+fn place_of(keys: &[LsaKey], lsas: &[Lsa], key: &LsaKey) -> Option<usize>
+    requires rising { IsRising lsas.now }
+    requires keys { AreKeysOf keys.now lsas.now }
     ensures place { IfSome result (λ at. IsPlace lsas.now key.now at) }
     ensures taken { IfNone result (HasKey lsas.now key.now) }
 {
-    match search(lsas, key) {
+    match search(keys, lsas, key) {
         Ok(_) => None,
         Err(at) => Some(at),
     }
 }
 
 // Puts an LSA in the place of the one of its key, or in where its key belongs.
-fn put_in(lsas: &mut Vec<Lsa>, lsa: Lsa) -> Result<(), AllocError>
-    requires listing { IsListing lsas.old.items }
+fn put_in(keys: &mut Vec<LsaKey>, lsas: &mut Vec<Lsa>, lsa: Lsa) -> Result<(), AllocError>
+    requires listing { IsKeyed keys.old.items lsas.old.items }
     requires listed { IsListable lsa }
     // The LSA stands in its place.
     ensures ok { OnOk result (IsPut lsa lsas.old.items lsas.new.items) }
     // Want of memory comes only where its key was not listed, and changes nothing.
     ensures err { OnErr result (lsas.new.items ≡ lsas.old.items) }
     ensures none { OnErr result (HasKey lsas.old.items (key_of lsa) → ⊥) }
-    // What is listed stays a listing.
-    ensures listing { IsListing lsas.new.items }
+    // What is listed stays a listing, beside its keys.
+    ensures listing { IsKeyed keys.new.items lsas.new.items }
 {
-    match search(lsas, &lsa.view().key()) {
+    match search(keys, lsas, &lsa.view().key()) {
         Ok(at) => {
             lsas[at] = lsa;
             Ok(())
         }
-        Err(at) => {
-            lsas.insert(at, lsa)?;
-            Ok(())
-        }
+        Err(at) => insert_at(keys, lsas, at, lsa),
     }
+}
+
+// Puts an LSA in at a place, and its key beside it.
+fn insert_at(
+    keys: &mut Vec<LsaKey>,
+    lsas: &mut Vec<Lsa>,
+    at: usize,
+    lsa: Lsa,
+) -> Result<(), AllocError>
+    requires within { at ≤ length lsas.old.items }
+    requires keys { AreKeysOf keys.old.items lsas.old.items }
+    // It stands there; where there is no memory nothing has changed.
+    ensures ok { OnOk result (lsas.new.items ≡ insert lsas.old.items at lsa) }
+    ensures err { OnErr result (lsas.new.items ≡ lsas.old.items) }
+    ensures keys { AreKeysOf keys.new.items lsas.new.items }
+{
+    let key = lsa.view().key();
+    keys.insert(at, key)?;
+    if lsas.insert(at, lsa).is_err() {
+        keys.remove(at);
+        return Err(AllocError);
+    }
+    Ok(())
 }

@@ -1,9 +1,11 @@
-use Rattle.std.proofs.Common.{refl, ℕ, List, ◌∷◌, ◌++◌, take, drop, ◌≡◌, ◌<◌, ap, sym, ◌∙◌, subst, arith}
+use Rattle.std.proofs.Common.{refl, ℕ, List, ◌≡◌, ◌<◌, ap, sym, ◌∙◌, subst, arith}
 use Rattle.ospf_base.specs.declared.ids.LsaKey.{LsaKey}
 use Rattle.ospf_lsa.specs.Header.{header_of, HeaderFits}
 use Rattle.ospf_lsa.specs.declared.header.LsaHeader.{LsaHeader}
 use Rattle.ospf_lsa.specs.Lsa.{IsLsa, key_of}
 use Rattle.ospf_lsa.specs.Listing.{IsListing, IsPlace, HasKey}
+use Rattle.std.specs.List.{insert}
+use Rattle.ospf_lsa.proofs.PutLemmas.{from_ok}
 use Rattle.ospf_lsa.proofs.ListingLemmas.{IsListing-place, no_key_at}
 use Rattle.ospf_lsa.proofs.listing.Listing.add.Goals as goal
 use Rattle.ospf_lsa.proofs.listing.Listing.add.Goals.{In-Some}
@@ -11,7 +13,7 @@ use Rattle.ospf_lsa.proofs.listing.Listing.add.Goals.{In-Some}
 place : (c : In-Some) → IsPlace c.self.inside.lsas.items (key_of c.args.lsa) c.in-Some.at
 place c =
     let key : c.key-key.result ≡ key_of c.args.lsa = c.key-key.ensures ∙ ap key_of c.view.ensures.same in
-    subst (λ (k : LsaKey). IsPlace c.self.inside.lsas.items k c.in-Some.at) key (rw c.deref.ensures.value at c.in-Some.ensures.place)
+    subst (λ (k : LsaKey). IsPlace c.self.inside.lsas.items k c.in-Some.at) key (rw c.deref-2.ensures.value at c.in-Some.ensures.place)
 
 none : (c : In-Some) → HasKey c.args.self.now (key_of c.args.lsa) → ⊥
 none c has = no_key_at c.self.inside.lsas.items (key_of c.args.lsa) c.in-Some.at (place c) (subst (λ (ls : List (List ℕ)). HasKey ls (key_of c.args.lsa)) (sym c.self.view_is) has)
@@ -38,6 +40,8 @@ invariant_of-self-2 c =
     let fits : HeaderFits (header_of c.args.lsa) = rw c.view-2.ensures.same at c.header.ensures.fits in
     let below : c.ticks.result < 3600 = omega (arith, c.ticks.ensures.at_most, c.if-ticks-eq-MAX_AGE.false) in
     let young : (header_of c.args.lsa).age < 3600 = rw (← age, ← c.ticks.ensures.value) below in
-    let ok = c.if-is_err.ensures.negation in
-    let grown = IsListing-place c.self.inside.lsas.items c.args.lsa c.in-Some.at c.self.invariant (is, fits, young) there in
-    rw (c.insert.ensures.items, ok) (subst (λ (n : ℕ). IsListing (take n c.self.inside.lsas.items ++ c.args.lsa ∷ drop n c.self.inside.lsas.items)) (omega arith) grown)
+    let grown = IsListing-place c.self.inside.lsas.items c.args.lsa c.in-Some.at c.self.invariant.listing (is, fits, young) there in
+    record {
+      listing = subst (λ (ls : List (List ℕ)). IsListing ls) (sym (from_ok c.insert_at.result (c.insert_at.new.lsas.items ≡ insert c.self.inside.lsas.items c.in-Some.at c.args.lsa) c.if-is_err.ensures.negation c.insert_at.ensures.ok)) grown;
+      keys_are = c.insert_at.ensures.keys;
+    }

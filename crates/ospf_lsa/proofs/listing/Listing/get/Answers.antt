@@ -6,4 +6,4 @@ use Rattle.ospf_lsa.proofs.listing.Listing.get.Goals as goal
 pub returns-in-Err-clause-none : goal.returns-in-Err-clause-none
 returns-in-Err-clause-none c =
     subst (λ l. HasKey l c.args.key.now → ⊥) c.self.view_is
-    (no_key_at c.self.inside.lsas.items c.args.key.now c.in-Err.field-0 (rw c.deref.ensures.value at c.in-Err.ensures.place))
+    (no_key_at c.self.inside.lsas.items c.args.key.now c.in-Err.field-0 (rw c.deref-2.ensures.value at c.in-Err.ensures.place))
