@@ -1,5 +1,5 @@
 -- Headers that are put on a request list: each in place of its LSA's entry.
-use Rattle.std.proofs.Common.{◌≡◌, ◌<◌, ◌≤◌, ◌+◌, ◌&&◌, ◌==◌, ◌∙◌, ℕ, zero, suc, Bool, true, false, cond, List, [], ◌∷◌, ◌++◌, Option, Some, None, filter, length, set, get_or, take, refl, sym, ap, subst, arith}
+use Rattle.std.proofs.Common.{◌≡◌, ◌<◌, ◌≤◌, ◌+◌, ◌&&◌, ◌==◌, ◌∙◌, ℕ, zero, suc, Bool, true, false, cond, List, [], ◌∷◌, ◌++◌, Some, None, filter, length, set, get_or, take, refl, sym, ap, arith}
 use Rattle.std.specs.List.{AllByRecursion, position, position_from}
 use Rattle.std.proofs.lemmas.Bool.{false≢true, eqb-true}
 use Rattle.std.proofs.lemmas.List.{take_more}
@@ -11,7 +11,7 @@ use Rattle.ospf_neighbour.specs.OneAKey.{is_of_one_lsa, AsksOnce}
 
 -- ---- one LSA
 
-split_and : (a b : Bool) → a && b ≡ true → (a ≡ true) × (b ≡ true)
+pub split_and : (a b : Bool) → a && b ≡ true → (a ≡ true) × (b ≡ true)
 split_and true b is = (refl, is)
 split_and false b is = absurd (false≢true is)
 

@@ -2,6 +2,8 @@
 
 use crate::lists;
 use crate::machine::{Effect, NbrChange, NbrEvent, NeighbourState, transition};
+use crate::requests::Requests;
+use crate::retransmissions::Retransmissions;
 use ospf_base::{Addr, Instance, LsaKey, RouterId};
 use ospf_lsa::LsaHeader;
 use std::alloc::{AllocError, Global};
@@ -55,10 +57,10 @@ pub struct Neighbour {
     exchanging: Exchanging,
     summary: Vec<LsaHeader>,
     last_dd: Vec<LsaHeader>,
-    requests: Vec<LsaHeader>,
+    requests: Requests,
     asked: usize,
     asked_at: u64,
-    retransmission: Vec<Listed>,
+    retransmission: Retransmissions,
 }
 
 impl Model for Neighbour {
@@ -66,9 +68,9 @@ impl Model for Neighbour {
 
     ghost Value = { NeighbourValue };
 
-    ghost view = { λ n. record { router = n.router; address = n.address; declared = n.declared; state = n.state; inactivity = n.inactivity; exchanging = n.exchanging; summary = n.summary.items; last_dd = n.last_dd.items; requests = n.requests.items; asked = n.asked; asked_at = n.asked_at; retransmission = n.retransmission.items } };
+    ghost view = { λ n. record { router = n.router; address = n.address; declared = n.declared; state = n.state; inactivity = n.inactivity; exchanging = n.exchanging; summary = n.summary.items; last_dd = n.last_dd.items; requests = n.requests; asked = n.asked; asked_at = n.asked_at; retransmission = n.retransmission } };
 
-    ghost invariant = { λ n. IsSoundNeighbour n.state n.summary.items n.last_dd.items n.requests.items n.asked n.retransmission.items };
+    ghost invariant = { λ n. IsSoundNeighbour n.state n.summary.items n.last_dd.items n.requests n.asked n.retransmission };
 }
 
 impl Neighbour {
@@ -101,10 +103,10 @@ impl Neighbour {
             },
             summary: Vec::new(alloc),
             last_dd: Vec::new(alloc),
-            requests: Vec::new(alloc),
+            requests: Requests::new(alloc),
             asked: 0,
             asked_at: 0,
-            retransmission: Vec::new(alloc),
+            retransmission: Retransmissions::new(alloc),
         }
     }
 
@@ -168,7 +170,7 @@ impl Neighbour {
     pub fn requests(&self) -> &[LsaHeader]
         ensures { result.now ≡ self.now.requests }
     {
-        &self.requests
+        self.requests.entries()
     }
 
     /// How many of these, from the front, the last Request named, and when it was sent, in ticks of the router.
@@ -182,7 +184,7 @@ impl Neighbour {
     pub fn asked_headers(&self) -> &[LsaHeader]
         ensures { result.now ≡ take self.now.asked self.now.requests }
     {
-        &self.requests[..self.asked]
+        &self.requests.entries()[..self.asked]
     }
 
     /// Whether it is in Exchange or above. Below, its lists are empty. No list has two entries of one LSA.
@@ -201,7 +203,7 @@ impl Neighbour {
     pub fn retransmission(&self) -> &[Listed]
         ensures { result.now ≡ self.now.retransmission }
     {
-        &self.retransmission
+        self.retransmission.entries()
     }
 
     /// Takes an event (section 10.3). `dead` is the interface's RouterDeadInterval, in ticks. No memory is taken.
@@ -218,14 +220,14 @@ impl Neighbour {
     pub fn is_listed(&self, instance: &Instance) -> bool
         ensures { result ≡ is_listed instance.now self.now.retransmission }
     {
-        lists::is_listed(instance, &self.retransmission)
+        self.retransmission.is_listed(instance)
     }
 
     /// Whether some instance of a key is on the retransmission list.
     pub fn is_key_listed(&self, key: &LsaKey) -> bool
         ensures { result ≡ is_key_listed key.now self.now.retransmission }
     {
-        lists::is_key_listed(key, &self.retransmission)
+        self.retransmission.is_key_listed(key)
     }
 
     /// Puts an instance on the retransmission list (section 13.3), sent at this tick, in place of all others of its key.
@@ -240,21 +242,21 @@ impl Neighbour {
             instance,
             sent_at: tick,
         };
-        lists::put(entry, &mut self.retransmission)
+        self.retransmission.put(entry)
     }
 
     /// Takes an instance off the retransmission list (section 13.7). No memory is taken.
     pub fn unlist(&mut self, instance: &Instance)
         ensures { self.new ≡ unlisted instance.now self.old }
     {
-        lists::remove_instance(instance, &mut self.retransmission);
+        self.retransmission.remove_instance(instance);
     }
 
     /// Takes all instances of a key off the retransmission list (section 13, step 5). No memory is taken.
     pub fn unlist_key(&mut self, key: &LsaKey)
         ensures { self.new ≡ key_unlisted key.now self.old }
     {
-        lists::remove_key(key, &mut self.retransmission);
+        self.retransmission.remove_key(key);
     }
 
     /// An instance was sent to the neighbour at this tick; it counts where the instance is on the retransmission list
@@ -262,14 +264,14 @@ impl Neighbour {
     pub fn resend(&mut self, instance: &Instance, tick: u64)
         ensures { self.new ≡ resent instance.now tick self.old }
     {
-        lists::mark(instance, tick, &mut self.retransmission);
+        self.retransmission.mark(instance, tick);
     }
 
     /// The header on the request list that is of a key's LSA.
     pub fn request_of(&self, key: &LsaKey) -> Option<LsaHeader>
         ensures { result ≡ request_of key.now self.now.requests }
     {
-        lists::request_of(key, &self.requests)
+        self.requests.request_of(key)
     }
 
     /// Takes the entry of a key off the request list; of those that the last Request named, the others are still asked
@@ -277,9 +279,11 @@ impl Neighbour {
     pub fn remove_request(&mut self, key: &LsaKey)
         ensures { self.new ≡ unrequested key.now self.old }
     {
-        let asked = lists::others(key, &self.requests[..self.asked]);
-        lists::remove_requests(key, &mut self.requests);
-        self.asked = asked;
+        if self.requests.is_requested(key) {
+            let asked = lists::others(key, &self.requests.entries()[..self.asked]);
+            self.requests.remove(key);
+            self.asked = asked;
+        }
     }
 
     /// Puts how the exchange of databases stands, which nothing else of the neighbour hangs on.
@@ -290,7 +294,7 @@ impl Neighbour {
     }
 
     /// NegotiationDone (section 10.3), with the headers that are to be described and the instances that go on the
-    /// retransmission list, at most one a key. No memory is taken.
+    /// retransmission list, at most one a key. Want of memory changes nothing that is told.
     pub fn begin_exchange(&mut self, is_master: bool, summary: Vec<LsaHeader>, listed: Vec<Listed>)
         requires state { self.old.state ≡ NeighbourState.ExStart }
         requires alone { IsAloneOfKeys listed.items }
@@ -305,7 +309,7 @@ impl Neighbour {
         self.exchanging.is_master = is_master;
         self.exchanging.accepted = None;
         self.summary = summary;
-        self.retransmission = listed;
+        self.retransmission.replace(listed);
     }
 
     /// Puts headers on the request list (section 10.6), in turn: each takes the place of the entry of its LSA, if there
@@ -317,7 +321,7 @@ impl Neighbour {
         ensures ok { OnOk result (self.new ≡ requesting headers.now self.old) }
         ensures err { OnErr result (self.new ≡ self.old) }
     {
-        lists::put_requests(headers, &mut self.requests)
+        self.requests.put(headers)
     }
 
     /// The next headers of the summary list, `next`, are described in the last DD packet, and leave the list

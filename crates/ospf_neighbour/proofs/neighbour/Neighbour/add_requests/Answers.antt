@@ -1,4 +1,4 @@
-use Rattle.std.proofs.Common.{◌≡◌, ◌≤◌, ◌∙◌, List, length, ap, sym, arith}
+use Rattle.std.proofs.Common.{◌≤◌, ◌∙◌, List, length, ap, sym, arith}
 use Rattle.std.proofs.lemmas.Bool.{false≢true}
 use Rattle.ospf_lsa.specs.declared.header.LsaHeader.{LsaHeader}
 use Rattle.ospf_neighbour.specs.Lists.{requests_put}
@@ -11,16 +11,16 @@ use Rattle.ospf_neighbour.proofs.neighbour.Neighbour.add_requests.Goals as goal
 
 pub invariant_of-self : goal.invariant_of-self
 invariant_of-self c =
-    let old = c.self.inside.requests.items in
+    let old = c.self.inside.requests in
     let put = requests_put c.args.headers.now old in
     record {
       no_summary = c.self.invariant.no_summary;
       no_last_dd = c.self.invariant.no_last_dd;
       no_requests = λ below. absurd (false≢true (sym below ∙ ap (λ (n : NeighbourValue). is_exchanging n.state) c.self.view_is ∙ c.requires));
       no_retransmission = c.self.invariant.no_retransmission;
-      asked_within = by_result (λ (rs : List LsaHeader). c.self.inside.asked ≤ length rs) c.put_requests.result put old c.put_requests.new.all.items c.put_requests.ensures.ok c.put_requests.ensures.err
+      asked_within = by_result (λ (rs : List LsaHeader). c.self.inside.asked ≤ length rs) c.put.result put old c.put.new.self c.put.ensures.ok c.put.ensures.err
           (omega (arith, puts_longer c.args.headers.now old, c.self.invariant.asked_within)) c.self.invariant.asked_within;
-      asks_once = by_result AsksOnce c.put_requests.result put old c.put_requests.new.all.items c.put_requests.ensures.ok c.put_requests.ensures.err
+      asks_once = by_result AsksOnce c.put.result put old c.put.new.self c.put.ensures.ok c.put.ensures.err
           (AsksOnce-put c.args.headers.now old c.self.invariant.asks_once) c.self.invariant.asks_once;
       alone_of_keys = c.self.invariant.alone_of_keys;
     }

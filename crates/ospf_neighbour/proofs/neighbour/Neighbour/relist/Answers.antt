@@ -1,4 +1,4 @@
-use Rattle.std.proofs.Common.{◌≡◌, ◌∙◌, [], ◌∷◌, ◌++◌, not, ap, sym}
+use Rattle.std.proofs.Common.{◌∙◌, [], ◌∷◌, ◌++◌, not, ap, sym}
 use Rattle.std.proofs.lemmas.Bool.{false≢true}
 use Rattle.ospf_neighbour.specs.Lists.{is_of_key, without_key}
 use Rattle.ospf_neighbour.specs.Machine.{is_exchanging}
@@ -13,7 +13,7 @@ pub invariant_of-self : goal.invariant_of-self
 invariant_of-self c =
     let key = c.args.instance.key in
     let entry : Listed = record { instance = c.args.instance; sent_at = c.args.tick } in
-    let old = c.self.inside.retransmission.items in
+    let old = c.self.inside.retransmission in
     record {
       no_summary = c.self.invariant.no_summary;
       no_last_dd = c.self.invariant.no_last_dd;
@@ -21,6 +21,6 @@ invariant_of-self c =
       no_retransmission = λ below. absurd (false≢true (sym below ∙ ap (λ (n : NeighbourValue). is_exchanging n.state) c.self.view_is ∙ c.requires));
       asked_within = c.self.invariant.asked_within;
       asks_once = c.self.invariant.asks_once;
-      alone_of_keys = by_result IsAloneOfKeys c.put.result (without_key key old ++ entry ∷ []) old c.put.new.all.items c.put.ensures.ok c.put.ensures.err
+      alone_of_keys = by_result IsAloneOfKeys c.put.result (without_key key old ++ entry ∷ []) old c.put.new.self c.put.ensures.ok c.put.ensures.err
           (alone_push (without_key key old) entry (alone_kept (λ l. not (is_of_key key l)) old c.self.invariant.alone_of_keys) (apart key old)) c.self.invariant.alone_of_keys;
     }

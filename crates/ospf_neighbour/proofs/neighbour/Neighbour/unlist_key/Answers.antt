@@ -8,7 +8,7 @@ use Rattle.ospf_neighbour.proofs.neighbour.Neighbour.unlist_key.Goals as goal
 pub invariant_of-self : goal.invariant_of-self
 invariant_of-self c =
     let test = λ (l : Listed). not (is_of_key c.args.key.now l) in
-    let all = c.self.inside.retransmission.items in
+    let all = c.self.inside.retransmission in
     record {
       no_summary = c.self.invariant.no_summary;
       no_last_dd = c.self.invariant.no_last_dd;

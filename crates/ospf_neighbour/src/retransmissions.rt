@@ -1,0 +1,164 @@
+//! A retransmission list and the keys of its entries, by which most look-ups need not go over it.
+
+ghost use Rattle.std.specs.Prelude.{◌≡◌, ◌||◌, OnOk};
+ghost use Rattle.std.specs.HashSet.{contains};
+ghost use Rattle.ospf_neighbour.specs.Lists.{is_key_listed, key_eq};
+
+use crate::lists;
+use crate::neighbour::Listed;
+use ospf_base::{Instance, LsaKey};
+use std::alloc::{AllocError, Global};
+use std::collections::HashSet;
+use std::marker::Model;
+
+// Entries, in the order in which they were put. The list is long, and a key that is looked for is mostly not on it.
+#[derive(Drop)]
+pub(crate) struct Retransmissions {
+    entries: Vec<Listed>,
+    keys: HashSet<LsaKey>,
+    // Whether `keys` are those of the entries. Where there was no memory for them, the entries are gone over.
+    is_keyed: bool,
+}
+
+impl Model for Retransmissions {
+    ghost use Rattle.std.specs.Prelude.{◌≡◌, List, true};
+    ghost use Rattle.std.specs.HashSet.{contains};
+    ghost use Rattle.ospf_neighbour.specs.declared.neighbour.Listed.{Listed};
+    ghost use Rattle.ospf_neighbour.specs.Lists.{AreKeysOf, key_eq};
+
+    ghost Value = { List Listed };
+
+    ghost view = { λ r. r.entries.items };
+
+    ghost invariant = { λ r. r.is_keyed ≡ true → AreKeysOf (contains key_eq r.keys) r.entries.items };
+}
+
+impl Retransmissions {
+    ghost use Rattle.std.specs.Prelude.{◌≡◌, ◌++◌, ◌∷◌, [], OnOk, OnErr, map, position};
+    ghost use Rattle.ospf_neighbour.specs.Lists.{is_listed, is_key_listed, is_of_instance, without_instance, without_key, sent_again};
+    ghost use Rattle.ospf_neighbour.specs.OneAKey.{IsAloneOfKeys};
+
+    // An empty list.
+    pub(crate) fn new(alloc: Global) -> Retransmissions
+        ensures { result ≡ [] }
+    {
+        Retransmissions {
+            entries: Vec::new(alloc),
+            keys: HashSet::new(alloc),
+            is_keyed: true,
+        }
+    }
+
+    // Its entries.
+    pub(crate) fn entries(&self) -> &[Listed]
+        ensures { result.now ≡ self.now }
+    {
+        &self.entries
+    }
+
+    // Whether some instance of a key is on the list.
+    pub(crate) fn is_key_listed(&self, key: &LsaKey) -> bool
+        ensures { result ≡ is_key_listed key.now self.now }
+    {
+        if self.is_keyed {
+            self.keys.contains(key)
+        } else {
+            lists::is_key_listed(key, &self.entries)
+        }
+    }
+
+    // Whether an instance is on the list.
+    pub(crate) fn is_listed(&self, instance: &Instance) -> bool
+        ensures { result ≡ is_listed instance.now self.now }
+    {
+        self.is_key_listed(&instance.key) && lists::is_listed(instance, &self.entries)
+    }
+
+    // The place of an instance on the list.
+    fn place_of(&self, instance: &Instance) -> Option<usize>
+        ensures { result ≡ position (is_of_instance instance.now) self.now }
+    {
+        if self.is_key_listed(&instance.key) {
+            lists::place_of(instance, &self.entries)
+        } else {
+            None
+        }
+    }
+
+    // Takes an instance off the list. No memory is taken.
+    pub(crate) fn remove_instance(&mut self, instance: &Instance)
+        requires { IsAloneOfKeys self.old }
+        ensures { self.new ≡ without_instance instance.now self.old }
+    {
+        if let Some(at) = self.place_of(instance) {
+            // It is the only one of its key.
+            self.entries.remove(at);
+            self.keys.remove(&instance.key);
+        }
+    }
+
+    // Takes all instances of a key off the list. No memory is taken.
+    pub(crate) fn remove_key(&mut self, key: &LsaKey)
+        ensures { self.new ≡ without_key key.now self.old }
+    {
+        if self.is_key_listed(key) {
+            lists::remove_key(key, &mut self.entries);
+            self.keys.remove(key);
+        }
+    }
+
+    // Puts an entry on the list, in place of all instances of its key.
+    //
+    // `AllocError` where memory runs out; then the list is as it was.
+    pub(crate) fn put(&mut self, entry: Listed) -> Result<(), AllocError>
+        ensures ok { OnOk result (self.new ≡ without_key entry.instance.key self.old
+            ++ entry ∷ []) }
+        ensures err { OnErr result (self.new ≡ self.old) }
+    {
+        if self.is_key_listed(&entry.instance.key) {
+            return lists::put(entry, &mut self.entries);
+        }
+        self.entries.reserve(1)?;
+        self.keys.insert(entry.instance.key)?;
+        self.entries.push(entry)?;
+        Ok(())
+    }
+
+    // The entries of an instance were sent at this tick.
+    pub(crate) fn mark(&mut self, instance: &Instance, tick: u64)
+        ensures { self.new ≡ map (sent_again instance.now tick) self.old }
+    {
+        if self.is_key_listed(&instance.key) {
+            lists::mark(instance, tick, &mut self.entries);
+        }
+    }
+
+    // Puts other entries in place of all. No memory is wanted: where there is none, their keys are not kept.
+    pub(crate) fn replace(&mut self, entries: Vec<Listed>)
+        ensures { self.new ≡ entries.items }
+    {
+        self.keys.clear();
+        self.is_keyed = add_keys(&entries, &mut self.keys).is_ok();
+        self.entries = entries;
+    }
+
+    // Takes all entries off the list. No memory is taken.
+    pub(crate) fn clear(&mut self)
+        ensures { self.new ≡ [] }
+    {
+        self.entries.clear();
+        self.keys.clear();
+        self.is_keyed = true;
+    }
+}
+
+// Adds the keys of entries. `AllocError` where memory runs out.
+fn add_keys(entries: &[Listed], keys: &mut HashSet<LsaKey>) -> Result<(), AllocError>
+    ensures { OnOk result ((q : LsaKey) → contains key_eq keys.new q
+        ≡ (contains key_eq keys.old q || is_key_listed q entries.now)) }
+{
+    for listed in entries {
+        keys.insert(listed.instance.key)?;
+    }
+    Ok(())
+}
