@@ -6,3 +6,5 @@ pub mod CountLemmas
 mod Events
 pub mod Prefixes
 mod Steps
+pub mod ReplaceLemmas
+pub mod RoutePut

@@ -6,3 +6,4 @@ pub mod Indexes
 pub mod Room
 pub mod Known
 pub mod Rule
+pub mod Replaced

@@ -18,6 +18,17 @@ pub(crate) fn most_hops(routes: &[Route], changes: &[Change]) -> Result<usize, A
     old.checked_add(put).ok_or(AllocError)
 }
 
+/// How many hops the changes put in all; `None` where no number says it.
+pub(crate) fn count_hops_put(changes: &[Change]) -> Option<usize>
+    ensures { IfSome result (λ hops. hops ≡ sum_by hops_put changes.now) }
+{
+    let mut hops: usize = 0;
+    for change in changes {
+        hops = hops.checked_add(hops_of_change(change))?;
+    }
+    Some(hops)
+}
+
 // How many hops the routes have in all; `None` where no number says it.
 fn count_hops(routes: &[Route]) -> Option<usize>
     ensures { IfSome result (λ hops. hops ≡ hops_in routes.now) }
@@ -25,17 +36,6 @@ fn count_hops(routes: &[Route]) -> Option<usize>
     let mut hops: usize = 0;
     for route in routes {
         hops = hops.checked_add(route.hops.as_slice().len())?;
-    }
-    Some(hops)
-}
-
-// How many hops the changes put in all; `None` where no number says it.
-fn count_hops_put(changes: &[Change]) -> Option<usize>
-    ensures { IfSome result (λ hops. hops ≡ sum_by hops_put changes.now) }
-{
-    let mut hops: usize = 0;
-    for change in changes {
-        hops = hops.checked_add(hops_of_change(change))?;
     }
     Some(hops)
 }

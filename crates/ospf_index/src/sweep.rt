@@ -154,6 +154,13 @@ pub(crate) fn most_ranges(count: usize) -> Option<usize>
     count.checked_mul(2)?.checked_add(1)
 }
 
+/// The first address behind a prefix.
+pub(crate) fn end_address(prefix: Prefix) -> u64
+    ensures { result ≡ end_of prefix }
+{
+    prefix.address.0 as u64 + (1u64 << (32 - prefix.length))
+}
+
 /// The ranges of the routes of a table. There is room for them.
 pub(crate) fn ranges_of(sweep: Sweep, routes: &[Route]) -> Ranges
     requires order { AllPairs IsRouteBefore routes.now }
@@ -169,11 +176,4 @@ pub(crate) fn ranges_of(sweep: Sweep, routes: &[Route]) -> Ranges
     sweep.close_to(routes, routes.len(), u32::MAX);
     let Sweep { ranges, opened: _ } = sweep;
     ranges
-}
-
-// The first address behind a prefix.
-fn end_address(prefix: Prefix) -> u64
-    ensures { result ≡ end_of prefix }
-{
-    prefix.address.0 as u64 + (1u64 << (32 - prefix.length))
 }

@@ -11,6 +11,7 @@ ghost use Rattle.ospf_spf.specs.Changes.{edited, IsChangeBefore, PutsHops};
 use crate::counts::most_hops;
 use crate::entries::FoundRoute;
 use crate::index::{Index, IndexRoom};
+use crate::replace::{can_replace, copy_changes, put_routes};
 use ospf_base::Addr;
 use ospf_graph::Route;
 use ospf_spf::{Change, Edit, RouteTable};
@@ -77,7 +78,8 @@ impl IndexedTable {
         Ok(())
     }
 
-    /// Makes changes, which are in the order of tables, in one pass over the table.
+    /// Makes changes, which are in the order of tables. Where they are few, and each puts a route in the place of one
+    /// to the same prefix, mostly no other route is looked at; else it is one pass over the table, and a new index.
     ///
     /// `AllocError` where memory runs out; then the table is as it was.
     pub fn edit(&mut self, alloc: Global, changes: &[Change]) -> Result<(), AllocError>
@@ -86,10 +88,16 @@ impl IndexedTable {
         ensures done { OnOk result (self.new ≡ edited self.old changes.now) }
         ensures refused { OnErr result (self.new ≡ self.old) }
     {
-        let edit = Edit::new(alloc, &self.table, changes)?;
-        let hops = most_hops(self.table.routes(), changes)?;
-        let room = IndexRoom::new(alloc, edit.room(), hops)?;
         let IndexedTable { table, index } = self;
+        if can_replace(table.routes(), changes) && index.has_set_room(changes) {
+            let copies = copy_changes(alloc, changes)?;
+            index.replace(table.routes(), changes);
+            put_routes(table, alloc, copies);
+            return Ok(());
+        }
+        let edit = Edit::new(alloc, table, changes)?;
+        let hops = most_hops(table.routes(), changes)?;
+        let room = IndexRoom::new(alloc, edit.room(), hops)?;
         table.make(edit);
         *index = Index::of(table.routes(), room);
         Ok(())

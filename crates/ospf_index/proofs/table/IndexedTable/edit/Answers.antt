@@ -9,7 +9,7 @@ use Rattle.ospf_index.proofs.CountLemmas.{edited_hops}
 use Rattle.ospf_index.proofs.table.IndexedTable.edit.Goals as goal
 
 pub of-requires-clause-order : goal.of-requires-clause-order
-of-requires-clause-order c = subst (λ (routes : List Route). AllPairs IsRouteBefore routes) (sym c.routes-2.ensures.routes) c.routes-2.ensures.in_order
+of-requires-clause-order c = subst (λ (routes : List Route). AllPairs IsRouteBefore routes) (sym c.routes-3.ensures.routes) c.routes-3.ensures.in_order
 
 pub of-requires-clause-room : goal.of-requires-clause-room
 of-requires-clause-room c =
@@ -17,10 +17,10 @@ of-requires-clause-room c =
     let changes = c.in_ok-edit.edit.changes in
     let planned = c.in_ok-edit.ensures in
     let room = c.in_ok-room.ensures in
-    let new : c.routes-2.result.now ≡ edited old changes = c.routes-2.ensures.routes ∙ c.make.ensures in
-    let most : length c.routes-2.result.now ≤ c.room.result = omega (arith, ap length new, edited_length old changes, ap length planned.changes, planned.room, c.room.ensures) in
-    let before : hops_in c.routes.result.now ≡ hops_in old = ap hops_in c.routes.ensures.routes in
-    let most_hops : hops_in c.routes-2.result.now ≤ c.in_ok-hops.hops =
+    let new : c.routes-3.result.now ≡ edited old changes = c.routes-3.ensures.routes ∙ c.make.ensures in
+    let most : length c.routes-3.result.now ≤ c.room.result = omega (arith, ap length new, edited_length old changes, ap length planned.changes, planned.room, c.room.ensures) in
+    let before : hops_in c.routes-2.result.now ≡ hops_in old = ap hops_in c.routes-2.ensures.routes in
+    let most_hops : hops_in c.routes-3.result.now ≤ c.in_ok-hops.hops =
     omega (arith, ap hops_in new, edited_hops old changes, before, c.in_ok-hops.ensures, ap (λ cs. sum_by hops_put cs) planned.changes) in
     record {
       sweep = record {
