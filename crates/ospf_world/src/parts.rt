@@ -4,7 +4,7 @@ ghost use Rattle.std.specs.Prelude.{◌≡◌, ◌<◌, ◌+◌, ◌++◌, IfOk,
 ghost use Rattle.ospf_headline.specs.Slots.{router_in};
 ghost use Rattle.ospf_world.specs.Does.{Does};
 ghost use Rattle.ospf_world.specs.Rounds.{offers_of, sending_address};
-ghost use Rattle.ospf_world.specs.Worlds.{AddsConfig, Lends, LendsSlot, Opens, is_slot_of, place_in, world_of};
+ghost use Rattle.ospf_world.specs.Worlds.{AddsConfig, Lends, LendsSlot, Opens, is_slot_of, place_in, place_of, world_of};
 
 use crate::networks::{Networks, links_at, network_of, networks_of};
 use crate::offers::{address_of, offers_at};
@@ -128,6 +128,20 @@ impl Parts {
     {
         let place = place(&self.places, sent.router)?;
         address_of(self.slots[place].config(), sent.sent.link)
+    }
+
+    /// Where the router of a Router ID stands.
+    pub(crate) fn place(&self, router: RouterId) -> Option<usize>
+        ensures { result ≡ place_of self.now.slots router.0 }
+    {
+        place(&self.places, router)
+    }
+
+    /// All datagrams count as offered.
+    pub(crate) fn pass_all(&mut self)
+        ensures { self.new ≡ record self.old { offered = length self.old.logs.datagrams } }
+    {
+        self.offered = self.logs.datagrams().len();
     }
 
     /// One more datagram counts as offered.

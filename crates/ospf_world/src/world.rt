@@ -10,7 +10,7 @@ ghost use Rattle.ospf_world.specs.Does.{Does};
 ghost use Rattle.ospf_world.specs.Rounds.{offers_of, sending_address};
 ghost use Rattle.ospf_world.specs.Sounds.{IsSoundBetween};
 ghost use Rattle.ospf_world.specs.Ticks.{TicksOn, ticked_by};
-ghost use Rattle.ospf_world.specs.Worlds.{Lends, Opens, SameSettings, is_slot_of, world_of};
+ghost use Rattle.ospf_world.specs.Worlds.{Lends, Opens, SameSettings, is_slot_of, place_of, world_of};
 
 use crate::parts::Parts;
 use crate::ticks::Ticked;
@@ -179,6 +179,20 @@ impl World {
         ensures { result ≡ sending_address self.now.slots sent.now }
     {
         self.parts.source_of(sent)
+    }
+
+    /// Where the router of a Router ID stands among the slots, if there is one. No memory is taken.
+    pub fn place(&self, router: RouterId) -> Option<usize>
+        ensures { result ≡ place_of self.now.slots router.0 }
+    {
+        self.parts.place(router)
+    }
+
+    /// All datagrams that were sent so far count as offered: no later round offers one of them.
+    pub fn pass_all(&mut self)
+        ensures { self.new ≡ record self.old { offered = length self.old.logs.datagrams } }
+    {
+        self.parts.pass_all();
     }
 
     /// One more datagram counts as offered: no later round offers it.
