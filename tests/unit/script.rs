@@ -98,6 +98,9 @@ fn running(rt: HostRuntime) -> Result<(), Fail> {
     spells(&rt, alloc, "round 20", &round(None), "round 20")?;
     let (line, printed) = ("round  020 18446744073709551615 ", "round 20 18446744073709551615");
     spells(&rt, alloc, line, &round(Some(u64::MAX)), printed)?;
+    spells(&rt, alloc, "batch 0300", &Command::Batch { count: 300 }, "batch 300")?;
+    let line = "batch 18446744073709551615";
+    spells(&rt, alloc, line, &Command::Batch { count: u64::MAX }, line)?;
     let random = Command::Random {
         number: 7,
         count: 5000,
@@ -289,7 +292,7 @@ fn expecting_of_all(rt: HostRuntime) -> Result<(), Fail> {
 }
 
 // Each is refused for one reason.
-const UNREADABLE: [&[u8]; 99] = [
+const UNREADABLE: [&[u8]; 104] = [
     b"cut",
     b"cut all",
     b"cut 10.0.0",
@@ -297,6 +300,11 @@ const UNREADABLE: [&[u8]; 99] = [
     b"mend",
     b"mend 10.0.0.256",
     b"mend 1.1.1.1 10.0.0.5",
+    b"batch",
+    b"batch x",
+    b"batch +1",
+    b"batch 18446744073709551616",
+    b"batch 1 2",
     b"settle",
     b"settle x",
     b"settle +1",
@@ -401,14 +409,15 @@ fn unreadable(rt: HostRuntime) {
     }
 }
 
-const NAMES: &str = "start, stop, tick, up, down, deliver, cut, mend, round, random, settle, neighbours, listing, table, walk, floor, say, why, datagrams, drops, loss, expect, label";
+const NAMES: &str = "start, stop, tick, up, down, deliver, cut, mend, round, batch, random, settle, neighbours, listing, table, walk, floor, say, why, datagrams, drops, loss, expect, label";
 
 #[test]
 fn hints(rt: HostRuntime) -> Result<(), Fail> {
     let alloc = rt.alloc();
-    let forms: [(&[u8], &str); 17] = [
+    let forms: [(&[u8], &str); 18] = [
         (b"cut all", "cut ADDRESS"),
         (b"mend", "mend ADDRESS"),
+        (b"batch x", "batch COUNT"),
         (b"settle x", "settle MAX"),
         (b"label", "label on, or label off"),
         (b"up all 0", "up R LINK, or up all"),

@@ -10,7 +10,7 @@ use Rattle.ospf_commands.specs.Judged.{JudgedSo}
 use Rattle.ospf_commands.specs.Losses.{losses_of}
 use Rattle.ospf_commands.specs.Many.{ComesAbout}
 use Rattle.ospf_commands.specs.Printed.{IsPrinted, IsPrintedBegun}
-use Rattle.ospf_commands.specs.Rounds.{AreRounds, most_of}
+use Rattle.ospf_commands.specs.Rounds.{AreBatches, AreRounds, most_of}
 use Rattle.ospf_commands.specs.Settling.{Settles}
 use Rattle.ospf_commands.specs.Simulations.{Answer, moved}
 use Rattle.ospf_commands.specs.Worlds.{EventDoes, IsRandomRun, WorldValue}
@@ -33,6 +33,7 @@ abbrev pub DoesCommand : Command → Simulation → Answer → Text → Simulati
 DoesCommand (command.Event e) s answer text s' = EventComesAbout e s answer s' × (text ≡ [])
 DoesCommand (command.Many many) s answer text s' = ManyHappen many s answer s' × (text ≡ [])
 DoesCommand (command.Round count most) s answer text s' = AreRounds (most_of most) count s answer s' × (text ≡ [])
+DoesCommand (command.Batch count) s answer text s' = AreBatches count s answer s' × (text ≡ [])
 DoesCommand (command.Random number count) s answer text s' = SomeHappen number count s answer s' × (text ≡ [])
 DoesCommand (command.Settle most) s answer text s' = Settles most (record s { is_settled = false }) answer text s'
 DoesCommand (command.Show view r) s answer text s' = IsViewShown view r s answer text × (s' ≡ s)

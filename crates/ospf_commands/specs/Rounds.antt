@@ -3,7 +3,7 @@ use Rattle.std.specs.Prelude.{◌≡◌, ℕ, suc, Ok, Err, Option, None, Some}
 use Rattle.ospf_headline.specs.declared.event.WorldFault.{WorldFault}
 use Rattle.ospf_commands.specs.Losses.{IsLosingRound}
 use Rattle.ospf_commands.specs.Simulations.{Answer, moved}
-use Rattle.ospf_commands.specs.Worlds.{IsRoundOf, WorldValue, most_offers}
+use Rattle.ospf_commands.specs.Worlds.{IsBatch, IsRoundOf, WorldValue, most_offers}
 use Rattle.ospf_commands.specs.declared.losses.Losses.{Losses}
 use Rattle.ospf_commands.specs.declared.simulation.Simulation.{Simulation}
 
@@ -23,9 +23,20 @@ RoundBy (Some losses) most s answer s' =
 abbrev pub IsOneRound : ℕ → Simulation → Answer → Simulation → Type 0
 IsOneRound most s answer s' = RoundBy s.losses most s answer s'
 
--- so many rounds of so many datagrams at most, one after another, up to the first that is refused
-pub data AreRounds (most : ℕ) : ℕ → Simulation → Answer → Simulation → Type 0 where
-  no_round : {s : Simulation} → AreRounds most 0 s (Ok tt) s
-  one_round : {count : ℕ} {s mid s' : Simulation} {answer : Answer} → IsOneRound most s (Ok tt) mid → AreRounds most count mid answer s'
-      → AreRounds most (suc count) s answer s'
-  refused_round : {count : ℕ} {s s' : Simulation} {fault : WorldFault} → IsOneRound most s (Err fault) s' → AreRounds most (suc count) s (Err fault) s'
+-- a batch, in which nothing is lost
+abbrev pub IsOneBatch : Simulation → Answer → Simulation → Type 0
+IsOneBatch s answer s' = (w : WorldValue) × IsBatch s.world answer w × (s' ≡ moved s w)
+
+-- so many of something, one after another, up to the first that is refused
+pub data AreDone (One : Simulation → Answer → Simulation → Type 0) : ℕ → Simulation → Answer → Simulation → Type 0 where
+  no_more : {s : Simulation} → AreDone One 0 s (Ok tt) s
+  one_more : {count : ℕ} {s mid s' : Simulation} {answer : Answer} → One s (Ok tt) mid → AreDone One count mid answer s' → AreDone One (suc count) s answer s'
+  refused_at : {count : ℕ} {s s' : Simulation} {fault : WorldFault} → One s (Err fault) s' → AreDone One (suc count) s (Err fault) s'
+
+-- so many rounds of so many datagrams at most
+abbrev pub AreRounds : ℕ → ℕ → Simulation → Answer → Simulation → Type 0
+AreRounds most = AreDone (IsOneRound most)
+
+-- so many batches
+abbrev pub AreBatches : ℕ → Simulation → Answer → Simulation → Type 0
+AreBatches = AreDone IsOneBatch

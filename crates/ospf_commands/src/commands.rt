@@ -8,7 +8,7 @@ use crate::asked::{say, show_datagrams, show_drops, show_router, show_walk, show
 use crate::judge::judge;
 use crate::losses::Losses;
 use crate::many::run_many;
-use crate::rounds::{run_events, run_rounds};
+use crate::rounds::{run_batches, run_events, run_rounds};
 use crate::settle::settle;
 use crate::simulation::Simulation;
 use crate::watch::Watch;
@@ -43,6 +43,7 @@ pub fn run_command<O: Write, V: Watch>(
         Command::Round { count, most } => {
             Ok(run_rounds(simulation, *count, *most, alloc, watch))
         }
+        Command::Batch { count } => Ok(run_batches(simulation, *count, alloc, watch)),
         Command::Random { number, count } => {
             Ok(run_events(simulation, *number, *count, alloc, watch))
         }

@@ -2,12 +2,13 @@
 
 ghost use Rattle.std.specs.Prelude.{◌≡◌};
 ghost use Rattle.ospf_commands.specs.Commands.{SomeHappen};
-ghost use Rattle.ospf_commands.specs.Rounds.{AreRounds, IsOneRound, most_of};
+ghost use Rattle.ospf_commands.specs.Rounds.{AreBatches, AreRounds, IsOneRound, most_of};
 ghost use Rattle.ospf_commands.specs.Worlds.{IsRandomRun};
 
 use crate::losing::round_losing;
 use crate::simulation::Simulation;
 use crate::watch::Watch;
+use ospf_batches::batch;
 use ospf_world::{MOST_OFFERS, World, WorldFault};
 use rand_pcg::Lcg64Xsh32;
 use std::alloc::Global;
@@ -51,6 +52,26 @@ pub(crate) fn run_round<V: Watch>(
         Some(losses) => round_losing(world, most, losses, watch, alloc),
         None => world.round_watched(most, watch, alloc),
     }
+}
+
+// So many batches, up to the first that is refused. Nothing is lost in them.
+pub(crate) fn run_batches<V: Watch>(
+    simulation: &mut Simulation,
+    count: u64,
+    alloc: Global,
+    watch: &mut V,
+) -> Result<(), WorldFault>
+    ensures { AreBatches count simulation.old result simulation.new }
+{
+    for done in 0..count {
+        watch.begins_round(done, count);
+        simulation.is_settled = false;
+        match batch(&mut simulation.world, watch, alloc) {
+            Ok(()) => {}
+            Err(fault) => return Err(fault),
+        }
+    }
+    Ok(())
 }
 
 // So many events by chance, some at a time, up to want of memory.

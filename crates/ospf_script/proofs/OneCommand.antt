@@ -196,6 +196,7 @@ takes_one ws (command.Many c) (command.Event d) e h k = absurd (event_not_many w
 takes_one ws (command.Round m i) (command.Round n j) e h k =
     let all = rounds_one ws m n i j h k in
     let one = all.0 in let two = all.1 in cc
+takes_one ws (command.Batch m) (command.Batch n) e h k = ap command.Batch (count_one ws m n h k)
 takes_one ws (command.Random m i) (command.Random n j) e h k =
     let all = numbers_one ws m n i j h k in
     let one = all.0 in let two = all.1 in cc

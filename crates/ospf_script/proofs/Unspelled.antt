@@ -147,6 +147,7 @@ by_key n =
     if n == 1124 then names.Down else
     if n == 1892 then names.Deliver else
     if n == 1394 then names.Round else
+    if n == 1378 then names.Batch else
     if n == 1650 then names.Random else
     if n == 867 then names.Cut else
     if n == 1133 then names.Mend else
@@ -179,6 +180,7 @@ found_by_key word names.Mend is = ap (λ text. by_key (key text)) is
 found_by_key word names.Settle is = ap (λ text. by_key (key text)) is
 found_by_key word names.Label is = ap (λ text. by_key (key text)) is
 found_by_key word names.Round is = ap (λ text. by_key (key text)) is
+found_by_key word names.Batch is = ap (λ text. by_key (key text)) is
 found_by_key word names.Random is = ap (λ text. by_key (key text)) is
 found_by_key word (names.Show view.Listing) is = ap (λ text. by_key (key text)) is
 found_by_key word (names.Show view.Table) is = ap (λ text. by_key (key text)) is

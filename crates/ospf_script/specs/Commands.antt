@@ -156,6 +156,7 @@ abbrev pub name_of_command : Command → Name
 name_of_command (command.Event event) = name_of_event event
 name_of_command (command.Many many) = name_of_many many
 name_of_command (command.Round count most) = name.Round
+name_of_command (command.Batch count) = name.Batch
 name_of_command (command.Random number count) = name.Random
 name_of_command (command.Settle most) = name.Settle
 name_of_command (command.Show view router) = name.Show view
@@ -173,6 +174,7 @@ abbrev pub TakesWords : Command → List Text → Type 0
 TakesWords (command.Event event) ws = TakesEventWords event ws
 TakesWords (command.Many many) ws = TakesMany many ws
 TakesWords (command.Round count most) ws = AreRoundWords ws count most
+TakesWords (command.Batch count) ws = IsCountAlone ws count
 TakesWords (command.Random number count) ws = AreNumbers ws number count
 TakesWords (command.Settle most) ws = IsCountAlone ws most
 TakesWords (command.Show view router) ws = IsRouterAlone ws router

@@ -26,6 +26,7 @@ form_text name.Deliver = codes "deliver N R LINK"
 form_text name.Cut = codes "cut ADDRESS"
 form_text name.Mend = codes "mend ADDRESS"
 form_text name.Round = codes "round COUNT [MOST]"
+form_text name.Batch = codes "batch COUNT"
 form_text name.Random = codes "random NUMBER COUNT"
 form_text name.Settle = codes "settle MAX"
 form_text (name.Show view.Neighbours) = codes "neighbours R"
@@ -45,7 +46,7 @@ form_text name.Label = codes "label on, or label off"
 -- behind a first word that is no name, which names there are; else the form of the command
 abbrev pub hint_of : Text → Option Name → Text
 hint_of word None =
-    word_text word ++ codes ": no command; there are start, stop, tick, up, down, deliver, cut, mend, round, random, settle, neighbours, listing, table, walk, floor, say, why, datagrams, drops, loss, expect, label"
+    word_text word ++ codes ": no command; there are start, stop, tick, up, down, deliver, cut, mend, round, batch, random, settle, neighbours, listing, table, walk, floor, say, why, datagrams, drops, loss, expect, label"
 hint_of word (Some n) = form_text n
 
 -- of the words of a line

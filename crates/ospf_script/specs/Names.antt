@@ -17,6 +17,7 @@ command_name_text name.Deliver = codes "deliver"
 command_name_text name.Cut = codes "cut"
 command_name_text name.Mend = codes "mend"
 command_name_text name.Round = codes "round"
+command_name_text name.Batch = codes "batch"
 command_name_text name.Random = codes "random"
 command_name_text name.Settle = codes "settle"
 command_name_text (name.Show view.Neighbours) = codes "neighbours"
@@ -43,8 +44,8 @@ is_word_of word n = bytes_eq word (command_name_text n)
 
 abbrev pub all_names : List Name
 all_names =
-    name.Start ∷ name.Stop ∷ name.Tick ∷ name.Up ∷ name.Down ∷ name.Deliver ∷ name.Cut ∷ name.Mend ∷ name.Round ∷ name.Random
-    ∷ name.Settle ∷ name.Show view.Neighbours ∷ name.Show view.Listing ∷ name.Show view.Table ∷ name.Show view.Floor ∷ name.Walk
+    name.Start ∷ name.Stop ∷ name.Tick ∷ name.Up ∷ name.Down ∷ name.Deliver ∷ name.Cut ∷ name.Mend ∷ name.Round ∷ name.Batch
+    ∷ name.Random ∷ name.Settle ∷ name.Show view.Neighbours ∷ name.Show view.Listing ∷ name.Show view.Table ∷ name.Show view.Floor ∷ name.Walk
     ∷ name.Say ∷ name.Why ∷ name.Datagrams ∷ name.Drops ∷ name.Loss ∷ name.Expect ∷ name.Label ∷ []
 
 -- the name that a word is, if it is one

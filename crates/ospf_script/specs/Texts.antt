@@ -85,6 +85,7 @@ abbrev pub command_text : Command → Text
 command_text (command.Event event) = event_text event
 command_text (command.Many many) = many_text many
 command_text (command.Round count most) = codes "round " ++ decimal count ++ given_text decimal most
+command_text (command.Batch count) = codes "batch " ++ decimal count
 command_text (command.Random number count) = codes "random " ++ decimal number ++ codes " " ++ decimal count
 command_text (command.Settle most) = codes "settle " ++ decimal most
 command_text (command.Show view router) = view_text view ++ codes " " ++ number_text router.0

@@ -1,5 +1,5 @@
 -- The words of a line: what stands between its spaces.
-use Rattle.std.specs.Prelude.{◌≡◌, ◌==◌, ℕ, Bool, List, Option, None, Some, length, not}
+use Rattle.std.specs.Prelude.{◌==◌, ℕ, Bool, List, Option, None, Some, length, not}
 use Rattle.std.specs.List.{filter, slice_split}
 
 -- a word, or a line: its bytes

@@ -21,6 +21,10 @@ pub enum Command {
         count: u64,
         most: Option<u64>,
     },
+    /// `batch COUNT`: so many batches: rounds in which what waits is handed over router by router.
+    Batch {
+        count: u64,
+    },
     /// `random NUMBER COUNT`: so many events, drawn by the number.
     Random {
         number: u64,

@@ -48,7 +48,7 @@ fn write_names<W: Write>(f: &mut Formatter<W>, word: &[u8]) -> fmt::Result
 {
     write_word(f, word)?;
     f.write_str(
-        ": no command; there are start, stop, tick, up, down, deliver, cut, mend, round, random, settle, neighbours, listing, table, walk, floor, say, why, datagrams, drops, loss, expect, label",
+        ": no command; there are start, stop, tick, up, down, deliver, cut, mend, round, batch, random, settle, neighbours, listing, table, walk, floor, say, why, datagrams, drops, loss, expect, label",
     )
 }
 
@@ -87,6 +87,7 @@ fn form_of(name: Name) -> &'static str
         Name::Cut => "cut ADDRESS",
         Name::Mend => "mend ADDRESS",
         Name::Round => "round COUNT [MOST]",
+        Name::Batch => "batch COUNT",
         Name::Random => "random NUMBER COUNT",
         Name::Settle => "settle MAX",
         Name::Show(View::Neighbours) => "neighbours R",

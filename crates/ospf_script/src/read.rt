@@ -92,6 +92,9 @@ fn of_name(name: Name, text: &[u8]) -> Option<Command>
         return Some(Command::Many { many });
     }
     match name {
+        Name::Batch => Some(Command::Batch {
+            count: number_of(one_word(text)?)?,
+        }),
         Name::Random => {
             let (number, count) = numbers_in(text)?;
             Some(Command::Random { number, count })

@@ -40,6 +40,7 @@ impl Display for Command {
             Command::Event { event } => write_event(f, event),
             Command::Many { many } => write_many(f, many),
             Command::Round { count, most } => write!(f, "round {count}{}", Given(*most)),
+            Command::Batch { count } => write!(f, "batch {count}"),
             Command::Random { number, count } => write!(f, "random {number} {count}"),
             Command::Settle { most } => write!(f, "settle {most}"),
             Command::Show { view, router } => write!(f, "{} {router}", view_of(*view)),

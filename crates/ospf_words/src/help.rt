@@ -158,6 +158,8 @@ pub(crate) const SIM_HELP: &str = "Lines of a script:
   cut ADDRESS, mend ADDRESS   all links to the network of the address go down, or
                               come up
   round COUNT [MOST]          so many times a tick each, and all datagrams delivered
+  batch COUNT                 the same for many routers, each of which takes all
+                              that waits for it at once
   settle MAX                  rounds until nothing changes any more, at most so many
   loss PERCENT NUMBER [ADDRESS]
                               from here on so many of a hundred are lost, by the

@@ -5,7 +5,7 @@ use Rattle.ospf_script.proofs.read.of_name.Goals as goal
 pub returns-in_err-number-in-Random-clause-none : goal.returns-in_err-number-in-Random-clause-none
 returns-in_err-number-in-Random-clause-none c =
     let none = rw c.in_err-number-in-Random.was at c.numbers_in.ensures in
-    if_none c.from_residual.result _ (λ walk say expect. rw c.in-Random.is (no_random _ none))
+    if_none c.from_residual-in_err-number-in-Random.result _ (λ walk say expect. rw c.in-Random.is (no_random _ none))
 
 pub returns-in_err-router-in-Show-clause-none : goal.returns-in_err-router-in-Show-clause-none
 returns-in_err-router-in-Show-clause-none c =
