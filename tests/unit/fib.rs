@@ -4,7 +4,7 @@ use super::given::{FAR, far_answer, two_routers};
 use ospf_base::Addr;
 use ospf_fib::{Closed, Fib, MAX_SEATS, OpenRefused};
 use ospf_index::Opened;
-use ospf_spf::RouteTable;
+use ospf_spf::{Change, RouteTable};
 use std::fmt::Write;
 use std::test::Fail;
 
@@ -37,6 +37,30 @@ fn closed_by_the_writers_end(rt: HostRuntime) -> Result<(), Fail> {
     assert!(rt; seat.lookup(FAR, 0) == Err(Closed));
     seat.learn(told);
     assert!(rt; seat.lookup(FAR, 0) == Err(Closed));
+    Ok(())
+}
+
+// The changes that lead to a table publish what the table does, also where routes come and go.
+#[test]
+fn published_by_changes(rt: HostRuntime) -> Result<(), Fail> {
+    let alloc = rt.alloc();
+    let (mut writer, mut seats) = Fib::open(alloc, &rt, 1)?;
+    let mut seat = seats.pop().ok_or("a seat")?;
+    for version in 1u64..8 {
+        let table = two_routers(alloc, version as u16 % 3)?;
+        let changes = writer.shown().table().changes(alloc, &table)?;
+        let told = writer.publish_changes(&changes)?;
+        let expected = far_answer(version, 10 + version % 3);
+        assert!(rt; seat.lookup(FAR, 0) == Ok(Some(expected)));
+        seat.learn(told);
+    }
+    let _told = writer.publish_changes(&[])?;
+    assert!(rt; seat.lookup(FAR, 0) == Ok(Some(far_answer(8, 11))));
+    let _told = writer.publish(&two_routers(alloc, 5)?)?;
+    assert!(rt; seat.lookup(FAR, 0) == Ok(Some(far_answer(9, 15))));
+    let gone = [Change::Gone(far_answer(9, 15).prefix)];
+    let _told = writer.publish_changes(&gone)?;
+    assert!(rt; seat.lookup(FAR, 0) == Ok(None));
     Ok(())
 }
 

@@ -1,11 +1,12 @@
 //! What the writer writes with: the two copies, and the right to add to the list.
 
-ghost use Rattle.std.specs.Prelude.{◌≡◌, ◌≤◌, ◌+◌, ◌∷◌, ◌++◌, [], drop, length, true, IfOk, OnErr, OnOk};
+ghost use Rattle.std.specs.Prelude.{◌≡◌, ◌∷◌, ◌++◌, [], drop, true, IfErr, IfOk, OnErr, OnOk};
 ghost use Rattle.std.specs.Arc.{arc_value};
 ghost use Rattle.left_right.specs.Sides.{view};
 ghost use Rattle.ospf_index.specs.Rule.{counter_of};
+ghost use Rattle.ospf_fib.specs.Edits.{CanMake, changes_of};
 ghost use Rattle.ospf_fib.specs.Rule.{IsKnownBook};
-ghost use Rattle.ospf_fib.specs.Versions.{EndsWith};
+ghost use Rattle.ospf_fib.specs.Versions.{AddsEdited, EndsWith};
 ghost use Rattle.ospf_fib.specs.Writing.{common_of, shown_end, with_table};
 ghost use Rattle.ospf_spf.specs.Changes.{edited};
 
@@ -13,8 +14,9 @@ use crate::changes::Changes;
 use crate::rule::{Knows, OneList, Swaps};
 use crate::seat::Told;
 use crate::shown::{HandedOver, ShownTable, Tries};
+use crate::table_edit::TableEdit;
 use ospf_index::{ClosedList, Counter, IndexedTable, Opened};
-use ospf_spf::{Edit, RouteTable};
+use ospf_spf::RouteTable;
 use std::alloc::{AllocError, Global};
 use std::marker::Model;
 use std::sync::atomic::Ordering;
@@ -70,9 +72,34 @@ impl Publisher {
         ensures told { IfOk result.1 (λ told. told ≡ result.0) }
         ensures refused { OnErr result.1 (result.0.tables ≡ self.tables) }
     {
-        let Ok(plan) = planned(self.alloc, &self.handed, &self.tries, table) else {
-            return (self, Err(AllocError));
-        };
+        match self.opened() {
+            Ok(open) => open.publish_table(rt, table),
+            Err(publisher) => (publisher, Err(AllocError)),
+        }
+    }
+
+    /// Publishes the last table with these changes. At `Err` what readers find and the list are as they were.
+    pub fn publish_changes<R: Wait>(
+        self,
+        rt: &R,
+        changes: Changes,
+    ) -> (Publisher, Result<Told, AllocError>)
+        ensures fib { result.0.fib ≡ self.fib }
+        ensures published { IfOk result.1 (λ _. AddsEdited self.tables changes result.0.tables) }
+        ensures told { IfOk result.1 (λ told. told ≡ result.0) }
+        ensures refused { OnErr result.1 (result.0.tables ≡ self.tables) }
+    {
+        match self.opened() {
+            Ok(open) => open.publish_changes(rt, changes),
+            Err(publisher) => (publisher, Err(AllocError)),
+        }
+    }
+
+    // Opens the list. The publisher comes back as it was where the list has no room for three steps more.
+    fn opened(self) -> Result<OpenPublisher, Publisher>
+        ensures opened { IfOk result (λ opened. opened.list ≡ self) }
+        ensures full { IfErr result (λ publisher. publisher ≡ self) }
+    {
         let Publisher {
             copies,
             list,
@@ -81,26 +108,20 @@ impl Publisher {
             alloc,
         } = self;
         match list.open(&tries.counter) {
-            Ok(opened) => {
-                let open = OpenPublisher {
-                    copies,
-                    opened,
-                    handed,
-                    tries,
-                    alloc,
-                };
-                open.publish(rt, plan)
-            }
-            Err(list) => {
-                let publisher = Publisher {
-                    copies,
-                    list,
-                    handed,
-                    tries,
-                    alloc,
-                };
-                (publisher, Err(AllocError))
-            }
+            Ok(opened) => Ok(OpenPublisher {
+                copies,
+                opened,
+                handed,
+                tries,
+                alloc,
+            }),
+            Err(list) => Err(Publisher {
+                copies,
+                list,
+                handed,
+                tries,
+                alloc,
+            }),
         }
     }
 
@@ -149,7 +170,7 @@ pub(crate) fn show<R: Wait>(copies: Copies, rt: &R) -> (Copies, Result<(), Alloc
 #[derive(Drop)]
 struct HandOver {
     changes: Changes,
-    edit: Edit,
+    edit: TableEdit,
     tries: Arc<Tries>,
     number: u64,
 }
@@ -205,9 +226,9 @@ impl OpenPublisher {
 
     // Hands changes over. At `Err` nothing was handed over.
     fn hand_over(self, plan: HandOver) -> (OpenPublisher, Result<(), AllocError>)
-        // The plan is whole: its edit is of its changes, has room, and counts for this table.
-        requires edit { plan.edit.changes ≡ plan.changes }
-        requires room { length self.end.table + length plan.changes ≤ plan.edit.room }
+        // The plan is whole: its edit makes its changes of this table, and it counts for this list.
+        requires edit { changes_of plan.edit ≡ plan.changes }
+        requires can_make { CanMake plan.edit self.end.table }
         requires counter { (arc_value plan.tries).counter ≡ counter_of self.list.fib }
         // Then the log leads to the edited table, at the end of the same list.
         ensures list { result.0.list ≡ self.list }
@@ -245,7 +266,7 @@ impl OpenPublisher {
             };
             return (open, Err(AllocError));
         }
-        handed.make(edit);
+        edit.make(alloc, &mut handed);
         let open = OpenPublisher {
             copies,
             opened,
@@ -284,11 +305,76 @@ impl OpenPublisher {
         (publisher, done)
     }
 
+    // Publishes a table, by its changes. At `Err` nothing is published.
+    fn publish_table<R: Wait>(
+        self,
+        rt: &R,
+        table: &RouteTable,
+    ) -> (Publisher, Result<Told, AllocError>)
+        ensures fib { result.0.fib ≡ self.list.fib }
+        ensures published { IfOk result.1 (λ _. result.0.tables ≡ self.list.tables
+            ++ table.now ∷ []) }
+        ensures told { IfOk result.1 (λ told. told ≡ result.0) }
+        ensures refused { OnErr result.1 (result.0.tables ≡ self.list.tables) }
+    {
+        match planned_to(self.alloc, &self.handed, &self.tries, table) {
+            Ok(plan) => self.publish(rt, plan),
+            Err(error) => (self.close(rt), Err(error)),
+        }
+    }
+
+    // Publishes the last table of the list with these changes. At `Err` nothing is published.
+    fn publish_changes<R: Wait>(
+        self,
+        rt: &R,
+        changes: Changes,
+    ) -> (Publisher, Result<Told, AllocError>)
+        ensures fib { result.0.fib ≡ self.list.fib }
+        ensures published { IfOk result.1 (λ _. AddsEdited self.list.tables changes
+            result.0.tables) }
+        ensures told { IfOk result.1 (λ told. told ≡ result.0) }
+        ensures refused { OnErr result.1 (result.0.tables ≡ self.list.tables) }
+    {
+        // What was refused still waits, and is handed over with what comes next. Then the whole table is needed.
+        if self.copies.has_pending_operations() {
+            return self.publish_edited(rt, changes);
+        }
+        match planned(self.alloc, &self.handed, &self.tries, changes) {
+            Ok(plan) => self.publish(rt, plan),
+            Err(error) => (self.close(rt), Err(error)),
+        }
+    }
+
+    // The same by way of the whole table.
+    fn publish_edited<R: Wait>(
+        self,
+        rt: &R,
+        changes: Changes,
+    ) -> (Publisher, Result<Told, AllocError>)
+        ensures fib { result.0.fib ≡ self.list.fib }
+        ensures published { IfOk result.1 (λ _. AddsEdited self.list.tables changes
+            result.0.tables) }
+        ensures told { IfOk result.1 (λ told. told ≡ result.0) }
+        ensures refused { OnErr result.1 (result.0.tables ≡ self.list.tables) }
+    {
+        match edited_copy(self.alloc, self.shown().table(), &changes) {
+            Ok(table) => self.publish_table(rt, &table),
+            Err(error) => (self.close(rt), Err(error)),
+        }
+    }
+
+    // The table that readers find.
+    fn shown(&self) -> &IndexedTable
+        ensures { EndsWith self.now.list.tables result.now }
+    {
+        &self.copies.published().table
+    }
+
     // Publishes the table that the changes lead to.
     fn publish<R: Wait>(self, rt: &R, plan: HandOver) -> (Publisher, Result<Told, AllocError>)
-        // The plan is whole: its edit is of its changes, has room, and counts for this table.
-        requires edit { plan.edit.changes ≡ plan.changes }
-        requires room { length self.end.table + length plan.changes ≤ plan.edit.room }
+        // The plan is whole: its edit makes its changes of this table, and it counts for this list.
+        requires edit { changes_of plan.edit ≡ plan.changes }
+        requires can_make { CanMake plan.edit self.end.table }
         requires counter { (arc_value plan.tries).counter ≡ counter_of self.list.fib }
         // The list gets the edited table, or stays as it was, and what is told knows it.
         ensures fib { result.0.fib ≡ self.list.fib }
@@ -313,28 +399,56 @@ impl OpenPublisher {
 }
 
 // The changes from what was handed over to the table, in a try of their own.
-fn planned(
+fn planned_to(
     alloc: Global,
     handed: &RouteTable,
     tries: &Arc<Tries>,
     table: &RouteTable,
 ) -> Result<HandOver, AllocError>
     ensures changes { IfOk result (λ plan. edited handed.now plan.changes ≡ table.now) }
-    ensures edit { IfOk result (λ plan. plan.edit.changes ≡ plan.changes) }
-    ensures room { IfOk result (λ plan. length handed.now + length plan.changes ≤ plan.edit.room) }
+    ensures edit { IfOk result (λ plan. changes_of plan.edit ≡ plan.changes) }
+    ensures can_make { IfOk result (λ plan. CanMake plan.edit handed.now) }
     ensures tries { IfOk result (λ plan. arc_value plan.tries ≡ arc_value tries.now) }
 {
     let changes = handed.changes(alloc, table)?;
-    let edit = Edit::new(alloc, handed, &changes)?;
+    planned(alloc, handed, tries, Changes::of(changes))
+}
+
+// The changes of what was handed over, in a try of their own.
+fn planned(
+    alloc: Global,
+    handed: &RouteTable,
+    tries: &Arc<Tries>,
+    changes: Changes,
+) -> Result<HandOver, AllocError>
+    ensures changes { IfOk result (λ plan. plan.changes ≡ changes) }
+    ensures edit { IfOk result (λ plan. changes_of plan.edit ≡ plan.changes) }
+    ensures can_make { IfOk result (λ plan. CanMake plan.edit handed.now) }
+    ensures tries { IfOk result (λ plan. arc_value plan.tries ≡ arc_value tries.now) }
+{
+    let edit = TableEdit::new(alloc, handed, changes.as_slice())?;
     let tries = Arc::try_clone(tries)?;
     let number = tries.present.load(Ordering::SeqCst).wrapping_add(1);
     tries.present.store(number, Ordering::SeqCst);
     Ok(HandOver {
-        changes: Changes::of(changes),
+        changes,
         edit,
         tries,
         number,
     })
+}
+
+// A copy of a table, with changes.
+fn edited_copy(
+    alloc: Global,
+    table: &RouteTable,
+    changes: &Changes,
+) -> Result<RouteTable, AllocError>
+    ensures { IfOk result (λ copy. copy ≡ edited table.now changes.now) }
+{
+    let mut copy = table.copy(alloc)?;
+    copy.edit(alloc, changes.as_slice())?;
+    Ok(copy)
 }
 
 // Waits without an end.

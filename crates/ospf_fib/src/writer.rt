@@ -1,14 +1,16 @@
-//! The writer, which publishes whole tables by their changes.
+//! The writer, which publishes tables by their changes.
 
-ghost use Rattle.std.specs.Prelude.{◌≡◌, ◌∷◌, ◌++◌, [], IfOk, OnErr};
+ghost use Rattle.std.specs.Prelude.{◌≡◌, ◌∷◌, ◌++◌, [], All, AllPairs, IfOk, OnErr};
 ghost use mathlib.Core.List.{IsPrefix};
-ghost use Rattle.ospf_fib.specs.Versions.{EndsWith};
+ghost use Rattle.ospf_fib.specs.Versions.{AddsEdited, EndsWith};
+ghost use Rattle.ospf_spf.specs.Changes.{IsChangeBefore, PutsHops};
 
+use crate::changes::Changes;
 use crate::publisher::Publisher;
 use crate::seat::{Seat, Told};
 use core::mem::replace_with;
-use ospf_index::IndexedTable;
-use ospf_spf::RouteTable;
+use ospf_index::{IndexedTable, copy_changes};
+use ospf_spf::{Change, RouteTable};
 use std::alloc::AllocError;
 use std::marker::Model;
 use std::sync::Wait;
@@ -56,6 +58,28 @@ impl<R: Wait + Drop> Writer<R> {
         replace_with(&mut self.publisher, (&self.rt, table), |publisher, asked| {
             publisher.publish(asked.0, asked.1)
         })
+    }
+
+    /// Publishes the table that was published last with these changes, which are in the order of tables, as the
+    /// next version. Where they are few, and each puts a route in the place of one to the same prefix, mostly no
+    /// other route is looked at. It may wait for lookups that are under way.
+    ///
+    /// `AllocError` where memory runs out; then what is published is unchanged.
+    pub fn publish_changes(&mut self, changes: &[Change]) -> Result<Told, AllocError>
+        requires in_order { AllPairs IsChangeBefore changes.now }
+        requires have_hops { All PutsHops changes.now }
+        ensures fib { self.new.fib ≡ self.old.fib }
+        ensures published { IfOk result (λ _. AddsEdited self.old.tables changes.now
+            self.new.tables) }
+        ensures told { IfOk result (λ told. told ≡ self.new) }
+        ensures refused { OnErr result (self.new.tables ≡ self.old.tables) }
+    {
+        let changes = Changes::of(copy_changes(self.publisher.alloc, changes)?);
+        replace_with(
+            &mut self.publisher,
+            (&self.rt, changes),
+            |publisher, asked| { publisher.publish_changes(asked.0, asked.1) },
+        )
     }
 
     /// The table that readers find while no publish runs: the one that was published last.
