@@ -2,8 +2,11 @@
 """Times simulated areas: lines, a ring, links by chance and broadcast networks of routers that come up, and events by chance.
 
 usage: bench/areas.py [PROGRAM [COUNT..]]
+       bench/areas.py --settled [PROGRAM [COUNT..]]
 
-With COUNT it is a line of so many routers, for each, and nothing else.
+With COUNT it is a line of so many routers, for each, and nothing else. With `--settled` areas of links by chance come to agree, of 200,
+500 and 1,000 routers or of each COUNT; then one link goes down and comes up, and nothing happens for a while. It tells the processor
+time that each took, without the end of the process, and the peak of memory so far. So it does of as many routers in pairs.
 
 A router's steps are its ticks and the datagrams that come to it. On lines and rings each datagram comes to one router, on the broadcast network one to all is counted
 as often as it is heard, and of events by chance each is one.
@@ -20,6 +23,15 @@ import proved
 
 ROUNDS = 60
 ALL_ROUTERS = 0xE0000005
+# A round of datagrams without a limit, as far as any of these areas goes.
+NO_LIMIT = 100000000
+SETTLED = (200, 500, 1000)
+IDLE_TICKS = 1000000
+HELLO_INTERVAL = 10
+TICKS_A_SECOND = os.sysconf("SC_CLK_TCK")
+# In /proc/PID/stat, behind the name in brackets: the processor time in user and system mode.
+USER, SYSTEM = 11, 12
+KILOBYTES_A_MEGABYTE = 1024
 
 
 def dotted(number):
@@ -55,21 +67,28 @@ def by_chance(count):
     return configs(count, links)
 
 
+def written(area, place, *last):
+    """The script by which an area starts and comes up, with these lines behind, and its configurations, in files of a folder."""
+    texts, sizes = area
+    names = []
+    for number, text in enumerate(texts):
+        names.append(os.path.join(place, f"{number}.toml"))
+        with open(names[-1], "w", encoding="utf-8") as file:
+            file.write(text)
+    ids = [dotted(0x01000000 + number + 1) for number in range(len(texts))]
+    lines = [f"start {router} 1" for router in ids]
+    lines += [f"up {router} {link}" for router, size in zip(ids, sizes) for link in range(size)]
+    script = os.path.join(place, "script")
+    with open(script, "w", encoding="utf-8") as file:
+        file.write("\n".join([*lines, *last]) + "\n")
+    return script, names
+
+
 def run(program, area, last):
     """The seconds that an area takes from its start to the end of the last line, and the datagrams that were sent."""
-    texts, sizes = area
     with tempfile.TemporaryDirectory() as place:
-        names = []
-        for number, text in enumerate(texts):
-            names.append(os.path.join(place, f"{number}.toml"))
-            with open(names[-1], "w", encoding="utf-8") as file:
-                file.write(text)
-        ids = [dotted(0x01000000 + number + 1) for number in range(len(texts))]
-        lines = [f"start {router} 1" for router in ids]
-        lines += [f"up {router} {link}" for router, size in zip(ids, sizes) for link in range(size)]
-        script, capture = os.path.join(place, "script"), os.path.join(place, "sent")
-        with open(script, "w", encoding="utf-8") as file:
-            file.write("\n".join([*lines, last]) + "\n")
+        script, names = written(area, place, last)
+        capture = os.path.join(place, "sent")
         began = time.monotonic()
         subprocess.run([program, "sim", script, *names], check=True, stderr=subprocess.DEVNULL)
         took = time.monotonic() - began
@@ -88,11 +107,60 @@ def destinations(data):
     return found
 
 
+def used(child):
+    """The processor time of a process so far."""
+    with open(f"/proc/{child.pid}/stat", encoding="utf-8") as file:
+        fields = file.read().rpartition(")")[2].split()
+    return (int(fields[USER]) + int(fields[SYSTEM])) / TICKS_A_SECOND
+
+
+def peak(child):
+    """The most memory that a process has had, in megabytes."""
+    with open(f"/proc/{child.pid}/status", encoding="utf-8") as file:
+        # One that has ended has none.
+        return next((int(line.split()[1]) for line in file if line.startswith("VmHWM")), 0) / KILOBYTES_A_MEGABYTE
+
+
+def marks(program, area, lines):
+    """Of each line that a script says behind the start of an area: what it says, the processor time so far, and the peak of memory."""
+    with tempfile.TemporaryDirectory() as place:
+        # It goes on behind the last line, so that this is not its end.
+        script, names = written(area, place, *lines, f"round {ROUNDS}")
+        # What is said is seen at once where the lines come from standard input.
+        with open(script, "rb") as text:
+            child = subprocess.Popen([program, "sim", "-", *names], stdin=text, stdout=subprocess.PIPE, stderr=subprocess.DEVNULL)
+        found = [(line.decode().strip(), used(child), peak(child)) for line in child.stdout]
+        if child.wait():
+            sys.exit(f"{program} ended with {child.returncode}: {found}")
+        return found
+
+
+def settled(program, counts):
+    """Areas by chance that come to agree, by batches and by rounds, a link of theirs that goes down and comes up, and routers in pairs
+    at which nothing happens."""
+    first = dotted(0x01000001)
+    lines = ["expect agree", "say agree", f"down {first} 0", f"round 5 {NO_LIMIT}", "say down"]
+    lines += [f"up {first} 0", f"round 15 {NO_LIMIT}", "expect agree", "say up"]
+    for count in counts:
+        for way in ("batch 25", f"round 25 {NO_LIMIT}"):
+            (_, cold, most), (_, down, _), (_, up, _) = marks(program, by_chance(count), [way, *lines])
+            print(f"{count} routers and links by chance, {way}: agree after {cold:.2f} s, {most:.0f} MB; a link down {down - cold:.2f} s, up {up - down:.2f} s", flush=True)
+        rounds = IDLE_TICKS // count
+        pairs = configs(count, [(place, place + 1) for place in range(0, count - 1, 2)])
+        (_, begun, _), (_, ended, _) = marks(program, pairs, [f"round {ROUNDS}", "say full", f"round {rounds}", "say idle"])
+        steps = rounds * count + rounds * count // HELLO_INTERVAL
+        print(f"{count} routers in pairs: {steps / (ended - begun):,.0f} idle steps a second", flush=True)
+
+
 def line(count):
     return f"a line of {count}", configs(count, [(k, k + 1) for k in range(count - 1)])
 
 
 def main():
+    if sys.argv[1:2] == ["--settled"]:
+        program = os.path.abspath(sys.argv[2]) if len(sys.argv) > 2 else proved.program()
+        settled(program, [int(word) for word in sys.argv[3:]] or SETTLED)
+        return
     program = os.path.abspath(sys.argv[1]) if len(sys.argv) > 1 else proved.program()
     areas = [line(int(word)) for word in sys.argv[2:]]
     if not areas:
