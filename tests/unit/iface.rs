@@ -1,8 +1,7 @@
 //! The table of the state machine, each pair of state and event, and Hellos.
 
 use ospf_base::{Addr, InterfaceKind, RouterId};
-use ospf_election::Candidate;
-use ospf_iface::{Iface, IfaceChange, IfaceEvent, IfaceSettings, IfaceState};
+use ospf_iface::{Candidate, Iface, IfaceChange, IfaceEvent, IfaceSettings, IfaceState};
 use ospf_packet::{BodyValue, Hello};
 use std::test::Fail;
 

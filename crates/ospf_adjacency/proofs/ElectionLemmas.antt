@@ -5,8 +5,8 @@ use Rattle.std.proofs.lemmas.List.{append_assoc, append-nil, take_more, length-t
 use Rattle.std.proofs.lemmas.List.Kept.{AllPairs-cons}
 use Rattle.std.proofs.lemmas.List.Elements.{All-from_recursion}
 use Rattle.ospf_base.specs.declared.ids.RouterId.{RouterId}
-use Rattle.ospf_election.specs.declared.candidate.Candidate.{Candidate}
-use Rattle.ospf_election.specs.Election.{AreDistinct, IsElected}
+use Rattle.ospf_iface.specs.declared.candidate.Candidate.{Candidate}
+use Rattle.ospf_iface.specs.Election.{AreDistinct, IsElected}
 use Rattle.ospf_iface.specs.declared.machine.Iface.{Iface}
 use Rattle.ospf_iface.specs.declared.machine.IfaceChange.{IfaceChange}
 use Rattle.ospf_iface.specs.Machine.{Elects, is_changed, own_candidate}

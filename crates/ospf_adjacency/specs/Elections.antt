@@ -1,9 +1,9 @@
 -- The election that ends a step on a link, with AdjOK? (RFC 2328, section 9.4).
 use Rattle.std.specs.Prelude.{◌≡◌, ◌≢◌, ◌++◌, ℕ, Bool, true, false, List, [], ◌∷◌, map, filter, if◌then◌else◌}
 use Rattle.std.specs.List.{AllByRecursion}
-use Rattle.ospf_election.specs.declared.candidate.Candidate.{Candidate}
-use Rattle.ospf_election.specs.declared.candidate.Elected.{Elected}
-use Rattle.ospf_election.specs.Election.{IsElected}
+use Rattle.ospf_iface.specs.declared.candidate.Candidate.{Candidate}
+use Rattle.ospf_iface.specs.declared.candidate.Elected.{Elected}
+use Rattle.ospf_iface.specs.Election.{IsElected}
 use Rattle.ospf_iface.specs.declared.machine.Iface.{Iface}
 use Rattle.ospf_iface.specs.declared.machine.IfaceState.{IfaceState}
 use Rattle.ospf_iface.specs.declared.machine.IfaceState.TheVariants as iface

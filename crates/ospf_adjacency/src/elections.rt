@@ -1,8 +1,8 @@
 //! The election that ends a step on a link.
 
 ghost use Rattle.std.specs.Prelude.{◌≡◌, ◌++◌, List, Contains, true, map, IfOk, OnOk};
-ghost use Rattle.ospf_election.specs.Election.{AreDistinct};
-ghost use Rattle.ospf_election.specs.declared.candidate.Candidate.{Candidate};
+ghost use Rattle.ospf_iface.specs.Election.{AreDistinct};
+ghost use Rattle.ospf_iface.specs.declared.candidate.Candidate.{Candidate};
 ghost use Rattle.ospf_iface.specs.declared.machine.IfaceChange.{IfaceChange};
 ghost use Rattle.ospf_iface.specs.Machine.{own_candidate, Elects};
 ghost use Rattle.ospf_adjacency.specs.Elections.{AreOfLink, ElectsOn, elects_in, candidate_of, candidates_of, adjusted, number_after, first_dds};
@@ -10,9 +10,8 @@ ghost use Rattle.ospf_area.specs.Packets.{Parcel};
 
 use crate::adjacency::{take_event, wants_adjacency};
 use ospf_area::{OnLink, Post};
-use ospf_election::Candidate;
 use ospf_exchange::Local;
-use ospf_iface::{Iface, IfaceEvent, IfaceState};
+use ospf_iface::{Candidate, Iface, IfaceEvent, IfaceState};
 use ospf_neighbour::{NbrEvent, Neighbour};
 use std::alloc::{AllocError, Global};
 

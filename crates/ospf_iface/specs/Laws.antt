@@ -1,9 +1,26 @@
--- Laws of interfaces.
-use Rattle.std.specs.Prelude.{List, ◌∷◌}
-use Rattle.ospf_election.specs.declared.candidate.Candidate.{Candidate}
-use Rattle.ospf_election.specs.Election.{AreOthers, AreCandidatesRising}
+-- What holds of every election (RFC 2328, section 9.4), and of every interface that elects.
+use Rattle.std.specs.Prelude.{◌≡◌, ◌↔◌, List, ◌∷◌, Contains}
+use Rattle.ospf_base.specs.declared.ids.RouterId.{RouterId}
+use Rattle.ospf_iface.specs.declared.candidate.Candidate.{Candidate}
+use Rattle.ospf_iface.specs.declared.candidate.Elected.{Elected}
 use Rattle.ospf_iface.specs.declared.machine.Iface.{Iface}
+use Rattle.ospf_iface.specs.Election.{IsElected, AreDistinct, AreOthers, HasMe, AreCandidatesRising}
 use Rattle.ospf_iface.specs.Machine.{own_candidate, CanElect}
+
+-- the order of the candidates does not matter, nor does one that stands twice
+abbrev pub OrderDoesNotMatter : Type 0
+OrderDoesNotMatter = (candidates others : List Candidate) (me : RouterId) (e : Elected)
+    → ((c : Candidate) → Contains candidates c ↔ Contains others c) → IsElected candidates me e → IsElected others me e
+
+-- no other result is the election's
+abbrev pub OneResult : Type 0
+OneResult = (candidates : List Candidate) (me : RouterId) (e f : Elected)
+    → AreDistinct candidates → IsElected candidates me e → IsElected candidates me f → e ≡ f
+
+-- a router beside others, whose Router IDs rise, can be elected from among them, as itself
+abbrev pub OwnBesideOthers : Type 0
+OwnBesideOthers = (own : Candidate) (others : List Candidate)
+    → AreCandidatesRising others → AreOthers own.id others → AreDistinct (own ∷ others) × HasMe (own ∷ others) own.id
 
 -- the own router beside others, whose Router IDs rise, can be elected from among them
 abbrev pub OwnMayBeElected : Type 0

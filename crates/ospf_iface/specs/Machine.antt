@@ -2,9 +2,9 @@
 use Rattle.std.specs.Prelude.{◌≡◌, ◌==◌, ◌&&◌, not, ℕ, ⊤, Bool, true, false, List, Contains, if◌then◌else◌}
 use Rattle.ospf_base.specs.Addresses.{nowhere}
 use Rattle.ospf_base.specs.declared.ids.Addr.{Addr}
-use Rattle.ospf_election.specs.declared.candidate.Candidate.{Candidate}
-use Rattle.ospf_election.specs.declared.candidate.Elected.{Elected}
-use Rattle.ospf_election.specs.Election.{IsElected, AreDistinct}
+use Rattle.ospf_iface.specs.declared.candidate.Candidate.{Candidate}
+use Rattle.ospf_iface.specs.declared.candidate.Elected.{Elected}
+use Rattle.ospf_iface.specs.Election.{IsElected, AreDistinct}
 use Rattle.ospf_iface.specs.declared.machine.Iface.{Iface}
 use Rattle.ospf_iface.specs.declared.machine.IfaceChange.{IfaceChange}
 use Rattle.ospf_iface.specs.declared.settings.IfaceSettings.{IfaceSettings}

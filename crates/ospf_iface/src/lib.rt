@@ -1,12 +1,19 @@
-//! An interface: its state machine, and the Hellos that it sends and agrees with (RFC 2328, section 9).
+//! An interface: its state machine, the election of the network's Designated Router and Backup, and the Hellos that it
+//! sends and agrees with (RFC 2328, section 9).
 #![tactic(auto)]
 
+mod candidate;
+mod election;
 mod hello;
 mod laws;
 mod machine;
 mod settings;
 
-pub use crate::laws::own_may_be_elected;
+pub use crate::candidate::{Candidate, Elected};
+pub use crate::election::elect;
+pub use crate::laws::{
+    has_one_result, order_does_not_matter, own_may_be_elected, own_stands_beside_others,
+};
 pub use crate::machine::{Iface, IfaceChange, IfaceEvent, IfaceState};
 pub use crate::settings::IfaceSettings;
 pub use ospf_base::OPTIONS;

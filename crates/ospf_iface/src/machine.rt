@@ -1,8 +1,9 @@
 //! The interface state machine (RFC 2328, sections 9.1 to 9.4).
 
+use crate::candidate::{Candidate, Elected};
+use crate::election::elect;
 use crate::settings::IfaceSettings;
 use ospf_base::Addr;
-use ospf_election::{Candidate, Elected, elect};
 
 /// The states of an interface (section 9.1).
 #[derive(Clone, Copy, Debug, PartialEq, Eq)]
@@ -52,7 +53,7 @@ pub struct Iface {
 impl Iface {
     ghost use Rattle.std.specs.Prelude.{◌≡◌, ◌≢◌, ◌-◌, ◌↔◌, IsTrue, Contains, true, false};
     ghost use Rattle.std.specs.Bool.{OnTrue, OnFalse};
-    ghost use Rattle.ospf_election.specs.Election.{AreDistinct};
+    ghost use Rattle.ospf_iface.specs.Election.{AreDistinct};
     ghost use Rattle.ospf_iface.specs.declared.machine.IfaceState.TheVariants.{Down};
     ghost use Rattle.ospf_iface.specs.Hello.{IsHelloDue};
     ghost use Rattle.ospf_iface.specs.Machine.{action, is_changed, started, iface_stopped, own_candidate, CanTakeAction, DoesAction, Elects, change_of};
@@ -70,7 +71,7 @@ impl Iface {
         }
     }
 
-    /// Takes an event (section 9.3). An election is that of `ospf_election`. No memory is taken.
+    /// Takes an event (section 9.3). An election is that of `elect`. No memory is taken.
     pub fn event(&mut self, event: IfaceEvent) -> IfaceChange
         requires { CanTakeAction (action self.old.state event) self.old }
         ensures { DoesAction (action self.old.state event.entry) self.old self.new result }

@@ -1,8 +1,8 @@
 //! What never changes of an interface.
 
+use crate::candidate::Elected;
 use crate::machine::IfaceState;
 use ospf_base::{Addr, InterfaceKind, RouterId};
-use ospf_election::Elected;
 
 /// What never changes of an interface (RFC 2328, appendix C.3).
 #[derive(Clone, Copy, Debug, PartialEq, Eq)]

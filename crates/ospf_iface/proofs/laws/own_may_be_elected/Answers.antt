@@ -1,6 +1,6 @@
 use Rattle.ospf_iface.specs.Machine.{own_candidate}
-use Rattle.ospf_election.proofs.Candidates.{own_distinct}
-use Rattle.ospf_election.proofs.Members.{member_head}
+use Rattle.ospf_iface.proofs.Candidates.{own_distinct}
+use Rattle.ospf_iface.proofs.Members.{member_head}
 use Rattle.ospf_iface.proofs.laws.own_may_be_elected.Goals as goal
 
 pub returns : goal.returns

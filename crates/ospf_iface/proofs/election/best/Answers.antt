@@ -1,11 +1,11 @@
 use Rattle.std.proofs.Common.{◌∷◌, [], map, take, get_or, sym, ap, ◌∙◌, subst}
 use Rattle.std.proofs.lemmas.List.{take_more, map-append}
 use Rattle.ospf_base.specs.Addresses.{nowhere}
-use Rattle.ospf_election.specs.declared.candidate.Candidate.{Candidate}
-use Rattle.ospf_election.specs.Election.{declaring}
-use Rattle.ospf_election.specs.Choice.{BelongsTo, BestOr}
-use Rattle.ospf_election.proofs.Choosing.{best_more, IsBestOrNone}
-use Rattle.ospf_election.proofs.election.best.Goals as goal
+use Rattle.ospf_iface.specs.declared.candidate.Candidate.{Candidate}
+use Rattle.ospf_iface.specs.Election.{declaring}
+use Rattle.ospf_iface.specs.Choice.{BelongsTo, BestOr}
+use Rattle.ospf_iface.proofs.Choosing.{best_more, IsBestOrNone}
+use Rattle.ospf_iface.proofs.election.best.Goals as goal
 
 pub loop-c-preserved : goal.loop-c-preserved
 loop-c-preserved c =

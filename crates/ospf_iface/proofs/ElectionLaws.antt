@@ -7,11 +7,11 @@ use Rattle.std.proofs.lemmas.Bool.{cases_order}
 use Rattle.std.proofs.lemmas.Bool.Decides.{eqb_tells}
 use Rattle.ospf_base.specs.declared.ids.RouterId.{RouterId}
 use Rattle.ospf_base.specs.declared.ids.Addr.{Addr}
-use Rattle.ospf_election.specs.declared.candidate.Candidate.{Candidate}
-use Rattle.ospf_election.specs.declared.candidate.Elected.{Elected}
-use Rattle.ospf_election.specs.Election.{IsBestIn, HasNoneIn, IsBackup, IsDr, IsElectionRound, AreDistinct, declaring, changes_role, DeclaresDr, DeclaresBackup, MayBeBackup}
-use Rattle.ospf_election.specs.Laws.{OrderDoesNotMatter, OneResult}
-use Rattle.ospf_election.proofs.Members.{image_member, member_image, one_member}
+use Rattle.ospf_iface.specs.declared.candidate.Candidate.{Candidate}
+use Rattle.ospf_iface.specs.declared.candidate.Elected.{Elected}
+use Rattle.ospf_iface.specs.Election.{IsBestIn, HasNoneIn, IsBackup, IsDr, IsElectionRound, AreDistinct, declaring, changes_role, DeclaresDr, DeclaresBackup, MayBeBackup}
+use Rattle.ospf_iface.specs.Laws.{OrderDoesNotMatter, OneResult}
+use Rattle.ospf_iface.proofs.Members.{image_member, member_image, one_member}
 
 abbrev Same : List Candidate → List Candidate → Type 0
 Same xs ys = (c : Candidate) → Contains xs c ↔ Contains ys c

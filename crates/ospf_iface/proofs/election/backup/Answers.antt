@@ -1,6 +1,6 @@
 use Rattle.std.proofs.Common.{refl}
-use Rattle.ospf_election.specs.Election.IsBackup.{Declared, Ranked}
-use Rattle.ospf_election.proofs.election.backup.Goals as goal
+use Rattle.ospf_iface.specs.Election.IsBackup.{Declared, Ranked}
+use Rattle.ospf_iface.proofs.election.backup.Goals as goal
 
 pub returns-in-Some : goal.returns-in-Some
 returns-in-Some c = Declared c.in-Some.c c.in-Some.ensures.some refl

@@ -1,8 +1,8 @@
 //! The election itself.
 
 ghost use Rattle.std.specs.Prelude.{◌≡◌, ◌<◌, ◌↔◌, IsTrue, IfSome, IfNone, Contains, map};
-ghost use Rattle.ospf_election.specs.Choice.{BestOr, BelongsTo};
-ghost use Rattle.ospf_election.specs.Election.{changes_role, declaring, AreDistinct, HasMe, HasNoneIn, IsBestIn, IsDr, IsBackup, IsElected, IsElectionRound, Outranks};
+ghost use Rattle.ospf_iface.specs.Choice.{BestOr, BelongsTo};
+ghost use Rattle.ospf_iface.specs.Election.{changes_role, declaring, AreDistinct, HasMe, HasNoneIn, IsBestIn, IsDr, IsBackup, IsElected, IsElectionRound, Outranks};
 
 use crate::candidate::{Candidate, Elected};
 use ospf_base::{Addr, RouterId};

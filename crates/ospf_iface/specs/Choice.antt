@@ -1,9 +1,9 @@
 -- How the best of several candidates is chosen.
 use Rattle.std.specs.Prelude.{◌≡◌, Option, Some, None}
-use Rattle.ospf_election.specs.declared.candidate.Candidate.{Candidate}
-use Rattle.ospf_election.specs.declared.election.Standing.{Standing}
-use Rattle.ospf_election.specs.declared.election.Standing.TheVariants as standing
-use Rattle.ospf_election.specs.Election.{DeclaresDr, DeclaresBackup, MayBeBackup, Outranks}
+use Rattle.ospf_iface.specs.declared.candidate.Candidate.{Candidate}
+use Rattle.ospf_iface.specs.declared.election.Standing.{Standing}
+use Rattle.ospf_iface.specs.declared.election.Standing.TheVariants as standing
+use Rattle.ospf_iface.specs.Election.{DeclaresDr, DeclaresBackup, MayBeBackup, Outranks}
 
 -- the candidate has this standing
 abbrev pub BelongsTo : Standing → Candidate → Type 0

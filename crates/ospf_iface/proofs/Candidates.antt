@@ -4,9 +4,9 @@ use Rattle.std.specs.List.{AllByRecursion}
 use Rattle.std.proofs.lemmas.List.Kept.{AllPairs-cons}
 use Rattle.std.proofs.lemmas.List.Elements.{All-from_recursion}
 use Rattle.ospf_base.specs.declared.ids.RouterId.{RouterId}
-use Rattle.ospf_election.specs.declared.candidate.Candidate.{Candidate}
-use Rattle.ospf_election.specs.Election.{AreDistinct, AreOthers, HasMe, AreCandidatesRising}
-use Rattle.ospf_election.proofs.Members.{member_head}
+use Rattle.ospf_iface.specs.declared.candidate.Candidate.{Candidate}
+use Rattle.ospf_iface.specs.Election.{AreDistinct, AreOthers, HasMe, AreCandidatesRising}
+use Rattle.ospf_iface.proofs.Members.{member_head}
 
 apart : (c : Candidate) (cs : List Candidate) → AreOthers c.id cs → AllByRecursion (λ (d : Candidate). c.id ≢ d.id) cs
 apart c [] h = tt

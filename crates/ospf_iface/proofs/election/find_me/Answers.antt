@@ -1,6 +1,6 @@
 use Rattle.std.proofs.Common.{◌<◌, arith, ap, ◌∙◌}
-use Rattle.ospf_election.specs.declared.candidate.Candidate.{Candidate}
-use Rattle.ospf_election.proofs.election.find_me.Goals as goal
+use Rattle.ospf_iface.specs.declared.candidate.Candidate.{Candidate}
+use Rattle.ospf_iface.proofs.election.find_me.Goals as goal
 
 pub unreachable-requires : goal.unreachable-requires
 unreachable-requires c =

@@ -4,8 +4,8 @@ use Rattle.std.specs.List.{AllByRecursion}
 use Rattle.ospf_base.specs.Addresses.{nowhere}
 use Rattle.ospf_base.specs.declared.ids.RouterId.{RouterId}
 use Rattle.ospf_base.specs.declared.ids.Addr.{Addr}
-use Rattle.ospf_election.specs.declared.candidate.Candidate.{Candidate}
-use Rattle.ospf_election.specs.declared.candidate.Elected.{Elected}
+use Rattle.ospf_iface.specs.declared.candidate.Candidate.{Candidate}
+use Rattle.ospf_iface.specs.declared.candidate.Elected.{Elected}
 
 -- priority 0 makes a router ineligible to become DR (9.4)
 abbrev pub IsEligible : Candidate → Type 0

@@ -4,11 +4,11 @@ use Rattle.std.specs.List.{Contains}
 use Rattle.std.proofs.lemmas.List.Elements.{Contains-append_left, Contains-push, Contains-push_cases}
 use Rattle.std.proofs.lemmas.Bool.Decides.{eqb_tells}
 use Rattle.ospf_base.specs.declared.ids.RouterId.{RouterId}
-use Rattle.ospf_election.specs.declared.candidate.Candidate.{Candidate}
-use Rattle.ospf_election.specs.Election.{Outranks, IsBestIn, HasNoneIn, declaring, declared, AreDistinct}
-use Rattle.ospf_election.specs.Choice.{BestOr}
-use Rattle.ospf_election.specs.Choice.BestOr.{Outside, Stays, First, Follows}
-use Rattle.ospf_election.proofs.Members.{no_member, map_same, one_member}
+use Rattle.ospf_iface.specs.declared.candidate.Candidate.{Candidate}
+use Rattle.ospf_iface.specs.Election.{Outranks, IsBestIn, HasNoneIn, declaring, declared, AreDistinct}
+use Rattle.ospf_iface.specs.Choice.{BestOr}
+use Rattle.ospf_iface.specs.Choice.BestOr.{Outside, Stays, First, Follows}
+use Rattle.ospf_iface.proofs.Members.{no_member, map_same, one_member}
 
 pub Outranks-irrefl : (a : Candidate) → Outranks a a → ⊥
 Outranks-irrefl a (inl lt) = omega arith

@@ -1,7 +1,7 @@
 use Rattle.std.proofs.Common.{sym, ◌∙◌, subst, refl}
-use Rattle.ospf_election.specs.Election.{IsElectionRound}
-use Rattle.ospf_election.proofs.Choosing.{own_declaration}
-use Rattle.ospf_election.proofs.election.elect.Goals as goal
+use Rattle.ospf_iface.specs.Election.{IsElectionRound}
+use Rattle.ospf_iface.proofs.Choosing.{own_declaration}
+use Rattle.ospf_iface.proofs.election.elect.Goals as goal
 
 pub returns-then-is_new_role : goal.returns-then-is_new_role
 returns-then-is_new_role c =
