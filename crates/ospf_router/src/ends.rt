@@ -6,10 +6,9 @@ ghost use Rattle.ospf_graph.specs.Search.{vertex_eq};
 ghost use Rattle.ospf_router.specs.Ends.{HoldsEndsAt, LeavesEnds, ReplacesEnds};
 ghost use Rattle.ospf_spf.specs.Spared.{AreEndsInOrder};
 
-use ospf_base::Prefix;
 use ospf_edges::End;
 use ospf_graph::{Vertex, is_same};
-use ospf_spf::{ends_to, prefix_order};
+use ospf_spf::{ends_to, is_same_prefix, prefix_order};
 use std::alloc::{AllocError, Global};
 
 /// Ends in order, once those at a vertex, which were among some, are others. An end that stays is not moved, as long as none
@@ -98,11 +97,4 @@ fn is_same_end(a: End, b: End) -> bool
     ensures { IsTrue result → a ≡ b }
 {
     is_same_prefix(a.prefix, b.prefix) && is_same(a.vertex, b.vertex) && a.cost == b.cost
-}
-
-// Whether two prefixes are one.
-fn is_same_prefix(a: Prefix, b: Prefix) -> bool
-    ensures { IsTrue result → a ≡ b }
-{
-    a == b
 }

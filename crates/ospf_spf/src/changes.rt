@@ -152,6 +152,19 @@ fn step_at(old: Prefix, new: Prefix) -> MergeStep
     }
 }
 
+/// The same changes, in memory of their own.
+///
+/// `AllocError` where memory runs out.
+pub fn copy_changes(alloc: Global, changes: &[Change]) -> Result<Vec<Change>, AllocError>
+    ensures { IfOk result (λ copies. copies.items ≡ changes.now) }
+{
+    let mut copies = Vec::with_capacity(alloc, changes.len())?;
+    for change in changes {
+        copies.push(change.copy(alloc)?)?;
+    }
+    Ok(copies)
+}
+
 /// Whether two routes to one prefix are the same.
 pub fn is_same_route(a: &Route, b: &Route) -> bool
     requires { a.now.prefix ≡ b.now.prefix }

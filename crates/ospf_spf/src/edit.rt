@@ -7,7 +7,8 @@ ghost use Rattle.ospf_graph.specs.Routes.{IsRouteBefore};
 ghost use Rattle.ospf_spf.specs.Changes.{edited, FirstIs, IsChangeBefore, IsMoved, IsParted, PutsHops, put_of};
 ghost use Rattle.ospf_spf.specs.Table.{IsInOrder};
 
-use crate::changes::{Change, is_before};
+use crate::changes::{Change, copy_changes, is_before};
+use crate::routes::is_same_prefix;
 use crate::table::RouteTable;
 use ospf_base::Prefix;
 use ospf_graph::Route;
@@ -104,17 +105,6 @@ impl RouteTable {
     }
 }
 
-// The same changes, in memory of their own.
-fn copy_changes(alloc: Global, changes: &[Change]) -> Result<Vec<Change>, AllocError>
-    ensures { IfOk result (λ copies. copies.items ≡ changes.now) }
-{
-    let mut copies = Vec::with_capacity(alloc, changes.len())?;
-    for change in changes {
-        copies.push(change.copy(alloc)?)?;
-    }
-    Ok(copies)
-}
-
 // The routes after the changes. There is room for them.
 fn merged(routes: Vec<Route>, changes: Vec<Change>, room: Vec<Route>) -> Vec<Route>
     // The routes and the changes stand in order, and there is empty room for both.
@@ -204,13 +194,6 @@ fn is_first_to(left: &VecDeque<Route>, prefix: Prefix) -> bool
         Some(route) => is_same_prefix(route.prefix, prefix),
         None => false,
     }
-}
-
-// Whether two prefixes are one.
-fn is_same_prefix(a: Prefix, b: Prefix) -> bool
-    ensures { IsTrue result ↔ (a ≡ b) }
-{
-    a == b
 }
 
 // Puts the route of a change at the end, if it has one.

@@ -174,8 +174,8 @@ fn is_first(reaches: &[Reach], place: usize) -> bool
     place == 0 || !is_same_prefix(reaches[place - 1].prefix, reaches[place].prefix)
 }
 
-// Whether two prefixes are one.
-pub(crate) fn is_same_prefix(a: Prefix, b: Prefix) -> bool
+/// Whether two prefixes are one.
+pub fn is_same_prefix(a: Prefix, b: Prefix) -> bool
     ensures { IsTrue result ↔ (a ≡ b) }
 {
     a == b

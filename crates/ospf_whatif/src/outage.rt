@@ -10,11 +10,10 @@ ghost use Rattle.ospf_whatif.specs.Outage.{AreMissing, IsAreaGraph, IsOutage};
 
 use crate::area::{WithoutFault, without};
 use crate::failure::AreaFailure;
-use ospf_base::Prefix;
 use ospf_edges::{End, edges_of};
 use ospf_graph::{Edge, edges_from, is_same, sorted_edges};
 use ospf_lsa::Listing;
-use ospf_spf::{ends_in_order, ends_to};
+use ospf_spf::{ends_in_order, ends_to, is_same_prefix};
 use std::alloc::{AllocError, Global};
 
 /// The edges of an area and the ends of its prefixes (RFC 2328, section 16.1), in the order in which they are looked for.
@@ -156,12 +155,5 @@ pub(crate) fn has_end(ends: &[End], end: End) -> bool
 fn is_same_end(a: End, b: End) -> bool
     ensures { IsTrue result ↔ (a ≡ b) }
 {
-    is_prefix(a.prefix, b.prefix) && is_same(a.vertex, b.vertex) && a.cost == b.cost
-}
-
-// Whether two prefixes are one.
-pub(crate) fn is_prefix(a: Prefix, b: Prefix) -> bool
-    ensures { IsTrue result ↔ (a ≡ b) }
-{
-    a == b
+    is_same_prefix(a.prefix, b.prefix) && is_same(a.vertex, b.vertex) && a.cost == b.cost
 }

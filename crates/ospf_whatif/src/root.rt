@@ -18,13 +18,13 @@ ghost use Rattle.ospf_whatif.specs.Outage.{AddsLoss, AreChangesTo, AreMissing, A
 ghost use Rattle.ospf_whatif.specs.Told.{IsLive};
 
 use crate::effect::{Loss, RouteChange, place_to};
-use crate::outage::{AreaGraph, Outage, has_edge, has_end, is_prefix};
+use crate::outage::{AreaGraph, Outage, has_edge, has_end};
 use ospf_base::{Prefix, RouterId};
 use ospf_edges::{End, ends_at};
 use ospf_graph::{Edge, Route, Vertex, edges_from, is_same};
 use ospf_incremental::KeptPaths;
 use ospf_lsa::Listing;
-use ospf_spf::{RouteTable, ends_to, is_same_route, route_by};
+use ospf_spf::{RouteTable, ends_to, is_same_prefix, is_same_route, route_by};
 use std::alloc::{AllocError, Global};
 
 /// A router of an area with its shortest paths.
@@ -317,7 +317,7 @@ fn tells(area: &AreaGraph, outage: &Outage, end: &End, prefix: Prefix) -> bool
         IsOutage adverts outage.now → IsTrue result
         ↔ ((end.now.prefix ≡ prefix) × IsLive (left_of_area adverts outage.now) end.now.vertex) }
 {
-    is_prefix(end.prefix, prefix) && is_live(area, outage, end.vertex)
+    is_same_prefix(end.prefix, prefix) && is_live(area, outage, end.vertex)
 }
 
 // Whether a vertex is a router, or a network that an edge leaves which does not go.

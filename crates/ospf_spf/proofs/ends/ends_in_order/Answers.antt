@@ -1,4 +1,4 @@
-use Rattle.std.proofs.Common.{rules, of_calls, ◌↔◌}
+use Rattle.std.proofs.Common.{rules, of_calls}
 use Rattle.std.proofs.lemmas.List.Sorted.{Contains-permutation, IsNonDecreasingBy-from_sort_by_key, IsPermutation-sym}
 use Rattle.ospf_edges.specs.declared.end.End.{End}
 use Rattle.ospf_spf.specs.Reach.{prefix_code}

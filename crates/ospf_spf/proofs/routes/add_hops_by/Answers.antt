@@ -1,4 +1,4 @@
-use Rattle.std.proofs.Common.{◌≤◌, ◌+◌, ◌≡◌, length, take, sym}
+use Rattle.std.proofs.Common.{◌≤◌, ◌+◌, ◌≡◌, length, take}
 use Rattle.std.specs.List.{Contains}
 use Rattle.std.proofs.lemmas.List.{take_all}
 use Rattle.ospf_graph.specs.Tree.{hop_of_start}

@@ -1,4 +1,4 @@
-use Rattle.std.proofs.Common.{arith, ◌≤◌, ◌≡◌, ℕ, Option, None, Some, length, refl}
+use Rattle.std.proofs.Common.{arith, ◌≤◌, ◌≡◌, ℕ, None, Some, length, refl}
 use Rattle.std.proofs.lemmas.List.{take_all}
 use Rattle.ospf_spf.proofs.ReachLemmas.{reach_kept, reach_more}
 use Rattle.ospf_spf.proofs.routes.reaches_by.Goals.{in-Some+in_ok-push, in_default}

@@ -1,4 +1,4 @@
-use Rattle.std.proofs.Common.{◌≡◌, ◌++◌, ◌+◌, ◌<◌, ◌≤◌, rules, of_calls, ap, false, true, get_or, length, ltb, List, drop, refl, sym, subst, take, ◌∙◌}
+use Rattle.std.proofs.Common.{◌≡◌, ◌++◌, ◌+◌, ◌≤◌, rules, of_calls, ap, false, true, length, ltb, List, drop, sym, subst, take, ◌∙◌}
 use Rattle.std.specs.List.Sorted.{IsPartitionPoint}
 use Rattle.std.proofs.lemmas.List.Sorted.{IsPartitionPoint-from_clause, IsPartitionedBy-ltb}
 use Rattle.ospf_graph.specs.declared.route.Route.{Route}

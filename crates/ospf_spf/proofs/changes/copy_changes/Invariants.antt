@@ -1,5 +1,5 @@
 use Rattle.std.proofs.Common.{◌≡◌, take}
-use Rattle.ospf_spf.proofs.edit.copy_changes.Given as goal
+use Rattle.ospf_spf.proofs.changes.copy_changes.Given as goal
 
 abbrev pub invariant-loop-change : goal.invariant-loop-change
 invariant-loop-change l = l.copies.items ≡ take l.change-index l.changes
