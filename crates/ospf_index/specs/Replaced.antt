@@ -1,5 +1,5 @@
--- Changes that put routes in the places of others to the same prefixes, and the index after them.
-use Rattle.std.specs.Prelude.{◌≡◌, ◌≤◌, ◌<◌, ◌+◌, ◌^◌, ◌++◌, ◌∷◌, [], ℕ, List, All, get_or, length, slice_index_or, sum_by, vec_capacity, vec_len}
+-- Changes that put routes in the places of others to the same prefixes, and the index after them (RFC 2328, section 11).
+use Rattle.std.specs.Prelude.{◌≡◌, ◌≤◌, ◌<◌, ◌+◌, ◌/◌, ◌^◌, ◌++◌, ◌∷◌, [], ℕ, List, All, get_or, length, slice_index_or, sum_by, vec_capacity, vec_len}
 use Rattle.ospf_base.specs.declared.prefix.Prefix.{Prefix}
 use Rattle.ospf_base.specs.Prefixes.{IsPrefixBefore}
 use Rattle.ospf_graph.specs.declared.route.Route.{Route}
@@ -17,6 +17,10 @@ use Rattle.ospf_index.specs.declared.sets.HopSets.{HopSets}
 abbrev pub Replaces : List Route → Change → Type 0
 Replaces routes (Put route) = Reaches routes route.prefix
 Replaces routes (Gone _) = ⊥
+
+-- the changes are few beside the routes: an eighth of them and 8 at most
+abbrev pub AreFew : List Change → List Route → Type 0
+AreFew changes routes = length changes ≤ length routes / 8 + 8
 
 -- there is room for one set more for each change, and for the hops that the changes put
 pub record HasSetRoom (changes : List Change) (all : HopSets) : Type 0 where

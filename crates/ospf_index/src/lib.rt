@@ -19,6 +19,6 @@ mod table;
 pub use crate::entries::FoundRoute;
 pub use crate::gate::{ClosedList, Opened};
 pub use crate::known::Published;
-pub use crate::replace::{can_replace, copy_changes, put_routes};
+pub use crate::replace::{can_replace, put_routes};
 pub use crate::rule::{AddsTable, Closes, Counter, CountsEvents, ListEvent, NoGain, Opens, Proves};
 pub use crate::table::IndexedTable;

@@ -1,9 +1,9 @@
 //! Changes that put routes in the places of others to the same prefixes. No other route is looked at for them.
 
-ghost use Rattle.std.specs.Prelude.{◌≡◌, ◌≤◌, ◌<◌, ◌^◌, ◌↔◌, All, AllPairs, IfOk, IsTrue, length};
+ghost use Rattle.std.specs.Prelude.{◌≡◌, ◌≤◌, ◌<◌, ◌^◌, ◌↔◌, All, AllPairs, IsTrue, length};
 ghost use Rattle.ospf_graph.specs.Routes.{IsRouteBefore};
 ghost use Rattle.ospf_index.specs.Ranges.{AreStartsRising};
-ghost use Rattle.ospf_index.specs.Replaced.{AreAnsweredAnew, AreBefore, AreRoutesBefore, Replaces};
+ghost use Rattle.ospf_index.specs.Replaced.{AreAnsweredAnew, AreBefore, AreFew, AreRoutesBefore, Replaces};
 ghost use Rattle.ospf_spf.specs.Changes.{edited, PutsHops};
 
 use crate::counts::count_hops_put;
@@ -13,30 +13,19 @@ use crate::sets::HopSets;
 use crate::sweep::end_address;
 use ospf_base::Prefix;
 use ospf_graph::Route;
-use ospf_spf::{Change, RouteTable, prefix_order};
-use std::alloc::{AllocError, Global};
+use ospf_spf::{Change, RouteTable, is_same_prefix, prefix_order};
+use std::alloc::Global;
 use std::collections::VecDeque;
 use std::mem;
 
 // From one change for so many routes on, one pass over the table takes less time than a search for each change.
 const ROUTES_FOR_A_CHANGE: usize = 8;
 
-/// The same changes, in memory of their own.
-///
-/// `AllocError` where memory runs out.
-pub fn copy_changes(alloc: Global, changes: &[Change]) -> Result<Vec<Change>, AllocError>
-    ensures { IfOk result (λ copies. copies.items ≡ changes.now) }
-{
-    let mut copies = Vec::with_capacity(alloc, changes.len())?;
-    for change in changes {
-        copies.push(change.copy(alloc)?)?;
-    }
-    Ok(copies)
-}
-
 /// Whether to make changes in place: each puts a route in the place of one to the same prefix, and they are few.
 pub fn can_replace(routes: &[Route], changes: &[Change]) -> bool
-    ensures { IsTrue result → All (Replaces routes.now) changes.now }
+    requires { AllPairs IsRouteBefore routes.now }
+    ensures { IsTrue result
+        ↔ (AreFew changes.now routes.now × All (Replaces routes.now) changes.now) }
 {
     let few = routes.len() / ROUTES_FOR_A_CHANGE + ROUTES_FOR_A_CHANGE;
     changes.len() <= few && changes.iter().all(|change| is_replacing(routes, change))
@@ -123,7 +112,8 @@ impl Index {
 
 // Whether a change puts a route in the place of one to the same prefix.
 fn is_replacing(routes: &[Route], change: &Change) -> bool
-    ensures { IsTrue result → Replaces routes.now change.now }
+    requires { AllPairs IsRouteBefore routes.now }
+    ensures { IsTrue result ↔ Replaces routes.now change.now }
 {
     let Change::Put(route) = change else {
         return false;
@@ -134,19 +124,13 @@ fn is_replacing(routes: &[Route], change: &Change) -> bool
     }
 }
 
-// How many routes stand before a prefix, where they stand in order.
+// How many routes stand before a prefix.
 fn routes_before(routes: &[Route], prefix: Prefix) -> usize
-    ensures { AllPairs IsRouteBefore routes.now → AreRoutesBefore routes.now prefix result }
+    requires { AllPairs IsRouteBefore routes.now }
+    ensures { AreRoutesBefore routes.now prefix result }
 {
     let order = prefix_order(prefix);
     routes.partition_point(|r| prefix_order(r.prefix) < order)
-}
-
-// Whether two prefixes are one.
-fn is_same_prefix(a: Prefix, b: Prefix) -> bool
-    ensures { IsTrue result ↔ (a ≡ b) }
-{
-    a == b
 }
 
 // How many ranges begin before an address, as each of them begins at one.

@@ -11,10 +11,10 @@ ghost use Rattle.ospf_spf.specs.Changes.{edited, IsChangeBefore, PutsHops};
 use crate::counts::most_hops;
 use crate::entries::FoundRoute;
 use crate::index::{Index, IndexRoom};
-use crate::replace::{can_replace, copy_changes, put_routes};
+use crate::replace::{can_replace, put_routes};
 use ospf_base::Addr;
 use ospf_graph::Route;
-use ospf_spf::{Change, Edit, RouteTable};
+use ospf_spf::{Change, Edit, RouteTable, copy_changes};
 use std::alloc::{AllocError, Global};
 use std::marker::Model;
 

@@ -1,8 +1,6 @@
 use Rattle.std.proofs.Common.{◌≡◌, ◌∷◌, [], List, sym, ap, subst, ◌∙◌, arith}
-use Rattle.std.specs.List.{AllPairs}
 use Rattle.std.proofs.lemmas.List.{nil_from_length}
 use Rattle.ospf_graph.specs.declared.route.Route.{Route}
-use Rattle.ospf_graph.specs.Routes.{IsRouteBefore}
 use Rattle.ospf_spf.proofs.EditLemmas.{edited_none}
 use Rattle.ospf_spf.specs.Changes.{edited}
 use Rattle.ospf_spf.specs.declared.changes.Change.{Change}
@@ -16,9 +14,9 @@ index_mut-requires c =
     let rest = c.pop_front.new.self.items in
     let q = c.in-Put.route in
     let place = c.routes_before-place.result in
-    let before = subst (λ (rs : List Route). AllPairs IsRouteBefore rs → AreRoutesBefore rs q.prefix place) c.deref.ensures.value c.routes_before-place.ensures in
+    let before = subst (λ (rs : List Route). AreRoutesBefore rs q.prefix place) c.deref.ensures.value c.routes_before-place.ensures in
     let next = put_next c.args.table.now c.args.changes.items c.loop-change.left.items rest made q place c.loop-change.invariant
-    (c.in-Some.ensures.items ∙ ap (λ (x : Change). x ∷ rest) c.in-Put.is) (before c.loop-change.invariant.table.in_order) in
+    (c.in-Some.ensures.items ∙ ap (λ (x : Change). x ∷ rest) c.in-Put.is) before in
     let many = c.loop-change.routes.ok.0 in
     omega (arith, next.0)
 
@@ -28,9 +26,9 @@ loop-change-preserved c =
     let rest = c.pop_front.new.self.items in
     let q = c.in-Put.route in
     let place = c.routes_before-place.result in
-    let before = subst (λ (rs : List Route). AllPairs IsRouteBefore rs → AreRoutesBefore rs q.prefix place) c.deref.ensures.value c.routes_before-place.ensures in
+    let before = subst (λ (rs : List Route). AreRoutesBefore rs q.prefix place) c.deref.ensures.value c.routes_before-place.ensures in
     (put_next c.args.table.now c.args.changes.items c.loop-change.left.items rest made q place c.loop-change.invariant
-    (c.in-Some.ensures.items ∙ ap (λ (x : Change). x ∷ rest) c.in-Put.is) (before c.loop-change.invariant.table.in_order)).1
+    (c.in-Some.ensures.items ∙ ap (λ (x : Change). x ∷ rest) c.in-Put.is) before).1
 
 pub returns : goal.returns
 returns c =

@@ -29,11 +29,11 @@ parted routes p place point = record {
 }
 
 pub returns : goal.returns
-returns c = λ order.
+returns c =
     let routes = c.args.routes.now in
     let place = c.partition_point.result in
     let key = λ (r : Route). prefix_code r.prefix in
     let n = c.prefix_order-order.result in
-    let point = IsPartitionPoint-from_clause (λ r. ltb (key r) n) _ _ c.partition_point.ensures.partitioned (IsPartitionedBy-ltb key _ n (codes_in_order routes order)) (λ a r q k. search (rules, of_calls)) in
+    let point = IsPartitionPoint-from_clause (λ r. ltb (key r) n) _ _ c.partition_point.ensures.partitioned (IsPartitionedBy-ltb key _ n (codes_in_order routes c.requires)) (λ a r q k. search (rules, of_calls)) in
     parted routes c.args.prefix place
     (subst (λ m. IsPartitionPoint (λ (r : Route). ltb (prefix_code r.prefix) m ≡ true) (λ (r : Route). ltb (prefix_code r.prefix) m ≡ false) routes place) c.prefix_order-order.ensures point)
