@@ -1,11 +1,11 @@
 -- Ends of which those at a vertex are replaced, and prefixes that are touched.
-use Rattle.std.proofs.Common.{◌≡◌, ◌≢◌, ◌↔◌, ◌⊎◌, ◌+◌, ◌++◌, ◌<◌, ◌∷◌, ℕ, zero, suc, Bool, true, false, not, List, [], cond, length, take, get_or, refl, sym, ap, subst, ◌∙◌, inl, inr, arith}
+use Rattle.std.proofs.Common.{◌≡◌, ◌≢◌, ◌↔◌, ◌⊎◌, ◌+◌, ◌++◌, ◌<◌, ◌∷◌, ℕ, Bool, true, false, not, List, [], length, take, get_or, refl, ap, subst, ◌∙◌, inl, inr, arith}
 use Rattle.std.specs.List.{Contains, filter}
-use Rattle.std.proofs.lemmas.List.Elements.{Contains-append_left, Contains-push, Contains-push_cases}
+use Rattle.std.proofs.lemmas.List.Elements.{Contains-append_left, Contains-push}
 use Rattle.ospf_base.specs.declared.prefix.Prefix.{Prefix}
 use Rattle.ospf_edges.specs.declared.end.End.{End}
 use Rattle.ospf_graph.proofs.CandidateLemmas.{same_or_other, vertex_eq-refl, vertex_eq-same}
-use Rattle.ospf_graph.proofs.ListLemmas.{member_cases, member_head, member_later, more_members}
+use Rattle.ospf_graph.proofs.ListLemmas.{more_members}
 use Rattle.ospf_graph.specs.Search.{vertex_eq}
 use Rattle.ospf_graph.specs.declared.graph.Vertex.{Vertex}
 use Rattle.ospf_router.specs.Ends.{AddsEnds, HoldsEndsAt, HoldsPrefixes, LeavesEnds, ReplacesEnds}

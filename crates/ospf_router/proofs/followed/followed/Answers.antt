@@ -1,4 +1,4 @@
-use Rattle.std.proofs.Common.{◌∙◌, ℕ, List, Option, IfSome, [], ap, subst, sym}
+use Rattle.std.proofs.Common.{◌∙◌, ℕ, List, Option, IfSome, [], ap, subst}
 use Rattle.std.specs.List.{All}
 use Rattle.ospf_area.specs.Outputs.{OutputsValue}
 use Rattle.ospf_base.specs.declared.ids.Instance.{Instance}

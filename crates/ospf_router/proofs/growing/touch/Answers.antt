@@ -1,5 +1,4 @@
-use Rattle.std.proofs.Common.{◌≤◌, length, subst, sym, arith}
-use Rattle.std.specs.List.{Contains}
+use Rattle.std.proofs.Common.{◌≤◌, length}
 use Rattle.std.proofs.lemmas.List.{take_all}
 use Rattle.ospf_router.proofs.EndLemmas.{holds_push, touched_more}
 use Rattle.ospf_router.proofs.growing.touch.Goals as goal

@@ -1,5 +1,4 @@
-use Rattle.std.proofs.Common.{◌≤◌, ℕ, List, length, refl, subst, sym, inl, inr}
-use Rattle.std.specs.List.{Contains}
+use Rattle.std.proofs.Common.{◌≤◌, List, length, refl, subst, sym, inl, inr}
 use Rattle.std.proofs.lemmas.List.{take_all}
 use Rattle.ospf_edges.specs.declared.end.End.{End}
 use Rattle.ospf_graph.proofs.ListLemmas.{more_members}

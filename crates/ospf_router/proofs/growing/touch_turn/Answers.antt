@@ -1,6 +1,5 @@
-use Rattle.std.proofs.Common.{◌≡◌, ◌==◌, ℕ, List, Result, Ok, Err, eqb-true, length, sym, ◌∙◌}
+use Rattle.std.proofs.Common.{eqb-true, length, sym, ◌∙◌}
 use Rattle.std.proofs.lemmas.List.{nil_from_length}
-use Rattle.std.specs.List.{Contains}
 use Rattle.ospf_router.specs.Growing.{IsUntouched}
 use Rattle.ospf_router.proofs.growing.touch_turn.Goals as goal
 

@@ -1,4 +1,4 @@
-use Rattle.std.proofs.Common.{rules, ◌≡◌, ◌↔◌, ℕ, None, Option, Some, IfNone, IfSome, List, refl, subst, sym}
+use Rattle.std.proofs.Common.{rules, ◌≡◌, ◌↔◌, ℕ, Option, Some, IfNone, IfSome, List, refl, subst, sym}
 use Rattle.std.specs.List.{Contains}
 use Rattle.ospf_edges.specs.Listed.{advertisements_of}
 use Rattle.ospf_edges.specs.declared.end.End.{End}
