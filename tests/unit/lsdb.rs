@@ -16,6 +16,9 @@ use self::plain::{PlainAnswer, PlainLsdb};
 // How many routers have LSAs in the two databases.
 const ROUTERS: u32 = 8;
 
+// How many have them in one whose expired keys are walked for.
+const MANY_ROUTERS: u32 = 40;
+
 // The router-LSA of a router without links, at an age.
 fn lsa_of(alloc: Global, router: u32, age: u16) -> Result<Lsa, Fail> {
     super::made::lsa_of(alloc, router, FIRST_NUMBER, age)
@@ -183,6 +186,10 @@ fn tell_the_same(one: &Lsdb, other: &PlainLsdb, alloc: Global) -> Result<bool, F
             return Ok(false);
         }
     }
+    let expired = other.expired_keys(alloc)?;
+    if one.expired_keys() != expired.as_slice() || one.expired() != expired.len() {
+        return Ok(false);
+    }
     let listing = one.listing(alloc)?;
     let plain = other.fresh(alloc)?;
     if listing.lsas().len() != plain.len() || one.fresh() != plain.len() {
@@ -223,5 +230,53 @@ fn both_answer_alike(rt: HostRuntime) -> Result<(), Fail> {
         }
         assert!(rt; tell_the_same(&one, &other, alloc)?, "at step {step}");
     }
+    Ok(())
+}
+
+// Whether a database names the keys of its entries at MaxAge as a walk over all of them finds them.
+fn names_the_expired(lsdb: &Lsdb) -> bool {
+    let mut walked = 0;
+    for entry in lsdb.entries() {
+        if entry.age() == Age::new(MAX_AGE) {
+            if lsdb.expired_keys().get(walked) != Some(&entry.key()) {
+                return false;
+            }
+            walked += 1;
+        }
+    }
+    lsdb.expired_keys().len() == walked
+}
+
+#[test]
+fn the_expired_are_named_as_a_walk_finds_them(rt: HostRuntime) -> Result<(), Fail> {
+    let alloc = rt.alloc();
+    let mut lsdb = Lsdb::new(alloc);
+    let mut words = Pcg32::new(21, 54);
+    let ages = [0, 3590, 3597, 3598, 3599, 3600];
+    let mut most = 0;
+    for step in 0..20_000u64 {
+        let word = words.next_word();
+        let router = (word >> 8) % MANY_ROUTERS;
+        let key = key_of(router);
+        match word % 16 {
+            0..6 => {
+                let age = ages[((word >> 20) % 6) as usize];
+                lsdb.install(lsa_of(alloc, router, age)?, step, false)?;
+            }
+            6..8 => {
+                lsdb.expire(&key);
+            }
+            8..12 => {
+                lsdb.remove_expired(&key);
+            }
+            _ => {
+                lsdb.tick();
+            }
+        }
+        assert!(rt; names_the_expired(&lsdb), "at step {step}");
+        most = most.max(lsdb.expired());
+    }
+    // Keys went in and out between others.
+    assert!(rt; most > 10);
     Ok(())
 }

@@ -46,6 +46,10 @@ pub key-entry_from : (lsa : List ℕ) (tick : ℕ) (by_flooding : Bool) → key_
 unfolding entry_from
 key-entry_from lsa tick by_flooding = key_of-contents lsa
 
+pub age-entry_from : (lsa : List ℕ) (tick : ℕ) (by_flooding : Bool) → (entry_from lsa tick by_flooding).age ≡ (header_of lsa).age
+unfolding entry_from
+age-entry_from lsa tick by_flooding = refl
+
 -- an entry of MaxAge goes, a younger one stays
 pub is_expired-young : (h : Held) → h.entry.age < 3600 → is_expired h ≡ false
 is_expired-young h lt = grind arith

@@ -15,4 +15,5 @@ pub mod TickLemmas
 pub mod IdleLemmas
 pub mod MapLaws
 pub mod WalkLemmas
-pub mod CountLemmas
+pub mod KeyLists
+pub mod IndexLemmas

@@ -1,5 +1,5 @@
 -- The keys that are due now are those of the entries that came to an age at the last tick.
-use Rattle.std.proofs.Common.{eq-eqb, ◌≡◌, ◌<◌, ◌==◌, ◌&&◌, ◌||◌, inl, inr, ℕ, Bool, true, false, List, [], ◌∷◌, map, Option, Some, None, option_map, refl, ap, sym, ◌∙◌, subst, arith}
+use Rattle.std.proofs.Common.{eq-eqb, ◌≡◌, ◌<◌, ◌==◌, ◌&&◌, ◌||◌, inl, inr, ℕ, Bool, true, false, List, [], ◌∷◌, filter, map, Option, Some, None, option_map, refl, ap, sym, ◌∙◌, subst, arith}
 use Rattle.std.proofs.lemmas.Bool.{eqb-true}
 use Rattle.std.specs.List.{AllByRecursion}
 use Rattle.std.specs.List.Sorted.{IsStrictlySortedBy}
@@ -23,7 +23,7 @@ use Rattle.ospf_lsdb.proofs.TimerLemmas.{held_of-stored, rising_stored}
 abbrev pub KeysAfter : LsaKey → List LsaKey → Type 0
 KeysAfter k ks = AllByRecursion (λ o. Precedes k o) ks
 
-not_among : (k : LsaKey) (ks : List LsaKey) → KeysAfter k ks → among ks k ≡ false
+pub not_among : (k : LsaKey) (ks : List LsaKey) → KeysAfter k ks → among ks k ≡ false
 not_among k [] after = refl
 not_among k (x ∷ xs) after = let no = same_key-apart_after x k after.0 in rw no (not_among k xs after.1)
 
@@ -107,39 +107,49 @@ keys_at-among m a (d ∷ ds) k = elim (bool_cases (is_due_at m a d)) [
   | inr two ↦ let e = apart_at m a k d two in rw (two, e) (keys_at-among m a ds k)
 ]
 
--- the entries that reached an age
-reached_after : (age : ℕ) (k : LsaKey) (hs : List Held) → AllAfter k hs → KeysAfter k (reached_at age hs)
-unfolding reached_at
-reached_after age k [] after = tt
-reached_after age k (h ∷ hs) after = elim (bool_cases (h.reached && (h.entry.age == age))) [
-  | inl one ↦ rw one (after.0, reached_after age k hs after.1)
-  | inr two ↦ rw two (reached_after age k hs after.1)
+-- ---- the entries that pass a test
+
+-- their keys
+abbrev pub keys_where : (Held → Bool) → List Held → List LsaKey
+keys_where test hs = map key_at (filter test hs)
+
+where_after : (test : Held → Bool) (k : LsaKey) (hs : List Held) → AllAfter k hs → KeysAfter k (keys_where test hs)
+where_after test k [] after = tt
+where_after test k (h ∷ hs) after = elim (bool_cases (test h)) [
+  | inl one ↦ rw one (after.0, where_after test k hs after.1)
+  | inr two ↦ rw two (where_after test k hs after.1)
+]
+
+pub where-rise : (test : Held → Bool) (hs : List Held) → AreKeysRising hs → KeysRise (keys_where test hs)
+where-rise test [] rises = tt
+where-rise test (h ∷ hs) rises = elim (bool_cases (test h)) [
+  | inl one ↦ rw one (where_after test (key_at h) hs rises.0, where-rise test hs rises.1)
+  | inr two ↦ rw two (where-rise test hs rises.1)
+]
+
+pub where-among : (test : Held → Bool) (hs : List Held) → AreKeysRising hs → (k : LsaKey) → among (keys_where test hs) k ≡ is_some_and test (held_of hs k)
+where-among test [] rises k = refl
+where-among test (h ∷ hs) rises k = elim (bool_cases (same_key (key_at h) k)) [
+  | inl one ↦
+      let key = same_key-eq (key_at h) k one in
+      let none : among (keys_where test hs) k ≡ false = subst (λ (q : LsaKey). among (keys_where test hs) q ≡ false) key (not_among (key_at h) (keys_where test hs) (where_after test (key_at h) hs rises.0)) in
+      elim (bool_cases (test h)) [
+        | inl told ↦ rw (told, one, told) refl
+        | inr quiet ↦ rw (quiet, one, quiet) none
+      ]
+  | inr two ↦ elim (bool_cases (test h)) [
+    | inl told ↦ rw (told, two) (where-among test hs rises.1 k)
+    | inr quiet ↦ rw (quiet, two) (where-among test hs rises.1 k)
+  ]
 ]
 
 pub reached-rise : (age : ℕ) (hs : List Held) → AreKeysRising hs → KeysRise (reached_at age hs)
 unfolding reached_at
-reached-rise age [] rises = tt
-reached-rise age (h ∷ hs) rises = elim (bool_cases (h.reached && (h.entry.age == age))) [
-  | inl one ↦ rw one (reached_after age (key_at h) hs rises.0, reached-rise age hs rises.1)
-  | inr two ↦ rw two (reached-rise age hs rises.1)
-]
+reached-rise age hs rises = where-rise (λ h. h.reached && (h.entry.age == age)) hs rises
 
 pub reached-among : (age : ℕ) (hs : List Held) → AreKeysRising hs → (k : LsaKey) → among (reached_at age hs) k ≡ is_some_and (λ h. h.reached && (h.entry.age == age)) (held_of hs k)
 unfolding reached_at
-reached-among age [] rises k = refl
-reached-among age (h ∷ hs) rises k = elim (bool_cases (same_key (key_at h) k)) [
-  | inl one ↦
-      let key = same_key-eq (key_at h) k one in
-      let none : among (reached_at age hs) k ≡ false = subst (λ (q : LsaKey). among (reached_at age hs) q ≡ false) key (not_among (key_at h) (reached_at age hs) (reached_after age (key_at h) hs rises.0)) in
-      elim (bool_cases (h.reached && (h.entry.age == age))) [
-        | inl told ↦ rw (told, one, told) refl
-        | inr quiet ↦ rw (quiet, one, quiet) none
-      ]
-  | inr two ↦ elim (bool_cases (h.reached && (h.entry.age == age))) [
-    | inl told ↦ rw (told, two) (reached-among age hs rises.1 k)
-    | inr quiet ↦ rw (quiet, two) (reached-among age hs rises.1 k)
-  ]
-]
+reached-among age hs rises k = where-among (λ h. h.reached && (h.entry.age == age)) hs rises k
 
 -- what is due now is what came to its age at the last tick
 due_of : (clock a : ℕ) (es : List (LsaKey × Stored)) (due : List AgeDue) (k : LsaKey) → clock < 65536 → AreDue clock es due → (o : Option Stored) → stored_of es k ≡ o

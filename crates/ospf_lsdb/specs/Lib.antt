@@ -4,4 +4,4 @@ pub mod Moments
 pub mod Timers
 pub mod Laws
 pub mod Entries
-pub mod Counts
+pub mod Expired

@@ -81,6 +81,7 @@ impl Dated {
     /// How many entries there are.
     pub(crate) fn len(&self) -> usize
         ensures count { result ≡ length self.now }
+        ensures fits { result < 2 ^ 63 }
         ensures database { IsDatabase self.now }
     {
         self.entries.len()

@@ -5,6 +5,7 @@ mod ageless;
 mod dated;
 mod entries;
 mod entry;
+mod expired;
 mod laws;
 mod lsdb;
 mod moments;

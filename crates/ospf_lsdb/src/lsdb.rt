@@ -1,13 +1,13 @@
-//! The database, with how many of its entries are below `MAX_AGE`.
+//! The database, with the keys of its entries at `MAX_AGE`.
 
 ghost use Rattle.std.specs.Prelude.{◌≡◌, ◌⊎◌, ◌<◌, ◌^◌, [], filter, length, map, OnOk, OnErr, IfOk, option_map};
 ghost use Rattle.ospf_base.specs.Constants.{max_age};
-ghost use Rattle.ospf_lsdb.specs.Database.{Ages, Installs, IsDatabase, Puts, entry_from, entry_of, expired, held_of, is_expired, is_fresh, is_some_and, listed, ls_refresh_time, reached_at, removed};
-ghost use Rattle.ospf_lsdb.specs.Counts.{fresh_count, fresh_in};
+ghost use Rattle.ospf_lsdb.specs.Database.{Ages, Installs, IsDatabase, Puts, entry_from, entry_of, expired, held_of, is_expired, is_fresh, is_some_and, key_at, listed, ls_refresh_time, reached_at, removed};
 
 use crate::dated::Dated;
 use crate::entries::Entries;
 use crate::entry::EntryView;
+use crate::expired::ExpiredKeys;
 use crate::moments::AgesReached;
 use ospf_base::{LsaKey, MAX_AGE};
 use ospf_lsa::{Listing, Lsa};
@@ -21,20 +21,20 @@ use std::marker::Model;
 #[derive(Drop)]
 pub struct Lsdb {
     dated: Dated,
-    // How many entries are below `MAX_AGE`.
-    fresh: usize,
+    // The keys of the entries at `MAX_AGE`, with room for those of all: a tick takes no memory.
+    expired: ExpiredKeys,
 }
 
 impl Model for Lsdb {
-    ghost use Rattle.std.specs.Prelude.{◌≡◌, List};
-    ghost use Rattle.ospf_lsdb.specs.Database.{Held, IsDatabase};
-    ghost use Rattle.ospf_lsdb.specs.Counts.{fresh_count};
+    ghost use Rattle.std.specs.Prelude.{List};
+    ghost use Rattle.ospf_lsdb.specs.Database.{Held};
+    ghost use Rattle.ospf_lsdb.specs.Expired.{IsIndex};
 
     ghost Value = { List Held };
 
     ghost view = { λ d. d.dated };
 
-    ghost invariant = { λ d. d.fresh ≡ fresh_count d.dated };
+    ghost invariant = { λ d. IsIndex d.dated d.expired };
 }
 
 impl Lsdb {
@@ -44,7 +44,7 @@ impl Lsdb {
     {
         Lsdb {
             dated: Dated::new(alloc),
-            fresh: 0,
+            expired: ExpiredKeys::new(alloc),
         }
     }
 
@@ -68,14 +68,23 @@ impl Lsdb {
     pub fn fresh(&self) -> usize
         ensures { result ≡ length (filter (λ h. is_fresh h.entry) self.now) }
     {
-        self.fresh
+        self.dated.len() - self.expired.len()
     }
 
     /// How many entries are at `MAX_AGE`. It is known without a look at them.
     pub fn expired(&self) -> usize
         ensures { result ≡ length (filter is_expired self.now) }
     {
-        self.dated.len() - self.fresh
+        self.expired.len()
+    }
+
+    /// The keys of the entries at `MAX_AGE`, in order. They are known without a look at the entries.
+    pub fn expired_keys(&self) -> &[LsaKey]
+        ensures keys { result.now ≡ map key_at (filter is_expired self.now) }
+        ensures database { IsDatabase self.now }
+    {
+        is_database(&self.dated);
+        self.expired.keys()
     }
 
     /// Puts an LSA in place of its key's (RFC 2328, section 13.2), with the number of the present
@@ -87,12 +96,16 @@ impl Lsdb {
         ensures err { OnErr result (self.new ≡ self.old) }
     {
         let key = lsa.view().key();
-        let gone = fresh_in(self.dated.get(&key));
+        let is_expired = lsa.view().header().age.ticks() == MAX_AGE;
+        // All growths come first.
+        self.expired.make_room(self.dated.len() + 1)?;
         self.dated.install(lsa, tick, by_flooding)?;
-        let come = fresh_in(self.dated.get(&key));
-        // There are as many entries at least.
-        let _all = self.dated.len();
-        self.fresh = self.fresh - gone + come;
+        is_database(&self.dated);
+        if is_expired {
+            self.expired.put(key);
+        } else {
+            self.expired.remove(&key);
+        }
         Ok(())
     }
 
@@ -107,7 +120,7 @@ impl Lsdb {
         is_database(&self.dated);
         let looks = self.dated.tick();
         is_database(&self.dated);
-        self.fresh -= looks as usize;
+        self.expired.put_all(self.dated.reached(MAX_AGE));
         looks
     }
 
@@ -123,7 +136,7 @@ impl Lsdb {
         let was_fresh = self.dated.expire(key);
         is_database(&self.dated);
         if was_fresh {
-            self.fresh -= 1;
+            self.expired.put(*key);
         }
         was_fresh
     }
@@ -136,6 +149,7 @@ impl Lsdb {
         is_database(&self.dated);
         let was_expired = self.dated.remove_expired(key);
         is_database(&self.dated);
+        self.expired.remove(key);
         was_expired
     }
 
@@ -155,17 +169,6 @@ impl Lsdb {
         ensures ok { IfOk result (λ l. l ≡ listed self.now) }
     {
         self.dated.listing(alloc)
-    }
-}
-
-// How many of one entry, which may not be there, are below `MAX_AGE`.
-fn fresh_in(entry: Option<EntryView<'_>>) -> usize
-    ensures value { result ≡ fresh_in entry.entry }
-    ensures fits { result < 2 }
-{
-    match entry {
-        Some(entry) if entry.age().ticks() < MAX_AGE => 1,
-        _ => 0,
     }
 }
 

@@ -10,7 +10,6 @@ use Rattle.ospf_step.proofs.StateFacts.{Contains-filter, Contains-map, Contains-
 use Rattle.ospf_lsa.specs.Listing as listing
 use Rattle.ospf_lsa.specs.Listing.{IsListing, IsPut}
 use Rattle.ospf_lsa.specs.Lsa.{key_of}
-use Rattle.ospf_lsdb.specs.Counts.{fresh_count}
 use Rattle.ospf_lsdb.specs.Database.{Entry, Held, IsDatabase, AreKeysRising, entries, entry_of, held_of, is_fresh, key_at, key_in, listed, lsa_of}
 use Rattle.ospf_lsdb.specs.Places.{AllAfter}
 use Rattle.ospf_lsdb.proofs.EntryLemmas.{key_of-contents}
@@ -270,15 +269,15 @@ module _ (db : List Held) (lsas : List (List ℕ)) (is : IsDatabase db) (listing
       let same : key_of lsa.0 ≡ key = key_of-contents lsa.0 ∙ ap key_in lsa.2 ∙ key_held db key h there.0 in
       (found.0, subst (λ (k : LsaKey). held_of (helds_of lsas) k ≡ Some found.0) same found.1, found.2 ∙ lsa.2)
 
-  pub fresh_all : fresh_count db ≡ length lsas → fresh_of (entries db) ≡ map contents lsas
+  pub fresh_all : length (fresh_held db) ≡ length lsas → fresh_of (entries db) ≡ map contents lsas
   fresh_all many =
       let front = is_front (helds_of lsas) (fresh_held db) (rising_as lsas listing_is.rising) (fresh_rising db is.rising) all_among in
       sym (contents_fresh db) ∙ front.same (many ∙ sym (many_as lsas)) ∙ contents_as lsas
 
-  pub lists_all : fresh_count db ≡ length lsas → ListsAs db lsas
+  pub lists_all : length (fresh_held db) ≡ length lsas → ListsAs db lsas
   lists_all many = listed_fresh db ∙ fresh_all many
 
-  pub listing_all : fresh_count db ≡ length lsas → IsListing (listed db)
+  pub listing_all : length (fresh_held db) ≡ length lsas → IsListing (listed db)
   listing_all many = same_listing db lsas (fresh_all many) listing_is
 
 -- ---- what a database lists has each of its entries below MaxAge

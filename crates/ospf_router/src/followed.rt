@@ -1,10 +1,9 @@
 //! A tree that follows what a step of a router brings into its database.
 
-ghost use Rattle.std.specs.Prelude.{◌≡◌, [], All, IfOk, IfSome, IsTrue, length};
+ghost use Rattle.std.specs.Prelude.{◌≡◌, [], All, IfOk, IfSome, IsTrue, filter, length};
 ghost use Rattle.ospf_lsa.specs.Listing.{IsListing, IsPut};
 ghost use Rattle.ospf_lsa.specs.Lsa.{key_of};
-ghost use Rattle.ospf_lsdb.specs.Counts.{fresh_count};
-ghost use Rattle.ospf_lsdb.specs.Database.{IsDatabase, lsa_of, listed};
+ghost use Rattle.ospf_lsdb.specs.Database.{IsDatabase, is_fresh, lsa_of, listed};
 ghost use Rattle.ospf_router.specs.Kept.{IsGrownFrom};
 ghost use Rattle.ospf_router.specs.Listings.{AreListedAt, ListsAs, ListsBut, StayListed};
 
@@ -57,7 +56,8 @@ pub(crate) fn followed(
 
 /// Whether as many LSAs are listed as the database has below `MAX_AGE`. No memory is taken.
 pub(crate) fn lists_as_many(database: &Lsdb, tree: &GrowingTree) -> bool
-    ensures many { IsTrue result → fresh_count database.now ≡ length tree.now.listing }
+    ensures many { IsTrue result → length (filter (λ h. is_fresh h.entry) database.now)
+        ≡ length tree.now.listing }
     ensures database { IsDatabase database.now }
     ensures listing { IsListing tree.now.listing }
 {

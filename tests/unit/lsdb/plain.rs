@@ -143,6 +143,17 @@ impl PlainLsdb {
         Ok(keys)
     }
 
+    // The keys of the LSAs at MaxAge.
+    pub fn expired_keys(&self, alloc: Global) -> Result<Vec<LsaKey>, AllocError> {
+        let mut keys = Vec::new(alloc);
+        for entry in &self.entries {
+            if entry.age() == MAX_AGE {
+                keys.push(entry.lsa.view().key())?;
+            }
+        }
+        Ok(keys)
+    }
+
     // The LSAs below MaxAge.
     pub fn fresh(&self, alloc: Global) -> Result<Vec<&Lsa>, AllocError> {
         let mut fresh = Vec::new(alloc);

@@ -1,16 +1,17 @@
-use Rattle.std.proofs.Common.{◌≡◌, ◌+◌, arith}
-use Rattle.ospf_lsdb.specs.Counts.{fresh_count}
-use Rattle.ospf_lsdb.proofs.CountLemmas.{ages_count}
+use Rattle.std.proofs.Common.{◌∙◌, ◌||◌, List, ap, arith, length}
+use Rattle.ospf_base.specs.declared.ids.LsaKey.{LsaKey}
+use Rattle.ospf_lsdb.specs.Moments.{among}
+use Rattle.ospf_lsdb.proofs.IndexLemmas.{index_ages, index_rises, room_for_all}
 use Rattle.ospf_lsdb.proofs.lsdb.Lsdb.tick.Goals as goal
-use Rattle.ospf_lsdb.proofs.lsdb.Lsdb.tick.Goals.{After-is_database-2}
 
-count : (c : After-is_database-2) → fresh_count c.tick-looks.new.self + c.tick-looks.result ≡ c.self.inside.fresh
-count c =
-    let counts = ages_count c.self.inside.dated c.tick-looks.new.self c.is_database.ensures c.is_database-2.ensures c.tick-looks.ensures.ages in
-    omega (arith, counts, c.tick-looks.ensures.looks, c.self.invariant)
-
-pub overflow_sub-self : goal.overflow_sub-self
-overflow_sub-self c = omega (arith, count c)
+pub put_all-requires : goal.put_all-requires
+put_all-requires c =
+    let all = room_for_all c.self.inside.dated c.tick-looks.new.self c.self.inside.expired c.is_database.ensures c.is_database-2.ensures c.tick-looks.ensures.ages c.self.invariant in
+    let come = ap length c.reached.ensures.keys in
+    omega (arith, all, come)
 
 pub invariant_of-self : goal.invariant_of-self
-invariant_of-self c = omega (arith, count (goal.at.invariant_of-self c).After-is_database-2)
+invariant_of-self c =
+    index_ages c.self.inside.dated c.tick-looks.new.self c.self.inside.expired c.put_all.new.self c.is_database.ensures c.is_database-2.ensures c.tick-looks.ensures.ages c.self.invariant
+    (c.put_all.ensures.rising (index_rises c.self.inside.dated c.self.inside.expired c.is_database.ensures c.self.invariant))
+    (λ k. c.put_all.ensures.keys k ∙ ap (λ (come : List LsaKey). among come k || among c.self.inside.expired.keys k) c.reached.ensures.keys) c.put_all.ensures.room

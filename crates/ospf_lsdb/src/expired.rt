@@ -1,0 +1,104 @@
+//! The keys of the entries at `MAX_AGE`.
+
+ghost use Rattle.std.specs.Prelude.{◌≡◌, ◌+◌, ◌<◌, ◌≤◌, ◌||◌, [], true, false, length, OnOk};
+ghost use Rattle.ospf_base.specs.declared.ids.LsaKey.{LsaKey};
+ghost use Rattle.ospf_lsdb.specs.Expired.{SetsKey};
+ghost use Rattle.ospf_lsdb.specs.Moments.{among};
+ghost use Rattle.ospf_lsdb.specs.Timers.{KeysRise};
+
+use crate::moments::AgesReached;
+use ospf_base::LsaKey;
+use std::alloc::{AllocError, Global};
+use std::marker::Model;
+
+/// Keys in order, each once, with room for more: only `make_room` takes memory.
+#[derive(Drop)]
+pub(crate) struct ExpiredKeys {
+    keys: Vec<LsaKey>,
+}
+
+impl Model for ExpiredKeys {
+    ghost use Rattle.std.specs.Prelude.{vec_capacity};
+    ghost use Rattle.ospf_lsdb.specs.Expired.{KeysValue};
+    ghost use Rattle.ospf_lsdb.specs.Timers.{KeysRise};
+
+    ghost Value = { KeysValue };
+
+    ghost view = { λ e. record { keys = e.keys.items; room = vec_capacity e.keys } };
+
+    ghost invariant = { λ e. KeysRise e.keys.items };
+}
+
+impl ExpiredKeys {
+    pub(crate) fn new(alloc: Global) -> ExpiredKeys
+        ensures { result.keys ≡ [] }
+    {
+        ExpiredKeys {
+            keys: Vec::new(alloc),
+        }
+    }
+
+    pub(crate) fn len(&self) -> usize
+        ensures { result ≡ length self.now.keys }
+    {
+        self.keys.len()
+    }
+
+    pub(crate) fn keys(&self) -> &[LsaKey]
+        ensures keys { result.now ≡ self.now.keys }
+        ensures rising { KeysRise self.now.keys }
+    {
+        &self.keys
+    }
+
+    /// Makes room for so many keys in all.
+    ///
+    /// `AllocError` where memory runs out.
+    pub(crate) fn make_room(&mut self, count: usize) -> Result<(), AllocError>
+        ensures keys { self.new.keys ≡ self.old.keys }
+        ensures room { self.old.room ≤ self.new.room }
+        ensures ok { OnOk result (count ≤ self.new.room) }
+    {
+        self.keys.reserve(count.saturating_sub(self.keys.len()))
+    }
+
+    /// Puts a key in, for which there is room.
+    pub(crate) fn put(&mut self, key: LsaKey)
+        requires { length self.old.keys < self.old.room }
+        ensures keys { SetsKey key true self.old.keys self.new.keys }
+        ensures rising { KeysRise self.new.keys }
+        ensures room { self.old.room ≤ self.new.room }
+        ensures one_more { length self.new.keys ≤ length self.old.keys + 1 }
+    {
+        let Err(place) = self.keys.binary_search(&key) else {
+            return;
+        };
+        if self.keys.insert(place, key).is_err() {
+            unreachable!()
+        }
+    }
+
+    /// Puts keys in, for which there is room.
+    pub(crate) fn put_all(&mut self, keys: AgesReached<'_>)
+        requires { length self.old.keys + length keys ≤ self.old.room }
+        ensures keys { (k : LsaKey) → among self.new.keys k
+            ≡ (among keys.entry k || among self.old.keys k) }
+        ensures rising { KeysRise self.old.keys → KeysRise self.new.keys }
+        ensures room { self.old.room ≤ self.new.room }
+    {
+        for key in keys {
+            self.put(key);
+        }
+    }
+
+    /// Takes a key out.
+    pub(crate) fn remove(&mut self, key: &LsaKey)
+        ensures keys { SetsKey key.now false self.old.keys self.new.keys }
+        ensures rising { KeysRise self.new.keys }
+        ensures room { self.old.room ≤ self.new.room }
+    {
+        if let Ok(place) = self.keys.binary_search(key) {
+            self.keys.remove(place);
+        }
+    }
+}
