@@ -1,9 +1,10 @@
 -- LSAs leave one after the other.
 use Rattle.std.proofs.Common.{◌≡◌, ◌||◌, Bool, true, false, if◌then◌else◌, Option, None, Some, ap, ◌∙◌, List, [], ◌∷◌, ◌++◌, refl, subst, arith, filter, length, map}
 use Rattle.ospf_base.specs.declared.ids.LsaKey.{LsaKey}
-use Rattle.ospf_base.proofs.SameKeys.{same_key-eq}
-use Rattle.ospf_base.specs.Keys.{same_key}
-use Rattle.ospf_lsdb.specs.Database.{Held, entries, held_of, is_expired, removed}
+use Rattle.std.specs.List.{AllByRecursion}
+use Rattle.ospf_base.proofs.SameKeys.{same_key-apart, same_key-eq, same_key-refl}
+use Rattle.ospf_base.specs.Keys.{Precedes, same_key}
+use Rattle.ospf_lsdb.specs.Database.{AreKeysRising, Held, IsDatabase, entries, held_of, is_expired, is_some_and, key_at, removed}
 use Rattle.ospf_lsdb.specs.Moments.{among}
 use Rattle.ospf_area.specs.Outputs.{OutputsValue}
 use Rattle.ospf_update.specs.Removal.{RemovesOne, RemovesAll, is_leaving, key_of_entry, leaving}
@@ -65,3 +66,42 @@ leaving_none s none = by (some_link_loading s.links) refl
     by : (b : Bool) → some_link_loading s.links ≡ b → leaving s ≡ []
     by true e = rw e refl
     by false e = rw e (ap (λ es. map key_of_entry es) (none_leaves s.links s.database none))
+
+-- ---- they are among the keys of those at MaxAge
+
+-- an entry is held at its key
+each_held : (db : List Held) → AreKeysRising db → AllByRecursion (λ h. held_of db (key_at h) ≡ Some h) db
+each_held [] rises = tt
+each_held (x ∷ xs) rises = (let same = same_key-refl (key_at x) in rw same refl, later xs rises.0 (each_held xs rises.1))
+  where
+    later : (hs : List Held) → AllByRecursion (λ o. Precedes (key_at x) (key_at o)) hs → AllByRecursion (λ h. held_of xs (key_at h) ≡ Some h) hs → AllByRecursion (λ h. held_of (x ∷ xs) (key_at h) ≡ Some h) hs
+    later [] after held = tt
+    later (h ∷ hs) after held = (let no = same_key-apart (key_at x) (key_at h) after.0 in rw no held.0, later hs after.1 held.1)
+
+-- the entry at a key leaves
+abbrev pub leaves : List LinkValue → List Held → LsaKey → Bool
+leaves links db key = is_some_and (λ h. is_leaving links h.entry) (held_of db key)
+
+-- those that leave are among the keys of those at MaxAge
+abbrev AreAmong : List LinkValue → List Held → List Held → Type 0
+AreAmong links db hs = filter (leaves links db) (map key_at (filter is_expired hs)) ≡ map key_of_entry (filter (is_leaving links) (entries hs))
+
+leaving_among : (links : List LinkValue) (db hs : List Held) → AllByRecursion (λ h. held_of db (key_at h) ≡ Some h) hs → AreAmong links db hs
+leaving_among links db [] held = refl
+leaving_among links db (h ∷ hs) held = by (is_expired h) refl (leaving_among links db hs held.1)
+  where
+    leaves_it : leaves links db (key_at h) ≡ is_leaving links h.entry
+    leaves_it = ap (λ (o : Option Held). is_some_and (λ g. is_leaving links g.entry) o) held.0
+
+    one : (b : Bool) → is_leaving links h.entry ≡ b → AreAmong links db hs → filter (leaves links db) (key_at h ∷ map key_at (filter is_expired hs)) ≡ map key_of_entry (filter (is_leaving links) (entries (h ∷ hs)))
+    one true e rest = let goes = leaves_it ∙ e in rw (goes, e) (ap (λ ks. key_at h ∷ ks) rest)
+    one false e rest = let stays = leaves_it ∙ e in rw (stays, e) rest
+
+    by : (b : Bool) → is_expired h ≡ b → AreAmong links db hs → AreAmong links db (h ∷ hs)
+    by true e rest =
+        let first : filter is_expired (h ∷ hs) ≡ h ∷ filter is_expired hs = rw e refl in
+        ap (λ (gs : List Held). filter (leaves links db) (map key_at gs)) first ∙ one (is_leaving links h.entry) refl rest
+    by false e rest = rw e rest
+
+pub leaving_expired : (links : List LinkValue) (db : List Held) → IsDatabase db → filter (leaves links db) (map key_at (filter is_expired db)) ≡ map key_of_entry (filter (is_leaving links) (entries db))
+leaving_expired links db is = leaving_among links db db (each_held db is.rising)

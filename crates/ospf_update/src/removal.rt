@@ -1,7 +1,7 @@
 //! LSAs that leave the database.
 
 ghost use Rattle.std.specs.Prelude.{◌≡◌, IfOk, OnOk, map, filter, if◌then◌else◌};
-ghost use Rattle.ospf_lsdb.specs.Database.{entries};
+ghost use Rattle.ospf_lsdb.specs.Database.{entries, held_of, is_some_and};
 ghost use Rattle.ospf_update.specs.Removal.{some_awaits_on, some_awaits, is_leaving, key_of_entry, leaving, is_last, ends_run, reset_one, reset, and_ends, RemovesOne, RemovesAll, Removes};
 
 use ospf_area::{Area, AreaLink, Numbering, Outputs, is_numbered, is_own, some_link_loading};
@@ -52,29 +52,35 @@ fn leaving(area: &Area, alloc: Global) -> Result<Vec<LsaKey>, AllocError>
     leaving_of(&area.links, &area.database, alloc)
 }
 
+// A walk over the whole database at the end of each step would take too long: only the keys at `MAX_AGE` are gone through.
 fn leaving_of(links: &[AreaLink], database: &Lsdb, alloc: Global) -> Result<Vec<LsaKey>, AllocError>
     ensures { IfOk result (λ keys. keys.items
         ≡ map key_of_entry (filter (is_leaving links.now) (entries database.now))) }
 {
     let mut keys = Vec::new(alloc);
-    for copy in database.entries() {
-        if is_leaving(links, &copy) {
-            keys.push(key_of_entry(&copy))?;
+    for key in database.expired_keys() {
+        if leaves(links, database, key) {
+            keys.push(*key)?;
         }
     }
     Ok(keys)
+}
+
+// Whether the LSA of a key leaves.
+fn leaves(links: &[AreaLink], database: &Lsdb, key: &LsaKey) -> bool
+    ensures { result ≡ is_some_and (λ h. is_leaving links.now h.entry)
+        (held_of database.now key.now) }
+{
+    match database.get(key) {
+        Some(copy) => is_leaving(links, &copy),
+        None => false,
+    }
 }
 
 fn is_leaving(links: &[AreaLink], copy: &EntryView<'_>) -> bool
     ensures { result ≡ is_leaving links.now copy.now }
 {
     copy.age().ticks() == MAX_AGE && !some_awaits(&copy.instance(), links)
-}
-
-fn key_of_entry(copy: &EntryView<'_>) -> LsaKey
-    ensures { result ≡ key_of_entry copy.now }
-{
-    copy.key()
 }
 
 fn remove_all(area: &mut Area, keys: &[LsaKey], out: &mut Outputs) -> Result<(), AllocError>
