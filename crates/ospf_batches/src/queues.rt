@@ -5,7 +5,6 @@ ghost use Rattle.ospf_headline.specs.Slots.{router_in};
 ghost use Rattle.ospf_batches.specs.Batches.{by_router, put_at, queued, queues_of};
 ghost use Rattle.ospf_world.specs.Worlds.{place_of};
 
-use ospf_base::RouterId;
 use ospf_world::{World, WorldEvent};
 use std::alloc::{AllocError, Global};
 
@@ -59,25 +58,11 @@ fn put_in_queue(
     ensures none { place_of world.now.slots (router_in event.now).0 ≡ None →
         queued queues.new.items ≡ queued queues.old.items }
 {
-    match world.place(router_of(event)) {
+    match world.place(event.router()) {
         Some(place) => {
             queues[place].push(*event)?;
             Ok(())
         }
         None => Ok(()),
-    }
-}
-
-// The router that an event is at.
-fn router_of(event: &WorldEvent) -> RouterId
-    ensures { result ≡ router_in event.now }
-{
-    match event {
-        WorldEvent::Start { router, .. } => *router,
-        WorldEvent::Stop { router } => *router,
-        WorldEvent::Tick { router } => *router,
-        WorldEvent::LinkUp { router, .. } => *router,
-        WorldEvent::LinkDown { router, .. } => *router,
-        WorldEvent::Deliver { router, .. } => *router,
     }
 }

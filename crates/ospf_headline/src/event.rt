@@ -41,6 +41,25 @@ pub enum WorldEvent {
     },
 }
 
+impl WorldEvent {
+    ghost use Rattle.ospf_headline.specs.Slots.{router_in};
+    ghost use Rattle.std.specs.Prelude.{◌≡◌};
+
+    /// The router that it happens at.
+    pub fn router(&self) -> RouterId
+        ensures { result ≡ router_in self.now }
+    {
+        match self {
+            WorldEvent::Start { router, .. } => *router,
+            WorldEvent::Stop { router } => *router,
+            WorldEvent::Tick { router } => *router,
+            WorldEvent::LinkUp { router, .. } => *router,
+            WorldEvent::LinkDown { router, .. } => *router,
+            WorldEvent::Deliver { router, .. } => *router,
+        }
+    }
+}
+
 /// Why an event, or a world, is refused.
 #[derive(Clone, Copy, Debug, PartialEq, Eq, Error)]
 pub enum WorldFault {

@@ -57,7 +57,7 @@ impl<F: Write + Drop> Events<F> {
         answer: &Result<(), WorldFault>,
     ) -> Result<Vec<RouterChange>, AllocError> {
         let (alloc, dropped) = (self.alloc, self.dropped.take());
-        let followed = self.followed(router_of(event))?;
+        let followed = self.followed(event.router())?;
         let dropped = match answer {
             Ok(()) => dropped,
             Err(_) => None,
@@ -66,7 +66,7 @@ impl<F: Write + Drop> Events<F> {
             followed.ticks = followed.ticks.saturating_add(1);
         }
         let ticks = followed.ticks;
-        let changes = match world.router(router_of(event)) {
+        let changes = match world.router(event.router()) {
             Ok(router) => followed.seen.follow(router, dropped, alloc),
             Err(_) => followed.seen.end(alloc),
         };
@@ -104,20 +104,8 @@ impl<F: Write + Drop> EventWatch for Events<F> {
         let changes = self.follow(world, event, answer);
         let (alloc, now) = (self.alloc, self.now);
         if let Some(journal) = &mut self.journal {
-            journal.write(alloc, now, router_of(event), changes);
+            journal.write(alloc, now, event.router(), changes);
         }
-    }
-}
-
-// The router that an event names.
-fn router_of(event: &WorldEvent) -> RouterId {
-    match event {
-        WorldEvent::Start { router, .. }
-        | WorldEvent::Stop { router }
-        | WorldEvent::Tick { router }
-        | WorldEvent::LinkUp { router, .. }
-        | WorldEvent::LinkDown { router, .. }
-        | WorldEvent::Deliver { router, .. } => *router,
     }
 }
 

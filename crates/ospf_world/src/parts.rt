@@ -1,7 +1,6 @@
 //! Many routers and their logs, before anything is said of what led there.
 
 ghost use Rattle.std.specs.Prelude.{◌≡◌, ◌<◌, ◌+◌, ◌++◌, IfOk, IfSome, None, Some, find, length};
-ghost use Rattle.ospf_headline.specs.Slots.{router_in};
 ghost use Rattle.ospf_world.specs.Does.{Does};
 ghost use Rattle.ospf_world.specs.Rounds.{offers_of, sending_address};
 ghost use Rattle.ospf_world.specs.Worlds.{AddsConfig, Lends, LendsSlot, Opens, is_slot_of, place_in, place_of, world_of};
@@ -93,7 +92,7 @@ impl Parts {
     pub(crate) fn step(&mut self, event: &WorldEvent, alloc: Global) -> Result<(), WorldFault>
         ensures { Does event.now self.old result self.new }
     {
-        match place(&self.places, router_of(event)) {
+        match place(&self.places, event.router()) {
             Some(place) => {
                 let slot = &mut self.slots[place];
                 step_slot(slot, event, &mut self.logs, &mut self.ticks, alloc)
@@ -193,19 +192,5 @@ fn running(slot: &Slot) -> Result<&Router, WorldFault>
     match slot.router() {
         Some(router) => Ok(router),
         None => Err(WorldFault::NotRunning),
-    }
-}
-
-// The router that an event is at.
-fn router_of(event: &WorldEvent) -> RouterId
-    ensures { result ≡ router_in event.now }
-{
-    match event {
-        WorldEvent::Start { router, .. } => *router,
-        WorldEvent::Stop { router } => *router,
-        WorldEvent::Tick { router } => *router,
-        WorldEvent::LinkUp { router, .. } => *router,
-        WorldEvent::LinkDown { router, .. } => *router,
-        WorldEvent::Deliver { router, .. } => *router,
     }
 }
