@@ -1,5 +1,5 @@
--- Batches: a tick of each router that runs, and then what waits, router by router.
-use Rattle.std.specs.Prelude.{◌≡◌, ◌==◌, ◌+◌, ◌<◌, ◌≤◌, ◌++◌, ℕ, zero, suc, Bool, true, false, List, [], ◌∷◌, Option, None, Some, Result, Ok, Err, drop, filter, length, map}
+-- Batches: a tick of each router that runs, and then what waits, router by router (RFC 2328, section 8.1).
+use Rattle.std.specs.Prelude.{◌≡◌, ◌==◌, ◌+◌, ◌<◌, ◌≤◌, ◌++◌, ℕ, zero, suc, Bool, true, false, List, [], ◌∷◌, Option, None, Some, Result, Ok, Err, drop, filter, get_or, length, map, set}
 use Rattle.std.specs.Global.{Vec}
 use Rattle.std.specs.List.{flat_map}
 use Rattle.ospf_headline.specs.Runs.{IsRun}
@@ -39,11 +39,9 @@ by_router slots events = flat_map (λ queue. queue) (queues_of slots events)
 abbrev pub queued : List (Vec WorldEvent) → List (List WorldEvent)
 queued queues = map (λ q. q.items) queues
 
--- an event is put behind those of a queue
+-- an event is put behind those of the queue at this place
 abbrev pub put_at : ℕ → WorldEvent → List (List WorldEvent) → List (List WorldEvent)
-put_at place event [] = []
-put_at zero event (queue ∷ queues) = (queue ++ event ∷ []) ∷ queues
-put_at (suc place) event (queue ∷ queues) = queue ∷ put_at place event queues
+put_at place event queues = set queues place (get_or queues place [] ++ event ∷ [])
 
 -- the offers of datagrams, of which the first stands at this place of the log
 abbrev pub offers_from : List SlotValue → ℕ → List Datagram → List WorldEvent
