@@ -1,5 +1,7 @@
 #!/usr/bin/env python3
-"""Counts and times an idle tick of a router, and an Update with an LSA that it has, by the clock and by valgrind."""
+"""Counts and times an idle tick of a router, and an Update with an LSA that it has, also while another one waits at MaxAge for
+acknowledgments, by the clock and by valgrind.
+"""
 import re
 import subprocess
 import tempfile
@@ -12,33 +14,33 @@ SIZES = ((2, 2, 100), (10, 10, 100), (10, 10, 1000), (10, 10, 10000))
 STEPS = 8
 
 
-def words_of(program, size, ticks, updates):
-    return [program, *map(str, size), str(ticks), str(updates)]
+def words_of(program, size, *steps):
+    return [program, *map(str, size), *map(str, steps)]
 
 
 def nanoseconds(program, size):
-    told = subprocess.run(words_of(program, size, STEPS, STEPS), check=True, capture_output=True, text=True).stdout
+    told = subprocess.run(words_of(program, size, STEPS, STEPS, STEPS), check=True, capture_output=True, text=True).stdout
     return [int(word) / STEPS for word in told.split()]
 
 
-def instructions(program, size, ticks, updates):
-    words = ["valgrind", "--tool=callgrind", "--callgrind-out-file=/dev/null", *words_of(program, size, ticks, updates)]
+def instructions(program, size, *steps):
+    words = ["valgrind", "--tool=callgrind", "--callgrind-out-file=/dev/null", *words_of(program, size, *steps)]
     told = subprocess.run(words, check=True, capture_output=True, text=True).stderr
     return int(re.search(r"Collected : (\d+)", told).group(1))
 
 
 def counts(program, size):
-    none = instructions(program, size, 0, 0)
-    return [(instructions(program, size, *steps) - none) / STEPS for steps in ((STEPS, 0), (0, STEPS))]
+    none = instructions(program, size, 0, 0, 0)
+    return [(instructions(program, size, *steps) - none) / STEPS for steps in ((STEPS, 0, 0), (0, STEPS, 0), (0, 0, STEPS))]
 
 
 def main():
     with tempfile.TemporaryDirectory() as place:
-        program = build(place, "steps", "ospf_router", ["2", "2", "10", "1", "1"])
+        program = build(place, "steps", "ospf_router", ["2", "2", "10", "1", "1", "1"])
         for size in SIZES:
             links, each, lsas = size
-            (tick, update), (tick_count, update_count) = nanoseconds(program, size), counts(program, size)
-            print(f"| {links} | {links * each} | {lsas:,} | {tick_count:,.0f} | {tick / 1000:,.1f} | {update_count:,.0f} | {update / 1000:,.1f} |", flush=True)
+            taken = zip(counts(program, size), nanoseconds(program, size))
+            print(f"| {links} | {links * each} | {lsas:,} |" + "".join(f" {count:,.0f} | {time / 1000:,.1f} |" for count, time in taken), flush=True)
 
 
 main()
