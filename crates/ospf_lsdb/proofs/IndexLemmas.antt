@@ -132,7 +132,7 @@ no_more key f none a b is_a is_b puts = elim (puts_length key (f (held_of a key)
 ]
 
 -- a tick
-pub as_many : (a b : List Held) → IsDatabase a → IsDatabase b → Ages a b → b ≡ map older a
+as_many : (a b : List Held) → IsDatabase a → IsDatabase b → Ages a b → b ≡ map older a
 as_many a b is_a is_b ages = one_database b (map older a) is_b (IsDatabase-older a is_a) (λ k. ages k ∙ sym (held_of-map older key_at-older a k))
 
 -- ---- the keys of those at MaxAge
@@ -141,11 +141,11 @@ abbrev expired_keys : List Held → List LsaKey
 expired_keys db = keys_where is_expired db
 
 -- they rise
-pub index_rises : (db : List Held) (list : KeysValue) → IsDatabase db → IsIndex db list → KeysRise list.keys
+index_rises : (db : List Held) (list : KeysValue) → IsDatabase db → IsIndex db list → KeysRise list.keys
 index_rises db list is_db index = subst (λ (ks : List LsaKey). KeysRise ks) (sym index.keys) (where-rise is_expired db is_db.rising)
 
 -- which are there
-pub index_among : (db : List Held) (list : KeysValue) → IsDatabase db → IsIndex db list → (k : LsaKey) → among list.keys k ≡ is_some_and is_expired (held_of db k)
+index_among : (db : List Held) (list : KeysValue) → IsDatabase db → IsIndex db list → (k : LsaKey) → among list.keys k ≡ is_some_and is_expired (held_of db k)
 index_among db list is_db index k = ap (λ (ks : List LsaKey). among ks k) index.keys ∙ where-among is_expired db is_db.rising k
 
 -- by those that are there
@@ -191,9 +191,6 @@ index_kept key o a b list is_a is_b puts index same room =
 
 fresh_not : (n : ℕ) → nat_lt n 3600 ≡ true → (n == 3600) ≡ false
 fresh_not n young = grind arith
-
-old_at : (n : ℕ) → nat_lt n 3600 ≡ false → n ≤ 3600 → (n == 3600) ≡ true
-old_at n old fits = grind arith
 
 -- then there is one
 pub expired_there : (o : Option Held) → is_some_and (λ h. is_fresh h.entry) o ≡ true → true ≡ is_some_and is_expired (option_map expired o)
@@ -269,6 +266,15 @@ index_ages a b before after is_a is_b ages index rises here room = index_from b 
         let same = ap length (as_many a b is_a is_b ages) in
         let count = length-map a older in
         omega (arith, same, count, index.room, room)
+
+-- where none comes to MaxAge, the list stays as it is
+none_there : (ks : List LsaKey) → 0 ≡ length ks → ks ≡ []
+none_there [] is = refl
+none_there (k ∷ ks) is = absurd (omega (arith, is))
+
+pub index_stays : (a b : List Held) (list : KeysValue) → IsDatabase a → IsDatabase b → Ages a b → IsIndex a list → 0 ≡ length (reached_at 3600 b) → IsIndex b list
+index_stays a b list is_a is_b ages index none =
+    index_ages a b list list is_a is_b ages index (index_rises a list is_a index) (λ k. ap (λ (ks : List LsaKey). among ks k || among list.keys k) (sym (none_there (reached_at 3600 b) none))) (omega arith)
 
 -- and there is room for all of them
 counted : (db : List Held) → length (expired_keys db) + length (reached_at 3600 (map older db)) ≤ length db

@@ -21,19 +21,19 @@ use Rattle.ospf_lsdb.specs.Timers.{KeysRise}
 use Rattle.ospf_lsdb.proofs.MapLemmas.{bool_cases}
 use Rattle.ospf_lsdb.proofs.ReachedKeys.{KeysAfter, not_among}
 
-abbrev pub KeysBefore : LsaKey → List LsaKey → Type 0
+abbrev KeysBefore : LsaKey → List LsaKey → Type 0
 KeysBefore key ks = AllByRecursion (λ k. Precedes k key) ks
 
 -- ---- a list about a key
 
-pub rise_put : (xs : List LsaKey) (key : LsaKey) (ys : List LsaKey) → KeysRise (xs ++ ys) → KeysBefore key xs → KeysAfter key ys → KeysRise (xs ++ key ∷ ys)
+rise_put : (xs : List LsaKey) (key : LsaKey) (ys : List LsaKey) → KeysRise (xs ++ ys) → KeysBefore key xs → KeysAfter key ys → KeysRise (xs ++ key ∷ ys)
 rise_put [] key ys rises before after = (after, rises)
 rise_put (x ∷ xs) key ys rises before after = (
   all_join (λ o. Precedes x o) xs (key ∷ ys) (all_front (λ o. Precedes x o) xs ys rises.0) (before.0, all_back (λ o. Precedes x o) xs ys rises.0),
   rise_put xs key ys rises.1 before.1 after,
 )
 
-pub rise_removed : (xs : List LsaKey) (key : LsaKey) (ys : List LsaKey) → KeysRise (xs ++ key ∷ ys) → KeysRise (xs ++ ys)
+rise_removed : (xs : List LsaKey) (key : LsaKey) (ys : List LsaKey) → KeysRise (xs ++ key ∷ ys) → KeysRise (xs ++ ys)
 rise_removed [] key ys rises = rises.1
 rise_removed (x ∷ xs) key ys rises = (
   all_join (λ o. Precedes x o) xs ys (all_front (λ o. Precedes x o) xs (key ∷ ys) rises.0) (all_back (λ o. Precedes x o) xs (key ∷ ys) rises.0).1,
@@ -49,12 +49,12 @@ rise_after [] key ys rises = rises.0
 rise_after (x ∷ xs) key ys rises = rise_after xs key ys rises.1
 
 -- in a gap there is no key
-pub none_of : (xs : List LsaKey) (key : LsaKey) (ys : List LsaKey) → KeysBefore key xs → KeysAfter key ys → among (xs ++ ys) key ≡ false
+none_of : (xs : List LsaKey) (key : LsaKey) (ys : List LsaKey) → KeysBefore key xs → KeysAfter key ys → among (xs ++ ys) key ≡ false
 none_of [] key ys before after = not_among key ys after
 none_of (x ∷ xs) key ys before after = let no = same_key-apart x key before.0 in rw no (none_of xs key ys before.1 after)
 
 -- a key put in is there, beside all others
-pub among_put : (xs : List LsaKey) (key : LsaKey) (ys : List LsaKey) → SetsKey key true (xs ++ ys) (xs ++ key ∷ ys)
+among_put : (xs : List LsaKey) (key : LsaKey) (ys : List LsaKey) → SetsKey key true (xs ++ ys) (xs ++ key ∷ ys)
 among_put [] key ys k = elim (bool_cases (same_key key k)) [ inl one ↦ rw one refl | inr two ↦ rw two refl ]
 among_put (x ∷ xs) key ys k = elim (bool_cases (same_key x k)) [
   | inl here ↦ elim (bool_cases (same_key key k)) [ inl one ↦ rw (here, one) refl | inr two ↦ rw (here, two) refl ]
@@ -69,7 +69,7 @@ set_same key is_in ks is k = elim (bool_cases (same_key key k)) [
 ]
 
 -- a key taken out is not, and all others are
-pub among_removed : (xs : List LsaKey) (key : LsaKey) (ys : List LsaKey) → KeysRise (xs ++ key ∷ ys) → SetsKey key false (xs ++ key ∷ ys) (xs ++ ys)
+among_removed : (xs : List LsaKey) (key : LsaKey) (ys : List LsaKey) → KeysRise (xs ++ key ∷ ys) → SetsKey key false (xs ++ key ∷ ys) (xs ++ ys)
 among_removed xs key ys rises k = elim (bool_cases (same_key key k)) [
   | inl one ↦
       let none = none_of xs key ys (rise_before xs key ys rises) (rise_after xs key ys rises) in
@@ -106,21 +106,21 @@ equal : (a key : LsaKey) → key_cmp a key ≡ Equal → a ≡ key
 equal a key is = let e : is_eq (key_cmp a key) ≡ true = rw is refl in same_key-eq a key (sym (is_eq-key_cmp a key) ∙ e)
 
 -- where the key was found, it stands
-pub found : (ks : List LsaKey) (key : LsaKey) (i : ℕ) → i < length ks → HoldsAt (λ y. key_cmp y key ≡ Equal) ks i → ks ≡ take i ks ++ key ∷ drop (i + 1) ks
+found : (ks : List LsaKey) (key : LsaKey) (i : ℕ) → i < length ks → HoldsAt (λ y. key_cmp y key ≡ Equal) ks i → ks ≡ take i ks ++ key ∷ drop (i + 1) ks
 found ks key i within at =
     sym (take-append-drop i ks) ∙ ap (λ (t : List LsaKey). take i ks ++ t) (drop_more ks i key within)
     ∙ ap (λ (k : LsaKey). take i ks ++ k ∷ drop (i + 1) ks) (equal (get_or ks i key) key (at key))
 
 -- where it was not, it belongs
-abbrev pub IsGapAt : List LsaKey → LsaKey → ℕ → Type 0
+abbrev IsGapAt : List LsaKey → LsaKey → ℕ → Type 0
 IsGapAt ks key i = IsNonDecreasingBy (λ y. ordering_index (key_cmp y key)) ks → IsPartitionPoint (λ y. key_cmp y key ≡ Less) (λ y. key_cmp y key ≡ Greater) ks i
 
-pub before_gap : (ks : List LsaKey) (key : LsaKey) (i : ℕ) → KeysRise ks → i ≤ length ks → IsGapAt ks key i → KeysBefore key (take i ks)
+before_gap : (ks : List LsaKey) (key : LsaKey) (i : ℕ) → KeysRise ks → i ≤ length ks → IsGapAt ks key i → KeysBefore key (take i ks)
 before_gap ks key i rises within parted = recursion_from_All (λ k. Precedes k key) (take i ks) (λ k d lt.
     let below : k < i = omega (arith, length-take {A = LsaKey}) in
     subst (λ (q : LsaKey). Precedes q key) (sym (get_or-take i ks k d below)) (key_cmp-less (get_or ks k d) key ((parted (searchable ks key rises)).0 k d (omega arith) below)))
 
-pub after_gap : (ks : List LsaKey) (key : LsaKey) (i : ℕ) → KeysRise ks → i ≤ length ks → IsGapAt ks key i → KeysAfter key (drop i ks)
+after_gap : (ks : List LsaKey) (key : LsaKey) (i : ℕ) → KeysRise ks → i ≤ length ks → IsGapAt ks key i → KeysAfter key (drop i ks)
 after_gap ks key i rises within parted = recursion_from_All (λ k. Precedes key k) (drop i ks) (λ k d lt.
     let below : i + k < length ks = omega (arith, length-drop {A = LsaKey}) in
     subst (λ (q : LsaKey). Precedes key q) (sym (get_or-drop i ks k d)) (behind (get_or ks (i + k) d) key ((parted (searchable ks key rises)).1 (i + k) d (omega arith) below)))

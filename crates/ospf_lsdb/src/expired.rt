@@ -83,9 +83,11 @@ impl ExpiredKeys {
         requires { length self.old.keys + length keys ≤ self.old.room }
         ensures keys { (k : LsaKey) → among self.new.keys k
             ≡ (among keys.entry k || among self.old.keys k) }
-        ensures rising { KeysRise self.old.keys → KeysRise self.new.keys }
+        ensures rising { KeysRise self.new.keys }
         ensures room { self.old.room ≤ self.new.room }
     {
+        // For the proof.
+        let _keys = self.keys();
         for key in keys {
             self.put(key);
         }

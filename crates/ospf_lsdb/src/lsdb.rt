@@ -120,6 +120,10 @@ impl Lsdb {
         is_database(&self.dated);
         let looks = self.dated.tick();
         is_database(&self.dated);
+        // Mostly none comes to `MAX_AGE`: then the ordered set of moments is not asked.
+        if looks == 0 {
+            return 0;
+        }
         self.expired.put_all(self.dated.reached(MAX_AGE));
         looks
     }

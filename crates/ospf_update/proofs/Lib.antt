@@ -13,3 +13,4 @@ pub mod TurnLemmas
 pub mod PackLemmas
 pub mod PassLemmas
 pub mod PostLemmas
+pub mod AgeLemmas

@@ -52,7 +52,7 @@ fn leaving(area: &Area, alloc: Global) -> Result<Vec<LsaKey>, AllocError>
     leaving_of(&area.links, &area.database, alloc)
 }
 
-// A walk over the whole database at the end of each step would take too long: only the keys at `MAX_AGE` are gone through.
+// Only the keys at `MAX_AGE` are gone through: each step ends with this, and a walk over all entries would take too long.
 fn leaving_of(links: &[AreaLink], database: &Lsdb, alloc: Global) -> Result<Vec<LsaKey>, AllocError>
     ensures { IfOk result (λ keys. keys.items
         ≡ map key_of_entry (filter (is_leaving links.now) (entries database.now))) }

@@ -8,7 +8,7 @@ abbrev pub invariant-loop-key : goal.invariant-loop-key
 invariant-loop-key l = record {
   walked : l.fn.keys ≡ l.yielded ++ l.key-iterator;
   keys : (k : LsaKey) → among l.self.keys k ≡ (among l.yielded k || among l.fn.self.keys k);
-  rising : KeysRise l.fn.self.keys → KeysRise l.self.keys;
+  rising : KeysRise l.self.keys;
   fits : length l.self.keys + length l.key-iterator ≤ l.self.room;
   room : l.fn.self.room ≤ l.self.room;
 }
