@@ -1,5 +1,5 @@
 -- What an event comes to at a slot.
-use Rattle.std.proofs.Common.{Bool, ◌≡◌, ◌≢◌, ◌<◌, ◌≤◌, ◌⊎◌, inl, inr, ℕ, ℤ, List, Option, None, Some, length, refl, sym, ap, subst, ◌∙◌, cond, is_some, true, false, nat_lt, IfOk, IfSome, OnErr, Result, Ok, Err, if◌then◌else◌, vec_len, slice_get, get_or, option_and_then, option_map, arith}
+use Rattle.std.proofs.Common.{Bool, ◌≡◌, ◌≢◌, ◌<◌, ◌≤◌, ◌⊎◌, inl, inr, ℕ, ℤ, List, Option, None, Some, length, refl, sym, ap, subst, ◌∙◌, cond, is_some, true, false, nat_lt, IfSome, Result, Ok, Err, if◌then◌else◌, vec_len, slice_get, get_or, option_and_then, option_map, arith}
 use Rattle.std.proofs.lemmas.Bool.Decides.{Decides-int_eq}
 use Rattle.std.proofs.lemmas.Option.{get_or_from_slice_get, slice_get_cases}
 use Rattle.std.specs.Ordering.{int_eq}
@@ -14,11 +14,10 @@ use Rattle.ospf_headline.specs.declared.event.WorldFault.{WorldFault}
 use Rattle.ospf_headline.specs.declared.event.WorldFault.TheVariants as fault
 use Rattle.ospf_headline.specs.declared.logs.Datagram.{Datagram}
 use Rattle.ospf_headline.specs.declared.logs.Issued.{Issued}
-use Rattle.ospf_step.specs.Counts.{with_dropped}
 use Rattle.ospf_step.specs.Step.{Event}
 use Rattle.ospf_headline.specs.Logs.{LogsValue}
-use Rattle.ospf_headline.specs.Running.{Begins, Fed, RunningValue, delivery, running_of, runs_in}
-use Rattle.ospf_headline.specs.Slots.{DeliversOn, Feeds, FeedsOn, IsSlot, SlotSteps, SlotTakes, SlotValue, StartsSlot, StopsSlot, drops_in, fed_by, member_of, refused_by, slot_of, with_running}
+use Rattle.ospf_headline.specs.Running.{Begins, RunningValue, delivery, running_of, runs_in}
+use Rattle.ospf_headline.specs.Slots.{DeliversOn, Feeds, FeedsOn, IsSlot, SlotSteps, SlotTakes, SlotValue, StartsSlot, StopsSlot, fed_by, member_of, refused_by, slot_of, with_running}
 
 -- what is at a place that is read, where there is something
 pub at_place : {A : Type 0} (P : A → Type 0) (xs : List A) (k : ℕ) (d : A) → d ≡ get_or xs k d → P d → IfSome (slice_get xs k) P
@@ -30,36 +29,18 @@ at_place {A = A} P xs k d is p = go (slice_get xs k) refl
 
 -- ---- one call
 
--- the router of a slot was taken out and stepped, and that was concluded
-pub feeds : {S : Type 0} (e : Event) (config : Config) (o mid : Option RunningValue) (v : RunningValue) (after : SlotValue) (logs logs' : LogsValue) (stepped : Result RunningValue S) (result : Result (Unit {0}) WorldFault) →
-    o ≡ Some v → mid ≡ None → IsSlot o → IfOk stepped (λ x. Fed config.router_id e v logs x logs') → OnErr stepped (logs' ≡ logs) →
-    IfOk stepped (λ x. (result ≡ Ok tt) × (after ≡ with_running (slot_of config mid) (running_of x) x.drops)) → OnErr stepped ((result ≡ Err (fault.Memory true)) × (after ≡ slot_of config mid)) →
-    Feeds e (slot_of config o) logs result after logs'
-feeds e config o mid v after logs logs' (Ok x) result is none slot fed same ok err = Feeds.Goes ok.0 (record {
-  x = runs_in v fed.area;
-  x' = runs_in x fed.next;
-  out = fed.out;
-  was = ap (option_and_then running_of) is ∙ ap (option_map (runs_in v)) fed.was;
-  dropped = fed.dropped;
-  is =
-      ok.1 ∙ ap (λ o. with_running (slot_of config None) o x.drops) (ap (option_map (runs_in x)) fed.is)
-      ∙ ap (with_running (slot_of config None) (Some (runs_in x fed.next))) (fed.drops ∙ ap (λ o. with_dropped e fed.dropped (drops_in o)) (sym is));
-  lawful = fed.lawful;
-  table = fed.table;
-  takes = fed.takes;
-  runs = fed.runs;
-})
-feeds e config o mid v after logs logs' (Err s) result is none slot fed same ok err =
+-- memory ran out while the router of a slot was stepped, and it runs no more
+pub stops_short : (e : Event) (config : Config) (o ended : Option RunningValue) (v : RunningValue) (logs logs' : LogsValue) (result : Result (Unit {0}) WorldFault) →
+    o ≡ Some v → IsSlot o → logs' ≡ logs → ended ≡ None → result ≡ Err (fault.Memory true) → Feeds e (slot_of config o) logs result (slot_of config ended) logs'
+stops_short e config o ended v logs logs' result is slot same none err =
     let (area, lives) = subst IsSlot is slot in
-    Feeds.MemoryStops (runs_in v area) (ap (option_and_then running_of) is ∙ ap (option_map (runs_in v)) lives) err.0 (err.1 ∙ ap (slot_of config) none) same
+    Feeds.MemoryStops (runs_in v area) (ap (option_and_then running_of) is ∙ ap (option_map (runs_in v)) lives) err (ap (slot_of config) none) same
 
 -- with a datagram that may have been sent
-pub hands : {S : Type 0} (l : ℕ) (sent : Option Datagram) (config : Config) (o mid : Option RunningValue) (v : RunningValue) (after : SlotValue) (logs logs' : LogsValue) (stepped : Result RunningValue S) (result : Result (Unit {0}) WorldFault) →
-    o ≡ Some v → mid ≡ None → IsSlot o → IfOk stepped (λ x. IfSome sent (λ g. Fed config.router_id (delivery l g) v logs x logs')) → OnErr stepped (logs' ≡ logs) →
-    IfOk stepped (λ x. (result ≡ Ok tt) × (after ≡ with_running (slot_of config mid) (running_of x) x.drops)) → OnErr stepped ((result ≡ Err (fault.Memory true)) × (after ≡ slot_of config mid)) →
-    IfSome sent (λ g. Feeds (delivery l g) (slot_of config o) logs result after logs')
-hands l None config o mid v after logs logs' stepped result is none slot fed same ok err = tt
-hands l (Some g) config o mid v after logs logs' stepped result is none slot fed same ok err = feeds (delivery l g) config o mid v after logs logs' stepped result is none slot fed same ok err
+pub stops_short_with : (l : ℕ) (sent : Option Datagram) (config : Config) (o ended : Option RunningValue) (v : RunningValue) (logs logs' : LogsValue) (result : Result (Unit {0}) WorldFault) →
+    o ≡ Some v → IsSlot o → logs' ≡ logs → ended ≡ None → result ≡ Err (fault.Memory true) → IfSome sent (λ g. Feeds (delivery l g) (slot_of config o) logs result (slot_of config ended) logs')
+stops_short_with l None config o ended v logs logs' result is slot same none err = tt
+stops_short_with l (Some g) config o ended v logs logs' result is slot same none err = stops_short (delivery l g) config o ended v logs logs' result is slot same none err
 
 -- the datagram of a place was sent
 pub delivers : (l place : ℕ) (s after : SlotValue) (logs logs' : LogsValue) (result : Result (Unit {0}) WorldFault) → nat_lt l (vec_len s.config.interfaces) ≡ true → place < length logs.datagrams →

@@ -81,13 +81,13 @@ impl RunningRouter {
     ///
     /// `Stopped` where memory runs out: then no log has grown.
     pub(crate) fn feed(
-        mut self,
+        &mut self,
         event: Event<'_>,
         logs: &mut Logs,
         router: RouterId,
         alloc: Global,
-    ) -> Result<RunningRouter, Stopped>
-        ensures fed { IfOk result (λ x. Fed router (happening event.entry) self logs.old x
+    ) -> Result<(), Stopped>
+        ensures fed { OnOk result (Fed router (happening event.entry) self.old logs.old self.new
             logs.new) }
         ensures none { OnErr result (logs.new ≡ logs.old) }
     {
@@ -101,16 +101,16 @@ impl RunningRouter {
     ///
     /// `Stopped` where memory runs out: then no log has grown.
     pub(crate) fn deliver(
-        mut self,
+        &mut self,
         place: usize,
         link: usize,
         logs: &mut Logs,
         router: RouterId,
         alloc: Global,
-    ) -> Result<RunningRouter, Stopped>
+    ) -> Result<(), Stopped>
         requires { place < length logs.old.datagrams }
-        ensures fed { IfOk result (λ x. IfSome (slice_get logs.old.datagrams place)
-            (λ g. Fed router (delivery link g) self logs.old x logs.new)) }
+        ensures fed { OnOk result (IfSome (slice_get logs.old.datagrams place)
+            (λ g. Fed router (delivery link g) self.old logs.old self.new logs.new)) }
         ensures none { OnErr result (logs.new ≡ logs.old) }
     {
         let event = arrival(&logs.datagrams()[place], link);
@@ -125,17 +125,13 @@ impl RunningRouter {
     }
 
     // The logs grow by what a step of the router put out, and its runs go on.
-    fn settle(
-        mut self,
-        outputs: Outputs,
-        logs: &mut Logs,
-        router: RouterId,
-    ) -> Result<RunningRouter, Stopped>
-        ensures settles { IfOk result (λ x. SettlesLogs router self outputs logs.old x logs.new) }
+    fn settle(&mut self, outputs: Outputs, logs: &mut Logs, router: RouterId) -> Result<(), Stopped>
+        ensures settles { OnOk result (SettlesLogs router self.old outputs logs.old self.new
+            logs.new) }
         ensures none { OnErr result (logs.new ≡ logs.old) }
     {
         match logs.take(router, self.first, &mut self.later, outputs) {
-            Ok(()) => Ok(self),
+            Ok(()) => Ok(()),
             Err(_) => Err(Stopped),
         }
     }

@@ -1,9 +1,9 @@
 //! A router's place in a world.
 
-ghost use Rattle.std.specs.Prelude.{◌≡◌, ◌<◌, [], None, Some, Ok, Err, IfOk, IfSome, OnErr, is_some, length, slice_get, true};
+ghost use Rattle.std.specs.Prelude.{◌≡◌, ◌<◌, [], None, Some, Ok, Err, IfSome, is_some, length, slice_get, true};
 ghost use Rattle.ospf_headline.specs.declared.event.WorldFault.TheVariants as fault;
-ghost use Rattle.ospf_headline.specs.Running.{Lives, delivery, running_of};
-ghost use Rattle.ospf_headline.specs.Slots.{DeliversOn, Feeds, FeedsOn, IsLent, SlotSteps, StartsSlot, StopsSlot, with_running};
+ghost use Rattle.ospf_headline.specs.Running.{delivery};
+ghost use Rattle.ospf_headline.specs.Slots.{DeliversOn, Feeds, FeedsOn, IsLent, SlotSteps, StartsSlot, StopsSlot};
 ghost use Rattle.ospf_router.specs.Steps.{happening};
 
 use crate::event::{WorldEvent, WorldFault};
@@ -144,30 +144,17 @@ impl Slot {
         Ok(())
     }
 
-    // The router is stepped, if it runs.
+    // The router is stepped, if it runs, where it stands: it is large, and moving it would take a good part of the step.
     fn feed(&mut self, event: Event<'_>, logs: &mut Logs, alloc: Global) -> Result<(), WorldFault>
         ensures { Feeds (happening event.entry) self.old logs.old result self.new logs.new }
     {
-        let Some(running) = self.running.take() else {
+        let router = self.config.router_id;
+        let Some(running) = &mut self.running else {
             return Err(WorldFault::NotRunning);
         };
-        let stepped = running.feed(event, logs, self.config.router_id, alloc);
-        self.conclude(stepped)
-    }
-
-    // What a step of the running router came to; it was taken out.
-    fn conclude(&mut self, stepped: Result<RunningRouter, Stopped>) -> Result<(), WorldFault>
-        requires { IfOk stepped Lives }
-        ensures ok { IfOk stepped (λ v. (result ≡ Ok tt)
-            × (self.new ≡ with_running self.old (running_of v) v.drops)) }
-        ensures err { OnErr stepped ((result ≡ Err (fault.Memory true)) × (self.new ≡ self.old)) }
-    {
-        match stepped {
-            Ok(running) => {
-                self.running = Some(running);
-                Ok(())
-            }
-            Err(Stopped) => Err(WorldFault::Memory { stopped: true }),
+        match running.feed(event, logs, router, alloc) {
+            Ok(()) => Ok(()),
+            Err(Stopped) => end(&mut self.running),
         }
     }
 
@@ -220,10 +207,22 @@ impl Slot {
         ensures { IfSome (slice_get logs.old.datagrams place)
             (λ g. Feeds (delivery link g) self.old logs.old result self.new logs.new) }
     {
-        let Some(running) = self.running.take() else {
+        let router = self.config.router_id;
+        let Some(running) = &mut self.running else {
             return Err(WorldFault::NotRunning);
         };
-        let stepped = running.deliver(place, link, logs, self.config.router_id, alloc);
-        self.conclude(stepped)
+        match running.deliver(place, link, logs, router, alloc) {
+            Ok(()) => Ok(()),
+            Err(Stopped) => end(&mut self.running),
+        }
     }
+}
+
+// Memory ran out for a router while it was stepped: it runs no more.
+fn end(running: &mut Option<RunningRouter>) -> Result<(), WorldFault>
+    ensures ended { running.new ≡ None }
+    ensures fault { result ≡ Err (fault.Memory true) }
+{
+    *running = None;
+    Err(WorldFault::Memory { stopped: true })
 }

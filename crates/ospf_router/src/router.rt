@@ -103,12 +103,11 @@ impl Router {
         ensures memory { (s : AreaValue) → self.old.area ≡ Some s →
             OnErr result (dropped_by (happening event.entry) s ≡ None) }
     {
-        let Some(mut area) = self.area.take() else {
+        let Some(area) = &mut self.area else {
             return Err(Stopped);
         };
-        match advance(&mut area, &mut self.routes, event, alloc) {
+        match advance(area, &mut self.routes, event, alloc) {
             Ok(advanced) => {
-                self.area = Some(area);
                 let StepResult { out, dropped } = advanced.taken;
                 Ok(Step {
                     out,
@@ -117,6 +116,7 @@ impl Router {
                 })
             }
             Err(AllocError) => {
+                self.area = None;
                 self.routes.clear(alloc);
                 Err(Stopped)
             }

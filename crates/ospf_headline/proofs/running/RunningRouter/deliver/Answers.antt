@@ -11,5 +11,5 @@ use Rattle.ospf_headline.proofs.running.RunningRouter.deliver.Goals as goal
 pub returns-clause-fed : goal.returns-clause-fed
 returns-clause-fed c = let d : Datagram = c.index-datagrams-place.result in
     let stepped = subst (λ e. Steps e c.self.inside.router c.in_ok-outputs.field-0 c.step.new.self) c.arrival-event.ensures c.in_ok-outputs.ensures.taken in
-    rw (← c.self.view_is) (IfOk-weaker c.settle.result _ _ (λ x settles. at_place (λ g. Fed c.args.router (delivery c.args.link g) _ c.args.logs.now x c.settle.new.logs) c.args.logs.now.datagrams c.args.place d (c.index-datagrams-place.is ∙ ap (λ xs. get_or xs c.args.place d) c.datagrams.ensures)
-    (fed_from c.args.router (delivery c.args.link d) _ _ x _ c.args.logs.now _ (goes _ _ _ _ _ _ _ _ stepped (c.count.ensures ∙ ap (λ l. with_dropped_on l c.in_ok-outputs.field-0.dropped c.self.inside.drops) (c.comes_on-link.ensures ∙ ap comes_on c.arrival-event.ensures))) settles)) c.settle.ensures.settles)
+    rw (← c.self.view_is) (IfOk-weaker c.settle.result _ _ (λ _ settles. at_place (λ g. Fed c.args.router (delivery c.args.link g) _ c.args.logs.now c.settle.new.self c.settle.new.logs) c.args.logs.now.datagrams c.args.place d (c.index-datagrams-place.is ∙ ap (λ xs. get_or xs c.args.place d) c.datagrams.ensures)
+    (fed_from c.args.router (delivery c.args.link d) _ _ c.settle.new.self _ c.args.logs.now _ (goes _ _ _ _ _ _ _ _ stepped (c.count.ensures ∙ ap (λ l. with_dropped_on l c.in_ok-outputs.field-0.dropped c.self.inside.drops) (c.comes_on-link.ensures ∙ ap comes_on c.arrival-event.ensures))) settles)) c.settle.ensures.settles)

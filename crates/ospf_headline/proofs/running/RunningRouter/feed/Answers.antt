@@ -6,4 +6,4 @@ use Rattle.ospf_headline.proofs.running.RunningRouter.feed.Goals as goal
 
 pub returns-clause-fed : goal.returns-clause-fed
 returns-clause-fed c =
-    rw (← c.self.view_is) (IfOk-weaker c.settle.result _ _ (λ x settles. fed_from _ _ _ _ _ _ _ _ (goes _ _ _ _ _ _ _ _ c.in_ok-out.ensures.taken (c.count.ensures ∙ ap (λ l. with_dropped_on l c.in_ok-out.field-0.dropped c.self.inside.drops) c.comes_on-link.ensures)) settles) c.settle.ensures.settles)
+    rw (← c.self.view_is) (IfOk-weaker c.settle.result _ _ (λ _ settles. fed_from _ _ _ _ _ _ _ _ (goes _ _ _ _ _ _ _ _ c.in_ok-out.ensures.taken (c.count.ensures ∙ ap (λ l. with_dropped_on l c.in_ok-out.field-0.dropped c.self.inside.drops) c.comes_on-link.ensures)) settles) c.settle.ensures.settles)

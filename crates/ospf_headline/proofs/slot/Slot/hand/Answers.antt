@@ -1,6 +1,5 @@
-use Rattle.std.proofs.Common.{sym, ◌∙◌}
-use Rattle.ospf_headline.proofs.SlotFacts.{hands}
+use Rattle.ospf_headline.proofs.SlotFacts.{stops_short_with}
 use Rattle.ospf_headline.proofs.slot.Slot.hand.Goals as goal
 
-pub returns : goal.returns
-returns c = rw (← c.self.view_is) (hands _ _ _ _ _ _ _ _ _ _ _ (sym c.take.ensures.value ∙ c.in-Some.is) c.take.ensures.after c.self.invariant c.deliver-stepped.ensures.fed c.deliver-stepped.ensures.none c.conclude.ensures.ok c.conclude.ensures.err)
+pub returns-in-Err : goal.returns-in-Err
+returns-in-Err c = rw (← c.self.view_is) (stops_short_with _ _ _ _ _ _ _ _ _ c.in-Some.is c.self.invariant c.in-Err.ensures.none c.end.ensures.ended c.end.ensures.fault)
